@@ -188,14 +188,14 @@ PLANTS = (
         ("Events", "is_of_crashed w c number o = log.is_of_client c o && not (is_spared w number o)", "is_of_crashed w c number o = log.is_of_client c o"),)),
     Plant("a hard entry is dropped", "HardStaysHard DropsHaveACause TheReportTellsTheLog DisksHoldWhatIsHard TheCountsAreTrue ReadsReturnLastWrites", (("FlatLog", "lost cause Hard = Hard", "lost cause Hard = Gone cause"),)),
     # Old messages.
-    Plant("a client hears messages of other lives", "OldMessagesChangeNoClient", (
+    Plant("a client receives messages of other lives", "OldMessagesChangeNoClient", (
         ("ClientReplies", "(h.from == server_node t.here.server) && ((h.life == t.here.life.0) && nat_le h.stamp now.0)",
          "(h.from == server_node t.here.server) && nat_le h.stamp now.0"),)),
-    Plant("a client hears messages of other epochs", "OldMessagesChangeNoClient", (
+    Plant("a client receives messages of other epochs", "OldMessagesChangeNoClient", (
         ("ClientReplies", "with_a_session t s now h body = if h.epoch == s.epoch.0 then of_epoch t s now h body else",
          "with_a_session t s now h body = if nat_le s.epoch.0 h.epoch then of_epoch t s now h body else"),)),
     Plant("a server serves other epochs", "OldMessagesChangeNoServer", (
-        ("Server", "demand_seen t h ino g = if is_served t h then see_demand t h ino g else t", "demand_seen t h ino g = see_demand t h ino g"),)),
+        ("Server", "demand_seen t h ino g = if is_served t h then observe_demand t h ino g else t", "demand_seen t h ino g = observe_demand t h ino g"),)),
     Plant("a server serves past lives", "OldMessagesChangeNoServer", (
         ("Sessions", "take_past s life number = if nat_lt life.0 s.life.0 then Stale else take_state s.state number", "take_past s life number = take_state s.state number"),)),
 )

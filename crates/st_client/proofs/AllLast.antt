@@ -5,8 +5,8 @@ use Rattle.std.specs.List.{list_all}
 use Rattle.st_base.specs.declared.config.Config.{Config}
 use Rattle.st_base.specs.declared.ids.ServerId.{ServerId}
 use Rattle.st_base.specs.declared.ids.Stamp.{Stamp}
-use Rattle.st_client.proofs.HearGrows.{hear_grows}
-use Rattle.st_client.proofs.HearLasts.{Here, hear_lasts}
+use Rattle.st_client.proofs.ReceiveGrows.{receive_grows}
+use Rattle.st_client.proofs.ReceiveLasts.{Here, receive_lasts}
 use Rattle.st_client.proofs.InputsGrow.{finish_grows, lose_grows, take_ask_grows}
 use Rattle.st_client.specs.Machines.{Advances}
 use Rattle.st_base.specs.declared.disk.Tag.{Tag}
@@ -99,9 +99,9 @@ losses_last now t =
 
 -- Messages.
 
-pub heard_last : (now : Stamp) (h : Header) (body : Body) (t : ClientTurn) → all_last t.state now ≡ true → all_last (at_each (receive_at now h body) t).state now ≡ true
-heard_last now h body t l =
-    each_last now (λ k a. lasts_here k now a) (receive_at now h body) (λ u e. by_before now u (receive_at now h body u) (hear_grows now h body u) (hear_lasts now h body u e)) t l
+pub received_last : (now : Stamp) (h : Header) (body : Body) (t : ClientTurn) → all_last t.state now ≡ true → all_last (at_each (receive_at now h body) t).state now ≡ true
+received_last now h body t l =
+    each_last now (λ k a. lasts_here k now a) (receive_at now h body) (λ u e. by_before now u (receive_at now h body u) (receive_grows now h body u) (receive_lasts now h body u e)) t l
 
 -- Asks.
 

@@ -4,7 +4,7 @@ use Rattle.st_base.specs.declared.ids.ServerId.{ServerId}
 use Rattle.st_base.specs.declared.ids.Stamp.{Stamp}
 use Rattle.st_client.proofs.Emptied.{step_emptied}
 use Rattle.st_client.proofs.Unused.{step_unused}
-use Rattle.st_client.specs.Discarding.{Discards, IsOver, is_ended, is_over_at}
+use Rattle.st_client.specs.Losses.{Discards, IsOver, is_ended, is_over_at}
 use Rattle.st_lemmas.proofs.Tables.{each_passes, found_at}
 use Rattle.st_rules.specs.declared.client.ClientInput.{ClientInput}
 use Rattle.st_rules.specs.Client.{association_with, client_step}

@@ -5,11 +5,11 @@ use Rattle.st_base.specs.declared.config.Config.{Config}
 use Rattle.st_base.specs.declared.disk.Tag.{Tag}
 use Rattle.st_base.specs.declared.ids.ServerId.{ServerId}
 use Rattle.st_base.specs.declared.ids.Stamp.{Stamp}
-use Rattle.st_client.proofs.HearGrows.{hear_grows}
+use Rattle.st_client.proofs.ReceiveGrows.{receive_grows}
 use Rattle.st_client.proofs.InputsGrow.{finish_grows, lose_grows, take_ask_grows}
 use Rattle.st_client.proofs.PassesGrow.{passes_grow}
 use Rattle.st_client.proofs.SoundLists.{one_of}
-use Rattle.st_client.specs.Discarding.{IsEmptied, IsEmptiedIn, is_ended}
+use Rattle.st_client.specs.Losses.{IsEmptied, IsEmptiedIn, is_ended}
 use Rattle.st_lemmas.proofs.Tables.{find_before, find_last}
 use Rattle.st_messages.specs.declared.answer.AppAnswer.TheVariants as answers
 use Rattle.st_messages.specs.declared.ask.Ask.{Ask}
@@ -143,9 +143,9 @@ take_bare a s op ask t b = if_here (Bare a) (is_at s t.here) (cl.take_by t op as
         if_here (Bare a) (pages.has_lost t.here.lost f.ino) (cl.tell_lost t op f.ino) (cl.enqueue t op ask) (record { life = b.life; session = b.session; greeting = b.greeting; store = b.store }) b
     by z = b
 
-hear_bare : (a : Association) (now : Stamp) (h : Header) (body : Body) (t : Turn) → Bare a t.here → Bare a (cr.receive_at now h body t).here
+receive_bare : (a : Association) (now : Stamp) (h : Header) (body : Body) (t : Turn) → Bare a t.here → Bare a (cr.receive_at now h body t).here
 unfolding cr.receive_at cr.by_session cr.without_session cr.welcome
-hear_bare a now h body t b = if_here (Bare a) (cr.is_heard t now h) (cr.by_session t now h body t.here.session) t (subst (λ o. Bare a (cr.by_session t now h body o).here) (sym b.session) (by body)) b
+receive_bare a now h body t b = if_here (Bare a) (cr.is_received t now h) (cr.by_session t now h body t.here.session) t (subst (λ o. Bare a (cr.by_session t now h body o).here) (sym b.session) (by body)) b
   where
     late : (stamp : Stamp) → cr.is_timely t now stamp ≡ false
     late stamp = ap (λ g. is_some g && nat_lt now.0 (stamp.0 + t.config.lease)) b.greeting
@@ -226,7 +226,7 @@ input_found v a t now (App op ask) p =
     (found_each v (only_at (server_of ask) (cl.take_ask op ask)) (take_server (server_of ask) op ask) t.state.config (Bare a) (Bare a) (λ u c b. take_bare a (server_of ask) op ask u b) t refl p) p)
 input_found v a t now (Control m) p =
     one_of (FoundLeft v a) (m.header.to == t.state.id.0) (at_each (cr.receive_at now m.header m.body) t) t
-    (found_each v (cr.receive_at now m.header m.body) (λ u. (hear_grows now m.header m.body u).2) t.state.config (Bare a) (Bare a) (λ u c b. hear_bare a now m.header m.body u b) t refl p) p
+    (found_each v (cr.receive_at now m.header m.body) (λ u. (receive_grows now m.header m.body u).2) t.state.config (Bare a) (Bare a) (λ u c b. receive_bare a now m.header m.body u b) t refl p) p
 input_found v a t now (Done number result) p =
     found_each v (cl.finish number result) (λ u. (finish_grows number result u).2) t.state.config (Bare a) (Bare a) (λ u c b. finish_bare a number result u b) t refl p
 

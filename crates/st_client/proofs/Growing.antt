@@ -1,7 +1,7 @@
 -- What always stands of associations stands where numbers of commands and outputs grow.
 use Rattle.std.proofs.Common.{◌≡◌, ℕ, suc, zero, ◌+◌, ◌<◌, ◌≤◌, List, [], ◌∷◌, ◌++◌, get_or, length, map, sym, ap, subst, ◌∙◌, arith}
 use Rattle.std.specs.Prelude.{Option, Some, None, insert, remove}
-use Rattle.st_client_association.proofs.Kept.{below_more}
+use Rattle.st_client_association.proofs.TurnInvariants.{below_more}
 use Rattle.st_client_association.specs.Associations.{ClientAssociation, IsCounted, RequestsBelow}
 use Rattle.st_client_association.specs.Turns.{most_of}
 use Rattle.st_base.specs.declared.config.Config.{Config}

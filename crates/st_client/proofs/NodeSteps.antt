@@ -7,10 +7,10 @@ use Rattle.st_base.specs.declared.ids.ServerId.{ServerId}
 use Rattle.st_base.specs.declared.ids.Stamp.{Stamp}
 use Rattle.st_client.proofs.Discards.{step_discards}
 use Rattle.st_client.proofs.Sends.{step_sends}
-use Rattle.st_client.specs.Discarding.{Discards, IsOver}
+use Rattle.st_client.specs.Losses.{Discards, IsOver}
 use Rattle.st_client.specs.Inputs.{Runs, Steps, comes_fit, is_sent}
 use Rattle.st_client.specs.Room.{HasRoom}
-use Rattle.st_client.specs.Sound.{IsSound}
+use Rattle.st_client.specs.Invariants.{IsSound}
 use Rattle.st_messages.specs.declared.output.Output.{Output}
 use Rattle.st_messages.specs.declared.output.StepFault.{StepFault}
 use Rattle.st_messages.specs.declared.output.StepFault.TheVariants as faults

@@ -9,7 +9,7 @@ use Rattle.st_rules.specs.ClientState.{Association, ClientTurn, Turn, at_each, a
 use Rattle.st_client_association.specs.Associations.{ClientAssociation, left_as}
 use Rattle.st_messages.specs.declared.output.Output.{Output}
 use Rattle.st_rules.specs.declared.client.Operation.{Operation}
-use Rattle.st_client.specs.Idle.{IsIdle}
+use Rattle.st_client.specs.IdleRules.{IsIdle}
 use Rattle.st_client.specs.Machines.{at_place, here_of, is_ready_at, leave_at, without_at}
 
 -- Lists.

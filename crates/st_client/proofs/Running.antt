@@ -25,7 +25,7 @@ use Rattle.st_client.specs.Ends.{end_in}
 use Rattle.st_client.specs.Inputs.{comes_fit}
 use Rattle.st_client.specs.Nodes.{IsKept, IsNode, RunsAs, crashed_at, crashed_client, is_server, node_of, server_at, state_of, with_more}
 use Rattle.st_client.specs.Room.{HasRoom}
-use Rattle.st_client.specs.Sound.{AreSound, IsSound}
+use Rattle.st_client.specs.Invariants.{AreSound, IsSound}
 
 pub known_from : (xs : List Association) → AreSound xs → list_all is_server (map server_at xs) ≡ true
 known_from [] h = refl

@@ -7,7 +7,7 @@ use Rattle.st_client_association.specs.Associations.{has_room_at, may_ask}
 use Rattle.st_base.specs.declared.config.Config.{Config}
 use Rattle.st_base.specs.declared.ids.ClientId.{ClientId}
 use Rattle.st_base.specs.declared.ids.Stamp.{Stamp}
-use Rattle.st_client.proofs.SoundHears.{hear_fit}
+use Rattle.st_client.proofs.SoundReceives.{receive_fit}
 use Rattle.st_client.proofs.SoundInputs.{asked_fit, finish_fit, lose_fit}
 use Rattle.st_client.proofs.SoundLists.{all_last, one_of}
 use Rattle.st_client.proofs.SoundMessages.{Fit, FitAt, FitIn, between_is, fits_parts}
@@ -15,7 +15,7 @@ use Rattle.st_client.proofs.SoundPasses.{greeting_fit, operations_fit, reduction
 use Rattle.st_client.proofs.SoundRequests.{requests_fit}
 use Rattle.st_client.specs.Inputs.{comes_fit, is_sent}
 use Rattle.st_client.specs.Room.{HasRoom}
-use Rattle.st_client.specs.Sound.{AreSound, IsSound, IsSoundIn, is_sound_operation}
+use Rattle.st_client.specs.Invariants.{AreSound, IsSound, IsSoundIn, is_sound_operation}
 use Rattle.st_lemmas.proofs.Tables.{and_true}
 use Rattle.st_messages.specs.declared.answer.AppAnswer.{AppAnswer}
 use Rattle.st_messages.specs.declared.answer.AppAnswer.TheVariants as answers
@@ -76,7 +76,7 @@ input_fit most low high t now (App op ask) e h =
 input_fit most low high t now (Control m) e h =
     let p = fits_parts m.header m.body e in
     one_of (FitClient most) (m.header.to == t.state.id.0) (at_each (receive_at now m.header m.body) t) t
-    (each_fit most most (receive_at now m.header m.body) (hear_fit most low high now m.header m.body p.0 p.1) t h) h
+    (each_fit most most (receive_at now m.header m.body) (receive_fit most low high now m.header m.body p.0 p.1) t h) h
 input_fit most low high t now (Done number result) e h = each_fit most most (finish number result) (finish_fit most number result) t h
 
 -- The whole step.

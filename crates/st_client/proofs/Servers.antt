@@ -15,7 +15,7 @@ use Rattle.st_rules.specs.ClientPasses as passes
 use Rattle.st_rules.specs.ClientReplies.{receive_at, receive, receive_here}
 use Rattle.st_rules.specs.ClientState.{Association, ClientState, ClientTurn, Turn, at_each, at_these, client_turn, enter, is_at, leave, only_at, server_of, with_associations}
 use Rattle.st_client.proofs.Advancing.{either, stays}
-use Rattle.st_client.proofs.HearGrows.{hear_grows}
+use Rattle.st_client.proofs.ReceiveGrows.{receive_grows}
 use Rattle.st_client.proofs.InputsGrow.{finish_grows, lose_grows, take_ask_grows}
 use Rattle.st_client.proofs.PassesGrow.{passes_grow}
 use Rattle.st_client.specs.Machines.{Advances}
@@ -61,15 +61,15 @@ app_keeps t op ask =
     one_of (is_full t.state) _ _ t.state (same t.state)
     (one_of (is_configured t.state (server_of ask)) _ _ t.state (each_keeps (only_at (server_of ask) (take_ask op ask)) (only_grows (server_of ask) op ask) t) (same t.state))
 
-heard_keeps : (t : ClientTurn) (now : Stamp) (h : Header) (b : Body) → IsKept t.state (receive t now h b).state
+received_keeps : (t : ClientTurn) (now : Stamp) (h : Header) (b : Body) → IsKept t.state (receive t now h b).state
 unfolding receive receive_here
-heard_keeps t now h b = one_of (h.to == t.state.id.0) _ _ t.state (each_keeps (receive_at now h b) (hear_grows now h b) t) (same t.state)
+received_keeps t now h b = one_of (h.to == t.state.id.0) _ _ t.state (each_keeps (receive_at now h b) (receive_grows now h b) t) (same t.state)
 
 input_keeps : (t : ClientTurn) (now : Stamp) (input : ClientInput) → IsKept t.state (take_input t now input).state
 unfolding take_input done
 input_keeps t now Tick = same t.state
 input_keeps t now (App op ask) = app_keeps t op ask
-input_keeps t now (Control m) = heard_keeps t now m.header m.body
+input_keeps t now (Control m) = received_keeps t now m.header m.body
 input_keeps t now (Done number result) = each_keeps (finish number result) (finish_grows number result) t
 
 pub step_keeps : (c : ClientState) (now : Stamp) (input : ClientInput) → IsKept c (client_step c now input).state

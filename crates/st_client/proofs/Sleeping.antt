@@ -4,14 +4,14 @@ use Rattle.std.specs.Prelude.{Option, Some, None, ◌==◌, cond, is_some, not}
 use Rattle.std.specs.List.{list_any}
 use Rattle.st_lemmas.proofs.Tables.{and_left, and_right, cond_false, not_false, not_true}
 use Rattle.st_client_association.specs.Associations.{ClientAssociation}
-use Rattle.st_client_association.specs.Awake.{is_awake, is_awake_by, may_send, takes_all}
+use Rattle.st_client_association.specs.Activity.{is_awake, is_awake_by, may_send, takes_all}
 use Rattle.st_base.specs.declared.ids.ServerId.{ServerId}
 use Rattle.st_base.specs.declared.ids.Stamp.{Stamp}
 use Rattle.st_messages.specs.declared.ask.Ask.{Ask}
 use Rattle.st_messages.specs.declared.ask.Ask.TheVariants as asks
 use Rattle.st_messages.specs.declared.message.Body.{Body}
 use Rattle.st_messages.specs.declared.message.Header.{Header}
-use Rattle.st_operations.specs.Pending.{may_act}
+use Rattle.st_operations.specs.PendingOperations.{may_act}
 use Rattle.st_rules.specs.declared.client.Operation.{Operation}
 use Rattle.st_rules.specs.declared.client.Release.{Release}
 use Rattle.st_rules.specs.declared.client.Request.{Request}
@@ -23,10 +23,10 @@ use Rattle.st_rules.specs.ClientLocks.{demanded_files}
 use Rattle.st_rules.specs.ClientPages.{Pages, dirty_places}
 use Rattle.st_rules.specs.ClientPasses as passes
 use Rattle.st_rules.specs.ClientPasses.{ask_by, ask_new, ask_next, asked_by, asks_or, first_asking, greet, greeting, greeting_by, is_greeting_due, is_old, keep_alive, ask_for_or, may_ask, must_greet, operate, operate_by, operate_each, operate_on, operations, reduce_each, reductions, repeat, requests, requests_at, requests_by, requests_under, write_each, writes, writes_by}
-use Rattle.st_rules.specs.ClientReplies.{receive_at, is_heard}
+use Rattle.st_rules.specs.ClientReplies.{receive_at, is_received}
 use Rattle.st_rules.specs.ClientState.{ClientSession, Turn, is_at, is_of, is_serving, is_sync, keep, only_at, with_operations}
 use Rattle.st_rules.specs.Keys.{rising, server_node}
-use Rattle.st_client.specs.Idle.{IsIdle}
+use Rattle.st_client.specs.IdleRules.{IsIdle}
 
 or_parts : (a b : Bool) → (a || b) ≡ false → (a ≡ false) × (b ≡ false)
 or_parts true b e = cc
@@ -45,10 +45,10 @@ idle_lose now os a b e f t h k o =
     lose_idle now t t.here.session
     (ap (λ c. lasts_here c now t.here) k ∙ ap (λ x. lasts_here a.config now x) h ∙ not_false (lasts_here a.config now a.here) (sym e ∙ f))
 
-pub idle_hear : (now : Stamp) (h : Header) (body : Body) (operations : List Operation) (a : ClientAssociation) (b : Bool) → b ≡ (h.from == server_node a.here.server) → b ≡ false → IsIdle (receive_at now h body) operations a
+pub idle_receive : (now : Stamp) (h : Header) (body : Body) (operations : List Operation) (a : ClientAssociation) (b : Bool) → b ≡ (h.from == server_node a.here.server) → b ≡ false → IsIdle (receive_at now h body) operations a
 unfolding receive_at
-idle_hear now h body os a b e f t i k o =
-    cond_false (is_heard t now h) _ t (and_left (h.from == server_node t.here.server) _ (ap (λ x. h.from == server_node x.server) i ∙ sym e ∙ f))
+idle_receive now h body os a b e f t i k o =
+    cond_false (is_received t now h) _ t (and_left (h.from == server_node t.here.server) _ (ap (λ x. h.from == server_node x.server) i ∙ sym e ∙ f))
 
 pub idle_ask : (op : ℕ) (ask : Ask) (server : ServerId) (operations : List Operation) (a : ClientAssociation) (b : Bool) → b ≡ is_at server a.here → b ≡ false → IsIdle (only_at server (take_ask op ask)) operations a
 unfolding only_at

@@ -7,13 +7,13 @@ use Rattle.st_base.specs.declared.ids.ServerId.{ServerId}
 use Rattle.st_base.specs.declared.ids.Stamp.{Stamp}
 use Rattle.st_client.proofs.SoundLists.{all_filter, all_last, one_of}
 use Rattle.st_client.proofs.SoundMessages.{Fit, FitIn, says_fit, told_fit}
-use Rattle.st_client.specs.Sound.{is_sound_operation}
+use Rattle.st_client.specs.Invariants.{is_sound_operation}
 use Rattle.st_messages.specs.declared.answer.AppAnswer.TheVariants as answers
 use Rattle.st_messages.specs.declared.ask.Ask.{Ask}
 use Rattle.st_messages.specs.declared.ask.Ask.TheVariants as asks
 use Rattle.st_messages.specs.declared.output.Note.TheVariants as notes
 use Rattle.st_messages.specs.declared.output.Output.TheVariants as outputs
-use Rattle.st_messages.specs.Fits.{is_ask}
+use Rattle.st_messages.specs.Ranges.{is_ask}
 use Rattle.st_rules.specs.declared.client.Ended.{Ended}
 use Rattle.st_rules.specs.declared.client.Ended.TheVariants.{Unknown, Filled, Hard, Redirty, Failed}
 use Rattle.st_rules.specs.declared.client.IoKind.{IoKind}

@@ -9,9 +9,9 @@ use Rattle.st_base.specs.declared.mode.Mode.TheVariants as modes
 use Rattle.st_base.specs.Mode.{covers}
 use Rattle.st_client.proofs.SoundLists.{all_filter, all_last, all_put, filter_fits, one_of, put_fits}
 use Rattle.st_client.proofs.SoundMessages.{FitSession, held_sound}
-use Rattle.st_client.specs.Sound.{AreSoundLocks, is_sound_demand, is_sound_lock, is_sound_release}
+use Rattle.st_client.specs.Invariants.{AreSoundLocks, is_sound_demand, is_sound_lock, is_sound_release}
 use Rattle.st_lemmas.proofs.Tables.{and_true, and_both, cond_either, each_passes, found_at}
-use Rattle.st_messages.specs.Fits.{is_grant, is_ino, is_mode}
+use Rattle.st_messages.specs.Ranges.{is_grant, is_ino, is_mode}
 use Rattle.st_rules.specs.declared.client.DemandedFile.{DemandedFile}
 use Rattle.st_rules.specs.declared.client.HeldLock.{HeldLock}
 use Rattle.st_rules.specs.ClientLocks as locks

@@ -4,7 +4,7 @@ use Rattle.std.specs.Prelude.{map, filter, not, nat_le, nat_lt, option_map, Opti
 use Rattle.std.specs.List.{list_all, filter_map, cons_option}
 use Rattle.std.proofs.lemmas.Bool.{eqb-true, leb-true, le-leb, lt-ltb}
 use Rattle.st_client.specs.Inputs.{is_sent}
-use Rattle.st_client.specs.Sound.{AreSoundLocks, IsSoundSession, is_asking, is_sound_lock, is_sound_operation}
+use Rattle.st_client.specs.Invariants.{AreSoundLocks, IsSoundSession, is_asking, is_sound_lock, is_sound_operation}
 use Rattle.st_client.proofs.SoundLists.{all_append, all_filter, all_last, all_made, filter_map_fits, rising_fits}
 use Rattle.st_lemmas.specs.Lists.{Has, Rises}
 use Rattle.st_lemmas.proofs.Keys.{rising_has, rising_rises}
@@ -18,7 +18,7 @@ use Rattle.st_messages.specs.declared.message.Body.TheVariants as bodies
 use Rattle.st_messages.specs.declared.message.Header.{Header}
 use Rattle.st_messages.specs.declared.output.Output.{Output}
 use Rattle.st_messages.specs.declared.output.Output.TheVariants as outputs
-use Rattle.st_messages.specs.Fits.{after_lock, are_ages, are_locks, are_marks, are_nodes, are_rows, fits, is_body, is_header, is_lock_row}
+use Rattle.st_messages.specs.Ranges.{after_lock, are_ages, are_locks, are_marks, are_nodes, are_rows, fits, is_body, is_header, is_lock_row}
 use Rattle.st_messages.specs.Kinds.{allows, between, epoch_of, kind_of_body, life_of, request_of, stamp_of}
 use Rattle.st_rules.specs.declared.client.HeldLock.{HeldLock}
 use Rattle.st_rules.specs.declared.client.Operation.{Operation}

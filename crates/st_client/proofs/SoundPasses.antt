@@ -14,7 +14,7 @@ use Rattle.st_client.proofs.SoundLists.{all_last, one_of}
 use Rattle.st_client.proofs.SoundLocks.{FitGiven, cache_fit, reduce_fit, release_fit}
 use Rattle.st_client.proofs.SoundMessages.{Fit, FitIn, FitSession, hello_header, in_between, puts_fit, says_fit, sends_fit}
 use Rattle.st_client.specs.Inputs.{is_noted}
-use Rattle.st_client.specs.Sound.{is_sound_operation}
+use Rattle.st_client.specs.Invariants.{is_sound_operation}
 use Rattle.st_lemmas.proofs.Tables.{and_true}
 use Rattle.st_messages.specs.declared.ask.Ask.{Ask}
 use Rattle.st_messages.specs.declared.ask.Ask.TheVariants as asks
@@ -23,7 +23,7 @@ use Rattle.st_messages.specs.declared.answer.AppAnswer.TheVariants as answers
 use Rattle.st_messages.specs.declared.output.Note.{Note}
 use Rattle.st_messages.specs.declared.output.Note.TheVariants as notes
 use Rattle.st_messages.specs.declared.output.Output.TheVariants as outputs
-use Rattle.st_messages.specs.Fits.{has_length, is_ask, is_body, is_file, is_grant, is_ino, is_mode, is_page}
+use Rattle.st_messages.specs.Ranges.{has_length, is_ask, is_body, is_file, is_grant, is_ino, is_mode, is_page}
 use Rattle.st_messages.specs.Kinds.{between}
 use Rattle.st_rules.specs.declared.client.KnownExtent.{KnownExtent}
 use Rattle.st_rules.specs.declared.client.MappedBlock.{MappedBlock}

@@ -15,13 +15,13 @@ use Rattle.st_client.proofs.SoundInputs.{more_fit}
 use Rattle.st_client.proofs.SoundLists.{one_of}
 use Rattle.st_client.proofs.SoundLocks.{lock_parts}
 use Rattle.st_client.proofs.SoundMessages.{Fit, FitIn, FitSession, asking_header, between_is, held_sound, in_between, locks_sound, positive_is, puts_fit, sends_fit}
-use Rattle.st_client.specs.Sound.{is_asking, is_sound_asked, is_sound_operation, is_sound_release}
+use Rattle.st_client.specs.Invariants.{is_asking, is_sound_asked, is_sound_operation, is_sound_release}
 use Rattle.st_lemmas.proofs.Tables.{and_true, and_both, cond_either}
 use Rattle.st_messages.specs.declared.ask.Ask.{Ask}
 use Rattle.st_messages.specs.declared.ask.Ask.TheVariants as asks
 use Rattle.st_messages.specs.declared.message.Body.{Body}
 use Rattle.st_messages.specs.declared.message.Body.TheVariants as bodies
-use Rattle.st_messages.specs.Fits.{has_length, is_ask, is_body, is_count, is_file, is_grant, is_ino, is_mode, is_name_ask, is_name_op, is_page, is_whole_page, is_word32}
+use Rattle.st_messages.specs.Ranges.{has_length, is_ask, is_body, is_count, is_file, is_grant, is_ino, is_mode, is_name_ask, is_name_op, is_page, is_whole_page, is_word32}
 use Rattle.st_messages.specs.Kinds.{between}
 use Rattle.st_rules.specs.declared.client.HeldLock.{HeldLock}
 use Rattle.st_rules.specs.declared.client.Operation.{Operation}

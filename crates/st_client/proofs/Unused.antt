@@ -8,9 +8,9 @@ use Rattle.st_base.specs.declared.disk.BlockAt.{BlockAt}
 use Rattle.st_base.specs.declared.ids.FileId.{FileId}
 use Rattle.st_base.specs.declared.ids.ServerId.{ServerId}
 use Rattle.st_base.specs.declared.ids.Stamp.{Stamp}
-use Rattle.st_client.proofs.Elsewhere.{Begun, FineBody, Stands, Usable, g_hear, is_fine, is_placed, is_row_placed, lies, s_passes, w_finish, w_take}
+use Rattle.st_client.proofs.ExpiredAssociations.{Begun, FineBody, Stands, Usable, g_receive, is_fine, is_placed, is_row_placed, lies, s_passes, w_finish, w_take}
 use Rattle.st_client.proofs.SoundLists.{all_filter, all_last, one_of}
-use Rattle.st_client.specs.Discarding.{IsOver, coming, comes_at, is_block_elsewhere, is_elsewhere, is_ended, is_known_at, is_other_operation, is_over_at, is_row_at, knows_at, tells_at}
+use Rattle.st_client.specs.Losses.{IsOver, coming, comes_at, is_block_elsewhere, is_elsewhere, is_ended, is_known_at, is_other_operation, is_over_at, is_row_at, knows_at, tells_at}
 use Rattle.st_lemmas.specs.Lists.{Has}
 use Rattle.st_lemmas.proofs.Tables.{all_pass, and_both, and_true, some_passes}
 use Rattle.st_messages.specs.declared.answer.AppAnswer.{AppAnswer}
@@ -197,7 +197,7 @@ module _ (v : ServerId) (known : BlockAt → Bool) (os : List Operation) where
       (at_once (At G) t op answers.NoFile refl h)))
   input_holds t now (Control m) e h =
       one_of (Holds (At S)) (m.header.to == t.state.id.0) (at_each (cr.receive_at now m.header m.body) t) t
-      (each_holds t.state.config (At G) (At S) (cr.receive_at now m.header m.body) (λ u c a w. by_stands G S (cr.receive_at now m.header m.body) (g_hear v known os now m.header m.body e) u a w) t refl h)
+      (each_holds t.state.config (At G) (At S) (cr.receive_at now m.header m.body) (λ u c a w. by_stands G S (cr.receive_at now m.header m.body) (g_receive v known os now m.header m.body e) u a w) t refl h)
       (usable_all t h)
   input_holds t now (Done number result) e h =
       usable_all (cl.done t number result)

@@ -6,7 +6,7 @@ use Rattle.st_messages.specs.declared.output.Output.{Output}
 use Rattle.st_messages.specs.declared.output.Output.TheVariants as outputs
 use Rattle.st_messages.specs.declared.output.StepFault.{StepFault}
 use Rattle.st_messages.specs.declared.output.StepFault.TheVariants.{Memory, Crashed}
-use Rattle.st_messages.specs.Fits.{fits, is_ask}
+use Rattle.st_messages.specs.Ranges.{fits, is_ask}
 use Rattle.st_rules.specs.declared.client.ClientInput.{ClientInput}
 use Rattle.st_rules.specs.declared.client.ClientInput.TheVariants.{Tick, App, Control, Done}
 use Rattle.st_rules.specs.declared.node.StepRefusal.{StepRefusal}

@@ -1,8 +1,8 @@
-pub mod Discarding
-pub mod Sound
+pub mod Losses
+pub mod Invariants
 pub mod Machines
 pub mod Inputs
 pub mod Ends
 pub mod Room
 pub mod Nodes
-pub mod Idle
+pub mod IdleRules

@@ -15,7 +15,7 @@ use Rattle.st_rules.specs.ClientState.{Association, ClientState}
 use Rattle.st_rules.specs.Extents.{numbers}
 use Rattle.st_rules.specs.Keys.{same_server}
 use Rattle.st_client.specs.declared.parts.ClientParts.{ClientParts}
-use Rattle.st_client.specs.Sound.{IsSound}
+use Rattle.st_client.specs.Invariants.{IsSound}
 
 -- An association of this client, with these settings: the numbers of its commands were given.
 pub record IsGiven (client : ClientId) (settings : Config) (next : ℕ) (a : ClientAssociation) : Type 0 where

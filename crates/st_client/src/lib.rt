@@ -3,19 +3,19 @@
 #![tactic(auto)]
 
 mod ends;
-mod fresh;
+mod fresh_client;
 mod lives;
-mod machine;
 mod node;
 mod parts;
 mod rule;
 mod rules;
 mod state;
 mod step;
+mod turn;
 
 pub use ends::LeaseEnds;
-pub use machine::ClientMachine;
 pub use node::ClientNode;
 pub use st_base::{LostRow, LostRows, NameAsk, NameRow, NameRows};
 pub use st_messages::{AppAnswer, Ask, NameOp, Note, Output, Outputs, StepFault};
 pub use st_rules::{ClientInput, Phase};
+pub use turn::ClientTurn;

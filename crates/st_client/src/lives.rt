@@ -5,7 +5,7 @@ ghost use Rattle.st_base.specs.Config as settings;
 ghost use Rattle.st_client.specs.Nodes.{crashed_client, crashed_lives, is_low, is_server, life_in};
 ghost use Rattle.st_rules.specs.Client as client;
 
-use crate::state::State;
+use crate::state::ClientState;
 use st_base::{ClientId, Config, Life, ServerId};
 use st_rules::LeaseLife;
 use std::alloc::{AllocError, Global};
@@ -69,14 +69,14 @@ pub(crate) fn started(
     config: &Config,
     servers: &[ServerId],
     lives: &[Life],
-) -> Result<State, AllocError>
+) -> Result<ClientState, AllocError>
     requires checked { IsOk (settings.check config.now) }
     requires known { list_all is_server servers.now ≡ true }
     requires low { list_all is_low lives.now ≡ true }
     requires count { length lives.now ≡ length servers.now }
     ensures { IfOk result (λ s. s ≡ client.start (crashed_client id config.now servers.now lives.now)) }
 {
-    let mut state = State::new(alloc, id, config)?;
+    let mut state = ClientState::new(alloc, id, config)?;
     for i in 0..servers.len() {
         state = state.with_server(servers[i], Life(lives[i].0 + 1))?;
     }

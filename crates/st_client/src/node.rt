@@ -3,7 +3,7 @@ ghost use Rattle.std.specs.Prelude.{◌≡◌, ◌≤◌, ◌^◌, ◌++◌, tru
 ghost use Rattle.std.specs.List.{list_all};
 ghost use Rattle.st_base.specs.Config as settings;
 ghost use Rattle.st_base.specs.declared.ids.ServerId.{ServerId};
-ghost use Rattle.st_client.specs.Discarding.{Discards, IsOver};
+ghost use Rattle.st_client.specs.Losses.{Discards, IsOver};
 ghost use Rattle.st_client.specs.Ends.{end_in};
 ghost use Rattle.st_client.specs.Inputs.{comes_fit, is_sent, Runs, Steps};
 ghost use Rattle.st_client.specs.Nodes.{crashed_node, is_begun};
@@ -13,7 +13,7 @@ ghost use Rattle.st_rules.specs.World as world;
 
 use crate::ends::LeaseEnds;
 use crate::lives::{are_low, copied, life_among, push_crashed, started};
-use crate::state::State;
+use crate::state::ClientState;
 use st_base::{ClientId, Config, Life, ServerId, Stamp};
 use st_messages::{Outputs, StepFault};
 use st_rules::{ClientInput, LeaseLife, Phase};
@@ -28,7 +28,7 @@ pub struct ClientNode {
     config: Config,
     servers: Vec<ServerId>,
     lives: Vec<Life>,
-    state: Option<State>,
+    state: Option<ClientState>,
 }
 
 impl Model for ClientNode {
@@ -58,7 +58,7 @@ impl ClientNode {
         requires servers { servers ≤ 4 }
         ensures { IfOk result (λ n. n ≡ client.fresh_node id config.now servers) }
     {
-        let state = State::fresh(alloc, id, config, servers)?;
+        let state = ClientState::fresh(alloc, id, config, servers)?;
         let servers = state.servers()?;
         let mut lives = Vec::with_capacity(alloc, servers.len())?;
         state.tell_lives(&mut lives);
@@ -87,7 +87,7 @@ impl ClientNode {
         requires begun { list_all is_begun lives.now ≡ true }
         ensures { IfOk result (λ n. n ≡ crashed_node id config.now lives.now) }
     {
-        let state = State::fresh(alloc, id, config, lives.len() as u16)?;
+        let state = ClientState::fresh(alloc, id, config, lives.len() as u16)?;
         let servers = state.servers()?;
         let lives = copied(alloc, lives)?;
         Ok(ClientNode {

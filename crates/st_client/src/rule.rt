@@ -1,6 +1,6 @@
 // A rule for one association, as it is done at each server in turn.
 ghost use Rattle.std.specs.Prelude.{◌≡◌, true, false, OnOk};
-ghost use Rattle.st_client.specs.Idle.{IsIdle};
+ghost use Rattle.st_client.specs.IdleRules.{IsIdle};
 ghost use Rattle.st_client.specs.Machines.{Advances};
 
 use st_client_association::{Association, Turn};

@@ -74,12 +74,12 @@ impl<'a> Rule for Finish<'a> {
 
 /// A message.
 #[derive(Clone, Copy)]
-pub struct Hear<'a> {
+pub struct Receive<'a> {
     pub now: Stamp,
     pub message: &'a Message,
 }
 
-impl<'a> Rule for Hear<'a> {
+impl<'a> Rule for Receive<'a> {
     ghost use Rattle.std.specs.Prelude.{◌&&◌, ◌^◌, nat_le};
     ghost use Rattle.st_rules.specs.ClientInvariants.{lasts_here};
     ghost use Rattle.st_rules.specs.ClientReplies as replies;
@@ -131,7 +131,7 @@ pub struct TakeAsk<'a> {
 }
 
 impl<'a> Rule for TakeAsk<'a> {
-    ghost use Rattle.st_messages.specs.Fits.{is_ask};
+    ghost use Rattle.st_messages.specs.Ranges.{is_ask};
     ghost use Rattle.st_rules.specs.Client as client;
     ghost use Rattle.st_rules.specs.ClientState.{only_at, server_of};
 

@@ -14,8 +14,8 @@ ghost use Rattle.st_rules.specs.ClientState.{client_turn};
 ghost use Rattle.st_rules.specs.World as world;
 
 use crate::ends::LeaseEnds;
-use crate::machine::ClientMachine;
 use crate::parts::ClientParts;
+use crate::turn::ClientTurn;
 use st_base::{ClientId, Config, Life, ServerId, Stamp};
 use st_client_association::Association;
 use st_messages::Outputs;
@@ -27,11 +27,11 @@ use std::mem;
 
 /// A client that runs, between its steps. Contracts see the definitions' client.
 #[derive(Drop)]
-pub struct State {
+pub struct ClientState {
     pub(crate) parts: Box<ClientParts>,
 }
 
-impl Model for State {
+impl Model for ClientState {
     ghost use Rattle.st_client.specs.Machines.{client_of};
     ghost use Rattle.st_client.specs.Nodes.{IsResting};
     ghost use Rattle.st_rules.specs.ClientState as shared;
@@ -43,14 +43,14 @@ impl Model for State {
     ghost invariant = { λ s. IsResting s.parts.value };
 }
 
-impl State {
+impl ClientState {
     /// A step begins.
-    fn begin(self) -> ClientMachine
+    fn begin(self) -> ClientTurn
         requires { HasRoom self }
         ensures { result ≡ client_turn self [] }
     {
-        let State { parts } = self;
-        ClientMachine { parts }
+        let ClientState { parts } = self;
+        ClientTurn { parts }
     }
 
     /// A step: what it leaves, and its outputs.
@@ -58,7 +58,7 @@ impl State {
         self,
         now: Stamp,
         input: &ClientInput,
-    ) -> Result<(State, Outputs), AllocError>
+    ) -> Result<(ClientState, Outputs), AllocError>
         requires time { now.0 ≤ 2 ^ 62 }
         requires fits { comes_fit input.now ≡ true }
         requires room { HasRoom self }
@@ -193,7 +193,11 @@ impl State {
     }
 
     /// A client without servers.
-    pub(crate) fn new(alloc: Global, id: ClientId, config: &Config) -> Result<State, AllocError>
+    pub(crate) fn new(
+        alloc: Global,
+        id: ClientId,
+        config: &Config,
+    ) -> Result<ClientState, AllocError>
         ensures { IfOk result (λ s. s ≡ record { id = id; config = config.now; associations = []; operations = []; next_command = 1 }) }
     {
         let parts = ClientParts {
@@ -205,34 +209,34 @@ impl State {
             next_command: 1,
             out: Vec::new(alloc),
         };
-        Ok(State {
+        Ok(ClientState {
             parts: Box::new(alloc, parts)?,
         })
     }
 
     /// One more server, of which the client has nothing in this life.
-    pub(crate) fn with_server(self, server: ServerId, life: Life) -> Result<State, AllocError>
+    pub(crate) fn with_server(self, server: ServerId, life: Life) -> Result<ClientState, AllocError>
         requires checked { IsOk (settings.check self.config) }
         requires node { HasNode server }
         ensures { IfOk result (λ s. s ≡ with_more (client.association_of life server ∷ []) self) }
     {
-        let State { mut parts } = self;
+        let ClientState { mut parts } = self;
         let here: &mut ClientParts = &mut parts;
         let a = Association::new(here.alloc, here.id, &here.config, server, life)?;
         here.associations.push(a)?;
-        Ok(State { parts })
+        Ok(ClientState { parts })
     }
 }
 
-impl ClientMachine {
+impl ClientTurn {
     /// A step ends: what the machine rests in, and its outputs.
-    pub(crate) fn rest(self) -> (State, Outputs)
+    pub(crate) fn rest(self) -> (ClientState, Outputs)
         ensures { client_turn result.0 result.1 ≡ self }
     {
-        let ClientMachine { mut parts } = self;
+        let ClientTurn { mut parts } = self;
         let here: &mut ClientParts = &mut parts;
         let out = mem::replace(&mut here.out, Vec::new(here.alloc));
-        let state = State { parts };
+        let state = ClientState { parts };
         (state, Outputs::from_vec(out))
     }
 }

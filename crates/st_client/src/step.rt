@@ -1,25 +1,25 @@
 // A whole step of a client: losses, the rule for the input, and the passes at each server in turn.
 ghost use Rattle.std.specs.Prelude.{◌≡◌, ◌==◌, ◌≤◌, ◌^◌, true, [], IfOk};
 ghost use Rattle.st_client.specs.Inputs.{comes_fit};
-ghost use Rattle.st_messages.specs.Fits.{is_ask};
+ghost use Rattle.st_messages.specs.Ranges.{is_ask};
 ghost use Rattle.st_rules.specs.Client as client;
 ghost use Rattle.st_rules.specs.ClientInvariants.{all_last};
 ghost use Rattle.st_rules.specs.ClientPasses as passes;
 ghost use Rattle.st_rules.specs.ClientReplies as replies;
 ghost use Rattle.st_rules.specs.ClientState as each;
 
-use crate::machine::ClientMachine;
-use crate::rules::{Finish, Hear, Lose, Passes, TakeAsk};
+use crate::rules::{Finish, Lose, Passes, Receive, TakeAsk};
+use crate::turn::ClientTurn;
 use st_base::{PageBytes, ServerId, Stamp, Tag};
 use st_messages::{AppAnswer, Ask, Header, Message, Output};
 use st_operations::server_of;
 use st_rules::ClientInput;
 use std::alloc::AllocError;
 
-impl ClientMachine {
+impl ClientTurn {
     /// The losses.
     #[tactic(auto, unfolding(st_rules::specs::Client::losses), using(crate::proofs::AllLast::losses_last, crate::proofs::AllLast::all_same))]
-    pub(crate) fn losses(self, now: Stamp) -> Result<ClientMachine, AllocError>
+    pub(crate) fn losses(self, now: Stamp) -> Result<ClientTurn, AllocError>
         ensures rule { IfOk result (λ m. m ≡ client.losses self now) }
         ensures last { IfOk result (λ m. all_last m.state now ≡ true) }
     {
@@ -28,13 +28,13 @@ impl ClientMachine {
 
     /// A message, at each server.
     #[tactic(auto, unfolding(st_rules::specs::ClientReplies::receive_here))]
-    fn hear_here(self, now: Stamp, message: &Message) -> Result<ClientMachine, AllocError>
+    fn receive_here(self, now: Stamp, message: &Message) -> Result<ClientTurn, AllocError>
         requires last { all_last self.state now ≡ true }
         requires time { now.0 ≤ 2 ^ 62 }
         ensures rule { IfOk result (λ t. t ≡ replies.receive_here self now message.now.header message.now.body) }
         ensures last { IfOk result (λ t. all_last t.state now ≡ true) }
     {
-        self.at_each(&Hear { now, message })
+        self.at_each(&Receive { now, message })
     }
 
     /// Whether a message is to this client.
@@ -46,14 +46,14 @@ impl ClientMachine {
 
     /// A message, where it is to this client.
     #[tactic(auto, unfolding(st_rules::specs::ClientReplies::receive))]
-    pub(crate) fn receive(self, now: Stamp, message: &Message) -> Result<ClientMachine, AllocError>
+    pub(crate) fn receive(self, now: Stamp, message: &Message) -> Result<ClientTurn, AllocError>
         requires last { all_last self.state now ≡ true }
         requires time { now.0 ≤ 2 ^ 62 }
         ensures rule { IfOk result (λ t. t ≡ replies.receive self now message.now.header message.now.body) }
         ensures last { IfOk result (λ t. all_last t.state now ≡ true) }
     {
         if self.is_to(&message.header) {
-            self.hear_here(now, message)
+            self.receive_here(now, message)
         } else {
             Ok(self)
         }
@@ -66,7 +66,7 @@ impl ClientMachine {
         now: Stamp,
         number: u64,
         ended: &Option<Option<(Tag, PageBytes)>>,
-    ) -> Result<ClientMachine, AllocError>
+    ) -> Result<ClientTurn, AllocError>
         requires last { all_last self.state now ≡ true }
         ensures rule { IfOk result (λ t. t ≡ client.done self number ended.now) }
         ensures last { IfOk result (λ t. all_last t.state now ≡ true) }
@@ -83,23 +83,18 @@ impl ClientMachine {
         now: Stamp,
         op: u32,
         answer: AppAnswer,
-    ) -> Result<ClientMachine, AllocError>
+    ) -> Result<ClientTurn, AllocError>
         requires last { all_last self.state now ≡ true }
         ensures rule { IfOk result (λ t. t ≡ client.answered_at_once self op answer) }
         ensures last { IfOk result (λ t. all_last t.state now ≡ true) }
     {
-        let ClientMachine { mut parts } = self;
+        let ClientTurn { mut parts } = self;
         parts.out.push(Output::Answer { op, answer })?;
-        Ok(ClientMachine { parts })
+        Ok(ClientTurn { parts })
     }
 
     /// An ask, at its server.
-    pub(crate) fn ask_each(
-        self,
-        now: Stamp,
-        op: u32,
-        ask: &Ask,
-    ) -> Result<ClientMachine, AllocError>
+    pub(crate) fn ask_each(self, now: Stamp, op: u32, ask: &Ask) -> Result<ClientTurn, AllocError>
         requires last { all_last self.state now ≡ true }
         requires fits { is_ask ask.now ≡ true }
         ensures rule { IfOk result (λ t. t ≡ each.at_each (each.only_at (each.server_of ask.now) (client.take_ask op ask.now)) self) }
@@ -128,7 +123,7 @@ impl ClientMachine {
 
     /// An ask for which there is a place.
     #[tactic(auto, unfolding(st_rules::specs::Client::app_known))]
-    fn app_known(self, now: Stamp, op: u32, ask: &Ask) -> Result<ClientMachine, AllocError>
+    fn app_known(self, now: Stamp, op: u32, ask: &Ask) -> Result<ClientTurn, AllocError>
         requires last { all_last self.state now ≡ true }
         requires fits { is_ask ask.now ≡ true }
         ensures rule { IfOk result (λ t. t ≡ client.app_known self op ask.now) }
@@ -143,7 +138,7 @@ impl ClientMachine {
 
     /// An ask.
     #[tactic(auto, unfolding(st_rules::specs::Client::app))]
-    fn app(self, now: Stamp, op: u32, ask: &Ask) -> Result<ClientMachine, AllocError>
+    fn app(self, now: Stamp, op: u32, ask: &Ask) -> Result<ClientTurn, AllocError>
         requires last { all_last self.state now ≡ true }
         requires fits { is_ask ask.now ≡ true }
         ensures rule { IfOk result (λ t. t ≡ client.app self op ask.now) }
@@ -158,7 +153,7 @@ impl ClientMachine {
 
     /// The rule for the input.
     #[tactic(auto, unfolding(st_rules::specs::Client::take_input))]
-    fn take_input(self, now: Stamp, input: &ClientInput) -> Result<ClientMachine, AllocError>
+    fn take_input(self, now: Stamp, input: &ClientInput) -> Result<ClientTurn, AllocError>
         requires last { all_last self.state now ≡ true }
         requires time { now.0 ≤ 2 ^ 62 }
         requires fits { comes_fit input.now ≡ true }
@@ -175,7 +170,7 @@ impl ClientMachine {
 
     /// The passes at each server.
     #[tactic(auto, unfolding(st_rules::specs::Client::work))]
-    pub(crate) fn work(self, now: Stamp, tick: bool) -> Result<ClientMachine, AllocError>
+    pub(crate) fn work(self, now: Stamp, tick: bool) -> Result<ClientTurn, AllocError>
         requires last { all_last self.state now ≡ true }
         ensures rule { IfOk result (λ t. t ≡ each.at_each (passes.passes now tick) self) }
     {
@@ -184,7 +179,7 @@ impl ClientMachine {
 
     /// The losses, the rule for the input, and then the passes at each server in turn.
     #[tactic(auto, unfolding(st_rules::specs::Client::client_step, st_rules::specs::Client::work))]
-    pub(crate) fn step(self, now: Stamp, input: &ClientInput) -> Result<ClientMachine, AllocError>
+    pub(crate) fn step(self, now: Stamp, input: &ClientInput) -> Result<ClientTurn, AllocError>
         requires time { now.0 ≤ 2 ^ 62 }
         requires fits { comes_fit input.now ≡ true }
         requires empty { self.out ≡ [] }

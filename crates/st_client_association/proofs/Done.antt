@@ -11,7 +11,7 @@ use Rattle.st_rules.specs.ClientPages.{Pages, command_of, dirty_of, end_at, end_
 use Rattle.st_rules.specs.declared.client.IoKind.{IoKind}
 use Rattle.st_rules.specs.declared.client.PageCommand.{PageCommand}
 use Rattle.st_rules.specs.declared.pages.DirtyPage.{DirtyPage}
-use Rattle.st_client_association.proofs.Kept.{below_fewer}
+use Rattle.st_client_association.proofs.TurnInvariants.{below_fewer}
 
 -- no command is told
 pub none_told : (cs : List PageCommand) (n : ℕ) → None ≡ option_map told (command_of cs n) → None ≡ command_of cs n

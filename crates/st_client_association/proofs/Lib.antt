@@ -1,4 +1,4 @@
-pub mod Kept
+pub mod TurnInvariants
 pub mod Sending
 pub mod LostRows
 pub mod Done

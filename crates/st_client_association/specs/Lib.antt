@@ -1,3 +1,3 @@
 pub mod Turns
 pub mod Associations
-pub mod Awake
+pub mod Activity

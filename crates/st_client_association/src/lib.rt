@@ -6,7 +6,7 @@ mod command_ends;
 mod disks;
 mod lease_loss;
 mod outputs;
-mod pending;
+mod pending_operations;
 mod readers;
 mod sessions;
 mod stores;

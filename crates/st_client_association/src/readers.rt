@@ -2,7 +2,7 @@
 ghost use Rattle.std.specs.Prelude.{◌≡◌, ◌+◌, false, nat_le, not, Some};
 ghost use Rattle.std.specs.List.{list_any};
 ghost use Rattle.st_client_association.specs.Associations.{has_room_at, may_ask};
-ghost use Rattle.st_client_association.specs.Awake.{is_awake, is_awake_by, may_send, takes_all};
+ghost use Rattle.st_client_association.specs.Activity.{is_awake, is_awake_by, may_send, takes_all};
 ghost use Rattle.st_rules.specs.Client as client;
 ghost use Rattle.st_rules.specs.ClientInvariants.{lasts_here};
 ghost use Rattle.st_rules.specs.ClientLease as leases;

@@ -5,7 +5,7 @@ use Rattle.std.proofs.lemmas.Bool.{and_parts, leb-true}
 use Rattle.st_base.specs.declared.ids.FileId.{FileId}
 use Rattle.st_base.specs.declared.ids.PageNo.{PageNo}
 use Rattle.st_messages.specs.declared.ask.Ask.TheVariants as asks
-use Rattle.st_messages.specs.Fits.{has_length, is_ask, is_file, is_page}
+use Rattle.st_messages.specs.Ranges.{has_length, is_ask, is_file, is_page}
 use Rattle.st_messages.specs.Kinds.{between}
 
 pub patch_range : (f : FileId) (p : PageNo) (at : ℕ) (bytes : List ℕ) → is_ask (asks.Patch f p at bytes) ≡ true → at + length bytes ≤ 4096

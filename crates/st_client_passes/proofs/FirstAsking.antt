@@ -6,7 +6,7 @@ use Rattle.st_rules.specs.declared.client.Operation.{Operation}
 use Rattle.st_rules.specs.ClientPasses.{Asking, Wanted, asks_or, behind, first_asking, sent_if}
 use Rattle.st_rules.specs.ClientState.{Turn}
 use Rattle.st_client_association.specs.Turns.{session_of}
-use Rattle.st_client_passes.specs.Asking.{asked_at, asking_at, behind_all, marked_if}
+use Rattle.st_client_passes.specs.Requests.{asked_at, asking_at, behind_all, marked_if}
 
 abbrev asking : Wanted → List Operation → Asking
 asking w os = record { wanted = w; operations = os }

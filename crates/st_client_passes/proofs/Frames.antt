@@ -26,7 +26,7 @@ use Rattle.st_rules.specs.ClientPages.{Pages}
 use Rattle.st_rules.specs.ClientPasses as passes
 use Rattle.st_rules.specs.ClientPasses.{submit_command, submit_read, sync, quiesce, change, change_by, change_page, write, fetch_mapped, fetch_at, fetch, patch_bytes, patch_at, patch, read_cached, read_known, read_uncached, read_at, read, serve_open, serve, operate_under, operate_by, operate_on, operate, operate_each, operations, reduce_to, reduce_given, reduce_by, reduce_idle, reduce, reduce_each, reductions}
 use Rattle.st_rules.specs.ClientState.{ClientSession, Turn, is_of, is_open_file, is_sent, is_serving, file_of, with_operations}
-use Rattle.st_client_passes.specs.Passing.{lease_frame}
+use Rattle.st_client_passes.specs.PassConditions.{lease_frame}
 
 -- one of two
 either : (b : Bool) (x y t : Turn) → lease_frame x ≡ lease_frame t → lease_frame y ≡ lease_frame t → lease_frame (if b then x else y) ≡ lease_frame t

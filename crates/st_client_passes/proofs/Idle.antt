@@ -9,7 +9,7 @@ use Rattle.st_base.specs.declared.mode.Mode.TheVariants as modes
 use Rattle.st_base.specs.Mode.{covers}
 use Rattle.st_messages.specs.declared.ask.Ask.{Ask}
 use Rattle.st_messages.specs.declared.ask.Ask.TheVariants as asks
-use Rattle.st_operations.specs.Pending.{may_act}
+use Rattle.st_operations.specs.PendingOperations.{may_act}
 use Rattle.st_rules.specs.declared.client.DemandedFile.{DemandedFile}
 use Rattle.st_rules.specs.declared.client.Operation.{Operation}
 use Rattle.st_rules.specs.declared.pages.DirtyPage.{DirtyPage}
@@ -21,7 +21,7 @@ use Rattle.st_rules.specs.ClientPasses.{operate, operate_each, operate_on, opera
 use Rattle.st_rules.specs.ClientState.{ClientSession, Turn, is_of, is_on, is_sync, is_cut_or_name, is_sent, is_file, file_of, keep, with_operations}
 use Rattle.st_rules.specs.Keys.{past, placed, rising, with_key}
 use Rattle.st_client_association.specs.Turns.{has_session}
-use Rattle.st_client_passes.specs.Passing.{wants_writes}
+use Rattle.st_client_passes.specs.PassConditions.{wants_writes}
 use Rattle.st_client_passes.proofs.Sessions.{operate_without}
 
 or_no : (a b : Bool) → (a || b) ≡ false → (a ≡ false) × (b ≡ false)

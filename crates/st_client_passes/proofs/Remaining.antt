@@ -5,7 +5,7 @@ use Rattle.st_base.specs.declared.ids.Stamp.{Stamp}
 use Rattle.st_rules.specs.declared.client.Operation.{Operation}
 use Rattle.st_rules.specs.ClientPasses.{operate, operate_each}
 use Rattle.st_rules.specs.ClientState.{Turn, with_operations}
-use Rattle.st_client_passes.specs.Passing.{put_back}
+use Rattle.st_client_passes.specs.PassConditions.{put_back}
 use Rattle.st_client_passes.proofs.Behind.{behind, behind_operate}
 
 -- the operations before the place stayed pending, and those from it on are to go through the pass

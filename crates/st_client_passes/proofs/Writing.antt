@@ -15,7 +15,7 @@ use Rattle.st_rules.specs.ClientPasses as passes
 use Rattle.st_rules.specs.ClientPasses.{is_writable, submit_command, submit_write, write_out, write_out_at, write_due, write_each, write_page}
 use Rattle.st_rules.specs.ClientState.{ClientSession, Turn}
 use Rattle.st_client_association.specs.Turns.{has_session, session_of}
-use Rattle.st_client_passes.specs.Passing.{SameSession}
+use Rattle.st_client_passes.specs.PassConditions.{SameSession}
 
 -- what is found at a place is of that place
 found_place : (ino : ℕ) (p : PageNo) (d : DirtyPage) (ds : List DirtyPage) → find (is_dirty_of ino p) ds ≡ Some d → (d.ino ≡ ino) × (d.page ≡ p)

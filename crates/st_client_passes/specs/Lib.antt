@@ -1,2 +1,2 @@
-pub mod Asking
-pub mod Passing
+pub mod Requests
+pub mod PassConditions

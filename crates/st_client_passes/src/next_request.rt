@@ -5,7 +5,7 @@ ghost use Rattle.st_client_association.specs.Turns.{has_session, session_of};
 ghost use Rattle.st_rules.specs.ClientLocks as locks;
 ghost use Rattle.st_rules.specs.ClientPasses as passes;
 ghost use Rattle.st_rules.specs.ClientState as client_state;
-ghost use Rattle.st_client_passes.specs.Asking.{asked_at, asking_at};
+ghost use Rattle.st_client_passes.specs.Requests.{asked_at, asking_at};
 
 use crate::greetings::has_passed;
 use crate::operations::is_open_file;

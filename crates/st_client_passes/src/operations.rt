@@ -1,10 +1,10 @@
 // The pass over the pending operations: each is answered, or stays pending.
 ghost use Rattle.std.specs.Prelude.{◌≡◌, ◌+◌, ◌<◌, ◌^◌, [], true, if◌then◌else◌, length, remove, slice_get, IfOk, IfSome, OnOk};
 ghost use Rattle.st_client_association.specs.Turns.{has_session, session_of};
-ghost use Rattle.st_operations.specs.Pending.{is_fit};
+ghost use Rattle.st_operations.specs.PendingOperations.{is_fit};
 ghost use Rattle.st_rules.specs.ClientPasses as passes;
 ghost use Rattle.st_rules.specs.ClientState as client_state;
-ghost use Rattle.st_client_passes.specs.Passing.{is_serving_at, put_back};
+ghost use Rattle.st_client_passes.specs.PassConditions.{is_serving_at, put_back};
 
 use crate::page_changes::{answer, patch, write};
 use crate::page_reads::read;

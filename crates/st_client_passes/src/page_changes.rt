@@ -5,7 +5,7 @@ ghost use Rattle.st_rules.specs.ClientPages as pages;
 ghost use Rattle.st_rules.specs.ClientPasses as passes;
 ghost use Rattle.st_rules.specs.ClientState as client_state;
 ghost use Rattle.st_rules.specs.FlatLog.{overlay};
-ghost use Rattle.st_client_passes.specs.Passing.{is_serving_at, put_back};
+ghost use Rattle.st_client_passes.specs.PassConditions.{is_serving_at, put_back};
 
 use crate::page_reads::fetch;
 use st_base::{FileId, Mode, PageBytes, PageNo, Stamp};

@@ -4,7 +4,7 @@ ghost use Rattle.st_client_association.specs.Turns.{has_session, session_of};
 ghost use Rattle.st_rules.specs.ClientInvariants.{lasts_here};
 ghost use Rattle.st_rules.specs.ClientPages as pages;
 ghost use Rattle.st_rules.specs.ClientPasses as passes;
-ghost use Rattle.st_client_passes.specs.Passing.{is_serving_at, put_back};
+ghost use Rattle.st_client_passes.specs.PassConditions.{is_serving_at, put_back};
 
 use crate::page_changes::{answer, holds};
 use st_base::{FileId, Mode, PageBytes, PageNo, Stamp};

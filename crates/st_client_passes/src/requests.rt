@@ -4,7 +4,7 @@ ghost use Rattle.st_client_association.specs.Turns.{has_session, session_of};
 ghost use Rattle.st_rules.specs.ClientLease as leases;
 ghost use Rattle.st_rules.specs.ClientPasses as passes;
 ghost use Rattle.st_rules.specs.ClientState as client_state;
-ghost use Rattle.st_client_passes.specs.Asking.{asking_at, is_free, marked_if};
+ghost use Rattle.st_client_passes.specs.Requests.{asking_at, is_free, marked_if};
 
 use crate::next_request::first_asking;
 use crate::wants::Wanted;

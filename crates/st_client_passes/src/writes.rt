@@ -6,7 +6,7 @@ ghost use Rattle.st_rules.specs.ClientInvariants.{lasts_here};
 ghost use Rattle.st_rules.specs.declared.pages.DirtyPage.{DirtyPage};
 ghost use Rattle.st_rules.specs.ClientPages as pages;
 ghost use Rattle.st_rules.specs.ClientPasses as passes;
-ghost use Rattle.st_client_passes.specs.Passing.{MayRest, drains_at};
+ghost use Rattle.st_client_passes.specs.PassConditions.{MayRest, drains_at};
 
 use st_base::{Mode, PageNo, ServerId, Stamp};
 use st_client_association::Turn;
@@ -21,7 +21,7 @@ struct WantsWrites {
 }
 
 impl Test<Operation> for WantsWrites {
-    ghost use Rattle.st_client_passes.specs.Passing.{wants_writes};
+    ghost use Rattle.st_client_passes.specs.PassConditions.{wants_writes};
 
     ghost passes = { λ t o. wants_writes t.server o };
 

@@ -17,7 +17,7 @@ use Rattle.st_rules.specs.ClientLocks.{Demanding, LockCache}
 use Rattle.st_rules.specs.ClientReplies as replies
 use Rattle.st_rules.specs.ClientState.{ClientSession, Turn, file_asked, with_cache, with_lease, with_session, without_request}
 use Rattle.st_client_association.specs.Turns.{has_session, session_of}
-use Rattle.st_client_rules.specs.Replied.{count_reply, counts, demanded, refuses, replied}
+use Rattle.st_client_rules.specs.Replies.{count_reply, counts, demanded, refuses, replied}
 
 some_own : {A : Type 0} (o : Option A) (d : A) → is_some o ≡ true → Some (unwrap_or o d) ≡ o
 some_own None d e = cc
@@ -45,7 +45,7 @@ stale_keeps c ino g to e = by (locks.lock_of c ino) e
 pub demand_is : (t new : Turn) (ino : ℕ) (g : GrantNo) (to : Mode) (asked : Asked) → has_session t ≡ true →
     new ≡ with_session (with_cache (locks.demand (session_of t).locks ino g to).locks (session_of t)) t → asked ≡ (locks.demand (session_of t).locks ino g to).asked →
     demanded new ino g asked ≡ replies.demand t (session_of t) ino g to
-unfolding replies.demand replies.demand_by replies.demand_as replies.see_demand
+unfolding replies.demand replies.demand_by replies.demand_as replies.observe_demand
 demand_is t new ino g to asked h n e =
     (λ i. demanded (n i) ino g (e i)) ∙ by (locks.demand (session_of t).locks ino g to).asked refl
   where

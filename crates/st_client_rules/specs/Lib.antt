@@ -1,3 +1,3 @@
-pub mod Replied
-pub mod Ending
+pub mod Replies
+pub mod CommandEnds
 pub mod Inputs

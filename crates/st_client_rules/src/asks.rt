@@ -1,7 +1,7 @@
 // Asks of applications.
 ghost use Rattle.std.specs.Prelude.{◌≡◌, true, OnOk};
 ghost use Rattle.st_client_rules.specs.Inputs.{synced};
-ghost use Rattle.st_messages.specs.Fits.{is_ask};
+ghost use Rattle.st_messages.specs.Ranges.{is_ask};
 ghost use Rattle.st_rules.specs.Client as client;
 
 use st_base::FileId;

@@ -5,7 +5,7 @@ ghost use Rattle.st_flush.specs.Calls.{AreApart};
 ghost use Rattle.st_rules.specs.Client as rules;
 ghost use Rattle.st_rules.specs.ClientPages as pages;
 ghost use Rattle.st_client_store.specs.Stores.{AreMatched};
-ghost use Rattle.st_client_rules.specs.Ending.{is_clean, is_free};
+ghost use Rattle.st_client_rules.specs.CommandEnds.{is_clean, is_free};
 
 use st_base::{FileId, PageBytes, PageNo, Tag};
 use st_client_association::Turn;

@@ -1,7 +1,7 @@
 // A server's message: by its header, its epoch, and what it says.
 ghost use Rattle.std.specs.Prelude.{◌≡◌, ◌≤◌, ◌^◌, true, OnOk};
 ghost use Rattle.st_client_association.specs.Turns.{has_session, session_of};
-ghost use Rattle.st_client_rules.specs.Replied.{demanded};
+ghost use Rattle.st_client_rules.specs.Replies.{demanded};
 ghost use Rattle.st_messages.specs.declared.message.Body.TheVariants as bodies;
 ghost use Rattle.st_rules.specs.ClientInvariants.{lasts_here};
 ghost use Rattle.st_rules.specs.ClientReplies as replies;
@@ -88,7 +88,7 @@ fn grant_or_reply(
 }
 
 /// The demand is seen.
-fn see_demand(turn: &mut Turn, ino: u32, g: GrantNo) -> Result<(), AllocError>
+fn observe_demand(turn: &mut Turn, ino: u32, g: GrantNo) -> Result<(), AllocError>
     requires { has_session turn.old ≡ true }
     ensures { OnOk result (turn.new ≡ send turn.old (session_of turn.old).epoch.0 0 0 (bodies.DemandSeen ino g)) }
 {
@@ -102,14 +102,14 @@ fn demand_as(turn: &mut Turn, ino: u32, g: GrantNo, asked: Asked) -> Result<(), 
     ensures { OnOk result (turn.new ≡ demanded turn.old ino g asked) }
 {
     match asked {
-        Asked::Reduce => see_demand(turn, ino, g),
+        Asked::Reduce => observe_demand(turn, ino, g),
         Asked::NotHeld => turn.release_unheld(ino, g),
         Asked::Stale => Ok(()),
     }
 }
 
 /// A demand.
-#[tactic(auto, unfolding(st_rules::specs::ClientReplies::demand, st_rules::specs::ClientReplies::demand_by, st_rules::specs::ClientReplies::demand_as, st_rules::specs::ClientReplies::see_demand))]
+#[tactic(auto, unfolding(st_rules::specs::ClientReplies::demand, st_rules::specs::ClientReplies::demand_by, st_rules::specs::ClientReplies::demand_as, st_rules::specs::ClientReplies::observe_demand))]
 fn demand(turn: &mut Turn, ino: u32, g: GrantNo, to: Mode) -> Result<(), AllocError>
     requires { has_session turn.old ≡ true }
     ensures { OnOk result (turn.new ≡ replies.demand turn.old (session_of turn.old) ino g to) }
@@ -165,8 +165,8 @@ fn by_session(turn: &mut Turn, now: Stamp, h: Header, body: &Body) -> Result<(),
 }
 
 /// Whether the message is from this server, of this life, and of no later stamp than now.
-fn is_heard(turn: &Turn, now: Stamp, h: Header) -> bool
-    ensures { result ≡ replies.is_heard turn.now now h }
+fn is_received(turn: &Turn, now: Stamp, h: Header) -> bool
+    ensures { result ≡ replies.is_received turn.now now h }
 {
     h.from == turn.node() && (h.life == turn.life().0 && h.stamp <= now.0)
 }
@@ -178,7 +178,7 @@ pub fn receive_at(turn: &mut Turn, now: Stamp, h: Header, body: &Body) -> Result
     requires reading { now.0 ≤ 2 ^ 62 }
     ensures { OnOk result (turn.new ≡ replies.receive_at now h body.now turn.old) }
 {
-    if is_heard(turn, now, h) {
+    if is_received(turn, now, h) {
         by_session(turn, now, h, body)
     } else {
         Ok(())

@@ -1,7 +1,7 @@
 // Replies to the outstanding request.
 ghost use Rattle.std.specs.Prelude.{◌≡◌, ◌≤◌, ◌^◌, true, OnOk};
 ghost use Rattle.st_client_association.specs.Turns.{has_session, session_of};
-ghost use Rattle.st_client_rules.specs.Replied.{count_reply, counts, refuses, replied};
+ghost use Rattle.st_client_rules.specs.Replies.{count_reply, counts, refuses, replied};
 ghost use Rattle.st_rules.specs.ClientInvariants.{lasts_here};
 ghost use Rattle.st_rules.specs.ClientReplies as replies;
 ghost use Rattle.st_rules.specs.ClientState.{with_session};

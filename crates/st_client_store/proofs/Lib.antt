@@ -1,2 +1,2 @@
 pub mod Matching
-pub mod Telling
+pub mod FilePages

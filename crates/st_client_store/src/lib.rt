@@ -3,9 +3,9 @@
 //! pages and commands", has the rules.
 #![tactic(auto)]
 
-mod lost;
+mod lost_pages;
 mod store;
 
-pub use lost::LostPages;
+pub use lost_pages::LostPages;
 pub use st_page_cache::CacheRefusal;
 pub use store::Store;

@@ -26,6 +26,6 @@ pub record IsReading (before now : ℕ) (reading : Stamp) : Type 0 where
   pub most : reading.0 ≤ 2 ^ 62
 
 -- a clock in memory: its last reading, and those to come
-pub record InMemory : Type 0 where
+pub record MemoryClock : Type 0 where
   pub latest : ℕ
   pub readings : List Stamp

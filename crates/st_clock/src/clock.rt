@@ -32,9 +32,10 @@ pub struct MemoryClock {
 
 impl Model for MemoryClock {
     ghost use Rattle.std.specs.Prelude.{◌<◌, drop, length};
-    ghost use Rattle.st_clock.specs.Readings.{InMemory, Rise};
+    ghost use Rattle.st_clock.specs.Readings as shown;
+    ghost use Rattle.st_clock.specs.Readings.{Rise};
 
-    ghost Value = { InMemory };
+    ghost Value = { shown.MemoryClock };
 
     ghost view = { λ c. record { latest = c.latest; readings = drop c.next c.readings.items } };
 

@@ -20,10 +20,10 @@ use Rattle.st_messages.specs.declared.message.Body.TheVariants as bodies
 use Rattle.st_messages.specs.declared.message.DiskResult.{DiskResult}
 use Rattle.st_messages.specs.declared.message.Why.{Why}
 use Rattle.st_messages.specs.declared.message.Why.TheVariants as whys
-use Rattle.st_messages.specs.Fits.{is_word16, is_word32, is_grant, is_ino, is_page, is_mode, is_count, is_any_block, is_name_op, is_name_reply, is_ask, is_answer, is_command, is_disk_result, are_locks, are_extents, is_body}
+use Rattle.st_messages.specs.Ranges.{is_word16, is_word32, is_grant, is_ino, is_page, is_mode, is_count, is_any_block, is_name_op, is_name_reply, is_ask, is_answer, is_command, is_disk_result, are_locks, are_extents, is_body}
 use Rattle.st_messages.specs.Kinds.{is_word64, kind_of_ask, kind_of_body}
-use Rattle.st_codec_fields.specs.Reading.{Reader, seq, byte_at, word16_at, word32_at, word64_at, ino_at, grant_at, page_at, mode_at, locks_at, extents_at, name_op_at, name_reply_at, any_block_at}
-use Rattle.st_codec.specs.Reading.{found, why_numbered, why_at, count_at, ask_at, patch_at, answer_at, command_at, disk_result_at, acquire_at, released_at, map_at, allocate_at, cut_at, name_body_at, reassert_at, demand_seen_at, nack_at, granted_at, queued_at, demand_at, extents_body_at, named_at, app_at, app_patch_at, app_done_at, submit_at, done_at, body_at}
+use Rattle.st_codec_fields.specs.Decoder.{Reader, seq, byte_at, word16_at, word32_at, word64_at, ino_at, grant_at, page_at, mode_at, locks_at, extents_at, name_op_at, name_reply_at, any_block_at}
+use Rattle.st_codec.specs.Decoder.{found, why_numbered, why_at, count_at, ask_at, patch_at, answer_at, command_at, disk_result_at, acquire_at, released_at, map_at, allocate_at, cut_at, name_body_at, reassert_at, demand_seen_at, nack_at, granted_at, queued_at, demand_at, extents_body_at, named_at, app_at, app_patch_at, app_done_at, submit_at, done_at, body_at}
 use Rattle.st_codec_fields.specs.Spelling.{byte, word16, word32, word64, mode, grant, block, rows, lock_row, extent_row, name_op, name_reply}
 use Rattle.st_codec.specs.Spelling.{why_number, ask, answer, command, disk_result, body}
 use Rattle.st_codec_fields.proofs.Exact.{IsBytes, Exact, Sound, bind_ok, ok_is, failed, pair_exact, triple_exact, quad_exact, checked_exact, made_sound, made_again, nothing_sound, byte_exact}

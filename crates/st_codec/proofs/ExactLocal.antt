@@ -16,10 +16,10 @@ use Rattle.st_messages.specs.declared.ask.Ask.TheVariants as asks
 use Rattle.st_codec_fields.specs.declared.fault.Fault.TheVariants as faults
 use Rattle.st_messages.specs.declared.message.DiskResult.{DiskResult}
 use Rattle.st_messages.specs.declared.message.DiskResult.TheVariants as results
-use Rattle.st_messages.specs.Fits.{is_ino, is_page, is_file, is_tag, is_whole_page, has_length, is_name_ask, is_ask, is_answer, is_same_block, is_command, is_disk_result, are_names, are_lost}
+use Rattle.st_messages.specs.Ranges.{is_ino, is_page, is_file, is_tag, is_whole_page, has_length, is_name_ask, is_ask, is_answer, is_same_block, is_command, is_disk_result, are_names, are_lost}
 use Rattle.st_messages.specs.Kinds.{between, is_word64}
-use Rattle.st_codec_fields.specs.Reading.{patch_bytes_at, Reader, seq, made, byte_at, word64_at, word16_in, file_at, page_at, whole_page_at, name_ask_at, names_at, lost_at, tag_at, ino_at}
-use Rattle.st_codec.specs.Reading.{file_page_at, write_at, ask_names_at, ask_numbered, ask_at, patch_fields_at, patch_numbered, patch_at, two_words_at, plain_answer, answer_numbered, answer_at, tagged_page_at, command_numbered, command_at, result_numbered, disk_result_at}
+use Rattle.st_codec_fields.specs.Decoder.{patch_bytes_at, Reader, seq, made, byte_at, word64_at, word16_in, file_at, page_at, whole_page_at, name_ask_at, names_at, lost_at, tag_at, ino_at}
+use Rattle.st_codec.specs.Decoder.{file_page_at, write_at, ask_names_at, ask_numbered, ask_at, patch_fields_at, patch_numbered, patch_at, two_words_at, plain_answer, answer_numbered, answer_at, tagged_page_at, command_numbered, command_at, result_numbered, disk_result_at}
 use Rattle.st_codec_fields.specs.Spelling.{byte, word16, word32, word64, file, name_ask, rows, name_row, lost_row, tag}
 use Rattle.st_codec.specs.Spelling.{ask, answer, command, disk_result}
 use Rattle.st_codec_fields.proofs.Exact.{Exact, Sound, After, pair_exact, triple_exact, quad_exact, made_again, made_after, nothing_after, fault_after, choice_after, chosen_sound, byte_exact}

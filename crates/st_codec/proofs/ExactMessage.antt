@@ -13,12 +13,12 @@ use Rattle.st_messages.specs.declared.kind.Party.{Party}
 use Rattle.st_messages.specs.declared.kind.Party.TheVariants.{Client, Server, Node, Surroundings}
 use Rattle.st_messages.specs.declared.message.Message.{Message}
 use Rattle.st_codec.specs.declared.refusal.CodecRefusal.TheVariants as refusals
-use Rattle.st_messages.specs.Fits.{is_word16, is_header, is_body, fits}
+use Rattle.st_messages.specs.Ranges.{is_word16, is_header, is_body, fits}
 use Rattle.st_codec.specs.Grammar.{Spells}
 use Rattle.st_messages.specs.Kinds.{between, is_word64, includes, allows, kind_of_body, sender, receiver, life_of, epoch_of, request_of, stamp_of}
 use Rattle.st_codec.specs.KindBytes.{version_of, number_of, all_kinds, is_kind, kind_of}
-use Rattle.st_codec_fields.specs.Reading.{◌>>=◌, seq, byte_at, word16_at, word64_at}
-use Rattle.st_codec.specs.Reading.{found, version_at, kind_at, party_at, needed_at, nodes_at, ages_at, marks_at, header_at, body_at, message_at, told, decoded}
+use Rattle.st_codec_fields.specs.Decoder.{◌>>=◌, seq, byte_at, word16_at, word64_at}
+use Rattle.st_codec.specs.Decoder.{found, version_at, kind_at, party_at, needed_at, nodes_at, ages_at, marks_at, header_at, body_at, message_at, told, decoded}
 use Rattle.st_codec_fields.specs.Spelling.{word16, word64}
 use Rattle.st_codec.specs.Spelling.{nodes, ages, marks, header, kind, body, spelling}
 use Rattle.st_codec_fields.proofs.Exact.{IsBytes, Takes-then, Exact, Sound, bind_ok, guard_ok, ok_is, failed, pair_exact, triple_exact, checked_exact, renamed, byte_exact}

@@ -22,7 +22,7 @@ use Rattle.st_messages.specs.declared.message.NameOp.{NameOp}
 use Rattle.st_messages.specs.declared.message.NameOp.TheVariants as ops
 use Rattle.st_messages.specs.declared.message.NameReply.{NameReply}
 use Rattle.st_messages.specs.declared.message.NameReply.TheVariants as replies
-use Rattle.st_messages.specs.Fits.{is_ino, is_grant, is_word32, is_page, is_file, is_tag, is_any_block, is_same_block, has_length, is_whole_page, is_dir_name, is_name_row, after_name, are_rows, are_names, are_locks, are_extents, are_lost, is_name_op, is_name_ask, is_name_reply, is_ask, is_answer, is_command, is_disk_result, is_header, is_body, fits}
+use Rattle.st_messages.specs.Ranges.{is_ino, is_grant, is_word32, is_page, is_file, is_tag, is_any_block, is_same_block, has_length, is_whole_page, is_dir_name, is_name_row, after_name, are_rows, are_names, are_locks, are_extents, are_lost, is_name_op, is_name_ask, is_name_reply, is_ask, is_answer, is_command, is_disk_result, is_header, is_body, fits}
 use Rattle.st_messages.specs.Kinds.{between, is_word64, kind_of_body}
 use Rattle.st_messages.specs.Sizes.{name_rows_size, op_size, name_ask_size, reply_size, ask_size, answer_size, command_size, result_size, body_size, size_of}
 use Rattle.st_codec_fields.proofs.ExactFields.{at_most}

@@ -15,7 +15,7 @@ use Rattle.st_codec_fields.specs.declared.fault.Fault.{Fault}
 use Rattle.st_codec_fields.specs.declared.fault.Fault.TheVariants as faults
 use Rattle.st_codec.specs.Frames.{Frames, Answer, frame, front, refused, behind, next_read, next_whole, next_at, next_by, next}
 use Rattle.st_codec.specs.Grammar.{Spells}
-use Rattle.st_codec.specs.Reading.{decoded, told, message_at}
+use Rattle.st_codec.specs.Decoder.{decoded, told, message_at}
 use Rattle.st_codec_fields.specs.Spelling.{word32}
 use Rattle.st_codec.specs.Spelling.{spelling}
 use Rattle.st_codec.specs.Stream.{message_frame, IsFramed, IsStream, IsAtEnd, IsTooLong, IsBad, IsRefused, Move, Feed, Next, Ran, given, moved, ran, piece_of, stream_of, AreBytes, Reads, start}

@@ -6,7 +6,7 @@ use Rattle.st_codec.specs.declared.frames.Front.TheVariants.{Partial, TooLong, W
 use Rattle.st_messages.specs.declared.message.Message.{Message}
 use Rattle.st_codec.specs.declared.refusal.CodecRefusal.{CodecRefusal}
 use Rattle.st_codec.specs.declared.refusal.CodecRefusal.TheVariants as refusals
-use Rattle.st_codec.specs.Reading.{decoded}
+use Rattle.st_codec.specs.Decoder.{decoded}
 use Rattle.st_codec_fields.specs.Spelling.{word32}
 
 -- a message's bytes as a frame

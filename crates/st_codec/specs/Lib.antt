@@ -1,6 +1,6 @@
 pub mod KindBytes
 pub mod Spelling
 pub mod Grammar
-pub mod Reading
+pub mod Decoder
 pub mod Frames
 pub mod Stream

@@ -4,9 +4,9 @@ use Rattle.std.specs.List.{flat_map, AllByRecursion}
 use Rattle.st_messages.specs.declared.message.Message.{Message}
 use Rattle.st_codec.specs.declared.refusal.CodecRefusal.{CodecRefusal}
 use Rattle.st_codec.specs.declared.refusal.CodecRefusal.TheVariants as refusals
-use Rattle.st_messages.specs.Fits.{fits}
+use Rattle.st_messages.specs.Ranges.{fits}
 use Rattle.st_codec.specs.Frames.{Frames, Answer, frame, fresh, fed, next}
-use Rattle.st_codec.specs.Reading.{decoded}
+use Rattle.st_codec.specs.Decoder.{decoded}
 use Rattle.st_codec_fields.specs.Spelling.{word32}
 use Rattle.st_codec.specs.Spelling.{spelling}
 

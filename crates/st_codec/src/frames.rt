@@ -1,9 +1,9 @@
 // Frames in a stream of bytes: which one stands in front, and what is left behind it.
 ghost use Rattle.std.specs.Prelude.{◌≡◌, ◌≤◌, ◌+◌, ℕ, true, IfOk, IfSome, OnOk, OnErr, None, length};
-ghost use Rattle.st_messages.specs.Fits as fits;
+ghost use Rattle.st_messages.specs.Ranges as fits;
 ghost use Rattle.st_codec.specs.Frames as frames;
 
-use crate::decoding::decode;
+use crate::decoder::decode;
 use crate::refusal::CodecRefusal;
 use st_messages::Message;
 use std::alloc::{AllocError, Global};

@@ -1,8 +1,8 @@
 ghost use Rattle.std.specs.Prelude.{◌≡◌, ◌<◌, ◌≤◌, ◌++◌, true, ℕ, List, Some, None, Ok, Err, length};
 ghost use Rattle.st_codec.specs.Grammar.{Spells};
-ghost use Rattle.st_messages.specs.Fits as fits;
+ghost use Rattle.st_messages.specs.Ranges as fits;
 ghost use Rattle.st_codec.specs.Frames as frames;
-ghost use Rattle.st_codec.specs.Reading as reading;
+ghost use Rattle.st_codec.specs.Decoder as reading;
 ghost use Rattle.st_messages.specs.Sizes as sizes;
 ghost use Rattle.st_codec.specs.Spelling as spells;
 ghost use Rattle.st_codec.specs.Stream as streams;

@@ -1,17 +1,17 @@
 //! The bytes that spell the messages of `st_messages`, both ways, and frames. `docs/PROTOCOL.md`, "Wire", has the tables.
 #![tactic(auto)]
 
-mod decoding;
-mod decoding_local;
-mod encoding;
-mod encoding_local;
+mod decoder;
+mod encoder;
 mod frames;
 mod kind_bytes;
 mod law;
+mod local_decoder;
+mod local_encoder;
 mod refusal;
 
-pub use decoding::decode;
-pub use encoding::{encode, put_message};
+pub use decoder::decode;
+pub use encoder::{encode, put_message};
 pub use frames::FrameReader;
 pub use law::{bytes_that_follow, fits_a_frame, frames_in_any_pieces, one_spelling, spelled_size};
 pub use refusal::CodecRefusal;

@@ -1,5 +1,5 @@
 ghost use Rattle.std.specs.Prelude.{◌≡◌};
-ghost use Rattle.st_codec.specs.Reading as reading;
+ghost use Rattle.st_codec.specs.Decoder as reading;
 
 use st_codec_fields::Fault;
 use thiserror::Error;

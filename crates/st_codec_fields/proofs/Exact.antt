@@ -9,8 +9,8 @@ use Rattle.std.proofs.lemmas.List.Concat.{flat_map-cons}
 use Rattle.std.proofs.lemmas.Nat.{be_bytes_2, be_bytes_4, be_bytes_8, from_be_bytes-to_be_bytes_2, from_be_bytes-to_be_bytes_4, from_be_bytes-to_be_bytes_8}
 use Rattle.st_codec_fields.specs.declared.fault.Fault.{Fault}
 use Rattle.st_codec_fields.specs.declared.fault.Fault.TheVariants as faults
-use Rattle.st_messages.specs.Fits.{are_rows}
-use Rattle.st_codec_fields.specs.Reading.{Reader, ◌>>=◌, seq, made, checked, nothing, byte_at, text_at, number_at, rows_at, chosen}
+use Rattle.st_messages.specs.Ranges.{are_rows}
+use Rattle.st_codec_fields.specs.Decoder.{Reader, ◌>>=◌, seq, made, checked, nothing, byte_at, text_at, number_at, rows_at, chosen}
 
 abbrev pub IsBytes : List ℕ → Type 0
 IsBytes bytes = (i : ℕ) → get_or bytes i 0 < 256

@@ -7,9 +7,9 @@ use Rattle.std.proofs.lemmas.Bool.{lt-ltb, leb-true, and_parts}
 use Rattle.st_base.specs.declared.mode.Mode.{Mode}
 use Rattle.st_base.specs.declared.mode.Mode.TheVariants as modes
 use Rattle.st_base.specs.Mode as base_modes
-use Rattle.st_messages.specs.Fits.{is_word16, is_word32, is_grant, is_ino, is_page, is_mode, has_length, is_whole_page, is_file, is_block, is_any_block, is_tag, is_lock_row, is_extent_row, is_lost_row, is_name_row, after_lock, after_extent, after_lost, after_name, are_rows, are_locks, are_extents, are_lost, are_names}
+use Rattle.st_messages.specs.Ranges.{is_word16, is_word32, is_grant, is_ino, is_page, is_mode, has_length, is_whole_page, is_file, is_block, is_any_block, is_tag, is_lock_row, is_extent_row, is_lost_row, is_name_row, after_lock, after_extent, after_lost, after_name, are_rows, are_locks, are_extents, are_lost, are_names}
 use Rattle.st_messages.specs.Kinds.{between, is_word64}
-use Rattle.st_codec_fields.specs.Reading.{◌>>=◌, seq, byte_at, text_at, word16_at, word32_at, word64_at, byte_in, word16_in, word32_in, ino_at, grant_at, page_at, mode_numbered, mode_at, name_at, whole_page_at, patch_bytes_at, file_at, block_at, any_block_at, tag_at, lock_row_at, extent_row_at, lost_row_at, is_directory, entry_at, name_row_at, rows_at, locks_at, extents_at, lost_at, names_at}
+use Rattle.st_codec_fields.specs.Decoder.{◌>>=◌, seq, byte_at, text_at, word16_at, word32_at, word64_at, byte_in, word16_in, word32_in, ino_at, grant_at, page_at, mode_numbered, mode_at, name_at, whole_page_at, patch_bytes_at, file_at, block_at, any_block_at, tag_at, lock_row_at, extent_row_at, lost_row_at, is_directory, entry_at, name_row_at, rows_at, locks_at, extents_at, lost_at, names_at}
 use Rattle.st_codec_fields.specs.Spelling.{byte, word16, word32, word64, mode, grant, name, file, block, tag, entry_number, lock_row, extent_row, lost_row, name_row, rows}
 use Rattle.st_codec_fields.proofs.Exact.{Exact, respelled, pair_exact, triple_exact, renamed, checked_exact, byte_exact, number_exact, text_exact, counted_exact, rows_exact, wide16, wide32, wide64}
 

@@ -9,9 +9,9 @@ use Rattle.st_messages.specs.declared.message.NameOp.{NameOp}
 use Rattle.st_messages.specs.declared.message.NameOp.TheVariants as ops
 use Rattle.st_messages.specs.declared.message.NameReply.{NameReply}
 use Rattle.st_messages.specs.declared.message.NameReply.TheVariants as replies
-use Rattle.st_messages.specs.Fits.{is_word32, is_ino, is_grant, has_length, is_dir_name, is_name_op, is_name_ask, is_name_reply, are_names}
+use Rattle.st_messages.specs.Ranges.{is_word32, is_ino, is_grant, has_length, is_dir_name, is_name_op, is_name_ask, is_name_reply, are_names}
 use Rattle.st_messages.specs.Kinds.{between}
-use Rattle.st_codec_fields.specs.Reading.{seq, made, ino_at, grant_at, word32_at, byte_in, name_at, dir_name_at, remove_at, rename_at, op_numbered, name_op_at, remove_ask_at, rename_ask_at, name_ask_numbered, name_ask_at, reply_numbered, name_reply_at, names_at}
+use Rattle.st_codec_fields.specs.Decoder.{seq, made, ino_at, grant_at, word32_at, byte_in, name_at, dir_name_at, remove_at, rename_at, op_numbered, name_op_at, remove_ask_at, rename_ask_at, name_ask_numbered, name_ask_at, reply_numbered, name_reply_at, names_at}
 use Rattle.st_codec_fields.specs.Spelling.{byte, word32, grant, name, name_op, name_ask, name_reply, rows, name_row}
 use Rattle.st_codec_fields.proofs.Exact.{Exact, Sound, After, pair_exact, triple_exact, made_again, made_after, fault_after, choice_after, chosen_sound}
 use Rattle.st_codec_fields.proofs.ExactFields.{ino_exact, grant_exact, word32_exact, byte_in_exact, name_exact, names_exact}

@@ -3,7 +3,7 @@ use Rattle.std.proofs.Common.{◌≡◌, ℕ, suc, ◌-◌, ◌+◌, ◌≤◌, 
 use Rattle.std.proofs.lemmas.List.{append-nil}
 use Rattle.st_codec_fields.specs.declared.fault.ReadError.{ReadError}
 use Rattle.st_codec_fields.specs.declared.fault.ReadError.TheVariants as errors
-use Rattle.st_codec_fields.specs.Reading.{Read, Reader, ◌>>=◌, Fails, rows_at}
+use Rattle.st_codec_fields.specs.Decoder.{Read, Reader, ◌>>=◌, Fails, rows_at}
 
 -- what was read before, and what is still read
 abbrev pub with_front : {R : Type 0} → List R → Read (List R) → Read (List R)

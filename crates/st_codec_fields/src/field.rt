@@ -1,6 +1,6 @@
 // Fields from their bytes: numbers, places, names and pages, each with the fault that it may have.
 ghost use Rattle.std.specs.Prelude.{◌≡◌, ◌≤◌, IfOk, length};
-ghost use Rattle.st_codec_fields.specs.Reading as reading;
+ghost use Rattle.st_codec_fields.specs.Decoder as reading;
 
 use crate::fault::{Fault, ReadError};
 use st_base::{BlockAt, DiskId, FileId, GrantNo, Mode, Name, PageBytes, PageNo, ServerId, Tag};
@@ -26,7 +26,7 @@ pub fn read_byte(bytes: &[u8]) -> Result<(u8, &[u8]), ReadError>
 }
 
 /// Reads a number of two bytes from the front of the bytes. Returns it and the bytes behind it, or the first fault.
-#[tactic(auto, unfolding(crate::specs::Reading::word16_at))]
+#[tactic(auto, unfolding(crate::specs::Decoder::word16_at))]
 pub fn read_word16(bytes: &[u8]) -> Result<(u16, &[u8]), ReadError>
     ensures { reading.Gives (λ x. (x.0, x.1.now)) result (reading.word16_at bytes.now) }
 {
@@ -39,7 +39,7 @@ pub fn read_word16(bytes: &[u8]) -> Result<(u16, &[u8]), ReadError>
 }
 
 /// Reads a number of four bytes from the front of the bytes. Returns it and the bytes behind it, or the first fault.
-#[tactic(auto, unfolding(crate::specs::Reading::word32_at))]
+#[tactic(auto, unfolding(crate::specs::Decoder::word32_at))]
 pub fn read_word32(bytes: &[u8]) -> Result<(u32, &[u8]), ReadError>
     ensures { reading.Gives (λ x. (x.0, x.1.now)) result (reading.word32_at bytes.now) }
 {
@@ -52,7 +52,7 @@ pub fn read_word32(bytes: &[u8]) -> Result<(u32, &[u8]), ReadError>
 }
 
 /// Reads a number of eight bytes from the front of the bytes. Returns it and the bytes behind it, or the first fault.
-#[tactic(auto, unfolding(crate::specs::Reading::word64_at))]
+#[tactic(auto, unfolding(crate::specs::Decoder::word64_at))]
 pub fn read_word64(bytes: &[u8]) -> Result<(u64, &[u8]), ReadError>
     ensures { reading.Gives (λ x. (x.0, x.1.now)) result (reading.word64_at bytes.now) }
 {
@@ -67,7 +67,7 @@ pub fn read_word64(bytes: &[u8]) -> Result<(u64, &[u8]), ReadError>
 }
 
 /// Reads a byte from `least` to `most`.
-#[tactic(auto, unfolding(crate::specs::Reading::byte_in))]
+#[tactic(auto, unfolding(crate::specs::Decoder::byte_in))]
 pub(crate) fn read_byte_in(least: u64, most: u64, bytes: &[u8]) -> Result<(u8, &[u8]), ReadError>
     ensures { reading.Gives (λ x. (x.0, x.1.now)) result (reading.byte_in least most bytes.now) }
 {
@@ -79,7 +79,7 @@ pub(crate) fn read_byte_in(least: u64, most: u64, bytes: &[u8]) -> Result<(u8, &
 }
 
 /// Reads a number of two bytes in this range from the front of the bytes. Returns it and the bytes behind it, or the first fault.
-#[tactic(auto, unfolding(crate::specs::Reading::word16_in))]
+#[tactic(auto, unfolding(crate::specs::Decoder::word16_in))]
 pub fn read_word16_in(least: u64, most: u64, bytes: &[u8]) -> Result<(u16, &[u8]), ReadError>
     ensures number { reading.Gives (λ x. (x.0, x.1.now)) result (reading.word16_in least most bytes.now) }
     ensures least { IfOk result (λ x. least ≤ x.0) }
@@ -92,7 +92,7 @@ pub fn read_word16_in(least: u64, most: u64, bytes: &[u8]) -> Result<(u16, &[u8]
     Ok((number, rest))
 }
 
-#[tactic(auto, unfolding(crate::specs::Reading::word32_in))]
+#[tactic(auto, unfolding(crate::specs::Decoder::word32_in))]
 pub(crate) fn read_word32_in(least: u64, most: u64, bytes: &[u8]) -> Result<(u32, &[u8]), ReadError>
     ensures { reading.Gives (λ x. (x.0, x.1.now)) result (reading.word32_in least most bytes.now) }
 {
@@ -111,7 +111,7 @@ pub fn read_ino(bytes: &[u8]) -> Result<(u32, &[u8]), ReadError>
 }
 
 /// Reads a grant's number from the front of the bytes. Returns it and the bytes behind it, or the first fault.
-#[tactic(auto, unfolding(crate::specs::Reading::grant_at))]
+#[tactic(auto, unfolding(crate::specs::Decoder::grant_at))]
 pub fn read_grant(bytes: &[u8]) -> Result<(GrantNo, &[u8]), ReadError>
     ensures { reading.Gives (λ x. (x.0, x.1.now)) result (reading.grant_at bytes.now) }
 {
@@ -120,7 +120,7 @@ pub fn read_grant(bytes: &[u8]) -> Result<(GrantNo, &[u8]), ReadError>
 }
 
 /// Reads a page number that is at least `least`.
-#[tactic(auto, unfolding(crate::specs::Reading::page_at))]
+#[tactic(auto, unfolding(crate::specs::Decoder::page_at))]
 pub fn read_page(least: u64, bytes: &[u8]) -> Result<(PageNo, &[u8]), ReadError>
     ensures { reading.Gives (λ x. (x.0, x.1.now)) result (reading.page_at least bytes.now) }
 {
@@ -139,7 +139,7 @@ fn mode_numbered(number: u8) -> Mode
 }
 
 /// Reads a mode in this range from the front of the bytes. Returns it and the bytes behind it, or the first fault.
-#[tactic(auto, unfolding(crate::specs::Reading::mode_at))]
+#[tactic(auto, unfolding(crate::specs::Decoder::mode_at))]
 pub fn read_mode(least: u64, most: u64, bytes: &[u8]) -> Result<(Mode, &[u8]), ReadError>
     ensures { reading.Gives (λ x. (x.0, x.1.now)) result (reading.mode_at least most bytes.now) }
 {
@@ -157,7 +157,7 @@ fn read_text(len: usize, bytes: &[u8]) -> Result<(&[u8], &[u8]), ReadError>
     Ok(bytes.split_at(len))
 }
 
-#[tactic(auto, unfolding(crate::specs::Reading::name_at))]
+#[tactic(auto, unfolding(crate::specs::Decoder::name_at))]
 pub(crate) fn read_name(
     alloc: Global,
     least: u64,
@@ -172,7 +172,7 @@ pub(crate) fn read_name(
 }
 
 /// Reads the bytes of a page from the front of the bytes. Returns it and the bytes behind it, or the first fault.
-#[tactic(auto, unfolding(crate::specs::Reading::whole_page_at))]
+#[tactic(auto, unfolding(crate::specs::Decoder::whole_page_at))]
 pub fn read_whole_page(alloc: Global, bytes: &[u8]) -> Result<(PageBytes, &[u8]), ReadError>
     ensures { reading.Gives (λ x. (x.0, x.1.now)) result (reading.whole_page_at bytes.now) }
 {
@@ -182,7 +182,7 @@ pub fn read_whole_page(alloc: Global, bytes: &[u8]) -> Result<(PageBytes, &[u8])
 }
 
 /// Reads the bytes of a patch that begins at this byte of its page from the front of the bytes. Returns it and the bytes behind it, or the first fault.
-#[tactic(auto, unfolding(crate::specs::Reading::patch_bytes_at))]
+#[tactic(auto, unfolding(crate::specs::Decoder::patch_bytes_at))]
 pub fn read_patch_bytes(
     alloc: Global,
     at: u16,
@@ -197,7 +197,7 @@ pub fn read_patch_bytes(
 }
 
 /// Reads a file from the front of the bytes. Returns it and the bytes behind it, or the first fault.
-#[tactic(auto, unfolding(crate::specs::Reading::file_at))]
+#[tactic(auto, unfolding(crate::specs::Decoder::file_at))]
 pub fn read_file(least: u64, bytes: &[u8]) -> Result<(FileId, &[u8]), ReadError>
     ensures { reading.Gives (λ x. (x.0, x.1.now)) result (reading.file_at least bytes.now) }
 {
@@ -207,7 +207,7 @@ pub fn read_file(least: u64, bytes: &[u8]) -> Result<(FileId, &[u8]), ReadError>
     Ok((FileId { server, ino }, rest))
 }
 
-#[tactic(auto, unfolding(crate::specs::Reading::block_at))]
+#[tactic(auto, unfolding(crate::specs::Decoder::block_at))]
 pub(crate) fn read_block(bytes: &[u8]) -> Result<(BlockAt, &[u8]), ReadError>
     ensures { reading.Gives (λ x. (x.0, x.1.now)) result (reading.block_at bytes.now) }
 {
@@ -218,7 +218,7 @@ pub(crate) fn read_block(bytes: &[u8]) -> Result<(BlockAt, &[u8]), ReadError>
 }
 
 /// Reads a block of any numbers from the front of the bytes. Returns it and the bytes behind it, or the first fault.
-#[tactic(auto, unfolding(crate::specs::Reading::any_block_at))]
+#[tactic(auto, unfolding(crate::specs::Decoder::any_block_at))]
 pub fn read_any_block(bytes: &[u8]) -> Result<(BlockAt, &[u8]), ReadError>
     ensures { reading.Gives (λ x. (x.0, x.1.now)) result (reading.any_block_at bytes.now) }
 {
@@ -229,7 +229,7 @@ pub fn read_any_block(bytes: &[u8]) -> Result<(BlockAt, &[u8]), ReadError>
 }
 
 /// Reads a tag from the front of the bytes. Returns it and the bytes behind it, or the first fault.
-#[tactic(auto, unfolding(crate::specs::Reading::tag_at))]
+#[tactic(auto, unfolding(crate::specs::Decoder::tag_at))]
 pub fn read_tag(least: u64, bytes: &[u8]) -> Result<(Tag, &[u8]), ReadError>
     ensures { reading.Gives (λ x. (x.0, x.1.now)) result (reading.tag_at least bytes.now) }
 {

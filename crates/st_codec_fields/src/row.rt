@@ -1,7 +1,7 @@
 // The bytes of rows, both ways.
 ghost use Rattle.std.specs.Prelude.{◌≡◌, ◌++◌, ◌∷◌, ◌≤◌, ℕ, true, List, OnOk, Result, length, All};
-ghost use Rattle.st_messages.specs.Fits as fits;
-ghost use Rattle.st_codec_fields.specs.Reading as reading;
+ghost use Rattle.st_messages.specs.Ranges as fits;
+ghost use Rattle.st_codec_fields.specs.Decoder as reading;
 ghost use Rattle.st_codec_fields.specs.Spelling as spells;
 ghost use Rattle.st_codec_fields.specs.declared.fault.Fault.{Fault};
 
@@ -10,7 +10,7 @@ use crate::field::{
     read_block, read_byte_in, read_grant, read_mode, read_name, read_page, read_word16_in,
     read_word32_in, read_word64,
 };
-use crate::spell::{
+use crate::field_encoder::{
     put_block, put_byte, put_grant, put_mode, put_name, put_word16, put_word32, put_word64,
 };
 use st_base::{
@@ -47,7 +47,7 @@ impl RowBytes for (u32, GrantNo, Mode) {
         Ok(())
     }
 
-    #[tactic(auto, unfolding(crate::specs::Reading::lock_row_at))]
+    #[tactic(auto, unfolding(crate::specs::Decoder::lock_row_at))]
     fn read(_alloc: Global, least: u64, bytes: &[u8]) -> Result<(Self, &[u8]), ReadError> {
         let (ino, rest) = read_word32_in(least, 4_294_967_295, bytes)?;
         let (g, rest) = read_grant(rest)?;
@@ -69,7 +69,7 @@ impl RowBytes for ExtentRow {
         Ok(())
     }
 
-    #[tactic(auto, unfolding(crate::specs::Reading::extent_row_at))]
+    #[tactic(auto, unfolding(crate::specs::Decoder::extent_row_at))]
     fn read(_alloc: Global, least: u64, bytes: &[u8]) -> Result<(Self, &[u8]), ReadError> {
         let (page, rest) = read_page(least, bytes)?;
         let (at, rest) = read_block(rest)?;
@@ -90,7 +90,7 @@ impl RowBytes for LostRow {
         Ok(())
     }
 
-    #[tactic(auto, unfolding(crate::specs::Reading::lost_row_at))]
+    #[tactic(auto, unfolding(crate::specs::Decoder::lost_row_at))]
     fn read(_alloc: Global, least: u64, bytes: &[u8]) -> Result<(Self, &[u8]), ReadError> {
         let (page, rest) = read_page(least, bytes)?;
         let (command, rest) = read_word64(rest)?;
@@ -111,7 +111,7 @@ impl RowBytes for NameRow {
         Ok(())
     }
 
-    #[tactic(auto, unfolding(crate::specs::Reading::name_row_at))]
+    #[tactic(auto, unfolding(crate::specs::Decoder::name_row_at))]
     fn read(alloc: Global, least: u64, bytes: &[u8]) -> Result<(Self, &[u8]), ReadError> {
         let (ino, rest) = read_word32_in(least, 4_294_967_295, bytes)?;
         let (directory, rest) = read_entry(rest)?;
@@ -144,7 +144,7 @@ pub(crate) fn put_rows<T: RowBytes>(out: &mut Vec<u8>, rows: &Rows<T>) -> Result
 }
 
 /// Appends the rows of locks, at most 1,024.
-#[tactic(auto, unfolding(st_messages::specs::Fits::are_locks))]
+#[tactic(auto, unfolding(st_messages::specs::Ranges::are_locks))]
 pub fn put_locks(out: &mut Vec<u8>, rows: &LockRows) -> Result<(), AllocError>
     requires { fits.are_locks rows.now ≡ true }
     ensures { OnOk result (out.new.items ≡ out.old.items ++ spells.rows spells.lock_row rows.now) }
@@ -153,7 +153,7 @@ pub fn put_locks(out: &mut Vec<u8>, rows: &LockRows) -> Result<(), AllocError>
 }
 
 /// Appends the rows of extents, at most 64.
-#[tactic(auto, unfolding(st_messages::specs::Fits::are_extents))]
+#[tactic(auto, unfolding(st_messages::specs::Ranges::are_extents))]
 pub fn put_extents(out: &mut Vec<u8>, rows: &ExtentRows) -> Result<(), AllocError>
     requires { fits.are_extents rows.now ≡ true }
     ensures { OnOk result (out.new.items ≡ out.old.items ++ spells.rows spells.extent_row rows.now) }
@@ -162,7 +162,7 @@ pub fn put_extents(out: &mut Vec<u8>, rows: &ExtentRows) -> Result<(), AllocErro
 }
 
 /// Appends the rows of lost pages, 1 to 1,024.
-#[tactic(auto, unfolding(st_messages::specs::Fits::are_lost))]
+#[tactic(auto, unfolding(st_messages::specs::Ranges::are_lost))]
 pub fn put_lost(out: &mut Vec<u8>, rows: &LostRows) -> Result<(), AllocError>
     requires { fits.are_lost rows.now ≡ true }
     ensures { OnOk result (out.new.items ≡ out.old.items ++ spells.rows spells.lost_row rows.now) }
@@ -171,7 +171,7 @@ pub fn put_lost(out: &mut Vec<u8>, rows: &LostRows) -> Result<(), AllocError>
 }
 
 /// Appends the rows of names, at most 256.
-#[tactic(auto, unfolding(st_messages::specs::Fits::are_names))]
+#[tactic(auto, unfolding(st_messages::specs::Ranges::are_names))]
 pub fn put_names(out: &mut Vec<u8>, rows: &NameRows) -> Result<(), AllocError>
     requires { fits.are_names rows.now ≡ true }
     ensures { OnOk result (out.new.items ≡ out.old.items ++ spells.rows spells.name_row rows.now) }
@@ -180,7 +180,7 @@ pub fn put_names(out: &mut Vec<u8>, rows: &NameRows) -> Result<(), AllocError>
 }
 
 /// Reads whether an entry is a directory.
-#[tactic(auto, unfolding(crate::specs::Reading::entry_at))]
+#[tactic(auto, unfolding(crate::specs::Decoder::entry_at))]
 fn read_entry(bytes: &[u8]) -> Result<(bool, &[u8]), ReadError>
     ensures { reading.Gives (λ x. (x.0, x.1.now)) result (reading.entry_at bytes.now) }
 {
@@ -209,7 +209,7 @@ fn read_rows<T: RowBytes + Drop>(
 }
 
 /// Reads the rows of locks, at most 1,024 from the front of the bytes. Returns it and the bytes behind it, or the first fault.
-#[tactic(auto, unfolding(crate::specs::Reading::locks_at))]
+#[tactic(auto, unfolding(crate::specs::Decoder::locks_at))]
 pub fn read_locks(alloc: Global, bytes: &[u8]) -> Result<(LockRows, &[u8]), ReadError>
     ensures { reading.Gives (λ x. (x.0, x.1.now)) result (reading.locks_at bytes.now) }
 {
@@ -218,7 +218,7 @@ pub fn read_locks(alloc: Global, bytes: &[u8]) -> Result<(LockRows, &[u8]), Read
 }
 
 /// Reads the rows of extents, at most 64 from the front of the bytes. Returns it and the bytes behind it, or the first fault.
-#[tactic(auto, unfolding(crate::specs::Reading::extents_at))]
+#[tactic(auto, unfolding(crate::specs::Decoder::extents_at))]
 pub fn read_extents(alloc: Global, bytes: &[u8]) -> Result<(ExtentRows, &[u8]), ReadError>
     ensures { reading.Gives (λ x. (x.0, x.1.now)) result (reading.extents_at bytes.now) }
 {
@@ -227,7 +227,7 @@ pub fn read_extents(alloc: Global, bytes: &[u8]) -> Result<(ExtentRows, &[u8]), 
 }
 
 /// Reads the rows of lost pages, 1 to 1,024 from the front of the bytes. Returns it and the bytes behind it, or the first fault.
-#[tactic(auto, unfolding(crate::specs::Reading::lost_at))]
+#[tactic(auto, unfolding(crate::specs::Decoder::lost_at))]
 pub fn read_lost(alloc: Global, bytes: &[u8]) -> Result<(LostRows, &[u8]), ReadError>
     ensures { reading.Gives (λ x. (x.0, x.1.now)) result (reading.lost_at bytes.now) }
 {
@@ -236,7 +236,7 @@ pub fn read_lost(alloc: Global, bytes: &[u8]) -> Result<(LostRows, &[u8]), ReadE
 }
 
 /// Reads the rows of names, at most 256 from the front of the bytes. Returns it and the bytes behind it, or the first fault.
-#[tactic(auto, unfolding(crate::specs::Reading::names_at))]
+#[tactic(auto, unfolding(crate::specs::Decoder::names_at))]
 pub fn read_names(alloc: Global, bytes: &[u8]) -> Result<(NameRows, &[u8]), ReadError>
     ensures { reading.Gives (λ x. (x.0, x.1.now)) result (reading.names_at bytes.now) }
 {

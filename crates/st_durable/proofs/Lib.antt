@@ -1,3 +1,3 @@
-pub mod Following
+pub mod StableChanges
 pub mod Marks
-pub mod Telling
+pub mod ToldChanges

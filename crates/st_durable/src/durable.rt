@@ -11,10 +11,10 @@ ghost use Rattle.st_rules.specs.Server as server;
 ghost use Rattle.st_durable.specs.Durable as durable;
 ghost use Rattle.st_durable.specs.Durable.{IsAsked, IsMade, IsOwn, Tells};
 ghost use Rattle.st_server.specs.Parts.{stable_of};
-ghost use Rattle.st_server.specs.Ready.{comes_fit};
-ghost use Rattle.st_server.specs.Restored.{IsStable, crashed_node};
+ghost use Rattle.st_server.specs.RuleConditions.{comes_fit};
+ghost use Rattle.st_server.specs.Restart.{IsStable, crashed_node};
 ghost use Rattle.st_server.specs.Room.{HasRoom};
-ghost use Rattle.st_server.specs.Sound.{is_sent};
+ghost use Rattle.st_server.specs.Invariants.{is_sent};
 ghost use Rattle.st_server.specs.Steps.{Steps};
 
 use st_base::{Config, Name, ServerId, Stamp};

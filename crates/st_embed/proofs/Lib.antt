@@ -1,7 +1,7 @@
 -- What the proofs of `st_embed` share.
-mod Kept
-mod Keeping
+mod KeptLives
+mod KeptJournal
 pub mod Zeros
 mod Opened
-mod Stepping
-pub mod Restoring
+mod ServerSteps
+pub mod StableParts

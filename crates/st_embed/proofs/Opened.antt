@@ -6,12 +6,12 @@ use Rattle.st_base.specs.declared.config.Config.{Config}
 use Rattle.st_base.specs.declared.ids.ServerId.{ServerId}
 use Rattle.st_base.specs.declared.ids.Stamp.{Stamp}
 use Rattle.st_journal.specs.Changes.{bytes_of, fits}
-use Rattle.st_journal.specs.Opened.{room_behind, room_for}
+use Rattle.st_journal.specs.OpenedJournal.{room_behind, room_for}
 use Rattle.st_journal.specs.declared.change.Change.{Change}
 use Rattle.st_journal.specs.declared.change.Change.TheVariants.{Epoch}
-use Rattle.st_embed.proofs.Restoring.{record_long}
+use Rattle.st_embed.proofs.StableParts.{record_long}
 use Rattle.st_rules.specs.Server.{Stable, start_node}
-use Rattle.st_server.specs.Restored.{crashed_node}
+use Rattle.st_server.specs.Restart.{crashed_node}
 use Rattle.st_embed.specs.Servers.{begun}
 use Rattle.st_embed.specs.declared.server.Shape.{Shape}
 

@@ -14,7 +14,7 @@ use Rattle.st_node.specs.declared.node.Node.TheVariants.{Client}
 use Rattle.st_rules.specs.Client.{ClientNode, crash_node, fresh_node, start_node}
 use Rattle.st_rules.specs.ClientState.{ClientState}
 use Rattle.st_embed.specs.Checks.{is_in_time}
-use Rattle.st_embed.specs.Frame.{heard}
+use Rattle.st_embed.specs.Frame.{received}
 use Rattle.st_embed.specs.Lives.{four_lives, same_lives}
 use Rattle.st_embed.specs.declared.fault.OpenFault.{OpenFault}
 use Rattle.st_embed.specs.declared.fault.OpenFault.TheVariants as opening
@@ -75,7 +75,7 @@ NotOpened id k lives opening.Memory = MayOpen id k lives
 
 -- a step with this message may be taken
 pub record MayStep (old : EmbeddedClient) (now : Stamp) (frame : List ℕ) (message : Message) : Type 0 where
-  pub heard_so : heard frame ≡ Ok message
+  pub received_so : received frame ≡ Ok message
   pub runs : old.node.running ≡ true
   pub taken : old.left ≡ []
   pub in_time : is_in_time old.last now ≡ true
@@ -85,7 +85,7 @@ pub record MayStep (old : EmbeddedClient) (now : Stamp) (frame : List ℕ) (mess
 -- to be taken out. None were left before.
 pub record Steps (old new : EmbeddedClient) (now : Stamp) (frame : List ℕ) : Type 0 where
   pub message : Message
-  pub heard_so : heard frame ≡ Ok message
+  pub received_so : received frame ≡ Ok message
   pub runs : old.node.running ≡ true
   pub taken : old.left ≡ []
   pub in_time : is_in_time old.last now ≡ true
@@ -98,8 +98,8 @@ abbrev pub Refuses : EmbeddedClient → EmbeddedClient → Stamp → List ℕ �
 Refuses old new now frame refusals.Crashed = (old.node.running ≡ false) × (new ≡ old)
 Refuses old new now frame refusals.Untaken = (old.node.running ≡ true) × (old.left ≢ []) × (new ≡ old)
 Refuses old new now frame refusals.Time = (old.node.running ≡ true) × (old.left ≡ []) × (is_in_time old.last now ≡ false) × (new ≡ old)
-Refuses old new now frame (refusals.Frame f) = (old.node.running ≡ true) × (old.left ≡ []) × (is_in_time old.last now ≡ true) × (heard frame ≡ Err f) × (new ≡ old)
-Refuses old new now frame refusals.Full = (old.node.running ≡ true) × (old.left ≡ []) × (is_in_time old.last now ≡ true) × IsOk (heard frame) × (HasRoom old.node.state → ⊥) × (new ≡ old)
+Refuses old new now frame (refusals.Frame f) = (old.node.running ≡ true) × (old.left ≡ []) × (is_in_time old.last now ≡ true) × (received frame ≡ Err f) × (new ≡ old)
+Refuses old new now frame refusals.Full = (old.node.running ≡ true) × (old.left ≡ []) × (is_in_time old.last now ≡ true) × IsOk (received frame) × (HasRoom old.node.state → ⊥) × (new ≡ old)
 Refuses old new now frame refusals.Memory = (old.node.running ≡ true) × (new ≡ old)
 Refuses old new now frame refusals.Starved = ((m : Message) × MayStep old now frame m) × (new ≡ record { node = crash_node old.node; left = []; last = now })
 

@@ -5,7 +5,7 @@ use Rattle.st_codec.specs.declared.frames.Front.TheVariants.{Partial, TooLong, W
 use Rattle.st_codec.specs.declared.refusal.CodecRefusal.{CodecRefusal}
 use Rattle.st_codec.specs.declared.refusal.CodecRefusal.TheVariants.{FrameTooLong}
 use Rattle.st_codec.specs.Frames.{front}
-use Rattle.st_codec.specs.Reading.{decoded}
+use Rattle.st_codec.specs.Decoder.{decoded}
 use Rattle.st_messages.specs.declared.message.Message.{Message}
 use Rattle.st_embed.specs.declared.fault.FrameFault.{FrameFault}
 use Rattle.st_embed.specs.declared.fault.FrameFault.TheVariants.{Cut, Extra, Refused}
@@ -22,14 +22,14 @@ spelled (Ok m) = Ok m
 spelled (Err r) = Err (Refused r)
 
 -- a frame that is whole, where nothing follows it
-abbrev pub heard_whole : List ℕ → ℕ → Result Message FrameFault
-heard_whole bytes n = if nat_lt (4 + n) (length bytes) then Err Extra else spelled (decoded (drop 4 bytes))
+abbrev pub received_whole : List ℕ → ℕ → Result Message FrameFault
+received_whole bytes n = if nat_lt (4 + n) (length bytes) then Err Extra else spelled (decoded (drop 4 bytes))
 
 -- by what the bytes begin with
-abbrev pub heard_by : List ℕ → Result ℕ FrameFault → Result Message FrameFault
-heard_by bytes (Ok n) = heard_whole bytes n
-heard_by bytes (Err f) = Err f
+abbrev pub received_by : List ℕ → Result ℕ FrameFault → Result Message FrameFault
+received_by bytes (Ok n) = received_whole bytes n
+received_by bytes (Err f) = Err f
 
 -- The message of bytes that are to be one frame, or why they are none.
-unfoldable pub heard : List ℕ → Result Message FrameFault
-heard bytes = heard_by bytes (whole_by (front bytes))
+unfoldable pub received : List ℕ → Result Message FrameFault
+received bytes = received_by bytes (whole_by (front bytes))

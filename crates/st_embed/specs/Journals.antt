@@ -4,9 +4,9 @@ use Rattle.st_journal.specs.Journal.{IsDamaged, StandsFor, all_opened}
 use Rattle.st_journal.specs.Parts.{stable_of}
 use Rattle.st_journal.specs.declared.change.Change.{Change}
 use Rattle.st_rules.specs.Server.{Stable}
-use Rattle.st_embed.specs.declared.reading.Read.{Read}
-use Rattle.st_embed.specs.declared.reading.ReadFault.{ReadFault}
-use Rattle.st_embed.specs.declared.reading.ReadFault.TheVariants.{Damaged, Memory}
+use Rattle.st_embed.specs.declared.journal_image.Read.{Read}
+use Rattle.st_embed.specs.declared.journal_image.ReadFault.{ReadFault}
+use Rattle.st_embed.specs.declared.journal_image.ReadFault.TheVariants.{Damaged, Memory}
 
 -- The bytes stand for the stable part that was read, and its changes and the gate behind them are told.
 pub record Reads (start : Stable) (bytes : List ℕ) (r : Read) : Type 0 where

@@ -2,8 +2,8 @@
 pub mod Frame
 pub mod Checks
 pub mod Lives
-pub mod Taking
+pub mod FramePieces
 pub mod Clients
 pub mod Servers
 pub mod Journals
-pub mod Keeping
+pub mod KeptJournal

@@ -8,7 +8,7 @@ use Rattle.st_durable.specs.Durable.{DurableServer, Tells, asked_of}
 use Rattle.st_extents.specs.Layout.{IsWithinLimits}
 use Rattle.st_journal.specs.Changes.{fits}
 use Rattle.st_journal.specs.Journal.{IsDamaged, StandsFor, all_opened, framed}
-use Rattle.st_journal.specs.Opened.{fresh_of, room_behind, room_for}
+use Rattle.st_journal.specs.OpenedJournal.{fresh_of, room_behind, room_for}
 use Rattle.st_journal.specs.declared.change.Change.{Change}
 use Rattle.st_journal.specs.declared.change.Change.TheVariants.{Epoch}
 use Rattle.st_messages.specs.declared.message.Body.{Body}
@@ -16,11 +16,11 @@ use Rattle.st_messages.specs.declared.message.Message.{Message}
 use Rattle.st_node.specs.Runs.{handle}
 use Rattle.st_node.specs.declared.node.Node.TheVariants.{Server}
 use Rattle.st_rules.specs.Server.{ServerNode, Stable, crash_node, fresh_node, start_node}
-use Rattle.st_server.specs.Restored.{crashed_node}
+use Rattle.st_server.specs.Restart.{crashed_node}
 use Rattle.st_server.specs.Room.{HasRoom}
-use Rattle.st_server.specs.Sound.{AreMapped, AreNamed}
+use Rattle.st_server.specs.Invariants.{AreMapped, AreNamed}
 use Rattle.st_embed.specs.Checks.{is_in_time}
-use Rattle.st_embed.specs.Frame.{heard}
+use Rattle.st_embed.specs.Frame.{received}
 use Rattle.st_embed.specs.declared.fault.ServerFault.{ServerFault}
 use Rattle.st_embed.specs.declared.fault.ServerFault.TheVariants as opening
 use Rattle.st_embed.specs.declared.fault.ServerRefusal.{ServerRefusal}
@@ -139,7 +139,7 @@ NotOpened id k w now bytes opening.Memory = MayOpen id k w now (length bytes)
 
 -- a step with this message may be taken
 pub record MayStep (old : EmbeddedServer) (now : Stamp) (frame : List ℕ) (message : Message) : Type 0 where
-  pub heard_so : heard frame ≡ Ok message
+  pub received_so : received frame ≡ Ok message
   pub runs : (node_of old).running ≡ true
   pub taken : old.left ≡ []
   pub in_time : is_in_time old.last now ≡ true
@@ -153,7 +153,7 @@ IsAskedBy body (Some x) = asked_of body ≡ Some x
 -- a step: as of a client; besides, where the stable part changed, the change is to be kept, and the journal has room for it
 pub record Steps (old new : EmbeddedServer) (now : Stamp) (frame : List ℕ) : Type 0 where
   pub message : Message
-  pub heard_so : heard frame ≡ Ok message
+  pub received_so : received frame ≡ Ok message
   pub kept : old.unkept ≡ false
   pub runs : (node_of old).running ≡ true
   pub taken : old.left ≡ []
@@ -183,9 +183,9 @@ abbrev pub RefusesStep : EmbeddedServer → EmbeddedServer → Stamp → List �
 RefusesStep old new now frame refusals.Crashed = ((node_of old).running ≡ false) × (new ≡ old)
 RefusesStep old new now frame refusals.Untaken = ((node_of old).running ≡ true) × (old.left ≢ []) × (new ≡ old)
 RefusesStep old new now frame refusals.Time = ((node_of old).running ≡ true) × (old.left ≡ []) × (is_in_time old.last now ≡ false) × (new ≡ old)
-RefusesStep old new now frame (refusals.Frame f) = ((node_of old).running ≡ true) × (old.left ≡ []) × (is_in_time old.last now ≡ true) × (heard frame ≡ Err f) × (new ≡ old)
+RefusesStep old new now frame (refusals.Frame f) = ((node_of old).running ≡ true) × (old.left ≡ []) × (is_in_time old.last now ≡ true) × (received frame ≡ Err f) × (new ≡ old)
 RefusesStep old new now frame refusals.Full =
-    ((node_of old).running ≡ true) × (old.left ≡ []) × (is_in_time old.last now ≡ true) × IsOk (heard frame) × (HasRoom (node_of old).state → ⊥) × (new ≡ old)
+    ((node_of old).running ≡ true) × (old.left ≡ []) × (is_in_time old.last now ≡ true) × IsOk (received frame) × (HasRoom (node_of old).state → ⊥) × (new ≡ old)
 RefusesStep old new now frame refusals.Memory = ((node_of old).running ≡ true) × (new ≡ old)
 RefusesStep old new now frame refusals.Starved = Starves old new now frame
 

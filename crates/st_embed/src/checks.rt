@@ -1,13 +1,13 @@
 // What is checked before a step.
 ghost use Rattle.std.specs.Prelude.{◌≡◌, [], true, Ok, IfOk, IfErr, OnOk};
 ghost use Rattle.st_embed.specs.Checks as checks;
-ghost use Rattle.st_embed.specs.Checks.{IsMisheard, IsUntaken};
-ghost use Rattle.st_embed.specs.Frame.{heard};
-ghost use Rattle.st_messages.specs.Fits.{fits};
+ghost use Rattle.st_embed.specs.Checks.{IsMisread, IsUntaken};
+ghost use Rattle.st_embed.specs.Frame.{received};
+ghost use Rattle.st_messages.specs.Ranges.{fits};
 
 use crate::fault::StepRefusal;
 use crate::frame::read_frame;
-use crate::pending::Pending;
+use crate::pending_frames::PendingFrames;
 use st_base::Stamp;
 use st_messages::Message;
 use std::alloc::Global;
@@ -21,9 +21,9 @@ pub(crate) fn is_in_time(last: Stamp, now: Stamp) -> bool
 
 /// Reads the frame of a step. An error is a refusal.
 pub(crate) fn read_step(alloc: Global, frame: &[u8]) -> Result<Message, StepRefusal>
-    ensures ok { IfOk result (λ m. heard frame.now ≡ Ok m) }
+    ensures ok { IfOk result (λ m. received frame.now ≡ Ok m) }
     ensures fits { IfOk result (λ m. fits m ≡ true) }
-    ensures err { IfErr result (IsMisheard frame.now) }
+    ensures err { IfErr result (IsMisread frame.now) }
 {
     match read_frame(alloc, frame) {
         Ok(Ok(message)) => Ok(message),
@@ -33,7 +33,7 @@ pub(crate) fn read_step(alloc: Global, frame: &[u8]) -> Result<Message, StepRefu
 }
 
 /// Whether all bytes were taken out.
-pub(crate) fn check_taken(pending: &mut Pending) -> Result<(), StepRefusal>
+pub(crate) fn check_taken(pending: &mut PendingFrames) -> Result<(), StepRefusal>
     ensures same { pending.new ≡ pending.old }
     ensures ok { OnOk result (pending.old ≡ []) }
     ensures err { IfErr result (IsUntaken pending.old) }

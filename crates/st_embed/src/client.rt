@@ -7,8 +7,8 @@ ghost use Rattle.st_client.specs.Room.{HasRoom};
 ghost use Rattle.st_client.specs.Nodes.{crashed_node};
 ghost use Rattle.st_embed.specs.Clients.{MayOpen, MayStep, NotOpened, Refuses, Steps, are_lives, begun, has_new_life, is_kept, life, opened};
 ghost use Rattle.st_embed.specs.Clients as clients;
-ghost use Rattle.st_embed.specs.Taking.{Takes};
-ghost use Rattle.st_messages.specs.Fits.{fits};
+ghost use Rattle.st_embed.specs.FramePieces.{Takes};
+ghost use Rattle.st_messages.specs.Ranges.{fits};
 ghost use Rattle.st_node.specs.Runs.{client_frame, handle};
 ghost use Rattle.st_node.specs.declared.node.Node.TheVariants as nodes;
 ghost use Rattle.st_rules.specs.Client as client;
@@ -18,7 +18,7 @@ use crate::checks::{check_taken, is_in_time, read_step};
 use crate::fault::{OpenFault, StepRefusal};
 use crate::lives::{are_kept, are_none, are_same, lives_now, lives_of};
 use crate::outbox::Sender;
-use crate::pending::Pending;
+use crate::pending_frames::PendingFrames;
 use st_base::{ClientId, Config, Life, ServerId, Stamp};
 use st_client::{ClientInput, ClientNode, Outputs, Phase, StepFault};
 use st_messages::Message;
@@ -33,7 +33,7 @@ pub struct EmbeddedClient {
     alloc: Global,
     node: ClientNode,
     last: Stamp,
-    pending: Pending,
+    pending: PendingFrames,
 }
 
 impl Model for EmbeddedClient {
@@ -157,7 +157,7 @@ impl EmbeddedClient {
             alloc,
             node,
             last: Stamp(0),
-            pending: Pending::new(alloc),
+            pending: PendingFrames::new(alloc),
         })
     }
 

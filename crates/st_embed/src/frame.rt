@@ -1,9 +1,9 @@
 // One frame, as bytes.
 ghost use Rattle.std.specs.Prelude.{◌≡◌, ◌≤◌, ◌+◌, true, IfOk, length};
 ghost use Rattle.st_codec.specs.Frames.{front};
-ghost use Rattle.st_codec.specs.Reading.{decoded};
-ghost use Rattle.st_embed.specs.Frame.{heard, heard_whole, spelled, whole_by};
-ghost use Rattle.st_messages.specs.Fits.{fits};
+ghost use Rattle.st_codec.specs.Decoder.{decoded};
+ghost use Rattle.st_embed.specs.Frame.{received, received_whole, spelled, whole_by};
+ghost use Rattle.st_messages.specs.Ranges.{fits};
 
 use crate::fault::FrameFault;
 use st_codec::{CodecRefusal, decode};
@@ -49,7 +49,7 @@ fn read_whole(
     len: usize,
 ) -> Result<Result<Message, FrameFault>, AllocError>
     requires within { 4 + len ≤ length bytes.now }
-    ensures exact { IfOk result (λ r. r ≡ heard_whole bytes.now len) }
+    ensures exact { IfOk result (λ r. r ≡ received_whole bytes.now len) }
     ensures fits { IfOk result (λ r. IfOk r (λ m. fits m ≡ true)) }
 {
     if 4 + len < bytes.len() {
@@ -60,12 +60,12 @@ fn read_whole(
 }
 
 /// Reads bytes that are to be one frame: its message, which fits, or why they are none.
-#[tactic(auto, unfolding(crate::specs::Frame::heard))]
+#[tactic(auto, unfolding(crate::specs::Frame::received))]
 pub(crate) fn read_frame(
     alloc: Global,
     bytes: &[u8],
 ) -> Result<Result<Message, FrameFault>, AllocError>
-    ensures exact { IfOk result (λ r. r ≡ heard bytes.now) }
+    ensures exact { IfOk result (λ r. r ≡ received bytes.now) }
     ensures fits { IfOk result (λ r. IfOk r (λ m. fits m ≡ true)) }
 {
     match whole_len(bytes) {

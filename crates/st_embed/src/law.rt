@@ -2,18 +2,18 @@ ghost use Rattle.std.specs.Prelude.{◌≡◌, ◌<◌, List, ℕ, length};
 ghost use Rattle.st_base.specs.declared.config.Config.{Config};
 ghost use Rattle.st_base.specs.declared.ids.ServerId.{ServerId};
 ghost use Rattle.st_base.specs.declared.ids.Stamp.{Stamp};
-ghost use Rattle.st_embed.specs.Keeping.{GoesOn, IsKeptIn, MayBeLeft, written_by};
+ghost use Rattle.st_embed.specs.KeptJournal.{GoesOn, IsKeptIn, MayBeLeft, written_by};
 ghost use Rattle.st_embed.specs.Servers.{EmbeddedServer, IsOfServer, Opens, Steps, kept, start_of, to_keep};
 ghost use Rattle.st_embed.specs.declared.server.Shape.{Shape};
 ghost use Rattle.st_extents.specs.Layout.{IsWithinLimits};
 ghost use Rattle.st_journal.specs.Journal.{StandsFor};
 ghost use Rattle.st_journal.specs.declared.change.Change.{Change};
 ghost use Rattle.st_rules.specs.Server.{ServerNode, Stable, crash_node};
-ghost use Rattle.st_server.specs.Restored.{crashed_node};
+ghost use Rattle.st_server.specs.Restart.{crashed_node};
 
 /// A journal that is kept as told outlives a crash at any moment, and opening what is left of it gives the server that crashed and was
 /// started, with every change whose frames could be taken.
-#[tactic(auto, using(crate::proofs::Keeping::opened_is_kept, crate::proofs::Keeping::step_keeps, crate::proofs::Keeping::taken_keeps, crate::proofs::Keeping::written_keeps, crate::proofs::Keeping::goes_on, crate::proofs::Keeping::is_a_crash))]
+#[tactic(auto, using(crate::proofs::KeptJournal::opened_is_kept, crate::proofs::KeptJournal::step_keeps, crate::proofs::KeptJournal::taken_keeps, crate::proofs::KeptJournal::written_keeps, crate::proofs::KeptJournal::goes_on, crate::proofs::KeptJournal::is_a_crash))]
 pub fn a_journal_outlives_crashes()
     // An opened server's journal stands for it, with the change that begins its epoch still to be kept.
     ensures opened { (id : ServerId) (k : Config) (w : Shape) (now : Stamp) (bytes : List ℕ) (e : EmbeddedServer) → Opens id k w now bytes e → IsKeptIn id w bytes e }

@@ -6,11 +6,11 @@ mod checks;
 mod client;
 mod fault;
 mod frame;
+mod journal_image;
 mod law;
 mod lives;
 mod outbox;
-mod pending;
-mod reading;
+mod pending_frames;
 mod server;
 
 pub use client::EmbeddedClient;

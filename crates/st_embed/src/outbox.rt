@@ -1,6 +1,6 @@
 // Bytes that are to be taken out.
 ghost use Rattle.std.specs.Prelude.{◌≡◌, ◌++◌, [], true, OnOk, OnErr, length};
-ghost use Rattle.st_embed.specs.Taking.{Takes, are_sent, frames_of};
+ghost use Rattle.st_embed.specs.FramePieces.{Takes, are_sent, frames_of};
 
 use st_base::ClientId;
 use st_messages::Output;

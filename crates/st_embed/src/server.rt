@@ -7,25 +7,25 @@ ghost use Rattle.st_durable.specs.Durable as durable;
 ghost use Rattle.st_durable.specs.Durable.{Tells};
 ghost use Rattle.st_extents.specs.Layout.{IsWithinLimits};
 ghost use Rattle.st_embed.specs.Servers.{IsAskedBy, IsStarved, MayOpen, MayStart, MayStep, NotOpened, NotTaken, IsOfServer, NotStarted, Opens, Refuses, RefusesStep, Steps, begun, kept, len_by, record_by, start_of, to_keep};
-ghost use Rattle.st_embed.specs.Taking.{Takes};
+ghost use Rattle.st_embed.specs.FramePieces.{Takes};
 ghost use Rattle.st_embed.specs.declared.fault.ServerFault.TheVariants.{Memory};
-ghost use Rattle.st_journal.specs.Opened.{room_behind};
+ghost use Rattle.st_journal.specs.OpenedJournal.{room_behind};
 ghost use Rattle.st_journal.specs.declared.change.Change.TheVariants as kinds;
 ghost use Rattle.st_journal.specs.Parts as parts;
 ghost use Rattle.st_journal.specs.Changes as spelling;
-ghost use Rattle.st_messages.specs.Fits.{fits};
+ghost use Rattle.st_messages.specs.Ranges.{fits};
 ghost use Rattle.st_node.specs.Runs.{handle, server_frame};
 ghost use Rattle.st_node.specs.declared.node.Node.TheVariants as nodes;
 ghost use Rattle.st_rules.specs.Server as server;
-ghost use Rattle.st_server.specs.Restored.{crashed_node};
+ghost use Rattle.st_server.specs.Restart.{crashed_node};
 ghost use Rattle.st_server.specs.Room.{HasRoom};
-ghost use Rattle.st_server.specs.Sound.{is_sent};
+ghost use Rattle.st_server.specs.Invariants.{is_sent};
 
 use crate::checks::{check_taken, is_in_time, read_step};
 use crate::fault::{ServerFault, ServerRefusal, StepRefusal};
+use crate::journal_image::{ReadFault, read_journal};
 use crate::outbox::Sender;
-use crate::pending::Pending;
-use crate::reading::{ReadFault, read_journal};
+use crate::pending_frames::PendingFrames;
 use st_base::{Config, Epoch, ServerId, Stamp};
 use st_durable::{Change, DurableServer, Outputs, ServerStable, StepFault};
 use st_journal::{Stable, record_of};
@@ -56,7 +56,7 @@ pub struct EmbeddedServer {
     size: u64,
     unkept: bool,
     last: Stamp,
-    pending: Pending,
+    pending: PendingFrames,
 }
 
 impl Model for EmbeddedServer {
@@ -175,7 +175,7 @@ fn opened(
 }
 
 /// How many bytes the gate moves behind this change.
-#[tactic(auto, using(crate::proofs::Restoring::record_long))]
+#[tactic(auto, using(crate::proofs::StableParts::record_long))]
 fn record_len(change: Option<&Change>) -> u64
     requires { IfSome (option_copied change) (λ x. spelling.fits x ≡ true) }
     ensures { result ≡ len_by (option_copied change.entry) }
@@ -285,7 +285,7 @@ impl EmbeddedServer {
             size,
             unkept: true,
             last: now,
-            pending: Pending::new(alloc),
+            pending: PendingFrames::new(alloc),
         })
     }
 

@@ -7,7 +7,7 @@ use Rattle.std.proofs.lemmas.List.{drop_all, drop_more, ext_get_or, get_or-set_o
 use Rattle.std.proofs.lemmas.List.Folds.{list_any-append}
 use Rattle.st_extents.specs.FreeRuns.{AreBelow, BeginsUpTo, IsFreeTable, IsGap, IsGivenTo, IsTakenFrom, begins_at, ends_above, ends_at, first_of, holds, is_free, taken_from}
 use Rattle.st_extents.specs.declared.free_runs.FreeRun.{FreeRun}
-use Rattle.st_extents.proofs.Taking.{few_free, one_given, one_taken}
+use Rattle.st_extents.proofs.TakenPlaces.{few_free, one_given, one_taken}
 
 -- Tests as facts on numbers.
 

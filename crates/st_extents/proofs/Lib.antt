@@ -1,12 +1,12 @@
 pub mod Blocks
 pub mod Owned
-pub mod Fresh
+pub mod FreshPages
 pub mod RunOrder
 pub mod RunsFound
 pub mod RunsChanged
 pub mod RunsTold
-pub mod Laid
-pub mod Taking
-pub mod Apart
-pub mod Added
+pub mod LaidPages
+pub mod TakenPlaces
+pub mod BlockOrder
+pub mod TakenBack
 pub mod FreeRuns

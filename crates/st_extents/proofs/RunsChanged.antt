@@ -12,7 +12,7 @@ use Rattle.st_rules.specs.declared.extents.Extent.{Extent}
 use Rattle.st_rules.specs.Keys.{page_no}
 use Rattle.st_rules.specs.Extents.{is_extent_of}
 use Rattle.st_tables.specs.Tables.{kept, listed}
-use Rattle.st_tables.proofs.Listed.{listed_filter, listed_more, listed_push, same_listed}
+use Rattle.st_tables.proofs.RowLists.{listed_filter, listed_more, listed_push, same_listed}
 use Rattle.st_extents.specs.declared.run_map.Run.{Run}
 use Rattle.st_extents.specs.Runs.{RunKey, AreKept, extent_in, extent_under, file_of, goes_on, has_birth, key_of, longer, one_page, rows_of, run_at, run_order, same_start, share_page, shorter}
 use Rattle.st_extents.proofs.RunOrder.{GoesOn, birth_in, goes, in_birth, in_page, of_page, same_self, same_true, share, shared}

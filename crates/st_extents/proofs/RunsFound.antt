@@ -14,7 +14,7 @@ use Rattle.st_rules.specs.declared.extents.Extent.{Extent}
 use Rattle.st_rules.specs.Keys.{page_no, same_file}
 use Rattle.std.specs.List.{list_any}
 use Rattle.st_rules.specs.Extents.{is_at_or_behind, is_extent_of}
-use Rattle.st_tables.proofs.Listed.{listed_find, passing}
+use Rattle.st_tables.proofs.RowLists.{listed_find, passing}
 use Rattle.st_extents.specs.declared.run_map.Run.{Run}
 use Rattle.st_extents.specs.Runs.{RunKey, AreKept, AreRunsOf, extent_in, extent_under, file_of, has_birth, has_page, rows_of, run_at, run_order, same_start}
 use Rattle.st_extents.proofs.RunOrder.{birth_in, file_is, in_birth, in_page, of_page, order_total, page_in, page_of, same_true, share}

@@ -13,7 +13,7 @@ use Rattle.st_base.specs.declared.disk.BlockAt.{BlockAt}
 use Rattle.st_rules.specs.Extents.{Extents, is_extent_of, lies_at, no_extents, own_blocks, pages_from, place_pages}
 use Rattle.st_rules.specs.Keys.{same_page}
 use Rattle.st_extents.specs.Ownership.{IsSound}
-use Rattle.st_extents.specs.Places.{Ground}
+use Rattle.st_extents.specs.Places.{Mapping}
 
 -- the counts of a world, at one server
 pub record Shape : Type 0 where
@@ -46,7 +46,7 @@ pub record AreFresh (rows : List Extent) (f : FileId) (ps : List PageNo) : Type 
   pub apart : IsDistinct same_page ps
 
 -- what the calls keep: the blocks are the server's own, and the extents are sound
-pub record IsKept (s : Shape) (g : Ground) : Type 0 where
+pub record IsKept (s : Shape) (g : Mapping) : Type 0 where
   pub own : g.own ≡ own_blocks (no_extents s.server s.servers s.disks s.blocks)
   pub sound : IsSound (with_shape s g.rows g.births)
 
@@ -55,7 +55,7 @@ abbrev pub unmapped_of : List Extent → FileId → PageNo → ℕ → List Page
 unmapped_of rows f p count = filter (λ q. not (is_some (find (is_extent_of f q) rows))) (pages_from p count)
 
 -- after these pages were mapped one after another, what stands is what the definition gives
-abbrev pub PlacesAll : Ground → Ground → FileId → List PageNo → Type 0
+abbrev pub PlacesAll : Mapping → Mapping → FileId → List PageNo → Type 0
 PlacesAll old new f ps =
     (s : Shape) → old.own ≡ own_blocks (no_extents s.server s.servers s.disks s.blocks)
     → with_shape s new.rows new.births ≡ place_pages f ps (with_shape s old.rows old.births)

@@ -35,7 +35,7 @@ pub record IsLaid (own : List BlockAt) (taken : List Bool) (rows : List Extent) 
   pub told : (i : ℕ) (d : Bool) (b : BlockAt) → i < length own → get_or taken i d ≡ list_any (lies_at (get_or own i b)) rows
 
 -- a server's own blocks, its mapped pages, how many births were given, and the runs of the pages
-pub record Ground : Type 0 where
+pub record Mapping : Type 0 where
   pub own : List BlockAt
   pub rows : List Extent
   pub births : ℕ
@@ -64,7 +64,7 @@ abbrev pub AreLastMapped : FileId → List PageNo → ℕ → List Extent → Ty
 AreLastMapped f ps given after = (rows : List Extent) × ((births : ℕ) × ((given ≡ births + length ps) × AreAdded rows births f ps after))
 
 -- these pages, which stood last in this order, are gone, and their births taken back
-abbrev pub TakesBack : Ground → Ground → FileId → List PageNo → Type 0
+abbrev pub TakesBack : Mapping → Mapping → FileId → List PageNo → Type 0
 TakesBack old new f ps =
     (rows : List Extent) (births : ℕ) → old.births ≡ births + length ps → AreAdded rows births f ps old.rows
     → (new.rows ≡ rows) × (new.births ≡ births)

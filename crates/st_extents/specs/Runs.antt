@@ -112,7 +112,7 @@ pub record IsRunTable (births count : ℕ) (es : List (RunKey × Run)) : Type 0 
   pub few : births < 9223372036854775808
 
 -- mapped pages in the order of their births, how many births were given, and the runs of the pages
-pub record Told : Type 0 where
+pub record Runs : Type 0 where
   pub rows : List Extent
   pub births : ℕ
   pub runs : List (RunKey × Run)

@@ -8,7 +8,7 @@ mod mapping;
 mod refusal;
 mod run_map;
 mod runs;
-mod taken;
+mod taken_blocks;
 
 pub use extents::Extents;
 pub use refusal::ExtentRefusal;

@@ -9,7 +9,7 @@ ghost use Rattle.st_extents.specs.Runs.{AreRunsOf, run_at};
 
 use crate::run_map::RunMap;
 use crate::runs::Runs;
-use crate::taken::Taken;
+use crate::taken_blocks::TakenBlocks;
 use st_base::{BlockAt, FileId, PageNo};
 use st_rules::Extent;
 use std::alloc::{AllocError, Global};
@@ -44,7 +44,13 @@ fn place_of(own: &[BlockAt], at: BlockAt) -> usize
 
 /// Unmaps the pages of a file from `page` on, the last one first, and gives back the places of their blocks. It takes no
 /// memory.
-fn release_all(runs: &mut Runs, taken: &mut Taken, own: &[BlockAt], file: FileId, page: PageNo)
+fn release_all(
+    runs: &mut Runs,
+    taken: &mut TakenBlocks,
+    own: &[BlockAt],
+    file: FileId,
+    page: PageNo,
+)
     requires { IsLaid own.now taken.old runs.old.rows }
     ensures laid { IsLaid own.now taken.new runs.new.rows }
     ensures rows { runs.new.rows ≡ filter (λ e. not (extents.is_at_or_behind file page e)) runs.old.rows }
@@ -60,14 +66,15 @@ fn release_all(runs: &mut Runs, taken: &mut Taken, own: &[BlockAt], file: FileId
 #[derive(Drop)]
 pub struct Mapping {
     own: Vec<BlockAt>,
-    taken: Taken,
+    taken: TakenBlocks,
     runs: Runs,
 }
 
 impl Model for Mapping {
-    ghost use Rattle.st_extents.specs.Places.{Ground, IsLaid};
+    ghost use Rattle.st_extents.specs.Places as shown;
+    ghost use Rattle.st_extents.specs.Places.{IsLaid};
 
-    ghost Value = { Ground };
+    ghost Value = { shown.Mapping };
 
     ghost view = { λ m. record { own = m.own.items; rows = m.runs.rows; births = m.runs.births; runs = m.runs.runs } };
 
@@ -86,7 +93,7 @@ impl Mapping {
         let places = own.len();
         Ok(Mapping {
             own,
-            taken: Taken::new(alloc, places)?,
+            taken: TakenBlocks::new(alloc, places)?,
             runs: Runs::new(alloc),
         })
     }

@@ -79,9 +79,10 @@ pub struct Runs {
 }
 
 impl Model for Runs {
-    ghost use Rattle.st_extents.specs.Runs.{IsRunTable, Told, rows_of};
+    ghost use Rattle.st_extents.specs.Runs as shown;
+    ghost use Rattle.st_extents.specs.Runs.{IsRunTable, rows_of};
 
-    ghost Value = { Told };
+    ghost Value = { shown.Runs };
 
     ghost view = { λ r. record { rows = rows_of r.births r.map.entries; births = r.births; runs = r.map.entries } };
 

@@ -18,7 +18,7 @@ use Rattle.st_rules.specs.ClientPasses as passes
 use Rattle.st_rules.specs.ClientPasses.{is_due, is_unfailed, submit_command, submit_write, write_out_at, write_out, write_due, write_page, write_each, writes_by, writes}
 use Rattle.st_rules.specs.ClientState.{ClientSession, Turn}
 use Rattle.st_tables.proofs.RisingKeys.{IsRising, rising_rises}
-use Rattle.st_flush.specs.Draining.{Draining, is_drained, drained_to, drained_of, drained_at, drained, submit_of, submits, with_writes, drain_out, drain}
+use Rattle.st_flush.specs.FlushWrites.{Draining, is_drained, drained_to, drained_of, drained_at, drained, submit_of, submits, with_writes, drain_out, drain}
 
 -- One page.
 

@@ -18,7 +18,7 @@ use Rattle.st_lemmas.proofs.Lookups.{or_false}
 use Rattle.st_lemmas.proofs.Once.{once_both, once_none}
 use Rattle.st_lemmas.proofs.Tables.{found_at}
 use Rattle.st_flush.specs.Calls.{is_in_range, is_taken_in, may_begin, same_page_write}
-use Rattle.st_flush.specs.Draining.{Draining, drained, drained_at, drained_by, drained_of, drained_to, is_drained, version_of}
+use Rattle.st_flush.specs.FlushWrites.{Draining, drained, drained_at, drained_by, drained_of, drained_to, is_drained, version_of}
 use Rattle.st_flush.proofs.Batch.{Apart, draining_place, places_apart, same_place}
 
 -- a command of a page reads or writes it

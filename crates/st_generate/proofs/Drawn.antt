@@ -4,7 +4,7 @@ use Rattle.std.specs.Prelude.{min, nat_le, option_map}
 use Rattle.std.proofs.lemmas.Bool.{eqb-false, le-leb}
 use Rattle.std.proofs.lemmas.List.{length-replicate}
 use Rattle.st_base.specs.Page.{filled}
-use Rattle.st_messages.specs.Fits.{is_ask}
+use Rattle.st_messages.specs.Ranges.{is_ask}
 use Rattle.st_messages.specs.declared.event.Event.{Event}
 use Rattle.st_messages.specs.declared.event.Event.TheVariants as events
 use Rattle.st_rules.specs.Safety.{is_event, is_increment}

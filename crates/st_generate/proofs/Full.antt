@@ -17,7 +17,7 @@ use Rattle.st_rules.specs.Events as ev
 use Rattle.st_rules.specs.Events.{WorldTurn, counted, happens, summary, world_step}
 use Rattle.st_rules.specs.Run.{run, go_on}
 use Rattle.st_rules.specs.Server.{ServerNode}
-use Rattle.st_rules.specs.World.{World, ClientSite, fresh_world, message_of, node_of, receiver_of, site_of}
+use Rattle.st_rules.specs.World.{World, WorldClient, fresh_world, message_of, node_of, receiver_of, site_of}
 use Rattle.st_lemmas.proofs.Numbers.{set_length}
 use Rattle.st_lemmas.proofs.Steps.{step_happens}
 use Rattle.st_rules.specs.Generator as g
@@ -65,7 +65,7 @@ crashes : (w : World) (n : NodeId) → Quiet w (ev.crashes w n).world
 unfolding ev.crashes ev.crashes_client ev.crashes_server ev.marks
 crashes w (nodes.Client c) = go (site_of w c)
   where
-    go : (o : Option ClientSite) → Quiet w (ev.crashes_client w c o).world
+    go : (o : Option WorldClient) → Quiet w (ev.crashes_client w c o).world
     go None = refl
     go (Some site) = refl
 crashes w (nodes.Server s) = go (node_of w s)
@@ -78,7 +78,7 @@ starts : (w : World) (n : NodeId) → Quiet w (ev.starts w n)
 unfolding ev.starts ev.starts_client ev.starts_server
 starts w (nodes.Client c) = go (site_of w c)
   where
-    go : (o : Option ClientSite) → Quiet w (ev.starts_client w c o)
+    go : (o : Option WorldClient) → Quiet w (ev.starts_client w c o)
     go None = refl
     go (Some site) = refl
 starts w (nodes.Server s) = go (node_of w s)

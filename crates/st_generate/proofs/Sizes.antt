@@ -26,7 +26,7 @@ use Rattle.st_rules.specs.ClientState.{ClientState}
 use Rattle.st_rules.specs.Server as server
 use Rattle.st_rules.specs.Server.{ServerNode}
 use Rattle.st_rules.specs.World as world
-use Rattle.st_rules.specs.World.{World, ClientSite, site_of, node_of, message_of, receiver_of, issued_of, with_numbered, all_servers}
+use Rattle.st_rules.specs.World.{World, WorldClient, site_of, node_of, message_of, receiver_of, issued_of, with_numbered, all_servers}
 use Rattle.st_rules.specs.Disks as disks
 use Rattle.st_rules.specs.Events as ev
 use Rattle.st_rules.specs.Events.{WorldTurn, world_step, happens, counted}
@@ -59,14 +59,14 @@ sized_then u v w a b =
 still : (w v : World) → v.clients ≡ w.clients → v.servers ≡ w.servers → v.net.messages ≡ w.net.messages → v.commands ≡ w.commands → v.net.bytes ≡ w.net.bytes → Sized w v
 still w v c s m k b =
     record {
-      clients = ap (λ (xs : List ClientSite). length xs) c;
+      clients = ap (λ (xs : List WorldClient). length xs) c;
       servers = ap (λ (xs : List ServerNode). length xs) s;
       messages = let z = ap (λ (xs : List SentMessage). length xs) m in omega (arith, z);
       commands = let z = ap (λ (xs : List IssuedCommand). length xs) k in omega (arith, z);
       bytes = let z = ap (λ (xs : List SentMessage). length xs) m in omega (arith, z, b);
     }
 
-site_sized : (c : ClientId) (site : ClientSite) (w : World) → Sized w (ev.with_site c site w)
+site_sized : (c : ClientId) (site : WorldClient) (w : World) → Sized w (ev.with_site c site w)
 site_sized c site w = record { clients = set_length w.clients (pred c.0) site; servers = refl; messages = omega arith; commands = omega arith; bytes = omega arith }
 
 node_sized : (s : ServerId) (node : ServerNode) (w : World) → Sized w (ev.with_node s node w)
@@ -89,7 +89,7 @@ unfolding ev.client_says ev.answers_with ev.client_notes ev.loses ev.accepts ev.
 client_one c before (outputs.Send m) sc = sends_sized m sc
 client_one c before (outputs.Submit number at what) sc = go (site_of sc.world c)
   where
-    go : (o : Option ClientSite) → Sized sc.world (ev.submits sc c o number at what).world
+    go : (o : Option WorldClient) → Sized sc.world (ev.submits sc c o number at what).world
     go None = same_size sc.world
     go (Some site) =
         record {
@@ -142,7 +142,7 @@ flushes_sized c state (s ∷ ss) w =
     sized_then w (ev.flushed_at w c s state) _ (flush_sized w c s (cl.lease_end_with state s) (cl.phase_with state s (world.clock_of w (nodes.Client c)))) (flushes_sized c state ss (ev.flushed_at w c s state))
 
 -- A step of a client.
-client_sized : (w : World) (c : ClientId) (input : ClientInput) (site : ClientSite) → Sized w (ev.client_takes w c input site).world
+client_sized : (w : World) (c : ClientId) (input : ClientInput) (site : WorldClient) → Sized w (ev.client_takes w c input site).world
 unfolding ev.client_takes ev.client_took
 client_sized w c input site = go (cl.node_step site.node (world.clock_of w (nodes.Client c)) input)
   where
@@ -153,7 +153,7 @@ client_sized w c input site = go (cl.node_step site.node (world.clock_of w (node
         sized_then w v _ (site_sized c (ev.at_node t.node site) w) (sized_then v u _ (client_all c site.node.state t.out (ev.quiet v)) (flushes_sized c t.node.state (all_servers u) u))
     go (Err r) = same_size w
 
-client_there : (w : World) (c : ClientId) (input : ClientInput) (o : Option ClientSite) → Sized w (ev.at_client w c input o).world
+client_there : (w : World) (c : ClientId) (input : ClientInput) (o : Option WorldClient) → Sized w (ev.at_client w c input o).world
 unfolding ev.at_client
 client_there w c input None = same_size w
 client_there w c input (Some site) = client_sized w c input site
@@ -174,7 +174,7 @@ unfolding ev.ticks
 ticks_sized w (nodes.Client c) = client_there w c _ (site_of w c)
 ticks_sized w (nodes.Server s) = server_there w s _ (node_of w s)
 
-asks_sized : (w : World) (c : ClientId) (ask : Rattle.st_messages.specs.declared.ask.Ask.Ask) (o : Option ClientSite) → Sized w (ev.asks_at w c ask o).world
+asks_sized : (w : World) (c : ClientId) (ask : Rattle.st_messages.specs.declared.ask.Ask.Ask) (o : Option WorldClient) → Sized w (ev.asks_at w c ask o).world
 unfolding ev.asks_at
 asks_sized w c ask None = same_size w
 asks_sized w c ask (Some site) = client_sized w c _ (ev.asked_once_more site)
@@ -205,7 +205,7 @@ unfolding ev.tells ev.tells_client ev.tells_site
 told_sized w k ok None = same_size w
 told_sized w k ok (Some c) = go (site_of w c.client)
   where
-    go : (o : Option ClientSite) → Sized w (ev.tells_client w k ok c o).world
+    go : (o : Option WorldClient) → Sized w (ev.tells_client w k ok c o).world
     go None = same_size w
     go (Some site) = by (ev.is_same_instance c site)
       where
@@ -217,7 +217,7 @@ crashes_sized : (w : World) (n : NodeId) → Sized w (ev.crashes w n).world
 unfolding ev.crashes ev.crashes_client ev.marks ev.crashes_server
 crashes_sized w (nodes.Client c) = go (site_of w c)
   where
-    go : (o : Option ClientSite) → Sized w (ev.crashes_client w c o).world
+    go : (o : Option WorldClient) → Sized w (ev.crashes_client w c o).world
     go None = same_size w
     go (Some site) = record { clients = set_length w.clients (pred c.0) (ev.stopped_site site); servers = refl; messages = omega arith; commands = omega arith; bytes = omega arith }
 crashes_sized w (nodes.Server s) = go (node_of w s)
@@ -230,7 +230,7 @@ starts_sized : (w : World) (n : NodeId) → Sized w (ev.starts w n)
 unfolding ev.starts ev.starts_client ev.starts_server
 starts_sized w (nodes.Client c) = go (site_of w c)
   where
-    go : (o : Option ClientSite) → Sized w (ev.starts_client w c o)
+    go : (o : Option WorldClient) → Sized w (ev.starts_client w c o)
     go None = same_size w
     go (Some site) = site_sized c _ w
 starts_sized w (nodes.Server s) = go (node_of w s)

@@ -5,7 +5,7 @@ use Rattle.std.specs.Int.{Width, w16, w32, byte_len, from_be_bytes, to_be_bytes}
 use Rattle.std.proofs.lemmas.Bool.{cases_lt, cases_Bool, ltb-false, le-ltb, lt-ltb, ltb-true, eqb-true, eq-eqb, and_parts, and_from}
 use Rattle.std.proofs.lemmas.List.{take_at, drop_at, take-append-drop, length-append, length-take, get_or-drop, get_or-take, get_or_past}
 use Rattle.std.proofs.lemmas.Nat.{be_bytes_2, be_bytes_4, from_be_bytes-to_be_bytes_2, from_be_bytes-to_be_bytes_4}
-use Rattle.st_journal.specs.Reading.{Reader, ◌>>=◌, seq, made, checked, nothing, no_value, byte_at, text_at, number_at}
+use Rattle.st_journal.specs.Decoder.{Reader, ◌>>=◌, seq, made, checked, nothing, no_value, byte_at, text_at, number_at}
 
 abbrev pub IsBytes : List ℕ → Type 0
 IsBytes bytes = (i : ℕ) → get_or bytes i 0 < 256

@@ -15,7 +15,7 @@ use Rattle.st_journal.specs.declared.stable.ChangeRefusal.{ChangeRefusal}
 use Rattle.st_journal.specs.declared.stable.ChangeRefusal.TheVariants as refusals
 use Rattle.st_journal.specs.declared.fault.JournalFault.{JournalFault}
 use Rattle.st_journal.specs.declared.fault.JournalFault.TheVariants.{Damaged, Full, Store, Broken, Memory}
-use Rattle.st_journal.proofs.Scanning.{gate_open, gate_shut, framed_at, unframed_text, open_at, bare_at, dead_bare, read_damaged}
+use Rattle.st_journal.proofs.ScannedBytes.{gate_open, gate_shut, framed_at, unframed_text, open_at, bare_at, dead_bare, read_damaged}
 use Rattle.st_journal.proofs.Unique.{framed_once}
 
 -- A gate, by its byte.

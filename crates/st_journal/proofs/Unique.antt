@@ -7,13 +7,13 @@ use Rattle.std.proofs.lemmas.List.{drop_at}
 use Rattle.st_rules.specs.Server.{Stable}
 use Rattle.st_journal.specs.Changes.{fits, bytes_of, word32}
 use Rattle.st_journal.specs.Journal.{framed, opened, all_opened, IsJournal, IsDamaged, StandsFor}
-use Rattle.st_journal.specs.Opened.{HasPrefix, IsPrefixState, all_of}
-use Rattle.st_journal.specs.Reading.{change_at}
+use Rattle.st_journal.specs.OpenedJournal.{HasPrefix, IsPrefixState, all_of}
+use Rattle.st_journal.specs.Decoder.{change_at}
 use Rattle.st_journal.specs.Stable.{after_changes, then_apply, apply, kept}
 use Rattle.st_journal.specs.declared.change.Change.{Change}
 use Rattle.st_journal.specs.declared.stable.ChangeRefusal.{ChangeRefusal}
 use Rattle.st_journal.proofs.Exact.{some_is, wide32}
-use Rattle.st_journal.proofs.Read.{change_again}
+use Rattle.st_journal.proofs.DecodedChanges.{change_again}
 
 pub length-word32 : (n : ℕ) → length (word32 n) ≡ 4
 unfolding word32

@@ -1,9 +1,9 @@
 pub mod Stops
-pub mod Writing
+pub mod Appends
 pub mod Changes
-pub mod Reading
+pub mod Decoder
 pub mod Stable
 pub mod Parts
 pub mod Journal
-pub mod Opened
+pub mod OpenedJournal
 pub mod Scan

@@ -4,23 +4,23 @@ ghost use Rattle.st_extents.specs.Layout.{IsWithinLimits};
 ghost use Rattle.st_rules.specs.Server as machine;
 ghost use Rattle.st_journal.specs.Changes.{fits, is_ranged};
 ghost use Rattle.st_journal.specs.Journal.{Applies, IsJournal, framed};
-ghost use Rattle.st_journal.specs.Opened as opened;
-ghost use Rattle.st_journal.specs.Opened.{Appends, HasPrefix, NotAppended, NotOpened, Opens, ReadsPrefix, Records};
+ghost use Rattle.st_journal.specs.OpenedJournal as opened;
+ghost use Rattle.st_journal.specs.OpenedJournal.{Appends, HasPrefix, NotAppended, NotOpened, Opens, ReadsPrefix, Records};
 ghost use Rattle.st_journal.specs.Parts as parts;
 ghost use Rattle.st_store.specs.Plans as plans;
 ghost use Rattle.st_journal.specs.Scan as scan;
 ghost use Rattle.st_journal.specs.Stable as stable;
 ghost use Rattle.st_store.specs.Store.{LeavesOnly, Only, Rests};
-ghost use Rattle.st_journal.specs.Writing.{IsTornAppend};
+ghost use Rattle.st_journal.specs.Appends.{IsTornAppend};
 ghost use Rattle.st_link.specs.Causes.{HasCause};
 ghost use Rattle.st_journal.specs.declared.change.Change.{Change};
 ghost use Rattle.st_journal.specs.declared.fault.JournalFault.TheVariants.{Full};
 
 use crate::change::Change;
 use crate::fault::JournalFault;
+use crate::record::{put_record, record_of};
 use crate::scan::{Scanned, read_all};
 use crate::stable::Stable;
-use crate::writing::{put_record, record_of};
 use st_base::ServerId;
 use st_link::Failed;
 use st_store::{MemoryStore, Store};
@@ -40,7 +40,7 @@ pub struct Journal<D: Store + Drop> {
 
 impl<D: Store + Drop> Model for Journal<D> {
     ghost use Rattle.std.specs.Prelude.{◌≡◌, false};
-    ghost use Rattle.st_journal.specs.Opened.{IsAtRest, Opened};
+    ghost use Rattle.st_journal.specs.OpenedJournal.{IsAtRest, Opened};
 
     ghost Value = { Opened D };
 

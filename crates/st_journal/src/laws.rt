@@ -4,9 +4,9 @@ ghost use Rattle.st_rules.specs.Server.{Stable};
 ghost use Rattle.st_journal.specs.Changes.{fits};
 ghost use Rattle.st_store.specs.InMemory.{InMemory, MayLeave, Syncs, Writes, held, recorded, zeros};
 ghost use Rattle.st_journal.specs.Journal.{IsDamaged, IsJournal, StandsFor, all_opened, framed};
-ghost use Rattle.st_journal.specs.Opened.{Calls, Opened, Records, acked_after, under_way_after};
+ghost use Rattle.st_journal.specs.OpenedJournal.{Calls, Opened, Records, acked_after, under_way_after};
 ghost use Rattle.st_journal.specs.Stops.{EndsAtStop, IsArmed};
-ghost use Rattle.st_journal.specs.Writing.{IsTornAppend, with_open_gate};
+ghost use Rattle.st_journal.specs.Appends.{IsTornAppend, with_open_gate};
 ghost use Rattle.st_journal.specs.declared.change.Change.{Change};
 ghost use Rattle.st_journal.specs.declared.fault.JournalFault.{JournalFault};
 

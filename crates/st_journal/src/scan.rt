@@ -10,8 +10,8 @@ ghost use Rattle.st_journal.specs.Stable as stables;
 ghost use Rattle.st_store.specs.Store.{Rests};
 
 use crate::change::Change;
+use crate::decoder::decode;
 use crate::fault::JournalFault;
-use crate::reading::decode;
 use crate::stable::{ChangeRefusal, Stable};
 use st_link::Failed;
 use st_store::Store;

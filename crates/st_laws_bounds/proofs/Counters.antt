@@ -2,7 +2,7 @@ pub mod Answering
 pub mod Asking
 pub mod Clients
 pub mod Events
-pub mod Hearing
+pub mod Receiving
 pub mod Law
 pub mod Passing
 pub mod Raising

@@ -1,5 +1,5 @@
 pub mod Events
-pub mod Hearing
+pub mod Receiving
 pub mod Lengths
 pub mod Passing
 pub mod Runs

@@ -1,3 +1,3 @@
 pub mod Counts
-pub mod Raised
-pub mod Reached
+pub mod Rises
+pub mod ReachedWorlds

@@ -2,8 +2,8 @@
 #![tactic(auto)]
 
 ghost use Rattle.st_laws_bounds.specs.Counters.Counts.{ClientsFew, LocksFew, ReadsFew, ServersFew, TheftsFew};
-ghost use Rattle.st_laws_bounds.specs.Counters.Raised.{ClientsWithin, FreshClientsBegin, StepsRaiseLittle};
-ghost use Rattle.st_laws_bounds.specs.Counters.Reached.{InEveryReached};
+ghost use Rattle.st_laws_bounds.specs.Counters.Rises.{ClientsWithin, FreshClientsBegin, StepsRaiseLittle};
+ghost use Rattle.st_laws_bounds.specs.Counters.ReachedWorlds.{InEveryReached};
 ghost use Rattle.st_laws_bounds.specs.FewMessages.Few.{EventsHaveLines, RunsAreFew};
 ghost use Rattle.st_laws_bounds.specs.Generated.ReadBack.{HeadIsRead, TextIsRead, TextIsReplayed, TextIsReported};
 

@@ -44,7 +44,7 @@ use Rattle.st_rules.specs.Locks as locks
 use Rattle.st_rules.specs.Names as names
 use Rattle.st_rules.specs.Safety.{Step, is_event, step}
 use Rattle.st_rules.specs.Server as sv
-use Rattle.st_rules.specs.Server.{ServerState, Turn, Replied, turn, sender, reply, say, tell, steal_at, steal_from, steal, steal_each, thefts, suspect_client, refuse_epoch, rule, keep_and_reply, keep, serve, request_by, request, of_epoch, by_body, refuse_suspect, by_suspicion, receive_from, receive, take_input, suspect_unless, suspect_each, suspecting, suspecting_on, tell_granted, grant_by, grant_waiting, granting, tell_demanded, demand_by, demanding, server_step}
+use Rattle.st_rules.specs.Server.{ServerState, ServerTurn, Replied, turn, sender, reply, say, tell, steal_at, steal_from, steal, steal_each, thefts, suspect_client, refuse_epoch, rule, keep_and_reply, keep, serve, request_by, request, of_epoch, by_body, refuse_suspect, by_suspicion, receive_from, receive, take_input, suspect_unless, suspect_each, suspecting, suspecting_on, tell_granted, grant_by, grant_waiting, granting, tell_demanded, demand_by, demanding, server_step}
 use Rattle.st_rules.specs.Sessions as sessions
 use Rattle.st_rules.specs.World.{clock_of, fresh_world}
 use Rattle.st_protocol.specs.Assoc.{Config}
@@ -67,7 +67,7 @@ abbrev Never : FileId → PageNo → Type 0
 Never f p = ⊥
 
 -- no cut was noted
-abbrev Uncut : Turn → Type 0
+abbrev Uncut : ServerTurn → Type 0
 Uncut t = Noted Never t
 
 -- an output that refuses nothing
@@ -76,23 +76,23 @@ Kind (outputs.Send m) = refuses m.body ≡ false
 Kind o = Unit {0}
 
 -- nothing was refused
-abbrev Kinds : Turn → Type 0
+abbrev Kinds : ServerTurn → Type 0
 Kinds t = (o : Output) → Has o t.out → Kind o
 
 -- it was said that something was done
-record Told (t : Turn) : Type 0 where
+record Told (t : ServerTurn) : Type 0 where
   pub message : Message
   pub among : Has (outputs.Send message) t.out
   pub done : acknowledges message.body ≡ true
 
-abbrev Good : Turn → Type 0
+abbrev Good : ServerTurn → Type 0
 Good t = Kinds t × Told t
 
 -- no cut was noted, or it was said that it was done, and nothing was refused
-abbrev Fine : Turn → Type 0
+abbrev Fine : ServerTurn → Type 0
 Fine t = Uncut t ⊎ Good t
 
-k_say : (t : Turn) (o : Output) → Kind o → Kinds t → Kinds (say t o)
+k_say : (t : ServerTurn) (o : Output) → Kind o → Kinds t → Kinds (say t o)
 k_say t o k n x h = go (has_append t.out (o ∷ []) x h)
   where
     go : Has x t.out ⊎ Has x (o ∷ []) → Kind x
@@ -100,54 +100,54 @@ k_say t o k n x h = go (has_append t.out (o ∷ []) x h)
     go (inr (inl e)) = subst Kind (sym e) k
     go (inr (inr i)) = absurd i
 
-g_say : (t : Turn) (o : Output) → Kind o → Good t → Good (say t o)
+g_say : (t : ServerTurn) (o : Output) → Kind o → Good t → Good (say t o)
 g_say t o k g = (k_say t o k g.0, record { message = g.1.message; among = has_left t.out (o ∷ []) (outputs.Send g.1.message) g.1.among; done = g.1.done })
 
 -- What begins and ends a step refuses nothing.
-module _ (F : Turn → Type 0) (f_say : (t : Turn) (o : Output) → Kind o → F t → F (say t o)) (f_state : (t : Turn) (x : ServerState) → F t → F (record t { state = x })) where
-  f_suspect : (t : Turn) (now : Stamp) (c : ClientId) → F t → F (suspect_client t now c)
+module _ (F : ServerTurn → Type 0) (f_say : (t : ServerTurn) (o : Output) → Kind o → F t → F (say t o)) (f_state : (t : ServerTurn) (x : ServerState) → F t → F (record t { state = x })) where
+  f_suspect : (t : ServerTurn) (now : Stamp) (c : ClientId) → F t → F (suspect_client t now c)
   unfolding suspect_client
   f_suspect t now c f = f_state _ _ (f_say t (outputs.Note (notes.Suspected c now)) tt f)
 
-  f_steal : (t : Turn) (c : ClientId) (o : Option Session) → F t → F (steal_at t c o)
+  f_steal : (t : ServerTurn) (c : ClientId) (o : Option Session) → F t → F (steal_at t c o)
   unfolding steal_at steal_from
   f_steal t c None f = f
   f_steal t c (Some s) f = f_state _ _ (f_say t (outputs.Note (notes.Stolen c s.life)) tt f)
 
-  f_steals : (cs : List ClientId) (t : Turn) → F t → F (steal_each cs t)
+  f_steals : (cs : List ClientId) (t : ServerTurn) → F t → F (steal_each cs t)
   unfolding steal_each steal
   f_steals [] t f = f
   f_steals (c ∷ cs) t f = f_steals cs _ (f_steal t c (sessions.session_of t.state.sessions c) f)
 
-  f_suspects : (now : Stamp) (cs : List ClientId) (t : Turn) → F t → F (suspect_each now cs t)
+  f_suspects : (now : Stamp) (cs : List ClientId) (t : ServerTurn) → F t → F (suspect_each now cs t)
   unfolding suspect_each suspect_unless
   f_suspects now [] t f = f
   f_suspects now (c ∷ cs) t f = f_suspects now cs _ (if_either F (authority.may_ack t.state.authority c) _ _ (f_suspect t now c f) f)
 
-  f_suspecting : (t : Turn) (now : Stamp) (j : ServerInput) → F t → F (suspecting_on t now j)
+  f_suspecting : (t : ServerTurn) (now : Stamp) (j : ServerInput) → F t → F (suspecting_on t now j)
   unfolding suspecting_on suspecting
   f_suspecting t now Tick f = f_suspects now _ t f
   f_suspecting t now (Control m) f = f
 
-  f_granted : (rs : List (ClientId × Life × ℕ × GrantNo × Mode)) (t : Turn) → F t → F (tell_granted rs t)
+  f_granted : (rs : List (ClientId × Life × ℕ × GrantNo × Mode)) (t : ServerTurn) → F t → F (tell_granted rs t)
   unfolding tell_granted tell
   f_granted [] t f = f
   f_granted (r ∷ rs) t f = f_granted rs _ (f_say t _ refl f)
 
-  f_granting : (t : Turn) (now : Stamp) → F t → F (granting t now)
+  f_granting : (t : ServerTurn) (now : Stamp) → F t → F (granting t now)
   unfolding granting grant_waiting grant_by
   f_granting t now f = if_either F (sv.in_grace t now) t _ f (f_granted _ _ (f_state t _ f))
 
-  f_demanded : (rs : List (ClientId × Life × ℕ × GrantNo × Mode)) (t : Turn) → F t → F (tell_demanded rs t)
+  f_demanded : (rs : List (ClientId × Life × ℕ × GrantNo × Mode)) (t : ServerTurn) → F t → F (tell_demanded rs t)
   unfolding tell_demanded tell
   f_demanded [] t f = f
   f_demanded (r ∷ rs) t f = f_demanded rs _ (f_say t _ refl f)
 
-  f_demanding : (t : Turn) (now : Stamp) (j : ServerInput) → F t → F (demanding t now j)
+  f_demanding : (t : ServerTurn) (now : Stamp) (j : ServerInput) → F t → F (demanding t now j)
   unfolding demanding demand_by
   f_demanding t now j f = f_demanded _ _ (f_state t _ f)
 
-  f_passes : (now : Stamp) (i : ServerInput) (t : Turn) → F t → F (demanding (granting (suspecting_on t now i) now) now i)
+  f_passes : (now : Stamp) (i : ServerInput) (t : ServerTurn) → F t → F (demanding (granting (suspecting_on t now i) now) now i)
   f_passes now i t f = f_demanding _ now i (f_granting _ now (f_suspecting _ now i f))
 
 k_thefts : (x : ServerState) (now : Stamp) → Kinds (thefts (turn x []) now)
@@ -155,7 +155,7 @@ unfolding thefts
 k_thefts x now = f_steals Kinds k_say (λ t y k. k) _ _ (λ o h. absurd h)
 
 -- What the rule of a request makes: it notes no cut, or one of which it says that it was done.
-record Cut (t : Turn) (a : Replied) : Type 0 where
+record Cut (t : ServerTurn) (a : Replied) : Type 0 where
   pub file : FileId
   pub page : PageNo
   pub out : a.turn.out ≡ t.out ++ outputs.Note (notes.CutDone file page) ∷ []
@@ -164,49 +164,49 @@ record Cut (t : Turn) (a : Replied) : Type 0 where
   pub done : acknowledges body ≡ true
   pub kind : refuses body ≡ false
 
-abbrev Ruled : Turn → Replied → Type 0
+abbrev Ruled : ServerTurn → Replied → Type 0
 Ruled t a = (a.turn.out ≡ t.out) ⊎ Cut t a
 
-r_if : (t : Turn) (b : Bool) (x y : Replied) → Ruled t x → Ruled t y → Ruled t (if b then x else y)
+r_if : (t : ServerTurn) (b : Bool) (x y : Replied) → Ruled t x → Ruled t y → Ruled t (if b then x else y)
 r_if t b x y p q = if_either (Ruled t) b x y p q
 
-r_acquire : (t : Turn) (ino : ℕ) (mode : Mode) (r : Res locks.Acquired AcquireRefusal) → Ruled t (sv.acquire_by t ino mode r)
+r_acquire : (t : ServerTurn) (ino : ℕ) (mode : Mode) (r : Res locks.Acquired AcquireRefusal) → Ruled t (sv.acquire_by t ino mode r)
 unfolding sv.acquire_by
 r_acquire t ino mode (Ok a) = inl refl
 r_acquire t ino mode (Err r) = inl refl
 
-r_allocate : (t : Turn) (ino : ℕ) (page : PageNo) (count : ℕ) (r : Res extents.Extents AllocateRefusal) → Ruled t (sv.allocate_by t ino page count r)
+r_allocate : (t : ServerTurn) (ino : ℕ) (page : PageNo) (count : ℕ) (r : Res extents.Extents AllocateRefusal) → Ruled t (sv.allocate_by t ino page count r)
 unfolding sv.allocate_by sv.with_extents_told
 r_allocate t ino page count (Ok x) = inl refl
 r_allocate t ino page count (Err r) = inl refl
 
-r_found : (t : Turn) (r : Res ℕ EntryRefusal) → Ruled t (sv.name_found t r)
+r_found : (t : ServerTurn) (r : Res ℕ EntryRefusal) → Ruled t (sv.name_found t r)
 unfolding sv.name_found sv.name_refused
 r_found t (Ok n) = inl refl
 r_found t (Err r) = inl refl
 
-r_changed : (t : Turn) (r : Res names.Changed EntryRefusal) → Ruled t (sv.name_changed t r)
+r_changed : (t : ServerTurn) (r : Res names.Changed EntryRefusal) → Ruled t (sv.name_changed t r)
 unfolding sv.name_changed sv.name_refused
 r_changed t (Ok y) = inl refl
 r_changed t (Err r) = inl refl
 
-r_listed : (t : Turn) (r : Res (List NameRow) EntryRefusal) → Ruled t (sv.names_listed t r)
+r_listed : (t : ServerTurn) (r : Res (List NameRow) EntryRefusal) → Ruled t (sv.names_listed t r)
 unfolding sv.names_listed sv.name_refused
 r_listed t (Ok y) = inl refl
 r_listed t (Err r) = inl refl
 
-r_removed : (t : Turn) (r : Res names.Changed EntryRefusal) → Ruled t (sv.remove_by t r)
+r_removed : (t : ServerTurn) (r : Res names.Changed EntryRefusal) → Ruled t (sv.remove_by t r)
 unfolding sv.remove_by sv.name_refused sv.cut_whole sv.cut_pages
 r_removed t (Ok y) = inr (record { file = _; page = _; out = refl; body = _; reply = refl; done = refl; kind = refl })
 r_removed t (Err r) = inl refl
 
-r_remove : (t : Turn) (h : Header) (dir : ℕ) (x : List ℕ) (g : GrantNo) (r : Res ℕ EntryRefusal) → Ruled t (sv.remove_found t h dir x g r)
+r_remove : (t : ServerTurn) (h : Header) (dir : ℕ) (x : List ℕ) (g : GrantNo) (r : Res ℕ EntryRefusal) → Ruled t (sv.remove_found t h dir x g r)
 unfolding sv.remove_found sv.remove_ino sv.remove_file sv.remove_dir sv.name_refused sv.not_holder
 r_remove t h dir x g (Err r) = inl refl
 r_remove t h dir x g (Ok ino) =
     r_if t (sv.is_file t ino) _ _ (r_if t (sv.holds t h ino g modes.X) _ _ (r_removed t _) (inl refl)) (r_if t (g.0 == 0) _ _ (r_changed t _) (inl refl))
 
-r_name : (t : Turn) (h : Header) (op : NameOp) → Ruled t (sv.name t h op)
+r_name : (t : ServerTurn) (h : Header) (op : NameOp) → Ruled t (sv.name t h op)
 unfolding sv.name sv.remove
 r_name t h (Lookup dir x) = r_found t _
 r_name t h (Create dir x) = r_changed t _
@@ -215,7 +215,7 @@ r_name t h (Remove dir x g) = r_remove t h dir x g _
 r_name t h (Rename dir x dir2 x2) = r_changed t _
 r_name t h (ListFrom dir after) = r_listed t _
 
-r_rule : (t : Turn) (now : Stamp) (h : Header) (b : Body) → Ruled t (rule t now h b)
+r_rule : (t : ServerTurn) (now : Stamp) (h : Header) (b : Body) → Ruled t (rule t now h b)
 unfolding rule sv.keep_alive sv.acquire sv.acquire_lock sv.no_file sv.released sv.released_by sv.map sv.map_held sv.map_page sv.not_holder sv.allocate sv.allocate_held sv.allocate_pages sv.cut sv.cut_held sv.cut_from sv.with_extents_told sv.cut_pages
 r_rule t now h bd.KeepAlive = inl refl
 r_rule t now h (bd.Acquire i x) = r_if t (sv.is_file t i) _ _ (r_acquire t i x _) (inl refl)
@@ -228,18 +228,18 @@ r_rule t now h (bd.Name op) = r_name t h op
 r_rule t now h b = inl refl
 
 -- A request that is served.
-told_reply : (t : Turn) (h : Header) (b : Body) → refuses b ≡ false → acknowledges b ≡ true → Kinds t → Good (reply t h b)
+told_reply : (t : ServerTurn) (h : Header) (b : Body) → refuses b ≡ false → acknowledges b ≡ true → Kinds t → Good (reply t h b)
 unfolding reply
 told_reply t h b k d n = (k_say t (outputs.Send m) k n, record { message = m; among = has_right t.out (outputs.Send m ∷ []) (outputs.Send m) (inl refl); done = d })
   where
     m : Message
     m = record { header = sv.reply_header t.state h; body = b }
 
-uncut_as : (t u : Turn) → u.out ≡ t.out → Uncut t → Uncut u
+uncut_as : (t u : ServerTurn) → u.out ≡ t.out → Uncut t → Uncut u
 unfolding Noted
 uncut_as t u e n = λ f p h. n f p (subst (Has (outputs.Note (notes.CutDone f p))) e h)
 
-served : (h : Header) (t : Turn) (a : Replied) → Ruled t a → Uncut t → Kinds t → Fine (serve h a)
+served : (h : Header) (t : ServerTurn) (a : Replied) → Ruled t a → Uncut t → Kinds t → Fine (serve h a)
 unfolding serve keep keep_and_reply
 served h t a (inl e) n k = inl (n_keep Never h a.turn a.reply (uncut_as t a.turn e n))
 served h t a (inr z) n k = inr (subst (λ r. Good (keep h a.turn r)) (sym z.reply) kept)
@@ -251,7 +251,7 @@ served h t a (inr z) n k = inr (subst (λ r. Good (keep h a.turn r)) (sym z.repl
     kept = told_reply _ h z.body z.kind z.done kinds
 
 -- The rule of a message.
-module _ (t : Turn) (n : Uncut t) (k : Kinds t) (now : Stamp) (h : Header) where
+module _ (t : ServerTurn) (n : Uncut t) (k : Kinds t) (now : Stamp) (h : Header) where
   f_request_by : (b : Body) (x : Taken Body) → Fine (request_by t now h b x)
   unfolding request_by refuse_epoch
   f_request_by b takes.OtherEpoch = inl (n_reply Never t h _ n)
@@ -290,7 +290,7 @@ module _ (t : Turn) (n : Uncut t) (k : Kinds t) (now : Stamp) (h : Header) where
       by (Some start) = f_refuse start b
 
 -- the whole step
-ended : (now : Stamp) (i : ServerInput) (t : Turn) → Fine t → Fine (demanding (granting (suspecting_on t now i) now) now i)
+ended : (now : Stamp) (i : ServerInput) (t : ServerTurn) → Fine t → Fine (demanding (granting (suspecting_on t now i) now) now i)
 ended now i t (inl n) = inl (n_passes Never now i t n)
 ended now i t (inr g) = inr (f_passes Good g_say (λ u x f. (f.0, record { message = f.1.message; among = f.1.among; done = f.1.done })) now i t g)
 

@@ -22,7 +22,7 @@ use Rattle.st_rules.specs.History.{Traced}
 use Rattle.st_rules.specs.Safety.{Step}
 use Rattle.st_rules.specs.Server.{ServerNode}
 use Rattle.st_rules.specs.Sessions as sessions
-use Rattle.st_rules.specs.World.{ClientSite, node_of}
+use Rattle.st_rules.specs.World.{WorldClient, node_of}
 use Rattle.st_protocol.specs.Assoc.{Config}
 use Rattle.st_protocol.proofs.World.{invariant}
 use Rattle.st_protocol.specs.Assoc as net
@@ -30,10 +30,10 @@ use Rattle.st_lemmas.specs.Lists.{Has}
 use Rattle.st_lemmas.proofs.Lookups.{some_is}
 use Rattle.st_lemmas.proofs.Tables.{and_true, same_or_not}
 use Rattle.st_laws_refine.specs.Views.Halves.{epoch_in}
-use Rattle.st_laws_refine.specs.Server.Stands.{pairs}
+use Rattle.st_laws_refine.specs.Server.Invariants.{pairs}
 use Rattle.st_laws_leases.specs.Dates.Dates.{messages}
 use Rattle.st_laws_reads.specs.AllClients.Law.{Running}
-use Rattle.st_laws_requests.specs.Replies.Reached.{IsBehind, Reached}
+use Rattle.st_laws_requests.specs.Replies.ServedRequests.{IsBehind, Reached}
 use Rattle.st_laws_requests.specs.Cuts.Cuts.{Between, Numbers, Numbered, SameBody}
 use Rattle.st_laws_requests.specs.Cuts.Cuts as cuts
 use Rattle.st_laws_extents.specs.CutRequests.Asks.{AsksStand, Of, RemoveNamed, first_open, open_from}
@@ -43,7 +43,7 @@ use Rattle.st_laws_extents.specs.CutRequests.World.{IsServed}
 use Rattle.st_laws_extents.proofs.CutRequests.Law.{Hold}
 use Rattle.st_laws_extents.proofs.CutRequests.Standing.{whole}
 use Rattle.st_laws_cuts.specs.Owners.{AllOwned, Means, MeansCut, MeansName, Owned, OwnedBy, Owner, view}
-use Rattle.st_laws_cuts.specs.Over.{AllPast, IsPending, MeansGrant, MeansOf, MeansTo}
+use Rattle.st_laws_cuts.specs.EndedRequests.{AllPast, IsPending, MeansGrant, MeansOf, MeansTo}
 
 -- a session that reached a number reached those below it
 behind_less : (o : Option Session) (life k j : ℕ) → j ≤ k → IsBehind o life k → IsBehind o life j
@@ -65,7 +65,7 @@ less (suc u) (suc v) = up (less u v)
     up (inr l) = inr (omega (arith, l))
 
 module _ (k : Config) (count : ℕ) (past : List Step) (t : Traced) (h : Hold k count past t) (owned : AllOwned t.world)
-    (c : ClientId) (site : ClientSite) (run : Running t.world c.0 site) (a : Association) (i : Has a site.node.state.associations)
+    (c : ClientId) (site : WorldClient) (run : Running t.world c.0 site) (a : Association) (i : Has a site.node.state.associations)
     (m : Message) (among : Has m (messages t.world)) (between : Between c a.server m) (life : m.header.life ≡ a.life.0) (pos : 1 ≤ m.header.number) (own : asks_cut_or_name m.body ≡ true) where
   abbrev G : ℕ → GrantNo → Type 0
   G = gifts k count t.world h.all c a.server

@@ -21,7 +21,7 @@ use Rattle.st_rules.specs.Keys.{client}
 use Rattle.st_rules.specs.Safety.{Step, is_event, step}
 use Rattle.st_rules.specs.Server as server
 use Rattle.st_rules.specs.Server.{ServerNode}
-use Rattle.st_rules.specs.World.{World, ClientSite, all_clients, all_servers, clock_of, fresh_world, node_of, numbered, site_of, with_numbered}
+use Rattle.st_rules.specs.World.{World, WorldClient, all_clients, all_servers, clock_of, fresh_world, node_of, numbered, site_of, with_numbered}
 use Rattle.st_protocol.specs.Assoc.{Config}
 use Rattle.st_lemmas.specs.Lists.{Has}
 use Rattle.st_lemmas.proofs.Tables.{all_pass, and_both, some_passes}
@@ -30,7 +30,7 @@ use Rattle.st_laws_leases.specs.Sides.Law.{InEveryRun}
 use Rattle.st_laws_leases.specs.Dates.Dates.{messages}
 use Rattle.st_laws_leases.proofs.Dates.Leaving.{set_cases}
 use Rattle.st_laws_leases.proofs.Sides.Runs.{throughout_events}
-use Rattle.st_laws_requests.specs.Replies.Reached.{NewOwed}
+use Rattle.st_laws_requests.specs.Replies.ServedRequests.{NewOwed}
 use Rattle.st_laws_requests.proofs.Replies.EachEvent.{Brings, NodeAfter, ServerLeft, ServerTook, event_leaves}
 use Rattle.st_laws_requests.proofs.Cuts.Names.{names_same, says_it}
 use Rattle.st_laws_requests.specs.Cuts.Cuts.{does}
@@ -39,8 +39,8 @@ use Rattle.st_laws_extents.proofs.CutRequests.Law.{Hold, owed}
 use Rattle.st_promises.specs.CutAsks.{numbered_asks}
 use Rattle.st_promises.specs.NameAnswers.{becomes_at, changes_at, leaves, said, same_names, says}
 use Rattle.st_promises.specs.NameChanges.{NamesChangeAsAsked, becomes_by, changes_by, is_change_asked, is_open_change}
-use Rattle.st_laws_cuts.specs.Over.{MeansTo}
-use Rattle.st_laws_cuts.specs.Served.{IsServedAt, NamesBy}
+use Rattle.st_laws_cuts.specs.EndedRequests.{MeansTo}
+use Rattle.st_laws_cuts.specs.ServedRequests.{IsServedAt, NamesBy}
 use Rattle.st_laws_cuts.proofs.Law.{AllHold, begins}
 use Rattle.st_laws_cuts.proofs.Law as cuts
 use Rattle.st_laws_cuts.proofs.Naming.{step_names}
@@ -103,10 +103,10 @@ came t e sc owes taken =
         go (inl p) = inl p
         go (inr (m, q, z)) = inr (record { running = run; message = m; among = subst (Brings t) q brings; by = z })
 
-    stopped : (c : ClientId) (site : ClientSite) → site_of t c ≡ Some site → AllCame t (ev.crashes_client (ev.counted t) c (Some site)).world
+    stopped : (c : ClientId) (site : WorldClient) → site_of t c ≡ Some site → AllCame t (ev.crashes_client (ev.counted t) c (Some site)).world
     stopped c site at = stay t (ev.crashes_client (ev.counted t) c (Some site)).world refl
 
-    begun : (c : ClientId) (site : ClientSite) → site_of t c ≡ Some site → AllCame t (ev.starts_client (ev.counted t) c (Some site))
+    begun : (c : ClientId) (site : WorldClient) → site_of t c ≡ Some site → AllCame t (ev.starts_client (ev.counted t) c (Some site))
     begun c site at = stay t (ev.starts_client (ev.counted t) c (Some site)) refl
 
     crashed : (s : ServerId) (node : ServerNode) → node_of t s ≡ Some node → AllCame t (ev.crashes_server (ev.counted t) s (Some node))

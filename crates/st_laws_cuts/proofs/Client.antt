@@ -353,7 +353,7 @@ module _ (c : ClientId) (K : ℕ → Type 0) (G : List Output) (s : ServerId) (B
     w_nack t x y a b e w = w_reply t x (bodies.Nack y a b) e w
 
     w_demand : (t : Turn) (x : ClientSession) (ino : ℕ) (g : GrantNo) (to : Mode) → t.here.session ≡ Some x → WW t → WW (cr.demand t x ino g to)
-    unfolding cr.demand cr.demand_by cr.demand_as cr.see_demand cr.release_unheld cs.send
+    unfolding cr.demand cr.demand_by cr.demand_as cr.observe_demand cr.release_unheld cs.send
     w_demand t x ino g to e w = by (locks.demand x.locks ino g to).asked
       where
         l : ClientSession
@@ -382,9 +382,9 @@ module _ (c : ClientId) (K : ℕ → Type 0) (G : List Output) (s : ServerId) (B
     unfolding cr.with_a_session
     w_with t x b e w = if_both WW (h.epoch == x.epoch.0) _ _ (w_of_epoch t x b e w) (w_of_other c K G s B out0 t x _ b w)
 
-    pub w_hear : (b : Body) (t : Turn) → WW t → WW (cr.receive_at now h b t)
+    pub w_receive : (b : Body) (t : Turn) → WW t → WW (cr.receive_at now h b t)
     unfolding cr.receive_at cr.by_session
-    w_hear b t w = if_both WW (cr.is_heard t now h) _ t (by t.here.session refl) w
+    w_receive b t w = if_both WW (cr.is_received t now h) _ t (by t.here.session refl) w
       where
         by : (o : Option ClientSession) → t.here.session ≡ o → WW (cr.by_session t now h b o)
         by None e = w_without c K G s B out0 t now h b w
@@ -712,8 +712,8 @@ module _ (c : ClientId) (K : ℕ → Type 0) (G : List Output) (s : ServerId) (B
       one n true e = let q = eqb-true op n e in subst (λ m. pending m t.operations + told m t.out + 1 ≤ 1) q (omega (arith, zero))
       one n false e = let z = w.0.few n in omega (arith, z)
 
-      pended : WW (cs.keep new t)
-      pended = (
+      enqueued : WW (cs.keep new t)
+      enqueued = (
         record {
           id_ = w.0.id_;
           server = w.0.server;
@@ -736,8 +736,8 @@ module _ (c : ClientId) (K : ℕ → Type 0) (G : List Output) (s : ServerId) (B
       )
 
       by : (a : Ask) → WW (cl.take_by t op ask a)
-      by (asks.Sync f) = if_both WW (pages.has_lost t.here.lost f.ino) _ _ (lost f) pended
-      by a = pended
+      by (asks.Sync f) = if_both WW (pages.has_lost t.here.lost f.ino) _ _ (lost f) enqueued
+      by a = enqueued
 
   -- a lease that may be over, where nothing was sent yet in the step
   pub w_lose : (now : Stamp) (t : Turn) → Silent t.out → WW t → WW (cl.lose now t)

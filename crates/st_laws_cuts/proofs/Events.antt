@@ -31,7 +31,7 @@ use Rattle.st_rules.specs.Events.{WorldTurn, world_step}
 use Rattle.st_rules.specs.Server as server
 use Rattle.st_rules.specs.Server.{ServerNode}
 use Rattle.st_rules.specs.World as world
-use Rattle.st_rules.specs.World.{World, ClientSite, site_of, node_of, with_numbered, clock_of}
+use Rattle.st_rules.specs.World.{World, WorldClient, site_of, node_of, with_numbered, clock_of}
 use Rattle.st_lemmas.specs.Lists.{Has}
 use Rattle.st_lemmas.proofs.Steps.{step_happens}
 use Rattle.st_lemmas.proofs.Numbers.{numbered_has}
@@ -48,18 +48,18 @@ abbrev pub OldOrServers : World → World → Type 0
 OldOrServers t v = (m : Message) → Has m (messages v) → Has m (messages t) ⊎ ((s : ServerId) × (m.header.from ≡ server_node s))
 
 -- the number of an ask that comes is the client's next one, and a message that comes was sent
-abbrev pub NextAsk : World → ClientInput → ClientSite → ClientSite → Type 0
+abbrev pub NextAsk : World → ClientInput → WorldClient → WorldClient → Type 0
 NextAsk t (inputs.App op ask) old site = (op ≡ old.asks + 1) × (op ≡ site.asks)
 NextAsk t (inputs.Control m) old site = Has m (messages t)
 NextAsk t i old site = Unit {0}
 
 -- A client that is emptied: it has no operation, and no session at the servers that it had.
-pub record IsEmptied (old new : ClientSite) : Type 0 where
+pub record IsEmptied (old new : WorldClient) : Type 0 where
   pub operations : new.node.state.operations ≡ []
   pub associations : (b : Association) → Has b new.node.state.associations → (a : Association) × Has a old.node.state.associations × (b.server ≡ a.server) × (b.session ≡ None)
   pub kept : (a : Association) → Has a old.node.state.associations → (b : Association) × Has b new.node.state.associations × (b.server ≡ a.server)
 
-stopped : (site : ClientSite) → IsEmptied site (ev.stopped_site site)
+stopped : (site : WorldClient) → IsEmptied site (ev.stopped_site site)
 unfolding cl.crash
 stopped site =
     record {
@@ -71,7 +71,7 @@ stopped site =
     one : (b : Association) → (a : Association) × Has a site.node.state.associations × (b ≡ cl.crashed_association a) → (a : Association) × Has a site.node.state.associations × (b.server ≡ a.server) × (b.session ≡ None)
     one b z = (z.0, z.1, ap (λ (y : Association). y.server) z.2, ap (λ (y : Association). y.session) z.2)
 
-begun : (site : ClientSite) → IsEmptied site (ev.started_site site)
+begun : (site : WorldClient) → IsEmptied site (ev.started_site site)
 unfolding cl.start
 begun site =
     record {
@@ -110,16 +110,16 @@ same_epoch s node i t e = (its_step s node i t e).1
 
 module _ (t : World) (ids : (s : ServerId) (node : ServerNode) → node_of t s ≡ Some node → node.state.id ≡ s) (R : WorldTurn → Type 0)
     (quiet : (sc : WorldTurn) → sc.world.clients ≡ t.clients → OldOrServers t sc.world → NoAnswers sc.seen → R sc)
-    (takes_step : (v : World) → v.clients ≡ t.clients → (c : ClientId) (i : ClientInput) (site old : ClientSite) → site.node ≡ old.node → NextAsk t i old site → site.node.running ≡ true → site_of t c ≡ Some old →
+    (takes_step : (v : World) → v.clients ≡ t.clients → (c : ClientId) (i : ClientInput) (site old : WorldClient) → site.node ≡ old.node → NextAsk t i old site → site.node.running ≡ true → site_of t c ≡ Some old →
     (sc : WorldTurn) → Leaves (messages t) (ev.with_site c (SiteAfter v c i site) v) sc.world (ClientTook v c i site).out → AnswersOf c (ClientTook v c i site).out [] sc.seen → R sc)
-    (emptied : (c : ClientId) (old new : ClientSite) → site_of t c ≡ Some old → IsEmptied old new → (sc : WorldTurn) → sc.world.clients ≡ with_numbered c.0 new t.clients → messages sc.world ≡ messages t → NoAnswers sc.seen → R sc) where
+    (emptied : (c : ClientId) (old new : WorldClient) → site_of t c ≡ Some old → IsEmptied old new → (sc : WorldTurn) → sc.world.clients ≡ with_numbered c.0 new t.clients → messages sc.world ≡ messages t → NoAnswers sc.seen → R sc) where
   w : World
   w = ev.counted t
 
   alike : (sc : WorldTurn) → sc.world.clients ≡ t.clients → messages sc.world ≡ messages t → NoAnswers sc.seen → R sc
   alike sc cs ms n = quiet sc cs (λ m h. inl (subst (Has m) ms h)) n
 
-  takes : (v : World) → v.clients ≡ t.clients → v.net ≡ t.net → (c : ClientId) (i : ClientInput) (site old : ClientSite) → site.node ≡ old.node → NextAsk t i old site → site_of t c ≡ Some old → R (ev.client_takes v c i site)
+  takes : (v : World) → v.clients ≡ t.clients → v.net ≡ t.net → (c : ClientId) (i : ClientInput) (site old : WorldClient) → site.node ≡ old.node → NextAsk t i old site → site_of t c ≡ Some old → R (ev.client_takes v c i site)
   unfolding ev.client_takes ev.client_took cl.node_step
   takes v cs net c i site old same next at = go site.node.running refl
     where
@@ -140,7 +140,7 @@ module _ (t : World) (ids : (s : ServerId) (node : ServerNode) → node_of t s �
   unfolding ev.server_takes ev.server_took server.node_step w
   serves s i node at = go node.running
     where
-      u : server.Turn
+      u : server.ServerTurn
       u = server.server_step node.state (clock_of w (nodes.Server s)) i
 
       a : WorldTurn
@@ -157,11 +157,11 @@ module _ (t : World) (ids : (s : ServerId) (node : ServerNode) → node_of t s �
           by m (inr h) = inr (s, its_own s node i t (ids s node at) m h)
       go false = alike (ev.quiet w) refl refl none_answered
 
-  at_client : (c : ClientId) (i : ClientInput) → ((site : ClientSite) → NextAsk t i site site) → R (ev.at_client w c i (site_of w c))
+  at_client : (c : ClientId) (i : ClientInput) → ((site : WorldClient) → NextAsk t i site site) → R (ev.at_client w c i (site_of w c))
   unfolding ev.at_client w
   at_client c i next = go (site_of w c) refl
     where
-      go : (o : Option ClientSite) → site_of w c ≡ o → R (ev.at_client w c i o)
+      go : (o : Option WorldClient) → site_of w c ≡ o → R (ev.at_client w c i o)
       go None r = alike (ev.quiet w) refl refl none_answered
       go (Some site) r = takes w refl refl c i site site refl (next site) r
 
@@ -177,7 +177,7 @@ module _ (t : World) (ids : (s : ServerId) (node : ServerNode) → node_of t s �
   unfolding ev.asks_at w
   asks_happen c ask = go (site_of w c) refl
     where
-      go : (o : Option ClientSite) → site_of w c ≡ o → R (ev.asks_at w c ask o)
+      go : (o : Option WorldClient) → site_of w c ≡ o → R (ev.asks_at w c ask o)
       go None r = alike (ev.quiet w) refl refl none_answered
       go (Some site) r = takes w refl refl c (inputs.App (site.asks + 1) ask) (ev.asked_once_more site) site refl (refl, refl) r
 
@@ -211,11 +211,11 @@ module _ (t : World) (ids : (s : ServerId) (node : ServerNode) → node_of t s �
       none : R (ev.quiet v)
       none = alike (ev.quiet v) refl refl none_answered
 
-      same : (x : IssuedCommand) (site : ClientSite) → site_of w x.client ≡ Some site → (b : Bool) → R (if b then ev.client_takes v x.client (ev.end_told v k ok x) site else ev.quiet v)
+      same : (x : IssuedCommand) (site : WorldClient) → site_of w x.client ≡ Some site → (b : Bool) → R (if b then ev.client_takes v x.client (ev.end_told v k ok x) site else ev.quiet v)
       same x site q true = takes v refl refl x.client (ev.end_told v k ok x) site site refl tt q
       same x site q false = none
 
-      at : (x : IssuedCommand) (o : Option ClientSite) → site_of w x.client ≡ o → R (ev.tells_client v k ok x o)
+      at : (x : IssuedCommand) (o : Option WorldClient) → site_of w x.client ≡ o → R (ev.tells_client v k ok x o)
       at x None q = none
       at x (Some site) q = same x site q (ev.is_same_instance x site)
 
@@ -227,7 +227,7 @@ module _ (t : World) (ids : (s : ServerId) (node : ServerNode) → node_of t s �
   unfolding ev.crashes_client ev.marks w
   crashes_client c = go (site_of w c) refl
     where
-      go : (o : Option ClientSite) → site_of w c ≡ o → R (ev.crashes_client w c o)
+      go : (o : Option WorldClient) → site_of w c ≡ o → R (ev.crashes_client w c o)
       go None q = alike (ev.quiet w) refl refl none_answered
       go (Some site) q = emptied c site (ev.stopped_site site) q (stopped site) _ refl refl (fates_none 1 w.log (ev.log_crashed w c))
 
@@ -235,7 +235,7 @@ module _ (t : World) (ids : (s : ServerId) (node : ServerNode) → node_of t s �
   unfolding ev.starts_client w
   starts_client c = go (site_of w c) refl
     where
-      go : (o : Option ClientSite) → site_of w c ≡ o → R (ev.quiet (ev.starts_client w c o))
+      go : (o : Option WorldClient) → site_of w c ≡ o → R (ev.quiet (ev.starts_client w c o))
       go None q = alike (ev.quiet w) refl refl none_answered
       go (Some site) q = emptied c site (ev.started_site site) q (begun site) _ refl refl none_answered
 

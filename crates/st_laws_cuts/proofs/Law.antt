@@ -30,7 +30,7 @@ use Rattle.st_rules.specs.Extents.{numbers}
 use Rattle.st_rules.specs.History.{Traced, traced, traced_after}
 use Rattle.st_rules.specs.Keys.{client}
 use Rattle.st_rules.specs.Safety.{IsHead, Step, is_event, step}
-use Rattle.st_rules.specs.World.{World, ClientSite, all_clients, fresh_world, fresh_site, node_of, site_of}
+use Rattle.st_rules.specs.World.{World, WorldClient, all_clients, fresh_world, fresh_site, node_of, site_of}
 use Rattle.st_protocol.specs.Assoc.{Config}
 use Rattle.st_lemmas.specs.Lists.{Has}
 use Rattle.st_lemmas.proofs.Tables.{all_pass, and_both, has_map, some_passes}
@@ -40,14 +40,14 @@ use Rattle.st_laws_leases.specs.Sides.Law.{InEveryRun}
 use Rattle.st_laws_leases.proofs.Sides.Runs.{throughout_events}
 use Rattle.st_laws_extents.specs.CutRequests.Cut.{AsksCut, CutIn}
 use Rattle.st_laws_extents.specs.CutRequests.Law.{gifts}
-use Rattle.st_laws_extents.specs.CutRequests.Named.{Given}
+use Rattle.st_laws_extents.specs.CutRequests.NamedGrants.{Given}
 use Rattle.st_laws_extents.proofs.CutRequests.Law.{Hold, first, followed, same_all}
 use Rattle.st_laws_extents.proofs.CutRequests.Seen.{cuts_known}
 use Rattle.st_laws_extents.proofs.CutRequests.Standing.{given_row, named}
 use Rattle.st_promises.specs.CutAsks.{CutsAreAsked, asks_cut, cuts_by, has_alone_at, is_cut_asked, is_exclusive, is_open_cut, numbered_asks}
 use Rattle.st_laws_cuts.specs.Owners.{view}
-use Rattle.st_laws_cuts.specs.Over.{MeansGrant, MeansOf, MeansTo}
-use Rattle.st_laws_cuts.specs.Served.{IsServedAt}
+use Rattle.st_laws_cuts.specs.EndedRequests.{MeansGrant, MeansOf, MeansTo}
+use Rattle.st_laws_cuts.specs.ServedRequests.{IsServedAt}
 use Rattle.st_laws_cuts.proofs.Open as opened
 use Rattle.st_laws_cuts.proofs.Open.{OpenAsk}
 use Rattle.st_laws_cuts.proofs.World.{OwnersHold, owners_on}
@@ -160,14 +160,14 @@ begins k clients servers disks blocks form head = record { base = first k client
     w : World
     w = fresh_world k clients servers disks blocks form
 
-    site : (c : ClientId) (s : ClientSite) → site_of w c ≡ Some s → s ≡ fresh_site k servers c.0
+    site : (c : ClientId) (s : WorldClient) → site_of w c ≡ Some s → s ≡ fresh_site k servers c.0
     site c s e = (site_is k clients servers c.0 s e).0
 
-    none_asked : (c : ClientId) (s : ClientSite) → site_of w c ≡ Some s → s.node.state.operations ≡ []
-    none_asked c s e = ap (λ (y : ClientSite). y.node.state.operations) (site c s e)
+    none_asked : (c : ClientId) (s : WorldClient) → site_of w c ≡ Some s → s.node.state.operations ≡ []
+    none_asked c s e = ap (λ (y : WorldClient). y.node.state.operations) (site c s e)
 
-    no_session : (c : ClientId) (s : ClientSite) → site_of w c ≡ Some s → (a : Association) → Has a s.node.state.associations → a.session ≡ None
-    no_session c s e a i = let z = has_map cl.fresh_association (numbers 1 servers) a (subst (λ (y : ClientSite). Has a y.node.state.associations) (site c s e) i) in ap (λ (y : Association). y.session) z.2
+    no_session : (c : ClientId) (s : WorldClient) → site_of w c ≡ Some s → (a : Association) → Has a s.node.state.associations → a.session ≡ None
+    no_session c s e a i = let z = has_map cl.fresh_association (numbers 1 servers) a (subst (λ (y : WorldClient). Has a y.node.state.associations) (site c s e) i) in ap (λ (y : Association). y.session) z.2
 
     owners : OwnersHold [] (gifts (terms_of k) (clients + servers) w (first k clients servers disks blocks form head).all) w
     owners =

@@ -40,24 +40,24 @@ use Rattle.st_rules.specs.Names as names
 use Rattle.st_rules.specs.Names.{Names}
 use Rattle.st_rules.specs.Sessions as sessions
 use Rattle.st_rules.specs.Server as sv
-use Rattle.st_rules.specs.Server.{ServerState, Turn, Replied, turn, sender, life_in, reply, say, tell, steal_at, steal_from, steal, steal_each, thefts, suspect_client, greet_as, greet_by, greet, refuse_in_grace, hello, demand_seen, see_demand, refuse_epoch, reassert_by, reassert_new, reassert_again, reassert, rule, keep_and_reply, keep, serve, request_by, request, of_epoch, by_body, refuse_suspect, by_suspicion, receive_from, receive, take_input, suspect_unless, suspect_each, suspecting, suspecting_on, tell_granted, grant_by, grant_waiting, granting, tell_demanded, demand_by, demanding, server_step}
+use Rattle.st_rules.specs.Server.{ServerState, ServerTurn, Replied, turn, sender, life_in, reply, say, tell, steal_at, steal_from, steal, steal_each, thefts, suspect_client, greet_as, greet_by, greet, refuse_in_grace, hello, demand_seen, observe_demand, refuse_epoch, reassert_by, reassert_new, reassert_again, reassert, rule, keep_and_reply, keep, serve, request_by, request, of_epoch, by_body, refuse_suspect, by_suspicion, receive_from, receive, take_input, suspect_unless, suspect_each, suspecting, suspecting_on, tell_granted, grant_by, grant_waiting, granting, tell_demanded, demand_by, demanding, server_step}
 use Rattle.st_lemmas.proofs.Tables.{and_true}
 use Rattle.st_laws_steps.proofs.Server.Taking.{FreshState, Found, found_for, fresh_state, if_either, if_cases}
 use Rattle.st_laws_extents.proofs.ExtentReplies.Thefts.{From, f_thefts}
 use Rattle.st_promises.specs.NameAnswers.{Saying, changed, refused, said}
 use Rattle.st_laws_requests.specs.Cuts.Cuts.{does, does_remove, does_remove_dir}
-use Rattle.st_laws_cuts.specs.Served.{IsServedBy, NamesBy}
+use Rattle.st_laws_cuts.specs.ServedRequests.{IsServedBy, NamesBy}
 
 -- the names stay
-abbrev Same : Turn → Turn → Type 0
+abbrev Same : ServerTurn → ServerTurn → Type 0
 Same t u = u.state.stable.names ≡ t.state.stable.names
 
-s_steal : (t : Turn) (c : ClientId) (x : Option Session) → Same t (steal_at t c x)
+s_steal : (t : ServerTurn) (c : ClientId) (x : Option Session) → Same t (steal_at t c x)
 unfolding steal_at steal_from
 s_steal t c None = refl
 s_steal t c (Some x) = refl
 
-s_steals : (cs : List ClientId) (t : Turn) → Same t (steal_each cs t)
+s_steals : (cs : List ClientId) (t : ServerTurn) → Same t (steal_each cs t)
 unfolding steal_each steal
 s_steals [] t = refl
 s_steals (c ∷ cs) t = s_steals cs (steal_at t c (sessions.session_of t.state.sessions c)) ∙ s_steal t c (sessions.session_of t.state.sessions c)
@@ -66,82 +66,82 @@ s_thefts : (x : ServerState) (now : Stamp) → Same (turn x []) (thefts (turn x 
 unfolding thefts
 s_thefts x now = s_steals (authority.over x.authority now) (sv.with_authority (authority.still_running x.authority now) (turn x []))
 
-s_greet_as : (t : Turn) (now : Stamp) (h : Header) (x : Hello) → Same t (greet_as t now h x)
+s_greet_as : (t : ServerTurn) (now : Stamp) (h : Header) (x : Hello) → Same t (greet_as t now h x)
 unfolding greet_as reply suspect_client
 s_greet_as t now h hellos.Welcome = refl
 s_greet_as t now h hellos.Replaced = refl
 s_greet_as t now h hellos.Old = refl
 s_greet_as t now h hellos.Wait = refl
 
-s_hello : (t : Turn) (now : Stamp) (h : Header) → Same t (hello t now h)
+s_hello : (t : ServerTurn) (now : Stamp) (h : Header) → Same t (hello t now h)
 unfolding hello greet greet_by refuse_in_grace reply
 s_hello t now h = if_either (Same t) (sv.in_grace t now) _ _ refl (s_greet_as _ now h _)
 
-s_seen : (t : Turn) (h : Header) (ino : ℕ) (g : GrantNo) → Same t (demand_seen t h ino g)
-unfolding demand_seen see_demand
+s_seen : (t : ServerTurn) (h : Header) (ino : ℕ) (g : GrantNo) → Same t (demand_seen t h ino g)
+unfolding demand_seen observe_demand
 s_seen t h ino g = if_either (Same t) (sv.is_served t h) _ t refl refl
 
-s_reassert_by : (t : Turn) (h : Header) (r : Res grace.Accepted AcceptRefusal) → Same t (reassert_by t h r)
+s_reassert_by : (t : ServerTurn) (h : Header) (r : Res grace.Accepted AcceptRefusal) → Same t (reassert_by t h r)
 unfolding reassert_by reply
 s_reassert_by t h (Ok a) = refl
 s_reassert_by t h (Err r) = refl
 
-s_again : (t : Turn) (h : Header) (x : Taken Body) → Same t (reassert_again t h x)
+s_again : (t : ServerTurn) (h : Header) (x : Taken Body) → Same t (reassert_again t h x)
 unfolding reassert_again reply
 s_again t h (takes.Again b) = refl
 s_again t h x = refl
 
-s_reassert : (t : Turn) (now : Stamp) (h : Header) (rows : List (ℕ × GrantNo × Mode)) → Same t (reassert t now h rows)
+s_reassert : (t : ServerTurn) (now : Stamp) (h : Header) (rows : List (ℕ × GrantNo × Mode)) → Same t (reassert t now h rows)
 unfolding reassert reassert_new
 s_reassert t now h rows = if_either (Same t) (sessions.knows t.state.sessions (sender h) (life_in h)) _ _ (s_again t h (sv.take t h)) (s_reassert_by t h _)
 
-s_refuse : (t : Turn) (h : Header) (start : Stamp) (b : Body) → Same t (refuse_suspect t h start b)
+s_refuse : (t : ServerTurn) (h : Header) (start : Stamp) (b : Body) → Same t (refuse_suspect t h start b)
 unfolding refuse_suspect reply
 s_refuse t h start (bd.DemandSeen n g) = refl
 s_refuse t h start b = refl
 
 -- The rules of requests: the names stay, or a request for a name changes them.
-abbrev Out : Saying → Turn → Replied → Type 0
+abbrev Out : Saying → ServerTurn → Replied → Type 0
 Out x t a = Same t a.turn ⊎ ((answer : AppAnswer) × (x ≡ said a.turn.state.stable.names answer))
 
-x_found : (t : Turn) (r : Res ℕ EntryRefusal) → Same t (sv.name_found t r).turn
+x_found : (t : ServerTurn) (r : Res ℕ EntryRefusal) → Same t (sv.name_found t r).turn
 unfolding sv.name_found sv.name_refused
 x_found t (Ok ino) = refl
 x_found t (Err r) = refl
 
-x_changed : (t : Turn) (r : Res names.Changed EntryRefusal) → Out (changed t.state.stable.names r) t (sv.name_changed t r)
+x_changed : (t : ServerTurn) (r : Res names.Changed EntryRefusal) → Out (changed t.state.stable.names r) t (sv.name_changed t r)
 unfolding sv.name_changed sv.name_refused
 x_changed t (Ok d) = inr (answers.Named d.ino, refl)
 x_changed t (Err r) = inl refl
 
-x_listed : (t : Turn) (r : Res (List NameRow) EntryRefusal) → Same t (sv.names_listed t r).turn
+x_listed : (t : ServerTurn) (r : Res (List NameRow) EntryRefusal) → Same t (sv.names_listed t r).turn
 unfolding sv.names_listed sv.name_refused
 x_listed t (Ok rows) = refl
 x_listed t (Err r) = refl
 
-x_removed : (t : Turn) (r : Res names.Changed EntryRefusal) → Out (changed t.state.stable.names r) t (sv.remove_by t r)
+x_removed : (t : ServerTurn) (r : Res names.Changed EntryRefusal) → Out (changed t.state.stable.names r) t (sv.remove_by t r)
 unfolding sv.remove_by sv.name_refused sv.cut_whole sv.cut_pages
 x_removed t (Ok d) = inr (answers.Named d.ino, refl)
 x_removed t (Err r) = inl refl
 
-x_if : (t : Turn) (c : Bool) (x y : Saying) (a b : Replied) → Out x t a → Out y t b → Out (if c then x else y) t (if c then a else b)
+x_if : (t : ServerTurn) (c : Bool) (x y : Saying) (a b : Replied) → Out x t a → Out y t b → Out (if c then x else y) t (if c then a else b)
 x_if t true x y a b p q = p
 x_if t false x y a b p q = q
 
-x_held : (t : Turn) (c : Bool) (x : Saying) (ino : ℕ) (g : GrantNo) (a : Replied) → Out x t a → Out x t (if c then a else sv.not_holder t ino g)
+x_held : (t : ServerTurn) (c : Bool) (x : Saying) (ino : ℕ) (g : GrantNo) (a : Replied) → Out x t a → Out x t (if c then a else sv.not_holder t ino g)
 unfolding sv.not_holder
 x_held t true x ino g a p = p
 x_held t false x ino g a p = inl refl
 
-x_is_dir : (t : Turn) → Out (refused t.state.stable.names IsDir) t (sv.name_refused t IsDir)
+x_is_dir : (t : ServerTurn) → Out (refused t.state.stable.names IsDir) t (sv.name_refused t IsDir)
 unfolding sv.name_refused
 x_is_dir t = inl refl
 
-x_none : (t : Turn) (x : Saying) (r : EntryRefusal) → Out x t (sv.name_refused t r)
+x_none : (t : ServerTurn) (x : Saying) (r : EntryRefusal) → Out x t (sv.name_refused t r)
 unfolding sv.name_refused
 x_none t x r = inl refl
 
-x_remove : (t : Turn) (h : Header) (dir : ℕ) (x : List ℕ) (g : GrantNo) (r : Res ℕ EntryRefusal) → Out (does_remove t.state.stable.names dir x g r) t (sv.remove_found t h dir x g r)
+x_remove : (t : ServerTurn) (h : Header) (dir : ℕ) (x : List ℕ) (g : GrantNo) (r : Res ℕ EntryRefusal) → Out (does_remove t.state.stable.names dir x g r) t (sv.remove_found t h dir x g r)
 unfolding sv.remove_found sv.remove_ino sv.remove_file sv.remove_dir
 x_remove t h dir x g (Err r) = x_none t (refused t.state.stable.names r) r
 x_remove t h dir x g (Ok ino) =
@@ -149,7 +149,7 @@ x_remove t h dir x g (Ok ino) =
     (x_held t (sv.holds t h ino g modes.X) (changed t.state.stable.names (names.remove t.state.stable.names dir x)) ino g (sv.remove_by t (names.remove t.state.stable.names dir x)) (x_removed t (names.remove t.state.stable.names dir x)))
     (x_if t (g.0 == 0) (changed t.state.stable.names (names.remove t.state.stable.names dir x)) (refused t.state.stable.names IsDir) _ _ (x_changed t (names.remove t.state.stable.names dir x)) (x_is_dir t))
 
-x_name : (t : Turn) (h : Header) (op : NameOp) → Out (does t.state.stable.names op) t (sv.name t h op)
+x_name : (t : ServerTurn) (h : Header) (op : NameOp) → Out (does t.state.stable.names op) t (sv.name t h op)
 unfolding sv.name sv.remove
 x_name t h (Lookup dir x) = inl (x_found t _)
 x_name t h (Create dir x) = x_changed t _
@@ -159,18 +159,18 @@ x_name t h (Rename dir x dir2 x2) = x_changed t _
 x_name t h (ListFrom dir after) = inl (x_listed t _)
 
 -- a request for a name did this
-abbrev Did : Turn → Body → Replied → Type 0
+abbrev Did : ServerTurn → Body → Replied → Type 0
 Did t m a = (op : NameOp) × (m ≡ bd.Name op) × ((answer : AppAnswer) × (does t.state.stable.names op ≡ said a.turn.state.stable.names answer))
 
-abbrev S : Turn → Replied → Type 0
+abbrev S : ServerTurn → Replied → Type 0
 S t a = Same t a.turn
 
-x_acquire : (t : Turn) (ino : ℕ) (mode : Mode) (r : Res locks.Acquired AcquireRefusal) → S t (sv.acquire_by t ino mode r)
+x_acquire : (t : ServerTurn) (ino : ℕ) (mode : Mode) (r : Res locks.Acquired AcquireRefusal) → S t (sv.acquire_by t ino mode r)
 unfolding sv.acquire_by
 x_acquire t ino mode (Ok a) = refl
 x_acquire t ino mode (Err r) = refl
 
-x_allocate : (t : Turn) (ino : ℕ) (page : PageNo) (count : ℕ) → S t (sv.allocate_pages t ino page count)
+x_allocate : (t : ServerTurn) (ino : ℕ) (page : PageNo) (count : ℕ) → S t (sv.allocate_pages t ino page count)
 unfolding sv.allocate_pages sv.allocate_by extents.allocate extents.allocate_pages sv.with_extents_told
 x_allocate t ino page count = go (nat_le (length ps) (extents.free t.state.stable.extents))
   where
@@ -181,7 +181,7 @@ x_allocate t ino page count = go (nat_le (length ps) (extents.free t.state.stabl
     go true = refl
     go false = refl
 
-x_rule : (t : Turn) (now : Stamp) (h : Header) (m : Body) → S t (rule t now h m) ⊎ Did t m (rule t now h m)
+x_rule : (t : ServerTurn) (now : Stamp) (h : Header) (m : Body) → S t (rule t now h m) ⊎ Did t m (rule t now h m)
 unfolding rule sv.keep_alive sv.acquire sv.acquire_lock sv.no_file sv.released sv.released_by sv.map sv.map_held sv.map_page sv.not_holder sv.allocate sv.allocate_held sv.cut sv.cut_held sv.cut_from sv.with_extents_told sv.cut_pages
 x_rule t now h (bd.Name op) = go (x_name t h op)
   where
@@ -196,14 +196,14 @@ x_rule t now h (bd.Allocate n g p x) = inl (if_either (S t) (sv.is_file t n) _ _
 x_rule t now h (bd.Cut n g p) = inl (if_either (S t) (sv.is_file t n) _ _ (if_either (S t) (sv.holds t h n g modes.X) _ _ refl refl) refl)
 x_rule t now h m = inl refl
 
-s_keep : (h : Header) (t : Turn) (b : Option Body) → Same t (keep h t b)
+s_keep : (h : Header) (t : ServerTurn) (b : Option Body) → Same t (keep h t b)
 unfolding keep keep_and_reply reply
 s_keep h t None = refl
 s_keep h t (Some b) = refl
 
 -- Behind the thefts.
-module _ (t : Turn) (m : Message) (client : sv.is_client_node m.header.from ≡ true) (to : m.header.to ≡ server_node t.state.id) where
-  abbrev D : Turn → Type 0
+module _ (t : ServerTurn) (m : Message) (client : sv.is_client_node m.header.from ≡ true) (to : m.header.to ≡ server_node t.state.id) where
+  abbrev D : ServerTurn → Type 0
   D u = Same t u ⊎ NamesBy t.state m u.state.stable.names
 
   d_serve : (now : Stamp) → m.header.epoch ≡ t.state.stable.epoch.0 → sv.take t m.header ≡ takes.Fresh → D (serve m.header (rule t now m.header m.body))
@@ -252,47 +252,47 @@ module _ (t : Turn) (m : Message) (client : sv.is_client_node m.header.from ≡ 
   d_by_suspicion now None = d_by_body now m.body refl
   d_by_suspicion now (Some start) = inl (s_refuse t m.header start m.body)
 
-abbrev Taking : Turn → ServerInput → Turn → Type 0
+abbrev Taking : ServerTurn → ServerInput → ServerTurn → Type 0
 Taking t i u = Same t u ⊎ ((m : Message) × (i ≡ Control m) × NamesBy t.state m u.state.stable.names)
 
-d_input : (t : Turn) (now : Stamp) (i : ServerInput) → Taking t i (take_input t now i)
+d_input : (t : ServerTurn) (now : Stamp) (i : ServerInput) → Taking t i (take_input t now i)
 unfolding take_input receive receive_from
 d_input t now Tick = inl refl
-d_input t now (Control m) = if_cases (Taking t (Control m)) (sv.is_for t.state m.header) _ _ heard (λ f. inl refl)
+d_input t now (Control m) = if_cases (Taking t (Control m)) (sv.is_for t.state m.header) _ _ received (λ f. inl refl)
   where
-    heard : sv.is_for t.state m.header ≡ true → Taking t (Control m) (by_suspicion t now m.header m.body (authority.started t.state.authority (sender m.header)))
-    heard f = let z = and_true (m.header.to == server_node t.state.id) (sv.is_client_node m.header.from) f in go (by_suspicion t now m.header m.body (authority.started t.state.authority (sender m.header))) (d_by_suspicion t m z.1 (eqb-true _ _ z.0) now (authority.started t.state.authority (sender m.header)))
+    received : sv.is_for t.state m.header ≡ true → Taking t (Control m) (by_suspicion t now m.header m.body (authority.started t.state.authority (sender m.header)))
+    received f = let z = and_true (m.header.to == server_node t.state.id) (sv.is_client_node m.header.from) f in go (by_suspicion t now m.header m.body (authority.started t.state.authority (sender m.header))) (d_by_suspicion t m z.1 (eqb-true _ _ z.0) now (authority.started t.state.authority (sender m.header)))
       where
-        go : (u : Turn) → Same t u ⊎ NamesBy t.state m u.state.stable.names → Taking t (Control m) u
+        go : (u : ServerTurn) → Same t u ⊎ NamesBy t.state m u.state.stable.names → Taking t (Control m) u
         go u (inl p) = inl p
         go u (inr q) = inr (m, refl, q)
 
 -- The passes.
-s_suspects : (now : Stamp) (cs : List ClientId) (t : Turn) → Same t (suspect_each now cs t)
+s_suspects : (now : Stamp) (cs : List ClientId) (t : ServerTurn) → Same t (suspect_each now cs t)
 unfolding suspect_each suspect_unless suspect_client
 s_suspects now [] t = refl
 s_suspects now (c ∷ cs) t = s_suspects now cs (suspect_unless t now c) ∙ if_either (Same t) (authority.may_ack t.state.authority c) _ _ refl refl
 
-s_suspecting : (t : Turn) (now : Stamp) (i : ServerInput) → Same t (suspecting_on t now i)
+s_suspecting : (t : ServerTurn) (now : Stamp) (i : ServerInput) → Same t (suspecting_on t now i)
 unfolding suspecting_on suspecting
 s_suspecting t now Tick = s_suspects now _ t
 s_suspecting t now (Control m) = refl
 
-s_told : (rs : List (ClientId × Life × ℕ × GrantNo × Mode)) (t : Turn) → Same t (tell_granted rs t)
+s_told : (rs : List (ClientId × Life × ℕ × GrantNo × Mode)) (t : ServerTurn) → Same t (tell_granted rs t)
 unfolding tell_granted tell
 s_told [] t = refl
 s_told (r ∷ rs) t = s_told rs (tell t r.0 r.1 (bd.Granted r.2 r.3 r.4))
 
-s_granting : (t : Turn) (now : Stamp) → Same t (granting t now)
+s_granting : (t : ServerTurn) (now : Stamp) → Same t (granting t now)
 unfolding granting grant_waiting grant_by
 s_granting t now = if_either (Same t) (sv.in_grace t now) t _ refl (s_told (locks.next_grants t.state.locks).granted (sv.with_locks (locks.next_grants t.state.locks).locks t))
 
-s_demanded : (rs : List (ClientId × Life × ℕ × GrantNo × Mode)) (t : Turn) → Same t (tell_demanded rs t)
+s_demanded : (rs : List (ClientId × Life × ℕ × GrantNo × Mode)) (t : ServerTurn) → Same t (tell_demanded rs t)
 unfolding tell_demanded tell
 s_demanded [] t = refl
 s_demanded (r ∷ rs) t = s_demanded rs (tell t r.0 r.1 (bd.Demand r.2 r.3 r.4))
 
-s_demanding : (t : Turn) (now : Stamp) (i : ServerInput) → Same t (demanding t now i)
+s_demanding : (t : ServerTurn) (now : Stamp) (i : ServerInput) → Same t (demanding t now i)
 unfolding demanding demand_by
 s_demanding t now i = s_demanded _ _
 
@@ -302,13 +302,13 @@ pub step_names : (x : ServerState) (now : Stamp) (i : ServerInput) →
 unfolding server_step
 step_names x now i = go (d_input t now i)
   where
-    t : Turn
+    t : ServerTurn
     t = thefts (turn x []) now
 
-    u : Turn
+    u : ServerTurn
     u = take_input t now i
 
-    last : Turn
+    last : ServerTurn
     last = demanding (granting (suspecting_on u now i) now) now i
 
     passes : Same u last

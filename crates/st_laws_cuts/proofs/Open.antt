@@ -14,22 +14,22 @@ use Rattle.st_rules.specs.History.{Traced}
 use Rattle.st_rules.specs.Keys.{client, server_node}
 use Rattle.st_rules.specs.Safety.{Step}
 use Rattle.st_rules.specs.Sessions as sessions
-use Rattle.st_rules.specs.World.{World, ClientSite, all_clients, numbered, server, site_of}
+use Rattle.st_rules.specs.World.{World, WorldClient, all_clients, numbered, server, site_of}
 use Rattle.st_protocol.specs.Assoc.{Config}
 use Rattle.st_lemmas.specs.Lists.{Has}
 use Rattle.st_lemmas.proofs.Numbers.{get_there}
 use Rattle.st_lemmas.proofs.Tables.{and_true, has_map_in, same_or_not}
 use Rattle.st_laws_refine.specs.Client.Law.{Place}
-use Rattle.st_laws_leases.specs.Sides.Stands.{Standing}
+use Rattle.st_laws_leases.specs.Sides.Invariants.{Standing}
 use Rattle.st_laws_leases.proofs.Dates.Known.{has_right}
-use Rattle.st_laws_requests.specs.Replies.Reached.{IsBehind, Reached}
+use Rattle.st_laws_requests.specs.Replies.ServedRequests.{IsBehind, Reached}
 use Rattle.st_laws_requests.specs.Cuts.Cuts.{Between, asks_of}
 use Rattle.st_laws_extents.specs.CutRequests.EndedLives.{IsPast}
 use Rattle.st_laws_extents.specs.CutRequests.Law.{gifts}
 use Rattle.st_laws_extents.proofs.CutRequests.Law.{Hold}
 use Rattle.st_promises.specs.CutAsks.{numbered_asks, settles_in}
-use Rattle.st_laws_cuts.specs.Served.{IsServedAt}
-use Rattle.st_laws_cuts.specs.Over.{AllPast, IsPending, MeansTo, Over}
+use Rattle.st_laws_cuts.specs.ServedRequests.{IsServedAt}
+use Rattle.st_laws_cuts.specs.EndedRequests.{AllPast, IsPending, MeansTo, Over}
 use Rattle.st_laws_cuts.proofs.Alive.{alive}
 use Rattle.st_laws_cuts.proofs.Words.{under_has, unsettled_past}
 use Rattle.st_laws_cuts.proofs.World.{OwnersHold}
@@ -48,11 +48,11 @@ numbered_there : {A : Type 0} (xs : List A) (n : ℕ) → 1 ≤ n → n ≤ leng
 numbered_there xs zero l h = absurd (omega (arith, l))
 numbered_there xs (suc n) l h = get_there xs n (omega (arith, h))
 
-site_there : (w : World) (c : ClientId) → 1 ≤ c.0 → c.0 ≤ length w.clients → (site : ClientSite) × (site_of w c ≡ Some site)
+site_there : (w : World) (c : ClientId) → 1 ≤ c.0 → c.0 ≤ length w.clients → (site : WorldClient) × (site_of w c ≡ Some site)
 site_there w c l h = numbered_there w.clients c.0 l h
 
 -- its association with a server
-association_there : (k : Config) (s c : ℕ) (site : ClientSite) (es : List Rattle.st_rules.specs.declared.world.LeaseLife.LeaseLife) (N : List Rattle.st_protocol.specs.Assoc.Msg) → Standing k s c site es N → (a : Association) × Has a site.node.state.associations × (a.server ≡ server s)
+association_there : (k : Config) (s c : ℕ) (site : WorldClient) (es : List Rattle.st_rules.specs.declared.world.LeaseLife.LeaseLife) (N : List Rattle.st_protocol.specs.Assoc.Msg) → Standing k s c site es N → (a : Association) × Has a site.node.state.associations × (a.server ≡ server s)
 association_there k s c site es N z = (z.association, subst (Has z.association) (sym p.is) (has_right p.before (z.association ∷ p.after) z.association (inl refl)), p.here)
   where
     p : Place (server s) site.node.state.associations z.association
@@ -88,14 +88,14 @@ module _ (k : Config) (count : ℕ) (past : List Step) (t : Traced) (h : Hold k 
   abbrev Wanted : Type 0
   Wanted = OpenAsk past (gifts k count t.world h.all (client z.message.header.from) s) (client z.message.header.from) s z.message.body
 
-  found : (site : ClientSite) × (site_of t.world (client z.message.header.from) ≡ Some site)
+  found : (site : WorldClient) × (site_of t.world (client z.message.header.from) ≡ Some site)
   found = site_there t.world (client z.message.header.from) bounds.0 (d.senders z.message z.among z.by.client)
 
   -- an ask that is open
   pub is_open : OpenAsk past (gifts k count t.world h.all (client z.message.header.from) s) (client z.message.header.from) s z.message.body
   is_open = at found.0 found.1
     where
-      at : (site : ClientSite) → site_of t.world (client z.message.header.from) ≡ Some site → Wanted
+      at : (site : WorldClient) → site_of t.world (client z.message.header.from) ≡ Some site → Wanted
       at site there = by site.node.running refl (same_or_not z.message.header.life y.0.life.0)
         where
           y : (a : Association) × Has a site.node.state.associations × (a.server ≡ server s.0)

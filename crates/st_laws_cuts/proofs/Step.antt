@@ -28,7 +28,7 @@ use Rattle.st_laws_leases.proofs.Dates.Known.{has_left}
 use Rattle.st_laws_requests.specs.Cuts.Cuts.{Between}
 use Rattle.st_laws_cuts.specs.Owners.{Owned, OwnedBy, view}
 use Rattle.st_laws_cuts.proofs.Counts.{one_if, pending, told, told_more}
-use Rattle.st_laws_cuts.proofs.Client.{w_finish, w_hear, w_lose, w_passes, w_take}
+use Rattle.st_laws_cuts.proofs.Client.{w_finish, w_receive, w_lose, w_passes, w_take}
 use Rattle.st_laws_cuts.proofs.Losing.{Silent, left, lose_tells}
 use Rattle.st_laws_cuts.proofs.Owning.{W}
 
@@ -265,7 +265,7 @@ module _ (c : ClientId) (K : ℕ → Type 0) (G : List Output) where
       if_held (cl.is_full t.state) _ _ (at_once t op answers.OpsFull g.0 g.1 k)
       (if_held (cl.is_configured t.state (server_of ask)) _ _ (takes op ask g.0 t g.1 k) (at_once t op answers.NoFile g.0 g.1 k))
   taken t now (inputs.Control m) g k =
-      if_held (m.header.to == t.state.id.0) _ _ (any (cr.receive_at now m.header m.body) (λ s B out0 u w. w_hear c K G s B out0 now m.header m.body u w) t k) k
+      if_held (m.header.to == t.state.id.0) _ _ (any (cr.receive_at now m.header m.body) (λ s B out0 u w. w_receive c K G s B out0 now m.header m.body u w) t k) k
   taken t now (inputs.Done number result) g k = any (cl.finish number result) (λ s B out0 u w. w_finish c K G s B out0 number result u w) t k
 
   -- behind the losses

@@ -26,7 +26,7 @@ use Rattle.st_laws_pages.proofs.Asks.World.{asks_more}
 use Rattle.st_laws_requests.specs.Cuts.Cuts.{asks_of}
 use Rattle.st_promises.specs.Counts.{under_numbers}
 use Rattle.st_promises.specs.CutAsks.{is_uncertain, settles, settles_in}
-use Rattle.st_laws_cuts.specs.Over.{MeansGrant, MeansOf, MeansTo}
+use Rattle.st_laws_cuts.specs.EndedRequests.{MeansGrant, MeansOf, MeansTo}
 
 pub clash : {A : Type 0} {b : Bool} → b ≡ true → b ≡ false → A
 clash x y = cc

@@ -28,7 +28,7 @@ use Rattle.st_rules.specs.History.{Traced, traced_after}
 use Rattle.st_rules.specs.Keys.{server_node}
 use Rattle.st_rules.specs.Safety.{Step, answers_in, is_event, step}
 use Rattle.st_rules.specs.Server.{ServerNode, is_client_node}
-use Rattle.st_rules.specs.World.{World, ClientSite, clock_of, numbered, site_of, with_numbered}
+use Rattle.st_rules.specs.World.{World, WorldClient, clock_of, numbered, site_of, with_numbered}
 use Rattle.st_protocol.specs.Assoc.{Config}
 use Rattle.st_lemmas.specs.Lists.{Has}
 use Rattle.st_lemmas.proofs.Numbers.{numbered_below, set_length}
@@ -50,7 +50,7 @@ use Rattle.st_laws_extents.proofs.CutRequests.Law.{Hold, followed, gifts_stay, o
 use Rattle.st_laws_extents.proofs.CutRequests.ServersGoOn.{event_goes}
 use Rattle.st_promises.specs.CutAsks.{is_uncertain, settles_in}
 use Rattle.st_laws_cuts.specs.Owners.{AllOwned, Owned, view}
-use Rattle.st_laws_cuts.specs.Over.{AllLater, AllOver, AllPast, AllSenders, AllUnsaid, IsLeft, IsPending, Over}
+use Rattle.st_laws_cuts.specs.EndedRequests.{AllLater, AllOver, AllPast, AllSenders, AllUnsaid, IsLeft, IsPending, Over}
 use Rattle.st_laws_cuts.proofs.Alive.{alive}
 use Rattle.st_laws_cuts.proofs.Counts.{pending, pending_has, pending_none, told, told_has, told_none, told_once}
 use Rattle.st_laws_cuts.proofs.Events.{IsEmptied, NextAsk, OldOrServers, event_does}
@@ -59,7 +59,7 @@ use Rattle.st_laws_cuts.proofs.Words.{any_last, asked_more, asks_longer, clash, 
 
 -- each ask of a client is pending once at most
 abbrev pub AllFew : World → Type 0
-AllFew w = (c : ClientId) (site : ClientSite) → site_of w c ≡ Some site → (k : ℕ) → pending k site.node.state.operations ≤ 1
+AllFew w = (c : ClientId) (site : WorldClient) → site_of w c ≡ Some site → (k : ℕ) → pending k site.node.state.operations ≤ 1
 
 -- What stands behind every event, beside what stands of the requests.
 pub record OwnersHold (past : List Step) (G : Gifts) (w : World) : Type 0 where
@@ -114,7 +114,7 @@ module _ (k : Config) (count : ℕ) (past : List Step) (t : Traced) (e : Event) 
       }
 
   -- an operation that was pending is left, where it is pending no more, and answered with `uncertain` alone
-  now_left : (c : ClientId) (site : ClientSite) → site_of t.world c ≡ Some site → (s : ServerId) (qs : List Operation) (m : Message) → (z : IsPending (gifts k count t.world h.all c s) s site.node.state.operations m) →
+  now_left : (c : ClientId) (site : WorldClient) → site_of t.world c ≡ Some site → (s : ServerId) (qs : List Operation) (m : Message) → (z : IsPending (gifts k count t.world h.all c s) s site.node.state.operations m) →
       ((o : Operation) → Has o qs → o.op ≡ z.operation.op → ⊥) → ((a : AppAnswer) → Has (seen.Answered c z.operation.op a) sc.seen → is_uncertain a ≡ true) →
       IsLeft (past ++ step t e sc ∷ []) (gifts k count sc.world (followed k count past t e sc ranges h taken).after c s) c s qs m
   now_left c site at s qs m z gone open_ =
@@ -128,10 +128,10 @@ module _ (k : Config) (count : ℕ) (past : List Step) (t : Traced) (e : Event) 
       }
 
   -- what stood of an old message
-  abbrev Stood : ClientId → ClientSite → Association → Message → Type 0
+  abbrev Stood : ClientId → WorldClient → Association → Message → Type 0
   Stood c site a m = Over past (gifts k count t.world h.all c a.server) t.world c a.server site.node.state.operations m ⊎ ((site.node.running ≡ true) × (m.header.life ≡ a.life.0) × IsPending (gifts k count t.world h.all c a.server) a.server site.node.state.operations m)
 
-  stood : (c : ClientId) (site : ClientSite) → site_of t.world c ≡ Some site → (a : Association) → Has a site.node.state.associations → (m : Message) → Has m (messages t.world) → Between c a.server m → 1 ≤ m.header.number → asks_cut_or_name m.body ≡ true → Stood c site a m
+  stood : (c : ClientId) (site : WorldClient) → site_of t.world c ≡ Some site → (a : Association) → Has a site.node.state.associations → (m : Message) → Has m (messages t.world) → Between c a.server m → 1 ≤ m.header.number → asks_cut_or_name m.body ≡ true → Stood c site a m
   stood c site at a i m among between pos own = go site.node.running refl (same_or_not m.header.life a.life.0)
     where
       up : m.header.life ≤ a.life.0
@@ -176,10 +176,10 @@ module _ (k : Config) (count : ℕ) (past : List Step) (t : Traced) (e : Event) 
         few = λ c site at n. d.few c site (was c site at) n;
       }
     where
-      was : (c : ClientId) (site : ClientSite) → site_of sc.world c ≡ Some site → site_of t.world c ≡ Some site
+      was : (c : ClientId) (site : WorldClient) → site_of sc.world c ≡ Some site → site_of t.world c ≡ Some site
       was c site at = ap (λ z. numbered z c.0) (sym cs) ∙ at
 
-      old : (c : ClientId) (site : ClientSite) → site_of t.world c ≡ Some site → (s : ServerId) (m : Message) → Between c s m → Has m (messages t.world) ⊎ ((y : ServerId) × (m.header.from ≡ server_node y)) → Has m (messages t.world)
+      old : (c : ClientId) (site : WorldClient) → site_of t.world c ≡ Some site → (s : ServerId) (m : Message) → Between c s m → Has m (messages t.world) ⊎ ((y : ServerId) × (m.header.from ≡ server_node y)) → Has m (messages t.world)
       old c site at s m b (inl i) = i
       old c site at s m b (inr z) = absurd (server_not_client c.0 z.0.0 (let y = (numbered_below t.world.clients c.0 site at).1 in let q = h.cuts.few in omega (arith, y, q)) (sym b.0 ∙ z.1))
 
@@ -188,7 +188,7 @@ module _ (k : Config) (count : ℕ) (past : List Step) (t : Traced) (e : Event) 
       sender m q (inr z) = absurd (not_server m q z.0 z.1)
 
   -- A client is emptied.
-  emptied : (c : ClientId) (old new : ClientSite) → site_of t.world c ≡ Some old → IsEmptied old new → sc.world.clients ≡ with_numbered c.0 new t.world.clients → messages sc.world ≡ messages t.world → NoAnswers sc.seen →
+  emptied : (c : ClientId) (old new : WorldClient) → site_of t.world c ≡ Some old → IsEmptied old new → sc.world.clients ≡ with_numbered c.0 new t.world.clients → messages sc.world ≡ messages t.world → NoAnswers sc.seen →
       OwnersHold (past ++ step t e sc ∷ []) (gifts k count sc.world (followed k count past t e sc ranges h taken).after) sc.world
   emptied c old new at z cs ms silent =
       record {
@@ -200,29 +200,29 @@ module _ (k : Config) (count : ℕ) (past : List Step) (t : Traced) (e : Event) 
         few = λ y site r n. few y site (cases y site r) n;
       }
     where
-      Case : ClientId → ClientSite → Type 0
+      Case : ClientId → WorldClient → Type 0
       Case y site = ((y.0 ≡ c.0) × (site ≡ new)) ⊎ ((y.0 ≢ c.0) × (site_of t.world y ≡ Some site))
 
-      cases : (y : ClientId) (site : ClientSite) → site_of sc.world y ≡ Some site → Case y site
+      cases : (y : ClientId) (site : WorldClient) → site_of sc.world y ≡ Some site → Case y site
       cases y site r = set_cases t.world.clients c.0 y.0 old new site at (ap (λ w. numbered w y.0) (sym cs) ∙ r)
 
       no_operation : {A : Type 0} (o : Operation) (os : List Operation) → os ≡ [] → Has o os → A
       no_operation o [] q i = absurd i
       no_operation o (p ∷ os) q i = cc q
 
-      owned : (y : ClientId) (site : ClientSite) → Case y site → (a : Association) → Has a site.node.state.associations → Owned a.server (view a.session) site.node.state.operations
+      owned : (y : ClientId) (site : WorldClient) → Case y site → (a : Association) → Has a site.node.state.associations → Owned a.server (view a.session) site.node.state.operations
       owned y site (inr q) a i = d.owned y site q.1 a i
-      owned y site (inl q) a i = let w = z.associations a (subst (λ (u : ClientSite). Has a u.node.state.associations) q.1 i) in subst (λ o. Owned a.server (view o) site.node.state.operations) (sym w.3) tt
+      owned y site (inl q) a i = let w = z.associations a (subst (λ (u : WorldClient). Has a u.node.state.associations) q.1 i) in subst (λ o. Owned a.server (view o) site.node.state.operations) (sym w.3) tt
 
-      unsaid : (y : ClientId) (site : ClientSite) → Case y site → (o : Operation) → Has o site.node.state.operations → list_any (answers_in y o.op) (past ++ step t e sc ∷ []) ≡ false
+      unsaid : (y : ClientId) (site : WorldClient) → Case y site → (o : Operation) → Has o site.node.state.operations → list_any (answers_in y o.op) (past ++ step t e sc ∷ []) ≡ false
       unsaid y site (inr q) o i = unsaid_on silent y o.op (d.unsaid y site q.1 o i)
-      unsaid y site (inl q) o i = no_operation o site.node.state.operations (ap (λ (u : ClientSite). u.node.state.operations) q.1 ∙ z.operations) i
+      unsaid y site (inl q) o i = no_operation o site.node.state.operations (ap (λ (u : WorldClient). u.node.state.operations) q.1 ∙ z.operations) i
 
-      few : (y : ClientId) (site : ClientSite) → Case y site → (n : ℕ) → pending n site.node.state.operations ≤ 1
+      few : (y : ClientId) (site : WorldClient) → Case y site → (n : ℕ) → pending n site.node.state.operations ≤ 1
       few y site (inr q) n = d.few y site q.1 n
-      few y site (inl q) n = let w = ap (pending n) (ap (λ (u : ClientSite). u.node.state.operations) q.1 ∙ z.operations) in omega (arith, w)
+      few y site (inl q) n = let w = ap (pending n) (ap (λ (u : WorldClient). u.node.state.operations) q.1 ∙ z.operations) in omega (arith, w)
 
-      over : (y : ClientId) (site : ClientSite) → Case y site → (a : Association) → Has a site.node.state.associations → (m : Message) → Has m (messages t.world) → Between y a.server m → 1 ≤ m.header.number → asks_cut_or_name m.body ≡ true →
+      over : (y : ClientId) (site : WorldClient) → Case y site → (a : Association) → Has a site.node.state.associations → (m : Message) → Has m (messages t.world) → Between y a.server m → 1 ≤ m.header.number → asks_cut_or_name m.body ≡ true →
           (m.header.life < a.life.0) ⊎ (site.node.running ≡ false) → Over (past ++ step t e sc ∷ []) (gifts k count sc.world (followed k count past t e sc ranges h taken).after y a.server) sc.world y a.server site.node.state.operations m
       over y site (inr q) a i m among between pos own life = over_on silent y a.server site.node.state.operations m (d.over y site q.1 a i m among between pos own life)
       over y site (inl q) a i m among between pos own life = subst (λ (v : ServerId). Over (past ++ step t e sc ∷ []) (gifts k count sc.world (followed k count past t e sc ranges h taken).after y v) sc.world y v site.node.state.operations m) (sym b.2) (by (stood y old there b.0 b.1 m among (subst (λ (v : ServerId). Between y v m) b.2 between) pos own))
@@ -231,10 +231,10 @@ module _ (k : Config) (count : ℕ) (past : List Step) (t : Traced) (e : Event) 
           there = ap (λ n. numbered t.world.clients n) q.0 ∙ at
 
           b : (v : Association) × Has v old.node.state.associations × (a.server ≡ v.server) × (a.session ≡ None)
-          b = z.associations a (subst (λ (u : ClientSite). Has a u.node.state.associations) q.1 i)
+          b = z.associations a (subst (λ (u : WorldClient). Has a u.node.state.associations) q.1 i)
 
           none_here : (o : Operation) → Has o site.node.state.operations → {A : Type 0} → A
-          none_here o j = no_operation o site.node.state.operations (ap (λ (u : ClientSite). u.node.state.operations) q.1 ∙ z.operations) j
+          none_here o j = no_operation o site.node.state.operations (ap (λ (u : WorldClient). u.node.state.operations) q.1 ∙ z.operations) j
 
           by : Stood y old b.0 m → Over (past ++ step t e sc ∷ []) (gifts k count sc.world (followed k count past t e sc ranges h taken).after y b.0.server) sc.world y b.0.server site.node.state.operations m
           by (inl (inl p)) = inl (past_on y b.0.server m p)
@@ -242,7 +242,7 @@ module _ (k : Config) (count : ℕ) (past : List Step) (t : Traced) (e : Event) 
           by (inr w) = inr (now_left y old there b.0.server site.node.state.operations m w.2 (λ o j. none_here o j) (λ a v. absurd (none silent y w.2.operation.op a v)))
 
   -- A client takes a step.
-  module _ (v : World) (same_clients : v.clients ≡ t.world.clients) (c : ClientId) (i : ClientInput) (site old : ClientSite) (same : site.node ≡ old.node) (asks_next : NextAsk t.world i old site) (run : site.node.running ≡ true) (at : site_of t.world c ≡ Some old)
+  module _ (v : World) (same_clients : v.clients ≡ t.world.clients) (c : ClientId) (i : ClientInput) (site old : WorldClient) (same : site.node ≡ old.node) (asks_next : NextAsk t.world i old site) (run : site.node.running ≡ true) (at : site_of t.world c ≡ Some old)
       (l : Leaves (messages t.world) (ev.with_site c (SiteAfter v c i site) v) sc.world (ClientTook v c i site).out) (ans : AnswersOf c (ClientTook v c i site).out [] sc.seen) where
     abbrev u : ClientTurn
     u = ClientTook v c i site
@@ -312,13 +312,13 @@ module _ (k : Config) (count : ℕ) (past : List Step) (t : Traced) (e : Event) 
             high w = let y = was_below op w in let z = g.0 in omega (arith, y, z)
 
     -- the client behind the step
-    abbrev left_site : ClientSite
+    abbrev left_site : WorldClient
     left_site = SiteAfter v c i site
 
     clients : sc.world.clients ≡ with_numbered c.0 (SiteAfter v c i site) t.world.clients
     clients = l.clients ∙ ap (λ w. with_numbered c.0 (SiteAfter v c i site) w) same_clients
 
-    cases : (y : ClientId) (s : ClientSite) → site_of sc.world y ≡ Some s → ((y.0 ≡ c.0) × (s ≡ SiteAfter v c i site)) ⊎ ((y.0 ≢ c.0) × (site_of t.world y ≡ Some s))
+    cases : (y : ClientId) (s : WorldClient) → site_of sc.world y ≡ Some s → ((y.0 ≡ c.0) × (s ≡ SiteAfter v c i site)) ⊎ ((y.0 ≢ c.0) × (site_of t.world y ≡ Some s))
     cases y s r = set_cases t.world.clients c.0 y.0 old (SiteAfter v c i site) s at (ap (λ w. numbered w y.0) (sym clients) ∙ r)
 
     -- who is answered, and what
@@ -349,8 +349,8 @@ module _ (k : Config) (count : ℕ) (past : List Step) (t : Traced) (e : Event) 
         no : 1 ≤ told o.op u.out → ⊥
         no w = let z = pending_has u.state.operations o j in let y = ends.few o.op in omega (arith, w, z, y)
 
-    unsaid_of : (y : ClientId) (s : ClientSite) → ((y.0 ≡ c.0) × (s ≡ SiteAfter v c i site)) ⊎ ((y.0 ≢ c.0) × (site_of t.world y ≡ Some s)) → (o : Operation) → Has o s.node.state.operations → list_any (answers_in y o.op) (past ++ step t e sc ∷ []) ≡ false
-    unsaid_of y s (inl q) o j = subst (λ n. list_any (answers_in (record { 0 = n }) o.op) (past ++ step t e sc ∷ []) ≡ false) (sym q.0) (unsaid_own o (subst (λ (w : ClientSite). Has o w.node.state.operations) q.1 j))
+    unsaid_of : (y : ClientId) (s : WorldClient) → ((y.0 ≡ c.0) × (s ≡ SiteAfter v c i site)) ⊎ ((y.0 ≢ c.0) × (site_of t.world y ≡ Some s)) → (o : Operation) → Has o s.node.state.operations → list_any (answers_in y o.op) (past ++ step t e sc ∷ []) ≡ false
+    unsaid_of y s (inl q) o j = subst (λ n. list_any (answers_in (record { 0 = n }) o.op) (past ++ step t e sc ∷ []) ≡ false) (sym q.0) (unsaid_own o (subst (λ (w : WorldClient). Has o w.node.state.operations) q.1 j))
     unsaid_of y s (inr q) o j = any_last (answers_in y o.op) past x (d.unsaid y s q.1 o j) (unanswered y o.op sc.seen (λ a w. not_others y q.0 o.op a w))
 
     later_took : AllLater (past ++ step t e sc ∷ [])
@@ -369,12 +369,12 @@ module _ (k : Config) (count : ℕ) (past : List Step) (t : Traced) (e : Event) 
             by (inl z) = let q = was_below op z in let r = longer in omega (arith, q, r, b2)
             by (inr z) = let q = z.1 in omega (arith, q, b2)
 
-    owned_of : (y : ClientId) (s : ClientSite) → ((y.0 ≡ c.0) × (s ≡ SiteAfter v c i site)) ⊎ ((y.0 ≢ c.0) × (site_of t.world y ≡ Some s)) → (a : Association) → Has a s.node.state.associations → Owned a.server (view a.session) s.node.state.operations
-    owned_of y s (inl q) a j = subst (λ (w : ClientSite). Owned a.server (view a.session) w.node.state.operations) (sym q.1) (ends.done a (subst (λ (w : ClientSite). Has a w.node.state.associations) q.1 j)).owned
+    owned_of : (y : ClientId) (s : WorldClient) → ((y.0 ≡ c.0) × (s ≡ SiteAfter v c i site)) ⊎ ((y.0 ≢ c.0) × (site_of t.world y ≡ Some s)) → (a : Association) → Has a s.node.state.associations → Owned a.server (view a.session) s.node.state.operations
+    owned_of y s (inl q) a j = subst (λ (w : WorldClient). Owned a.server (view a.session) w.node.state.operations) (sym q.1) (ends.done a (subst (λ (w : WorldClient). Has a w.node.state.associations) q.1 j)).owned
     owned_of y s (inr q) a j = d.owned y s q.1 a j
 
-    few_of : (y : ClientId) (s : ClientSite) → ((y.0 ≡ c.0) × (s ≡ SiteAfter v c i site)) ⊎ ((y.0 ≢ c.0) × (site_of t.world y ≡ Some s)) → (n : ℕ) → pending n s.node.state.operations ≤ 1
-    few_of y s (inl q) n = let z = ends.few n in let w = ap (λ (r : ClientSite). pending n r.node.state.operations) q.1 in omega (arith, z, w)
+    few_of : (y : ClientId) (s : WorldClient) → ((y.0 ≡ c.0) × (s ≡ SiteAfter v c i site)) ⊎ ((y.0 ≢ c.0) × (site_of t.world y ≡ Some s)) → (n : ℕ) → pending n s.node.state.operations ≤ 1
+    few_of y s (inl q) n = let z = ends.few n in let w = ap (λ (r : WorldClient). pending n r.node.state.operations) q.1 in omega (arith, z, w)
     few_of y s (inr q) n = d.few y s q.1 n
 
     -- messages: those that were there, and those of this client
@@ -455,16 +455,16 @@ module _ (k : Config) (count : ℕ) (past : List Step) (t : Traced) (e : Event) 
             open_ : (a : AppAnswer) → Has (seen.Answered c w.2.operation.op a) sc.seen → is_uncertain a ≡ true
             open_ a z = ap is_uncertain (told_once u.out w.2.operation.op a (answers.Uncertain said.0 0) (let g = ends.few w.2.operation.op in omega (arith, g)) (answered c w.2.operation.op a z).1 said.1)
 
-    over_of : (y : ClientId) (s : ClientSite) → ((y.0 ≡ c.0) × (s ≡ SiteAfter v c i site)) ⊎ ((y.0 ≢ c.0) × (site_of t.world y ≡ Some s)) → (a : Association) → Has a s.node.state.associations → (m : Message) → Has m (messages sc.world) → Between y a.server m → 1 ≤ m.header.number →
+    over_of : (y : ClientId) (s : WorldClient) → ((y.0 ≡ c.0) × (s ≡ SiteAfter v c i site)) ⊎ ((y.0 ≢ c.0) × (site_of t.world y ≡ Some s)) → (a : Association) → Has a s.node.state.associations → (m : Message) → Has m (messages sc.world) → Between y a.server m → 1 ≤ m.header.number →
         asks_cut_or_name m.body ≡ true → (m.header.life < a.life.0) ⊎ (s.node.running ≡ false) → Over (past ++ step t e sc ∷ []) (gifts k count sc.world (followed k count past t e sc ranges h taken).after y a.server) sc.world y a.server s.node.state.operations m
     over_of y s (inl q) a j m among between pos own life =
         subst (λ n. Over (past ++ step t e sc ∷ []) (gifts k count sc.world (followed k count past t e sc ranges h taken).after (record { 0 = n }) a.server) sc.world (record { 0 = n }) a.server s.node.state.operations m) (sym q.0)
-        (subst (λ (w : ClientSite). Over (past ++ step t e sc ∷ []) (gifts k count sc.world (followed k count past t e sc ranges h taken).after c a.server) sc.world c a.server w.node.state.operations m) (sym q.1)
-        (over_own a (subst (λ (w : ClientSite). Has a w.node.state.associations) q.1 j) m (mine m among) (subst (λ n. Between (record { 0 = n }) a.server m) q.0 between) pos own (by life)))
+        (subst (λ (w : WorldClient). Over (past ++ step t e sc ∷ []) (gifts k count sc.world (followed k count past t e sc ranges h taken).after c a.server) sc.world c a.server w.node.state.operations m) (sym q.1)
+        (over_own a (subst (λ (w : WorldClient). Has a w.node.state.associations) q.1 j) m (mine m among) (subst (λ n. Between (record { 0 = n }) a.server m) q.0 between) pos own (by life)))
       where
         by : (m.header.life < a.life.0) ⊎ (s.node.running ≡ false) → m.header.life < a.life.0
         by (inl w) = w
-        by (inr w) = clash run (subst (λ (z : ClientSite). z.node.running ≡ false) q.1 w)
+        by (inr w) = clash run (subst (λ (z : WorldClient). z.node.running ≡ false) q.1 w)
     over_of y s (inr q) a j m among between pos own life = go (mine m among)
       where
         none : (op : ℕ) (a : AppAnswer) → Has (seen.Answered y op a) sc.seen → ⊥

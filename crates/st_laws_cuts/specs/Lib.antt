@@ -1,4 +1,4 @@
 pub mod Owners
-pub mod Over
-pub mod Acknowledged
-pub mod Served
+pub mod EndedRequests
+pub mod Acknowledgements
+pub mod ServedRequests

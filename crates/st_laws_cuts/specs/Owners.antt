@@ -13,7 +13,7 @@ use Rattle.st_rules.specs.declared.client.Operation.{Operation}
 use Rattle.st_rules.specs.declared.client.Request.{Request}
 use Rattle.st_rules.specs.ClientPasses.{name_op}
 use Rattle.st_rules.specs.ClientState.{Association, ClientSession, asks_cut_or_name, is_asked}
-use Rattle.st_rules.specs.World.{ClientSite, World, site_of}
+use Rattle.st_rules.specs.World.{WorldClient, World, site_of}
 use Rattle.st_base.specs.declared.ids.ClientId.{ClientId}
 use Rattle.st_lemmas.specs.Lists.{Has}
 use Rattle.st_laws_requests.specs.Cuts.Cuts.{MeansNone}
@@ -61,5 +61,5 @@ Owned s (Some v) os = OwnedBy s v.1 os v.0
 -- in every session of every client of a world
 abbrev pub AllOwned : World → Type 0
 AllOwned w =
-    (c : ClientId) (site : ClientSite) → site_of w c ≡ Some site → (a : Association) → Has a site.node.state.associations →
+    (c : ClientId) (site : WorldClient) → site_of w c ≡ Some site → (a : Association) → Has a site.node.state.associations →
     Owned a.server (view a.session) site.node.state.operations

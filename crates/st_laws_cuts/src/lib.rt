@@ -1,7 +1,7 @@
 //! Cuts and names in every run: each line of a cut, and each change of the names of a server, has the ask of an application behind it.
 #![tactic(auto)]
 
-ghost use Rattle.st_laws_cuts.specs.Acknowledged.{WrongCutsAreRefused};
+ghost use Rattle.st_laws_cuts.specs.Acknowledgements.{WrongCutsAreRefused};
 ghost use Rattle.st_promises.specs.Acknowledgements.{CutsAreAcknowledged};
 ghost use Rattle.st_promises.specs.CutAsks.{CutsAreAsked};
 ghost use Rattle.st_promises.specs.NameChanges.{NamesChangeAsAsked};

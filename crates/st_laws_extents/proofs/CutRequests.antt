@@ -2,7 +2,7 @@ pub mod Asked
 pub mod Cutting
 pub mod EndedLives
 pub mod Fresh
-pub mod Hearing
+pub mod Receiving
 pub mod Law
 pub mod Named
 pub mod New

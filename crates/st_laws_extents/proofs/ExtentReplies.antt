@@ -1,5 +1,5 @@
 pub mod Events
-pub mod Heard
+pub mod Received
 pub mod Held
 pub mod Law
 pub mod Rule

@@ -1,5 +1,5 @@
 pub mod Current
-pub mod Hearing
+pub mod Receiving
 pub mod Held
 pub mod Knowing
 pub mod Law

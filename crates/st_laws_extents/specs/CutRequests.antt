@@ -1,7 +1,7 @@
 pub mod Asks
 pub mod Cut
 pub mod EndedLives
-pub mod Fresh
+pub mod FreshRequests
 pub mod Law
-pub mod Named
+pub mod NamedGrants
 pub mod World

@@ -2,4 +2,4 @@ pub mod Events
 pub mod Law
 pub mod Maps
 pub mod Steps
-pub mod Told
+pub mod ToldExtents

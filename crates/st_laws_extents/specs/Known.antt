@@ -1,5 +1,5 @@
 pub mod Current
 pub mod Known
 pub mod Law
-pub mod Lies
-pub mod Told
+pub mod WritePlaces
+pub mod ToldExtents

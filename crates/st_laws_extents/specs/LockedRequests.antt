@@ -1,3 +1,3 @@
 pub mod Keys
 pub mod RequestsGoOn
-pub mod Seen
+pub mod AllSessions

@@ -1,4 +1,4 @@
-pub mod Left
-pub mod Lies
+pub mod Obligations
+pub mod WritePlaces
 pub mod Rest
 pub mod Submits

@@ -3,18 +3,18 @@
 
 ghost use Rattle.st_promises.specs.Held.{DisksHoldWhatIsHard};
 ghost use Rattle.st_laws_extents.specs.CutRequests.EndedLives.{GoesBetween};
-ghost use Rattle.st_laws_extents.specs.CutRequests.Fresh.{FreshAreOutstanding};
+ghost use Rattle.st_laws_extents.specs.CutRequests.FreshRequests.{FreshAreOutstanding};
 ghost use Rattle.st_laws_extents.specs.CutRequests.Law.{CutsAreAsked};
-ghost use Rattle.st_laws_extents.specs.CutRequests.Named.{NumbersNameFiles};
+ghost use Rattle.st_laws_extents.specs.CutRequests.NamedGrants.{NumbersNameFiles};
 ghost use Rattle.st_laws_extents.specs.ExtentReplies.Law.{AskedAfter, InRunsAsked, IsAsked};
 ghost use Rattle.st_laws_extents.specs.ExtentReplies.Maps.{MapsAt};
 ghost use Rattle.st_laws_extents.specs.ExtentReplies.Steps.{StepsTell};
 ghost use Rattle.st_laws_extents.specs.Known.Current.{OldGrantsStayGone};
 ghost use Rattle.st_laws_extents.specs.Known.Law.{InRunsTold, IsTold, KnownAfter, SubmitsAt};
-ghost use Rattle.st_laws_extents.specs.Known.Told.{RepliesTellExtents};
+ghost use Rattle.st_laws_extents.specs.Known.ToldExtents.{RepliesTellExtents};
 ghost use Rattle.st_laws_leases.specs.Sides.Law.{InEveryRun};
 ghost use Rattle.st_laws_pages.specs.Disks.Runs.{PagesAfter};
-ghost use Rattle.st_laws_requests.specs.Replies.Reached.{ReassertionsNew, RepliesAfter};
+ghost use Rattle.st_laws_requests.specs.Replies.ServedRequests.{ReassertionsNew, RepliesAfter};
 ghost use Rattle.st_rules.specs.Safety.{ReadsReturnLastWrites};
 
 /// In every run each reassertion that comes to a server in its grace finds no ended session of its life.
@@ -52,7 +52,7 @@ pub fn events_go_on()
     ensures { InEveryRun GoesBetween }
 {}
 
-/// In every run in which replies that are heard tell extents as their servers have them: what a client that runs knows of where the pages of
+/// In every run in which replies that are received tell extents as their servers have them: what a client that runs knows of where the pages of
 /// a server's files lie, under a lease that is not over, is as that server has it; and each write that a step submits goes to there.
 pub fn known_extents()
     ensures known { InRunsTold KnownAfter }
@@ -83,7 +83,7 @@ pub fn replies_tell_present_extents()
     ensures { InRunsAsked AskedAfter }
 {}
 
-/// In every such run each reply of extents that a client hears, to its outstanding request, under the lock under which it asked, tells the
+/// In every such run each reply of extents that a client receives, to its outstanding request, under the lock under which it asked, tells the
 /// extents that the server has; what clients know of where pages lie is so; and each write that is submitted goes to there.
 pub fn known_extents_are_told()
     ensures told { InRunsAsked IsTold }
@@ -91,7 +91,7 @@ pub fn known_extents_are_told()
     ensures submits { InRunsAsked SubmitsAt }
 {}
 
-/// In every such run a map's reply that a client hears, under the lock under which it asked, and that tells of no block, is right: the server
+/// In every such run a map's reply that a client receives, under the lock under which it asked, and that tells of no block, is right: the server
 /// has none for the page.
 pub fn unmapped_pages_are_told()
     ensures { InRunsAsked MapsAt }
@@ -109,7 +109,7 @@ pub fn replies_tell_extents_in_every_run()
     ensures { InEveryRun AskedAfter }
 {}
 
-/// In every run each reply of extents that a client hears, to its outstanding request, under the lock under which it asked, tells the
+/// In every run each reply of extents that a client receives, to its outstanding request, under the lock under which it asked, tells the
 /// extents that the server has; what clients know of where pages lie is so; each write that is submitted goes to there; and a map's reply
 /// that tells of no block is right.
 pub fn extents_are_known_in_every_run()

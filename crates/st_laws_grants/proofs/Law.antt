@@ -20,13 +20,13 @@ use Rattle.st_rules.specs.Keys.{server_node}
 use Rattle.st_rules.specs.Safety.{IsHead, Step, is_event, step}
 use Rattle.st_rules.specs.Server as server
 use Rattle.st_rules.specs.Server.{ServerNode}
-use Rattle.st_rules.specs.World.{World, ClientSite, all_servers, fresh_site, fresh_world, node_at_start, node_of}
+use Rattle.st_rules.specs.World.{World, WorldClient, all_servers, fresh_site, fresh_world, node_at_start, node_of}
 use Rattle.st_protocol.specs.Assoc.{Config}
 use Rattle.st_lemmas.specs.Lists.{Has}
 use Rattle.st_lemmas.proofs.Lookups.{or_left, or_right, some_is}
 use Rattle.st_lemmas.proofs.Tables.{all_pass, and_both, has_map, some_passes}
 use Rattle.st_laws_pages.proofs.Lives.Fresh.{fresh_is}
-use Rattle.st_laws_refine.specs.Client.Shown.{Kept}
+use Rattle.st_laws_refine.specs.Client.Invariants.{Kept}
 use Rattle.st_laws_refine.specs.Server.Pair.{terms_of}
 use Rattle.st_laws_refine.specs.Views.Halves.{held_in}
 use Rattle.st_laws_leases.specs.Dates.Dates.{message_in, messages}
@@ -172,13 +172,13 @@ begins k clients servers disks blocks form head = record { base = first k client
             net = [];
             tells = λ m h. absurd h;
             shows = λ m h from to. absurd h;
-            hears = λ m h to of from. absurd h;
+            receives = λ m h to of from. absurd h;
             side = λ site e a i here. empty c a (session site (fresh_is (fresh_site k servers) clients c site e) a i);
           };
         }
       where
-        session : {c : ℕ} (site : ClientSite) → site ≡ fresh_site k servers c → (a : Association) → Has a site.node.state.associations → a.session ≡ None
-        session {c} site e a i = let z = has_map cl.fresh_association (numbers 1 servers) a (subst (λ (y : ClientSite). Has a y.node.state.associations) e i) in ap (λ (y : Association). y.session) z.2
+        session : {c : ℕ} (site : WorldClient) → site ≡ fresh_site k servers c → (a : Association) → Has a site.node.state.associations → a.session ≡ None
+        session {c} site e a i = let z = has_map cl.fresh_association (numbers 1 servers) a (subst (λ (y : WorldClient). Has a y.node.state.associations) e i) in ap (λ (y : Association). y.session) z.2
 
     gives : AllGiveOnce w
     gives s node e = subst (GivesOnce w s) (sym (fresh_is (node_at_start k servers disks blocks) servers s.0 node e)) (fresh s)

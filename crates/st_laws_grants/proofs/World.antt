@@ -28,31 +28,31 @@ use Rattle.st_rules.specs.Keys.{client, server_node}
 use Rattle.st_rules.specs.Locks as locks
 use Rattle.st_rules.specs.Server as sv
 use Rattle.st_rules.specs.Server.{ServerNode, ServerState, is_client_node, next_epoch, turn}
-use Rattle.st_rules.specs.World.{World, ClientSite, clock_of, node_of, numbered, server, site_of, with_numbered}
+use Rattle.st_rules.specs.World.{World, WorldClient, clock_of, node_of, numbered, server, site_of, with_numbered}
 use Rattle.st_protocol.specs.Assoc as net
 use Rattle.st_protocol.specs.Assoc.{Config, Msg, In}
 use Rattle.st_lemmas.specs.Lists.{Has}
 use Rattle.st_lemmas.proofs.Numbers.{numbered_below}
 use Rattle.st_lemmas.proofs.Tables.{and_true, has_map, same_or_not}
 use Rattle.st_laws_leases.specs.Dates.Dates.{message_in, messages}
-use Rattle.st_laws_leases.specs.Sides.Stands.{Standing}
+use Rattle.st_laws_leases.specs.Sides.Invariants.{Standing}
 use Rattle.st_laws_leases.specs.Sides.World.{AllStand, ServerStands}
 use Rattle.st_laws_leases.proofs.Dates.Known.{has_right}
 use Rattle.st_laws_leases.proofs.Dates.Leaving.{Leaves, leaves_from, server_not_client, set_cases}
 use Rattle.st_laws_leases.proofs.Sides.Clients.{fine_from}
 use Rattle.st_laws_leases.proofs.Sides.Pairs.{only_here}
 use Rattle.st_laws_refine.specs.Client.Law.{Comes}
-use Rattle.st_laws_refine.specs.Client.Shown.{Beside, Kept, Said}
+use Rattle.st_laws_refine.specs.Client.Invariants.{Beside, Kept, Said}
 use Rattle.st_laws_refine.specs.Client.World.{OwnMoves, Sim}
 use Rattle.st_laws_refine.specs.Server.View.{StandsAt}
 use Rattle.st_laws_refine.specs.Views.Halves.{client_of, held_in}
-use Rattle.st_laws_refine.specs.Views.Messages.{Fine, Heard, Shown, lock_in, lock_in_row}
+use Rattle.st_laws_refine.specs.Views.Messages.{Fine, Received, Shown, lock_in, lock_in_row}
 use Rattle.st_laws_refine.proofs.Client.Goes.{kept_any}
 use Rattle.st_laws_refine.proofs.Client.Sim.{own_moves}
 use Rattle.st_laws_refine.proofs.Server.Counts.{few_grants}
 use Rattle.st_laws_refine.proofs.Server.OneRow.{alone}
-use Rattle.st_laws_refine.proofs.Views.Moves.{Grows as MoreSent, heard_more, moves_grow, shown_more}
-use Rattle.st_laws_requests.specs.Replies.Reached.{NewOwed}
+use Rattle.st_laws_refine.proofs.Views.Moves.{Grows as MoreSent, received_more, moves_grow, shown_more}
+use Rattle.st_laws_requests.specs.Replies.ServedRequests.{NewOwed}
 use Rattle.st_laws_requests.proofs.Cuts.Seen.{server_sends}
 use Rattle.st_laws_requests.proofs.Replies.EachEvent as each
 use Rattle.st_laws_requests.proofs.Replies.EachEvent.{ClientTook, NodeAfter, ServerLeft, ServerTook, SiteAfter}
@@ -62,10 +62,10 @@ use Rattle.st_laws_grants.proofs.Locking.{IsDue, top}
 use Rattle.st_laws_grants.proofs.Nets.{add, add_grows, add_shows, add_tells, granted_owned}
 use Rattle.st_laws_grants.proofs.Server.{Gives, IsTold, RowsOwned, served}
 
--- a client's message is its own, and its server can hear it
-said_out : (id : ℕ) (own : ServerId) (os : List Output) (N : List Msg) (m : Message) → Said id own os N → Has (outputs.Send m) os → (m.header.from ≡ id) × (m.header.to ≡ server_node own → Heard m.header m.body N)
+-- a client's message is its own, and its server can receive it
+said_out : (id : ℕ) (own : ServerId) (os : List Output) (N : List Msg) (m : Message) → Said id own os N → Has (outputs.Send m) os → (m.header.from ≡ id) × (m.header.to ≡ server_node own → Received m.header m.body N)
 said_out id own [] N m q h = absurd h
-said_out id own (outputs.Send n ∷ os) N m q (inl e) = subst (λ (x : Message). (x.header.from ≡ id) × (x.header.to ≡ server_node own → Heard x.header x.body N)) (sym same) (q.from, q.one)
+said_out id own (outputs.Send n ∷ os) N m q (inl e) = subst (λ (x : Message). (x.header.from ≡ id) × (x.header.to ≡ server_node own → Received x.header x.body N)) (sym same) (q.from, q.one)
   where
     same : m ≡ n
     same = cc
@@ -78,11 +78,11 @@ said_out id own (outputs.Note n ∷ os) N m q (inl e) = cc e
 said_out id own (outputs.Note n ∷ os) N m q (inr h) = said_out id own os N m q h
 
 -- what is reasserted is the client's
-reasserted_owned : (o : Owner) (m : Message) (N : List Msg) (rows : List (ℕ × GrantNo × Mode)) → m.body ≡ bd.Reassert rows → Heard m.header m.body N → AllTell (Owned o m.header.from) N → RowsOwned o m.header.from rows
+reasserted_owned : (o : Owner) (m : Message) (N : List Msg) (rows : List (ℕ × GrantNo × Mode)) → m.body ≡ bd.Reassert rows → Received m.header m.body N → AllTell (Owned o m.header.from) N → RowsOwned o m.header.from rows
 reasserted_owned o m N rows e h k r i = subst (λ (l : net.Lock). o l.g ≡ Some (m.header.from, r.0)) is (told (subst (λ (l : net.Lock). 1 ≤ l.mode) (sym is) (here.wishes.some r i)))
   where
-    here : Heard m.header (bd.Reassert rows) N
-    here = subst (λ b. Heard m.header b N) e h
+    here : Received m.header (bd.Reassert rows) N
+    here = subst (λ b. Received m.header b N) e h
 
     is : lock_in rows r.0 ≡ lock_in_row (Some r)
     is = ap lock_in_row (alone rows here.wishes.once r i)
@@ -101,7 +101,7 @@ pair_grow o p f c s w q =
       net = q.net;
       tells = λ m h. tells m.body (q.tells m h);
       shows = q.shows;
-      hears = q.hears;
+      receives = q.receives;
       side = λ site e a i here. let z = q.side site e a i here in record { kept = z.kept; held = λ n l. f _ _ (z.held n l) };
     }
   where
@@ -122,13 +122,13 @@ abbrev pub Foreign : ℕ → ServerId → Message → Type 0
 Foreign c s m = (m.header.from ≡ server_node s → ⊥) × (is_client_node m.header.from ≡ true → m.header.from ≡ c → ⊥)
 
 -- a pair whose client stands as before, and who sent nothing to one another
-pair_on : (o : Owner) (c : ℕ) (s : ServerId) (w v : World) → ((m : Message) → Has m (messages v) → Has m (messages w) ⊎ Foreign c s m) → ((site : ClientSite) → site_of v (client c) ≡ Some site → site_of w (client c) ≡ Some site) → Pair o c s w → Pair o c s v
+pair_on : (o : Owner) (c : ℕ) (s : ServerId) (w v : World) → ((m : Message) → Has m (messages v) → Has m (messages w) ⊎ Foreign c s m) → ((site : WorldClient) → site_of v (client c) ≡ Some site → site_of w (client c) ≡ Some site) → Pair o c s w → Pair o c s v
 pair_on o c s w v f at q =
     record {
       net = q.net;
       tells = q.tells;
       shows = λ m h from to. shows m (f m h) from to;
-      hears = λ m h to of from. hears m (f m h) to of from;
+      receives = λ m h to of from. receives m (f m h) to of from;
       side = λ site e. q.side site (at site e);
     }
   where
@@ -136,9 +136,9 @@ pair_on o c s w v f at q =
     shows m (inl h) from to = q.shows m h from to
     shows m (inr n) from to = absurd (n.0 from)
 
-    hears : (m : Message) → Has m (messages w) ⊎ Foreign c s m → m.header.to ≡ server_node s → is_client_node m.header.from ≡ true → m.header.from ≡ c → Heard m.header m.body q.net
-    hears m (inl h) to of from = q.hears m h to of from
-    hears m (inr n) to of from = absurd (n.1 of from)
+    receives : (m : Message) → Has m (messages w) ⊎ Foreign c s m → m.header.to ≡ server_node s → is_client_node m.header.from ≡ true → m.header.from ≡ c → Received m.header m.body q.net
+    receives m (inl h) to of from = q.receives m h to of from
+    receives m (inr n) to of from = absurd (n.1 of from)
 
 below_that : (a b c : ℕ) → a ≤ b → b < c → a < c
 below_that a b c x y = omega (arith, x, y)
@@ -166,7 +166,7 @@ module _ (k : Config) (count : ℕ) (w : World) (all : AllStand k count w) (g : 
         record { owner = z.owner; state = z.state; pairs = λ c. pair_on z.owner c s w v (old_message c s) (λ site f. ap (λ x. numbered x c) (sym cs) ∙ f) (z.pairs c); told = λ n y e. sent_more s (messages w) (messages v) n (λ m h. subst (Has m) (sym ms) h) (z.told n y e) }
 
   -- A client that is emptied.
-  emptied : (v : World) (c : ClientId) (old new : ClientSite) → site_of w c ≡ Some old → v.clients ≡ with_numbered c.0 new w.clients → v.servers ≡ w.servers → messages v ≡ messages w →
+  emptied : (v : World) (c : ClientId) (old new : WorldClient) → site_of w c ≡ Some old → v.clients ≡ with_numbered c.0 new w.clients → v.servers ≡ w.servers → messages v ≡ messages w →
       ((a : Association) → Has a new.node.state.associations → a.session ≡ None) → AllGiveOnce v
   emptied v c old new at cs ss ms none s node e =
       let z = g s node (ap (λ x. numbered x s.0) (sym ss) ∙ e) in
@@ -178,7 +178,7 @@ module _ (k : Config) (count : ℕ) (w : World) (all : AllStand k count w) (g : 
             net = q.net;
             tells = q.tells;
             shows = λ m h from to. q.shows m (subst (Has m) ms h) from to;
-            hears = λ m h to of from. q.hears m (subst (Has m) ms h) to of from;
+            receives = λ m h to of from. q.receives m (subst (Has m) ms h) to of from;
             side = λ site f. by site (set_cases w.clients c.0 d old new site at (ap (λ x. numbered x d) (sym cs) ∙ f));
           }
         where
@@ -189,20 +189,20 @@ module _ (k : Config) (count : ℕ) (w : World) (all : AllStand k count w) (g : 
                 held = λ i l. absurd (let y = ap (λ x. (held_in x i).mode) f in omega (arith, l, y));
               }
 
-          by : (site : ClientSite) → ((d ≡ c.0) × (site ≡ new)) ⊎ ((d ≢ c.0) × (site_of w (client d) ≡ Some site)) → (a : Association) → Has a site.node.state.associations → a.server ≡ s → Side o d a q.net
-          by site (inl y) a h here = empty a (none a (subst (λ (x : ClientSite). Has a x.node.state.associations) y.1 h))
+          by : (site : WorldClient) → ((d ≡ c.0) × (site ≡ new)) ⊎ ((d ≢ c.0) × (site_of w (client d) ≡ Some site)) → (a : Association) → Has a site.node.state.associations → a.server ≡ s → Side o d a q.net
+          by site (inl y) a h here = empty a (none a (subst (λ (x : WorldClient). Has a x.node.state.associations) y.1 h))
           by site (inr y) a h here = q.side site y.1 a h here
 
-  stopped : (c : ClientId) (site : ClientSite) → site_of w c ≡ Some site → AllGiveOnce (ev.crashes_client (ev.counted w) c (Some site)).world
+  stopped : (c : ClientId) (site : WorldClient) → site_of w c ≡ Some site → AllGiveOnce (ev.crashes_client (ev.counted w) c (Some site)).world
   unfolding ev.crashes_client ev.marks cl.crash
   stopped c site at = emptied _ c site (ev.stopped_site site) at refl refl refl (λ a h. let z = has_map cl.crashed_association site.node.state.associations a h in ap (λ (y : Association). y.session) z.2)
 
-  begun : (c : ClientId) (site : ClientSite) → site_of w c ≡ Some site → AllGiveOnce (ev.starts_client (ev.counted w) c (Some site))
+  begun : (c : ClientId) (site : WorldClient) → site_of w c ≡ Some site → AllGiveOnce (ev.starts_client (ev.counted w) c (Some site))
   unfolding ev.starts_client cl.start
   begun c site at = emptied _ c site (ev.started_site site) at refl refl refl (λ a h. let z = has_map cl.started_association site.node.state.associations a h in ap (λ (y : Association). y.session) z.2)
 
   -- A client's step.
-  module _ (v : World) (cs : v.clients ≡ w.clients) (ss : v.servers ≡ w.servers) (c : ClientId) (i : ClientInput) (site old : ClientSite) (same : site.node ≡ old.node) (at : site_of w c ≡ Some old) (brings : each.Comes w i)
+  module _ (v : World) (cs : v.clients ≡ w.clients) (ss : v.servers ≡ w.servers) (c : ClientId) (i : ClientInput) (site old : WorldClient) (same : site.node ≡ old.node) (at : site_of w c ≡ Some old) (brings : each.Comes w i)
       (last : World) (l : Leaves (messages w) (ev.with_site c (SiteAfter v c i site) v) last (ClientTook v c i site).out) where
     module _ (s : ServerId) (node : ServerNode) (there : node_of w s ≡ Some node) where
       z : GivesOnce w s node
@@ -278,32 +278,32 @@ module _ (k : Config) (count : ℕ) (w : World) (all : AllStand k count w) (g : 
       unfolding beside down
       end = stays_down (Owned z.owner c.0) k r.moves (record { down = refl; net = q.tells; held = mine.held })
 
-      sent : (m : Message) → Has (outputs.Send m) (ClientTook v c i site).out → (m.header.from ≡ c.0) × (m.header.to ≡ server_node s → Heard m.header m.body r.net)
+      sent : (m : Message) → Has (outputs.Send m) (ClientTook v c i site).out → (m.header.from ≡ c.0) × (m.header.to ≡ server_node s → Received m.header m.body r.net)
       sent m h = said_out c.0 s (ClientTook v c i site).out r.net m r.said h
 
       from_where : (m : Message) → Has m (messages last) → Has m (messages w) ⊎ Has (outputs.Send m) (ClientTook v c i site).out
       from_where m h = leaves_from (messages w) (ev.with_site c (SiteAfter v c i site) v) last (ClientTook v c i site).out l m h
 
-      sites : (d : ℕ) (x : ClientSite) → site_of last (client d) ≡ Some x → ((d ≡ c.0) × (x ≡ SiteAfter v c i site)) ⊎ ((d ≢ c.0) × (site_of w (client d) ≡ Some x))
+      sites : (d : ℕ) (x : WorldClient) → site_of last (client d) ≡ Some x → ((d ≡ c.0) × (x ≡ SiteAfter v c i site)) ⊎ ((d ≢ c.0) × (site_of w (client d) ≡ Some x))
       sites d x e = set_cases w.clients c.0 d old (SiteAfter v c i site) x at (ap (λ u. numbered (with_numbered c.0 (SiteAfter v c i site) u) d) (sym cs) ∙ ap (λ u. numbered u d) (sym l.clients) ∙ e)
 
       own : Pair z.owner c.0 s last
-      own = record { net = r.net; tells = end.net; shows = λ m h from to. shows m (from_where m h) from to; hears = λ m h to of from. hears m (from_where m h) to of from; side = λ x e. side x (sites c.0 x e) }
+      own = record { net = r.net; tells = end.net; shows = λ m h from to. shows m (from_where m h) from to; receives = λ m h to of from. receives m (from_where m h) to of from; side = λ x e. side x (sites c.0 x e) }
         where
           shows : (m : Message) → Has m (messages w) ⊎ Has (outputs.Send m) (ClientTook v c i site).out → m.header.from ≡ server_node s → m.header.to ≡ c.0 → Shown m r.net
           shows m (inl h) from to = shown_more m q.net r.net grows (q.shows m h from to)
           shows m (inr h) from to = absurd (server_not_client c.0 s.0 few (sym (sent m h).0 ∙ from))
 
-          hears : (m : Message) → Has m (messages w) ⊎ Has (outputs.Send m) (ClientTook v c i site).out → m.header.to ≡ server_node s → is_client_node m.header.from ≡ true → m.header.from ≡ c.0 → Heard m.header m.body r.net
-          hears m (inl h) to of from = heard_more m.header m.body q.net r.net grows (q.hears m h to of from)
-          hears m (inr h) to of from = (sent m h).1 to
+          receives : (m : Message) → Has m (messages w) ⊎ Has (outputs.Send m) (ClientTook v c i site).out → m.header.to ≡ server_node s → is_client_node m.header.from ≡ true → m.header.from ≡ c.0 → Received m.header m.body r.net
+          receives m (inl h) to of from = received_more m.header m.body q.net r.net grows (q.receives m h to of from)
+          receives m (inr h) to of from = (sent m h).1 to
 
-          side : (x : ClientSite) → ((c.0 ≡ c.0) × (x ≡ SiteAfter v c i site)) ⊎ ((c.0 ≢ c.0) × (site_of w (client c.0) ≡ Some x)) → (a : Association) → Has a x.node.state.associations → a.server ≡ s → Side z.owner c.0 a r.net
+          side : (x : WorldClient) → ((c.0 ≡ c.0) × (x ≡ SiteAfter v c i site)) ⊎ ((c.0 ≢ c.0) × (site_of w (client c.0) ≡ Some x)) → (a : Association) → Has a x.node.state.associations → a.server ≡ s → Side z.owner c.0 a r.net
           side x (inr n) a h here = absurd (n.0 refl)
           side x (inl e) a h here = subst (λ (b : Association). Side z.owner c.0 b r.net) (sym is) (record { kept = r.sim.kept; held = end.held })
             where
               is : a ≡ r.last
-              is = only_here s.0 (SiteAfter v c i site).node.state.associations r.last r.sim.place a (subst (λ (u : ClientSite). Has a u.node.state.associations) e.1 h) (ap server_node here)
+              is = only_here s.0 (SiteAfter v c i site).node.state.associations r.last r.sim.place a (subst (λ (u : WorldClient). Has a u.node.state.associations) e.1 h) (ap server_node here)
 
       other : (d : ℕ) → d ≢ c.0 → Pair z.owner d s last
       other d n = pair_on z.owner d s w last (λ m h. foreign m (from_where m h)) (λ x e. at_other x (sites d x e)) (z.pairs d)
@@ -312,7 +312,7 @@ module _ (k : Config) (count : ℕ) (w : World) (all : AllStand k count w) (g : 
           foreign m (inl h) = inl h
           foreign m (inr h) = inr ((λ from. server_not_client c.0 s.0 few (sym (sent m h).0 ∙ from)), λ of from. n (sym from ∙ (sent m h).0))
 
-          at_other : (x : ClientSite) → ((d ≡ c.0) × (x ≡ SiteAfter v c i site)) ⊎ ((d ≢ c.0) × (site_of w (client d) ≡ Some x)) → site_of w (client d) ≡ Some x
+          at_other : (x : WorldClient) → ((d ≡ c.0) × (x ≡ SiteAfter v c i site)) ⊎ ((d ≢ c.0) × (site_of w (client d) ≡ Some x)) → site_of w (client d) ≡ Some x
           at_other x (inl e) = absurd (n e.0)
           at_other x (inr e) = e.1
 
@@ -348,7 +348,7 @@ module _ (k : Config) (count : ℕ) (w : World) (all : AllStand k count w) (g : 
     asserted : (m : Message) → i ≡ serving.Control m → m.header.to ≡ server_node s → is_client_node m.header.from ≡ true → (rows : List (ℕ × GrantNo × Mode)) → m.body ≡ bd.Reassert rows → RowsOwned was.owner m.header.from rows
     asserted m e to of rows f =
         let q = was.pairs m.header.from in
-        reasserted_owned was.owner m q.net rows f (q.hears m (subst (each.Brings w) e brings) to of refl) q.tells
+        reasserted_owned was.owner m q.net rows f (q.receives m (subst (each.Brings w) e brings) to of refl) q.tells
 
     u : Gives s was.owner (top node.state.locks) i asserted (ServerTook w s i node)
     u = served s was.owner (top node.state.locks) i asserted node.state (clock_of (ev.counted w) (nodes.Server s)) (record { owner = was.owner; grows = λ n y e. e; id = id; locked = before.0; kept = before.1; sent = λ x h. absurd h; told = λ n y e. inl e; up = omega arith })
@@ -359,7 +359,7 @@ module _ (k : Config) (count : ℕ) (w : World) (all : AllStand k count w) (g : 
     said : (m : Message) → Has (outputs.Send m) (ServerTook w s i node).out → Has m (messages Last)
     said m h = server_sends s (ServerTook w s i node).out (ev.quiet (ev.with_node s (NodeAfter w s i node) (ev.counted w))) m h
 
-    site_there : (d : ℕ) (x : ClientSite) → site_of Last (client d) ≡ Some x → site_of w (client d) ≡ Some x
+    site_there : (d : ℕ) (x : WorldClient) → site_of Last (client d) ≡ Some x → site_of w (client d) ≡ Some x
     site_there d x e = ap (λ u. numbered u d) (sym l.clients) ∙ e
 
     own_node : GivesOnce Last s (NodeAfter w s i node)
@@ -376,7 +376,7 @@ module _ (k : Config) (count : ℕ) (w : World) (all : AllStand k count w) (g : 
               net = add d (ServerTook w s i node).out q.net;
               tells = add_tells u.owner d (ServerTook w s i node).out q.net (λ m h. (u.sent m h).1) q.tells;
               shows = λ m h from to. shows m (came m h) from to;
-              hears = λ m h to of from. hears m (came m h) to of from;
+              receives = λ m h to of from. receives m (came m h) to of from;
               side = λ x e a h here. let y = q.side x (site_there d x e) a h here in record { kept = kept_any a.life.0 a.store a.session q.net (add d (ServerTook w s i node).out q.net) grows y.kept; held = y.held };
             }
           where
@@ -387,9 +387,9 @@ module _ (k : Config) (count : ℕ) (w : World) (all : AllStand k count w) (g : 
             shows m (inl h) from to = shown_more m q.net _ grows (q.shows m h from to)
             shows m (inr h) from to = add_shows d (ServerTook w s i node).out q.net m h to
 
-            hears : (m : Message) → Has m (messages w) ⊎ Has (outputs.Send m) (ServerTook w s i node).out → m.header.to ≡ server_node s → is_client_node m.header.from ≡ true → m.header.from ≡ d → Heard m.header m.body (add d (ServerTook w s i node).out q.net)
-            hears m (inl h) to of from = heard_more m.header m.body q.net _ grows (q.hears m h to of from)
-            hears m (inr h) to of from = absurd (of_no_client s m.header.from (u.sent m h).0 of)
+            receives : (m : Message) → Has m (messages w) ⊎ Has (outputs.Send m) (ServerTook w s i node).out → m.header.to ≡ server_node s → is_client_node m.header.from ≡ true → m.header.from ≡ d → Received m.header m.body (add d (ServerTook w s i node).out q.net)
+            receives m (inl h) to of from = received_more m.header m.body q.net _ grows (q.receives m h to of from)
+            receives m (inr h) to of from = absurd (of_no_client s m.header.from (u.sent m h).0 of)
 
     other_node : (x : ServerId) (n : ServerNode) → x.0 ≢ s.0 → node_of w x ≡ Some n → GivesOnce Last x n
     other_node x n ne e = let y = g x n e in record { owner = y.owner; state = y.state; pairs = λ d. pair_on y.owner d x w Last (λ m h. foreign d m (came m h)) (site_there d) (y.pairs d); told = λ a b f. sent_more x (messages w) (messages Last) a l.old (y.told a b f) }
@@ -474,11 +474,11 @@ module _ (k : Config) (count : ℕ) (w : World) (all : AllStand k count w) (g : 
   abbrev pub Goes : World → Type 0
   Goes v = AllGiveOnce v × RiseFrom w v
 
-  stops : (c : ClientId) (site : ClientSite) → site_of w c ≡ Some site → Goes (ev.crashes_client (ev.counted w) c (Some site)).world
+  stops : (c : ClientId) (site : WorldClient) → site_of w c ≡ Some site → Goes (ev.crashes_client (ev.counted w) c (Some site)).world
   unfolding ev.crashes_client ev.marks
   stops c site at = (stopped c site at, same_rise (ev.crashes_client (ev.counted w) c (Some site)).world refl)
 
-  begins : (c : ClientId) (site : ClientSite) → site_of w c ≡ Some site → Goes (ev.starts_client (ev.counted w) c (Some site))
+  begins : (c : ClientId) (site : WorldClient) → site_of w c ≡ Some site → Goes (ev.starts_client (ev.counted w) c (Some site))
   unfolding ev.starts_client
   begins c site at = (begun c site at, same_rise (ev.starts_client (ev.counted w) c (Some site)) refl)
 

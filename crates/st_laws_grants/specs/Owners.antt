@@ -17,14 +17,14 @@ use Rattle.st_rules.specs.Locks as locks
 use Rattle.st_rules.specs.Locks.{Locks}
 use Rattle.st_rules.specs.Server.{ServerNode, ServerState, is_client_node, next_epoch}
 use Rattle.st_rules.specs.Sessions as sessions
-use Rattle.st_rules.specs.World.{World, ClientSite, node_of, site_of}
+use Rattle.st_rules.specs.World.{World, WorldClient, node_of, site_of}
 use Rattle.st_protocol.specs.Assoc as net
 use Rattle.st_protocol.specs.Assoc.{Granted, Demand, Reassert, In, Msg}
 use Rattle.st_lemmas.specs.Lists.{Has}
 use Rattle.st_laws_leases.specs.Dates.Dates.{messages}
-use Rattle.st_laws_refine.specs.Client.Shown.{Kept}
+use Rattle.st_laws_refine.specs.Client.Invariants.{Kept}
 use Rattle.st_laws_refine.specs.Views.Halves.{held_in}
-use Rattle.st_laws_refine.specs.Views.Messages.{Heard, Shown}
+use Rattle.st_laws_refine.specs.Views.Messages.{Received, Shown}
 
 -- the client and the file of a number, where it was given
 abbrev pub Owner : Type 0
@@ -91,8 +91,8 @@ pub record Pair (o : Owner) (c : ℕ) (s : ServerId) (w : World) : Type 0 where
   pub net : List Msg
   pub tells : AllTell (Owned o c) net
   pub shows : (m : Message) → Has m (messages w) → m.header.from ≡ server_node s → m.header.to ≡ c → Shown m net
-  pub hears : (m : Message) → Has m (messages w) → m.header.to ≡ server_node s → is_client_node m.header.from ≡ true → m.header.from ≡ c → Heard m.header m.body net
-  pub side : (site : ClientSite) → site_of w (client c) ≡ Some site → (a : Association) → Has a site.node.state.associations → a.server ≡ s → Side o c a net
+  pub receives : (m : Message) → Has m (messages w) → m.header.to ≡ server_node s → is_client_node m.header.from ≡ true → m.header.from ≡ c → Received m.header m.body net
+  pub side : (site : WorldClient) → site_of w (client c) ≡ Some site → (a : Association) → Has a site.node.state.associations → a.server ≡ s → Side o c a net
 
 -- a grant of the server under this number was sent
 pub record WasSent (s : ServerId) (ms : List Message) (g : ℕ) : Type 0 where

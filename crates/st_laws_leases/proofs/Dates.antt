@@ -1,9 +1,9 @@
 pub mod Asking
 pub mod Calm
-pub mod Hearing
+pub mod Receiving
 pub mod Known
 pub mod Law
 pub mod Leaving
-pub mod Said
+pub mod SentMessages
 pub mod Serving
 pub mod Steps

@@ -1,10 +1,10 @@
-pub mod Alone
-pub mod Beginning
+pub mod DirtyPages
+pub mod FirstWorld
 pub mod Calmly
 pub mod Changes
 pub mod Clients
 pub mod Crashes
-pub mod Everywhere
+pub mod AllAssociations
 pub mod Fold
 pub mod Kept
 pub mod Known
@@ -16,5 +16,5 @@ pub mod Promised
 pub mod Quietly
 pub mod Runs
 pub mod Shown
-pub mod Unseen
+pub mod OtherServers
 pub mod Waiting

@@ -1,5 +1,5 @@
-pub mod Kept
+pub mod KeptPromises
 pub mod Law
 pub mod Paths
-pub mod Stands
+pub mod Invariants
 pub mod World

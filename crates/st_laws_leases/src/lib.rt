@@ -5,7 +5,7 @@ ghost use Rattle.st_laws_leases.specs.Dates.Law.{RunsSendNoConflict, LeasesAreDa
 ghost use Rattle.st_laws_leases.specs.History.Law.{RunsDateFromReplies, HistoriesAreTheWorlds};
 ghost use Rattle.st_laws_leases.specs.Order.Order.{ChangesStayBelow, CutsStayBelow, ListsStayAbove, MovesStayAbove};
 ghost use Rattle.st_laws_leases.specs.Order.Paths.{EventsKeepOrder};
-ghost use Rattle.st_laws_leases.specs.Sides.Kept.{IsMostPromised};
+ghost use Rattle.st_laws_leases.specs.Sides.KeptPromises.{IsMostPromised};
 ghost use Rattle.st_laws_leases.specs.Sides.Paths.{EventsArePaths};
 ghost use Rattle.st_laws_leases.specs.Sides.Law.{ClientEventsKeep, InEveryRun, RunsStand};
 ghost use Rattle.st_rules.specs.Safety.{ChangesAreLocked, ChangesGoInTheOrderOfLocks, DirtyPagesStandAlone, GraceWaits, NoConflictIsSent, TheftsComeLate};

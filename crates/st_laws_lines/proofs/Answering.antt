@@ -167,9 +167,9 @@ module _ (Failed : ℕ → Type 0) (Full : Type 0) (Told : Type 0) where
   mild_free (answers.Refused code) m = m
   mild_free a m = tt
 
-  heard : (now : Stamp) (h : Header) (b : Body) → (refuses b ≡ true → Told) → (t : Turn) → F t → F (cr.receive_at now h b t)
+  received : (now : Stamp) (h : Header) (b : Body) → (refuses b ≡ true → Told) → (t : Turn) → F t → F (cr.receive_at now h b t)
   unfolding cr.leave_stuck
-  heard = walk.heard Told (λ v lost out ops. All_free Failed Full Told out) (λ v lost out ops o c w. last out o (calm_free o c) w) (λ t picked a m w. each_answered t picked a (mild_free a m) w) (λ t w. w)
+  received = walk.received Told (λ v lost out ops. All_free Failed Full Told out) (λ v lost out ops o c w. last out o (calm_free o c) w) (λ t picked a m w. each_answered t picked a (mild_free a m) w) (λ t w. w)
 
   rested : (now : Stamp) (tick : Bool) (t : Turn) → F t → F (cp.greeting now tick (cp.writes now tick (cp.reductions t)))
   unfolding cr.leave_stuck
@@ -408,7 +408,7 @@ module _ (Failed : ℕ → Type 0) (Full : Type 0) (Told : Type 0) where
   input_taken t now (inputs.App op ask) f w =
       where_full (cl.is_full t.state) _ _ (λ e. more t.out _ w (single _ (f e)))
       (any_either (cl.is_configured t.state (cs.server_of ask)) _ _ (each _ (only (cs.server_of ask) op ask) t w) (more t.out _ w (single _ tt)))
-  input_taken t now (inputs.Control m) f w = any_either _ _ t (each _ (heard now m.header m.body f) t w) w
+  input_taken t now (inputs.Control m) f w = any_either _ _ t (each _ (received now m.header m.body f) t w) w
   input_taken t now (inputs.Done number r) f w = each _ (finished number r f) t w
 
   -- the same behind the losses

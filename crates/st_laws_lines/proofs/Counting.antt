@@ -44,7 +44,7 @@ use Rattle.st_rules.specs.Events.{WorldTurn}
 use Rattle.st_rules.specs.Server as server
 use Rattle.st_rules.specs.Server.{ServerNode}
 use Rattle.st_rules.specs.World as world
-use Rattle.st_rules.specs.World.{World, ClientSite, clock_of, issued_of, node_of, numbered, site_of}
+use Rattle.st_rules.specs.World.{World, WorldClient, clock_of, issued_of, node_of, numbered, site_of}
 use Rattle.st_promises.specs.Counts.{command_in, command_told, count_lines, is_read_line, is_theft_line, message_in, message_told, what_in, what_told}
 use Rattle.st_laws_lines.proofs.Growing.{Adds, Grows, adds_none, adds_then, count_more, grows_none, grows_then, map_set}
 
@@ -146,7 +146,7 @@ sent w sc m h =
     })
     h
 
-submitted : (w : World) (sc : WorldTurn) (c : ClientId) (o : Option ClientSite) (number : ℕ) (at : _) (what : Command) → Told w sc → Told w (ev.submits sc c o number at what)
+submitted : (w : World) (sc : WorldTurn) (c : ClientId) (o : Option WorldClient) (number : ℕ) (at : _) (what : Command) → Told w sc → Told w (ev.submits sc c o number at what)
 unfolding ev.submits
 submitted w sc c None number at what h = h
 submitted w sc c (Some site) number at what h =
@@ -262,7 +262,7 @@ alike_before : (u v w : World) (os : List Observation) → Alike u v → Tells v
 alike_before u v w os a b = tells_then u v w [] os (alike_tells u v a) b
 
 -- A step of a client, and of a server.
-takes : (w : World) (c : ClientId) (input : ClientInput) (site : ClientSite) → Told w (ev.client_takes w c input site)
+takes : (w : World) (c : ClientId) (input : ClientInput) (site : WorldClient) → Told w (ev.client_takes w c input site)
 unfolding ev.client_takes ev.client_took
 takes w c input site = go (cl.node_step site.node (clock_of w (nodes.Client c)) input)
   where
@@ -274,7 +274,7 @@ takes w c input site = go (cl.node_step site.node (clock_of w (nodes.Client c)) 
         then_alike w sc.world _ sc.seen (client_all w c site.node.state t.out (ev.quiet v) (alike_tells w v (record { messages = refl; commands = refl; whats = refl; tally = refl })))
         (flushed c t.node.state (world.all_servers sc.world) sc.world)
 
-at_client : (w : World) (c : ClientId) (input : ClientInput) (o : Option ClientSite) → Told w (ev.at_client w c input o)
+at_client : (w : World) (c : ClientId) (input : ClientInput) (o : Option WorldClient) → Told w (ev.at_client w c input o)
 unfolding ev.at_client
 at_client w c input None = alike_tells w w (self w)
 at_client w c input (Some site) = takes w c input site
@@ -382,7 +382,7 @@ tells_event w (events.Tick (nodes.Client c)) = at_client w c _ (site_of w c)
 tells_event w (events.Tick (nodes.Server s)) = at_server w s _ (node_of w s)
 tells_event w (events.App c ask) = go (site_of w c)
   where
-    go : (o : Option ClientSite) → Told w (ev.asks_at w c ask o)
+    go : (o : Option WorldClient) → Told w (ev.asks_at w c ask o)
     go None = alike_tells w w (self w)
     go (Some site) = takes w c _ (ev.asked_once_more site)
 tells_event w (events.Deliver k) = go (world.message_of w k)
@@ -407,11 +407,11 @@ tells_event w (events.Report k ok) = go (issued_of w k)
     same : Alike w v
     same = disks_alike w _ (done_alike w.disks k ok)
 
-    told : (x : IssuedCommand) (site : ClientSite) (b : Bool) → Told w (if b then ev.client_takes v x.client (ev.end_told v k ok x) site else ev.quiet v)
+    told : (x : IssuedCommand) (site : WorldClient) (b : Bool) → Told w (if b then ev.client_takes v x.client (ev.end_told v k ok x) site else ev.quiet v)
     told x site true = alike_before w v _ _ same (takes v x.client (ev.end_told v k ok x) site)
     told x site false = alike_tells w v same
 
-    at : (x : IssuedCommand) (o : Option ClientSite) → Told w (ev.tells_client v k ok x o)
+    at : (x : IssuedCommand) (o : Option WorldClient) → Told w (ev.tells_client v k ok x o)
     at x None = alike_tells w v same
     at x (Some site) = told x site (ev.is_same_instance x site)
 
@@ -420,7 +420,7 @@ tells_event w (events.Report k ok) = go (issued_of w k)
     go (Some x) = at x (site_of v x.client)
 tells_event w (events.Crash (nodes.Client c)) = go (site_of w c)
   where
-    go : (o : Option ClientSite) → Told w (ev.crashes_client w c o)
+    go : (o : Option WorldClient) → Told w (ev.crashes_client w c o)
     go None = alike_tells w w (self w)
     go (Some site) = marked w _ _ (record { messages = refl; commands = refl; whats = refl; tally = refl })
 tells_event w (events.Crash (nodes.Server s)) = go (node_of w s)
@@ -430,7 +430,7 @@ tells_event w (events.Crash (nodes.Server s)) = go (node_of w s)
     go (Some node) = alike_tells w _ (record { messages = refl; commands = refl; whats = refl; tally = refl })
 tells_event w (events.Start (nodes.Client c)) = go (site_of w c)
   where
-    go : (o : Option ClientSite) → Tells w [] (ev.starts_client w c o)
+    go : (o : Option WorldClient) → Tells w [] (ev.starts_client w c o)
     go None = alike_tells w w (self w)
     go (Some site) = alike_tells w _ (record { messages = refl; commands = refl; whats = refl; tally = refl })
 tells_event w (events.Start (nodes.Server s)) = go (node_of w s)

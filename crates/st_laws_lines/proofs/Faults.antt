@@ -37,7 +37,7 @@ use Rattle.st_promises.specs.Faults.{delivers_refusal, fails_command, FaultsHave
 use Rattle.st_rules.specs.Server as server
 use Rattle.st_rules.specs.Server.{ServerNode}
 use Rattle.st_rules.specs.World as world
-use Rattle.st_rules.specs.World.{World, ClientSite, clock_of, fresh_world, issued_of, node_of, site_of}
+use Rattle.st_rules.specs.World.{World, WorldClient, clock_of, fresh_world, issued_of, node_of, site_of}
 use Rattle.st_lemmas.specs.Lists.{Has}
 use Rattle.st_lemmas.proofs.Steps.{step_happens, throughout_all}
 use Rattle.st_lemmas.proofs.Tables.{all_pass, and_both, has_append}
@@ -96,7 +96,7 @@ module _ (Failed : ClientId → ℕ → Type 0) (Full : ClientId → Type 0) (To
       by a f = tt
   client_one c before (outputs.Submit number at what) sc f h = go (site_of sc.world c)
     where
-      go : (o : Option ClientSite) → AllFine Failed Full Told (ev.submits sc c o number at what).seen
+      go : (o : Option WorldClient) → AllFine Failed Full Told (ev.submits sc c o number at what).seen
       go None = h
       go (Some site) = more sc.seen _ tt h
   client_one c before (outputs.Note n) sc f h = note n
@@ -130,7 +130,7 @@ module _ (Failed : ClientId → ℕ → Type 0) (Full : ClientId → Type 0) (To
   server_all s [] sc h = h
   server_all s (o ∷ os) sc h = server_all s os (ev.server_says sc s o) (server_one s o sc h)
 
-  takes : (w : World) (c : ClientId) (input : ClientInput) (site : ClientSite) → Fails_as (Failed c) (Full c) (Told c) site.node.state input → AllFine Failed Full Told (ev.client_takes w c input site).seen
+  takes : (w : World) (c : ClientId) (input : ClientInput) (site : WorldClient) → Fails_as (Failed c) (Full c) (Told c) site.node.state input → AllFine Failed Full Told (ev.client_takes w c input site).seen
   unfolding ev.client_takes ev.client_took cl.node_step
   takes w c input site f = go site.node.running
     where
@@ -141,7 +141,7 @@ module _ (Failed : ClientId → ℕ → Type 0) (Full : ClientId → Type 0) (To
       go true = client_all c site.node.state t.out (ev.quiet (ev.with_site c (ev.at_node t.node site) w)) (stepped (Failed c) (Full c) (Told c) site.node.state (clock_of w (nodes.Client c)) input f) none_fine
       go false = none_fine
 
-  at_client : (w : World) (c : ClientId) (input : ClientInput) (o : Option ClientSite) → ((s : ClientState) → Fails_as (Failed c) (Full c) (Told c) s input) → AllFine Failed Full Told (ev.at_client w c input o).seen
+  at_client : (w : World) (c : ClientId) (input : ClientInput) (o : Option WorldClient) → ((s : ClientState) → Fails_as (Failed c) (Full c) (Told c) s input) → AllFine Failed Full Told (ev.at_client w c input o).seen
   unfolding ev.at_client
   at_client w c input None f = none_fine
   at_client w c input (Some site) f = takes w c input site (f site.node.state)
@@ -174,7 +174,7 @@ module _ (Failed : ClientId → ℕ → Type 0) (Full : ClientId → Type 0) (To
 
   -- what an event reports as failed, and a client that is full when it is asked
   abbrev pub Reports_so : World → Event → Type 0
-  Reports_so w (events.App c ask) = (site : ClientSite) → site_of w c ≡ Some site → cl.is_full site.node.state ≡ true → Full c
+  Reports_so w (events.App c ask) = (site : WorldClient) → site_of w c ≡ Some site → cl.is_full site.node.state ≡ true → Full c
   Reports_so w (events.Deliver k) = (m : SentMessage) (c : ClientId) → world.message_of w k ≡ Some m → m.message.header.to ≡ c.0 → refuses m.message.body ≡ true → Told c
   Reports_so w (events.Report k ok) = (x : IssuedCommand) → issued_of w k ≡ Some x → ok ≡ false → Failed x.client x.number
   Reports_so w e = Unit {0}
@@ -185,7 +185,7 @@ module _ (Failed : ClientId → ℕ → Type 0) (Full : ClientId → Type 0) (To
   event_fine w (events.Tick (nodes.Server s)) f = at_server w s _ (node_of w s)
   event_fine w (events.App c ask) f = go (site_of w c) refl
     where
-      go : (o : Option ClientSite) → site_of w c ≡ o → AllFine Failed Full Told (ev.asks_at w c ask o).seen
+      go : (o : Option WorldClient) → site_of w c ≡ o → AllFine Failed Full Told (ev.asks_at w c ask o).seen
       go None e = none_fine
       go (Some site) e = takes w c (inputs.App (site.asks + 1) ask) (ev.asked_once_more site) (f site e)
   event_fine w (events.Deliver k) f = go (world.message_of w k) refl
@@ -211,11 +211,11 @@ module _ (Failed : ClientId → ℕ → Type 0) (Full : ClientId → Type 0) (To
       failed true s e = cc
       failed false s e = refl
 
-      same : (x : IssuedCommand) → issued_of w k ≡ Some x → (site : ClientSite) (b : Bool) → AllFine Failed Full Told (if b then ev.client_takes v x.client (ev.end_told v k ok x) site else ev.quiet v).seen
+      same : (x : IssuedCommand) → issued_of w k ≡ Some x → (site : WorldClient) (b : Bool) → AllFine Failed Full Told (if b then ev.client_takes v x.client (ev.end_told v k ok x) site else ev.quiet v).seen
       same x e site true = takes v x.client (ev.end_told v k ok x) site (λ r. f x e (failed ok (disks.sample v.disks k) r))
       same x e site false = none_fine
 
-      told : (x : IssuedCommand) → issued_of w k ≡ Some x → (o : Option ClientSite) → AllFine Failed Full Told (ev.tells_client v k ok x o).seen
+      told : (x : IssuedCommand) → issued_of w k ≡ Some x → (o : Option WorldClient) → AllFine Failed Full Told (ev.tells_client v k ok x o).seen
       told x e None = none_fine
       told x e (Some site) = same x e site (ev.is_same_instance x site)
 
@@ -224,7 +224,7 @@ module _ (Failed : ClientId → ℕ → Type 0) (Full : ClientId → Type 0) (To
       go (Some x) e = told x e (site_of v x.client)
   event_fine w (events.Crash (nodes.Client c)) f = go (site_of w c)
     where
-      go : (o : Option ClientSite) → AllFine Failed Full Told (ev.crashes_client w c o).seen
+      go : (o : Option WorldClient) → AllFine Failed Full Told (ev.crashes_client w c o).seen
       go None = none_fine
       go (Some site) = fates_fine 1 _ _
   event_fine w (events.Crash (nodes.Server s)) f = none_fine

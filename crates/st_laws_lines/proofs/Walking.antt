@@ -165,7 +165,7 @@ module _ (Told : Type 0) (Q : Fact) (calm : (s : ServerId) (lost : List LostPage
   nacked t v now h y a b u w = replied t v now h (bodies.Nack y a b) (λ e. u) w
 
   demanded : (t : Turn) (v : ClientSession) (ino : ℕ) (g : GrantNo) (to : Mode) → F t → F (cr.demand t v ino g to)
-  unfolding cr.demand cr.demand_by cr.demand_as cr.see_demand
+  unfolding cr.demand cr.demand_by cr.demand_as cr.observe_demand
   demanded t v ino g to w = go (locks.demand v.locks ino g to)
     where
       by : (l : ClientSession) (a : Asked) → F (cr.demand_as t l ino g a)
@@ -183,9 +183,9 @@ module _ (Told : Type 0) (Q : Fact) (calm : (s : ServerId) (lost : List LostPage
   of_epoch t v now h (bodies.Demand ino g to) u w = demanded t v ino g to w
   of_epoch t v now h b u w = replied t v now h b u w
 
-  pub heard : (now : Stamp) (h : Header) (b : Body) → (refuses b ≡ true → Told) → (t : Turn) → F t → F (cr.receive_at now h b t)
+  pub received : (now : Stamp) (h : Header) (b : Body) → (refuses b ≡ true → Told) → (t : Turn) → F t → F (cr.receive_at now h b t)
   unfolding cr.receive_at cr.by_session cr.with_a_session
-  heard now h b u t w = either (cr.is_heard t now h) _ t (by t.here.session) w
+  received now h b u t w = either (cr.is_received t now h) _ t (by t.here.session) w
     where
       by : (x : Option ClientSession) → F (cr.by_session t now h b x)
       by None = without t now h b w

@@ -16,22 +16,22 @@ use Rattle.st_rules.specs.Safety.{Step}
 use Rattle.st_rules.specs.Server.{ServerNode}
 use Rattle.st_rules.specs.Sessions as sessions
 use Rattle.st_rules.specs.World as world
-use Rattle.st_rules.specs.World.{World, ClientSite, node_of, numbered, site_of}
+use Rattle.st_rules.specs.World.{World, WorldClient, node_of, numbered, site_of}
 use Rattle.st_protocol.specs.Assoc.{Config}
 use Rattle.st_lemmas.specs.Lists.{Has}
 use Rattle.st_lemmas.proofs.Numbers.{get_there}
 use Rattle.st_lemmas.proofs.Tables.{and_true, same_or_not}
 use Rattle.st_laws_refine.specs.Client.Law.{Place}
 use Rattle.st_laws_leases.specs.Dates.Dates.{messages}
-use Rattle.st_laws_leases.specs.Sides.Stands.{Standing}
+use Rattle.st_laws_leases.specs.Sides.Invariants.{Standing}
 use Rattle.st_laws_leases.proofs.Dates.Known.{has_right}
-use Rattle.st_laws_requests.specs.Replies.Reached.{IsBehind, Reached}
+use Rattle.st_laws_requests.specs.Replies.ServedRequests.{IsBehind, Reached}
 use Rattle.st_laws_requests.specs.Cuts.Cuts.{AsksFor, Between, asks_of}
 use Rattle.st_laws_extents.specs.CutRequests.EndedLives.{IsPast}
 use Rattle.st_laws_extents.specs.CutRequests.Law.{gifts}
 use Rattle.st_promises.specs.CutAsks.{settles_in}
-use Rattle.st_laws_cuts.specs.Over.{AllPast, MeansTo}
-use Rattle.st_laws_cuts.specs.Served.{IsServedBy}
+use Rattle.st_laws_cuts.specs.EndedRequests.{AllPast, MeansTo}
+use Rattle.st_laws_cuts.specs.ServedRequests.{IsServedBy}
 use Rattle.st_laws_cuts.proofs.Law.{AllHold}
 use Rattle.st_laws_cuts.proofs.Words.{unsettled_past}
 use Rattle.st_laws_names.proofs.Rows.{Over, RowsHold}
@@ -41,11 +41,11 @@ numbered_there : {A : Type 0} (xs : List A) (n : ℕ) → 1 ≤ n → n ≤ leng
 numbered_there xs zero l h = absurd (omega (arith, l))
 numbered_there xs (suc n) l h = get_there xs n (omega (arith, h))
 
-site_there : (w : World) (c : ClientId) → 1 ≤ c.0 → c.0 ≤ length w.clients → (site : ClientSite) × (site_of w c ≡ Some site)
+site_there : (w : World) (c : ClientId) → 1 ≤ c.0 → c.0 ≤ length w.clients → (site : WorldClient) × (site_of w c ≡ Some site)
 site_there w c l h = numbered_there w.clients c.0 l h
 
 -- its association with a server
-association_there : (k : Config) (s c : ℕ) (site : ClientSite) (es : List Rattle.st_rules.specs.declared.world.LeaseLife.LeaseLife) (N : List Rattle.st_protocol.specs.Assoc.Msg) → Standing k s c site es N → (a : Association) × Has a site.node.state.associations × (a.server ≡ world.server s)
+association_there : (k : Config) (s c : ℕ) (site : WorldClient) (es : List Rattle.st_rules.specs.declared.world.LeaseLife.LeaseLife) (N : List Rattle.st_protocol.specs.Assoc.Msg) → Standing k s c site es N → (a : Association) × Has a site.node.state.associations × (a.server ≡ world.server s)
 association_there k s c site es N z = (z.association, subst (Has z.association) (sym p.is) (has_right p.before (z.association ∷ p.after) z.association (inl refl)), p.here)
   where
     p : Place (world.server s) site.node.state.associations z.association
@@ -89,13 +89,13 @@ module _ (k : Config) (count : ℕ) (past : List Step) (t : Traced) (h : AllHold
   id : old.state.id ≡ s
   id = (h.base.cuts.servers s old was).id
 
-  found : (site : ClientSite) × (site_of t.world (client m.header.from) ≡ Some site)
+  found : (site : WorldClient) × (site_of t.world (client m.header.from) ≡ Some site)
   found = site_there t.world (client m.header.from) bounds.0 (h.owners.senders m among served.client)
 
   pub behind : Behind past (gifts k count t.world h.base.all (client m.header.from) s) t.world s m
   behind = at found.0 found.1
     where
-      at : (site : ClientSite) → site_of t.world (client m.header.from) ≡ Some site → Wanted
+      at : (site : WorldClient) → site_of t.world (client m.header.from) ≡ Some site → Wanted
       at site there = by site.node.running refl (same_or_not m.header.life y.0.life.0)
         where
           y : (a : Association) × Has a site.node.state.associations × (a.server ≡ world.server s.0)

@@ -20,7 +20,7 @@ use Rattle.st_rules.specs.Keys.{client}
 use Rattle.st_rules.specs.Safety.{Step, is_event, step}
 use Rattle.st_rules.specs.Server as server
 use Rattle.st_rules.specs.Server.{ServerNode}
-use Rattle.st_rules.specs.World.{World, ClientSite, clock_of, fresh_world, node_of, numbered, site_of, with_numbered}
+use Rattle.st_rules.specs.World.{World, WorldClient, clock_of, fresh_world, node_of, numbered, site_of, with_numbered}
 use Rattle.st_protocol.specs.Assoc.{Config}
 use Rattle.st_lemmas.specs.Lists.{Has}
 use Rattle.st_lemmas.proofs.Tables.{some_passes}
@@ -29,13 +29,13 @@ use Rattle.st_laws_leases.specs.Sides.Law.{InEveryRun}
 use Rattle.st_laws_leases.specs.Dates.Dates.{messages}
 use Rattle.st_laws_leases.proofs.Dates.Leaving.{set_cases}
 use Rattle.st_laws_leases.proofs.Sides.Runs.{throughout_events}
-use Rattle.st_laws_requests.specs.Replies.Reached.{NewOwed}
+use Rattle.st_laws_requests.specs.Replies.ServedRequests.{NewOwed}
 use Rattle.st_laws_requests.proofs.Replies.EachEvent.{Brings, NodeAfter, ServerLeft, ServerTook, event_leaves}
 use Rattle.st_laws_requests.proofs.Cuts.Names.{names_same, says_it}
 use Rattle.st_laws_requests.specs.Cuts.Cuts.{does}
 use Rattle.st_laws_extents.proofs.CutRequests.Law.{owed}
 use Rattle.st_promises.specs.NameAnswers.{becomes_at, changes_at, leaves, said, same_names, says}
-use Rattle.st_laws_cuts.specs.Served.{NamesBy}
+use Rattle.st_laws_cuts.specs.ServedRequests.{NamesBy}
 use Rattle.st_laws_cuts.proofs.Naming.{step_names}
 use Rattle.st_base.specs.declared.config.Config as base
 use Rattle.st_rules.specs.Safety.{IsHead}
@@ -43,14 +43,14 @@ use Rattle.st_rules.specs.ClientState as cs
 use Rattle.st_rules.specs.Sessions as sessions
 use Rattle.st_lemmas.proofs.Tables.{has_append, same_or_not}
 use Rattle.st_lemmas.proofs.Lookups.{some_is}
-use Rattle.st_laws_requests.specs.Replies.Reached.{IsBehind}
+use Rattle.st_laws_requests.specs.Replies.ServedRequests.{IsBehind}
 use Rattle.st_laws_requests.specs.Cuts.Cuts.{AsksFor, asks_of}
 use Rattle.st_laws_extents.specs.CutRequests.EndedLives.{Goes, IsPast}
 use Rattle.st_laws_extents.proofs.CutRequests.ServersGoOn.{event_goes}
 use Rattle.st_promises.specs.NameAnswers.{changes_in}
-use Rattle.st_laws_cuts.specs.Over.{AllPast}
+use Rattle.st_laws_cuts.specs.EndedRequests.{AllPast}
 use Rattle.st_laws_cuts.proofs.Words.{clash}
-use Rattle.st_laws_names.specs.Once.{SameKey, WaitsUnder}
+use Rattle.st_laws_names.specs.OutstandingKeys.{SameKey, WaitsUnder}
 use Rattle.st_laws_names.specs.Changes.{AskChanges, AsksChangeOnce, ChangedBy, IsBefore}
 use Rattle.st_laws_names.proofs.World.{Asked, NamesHold, Worlds, names_begin, now_key}
 use Rattle.st_laws_names.proofs.World as once
@@ -122,10 +122,10 @@ came t e sc owes taken =
             pick (inl p) = inl (subst (λ j. (server.server_step node.state (clock_of (ev.counted t) (nodes.Server s)) j).state.stable.names ≡ node.state.stable.names) (sym q) p)
             pick (inr b) = inr (record { running = run; message = m; among = subst (Brings t) q brings; by = z; behind = subst (λ j. IsBehind (sessions.session_of (server.server_step node.state (clock_of (ev.counted t) (nodes.Server s)) j).state.sessions (client m.header.from)) m.header.life m.header.number) (sym q) b })
 
-    stopped : (c : ClientId) (site : ClientSite) → site_of t c ≡ Some site → AllCame t (ev.crashes_client (ev.counted t) c (Some site)).world
+    stopped : (c : ClientId) (site : WorldClient) → site_of t c ≡ Some site → AllCame t (ev.crashes_client (ev.counted t) c (Some site)).world
     stopped c site at = stay t (ev.crashes_client (ev.counted t) c (Some site)).world refl
 
-    begun : (c : ClientId) (site : ClientSite) → site_of t c ≡ Some site → AllCame t (ev.starts_client (ev.counted t) c (Some site))
+    begun : (c : ClientId) (site : WorldClient) → site_of t c ≡ Some site → AllCame t (ev.starts_client (ev.counted t) c (Some site))
     begun c site at = stay t (ev.starts_client (ev.counted t) c (Some site)) refl
 
     crashed : (s : ServerId) (node : ServerNode) → node_of t s ≡ Some node → AllCame t (ev.crashes_server (ev.counted t) s (Some node))

@@ -36,7 +36,7 @@ use Rattle.st_rules.specs.Locks as locks
 use Rattle.st_rules.specs.Names as names
 use Rattle.st_rules.specs.Sessions as sessions
 use Rattle.st_rules.specs.Server as sv
-use Rattle.st_rules.specs.Server.{ServerState, Turn, Replied, turn, sender, reply, thefts, refuse_epoch, rule, keep_and_reply, keep, serve, request_by, request, of_epoch, by_body, refuse_suspect, by_suspicion, receive_from, receive, take_input, server_step}
+use Rattle.st_rules.specs.Server.{ServerState, ServerTurn, Replied, turn, sender, reply, thefts, refuse_epoch, rule, keep_and_reply, keep, serve, request_by, request, of_epoch, by_body, refuse_suspect, by_suspicion, receive_from, receive, take_input, server_step}
 use Rattle.st_lemmas.specs.Lists.{Has}
 use Rattle.st_lemmas.proofs.Lookups.{some_is}
 use Rattle.st_lemmas.proofs.Tables.{find_map, found_at, has_append}
@@ -58,11 +58,11 @@ CutsNone (bd.Name (Remove dir x g)) (bd.Named (replies.Ino n)) = (g.0 == 0) ≡ 
 CutsNone asked b = Unit {0}
 
 -- What the rule of a request makes: it notes no cut, and replies so; or one, and replies that it was done.
-pub record Still (t : Turn) (asked : Body) (a : Replied) : Type 0 where
+pub record Still (t : ServerTurn) (asked : Body) (a : Replied) : Type 0 where
   pub out : a.turn.out ≡ t.out
   pub none : (b : Body) → a.reply ≡ Some b → CutsNone asked b
 
-pub record CutNoted (t : Turn) (asked : Body) (a : Replied) : Type 0 where
+pub record CutNoted (t : ServerTurn) (asked : Body) (a : Replied) : Type 0 where
   pub file : FileId
   pub page : PageNo
   pub out : a.turn.out ≡ t.out ++ outputs.Note (notes.CutDone file page) ∷ []
@@ -70,51 +70,51 @@ pub record CutNoted (t : Turn) (asked : Body) (a : Replied) : Type 0 where
   pub reply : a.reply ≡ Some body
   pub cuts : CutsBy asked file body
 
-abbrev Ruled : Turn → Body → Replied → Type 0
+abbrev Ruled : ServerTurn → Body → Replied → Type 0
 Ruled t asked a = Still t asked a ⊎ CutNoted t asked a
 
-r_if : (t : Turn) (asked : Body) (b : Bool) (x y : Replied) → Ruled t asked x → Ruled t asked y → Ruled t asked (if b then x else y)
+r_if : (t : ServerTurn) (asked : Body) (b : Bool) (x y : Replied) → Ruled t asked x → Ruled t asked y → Ruled t asked (if b then x else y)
 r_if t asked b x y p q = if_either (Ruled t asked) b x y p q
 
 -- a rule that replies so, and notes nothing
-still : (t : Turn) (asked : Body) (a : Replied) (b : Body) → a.turn.out ≡ t.out → a.reply ≡ Some b → CutsNone asked b → Ruled t asked a
+still : (t : ServerTurn) (asked : Body) (a : Replied) (b : Body) → a.turn.out ≡ t.out → a.reply ≡ Some b → CutsNone asked b → Ruled t asked a
 still t asked a b e q n = inl (record { out = e; none = λ c r. subst (CutsNone asked) (some_is (sym q ∙ r)) n })
 
 abbrev Any : Body → Type 0
 Any asked = (b : Body) → CutsNone asked b
 
-r_acquire : (t : Turn) (asked : Body) → Any asked → (ino : ℕ) (mode : Mode) (r : Res locks.Acquired AcquireRefusal) → Ruled t asked (sv.acquire_by t ino mode r)
+r_acquire : (t : ServerTurn) (asked : Body) → Any asked → (ino : ℕ) (mode : Mode) (r : Res locks.Acquired AcquireRefusal) → Ruled t asked (sv.acquire_by t ino mode r)
 unfolding sv.acquire_by
 r_acquire t asked n ino mode (Ok a) = still t asked _ _ refl refl (n _)
 r_acquire t asked n ino mode (Err r) = still t asked _ _ refl refl (n _)
 
-r_allocate : (t : Turn) (asked : Body) → Any asked → (ino : ℕ) (page : PageNo) (count : ℕ) (r : Res extents.Extents AllocateRefusal) → Ruled t asked (sv.allocate_by t ino page count r)
+r_allocate : (t : ServerTurn) (asked : Body) → Any asked → (ino : ℕ) (page : PageNo) (count : ℕ) (r : Res extents.Extents AllocateRefusal) → Ruled t asked (sv.allocate_by t ino page count r)
 unfolding sv.allocate_by sv.with_extents_told
 r_allocate t asked n ino page count (Ok x) = still t asked _ _ refl refl (n _)
 r_allocate t asked n ino page count (Err r) = still t asked _ _ refl refl (n _)
 
-r_found : (t : Turn) (asked : Body) → Any asked → (r : Res ℕ EntryRefusal) → Ruled t asked (sv.name_found t r)
+r_found : (t : ServerTurn) (asked : Body) → Any asked → (r : Res ℕ EntryRefusal) → Ruled t asked (sv.name_found t r)
 unfolding sv.name_found sv.name_refused
 r_found t asked n (Ok ino) = still t asked _ _ refl refl (n _)
 r_found t asked n (Err r) = still t asked _ _ refl refl (n _)
 
-r_changed : (t : Turn) (asked : Body) → Any asked → (r : Res names.Changed EntryRefusal) → Ruled t asked (sv.name_changed t r)
+r_changed : (t : ServerTurn) (asked : Body) → Any asked → (r : Res names.Changed EntryRefusal) → Ruled t asked (sv.name_changed t r)
 unfolding sv.name_changed sv.name_refused
 r_changed t asked n (Ok y) = still t asked _ _ refl refl (n _)
 r_changed t asked n (Err r) = still t asked _ _ refl refl (n _)
 
-r_listed : (t : Turn) (asked : Body) → Any asked → (r : Res (List NameRow) EntryRefusal) → Ruled t asked (sv.names_listed t r)
+r_listed : (t : ServerTurn) (asked : Body) → Any asked → (r : Res (List NameRow) EntryRefusal) → Ruled t asked (sv.names_listed t r)
 unfolding sv.names_listed sv.name_refused
 r_listed t asked n (Ok y) = still t asked _ _ refl refl (n _)
 r_listed t asked n (Err r) = still t asked _ _ refl refl (n _)
 
 -- a remove
-r_removed : (t : Turn) (dir : ℕ) (x : List ℕ) (g : GrantNo) (r : Res names.Changed EntryRefusal) → Ruled t (bd.Name (Remove dir x g)) (sv.remove_by t r)
+r_removed : (t : ServerTurn) (dir : ℕ) (x : List ℕ) (g : GrantNo) (r : Res names.Changed EntryRefusal) → Ruled t (bd.Name (Remove dir x g)) (sv.remove_by t r)
 unfolding sv.remove_by sv.name_refused sv.cut_whole sv.cut_pages
 r_removed t dir x g (Ok y) = inr (record { file = _; page = _; out = refl; body = _; reply = refl; cuts = refl })
 r_removed t dir x g (Err r) = still t (bd.Name (Remove dir x g)) _ _ refl refl tt
 
-r_remove_dir : (t : Turn) (dir : ℕ) (x : List ℕ) (g : GrantNo) → Ruled t (bd.Name (Remove dir x g)) (sv.remove_dir t dir x g)
+r_remove_dir : (t : ServerTurn) (dir : ℕ) (x : List ℕ) (g : GrantNo) → Ruled t (bd.Name (Remove dir x g)) (sv.remove_dir t dir x g)
 unfolding sv.remove_dir sv.name_changed sv.name_refused
 r_remove_dir t dir x g = go (g.0 == 0) refl
   where
@@ -126,7 +126,7 @@ r_remove_dir t dir x g = go (g.0 == 0) refl
     go true q = by q (names.remove t.state.stable.names dir x)
     go false q = still t (bd.Name (Remove dir x g)) _ _ refl refl tt
 
-r_remove : (t : Turn) (h : Header) (dir : ℕ) (x : List ℕ) (g : GrantNo) (r : Res ℕ EntryRefusal) → Ruled t (bd.Name (Remove dir x g)) (sv.remove_found t h dir x g r)
+r_remove : (t : ServerTurn) (h : Header) (dir : ℕ) (x : List ℕ) (g : GrantNo) (r : Res ℕ EntryRefusal) → Ruled t (bd.Name (Remove dir x g)) (sv.remove_found t h dir x g r)
 unfolding sv.remove_found sv.remove_ino sv.remove_file sv.name_refused sv.not_holder
 r_remove t h dir x g (Err r) = still t (bd.Name (Remove dir x g)) _ _ refl refl tt
 r_remove t h dir x g (Ok ino) =
@@ -134,7 +134,7 @@ r_remove t h dir x g (Ok ino) =
     (r_if t (bd.Name (Remove dir x g)) (sv.holds t h ino g modes.X) _ _ (r_removed t dir x g _) (still t (bd.Name (Remove dir x g)) _ _ refl refl tt))
     (r_remove_dir t dir x g)
 
-r_name : (t : Turn) (h : Header) (op : NameOp) → Ruled t (bd.Name op) (sv.name t h op)
+r_name : (t : ServerTurn) (h : Header) (op : NameOp) → Ruled t (bd.Name op) (sv.name t h op)
 unfolding sv.name sv.remove
 r_name t h (Lookup dir x) = r_found t (bd.Name (Lookup dir x)) (λ b. tt) _
 r_name t h (Create dir x) = r_changed t (bd.Name (Create dir x)) (λ b. tt) _
@@ -143,7 +143,7 @@ r_name t h (Remove dir x g) = r_remove t h dir x g _
 r_name t h (Rename dir x dir2 x2) = r_changed t (bd.Name (Rename dir x dir2 x2)) (λ b. tt) _
 r_name t h (ListFrom dir after) = r_listed t (bd.Name (ListFrom dir after)) (λ b. tt) _
 
-r_rule : (t : Turn) (now : Stamp) (h : Header) (b : Body) → Ruled t b (rule t now h b)
+r_rule : (t : ServerTurn) (now : Stamp) (h : Header) (b : Body) → Ruled t b (rule t now h b)
 unfolding rule sv.keep_alive sv.acquire sv.acquire_lock sv.no_file sv.released sv.released_by sv.map sv.map_held sv.map_page sv.not_holder sv.allocate sv.allocate_held sv.allocate_pages sv.cut sv.cut_held sv.cut_from sv.with_extents_told sv.cut_pages
 r_rule t now h bd.KeepAlive = still t bd.KeepAlive _ _ refl refl tt
 r_rule t now h (bd.Acquire i x) = r_if t (bd.Acquire i x) (sv.is_file t i) _ _ (r_acquire t (bd.Acquire i x) (λ b. tt) i x _) (still t (bd.Acquire i x) _ _ refl refl tt)
@@ -157,18 +157,18 @@ r_rule t now h (bd.Name op) = r_name t h op
 r_rule t now h b = inl (record { out = refl; none = λ c q. cc q })
 
 -- The session of a client keeps this reply, to the last request.
-pub record Keeps (t : Turn) (h : Header) (b : Body) : Type 0 where
+pub record Keeps (t : ServerTurn) (h : Header) (b : Body) : Type 0 where
   pub session : Session
   pub is : sessions.session_of t.state.sessions (sender h) ≡ Some session
   pub of_life : session.life.0 ≡ h.life
   pub kept : session.state ≡ states.Live h.number (Some b)
 
 -- each cut that was noted is by a request to which this is replied
-abbrev pub AllCutBy : Body → Turn → Body → Type 0
+abbrev pub AllCutBy : Body → ServerTurn → Body → Type 0
 AllCutBy asked t b = (f : FileId) (p : PageNo) → Has (outputs.Note (notes.CutDone f p)) t.out → CutsBy asked f b
 
 -- a cut was noted: the request is served, and its reply is kept
-pub record CutKept (h : Header) (asked : Body) (t : Turn) : Type 0 where
+pub record CutKept (h : Header) (asked : Body) (t : ServerTurn) : Type 0 where
   pub reply : Body
   pub keeps : Keeps t h reply
   pub cuts : AllCutBy asked t reply
@@ -177,21 +177,21 @@ pub record CutKept (h : Header) (asked : Body) (t : Turn) : Type 0 where
 abbrev Never : FileId → PageNo → Type 0
 Never f p = ⊥
 
-abbrev Uncut : Turn → Type 0
+abbrev Uncut : ServerTurn → Type 0
 Uncut t = Noted Never t
 
-abbrev Fine : Header → Body → Turn → Type 0
+abbrev Fine : Header → Body → ServerTurn → Type 0
 Fine h asked t = Uncut t ⊎ CutKept h asked t
 
 -- What ends a step keeps the replies of sessions, and notes no cut.
-record Stays (t u : Turn) : Type 0 where
+record Stays (t u : ServerTurn) : Type 0 where
   pub sessions_ : u.state.sessions ≡ t.state.sessions
   pub notes_ : (f : FileId) (p : PageNo) → Has (outputs.Note (notes.CutDone f p)) u.out → Has (outputs.Note (notes.CutDone f p)) t.out
 
-still_so : (t : Turn) → Stays t t
+still_so : (t : ServerTurn) → Stays t t
 still_so t = record { sessions_ = refl; notes_ = λ f p i. i }
 
-then_so : (t u v : Turn) → Stays t u → Stays u v → Stays t v
+then_so : (t u v : ServerTurn) → Stays t u → Stays u v → Stays t v
 then_so t u v a b = record { sessions_ = b.sessions_ ∙ a.sessions_; notes_ = λ f p i. a.notes_ f p (b.notes_ f p i) }
 
 -- one more output
@@ -203,39 +203,39 @@ note_back out o n f p i = go (has_append out (o ∷ []) (outputs.Note (notes.Cut
     go (inr (inl e)) = absurd (n f p e)
     go (inr (inr j)) = absurd j
 
-say_so : (t : Turn) (o : Output) → ((f : FileId) (p : PageNo) → outputs.Note (notes.CutDone f p) ≡ o → ⊥) → Stays t (sv.say t o)
+say_so : (t : ServerTurn) (o : Output) → ((f : FileId) (p : PageNo) → outputs.Note (notes.CutDone f p) ≡ o → ⊥) → Stays t (sv.say t o)
 say_so t o n = record { sessions_ = refl; notes_ = note_back t.out o n }
 
-s_suspects : (now : Stamp) (cs : List ClientId) (t : Turn) → Stays t (sv.suspect_each now cs t)
+s_suspects : (now : Stamp) (cs : List ClientId) (t : ServerTurn) → Stays t (sv.suspect_each now cs t)
 unfolding sv.suspect_each sv.suspect_unless sv.suspect_client
 s_suspects now [] t = still_so t
 s_suspects now (c ∷ cs) t =
     then_so t (sv.suspect_unless t now c) (sv.suspect_each now cs (sv.suspect_unless t now c))
     (if_either (Stays t) (authority.may_ack t.state.authority c) _ _ (record { sessions_ = refl; notes_ = note_back t.out _ (λ f p e. cc e) }) (still_so t)) (s_suspects now cs (sv.suspect_unless t now c))
 
-s_suspecting : (t : Turn) (now : Stamp) (m : Message) → Stays t (sv.suspecting_on t now (Control m))
+s_suspecting : (t : ServerTurn) (now : Stamp) (m : Message) → Stays t (sv.suspecting_on t now (Control m))
 unfolding sv.suspecting_on
 s_suspecting t now m = still_so t
 
-s_granted : (rs : List (ClientId × Life × ℕ × GrantNo × Mode)) (t : Turn) → Stays t (sv.tell_granted rs t)
+s_granted : (rs : List (ClientId × Life × ℕ × GrantNo × Mode)) (t : ServerTurn) → Stays t (sv.tell_granted rs t)
 unfolding sv.tell_granted sv.tell
 s_granted [] t = still_so t
 s_granted (r ∷ rs) t = then_so t (sv.tell t r.0 r.1 (bd.Granted r.2 r.3 r.4)) (sv.tell_granted rs (sv.tell t r.0 r.1 (bd.Granted r.2 r.3 r.4))) (say_so t _ (λ f p e. cc e)) (s_granted rs (sv.tell t r.0 r.1 (bd.Granted r.2 r.3 r.4)))
 
-s_granting : (t : Turn) (now : Stamp) → Stays t (sv.granting t now)
+s_granting : (t : ServerTurn) (now : Stamp) → Stays t (sv.granting t now)
 unfolding sv.granting sv.grant_waiting sv.grant_by
 s_granting t now = if_either (Stays t) (sv.in_grace t now) t _ (still_so t) (let z = s_granted (locks.next_grants t.state.locks).granted (sv.with_locks (locks.next_grants t.state.locks).locks t) in record { sessions_ = z.sessions_; notes_ = z.notes_ })
 
-s_demanded : (rs : List (ClientId × Life × ℕ × GrantNo × Mode)) (t : Turn) → Stays t (sv.tell_demanded rs t)
+s_demanded : (rs : List (ClientId × Life × ℕ × GrantNo × Mode)) (t : ServerTurn) → Stays t (sv.tell_demanded rs t)
 unfolding sv.tell_demanded sv.tell
 s_demanded [] t = still_so t
 s_demanded (r ∷ rs) t = then_so t (sv.tell t r.0 r.1 (bd.Demand r.2 r.3 r.4)) (sv.tell_demanded rs (sv.tell t r.0 r.1 (bd.Demand r.2 r.3 r.4))) (say_so t _ (λ f p e. cc e)) (s_demanded rs (sv.tell t r.0 r.1 (bd.Demand r.2 r.3 r.4)))
 
-s_demanding : (t : Turn) (now : Stamp) (m : Message) → Stays t (sv.demanding t now (Control m))
+s_demanding : (t : ServerTurn) (now : Stamp) (m : Message) → Stays t (sv.demanding t now (Control m))
 unfolding sv.demanding sv.demand_by
 s_demanding t now m = let z = s_demanded _ _ in record { sessions_ = z.sessions_; notes_ = z.notes_ }
 
-kept_on : (h : Header) (asked : Body) (t u : Turn) → Stays t u → CutKept h asked t → CutKept h asked u
+kept_on : (h : Header) (asked : Body) (t u : ServerTurn) → Stays t u → CutKept h asked t → CutKept h asked u
 kept_on h asked t u s k =
     record {
       reply = k.reply;
@@ -260,10 +260,10 @@ stored t c number b x e f =
     go false q r = cc q
 
 -- A rule of a request leaves the sessions.
-rule_sessions : (t : Turn) (now : Stamp) (h : Header) (b : Body) → (rule t now h b).turn.state.sessions ≡ t.state.sessions
+rule_sessions : (t : ServerTurn) (now : Stamp) (h : Header) (b : Body) → (rule t now h b).turn.state.sessions ≡ t.state.sessions
 rule_sessions t now h b = (rules.r_rule (λ t. Unit {0}) (λ t x a b c o. tt) (λ t x o. tt) t now h b tt).1
 
-module _ (t : Turn) (n : Uncut t) (now : Stamp) (h : Header) (asked : Body) where
+module _ (t : ServerTurn) (n : Uncut t) (now : Stamp) (h : Header) (asked : Body) where
   f_served : sv.take t h ≡ takes.Fresh → Still t asked (rule t now h asked) ⊎ CutNoted t asked (rule t now h asked) → Fine h asked (serve h (rule t now h asked))
   unfolding serve keep keep_and_reply reply Noted
   f_served q (inl z) = inl (n_keep Never h (rule t now h asked).turn (rule t now h asked).reply (λ f p i. n f p (subst (Has (outputs.Note (notes.CutDone f p))) z.out i)))
@@ -336,16 +336,16 @@ pub cut_kept : (x : ServerState) (now : Stamp) (m : Message) (f : FileId) (p : P
 unfolding server_step take_input Noted
 cut_kept x now m f p i = go (f_receive (thefts (turn x []) now) (n_thefts Never x now) now m.header m.body)
   where
-    u : Turn
+    u : ServerTurn
     u = receive (thefts (turn x []) now) now m.header m.body
 
-    v : Turn
+    v : ServerTurn
     v = sv.suspecting_on u now (Control m)
 
-    w : Turn
+    w : ServerTurn
     w = sv.granting v now
 
-    last : Turn
+    last : ServerTurn
     last = sv.demanding w now (Control m)
 
     go : Fine m.header m.body (receive (thefts (turn x []) now) now m.header m.body) → CutKept m.header m.body (sv.demanding (sv.granting (sv.suspecting_on (receive (thefts (turn x []) now) now m.header m.body) now (Control m)) now) now (Control m))

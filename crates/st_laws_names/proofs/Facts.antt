@@ -11,7 +11,7 @@ use Rattle.st_laws_refine.specs.Server.Pair.{terms_of}
 use Rattle.st_laws_leases.specs.Sides.Law.{InEveryRun}
 use Rattle.st_laws_leases.proofs.Sides.Runs.{throughout_events}
 use Rattle.st_laws_names.specs.Keys.{RepliesAreOfTheirEvents}
-use Rattle.st_laws_names.specs.Once.{KeysHaveOneOperation}
+use Rattle.st_laws_names.specs.OutstandingKeys.{KeysHaveOneOperation}
 use Rattle.st_laws_names.proofs.Changes.{ChangesHold, changes_begin}
 use Rattle.st_laws_names.proofs.Changes as changes
 use Rattle.st_laws_names.proofs.Keys.{KeysHold, keys_begin, keys_on}

@@ -21,7 +21,7 @@ use Rattle.st_rules.specs.ClientReplies as cr
 use Rattle.st_rules.specs.ClientState as cs
 use Rattle.st_rules.specs.ClientState.{ClientSession, Turn}
 use Rattle.st_lemmas.specs.Lists.{Has}
-use Rattle.st_laws_requests.specs.Replies.Reached.{KeptWhy}
+use Rattle.st_laws_requests.specs.Replies.ServedRequests.{KeptWhy}
 use Rattle.st_base.specs.declared.names.NameAsk.{NameAsk}
 
 pub clash : {A : Type 0} {b : Bool} → b ≡ true → b ≡ false → A

@@ -518,7 +518,7 @@ module _ (S : ℕ → Type 0) (Key : ServerId → ℕ → ℕ → ℕ → ℕ �
       w_nack t x y a b f e from w lf ep = subst (λ b. W (cr.reply_of t x now h b)) f (w_reply t x e from w (subst Counts (sym f) tt) lf ep)
 
       w_demand : (t : Turn) (x : ClientSession) (ino : ℕ) (g : GrantNo) (to : Mode) → t.here.session ≡ Some x → W t → W (cr.demand t x ino g to)
-      unfolding cr.demand cr.demand_by cr.demand_as cr.see_demand cr.release_unheld cs.send
+      unfolding cr.demand cr.demand_by cr.demand_as cr.observe_demand cr.release_unheld cs.send
       w_demand t x ino g to e w = by (locks.demand x.locks ino g to).asked
         where
           l : ClientSession
@@ -546,16 +546,16 @@ module _ (S : ℕ → Type 0) (Key : ServerId → ℕ → ℕ → ℕ → ℕ �
           go (bodies.Demand ino g to) f = w_demand t x ino g to e w
           go b f = replied b f tt
 
-      pub w_hear : (t : Turn) → W t → W (cr.receive_at now h m t)
+      pub w_receive : (t : Turn) → W t → W (cr.receive_at now h m t)
       unfolding cr.receive_at cr.by_session cr.with_a_session
-      w_hear t w = if_case W (cr.is_heard t now h) (cr.by_session t now h m t.here.session) t heard (λ f. w)
+      w_receive t w = if_case W (cr.is_received t now h) (cr.by_session t now h m t.here.session) t received (λ f. w)
         where
           by : h.from ≡ server_node t.here.server → h.life ≡ t.here.life.0 → (o : Option ClientSession) → t.here.session ≡ o → W (cr.by_session t now h m o)
           by from lf None e = w_without t now h m e w
           by from lf (Some x) e = if_case W (h.epoch == x.epoch.0) _ _ (λ f. w_of_epoch t x m refl e from w lf (eqb-true h.epoch x.epoch.0 f)) (λ f. w_of_other t x _ m w)
 
-          heard : cr.is_heard t now h ≡ true → W (cr.by_session t now h m t.here.session)
-          heard f =
+          received : cr.is_received t now h ≡ true → W (cr.by_session t now h m t.here.session)
+          received f =
               let z = and_true (h.from == server_node t.here.server) _ f in
               by (eqb-true _ _ z.0) (eqb-true _ _ (and_true (h.life == t.here.life.0) _ z.1).0) t.here.session refl
 
@@ -851,8 +851,8 @@ module _ (S : ℕ → Type 0) (Key : ServerId → ℕ → ℕ → ℕ → ℕ �
         new : Operation
         new = cs.new_operation op ask
 
-        pended : cs.is_at (server_of ask) t.here ≡ true → W (cs.keep new t)
-        pended at = record { base = record { server = w.base.server; fine = λ o h. fine o (has_append t.operations (new ∷ []) o h); said = w.base.said }; asked = λ o h z e. asked o (has_append t.operations (new ∷ []) o h) z e }
+        enqueued : cs.is_at (server_of ask) t.here ≡ true → W (cs.keep new t)
+        enqueued at = record { base = record { server = w.base.server; fine = λ o h. fine o (has_append t.operations (new ∷ []) o h); said = w.base.said }; asked = λ o h z e. asked o (has_append t.operations (new ∷ []) o h) z e }
           where
             own : cs.is_of t.here.server new ≡ true
             own = eq-eqb (server_of ask).0 t.here.server.0 (sym (eqb-true t.here.server.0 (server_of ask).0 at))
@@ -874,5 +874,5 @@ module _ (S : ℕ → Type 0) (Key : ServerId → ℕ → ℕ → ℕ → ℕ �
         told_lost f = w_say (cs.with_lost_rows (pages.untold t.here.lost f.ino) t) _ (λ z. absurd (n z)) w
 
         by : cs.is_at (server_of ask) t.here ≡ true → (a : Ask) → W (cl.take_by t op ask a)
-        by at (asks.Sync f) = if_w (pages.has_lost t.here.lost f.ino) _ _ (told_lost f) (pended at)
-        by at a = pended at
+        by at (asks.Sync f) = if_w (pages.has_lost t.here.lost f.ino) _ _ (told_lost f) (enqueued at)
+        by at a = enqueued at

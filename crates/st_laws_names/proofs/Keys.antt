@@ -24,7 +24,7 @@ use Rattle.st_rules.specs.Events.{WorldTurn, world_step}
 use Rattle.st_rules.specs.History.{Traced, traced_after}
 use Rattle.st_rules.specs.Keys.{server_node}
 use Rattle.st_rules.specs.Safety.{Step, step}
-use Rattle.st_rules.specs.World.{ClientSite, World, clock_of, fresh_world, numbered, site_of, with_numbered}
+use Rattle.st_rules.specs.World.{WorldClient, World, clock_of, fresh_world, numbered, site_of, with_numbered}
 use Rattle.st_protocol.specs.Assoc.{Config}
 use Rattle.st_lemmas.specs.Lists.{Has}
 use Rattle.st_lemmas.proofs.Lookups.{some_is}
@@ -48,7 +48,7 @@ use Rattle.st_laws_cuts.proofs.Law.{AllHold}
 use Rattle.st_laws_cuts.proofs.Words.{asked_more}
 use Rattle.st_promises.specs.NameAnswers.{is_of_names}
 use Rattle.st_laws_names.specs.Keys.{RepliesTo}
-use Rattle.st_laws_names.specs.Once.{SameKey, WaitsUnder}
+use Rattle.st_laws_names.specs.OutstandingKeys.{SameKey, WaitsUnder}
 use Rattle.st_laws_names.proofs.World.{Asked, Worlds, none_waits, waits_at}
 
 -- Of operations that waited under one key all are one.
@@ -81,7 +81,7 @@ pub record IsTold (past : List Step) (w : World) (c : ClientId) (op : ℕ) (a : 
 
 -- a client has an association with a server
 pub record Place (w : World) (c : ClientId) (s : ServerId) : Type 0 where
-  pub site : ClientSite
+  pub site : WorldClient
   pub at : site_of w c ≡ Some site
   pub association : Association
   pub among : Has association site.node.state.associations
@@ -144,15 +144,15 @@ module _ (k : Config) (count : ℕ) (past : List Step) (t : Traced) (e : Event) 
     pub was : ((m : Message) → Has m M → Keyed c s life epoch number m → ⊥) ⊎ Before c op s life epoch number
 
   -- what became of a client: it stays, takes a step, or has no operation
-  record Took (c : ClientId) (site : ClientSite) : Type 0 where
+  record Took (c : ClientId) (site : WorldClient) : Type 0 where
     pub run : site.node.running ≡ true
     pub waits : (a : Association) → Has a site.node.state.associations → (o : Operation) → Has o site.node.state.operations → cs.is_asked a.server o ≡ true → Waits (Only c) a.server a.life.0 (cuts.view a.session) o
 
-  abbrev Fate : ClientId → ClientSite → Type 0
+  abbrev Fate : ClientId → WorldClient → Type 0
   Fate c site = (site_of t.world c ≡ Some site) ⊎ (Took c site ⊎ (site.node.state.operations ≡ []))
 
   -- A client that takes a step.
-  module _ (c : ClientId) (i : ClientInput) (now : Stamp) (site old : ClientSite) (same : site.node ≡ old.node) (next : Comes t.world i) (run : site.node.running ≡ true) (was : site_of t.world c ≡ Some old) where
+  module _ (c : ClientId) (i : ClientInput) (now : Stamp) (site old : WorldClient) (same : site.node ≡ old.node) (next : Comes t.world i) (run : site.node.running ≡ true) (was : site_of t.world c ≡ Some old) where
     abbrev Any : ℕ → Ask → Type 0
     Any op ask = Unit {0}
 
@@ -257,18 +257,18 @@ module _ (k : Config) (count : ℕ) (past : List Step) (t : Traced) (e : Event) 
     takes = stepped M c Any (Only c) Done fresh Told ends site.node.state now i (input i next) begins
 
   -- a message that comes was sent
-  comes : (c : ClientId) (i : ClientInput) (site old : ClientSite) → NextAsk t.world i old site → Comes t.world i
+  comes : (c : ClientId) (i : ClientInput) (site old : WorldClient) → NextAsk t.world i old site → Comes t.world i
   comes c inputs.Tick site old g = tt
   comes c (inputs.App op ask) site old g = tt
   comes c (inputs.Control m) site old g = g
   comes c (inputs.Done number result) site old g = tt
 
   -- what a client sends in a step is its own
-  pub sends_own : (c : ClientId) (i : ClientInput) (now : Stamp) (site old : ClientSite) → site.node ≡ old.node → Comes t.world i → site.node.running ≡ true → site_of t.world c ≡ Some old → (m : Message) →
+  pub sends_own : (c : ClientId) (i : ClientInput) (now : Stamp) (site old : WorldClient) → site.node ≡ old.node → Comes t.world i → site.node.running ≡ true → site_of t.world c ≡ Some old → (m : Message) →
       Has (outputs.Send m) (cl.client_step site.node.state now i).out → m.header.from ≡ c.0
   sends_own c i now site old same next run was m j = (takes c i now site old same next run was).from m j
 
-  fate : (c : ClientId) (site : ClientSite) → site_of sc.world c ≡ Some site → Fate c site
+  fate : (c : ClientId) (site : WorldClient) → site_of sc.world c ≡ Some site → Fate c site
   fate =
       event_does t.world (λ s m at. (h.base.cuts.servers s m at).id) Result
       (λ u cs ms silent q c site at. inl (ap (λ z. numbered z c.0) (sym cs ∙ ap (λ (w : WorldTurn). w.world.clients) q) ∙ at))
@@ -277,10 +277,10 @@ module _ (k : Config) (count : ℕ) (past : List Step) (t : Traced) (e : Event) 
       (λ c old new was z u cs ms silent q y r at. left c old new was z (sym (ap (λ (w : WorldTurn). w.world.clients) q) ∙ cs) y r at) e sc taken refl
     where
       Result : WorldTurn → Type 0
-      Result u = u ≡ sc → (c : ClientId) (site : ClientSite) → site_of sc.world c ≡ Some site → Fate c site
+      Result u = u ≡ sc → (c : ClientId) (site : WorldClient) → site_of sc.world c ≡ Some site → Fate c site
 
-      took : (v : World) (c : ClientId) (i : ClientInput) (site old : ClientSite) → site.node ≡ old.node → Comes t.world i → site.node.running ≡ true → site_of t.world c ≡ Some old → sc.world.clients ≡ with_numbered c.0 (SiteAfter v c i site) t.world.clients →
-          (y : ClientId) (r : ClientSite) → site_of sc.world y ≡ Some r → Fate y r
+      took : (v : World) (c : ClientId) (i : ClientInput) (site old : WorldClient) → site.node ≡ old.node → Comes t.world i → site.node.running ≡ true → site_of t.world c ≡ Some old → sc.world.clients ≡ with_numbered c.0 (SiteAfter v c i site) t.world.clients →
+          (y : ClientId) (r : WorldClient) → site_of sc.world y ≡ Some r → Fate y r
       took v c i site old same next run was clients y r at = go (set_cases t.world.clients c.0 y.0 old (SiteAfter v c i site) r was (ap (λ w. numbered w y.0) (sym clients) ∙ at))
         where
           own : Took c (SiteAfter v c i site)
@@ -290,11 +290,11 @@ module _ (k : Config) (count : ℕ) (past : List Step) (t : Traced) (e : Event) 
           go (inl q) = inr (inl (subst (λ m. Took (record { 0 = m }) r) (sym q.0) (subst (Took c) (sym q.1) own)))
           go (inr q) = inl q.1
 
-      left : (c : ClientId) (old new : ClientSite) → site_of t.world c ≡ Some old → IsEmptied old new → sc.world.clients ≡ with_numbered c.0 new t.world.clients → (y : ClientId) (r : ClientSite) → site_of sc.world y ≡ Some r → Fate y r
+      left : (c : ClientId) (old new : WorldClient) → site_of t.world c ≡ Some old → IsEmptied old new → sc.world.clients ≡ with_numbered c.0 new t.world.clients → (y : ClientId) (r : WorldClient) → site_of sc.world y ≡ Some r → Fate y r
       left c old new was z clients y r at = go (set_cases t.world.clients c.0 y.0 old new r was (ap (λ w. numbered w y.0) (sym clients) ∙ at))
         where
           go : ((y.0 ≡ c.0) × (r ≡ new)) ⊎ ((y.0 ≢ c.0) × (site_of t.world y ≡ Some r)) → Fate y r
-          go (inl q) = inr (inr (ap (λ (u : ClientSite). u.node.state.operations) q.1 ∙ z.operations))
+          go (inl q) = inr (inr (ap (λ (u : WorldClient). u.node.state.operations) q.1 ∙ z.operations))
           go (inr q) = inl q.1
 
   -- An association that a client had it has behind the event.
@@ -309,14 +309,14 @@ module _ (k : Config) (count : ℕ) (past : List Step) (t : Traced) (e : Event) 
       Result u = u ≡ sc → (c : ClientId) (s : ServerId) → Place t.world c s → Place sc.world c s
 
       -- another client is put at its place
-      placed : (c : ClientId) (old new : ClientSite) → site_of t.world c ≡ Some old → sc.world.clients ≡ with_numbered c.0 new t.world.clients → ((a : Association) → Has a old.node.state.associations → (b : Association) × Has b new.node.state.associations × (b.server ≡ a.server)) →
+      placed : (c : ClientId) (old new : WorldClient) → site_of t.world c ≡ Some old → sc.world.clients ≡ with_numbered c.0 new t.world.clients → ((a : Association) → Has a old.node.state.associations → (b : Association) × Has b new.node.state.associations × (b.server ≡ a.server)) →
           (y : ClientId) (s : ServerId) → Place t.world y s → Place sc.world y s
       placed c old new was clients kept y s z = go (same_or_not y.0 c.0)
         where
           own : y.0 ≡ c.0 → Place sc.world y s
           own e =
               let is : z.site ≡ old = some_is (sym z.at ∙ ap (λ m. numbered t.world.clients m) e ∙ was) in
-              let b = kept z.association (subst (λ (v : ClientSite). Has z.association v.node.state.associations) is z.among) in
+              let b = kept z.association (subst (λ (v : WorldClient). Has z.association v.node.state.associations) is z.among) in
               record { site = new; at = ap (λ m. numbered sc.world.clients m) e ∙ ap (λ w. numbered w c.0) clients ∙ numbered_own t.world.clients c.0 new old was; association = b.0; among = b.1; server = b.2 ∙ z.server }
 
           go : (y.0 ≡ c.0) ⊎ (y.0 ≢ c.0) → Place sc.world y s
@@ -330,7 +330,7 @@ module _ (k : Config) (count : ℕ) (past : List Step) (t : Traced) (e : Event) 
                 server = z.server;
               }
 
-      took : (v : World) (c : ClientId) (i : ClientInput) (site old : ClientSite) → site.node ≡ old.node → site_of t.world c ≡ Some old → sc.world.clients ≡ with_numbered c.0 (SiteAfter v c i site) t.world.clients → (y : ClientId) (s : ServerId) → Place t.world y s → Place sc.world y s
+      took : (v : World) (c : ClientId) (i : ClientInput) (site old : WorldClient) → site.node ≡ old.node → site_of t.world c ≡ Some old → sc.world.clients ≡ with_numbered c.0 (SiteAfter v c i site) t.world.clients → (y : ClientId) (s : ServerId) → Place t.world y s → Place sc.world y s
       took v c i site old same was clients = placed c old (SiteAfter v c i site) was clients kept
         where
           node : NodeHolds t.world.config t.world.clocks t.world.ended c site.node
@@ -342,7 +342,7 @@ module _ (k : Config) (count : ℕ) (past : List Step) (t : Traced) (e : Event) 
               (subst (λ (m : cl.ClientNode). Has a m.state.associations) (sym same) j) in
               (b.0, b.1, sym b.2.server)
 
-      left : (c : ClientId) (old new : ClientSite) → site_of t.world c ≡ Some old → IsEmptied old new → sc.world.clients ≡ with_numbered c.0 new t.world.clients → (y : ClientId) (s : ServerId) → Place t.world y s → Place sc.world y s
+      left : (c : ClientId) (old new : WorldClient) → site_of t.world c ≡ Some old → IsEmptied old new → sc.world.clients ≡ with_numbered c.0 new t.world.clients → (y : ClientId) (s : ServerId) → Place t.world y s → Place sc.world y s
       left c old new was g clients = placed c old new was clients g.kept
 
   -- An operation that waits behind the event waited before it, or its client took a step.
@@ -448,7 +448,7 @@ module _ (k : Config) (count : ℕ) (past : List Step) (t : Traced) (e : Event) 
       good = (n.base.cuts.clients c x.site x.at).all z.run x.association x.among
 
       there : Has y.operation x.site.node.state.operations
-      there = subst (λ (v : ClientSite). Has y.operation v.node.state.operations) (sym site) y.there
+      there = subst (λ (v : WorldClient). Has y.operation v.node.state.operations) (sym site) y.there
 
       asked1 : cs.is_asked x.association.server x.operation ≡ true
       asked1 = subst (λ v. cs.is_asked v x.operation ≡ true) (sym x.server) x.asked
@@ -540,7 +540,7 @@ module _ (k : Config) (count : ℕ) (past : List Step) (t : Traced) (e : Event) 
       Result : WorldTurn → Type 0
       Result u = u ≡ sc → (c : ClientId) (op : ℕ) (a : AppAnswer) → Has (seen.Answered c op a) sc.seen → is_told a ≡ true → IsTold past t.world c op a
 
-      took : (v : World) (c : ClientId) (i : ClientInput) (site old : ClientSite) → site.node ≡ old.node → Comes t.world i → site.node.running ≡ true → site_of t.world c ≡ Some old → (y : ClientId) (op : ℕ) (a : AppAnswer) →
+      took : (v : World) (c : ClientId) (i : ClientInput) (site old : WorldClient) → site.node ≡ old.node → Comes t.world i → site.node.running ≡ true → site_of t.world c ≡ Some old → (y : ClientId) (op : ℕ) (a : AppAnswer) →
           Has (seen.Answered y op a) [] ⊎ AnswerOf c y op a (ClientTook v c i site).out → is_told a ≡ true → IsTold past t.world y op a
       took v c i site old same next run was y op a (inl j) f = absurd j
       took v c i site old same next run was y op a (inr z) f =

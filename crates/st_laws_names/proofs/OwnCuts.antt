@@ -29,15 +29,15 @@ use Rattle.st_lemmas.proofs.Lookups.{some_is}
 use Rattle.st_lemmas.proofs.Tables.{all_pass, and_both, and_true}
 use Rattle.st_laws_leases.specs.Dates.Dates.{messages}
 use Rattle.st_laws_requests.specs.Cuts.Cuts.{Keyed, asks_of}
-use Rattle.st_laws_requests.specs.Replies.Reached.{KeptWhy}
+use Rattle.st_laws_requests.specs.Replies.ServedRequests.{KeptWhy}
 use Rattle.st_laws_requests.proofs.Cuts.Keeping.{Answers}
 use Rattle.st_promises.specs.CutAsks.{asks_cut, has_alone_at, is_uncertain, settles_in}
-use Rattle.st_laws_names.specs.Once.{SameKey}
+use Rattle.st_laws_names.specs.OutstandingKeys.{SameKey}
 use Rattle.st_laws_names.specs.Keys.{HasEvent, RepliesHaveEvents, ServedAt, ServedOnce, is_final, is_kept_why}
 use Rattle.st_promises.specs.Refusals.{cuts_in, is_done_answer, is_not_refused, is_not_refused_in, is_own_line}
 use Rattle.st_laws_names.proofs.Frames.{IsKeptRefusal}
 use Rattle.st_laws_names.proofs.Keys.{keyed_same}
-use Rattle.st_laws_names.proofs.World.{Asked, Heard, RepliesUnder, TellsOrRefuses}
+use Rattle.st_laws_names.proofs.World.{Asked, Received, RepliesUnder, TellsOrRefuses}
 
 -- An operation owns the event of a step: the server served its request then, and replied so.
 pub record Owns (past : List Step) (w : World) (y : Step) (c : ClientId) (op : ℕ) : Type 0 where
@@ -124,7 +124,7 @@ pub record Known (past : List Step) (w : World) : Type 0 where
   pub bodies_ : (c : ClientId) (op : ℕ) (k : Asked past w c op) (m p : Message) → Has m (messages w) → Has p (messages w) → Keyed c k.server k.life_ k.epoch_ k.number_ m → Keyed c k.server k.life_ k.epoch_ k.number_ p → m.body ≡ p.body
   pub events_ : RepliesHaveEvents past w
   pub once : ServedOnce past
-  pub answered : (c : ClientId) (op : ℕ) (k : Asked past w c op) (z : Step) → Has z past → (a : AppAnswer) → Has (seen.Answered c op a) z.seen → (is_uncertain a ≡ true) ⊎ Heard (TellsOrRefuses a) past w c op k
+  pub answered : (c : ClientId) (op : ℕ) (k : Asked past w c op) (z : Step) → Has z past → (a : AppAnswer) → Has (seen.Answered c op a) z.seen → (is_uncertain a ≡ true) ⊎ Received (TellsOrRefuses a) past w c op k
 
 -- a request to cut or for a name is no reassertion
 pub no_reassertion : (b : Body) → asks_cut_or_name b ≡ true → reasserts b ≡ true → ⊥
@@ -181,8 +181,8 @@ module _ (past : List Step) (w : World) (d : Known past w) where
     done_answer (asks.Name s (names.Remove dir x ino)) (bodies.Named (replies.Ino n)) a k (inr e) = absurd e
     done_answer ask r a k e = absurd k
 
-    heard : (a : AppAnswer) → Heard (TellsOrRefuses a) past w o.c o.op o.owns.waited → is_done_answer o.ask a ≡ true
-    heard a z = done_answer o.ask o.owns.reply a o.done (subst (TellsOrRefuses a) (sym same) z.says)
+    received : (a : AppAnswer) → Received (TellsOrRefuses a) past w o.c o.op o.owns.waited → is_done_answer o.ask a ≡ true
+    received a z = done_answer o.ask o.owns.reply a o.done (subst (TellsOrRefuses a) (sym same) z.says)
       where
         final : TellsOrRefuses a z.message.body → is_final z.message.body ≡ true
         final (inl k) = answers_final z.message.body a k
@@ -198,9 +198,9 @@ module _ (past : List Step) (w : World) (d : Known past w) where
         either true c e = refl
         either false c e = e
 
-        go : (is_uncertain a ≡ true) ⊎ Heard (TellsOrRefuses a) past w o.c o.op o.owns.waited → (is_uncertain a || is_done_answer o.ask a) ≡ true
+        go : (is_uncertain a ≡ true) ⊎ Received (TellsOrRefuses a) past w o.c o.op o.owns.waited → (is_uncertain a || is_done_answer o.ask a) ≡ true
         go (inl e) = ap (λ b. b || is_done_answer o.ask a) e
-        go (inr h) = either (is_uncertain a) _ (heard a h)
+        go (inr h) = either (is_uncertain a) _ (received a h)
 
     not_refused : (z : Step) → Has z past → (x : Observation) → Has x z.seen → is_not_refused o.ask o.c o.op x ≡ true
     not_refused z j (seen.Answered e n a) k = go ((e.0 == o.c.0) && (n == o.op)) refl

@@ -44,7 +44,7 @@ use Rattle.st_laws_names.specs.Keys.{HasEvent, NamesDid, RepliesHaveEvents, Repl
 use Rattle.st_laws_names.proofs.World.{Asked, Worlds}
 use Rattle.st_laws_names.proofs.Rows.{Known}
 use Rattle.st_laws_names.proofs.Keys.{IsRequested, IsTold, OneOperations}
-use Rattle.st_laws_names.specs.Once.{SameKey, WaitsUnder}
+use Rattle.st_laws_names.specs.OutstandingKeys.{SameKey, WaitsUnder}
 use Rattle.st_laws_names.specs.Owners.{AsksOwnChanges, Owner, Owns}
 use Rattle.st_laws_names.proofs.NamedInodes.{named_changes}
 
@@ -74,7 +74,7 @@ is_kept_refusal (bodies.Nack w a b) = is_kept_why w
 is_kept_refusal b = false
 
 -- an answer to what asked before tells a final reply under its key: `uncertain` alone does not
-pub record Heard (past : List Step) (w : World) (c : ClientId) (op : ℕ) (a : AppAnswer) (k : Asked past w c op) : Type 0 where
+pub record Received (past : List Step) (w : World) (c : ClientId) (op : ℕ) (a : AppAnswer) (k : Asked past w c op) : Type 0 where
   pub message : Message
   pub among : Has message (messages w)
   pub replies : RepliesTo c k.server k.life_ k.epoch_ k.number_ message
@@ -88,7 +88,7 @@ pub record Facts (past : List Step) (x : Step) : Type 0 where
   pub requested : (c : ClientId) (op : ℕ) (k : Asked (past ++ x ∷ []) x.after.world c op) → IsRequested (past ++ x ∷ []) x.after.world c op k.server k.life_ k.epoch_ k.number_
   pub one_body : (c : ClientId) (op : ℕ) (k : Asked (past ++ x ∷ []) x.after.world c op) (m p : Message) → Has m (messages x.after.world) → Has p (messages x.after.world) → Keyed c k.server k.life_ k.epoch_ k.number_ m → Keyed c k.server k.life_ k.epoch_ k.number_ p → m.body ≡ p.body
   pub told : (c : ClientId) (op : ℕ) (a : AppAnswer) → Has (seen.Answered c op a) x.seen → is_of_names a ≡ true → IsTold past x.before.world c op a
-  pub heard : (c : ClientId) (op : ℕ) (a : AppAnswer) → Has (seen.Answered c op a) x.seen → (k : Asked past x.before.world c op) → (is_uncertain a ≡ true) ⊎ Heard past x.before.world c op a k
+  pub received : (c : ClientId) (op : ℕ) (a : AppAnswer) → Has (seen.Answered c op a) x.seen → (k : Asked past x.before.world c op) → (is_uncertain a ≡ true) ⊎ Received past x.before.world c op a k
   pub events_ : RepliesHaveEvents past x.before.world
   pub one_event : (y z : Step) → Has y (past ++ x ∷ []) → Has z (past ++ x ∷ []) → (c : ClientId) (s : ServerId) (life epoch number : ℕ) (r q : Body) → ServedAt y c s life epoch number r → ServedAt z c s life epoch number q → y ≡ z
   pub once : (y : Step) → Has y past → (c : ClientId) (s : ServerId) (life epoch number : ℕ) (r q : Body) → ServedAt y c s life epoch number r → ServedAt x c s life epoch number q → ⊥
@@ -399,7 +399,7 @@ module _ (past : List Step) (x : Step) (f : Facts past x) where
       by : (i : Has o.at past) → Asked past x.before.world c op
       by i = record { at = o.at.after.world; among = inl (o.at, i, refl); server = s; life_ = o.life_; epoch_ = o.epoch_; number_ = o.number_; waits = o.waits }
 
-      known : (j : Has o.at past) → (is_uncertain a ≡ true) ⊎ Heard past x.before.world c op a (by j) → (is_uncertain a || says_in s ask a y) ≡ true
+      known : (j : Has o.at past) → (is_uncertain a ≡ true) ⊎ Received past x.before.world c op a (by j) → (is_uncertain a || says_in s ask a y) ≡ true
       known j (inl q) = ap (λ b. b || says_in s ask a y) q
       known j (inr m) = or_right (is_uncertain a) _ (subst (λ b. says_in s ask b y ≡ true) (sym (tells m.message.body reply.0 a reply.1 m.says)) (says_so y s ask reply.0 (said_of y c s o.life_ o.epoch_ o.number_ m.message.body at_y ask means reply.0 reply.1)))
         where
@@ -419,7 +419,7 @@ module _ (past : List Step) (x : Step) (f : Facts past x) where
           reply = named_reply y c s o.life_ o.epoch_ o.number_ m.message.body at_y ask means e
 
       go : Has o.at past ⊎ Has o.at (x ∷ []) → (is_uncertain a || says_in s ask a y) ≡ true
-      go (inl j) = known j (f.heard c op a h (by j))
+      go (inl j) = known j (f.received c op a h (by j))
       go (inr (inl q)) = clash here (f.unsaid c op s o.life_ o.epoch_ o.number_ (subst (λ (w : Step). WaitsUnder w.after.world c s o.life_ o.epoch_ o.number_ op) q o.waits))
       go (inr (inr j)) = absurd j
 

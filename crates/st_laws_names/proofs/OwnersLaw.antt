@@ -37,16 +37,16 @@ use Rattle.st_laws_leases.proofs.Sides.Runs.{throughout_events}
 use Rattle.st_laws_requests.proofs.Cuts.Keeping.{Answers}
 use Rattle.st_laws_requests.proofs.Cuts.Names.{names_same}
 use Rattle.st_laws_requests.specs.Cuts.Cuts.{AsksFor, asks_of}
-use Rattle.st_laws_requests.specs.Replies.Reached.{KeptWhy}
+use Rattle.st_laws_requests.specs.Replies.ServedRequests.{KeptWhy}
 use Rattle.st_laws_extents.specs.CutRequests.Law.{gifts}
 use Rattle.st_promises.specs.CutAsks.{is_uncertain, settles_in}
 use Rattle.st_promises.specs.NameAnswers.{changes_at, changes_in, is_of_names, same_names}
 use Rattle.st_promises.specs.NamesOnce.{NamesChangeOnce}
 use Rattle.st_laws_cuts.proofs.Open.{numbers_has}
 use Rattle.st_laws_names.specs.Keys.{ServedAt, is_kept_why}
-use Rattle.st_laws_names.specs.Once.{SameKey, WaitsUnder}
+use Rattle.st_laws_names.specs.OutstandingKeys.{SameKey, WaitsUnder}
 use Rattle.st_laws_names.specs.Owners.{AsksOwnChanges}
-use Rattle.st_laws_names.proofs.World.{Asked, Heard, TellsOrRefuses}
+use Rattle.st_laws_names.proofs.World.{Asked, Received, TellsOrRefuses}
 use Rattle.st_laws_names.proofs.World as once
 use Rattle.st_laws_names.proofs.Frames.{IsKeptRefusal}
 use Rattle.st_laws_names.proofs.Behind.{Behind, behind}
@@ -199,10 +199,10 @@ module _ (k : Config) (count : ℕ) (past : List Step) (t : Traced) (e : Event) 
   unsaid c op s life epoch number w = subst (λ i. list_any (answers_in c i) past2 ≡ false) w.is (n.changes_.names_.all.owners.unsaid c w.site w.at w.operation w.there)
 
   -- an answer to what asked before
-  heard : (c : ClientId) (op : ℕ) (a : AppAnswer) → Has (seen.Answered c op a) sc.seen → (q : Asked past t.world c op) → (is_uncertain a ≡ true) ⊎ owners.Heard past t.world c op a q
-  heard c op a i q = go (once.answered k count past t e sc h.changes_.names_.all n.changes_.names_.all taken h.changes_.names_.once c op a i q)
+  received : (c : ClientId) (op : ℕ) (a : AppAnswer) → Has (seen.Answered c op a) sc.seen → (q : Asked past t.world c op) → (is_uncertain a ≡ true) ⊎ owners.Received past t.world c op a q
+  received c op a i q = go (once.answered k count past t e sc h.changes_.names_.all n.changes_.names_.all taken h.changes_.names_.once c op a i q)
     where
-      go : (is_uncertain a ≡ true) ⊎ Heard (TellsOrRefuses a) past t.world c op q → (is_uncertain a ≡ true) ⊎ owners.Heard past t.world c op a q
+      go : (is_uncertain a ≡ true) ⊎ Received (TellsOrRefuses a) past t.world c op q → (is_uncertain a ≡ true) ⊎ owners.Received past t.world c op a q
       go (inl f) = inl f
       go (inr w) = inr (record { message = w.message; among = w.among; replies = record { from = w.replies.from; to = w.replies.to; of_life = w.replies.of_life; of_epoch = w.replies.of_epoch; under = w.replies.under }; says = says w.says })
         where
@@ -229,7 +229,7 @@ module _ (k : Config) (count : ℕ) (past : List Step) (t : Traced) (e : Event) 
         requested = n.keys.requested;
         one_body = λ c op q m p i j a b. one_body k count past2 (traced_after e t sc) n.changes_.names_.all c q.server (n.keys.places c op q) q.life_ q.epoch_ q.number_ (n.keys.requested c op q).first m p i j a b;
         told = λ c op a i f. told_on k count past t e sc h.changes_.names_.all n.changes_.names_.all taken h.keys c op a i (told_names a f);
-        heard = heard;
+        received = received;
         events_ = h.replies.replies;
         one_event = one_event_on;
         once = again;

@@ -57,14 +57,14 @@ use Rattle.st_laws_extents.proofs.CutRequests.Cutting.{step_cuts}
 use Rattle.st_laws_extents.proofs.CutRequests.Seen.{ServedStep, cuts_served}
 use Rattle.st_promises.specs.Acknowledgements.{is_cut_line}
 use Rattle.st_promises.specs.CutAsks.{asks_cut, has_alone_at, is_uncertain, numbered_asks, removes_file, settles_in}
-use Rattle.st_laws_cuts.specs.Over.{MeansTo}
-use Rattle.st_laws_cuts.specs.Served.{IsServedBy}
+use Rattle.st_laws_cuts.specs.EndedRequests.{MeansTo}
+use Rattle.st_laws_cuts.specs.ServedRequests.{IsServedBy}
 use Rattle.st_laws_cuts.proofs.Events.{same_epoch}
 use Rattle.st_laws_cuts.proofs.Law.{alone, asks_it}
 use Rattle.st_laws_cuts.proofs.Open.{numbers_has}
 use Rattle.st_laws_cuts.proofs.Words.{under_has}
 use Rattle.st_laws_names.specs.Keys.{HasEvent, ServedAt, is_final}
-use Rattle.st_laws_names.specs.Once.{SameKey, WaitsUnder}
+use Rattle.st_laws_names.specs.OutstandingKeys.{SameKey, WaitsUnder}
 use Rattle.st_promises.specs.Refusals.{RefusalsChangeNothing, cuts_in, is_all, is_of_cut}
 use Rattle.st_laws_names.proofs.Behind.{Behind, behind, not_past}
 use Rattle.st_laws_names.proofs.Changes.{past_same}
@@ -74,7 +74,7 @@ use Rattle.st_laws_names.proofs.Facts.{FactsHold, facts_begin, facts_on}
 use Rattle.st_laws_names.proofs.Keys.{keyed_same, one_body}
 use Rattle.st_laws_names.proofs.OwnCuts.{AllOwned, CutOwner, DoneBy, Grows, Known, Owns, all_grow, all_more, key_back, key_then, never_refused, no_reassertion, own_lines, same_event}
 use Rattle.st_laws_names.proofs.Rows.{worlds_on}
-use Rattle.st_laws_names.proofs.World.{Asked, Heard, TellsOrRefuses, Worlds}
+use Rattle.st_laws_names.proofs.World.{Asked, Received, TellsOrRefuses, Worlds}
 use Rattle.st_laws_names.proofs.World as once
 
 -- the line of a cut among these
@@ -95,7 +95,7 @@ there (o ∷ os) e = go o refl (is_cut_line o) refl e (there os)
 
 -- each answer to what asked, at one of these steps, is uncertain, or of a reply under its key
 abbrev Answered : List Step → World → Type 0
-Answered past w = (c : ClientId) (op : ℕ) (q : Asked past w c op) (z : Step) → Has z past → (a : AppAnswer) → Has (seen.Answered c op a) z.seen → (is_uncertain a ≡ true) ⊎ Heard (TellsOrRefuses a) past w c op q
+Answered past w = (c : ClientId) (op : ℕ) (q : Asked past w c op) (z : Step) → Has z past → (a : AppAnswer) → Has (seen.Answered c op a) z.seen → (is_uncertain a ≡ true) ⊎ Received (TellsOrRefuses a) past w c op q
 
 module _ (k : Config) (count : ℕ) (past : List Step) (t : Traced) (e : Event) (sc : WorldTurn) (ranges : is_event count e ≡ true) (h : FactsHold k count past t) (n : FactsHold k count (past ++ step t e sc ∷ []) (traced_after e t sc)) (taken : world_step t.world e ≡ Ok sc)
     (d : Answered past t.world) (owned : AllOwned past t.world [] past) where
@@ -141,16 +141,16 @@ module _ (k : Config) (count : ℕ) (past : List Step) (t : Traced) (e : Event) 
   abbrev older : (c : ClientId) (op : ℕ) (q : Asked past2 sc.world c op) → Worlds past t.world q.at → Asked past t.world c op
   older c op q w = record { at = q.at; among = w; server = q.server; life_ = q.life_; epoch_ = q.epoch_; number_ = q.number_; waits = q.waits }
 
-  before : (c : ClientId) (op : ℕ) (q : Asked past2 sc.world c op) (w : Worlds past t.world q.at) (z : Step) → Has z past ⊎ Has z (step t e sc ∷ []) → (a : AppAnswer) → Has (seen.Answered c op a) z.seen → (is_uncertain a ≡ true) ⊎ Heard (TellsOrRefuses a) past t.world c op (older c op q w)
+  before : (c : ClientId) (op : ℕ) (q : Asked past2 sc.world c op) (w : Worlds past t.world q.at) (z : Step) → Has z past ⊎ Has z (step t e sc ∷ []) → (a : AppAnswer) → Has (seen.Answered c op a) z.seen → (is_uncertain a ≡ true) ⊎ Received (TellsOrRefuses a) past t.world c op (older c op q w)
   before c op q w z (inl m) a j = d c op (older c op q w) z m a j
   before c op q w z (inr (inl f)) a j = once.answered k count past t e sc h.changes_.names_.all n.changes_.names_.all taken h.changes_.names_.once c op a (subst (λ (y : Step). Has (seen.Answered c op a) y.seen) f j) (older c op q w)
   before c op q w z (inr (inr m)) a j = absurd m
 
-  lift : (c : ClientId) (op : ℕ) (q : Asked past2 sc.world c op) (w : Worlds past t.world q.at) (a : AppAnswer) → (is_uncertain a ≡ true) ⊎ Heard (TellsOrRefuses a) past t.world c op (older c op q w) → (is_uncertain a ≡ true) ⊎ Heard (TellsOrRefuses a) past2 sc.world c op q
+  lift : (c : ClientId) (op : ℕ) (q : Asked past2 sc.world c op) (w : Worlds past t.world q.at) (a : AppAnswer) → (is_uncertain a ≡ true) ⊎ Received (TellsOrRefuses a) past t.world c op (older c op q w) → (is_uncertain a ≡ true) ⊎ Received (TellsOrRefuses a) past2 sc.world c op q
   lift c op q w a (inl f) = inl f
   lift c op q w a (inr y) = inr (record { message = y.message; among = grown_now y.message y.among; replies = record { from = y.replies.from; to = y.replies.to; of_life = y.replies.of_life; of_epoch = y.replies.of_epoch; under = y.replies.under }; says = y.says })
 
-  pub answered_on : (c : ClientId) (op : ℕ) (q : Asked past2 sc.world c op) (z : Step) → Has z past2 → (a : AppAnswer) → Has (seen.Answered c op a) z.seen → (is_uncertain a ≡ true) ⊎ Heard (TellsOrRefuses a) past2 sc.world c op q
+  pub answered_on : (c : ClientId) (op : ℕ) (q : Asked past2 sc.world c op) (z : Step) → Has z past2 → (a : AppAnswer) → Has (seen.Answered c op a) z.seen → (is_uncertain a ≡ true) ⊎ Received (TellsOrRefuses a) past2 sc.world c op q
   answered_on c op q z i a j = go (which q.at q.among)
     where
       clash : {b : Bool} → b ≡ false → b ≡ true → ⊥
@@ -162,7 +162,7 @@ module _ (k : Config) (count : ℕ) (past : List Step) (t : Traced) (e : Event) 
           clash (subst (λ m. list_any (answers_in c m) past2 ≡ false) w.is (n.changes_.names_.all.owners.unsaid c w.site w.at w.operation w.there))
           (some_passes (answers_in c op) past2 z i (some_passes (is_answer_to c op) z.seen (seen.Answered c op a) j (and_both _ _ (eq-eqb c.0 c.0 refl) (eq-eqb op op refl))))
 
-      go : Worlds past t.world q.at ⊎ (q.at ≡ sc.world) → (is_uncertain a ≡ true) ⊎ Heard (TellsOrRefuses a) past2 sc.world c op q
+      go : Worlds past t.world q.at ⊎ (q.at ≡ sc.world) → (is_uncertain a ≡ true) ⊎ Received (TellsOrRefuses a) past2 sc.world c op q
       go (inl w) = lift c op q w a (before c op q w z (has_append past (step t e sc ∷ []) z i) a j)
       go (inr f) = absurd (open_ (subst (λ v. WaitsUnder v c q.server q.life_ q.epoch_ q.number_ op) f q.waits))
 

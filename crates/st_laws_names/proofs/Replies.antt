@@ -35,7 +35,7 @@ use Rattle.st_rules.specs.Server as server
 use Rattle.st_rules.specs.Server.{ServerNode}
 use Rattle.st_rules.specs.Sessions as sessions
 use Rattle.st_rules.specs.World as world
-use Rattle.st_rules.specs.World.{ClientSite, World, clock_of, fresh_world, node_of, numbered, site_of, with_numbered}
+use Rattle.st_rules.specs.World.{WorldClient, World, clock_of, fresh_world, node_of, numbered, site_of, with_numbered}
 use Rattle.st_protocol.specs.Assoc.{Config}
 use Rattle.st_lemmas.specs.Lists.{Has}
 use Rattle.st_lemmas.proofs.Lookups.{some_is}
@@ -47,7 +47,7 @@ use Rattle.st_laws_leases.proofs.Dates.Leaving.{Leaves, leaves_from, server_not_
 use Rattle.st_laws_steps.proofs.Server.Taking.{FreshState, Found, found_for, fresh_state}
 use Rattle.st_laws_pages.proofs.Lives.Fresh.{fresh_is}
 use Rattle.st_laws_requests.specs.Cuts.Cuts.{KeptBy, Keyed, does}
-use Rattle.st_laws_requests.specs.Replies.Reached.{Ends, IsBehind, Reached, Refusal}
+use Rattle.st_laws_requests.specs.Replies.ServedRequests.{Ends, IsBehind, Reached, Refusal}
 use Rattle.st_laws_requests.proofs.Cuts.Server.{Acks, Before, Good, IsSaid, Kind, New, Noted, O, ServesNames, before_more, good_more, o_thefts, served, t_name}
 use Rattle.st_laws_requests.proofs.Cuts.Seen.{server_sends}
 use Rattle.st_laws_requests.proofs.Replies.EachEvent.{ClientTook, Comes, NodeAfter, ServerLeft, ServerTook, SiteAfter, event_brings}
@@ -55,8 +55,8 @@ use Rattle.st_laws_extents.specs.CutRequests.EndedLives.{IsPast}
 use Rattle.st_laws_extents.proofs.CutRequests.Law.{owed}
 use Rattle.st_laws_extents.proofs.ExtentReplies.Thefts.{From, f_thefts}
 use Rattle.st_promises.specs.NameAnswers.{said}
-use Rattle.st_laws_cuts.specs.Over.{AllPast}
-use Rattle.st_laws_cuts.specs.Served.{IsServedBy, NamesBy}
+use Rattle.st_laws_cuts.specs.EndedRequests.{AllPast}
+use Rattle.st_laws_cuts.specs.ServedRequests.{IsServedBy, NamesBy}
 use Rattle.st_laws_cuts.proofs.Naming.{step_names}
 use Rattle.st_laws_cuts.proofs.Law.{AllHold}
 use Rattle.st_laws_names.specs.Keys.{HasEvent, NamesDid, RepliesHaveEvents, ServedAt, ServedOnce, Serves, behind_thefts, is_final, now_at}
@@ -93,7 +93,7 @@ final_ends (bodies.Nack w x y) f = tt
 final_ends b f = cc f
 
 -- what the rule of a request for a name did to names, and replied
-names_said : (n m : Names) (now : Stamp) (t : server.Turn) (h : Header) (op : NameOp) → t.state.stable.names ≡ n → (server.rule t now h (bodies.Name op)).turn.state.stable.names ≡ m → NamesDid n m (bodies.Name op) (name_replies t now h op).body
+names_said : (n m : Names) (now : Stamp) (t : server.ServerTurn) (h : Header) (op : NameOp) → t.state.stable.names ≡ n → (server.rule t now h (bodies.Name op)).turn.state.stable.names ≡ m → NamesDid n m (bodies.Name op) (name_replies t now h op).body
 unfolding server.rule
 names_said n m now t h op at became = go (name_replies t now h op).body (name_replies t now h op).is
   where
@@ -182,7 +182,7 @@ module _ (k : Config) (count : ℕ) (past : List Step) (t : Traced) (e : Event) 
           go (inr r) = kept_more v more y p r.1 c z q
 
   -- A step of a client.
-  client_step : (v : World) → v.servers ≡ t.world.servers → (c : ClientId) (i : ClientInput) (site old : ClientSite) → site.node ≡ old.node → site.node.running ≡ true → site_of t.world c ≡ Some old → Comes t.world i →
+  client_step : (v : World) → v.servers ≡ t.world.servers → (c : ClientId) (i : ClientInput) (site old : WorldClient) → site.node ≡ old.node → site.node.running ≡ true → site_of t.world c ≡ Some old → Comes t.world i →
       (last : World) → Leaves M (ev.with_site c (SiteAfter v c i site) v) last (ClientTook v c i site).out → Next last
   client_step v ss c i site old same run at comes last l =
       record {
@@ -233,7 +233,7 @@ module _ (k : Config) (count : ℕ) (past : List Step) (t : Traced) (e : Event) 
     abbrev names : Names
     names = node.state.stable.names
 
-    abbrev u : server.Turn
+    abbrev u : server.ServerTurn
     u = ServerTook t.world s i node
 
     abbrev next : ServerNode
@@ -499,11 +499,11 @@ module _ (k : Config) (count : ℕ) (past : List Step) (t : Traced) (e : Event) 
   unfolding ev.starts_server server.start server.begin_epoch w
   started s node at = emptied s node (server.start_node node (clock_of w (nodes.Server s))) (ev.starts_server w s (Some node)) at refl refl (λ c. refl)
 
-  stopped : (c : ClientId) (site : ClientSite) → Next (ev.crashes_client w c (Some site)).world
+  stopped : (c : ClientId) (site : WorldClient) → Next (ev.crashes_client w c (Some site)).world
   unfolding ev.crashes_client ev.marks w
   stopped c site = still (ev.crashes_client w c (Some site)).world refl refl
 
-  begun : (c : ClientId) (site : ClientSite) → Next (ev.starts_client w c (Some site))
+  begun : (c : ClientId) (site : WorldClient) → Next (ev.starts_client w c (Some site))
   unfolding ev.starts_client w
   begun c site = still (ev.starts_client w c (Some site)) refl refl
 

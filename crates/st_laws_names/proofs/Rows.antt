@@ -28,7 +28,7 @@ use Rattle.st_rules.specs.History.{Traced, traced_after}
 use Rattle.st_rules.specs.Keys.{server_node}
 use Rattle.st_rules.specs.Safety.{Step, is_event, step}
 use Rattle.st_rules.specs.Server.{ServerNode, is_client_node}
-use Rattle.st_rules.specs.World.{World, ClientSite, clock_of, numbered, site_of, with_numbered}
+use Rattle.st_rules.specs.World.{World, WorldClient, clock_of, numbered, site_of, with_numbered}
 use Rattle.st_protocol.specs.Assoc.{Config}
 use Rattle.st_lemmas.specs.Lists.{Has}
 use Rattle.st_lemmas.proofs.Numbers.{numbered_below}
@@ -53,12 +53,12 @@ use Rattle.st_laws_cuts.proofs.Counts.{pending, pending_has, pending_none, told_
 use Rattle.st_laws_cuts.proofs.Events.{IsEmptied, NextAsk, OldOrServers, event_does}
 use Rattle.st_laws_cuts.proofs.Step.{Held, Losses, after_losses, onces, stepped, uncertain}
 use Rattle.st_laws_leases.proofs.Dates.Known.{has_left}
-use Rattle.st_laws_cuts.specs.Over.{AllPast, MeansTo}
+use Rattle.st_laws_cuts.specs.EndedRequests.{AllPast, MeansTo}
 use Rattle.st_laws_cuts.specs.Owners.{Owned, view}
 use Rattle.st_laws_cuts.proofs.Law.{AllHold}
 use Rattle.st_laws_cuts.proofs.Words.{any_last, asked_more, clash, means_more, unsettled_in, unsettled_past}
 use Rattle.st_lemmas.proofs.Tables.{has_append}
-use Rattle.st_laws_names.specs.Once.{WaitsUnder}
+use Rattle.st_laws_names.specs.OutstandingKeys.{WaitsUnder}
 use Rattle.st_laws_names.proofs.World.{Worlds}
 use Rattle.st_laws_names.proofs.Waiting.{Pending, Row, alive}
 
@@ -84,7 +84,7 @@ Known past v = ((z : Step) × Has z past × (v ≡ z.after.world)) ⊎ ((c : Cli
 
 -- What stands behind every event.
 pub record RowsHold (past : List Step) (G : Gifts) (w : World) : Type 0 where
-  pub over : (c : ClientId) (site : ClientSite) → site_of w c ≡ Some site → (a : Association) → Has a site.node.state.associations → (m : Message) → Has m (messages w) → Between c a.server m → 1 ≤ m.header.number → asks_cut_or_name m.body ≡ true →
+  pub over : (c : ClientId) (site : WorldClient) → site_of w c ≡ Some site → (a : Association) → Has a site.node.state.associations → (m : Message) → Has m (messages w) → Between c a.server m → 1 ≤ m.header.number → asks_cut_or_name m.body ≡ true →
       (m.header.life < a.life.0) ⊎ (site.node.running ≡ false) → Over past (G c a.server) w c a.server site.node.state.operations m
   pub now : Known past w
   pub chain : (y : Step) → Has y past → Known past y.before.world
@@ -174,7 +174,7 @@ module _ (k : Config) (count : ℕ) (past : List Step) (t : Traced) (e : Event) 
       }
 
   -- an operation that was pending is left, where it is pending no more, and answered with `uncertain` alone
-  now_left : (c : ClientId) (site : ClientSite) → site_of t.world c ≡ Some site → (s : ServerId) (qs : List Operation) (m : Message) → (z : Pending past (gifts k count t.world h.base.all c s) t.world c s site.node.state.operations m) →
+  now_left : (c : ClientId) (site : WorldClient) → site_of t.world c ≡ Some site → (s : ServerId) (qs : List Operation) (m : Message) → (z : Pending past (gifts k count t.world h.base.all c s) t.world c s site.node.state.operations m) →
       ((o : Operation) → Has o qs → o.op ≡ z.operation.op → ⊥) → ((a : AppAnswer) → Has (seen.Answered c z.operation.op a) sc.seen → is_uncertain a ≡ true) →
       Left past2 (gifts k count sc.world (followed k count past t e sc ranges h.base taken).after c s) sc.world c s qs m
   now_left c site at s qs m z gone open_ =
@@ -191,10 +191,10 @@ module _ (k : Config) (count : ℕ) (past : List Step) (t : Traced) (e : Event) 
       }
 
   -- what stood of an old message
-  abbrev Stood : ClientId → ClientSite → Association → Message → Type 0
+  abbrev Stood : ClientId → WorldClient → Association → Message → Type 0
   Stood c site a m = Over past (gifts k count t.world h.base.all c a.server) t.world c a.server site.node.state.operations m ⊎ ((site.node.running ≡ true) × (m.header.life ≡ a.life.0) × Pending past (gifts k count t.world h.base.all c a.server) t.world c a.server site.node.state.operations m)
 
-  stood : (c : ClientId) (site : ClientSite) → site_of t.world c ≡ Some site → (a : Association) → Has a site.node.state.associations → (m : Message) → Has m (messages t.world) → Between c a.server m → 1 ≤ m.header.number → asks_cut_or_name m.body ≡ true → Stood c site a m
+  stood : (c : ClientId) (site : WorldClient) → site_of t.world c ≡ Some site → (a : Association) → Has a site.node.state.associations → (m : Message) → Has m (messages t.world) → Between c a.server m → 1 ≤ m.header.number → asks_cut_or_name m.body ≡ true → Stood c site a m
   stood c site at a i m among between pos own = go site.node.running refl (same_or_not m.header.life a.life.0)
     where
       up : m.header.life ≤ a.life.0
@@ -210,7 +210,7 @@ module _ (k : Config) (count : ℕ) (past : List Step) (t : Traced) (e : Event) 
       go true r (inl l) = run_in r l (alive k count past t h.base h.owners.owned c site (record { there = at; runs = r }) a i m among between l pos own)
 
   abbrev AllOver : Type 0
-  AllOver = (c : ClientId) (site : ClientSite) → site_of sc.world c ≡ Some site → (a : Association) → Has a site.node.state.associations → (m : Message) → Has m (messages sc.world) → Between c a.server m → 1 ≤ m.header.number → asks_cut_or_name m.body ≡ true →
+  AllOver = (c : ClientId) (site : WorldClient) → site_of sc.world c ≡ Some site → (a : Association) → Has a site.node.state.associations → (m : Message) → Has m (messages sc.world) → Between c a.server m → 1 ≤ m.header.number → asks_cut_or_name m.body ≡ true →
       (m.header.life < a.life.0) ⊎ (site.node.running ≡ false) → Over past2 (gifts k count sc.world (followed k count past t e sc ranges h.base taken).after c a.server) sc.world c a.server site.node.state.operations m
 
   -- Nothing is answered.
@@ -226,28 +226,28 @@ module _ (k : Config) (count : ℕ) (past : List Step) (t : Traced) (e : Event) 
   quiet : sc.world.clients ≡ t.world.clients → OldOrServers t.world sc.world → NoAnswers sc.seen → AllOver
   quiet cs ms silent c site at a i m among between pos own life = over_on silent c a.server site.node.state.operations m (d.over c site (was c site at) a i m (old c site (was c site at) a.server m between (ms m among)) between pos own life)
     where
-      was : (c : ClientId) (site : ClientSite) → site_of sc.world c ≡ Some site → site_of t.world c ≡ Some site
+      was : (c : ClientId) (site : WorldClient) → site_of sc.world c ≡ Some site → site_of t.world c ≡ Some site
       was c site at = ap (λ z. numbered z c.0) (sym cs) ∙ at
 
-      old : (c : ClientId) (site : ClientSite) → site_of t.world c ≡ Some site → (s : ServerId) (m : Message) → Between c s m → Has m (messages t.world) ⊎ ((y : ServerId) × (m.header.from ≡ server_node y)) → Has m (messages t.world)
+      old : (c : ClientId) (site : WorldClient) → site_of t.world c ≡ Some site → (s : ServerId) (m : Message) → Between c s m → Has m (messages t.world) ⊎ ((y : ServerId) × (m.header.from ≡ server_node y)) → Has m (messages t.world)
       old c site at s m b (inl i) = i
       old c site at s m b (inr z) = absurd (server_not_client c.0 z.0.0 (let y = (numbered_below t.world.clients c.0 site at).1 in let q = h.base.cuts.few in omega (arith, y, q)) (sym b.0 ∙ z.1))
 
   -- A client is emptied.
-  emptied : (c : ClientId) (old new : ClientSite) → site_of t.world c ≡ Some old → IsEmptied old new → sc.world.clients ≡ with_numbered c.0 new t.world.clients → messages sc.world ≡ messages t.world → NoAnswers sc.seen → AllOver
+  emptied : (c : ClientId) (old new : WorldClient) → site_of t.world c ≡ Some old → IsEmptied old new → sc.world.clients ≡ with_numbered c.0 new t.world.clients → messages sc.world ≡ messages t.world → NoAnswers sc.seen → AllOver
   emptied c old new at z cs ms silent y site r a i m among between pos own life = over y site (cases y site r) a i m (subst (Has m) ms among) between pos own life
     where
-      Case : ClientId → ClientSite → Type 0
+      Case : ClientId → WorldClient → Type 0
       Case y site = ((y.0 ≡ c.0) × (site ≡ new)) ⊎ ((y.0 ≢ c.0) × (site_of t.world y ≡ Some site))
 
-      cases : (y : ClientId) (site : ClientSite) → site_of sc.world y ≡ Some site → Case y site
+      cases : (y : ClientId) (site : WorldClient) → site_of sc.world y ≡ Some site → Case y site
       cases y site r = set_cases t.world.clients c.0 y.0 old new site at (ap (λ w. numbered w y.0) (sym cs) ∙ r)
 
       no_operation : {A : Type 0} (o : Operation) (os : List Operation) → os ≡ [] → Has o os → A
       no_operation o [] q i = absurd i
       no_operation o (p ∷ os) q i = cc q
 
-      over : (y : ClientId) (site : ClientSite) → Case y site → (a : Association) → Has a site.node.state.associations → (m : Message) → Has m (messages t.world) → Between y a.server m → 1 ≤ m.header.number → asks_cut_or_name m.body ≡ true →
+      over : (y : ClientId) (site : WorldClient) → Case y site → (a : Association) → Has a site.node.state.associations → (m : Message) → Has m (messages t.world) → Between y a.server m → 1 ≤ m.header.number → asks_cut_or_name m.body ≡ true →
           (m.header.life < a.life.0) ⊎ (site.node.running ≡ false) → Over past2 (gifts k count sc.world (followed k count past t e sc ranges h.base taken).after y a.server) sc.world y a.server site.node.state.operations m
       over y site (inr q) a i m among between pos own life = over_on silent y a.server site.node.state.operations m (d.over y site q.1 a i m among between pos own life)
       over y site (inl q) a i m among between pos own life = subst (λ (v : ServerId). Over past2 (gifts k count sc.world (followed k count past t e sc ranges h.base taken).after y v) sc.world y v site.node.state.operations m) (sym b.2) (by (stood y old there b.0 b.1 m among (subst (λ (v : ServerId). Between y v m) b.2 between) pos own))
@@ -256,10 +256,10 @@ module _ (k : Config) (count : ℕ) (past : List Step) (t : Traced) (e : Event) 
           there = ap (λ n. numbered t.world.clients n) q.0 ∙ at
 
           b : (v : Association) × Has v old.node.state.associations × (a.server ≡ v.server) × (a.session ≡ None)
-          b = z.associations a (subst (λ (u : ClientSite). Has a u.node.state.associations) q.1 i)
+          b = z.associations a (subst (λ (u : WorldClient). Has a u.node.state.associations) q.1 i)
 
           none_here : (o : Operation) → Has o site.node.state.operations → {A : Type 0} → A
-          none_here o j = no_operation o site.node.state.operations (ap (λ (u : ClientSite). u.node.state.operations) q.1 ∙ z.operations) j
+          none_here o j = no_operation o site.node.state.operations (ap (λ (u : WorldClient). u.node.state.operations) q.1 ∙ z.operations) j
 
           by : Stood y old b.0 m → Over past2 (gifts k count sc.world (followed k count past t e sc ranges h.base taken).after y b.0.server) sc.world y b.0.server site.node.state.operations m
           by (inl (inl p)) = inl (past_on y b.0.server m p)
@@ -267,7 +267,7 @@ module _ (k : Config) (count : ℕ) (past : List Step) (t : Traced) (e : Event) 
           by (inr w) = inr (now_left y old there b.0.server site.node.state.operations m w.2 (λ o j. none_here o j) (λ a v. absurd (none silent y w.2.operation.op a v)))
 
   -- A client takes a step.
-  module _ (v : World) (same_clients : v.clients ≡ t.world.clients) (c : ClientId) (i : ClientInput) (site old : ClientSite) (same : site.node ≡ old.node) (asks_next : NextAsk t.world i old site) (run : site.node.running ≡ true) (at : site_of t.world c ≡ Some old)
+  module _ (v : World) (same_clients : v.clients ≡ t.world.clients) (c : ClientId) (i : ClientInput) (site old : WorldClient) (same : site.node ≡ old.node) (asks_next : NextAsk t.world i old site) (run : site.node.running ≡ true) (at : site_of t.world c ≡ Some old)
       (l : Leaves (messages t.world) (ev.with_site c (SiteAfter v c i site) v) sc.world (ClientTook v c i site).out) (ans : AnswersOf c (ClientTook v c i site).out [] sc.seen) where
     abbrev u : ClientTurn
     u = ClientTook v c i site
@@ -337,13 +337,13 @@ module _ (k : Config) (count : ℕ) (past : List Step) (t : Traced) (e : Event) 
             high w = let y = was_below op w in let z = g.0 in omega (arith, y, z)
 
     -- the client behind the step
-    abbrev left_site : ClientSite
+    abbrev left_site : WorldClient
     left_site = SiteAfter v c i site
 
     clients : sc.world.clients ≡ with_numbered c.0 (SiteAfter v c i site) t.world.clients
     clients = l.clients ∙ ap (λ w. with_numbered c.0 (SiteAfter v c i site) w) same_clients
 
-    cases : (y : ClientId) (s : ClientSite) → site_of sc.world y ≡ Some s → ((y.0 ≡ c.0) × (s ≡ SiteAfter v c i site)) ⊎ ((y.0 ≢ c.0) × (site_of t.world y ≡ Some s))
+    cases : (y : ClientId) (s : WorldClient) → site_of sc.world y ≡ Some s → ((y.0 ≡ c.0) × (s ≡ SiteAfter v c i site)) ⊎ ((y.0 ≢ c.0) × (site_of t.world y ≡ Some s))
     cases y s r = set_cases t.world.clients c.0 y.0 old (SiteAfter v c i site) s at (ap (λ w. numbered w y.0) (sym clients) ∙ r)
 
     -- who is answered, and what
@@ -428,16 +428,16 @@ module _ (k : Config) (count : ℕ) (past : List Step) (t : Traced) (e : Event) 
             open_ : (a : AppAnswer) → Has (seen.Answered c w.2.operation.op a) sc.seen → is_uncertain a ≡ true
             open_ a z = ap is_uncertain (told_once u.out w.2.operation.op a (answers.Uncertain said.0 0) (let g = ends.few w.2.operation.op in omega (arith, g)) (answered c w.2.operation.op a z).1 said.1)
 
-    over_of : (y : ClientId) (s : ClientSite) → ((y.0 ≡ c.0) × (s ≡ SiteAfter v c i site)) ⊎ ((y.0 ≢ c.0) × (site_of t.world y ≡ Some s)) → (a : Association) → Has a s.node.state.associations → (m : Message) → Has m (messages sc.world) → Between y a.server m → 1 ≤ m.header.number →
+    over_of : (y : ClientId) (s : WorldClient) → ((y.0 ≡ c.0) × (s ≡ SiteAfter v c i site)) ⊎ ((y.0 ≢ c.0) × (site_of t.world y ≡ Some s)) → (a : Association) → Has a s.node.state.associations → (m : Message) → Has m (messages sc.world) → Between y a.server m → 1 ≤ m.header.number →
         asks_cut_or_name m.body ≡ true → (m.header.life < a.life.0) ⊎ (s.node.running ≡ false) → Over past2 (gifts k count sc.world (followed k count past t e sc ranges h.base taken).after y a.server) sc.world y a.server s.node.state.operations m
     over_of y s (inl q) a j m among between pos own life =
         subst (λ n. Over past2 (gifts k count sc.world (followed k count past t e sc ranges h.base taken).after (record { 0 = n }) a.server) sc.world (record { 0 = n }) a.server s.node.state.operations m) (sym q.0)
-        (subst (λ (w : ClientSite). Over past2 (gifts k count sc.world (followed k count past t e sc ranges h.base taken).after c a.server) sc.world c a.server w.node.state.operations m) (sym q.1)
-        (over_own a (subst (λ (w : ClientSite). Has a w.node.state.associations) q.1 j) m (mine m among) (subst (λ n. Between (record { 0 = n }) a.server m) q.0 between) pos own (by life)))
+        (subst (λ (w : WorldClient). Over past2 (gifts k count sc.world (followed k count past t e sc ranges h.base taken).after c a.server) sc.world c a.server w.node.state.operations m) (sym q.1)
+        (over_own a (subst (λ (w : WorldClient). Has a w.node.state.associations) q.1 j) m (mine m among) (subst (λ n. Between (record { 0 = n }) a.server m) q.0 between) pos own (by life)))
       where
         by : (m.header.life < a.life.0) ⊎ (s.node.running ≡ false) → m.header.life < a.life.0
         by (inl w) = w
-        by (inr w) = clash run (subst (λ (z : ClientSite). z.node.running ≡ false) q.1 w)
+        by (inr w) = clash run (subst (λ (z : WorldClient). z.node.running ≡ false) q.1 w)
     over_of y s (inr q) a j m among between pos own life = go (mine m among)
       where
         none : (op : ℕ) (a : AppAnswer) → Has (seen.Answered y op a) sc.seen → ⊥

@@ -22,7 +22,7 @@ use Rattle.st_lemmas.proofs.Tables.{has_append}
 use Rattle.st_laws_requests.proofs.Cuts.Keeping.{Answers, asked_of}
 use Rattle.st_laws_requests.proofs.Cuts.Step.{Onces}
 use Rattle.st_laws_names.proofs.Frames.{IsKeptRefusal, Own, view}
-use Rattle.st_laws_names.proofs.Keeping.{AtStage, Under, Whole, w_finish, w_hear, w_lose, w_passes, w_take}
+use Rattle.st_laws_names.proofs.Keeping.{AtStage, Under, Whole, w_finish, w_receive, w_lose, w_passes, w_take}
 
 onces_last : (xs : List Association) (a : Association) → Onces xs → ((b : Association) → Has b xs → b.server.0 ≡ a.server.0 → ⊥) → Onces (xs ++ a ∷ [])
 onces_last [] a o f = record { first = λ b h e. absurd h; rest = tt }
@@ -168,7 +168,7 @@ module _ (c : ClientId) (S : ℕ → Type 0) (Key : ServerId → ℕ → ℕ →
   taken t now (inputs.Control m) g k = go (m.header.to == t.state.id.0) refl
     where
       go : (b : Bool) → (m.header.to == t.state.id.0) ≡ b → Held [] (if b then cr.receive_here t now m.header m.body else t)
-      go true e = let z = g (eqb-true m.header.to t.state.id.0 e ∙ ap (λ (x : ClientId). x.0) k.id_) in each (cr.receive_at now m.header m.body) (λ s B u w. w_hear S Key Ended Refused open_ gone_ s B now m.header m.body z.told z.refuses u w) t k
+      go true e = let z = g (eqb-true m.header.to t.state.id.0 e ∙ ap (λ (x : ClientId). x.0) k.id_) in each (cr.receive_at now m.header m.body) (λ s B u w. w_receive S Key Ended Refused open_ gone_ s B now m.header m.body z.told z.refuses u w) t k
       go false e = k
   taken t now (inputs.Done number result) g k = each (cl.finish number result) (λ s B u w. w_finish S Key Ended Refused open_ gone_ s B number result u w) t k
 

@@ -14,7 +14,7 @@ use Rattle.st_rules.specs.History.{Traced}
 use Rattle.st_rules.specs.Safety.{Step}
 use Rattle.st_rules.specs.Server.{ServerNode}
 use Rattle.st_rules.specs.Sessions as sessions
-use Rattle.st_rules.specs.World.{ClientSite, World, node_of}
+use Rattle.st_rules.specs.World.{WorldClient, World, node_of}
 use Rattle.st_rules.specs.declared.client.Operation.{Operation}
 use Rattle.st_base.specs.declared.ids.ServerId.{ServerId}
 use Rattle.st_protocol.specs.Assoc.{Config}
@@ -23,10 +23,10 @@ use Rattle.st_protocol.specs.Assoc as net
 use Rattle.st_lemmas.specs.Lists.{Has}
 use Rattle.st_lemmas.proofs.Tables.{and_true, same_or_not}
 use Rattle.st_laws_refine.specs.Views.Halves.{epoch_in}
-use Rattle.st_laws_refine.specs.Server.Stands.{pairs}
+use Rattle.st_laws_refine.specs.Server.Invariants.{pairs}
 use Rattle.st_laws_leases.specs.Dates.Dates.{messages}
 use Rattle.st_laws_reads.specs.AllClients.Law.{Running}
-use Rattle.st_laws_requests.specs.Replies.Reached.{IsBehind, Reached}
+use Rattle.st_laws_requests.specs.Replies.ServedRequests.{IsBehind, Reached}
 use Rattle.st_laws_requests.specs.Cuts.Cuts.{AsksFor, Between, Early, Numbers, Numbered, SameBody, Waits, WaitsAt}
 use Rattle.st_laws_requests.specs.Cuts.Cuts as cuts
 use Rattle.st_laws_extents.specs.CutRequests.Asks.{AsksStand, Of, first_open, open_from}
@@ -36,9 +36,9 @@ use Rattle.st_laws_extents.specs.CutRequests.World.{IsServed}
 use Rattle.st_laws_extents.proofs.CutRequests.Law.{Hold}
 use Rattle.st_laws_extents.proofs.CutRequests.Standing.{whole}
 use Rattle.st_laws_cuts.specs.Owners.{AllOwned, Owned, OwnedBy, Owner, view}
-use Rattle.st_laws_cuts.specs.Over.{AllPast, MeansTo}
+use Rattle.st_laws_cuts.specs.EndedRequests.{AllPast, MeansTo}
 use Rattle.st_laws_cuts.proofs.Alive.{means_to}
-use Rattle.st_laws_names.specs.Once.{SameKey}
+use Rattle.st_laws_names.specs.OutstandingKeys.{SameKey}
 use Rattle.st_laws_names.proofs.World.{Asked, waits_at}
 
 -- the key of a message is one under which an operation waited
@@ -75,7 +75,7 @@ less (suc u) (suc v) = up (less u v)
     up (inr l) = inr (omega (arith, l))
 
 module _ (k : Config) (count : ℕ) (past : List Step) (t : Traced) (h : Hold k count past t) (owned : AllOwned t.world)
-    (c : ClientId) (site : ClientSite) (run : Running t.world c.0 site) (a : Association) (i : Has a site.node.state.associations)
+    (c : ClientId) (site : WorldClient) (run : Running t.world c.0 site) (a : Association) (i : Has a site.node.state.associations)
     (m : Message) (among : Has m (messages t.world)) (between : Between c a.server m) (life : m.header.life ≡ a.life.0) (pos : 1 ≤ m.header.number) (own : asks_cut_or_name m.body ≡ true) where
   abbrev Result : Type 0
   Result = AllPast t.world c a.server m ⊎ Pending past (gifts k count t.world h.all c a.server) t.world c a.server site.node.state.operations m

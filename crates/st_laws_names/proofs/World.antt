@@ -29,7 +29,7 @@ use Rattle.st_rules.specs.Keys.{server_node}
 use Rattle.st_rules.specs.History.{Traced, traced, traced_after}
 use Rattle.st_base.specs.declared.config.Config as base
 use Rattle.st_rules.specs.Safety.{IsHead, Step, is_event, step}
-use Rattle.st_rules.specs.World.{World, ClientSite, clock_of, fresh_world, numbered, site_of, with_numbered}
+use Rattle.st_rules.specs.World.{World, WorldClient, clock_of, fresh_world, numbered, site_of, with_numbered}
 use Rattle.st_protocol.specs.Assoc.{Config}
 use Rattle.st_lemmas.specs.Lists.{Has}
 use Rattle.st_lemmas.proofs.Lookups.{some_is}
@@ -55,7 +55,7 @@ use Rattle.st_laws_cuts.proofs.Law.{AllHold, begins}
 use Rattle.st_laws_cuts.proofs.Law as laws
 use Rattle.st_laws_extents.proofs.CutRequests.Law.{followed}
 use Rattle.st_laws_cuts.proofs.Words.{asks_longer}
-use Rattle.st_laws_names.specs.Once.{OperationsAskOnce, SameKey, WaitsUnder}
+use Rattle.st_laws_names.specs.OutstandingKeys.{OperationsAskOnce, SameKey, WaitsUnder}
 use Rattle.st_promises.specs.CutAsks.{is_uncertain}
 use Rattle.st_laws_names.proofs.Frames.{IsKeptRefusal, Own, clash, view}
 use Rattle.st_laws_names.proofs.Keeping.{AtRequest, AtStage, Under}
@@ -98,7 +98,7 @@ pub record RepliesUnder (past : List Step) (w : World) (c : ClientId) (op : ℕ)
   pub under : m.header.number ≡ k.number_
 
 -- such a message was sent, with this body
-pub record Heard (P : Body → Type 0) (past : List Step) (w : World) (c : ClientId) (op : ℕ) (k : Asked past w c op) : Type 0 where
+pub record Received (P : Body → Type 0) (past : List Step) (w : World) (c : ClientId) (op : ℕ) (k : Asked past w c op) : Type 0 where
   pub message : Message
   pub among : Has message (messages w)
   pub replies : RepliesUnder past w c op k message
@@ -110,11 +110,11 @@ TellsOrRefuses a b = Answers b a ⊎ IsKeptRefusal b
 
 -- what asked may be answered so: it is uncertain, or a reply under its key tells the answer, or refuses
 abbrev pub Ended : List Step → World → ClientId → ℕ → AppAnswer → Type 0
-Ended past w c op a = (k : Asked past w c op) → (is_uncertain a ≡ true) ⊎ Heard (TellsOrRefuses a) past w c op k
+Ended past w c op a = (k : Asked past w c op) → (is_uncertain a ≡ true) ⊎ Received (TellsOrRefuses a) past w c op k
 
 -- what asked was refused under its key
 abbrev pub Refused : List Step → World → ClientId → ℕ → Type 0
-Refused past w c op = (k : Asked past w c op) → Heard IsKeptRefusal past w c op k
+Refused past w c op = (k : Asked past w c op) → Received IsKeptRefusal past w c op k
 
 open_ended : (past : List Step) (w : World) (c : ClientId) (op n m : ℕ) → Ended past w c op (answers.Uncertain n m)
 open_ended past w c op n m k = inl refl
@@ -123,7 +123,7 @@ refused_ended : (past : List Step) (w : World) (c : ClientId) (op : ℕ) (a : Ap
 refused_ended past w c op a r k = let z = r k in inr (record { message = z.message; among = z.among; replies = z.replies; says = inr z.says })
 
 -- What stands of a client.
-pub record SiteOnce (past : List Step) (w : World) (c : ClientId) (site : ClientSite) : Type 0 where
+pub record SiteOnce (past : List Step) (w : World) (c : ClientId) (site : WorldClient) : Type 0 where
   pub kind : (o : Operation) → Has o site.node.state.operations → Asked past w c o.op → Own o.ask
   pub sent : (a : Association) → Has a site.node.state.associations → (o : Operation) → Has o site.node.state.operations → Asked past w c o.op → cs.is_of a.server o ≡ true → cs.is_sent o ≡ true
   pub asked : (a : Association) → Has a site.node.state.associations → (o : Operation) → Has o site.node.state.operations → Asked past w c o.op → cs.is_asked a.server o ≡ true → KeyOf past w c a.server a.life.0 (view a.session) o.op
@@ -131,7 +131,7 @@ pub record SiteOnce (past : List Step) (w : World) (c : ClientId) (site : Client
 
 -- What stands behind every event.
 pub record OnceHold (past : List Step) (w : World) : Type 0 where
-  pub sites : (c : ClientId) (site : ClientSite) → site_of w c ≡ Some site → SiteOnce past w c site
+  pub sites : (c : ClientId) (site : WorldClient) → site_of w c ≡ Some site → SiteOnce past w c site
   pub known : (c : ClientId) (op : ℕ) → Asked past w c op → op ≤ length (asks_of past c)
 
 -- At one moment.
@@ -163,8 +163,8 @@ of_server s o e = ap (λ n. record { 0 = n }) (eqb-true (server_of o.ask).0 s.0 
 
 -- what a client waits under at one moment
 pub record Moment (w : World) : Type 0 where
-  pub few : (c : ClientId) (site : ClientSite) → site_of w c ≡ Some site → (k : ℕ) → pending k site.node.state.operations ≤ 1
-  pub once : (c : ClientId) (site : ClientSite) → site_of w c ≡ Some site → Onces site.node.state.associations
+  pub few : (c : ClientId) (site : WorldClient) → site_of w c ≡ Some site → (k : ℕ) → pending k site.node.state.operations ≤ 1
+  pub once : (c : ClientId) (site : WorldClient) → site_of w c ≡ Some site → Onces site.node.state.associations
 
 pub one_key : (w : World) → Moment w → (c : ClientId) (s u : ServerId) (life epoch number life2 epoch2 number2 op : ℕ) → WaitsUnder w c s life epoch number op → WaitsUnder w c u life2 epoch2 number2 op → SameKey s u life epoch number life2 epoch2 number2
 one_key w m c s u life epoch number life2 epoch2 number2 op x y =
@@ -179,13 +179,13 @@ one_key w m c s u life epoch number life2 epoch2 number2 op x y =
     site = some_is (sym x.at ∙ y.at)
 
     operation : x.operation ≡ y.operation
-    operation = one_pending x.site.node.state.operations x.operation y.operation x.there (subst (λ (z : ClientSite). Has y.operation z.node.state.operations) (sym site) y.there) (x.is ∙ sym y.is) (m.few c x.site x.at x.operation.op)
+    operation = one_pending x.site.node.state.operations x.operation y.operation x.there (subst (λ (z : WorldClient). Has y.operation z.node.state.operations) (sym site) y.there) (x.is ∙ sym y.is) (m.few c x.site x.at x.operation.op)
 
     servers : s ≡ u
     servers = sym (of_server s x.operation x.asked) ∙ ap (λ (o : Operation). server_of o.ask) operation ∙ of_server u y.operation y.asked
 
     association : x.association ≡ y.association
-    association = one_with x.site.node.state.associations (m.once c x.site x.at) x.association y.association x.among (subst (λ (z : ClientSite). Has y.association z.node.state.associations) (sym site) y.among) (x.server ∙ servers ∙ sym y.server)
+    association = one_with x.site.node.state.associations (m.once c x.site x.at) x.association y.association x.among (subst (λ (z : WorldClient). Has y.association z.node.state.associations) (sym site) y.among) (x.server ∙ servers ∙ sym y.server)
 
     session : x.session ≡ y.session
     session = some_is (sym x.has ∙ ap (λ (a : Association). a.session) association ∙ y.has)
@@ -194,7 +194,7 @@ one_key w m c s u life epoch number life2 epoch2 number2 op x y =
     request = some_is (sym x.outstanding ∙ ap (λ (z : ClientSession). z.requests.asked) session ∙ y.outstanding)
 
 -- an operation whose request is the outstanding one
-pub waits_at : (w : World) (c : ClientId) (site : ClientSite) → site_of w c ≡ Some site → (a : Association) → Has a site.node.state.associations → (o : Operation) → Has o site.node.state.operations → cs.is_asked a.server o ≡ true → (x : ClientSession) → a.session ≡ Some x → (q : Request) → x.requests.asked ≡ Some q →
+pub waits_at : (w : World) (c : ClientId) (site : WorldClient) → site_of w c ≡ Some site → (a : Association) → Has a site.node.state.associations → (o : Operation) → Has o site.node.state.operations → cs.is_asked a.server o ≡ true → (x : ClientSession) → a.session ≡ Some x → (q : Request) → x.requests.asked ≡ Some q →
     WaitsUnder w c a.server a.life.0 x.epoch.0 q.number o.op
 waits_at w c site at a i o j e x s q r =
     record { site = site; at = at; operation = o; there = j; is = refl; asked = e; association = a; among = i; server = refl; of_life = refl; session = x; has = s; of_epoch = refl; request = q; outstanding = r; under = refl }
@@ -250,7 +250,7 @@ module _ (k : Config) (count : ℕ) (past : List Step) (t : Traced) (e : Event) 
       go (inr q) = waits_below c op a.server a.life_ a.epoch_ a.number_ (subst (λ v. WaitsUnder v c a.server a.life_ a.epoch_ a.number_ op) q a.waits)
 
   -- A client that stays.
-  module _ (c : ClientId) (site : ClientSite) (was : site_of t.world c ≡ Some site) (at : site_of sc.world c ≡ Some site) where
+  module _ (c : ClientId) (site : WorldClient) (was : site_of t.world c ≡ Some site) (at : site_of sc.world c ≡ Some site) where
     waited : (op : ℕ) (s : ServerId) (life epoch number : ℕ) → WaitsUnder sc.world c s life epoch number op → WaitsUnder t.world c s life epoch number op
     waited op s life epoch number w =
         record {
@@ -309,7 +309,7 @@ module _ (k : Config) (count : ℕ) (past : List Step) (t : Traced) (e : Event) 
         }
 
   -- A client without operations.
-  none_on : (c : ClientId) (site : ClientSite) → site.node.state.operations ≡ [] → SiteOnce past2 sc.world c site
+  none_on : (c : ClientId) (site : WorldClient) → site.node.state.operations ≡ [] → SiteOnce past2 sc.world c site
   none_on c site e = record { kind = λ o i a. no o i; sent = λ b j o i a q. no o i; asked = λ b j o i a q. no o i; stuck = λ b j o i q g. no o i }
     where
       empty : {A : Type 0} (os : List Operation) → os ≡ [] → (o : Operation) → Has o os → A
@@ -320,7 +320,7 @@ module _ (k : Config) (count : ℕ) (past : List Step) (t : Traced) (e : Event) 
       no o i = empty site.node.state.operations e o i
 
   -- A client that takes a step.
-  module _ (v : World) (same_clients : v.clients ≡ t.world.clients) (c : ClientId) (i : ClientInput) (site old : ClientSite) (same : site.node ≡ old.node) (asks_next : NextAsk t.world i old site) (run : site.node.running ≡ true) (was : site_of t.world c ≡ Some old)
+  module _ (v : World) (same_clients : v.clients ≡ t.world.clients) (c : ClientId) (i : ClientInput) (site old : WorldClient) (same : site.node ≡ old.node) (asks_next : NextAsk t.world i old site) (run : site.node.running ≡ true) (was : site_of t.world c ≡ Some old)
       (at : site_of sc.world c ≡ Some (SiteAfter v c i site)) where
     abbrev S : ℕ → Type 0
     S op = Asked past t.world c op
@@ -369,17 +369,17 @@ module _ (k : Config) (count : ℕ) (past : List Step) (t : Traced) (e : Event) 
           apart = λ a b j l. absurd l;
         })
       where
-        heard : {P : Body → Type 0} (m : Message) → Has m (messages t.world) → (sv : ServerId) (op : ℕ) (k : Asked past t.world c op) → m.header.to ≡ c.0 → m.header.from ≡ server_node sv → SameKey k.server sv k.life_ k.epoch_ k.number_ m.header.life m.header.epoch m.header.number → P m.body → Heard P past t.world c op k
-        heard m i sv op k to f key p =
+        received : {P : Body → Type 0} (m : Message) → Has m (messages t.world) → (sv : ServerId) (op : ℕ) (k : Asked past t.world c op) → m.header.to ≡ c.0 → m.header.from ≡ server_node sv → SameKey k.server sv k.life_ k.epoch_ k.number_ m.header.life m.header.epoch m.header.number → P m.body → Received P past t.world c op k
+        received m i sv op k to f key p =
             record { message = m; among = i; replies = record { from = f ∙ ap server_node (sym key.server); to = to; of_life = sym key.life_; of_epoch = sym key.epoch_; under = sym key.number_ }; says = p }
 
         input : (j : ClientInput) → NextAsk t.world j old site → steps.InputOk c S (Key past t.world c) (Ended past t.world c) (Refused past t.world c) (open_ended past t.world c) (refused_ended past t.world c) j
         input inputs.Tick g = tt
-        input (inputs.Control m) g = λ to. record { told = λ sv op a f key its k. inr (heard m g sv op k to f (key k) (inl its)); refuses = λ sv op f key its k. heard m g sv op k to f (key k) its }
+        input (inputs.Control m) g = λ to. record { told = λ sv op a f key its k. inr (received m g sv op k to f (key k) (inl its)); refuses = λ sv op f key its k. received m g sv op k to f (key k) its }
         input (inputs.Done number result) g = tt
         input (inputs.App op ask) g = λ z. let y = d.known c op z in let q = (h.base.cuts.clients c old was).count in let r = g.0 in omega (arith, y, q, r)
 
-    abbrev after : ClientSite
+    abbrev after : WorldClient
     after = SiteAfter v c i site
 
     waits_of : (a : Association) → Has a (SiteAfter v c i site).node.state.associations → (o : Operation) → Has o (SiteAfter v c i site).node.state.operations → cs.is_asked a.server o ≡ true → Waits (cuts.Early past2 c) a.server a.life.0 (cuts.view a.session) o
@@ -387,7 +387,7 @@ module _ (k : Config) (count : ℕ) (past : List Step) (t : Traced) (e : Event) 
 
     -- where it waits behind the step, it is this operation
     this_one : (o : Operation) → Has o (SiteAfter v c i site).node.state.operations → (s : ServerId) (life epoch number : ℕ) → (w : WaitsUnder sc.world c s life epoch number o.op) → (w.operation ≡ o) × (w.site ≡ SiteAfter v c i site)
-    this_one o l s life epoch number w = (one_pending w.site.node.state.operations w.operation o w.there (subst (λ (z : ClientSite). Has o z.node.state.operations) (sym site_is) l) w.is (moment.few c w.site w.at w.operation.op), site_is)
+    this_one o l s life epoch number w = (one_pending w.site.node.state.operations w.operation o w.there (subst (λ (z : WorldClient). Has o z.node.state.operations) (sym site_is) l) w.is (moment.few c w.site w.at w.operation.op), site_is)
       where
         site_is : w.site ≡ SiteAfter v c i site
         site_is = some_is (sym w.at ∙ at)
@@ -421,7 +421,7 @@ module _ (k : Config) (count : ℕ) (past : List Step) (t : Traced) (e : Event) 
         go (inr w) =
             let z = this_one o l a.server a.life_ a.epoch_ a.number_ w in
             own_of (cuts.Early past2 c) w.association.server w.association.life.0 (cuts.view w.association.session) o
-            (waits_of w.association (subst (λ (r : ClientSite). Has w.association r.node.state.associations) z.1 w.among) o l (subst (λ s. cs.is_asked s o ≡ true) (sym w.server) (subst (λ r. cs.is_asked a.server r ≡ true) z.0 w.asked)))
+            (waits_of w.association (subst (λ (r : WorldClient). Has w.association r.node.state.associations) z.1 w.among) o l (subst (λ s. cs.is_asked s o ≡ true) (sym w.server) (subst (λ r. cs.is_asked a.server r ≡ true) z.0 w.asked)))
 
     sent_on : (b : Association) → Has b (SiteAfter v c i site).node.state.associations → (o : Operation) → Has o (SiteAfter v c i site).node.state.operations → Asked past2 sc.world c o.op → cs.is_of b.server o ≡ true → cs.is_sent o ≡ true
     sent_on b j o l a of = go (split o.op a)
@@ -456,7 +456,7 @@ module _ (k : Config) (count : ℕ) (past : List Step) (t : Traced) (e : Event) 
         was_refused stages.Sent op q r = cc q
         was_refused stages.Stuck op q r = r
 
-        go : (Worlds past t.world k.at) ⊎ WaitsUnder sc.world c k.server k.life_ k.epoch_ k.number_ o.op → Heard IsKeptRefusal past2 sc.world c o.op k
+        go : (Worlds past t.world k.at) ⊎ WaitsUnder sc.world c k.server k.life_ k.epoch_ k.number_ o.op → Received IsKeptRefusal past2 sc.world c o.op k
         go (inl q) =
             let z = was_refused o.stage o.op g ((held.done b j).state o l (before o.op k q) of) (before o.op k q) in
             record { message = z.message; among = grown z.message z.among; replies = record { from = z.replies.from; to = z.replies.to; of_life = z.replies.of_life; of_epoch = z.replies.of_epoch; under = z.replies.under }; says = z.says }
@@ -476,16 +476,16 @@ module _ (k : Config) (count : ℕ) (past : List Step) (t : Traced) (e : Event) 
   once_on = record { sites = sites; known = known_on }
     where
       Result : WorldTurn → Type 0
-      Result u = u ≡ sc → (c : ClientId) (site : ClientSite) → site_of sc.world c ≡ Some site → SiteOnce past2 sc.world c site
+      Result u = u ≡ sc → (c : ClientId) (site : WorldClient) → site_of sc.world c ≡ Some site → SiteOnce past2 sc.world c site
 
-      sites : (c : ClientId) (site : ClientSite) → site_of sc.world c ≡ Some site → SiteOnce past2 sc.world c site
+      sites : (c : ClientId) (site : WorldClient) → site_of sc.world c ≡ Some site → SiteOnce past2 sc.world c site
       sites = event_does t.world (λ s m at. (h.base.cuts.servers s m at).id) Result
           (λ u cs ms silent q c site at. stays c site (ap (λ z. numbered z c.0) (sym cs ∙ ap (λ (w : WorldTurn). w.world.clients) q) ∙ at) at)
           (λ v cs c i site old same asks_next run was u l ans q y r at. took v cs c i site old same asks_next run was (sym (ap (λ (w : WorldTurn). w.world.clients) q) ∙ l.clients ∙ ap (λ w. with_numbered c.0 (SiteAfter v c i site) w) cs) y r at)
           (λ c old new was z u cs ms silent q y r at. left c old new was z (sym (ap (λ (w : WorldTurn). w.world.clients) q) ∙ cs) y r at) e sc taken refl
         where
-          took : (v : World) → v.clients ≡ t.world.clients → (c : ClientId) (i : ClientInput) (site old : ClientSite) → site.node ≡ old.node → NextAsk t.world i old site → site.node.running ≡ true → site_of t.world c ≡ Some old → sc.world.clients ≡ with_numbered c.0 (SiteAfter v c i site) t.world.clients →
-              (y : ClientId) (r : ClientSite) → site_of sc.world y ≡ Some r → SiteOnce past2 sc.world y r
+          took : (v : World) → v.clients ≡ t.world.clients → (c : ClientId) (i : ClientInput) (site old : WorldClient) → site.node ≡ old.node → NextAsk t.world i old site → site.node.running ≡ true → site_of t.world c ≡ Some old → sc.world.clients ≡ with_numbered c.0 (SiteAfter v c i site) t.world.clients →
+              (y : ClientId) (r : WorldClient) → site_of sc.world y ≡ Some r → SiteOnce past2 sc.world y r
           took v cs c i site old same asks_next run was clients y r at = go (set_cases t.world.clients c.0 y.0 old (SiteAfter v c i site) r was (ap (λ w. numbered w y.0) (sym clients) ∙ at))
             where
               own : site_of sc.world c ≡ Some (SiteAfter v c i site)
@@ -495,11 +495,11 @@ module _ (k : Config) (count : ℕ) (past : List Step) (t : Traced) (e : Event) 
               go (inl q) = subst (λ m. SiteOnce past2 sc.world (record { 0 = m }) r) (sym q.0) (subst (SiteOnce past2 sc.world c) (sym q.1) (takes v cs c i site old same asks_next run was own))
               go (inr q) = stays y r q.1 at
 
-          left : (c : ClientId) (old new : ClientSite) → site_of t.world c ≡ Some old → IsEmptied old new → sc.world.clients ≡ with_numbered c.0 new t.world.clients → (y : ClientId) (r : ClientSite) → site_of sc.world y ≡ Some r → SiteOnce past2 sc.world y r
+          left : (c : ClientId) (old new : WorldClient) → site_of t.world c ≡ Some old → IsEmptied old new → sc.world.clients ≡ with_numbered c.0 new t.world.clients → (y : ClientId) (r : WorldClient) → site_of sc.world y ≡ Some r → SiteOnce past2 sc.world y r
           left c old new was z clients y r at = go (set_cases t.world.clients c.0 y.0 old new r was (ap (λ w. numbered w y.0) (sym clients) ∙ at))
             where
               go : ((y.0 ≡ c.0) × (r ≡ new)) ⊎ ((y.0 ≢ c.0) × (site_of t.world y ≡ Some r)) → SiteOnce past2 sc.world y r
-              go (inl q) = none_on y r (ap (λ (u : ClientSite). u.node.state.operations) q.1 ∙ z.operations)
+              go (inl q) = none_on y r (ap (λ (u : WorldClient). u.node.state.operations) q.1 ∙ z.operations)
               go (inr q) = stays y r q.1 at
 
   -- Each answer to what asked before the event is uncertain, or of a reply under its key.
@@ -512,7 +512,7 @@ module _ (k : Config) (count : ℕ) (past : List Step) (t : Traced) (e : Event) 
       Result : WorldTurn → Type 0
       Result u = u ≡ sc → (c : ClientId) (op : ℕ) (a : AppAnswer) → Has (seen.Answered c op a) sc.seen → Ended past t.world c op a
 
-      took : (v : World) → v.clients ≡ t.world.clients → (c : ClientId) (i : ClientInput) (site old : ClientSite) → site.node ≡ old.node → NextAsk t.world i old site → site.node.running ≡ true → site_of t.world c ≡ Some old → sc.world.clients ≡ with_numbered c.0 (SiteAfter v c i site) t.world.clients →
+      took : (v : World) → v.clients ≡ t.world.clients → (c : ClientId) (i : ClientInput) (site old : WorldClient) → site.node ≡ old.node → NextAsk t.world i old site → site.node.running ≡ true → site_of t.world c ≡ Some old → sc.world.clients ≡ with_numbered c.0 (SiteAfter v c i site) t.world.clients →
           (d : ClientId) (op : ℕ) (a : AppAnswer) → Has (seen.Answered d op a) [] ⊎ AnswerOf c d op a (ClientTook v c i site).out → Ended past t.world d op a
       took v cs c i site old same asks_next run was clients d op a (inl j) = absurd j
       took v cs c i site old same asks_next run was clients d op a (inr z) =
@@ -568,7 +568,7 @@ same_ghosts k count past t e sc r h taken = (laws.holds_on k count past t e sc r
 -- The start: nobody waits, and nothing was sent.
 pub none_waits : (k : base.Config) (clients servers disks blocks form : ℕ) (c : ClientId) (op : ℕ) (s : ServerId) (life epoch number : ℕ) → WaitsUnder (fresh_world k clients servers disks blocks form) c s life epoch number op → ⊥
 unfolding fresh_world cl.fresh_client
-none_waits k clients servers disks blocks form c op s life epoch number z = empty z.site.node.state.operations (ap (λ (y : ClientSite). y.node.state.operations) (site_is k clients servers c.0 z.site z.at).0) z.operation z.there
+none_waits k clients servers disks blocks form c op s life epoch number z = empty z.site.node.state.operations (ap (λ (y : WorldClient). y.node.state.operations) (site_is k clients servers c.0 z.site z.at).0) z.operation z.there
   where
     empty : (os : List Operation) → os ≡ [] → (o : Operation) → Has o os → ⊥
     empty [] q o i = absurd i
@@ -589,10 +589,10 @@ names_begin k clients servers disks blocks form head = record { all = begins k c
     empty [] q o i = absurd i
     empty (x ∷ os) q o i = cc q
 
-    no_operation : (c : ClientId) (site : ClientSite) → site_of w c ≡ Some site → (o : Operation) → Has o site.node.state.operations → ⊥
-    no_operation c site e o i = empty site.node.state.operations (ap (λ (y : ClientSite). y.node.state.operations) (site_is k clients servers c.0 site e).0) o i
+    no_operation : (c : ClientId) (site : WorldClient) → site_of w c ≡ Some site → (o : Operation) → Has o site.node.state.operations → ⊥
+    no_operation c site e o i = empty site.node.state.operations (ap (λ (y : WorldClient). y.node.state.operations) (site_is k clients servers c.0 site e).0) o i
 
-    sites : (c : ClientId) (site : ClientSite) → site_of w c ≡ Some site → SiteOnce [] w c site
+    sites : (c : ClientId) (site : WorldClient) → site_of w c ≡ Some site → SiteOnce [] w c site
     sites c site e = record { kind = λ o i a. absurd (no_operation c site e o i); sent = λ b j o i a q. absurd (no_operation c site e o i); asked = λ b j o i a q. absurd (no_operation c site e o i); stuck = λ b j o i q g. absurd (no_operation c site e o i) }
 
     waits_none : (c : ClientId) (op : ℕ) (s : ServerId) (life epoch number : ℕ) → WaitsUnder w c s life epoch number op → ⊥

@@ -15,9 +15,9 @@ use Rattle.st_laws_leases.specs.Dates.Dates.{messages}
 use Rattle.st_laws_requests.specs.Cuts.Cuts.{asks_of}
 use Rattle.st_promises.specs.CutAsks.{settles_in}
 use Rattle.st_promises.specs.NameAnswers.{becomes_at, changes_in}
-use Rattle.st_laws_cuts.specs.Over.{AllPast}
-use Rattle.st_laws_cuts.specs.Served.{NamesBy}
-use Rattle.st_laws_names.specs.Once.{WaitsUnder}
+use Rattle.st_laws_cuts.specs.EndedRequests.{AllPast}
+use Rattle.st_laws_cuts.specs.ServedRequests.{NamesBy}
+use Rattle.st_laws_names.specs.OutstandingKeys.{WaitsUnder}
 
 -- a world behind one of these steps, or before this one
 abbrev pub IsBefore : List Step → Step → World → Type 0

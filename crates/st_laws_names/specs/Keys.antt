@@ -27,8 +27,8 @@ use Rattle.st_lemmas.specs.Lists.{Has}
 use Rattle.st_laws_leases.specs.Dates.Dates.{messages}
 use Rattle.st_laws_requests.specs.Cuts.Cuts.{Keyed, does}
 use Rattle.st_promises.specs.NameAnswers.{said}
-use Rattle.st_laws_cuts.specs.Over.{AllPast}
-use Rattle.st_laws_cuts.specs.Served.{IsServedBy}
+use Rattle.st_laws_cuts.specs.EndedRequests.{AllPast}
+use Rattle.st_laws_cuts.specs.ServedRequests.{IsServedBy}
 
 -- Replies.
 
@@ -68,7 +68,7 @@ abbrev pub now_at : World → ServerId → Stamp
 now_at w s = clock_of (ev.counted w) (nodes.Server s)
 
 -- a server's step, behind its thefts
-abbrev pub behind_thefts : World → ServerId → ServerState → sv.Turn
+abbrev pub behind_thefts : World → ServerId → ServerState → sv.ServerTurn
 behind_thefts w s x = sv.thefts (sv.turn x []) (now_at w s)
 
 -- In the event of a step a server that runs served a message, which is of this key, and replied so.

@@ -1,4 +1,4 @@
-pub mod Once
+pub mod OutstandingKeys
 pub mod Changes
 pub mod Keys
 pub mod Owners

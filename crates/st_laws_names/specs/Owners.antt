@@ -18,7 +18,7 @@ use Rattle.st_promises.specs.NameAnswers.{becomes_at, changes_in, says_in}
 use Rattle.st_promises.specs.NamesOnce.{is_change_of}
 use Rattle.st_laws_requests.specs.Cuts.Cuts.{asks_of}
 use Rattle.st_laws_names.specs.Keys.{ServedAt}
-use Rattle.st_laws_names.specs.Once.{WaitsUnder}
+use Rattle.st_laws_names.specs.OutstandingKeys.{WaitsUnder}
 
 -- In the event of a step a server served a request of a client, and an operation waited under its key behind one of these steps.
 pub record Owns (past : List Step) (y : Step) (s : ServerId) (c : ClientId) (op : ℕ) : Type 0 where

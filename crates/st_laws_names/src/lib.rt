@@ -4,7 +4,7 @@
 ghost use Rattle.st_laws_leases.specs.Sides.Law.{InEveryRun};
 ghost use Rattle.st_laws_names.specs.Changes.{AsksChangeOnce};
 ghost use Rattle.st_laws_names.specs.Keys.{RepliesAreOfTheirEvents};
-ghost use Rattle.st_laws_names.specs.Once.{KeysHaveOneOperation, OperationsAskOnce};
+ghost use Rattle.st_laws_names.specs.OutstandingKeys.{KeysHaveOneOperation, OperationsAskOnce};
 ghost use Rattle.st_promises.specs.Refusals.{RefusalsChangeNothing};
 ghost use Rattle.st_promises.specs.NamesOnce.{NamesChangeOnce};
 

@@ -1,7 +1,7 @@
 pub mod Data
 pub mod Folds
-pub mod Owed
+pub mod Obligations
 pub mod Pages
 pub mod Runs
-pub mod Told
+pub mod ToldLog
 pub mod World

@@ -4,8 +4,8 @@ pub mod Copies
 pub mod Drops
 pub mod Ends
 pub mod Everywhere
-pub mod Hearing
-pub mod Hears
+pub mod Receiving
+pub mod Receives
 pub mod Held
 pub mod Locked
 pub mod Logs

@@ -1,8 +1,8 @@
-pub mod Carry
-pub mod Clear
+pub mod CarriedContents
+pub mod CutFiles
 pub mod Events
 pub mod Law
-pub mod Left
+pub mod Obligations
 pub mod Runs
-pub mod Settled
+pub mod OwnEntries
 pub mod World

@@ -1,4 +1,4 @@
 pub mod Copies
 pub mod Law
-pub mod Owed
+pub mod Obligations
 pub mod World

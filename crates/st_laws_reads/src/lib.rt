@@ -7,10 +7,10 @@ ghost use Rattle.st_laws_reads.specs.Copies.World.{ClocksKeepCopies, DropsKeepCo
 ghost use Rattle.st_laws_reads.specs.FrozenLives.PendingEntries.{FrozenAreAlone, FrozenBegin, FrozenLivesStandAlone, EventsKeepFrozen};
 ghost use Rattle.st_laws_reads.specs.FrozenLives.Frozen.{CrashesLeaveLives, LivesStandAlone, PathsKeepLives};
 ghost use Rattle.st_laws_reads.specs.OpenWrites.StandAlone.{OpenWritesStandAlone};
-ghost use Rattle.st_laws_reads.specs.AllClients.Clear.{RunsClear};
+ghost use Rattle.st_laws_reads.specs.AllClients.CutFiles.{RunsClear};
 ghost use Rattle.st_laws_reads.specs.AllClients.Events.{OthersKeepCopies};
 ghost use Rattle.st_laws_reads.specs.AllClients.Law.{PendingPagesStandAlone};
-ghost use Rattle.st_laws_reads.specs.AllClients.Settled.{LockedPagesAreOwn, LockedPagesAreSettled};
+ghost use Rattle.st_laws_reads.specs.AllClients.OwnEntries.{LockedPagesAreOwn, LockedPagesAreSettled};
 ghost use Rattle.st_laws_reads.specs.AllClients.World.{TakingsKeepCopies};
 
 /// The pass over the operations keeps the copies: pages have the bytes of the log, and reads are answered by it.

@@ -1,3 +1,3 @@
 pub mod Law
-pub mod Shown
+pub mod Invariants
 pub mod World

@@ -1,7 +1,7 @@
-pub mod Dated
+pub mod DatingReplies
 pub mod Edits
 pub mod Law
 pub mod Pair
 pub mod Paths
-pub mod Stands
+pub mod Invariants
 pub mod View

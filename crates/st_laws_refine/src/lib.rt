@@ -3,7 +3,7 @@
 
 ghost use Rattle.st_laws_refine.specs.Client.Law.{ClientStepsAreMoves, RunsKeepHard, LostLeasesAreOver};
 ghost use Rattle.st_laws_refine.specs.Client.World.{OtherAssociationsStay, OwnAssociationsMove};
-ghost use Rattle.st_laws_refine.specs.Server.Dated.{RepliesStayDated};
+ghost use Rattle.st_laws_refine.specs.Server.DatingReplies.{RepliesStayDated};
 ghost use Rattle.st_laws_refine.specs.Server.Law.{AdvancesKeepServers, CalmStays, CrashesKeepServers, FewStay, RowsStayCompatible, ServerStepsAreMoves, ServersWait, StartsKeepServers, StepsKeepServers};
 ghost use Rattle.st_protocol.specs.Assoc.{Assoc, Config, In, Moves, Msg};
 ghost use Rattle.st_rules.specs.Safety.{OldMessagesChangeNoClient, OldMessagesChangeNoServer};

@@ -53,7 +53,7 @@ use Rattle.st_rules.specs.Safety.{Step, ask_in, ask_of, ask_of_client, is_crash_
 use Rattle.st_rules.specs.Server as server
 use Rattle.st_rules.specs.Server.{ServerNode}
 use Rattle.st_rules.specs.World as world
-use Rattle.st_rules.specs.World.{World, ClientSite, clock_of, fresh_world, is_running, issued_of, node_of, numbered, site_of}
+use Rattle.st_rules.specs.World.{World, WorldClient, clock_of, fresh_world, is_running, issued_of, node_of, numbered, site_of}
 use Rattle.st_lemmas.specs.Lists.{Has}
 use Rattle.st_lemmas.proofs.Numbers.{get_last, numbered_has, numbered_old}
 use Rattle.st_lemmas.proofs.Steps.{step_happens, throughout}
@@ -61,7 +61,7 @@ use Rattle.st_lemmas.proofs.Tables.{has_append, has_map}
 use Rattle.st_laws_pages.specs.Asks.Law.{InEveryRun}
 use Rattle.st_laws_pages.proofs.Asks.Says.{client_leaves}
 use Rattle.st_laws_pages.proofs.Asks.World.{asks_more, asks_of, asks_same, site_case}
-use Rattle.st_laws_pages.specs.Disks.Owed.{FatesHold}
+use Rattle.st_laws_pages.specs.Disks.Obligations.{FatesHold}
 use Rattle.st_laws_pages.proofs.Disks.Steps.{fates_law}
 use Rattle.st_laws_pages.proofs.Disks.Whole.{fresh_fates}
 use Rattle.st_laws_steps.specs.Lives.Lives.{Once, server_number}
@@ -216,7 +216,7 @@ module _ (past : List Step) (x : Step) (c : ClientId) where
       same a r rows = refl
   client_one before now (outputs.Submit number at what) sc f k = go (site_of sc.world c)
     where
-      go : (o : Option ClientSite) → Tells (λ r. behind asked had r (now r) (outputs.Submit number at what)) (ev.submits sc c o number at what).seen
+      go : (o : Option WorldClient) → Tells (λ r. behind asked had r (now r) (outputs.Submit number at what)) (ev.submits sc c o number at what).seen
       go None = k
       go (Some site) = line now (outputs.Submit number at what) sc.seen _ (λ r rows. refl) tt tt k
   client_one before now (outputs.Note n) sc f k = note n
@@ -235,7 +235,7 @@ module _ (past : List Step) (x : Step) (c : ClientId) where
 
 -- What stands of a client: what is owed of each server is what it has of its lost pages, a pending sync has none, and each pending
 -- operation is what it was asked under its number.
-record SiteOk (owes : Rows) (asks : List Ask) (site : ClientSite) : Type 0 where
+record SiteOk (owes : Rows) (asks : List Ask) (site : WorldClient) : Type 0 where
   pub at : (a : Association) → Has a site.node.state.associations → owes a.server ≡ a.lost
   pub none : (r : ServerId) → NoneOf r site.node.state.associations → owes r ≡ []
   pub ops : (o : Operation) → Has o site.node.state.operations → SyncOk owes o.ask o
@@ -244,13 +244,13 @@ record SiteOk (owes : Rows) (asks : List Ask) (site : ClientSite) : Type 0 where
   pub count : length asks ≡ site.asks
 
 abbrev AllOk : List Step → World → Type 0
-AllOk past w = (c : ClientId) (site : ClientSite) → site_of w c ≡ Some site → SiteOk (λ r. owed past c r) (asks_of past c) site
+AllOk past w = (c : ClientId) (site : WorldClient) → site_of w c ≡ Some site → SiteOk (λ r. owed past c r) (asks_of past c) site
 
 sync_same : (R S : Rows) → ((r : ServerId) → S r ≡ R r) → (a : Ask) (o : Operation) → SyncOk R a o → SyncOk S a o
 sync_same R S e (asks.Sync f) o k = record { unsent = k.unsent; none = ap (λ (z : List LostPage). pages.has_lost z f.ino) (e f.server) ∙ k.none }
 sync_same R S e a o k = tt
 
-site_same : (R S : Rows) (xs ys : List Ask) (site : ClientSite) → ((r : ServerId) → S r ≡ R r) → ys ≡ xs → SiteOk R xs site → SiteOk S ys site
+site_same : (R S : Rows) (xs ys : List Ask) (site : WorldClient) → ((r : ServerId) → S r ≡ R r) → ys ≡ xs → SiteOk R xs site → SiteOk S ys site
 site_same R S xs ys site e q k =
     record {
       at = λ a h. e a.server ∙ k.at a h;
@@ -272,7 +272,7 @@ same_owed past x c P f h e r =
     ∙ along_others (ask_of past x c) x.before.world c r P f x.seen h (owed past c r)
 
 -- An event in which no client takes a step, crashes or starts.
-silent : (past : List Step) (t : Traced) (e : Event) (sc : WorldTurn) → LinesOf NoClient sc.seen → ((c : ClientId) → is_crash_of c e ≡ false) → ((c : ClientId) (site : ClientSite) → site_of t.world c ≡ Some site → ask_in c e ≡ None) → sc.world.clients ≡ t.world.clients → AllOk past t.world → Done past (step t e sc)
+silent : (past : List Step) (t : Traced) (e : Event) (sc : WorldTurn) → LinesOf NoClient sc.seen → ((c : ClientId) → is_crash_of c e ≡ false) → ((c : ClientId) (site : WorldClient) → site_of t.world c ≡ Some site → ask_in c e ≡ None) → sc.world.clients ≡ t.world.clients → AllOk past t.world → Done past (step t e sc)
 silent past t e sc h crash unasked same ok =
     record {
       sites = λ c site i. let j = sym (ap (λ z. numbered z c.0) same) ∙ i in
@@ -345,17 +345,17 @@ other_client c d z = far (same_client d c) refl
     far true y = absurd (clash (eq-eqb c.0 d.0 (sym (eqb-true d.0 c.0 y))) z)
 
 -- a client that is there is not one that is not
-there_apart : (w : World) (c d : ClientId) (y : ClientSite) → site_of w c ≡ None → site_of w d ≡ Some y → same_client d c ≡ false
+there_apart : (w : World) (c d : ClientId) (y : WorldClient) → site_of w c ≡ None → site_of w d ≡ Some y → same_client d c ≡ false
 there_apart w c d y j k = far (same_client d c) refl
   where
-    gone : ◌≡◌ {A = Option ClientSite} None (Some y) → ⊥
+    gone : ◌≡◌ {A = Option WorldClient} None (Some y) → ⊥
     gone v = cc
 
     far : (b : Bool) → same_client d c ≡ b → b ≡ false
     far false z = refl
     far true z = absurd (gone (sym (ap (λ n. numbered w.clients n) (eqb-true d.0 c.0 z) ∙ j) ∙ k))
 
-takes : (past : List Step) (t : Traced) (e : Event) (w : World) (c : ClientId) (input : ClientInput) (old site : ClientSite) → w.clients ≡ t.world.clients → w.clocks ≡ t.world.clocks → site_of t.world c ≡ Some old → site.node ≡ old.node → ((d : ClientId) → is_crash_of d e ≡ false) →
+takes : (past : List Step) (t : Traced) (e : Event) (w : World) (c : ClientId) (input : ClientInput) (old site : WorldClient) → w.clients ≡ t.world.clients → w.clocks ≡ t.world.clocks → site_of t.world c ≡ Some old → site.node ≡ old.node → ((d : ClientId) → is_crash_of d e ≡ false) →
     (site.node.running ≡ false → (d : ClientId) → ask_in d e ≡ None) → ((d : ClientId) → (c.0 == d.0) ≡ false → ask_in d e ≡ None) → ((sc : WorldTurn) → length (asks_of (past ++ step t e sc ∷ []) c) ≡ site.asks) →
     ((sc : WorldTurn) → Rattle.st_laws_reports.proofs.Owing.InputOk (λ op. ask_of past (step t e sc) c op) (λ s. association_of t.world c s) (λ r. owed past c r) input) →
     Once (map server_number old.node.state.associations) → AllOk past t.world → Done past (step t e (ev.client_takes w c input site))
@@ -404,7 +404,7 @@ takes past t e w c input old site clients clocks there same crash idle others co
 
         own : (a : Association) → Has a site.node.state.associations → association_of t.world c a.server ≡ Some a
         own a h =
-            ap (λ (o : Option ClientSite). Rattle.st_rules.specs.History.association_at a.server o) there
+            ap (λ (o : Option WorldClient). Rattle.st_rules.specs.History.association_at a.server o) there
             ∙ ap (λ (m : cl.ClientNode). find (cs.is_at a.server) m.state.associations) (sym same) ∙ found_own site.node.state.associations apart a h
 
         begun : Stands (λ op. ask_of past x c op) (λ s. association_of t.world c s) (λ r. owed past c r) (client_turn site.node.state [])
@@ -449,7 +449,7 @@ takes past t e w c input old site clients clocks there same crash idle others co
               count = count sc;
             }
 
-        one : (d : ClientId) (y : ClientSite) → ((c ≡ d) × (y ≡ ev.at_node n.node site)) ⊎ (((c.0 == d.0) ≡ false) × (site_of w d ≡ Some y)) → SiteOk (λ r. owed (past ++ x ∷ []) d r) (asks_of (past ++ x ∷ []) d) y
+        one : (d : ClientId) (y : WorldClient) → ((c ≡ d) × (y ≡ ev.at_node n.node site)) ⊎ (((c.0 == d.0) ≡ false) × (site_of w d ≡ Some y)) → SiteOk (λ r. owed (past ++ x ∷ []) d r) (asks_of (past ++ x ∷ []) d) y
         one d y (inl q) = subst (λ d. SiteOk (λ r. owed (past ++ x ∷ []) d r) (asks_of (past ++ x ∷ []) d) y) q.0 (subst (SiteOk (λ r. owed (past ++ x ∷ []) c r) (asks_of (past ++ x ∷ []) c)) (sym q.1) new)
         one d y (inr q) =
             site_same _ _ _ _ y (same_owed past x d (λ z. z ≡ c) (λ z p. ap (λ (v : ClientId). v.0 == d.0) p ∙ q.0) tells.mine (crash d)) (asks_same past x d (others d q.0))
@@ -460,11 +460,11 @@ takes past t e w c input old site clients clocks there same crash idle others co
     go false q = silent past t e (ev.quiet w) (none_of NoClient) crash (λ d y k. idle q d) clients ok
 
 -- a client that has nothing pending, nothing lost, and owes nothing
-record Bare (site : ClientSite) : Type 0 where
+record Bare (site : WorldClient) : Type 0 where
   pub lost : (a : Association) → Has a site.node.state.associations → a.lost ≡ []
   pub ops : site.node.state.operations ≡ []
 
-bare_ok : (owes : Rows) (asks : List Ask) (site : ClientSite) → ((r : ServerId) → owes r ≡ []) → length asks ≡ site.asks → Bare site → SiteOk owes asks site
+bare_ok : (owes : Rows) (asks : List Ask) (site : WorldClient) → ((r : ServerId) → owes r ≡ []) → length asks ≡ site.asks → Bare site → SiteOk owes asks site
 bare_ok owes asks site e q b =
     record {
       at = λ a h. e a.server ∙ sym (b.lost a h);
@@ -478,11 +478,11 @@ bare_ok owes asks site e q b =
 bare_map : (f : Association → Association) → ((a : Association) → (f a).lost ≡ []) → (al : List Association) (a : Association) → Has a (map f al) → a.lost ≡ []
 bare_map f e al a h = let z = has_map f al a h in ap (λ (y : Association). y.lost) z.2 ∙ e z.0
 
-crash_bare : (site : ClientSite) → Bare (ev.stopped_site site)
+crash_bare : (site : WorldClient) → Bare (ev.stopped_site site)
 unfolding cl.crash
 crash_bare site = record { lost = bare_map cl.crashed_association (λ a. refl) site.node.state.associations; ops = refl }
 
-start_bare : (site : ClientSite) → Bare (ev.started_site site)
+start_bare : (site : WorldClient) → Bare (ev.started_site site)
 unfolding cl.start
 start_bare site = record { lost = bare_map cl.started_association (λ a. refl) site.node.state.associations; ops = refl }
 
@@ -491,7 +491,7 @@ or_second None b e = e
 or_second (Some x) b e = cc
 
 -- a client that takes an ask runs
-ask_runs : (w : World) (c : ClientId) (site : ClientSite) → site_of w c ≡ Some site → adm.cannot_step w (nodes.Client c) ≡ None → site.node.running ≡ true
+ask_runs : (w : World) (c : ClientId) (site : WorldClient) → site_of w c ≡ Some site → adm.cannot_step w (nodes.Client c) ≡ None → site.node.running ≡ true
 unfolding adm.stands
 ask_runs w c site i e = sym (ap world.site_runs i) ∙ go (is_running w (nodes.Client c)) e
   where
@@ -500,7 +500,7 @@ ask_runs w c site i e = sym (ap world.site_runs i) ∙ go (is_running w (nodes.C
     go false e = cc
 
 -- a client that starts did not run
-start_stopped : (w : World) (c : ClientId) (site : ClientSite) → site_of w c ≡ Some site → adm.still_running w (nodes.Client c) ≡ None → site.node.running ≡ false
+start_stopped : (w : World) (c : ClientId) (site : WorldClient) → site_of w c ≡ Some site → adm.still_running w (nodes.Client c) ≡ None → site.node.running ≡ false
 unfolding adm.stands
 start_stopped w c site i e = go site.node.running refl
   where
@@ -511,13 +511,13 @@ start_stopped w c site i e = go site.node.running refl
         no : ◌≡◌ {A = Option WorldRefusal} (Some (refusals.Running (nodes.Client c))) None → ⊥
         no z = cc
 
-happens_done : (past : List Step) (t : Traced) (e : Event) → adm.refusal t.world e ≡ None → ((c : ClientId) (site : ClientSite) → site_of t.world c ≡ Some site → Once (map server_number site.node.state.associations)) → AllOk past t.world → Done past (step t e (ev.happens (ev.counted t.world) e))
+happens_done : (past : List Step) (t : Traced) (e : Event) → adm.refusal t.world e ≡ None → ((c : ClientId) (site : WorldClient) → site_of t.world c ≡ Some site → Once (map server_number site.node.state.associations)) → AllOk past t.world → Done past (step t e (ev.happens (ev.counted t.world) e))
 unfolding ev.happens ev.ticks ev.at_client ev.at_server ev.server_takes ev.server_took ev.asks_at ev.delivers ev.delivers_to ev.loses_message ev.marks ev.effects ev.reports_of ev.tells ev.tells_client ev.tells_site ev.advances ev.crashes ev.crashes_client ev.crashes_server ev.starts ev.starts_client ev.starts_server adm.refusal
 happens_done past t e q once ok = event e q
   where
     -- a client takes an input that is no ask
     client : (e : Event) → ((d : ClientId) → is_crash_of d e ≡ false) → ((d : ClientId) → ask_in d e ≡ None) → (w : World) → w.clients ≡ t.world.clients → w.clocks ≡ t.world.clocks → (c : ClientId) (input : ClientInput) →
-        ((asked : ℕ → Option Ask) (had : ServerId → Option Association) (rows : Rows) → Rattle.st_laws_reports.proofs.Owing.InputOk asked had rows input) → (o : Option ClientSite) → site_of t.world c ≡ o → Done past (step t e (ev.at_client w c input o))
+        ((asked : ℕ → Option Ask) (had : ServerId → Option Association) (rows : Rows) → Rattle.st_laws_reports.proofs.Owing.InputOk asked had rows input) → (o : Option WorldClient) → site_of t.world c ≡ o → Done past (step t e (ev.at_client w c input o))
     client e crash na w cs ts c input g None i = silent past t e (ev.quiet w) (none_of NoClient) crash (λ d y k. na d) cs ok
     client e crash na w cs ts c input g (Some site) i =
         takes past t e w c input site site cs ts i refl crash (λ f d. na d) (λ d z. na d) (λ sc. ap (λ (z : List Ask). length z) (asks_same past (step t e sc) c (na c)) ∙ (ok c site i).count) (λ sc. g (λ op. ask_of past (step t e sc) c op) (λ s. association_of t.world c s) (λ r. owed past c r)) (once c site i) ok
@@ -540,7 +540,7 @@ happens_done past t e q once ok = event e q
     marked e crash na w es cs = silent past t e (ev.marks w es) (fates_of 1 w.log es) crash (λ d y k. na d) cs ok
 
     -- a client crashes or starts
-    replaced : (e : Event) (sc : WorldTurn) (c : ClientId) (old site : ClientSite) → LinesOf NoClient sc.seen → site_of t.world c ≡ Some old → sc.world.clients ≡ Rattle.st_rules.specs.World.with_numbered c.0 site t.world.clients → Bare site → site.asks ≡ old.asks → ((d : ClientId) → ask_in d e ≡ None) →
+    replaced : (e : Event) (sc : WorldTurn) (c : ClientId) (old site : WorldClient) → LinesOf NoClient sc.seen → site_of t.world c ≡ Some old → sc.world.clients ≡ Rattle.st_rules.specs.World.with_numbered c.0 site t.world.clients → Bare site → site.asks ≡ old.asks → ((d : ClientId) → ask_in d e ≡ None) →
         ((r : ServerId) → owed (past ++ step t e sc ∷ []) c r ≡ []) → ((d : ClientId) → (c.0 == d.0) ≡ false → is_crash_of d e ≡ false) → Done past (step t e sc)
     replaced e sc c old site h there left bare counts na owes crash =
         record {
@@ -548,7 +548,7 @@ happens_done past t e q once ok = event e q
           told = told_none past (step t e sc) [] sc.seen h;
         }
       where
-        one : (d : ClientId) (y : ClientSite) → ((c ≡ d) × (y ≡ site)) ⊎ (((c.0 == d.0) ≡ false) × (site_of t.world d ≡ Some y)) → SiteOk (λ r. owed (past ++ step t e sc ∷ []) d r) (asks_of (past ++ step t e sc ∷ []) d) y
+        one : (d : ClientId) (y : WorldClient) → ((c ≡ d) × (y ≡ site)) ⊎ (((c.0 == d.0) ≡ false) × (site_of t.world d ≡ Some y)) → SiteOk (λ r. owed (past ++ step t e sc ∷ []) d r) (asks_of (past ++ step t e sc ∷ []) d) y
         one d y (inl z) =
             subst (λ d. SiteOk (λ r. owed (past ++ step t e sc ∷ []) d r) (asks_of (past ++ step t e sc ∷ []) d) y) z.0
             (subst (SiteOk (λ r. owed (past ++ step t e sc ∷ []) c r) (asks_of (past ++ step t e sc ∷ []) c)) (sym z.1)
@@ -563,7 +563,7 @@ happens_done past t e q once ok = event e q
     event (events.Tick (nodes.Server s)) q = from_server (events.Tick (nodes.Server s)) (λ d. refl) (λ d. refl) s _ (node_of t.world s)
     event (events.App c ask) q = go (site_of t.world c) refl
       where
-        go : (o : Option ClientSite) → site_of t.world c ≡ o → Done past (step t (events.App c ask) (ev.asks_at (ev.counted t.world) c ask o))
+        go : (o : Option WorldClient) → site_of t.world c ≡ o → Done past (step t (events.App c ask) (ev.asks_at (ev.counted t.world) c ask o))
         go None j = silent past t (events.App c ask) (ev.quiet (ev.counted t.world)) (none_of NoClient) (λ d. refl) (λ d y k. other_unasked c d ask (there_apart t.world c d y j k)) refl ok
         go (Some site) j =
             takes past t (events.App c ask) (ev.counted t.world) c (inputs.App (site.asks + 1) ask) site (ev.asked_once_more site) refl refl j refl (λ d. refl)
@@ -592,11 +592,11 @@ happens_done past t e q once ok = event e q
         v : World
         v = ev.with_disks (ev.disks_after t.world.disks (disks.done t.world.disks k good)) (ev.counted t.world)
 
-        same : (x : IssuedCommand) (b : Bool) (site : ClientSite) → Done past (step t (events.Report k good) (ev.at_client v x.client (ev.end_told v k good x) (Some site))) → Done past (step t (events.Report k good) (if b then ev.client_takes v x.client (ev.end_told v k good x) site else ev.quiet v))
+        same : (x : IssuedCommand) (b : Bool) (site : WorldClient) → Done past (step t (events.Report k good) (ev.at_client v x.client (ev.end_told v k good x) (Some site))) → Done past (step t (events.Report k good) (if b then ev.client_takes v x.client (ev.end_told v k good x) site else ev.quiet v))
         same x true site d = d
         same x false site d = nothing (events.Report k good) (λ d. refl) (λ d. refl) v refl
 
-        told : (x : IssuedCommand) (o : Option ClientSite) → site_of t.world x.client ≡ o → Done past (step t (events.Report k good) (ev.tells_client v k good x o))
+        told : (x : IssuedCommand) (o : Option WorldClient) → site_of t.world x.client ≡ o → Done past (step t (events.Report k good) (ev.tells_client v k good x o))
         told x None j = nothing (events.Report k good) (λ d. refl) (λ d. refl) v refl
         told x (Some site) j = same x (ev.is_same_instance x site) site (client (events.Report k good) (λ d. refl) (λ d. refl) v refl refl x.client (ev.end_told v k good x) (λ a h r. tt) (Some site) j)
 
@@ -605,7 +605,7 @@ happens_done past t e q once ok = event e q
         go (Some x) = told x (site_of t.world x.client) refl
     event (events.Crash (nodes.Client c)) q = go (site_of t.world c) refl
       where
-        go : (o : Option ClientSite) → site_of t.world c ≡ o → Done past (step t (events.Crash (nodes.Client c)) (ev.crashes_client (ev.counted t.world) c o))
+        go : (o : Option WorldClient) → site_of t.world c ≡ o → Done past (step t (events.Crash (nodes.Client c)) (ev.crashes_client (ev.counted t.world) c o))
         go None j =
             record {
               sites = λ d y k. site_same _ _ _ _ y (λ r. other d y k r) (asks_same past x d refl) (ok d y k);
@@ -618,7 +618,7 @@ happens_done past t e q once ok = event e q
             no : (v d : ClientId) → NoClient v → same_client v d ≡ false
             no v d p = absurd p
 
-            other : (d : ClientId) (y : ClientSite) → site_of t.world d ≡ Some y → (r : ServerId) → owed (past ++ x ∷ []) d r ≡ owed past d r
+            other : (d : ClientId) (y : WorldClient) → site_of t.world d ≡ Some y → (r : ServerId) → owed (past ++ x ∷ []) d r ≡ owed past d r
             other d y k r = same_owed past x d NoClient (λ v p. no v d p) (none_of NoClient) (there_apart t.world c d y j k) r
         go (Some site) j = replaced (events.Crash (nodes.Client c)) sc c site (ev.stopped_site site) (fates_of 1 _ _) j refl (crash_bare site) refl (λ d. refl) owes (other_client c)
           where
@@ -634,7 +634,7 @@ happens_done past t e q once ok = event e q
         go (Some node) = nothing (events.Crash (nodes.Server s)) (λ d. refl) (λ d. refl) _ refl
     event (events.Start (nodes.Client c)) q = go (site_of t.world c) refl
       where
-        go : (o : Option ClientSite) → site_of t.world c ≡ o → Done past (step t (events.Start (nodes.Client c)) (ev.quiet (ev.starts_client (ev.counted t.world) c o)))
+        go : (o : Option WorldClient) → site_of t.world c ≡ o → Done past (step t (events.Start (nodes.Client c)) (ev.quiet (ev.starts_client (ev.counted t.world) c o)))
         go None j = nothing (events.Start (nodes.Client c)) (λ d. refl) (λ d. refl) _ refl
         go (Some site) j = replaced (events.Start (nodes.Client c)) sc c site (ev.started_site site) (none_of NoClient) j refl (start_bare site) refl (λ d. refl) owes (λ d z. refl)
           where
@@ -675,8 +675,8 @@ fresh_ok k clients servers d b form c site i = let z = all (extents.numbers 1 cl
         bare_none : (ns : List ℕ) (a : Association) → Has a (map cl.fresh_association ns) → a.lost ≡ []
         bare_none ns a h = let z = has_map cl.fresh_association ns a h in ap (λ (y : Association). y.lost) z.2
 
-    all : (ns : List ℕ) (y : ClientSite) → Has y (map (world.fresh_site k servers) ns) → Bare y × (y.asks ≡ 0)
-    all ns y h = let z = has_map (world.fresh_site k servers) ns y h in subst (λ (v : ClientSite). Bare v × (v.asks ≡ 0)) (sym z.2) (one z.0, refl)
+    all : (ns : List ℕ) (y : WorldClient) → Has y (map (world.fresh_site k servers) ns) → Bare y × (y.asks ≡ 0)
+    all ns y h = let z = has_map (world.fresh_site k servers) ns y h in subst (λ (v : WorldClient). Bare v × (v.asks ≡ 0)) (sym z.2) (one z.0, refl)
 
 pub losses_law : InEveryRun LossesAreTold
 unfolding Holds

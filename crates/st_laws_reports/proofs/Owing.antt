@@ -22,7 +22,7 @@ use Rattle.st_promises.specs.Losses.{IsToldBy, IsToldTo, owed_of_file}
 use Rattle.st_lemmas.specs.Lists.{Has}
 use Rattle.st_lemmas.proofs.Tables.{has_append, has_map_in}
 use Rattle.st_laws_steps.specs.Lives.Lives.{Once, server_number}
-use Rattle.st_laws_reports.proofs.Telling.{Fine, K, Moved, OpOk, Rows, along, along_more, finished, heard, lost, only, passed, stays, told_same}
+use Rattle.st_laws_reports.proofs.Telling.{Fine, K, Moved, OpOk, Rows, along, along_more, finished, received, lost, only, passed, stays, told_same}
 
 -- associations of servers that differ
 abbrev pub Onces : List Association → Type 0
@@ -203,7 +203,7 @@ module _ (asked : ℕ → Option Ask) (had : ServerId → Option Association) (r
       if_stands (cl.is_full t.state) _ _ (λ e. at_once t op answers.OpsFull (λ R h. subst (λ z. IsToldTo z R answers.OpsFull) (sym g) (full_told ask R)) (inl refl) k)
       (λ e. if_stands (cl.is_configured t.state (server_of ask)) _ _ (λ q. each_any (cs.only_at (server_of ask) (cl.take_ask op ask)) (λ s R u w. only asked had s rows0 op ask g R u w) t k)
       (λ q. at_once t op answers.NoFile (λ R h. subst (λ z. IsToldTo z R answers.NoFile) (sym g) (unknown_told ask t R q h)) (inr refl) k))
-  taken t now (inputs.Control m) g k = if_stands (m.header.to == t.state.id.0) _ t (λ e. each_any (cr.receive_at now m.header m.body) (λ s R u w. stays asked had s rows0 R _ (heard asked had s rows0 R now m.header m.body u w)) t k) (λ e. k)
+  taken t now (inputs.Control m) g k = if_stands (m.header.to == t.state.id.0) _ t (λ e. each_any (cr.receive_at now m.header m.body) (λ s R u w. stays asked had s rows0 R _ (received asked had s rows0 R now m.header m.body u w)) t k) (λ e. k)
   taken t now (inputs.Done number result) g k = each_any (cl.finish number result) (λ s R u w. stays asked had s rows0 R _ (finished asked had s rows0 R number result u w)) t k
 
   -- the whole step

@@ -309,8 +309,8 @@ module _ (asked : ℕ → Option Ask) (had : ServerId → Option Association) wh
               go false e = k
 
       -- A message: its replies tell of no lost pages.
-      pub heard : (now : Stamp) (h : Header) (b : Body) (t : Turn) → F t → F (cr.receive_at now h b t)
-      heard now h b = walk.heard (Unit {0}) (Keeps R) (λ v lost out ops o c w. adds R v lost out ops o (calm_plain o c) (calm_fine R o c) w) (λ t picked a m w. each_answered t picked a (mild_told a m) w) stuck now h b (λ e. tt)
+      pub received : (now : Stamp) (h : Header) (b : Body) (t : Turn) → F t → F (cr.receive_at now h b t)
+      received now h b = walk.received (Unit {0}) (Keeps R) (λ v lost out ops o c w. adds R v lost out ops o (calm_plain o c) (calm_fine R o c) w) (λ t picked a m w. each_answered t picked a (mild_told a m) w) stuck now h b (λ e. tt)
 
       rested : (now : Stamp) (tick : Bool) (t : Turn) → F t → F (cp.greeting now tick (cp.writes now tick (cp.reductions t)))
       rested = walk.rested (Unit {0}) (Keeps R) (λ v lost out ops o c w. adds R v lost out ops o (calm_plain o c) (calm_fine R o c) w) (λ t picked a m w. each_answered t picked a (mild_told a m) w) stuck

@@ -21,22 +21,22 @@ use Rattle.st_rules.specs.Names as names
 use Rattle.st_rules.specs.Locks as locks
 use Rattle.st_rules.specs.Sessions as sessions
 use Rattle.st_rules.specs.Server as sv
-use Rattle.st_rules.specs.Server.{ServerState, Turn, Replied, turn, note, rule}
+use Rattle.st_rules.specs.Server.{ServerState, ServerTurn, Replied, turn, note, rule}
 use Rattle.st_laws_steps.proofs.Server.Taking.{if_either}
 
-module _ (O : Turn → Type 0)
-    (o_state : (t : Turn) (x : ServerState) → x.id ≡ t.state.id → x.stable.epoch ≡ t.state.stable.epoch → x.sessions ≡ t.state.sessions → O t → O (record t { state = x }))
-    (o_note : (t : Turn) (x : Note) → O t → O (note t x)) where
+module _ (O : ServerTurn → Type 0)
+    (o_state : (t : ServerTurn) (x : ServerState) → x.id ≡ t.state.id → x.stable.epoch ≡ t.state.stable.epoch → x.sessions ≡ t.state.sessions → O t → O (record t { state = x }))
+    (o_note : (t : ServerTurn) (x : Note) → O t → O (note t x)) where
   -- a turn with the same sessions
-  abbrev R : Turn → Replied → Type 0
+  abbrev R : ServerTurn → Replied → Type 0
   R t a = O a.turn × (a.turn.state.sessions ≡ t.state.sessions)
 
-  r_acquire : (t : Turn) (ino : ℕ) (mode : Mode) (r : Res locks.Acquired AcquireRefusal) → O t → R t (sv.acquire_by t ino mode r)
+  r_acquire : (t : ServerTurn) (ino : ℕ) (mode : Mode) (r : Res locks.Acquired AcquireRefusal) → O t → R t (sv.acquire_by t ino mode r)
   unfolding sv.acquire_by
   r_acquire t ino mode (Ok a) o = (o_state t _ refl refl refl o, refl)
   r_acquire t ino mode (Err r) o = (o, refl)
 
-  r_allocate : (t : Turn) (ino : ℕ) (page : PageNo) (count : ℕ) → O t → R t (sv.allocate_pages t ino page count)
+  r_allocate : (t : ServerTurn) (ino : ℕ) (page : PageNo) (count : ℕ) → O t → R t (sv.allocate_pages t ino page count)
   unfolding sv.allocate_pages sv.allocate_by extents.allocate extents.allocate_pages sv.with_extents_told
   r_allocate t ino page count o = go (nat_le (length ps) (extents.free t.state.stable.extents))
     where
@@ -47,36 +47,36 @@ module _ (O : Turn → Type 0)
       go true = (o_state t _ refl refl refl o, refl)
       go false = (o, refl)
 
-  r_found : (t : Turn) (r : Res ℕ EntryRefusal) → O t → R t (sv.name_found t r)
+  r_found : (t : ServerTurn) (r : Res ℕ EntryRefusal) → O t → R t (sv.name_found t r)
   unfolding sv.name_found sv.name_refused
   r_found t (Ok n) o = (o, refl)
   r_found t (Err r) o = (o, refl)
 
-  r_changed : (t : Turn) (r : Res names.Changed EntryRefusal) → O t → R t (sv.name_changed t r)
+  r_changed : (t : ServerTurn) (r : Res names.Changed EntryRefusal) → O t → R t (sv.name_changed t r)
   unfolding sv.name_changed sv.name_refused
   r_changed t (Ok y) o = (o_state t _ refl refl refl o, refl)
   r_changed t (Err r) o = (o, refl)
 
-  r_listed : (t : Turn) (r : Res (List NameRow) EntryRefusal) → O t → R t (sv.names_listed t r)
+  r_listed : (t : ServerTurn) (r : Res (List NameRow) EntryRefusal) → O t → R t (sv.names_listed t r)
   unfolding sv.names_listed sv.name_refused
   r_listed t (Ok y) o = (o, refl)
   r_listed t (Err r) o = (o, refl)
 
-  r_removed : (t : Turn) (r : Res names.Changed EntryRefusal) → O t → R t (sv.remove_by t r)
+  r_removed : (t : ServerTurn) (r : Res names.Changed EntryRefusal) → O t → R t (sv.remove_by t r)
   unfolding sv.remove_by sv.name_refused sv.cut_whole sv.cut_pages
   r_removed t (Ok y) o = (o_note _ _ (o_state t _ refl refl refl o), refl)
   r_removed t (Err r) o = (o, refl)
 
-  r_if : (t : Turn) (b : Bool) (x y : Replied) → R t x → R t y → R t (if b then x else y)
+  r_if : (t : ServerTurn) (b : Bool) (x y : Replied) → R t x → R t y → R t (if b then x else y)
   r_if t b x y p q = if_either (R t) b x y p q
 
-  r_remove : (t : Turn) (h : Header) (dir : ℕ) (x : List ℕ) (g : GrantNo) (r : Res ℕ EntryRefusal) → O t → R t (sv.remove_found t h dir x g r)
+  r_remove : (t : ServerTurn) (h : Header) (dir : ℕ) (x : List ℕ) (g : GrantNo) (r : Res ℕ EntryRefusal) → O t → R t (sv.remove_found t h dir x g r)
   unfolding sv.remove_found sv.remove_ino sv.remove_file sv.remove_dir sv.name_refused sv.not_holder
   r_remove t h dir x g (Err r) o = (o, refl)
   r_remove t h dir x g (Ok ino) o =
       r_if t (sv.is_file t ino) _ _ (r_if t (sv.holds t h ino g modes.X) _ _ (r_removed t _ o) (o, refl)) (r_if t (g.0 == 0) _ _ (r_changed t _ o) (o, refl))
 
-  r_name : (t : Turn) (h : Header) (op : NameOp) → O t → R t (sv.name t h op)
+  r_name : (t : ServerTurn) (h : Header) (op : NameOp) → O t → R t (sv.name t h op)
   unfolding sv.name sv.remove
   r_name t h (Lookup dir x) o = r_found t _ o
   r_name t h (Create dir x) o = r_changed t _ o
@@ -85,7 +85,7 @@ module _ (O : Turn → Type 0)
   r_name t h (Rename dir x dir2 x2) o = r_changed t _ o
   r_name t h (ListFrom dir after) o = r_listed t _ o
 
-  pub r_rule : (t : Turn) (now : Stamp) (h : Header) (m : Body) → O t → R t (rule t now h m)
+  pub r_rule : (t : ServerTurn) (now : Stamp) (h : Header) (m : Body) → O t → R t (rule t now h m)
   unfolding rule sv.keep_alive sv.acquire sv.acquire_lock sv.no_file sv.released sv.released_by sv.map sv.map_held sv.map_page sv.not_holder sv.allocate sv.allocate_held sv.cut sv.cut_held sv.cut_from sv.with_extents_told sv.cut_pages
   r_rule t now h bd.KeepAlive o = (o, refl)
   r_rule t now h (bd.Acquire n m) o = r_if t (sv.is_file t n) _ _ (r_acquire t n m _ o) (o, refl)

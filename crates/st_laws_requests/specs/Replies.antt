@@ -1,2 +1,2 @@
-pub mod Last
-pub mod Reached
+pub mod LastRequests
+pub mod ServedRequests

@@ -4,7 +4,7 @@
 ghost use Rattle.st_promises.specs.NameAnswers.{NamesAnswerTruly};
 ghost use Rattle.st_laws_leases.specs.Sides.Law.{InEveryRun};
 ghost use Rattle.st_laws_requests.specs.Cuts.Law.{RunsLogAnswers};
-ghost use Rattle.st_laws_requests.specs.Replies.Last.{RequestsAreLast};
+ghost use Rattle.st_laws_requests.specs.Replies.LastRequests.{RequestsAreLast};
 
 /// In every run, the outstanding request of each session of each client is the one with the last number that the session gave.
 pub fn requests_are_last()

@@ -2,4 +2,4 @@ pub mod Client
 pub mod Losses
 pub mod Notes
 pub mod Session
-pub mod Taking
+pub mod Inputs

@@ -23,7 +23,7 @@ use Rattle.st_rules.specs.Keys.{client}
 use Rattle.st_rules.specs.Leases.{steal_wait}
 use Rattle.st_rules.specs.Locks as locks
 use Rattle.st_rules.specs.Locks.{Locks, answered_row, demand_again, demand_lower, demand_lowered, demand_now, demanded, lowered, row_of, stands_against, unless_met}
-use Rattle.st_rules.specs.Server.{ServerState, Turn, demanding, granting, is_tick, server_step, suspecting, suspecting_on, take_input, thefts, turn}
+use Rattle.st_rules.specs.Server.{ServerState, ServerTurn, demanding, granting, is_tick, server_step, suspecting, suspecting_on, take_input, thefts, turn}
 use Rattle.st_lemmas.specs.Lists.{Has}
 use Rattle.st_lemmas.proofs.Tables.{and_both, cond_either, same_or_not}
 use Rattle.st_laws_refine.specs.Server.Edits.{WishInput}
@@ -62,16 +62,16 @@ module _ (k : Config) (last : ℕ) (now : Stamp) (w : Waiter) (n : ServerState) 
           rows = λ r h f o. kept.timers n.authority (thefts (turn n []) now).state.authority r (same_timer k (steal_wait k) last now n known r.client (l.rows r h).1) (waits.rows r (l.rows r h).0 f o);
         }
 
-    abbrev C : Turn → Type 0
+    abbrev C : ServerTurn → Type 0
     C t = Chasing w R k last now i kept (steal_wait k) n.grace n off p q s.past behind t
 
     robbed_of : C (thefts (turn n []) now)
     robbed_of = record { going = robbed k last now n p q rp known s; either = inr behind }
 
-    granted : (t : Turn) → C t → C (granting t now)
+    granted : (t : ServerTurn) → C t → C (granting t now)
     granted t c = w_granting n now i C (chase_edit w R k last now i kept (steal_wait k) n.grace n off p q s.past behind) t c
 
-    passes : (t : Turn) → C t → C (demanding (granting t now) now i)
+    passes : (t : ServerTurn) → C t → C (demanding (granting t now) now i)
     passes t c = w_demanding n now i C (chase_edit w R k last now i kept (steal_wait k) n.grace n off p q s.past behind) (granting t now) (granted t c)
 
   pub message_waits : (m : Message) → WishInput (Control m) → Kept w R k last now (Control m) → Waits w R n.authority n.locks →
@@ -92,13 +92,13 @@ module _ (k : Config) (last : ℕ) (now : Stamp) (w : Waiter) (n : ServerState) 
   unfolding server_step suspecting_on take_input
   tick_waits kept x f = (after, due)
     where
-      t : Turn
+      t : ServerTurn
       t = suspecting (thefts (turn n []) now) now
 
       suspected : C Tick kept x t
       suspected = w_suspecting n now Tick (C Tick kept x) (chase_edit w R k last now Tick kept (steal_wait k) n.grace n off p q s.past (behind Tick kept x)) (thefts (turn n []) now) (thefts_quiet n now) (robbed_of Tick kept x)
 
-      u : Turn
+      u : ServerTurn
       u = demanding (granting t now) now Tick
 
       config : (granting t now).state.config ≡ k

@@ -26,7 +26,7 @@ use Rattle.st_rules.specs.Grace.{Grace}
 use Rattle.st_rules.specs.Keys.{client}
 use Rattle.st_rules.specs.Locks as locks
 use Rattle.st_rules.specs.Locks.{Locks, answered_row, demand_now, demand_of, demanded, grant, is_row_of, is_under, is_wait_by, is_wait_of, is_wait_on, lower, lowered, new_row, new_wait, queue, queue_at, raise, release_to, row_of, observe, wait_for, wait_of, waits_besides, with_demand}
-use Rattle.st_rules.specs.Server.{ServerState, Turn, is_tick, keep_and_reply, life_in, reply, sender, steal_from, suspect_client, tell, thefts, turn}
+use Rattle.st_rules.specs.Server.{ServerState, ServerTurn, is_tick, keep_and_reply, life_in, reply, sender, steal_from, suspect_client, tell, thefts, turn}
 use Rattle.st_rules.specs.ServerInvariants.{are_once, same_row}
 use Rattle.st_lemmas.specs.Lists.{Has}
 use Rattle.st_lemmas.proofs.Lookups.{some_is}
@@ -221,13 +221,13 @@ module _ (w : Waiter) (R : Authority → LockRow → Type 0) where
         Waits a (locks.demand_seen l (sender m.header) ino g)
     unfolding locks.demand_seen
     sees a l m ino g is b x =
-        changed a l (locks.demand_seen l (sender m.header) ino g) (observe (sender m.header) ino g) refl refl (seen_once l (sender m.header) ino g x.once) (see_keys (sender m.header) ino g)
+        changed a l (locks.demand_seen l (sender m.header) ino g) (observe (sender m.header) ino g) refl refl (seen_once l (sender m.header) ino g x.once) (observe_keys (sender m.header) ino g)
         (λ r h f n y. cond_either (R a) (is_row_of (sender m.header) ino r && (r.g.0 == g.0)) (answered_row r) r
         (λ e. let z = and_true (r.client.0 == (sender m.header).0) (r.ino == ino) (and_true (is_row_of (sender m.header) ino r) (r.g.0 == g.0) e).0 in
         kept.seen a r m g is (b ∙ ap (λ f. bodies.DemandSeen f g) (sym (eqb-true r.ino ino z.1) ∙ f)) (sym (eqb-true r.client.0 (sender m.header).0 z.0)) (sym (eqb-true r.g.0 g.0 (and_true (is_row_of (sender m.header) ino r) (r.g.0 == g.0) e).1)) y) (λ e. y)) x
       where
-        see_keys : (c : ClientId) (ino : ℕ) (g : GrantNo) (r : LockRow) → ((observe c ino g r).client ≡ r.client) × ((observe c ino g r).ino ≡ r.ino)
-        see_keys c ino g r = cond_either (λ (q : LockRow). (q.client ≡ r.client) × (q.ino ≡ r.ino)) (is_row_of c ino r && (r.g.0 == g.0)) (answered_row r) r (λ e. (answered_keys r).0) (λ e. (refl, refl))
+        observe_keys : (c : ClientId) (ino : ℕ) (g : GrantNo) (r : LockRow) → ((observe c ino g r).client ≡ r.client) × ((observe c ino g r).ino ≡ r.ino)
+        observe_keys c ino g r = cond_either (λ (q : LockRow). (q.client ≡ r.client) × (q.ino ≡ r.ino)) (is_row_of c ino r && (r.g.0 == g.0)) (answered_row r) r (λ e. (answered_keys r).0) (λ e. (refl, refl))
 
     lower_rows : (a : Authority) (l v : Locks) (m : Message) (ino : ℕ) (g : GrantNo) (to : Mode) (found : LockRow) → i ≡ Control m →
         m.body ≡ bodies.Released ino g to →
@@ -257,14 +257,14 @@ module _ (w : Waiter) (R : Authority → LockRow → Type 0) where
     -- every change, outside grace
     module _ (wait : ℕ) (g : Option Grace) (n : ServerState) (off : grace.is_on g now ≡ false) (p : 1 ≤ k.demand) (q : 1 ≤ wait) (late : last ≤ now.0)
         (first : Waits (thefts (turn n []) now).state.authority (thefts (turn n []) now).state.locks) where
-      pub record Chasing (t : Turn) : Type 0 where
+      pub record Chasing (t : ServerTurn) : Type 0 where
         pub going : WithinStep k wait last now g t
         pub either : Either t.state.authority t.state.locks
 
-      behind_thefts : (t : Turn) → t ≡ thefts (turn n []) now → Waits t.state.authority t.state.locks
-      behind_thefts t e = subst (λ (u : Turn). Waits u.state.authority u.state.locks) (sym e) first
+      behind_thefts : (t : ServerTurn) → t ≡ thefts (turn n []) now → Waits t.state.authority t.state.locks
+      behind_thefts t e = subst (λ (u : ServerTurn). Waits u.state.authority u.state.locks) (sym e) first
 
-      either_edit : (t u : Turn) → Edit n now i t u → WithinStep k wait last now g t → Either t.state.authority t.state.locks →
+      either_edit : (t u : ServerTurn) → Edit n now i t u → WithinStep k wait last now g t → Either t.state.authority t.state.locks →
           Either u.state.authority u.state.locks
       unfolding steal_from suspect_client keep_and_reply reply tell locks.forget locks.drop_waits locks.drop_file_waits
       either_edit t u (TakesTimers _ z) o x = timed t.state.authority (authority.still_running t.state.authority now) t.state.locks (λ r h y. kept.timers t.state.authority (authority.still_running t.state.authority now) r (taken_out wait now t.state.authority o.wait_is o.timers r.client) y) x
@@ -305,5 +305,5 @@ module _ (w : Waiter) (R : Authority → LockRow → Type 0) where
       either_edit t u (TellsGrant _ c life ino gr mode) o x = x
       either_edit t u (TellsDemand _ c life ino gr mode) o x = x
 
-      pub chase_edit : (t u : Turn) → Edit n now i t u → Chasing t → Chasing u
+      pub chase_edit : (t u : ServerTurn) → Edit n now i t u → Chasing t → Chasing u
       chase_edit t u e o = record { going = edit k wait last now g n i t u p q late e o.going; either = either_edit t u e o.going o.either }

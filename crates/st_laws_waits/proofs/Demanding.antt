@@ -21,7 +21,7 @@ use Rattle.st_rules.specs.Authority.{Authority, is_suspect, may_ack, suspect_of,
 use Rattle.st_rules.specs.Keys.{client, rising, same_client}
 use Rattle.st_rules.specs.Locks as locks
 use Rattle.st_rules.specs.Locks.{Demanding, Locks, demand_again, demand_clients, demand_files, demand_for, demand_lower, demand_now, demand_of, demand_row, demand_with, demanded, demands_due, is_among, is_row_of, is_wait_on, row_of, stands_against, to_demand, waited_files, wish, with_demand}
-use Rattle.st_rules.specs.Server.{ServerState, Turn, demand_by, demanding, is_tick, tell, tell_demanded, with_locks}
+use Rattle.st_rules.specs.Server.{ServerState, ServerTurn, demand_by, demanding, is_tick, tell, tell_demanded, with_locks}
 use Rattle.st_lemmas.specs.Lists.{Has}
 use Rattle.st_lemmas.proofs.Keys.{rising_has_in}
 use Rattle.st_lemmas.proofs.Lookups.{some_is}
@@ -368,22 +368,22 @@ module _ (k : Config) (now : Stamp) (tick : Bool) (rp : 1 ≤ k.retry) where
     due_table l = files_table (suspects_of a) (waited_files l) (locks.nothing_demanded l)
 
 -- what is told of demands changes no state
-demanded_told : (rs : List (ClientId × Life × ℕ × GrantNo × Mode)) (t : Turn) → (tell_demanded rs t).state ≡ t.state
+demanded_told : (rs : List (ClientId × Life × ℕ × GrantNo × Mode)) (t : ServerTurn) → (tell_demanded rs t).state ≡ t.state
 unfolding tell_demanded tell
 demanded_told [] t = refl
 demanded_told (r ∷ rs) t = demanded_told rs (tell t r.0 r.1 (bodies.Demand r.2 r.3 r.4))
 
 -- the pass
-pub pass_is : (t : Turn) (now : Stamp) (i : ServerInput) →
+pub pass_is : (t : ServerTurn) (now : Stamp) (i : ServerInput) →
     (demanding t now i).state ≡ (with_locks (demands_due t.state.locks now (is_tick i) (suspects_of t.state.authority) t.state.config).locks t).state
 unfolding demanding demand_by
 pass_is t now i = demanded_told (demands_due t.state.locks now (is_tick i) (suspects_of t.state.authority) t.state.config).due _
 
-pub pass_demanded : (t : Turn) (now : Stamp) (i : ServerInput) → 1 ≤ t.state.config.retry →
+pub pass_demanded : (t : ServerTurn) (now : Stamp) (i : ServerInput) → 1 ≤ t.state.config.retry →
     AllDemanded (demanding t now i).state.authority (demanding t now i).state.locks
 pass_demanded t now i rp = subst (λ (s : ServerState). AllDemanded s.authority s.locks) (sym (pass_is t now i)) (due_demanded t.state.config now (is_tick i) rp t.state.authority t.state.locks)
 
-pub pass_blocked : (t : Turn) (now : Stamp) (i : ServerInput) → 1 ≤ t.state.config.retry → AllBlocked t.state.locks → AllBlocked (demanding t now i).state.locks
+pub pass_blocked : (t : ServerTurn) (now : Stamp) (i : ServerInput) → 1 ≤ t.state.config.retry → AllBlocked t.state.locks → AllBlocked (demanding t now i).state.locks
 pass_blocked t now i rp b =
     subst (λ (s : ServerState). AllBlocked s.locks) (sym (pass_is t now i))
     (λ ino w e. z.against w.client w.ino w.mode ∙ b ino w (sym (ap (find (is_wait_on ino)) z.waits) ∙ e))
@@ -392,7 +392,7 @@ pass_blocked t now i rp b =
     z = due_table t.state.config now (is_tick i) rp t.state.authority t.state.locks
 
 -- on a tick no demand on a row in the way of a first waiter, of a client that is no suspect, is old
-pub pass_due : (t : Turn) (now : Stamp) (i : ServerInput) → 1 ≤ t.state.config.retry → (ino : ℕ) (w : Waiter) (c : ClientId) (r : LockRow) →
+pub pass_due : (t : ServerTurn) (now : Stamp) (i : ServerInput) → 1 ≤ t.state.config.retry → (ino : ℕ) (w : Waiter) (c : ClientId) (r : LockRow) →
     find (is_wait_on ino) (demanding t now i).state.locks.waiters ≡ Some w →
     row_of (demanding t now i).state.locks c ino ≡ Some r → stands_against w.client w.ino w.mode r ≡ true → may_ack (demanding t now i).state.authority c ≡ true → IsDue t.state.config now (is_tick i) r.demand
 pass_due t now i rp ino w c r = subst (λ (s : ServerState). find (is_wait_on ino) s.locks.waiters ≡ Some w → row_of s.locks c ino ≡ Some r → stands_against w.client w.ino w.mode r ≡ true → may_ack s.authority c ≡ true → IsDue t.state.config now (is_tick i) r.demand)

@@ -21,7 +21,7 @@ use Rattle.st_rules.specs.Grace.{Grace}
 use Rattle.st_rules.specs.Keys.{client}
 use Rattle.st_rules.specs.Locks as locks
 use Rattle.st_rules.specs.Locks.{Locks, answered_demand, answered_row, demand_again, demand_lower, demand_lowered, demand_now, demand_of, demanded, grant, installed, is_row_of, lower, lowered, new_row, queue, release_to, observe, unless_met, wait_of, with_demand, with_rows}
-use Rattle.st_rules.specs.Server.{ServerState, Turn, is_tick, keep_and_reply, life_in, reply, sender, steal_from, suspect_client, tell}
+use Rattle.st_rules.specs.Server.{ServerState, ServerTurn, is_tick, keep_and_reply, life_in, reply, sender, steal_from, suspect_client, tell}
 use Rattle.st_lemmas.specs.Lists.{Has}
 use Rattle.st_lemmas.proofs.Puts.{has_put}
 use Rattle.st_lemmas.proofs.Tables.{and_true, cond_either, find_kept_in, found_at, has_append, has_filter, has_map}
@@ -205,7 +205,7 @@ module _ (k : Config) (wait last : ℕ) (now : Stamp) (g : Option Grace) (n : Se
       (sent last now.0 k.demand a kb (may_ack a r.client) l p now refl (is_tick i) to r.demand x d (b r h)))
       (λ f. b m.0 m.1))
 
-  pub edit : (t u : Turn) → 1 ≤ k.demand → 1 ≤ wait → last ≤ now.0 → Edit n now i t u → WithinStep k wait last now g t → WithinStep k wait last now g u
+  pub edit : (t u : ServerTurn) → 1 ≤ k.demand → 1 ≤ wait → last ≤ now.0 → Edit n now i t u → WithinStep k wait last now g t → WithinStep k wait last now g u
   unfolding steal_from suspect_client keep_and_reply reply tell locks.forget locks.drop_waits locks.drop_file_waits
   edit t u p q l (TakesTimers _ z) o =
       record {

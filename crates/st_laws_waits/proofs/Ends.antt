@@ -26,7 +26,7 @@ use Rattle.st_rules.specs.Keys.{client}
 use Rattle.st_rules.specs.Locks as locks
 use Rattle.st_rules.specs.Locks.{Locks, demand_of, demanded, grant, installed, is_row_of, is_wait_by, is_wait_of, is_wait_on, new_row, new_wait, queue, queue_at, raise, release_to, row_of, wait_of, with_demand, with_rows}
 use Rattle.st_rules.specs.Names as names
-use Rattle.st_rules.specs.Server.{ServerState, Stable, Turn, keep_and_reply, life_in, reply, sender, server_step, steal_from, suspect_client, tell, thefts, turn}
+use Rattle.st_rules.specs.Server.{ServerState, Stable, ServerTurn, keep_and_reply, life_in, reply, sender, server_step, steal_from, suspect_client, tell, thefts, turn}
 use Rattle.st_rules.specs.Sessions as sessions
 use Rattle.st_lemmas.specs.Lists.{Has}
 use Rattle.st_lemmas.proofs.Lookups.{some_is}
@@ -204,19 +204,19 @@ module _ (w : Waiter) where
       same_life = cond_either (λ (q : LockRow). q.life ≡ g.row.life) (is_row_of r.client r.ino g.row) (demanded x g.row) g.row (λ e. refl) (λ e. refl)
 
 -- the message of an input
-abbrev pub heard_of : ServerInput → Option Message
-heard_of Tick = None
-heard_of (Control m) = Some m
+abbrev pub received_of : ServerInput → Option Message
+received_of Tick = None
+received_of (Control m) = Some m
 
 -- Through a step, from a state in which the wait is the first of its file.
 module _ (w : Waiter) (n : ServerState) (now : Stamp) (i : ServerInput) (known : RowsHaveSessions n) (first : IsFirst w n.locks)
     (free : (x : Suspect) → Has x n.authority.suspects → x.client.0 ≡ w.client.0 → ⊥)
     (lives : (s : Session) → sessions.session_of n.sessions w.client ≡ Some s → s.life.0 ≡ w.life.0) where
-  abbrev Ends : Turn → Type 0
-  Ends t = GoesOnOrEnds w (heard_of i) n.stable.names t.state.authority t.state.locks
+  abbrev Ends : ServerTurn → Type 0
+  Ends t = GoesOnOrEnds w (received_of i) n.stable.names t.state.authority t.state.locks
 
   abbrev EndsAt : Authority → Locks → Type 0
-  EndsAt a l = GoesOnOrEnds w (heard_of i) n.stable.names a l
+  EndsAt a l = GoesOnOrEnds w (received_of i) n.stable.names a l
 
   -- by what stood before
   carried : (a b : Authority) (l v : Locks) → (IsFirst w l → EndsAt b v) → (IsGranted w l → IsGranted w v) →
@@ -235,8 +235,8 @@ module _ (w : Waiter) (n : ServerState) (now : Stamp) (i : ServerInput) (known :
   not_robbed : (c : ClientId) → Has c (over n.authority now) → w.client.0 ≡ c.0 → ⊥
   not_robbed c h e = not_over c h (sym e)
 
-  behind : (t : Turn) → t ≡ thefts (turn n []) now → IsFirst w t.state.locks
-  behind t e = subst (λ (u : Turn). IsFirst w u.state.locks) (sym e) ((left n.config n.authority.wait 0 now n known).first w not_robbed first)
+  behind : (t : ServerTurn) → t ≡ thefts (turn n []) now → IsFirst w t.state.locks
+  behind t e = subst (λ (u : ServerTurn). IsFirst w u.state.locks) (sym e) ((left n.config n.authority.wait 0 now n known).first w not_robbed first)
 
   -- waits are left out, and all else stays
   among : (a : Authority) (l : Locks) (q : Waiter → Bool) → (IsFirst w l → EndsAt a (record l { waiters = filter q l.waiters })) → EndsAt a l →
@@ -259,7 +259,7 @@ module _ (w : Waiter) (n : ServerState) (now : Stamp) (i : ServerInput) (known :
       (m.header.from ≡ w.client.0) ⊎ (m.header.from ≢ w.client.0) → EndsAt a l → EndsAt a (locks.drop_waits l (sender m.header))
   unfolding locks.drop_waits
   greeted a l m s is b e f (inr ne) x = among a l (λ v. not (is_wait_by (sender m.header) v)) (λ y. inl (first_among w l (λ v. not (is_wait_by (sender m.header) v)) (other_client w (sender m.header) ne) y)) x
-  greeted a l m s is b e f (inl q) x = inr (Greeted m (ap heard_of is) (q, b, subst (λ n. n < m.header.life) same f))
+  greeted a l m s is b e f (inl q) x = inr (Greeted m (ap received_of is) (q, b, subst (λ n. n < m.header.life) same f))
     where
       same : s.life.0 ≡ w.life.0
       same =
@@ -288,7 +288,7 @@ module _ (w : Waiter) (n : ServerState) (now : Stamp) (i : ServerInput) (known :
 
       go : (m.header.from ≡ w.client.0) ⊎ (m.header.from ≢ w.client.0) → (ino ≡ w.ino) ⊎ (ino ≢ w.ino) → (mode ≡ w.mode) ⊎ (mode ≢ w.mode) → EndsAt a v
       go (inl c) (inl e) (inl d) = same c e d
-      go (inl c) (inl e) (inr d) = inr (Asked m (ap heard_of is) (c, (mode, (d, b ∙ ap (λ z. bodies.Acquire z mode) e))))
+      go (inl c) (inl e) (inr d) = inr (Asked m (ap received_of is) (c, (mode, (d, b ∙ ap (λ z. bodies.Acquire z mode) e))))
       go (inl c) (inr ne) d = inl (first_acquired w g l (sender m.header) (life_in m.header) ino mode v q (inr ne) f)
       go (inr ne) e d = inl (first_acquired w g l (sender m.header) (life_in m.header) ino mode v q (inl ne) f)
 
@@ -309,7 +309,7 @@ module _ (w : Waiter) (n : ServerState) (now : Stamp) (i : ServerInput) (known :
   unfolding locks.drop_file_waits
   removed a l m dir name g ino is b e (inr ne) x = among a l (λ v. not (is_wait_on ino v)) (λ y. inl (first_among w l (λ v. not (is_wait_on ino v)) (ap not (ne_eqb w.ino ino (λ q. ne (sym q)))) y)) x
   removed a l m dir name g ino is b e (inl q) x =
-      inr (Removed m (ap heard_of is) (
+      inr (Removed m (ap received_of is) (
         dir,
         (
           name,
@@ -323,9 +323,9 @@ module _ (w : Waiter) (n : ServerState) (now : Stamp) (i : ServerInput) (known :
         ),
       ))
 
-  ends_edit : (t u : Turn) → Edit n now i t u → Ends t → Ends u
+  ends_edit : (t u : ServerTurn) → Edit n now i t u → Ends t → Ends u
   unfolding steal_from suspect_client keep_and_reply reply tell locks.drop_waits
-  ends_edit t u (TakesTimers _ z) x = inl (subst (λ (v : Turn). IsFirst w v.state.locks) (sym z) first)
+  ends_edit t u (TakesTimers _ z) x = inl (subst (λ (v : ServerTurn). IsFirst w v.state.locks) (sym z) first)
   ends_edit t u (Steals _ c s h e) x = forgot t.state.authority t.state.locks c (not_over c h) x
   ends_edit t u (Suspects _ c z f y) x = go (same_or_not c.0 w.client.0)
     where
@@ -342,7 +342,7 @@ module _ (w : Waiter) (n : ServerState) (now : Stamp) (i : ServerInput) (known :
       carried t.state.authority t.state.authority t.state.locks (with_rows t.state.locks (sender m.header) (life_in m.header) rows)
       (λ z. inl (first_installed w t.state.locks (sender m.header) (life_in m.header) rows z)) (granted_installed w t.state.locks (sender m.header) (life_in m.header) rows) (λ s. s) x
   ends_edit t u (Sees _ m ino gr is fi b) x = inl (first_seen w t.state.locks (sender m.header) ino gr (behind t fi))
-  ends_edit t u (Acquires _ m ino mode v b y is fi by hs hl ok kb a) x = asked _ t.state.authority t.state.locks m ino mode v y is by (ap (λ (z : Turn). sessions.session_of z.state.sessions (sender m.header)) (sym fi) ∙ hs) hl a (behind t fi)
+  ends_edit t u (Acquires _ m ino mode v b y is fi by hs hl ok kb a) x = asked _ t.state.authority t.state.locks m ino mode v y is by (ap (λ (z : ServerTurn). sessions.session_of z.state.sessions (sender m.header)) (sym fi) ∙ hs) hl a (behind t fi)
   ends_edit t u (Releases _ m ino gr to r is fi b e f) x = inl (first_released w t.state.locks (sender m.header) ino to (behind t fi))
   ends_edit t u (DropsFile _ m dir nm gr ino is b e) x = removed t.state.authority t.state.locks m dir nm gr ino is b e (same_or_not ino w.ino) x
   ends_edit t u (Grants _ v off h e f) x =
@@ -357,5 +357,5 @@ module _ (w : Waiter) (n : ServerState) (now : Stamp) (i : ServerInput) (known :
   ends_edit t u (TellsGrant _ c life ino gr mode) x = x
   ends_edit t u (TellsDemand _ c life ino gr mode) x = x
 
-  pub step_ends : WishInput i → GoesOnOrEnds w (heard_of i) n.stable.names (server_step n now i).state.authority (server_step n now i).state.locks
+  pub step_ends : WishInput i → GoesOnOrEnds w (received_of i) n.stable.names (server_step n now i).state.authority (server_step n now i).state.locks
   step_ends wish = walk n now i Ends ends_edit wish (inl first)

@@ -27,10 +27,10 @@ use Rattle.st_laws_refine.proofs.Server.Fold.{crash_is, start_is}
 use Rattle.st_laws_refine.proofs.Server.Runs.{wish_of}
 use Rattle.st_laws_leases.specs.Sides.Law.{ClientEvent}
 use Rattle.st_laws_leases.specs.Sides.Law.ClientEvent.{ByTick, ByAsk, ByMessage, ByReport, ByCrash, ByStart, ByLoss, ByCut, ByHeal, ByEffect}
-use Rattle.st_laws_leases.specs.Sides.Stands.{GrantsHaveModes, Left}
+use Rattle.st_laws_leases.specs.Sides.Invariants.{GrantsHaveModes, Left}
 use Rattle.st_laws_leases.specs.Sides.World.{AllStand}
 use Rattle.st_laws_leases.proofs.Sides.Clients.{fine_from}
-use Rattle.st_laws_leases.proofs.Sides.Everywhere.{first_none, message_there, numbered_is, positive, running_node}
+use Rattle.st_laws_leases.proofs.Sides.AllAssociations.{first_none, message_there, numbered_is, positive, running_node}
 use Rattle.st_laws_leases.proofs.Sides.Fold.{law, not_false, not_stands, second_none}
 use Rattle.st_laws_waits.specs.Waits.{server_clock, ticks_at}
 
@@ -38,11 +38,11 @@ use Rattle.st_laws_waits.specs.Waits.{server_clock, ticks_at}
 abbrev pub stepped : ServerNode → Stamp → ServerInput → ServerNode
 stepped node now i = record node { state = (server_step node.state now i).state }
 
--- What an event does to a server: it ticks; it hears a message; it is as it was, and its clock no earlier; it stops; it starts.
+-- What an event does to a server: it ticks; it receives a message; it is as it was, and its clock no earlier; it stops; it starts.
 pub data Done (s : ℕ) (w v : World) (e : Event) : Type 0 where
   Ticks : (node : ServerNode) → node_of w (server s) ≡ Some node → node.running ≡ true → e ≡ events.Tick (nodes.Server (server s)) →
       node_of v (server s) ≡ Some (stepped node (clock_of w (nodes.Server (server s))) Tick) → clock_of v (nodes.Server (server s)) ≡ clock_of w (nodes.Server (server s)) → Done s w v e
-  Hears : (node : ServerNode) (n : ℕ) (m : SentMessage) → node_of w (server s) ≡ Some node → node.running ≡ true → e ≡ events.Deliver n →
+  Receives : (node : ServerNode) (n : ℕ) (m : SentMessage) → node_of w (server s) ≡ Some node → node.running ≡ true → e ≡ events.Deliver n →
       message_of w n ≡ Some m →
       m.message.header.to ≡ 32768 + s → WishInput (Control m.message) →
       node_of v (server s) ≡ Some (stepped node (clock_of w (nodes.Server (server s))) (Control m.message)) → clock_of v (nodes.Server (server s)) ≡ clock_of w (nodes.Server (server s)) → Done s w v e
@@ -141,10 +141,10 @@ module _ (k : Config) (count : ℕ) (s : ℕ) (w : World) (a : AllStand k count 
           let z = took t node at Tick _ runs (ap (λ (x : WorldTurn). x.world) (tick_is k 0 t (λ l. 0) w node at)) in
           Waits (z.1 ne).0 (z.1 ne).1 (not_here t ne)
 
-  server_hears : (n t : ℕ) (m : SentMessage) → admissible.refusal w (events.Deliver n) ≡ None → message_of w n ≡ Some m →
+  server_receives : (n t : ℕ) (m : SentMessage) → admissible.refusal w (events.Deliver n) ≡ None → message_of w n ≡ Some m →
       receiver_of m ≡ nodes.Server (server t) → Done s w (happens (counted w) (events.Deliver n)).world (events.Deliver n)
   unfolding admissible.refusal admissible.refused_delivery
-  server_hears n t m r em er =
+  server_receives n t m r em er =
       let q = subst (λ o. admissible.refused_delivery w n o ≡ None) em r in
       let runs = not_false _ (not_stands _ _ (first_none _ _ (second_none _ _ (second_none _ _ q)))) in
       let y = running_node (node_of w (server t)) (ap (is_running w) (sym er) ∙ runs) in
@@ -159,7 +159,7 @@ module _ (k : Config) (count : ℕ) (s : ℕ) (w : World) (a : AllStand k count 
           let to = to_server m.message.header.to t (positive k count w a t node at) er in
           let z = took t node at (Control m.message) v runs (ap (λ (x : WorldTurn). x.world) (delivery_is k 0 t (λ l. 0) w n m node em er at)) in
           subst (λ x. Done x w v (events.Deliver n)) (sym e)
-          (Hears node n m at runs refl em to (λ f. wish_of m.message.body (((st.both.stands.served m.message.header.from).wires m (message_has w n m em)).to_server to f refl).wishes) z.0.0 z.0.1)
+          (Receives node n m at runs refl em to (λ f. wish_of m.message.body (((st.both.stands.served m.message.header.from).wires m (message_has w n m em)).to_server to f refl).wishes) z.0.0 z.0.1)
       go node at runs (inr ne) =
           let z = took t node at (Control m.message) v runs (ap (λ (x : WorldTurn). x.world) (delivery_is k 0 t (λ l. 0) w n m node em er at)) in
           Waits (z.1 ne).0 (z.1 ne).1 refl
@@ -215,7 +215,7 @@ module _ (k : Config) (count : ℕ) (s : ℕ) (w : World) (a : AllStand k count 
       to : (m : SentMessage) → message_of w n ≡ Some m → (d : NodeId) → receiver_of m ≡ d →
           Done s w (happens (counted w) (events.Deliver n)).world (events.Deliver n)
       to m q (nodes.Client c) f = by_client _ (ByMessage c.0 n m refl q f) e refl
-      to m q (nodes.Server t) f = server_hears n t.0 m r q f
+      to m q (nodes.Server t) f = server_receives n t.0 m r q f
 
       go : (o : Option SentMessage) → message_of w n ≡ o → Done s w (happens (counted w) (events.Deliver n)).world (events.Deliver n)
       go None q = absurd (message_there w n q r)

@@ -12,7 +12,7 @@ use Rattle.st_rules.specs.declared.locks.LockRow.{LockRow}
 use Rattle.st_rules.specs.declared.locks.Waiter.{Waiter}
 use Rattle.st_rules.specs.Locks as locks
 use Rattle.st_rules.specs.Locks.{Granting, Locks, grant, grant_and, grant_file, grant_files, grant_waiter, grantable, is_row_of, is_wait_of, is_wait_on, new_row, next_grants, next_waiter, stands_against, waited_files}
-use Rattle.st_rules.specs.Server.{Turn, grant_by, grant_waiting, tell, tell_granted, with_locks}
+use Rattle.st_rules.specs.Server.{ServerTurn, grant_by, grant_waiting, tell, tell_granted, with_locks}
 use Rattle.st_lemmas.specs.Lists.{Has}
 use Rattle.st_lemmas.proofs.Keys.{rising_has_in}
 use Rattle.st_lemmas.proofs.Puts.{has_put_other}
@@ -143,11 +143,11 @@ grants_blocked l = files_blocked (waited_files l) (locks.nothing_granted l) (λ 
         rising_has_in _ j (subst (λ f. Has f (map locks.ino_of_wait l.waiters)) (eqb-true w.ino j z.0) (has_map_in locks.ino_of_wait l.waiters w z.1))
 
 -- what is told of grants changes no state
-pub granted_told : (rs : List (ClientId × Life × ℕ × GrantNo × Mode)) (t : Turn) → (tell_granted rs t).state ≡ t.state
+pub granted_told : (rs : List (ClientId × Life × ℕ × GrantNo × Mode)) (t : ServerTurn) → (tell_granted rs t).state ≡ t.state
 unfolding tell_granted tell
 granted_told [] t = refl
 granted_told (r ∷ rs) t = granted_told rs (tell t r.0 r.1 (Rattle.st_messages.specs.declared.message.Body.TheVariants.Granted r.2 r.3 r.4))
 
-pub waiting_blocked : (t : Turn) → AllBlocked (grant_waiting t).state.locks
+pub waiting_blocked : (t : ServerTurn) → AllBlocked (grant_waiting t).state.locks
 unfolding grant_waiting grant_by
 waiting_blocked t = subst (λ (s : Rattle.st_rules.specs.Server.ServerState). AllBlocked s.locks) (sym (granted_told (next_grants t.state.locks).granted (with_locks (next_grants t.state.locks).locks t))) (grants_blocked t.state.locks)

@@ -17,7 +17,7 @@ use Rattle.st_rules.specs.Grace.{Grace}
 use Rattle.st_rules.specs.Keys.{client, rising}
 use Rattle.st_rules.specs.Locks as locks
 use Rattle.st_rules.specs.Locks.{is_overdue, is_row_by, is_wait_by, is_wait_on}
-use Rattle.st_rules.specs.Server.{ServerState, Turn, steal, steal_at, steal_each, steal_from, suspect_client, suspect_each, suspect_unless, suspecting, thefts, turn, with_authority}
+use Rattle.st_rules.specs.Server.{ServerState, ServerTurn, steal, steal_at, steal_each, steal_from, suspect_client, suspect_each, suspect_unless, suspecting, thefts, turn, with_authority}
 use Rattle.st_rules.specs.ServerInvariants.{are_once, same_row}
 use Rattle.st_rules.specs.Sessions as sessions
 use Rattle.st_lemmas.specs.Lists.{Has}
@@ -34,11 +34,11 @@ use Rattle.st_laws_waits.proofs.Edits.{demand_less, more_suspects, taken_wait}
 use Rattle.st_laws_waits.proofs.Tests.{clash, find_filter, free_none}
 
 -- the wait is the first of its file, and stays so unless it goes
-abbrev StaysFirst : ClientId → Turn → Turn → Type 0
+abbrev StaysFirst : ClientId → ServerTurn → ServerTurn → Type 0
 StaysFirst c t u = (w : Waiter) → (w.client.0 ≡ c.0 → ⊥) → IsFirst w t.state.locks → IsFirst w u.state.locks
 
 -- what is left of the rows when these clients were robbed
-pub record Robbed (cs : List ClientId) (t u : Turn) : Type 0 where
+pub record Robbed (cs : List ClientId) (t u : ServerTurn) : Type 0 where
   pub rows : (r : LockRow) → Has r u.state.locks.rows → Has r t.state.locks.rows × ((c : ClientId) → Has c cs → r.client.0 ≡ c.0 → ⊥)
   pub once : are_once same_row t.state.locks.rows ≡ true → are_once same_row u.state.locks.rows ≡ true
   pub first : (w : Waiter) → ((c : ClientId) → Has c cs → w.client.0 ≡ c.0 → ⊥) → IsFirst w t.state.locks → IsFirst w u.state.locks
@@ -49,7 +49,7 @@ pub record Robbed (cs : List ClientId) (t u : Turn) : Type 0 where
   pub sessions : (d : ClientId) → ((c : ClientId) → Has c cs → d.0 ≡ c.0 → ⊥) → sessions.session_of u.state.sessions d ≡ sessions.session_of t.state.sessions d
 
 -- one of them
-record RobbedOf (c : ClientId) (t u : Turn) : Type 0 where
+record RobbedOf (c : ClientId) (t u : ServerTurn) : Type 0 where
   rows : (r : LockRow) → Has r u.state.locks.rows → Has r t.state.locks.rows × (r.client.0 ≡ c.0 → ⊥)
   once : are_once same_row t.state.locks.rows ≡ true → are_once same_row u.state.locks.rows ≡ true
   first : StaysFirst c t u
@@ -60,7 +60,7 @@ record RobbedOf (c : ClientId) (t u : Turn) : Type 0 where
   stable : u.state.stable ≡ t.state.stable
   sessions : (d : ClientId) → (d.0 ≡ c.0 → ⊥) → sessions.session_of u.state.sessions d ≡ sessions.session_of t.state.sessions d
 
-robbed_of : (t : Turn) (c : ClientId) (o : Option Session) → sessions.session_of t.state.sessions c ≡ o → RowsHaveSessions t.state →
+robbed_of : (t : ServerTurn) (c : ClientId) (o : Option Session) → sessions.session_of t.state.sessions c ≡ o → RowsHaveSessions t.state →
     RobbedOf c t (steal_at t c o)
 unfolding steal_at steal_from locks.forget
 robbed_of t c None e k = record { rows = λ r h. (h, λ q. clash (is_some (sessions.session_of t.state.sessions c)) (subst (λ n. There t.state.sessions (client n)) q (k r h)) (ap is_some e)); once = λ o. o; first = λ w n f. f; known = k; authority = refl; config = refl; grace = refl; stable = refl; sessions = λ d ne. refl }
@@ -77,7 +77,7 @@ robbed_of t c (Some s) e k =
       sessions = λ d ne. end_other t.state.sessions c d.0 (λ e. ne (sym e));
     }
 
-robbed : (cs : List ClientId) (t : Turn) → RowsHaveSessions t.state → Robbed cs t (steal_each cs t)
+robbed : (cs : List ClientId) (t : ServerTurn) → RowsHaveSessions t.state → Robbed cs t (steal_each cs t)
 unfolding steal_each steal
 robbed [] t k = record { rows = λ r h. (h, λ c i. elim i [ ]); once = λ o. o; first = λ w n f. f; authority = refl; config = refl; grace = refl; stable = refl; sessions = λ d ne. refl }
 robbed (c ∷ cs) t k =
@@ -170,7 +170,7 @@ module _ (k : Config) (wait last : ℕ) (now : Stamp) (n : ServerState) (known :
       waits = taken_wait now n.authority
 
 -- Suspicions: rows stay; each of these clients may not be answered behind them, nor any that might not before.
-record Suspecting (now : Stamp) (cs : List ClientId) (t u : Turn) : Type 0 where
+record Suspecting (now : Stamp) (cs : List ClientId) (t u : ServerTurn) : Type 0 where
   rows : u.state.locks.rows ≡ t.state.locks.rows
   config : u.state.config ≡ t.state.config
   own : (c : ClientId) → Has c cs → may_ack u.state.authority c ≡ true → ⊥
@@ -181,7 +181,7 @@ unfolding authority.suspect authority.start_timer
 not_free a c now e = cond_either (λ (z : Authority). may_ack z c ≡ true → ⊥) (may_ack a c) (record a { suspects = authority.with_suspect (authority.new_suspect c now) a.suspects }) a
     (λ f h. clash _ h (ap (λ o. not (is_some o)) (suspect_own (authority.new_suspect c now) c.0 refl a.suspects (free_none _ e)))) (λ f h. clash _ e f)
 
-suspect_one : (now : Stamp) (t : Turn) (c : ClientId) → Suspecting now (c ∷ []) t (suspect_unless t now c)
+suspect_one : (now : Stamp) (t : ServerTurn) (c : ClientId) → Suspecting now (c ∷ []) t (suspect_unless t now c)
 unfolding suspect_unless suspect_client locks.drop_waits
 suspect_one now t c =
     cond_either (Suspecting now (c ∷ []) t) (may_ack t.state.authority c) (suspect_client t now c) t
@@ -196,7 +196,7 @@ suspect_one now t c =
     off e d (inl q) h = clash _ (subst (λ x. may_ack t.state.authority x ≡ true) q h) e
     off e d (inr i) h = elim i [ ]
 
-suspect_them : (now : Stamp) (cs : List ClientId) (t : Turn) → Suspecting now cs t (suspect_each now cs t)
+suspect_them : (now : Stamp) (cs : List ClientId) (t : ServerTurn) → Suspecting now cs t (suspect_each now cs t)
 unfolding suspect_each
 suspect_them now [] t = record { rows = refl; config = refl; own = λ c i h. elim i [ ]; free = λ c h. h }
 suspect_them now (c ∷ cs) t =
@@ -212,7 +212,7 @@ suspect_them now (c ∷ cs) t =
     go a b f d (inr i) h = b d i h
 
 -- so behind a tick's suspicions no row of a client that is no suspect is overdue
-pub none_overdue : (now : Stamp) (t : Turn) (r : LockRow) → Has r (suspecting t now).state.locks.rows →
+pub none_overdue : (now : Stamp) (t : ServerTurn) (r : LockRow) → Has r (suspecting t now).state.locks.rows →
     may_ack (suspecting t now).state.authority r.client ≡ true → is_overdue t.state.config now r ≡ false
 unfolding suspecting locks.unanswered
 none_overdue now t r h f = go (is_overdue t.state.config now r) refl
@@ -228,7 +228,7 @@ none_overdue now t r h f = go (is_overdue t.state.config now r) refl
         (rising_has_in _ r.client.0 (has_map_in locks.client_of_row _ r (has_filter_in (is_overdue t.state.config now) t.state.locks.rows r (subst (Has r) z.rows h) e)))) f)
 
 -- behind a tick's suspicions the last tick may be this one
-pub ticked : (k : Config) (wait last : ℕ) (now : Stamp) (g : Option Grace) (t : Turn) → t.state.config ≡ k → WithinStep k wait last now g (suspecting t now) →
+pub ticked : (k : Config) (wait last : ℕ) (now : Stamp) (g : Option Grace) (t : ServerTurn) → t.state.config ≡ k → WithinStep k wait last now g (suspecting t now) →
     WithinStep k wait now.0 now g (suspecting t now)
 ticked k wait last now g t c o = record { config = o.config; wait_is = o.wait_is; grace = o.grace; rows = λ r h. row r h r.demand refl (o.rows r h); timers = o.timers }
   where

@@ -48,7 +48,7 @@ use Rattle.st_laws_waits.specs.Chase.{ChasedBy, ChasedDemand, ChasedRow, ChasedS
 use Rattle.st_laws_waits.specs.Waits.{DemandsAreAnswered, DemandsAreRepeated, FirstFrom, FirstSince, GraceNear, InTickingRuns, LocksComeBack, LocksComeBackAfterStarts, NoneAnswers, RunsFrom, TicksInTime, answers_in, answers_row, brings_answer, first_clock, is_answer, row_at, last_tick, server_clock, ticked, ticks_at}
 use Rattle.st_laws_waits.proofs.Chases.{against, chase_message, chase_tick, repeat_message, repeat_tick}
 use Rattle.st_laws_waits.proofs.Events.{Done, stepped}
-use Rattle.st_laws_waits.proofs.Events.Done.{Ticks, Hears, Waits, Stops, Starts}
+use Rattle.st_laws_waits.proofs.Events.Done.{Ticks, Receives, Waits, Stops, Starts}
 use Rattle.st_laws_waits.proofs.Splits.{At_last, Earlier, Split, has_last, has_more, last_in, last_more, not_empty, split, throughout_under}
 use Rattle.st_laws_waits.proofs.Standing.{Basic, Facts, SinceThen, all2, basic2, change, facts, grace_over, graces2, node_is, step_grace, begins as starting}
 use Rattle.st_laws_waits.proofs.Standing.{Basic, Facts, SinceThen, all2, basic2, change, facts, grace_over, graces2, node_is, step_grace, begins as starting}
@@ -269,7 +269,7 @@ module _ (k : base.Config) (count : ℕ) (s : ServerId) (gap : ℕ) (rp : 1 ≤ 
         (subst (λ z. InTime k z here_now (stepped old (clock_of t.world (nodes.Server s)) Tick).state) (sym (tick_last (ap (ticks_at s) is ∙ eq-eqb s.0 s.0 refl)))
         (subst (λ z. InTime k z z (stepped old (clock_of t.world (nodes.Server s)) Tick).state) (sym c)
         (tick_in_time k last (clock_of t.world (nodes.Server s)) old.state dp wp rp (facts_of old at runs).known (b.here old at runs).time)))
-    time2 (Hears old n m at runs is em to wish next clock) node f r =
+    time2 (Receives old n m at runs is em to wish next clock) node f r =
         let c = ap (λ (z : Stamp). z.0) clock in
         subst (λ (n : ServerNode). InTime k last2 here_now n.state) (some_is (sym next ∙ f))
         (subst (λ z. InTime k z here_now (stepped old (clock_of t.world (nodes.Server s)) (Control m.message)).state) (sym (same_last (ap (ticks_at s) is)))
@@ -347,7 +347,7 @@ module _ (k : base.Config) (count : ℕ) (s : ServerId) (gap : ℕ) (rp : 1 ≤ 
                   first = fs;
                   rows = subst (λ z. Others w (P from w z n.state.authority) n.state.locks) (sym ck ∙ sym (tick_last (ap (ticks_at s) is ∙ eq-eqb s.0 s.0 refl))) (tick_keeps old at is_up q (old_since old at is_up y) fs);
                 })
-        goes_on (Hears old j m at is_up is em to wish next clock) = stepping old (Control m.message) wish clock same kept
+        goes_on (Receives old j m at is_up is em to wish next clock) = stepping old (Control m.message) wish clock same kept
           where
             same : stepped old (clock_of t.world (nodes.Server s)) (Control m.message) ≡ node
             same = some_is (sym next ∙ f)

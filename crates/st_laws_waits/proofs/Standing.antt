@@ -27,7 +27,7 @@ use Rattle.st_rules.specs.Leases.{steal_wait}
 use Rattle.st_rules.specs.Locks.{is_wait_on}
 use Rattle.st_rules.specs.Safety.{IsHead, Step, is_event, step}
 use Rattle.st_rules.specs.Server as sv
-use Rattle.st_rules.specs.Server.{ServerNode, ServerState, Turn, crash, keep_and_reply, reply, server_step, start, steal_from, suspect_client, tell}
+use Rattle.st_rules.specs.Server.{ServerNode, ServerState, ServerTurn, crash, keep_and_reply, reply, server_step, start, steal_from, suspect_client, tell}
 use Rattle.st_rules.specs.ServerInvariants.{are_once, same_row}
 use Rattle.st_rules.specs.Sessions as sessions
 use Rattle.st_rules.specs.World.{World, clock_of, fresh_world, node_at_start, node_of}
@@ -41,18 +41,18 @@ use Rattle.st_laws_refine.specs.Server.View.{GraceIs, RowOk, ServesLife, Sound}
 use Rattle.st_laws_refine.proofs.Server.Delivery.{sound_of}
 use Rattle.st_laws_refine.proofs.Server.OneRow.{row_found}
 use Rattle.st_laws_leases.specs.Sides.World.{AllStand, ServerStands}
-use Rattle.st_laws_leases.proofs.Sides.Beginning.{begun}
+use Rattle.st_laws_leases.proofs.Sides.FirstWorld.{begun}
 use Rattle.st_laws_pages.proofs.Lives.Fresh.{fresh_is}
-use Rattle.st_laws_leases.proofs.Sides.Everywhere.{stays}
+use Rattle.st_laws_leases.proofs.Sides.AllAssociations.{stays}
 use Rattle.st_laws_leases.proofs.Sides.Runs.{full, throughout_events}
 use Rattle.st_laws_waits.specs.Bounds.{RowsHaveSessions}
 use Rattle.st_laws_waits.specs.Chase.{IsFirst}
 use Rattle.st_laws_refine.specs.Server.Edits.{Edit, TakesTimers, Steals, Suspects, Begins, DropsWaits, Keeps, Reasserts, Sees, Acquires, Releases, DropsFile, Grants, Demands, NamesChange, ExtentsChange, Cuts, Replies, Repeats, Refuses, TellsGrant, TellsDemand}
 use Rattle.st_laws_waits.specs.Ends.{GoesOnOrEnds}
-use Rattle.st_laws_waits.specs.Waits.{GraceEnds, InEveryRun, Runs, RunsFrom, WaitsEndForAReason, heard, heard_in, server_clock}
-use Rattle.st_laws_waits.proofs.Ends.{heard_of, step_ends}
+use Rattle.st_laws_waits.specs.Waits.{GraceEnds, InEveryRun, Runs, RunsFrom, WaitsEndForAReason, received, received_in, server_clock}
+use Rattle.st_laws_waits.proofs.Ends.{received_of, step_ends}
 use Rattle.st_laws_waits.proofs.Events.{Done, done, stepped}
-use Rattle.st_laws_waits.proofs.Events.Done.{Ticks, Hears, Waits, Stops, Starts}
+use Rattle.st_laws_waits.proofs.Events.Done.{Ticks, Receives, Waits, Stops, Starts}
 use Rattle.st_laws_waits.proofs.Splits.{At_last, Earlier, Split, has_last, has_more, not_empty, split}
 use Rattle.st_laws_waits.proofs.Tests.{clash}
 use Rattle.st_laws_refine.proofs.Server.Walk.{walk}
@@ -62,7 +62,7 @@ pub record SameGrace (n v : ServerState) : Type 0 where
   pub grace : v.grace ≡ n.grace
   pub config : v.config ≡ n.config
 
-grace_edit : (n : ServerState) (now : Stamp) (i : ServerInput) (t u : Turn) → Edit n now i t u → SameGrace n t.state → SameGrace n u.state
+grace_edit : (n : ServerState) (now : Stamp) (i : ServerInput) (t u : ServerTurn) → Edit n now i t u → SameGrace n t.state → SameGrace n u.state
 unfolding steal_from suspect_client keep_and_reply reply tell
 grace_edit n now i t u (TakesTimers _ z) x = record { grace = x.grace; config = x.config }
 grace_edit n now i t u (Steals _ c s h e) x = record { grace = x.grace; config = x.config }
@@ -193,7 +193,7 @@ module _ (k : base.Config) (count : ℕ) (s : ServerId) where
     settings2 : Done s.0 t.world sc.world e → (node : ServerNode) → node_of sc.world s ≡ Some node → node.state.config ≡ k
     settings2 (Ticks old at runs is next clock) node f =
         subst (λ (n : ServerNode). n.state.config ≡ k) (some_is (sym next ∙ f)) ((step_grace old.state (clock_of t.world (nodes.Server s)) Tick tt).config ∙ b.settings old at)
-    settings2 (Hears old n m at runs is em to wish next clock) node f =
+    settings2 (Receives old n m at runs is em to wish next clock) node f =
         subst (λ (n : ServerNode). n.state.config ≡ k) (some_is (sym next ∙ f))
         ((step_grace old.state (clock_of t.world (nodes.Server s)) (Control m.message) wish).config ∙ b.settings old at)
     settings2 (Waits same le q) node f = b.settings node (sym same ∙ f)
@@ -222,7 +222,7 @@ module _ (k : base.Config) (count : ℕ) (s : ServerId) where
 
     goes_on : (i : Step) → SinceThen i t.world → Done s.0 t.world sc.world e → Runs s sc.world → SinceThen i sc.world
     goes_on i o (Ticks old at runs is next clock) r = stepped_since i o old Tick at runs tt next
-    goes_on i o (Hears old n m at runs is em to wish next clock) r = stepped_since i o old (Control m.message) at runs wish next
+    goes_on i o (Receives old n m at runs is em to wish next clock) r = stepped_since i o old (Control m.message) at runs wish next
     goes_on i o (Waits same le q) r = record { node = o.node; is = same ∙ o.is; running = o.running; before = o.before; same = o.same }
     goes_on i o (Stops old at next) r = absurd (clash r.node.running r.running (sym (ap (λ (n : ServerNode). n.running) (some_is (sym next ∙ r.is)))))
     goes_on i o (Starts old at off is next clock) r = absurd (clash o.node.running o.running (ap (λ (n : ServerNode). n.running) (some_is (sym o.is ∙ at)) ∙ off))
@@ -280,7 +280,7 @@ module _ (k : base.Config) (count : ℕ) (s : ServerId) where
     -- a wait ends for a reason
     step_of : (w : Waiter) (old : ServerNode) (at : node_of t.world s ≡ Some old) → old.running ≡ true → IsFirst w old.state.locks → (j : ServerInput) →
         WishInput j →
-        GoesOnOrEnds w (heard_of j) old.state.stable.names (server_step old.state (clock_of t.world (nodes.Server s)) j).state.authority (server_step old.state (clock_of t.world (nodes.Server s)) j).state.locks
+        GoesOnOrEnds w (received_of j) old.state.stable.names (server_step old.state (clock_of t.world (nodes.Server s)) j).state.authority (server_step old.state (clock_of t.world (nodes.Server s)) j).state.locks
     step_of w old at runs first j wish =
         let z = facts t.world b.all old at runs in
         let m = (found_at (is_wait_on w.ino) old.state.locks.waiters w first).1 in
@@ -293,17 +293,17 @@ module _ (k : base.Config) (count : ℕ) (s : ServerId) where
         Ended m v = GoesOnOrEnds w m old.state.stable.names v.state.authority v.state.locks
 
         went : (v : ServerNode) (j : ServerInput) → node_of t.world s ≡ Some v → WishInput j →
-            node_of sc.world s ≡ Some (stepped v (clock_of t.world (nodes.Server s)) j) → heard s t.world e ≡ heard_of j → Ended (heard s t.world e) new
+            node_of sc.world s ≡ Some (stepped v (clock_of t.world (nodes.Server s)) j) → received s t.world e ≡ received_of j → Ended (received s t.world e) new
         went v j there wish next is =
-            subst (Ended (heard s t.world e)) (some_is (sym next ∙ f))
-            (subst (λ (v : ServerNode). Ended (heard s t.world e) (stepped v (clock_of t.world (nodes.Server s)) j)) (some_is (sym at ∙ there))
+            subst (Ended (received s t.world e)) (some_is (sym next ∙ f))
+            (subst (λ (v : ServerNode). Ended (received s t.world e) (stepped v (clock_of t.world (nodes.Server s)) j)) (some_is (sym at ∙ there))
             (subst (λ m. Ended m (stepped old (clock_of t.world (nodes.Server s)) j)) (sym is) (step_of w old at runs first j wish)))
 
-        go : Done s.0 t.world sc.world e → Ended (heard s t.world e) new
-        go (Ticks v there r is next clock) = went v Tick there tt next (ap (heard s t.world) is)
-        go (Hears v n m there r is em to wish next clock) =
+        go : Done s.0 t.world sc.world e → Ended (received s t.world e) new
+        go (Ticks v there r is next clock) = went v Tick there tt next (ap (received s t.world) is)
+        go (Receives v n m there r is em to wish next clock) =
             went v (Control m.message) there wish next
-            (ap (heard s t.world) is ∙ ap (heard_in s) em ∙ if_true (m.message.header.to == server_node s) (Some m.message) None (eq-eqb m.message.header.to (server_node s) to))
+            (ap (received s t.world) is ∙ ap (received_in s) em ∙ if_true (m.message.header.to == server_node s) (Some m.message) None (eq-eqb m.message.header.to (server_node s) to))
         go (Waits same le q) = inl (subst (λ (v : ServerNode). IsFirst w v.state.locks) (some_is (sym at ∙ sym same ∙ f)) first)
         go (Stops v there next) = absurd (clash new.running running (sym (ap (λ (n : ServerNode). n.running) (some_is (sym next ∙ f)))))
         go (Starts v there off is next clock) = absurd (clash old.running runs (ap (λ (n : ServerNode). n.running) (some_is (sym at ∙ there)) ∙ off))

@@ -11,7 +11,7 @@ use Rattle.st_rules.specs.declared.input.ServerInput.TheVariants.{Tick, Control}
 use Rattle.st_rules.specs.Grace as grace
 use Rattle.st_rules.specs.Grace.{Grace}
 use Rattle.st_rules.specs.Leases.{steal_wait}
-use Rattle.st_rules.specs.Server.{ServerState, Turn, demanding, granting, grant_waiting, in_grace, server_step, suspecting, suspecting_on, take_input, thefts, turn}
+use Rattle.st_rules.specs.Server.{ServerState, ServerTurn, demanding, granting, grant_waiting, in_grace, server_step, suspecting, suspecting_on, take_input, thefts, turn}
 use Rattle.st_laws_refine.specs.Server.Edits.{WishInput}
 use Rattle.st_laws_refine.proofs.Server.Walk.{w_demanding, w_granting, w_message, w_suspecting}
 use Rattle.st_laws_refine.proofs.Server.Walk.{thefts_quiet}
@@ -28,7 +28,7 @@ graced_before None last now l e = e
 graced_before (Some g) last now l e = let z = ltb-true now (g.start.0 + g.wait) e in lt-ltb last (g.start.0 + g.wait) (omega (arith, l, z))
 
 -- a granting pass outside grace leaves each first waiter blocked
-granting_blocked : (t : Turn) (now : Stamp) → (grace.is_on t.state.grace now ≡ true) ⊎ AllBlocked (granting t now).state.locks
+granting_blocked : (t : ServerTurn) (now : Stamp) → (grace.is_on t.state.grace now ≡ true) ⊎ AllBlocked (granting t now).state.locks
 unfolding granting
 granting_blocked t now = go (in_grace t now) refl
   where
@@ -38,17 +38,17 @@ granting_blocked t now = go (in_grace t now) refl
 
 module _ (k : Config) (now : Stamp) (n : ServerState) (i : ServerInput) (p : 1 ≤ k.demand) (q : 1 ≤ steal_wait k) (rp : 1 ≤ k.retry) where
   -- the passes behind the suspicions
-  passes : (last : ℕ) (t : Turn) → last ≤ now.0 → WithinStep k (steal_wait k) last now n.grace t →
+  passes : (last : ℕ) (t : ServerTurn) → last ≤ now.0 → WithinStep k (steal_wait k) last now n.grace t →
       WithinStep k (steal_wait k) last now n.grace (demanding (granting t now) now i)
   passes last t l o =
       w_demanding n now i (WithinStep k (steal_wait k) last now n.grace) (λ t u e o. edit k (steal_wait k) last now n.grace n i t u p q l e o) (granting t now)
       (w_granting n now i (WithinStep k (steal_wait k) last now n.grace) (λ t u e o. edit k (steal_wait k) last now n.grace n i t u p q l e o) t o)
 
-  granted : (last : ℕ) (t : Turn) → last ≤ now.0 → WithinStep k (steal_wait k) last now n.grace t → WithinStep k (steal_wait k) last now n.grace (granting t now)
+  granted : (last : ℕ) (t : ServerTurn) → last ≤ now.0 → WithinStep k (steal_wait k) last now n.grace t → WithinStep k (steal_wait k) last now n.grace (granting t now)
   granted last t l o = w_granting n now i (WithinStep k (steal_wait k) last now n.grace) (λ t u e o. edit k (steal_wait k) last now n.grace n i t u p q l e o) t o
 
   -- what stands behind the passes
-  behind : (last : ℕ) (t : Turn) → last ≤ now.0 → WithinStep k (steal_wait k) last now n.grace t → InTime k last now.0 (demanding (granting t now) now i).state
+  behind : (last : ℕ) (t : ServerTurn) → last ≤ now.0 → WithinStep k (steal_wait k) last now n.grace t → InTime k last now.0 (demanding (granting t now) now i).state
   behind last t l o =
       record {
         config = z.config;
@@ -83,8 +83,8 @@ module _ (k : Config) (last : ℕ) (now : Stamp) (n : ServerState) (p : 1 ≤ k.
       (w_suspecting n now Tick (WithinStep k (steal_wait k) last now n.grace) (λ t u e o. edit k (steal_wait k) last now n.grace n Tick t u p q s.past e o) (thefts (turn n []) now) (thefts_quiet n now) robbed)
 
   -- behind a message's rule
-  pub heard : (m : Message) → WishInput (Control m) → WithinStep k (steal_wait k) last now n.grace (take_input (thefts (turn n []) now) now (Control m))
-  heard m w = w_message n now m (WithinStep k (steal_wait k) last now n.grace) (λ t u e o. edit k (steal_wait k) last now n.grace n (Control m) t u p q s.past e o) w robbed
+  pub received : (m : Message) → WishInput (Control m) → WithinStep k (steal_wait k) last now n.grace (take_input (thefts (turn n []) now) now (Control m))
+  received m w = w_message n now m (WithinStep k (steal_wait k) last now n.grace) (λ t u e o. edit k (steal_wait k) last now n.grace n (Control m) t u p q s.past e o) w robbed
 
   pub tick_in_time : InTime k now.0 now.0 (server_step n now Tick).state
   unfolding server_step take_input suspecting_on
@@ -92,4 +92,4 @@ module _ (k : Config) (last : ℕ) (now : Stamp) (n : ServerState) (p : 1 ≤ k.
 
   pub message_in_time : (m : Message) → WishInput (Control m) → InTime k last now.0 (server_step n now (Control m)).state
   unfolding server_step suspecting_on
-  message_in_time m w = behind k now n (Control m) p q rp last (take_input (thefts (turn n []) now) now (Control m)) s.past (heard m w)
+  message_in_time m w = behind k now n (Control m) p q rp last (take_input (thefts (turn n []) now) now (Control m)) s.past (received m w)

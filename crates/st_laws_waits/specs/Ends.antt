@@ -34,15 +34,15 @@ abbrev pub RemovesFile : Waiter → Names → Message → Type 0
 RemovesFile w ns m =
     (dir : ℕ) × ((name : List ℕ) × ((g : GrantNo) × ((m.body ≡ bodies.Name (Remove dir name g)) × (names.lookup ns dir name ≡ Ok w.ino))))
 
--- Why a wait is the first of its file no more, by the message that the server heard, if it heard one, the names that it had, and the timers and
+-- Why a wait is the first of its file no more, by the message that the server received, if it received one, the names that it had, and the timers and
 -- locks that it has now.
-pub data EndsBy (w : Waiter) (heard : Option Message) (ns : Names) (a : Authority) (l : Locks) : Type 0 where
-  Granted : IsGranted w l → EndsBy w heard ns a l
-  Suspected : is_some (suspect_of a w.client) ≡ true → EndsBy w heard ns a l
-  Greeted : (m : Message) → heard ≡ Some m → GreetsLater w m → EndsBy w heard ns a l
-  Asked : (m : Message) → heard ≡ Some m → AsksAnew w m → EndsBy w heard ns a l
-  Removed : (m : Message) → heard ≡ Some m → RemovesFile w ns m → EndsBy w heard ns a l
+pub data EndsBy (w : Waiter) (received : Option Message) (ns : Names) (a : Authority) (l : Locks) : Type 0 where
+  Granted : IsGranted w l → EndsBy w received ns a l
+  Suspected : is_some (suspect_of a w.client) ≡ true → EndsBy w received ns a l
+  Greeted : (m : Message) → received ≡ Some m → GreetsLater w m → EndsBy w received ns a l
+  Asked : (m : Message) → received ≡ Some m → AsksAnew w m → EndsBy w received ns a l
+  Removed : (m : Message) → received ≡ Some m → RemovesFile w ns m → EndsBy w received ns a l
 
 -- the wait is still the first of its file, or it ended for one of these reasons
 abbrev pub GoesOnOrEnds : Waiter → Option Message → Names → Authority → Locks → Type 0
-GoesOnOrEnds w heard ns a l = IsFirst w l ⊎ EndsBy w heard ns a l
+GoesOnOrEnds w received ns a l = IsFirst w l ⊎ EndsBy w received ns a l

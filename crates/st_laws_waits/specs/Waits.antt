@@ -166,14 +166,14 @@ LocksComeBackAfterStarts k s gap past x =
 -- How waits and graces end.
 
 -- the message, where it is to this server
-abbrev pub heard_in : ServerId → Option SentMessage → Option Message
-heard_in s None = None
-heard_in s (Some m) = if m.message.header.to == server_node s then Some m.message else None
+abbrev pub received_in : ServerId → Option SentMessage → Option Message
+received_in s None = None
+received_in s (Some m) = if m.message.header.to == server_node s then Some m.message else None
 
 -- the message that an event brings to the server, if it brings one
-abbrev pub heard : ServerId → World → Event → Option Message
-heard s v (events.Deliver n) = heard_in s (message_of v n)
-heard s v e = None
+abbrev pub received : ServerId → World → Event → Option Message
+received s v (events.Deliver n) = received_in s (message_of v n)
+received s v e = None
 
 -- A wait ends for a reason: where it is the first of its file before a step of a server that runs before and after it, it is so after the step, or it
 -- was granted, or its client is suspected, greeted in a later life or asked for the file again, or the file was removed.
@@ -181,7 +181,7 @@ abbrev pub WaitsEndForAReason : Config → ServerId → Promise
 WaitsEndForAReason k s past x =
     (w : Waiter) (old new : ServerNode) → node_of x.before.world s ≡ Some old → old.running ≡ true → IsFirst w old.state.locks →
     node_of x.after.world s ≡ Some new → new.running ≡ true →
-    GoesOnOrEnds w (heard s x.before.world x.event) old.state.stable.names new.state.authority new.state.locks
+    GoesOnOrEnds w (received s x.before.world x.event) old.state.stable.names new.state.authority new.state.locks
 
 -- the server runs
 pub record Runs (s : ServerId) (v : World) : Type 0 where

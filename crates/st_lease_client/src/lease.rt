@@ -4,7 +4,7 @@ ghost use Rattle.st_rules.specs.ClientLease.{may_renew};
 ghost use Rattle.st_lease_client.specs.ServerLease as leases;
 ghost use Rattle.st_lease_client.specs.Standings.{kind_of, moment_of, server_of};
 
-use crate::held::HeldLease;
+use crate::held_lease::HeldLease;
 use crate::losses::{CommandsGone, LocksGone, PagesGone};
 use crate::permits::{Receipt, SettledAt};
 use crate::standing::Standing;

@@ -2,7 +2,7 @@
 //! not compile. `docs/PROTOCOL.md`, "Permits", says what each phase allows.
 #![tactic(auto)]
 
-mod held;
+mod held_lease;
 mod lease;
 mod losses;
 mod permits;

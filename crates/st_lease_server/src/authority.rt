@@ -5,7 +5,7 @@ ghost use Rattle.st_base.specs.Config as settings;
 ghost use Rattle.st_rules.specs.Authority as authority;
 ghost use Rattle.st_rules.specs.ServerInvariants.{are_rising};
 
-use crate::by_start::{Start, drop_past, is_past};
+use crate::timer_starts::{Start, drop_past, is_past};
 use crate::timers::{clients_over, drop_over, place_timer, tell_clients, timer_of};
 use st_base::{ClientId, Config, Stamp};
 use st_clock::steal_wait;

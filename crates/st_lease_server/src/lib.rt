@@ -3,7 +3,7 @@
 #![tactic(auto)]
 
 mod authority;
-mod by_start;
+mod timer_starts;
 mod timers;
 
 pub use authority::Authority;

@@ -13,7 +13,7 @@ abbrev pub raised : ℕ → ℕ
 raised n = min (n + 1) (2 ^ 64 - 1)
 
 -- the link in memory: the bytes that are left and those that are written, the names that it was attached at, and the calls
-pub record LinkInMemory : Type 0 where
+pub record MemoryLink : Type 0 where
   pub left : List ℕ
   pub written : List ℕ
   pub names : List (List ℕ)

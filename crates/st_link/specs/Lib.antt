@@ -1,7 +1,7 @@
-pub mod Adapted
+pub mod Adapters
 pub mod Causes
 pub mod InMemory
 pub mod Prefixes
 pub mod Refusals
 pub mod Names
-pub mod OverStream
+pub mod UnixLink

@@ -17,7 +17,7 @@ pub struct ReaderSource<R: ReadCall + Drop> {
 }
 
 impl<R: ReadCall + Drop> Model for ReaderSource<R> {
-    ghost use Rattle.st_link.specs.Adapted.{Adapted};
+    ghost use Rattle.st_link.specs.Adapters.{Adapted};
 
     ghost Value = { Adapted R };
 
@@ -34,7 +34,7 @@ pub struct WriterSink<W: WriteCall + Drop> {
 }
 
 impl<W: WriteCall + Drop> Model for WriterSink<W> {
-    ghost use Rattle.st_link.specs.Adapted.{Adapted};
+    ghost use Rattle.st_link.specs.Adapters.{Adapted};
 
     ghost Value = { Adapted W };
 

@@ -9,7 +9,7 @@ mod memory;
 mod memory_link;
 mod safe;
 mod unix;
-mod whole;
+mod whole_texts;
 
 pub use calls::{ReadCall, WriteCall};
 pub use ends::{ReaderSource, WriterSink};
@@ -18,4 +18,4 @@ pub use memory::{MemorySink, MemorySource};
 pub use memory_link::MemoryLink;
 pub use safe::{SafeSink, SafeSource};
 pub use unix::UnixLink;
-pub use whole::{ReadFault, put_all, read_up_to, send_all};
+pub use whole_texts::{ReadFault, put_all, read_up_to, send_all};

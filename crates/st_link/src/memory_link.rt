@@ -25,9 +25,9 @@ pub struct MemoryLink {
 
 impl Model for MemoryLink {
     ghost use Rattle.std.specs.Prelude.{map};
-    ghost use Rattle.st_link.specs.InMemory.{LinkInMemory};
+    ghost use Rattle.st_link.specs.InMemory as shown;
 
-    ghost Value = { LinkInMemory };
+    ghost Value = { shown.MemoryLink };
 
     ghost view = { λ l. record {
       left = l.rest;

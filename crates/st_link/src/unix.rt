@@ -5,7 +5,7 @@ ghost use Rattle.std.specs.Io.KnownBytes.{ReadConsumes, WriteAppends};
 ghost use Rattle.st_link.specs.Causes.{HasCause};
 ghost use Rattle.st_link.specs.InMemory.{raised};
 ghost use Rattle.st_link.specs.Names.{Attaches, MayAttach};
-ghost use Rattle.st_link.specs.OverStream.{OverStream};
+ghost use Rattle.st_link.specs.UnixLink as shown;
 
 use crate::link::{Failed, Link, Sink, Source};
 use std::fs::Files;
@@ -26,9 +26,9 @@ pub struct UnixLink<R: Files + Net + Drop> {
 
 impl<R: Files + Net + Drop> Model for UnixLink<R> {
     ghost use Rattle.std.specs.Prelude.{is_some};
-    ghost use Rattle.st_link.specs.OverStream.{OverStream};
+    ghost use Rattle.st_link.specs.UnixLink as shown;
 
-    ghost Value = { OverStream };
+    ghost Value = { shown.UnixLink };
 
     ghost view = { λ l. record { has_stream = is_some l.stream; faults = l.faults } };
 }

@@ -1,4 +1,4 @@
 pub mod Once
 pub mod Tables
-pub mod Kept
+pub mod CacheInvariants
 pub mod Emptiness

@@ -5,7 +5,7 @@ use Rattle.std.specs.List.{list_any}
 use Rattle.std.proofs.lemmas.Bool.{and_parts, not-true, eqb-true}
 use Rattle.st_rules.specs.Keys.{put, rising, with_key}
 use Rattle.st_rules.specs.ServerInvariants.{are_once}
-use Rattle.st_tables.proofs.Listed.{put_last}
+use Rattle.st_tables.proofs.RowLists.{put_last}
 use Rattle.st_lock_cache.proofs.Once.{has_key, same_key}
 
 -- where no row passes, nothing is written over

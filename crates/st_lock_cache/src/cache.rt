@@ -6,7 +6,7 @@ ghost use Rattle.st_lock_cache.specs.Calls.{Demands, Installs, IsCached, Reduces
 use crate::demands::{
     demand_of, demanded_files, drop_demand, has_demands, is_demanded, put_demand,
 };
-use crate::held::{lock_of, lower_rows, push_lock, put_lock, put_over, seen_row};
+use crate::held_locks::{lock_of, lower_rows, push_lock, put_lock, put_over, seen_row};
 use crate::rows::{LockRow, SeenRow, key};
 use st_base::{GrantNo, Mode, ServerId};
 use st_lease_client::{LockLoss, LocksGone};

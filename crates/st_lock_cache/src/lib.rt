@@ -4,7 +4,7 @@
 
 mod cache;
 mod demands;
-mod held;
+mod held_locks;
 mod rows;
 
 pub use cache::LockCache;

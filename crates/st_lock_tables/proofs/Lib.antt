@@ -1,6 +1,6 @@
 pub mod SinceKeys
 pub mod SinceRows
-pub mod Found
+pub mod FoundRows
 pub mod Grants
 pub mod Installing
 pub mod Ways

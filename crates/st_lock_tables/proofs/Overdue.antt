@@ -16,7 +16,7 @@ use Rattle.st_rules.specs.declared.locks.LockRow.{LockRow}
 use Rattle.st_rules.specs.declared.locks.RowDemand.{RowDemand}
 use Rattle.st_tables.specs.Tables.{lock_key, same_key}
 use Rattle.st_tables.proofs.Places.{at_found, any_at_key}
-use Rattle.st_lock_tables.specs.Since.{AreListed, is_late, is_late_of, is_since, since_of, since_of_demand, wait_order}
+use Rattle.st_lock_tables.specs.DemandStarts.{AreListed, is_late, is_late_of, is_since, since_of, since_of_demand, wait_order}
 use Rattle.st_lock_tables.proofs.SinceKeys.{same_key as one_wait}
 
 both : (a b : Bool) → (a ≡ true → b ≡ true) → (b ≡ true → a ≡ true) → a ≡ b

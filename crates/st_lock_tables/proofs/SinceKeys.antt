@@ -9,7 +9,7 @@ use Rattle.st_base.specs.declared.ids.ClientId.{ClientId}
 use Rattle.st_base.specs.declared.ids.Stamp.{Stamp}
 use Rattle.std.specs.List.{list_any}
 use Rattle.st_rules.specs.Keys.{same_client}
-use Rattle.st_lock_tables.specs.Since.{same_wait, wait_order}
+use Rattle.st_lock_tables.specs.DemandStarts.{same_wait, wait_order}
 
 eq_turn : (a b : ℕ) → (a == b) ≡ (b == a)
 eq_turn a b = grind arith

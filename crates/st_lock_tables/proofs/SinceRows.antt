@@ -9,7 +9,7 @@ use Rattle.st_base.specs.declared.ids.Stamp.{Stamp}
 use Rattle.st_rules.specs.Keys.{same_client, put}
 use Rattle.st_rules.specs.Locks.{is_row_of, is_row_by, with_row, without_row}
 use Rattle.st_rules.specs.declared.locks.LockRow.{LockRow}
-use Rattle.st_lock_tables.specs.Since.{AreListed, KeepsSince, is_since, since_of, since_of_demand, wait_order}
+use Rattle.st_lock_tables.specs.DemandStarts.{AreListed, KeepsSince, is_since, since_of, since_of_demand, wait_order}
 
 not_false : (b : Bool) → not b ≡ false → b ≡ true
 not_false true e = refl

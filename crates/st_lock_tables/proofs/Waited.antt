@@ -4,7 +4,7 @@ use Rattle.std.specs.Prelude.{not, ◌==◌}
 use Rattle.std.specs.List.{list_any}
 use Rattle.std.proofs.lemmas.Bool.{ne_eqb}
 use Rattle.st_tables.proofs.RisingKeys.{any_same, some_in, some_filter, some_map}
-use Rattle.st_lock_tables.specs.Waited.{is_one_of}
+use Rattle.st_lock_tables.specs.WaitedFiles.{is_one_of}
 
 some_long : (xs : List ℕ) → not (length xs == 0) ≡ some_in xs
 some_long [] = refl

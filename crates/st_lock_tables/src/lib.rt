@@ -2,15 +2,15 @@
 //! "Locks", has the rules. Each call leaves the table that the definition of its rule gives.
 #![tactic(auto)]
 
-mod install;
+mod installation;
 mod passes;
 mod refusal;
 mod release;
 mod rows;
-mod since;
 mod table;
+mod unanswered;
 
 pub use passes::{Pass, Sent};
 pub use refusal::LockRefusal;
-pub use since::{Unanswered, passed};
 pub use table::PlainTable;
+pub use unanswered::{Unanswered, passed};

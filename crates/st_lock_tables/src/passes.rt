@@ -4,12 +4,12 @@ ghost use Rattle.std.specs.List.{IsDistinct, list_any};
 ghost use Rattle.std.specs.Option.{option_copied, option_map, option_to_list};
 ghost use Rattle.st_rules.specs.Keys as keys;
 ghost use Rattle.st_rules.specs.Locks as locks;
-ghost use Rattle.st_lock_tables.specs.Since.{IsClient, KeepsSince, since_of_demand};
+ghost use Rattle.st_lock_tables.specs.DemandStarts.{IsClient, KeepsSince, since_of_demand};
 ghost use Rattle.st_lock_tables.specs.Calls.{demanding, file_demanded, file_granted, granting, is_lock, row_demanded, rows_demanded, wait_demanded};
-ghost use Rattle.st_lock_tables.specs.Waited.{to_demand_on};
+ghost use Rattle.st_lock_tables.specs.WaitedFiles.{to_demand_on};
 
-use crate::since::passed;
 use crate::table::{PlainTable, push_if};
+use crate::unanswered::passed;
 use st_base::{ClientId, Config, GrantNo, Life, Mode, Stamp};
 use st_rules::{LockRow, RowDemand, Waiter};
 use std::alloc::{AllocError, Global};

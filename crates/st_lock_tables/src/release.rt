@@ -4,7 +4,7 @@ ghost use Rattle.std.specs.List.{IsDistinct, list_any};
 ghost use Rattle.std.specs.Option.{option_copied, option_map, option_to_list};
 ghost use Rattle.st_rules.specs.Keys as keys;
 ghost use Rattle.st_rules.specs.Locks as locks;
-ghost use Rattle.st_lock_tables.specs.Since.{IsClient, KeepsSince, since_of_demand};
+ghost use Rattle.st_lock_tables.specs.DemandStarts.{IsClient, KeepsSince, since_of_demand};
 ghost use Rattle.st_lock_tables.specs.Calls.{Answers, Gives, Installs, demanding, granting, same_file, told, with_one};
 
 use crate::table::PlainTable;

@@ -10,10 +10,10 @@ ghost use Rattle.st_rules.specs.Keys as keys;
 ghost use Rattle.st_rules.specs.Locks as locks;
 ghost use Rattle.st_tables.specs.Tables.{Changes, is_of_client, lock_key, same_key};
 ghost use Rattle.st_lock_tables.specs.Calls.{clients_of, is_row_from};
-ghost use Rattle.st_lock_tables.specs.Waited.{is_one_of};
-ghost use Rattle.st_lock_tables.specs.Since.{AreListed, IsClient, KeepsSince, since_of, since_of_demand};
+ghost use Rattle.st_lock_tables.specs.WaitedFiles.{is_one_of};
+ghost use Rattle.st_lock_tables.specs.DemandStarts.{AreListed, IsClient, KeepsSince, since_of, since_of_demand};
 
-use crate::since::{Unanswered, forget, overdue, put_in, take_out};
+use crate::unanswered::{Unanswered, forget, overdue, put_in, take_out};
 use st_base::{ClientId, Config, Life, Mode, Stamp};
 use st_rules::{LockRow, RowDemand};
 use st_tables::{ClientTable, Every, Key, Test};
@@ -114,7 +114,7 @@ impl Model for Rows {
 
     ghost Value = { List LockRow };
 
-    ghost use Rattle.st_lock_tables.specs.Since.{AreListed};
+    ghost use Rattle.st_lock_tables.specs.DemandStarts.{AreListed};
 
     ghost view = { λ r. r.table };
 

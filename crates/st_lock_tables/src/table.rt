@@ -8,13 +8,13 @@ ghost use Rattle.st_rules.specs.ServerInvariants.{IsLockTable};
 ghost use Rattle.std.specs.BTreeSet.{contains};
 ghost use Rattle.st_base.specs.declared.ids.ClientId.{ClientId};
 ghost use Rattle.st_base.specs.declared.ids.Stamp.{Stamp};
-ghost use Rattle.st_lock_tables.specs.Since.{IsClient, is_since, since_of, wait_order};
+ghost use Rattle.st_lock_tables.specs.DemandStarts.{IsClient, is_since, since_of, wait_order};
 ghost use Rattle.st_lock_tables.specs.Calls.{Answers, Gives, Installs, demanding, granting, has_no_row, is_lock, is_row_from, same_file, told, with_one};
-ghost use Rattle.st_lock_tables.specs.Waited.{is_one_of, is_waited, is_waited_besides};
+ghost use Rattle.st_lock_tables.specs.WaitedFiles.{is_one_of, is_waited, is_waited_besides};
 
 use crate::refusal::LockRefusal;
 use crate::rows::{Rows, key};
-use crate::since::Unanswered;
+use crate::unanswered::Unanswered;
 use st_base::{ClientId, Clients, Epoch, GrantNo, Life, Mode, ServerId, Stamp};
 use st_rules::{LockRow, Verdict, Waiter};
 use st_tables::{ClientTable, Every, Test};

@@ -18,10 +18,10 @@ use Rattle.st_rules.specs.declared.locks.Waiter.{Waiter}
 use Rattle.st_rules.specs.Keys.{client, rising, same_client}
 use Rattle.st_rules.specs.Locks.{Locks, Demanding, client_of_row, demand_again, demand_clients, demand_files, demand_for, demand_lower, demand_now, demand_of, demand_row, demand_with, demanded, demands_due, first_demand, grantable, ino_of_wait, is_among, is_below, is_row_of, is_row_on, is_wait_on, next_waiter, nothing_demanded, row_of, sent_again, stands_against, to_demand, waited_files, wish, with_demand}
 use Rattle.st_tables.proofs.RisingKeys.{has, has_rising, any_map_filter}
-use Rattle.st_lock_tables.specs.Waited.{is_one_of, to_demand_for, to_demand_on}
-use Rattle.st_locks.specs.Settled.{AreDemanded, AreTimed, EachInWay, IsQuiet, KeepsAll, Moments, Times, TimesRows, is_by, is_in_way, is_kept, is_low, is_old, is_timed}
+use Rattle.st_lock_tables.specs.WaitedFiles.{is_one_of, to_demand_for, to_demand_on}
+use Rattle.st_locks.specs.SettledFiles.{AreDemanded, AreTimed, EachInWay, IsQuiet, KeepsAll, Moments, Times, TimesRows, is_by, is_in_way, is_kept, is_low, is_old, is_timed}
 use Rattle.st_lock_tables.proofs.Overdue.{some_one}
-use Rattle.st_locks.proofs.Settled.{SameOn, any_mapped, each_same, found_passes, map_apart, none_found, other_file, same_itself, same_over}
+use Rattle.st_locks.proofs.SettledFiles.{SameOn, any_mapped, each_same, found_passes, map_apart, none_found, other_file, same_itself, same_over}
 
 eq_turn : (a b : ℕ) → (a == b) ≡ (b == a)
 eq_turn a b = grind arith

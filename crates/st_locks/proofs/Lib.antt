@@ -1,5 +1,5 @@
-pub mod Settled
+pub mod SettledFiles
 pub mod Demanded
-pub mod Rests
+pub mod UntouchedFiles
 pub mod Walks
 pub mod Moments

@@ -8,7 +8,7 @@ use Rattle.std.specs.Ordering.{nat_cmp, ordering_then, is_eq, is_gt}
 use Rattle.std.proofs.lemmas.Bool.{and_parts, eqb-true, eq-eqb, leb-false, lt-leb, ltb-true}
 use Rattle.st_base.specs.declared.config.Config.{Config}
 use Rattle.st_base.specs.declared.ids.Stamp.{Stamp}
-use Rattle.st_locks.specs.Settled.{is_by, is_kept, is_old, moment_order}
+use Rattle.st_locks.specs.SettledFiles.{is_by, is_kept, is_old, moment_order}
 use Rattle.st_lock_tables.proofs.Overdue.{some_one}
 use Rattle.st_lock_tables.proofs.SinceKeys.{equal_numbers, then_equal}
 

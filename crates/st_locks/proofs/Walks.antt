@@ -15,10 +15,10 @@ use Rattle.st_base.specs.declared.ids.Life.{Life}
 use Rattle.st_base.specs.declared.mode.Mode.{Mode}
 use Rattle.st_rules.specs.declared.locks.RowDemand.{RowDemand}
 use Rattle.st_lock_tables.specs.Calls.{demanding}
-use Rattle.st_lock_tables.specs.Waited.{is_one_of}
+use Rattle.st_lock_tables.specs.WaitedFiles.{is_one_of}
 use Rattle.st_lock_tables.proofs.Rising.{and_turn, has_filter, rising_filter}
-use Rattle.st_locks.specs.Settled.{AreDemanded, AreTimed, Heeds, IsQuiet, IsSettled, Marked, Moments, Times, Wakes, is_kept, is_marked, is_timed, walked}
-use Rattle.st_locks.proofs.Settled.{any_mapped, each_same, idle_grants, next_same, none_found, same_grant_file}
+use Rattle.st_locks.specs.SettledFiles.{AreDemanded, AreTimed, NotesSuspects, IsQuiet, IsSettled, TouchedFiles, Moments, Times, Wakes, is_kept, is_marked, is_timed, walked}
+use Rattle.st_locks.proofs.SettledFiles.{any_mapped, each_same, idle_grants, next_same, none_found, same_grant_file}
 use Rattle.st_locks.proofs.Demanded.{AreIdle, all_demanded, idle_demands, is_idle, lowers_files, lowers_next, none_waits, same_for, settled_idle}
 
 -- what two lists have in common, in rising order
@@ -67,7 +67,7 @@ walk_by l false fs h =
     ∙ sym (fewer_grants (λ k. has k fs) (rising ws) (nothing_granted l) h)
 
 -- the granting pass over the touched files is the whole pass
-pub walk_grants : (l : Locks) (g d : Marked) (ms : Moments) (cs : List ClientId) → IsSettled l g d ms cs → grant_files (walked g (waited_files l)) (nothing_granted l) ≡ next_grants l
+pub walk_grants : (l : Locks) (g d : TouchedFiles) (ms : Moments) (cs : List ClientId) → IsSettled l g d ms cs → grant_files (walked g (waited_files l)) (nothing_granted l) ≡ next_grants l
 walk_grants l g d ms cs s = walk_by l g.all g.files s.granted
 
 module _ (k : Config) (now : Stamp) (tick : Bool) (cs : List ClientId) (t : ℕ → Bool) where
@@ -96,16 +96,16 @@ module _ (k : Config) (now : Stamp) (tick : Bool) (cs : List ClientId) (l : Lock
       ∙ sym (fewer_demands k now tick cs (λ j. has j fs) (rising ws) (nothing_demanded l) h)
 
   -- the demanding pass over the touched files is the whole pass
-  pub walk_demands : (g d : Marked) (ms : Moments) → IsSettled l g d ms cs → IsQuiet k now tick ms → demand_files k now tick cs (walked d (waited_files l)) (nothing_demanded l) ≡ demands_due l now tick cs k
+  pub walk_demands : (g d : TouchedFiles) (ms : Moments) → IsSettled l g d ms cs → IsQuiet k now tick ms → demand_files k now tick cs (walked d (waited_files l)) (nothing_demanded l) ≡ demands_due l now tick cs k
   walk_demands g d ms s q = demands_by d.all d.files (λ j e. settled_idle k now tick cs ms l j q (s.demanded j e) (s.timed j e))
 
   -- a file that is not walked is not marked, or nobody waits for it
-  timed_by : (d : Marked) (ms : Moments) (j : ℕ) (b : Bool) → d.all ≡ b → ((j : ℕ) → is_marked d j ≡ false → AreTimed ms l cs j) → has j (cond b (waited_files l) (rising d.files)) ≡ false → AreTimed ms l cs j
+  timed_by : (d : TouchedFiles) (ms : Moments) (j : ℕ) (b : Bool) → d.all ≡ b → ((j : ℕ) → is_marked d j ≡ false → AreTimed ms l cs j) → has j (cond b (waited_files l) (rising d.files)) ≡ false → AreTimed ms l cs j
   timed_by d ms j true q h e = none_waits l cs j (λ w o. is_timed ms j o) (not_waited l j (sym (has_rising j (map ino_of_wait l.waiters)) ∙ e))
   timed_by d ms j false q h e = h j (ap (λ b. b || has j d.files) q ∙ sym (has_rising j d.files) ∙ e)
 
   -- what the demanding pass over the touched files leaves
-  pub walk_settles : (g d e : Marked) (was ms : Moments) (m : Locks) (due : List (ClientId × Life × ℕ × GrantNo × Mode)) → IsSettled l g d was cs → IsQuiet k now tick was
+  pub walk_settles : (g d e : TouchedFiles) (was ms : Moments) (m : Locks) (due : List (ClientId × Life × ℕ × GrantNo × Mode)) → IsSettled l g d was cs → IsQuiet k now tick was
       → demanding m due ≡ demand_files k now tick cs (walked d (waited_files l)) (nothing_demanded l)
       → Times cs (λ j. has j (walked d (waited_files l))) l was m ms → IsSettled m g e ms cs
   walk_settles g d e was ms m due s q w t = record {
@@ -116,27 +116,27 @@ module _ (k : Config) (now : Stamp) (tick : Bool) (cs : List ClientId) (l : Lock
 
 -- A whole pass, as it is run.
 
-module _ (k : Config) (now : Stamp) (tick : Bool) (besides cs : List ClientId) (l : Locks) (g d : Marked) (was ms : Moments) (m : Locks) (due start : List (ClientId × Life × ℕ × GrantNo × Mode)) (files : List ℕ)
-    (s : IsSettled l g d was besides) (heard : besides ≡ cs) (q : IsQuiet k now tick was) (f : files ≡ walked d (waited_files l)) (none : start ≡ []) (w : demanding m due ≡ demand_files k now tick cs files (demanding l start)) where
-  heard_settled : IsSettled l g d was cs
-  heard_settled = subst (λ xs. IsSettled l g d was xs) heard s
+module _ (k : Config) (now : Stamp) (tick : Bool) (besides cs : List ClientId) (l : Locks) (g d : TouchedFiles) (was ms : Moments) (m : Locks) (due start : List (ClientId × Life × ℕ × GrantNo × Mode)) (files : List ℕ)
+    (s : IsSettled l g d was besides) (noted : besides ≡ cs) (q : IsQuiet k now tick was) (f : files ≡ walked d (waited_files l)) (none : start ≡ []) (w : demanding m due ≡ demand_files k now tick cs files (demanding l start)) where
+  received_settled : IsSettled l g d was cs
+  received_settled = subst (λ xs. IsSettled l g d was xs) noted s
 
   walked_so : demanding m due ≡ demand_files k now tick cs (walked d (waited_files l)) (nothing_demanded l)
   walked_so = w ∙ (λ i. demand_files k now tick cs (f i) (demanding l (none i)))
 
-  pub pass_settles : (e : Marked) → Times cs (is_one_of files) l was m ms → IsSettled m g e ms besides
+  pub pass_settles : (e : TouchedFiles) → Times cs (is_one_of files) l was m ms → IsSettled m g e ms besides
   pass_settles e t =
-      subst (λ xs. IsSettled m g e ms xs) (sym heard)
-      (walk_settles k now tick cs l g d e was ms m due heard_settled q walked_so (subst (λ xs. Times cs (is_one_of xs) l was m ms) f t))
+      subst (λ xs. IsSettled m g e ms xs) (sym noted)
+      (walk_settles k now tick cs l g d e was ms m due received_settled q walked_so (subst (λ xs. Times cs (is_one_of xs) l was m ms) f t))
 
   pub pass_is_whole : demands_due l now tick cs k ≡ demanding m due
-  pass_is_whole = sym (walked_so ∙ walk_demands k now tick cs l g d was heard_settled q)
+  pass_is_whole = sym (walked_so ∙ walk_demands k now tick cs l g d was received_settled q)
 
 -- Before the pass.
 
 -- files that are marked no more keep what is so of them
-pub settled_heeded : (l : Locks) (g d e : Marked) (ms : Moments) (was cs : List ClientId) → IsSettled l g d ms was → Heeds d was e cs → IsSettled l g e ms cs
-settled_heeded l g d e ms was cs s h = record {
+pub settled_noted : (l : Locks) (g d e : TouchedFiles) (ms : Moments) (was cs : List ClientId) → IsSettled l g d ms was → NotesSuspects d was e cs → IsSettled l g e ms cs
+settled_noted l g d e ms was cs s h = record {
   granted = s.granted;
   demanded = λ j n. subst (λ xs. AreDemanded l xs j) (sym (h j n).1) (s.demanded j (h j n).0);
   timed = λ j n. subst (λ xs. AreTimed ms l xs j) (sym (h j n).1) (s.timed j (h j n).0);
@@ -146,7 +146,7 @@ timed_still : (was ms : Moments) (j : ℕ) (o : Option RowDemand) → ((s : Stam
 timed_still was ms j None h e = refl
 timed_still was ms j (Some d) h e = h d.sent e
 
-pub settled_woken : (l : Locks) (g d e : Marked) (was ms : Moments) (cs : List ClientId) → IsSettled l g d was cs → Wakes d was e ms → IsSettled l g e ms cs
+pub settled_woken : (l : Locks) (g d e : TouchedFiles) (was ms : Moments) (cs : List ClientId) → IsSettled l g d was cs → Wakes d was e ms → IsSettled l g e ms cs
 settled_woken l g d e was ms cs s h = record {
   granted = s.granted;
   demanded = λ j n. s.demanded j (h j n).0;

@@ -1,3 +1,3 @@
 pub mod Calls
-pub mod Since
-pub mod Settled
+pub mod DemandStarts
+pub mod SettledFiles

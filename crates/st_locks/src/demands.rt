@@ -2,10 +2,10 @@
 ghost use Rattle.std.specs.Prelude.{◌≡◌, ◌==◌, IfSome, OnOk, true};
 ghost use Rattle.st_rules.specs.Locks as locks;
 ghost use Rattle.st_lock_tables.specs.Calls.{demanding, file_demanded, files_demanded};
-ghost use Rattle.st_lock_tables.specs.Waited.{is_one_of};
-ghost use Rattle.st_locks.specs.Settled.{KeepsAll, Times, TimesRows, is_timed};
+ghost use Rattle.st_lock_tables.specs.WaitedFiles.{is_one_of};
+ghost use Rattle.st_locks.specs.SettledFiles.{KeepsAll, Times, TimesRows, is_timed};
 
-use crate::waking::Waking;
+use crate::wake_times::WakeTimes;
 use st_base::ClientId;
 use st_lock_tables::{Pass, PlainTable, Sent};
 use std::alloc::AllocError;
@@ -13,7 +13,7 @@ use std::alloc::AllocError;
 /// The file is looked at again once the demand on the client's row of it is old.
 fn time_row(
     table: &PlainTable,
-    waking: &mut Waking,
+    waking: &mut WakeTimes,
     client: ClientId,
     ino: u32,
 ) -> Result<(), AllocError>
@@ -29,7 +29,7 @@ fn time_row(
 /// The file is looked at again once one of the demands on these clients' rows of it is old.
 fn time_rows(
     table: &PlainTable,
-    waking: &mut Waking,
+    waking: &mut WakeTimes,
     clients: &[ClientId],
     ino: u32,
 ) -> Result<(), AllocError>
@@ -45,7 +45,7 @@ fn time_rows(
 /// The rows in the way of the file's first waiter are demanded, and timed.
 fn demand_for(
     table: &mut PlainTable,
-    waking: &mut Waking,
+    waking: &mut WakeTimes,
     due: &mut Vec<Sent>,
     pass: Pass,
     suspects: &[ClientId],
@@ -62,7 +62,7 @@ fn demand_for(
 #[tactic(auto, unfolding(st_rules::specs::Locks::demand_files))]
 pub fn demand_files(
     table: &mut PlainTable,
-    waking: &mut Waking,
+    waking: &mut WakeTimes,
     due: &mut Vec<Sent>,
     pass: Pass,
     suspects: &[ClientId],

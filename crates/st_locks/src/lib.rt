@@ -5,8 +5,8 @@
 mod demands;
 mod lock_table;
 mod parts;
-mod touched;
-mod waking;
+mod touched_files;
+mod wake_times;
 
 pub use lock_table::LockTable;
 pub use st_lock_tables::{LockRefusal, Sent, Unanswered};

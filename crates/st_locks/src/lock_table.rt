@@ -6,13 +6,13 @@ ghost use Rattle.st_base.specs.declared.ids.ClientId.{ClientId};
 ghost use Rattle.st_base.specs.declared.ids.Stamp.{Stamp};
 ghost use Rattle.st_rules.specs.Locks as locks;
 ghost use Rattle.st_rules.specs.ServerInvariants.{IsLockTable};
-ghost use Rattle.st_locks.specs.Since.{IsClient, is_since, since_of, wait_order};
+ghost use Rattle.st_locks.specs.DemandStarts.{IsClient, is_since, since_of, wait_order};
 ghost use Rattle.st_lock_tables.specs.Calls.{file_granted};
 ghost use Rattle.st_locks.specs.Calls.{Answers, Installs, demanding, granting, is_lock, is_lock_row, is_old_row, is_row_from, same_file, told};
 
-use crate::parts::{Parts, touch_locks, touch_rows, touch_waited, touch_waits, walked};
-use crate::touched::Touched;
-use crate::waking::Waking;
+use crate::parts::{LockTableParts, touch_locks, touch_rows, touch_waited, touch_waits, walked};
+use crate::touched_files::TouchedFiles;
+use crate::wake_times::WakeTimes;
 use st_base::{ClientId, Config, Epoch, GrantNo, Life, Mode, ServerId, Stamp};
 use st_lock_tables::{LockRefusal, Pass, PlainTable, Sent, Unanswered};
 use st_rules::Verdict;
@@ -25,7 +25,7 @@ use std::mem;
 /// list of waiters.
 #[derive(Drop)]
 pub struct LockTable {
-    parts: Parts,
+    parts: LockTableParts,
 }
 
 impl Model for LockTable {
@@ -33,7 +33,7 @@ impl Model for LockTable {
 
     ghost Value = { locks.Locks };
 
-    ghost use Rattle.st_locks.specs.Settled.{IsSettled};
+    ghost use Rattle.st_locks.specs.SettledFiles.{IsSettled};
 
     ghost view = { λ t. t.parts.table };
 
@@ -47,12 +47,12 @@ impl LockTable {
         ensures { result ≡ locks.no_locks epoch }
     {
         LockTable {
-            parts: Parts {
+            parts: LockTableParts {
                 alloc,
                 table: PlainTable::new(alloc, server, epoch),
-                granting: Touched::new(alloc),
-                demanding: Touched::new(alloc),
-                waking: Waking::new(alloc),
+                granting: TouchedFiles::new(alloc),
+                demanding: TouchedFiles::new(alloc),
+                waking: WakeTimes::new(alloc),
                 besides: Vec::new(alloc),
                 spare: Vec::new(alloc),
             },

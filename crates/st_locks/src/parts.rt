@@ -3,12 +3,12 @@ ghost use Rattle.std.specs.Prelude.{◌≡◌, ◌&&◌, IfOk, OnOk};
 ghost use Rattle.std.specs.Bool.{OnTrue};
 ghost use Rattle.st_rules.specs.Locks as locks;
 ghost use Rattle.st_locks.specs.Calls.{demanding};
-ghost use Rattle.st_lock_tables.specs.Waited.{is_waited};
-ghost use Rattle.st_locks.specs.Settled.{Heeds, IsSettled, MarksAll, MarksWaited, is_file_of, is_held_up, is_shared_wait, is_wanted_of, walked};
+ghost use Rattle.st_lock_tables.specs.WaitedFiles.{is_waited};
+ghost use Rattle.st_locks.specs.SettledFiles.{NotesSuspects, IsSettled, MarksAll, MarksWaited, is_file_of, is_held_up, is_shared_wait, is_wanted_of, walked};
 
 use crate::demands::demand_files;
-use crate::touched::Touched;
-use crate::waking::Waking;
+use crate::touched_files::TouchedFiles;
+use crate::wake_times::WakeTimes;
 use st_base::{ClientId, GrantNo, Mode};
 use st_lock_tables::{Pass, PlainTable, Sent};
 use std::alloc::{AllocError, Global};
@@ -17,12 +17,12 @@ use std::mem;
 /// A lock table; the files that calls touched since each pass; when the demanding pass looks at files again; and the clients of
 /// which it demanded nothing when it last ran.
 #[derive(Drop)]
-pub(crate) struct Parts {
+pub(crate) struct LockTableParts {
     pub(crate) alloc: Global,
     pub(crate) table: PlainTable,
-    pub(crate) granting: Touched,
-    pub(crate) demanding: Touched,
-    pub(crate) waking: Waking,
+    pub(crate) granting: TouchedFiles,
+    pub(crate) demanding: TouchedFiles,
+    pub(crate) waking: WakeTimes,
     pub(crate) besides: Vec<ClientId>,
     /// A list whose room a pass uses for the files that it walks.
     pub(crate) spare: Vec<u32>,
@@ -33,7 +33,7 @@ pub(crate) struct Parts {
 pub(crate) fn walked(
     alloc: Global,
     table: &PlainTable,
-    marks: &Touched,
+    marks: &TouchedFiles,
     spare: Vec<u32>,
 ) -> Result<Vec<u32>, AllocError>
     ensures { IfOk result (λ v. v.items ≡ walked marks.now (locks.waited_files table.now)) }
@@ -53,13 +53,13 @@ fn are_same(a: &[ClientId], b: &[ClientId]) -> bool
 }
 
 /// The clients of which the next pass demands nothing; where they are not those of the last pass, all files are touched.
-fn heed(
+fn note_suspects(
     besides: &mut Vec<ClientId>,
-    marks: &mut Touched,
+    marks: &mut TouchedFiles,
     suspects: &[ClientId],
 ) -> Result<(), AllocError>
-    ensures heard { OnOk result (besides.new.items ≡ suspects.now) }
-    ensures kept { Heeds marks.old besides.old.items marks.new besides.new.items }
+    ensures noted { OnOk result (besides.new.items ≡ suspects.now) }
+    ensures kept { NotesSuspects marks.old besides.old.items marks.new besides.new.items }
 {
     if are_same(besides.as_slice(), suspects) {
         Ok(())
@@ -74,8 +74,8 @@ fn heed(
 /// The file was touched, where somebody waits for it.
 pub(crate) fn touch_waited(
     table: &PlainTable,
-    granting: &mut Touched,
-    demanding: &mut Touched,
+    granting: &mut TouchedFiles,
+    demanding: &mut TouchedFiles,
     ino: u32,
 )
     ensures granting { MarksWaited table.now ino granting.old granting.new }
@@ -87,7 +87,11 @@ pub(crate) fn touch_waited(
 }
 
 /// The files of some rows were touched, where somebody waits for them.
-pub(crate) fn touch_rows(table: &PlainTable, marks: &mut Touched, rows: &[(u32, GrantNo, Mode)])
+pub(crate) fn touch_rows(
+    table: &PlainTable,
+    marks: &mut TouchedFiles,
+    rows: &[(u32, GrantNo, Mode)],
+)
     ensures { MarksAll (λ j. is_file_of rows.now j && is_waited table.now j) marks.old marks.new }
 {
     for row in rows {
@@ -96,7 +100,12 @@ pub(crate) fn touch_rows(table: &PlainTable, marks: &mut Touched, rows: &[(u32, 
 }
 
 /// Files of a client were touched, where another client waits for them.
-pub(crate) fn touch_files(table: &PlainTable, marks: &mut Touched, client: ClientId, files: &[u32])
+pub(crate) fn touch_files(
+    table: &PlainTable,
+    marks: &mut TouchedFiles,
+    client: ClientId,
+    files: &[u32],
+)
     ensures { MarksAll (is_wanted_of table.now client files.now) marks.old marks.new }
 {
     for ino in files {
@@ -105,20 +114,20 @@ pub(crate) fn touch_files(table: &PlainTable, marks: &mut Touched, client: Clien
 }
 
 /// The files of which the client has a row were touched, where another client waits for them.
-pub(crate) fn touch_locks(table: &PlainTable, marks: &mut Touched, client: ClientId)
+pub(crate) fn touch_locks(table: &PlainTable, marks: &mut TouchedFiles, client: ClientId)
     ensures { MarksAll (is_held_up table.now client) marks.old marks.new }
 {
     touch_files(table, marks, client, table.row_files(client));
 }
 
 /// The files for which the client waits were touched, where another client waits for them too.
-pub(crate) fn touch_waits(table: &PlainTable, marks: &mut Touched, client: ClientId)
+pub(crate) fn touch_waits(table: &PlainTable, marks: &mut TouchedFiles, client: ClientId)
     ensures { MarksAll (is_shared_wait table.now client) marks.old marks.new }
 {
     touch_files(table, marks, client, table.wait_files(client));
 }
 
-impl Parts {
+impl LockTableParts {
     /// All demands that are due now.
     pub(crate) fn demands_due(
         &mut self,
@@ -129,7 +138,7 @@ impl Parts {
         ensures settled { IsSettled self.new.table self.new.granting self.new.demanding self.new.waking self.new.besides.items }
         ensures due { IfOk result (λ v. locks.demands_due self.old.table pass.now pass.tick suspects.now pass.config ≡ demanding self.new.table v.items) }
     {
-        heed(&mut self.besides, &mut self.demanding, suspects)?;
+        note_suspects(&mut self.besides, &mut self.demanding, suspects)?;
         self.waking.wake(&mut self.demanding, pass)?;
         let spare = mem::replace(&mut self.spare, Vec::new(self.alloc));
         let files = walked(self.alloc, &self.table, &self.demanding, spare)?;

@@ -2,10 +2,10 @@
 #![tactic(auto)]
 
 #[cfg(test)]
-mod checked;
+mod arguments;
+#[cfg(test)]
+mod drawn_calls;
 #[cfg(test)]
 mod draws;
 #[cfg(test)]
-mod many;
-#[cfg(test)]
-mod plain;
+mod plain_table;

@@ -1,3 +1,3 @@
 pub mod Kinds
-pub mod Fits
+pub mod Ranges
 pub mod Sizes

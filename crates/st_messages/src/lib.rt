@@ -6,7 +6,7 @@
 mod answer;
 mod ask;
 mod event;
-mod fits;
+mod field_ranges;
 mod kind;
 mod message;
 mod output;

@@ -1,6 +1,6 @@
 //! Tests of the ranges of single fields.
 ghost use Rattle.std.specs.Prelude.{◌≡◌};
-ghost use Rattle.st_messages.specs.Fits as fits;
+ghost use Rattle.st_messages.specs.Ranges as fits;
 ghost use Rattle.st_messages.specs.Kinds as kinds;
 
 use st_base::{BlockAt, FileId, GrantNo, Mode, Tag};

@@ -1,6 +1,6 @@
 //! The rows of messages: those of locks, extents, lost commands and names.
 ghost use Rattle.std.specs.Prelude.{◌≡◌, ℕ, Bool, List, length};
-ghost use Rattle.st_messages.specs.Fits as fits;
+ghost use Rattle.st_messages.specs.Ranges as fits;
 
 use crate::range::{has_length, is_block, is_grant, is_held, is_word, within};
 use st_base::{
@@ -93,28 +93,28 @@ pub(crate) fn rows_fit<T: Row>(least: u64, rows: &Rows<T>) -> bool
     true
 }
 
-#[tactic(auto, unfolding(crate::specs::Fits::are_locks))]
+#[tactic(auto, unfolding(crate::specs::Ranges::are_locks))]
 pub(crate) fn locks_fit(rows: &LockRows) -> bool
     ensures { result ≡ fits.are_locks rows.now }
 {
     rows.len() <= 1024 && rows_fit(1, rows)
 }
 
-#[tactic(auto, unfolding(crate::specs::Fits::are_extents))]
+#[tactic(auto, unfolding(crate::specs::Ranges::are_extents))]
 pub(crate) fn extents_fit(rows: &ExtentRows) -> bool
     ensures { result ≡ fits.are_extents rows.now }
 {
     rows.len() <= 64 && rows_fit(0, rows)
 }
 
-#[tactic(auto, unfolding(crate::specs::Fits::are_lost))]
+#[tactic(auto, unfolding(crate::specs::Ranges::are_lost))]
 pub(crate) fn lost_fit(rows: &LostRows) -> bool
     ensures { result ≡ fits.are_lost rows.now }
 {
     1 <= rows.len() && rows.len() <= 1024 && rows_fit(0, rows)
 }
 
-#[tactic(auto, unfolding(crate::specs::Fits::are_names))]
+#[tactic(auto, unfolding(crate::specs::Ranges::are_names))]
 pub(crate) fn names_fit(rows: &NameRows) -> bool
     ensures { result ≡ fits.are_names rows.now }
 {

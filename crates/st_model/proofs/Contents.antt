@@ -12,7 +12,7 @@ use Rattle.st_rules.specs.declared.log.Change.TheVariants.{Write, Patch, Cut}
 use Rattle.st_rules.specs.declared.log.LogEntry.{LogEntry}
 use Rattle.st_rules.specs.Keys.{page_no}
 use Rattle.st_rules.specs.FlatLog.{counts, matters, changed, after, content, content_from}
-use Rattle.st_model.specs.ByPage.{is_write, same_file_page, file_page, is_bytes, is_change_at, is_cut_at, places_from, last_place, last_num, page_after, Skips}
+use Rattle.st_model.specs.PagePlaces.{is_write, same_file_page, file_page, is_bytes, is_change_at, is_cut_at, places_from, last_place, last_num, page_after, Skips}
 use Rattle.st_model.specs.Walks.{nth}
 use Rattle.st_model.proofs.Placed.{covers, last_placed, same_or}
 

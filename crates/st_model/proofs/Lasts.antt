@@ -9,7 +9,7 @@ use Rattle.st_base.specs.declared.ids.FileId.{FileId}
 use Rattle.st_base.specs.declared.ids.PageNo.{PageNo}
 use Rattle.st_rules.specs.declared.log.LogEntry.{LogEntry}
 use Rattle.st_rules.specs.FlatLog.{matters, changed, after, content, content_from, last, last_at, last_from}
-use Rattle.st_model.specs.Last.{IsLast, LastTells}
+use Rattle.st_model.specs.LastEntries.{IsLast, LastTells}
 
 content_from-push : (page : List ℕ) (f : FileId) (p : PageNo) (es : List LogEntry) (e : LogEntry) →
     content_from page f p (es ++ e ∷ []) ≡ after f p e (content_from page f p es)

@@ -9,7 +9,7 @@ use Rattle.st_rules.specs.declared.log.LogOwner.{LogOwner}
 use Rattle.st_rules.specs.declared.log.LogEntry.{LogEntry}
 use Rattle.st_rules.specs.FlatLog.{is_pending}
 use Rattle.st_rules.specs.Events.{is_entry_of, latest, latest_from, latest_at}
-use Rattle.st_model.specs.Latest.{same_client_page, client_page}
+use Rattle.st_model.specs.LogParts.{same_client_page, client_page}
 use Rattle.st_model.specs.Walks.{mark_from, pending_from}
 
 -- the places with one more entry

@@ -13,7 +13,7 @@ use Rattle.st_rules.specs.declared.log.LogOwner.{LogOwner}
 use Rattle.st_rules.specs.declared.log.LogEntry.{LogEntry}
 use Rattle.st_rules.specs.Keys.{page_no, same_file}
 use Rattle.st_rules.specs.FlatLog.{counts, matters, reaches, last, last_from, last_at}
-use Rattle.st_model.specs.ByPage.{file_page, is_change_at, is_cut_at, places_from, last_place, last_num, option_of}
+use Rattle.st_model.specs.PagePlaces.{file_page, is_change_at, is_cut_at, places_from, last_place, last_num, option_of}
 use Rattle.st_model.specs.Walks.{mark_from, nth}
 use Rattle.st_model.proofs.Walks.{below_one}
 

@@ -3,7 +3,7 @@ use Rattle.std.proofs.Common.{◌≡◌, ℕ, zero, suc, ◌+◌, ◌<◌, List,
 use Rattle.st_rules.specs.declared.log.Fate.{Fate}
 use Rattle.st_rules.specs.declared.log.LogOwner.{LogOwner}
 use Rattle.st_rules.specs.declared.log.LogEntry.{LogEntry}
-use Rattle.st_model.specs.Kept.{IsInPage, AreInPages}
+use Rattle.st_model.specs.LogInvariants.{IsInPage, AreInPages}
 use Rattle.st_model.specs.Walks.{mark_from}
 
 pub ranged_more : (es : List LogEntry) (e : LogEntry) → AreInPages es → IsInPage e.change → AreInPages (es ++ e ∷ [])

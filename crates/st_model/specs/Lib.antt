@@ -1,5 +1,5 @@
-pub mod Kept
-pub mod Last
-pub mod ByPage
+pub mod LogInvariants
+pub mod LastEntries
+pub mod PagePlaces
 pub mod Walks
-pub mod Latest
+pub mod LogParts

@@ -1,5 +1,5 @@
 ghost use Rattle.std.specs.Prelude.{◌≡◌};
-ghost use Rattle.st_model.specs.Latest as latest;
+ghost use Rattle.st_model.specs.LogParts as latest;
 
 use st_base::{ClientId, FileId, PageNo};
 

@@ -2,7 +2,7 @@ ghost use Rattle.std.specs.Prelude.{◌≡◌, ◌+◌, ◌<◌, ◌&&◌, ◌++
 ghost use Rattle.indexmap.specs.IndexMap.{spare};
 ghost use Rattle.st_base.specs.declared.ids.FileId.{FileId};
 ghost use Rattle.st_model.specs.declared.file_pages.FilePage.{FilePage};
-ghost use Rattle.st_model.specs.ByPage as by_page;
+ghost use Rattle.st_model.specs.PagePlaces as by_page;
 
 use indexmap::IndexMap;
 use st_base::{FileId, PageNo};

@@ -1,9 +1,9 @@
 ghost use Rattle.std.specs.Prelude.{◌≡◌, ◌+◌, ◌≤◌, ◌++◌, ◌∷◌, [], true, IfOk, IfSome, OnOk, OnErr, Some, length};
 ghost use Rattle.std.specs.Option.{option_map};
 ghost use Rattle.st_base.specs.Page.{filled};
-ghost use Rattle.st_model.specs.ByPage as by_page;
-ghost use Rattle.st_model.specs.Kept.{IsInPage, IsWhole};
-ghost use Rattle.st_model.specs.Last.{LastTells};
+ghost use Rattle.st_model.specs.PagePlaces as by_page;
+ghost use Rattle.st_model.specs.LogInvariants.{IsInPage, IsWhole};
+ghost use Rattle.st_model.specs.LastEntries.{LastTells};
 ghost use Rattle.st_model.specs.Walks as walks;
 ghost use Rattle.st_rules.specs.Events as events;
 ghost use Rattle.st_rules.specs.FlatLog as flat_log;
@@ -35,7 +35,7 @@ pub struct FlatLog {
 
 impl Model for FlatLog {
     ghost use Rattle.std.specs.Prelude.{List};
-    ghost use Rattle.st_model.specs.Latest.{IsKept};
+    ghost use Rattle.st_model.specs.LogParts.{IsKept};
     ghost use Rattle.st_rules.specs.declared.log.LogEntry.{LogEntry};
 
     ghost Value = { List LogEntry };

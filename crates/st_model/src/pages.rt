@@ -1,8 +1,8 @@
 // What the entries of a log say of one page: the last one that counts, and the bytes that they give.
 ghost use Rattle.std.specs.Prelude.{◌≡◌, ◌+◌, ◌<◌, ◌≤◌, ◌&&◌, if◌then◌else◌, nat_le, ℕ, length, get_or, max};
 ghost use Rattle.st_base.specs.Page.{filled};
-ghost use Rattle.st_model.specs.ByPage as by_page;
-ghost use Rattle.st_model.specs.Kept.{AreInPages, IsInPage};
+ghost use Rattle.st_model.specs.PagePlaces as by_page;
+ghost use Rattle.st_model.specs.LogInvariants.{AreInPages, IsInPage};
 ghost use Rattle.st_rules.specs.FlatLog as flat_log;
 
 use st_base::{FileId, PageBytes, PageNo};

@@ -25,7 +25,7 @@ use Rattle.st_move.specs.Law.{MoveHistory, fresh_history, known, noted, record_a
 use Rattle.st_move.specs.World.{MoveWorld, answer_sent, deliver_at, fresh_world, happens, has_lock, list_at, list_told, lock_at, lock_told, locked, lose_at, lost_move, order_at, order_for, order_told, put_at, put_told, sent_move, server, sites_behind, taken_by, tick_at, ticked, told, unlock_at, unlocked, with_locks, with_lost}
 use Rattle.st_move.proofs.Loops.{beginnings_length}
 use Rattle.st_move.proofs.Ones.{AreOnes, ones_can, ones_fresh, ones_later, ones_locked, ones_unlocked}
-use Rattle.st_move.proofs.Says.{IsHeldAt, IsImageAt, held_says, images_at, numbered_set_has, order_says, put_says, sent_length, with_changed}
+use Rattle.st_move.proofs.CallAnswers.{IsHeldAt, IsImageAt, held_says, images_at, numbered_set_has, order_says, put_says, sent_length, with_changed}
 use Rattle.st_move.proofs.Stands.{IsContainer, site_locked, site_with}
 
 -- the server is there

@@ -4,10 +4,10 @@ mod InChunks
 mod Lifts
 mod Locked
 mod Loops
-mod Moved
+mod MovedContainers
 mod Networks
 mod Ones
 mod Runs
-mod Says
+mod CallAnswers
 mod Stands
 mod Token

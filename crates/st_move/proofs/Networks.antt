@@ -30,7 +30,7 @@ use Rattle.st_move.specs.Calls.{Answers, Counts, count_at}
 use Rattle.st_move.specs.Conditions.{CanGoOn, CanLock}
 use Rattle.st_move.specs.Containers.{Containers, after_order, after_put, after_take, after_tick, answer_to, changeable, container_of, found, held, images, is_holding, listed, serves, serves_by, unless_leaving, unless_sent}
 use Rattle.st_move.specs.Law.{MoveHistory, fresh_history, noted, run_moves}
-use Rattle.st_move.specs.Network.{AreKept, CanHappen, DoesAt, IsReached, MoveRun, Refuses, addressed, turned, with_containers}
+use Rattle.st_move.specs.Network.{AreKept, CanHappen, DoesAt, IsReached, MoveNetwork, Refuses, addressed, turned, with_containers}
 use Rattle.st_move.specs.World.{MoveTurn, MoveWorld, answer_sent, deliver_at, first, happens, has_lock, list_at, list_told, lock_at, lock_told, locked, lose_at, lost_move, one, order_at, order_for, order_told, put_at, put_told, sends_behind, sent_move, taken_by, tick_at, ticked, told, unlock_at, unlocked, with_site}
 use Rattle.st_move.proofs.Bounds.{moves_go_on}
 use Rattle.st_move.proofs.Runs.{no_update_is_lost}
@@ -280,7 +280,7 @@ run_more : (h : MoveHistory) (es : List MoveEvent) (e : MoveEvent) → (run_move
 run_more h [] e = refl
 run_more h (x ∷ es) e = run_more (noted h x (happens h.world x)) es e
 
-pub reached_next : (r : MoveRun) (e : MoveEvent) (w : MoveWorld) (answers : List MoveAnswer) → IsReached r → happens r.world e ≡ turned w answers → IsReached (record { world = w; events = r.events + 1 })
+pub reached_next : (r : MoveNetwork) (e : MoveEvent) (w : MoveWorld) (answers : List MoveAnswer) → IsReached r → happens r.world e ≡ turned w answers → IsReached (record { world = w; events = r.events + 1 })
 reached_next r e w answers h f = record {
   servers = h.servers;
   containers = h.containers;
@@ -296,10 +296,10 @@ reached_next r e w answers h f = record {
 pub reached_fresh : (servers containers : ℕ) → 1 ≤ servers → containers < 1024 → IsReached (record { world = (fresh_history servers containers).world; events = 0 })
 reached_fresh servers containers some few = record { servers = servers; containers = containers; events = []; by = record { some = some; few = few; count = refl; world = refl } }
 
-pub are_kept : (r : MoveRun) → AreKept r
+pub are_kept : (r : MoveNetwork) → AreKept r
 are_kept r servers containers es i = no_update_is_lost servers containers es i.some
 
-pub can_happen : (r : MoveRun) → IsReached r → r.events < 2 ^ 31 → CanHappen r.world
+pub can_happen : (r : MoveNetwork) → IsReached r → r.events < 2 ^ 31 → CanHappen r.world
 can_happen r h l = subst CanHappen h.by.world (record {
   ticks = λ s x e. on.ticks s x e (omega (arith, c));
   locks = λ s x e. on.locks s x e h.by.few (omega (arith, c));

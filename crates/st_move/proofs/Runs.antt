@@ -21,8 +21,8 @@ use Rattle.st_move.specs.declared.world.MoveAnswer.TheVariants.{Done, Listed, Lo
 use Rattle.st_move.specs.Containers.{after_order, after_put, beginning, beginnings, begins_at, held, listed, recorded, with_state, with_updates}
 use Rattle.st_move.specs.Law.{IsKeptBy, MoveHistory, NoUpdateIsLost, OneHolder, accepts, fresh_history, has_row, holds, holds_by, is_held, known, locked_in, noted, record_at, record_in, run_moves}
 use Rattle.st_move.specs.World.{MoveWorld, deliver_at, fresh_site, fresh_world, happens, has_lock, list_at, list_told, lock_at, lock_told, lose_at, lost_move, order_at, order_for, order_told, put_at, put_told, server, sites_behind, taken_by, tick_at, ticked, told, unlock_at, unlocked, with_locks, with_lost}
-use Rattle.st_move.proofs.Says.{IsHeldAt, held_says, listed_says, numbered_set_has, order_says, put_says, with_changed}
-use Rattle.st_move.proofs.Stands.{IsContainer, IsSite, Stands, TokenOf, accepts_other, accepts_own, heard_more, lock_stands, replaced, take_stands, tick_stands, unlock_stands}
+use Rattle.st_move.proofs.CallAnswers.{IsHeldAt, held_says, listed_says, numbered_set_has, order_says, put_says, with_changed}
+use Rattle.st_move.proofs.Stands.{IsContainer, IsSite, Stands, TokenOf, accepts_other, accepts_own, received_more, lock_stands, replaced, take_stands, tick_stands, unlock_stands}
 use Rattle.st_move.proofs.Token.{IsGoing, IsNewest, IsOlder, held_here}
 
 module _ (containers : ℕ) (h : MoveHistory) (st : Stands containers h) where
@@ -110,7 +110,7 @@ module _ (containers : ℕ) (h : MoveHistory) (st : Stands containers h) where
 
       go : (b : Bool) → Stands containers (noted h (events.Lose k) (if b then told h.world (LostMessage k) else record { world = with_lost k m h.world; answers = [] }))
       go true = st
-      go false = heard_more containers h st (with_numbered k (lost_move m) h.world.sent) from
+      go false = received_more containers h st (with_numbered k (lost_move m) h.world.sent) from
 
   event_stands : (e : MoveEvent) → Stands containers (noted h e (happens h.world e))
   unfolding happens order_at
@@ -214,7 +214,7 @@ module _ (servers containers : ℕ) (some : 1 ≤ servers) where
       newest = refl;
       older = older;
       rows = λ s n. no_rows (suc i) s;
-      heard = λ m j. absurd j;
+      received = λ m j. absurd j;
     }
       where
         older : (s : ℕ) (r : ContainerRecord) → s ≢ first → record_at start (suc i) s ≡ Some r → IsOlder (record_at start (suc i)) 1 r r.state

@@ -17,9 +17,9 @@ use Rattle.st_move.specs.declared.site.MoveSite.{MoveSite}
 use Rattle.st_move.specs.Containers.{Containers, after_take, after_tick, answer_to, container_of, images, is_locked, sent_if, taken_at, taken_in}
 use Rattle.st_move.specs.Law.{MoveHistory, accepts, has_row, known, locked_in, record_at, record_in}
 use Rattle.st_move.specs.World.{MoveWorld, answer_sent, locked, sent_move, unlocked}
-use Rattle.st_move.proofs.Moved.{IsImageOf, Sends, answers_come, images_come, leaves_if, ticks}
-use Rattle.st_move.proofs.Says.{IsHeldAt, IsImageAt, images_at, locked_other, sent_known, sent_length, unlocked_any, with_changed}
-use Rattle.st_move.proofs.Token.{IsGoing, IsHeard, Records, Token, changes, locks, same}
+use Rattle.st_move.proofs.MovedContainers.{IsImageOf, Sends, answers_come, images_come, leaves_if, ticks}
+use Rattle.st_move.proofs.CallAnswers.{IsHeldAt, IsImageAt, images_at, locked_other, sent_known, sent_length, unlocked_any, with_changed}
+use Rattle.st_move.proofs.Token.{IsGoing, IsReceived, Records, Token, changes, locks, same}
 
 -- the container exists
 pub record IsContainer (containers c : ℕ) : Type 0 where
@@ -156,23 +156,23 @@ module _ (containers : ℕ) (h : MoveHistory) (st : Stands containers h) (s : �
           go (inl j) = subst (λ k. TokenOf world_replaced k (after k)) (sym j) own_replaced
           go (inr n) = other_replaced d n i
 
--- nothing changes but messages that are heard
-pub heard_more : (containers : ℕ) (h : MoveHistory) → Stands containers h → (sent : List SentMove)
+-- nothing changes but messages that are received
+pub received_more : (containers : ℕ) (h : MoveHistory) → Stands containers h → (sent : List SentMove)
     → ((m : SentMove) → Has m sent → Has m h.world.sent ⊎ ((k : SentMove) × Has k h.world.sent × (m.to ≡ k.to) × (m.message ≡ k.message)))
     → Stands containers (record { world = record { sites = h.world.sites; sent = sent }; accepted = h.accepted })
-heard_more containers h st sent from = record { sites = st.sites; tokens = tokens; rows = st.rows }
+received_more containers h st sent from = record { sites = st.sites; tokens = tokens; rows = st.rows }
   where
     tokens : (c : ℕ) → IsContainer containers c → Token c (record_at h.world c) (has_row h.world c) (h.accepted c) sent
-    tokens c i = same (st.tokens c i) (record_at h.world c) (has_row h.world c) sent (λ z. refl) (λ z f. f) heard
+    tokens c i = same (st.tokens c i) (record_at h.world c) (has_row h.world c) sent (λ z. refl) (λ z f. f) received
       where
-        heard : (m : SentMove) → Has m sent → Has m h.world.sent ⊎ IsHeard c (record_at h.world c) (st.tokens c i).top (h.accepted c) (st.tokens c i).kept.state m.to m.message
-        heard m j = go (from m j)
+        received : (m : SentMove) → Has m sent → Has m h.world.sent ⊎ IsReceived c (record_at h.world c) (st.tokens c i).top (h.accepted c) (st.tokens c i).kept.state m.to m.message
+        received m j = go (from m j)
           where
             go : Has m h.world.sent ⊎ ((k : SentMove) × Has k h.world.sent × (m.to ≡ k.to) × (m.message ≡ k.message))
-                → Has m h.world.sent ⊎ IsHeard c (record_at h.world c) (st.tokens c i).top (h.accepted c) (st.tokens c i).kept.state m.to m.message
+                → Has m h.world.sent ⊎ IsReceived c (record_at h.world c) (st.tokens c i).top (h.accepted c) (st.tokens c i).kept.state m.to m.message
             go (inl o) = inl o
-            go (inr o) = inr (subst (λ a. IsHeard c (record_at h.world c) (st.tokens c i).top (h.accepted c) (st.tokens c i).kept.state a m.message) (sym o.2)
-                (subst (IsHeard c (record_at h.world c) (st.tokens c i).top (h.accepted c) (st.tokens c i).kept.state o.0.to) (sym o.3) ((st.tokens c i).heard o.0 o.1)))
+            go (inr o) = inr (subst (λ a. IsReceived c (record_at h.world c) (st.tokens c i).top (h.accepted c) (st.tokens c i).kept.state a m.message) (sym o.2)
+                (subst (IsReceived c (record_at h.world c) (st.tokens c i).top (h.accepted c) (st.tokens c i).kept.state o.0.to) (sym o.3) ((st.tokens c i).received o.0 o.1)))
 
 -- the lock table of a server changes
 pub relocked : (containers : ℕ) (h : MoveHistory) → Stands containers h → (s : ℕ) (x : MoveSite) (e : numbered h.world.sites s ≡ Some x) (l : Locks)
@@ -333,17 +333,17 @@ module _ (containers : ℕ) (h : MoveHistory) (st : Stands containers h) (k : Se
   others_token : (c : ℕ) → IsContainer containers c → c ≢ container_of k.message → TokenOf after_world c (h.accepted c)
   others_token c j n = same (st.tokens c j) (record_at after_world c) (has_row after_world c) all_sent
       (record_still h.world k.to.0 x (site_with x taken_containers) all_sent e c (ap known (take_other k.message (numbered x.containers.records (container_of k.message)) x.containers.records c refl n)))
-      (row_still h.world k.to.0 x (site_with x taken_containers) all_sent e c (λ f. f)) heard
+      (row_still h.world k.to.0 x (site_with x taken_containers) all_sent e c (λ f. f)) received
     where
-      heard : (q : SentMove) → Has q all_sent → Has q h.world.sent ⊎ IsHeard c (record_at h.world c) (st.tokens c j).top (h.accepted c) (st.tokens c j).kept.state q.to q.message
-      heard q g = go (has_append h.world.sent sent_more q g)
+      received : (q : SentMove) → Has q all_sent → Has q h.world.sent ⊎ IsReceived c (record_at h.world c) (st.tokens c j).top (h.accepted c) (st.tokens c j).kept.state q.to q.message
+      received q g = go (has_append h.world.sent sent_more q g)
         where
-          go : Has q h.world.sent ⊎ Has q sent_more → Has q h.world.sent ⊎ IsHeard c (record_at h.world c) (st.tokens c j).top (h.accepted c) (st.tokens c j).kept.state q.to q.message
+          go : Has q h.world.sent ⊎ Has q sent_more → Has q h.world.sent ⊎ IsReceived c (record_at h.world c) (st.tokens c j).top (h.accepted c) (st.tokens c j).kept.state q.to q.message
           go (inl o) = inl o
           go (inr o) =
               let a : (v : ℕ) × (us : List (List ℕ)) × (k.message ≡ Image (container_of k.message) v us) × (q.message ≡ Taken (container_of k.message) v) = answer_is k.message q o in
-              let b : IsHeard c (record_at h.world c) (st.tokens c j).top (h.accepted c) (st.tokens c j).kept.state q.to (Taken (container_of k.message) a.0) = λ z. absurd (n (sym z)) in
-              inr (subst (IsHeard c (record_at h.world c) (st.tokens c j).top (h.accepted c) (st.tokens c j).kept.state q.to) (sym a.3) b)
+              let b : IsReceived c (record_at h.world c) (st.tokens c j).top (h.accepted c) (st.tokens c j).kept.state q.to (Taken (container_of k.message) a.0) = λ z. absurd (n (sym z)) in
+              inr (subst (IsReceived c (record_at h.world c) (st.tokens c j).top (h.accepted c) (st.tokens c j).kept.state q.to) (sym a.3) b)
 
   own_token : (message : MoveMessage) → k.message ≡ message → (c : ℕ) → IsContainer containers c → c ≡ container_of message → TokenOf after_world c (h.accepted c)
   own_token message f c j g = go (there_is x.containers.records c j.some (subst (λ n. c ≤ n) (sym (st.sites k.to.0 x e).whole) j.known))
@@ -360,15 +360,15 @@ module _ (containers : ℕ) (h : MoveHistory) (st : Stands containers h) (k : Se
       row_after : (z : ℕ) → has_row h.world c z ≡ false → has_row after_world c z ≡ false
       row_after = row_still h.world k.to.0 x (site_with x taken_containers) all_sent e c (λ f. f)
 
-      heard_k : (b : MoveMessage) → k.message ≡ b → IsHeard c (record_at h.world c) (st.tokens c j).top (h.accepted c) (st.tokens c j).kept.state k.to b
-      heard_k b p = subst (IsHeard c (record_at h.world c) (st.tokens c j).top (h.accepted c) (st.tokens c j).kept.state k.to) p ((st.tokens c j).heard k i)
+      received_k : (b : MoveMessage) → k.message ≡ b → IsReceived c (record_at h.world c) (st.tokens c j).top (h.accepted c) (st.tokens c j).kept.state k.to b
+      received_k b p = subst (IsReceived c (record_at h.world c) (st.tokens c j).top (h.accepted c) (st.tokens c j).kept.state k.to) p ((st.tokens c j).received k i)
 
       go : (r : Option ContainerRecord) × (numbered x.containers.records c ≡ Some r) → TokenOf after_world c (h.accepted c)
       go a = by message f g
         where
           by : (b : MoveMessage) → k.message ≡ b → c ≡ container_of b → TokenOf after_world c (h.accepted c)
           by (Image d v us) p q = same
-              (images_come (st.tokens c j) (record_at after_world c) all_sent k.to v us (subst (λ n. IsHeard c (record_at h.world c) (st.tokens c j).top (h.accepted c) (st.tokens c j).kept.state k.to (Image n v us)) (sym q) (heard_k (Image d v us) p))
+              (images_come (st.tokens c j) (record_at after_world c) all_sent k.to v us (subst (λ n. IsReceived c (record_at h.world c) (st.tokens c j).top (h.accepted c) (st.tokens c j).kept.state k.to (Image n v us)) (sym q) (received_k (Image d v us) p))
               (record_after a.0 a.1 (Image d v us) p q) (record_other h.world k.to.0 x (site_with x taken_containers) all_sent e c) sends)
               (record_at after_world c) (has_row after_world c) all_sent (λ z. refl) row_after (λ z o. inl o)
             where
@@ -383,7 +383,7 @@ module _ (containers : ℕ) (h : MoveHistory) (st : Stands containers h) (k : Se
                       let version : t.0 ≡ v = image_version (sym t.2 ∙ p) in
                       inr (t.3 ∙ ap (λ n. Taken n t.0) same_container ∙ ap (Taken c) version)
           by (Taken d v) p q = no_more
-              (answers_come (st.tokens c j) (record_at after_world c) k.to.0 v (heard_k (Taken d v) p (sym q)) (record_after a.0 a.1 (Taken d v) p q) (record_other h.world k.to.0 x (site_with x taken_containers) all_sent e c))
+              (answers_come (st.tokens c j) (record_at after_world c) k.to.0 v (received_k (Taken d v) p (sym q)) (record_after a.0 a.1 (Taken d v) p q) (record_other h.world k.to.0 x (site_with x taken_containers) all_sent e c))
               (has_row after_world c) all_sent row_after sends
             where
               sends : (z : SentMove) → Has z all_sent → Has z h.world.sent

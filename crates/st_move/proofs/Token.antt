@@ -37,9 +37,9 @@ IsOlder rec top r (Sent to) = (r.version ≤ top) × IsPast (rec to.0) r.version
 IsOlder rec top r (Gone to) = r.version ≤ top
 
 -- an image was taken already, or is of the container that was sent last; an answer is of no version above the greatest
-abbrev pub IsHeard : ℕ → Records → ℕ → List (List ℕ) → ContainerState → ServerId → MoveMessage → Type 0
-IsHeard c rec top accepted kept to (Image d v us) = d ≡ c → (IsPast (rec to.0) v × (v ≤ top)) ⊎ ((kept ≡ Sent to) × (v ≡ top + 1) × (us ≡ accepted))
-IsHeard c rec top accepted kept to (Taken d v) = d ≡ c → v ≤ top
+abbrev pub IsReceived : ℕ → Records → ℕ → List (List ℕ) → ContainerState → ServerId → MoveMessage → Type 0
+IsReceived c rec top accepted kept to (Image d v us) = d ≡ c → (IsPast (rec to.0) v × (v ≤ top)) ⊎ ((kept ≡ Sent to) × (v ≡ top + 1) × (us ≡ accepted))
+IsReceived c rec top accepted kept to (Taken d v) = d ≡ c → v ≤ top
 
 -- one server has the container
 pub record Token (c : ℕ) (rec : Records) (row : ℕ → Bool) (accepted : List (List ℕ)) (ms : List SentMove) : Type 0 where
@@ -51,7 +51,7 @@ pub record Token (c : ℕ) (rec : Records) (row : ℕ → Bool) (accepted : List
   pub newest : IsNewest holder top row kept kept.state
   pub older : (s : ℕ) (r : ContainerRecord) → s ≢ holder → rec s ≡ Some r → IsOlder rec top r r.state
   pub rows : (s : ℕ) → s ≢ holder → row s ≡ false
-  pub heard : (m : SentMove) → Has m ms → IsHeard c rec top accepted kept.state m.to m.message
+  pub received : (m : SentMove) → Has m ms → IsReceived c rec top accepted kept.state m.to m.message
 
 pub held_not_sent : {to : ServerId} → Holding ≡ Sent to → ⊥
 held_not_sent e = cc
@@ -94,10 +94,10 @@ older_grows rec new top more r (Leaving to) g l o = o
 older_grows rec new top more r (Sent to) g l o = let a : r.version ≤ top = o.0 in (omega arith, g to.0 r.version o.1)
 older_grows rec new top more r (Gone to) g l o = let a : r.version ≤ top = o in omega arith
 
-heard_grows : (c : ℕ) (rec new : Records) (top : ℕ) (accepted after : List (List ℕ)) (kept next : ContainerState) (to : ServerId) (message : MoveMessage) → Grow rec new
-    → ((x : ServerId) → kept ≡ Sent x → (next ≡ Sent x) × (after ≡ accepted)) → IsHeard c rec top accepted kept to message → IsHeard c new top after next to message
-heard_grows c rec new top accepted after kept next to (Taken d v) g way h = h
-heard_grows c rec new top accepted after kept next to (Image d v us) g way h = λ e. go (h e)
+received_grows : (c : ℕ) (rec new : Records) (top : ℕ) (accepted after : List (List ℕ)) (kept next : ContainerState) (to : ServerId) (message : MoveMessage) → Grow rec new
+    → ((x : ServerId) → kept ≡ Sent x → (next ≡ Sent x) × (after ≡ accepted)) → IsReceived c rec top accepted kept to message → IsReceived c new top after next to message
+received_grows c rec new top accepted after kept next to (Taken d v) g way h = h
+received_grows c rec new top accepted after kept next to (Image d v us) g way h = λ e. go (h e)
   where
     go : (IsPast (rec to.0) v × (v ≤ top)) ⊎ ((kept ≡ Sent to) × (v ≡ top + 1) × (us ≡ accepted)) → (IsPast (new to.0) v × (v ≤ top)) ⊎ ((next ≡ Sent to) × (v ≡ top + 1) × (us ≡ after))
     go (inl p) = inl (g to.0 v p.0, p.1)
@@ -112,7 +112,7 @@ pub record Keeps {c : ℕ} {rec : Records} {row : ℕ → Bool} {accepted : List
   pub grows : Grow rec new
   pub older : (s : ℕ) (r : ContainerRecord) → s ≢ t.holder → new s ≡ Some r → (rec s ≡ Some r) ⊎ IsOlder new t.top r r.state
   pub rows : (s : ℕ) → s ≢ t.holder → lock s ≡ false
-  pub heard : (m : SentMove) → Has m sent → Has m ms ⊎ IsHeard c new t.top after kept.state m.to m.message
+  pub received : (m : SentMove) → Has m sent → Has m ms ⊎ IsReceived c new t.top after kept.state m.to m.message
   pub way : (to : ServerId) → t.kept.state ≡ Sent to → (kept.state ≡ Sent to) × (after ≡ accepted)
 
 module _ {c : ℕ} {rec : Records} {row : ℕ → Bool} {accepted : List (List ℕ)} {ms : List SentMove} (t : Token c rec row accepted ms) (new : Records) (lock : ℕ → Bool) (after : List (List ℕ)) (sent : List SentMove) where
@@ -126,7 +126,7 @@ module _ {c : ℕ} {rec : Records} {row : ℕ → Bool} {accepted : List (List �
     newest = k.newest;
     older = older;
     rows = k.rows;
-    heard = heard;
+    received = received;
   }
     where
       older : (s : ℕ) (r : ContainerRecord) → s ≢ t.holder → new s ≡ Some r → IsOlder new t.top r r.state
@@ -136,11 +136,11 @@ module _ {c : ℕ} {rec : Records} {row : ℕ → Bool} {accepted : List (List �
           go (inl o) = older_grows rec new t.top t.top r r.state k.grows (omega arith) (t.older s r n o)
           go (inr o) = o
 
-      heard : (m : SentMove) → Has m sent → IsHeard c new t.top after k.kept.state m.to m.message
-      heard m i = go (k.heard m i)
+      received : (m : SentMove) → Has m sent → IsReceived c new t.top after k.kept.state m.to m.message
+      received m i = go (k.received m i)
         where
-          go : Has m ms ⊎ IsHeard c new t.top after k.kept.state m.to m.message → IsHeard c new t.top after k.kept.state m.to m.message
-          go (inl o) = heard_grows c rec new t.top accepted after t.kept.state k.kept.state m.to m.message k.grows k.way (t.heard m o)
+          go : Has m ms ⊎ IsReceived c new t.top after k.kept.state m.to m.message → IsReceived c new t.top after k.kept.state m.to m.message
+          go (inl o) = received_grows c rec new t.top accepted after t.kept.state k.kept.state m.to m.message k.grows k.way (t.received m o)
           go (inr o) = o
 
 -- fewer lock rows
@@ -151,9 +151,9 @@ newest_unlocked holder top row lock r (Sent to) h n = (n.0, n.1, h n.2)
 newest_unlocked holder top row lock r (Gone to) h n = n
 
 module _ {c : ℕ} {rec : Records} {row : ℕ → Bool} {accepted : List (List ℕ)} {ms : List SentMove} (t : Token c rec row accepted ms) where
-  -- no record changes, there are no more lock rows, and what is sent is heard
+  -- no record changes, there are no more lock rows, and what is sent is received
   pub same : (new : Records) (lock : ℕ → Bool) (sent : List SentMove) → ((s : ℕ) → new s ≡ rec s) → ((s : ℕ) → row s ≡ false → lock s ≡ false)
-      → ((m : SentMove) → Has m sent → Has m ms ⊎ IsHeard c rec t.top accepted t.kept.state m.to m.message) → Token c new lock accepted sent
+      → ((m : SentMove) → Has m sent → Has m ms ⊎ IsReceived c rec t.top accepted t.kept.state m.to m.message) → Token c new lock accepted sent
   same new lock sent e l h = keep t new lock accepted sent (record {
     kept = t.kept;
     here = e t.holder ∙ t.here;
@@ -162,16 +162,16 @@ module _ {c : ℕ} {rec : Records} {row : ℕ → Bool} {accepted : List (List �
     grows = same_grow rec new e;
     older = λ s r n i. inl (sym (e s) ∙ i);
     rows = λ s n. l s (t.rows s n);
-    heard = heard;
+    received = received;
     way = λ to i. (i, refl);
   })
     where
-      heard : (m : SentMove) → Has m sent → Has m ms ⊎ IsHeard c new t.top accepted t.kept.state m.to m.message
-      heard m i = go (h m i)
+      received : (m : SentMove) → Has m sent → Has m ms ⊎ IsReceived c new t.top accepted t.kept.state m.to m.message
+      received m i = go (h m i)
         where
-          go : Has m ms ⊎ IsHeard c rec t.top accepted t.kept.state m.to m.message → Has m ms ⊎ IsHeard c new t.top accepted t.kept.state m.to m.message
+          go : Has m ms ⊎ IsReceived c rec t.top accepted t.kept.state m.to m.message → Has m ms ⊎ IsReceived c new t.top accepted t.kept.state m.to m.message
           go (inl o) = inl o
-          go (inr o) = inr (heard_grows c rec new t.top accepted accepted t.kept.state t.kept.state m.to m.message (same_grow rec new e) (λ x i. (i, refl)) o)
+          go (inr o) = inr (received_grows c rec new t.top accepted accepted t.kept.state t.kept.state m.to m.message (same_grow rec new e) (λ x i. (i, refl)) o)
 
   -- client 1 gets a lock where the container is served
   pub locks : (lock : ℕ → Bool) (s : ℕ) (r : ContainerRecord) → rec s ≡ Some r → r.state ≡ Holding → ((x : ℕ) → x ≢ s → row x ≡ false → lock x ≡ false) → Token c rec lock accepted ms
@@ -183,7 +183,7 @@ module _ {c : ℕ} {rec : Records} {row : ℕ → Bool} {accepted : List (List �
     grows = λ x v p. p;
     older = λ x q n i. inl i;
     rows = λ x n. other x (λ i. n (i ∙ here)) (t.rows x n);
-    heard = λ m i. inl i;
+    received = λ m i. inl i;
     way = λ to i. (i, refl);
   })
     where
@@ -221,7 +221,7 @@ module _ {c : ℕ} {rec : Records} {row : ℕ → Bool} {accepted : List (List �
     grows = grow_at rec new s grow other;
     older = λ x p n i. inl (sym (other x (λ j. n (j ∙ here))) ∙ i);
     rows = t.rows;
-    heard = λ m i. inl i;
+    received = λ m i. inl i;
     way = way;
   })
     where

@@ -58,26 +58,26 @@ pub record CanHappen (w : MoveWorld) : Type 0 where
       → (s : ℕ) (x : MoveSite) → numbered w.sites s ≡ Some x → container_of m.message ≤ length x.containers.records
 
 -- A world, and how many events led to it.
-pub record MoveRun : Type 0 where
+pub record MoveNetwork : Type 0 where
   pub world : MoveWorld
   pub events : ℕ
 
 -- These events lead from the beginning to this world.
-pub record IsRun (servers containers : ℕ) (es : List MoveEvent) (r : MoveRun) : Type 0 where
+pub record IsRun (servers containers : ℕ) (es : List MoveEvent) (r : MoveNetwork) : Type 0 where
   pub some : 1 ≤ servers
   pub few : containers < 1024
   pub count : length es ≡ r.events
   pub world : (run_moves (fresh_history servers containers) es).world ≡ r.world
 
 -- a run leads here
-pub record IsReached (r : MoveRun) : Type 0 where
+pub record IsReached (r : MoveNetwork) : Type 0 where
   pub servers : ℕ
   pub containers : ℕ
   pub events : List MoveEvent
   pub by : IsRun servers containers events r
 
 -- no update is lost in a run that leads here
-abbrev pub AreKept : MoveRun → Type 0
+abbrev pub AreKept : MoveNetwork → Type 0
 AreKept r =
     (servers containers : ℕ) (es : List MoveEvent)
     → IsRun servers containers es r

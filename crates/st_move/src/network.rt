@@ -3,7 +3,7 @@ ghost use Rattle.std.specs.Prelude.{◌≡◌, ◌≤◌, ◌<◌, ◌+◌, ◌^
 ghost use Rattle.st_move.specs.Network.{AreKept, IsReached, turned};
 ghost use Rattle.st_move.specs.World as worlds;
 
-use crate::parts::MoveParts;
+use crate::parts::MoveWorld;
 use crate::world::{MoveAnswer, MoveEvent};
 use std::alloc::{AllocError, Global};
 use std::marker::Model;
@@ -12,16 +12,17 @@ use std::marker::Model;
 /// definitions and the number of events that led to it.
 #[derive(Drop)]
 pub struct MoveNetwork {
-    parts: MoveParts,
+    parts: MoveWorld,
     events: u64,
     broken: bool,
 }
 
 impl Model for MoveNetwork {
     ghost use Rattle.std.specs.Prelude.{◌≡◌, false};
-    ghost use Rattle.st_move.specs.Network.{IsReached, MoveRun};
+    ghost use Rattle.st_move.specs.Network as shown;
+    ghost use Rattle.st_move.specs.Network.{IsReached};
 
-    ghost Value = { MoveRun };
+    ghost Value = { shown.MoveNetwork };
 
     ghost view = { λ n. record { world = n.parts; events = n.events } };
 
@@ -38,7 +39,7 @@ impl MoveNetwork {
         ensures reached { IfOk result IsReached }
         ensures kept { IfOk result AreKept }
     {
-        let parts = MoveParts::new(alloc, servers, containers)?;
+        let parts = MoveWorld::new(alloc, servers, containers)?;
         Ok(MoveNetwork {
             parts,
             events: 0,

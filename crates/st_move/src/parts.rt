@@ -15,16 +15,16 @@ use std::marker::Model;
 
 /// Servers with containers, and every message that was sent.
 #[derive(Drop)]
-pub(crate) struct MoveParts {
+pub(crate) struct MoveWorld {
     alloc: Global,
     sites: Vec<MoveSite>,
     sent: Vec<SentMove>,
 }
 
-impl Model for MoveParts {
-    ghost use Rattle.st_move.specs.World.{MoveWorld};
+impl Model for MoveWorld {
+    ghost use Rattle.st_move.specs.World as shown;
 
-    ghost Value = { MoveWorld };
+    ghost Value = { shown.MoveWorld };
 
     ghost view = { λ w. record { sites = w.sites.items; sent = w.sent.items } };
 }
@@ -106,15 +106,15 @@ fn send_all(
     Ok(answers)
 }
 
-impl MoveParts {
+impl MoveWorld {
     /// So many servers with so many containers, as they begin.
-    pub(crate) fn new(alloc: Global, servers: u16, containers: u32) -> Result<MoveParts, AllocError>
+    pub(crate) fn new(alloc: Global, servers: u16, containers: u32) -> Result<MoveWorld, AllocError>
         requires { 1 ≤ servers }
         ensures { IfOk result (λ w. w ≡ worlds.fresh_world servers containers) }
     {
         let sites = fresh_sites(alloc, servers, containers)?;
         let sent = Vec::new(alloc);
-        Ok(MoveParts { alloc, sites, sent })
+        Ok(MoveWorld { alloc, sites, sent })
     }
 
     /// How many messages were sent.

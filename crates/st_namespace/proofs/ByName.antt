@@ -7,7 +7,7 @@ use Rattle.std.proofs.lemmas.List.Folds.{list_any_at}
 use Rattle.std.proofs.lemmas.Bool.{and_from, and_parts, cases_Bool, cases_eq, cases_order, eq-eqb, eqb-false, eqb-true, ne_eqb}
 use Rattle.st_rules.specs.declared.names.NameEntry.{NameEntry}
 use Rattle.st_rules.specs.Names.{is_entry_at, is_in, name_below}
-use Rattle.st_namespace.specs.Stored.{AreByName, key_of, stands_before}
+use Rattle.st_namespace.specs.StoredEntries.{AreByName, key_of, stands_before}
 use Rattle.st_namespace.proofs.Bytes.{nothing_below}
 use Rattle.st_namespace.proofs.Ordered.{below_anti, below_itself, below_same, below_trans, byte_cases, byte_not}
 

@@ -5,7 +5,7 @@ use Rattle.std.specs.Option.{option_map}
 use Rattle.std.proofs.lemmas.Bool.{eq-eqb, ne_eqb}
 use Rattle.st_rules.specs.declared.names.NameEntry.{NameEntry}
 use Rattle.st_rules.specs.Names.{Names, climb, is_under_in, entry_of_ino}
-use Rattle.st_namespace.specs.Stored.{dir_of}
+use Rattle.st_namespace.specs.StoredEntries.{dir_of}
 
 climb_none : (f : ℕ → Bool) (o : Option NameEntry) → None ≡ option_map dir_of o → climb f o ≡ false
 climb_none f None h = refl

@@ -8,7 +8,7 @@ use Rattle.std.proofs.lemmas.List.Folds.{list_any-append}
 use Rattle.std.proofs.lemmas.List.Elements.{All-push}
 use Rattle.st_rules.specs.declared.names.NameEntry.{NameEntry}
 use Rattle.st_rules.specs.Names.{ROOT, fresh_file, fresh_names, is_entry_at}
-use Rattle.st_namespace.proofs.Kept.{found_is_any}
+use Rattle.st_namespace.proofs.NameOrder.{found_is_any}
 
 -- the first files of a fresh server
 abbrev pub files : ℕ → List NameEntry

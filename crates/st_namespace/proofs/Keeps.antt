@@ -12,9 +12,9 @@ use Rattle.st_rules.specs.declared.names.NameEntry.{NameEntry}
 use Rattle.st_rules.specs.Names as names
 use Rattle.st_namespace.specs.declared.entries.Inode.{Inode}
 use Rattle.st_namespace.specs.Order.{IsRising}
-use Rattle.st_namespace.specs.Stored.{AreByName, AreRising, Stores, dir_in, dir_of, entries_of, has_number, inode_of, key_of, mark_in, moved_to}
+use Rattle.st_namespace.specs.StoredEntries.{AreByName, AreRising, Stores, dir_in, dir_of, entries_of, has_number, inode_of, key_of, mark_in, moved_to}
 use Rattle.st_namespace.proofs.ByName.{behind_at, behind_fresh, key_is}
-use Rattle.st_namespace.proofs.Kept.{every_filter, found_is_any, move_old, move_other, rising_after, rising_filter, rising_push}
+use Rattle.st_namespace.proofs.NameOrder.{every_filter, found_is_any, move_old, move_other, rising_after, rising_filter, rising_push}
 use Rattle.st_namespace.proofs.Ordered.{below_itself}
 use Rattle.st_namespace.proofs.Searches.{remove_is}
 

@@ -3,7 +3,7 @@ pub mod ByName
 pub mod Climbs
 pub mod FreshFiles
 pub mod Keeps
-pub mod Kept
+pub mod NameOrder
 pub mod Ordered
 pub mod Rows
 pub mod Rules

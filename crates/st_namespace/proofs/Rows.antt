@@ -9,7 +9,7 @@ use Rattle.st_rules.specs.declared.names.NameEntry.{NameEntry}
 use Rattle.st_rules.specs.Names.{by_name, is_in, is_listed, is_of_ino, name_below, name_row}
 use Rattle.st_namespace.specs.declared.entries.Inode.{Inode}
 use Rattle.st_namespace.specs.Order.{IsRising}
-use Rattle.st_namespace.specs.Stored.{AreByName, Stores, key_of}
+use Rattle.st_namespace.specs.StoredEntries.{AreByName, Stores, key_of}
 use Rattle.st_namespace.proofs.ByName.{any_default, behind_at, dir_up}
 use Rattle.st_namespace.proofs.Keeps.{index_of, one_place}
 use Rattle.st_namespace.proofs.Ordered.{AreApart, AreRising, any_sorted, byte_same, one_rising, sorted_rises}

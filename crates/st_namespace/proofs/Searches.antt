@@ -4,7 +4,7 @@ use Rattle.std.specs.Prelude.{filter, find, if◌then◌else◌, map, not, Some,
 use Rattle.std.specs.List.{AllByRecursion, remove}
 use Rattle.std.proofs.lemmas.Bool.{cases_eq, cases_lt, cases_order, eq-eqb, ne_eqb}
 use Rattle.st_namespace.specs.declared.entries.Inode.{Inode}
-use Rattle.st_namespace.specs.Stored.{AreRising, has_number}
+use Rattle.st_namespace.specs.StoredEntries.{AreRising, has_number}
 
 every_at : (P : Inode → Type 0) (es : List Inode) (i : ℕ) (d : Inode) → i < length es → AllByRecursion P es → P (get_or es i d)
 every_at P [] i d l a = let no : ⊥ = omega arith in absurd no

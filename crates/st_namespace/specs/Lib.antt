@@ -1,3 +1,3 @@
 pub mod Answers
 pub mod Order
-pub mod Stored
+pub mod StoredEntries

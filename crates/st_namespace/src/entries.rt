@@ -3,7 +3,7 @@ ghost use Rattle.std.specs.List.{list_any};
 ghost use Rattle.std.specs.Option.{option_copied};
 ghost use Rattle.st_rules.specs.Names as names;
 ghost use Rattle.st_rules.specs.declared.names.NameEntry.{NameEntry};
-ghost use Rattle.st_namespace.specs.Stored.{AreByName, AreRising, dir_in, dir_of, has_number, mark_in, moved_to, stands_before, stands_behind};
+ghost use Rattle.st_namespace.specs.StoredEntries.{AreByName, AreRising, dir_in, dir_of, has_number, mark_in, moved_to, stands_before, stands_behind};
 ghost use Rattle.st_namespace.specs.declared.entries.Inode.{Inode};
 
 use crate::listing::rows_from;
@@ -200,7 +200,7 @@ pub struct Entries {
 impl Model for Entries {
     ghost use Rattle.std.specs.Prelude.{List};
     ghost use Rattle.st_rules.specs.declared.names.NameEntry.{NameEntry};
-    ghost use Rattle.st_namespace.specs.Stored.{Stores, entries_of};
+    ghost use Rattle.st_namespace.specs.StoredEntries.{Stores, entries_of};
 
     ghost Value = { List NameEntry };
 

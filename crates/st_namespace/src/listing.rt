@@ -1,7 +1,7 @@
 ghost use Rattle.std.specs.Prelude.{◌≡◌, ◌≤◌, ◌<◌, ℕ, IfOk, drop, filter, get_or, length, map, take};
 ghost use Rattle.st_rules.specs.declared.names.NameEntry.{NameEntry};
 ghost use Rattle.st_rules.specs.Names as names;
-ghost use Rattle.st_namespace.specs.Stored.{AreByName};
+ghost use Rattle.st_namespace.specs.StoredEntries.{AreByName};
 
 use st_base::NameRow;
 use st_rules::NameEntry;

@@ -4,7 +4,7 @@ ghost use Rattle.st_base.specs.declared.names.NameRefusal.TheVariants as refusal
 ghost use Rattle.st_rules.specs.Names as names;
 ghost use Rattle.st_namespace.specs.Answers.{Changes, ChangesInPlace, IsTold, answer, as_told, ino_and_mark, ino_told};
 ghost use Rattle.st_namespace.specs.Order.{IsInOrder};
-ghost use Rattle.st_namespace.specs.Stored.{dir_of};
+ghost use Rattle.st_namespace.specs.StoredEntries.{dir_of};
 
 use crate::entries::Entries;
 use crate::name_bytes::is_good;

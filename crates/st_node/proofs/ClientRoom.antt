@@ -8,7 +8,7 @@ use Rattle.st_base.specs.declared.ids.Stamp.{Stamp}
 use Rattle.st_client.specs.Room.{HasRoom}
 use Rattle.st_client_association.specs.Associations.{has_room_at, may_ask}
 use Rattle.st_laws_bounds.specs.Counters.Counts.{AsksLow}
-use Rattle.st_laws_bounds.specs.Counters.Raised.{FreshClientsBegin, IsWithinAt, StepsRaiseLittle}
+use Rattle.st_laws_bounds.specs.Counters.Rises.{FreshClientsBegin, IsWithinAt, StepsRaiseLittle}
 use Rattle.st_lemmas.proofs.Tables.{all_pass, and_both}
 use Rattle.st_rules.specs.Client as client
 use Rattle.st_rules.specs.Client.{ClientNode, client_step, node_step}

@@ -10,7 +10,7 @@ use Rattle.st_codec.specs.declared.frames.Front.TheVariants.{Partial, TooLong, W
 use Rattle.st_codec.specs.declared.refusal.CodecRefusal.{CodecRefusal}
 use Rattle.st_codec.specs.declared.refusal.CodecRefusal.TheVariants as refusals
 use Rattle.st_codec.specs.Frames.{Frames, Answer, fed, front, refused, behind, next_read, next_whole, next_at, next_by, next}
-use Rattle.st_codec.specs.Reading.{decoded}
+use Rattle.st_codec.specs.Decoder.{decoded}
 use Rattle.st_codec.proofs.Streams.{front_cases}
 
 -- ---- the front

@@ -7,7 +7,7 @@ use Rattle.st_base.specs.declared.ids.ServerId.{ServerId}
 use Rattle.st_base.specs.declared.ids.Stamp.{Stamp}
 use Rattle.st_messages.specs.declared.message.Body.{Body}
 use Rattle.st_messages.specs.declared.message.Body.TheVariants as bodies
-use Rattle.st_messages.specs.Fits.{fits, is_body, is_count, is_grant, is_header, is_ino, is_page}
+use Rattle.st_messages.specs.Ranges.{fits, is_body, is_count, is_grant, is_header, is_ino, is_page}
 use Rattle.st_messages.specs.Kinds.{kind_of_body}
 use Rattle.st_rules.specs.declared.input.ServerInput.{ServerInput}
 use Rattle.st_rules.specs.declared.input.ServerInput.TheVariants.{Tick, Control}
@@ -15,10 +15,10 @@ use Rattle.st_rules.specs.declared.node.StepRefusal.TheVariants.{Crashed}
 use Rattle.st_rules.specs.Names as names
 use Rattle.st_rules.specs.Server as server
 use Rattle.st_rules.specs.Server.{ServerNode, ServerState, turn, node_step, server_step}
-use Rattle.st_server.specs.Ready.{comes_fit}
+use Rattle.st_server.specs.RuleConditions.{comes_fit}
 use Rattle.st_server.specs.Room.{HasRoom, taken_locks}
-use Rattle.st_server.specs.Sound.{IsSound}
-use Rattle.st_server.proofs.Stepping.{step_turn, moment_word}
+use Rattle.st_server.specs.Invariants.{IsSound}
+use Rattle.st_server.proofs.SoundSteps.{step_turn, moment_word}
 use Rattle.st_node.specs.Room.{HasRoomFor, ServerHasRoom}
 use Rattle.st_node.specs.Runs.{MOST, server_stepped}
 use Rattle.st_node.proofs.Growing.{Grows, pages_asked, pages_in}

@@ -40,7 +40,7 @@ use Rattle.st_rules.specs.Names as names
 use Rattle.st_rules.specs.Names.{Changed, Names}
 use Rattle.st_rules.specs.Sessions as sessions
 use Rattle.st_rules.specs.Server as sv
-use Rattle.st_rules.specs.Server.{Replied, ServerState, Stable, Turn}
+use Rattle.st_rules.specs.Server.{Replied, ServerState, Stable, ServerTurn}
 use Rattle.st_node.proofs.Growing.{Grows, pages_asked, pages_in}
 
 if_any : {A : Type 0} (P : A → Type 0) (b : Bool) (x y : A) → P x → P y → P (if b then x else y)
@@ -48,88 +48,88 @@ if_any P true x y p q = p
 if_any P false x y p q = q
 
 -- a turn whose stable part is this one
-abbrev Has : Stable → Turn → Type 0
+abbrev Has : Stable → ServerTurn → Type 0
 Has s t = t.state.stable ≡ s
 
 -- Thefts.
-steal_same : (t : Turn) (c : ClientId) (o : Option Session) → Has t.state.stable (sv.steal_at t c o)
+steal_same : (t : ServerTurn) (c : ClientId) (o : Option Session) → Has t.state.stable (sv.steal_at t c o)
 unfolding sv.steal_at sv.steal_from
 steal_same t c None = refl
 steal_same t c (Some x) = refl
 
-steals_same : (cs : List ClientId) (t : Turn) → Has t.state.stable (sv.steal_each cs t)
+steals_same : (cs : List ClientId) (t : ServerTurn) → Has t.state.stable (sv.steal_each cs t)
 unfolding sv.steal_each sv.steal
 steals_same [] t = refl
 steals_same (c ∷ cs) t = steals_same cs (sv.steal t c) ∙ steal_same t c (sessions.session_of t.state.sessions c)
 
-thefts_same : (t : Turn) (now : Stamp) → Has t.state.stable (sv.thefts t now)
+thefts_same : (t : ServerTurn) (now : Stamp) → Has t.state.stable (sv.thefts t now)
 unfolding sv.thefts
 thefts_same t now = steals_same (authority.over t.state.authority now) _
 
 -- Suspicion, grants and demands.
-suspect_same : (t : Turn) (now : Stamp) (c : ClientId) → Has t.state.stable (sv.suspect_client t now c)
+suspect_same : (t : ServerTurn) (now : Stamp) (c : ClientId) → Has t.state.stable (sv.suspect_client t now c)
 unfolding sv.suspect_client
 suspect_same t now c = refl
 
-unless_same : (t : Turn) (now : Stamp) (c : ClientId) → Has t.state.stable (sv.suspect_unless t now c)
+unless_same : (t : ServerTurn) (now : Stamp) (c : ClientId) → Has t.state.stable (sv.suspect_unless t now c)
 unfolding sv.suspect_unless
 unless_same t now c = if_any (Has t.state.stable) (authority.may_ack t.state.authority c) _ _ (suspect_same t now c) refl
 
-each_same : (now : Stamp) (cs : List ClientId) (t : Turn) → Has t.state.stable (sv.suspect_each now cs t)
+each_same : (now : Stamp) (cs : List ClientId) (t : ServerTurn) → Has t.state.stable (sv.suspect_each now cs t)
 unfolding sv.suspect_each
 each_same now [] t = refl
 each_same now (c ∷ cs) t = each_same now cs (sv.suspect_unless t now c) ∙ unless_same t now c
 
-suspecting_same : (t : Turn) (now : Stamp) (i : ServerInput) → Has t.state.stable (sv.suspecting_on t now i)
+suspecting_same : (t : ServerTurn) (now : Stamp) (i : ServerInput) → Has t.state.stable (sv.suspecting_on t now i)
 unfolding sv.suspecting_on sv.suspecting
 suspecting_same t now Tick = each_same now _ t
 suspecting_same t now (Control m) = refl
 
-granted_same : (xs : List (ClientId × Life × ℕ × GrantNo × Mode)) (t : Turn) → Has t.state.stable (sv.tell_granted xs t)
+granted_same : (xs : List (ClientId × Life × ℕ × GrantNo × Mode)) (t : ServerTurn) → Has t.state.stable (sv.tell_granted xs t)
 unfolding sv.tell_granted sv.tell
 granted_same [] t = refl
 granted_same (x ∷ xs) t = granted_same xs _
 
-granting_same : (t : Turn) (now : Stamp) → Has t.state.stable (sv.granting t now)
+granting_same : (t : ServerTurn) (now : Stamp) → Has t.state.stable (sv.granting t now)
 unfolding sv.granting sv.grant_waiting sv.grant_by
 granting_same t now = if_any (Has t.state.stable) (sv.in_grace t now) _ _ refl (granted_same _ _)
 
-demanded_same : (xs : List (ClientId × Life × ℕ × GrantNo × Mode)) (t : Turn) → Has t.state.stable (sv.tell_demanded xs t)
+demanded_same : (xs : List (ClientId × Life × ℕ × GrantNo × Mode)) (t : ServerTurn) → Has t.state.stable (sv.tell_demanded xs t)
 unfolding sv.tell_demanded sv.tell
 demanded_same [] t = refl
 demanded_same (x ∷ xs) t = demanded_same xs _
 
-demanding_same : (t : Turn) (now : Stamp) (i : ServerInput) → Has t.state.stable (sv.demanding t now i)
+demanding_same : (t : ServerTurn) (now : Stamp) (i : ServerInput) → Has t.state.stable (sv.demanding t now i)
 unfolding sv.demanding sv.demand_by
 demanding_same t now i = demanded_same _ _
 
 -- Greetings, seen demands and reassertions.
-greet_as_same : (t : Turn) (now : Stamp) (h : Header) (x : Hello) → Has t.state.stable (sv.greet_as t now h x)
+greet_as_same : (t : ServerTurn) (now : Stamp) (h : Header) (x : Hello) → Has t.state.stable (sv.greet_as t now h x)
 unfolding sv.greet_as sv.suspect_client sv.reply
 greet_as_same t now h hellos.Welcome = refl
 greet_as_same t now h hellos.Replaced = refl
 greet_as_same t now h hellos.Old = refl
 greet_as_same t now h hellos.Wait = refl
 
-hello_same : (t : Turn) (now : Stamp) (h : Header) → Has t.state.stable (sv.hello t now h)
+hello_same : (t : ServerTurn) (now : Stamp) (h : Header) → Has t.state.stable (sv.hello t now h)
 unfolding sv.hello sv.greet sv.greet_by sv.refuse_in_grace sv.reply
 hello_same t now h = if_any (Has t.state.stable) (sv.in_grace t now) _ _ refl (greet_as_same _ now h _)
 
-seen_same : (t : Turn) (h : Header) (ino : ℕ) (g : GrantNo) → Has t.state.stable (sv.demand_seen t h ino g)
-unfolding sv.demand_seen sv.see_demand
+seen_same : (t : ServerTurn) (h : Header) (ino : ℕ) (g : GrantNo) → Has t.state.stable (sv.demand_seen t h ino g)
+unfolding sv.demand_seen sv.observe_demand
 seen_same t h ino g = if_any (Has t.state.stable) (sv.is_served t h) _ _ refl refl
 
-reassert_by_same : (t : Turn) (h : Header) (r : Result grace.Accepted AcceptRefusal) → Has t.state.stable (sv.reassert_by t h r)
+reassert_by_same : (t : ServerTurn) (h : Header) (r : Result grace.Accepted AcceptRefusal) → Has t.state.stable (sv.reassert_by t h r)
 unfolding sv.reassert_by sv.reply
 reassert_by_same t h (Ok a) = refl
 reassert_by_same t h (Err r) = refl
 
-again_same : (t : Turn) (h : Header) (x : Taken Body) → Has t.state.stable (sv.reassert_again t h x)
+again_same : (t : ServerTurn) (h : Header) (x : Taken Body) → Has t.state.stable (sv.reassert_again t h x)
 unfolding sv.reassert_again sv.reply
 again_same t h (takes.Again body) = refl
 again_same t h taken = refl
 
-reassert_same : (t : Turn) (now : Stamp) (h : Header) (rows : List (ℕ × GrantNo × Mode)) → Has t.state.stable (sv.reassert t now h rows)
+reassert_same : (t : ServerTurn) (now : Stamp) (h : Header) (rows : List (ℕ × GrantNo × Mode)) → Has t.state.stable (sv.reassert t now h rows)
 unfolding sv.reassert sv.reassert_new
 reassert_same t now h rows = if_any (Has t.state.stable) (sessions.knows t.state.sessions (sv.sender h) (sv.life_in h)) _ _ (again_same t h (sv.take t h)) (reassert_by_same t h _)
 
@@ -223,31 +223,31 @@ allocate_born x f p count =
     if_any (Born count x) (nat_le (length ps) (extents.free x)) (Ok (extents.place_pages f ps x)) (Err (NoSpace (extents.free x) (length ps))) born tt
 
 -- Rules of requests, from a turn t: what its stable part may become.
-abbrev Good : ℕ → Turn → Turn → Type 0
+abbrev Good : ℕ → ServerTurn → ServerTurn → Type 0
 Good m t u = Grows m t.state.stable u.state.stable
 
 still : (m : ℕ) (s u : Stable) → u ≡ s → Grows m s u
 still m s u h = subst (λ (x : Stable). Grows m s x) (sym h) (record { epoch = refl; inodes = omega arith; births = omega arith })
 
-abbrev Well : ℕ → Turn → Replied → Type 0
+abbrev Well : ℕ → ServerTurn → Replied → Type 0
 Well m t a = Good m t a.turn
 
-acquire_well : (m : ℕ) (t : Turn) (ino : ℕ) (mode : Mode) (r : Result locks.Acquired AcquireRefusal) → Well m t (sv.acquire_by t ino mode r)
+acquire_well : (m : ℕ) (t : ServerTurn) (ino : ℕ) (mode : Mode) (r : Result locks.Acquired AcquireRefusal) → Well m t (sv.acquire_by t ino mode r)
 unfolding sv.acquire_by
 acquire_well m t ino mode (Ok a) = still m t.state.stable _ refl
 acquire_well m t ino mode (Err r) = still m t.state.stable _ refl
 
-changed_well : (m : ℕ) (t : Turn) (r : Result Changed EntryRefusal) → Few t.state.stable.names r → Well m t (sv.name_changed t r)
+changed_well : (m : ℕ) (t : ServerTurn) (r : Result Changed EntryRefusal) → Few t.state.stable.names r → Well m t (sv.name_changed t r)
 unfolding sv.name_changed sv.name_refused
 changed_well m t (Ok d) h = record { epoch = refl; inodes = h; births = omega arith }
 changed_well m t (Err r) h = still m t.state.stable _ refl
 
-remove_by_well : (m : ℕ) (t : Turn) (r : Result Changed EntryRefusal) → Few t.state.stable.names r → Well m t (sv.remove_by t r)
+remove_by_well : (m : ℕ) (t : ServerTurn) (r : Result Changed EntryRefusal) → Few t.state.stable.names r → Well m t (sv.remove_by t r)
 unfolding sv.remove_by sv.name_refused sv.cut_whole sv.cut_pages extents.release_from
 remove_by_well m t (Ok d) h = record { epoch = refl; inodes = h; births = omega arith }
 remove_by_well m t (Err r) h = still m t.state.stable _ refl
 
-remove_found_well : (m : ℕ) (t : Turn) (h : Header) (dir : ℕ) (name : List ℕ) (g : GrantNo) (r : Result ℕ EntryRefusal) → Well m t (sv.remove_found t h dir name g r)
+remove_found_well : (m : ℕ) (t : ServerTurn) (h : Header) (dir : ℕ) (name : List ℕ) (g : GrantNo) (r : Result ℕ EntryRefusal) → Well m t (sv.remove_found t h dir name g r)
 unfolding sv.remove_found sv.remove_ino sv.remove_file sv.remove_dir sv.not_holder sv.name_refused
 remove_found_well m t h dir name g (Ok ino) =
     let few = remove_few t.state.stable.names dir name in
@@ -257,17 +257,17 @@ remove_found_well m t h dir name g (Ok ino) =
     (if_any (Well m t) (g.0 == 0) (sv.name_changed t r) (sv.name_refused t IsDir) (changed_well m t r few) (still m t.state.stable _ refl))
 remove_found_well m t h dir name g (Err r) = still m t.state.stable _ refl
 
-found_well : (m : ℕ) (t : Turn) (r : Result ℕ EntryRefusal) → Well m t (sv.name_found t r)
+found_well : (m : ℕ) (t : ServerTurn) (r : Result ℕ EntryRefusal) → Well m t (sv.name_found t r)
 unfolding sv.name_found sv.name_refused
 found_well m t (Ok ino) = still m t.state.stable _ refl
 found_well m t (Err r) = still m t.state.stable _ refl
 
-listed_well : (m : ℕ) (t : Turn) (r : Result (List NameRow) EntryRefusal) → Well m t (sv.names_listed t r)
+listed_well : (m : ℕ) (t : ServerTurn) (r : Result (List NameRow) EntryRefusal) → Well m t (sv.names_listed t r)
 unfolding sv.names_listed sv.name_refused
 listed_well m t (Ok rows) = still m t.state.stable _ refl
 listed_well m t (Err r) = still m t.state.stable _ refl
 
-name_well : (m : ℕ) (t : Turn) (h : Header) (op : NameOp) → Well m t (sv.name t h op)
+name_well : (m : ℕ) (t : ServerTurn) (h : Header) (op : NameOp) → Well m t (sv.name t h op)
 unfolding sv.name sv.remove names.create names.mkdir names.add names.rename
 name_well m t h (Lookup dir n) = found_well m t _
 name_well m t h (Create dir n) = changed_well m t _ (add_few t.state.stable.names dir n false _)
@@ -276,33 +276,33 @@ name_well m t h (Remove dir n g) = remove_found_well m t h dir n g _
 name_well m t h (Rename dir n dir2 n2) = changed_well m t _ (rename_at_few t.state.stable.names dir n dir2 n2 _)
 name_well m t h (ListFrom dir after) = listed_well m t _
 
-allocate_by_well : (t : Turn) (ino : ℕ) (page : PageNo) (count : ℕ) (r : Result Extents AllocateRefusal) → Born count t.state.stable.extents r → Well count t (sv.allocate_by t ino page count r)
+allocate_by_well : (t : ServerTurn) (ino : ℕ) (page : PageNo) (count : ℕ) (r : Result Extents AllocateRefusal) → Born count t.state.stable.extents r → Well count t (sv.allocate_by t ino page count r)
 unfolding sv.allocate_by sv.with_extents_told
 allocate_by_well t ino page count (Ok x) h = record { epoch = refl; inodes = omega arith; births = h }
 allocate_by_well t ino page count (Err r) h = still count t.state.stable _ refl
 
-allocate_well : (t : Turn) (h : Header) (ino : ℕ) (g : GrantNo) (page : PageNo) (count : ℕ) → Well count t (sv.allocate t h ino g page count)
+allocate_well : (t : ServerTurn) (h : Header) (ino : ℕ) (g : GrantNo) (page : PageNo) (count : ℕ) → Well count t (sv.allocate t h ino g page count)
 unfolding sv.allocate sv.allocate_held sv.allocate_pages sv.no_file sv.not_holder
 allocate_well t h ino g page count =
     if_any (Well count t) (sv.is_file t ino) (sv.allocate_held t h ino g page count) (sv.no_file t ino)
     (if_any (Well count t) (sv.holds t h ino g modes.X) (sv.allocate_pages t ino page count) (sv.not_holder t ino g) (allocate_by_well t ino page count _ (allocate_born t.state.stable.extents (sv.file t ino) page count)) (still count t.state.stable _ refl))
     (still count t.state.stable _ refl)
 
-cut_well : (m : ℕ) (t : Turn) (h : Header) (ino : ℕ) (g : GrantNo) (from : PageNo) → Well m t (sv.cut t h ino g from)
+cut_well : (m : ℕ) (t : ServerTurn) (h : Header) (ino : ℕ) (g : GrantNo) (from : PageNo) → Well m t (sv.cut t h ino g from)
 unfolding sv.cut sv.cut_held sv.cut_from sv.cut_pages sv.no_file sv.not_holder extents.release_from
 cut_well m t h ino g from =
     if_any (Well m t) (sv.is_file t ino) (sv.cut_held t h ino g from) (sv.no_file t ino)
     (if_any (Well m t) (sv.holds t h ino g modes.X) (sv.cut_from t ino from) (sv.not_holder t ino g) (record { epoch = refl; inodes = omega arith; births = omega arith }) (still m t.state.stable _ refl))
     (still m t.state.stable _ refl)
 
-map_well : (m : ℕ) (t : Turn) (h : Header) (ino : ℕ) (g : GrantNo) (page : PageNo) → Well m t (sv.map t h ino g page)
+map_well : (m : ℕ) (t : ServerTurn) (h : Header) (ino : ℕ) (g : GrantNo) (page : PageNo) → Well m t (sv.map t h ino g page)
 unfolding sv.map sv.map_held sv.map_page sv.with_extents_told sv.no_file sv.not_holder
 map_well m t h ino g page =
     if_any (Well m t) (sv.is_file t ino) (sv.map_held t h ino g page) (sv.no_file t ino)
     (if_any (Well m t) (sv.holds t h ino g modes.S) (sv.map_page t ino page) (sv.not_holder t ino g) (still m t.state.stable _ refl) (still m t.state.stable _ refl))
     (still m t.state.stable _ refl)
 
-rule_well : (t : Turn) (now : Stamp) (h : Header) (body : Body) → Well (pages_asked body) t (sv.rule t now h body)
+rule_well : (t : ServerTurn) (now : Stamp) (h : Header) (body : Body) → Well (pages_asked body) t (sv.rule t now h body)
 unfolding sv.rule sv.keep_alive sv.acquire sv.acquire_lock sv.no_file sv.released sv.released_by
 rule_well t now h bodies.KeepAlive = still 0 t.state.stable _ refl
 rule_well t now h (bodies.Acquire ino mode) = if_any (Well 0 t) (sv.is_file t ino) (sv.acquire_lock t now h ino mode) (sv.no_file t ino) (acquire_well 0 t ino mode _) (still 0 t.state.stable _ refl)
@@ -313,12 +313,12 @@ rule_well t now h (bodies.Cut ino g from) = cut_well 0 t h ino g from
 rule_well t now h (bodies.Name op) = name_well 0 t h op
 rule_well t now h body = still 0 t.state.stable _ refl
 
-keep_good : (m : ℕ) (t u : Turn) (h : Header) (o : Option Body) → Good m t u → Good m t (sv.keep h u o)
+keep_good : (m : ℕ) (t u : ServerTurn) (h : Header) (o : Option Body) → Good m t u → Good m t (sv.keep h u o)
 unfolding sv.keep sv.keep_and_reply sv.reply
 keep_good m t u h None g = g
 keep_good m t u h (Some body) g = g
 
-request_by_good : (t : Turn) (now : Stamp) (h : Header) (body : Body) (x : Taken Body) → Good (pages_asked body) t (sv.request_by t now h body x)
+request_by_good : (t : ServerTurn) (now : Stamp) (h : Header) (body : Body) (x : Taken Body) → Good (pages_asked body) t (sv.request_by t now h body x)
 unfolding sv.request_by sv.refuse_epoch sv.reply sv.serve
 request_by_good t now h body takes.OtherEpoch = still _ t.state.stable _ refl
 request_by_good t now h body takes.NoSession = still _ t.state.stable _ refl
@@ -327,32 +327,32 @@ request_by_good t now h body (takes.Again kept) = still _ t.state.stable _ refl
 request_by_good t now h body takes.OutOfOrder = still _ t.state.stable _ refl
 request_by_good t now h body takes.Fresh = keep_good (pages_asked body) t _ h _ (rule_well t now h body)
 
-request_good : (t : Turn) (now : Stamp) (h : Header) (body : Body) → Good (pages_asked body) t (sv.request t now h body)
+request_good : (t : ServerTurn) (now : Stamp) (h : Header) (body : Body) → Good (pages_asked body) t (sv.request t now h body)
 unfolding sv.request
 request_good t now h (bodies.Reassert rows) = still 0 t.state.stable _ (reassert_same t now h rows)
 request_good t now h body = request_by_good t now h body (sv.take t h)
 
-of_epoch_good : (t : Turn) (now : Stamp) (h : Header) (body : Body) → Good (pages_asked body) t (sv.of_epoch t now h body)
+of_epoch_good : (t : ServerTurn) (now : Stamp) (h : Header) (body : Body) → Good (pages_asked body) t (sv.of_epoch t now h body)
 unfolding sv.of_epoch sv.refuse_epoch sv.reply
 of_epoch_good t now h body = if_any (Good (pages_asked body) t) (h.epoch == t.state.stable.epoch.0) (sv.request t now h body) (sv.refuse_epoch t h) (request_good t now h body) (still _ t.state.stable _ refl)
 
-by_body_good : (t : Turn) (now : Stamp) (h : Header) (body : Body) → Good (pages_asked body) t (sv.by_body t now h body)
+by_body_good : (t : ServerTurn) (now : Stamp) (h : Header) (body : Body) → Good (pages_asked body) t (sv.by_body t now h body)
 unfolding sv.by_body
 by_body_good t now h bodies.Hello = still 0 t.state.stable _ (hello_same t now h)
 by_body_good t now h (bodies.DemandSeen ino g) = still 0 t.state.stable _ (seen_same t h ino g)
 by_body_good t now h body = of_epoch_good t now h body
 
-refused_same : (t : Turn) (h : Header) (start : Stamp) (body : Body) → Has t.state.stable (sv.refuse_suspect t h start body)
+refused_same : (t : ServerTurn) (h : Header) (start : Stamp) (body : Body) → Has t.state.stable (sv.refuse_suspect t h start body)
 unfolding sv.refuse_suspect sv.reply
 refused_same t h start (bodies.DemandSeen ino g) = refl
 refused_same t h start body = refl
 
-suspicion_good : (t : Turn) (now : Stamp) (h : Header) (body : Body) (o : Option Stamp) → Good (pages_asked body) t (sv.by_suspicion t now h body o)
+suspicion_good : (t : ServerTurn) (now : Stamp) (h : Header) (body : Body) (o : Option Stamp) → Good (pages_asked body) t (sv.by_suspicion t now h body o)
 unfolding sv.by_suspicion
 suspicion_good t now h body None = by_body_good t now h body
 suspicion_good t now h body (Some start) = still _ t.state.stable _ (refused_same t h start body)
 
-input_good : (t : Turn) (now : Stamp) (i : ServerInput) → Good (pages_in i) t (sv.take_input t now i)
+input_good : (t : ServerTurn) (now : Stamp) (i : ServerInput) → Good (pages_in i) t (sv.take_input t now i)
 unfolding sv.take_input sv.receive sv.receive_from
 input_good t now Tick = still 0 t.state.stable _ refl
 input_good t now (Control m) = if_any (Good (pages_asked m.body) t) (sv.is_for t.state m.header) (sv.receive_from t now m.header m.body) t (suspicion_good t now m.header m.body _) (still _ t.state.stable _ refl)

@@ -1,6 +1,6 @@
 -- How many steps a node may still take, as far as its counters go.
 use Rattle.std.specs.Prelude.{◌≡◌, ◌≤◌, ◌<◌, ◌+◌, ◌*◌, ◌^◌, ℕ, true}
-use Rattle.st_laws_bounds.specs.Counters.Raised.{IsWithin}
+use Rattle.st_laws_bounds.specs.Counters.Rises.{IsWithin}
 use Rattle.st_rules.specs.Client.{ClientNode}
 use Rattle.st_rules.specs.Server.{ServerNode}
 use Rattle.st_server.specs.Room.{taken_locks}

@@ -3,7 +3,7 @@ ghost use Rattle.std.specs.Prelude.{◌≡◌, ◌≤◌, ◌+◌, ◌++◌, ◌
 ghost use Rattle.std.specs.List.{list_all, flat_map};
 ghost use Rattle.st_client.specs.Inputs.{comes_fit, is_sent};
 ghost use Rattle.st_codec.specs.Stream.{message_frame};
-ghost use Rattle.st_messages.specs.Fits.{fits};
+ghost use Rattle.st_messages.specs.Ranges.{fits};
 ghost use Rattle.st_rules.specs.Client as machine;
 ghost use Rattle.st_node.specs.Room.{ClientHasRoom};
 ghost use Rattle.st_node.specs.Runs as runs;
@@ -29,7 +29,7 @@ fn disk_end(end: DiskResult) -> Option<Option<(Tag, PageBytes)>>
 }
 
 /// The input of a client that a message to it is.
-#[tactic(auto, unfolding(st_messages::specs::Fits::fits, st_messages::specs::Fits::is_body))]
+#[tactic(auto, unfolding(st_messages::specs::Ranges::fits, st_messages::specs::Ranges::is_body))]
 fn own_input(message: Message) -> ClientInput
     requires { fits message ≡ true }
     ensures exact { result ≡ runs.client_own message.body message }

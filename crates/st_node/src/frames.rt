@@ -2,7 +2,7 @@
 ghost use Rattle.std.specs.Prelude.{◌≡◌, ◌≤◌, ◌<◌, ◌++◌, true, OnOk, length};
 ghost use Rattle.st_codec.specs.Stream.{message_frame};
 ghost use Rattle.st_codec.specs.Spelling.{spelling};
-ghost use Rattle.st_messages.specs.Fits.{fits};
+ghost use Rattle.st_messages.specs.Ranges.{fits};
 
 use st_codec::{encode, fits_a_frame, spelled_size};
 use st_messages::Message;

@@ -1,10 +1,10 @@
 // What a server does with a message that came over a link.
 ghost use Rattle.std.specs.Prelude.{◌≡◌, ◌≤◌, ◌+◌, ◌++◌, ◌^◌, ℕ, true, OnOk, IfSome};
 ghost use Rattle.std.specs.List.{list_all, flat_map};
-ghost use Rattle.st_messages.specs.Fits.{fits};
+ghost use Rattle.st_messages.specs.Ranges.{fits};
 ghost use Rattle.st_rules.specs.Server as machine;
-ghost use Rattle.st_server.specs.Ready.{comes_fit};
-ghost use Rattle.st_server.specs.Sound.{is_sent};
+ghost use Rattle.st_server.specs.RuleConditions.{comes_fit};
+ghost use Rattle.st_server.specs.Invariants.{is_sent};
 ghost use Rattle.st_node.specs.Room.{ServerHasRoom};
 ghost use Rattle.st_node.specs.Runs as runs;
 ghost use Rattle.st_node.specs.declared.node.Node.TheVariants as nodes;

@@ -9,7 +9,7 @@ use Rattle.st_base.specs.declared.ids.ServerId.{ServerId}
 use Rattle.st_rules.specs.declared.client.Operation.{Operation}
 use Rattle.st_rules.specs.declared.client.Stage.TheVariants.{Sent}
 use Rattle.st_rules.specs.ClientState.{at_stage, is_of}
-use Rattle.st_operations.specs.Pending.{AreCounted, AreFit, asks_sync, count_syncs, is_fit, marked, may_act}
+use Rattle.st_operations.specs.PendingOperations.{AreCounted, AreFit, asks_sync, count_syncs, is_fit, marked, may_act}
 
 -- the one at a place
 pub got_at : {A : Type 0} (xs : List A) (i : ℕ) (x : A) → i < length xs → x ≡ get_or xs i x → Some x ≡ slice_get xs i

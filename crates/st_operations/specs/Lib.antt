@@ -1,1 +1,1 @@
-pub mod Pending
+pub mod PendingOperations

@@ -1,9 +1,9 @@
 ghost use Rattle.std.specs.Prelude.{◌≡◌, ◌≤◌, ◌<◌, ◌+◌, ◌^◌, ◌++◌, ◌∷◌, [], true, false, IfOk, IfSome, OnOk, Some, filter, if◌then◌else◌, length, map, nat_le, not, remove, slice_get};
 ghost use Rattle.std.specs.List.{list_any};
 ghost use Rattle.std.specs.Option.{option_copied, option_map_or, option_to_list};
-ghost use Rattle.st_messages.specs.Fits.{is_ask};
+ghost use Rattle.st_messages.specs.Ranges.{is_ask};
 ghost use Rattle.st_rules.specs.ClientState as client_state;
-ghost use Rattle.st_operations.specs.Pending.{AreFit, TakesFirst, asks_sync, count_syncs, is_fit, marked, may_act, stuck};
+ghost use Rattle.st_operations.specs.PendingOperations.{AreFit, TakesFirst, asks_sync, count_syncs, is_fit, marked, may_act, stuck};
 
 use crate::asks::{is_asked, is_sent, is_sync};
 use crate::picks::MayAct;
@@ -31,7 +31,7 @@ impl Model for Operations {
 
     ghost Value = { List Operation };
 
-    ghost use Rattle.st_operations.specs.Pending.{AreCounted};
+    ghost use Rattle.st_operations.specs.PendingOperations.{AreCounted};
 
     ghost view = { λ o. o.rows.items };
 

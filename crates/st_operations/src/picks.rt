@@ -30,7 +30,7 @@ pub struct MayAct {
 }
 
 impl Test<Operation> for MayAct {
-    ghost use Rattle.st_operations.specs.Pending.{may_act};
+    ghost use Rattle.st_operations.specs.PendingOperations.{may_act};
 
     ghost passes = { λ t o. may_act t.server t.all o };
 

@@ -3,7 +3,7 @@ ghost use Rattle.std.specs.Prelude.{◌≡◌, ◌++◌, ◌∷◌, [], OnOk, sl
 ghost use Rattle.std.specs.List.{list_any};
 ghost use Rattle.st_base.specs.Mode.{number_of};
 ghost use Rattle.st_rules.specs.ClientState as client_state;
-ghost use Rattle.st_operations.specs.Pending.{TakesFirst};
+ghost use Rattle.st_operations.specs.PendingOperations.{TakesFirst};
 
 use st_base::{GrantNo, Mode};
 use st_rules::Release;

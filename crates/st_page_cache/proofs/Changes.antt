@@ -14,7 +14,7 @@ use Rattle.st_rules.specs.ClientPages.{Pages, is_clean_of, is_dirty_of, without_
 use Rattle.st_rules.specs.declared.client.CleanPage.{CleanPage}
 use Rattle.st_rules.specs.declared.pages.DirtyPage.{DirtyPage}
 use Rattle.st_page_cache.specs.Caches.{IsSound, pages_of}
-use Rattle.st_page_cache.specs.Keyed.{touched}
+use Rattle.st_page_cache.specs.KeyedPages.{touched}
 use Rattle.st_page_cache.proofs.Dropping.{filter_at_most}
 
 -- no clean page of the list is this page

@@ -14,7 +14,7 @@ use Rattle.st_rules.specs.ClientInvariants.{same_clean}
 use Rattle.st_rules.specs.ClientPages.{is_clean_of, without_clean}
 use Rattle.st_rules.specs.ServerInvariants.{are_once}
 use Rattle.st_page_cache.specs.declared.key.PageKey.{PageKey}
-use Rattle.st_page_cache.specs.Keyed.{IsKeyed, IsCache, clean_key, same_key, touched}
+use Rattle.st_page_cache.specs.KeyedPages.{IsKeyed, IsCache, clean_key, same_key, touched}
 use Rattle.st_page_cache.proofs.Keyed.{lookup_is_find, remove_is_filter, none_found, keyed_remove, keyed_cons, keyed_head, keyed_tail, once}
 
 eq_symm : (a b : ℕ) → (a == b) ≡ (b == a)

@@ -14,8 +14,8 @@ use Rattle.st_rules.specs.Keys.{put}
 use Rattle.st_rules.specs.ServerInvariants.{are_once}
 use Rattle.st_rules.specs.declared.pages.DirtyPage.{DirtyPage}
 use Rattle.st_page_cache.specs.declared.key.PageKey.{PageKey}
-use Rattle.st_page_cache.specs.Keyed.{IsKeyed, IsTable, dirty_key, same_key}
-use Rattle.st_page_cache.specs.Placing.{place_of, same_place}
+use Rattle.st_page_cache.specs.KeyedPages.{IsKeyed, IsTable, dirty_key, same_key}
+use Rattle.st_page_cache.specs.DirtyPlaces.{place_of, same_place}
 use Rattle.st_page_cache.proofs.Keyed.{lookup_is_find, remove_is_filter, none_found, keyed_remove, keyed_insert, keyed_set, insert_is_put, set_is_map, absent_is_map, once, distinct_as}
 
 eq_symm : (a b : ℕ) → (a == b) ≡ (b == a)

@@ -8,7 +8,7 @@ use Rattle.st_lemmas.proofs.Tables.{found_at, none_has}
 use Rattle.st_rules.specs.ClientPages.{is_clean_of, is_clean_behind, without_clean}
 use Rattle.st_rules.specs.Keys.{page_no}
 use Rattle.st_rules.specs.declared.client.CleanPage.{CleanPage}
-use Rattle.st_page_cache.specs.Keyed.{clean_key}
+use Rattle.st_page_cache.specs.KeyedPages.{clean_key}
 use Rattle.st_page_cache.specs.declared.key.PageKey.{PageKey}
 
 module _ {A : Type 0} where

@@ -8,7 +8,7 @@ use Rattle.std.proofs.lemmas.Bool.{or_from}
 use Rattle.indexmap.specs.IndexMap.{insert_entry}
 use Rattle.st_rules.specs.Keys.{put}
 use Rattle.st_rules.specs.ServerInvariants.{are_once}
-use Rattle.st_page_cache.specs.Keyed.{IsKeyed}
+use Rattle.st_page_cache.specs.KeyedPages.{IsKeyed}
 
 module _ {K X : Type 0} (key : X → K) where
   pub keyed_head : (e : K × X) (es : List (K × X)) → IsKeyed key (e ∷ es) → e.0 ≡ key e.1

@@ -13,7 +13,7 @@ use Rattle.st_rules.specs.ClientPages.{is_known_of, known_of, known_row, with_kn
 use Rattle.st_rules.specs.ServerInvariants.{are_once}
 use Rattle.st_rules.specs.declared.client.KnownExtent.{KnownExtent}
 use Rattle.st_page_cache.specs.declared.key.PageKey.{PageKey}
-use Rattle.st_page_cache.specs.Keyed.{IsKeyed, IsKnown, known_key, same_key}
+use Rattle.st_page_cache.specs.KeyedPages.{IsKeyed, IsKnown, known_key, same_key}
 use Rattle.st_page_cache.proofs.DirtyRows.{same_is}
 use Rattle.st_page_cache.proofs.Keyed.{lookup_is_find, keyed_cons, keyed_head, keyed_tail, keyed_insert, insert_is_put, once}
 use Rattle.st_page_cache.proofs.Steps.{drop_next}

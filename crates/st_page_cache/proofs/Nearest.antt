@@ -5,7 +5,7 @@ use Rattle.std.proofs.lemmas.Bool.{cases_Bool, eqb-true, and_parts}
 use Rattle.st_base.specs.declared.ids.PageNo.{PageNo}
 use Rattle.st_lemmas.specs.Lists.{Has}
 use Rattle.st_rules.specs.ClientPages.{is_place_after}
-use Rattle.st_page_cache.specs.Placing.{AreRising, is_before, is_nearer, nearer, nearest, same_place}
+use Rattle.st_page_cache.specs.DirtyPlaces.{AreRising, is_before, is_nearer, nearer, nearest, same_place}
 use Rattle.st_page_cache.proofs.Lexical.{chained, either_way, one_way}
 
 not_before : (x y : ℕ × PageNo) → (is_before x y ≡ true → ⊥) → is_before x y ≡ false

@@ -1,4 +1,4 @@
 pub mod Caches
-pub mod Keyed
-pub mod Placing
-pub mod Reading
+pub mod KeyedPages
+pub mod DirtyPlaces
+pub mod LentPages

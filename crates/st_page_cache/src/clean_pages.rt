@@ -4,7 +4,7 @@ ghost use Rattle.std.specs.Option.{option_copied};
 ghost use Rattle.st_rules.specs.ClientInvariants.{same_clean};
 ghost use Rattle.st_rules.specs.ClientPages as pages;
 ghost use Rattle.st_rules.specs.ServerInvariants.{are_once};
-ghost use Rattle.st_page_cache.specs.Keyed.{clean_key, touched};
+ghost use Rattle.st_page_cache.specs.KeyedPages.{clean_key, touched};
 
 use crate::key::{PageKey, key};
 use lru::LruCache;
@@ -27,7 +27,7 @@ impl Model for CleanPages {
 
     ghost Value = { List CleanPage };
 
-    ghost use Rattle.st_page_cache.specs.Keyed.{IsCache};
+    ghost use Rattle.st_page_cache.specs.KeyedPages.{IsCache};
 
     ghost view = { λ c. values_of c.pages.entries };
 

@@ -7,13 +7,13 @@ mod clean_pages;
 mod dirty_pages;
 mod dirty_places;
 mod key;
-mod known;
+mod known_extents;
 mod page_reads;
 mod refusal;
 mod shown;
 
 pub use cache::PageCache;
-pub use known::KnownExtents;
+pub use known_extents::KnownExtents;
 pub use refusal::CacheRefusal;
 pub use shown::{Dirty, Page};
 pub use st_rules::{CleanPage, DirtyPage};

@@ -3,7 +3,7 @@ ghost use Rattle.std.specs.Prelude.{◌≡◌};
 ghost use Rattle.std.specs.Borrow.{sem};
 ghost use Rattle.st_rules.specs.ClientPages as pages;
 ghost use Rattle.st_page_cache.specs.Caches.{bytes_shown};
-ghost use Rattle.st_page_cache.specs.Reading.{EndsUsed};
+ghost use Rattle.st_page_cache.specs.LentPages.{EndsUsed};
 
 use crate::cache::PageCache;
 use crate::shown::Page;

@@ -14,7 +14,7 @@ use Rattle.st_rules.specs.declared.observation.Observation.TheVariants as seen
 use Rattle.st_rules.specs.declared.world.IssuedCommand.{IssuedCommand}
 use Rattle.st_rules.specs.declared.world.SentMessage.{SentMessage}
 use Rattle.st_rules.specs.Keys.{same_client}
-use Rattle.st_rules.specs.World.{World, ClientSite, issued_of, message_of, site_of}
+use Rattle.st_rules.specs.World.{World, WorldClient, issued_of, message_of, site_of}
 use Rattle.st_rules.specs.Safety.{Promise, Step}
 
 -- Faults have a cause: `diskfault` is answered in the step in which the command that it names, one of the client, is reported failed; and
@@ -30,7 +30,7 @@ fails_command w c number (events.Report k ok) = not ok && is_own_command c numbe
 fails_command w c number e = false
 
 -- 16 operations of a client are pending
-abbrev pub is_full_at : Option ClientSite → Bool
+abbrev pub is_full_at : Option WorldClient → Bool
 is_full_at None = false
 is_full_at (Some site) = nat_le 16 (length site.node.state.operations)
 

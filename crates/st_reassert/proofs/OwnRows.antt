@@ -11,7 +11,7 @@ use Rattle.st_rules.specs.declared.locks.LockRow.{LockRow}
 use Rattle.st_rules.specs.Keys.{same_client, with_key, placed, past, rising, least}
 use Rattle.st_rules.specs.Locks.{Locks, has_rows, ino_of_row, is_row_by, is_row_of, row_at, row_in_list, rows_of}
 use Rattle.st_rules.specs.Grace.{is_row_below, own_older}
-use Rattle.st_reassert.specs.Accepting.{is_row_from, is_older}
+use Rattle.st_reassert.specs.Acceptance.{is_row_from, is_older}
 
 -- the first key of a list with one more
 record First (k : ℕ) (ks all : List ℕ) : Type 0 where

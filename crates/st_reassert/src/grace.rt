@@ -2,11 +2,11 @@ ghost use Rattle.std.specs.Prelude.{◌≡◌, IsOk, true};
 ghost use Rattle.std.specs.List.{IsDistinct, list_all};
 ghost use Rattle.st_base.specs.Config as settings;
 ghost use Rattle.st_locks.specs.Calls.{is_lock_row, same_file};
-ghost use Rattle.st_locks.specs.Since.{IsClient};
+ghost use Rattle.st_locks.specs.DemandStarts.{IsClient};
 ghost use Rattle.st_rules.specs.Grace as grace;
-ghost use Rattle.st_reassert.specs.Accepting.{Accepts, is_older};
+ghost use Rattle.st_reassert.specs.Acceptance.{Accepts, is_older};
 
-use crate::accepting::accept_rows;
+use crate::acceptance::accept_rows;
 use crate::refusal::ReassertRefusal;
 use st_base::{ClientId, Config, GrantNo, Life, Mode, Stamp};
 use st_clock::steal_wait;

@@ -2,7 +2,7 @@
 //! `docs/PROTOCOL.md`, "Grace and reassertion", has the rules.
 #![tactic(auto)]
 
-mod accepting;
+mod acceptance;
 mod grace;
 mod refusal;
 

@@ -14,7 +14,7 @@ use Rattle.st_replay.specs.declared.fault.Stop.{Stop}
 use Rattle.st_replay.specs.declared.fault.Stop.TheVariants as stops
 use Rattle.st_runs.specs.Schedule.{lines_of}
 use Rattle.st_runs.specs.Replay.{behind}
-use Rattle.st_replay.specs.Playing.{AtStop, OnStop, EndsAt, Feeds, Goes, HasNone, Handled, IsHere, from_here, needs}
+use Rattle.st_replay.specs.States.{AtStop, OnStop, EndsAt, Feeds, Goes, HasNone, Handled, IsHere, from_here, needs}
 use Rattle.st_replay.proofs.Room.{long_refused}
 use Rattle.st_replay.proofs.Steps.{line_stops}
 use Rattle.st_replay.proofs.First.{first_stops}

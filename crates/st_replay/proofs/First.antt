@@ -18,7 +18,7 @@ use Rattle.st_replay.specs.declared.fault.Stop.{Stop}
 use Rattle.st_replay.specs.declared.fault.Stop.TheVariants as stops
 use Rattle.st_runs.specs.Schedule.{schedule_of}
 use Rattle.st_runs.specs.Replay.{Stopped, behind, with_head, replay_from, replay_lines}
-use Rattle.st_replay.specs.Playing.{EndsAt, IsPlaying, IsUnread, AtStop, OnStop, from_line, needs}
+use Rattle.st_replay.specs.States.{EndsAt, IsPlaying, IsUnread, AtStop, OnStop, from_line, needs}
 use Rattle.st_runs.specs.Safe.{world_of}
 use Rattle.st_runs.proofs.Heads.{after_head, head_nodes}
 use Rattle.st_runs.proofs.Ranges.{fresh_clocks_length}

@@ -12,8 +12,8 @@ use Rattle.st_schedule.specs.declared.reader.Progress.TheVariants as progress
 use Rattle.st_schedule.specs.Reader.{read_end}
 use Rattle.st_runs.specs.declared.fault.LineRefusal.TheVariants as why
 use Rattle.st_runs.specs.Replay.{Replay, Whole, Stopped, behind, last_line, text, replay_lines}
-use Rattle.st_replay.specs.Playing.{EndsAt, Goes, IsHere, from_here}
-use Rattle.st_replay.specs.Streaming.{Concludes, EndsWhole, one}
+use Rattle.st_replay.specs.States.{EndsAt, Goes, IsHere, from_here}
+use Rattle.st_replay.specs.Streams.{Concludes, EndsWhole, one}
 use Rattle.st_replay.proofs.Steps.{stopped_at, end_stops, end_goes}
 
 pub none_lines : replay_lines [] ≡ record { front = []; last = Stopped 1 (why.Schedule NoHead) }

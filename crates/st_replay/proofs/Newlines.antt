@@ -29,7 +29,7 @@ use Rattle.std.specs.Prelude.{◌==◌, ◌&&◌, not, Some}
 use Rattle.std.proofs.lemmas.List.{append_assoc}
 use Rattle.st_runs.specs.Schedule.{onto, lines_of}
 use Rattle.st_replay.specs.Pieces.{onto_first, whole_lines}
-use Rattle.st_replay.specs.Playing.{HasNone, Handled, IsFirst}
+use Rattle.st_replay.specs.States.{HasNone, Handled, IsFirst}
 
 both_true : (a b : Bool) → (a && b) ≡ true → (a ≡ true) × (b ≡ true)
 both_true true b h = (refl, h)

@@ -17,8 +17,8 @@ use Rattle.st_replay.specs.declared.fault.Stop.TheVariants as stops
 use Rattle.st_runs.specs.Schedule.{lines_of}
 use Rattle.st_runs.specs.Replay.{Replay, Last, Whole, Stopped, behind, last_line, text, replay_lines, replay_of, report_of}
 use Rattle.st_replay.specs.Ends.{Completes, HasCauses, OnRead, Reports}
-use Rattle.st_replay.specs.Playing.{AtStop, EndsAt, from_here}
-use Rattle.st_replay.specs.Streaming.{Halts, RefusalCauses, Refuses, RefusesLine, Streams, one}
+use Rattle.st_replay.specs.States.{AtStop, EndsAt, from_here}
+use Rattle.st_replay.specs.Streams.{Halts, RefusalCauses, Refuses, RefusesLine, Streams, one}
 use Rattle.st_replay.proofs.Newlines.{one_line}
 use Rattle.st_replay.proofs.Steps.{behind_both}
 use Rattle.st_replay.proofs.Streams.{if_prefix, prefix_of}

@@ -19,7 +19,7 @@ use Rattle.st_schedule.specs.declared.reader.Progress.{Progress}
 use Rattle.st_schedule.specs.declared.reader.Progress.TheVariants as progress
 use Rattle.st_schedule_words.specs.Words.{split, room, is_long}
 use Rattle.st_schedule.specs.Grammar.{MOST_SETTING, grains, counts_of, head_numbers, head_words, AreCounts, IsForm, FitsHead}
-use Rattle.st_schedule.specs.Reading.{line_event, head_at}
+use Rattle.st_schedule.specs.Parser.{line_event, head_at}
 use Rattle.st_schedule.specs.Reader as head
 use Rattle.st_schedule.specs.Reader.{
   Told,
@@ -41,7 +41,7 @@ use Rattle.st_schedule.proofs.ValuesWereWritten.{chosen}
 use Rattle.st_schedule.proofs.EventsWereWritten.{end_is_spelled}
 use Rattle.st_schedule.proofs.LinesAsSpelled.{line_is_spelled}
 use Rattle.st_runs.proofs.Short.{read_short}
-use Rattle.st_replay.specs.Playing.{needs}
+use Rattle.st_replay.specs.States.{needs}
 
 cond_true : {X : Type 0} (b : Bool) (x y : X) → b ≡ true → cond b x y ≡ x
 cond_true b x y e = ap (λ c. cond c x y) e

@@ -20,7 +20,7 @@ use Rattle.st_schedule.specs.declared.reader.Line.TheVariants as said
 use Rattle.st_schedule.specs.declared.reader.Progress.{Progress}
 use Rattle.st_schedule.specs.declared.reader.Progress.TheVariants as progress
 use Rattle.st_schedule_words.specs.Words.{split}
-use Rattle.st_schedule.specs.Reading.{line_event}
+use Rattle.st_schedule.specs.Parser.{line_event}
 use Rattle.st_schedule.specs.Reader.{nodes_of, counted, with_line, later_line, read_line, read_end, HasNodes, HasRoom, after_line, MOST_EVENTS, SpellsLine}
 use Rattle.st_schedule.proofs.LinesAsSpelled.{line_is_read, line_is_spelled}
 use Rattle.st_replay.specs.declared.fault.Stop.{Stop}
@@ -31,7 +31,7 @@ use Rattle.st_runs.specs.declared.fault.LineRefusal.{LineRefusal}
 use Rattle.st_runs.specs.Schedule.{Schedule, Ending, begin, stop, end_at, schedule_of, with_told}
 use Rattle.st_runs.specs.Schedule as schedule
 use Rattle.st_runs.specs.Replay.{Replay, Whole, Stopped, behind, ended_by, run_from, replay_from}
-use Rattle.st_replay.specs.Playing.{AtStop, EndsAt, IsPlaying, IsUnread, from_line, from_world}
+use Rattle.st_replay.specs.States.{AtStop, EndsAt, IsPlaying, IsUnread, from_line, from_world}
 use Rattle.st_runs.proofs.Short.{read_short}
 use Rattle.st_runs.proofs.Ranges.{event_within}
 

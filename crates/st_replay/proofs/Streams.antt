@@ -19,8 +19,8 @@ use Rattle.st_runs.specs.Replay.{Replay, Whole, behind, last_line, text, replay_
 use Rattle.st_replay.proofs.Law.{law}
 use Rattle.st_replay.specs.Pieces.{Passes, whole_lines}
 use Rattle.st_replay.specs.Ends.{IsCutOff}
-use Rattle.st_replay.specs.Playing.{AtStop, EndsAt, Feeds, Handled, HasNone, IsHere, from_here}
-use Rattle.st_replay.specs.Streaming.{Streams, Halts}
+use Rattle.st_replay.specs.States.{AtStop, EndsAt, Feeds, Handled, HasNone, IsHere, from_here}
+use Rattle.st_replay.specs.Streams.{Streams, Halts}
 use Rattle.st_replay.proofs.Newlines.{none_handled, no_wholes, more_handled}
 use Rattle.st_replay.proofs.Steps.{behind_both, end_goes}
 use Rattle.st_replay.proofs.LastLines.{here_ends}

@@ -1,4 +1,4 @@
 pub mod Pieces
-pub mod Playing
+pub mod States
 pub mod Ends
-pub mod Streaming
+pub mod Streams

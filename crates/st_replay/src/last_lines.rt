@@ -3,8 +3,8 @@ ghost use Rattle.std.specs.Prelude.{◌≡◌, ◌++◌, [], ◌∷◌, IfOk, On
 ghost use Rattle.st_rules.specs.Events as rules;
 ghost use Rattle.st_schedule.specs.Reader.{read_end};
 ghost use Rattle.st_runs.specs.Replay.{Stopped, behind, config_refusal, last_line, line_refusal, schedule_refusal};
-ghost use Rattle.st_replay.specs.Playing.{EndsAt, Goes, IsHere, OnStop, from_here};
-ghost use Rattle.st_replay.specs.Streaming.{Concludes, EndsWhole, one};
+ghost use Rattle.st_replay.specs.States.{EndsAt, Goes, IsHere, OnStop, from_here};
+ghost use Rattle.st_replay.specs.Streams.{Concludes, EndsWhole, one};
 ghost use Rattle.st_rules.specs.Report.{refused, ended};
 
 use crate::fault::Stop;

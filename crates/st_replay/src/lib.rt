@@ -5,12 +5,12 @@
 ghost use Rattle.st_runs.specs.Safe.{EveryScheduleRunsSafely};
 
 mod fault;
-mod feed;
-mod finish;
 mod last_lines;
 mod lines;
+mod pieces;
 mod play;
 mod player;
+mod report_end;
 mod sinks;
 mod source;
 

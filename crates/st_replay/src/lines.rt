@@ -1,5 +1,5 @@
 ghost use Rattle.std.specs.Prelude.{◌≡◌, ◌+◌, ◌<◌, take, drop, length};
-ghost use Rattle.st_replay.specs.Playing.{IsFirst};
+ghost use Rattle.st_replay.specs.States.{IsFirst};
 
 use memchr::memchr;
 

@@ -7,7 +7,7 @@ ghost use Rattle.st_schedule.specs.Reader.{HasNodes, SpellsLine, read_line};
 ghost use Rattle.st_schedule.specs.declared.reader.Progress.TheVariants.{Nothing};
 ghost use Rattle.st_runs.specs.Schedule.{Schedule, begin, schedule_of};
 ghost use Rattle.st_runs.specs.Replay.{behind, replay_lines};
-ghost use Rattle.st_replay.specs.Playing.{EndsAt, IsPlaying, IsUnread, OnStop, from_line, from_world, needs};
+ghost use Rattle.st_replay.specs.States.{EndsAt, IsPlaying, IsUnread, OnStop, from_line, from_world, needs};
 
 use crate::fault::Stop;
 use st_base::Config;

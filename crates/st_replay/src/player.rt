@@ -1,7 +1,7 @@
 ghost use Rattle.std.specs.Prelude.{◌≡◌, ◌+◌, ◌≤◌, ◌∷◌, [], ℕ, List, OnOk, None, Some, length};
 ghost use Rattle.st_schedule.specs.declared.reader.Progress.TheVariants.{Nothing};
 ghost use Rattle.st_runs.specs.Replay.{behind};
-ghost use Rattle.st_replay.specs.Playing.{EndsAt, Goes, IsHere, OnStop, from_here, needs};
+ghost use Rattle.st_replay.specs.States.{EndsAt, Goes, IsHere, OnStop, from_here, needs};
 
 use crate::fault::Stop;
 use crate::play::{play_head, play_line};

@@ -2,7 +2,7 @@ ghost use Rattle.std.specs.Prelude.{◌≡◌, [], OnOk, OnErr};
 ghost use Rattle.std.specs.Io.KnownBytes.{Appends};
 ghost use Rattle.st_link.specs.Causes.{HasCause};
 ghost use Rattle.st_link.specs.Prefixes.{AppendsPrefix};
-ghost use Rattle.st_replay.specs.Streaming.{Refuses, RefusalCauses, RefusesLine};
+ghost use Rattle.st_replay.specs.Streams.{Refuses, RefusalCauses, RefusesLine};
 
 use crate::fault::{ReplayFault, Stop};
 use crate::last_lines::put_stopped;

@@ -7,12 +7,12 @@ ghost use Rattle.st_runs.specs.Replay.{replay_of};
 ghost use Rattle.st_runs.specs.Safe.{RunsSafely};
 ghost use Rattle.st_runs.specs.Schedule.{lines_of};
 ghost use Rattle.st_schedule.specs.declared.reader.Progress.TheVariants.{Nothing};
-ghost use Rattle.st_replay.specs.Streaming.{HaltCauses, Plays};
+ghost use Rattle.st_replay.specs.Streams.{HaltCauses, Plays};
 
 use crate::fault::{Halt, ReplayFault};
-use crate::feed::feed;
-use crate::finish::finish;
+use crate::pieces::feed;
 use crate::player::Player;
+use crate::report_end::finish;
 use crate::schedules_run_safely;
 use crate::sinks::{flush, refuse};
 use st_link::{Sink, Source};

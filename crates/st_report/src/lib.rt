@@ -5,7 +5,7 @@
 mod answers;
 mod bodies;
 mod commands;
-mod last;
+mod last_line;
 mod messages;
 mod names;
 mod observations;
@@ -13,7 +13,7 @@ mod refusals;
 mod runs;
 mod words;
 
-pub use last::put_ended;
+pub use last_line::put_ended;
 pub use observations::{put_lines, put_opening};
 pub use refusals::{put_refusal, put_refused};
 pub use runs::put_page;

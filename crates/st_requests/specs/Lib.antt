@@ -1,2 +1,2 @@
 pub mod ServerRequests
-pub mod Outstanding
+pub mod OutstandingRequest

@@ -2,7 +2,7 @@
 //! "Requests", has the rules.
 #![tactic(auto)]
 
-mod outstanding;
+mod outstanding_request;
 mod requests;
 
 pub use requests::{Reply, Requests};

@@ -2,7 +2,7 @@ ghost use Rattle.std.specs.Prelude.{◌≡◌, ◌+◌, ◌<◌, ◌^◌, IfOk, 
 ghost use Rattle.st_base.specs.Nodes.{HasNode};
 ghost use Rattle.st_requests.specs.ServerRequests as shown;
 
-use crate::outstanding::OutstandingRequest;
+use crate::outstanding_request::OutstandingRequest;
 use st_base::{ClientId, Epoch, Life, ServerId, Stamp};
 use st_messages::{Body, Message};
 use st_rules::Request;
@@ -33,7 +33,7 @@ impl Model for Requests {
     ghost use Rattle.std.specs.Prelude.{◌<◌, option_map};
     ghost use Rattle.st_base.specs.Nodes.{HasNode};
     ghost use Rattle.st_requests.specs.ServerRequests.{ServerRequests};
-    ghost use Rattle.st_requests.specs.Outstanding.{request_of, under_of};
+    ghost use Rattle.st_requests.specs.OutstandingRequest.{request_of, under_of};
 
     ghost Value = { ServerRequests };
 

@@ -3,7 +3,7 @@ use Rattle.std.specs.Prelude.{ℕ, List, [], ◌∷◌, ◌++◌, ⊤}
 use Rattle.st_base.specs.declared.config.Config.{Config}
 use Rattle.st_messages.specs.declared.output.Output.{Output}
 use Rattle.st_rules.specs.declared.input.ServerInput.{ServerInput}
-use Rattle.st_rules.specs.Server.{ServerState, Turn, server_step, fresh_server, crash, start}
+use Rattle.st_rules.specs.Server.{ServerState, ServerTurn, server_step, fresh_server, crash, start}
 use Rattle.st_rules.specs.Rules.{rules_open}
 use Rattle.st_rows.specs.Words.{stamp}
 
@@ -27,7 +27,7 @@ pub data Deed : Type 0 where
   Restart : (now : ℕ) → Deed
 
 -- what a server says in a script, in order
-abbrev pub and_then : (ServerState → List Output) → Turn → List Output
+abbrev pub and_then : (ServerState → List Output) → ServerTurn → List Output
 and_then rest t = t.out ++ rest t.state
 
 unfoldable pub said : List Deed → ServerState → List Output

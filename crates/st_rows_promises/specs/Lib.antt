@@ -1,2 +1,2 @@
 pub mod SafeWords
-pub mod Broken
+pub mod BrokenPromises

@@ -22,7 +22,7 @@ use Rattle.st_rules.specs.declared.world.FlushStep.{FlushStep}
 use Rattle.st_rules.specs.Leases.{rate_ok, greatest_of, least_of, drift_after, first_excess}
 use Rattle.st_rules.specs.Disks.{command}
 use Rattle.st_rules.specs.Client.{has_dirty_with, has_write_with}
-use Rattle.st_rules.specs.World.{World, ClientSite, numbered, site_of, is_running, is_known, same_node, node_of_place, all_clients, all_servers, clock_of, message_of, receiver_of, sender_of, issued_of, lease_end_of, present_end, is_flush_of}
+use Rattle.st_rules.specs.World.{World, WorldClient, numbered, site_of, is_running, is_known, same_node, node_of_place, all_clients, all_servers, clock_of, message_of, receiver_of, sender_of, issued_of, lease_end_of, present_end, is_flush_of}
 
 -- The first refusal that stands: a refusal stands where its test does.
 unfoldable pub stands : Bool → WorldRefusal → Option WorldRefusal
@@ -107,11 +107,11 @@ abbrev pub has_flushed : World → ClientId → ServerId → Option Stamp → Bo
 has_flushed w c s end = list_any (is_flush_under c s end) w.flushed
 
 -- it is to be flushed, and is not, or is not yet
-abbrev pub is_unflushed : World → ClientId → ServerId → ClientSite → Option Stamp → Bool
+abbrev pub is_unflushed : World → ClientId → ServerId → WorldClient → Option Stamp → Bool
 is_unflushed w c s site end = has_dirty_with site.node.state s && (not (has_flushed w c s end) || has_write_with site.node.state s)
 
 -- a running client that comes to its lease end unflushed
-abbrev pub misses : World → ClientId → ServerId → ℕ → ClientSite → Option Stamp → Bool
+abbrev pub misses : World → ClientId → ServerId → ℕ → WorldClient → Option Stamp → Bool
 misses w c s step site end = site.node.running && (reaches (clock_of w (nodes.Client c)) step end && is_unflushed w c s site end)
 
 -- a client's increment
@@ -119,7 +119,7 @@ abbrev pub step_of : ClientId → List ℕ → ℕ
 step_of c steps = unwrap_or (numbered steps c.0) 0
 
 -- a client, at a server
-abbrev pub missed_at : World → List ℕ → ClientId → ServerId → Option ClientSite → Option WorldRefusal
+abbrev pub missed_at : World → List ℕ → ClientId → ServerId → Option WorldClient → Option WorldRefusal
 missed_at w steps c s None = None
 missed_at w steps c s (Some site) = stands (misses w c s (step_of c steps) site (present_end w s (Some site))) (refusals.FlushMissed c s)
 

@@ -344,12 +344,12 @@ unfoldable pub release_unheld : ClientSession → ℕ → GrantNo → ClientSess
 release_unheld s ino g = if has_release s ino g then s else with_release ino g modes.None s
 
 -- the demand is seen
-unfoldable pub see_demand : Turn → ClientSession → ℕ → GrantNo → Turn
-see_demand t s ino g = send (with_session s t) s.epoch.0 0 0 (bodies.DemandSeen ino g)
+unfoldable pub observe_demand : Turn → ClientSession → ℕ → GrantNo → Turn
+observe_demand t s ino g = send (with_session s t) s.epoch.0 0 0 (bodies.DemandSeen ino g)
 
 -- by what becomes of the demand
 unfoldable pub demand_as : Turn → ClientSession → ℕ → GrantNo → Asked → Turn
-demand_as t s ino g Reduce = see_demand t s ino g
+demand_as t s ino g Reduce = observe_demand t s ino g
 demand_as t s ino g NotHeld = with_session (release_unheld s ino g) t
 demand_as t s ino g Stale = t
 
@@ -379,12 +379,12 @@ by_session t now h body (Some s) = with_a_session t s now h body
 
 -- Receiving: a message that is not to this client, not from a configured server, of another life than at that server, or of a
 -- later stamp than now, is passed over.
-abbrev pub is_heard : Turn → Stamp → Header → Bool
-is_heard t now h = (h.from == server_node t.here.server) && ((h.life == t.here.life.0) && nat_le h.stamp now.0)
+abbrev pub is_received : Turn → Stamp → Header → Bool
+is_received t now h = (h.from == server_node t.here.server) && ((h.life == t.here.life.0) && nat_le h.stamp now.0)
 
 -- at a server: whether it is from there
 unfoldable pub receive_at : Stamp → Header → Body → Turn → Turn
-receive_at now h body t = if is_heard t now h then by_session t now h body t.here.session else t
+receive_at now h body t = if is_received t now h then by_session t now h body t.here.session else t
 
 -- it is to this client
 unfoldable pub receive_here : ClientTurn → Stamp → Header → Body → ClientTurn
@@ -396,5 +396,5 @@ receive t now h body = if h.to == t.state.id.0 then receive_here t now h body el
 
 -- opens all of this file and of the state
 unfoldable pub client_replies_open : ⊤
-unfolding client_state_open note_lease begin_session welcome without_session follow_epoch newer_epoch of_other_epoch condemn accept_grant decline grant_new grant granted wait_told wait_unless_held queued learn extents acknowledged drop_lock drop_held removed named_as named reasserted refuse_file refuse_page refuse_holder refuse_as leave_stuck refused effect note_renewal end_request reply_to count_reply by_request counted reply_of grant_or_reply release_unheld see_demand demand_as demand_by demand of_epoch with_a_session by_session receive_at receive_here receive send
+unfolding client_state_open note_lease begin_session welcome without_session follow_epoch newer_epoch of_other_epoch condemn accept_grant decline grant_new grant granted wait_told wait_unless_held queued learn extents acknowledged drop_lock drop_held removed named_as named reasserted refuse_file refuse_page refuse_holder refuse_as leave_stuck refused effect note_renewal end_request reply_to count_reply by_request counted reply_of grant_or_reply release_unheld observe_demand demand_as demand_by demand of_epoch with_a_session by_session receive_at receive_here receive send
 client_replies_open = tt

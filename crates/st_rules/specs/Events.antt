@@ -61,7 +61,7 @@ use Rattle.st_rules.specs.Server.{ServerNode}
 use Rattle.st_rules.specs.Client as client
 use Rattle.st_rules.specs.Client.{ClientNode}
 use Rattle.st_rules.specs.ClientState.{ClientState}
-use Rattle.st_rules.specs.World.{World, ClientSite, with_numbered, site_of, node_of, clock_of, message_of, receiver_of, issued_of, server_of_disk, owner_carried, lives_of, life_with, is_flush_of, all_servers, world_open}
+use Rattle.st_rules.specs.World.{World, WorldClient, with_numbered, site_of, node_of, clock_of, message_of, receiver_of, issued_of, server_of_disk, owner_carried, lives_of, life_with, is_flush_of, all_servers, world_open}
 use Rattle.st_rules.specs.Admissible.{is_link, is_open, reaches, step_of, refusal, admissible_open}
 
 -- A step so far: the world, and what was observed, in order.
@@ -80,7 +80,7 @@ observe w sc o = record { world = w; seen = sc.seen ++ o ∷ [] }
 -- Changes of one part.
 
 -- with this client
-abbrev pub with_site : ClientId → ClientSite → World → World
+abbrev pub with_site : ClientId → WorldClient → World → World
 with_site c site w = record w { clients = with_numbered c.0 site w.clients }
 
 -- with this server
@@ -88,7 +88,7 @@ abbrev pub with_node : ServerId → ServerNode → World → World
 with_node s node w = record w { servers = with_numbered s.0 node w.servers }
 
 -- a client with this node
-abbrev pub at_node : ClientNode → ClientSite → ClientSite
+abbrev pub at_node : ClientNode → WorldClient → WorldClient
 at_node n site = record site { node = n }
 
 -- one more event
@@ -130,7 +130,7 @@ carries w c (commands.Read at) = None
 carries w c (commands.Write at tag bytes) = Some (carried w c tag)
 
 -- a client's command, under its own number
-abbrev pub issued : World → ClientId → ClientSite → ℕ → BlockAt → Command → IssuedCommand
+abbrev pub issued : World → ClientId → WorldClient → ℕ → BlockAt → Command → IssuedCommand
 issued w c site number at what =
     record {
       client = c;
@@ -146,7 +146,7 @@ abbrev pub with_command : IssuedCommand → Command → World → World
 with_command c what w = record w { disks = disks.submit w.disks what; commands = w.commands ++ c ∷ [] }
 
 -- Submitting
-unfoldable pub submits : WorldTurn → ClientId → Option ClientSite → ℕ → BlockAt → Command → WorldTurn
+unfoldable pub submits : WorldTurn → ClientId → Option WorldClient → ℕ → BlockAt → Command → WorldTurn
 submits sc c None number at what = sc
 submits sc c (Some site) number at what =
     observe (with_command (issued sc.world c site number at what) what sc.world) sc (seen.Submitted (length sc.world.commands + 1) c number what)
@@ -167,7 +167,7 @@ answers_with sc c op answer = observe (with_read answer sc.world) sc (seen.Answe
 -- Notes of a client: an accepted write or patch joins the log, under the client's life at the file's server; a lease that was
 -- lost leaves its life with the end that it had.
 -- the life of a client, where there is one
-abbrev pub life_of_site : ServerId → Option ClientSite → Life
+abbrev pub life_of_site : ServerId → Option WorldClient → Life
 life_of_site s None = record { 0 = 0 }
 life_of_site s (Some site) = life_with site.node.state s
 
@@ -260,16 +260,16 @@ abbrev pub quiet : World → WorldTurn
 quiet w = world_turn w []
 
 -- A step of a client. One that does not run takes none.
-unfoldable pub client_took : World → ClientId → ClientSite → Result client.NodeTurn StepRefusal → WorldTurn
+unfoldable pub client_took : World → ClientId → WorldClient → Result client.NodeTurn StepRefusal → WorldTurn
 client_took w c site (Ok t) = with_flushes c t.node.state (client_says_all c site.node.state t.out (quiet (with_site c (at_node t.node site) w)))
 client_took w c site (Err r) = quiet w
 
 -- a client takes an input at its clock
-unfoldable pub client_takes : World → ClientId → ClientInput → ClientSite → WorldTurn
+unfoldable pub client_takes : World → ClientId → ClientInput → WorldClient → WorldTurn
 client_takes w c input site = client_took w c site (client.node_step site.node (clock_of w (nodes.Client c)) input)
 
 -- a client that is there takes an input
-unfoldable pub at_client : World → ClientId → ClientInput → Option ClientSite → WorldTurn
+unfoldable pub at_client : World → ClientId → ClientInput → Option WorldClient → WorldTurn
 at_client w c input None = quiet w
 at_client w c input (Some site) = client_takes w c input site
 
@@ -319,11 +319,11 @@ ticks w (nodes.Client c) = at_client w c inputs.Tick (site_of w c)
 ticks w (nodes.Server s) = at_server w s serving.Tick (node_of w s)
 
 -- Ask: a client's asks are numbered from 1 over the whole run.
-abbrev pub asked_once_more : ClientSite → ClientSite
+abbrev pub asked_once_more : WorldClient → WorldClient
 asked_once_more site = record site { asks = site.asks + 1 }
 
 -- an ask of a client that is there
-unfoldable pub asks_at : World → ClientId → Ask → Option ClientSite → WorldTurn
+unfoldable pub asks_at : World → ClientId → Ask → Option WorldClient → WorldTurn
 asks_at w c ask None = quiet w
 asks_at w c ask (Some site) = client_takes w c (inputs.App (site.asks + 1) ask) (asked_once_more site)
 
@@ -395,7 +395,7 @@ unfoldable pub effects : World → ℕ → WorldTurn
 effects w k = marks (with_disks (disks_after w.disks (disks.effect w.disks k)) w) (log_hard w.log (carried_by (issued_of w k)))
 
 -- Report: it ends the command. The client takes it, where the instance that submitted the command still runs.
-abbrev pub is_same_instance : IssuedCommand → ClientSite → Bool
+abbrev pub is_same_instance : IssuedCommand → WorldClient → Bool
 is_same_instance c site = site.node.running && (site.starts == c.starts)
 
 -- what a read found
@@ -412,11 +412,11 @@ abbrev pub end_told : World → ℕ → Bool → IssuedCommand → ClientInput
 end_told w k ok c = inputs.Done c.number (result_of ok (disks.sample w.disks k))
 
 -- a client is told, or runs no more
-unfoldable pub tells_site : World → ℕ → Bool → IssuedCommand → ClientSite → WorldTurn
+unfoldable pub tells_site : World → ℕ → Bool → IssuedCommand → WorldClient → WorldTurn
 tells_site w k ok c site = if is_same_instance c site then client_takes w c.client (end_told w k ok c) site else quiet w
 
 -- a client that is there is told
-unfoldable pub tells_client : World → ℕ → Bool → IssuedCommand → Option ClientSite → WorldTurn
+unfoldable pub tells_client : World → ℕ → Bool → IssuedCommand → Option WorldClient → WorldTurn
 tells_client w k ok c None = quiet w
 tells_client w k ok c (Some site) = tells_site w k ok c site
 
@@ -489,7 +489,7 @@ abbrev pub is_reached : World → List ℕ → LeaseLife → Bool
 is_reached w steps e = reaches (clock_of w (nodes.Client e.client)) (step_of e.client steps) e.end
 
 -- the present lives of all clients
-unfoldable pub present_lives : List ClientSite → List LeaseLife
+unfoldable pub present_lives : List WorldClient → List LeaseLife
 present_lives [] = []
 present_lives (site ∷ sites) = lives_of site.node.state ++ present_lives sites
 
@@ -528,15 +528,15 @@ abbrev pub crashed_life : LeaseLife → LeaseLife
 crashed_life e = record e { crashed = true }
 
 -- with the lives of a client that crashed
-abbrev pub with_crashed_lives : ClientSite → World → World
+abbrev pub with_crashed_lives : WorldClient → World → World
 with_crashed_lives site w = record w { ended = w.ended ++ map crashed_life (lives_of site.node.state) }
 
 -- a client that stopped
-abbrev pub stopped_site : ClientSite → ClientSite
+abbrev pub stopped_site : WorldClient → WorldClient
 stopped_site site = record site { node = client.crash_node site.node }
 
 -- a client that is there crashes
-unfoldable pub crashes_client : World → ClientId → Option ClientSite → WorldTurn
+unfoldable pub crashes_client : World → ClientId → Option WorldClient → WorldTurn
 crashes_client w c None = quiet w
 crashes_client w c (Some site) = marks (with_site c (stopped_site site) (with_crashed_lives site w)) (log_crashed w c)
 
@@ -551,11 +551,11 @@ crashes w (nodes.Client c) = crashes_client w c (site_of w c)
 crashes w (nodes.Server s) = quiet (crashes_server w s (node_of w s))
 
 -- Start: a client begins its next life at every server; a server begins its next epoch, in grace.
-abbrev pub started_site : ClientSite → ClientSite
+abbrev pub started_site : WorldClient → WorldClient
 started_site site = record { node = client.start_node site.node; asks = site.asks; starts = site.starts + 1 }
 
 -- a client that is there starts
-unfoldable pub starts_client : World → ClientId → Option ClientSite → World
+unfoldable pub starts_client : World → ClientId → Option WorldClient → World
 starts_client w c None = w
 starts_client w c (Some site) = with_site c (started_site site) w
 

@@ -22,7 +22,7 @@ use Rattle.st_rules.specs.ClientLocks.{is_lock_on}
 use Rattle.st_rules.specs.ClientState.{ClientSession, Association}
 use Rattle.st_rules.specs.Client.{association_with}
 use Rattle.st_rules.specs.Server.{ServerNode}
-use Rattle.st_rules.specs.World.{World, ClientSite, site_of, node_of}
+use Rattle.st_rules.specs.World.{World, WorldClient, site_of, node_of}
 use Rattle.st_rules.specs.Events.{WorldTurn, world_step, present_life}
 use Rattle.st_rules.specs.Run.{Run, run}
 
@@ -58,7 +58,7 @@ no_history = record { timers = []; dates = []; grants = [] }
 -- What a client has of a server.
 
 -- of a client that is there
-abbrev pub association_at : ServerId → Option ClientSite → Option Association
+abbrev pub association_at : ServerId → Option WorldClient → Option Association
 association_at s None = None
 association_at s (Some site) = association_with site.node.state s
 

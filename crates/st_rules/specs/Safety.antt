@@ -26,7 +26,7 @@ use Rattle.st_messages.specs.declared.message.Body.TheVariants as bodies
 use Rattle.st_messages.specs.declared.message.Why.TheVariants as why
 use Rattle.st_messages.specs.declared.event.Event.{Event}
 use Rattle.st_messages.specs.declared.event.Event.TheVariants as events
-use Rattle.st_messages.specs.Fits.{is_ask}
+use Rattle.st_messages.specs.Ranges.{is_ask}
 use Rattle.st_rules.specs.declared.pages.DirtyPage.{DirtyPage}
 use Rattle.st_rules.specs.declared.input.ServerInput.TheVariants as serving
 use Rattle.st_rules.specs.declared.client.ClientInput.TheVariants as inputs
@@ -56,7 +56,7 @@ use Rattle.st_rules.specs.Locks as locks
 use Rattle.st_rules.specs.Server as server
 use Rattle.st_rules.specs.Server.{ServerNode}
 use Rattle.st_rules.specs.Sessions as sessions
-use Rattle.st_rules.specs.World.{World, ClientSite, site_of, node_of, same_node, all_clients, all_servers, clock_of, message_of, receiver_of, issued_of, server_of_disk, numbered, present_end, lease_end_of}
+use Rattle.st_rules.specs.World.{World, WorldClient, site_of, node_of, same_node, all_clients, all_servers, clock_of, message_of, receiver_of, issued_of, server_of_disk, numbered, present_end, lease_end_of}
 use Rattle.st_rules.specs.Events.{WorldTurn, world_step, present_life, present_lives, is_same_instance, is_hard_fate, last_write}
 use Rattle.st_rules.specs.Run.{run}
 use Rattle.st_rules.specs.Lines.{AtEach, IsLogTold, lines_open}
@@ -127,7 +127,7 @@ is_before clock None = false
 is_before clock (Some end) = nat_lt clock.0 end.0
 
 -- of a client that is there
-abbrev pub lasts_at : Stamp → ServerId → Option ClientSite → Bool
+abbrev pub lasts_at : Stamp → ServerId → Option WorldClient → Bool
 lasts_at clock s None = false
 lasts_at clock s (Some site) = site.node.running && is_before clock (client.lease_end_with site.node.state s)
 
@@ -222,7 +222,7 @@ is_cut_at f p (seen.CutAt index g q) = same_file g f && same_page q p
 is_cut_at f p o = false
 
 -- how many asks a client had
-abbrev pub asks_at : Option ClientSite → ℕ
+abbrev pub asks_at : Option WorldClient → ℕ
 asks_at None = 0
 asks_at (Some site) = site.asks
 
@@ -357,7 +357,7 @@ ChangesGoInTheOrderOfLocks past x = never_fall x.after.history.grants ≡ true
 -- An expired lease empties its client: where a client takes a step while its lease at a server is over, then after the step it is
 -- in its next life there and has no session, page, known place or command of that server, and in the step nothing was submitted
 -- to that server's disks and no read or write of its files was answered.
-abbrev pub is_told_at : IssuedCommand → Option ClientSite → Bool
+abbrev pub is_told_at : IssuedCommand → Option WorldClient → Bool
 is_told_at k None = false
 is_told_at k (Some site) = is_same_instance k site
 
@@ -752,7 +752,7 @@ is_of_past_life s m = is_below m.header (sessions.session_of s.sessions (server.
 -- Old messages change nothing at a server
 abbrev pub OldMessagesChangeNoServer : Type 0
 OldMessagesChangeNoServer =
-    (t : server.Turn) (now : Stamp) (m : Message)
+    (t : server.ServerTurn) (now : Stamp) (m : Message)
     → is_of_other_epoch t.state m || is_of_past_life t.state m ≡ true
     → (server.take_input t now (serving.Control m)).state ≡ t.state
 

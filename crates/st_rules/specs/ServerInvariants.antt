@@ -2,7 +2,7 @@
 use Rattle.std.specs.Prelude.{◌≡◌, ◌+◌, Bool, true, ◌&&◌, not, nat_le, nat_lt, List, [], ◌∷◌, Option, Some, None, is_some, ⊤}
 use Rattle.std.specs.List.{list_all, list_any}
 use Rattle.st_messages.specs.declared.message.Body.{Body}
-use Rattle.st_messages.specs.Fits.{is_body}
+use Rattle.st_messages.specs.Ranges.{is_body}
 use Rattle.st_rules.specs.declared.authority.Suspect.{Suspect}
 use Rattle.st_rules.specs.declared.locks.LockRow.{LockRow}
 use Rattle.st_rules.specs.declared.locks.Waiter.{Waiter}

@@ -30,7 +30,7 @@ use Rattle.st_rules.specs.Client.{ClientNode, association_with, lease_at, lease_
 use Rattle.st_rules.specs.ClientLease.{end_at}
 
 -- A client in the world: the node, how many asks it had, and how often it was started again.
-pub record ClientSite : Type 0 where
+pub record WorldClient : Type 0 where
   pub node : ClientNode
   pub asks : ℕ
   pub starts : ℕ
@@ -54,7 +54,7 @@ pub record World : Type 0 where
   pub form : ℕ
   pub clocks : List Stamp
   pub drift : List (List ℕ)
-  pub clients : List ClientSite
+  pub clients : List WorldClient
   pub servers : List ServerNode
   pub net : Net
   pub disks : Disks
@@ -75,7 +75,7 @@ abbrev pub stamp : ℕ → Stamp
 stamp n = record { 0 = n }
 
 -- a client at the start
-abbrev pub fresh_site : Config → ℕ → ℕ → ClientSite
+abbrev pub fresh_site : Config → ℕ → ℕ → WorldClient
 fresh_site k servers n = record { node = client_rules.fresh_node (client n) k servers; asks = 0; starts = 0 }
 
 -- a server at the start
@@ -133,7 +133,7 @@ with_numbered n x xs = set xs (pred n) x
 -- Nodes.
 
 -- the client of a number in the world
-abbrev pub site_of : World → ClientId → Option ClientSite
+abbrev pub site_of : World → ClientId → Option WorldClient
 site_of w c = numbered w.clients c.0
 
 -- the server of a number in the world
@@ -141,7 +141,7 @@ abbrev pub node_of : World → ServerId → Option ServerNode
 node_of w s = numbered w.servers s.0
 
 -- a client that is there runs
-abbrev pub site_runs : Option ClientSite → Bool
+abbrev pub site_runs : Option WorldClient → Bool
 site_runs None = false
 site_runs (Some site) = site.node.running
 
@@ -242,7 +242,7 @@ abbrev pub end_of_life : LeaseLife → Option Stamp
 end_of_life e = e.end
 
 -- the present lease end of a client at a server
-abbrev pub present_end : World → ServerId → Option ClientSite → Option Stamp
+abbrev pub present_end : World → ServerId → Option WorldClient → Option Stamp
 present_end w s None = None
 present_end w s (Some site) = lease_end_with site.node.state s
 

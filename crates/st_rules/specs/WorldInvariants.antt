@@ -15,7 +15,7 @@ use Rattle.st_rules.specs.declared.world.SentMessage.{SentMessage}
 use Rattle.st_rules.specs.Keys.{same_server}
 use Rattle.st_rules.specs.ClientState.{Association}
 use Rattle.st_rules.specs.Server.{ServerNode}
-use Rattle.st_rules.specs.World.{World, ClientSite, server_of_disk, sender_of}
+use Rattle.st_rules.specs.World.{World, WorldClient, server_of_disk, sender_of}
 use Rattle.st_rules.specs.ServerInvariants.{IsServer}
 use Rattle.st_rules.specs.ClientInvariants.{IsClient}
 
@@ -60,7 +60,7 @@ abbrev pub knows_own_at : World → Association → Bool
 knows_own_at w a = list_all (is_own_known w a.server) a.store.extents
 
 -- what a client knows of pages is of their servers' disks
-abbrev pub knows_own : World → ClientSite → Bool
+abbrev pub knows_own : World → WorldClient → Bool
 knows_own w site = list_all (knows_own_at w) site.node.state.associations
 
 -- the server is as it is to be
@@ -68,7 +68,7 @@ abbrev pub IsNode : ServerNode → Type 0
 IsNode node = IsServer node.state
 
 -- the client is as it is to be
-abbrev pub IsSite : ClientSite → Type 0
+abbrev pub IsSite : WorldClient → Type 0
 IsSite site = IsClient site.node.state
 
 -- The world: each node is as it is to be; each disk command is an issued one; mapped pages lie, and are told and known to lie,

@@ -11,7 +11,7 @@ use Rattle.st_schedule.specs.declared.reader.Line.TheVariants as said
 use Rattle.st_schedule.specs.declared.reader.Progress.{Progress}
 use Rattle.st_schedule.specs.declared.reader.Progress.TheVariants as progress
 use Rattle.st_schedule_words.specs.Words.{split}
-use Rattle.st_schedule.specs.Reading.{line_event}
+use Rattle.st_schedule.specs.Parser.{line_event}
 use Rattle.st_schedule.specs.Reader.{Told, MOST_EVENTS, counted, later_line, nodes_of, read_line, with_line}
 use Rattle.st_schedule.proofs.LinesAsSpelled.{line_is_spelled}
 use Rattle.st_schedule.proofs.ValuesWereWritten.{chosen}

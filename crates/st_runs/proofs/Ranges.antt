@@ -17,7 +17,7 @@ use Rattle.st_messages.specs.declared.event.Counts.{Counts}
 use Rattle.st_messages.specs.declared.event.Event.{Event}
 use Rattle.st_messages.specs.declared.event.Event.TheVariants as events
 use Rattle.st_messages.specs.Kinds.{between}
-use Rattle.st_messages.specs.Fits.{is_ask, is_name_ask, is_file, has_length}
+use Rattle.st_messages.specs.Ranges.{is_ask, is_name_ask, is_file, has_length}
 use Rattle.st_rules.specs.Safety.{IsHead, is_event, is_increment}
 use Rattle.st_rules.specs.Extents.{numbers}
 use Rattle.st_rules.specs.World.{fresh_world, client_clock, server_clock}

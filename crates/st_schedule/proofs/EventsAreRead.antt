@@ -21,7 +21,7 @@ use Rattle.st_schedule.specs.declared.verb.Verb.{Verb}
 use Rattle.st_schedule.specs.declared.verb.Verb.TheVariants as verbs
 use Rattle.st_schedule_words.specs.Words.{MOST_NODE, MOST_NUMBER}
 use Rattle.st_schedule.specs.Grammar.{words, words_after, ask_words, name_words, steps_words, in_full, are_equal, byte_of, file_name, node_text, client_text, after_text, result_text, link_words, IsWithin, IsNode, IsFile, IsPlace, IsName, IsAfter, IsEven, IsPatch, FitsName, FitsAsk, Fits, AreSteps, least_step, AreFull, Spells}
-use Rattle.st_schedule.specs.Reading.{◌>>=◌, Read, write_at, read_at, sync_at, cut_at, range_at, patch_at, lookup_at, create_at, mkdir_at, remove_at, rename_at, list_at, asked_at, ask_verb_at, app_at, steps_at, steps_of, advance_at, link_at, cut_link_at, heal_at, tick_at, crash_at, start_at, deliver_at, lose_at, effect_at, report_at, event_at, verb_of, verb_in, event_of, line_event, ends}
+use Rattle.st_schedule.specs.Parser.{◌>>=◌, Read, write_at, read_at, sync_at, cut_at, range_at, patch_at, lookup_at, create_at, mkdir_at, remove_at, rename_at, list_at, asked_at, ask_verb_at, app_at, steps_at, steps_of, advance_at, link_at, cut_link_at, heal_at, tick_at, crash_at, start_at, deliver_at, lose_at, effect_at, report_at, event_at, verb_of, verb_in, event_of, line_event, ends}
 use Rattle.st_schedule.proofs.ValuesAreRead.{number_again, node_again, client_again, file_again, name_again, after_again, result_again, place_again, entry_again}
 
 -- Asks.

@@ -22,7 +22,7 @@ use Rattle.st_schedule.specs.declared.verb.AskVerb.{AskVerb}
 use Rattle.st_schedule.specs.declared.verb.AskVerb.TheVariants as ask_verbs
 use Rattle.st_schedule_words.specs.Words.{MOST_NUMBER}
 use Rattle.st_schedule.specs.Grammar.{words_after, ask_words, name_words, steps_words, in_full, byte_of, file_name, node_text, client_text, result_text, IsWithin, IsNode, IsFile, IsPlace, IsName, FitsAsk, least_step, Spells, MOST_PAGE}
-use Rattle.st_schedule.specs.Reading.{◌>>=◌, place_at, entry_at, page_of, write_at, read_at, sync_at, cut_at, range_at, patch_at, lookup_at, create_at, mkdir_at, remove_at, rename_at, list_at, asked_at, ask_verb_at, ask_verb_of, name_verb_of, app_at, steps_at, steps_of, advance_at, link_at, cut_link_at, heal_at, tick_at, crash_at, start_at, deliver_at, lose_at, effect_at, report_at, event_at, verb_of, link_or_later, crash_or_start, verb_in, or_wrong, event_of, end_of, line_event, ends, named}
+use Rattle.st_schedule.specs.Parser.{◌>>=◌, place_at, entry_at, page_of, write_at, read_at, sync_at, cut_at, range_at, patch_at, lookup_at, create_at, mkdir_at, remove_at, rename_at, list_at, asked_at, ask_verb_at, ask_verb_of, name_verb_of, app_at, steps_at, steps_of, advance_at, link_at, cut_link_at, heal_at, tick_at, crash_at, start_at, deliver_at, lose_at, effect_at, report_at, event_at, verb_of, link_or_later, crash_or_start, verb_in, or_wrong, event_of, end_of, line_event, ends, named}
 use Rattle.st_schedule.proofs.ValuesWereWritten.{bind_ok, chosen, Begins, number_found, node_found, client_found, file_found, name_found, after_found, result_found, text_is, place_ok}
 
 small_number : MOST_NUMBER < 2 ^ 64

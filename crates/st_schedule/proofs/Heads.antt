@@ -8,7 +8,7 @@ use Rattle.st_base.specs.declared.config.Config.{Config}
 use Rattle.st_messages.specs.declared.event.Counts.{Counts}
 use Rattle.st_schedule.specs.declared.fault.Fault.{Fault}
 use Rattle.st_schedule.specs.Grammar.{MOST_SETTING, grains, counts_of, head_numbers, AreSettings, AreCounts, IsForm, SpellsHead}
-use Rattle.st_schedule.specs.Reading.{setting_at, three_at, form_at, form_of, grain_at, rate_at, config_of, config_at, counts_at, head_at, ends}
+use Rattle.st_schedule.specs.Parser.{setting_at, three_at, form_at, form_of, grain_at, rate_at, config_of, config_at, counts_at, head_at, ends}
 use Rattle.st_schedule.proofs.ValuesWereWritten.{bind_ok, chosen, Begins, number_found, text_is, place_ok}
 use Rattle.st_schedule.proofs.EventsWereWritten.{choose, ends_is}
 use Rattle.st_schedule.proofs.ValuesAreRead.{number_again}

@@ -5,7 +5,7 @@ use Rattle.std.proofs.lemmas.List.{append-nil}
 use Rattle.st_schedule.specs.declared.fault.ReadError.{ReadError}
 use Rattle.st_schedule.specs.declared.fault.ReadError.TheVariants as errors
 use Rattle.st_schedule_words.specs.Words.{words_behind, MOST_NUMBER}
-use Rattle.st_schedule.specs.Reading.{◌>>=◌, Read, Fails, number_at, steps_at, steps_of}
+use Rattle.st_schedule.specs.Parser.{◌>>=◌, Read, Fails, number_at, steps_at, steps_of}
 use Rattle.st_schedule_words.proofs.Words.{split-some}
 
 -- what was read before, and what is still read

@@ -1,7 +1,7 @@
 -- The end of a line's words.
 use Rattle.std.proofs.Common.{◌≡◌, ℕ, ◌<◌, List, [], ◌∷◌, length, refl, arith}
 use Rattle.st_schedule_words.specs.Words.{words_behind}
-use Rattle.st_schedule.specs.Reading.{ends, syntax_at}
+use Rattle.st_schedule.specs.Parser.{ends, syntax_at}
 use Rattle.st_schedule_words.proofs.Words.{split-some}
 
 ends-some : (ws : List (List ℕ)) → 0 < length ws → ends ws ≡ syntax_at ws

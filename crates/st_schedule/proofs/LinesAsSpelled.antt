@@ -17,7 +17,7 @@ use Rattle.st_schedule.specs.declared.reader.Progress.{Progress}
 use Rattle.st_schedule.specs.declared.reader.Progress.TheVariants as progress
 use Rattle.st_schedule_words.specs.Words.{split, is_long}
 use Rattle.st_schedule.specs.Grammar.{Spells, SpellsHead, head_numbers}
-use Rattle.st_schedule.specs.Reading.{line_event, head_at, end_of, ends}
+use Rattle.st_schedule.specs.Parser.{line_event, head_at, end_of, ends}
 use Rattle.st_schedule.specs.Reader.{Told, started, checked, with_head, head_of_words, first_line, counted, with_line, nodes_of, later_line, short_line, read_line, MOST_EVENTS, SpellsLine, HasNodes, HasRoom, after_line, Answers}
 use Rattle.st_schedule.proofs.ValuesWereWritten.{chosen, text_is}
 use Rattle.st_schedule.proofs.EventsWereWritten.{read_is_spelled, end_is_spelled}

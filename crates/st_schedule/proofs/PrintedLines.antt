@@ -8,7 +8,7 @@ use Rattle.st_schedule.specs.declared.reader.Line.TheVariants as lines
 use Rattle.st_schedule.specs.declared.reader.Progress.TheVariants as progress
 use Rattle.st_schedule_words.specs.Words.{split, line_of, is_long}
 use Rattle.st_schedule.specs.Grammar.{words, words_after, verb}
-use Rattle.st_schedule.specs.Reading.{line_event}
+use Rattle.st_schedule.specs.Parser.{line_event}
 use Rattle.st_schedule.specs.Reader.{later_line, nodes_of, MOST_EVENTS, IsReadAs}
 use Rattle.st_schedule.proofs.EventsAreRead.{event_is_read}
 use Rattle.st_schedule.proofs.LineRoom.{line_has_words, length-line, words_take, Take}

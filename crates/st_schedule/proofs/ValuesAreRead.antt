@@ -16,7 +16,7 @@ use Rattle.st_base.specs.declared.ids.NodeId.{NodeId}
 use Rattle.st_base.specs.declared.ids.NodeId.TheVariants as nodes
 use Rattle.st_schedule_words.specs.Words.{is_digit, plain, node_of, client_of, server_of, client_alone, file_of, file_parted, file_word, is_name, MOST_NODE, MOST_SERVER, MOST_NUMBER}
 use Rattle.st_schedule.specs.Grammar.{client_text, node_text, file_text, file_name, after_text, result_text, IsWithin, IsNode, IsFile, IsPlace, IsName, IsAfter, MOST_PAGE}
-use Rattle.st_schedule.specs.Reading.{number_at, node_at, client_at, file_at, name_at, after_at, result_at, place_at, entry_at, or_syntax}
+use Rattle.st_schedule.specs.Parser.{number_at, node_at, client_at, file_at, name_at, after_at, result_at, place_at, entry_at, or_syntax}
 use Rattle.st_schedule_words.proofs.Numbers.{own, decimal_is_number, decimal_in_range, decimal_plain}
 
 pub number_again : (least most n : ℕ) (ws : List (List ℕ)) → n < 2 ^ 64 → least ≤ n → n ≤ most → number_at least most (decimal n ∷ ws) ≡ Ok (n, ws)

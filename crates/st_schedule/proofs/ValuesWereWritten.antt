@@ -17,7 +17,7 @@ use Rattle.st_base.specs.declared.ids.NodeId.TheVariants as nodes
 use Rattle.st_schedule.specs.declared.fault.Fault.{Fault}
 use Rattle.st_schedule_words.specs.Words.{is_digit, is_number, has_leading_zero, value, at_most, at_least, in_range, plain, node_of, client_of, server_of, client_alone, client_word, file_of, file_in, file_parted, file_word, is_name, MOST_NODE, MOST_SERVER, MOST_NUMBER}
 use Rattle.st_schedule.specs.Grammar.{client_text, node_text, file_text, file_name, after_text, result_text, IsWithin, IsNode, IsFile, IsName, IsAfter}
-use Rattle.st_schedule.specs.Reading.{◌>>=◌, place, or_syntax, or_number, number_at, node_at, client_at, file_at, name_at, after_at, result_at, name_in, after_in, after_of, result_of}
+use Rattle.st_schedule.specs.Parser.{◌>>=◌, place, or_syntax, or_number, number_at, node_at, client_at, file_at, name_at, after_at, result_at, name_in, after_in, after_of, result_of}
 use Rattle.st_schedule_words.proofs.Numbers.{own}
 
 -- Tools.

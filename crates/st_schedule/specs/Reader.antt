@@ -18,7 +18,7 @@ use Rattle.st_schedule.specs.declared.reader.Progress.{Progress}
 use Rattle.st_schedule.specs.declared.reader.Progress.TheVariants as progress
 use Rattle.st_schedule_words.specs.Words.{split, column, is_long}
 use Rattle.st_schedule.specs.Grammar.{Fits, Spells, SpellsHead}
-use Rattle.st_schedule.specs.Reading.{line_event, head_at}
+use Rattle.st_schedule.specs.Parser.{line_event, head_at}
 
 -- what a line says, and what the reader has read after it
 abbrev pub Told : Type 0

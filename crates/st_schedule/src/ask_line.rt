@@ -1,8 +1,8 @@
 // Asks, from the words of their lines.
 ghost use Rattle.std.specs.Prelude.{◌≡◌, ◌≤◌, ◌+◌, IfOk, replicate};
 ghost use Rattle.st_schedule_words.specs.Words.{words_behind};
-ghost use Rattle.st_schedule.specs.Reading.{Gives};
-ghost use Rattle.st_schedule.specs.Reading as reading;
+ghost use Rattle.st_schedule.specs.Parser.{Gives};
+ghost use Rattle.st_schedule.specs.Parser as reading;
 
 use crate::fault::ReadError;
 use crate::next_word::{after_at, ask_verb_at, client_at, file_at, name_at, number_at, place_at};
@@ -12,7 +12,7 @@ use st_messages::{Ask, Event, PatchBytes};
 use st_schedule_words::MOST_NUMBER;
 use std::alloc::{AllocError, Global};
 
-#[tactic(auto, unfolding(crate::specs::Reading::write_at))]
+#[tactic(auto, unfolding(crate::specs::Parser::write_at))]
 fn write_at(rest: &[u8]) -> Result<(Ask, &[u8]), ReadError>
     ensures { Gives (λ x. (x.0, words_behind x.1.now)) result (reading.write_at (words_behind rest.now)) }
 {
@@ -22,7 +22,7 @@ fn write_at(rest: &[u8]) -> Result<(Ask, &[u8]), ReadError>
     Ok((Ask::Write(file, page, bytes), rest))
 }
 
-#[tactic(auto, unfolding(crate::specs::Reading::read_at))]
+#[tactic(auto, unfolding(crate::specs::Parser::read_at))]
 fn read_at(rest: &[u8]) -> Result<(Ask, &[u8]), ReadError>
     ensures { Gives (λ x. (x.0, words_behind x.1.now)) result (reading.read_at (words_behind rest.now)) }
 {
@@ -30,7 +30,7 @@ fn read_at(rest: &[u8]) -> Result<(Ask, &[u8]), ReadError>
     Ok((Ask::Read(file, page), rest))
 }
 
-#[tactic(auto, unfolding(crate::specs::Reading::sync_at))]
+#[tactic(auto, unfolding(crate::specs::Parser::sync_at))]
 fn sync_at(rest: &[u8]) -> Result<(Ask, &[u8]), ReadError>
     ensures { Gives (λ x. (x.0, words_behind x.1.now)) result (reading.sync_at (words_behind rest.now)) }
 {
@@ -38,7 +38,7 @@ fn sync_at(rest: &[u8]) -> Result<(Ask, &[u8]), ReadError>
     Ok((Ask::Sync(file), rest))
 }
 
-#[tactic(auto, unfolding(crate::specs::Reading::cut_at))]
+#[tactic(auto, unfolding(crate::specs::Parser::cut_at))]
 fn cut_at(rest: &[u8]) -> Result<(Ask, &[u8]), ReadError>
     ensures { Gives (λ x. (x.0, words_behind x.1.now)) result (reading.cut_at (words_behind rest.now)) }
 {
@@ -47,7 +47,7 @@ fn cut_at(rest: &[u8]) -> Result<(Ask, &[u8]), ReadError>
 }
 
 /// A place in a page, and a number of bytes from there on, all within the page.
-#[tactic(auto, unfolding(crate::specs::Reading::range_at))]
+#[tactic(auto, unfolding(crate::specs::Parser::range_at))]
 fn range_at(rest: &[u8]) -> Result<((u16, usize), &[u8]), ReadError>
     ensures range { Gives (λ x. (x.0, words_behind x.1.now)) result (reading.range_at (words_behind rest.now)) }
     ensures some { IfOk result (λ x. 1 ≤ x.0.1) }
@@ -68,7 +68,7 @@ fn repeated(alloc: Global, byte: u8, len: usize) -> Result<PatchBytes, AllocErro
     Ok(PatchBytes::from_vec(bytes))
 }
 
-#[tactic(auto, unfolding(crate::specs::Reading::patch_at))]
+#[tactic(auto, unfolding(crate::specs::Parser::patch_at))]
 fn patch_at(alloc: Global, rest: &[u8]) -> Result<(Ask, &[u8]), ReadError>
     ensures { Gives (λ x. (x.0, words_behind x.1.now)) result (reading.patch_at (words_behind rest.now)) }
 {
@@ -80,7 +80,7 @@ fn patch_at(alloc: Global, rest: &[u8]) -> Result<(Ask, &[u8]), ReadError>
 }
 
 /// A directory and a name in it.
-#[tactic(auto, unfolding(crate::specs::Reading::entry_at))]
+#[tactic(auto, unfolding(crate::specs::Parser::entry_at))]
 fn entry_at(alloc: Global, rest: &[u8]) -> Result<((FileId, Name), &[u8]), ReadError>
     ensures { Gives (λ x. (x.0, words_behind x.1.now)) result (reading.entry_at (words_behind rest.now)) }
 {
@@ -95,7 +95,7 @@ fn named(directory: FileId, ask: NameAsk) -> Ask
     Ask::Name(directory.server, ask)
 }
 
-#[tactic(auto, unfolding(crate::specs::Reading::lookup_at))]
+#[tactic(auto, unfolding(crate::specs::Parser::lookup_at))]
 fn lookup_at(alloc: Global, rest: &[u8]) -> Result<(Ask, &[u8]), ReadError>
     ensures { Gives (λ x. (x.0, words_behind x.1.now)) result (reading.lookup_at (words_behind rest.now)) }
 {
@@ -104,7 +104,7 @@ fn lookup_at(alloc: Global, rest: &[u8]) -> Result<(Ask, &[u8]), ReadError>
     Ok((named(directory, NameAsk::Lookup { dir, name }), rest))
 }
 
-#[tactic(auto, unfolding(crate::specs::Reading::create_at))]
+#[tactic(auto, unfolding(crate::specs::Parser::create_at))]
 fn create_at(alloc: Global, rest: &[u8]) -> Result<(Ask, &[u8]), ReadError>
     ensures { Gives (λ x. (x.0, words_behind x.1.now)) result (reading.create_at (words_behind rest.now)) }
 {
@@ -113,7 +113,7 @@ fn create_at(alloc: Global, rest: &[u8]) -> Result<(Ask, &[u8]), ReadError>
     Ok((named(directory, NameAsk::Create { dir, name }), rest))
 }
 
-#[tactic(auto, unfolding(crate::specs::Reading::mkdir_at))]
+#[tactic(auto, unfolding(crate::specs::Parser::mkdir_at))]
 fn mkdir_at(alloc: Global, rest: &[u8]) -> Result<(Ask, &[u8]), ReadError>
     ensures { Gives (λ x. (x.0, words_behind x.1.now)) result (reading.mkdir_at (words_behind rest.now)) }
 {
@@ -122,7 +122,7 @@ fn mkdir_at(alloc: Global, rest: &[u8]) -> Result<(Ask, &[u8]), ReadError>
     Ok((named(directory, NameAsk::Mkdir { dir, name }), rest))
 }
 
-#[tactic(auto, unfolding(crate::specs::Reading::remove_at))]
+#[tactic(auto, unfolding(crate::specs::Parser::remove_at))]
 fn remove_at(alloc: Global, rest: &[u8]) -> Result<(Ask, &[u8]), ReadError>
     ensures { Gives (λ x. (x.0, words_behind x.1.now)) result (reading.remove_at (words_behind rest.now)) }
 {
@@ -133,7 +133,7 @@ fn remove_at(alloc: Global, rest: &[u8]) -> Result<(Ask, &[u8]), ReadError>
     Ok((named(directory, NameAsk::Remove { dir, name, ino }), rest))
 }
 
-#[tactic(auto, unfolding(crate::specs::Reading::rename_at))]
+#[tactic(auto, unfolding(crate::specs::Parser::rename_at))]
 fn rename_at(alloc: Global, rest: &[u8]) -> Result<(Ask, &[u8]), ReadError>
     ensures { Gives (λ x. (x.0, words_behind x.1.now)) result (reading.rename_at (words_behind rest.now)) }
 {
@@ -151,7 +151,7 @@ fn rename_at(alloc: Global, rest: &[u8]) -> Result<(Ask, &[u8]), ReadError>
     Ok((named(directory, ask), rest))
 }
 
-#[tactic(auto, unfolding(crate::specs::Reading::list_at))]
+#[tactic(auto, unfolding(crate::specs::Parser::list_at))]
 fn list_at(alloc: Global, rest: &[u8]) -> Result<(Ask, &[u8]), ReadError>
     ensures { Gives (λ x. (x.0, words_behind x.1.now)) result (reading.list_at (words_behind rest.now)) }
 {
@@ -161,7 +161,7 @@ fn list_at(alloc: Global, rest: &[u8]) -> Result<(Ask, &[u8]), ReadError>
     Ok((named(directory, NameAsk::List { dir, after }), rest))
 }
 
-#[tactic(auto, unfolding(crate::specs::Reading::asked_at))]
+#[tactic(auto, unfolding(crate::specs::Parser::asked_at))]
 fn asked_at(alloc: Global, verb: AskVerb, rest: &[u8]) -> Result<(Ask, &[u8]), ReadError>
     ensures { Gives (λ x. (x.0, words_behind x.1.now)) result (reading.asked_at verb (words_behind rest.now)) }
 {
@@ -181,7 +181,7 @@ fn asked_at(alloc: Global, verb: AskVerb, rest: &[u8]) -> Result<(Ask, &[u8]), R
 }
 
 /// The event of a line `app`: what an application asks of a client.
-#[tactic(auto, unfolding(crate::specs::Reading::app_at))]
+#[tactic(auto, unfolding(crate::specs::Parser::app_at))]
 pub(crate) fn app_at(alloc: Global, form: u8, rest: &[u8]) -> Result<(Event, &[u8]), ReadError>
     ensures { Gives (λ x. (x.0, words_behind x.1.now)) result (reading.app_at form (words_behind rest.now)) }
 {

@@ -2,8 +2,8 @@
 ghost use Rattle.std.specs.Prelude.{◌≡◌};
 ghost use Rattle.st_schedule_words.specs.Words.{split, words_behind};
 ghost use Rattle.st_schedule.specs.Grammar.{least_step as least_step_of};
-ghost use Rattle.st_schedule.specs.Reading.{Gives};
-ghost use Rattle.st_schedule.specs.Reading as reading;
+ghost use Rattle.st_schedule.specs.Parser.{Gives};
+ghost use Rattle.st_schedule.specs.Parser as reading;
 
 use crate::ask_line::app_at;
 use crate::fault::ReadError;
@@ -34,7 +34,7 @@ fn steps_at(
 }
 
 /// A line with one increment gives it to every node; a line with more words has one increment for each node.
-#[tactic(auto, using(crate::proofs::Increments::more_words), unfolding(crate::specs::Reading::steps_of))]
+#[tactic(auto, using(crate::proofs::Increments::more_words), unfolding(crate::specs::Parser::steps_of))]
 fn steps_of<'a>(
     alloc: Global,
     least: u64,
@@ -53,7 +53,7 @@ fn steps_of<'a>(
     }
 }
 
-#[tactic(auto, unfolding(crate::specs::Reading::advance_at))]
+#[tactic(auto, unfolding(crate::specs::Parser::advance_at))]
 fn advance_at(
     alloc: Global,
     least: u64,
@@ -67,7 +67,7 @@ fn advance_at(
     Ok((Event::Advance(Steps::from_vec(steps)), rest))
 }
 
-#[tactic(auto, unfolding(crate::specs::Reading::link_at))]
+#[tactic(auto, unfolding(crate::specs::Parser::link_at))]
 fn link_at(rest: &[u8]) -> Result<((NodeId, NodeId), &[u8]), ReadError>
     ensures { Gives (λ x. (x.0, words_behind x.1.now)) result (reading.link_at (words_behind rest.now)) }
 {
@@ -76,7 +76,7 @@ fn link_at(rest: &[u8]) -> Result<((NodeId, NodeId), &[u8]), ReadError>
     Ok(((from, to), rest))
 }
 
-#[tactic(auto, unfolding(crate::specs::Reading::cut_link_at))]
+#[tactic(auto, unfolding(crate::specs::Parser::cut_link_at))]
 fn cut_link_at(rest: &[u8]) -> Result<(Event, &[u8]), ReadError>
     ensures { Gives (λ x. (x.0, words_behind x.1.now)) result (reading.cut_link_at (words_behind rest.now)) }
 {
@@ -84,7 +84,7 @@ fn cut_link_at(rest: &[u8]) -> Result<(Event, &[u8]), ReadError>
     Ok((Event::Cut(from, to), rest))
 }
 
-#[tactic(auto, unfolding(crate::specs::Reading::heal_at))]
+#[tactic(auto, unfolding(crate::specs::Parser::heal_at))]
 fn heal_at(rest: &[u8]) -> Result<(Event, &[u8]), ReadError>
     ensures { Gives (λ x. (x.0, words_behind x.1.now)) result (reading.heal_at (words_behind rest.now)) }
 {
@@ -92,7 +92,7 @@ fn heal_at(rest: &[u8]) -> Result<(Event, &[u8]), ReadError>
     Ok((Event::Heal(from, to), rest))
 }
 
-#[tactic(auto, unfolding(crate::specs::Reading::tick_at))]
+#[tactic(auto, unfolding(crate::specs::Parser::tick_at))]
 fn tick_at(rest: &[u8]) -> Result<(Event, &[u8]), ReadError>
     ensures { Gives (λ x. (x.0, words_behind x.1.now)) result (reading.tick_at (words_behind rest.now)) }
 {
@@ -100,7 +100,7 @@ fn tick_at(rest: &[u8]) -> Result<(Event, &[u8]), ReadError>
     Ok((Event::Tick(node), rest))
 }
 
-#[tactic(auto, unfolding(crate::specs::Reading::crash_at))]
+#[tactic(auto, unfolding(crate::specs::Parser::crash_at))]
 fn crash_at(rest: &[u8]) -> Result<(Event, &[u8]), ReadError>
     ensures { Gives (λ x. (x.0, words_behind x.1.now)) result (reading.crash_at (words_behind rest.now)) }
 {
@@ -108,7 +108,7 @@ fn crash_at(rest: &[u8]) -> Result<(Event, &[u8]), ReadError>
     Ok((Event::Crash(node), rest))
 }
 
-#[tactic(auto, unfolding(crate::specs::Reading::start_at))]
+#[tactic(auto, unfolding(crate::specs::Parser::start_at))]
 fn start_at(rest: &[u8]) -> Result<(Event, &[u8]), ReadError>
     ensures { Gives (λ x. (x.0, words_behind x.1.now)) result (reading.start_at (words_behind rest.now)) }
 {
@@ -116,7 +116,7 @@ fn start_at(rest: &[u8]) -> Result<(Event, &[u8]), ReadError>
     Ok((Event::Start(node), rest))
 }
 
-#[tactic(auto, unfolding(crate::specs::Reading::deliver_at))]
+#[tactic(auto, unfolding(crate::specs::Parser::deliver_at))]
 fn deliver_at(rest: &[u8]) -> Result<(Event, &[u8]), ReadError>
     ensures { Gives (λ x. (x.0, words_behind x.1.now)) result (reading.deliver_at (words_behind rest.now)) }
 {
@@ -124,7 +124,7 @@ fn deliver_at(rest: &[u8]) -> Result<(Event, &[u8]), ReadError>
     Ok((Event::Deliver(k), rest))
 }
 
-#[tactic(auto, unfolding(crate::specs::Reading::lose_at))]
+#[tactic(auto, unfolding(crate::specs::Parser::lose_at))]
 fn lose_at(rest: &[u8]) -> Result<(Event, &[u8]), ReadError>
     ensures { Gives (λ x. (x.0, words_behind x.1.now)) result (reading.lose_at (words_behind rest.now)) }
 {
@@ -132,7 +132,7 @@ fn lose_at(rest: &[u8]) -> Result<(Event, &[u8]), ReadError>
     Ok((Event::Lose(k), rest))
 }
 
-#[tactic(auto, unfolding(crate::specs::Reading::effect_at))]
+#[tactic(auto, unfolding(crate::specs::Parser::effect_at))]
 fn effect_at(rest: &[u8]) -> Result<(Event, &[u8]), ReadError>
     ensures { Gives (λ x. (x.0, words_behind x.1.now)) result (reading.effect_at (words_behind rest.now)) }
 {
@@ -140,7 +140,7 @@ fn effect_at(rest: &[u8]) -> Result<(Event, &[u8]), ReadError>
     Ok((Event::Effect(k), rest))
 }
 
-#[tactic(auto, unfolding(crate::specs::Reading::report_at))]
+#[tactic(auto, unfolding(crate::specs::Parser::report_at))]
 fn report_at(rest: &[u8]) -> Result<(Event, &[u8]), ReadError>
     ensures { Gives (λ x. (x.0, words_behind x.1.now)) result (reading.report_at (words_behind rest.now)) }
 {
@@ -157,7 +157,7 @@ fn least_step(form: u8) -> u64
 }
 
 /// The event of a line whose first word is this verb.
-#[tactic(auto, unfolding(crate::specs::Reading::event_at))]
+#[tactic(auto, unfolding(crate::specs::Parser::event_at))]
 fn event_at(
     alloc: Global,
     form: u8,
@@ -183,7 +183,7 @@ fn event_at(
 }
 
 /// The verb that the first word of a line is.
-#[tactic(auto, unfolding(crate::specs::Reading::verb_in))]
+#[tactic(auto, unfolding(crate::specs::Parser::verb_in))]
 fn verb_in(word: &[u8], line: &[u8]) -> Result<Verb, ReadError>
     ensures { Gives (λ x. x) result (reading.verb_in word.now (split line.now)) }
 {
@@ -194,7 +194,7 @@ fn verb_in(word: &[u8], line: &[u8]) -> Result<Verb, ReadError>
 }
 
 /// The event of a line with this first word.
-#[tactic(auto, unfolding(crate::specs::Reading::event_of))]
+#[tactic(auto, unfolding(crate::specs::Parser::event_of))]
 fn event_of(
     alloc: Global,
     form: u8,
@@ -211,7 +211,7 @@ fn event_of(
     Ok(Some(event))
 }
 
-#[tactic(auto, unfolding(crate::specs::Reading::end_of))]
+#[tactic(auto, unfolding(crate::specs::Parser::end_of))]
 fn end_of(rest: &[u8]) -> Result<Option<Event>, ReadError>
     ensures { Gives (λ x. x) result (reading.end_of (words_behind rest.now)) }
 {
@@ -220,7 +220,7 @@ fn end_of(rest: &[u8]) -> Result<Option<Event>, ReadError>
 }
 
 /// The event that a line spells, or none where it is the line `end`.
-#[tactic(auto, unfolding(crate::specs::Reading::line_event))]
+#[tactic(auto, unfolding(crate::specs::Parser::line_event))]
 pub(crate) fn line_event(
     alloc: Global,
     form: u8,

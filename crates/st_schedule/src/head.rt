@@ -1,7 +1,7 @@
 ghost use Rattle.std.specs.Prelude.{◌≡◌, ◌<◌, ◌≤◌, ◌^◌, IfOk};
 ghost use Rattle.st_schedule_words.specs.Words.{words_behind};
-ghost use Rattle.st_schedule.specs.Reading.{Gives};
-ghost use Rattle.st_schedule.specs.Reading as reading;
+ghost use Rattle.st_schedule.specs.Parser.{Gives};
+ghost use Rattle.st_schedule.specs.Parser as reading;
 
 use crate::fault::ReadError;
 use crate::next_word::{ends, form_at, number_at};
@@ -17,7 +17,7 @@ fn setting_at(rest: &[u8]) -> Result<(u64, &[u8]), ReadError>
     number_at(0, MOST_SETTING, rest)
 }
 
-#[tactic(auto, unfolding(crate::specs::Reading::three_at))]
+#[tactic(auto, unfolding(crate::specs::Parser::three_at))]
 fn three_at(rest: &[u8]) -> Result<((u64, u64, u64), &[u8]), ReadError>
     ensures { Gives (λ x. (x.0, words_behind x.1.now)) result (reading.three_at (words_behind rest.now)) }
 {
@@ -28,7 +28,7 @@ fn three_at(rest: &[u8]) -> Result<((u64, u64, u64), &[u8]), ReadError>
 }
 
 /// The grain: a word of the second form, and 0 under the first form, which has no such word.
-#[tactic(auto, unfolding(crate::specs::Reading::grain_at))]
+#[tactic(auto, unfolding(crate::specs::Parser::grain_at))]
 fn grain_at(form: u8, rest: &[u8]) -> Result<(u64, &[u8]), ReadError>
     ensures { Gives (λ x. (x.0, words_behind x.1.now)) result (reading.grain_at form (words_behind rest.now)) }
 {
@@ -39,7 +39,7 @@ fn grain_at(form: u8, rest: &[u8]) -> Result<(u64, &[u8]), ReadError>
     }
 }
 
-#[tactic(auto, unfolding(crate::specs::Reading::rate_at))]
+#[tactic(auto, unfolding(crate::specs::Parser::rate_at))]
 fn rate_at(form: u8, rest: &[u8]) -> Result<((u64, u64, u64), &[u8]), ReadError>
     ensures { Gives (λ x. (x.0, words_behind x.1.now)) result (reading.rate_at form (words_behind rest.now)) }
 {
@@ -49,7 +49,7 @@ fn rate_at(form: u8, rest: &[u8]) -> Result<((u64, u64, u64), &[u8]), ReadError>
     Ok(((num, den, grain), rest))
 }
 
-#[tactic(auto, unfolding(crate::specs::Reading::config_at))]
+#[tactic(auto, unfolding(crate::specs::Parser::config_at))]
 fn config_at(form: u8, rest: &[u8]) -> Result<(Config, &[u8]), ReadError>
     ensures { Gives (λ x. (x.0, words_behind x.1.now)) result (reading.config_at form (words_behind rest.now)) }
 {
@@ -70,7 +70,7 @@ fn config_at(form: u8, rest: &[u8]) -> Result<(Config, &[u8]), ReadError>
     Ok((config, rest))
 }
 
-#[tactic(auto, unfolding(crate::specs::Reading::counts_at))]
+#[tactic(auto, unfolding(crate::specs::Parser::counts_at))]
 fn counts_at(rest: &[u8]) -> Result<(Counts, &[u8]), ReadError>
     ensures { Gives (λ x. (x.0, words_behind x.1.now)) result (reading.counts_at (words_behind rest.now)) }
 {
@@ -88,7 +88,7 @@ fn counts_at(rest: &[u8]) -> Result<(Counts, &[u8]), ReadError>
 }
 
 /// The settings, the counts and the form of a head, read from the words after `tank`.
-#[tactic(auto, unfolding(crate::specs::Reading::head_at))]
+#[tactic(auto, unfolding(crate::specs::Parser::head_at))]
 pub(crate) fn head_at(rest: &[u8]) -> Result<(Config, Counts, u8), ReadError>
     ensures { Gives (λ x. x) result (reading.head_at (words_behind rest.now)) }
 {

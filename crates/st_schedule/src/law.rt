@@ -2,7 +2,7 @@ ghost use Rattle.std.specs.Prelude.{◌≡◌, ◌≤◌, ◌∷◌, [], ℕ, Li
 ghost use Rattle.st_messages.specs.declared.event.Event.{Event};
 ghost use Rattle.st_schedule.specs.declared.reader.Line.{Line};
 ghost use Rattle.st_schedule.specs.declared.reader.Progress.{Progress};
-ghost use Rattle.st_schedule.specs.Reading.{line_event};
+ghost use Rattle.st_schedule.specs.Parser.{line_event};
 ghost use Rattle.st_schedule_words.specs.Words.{line_of};
 ghost use Rattle.st_schedule.specs.Grammar.{Spells, words};
 ghost use Rattle.st_schedule.specs.Reader.{IsReadAs, IsReadWhereSpelled, SpellsLine, HasNodes, read_line};

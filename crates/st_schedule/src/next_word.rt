@@ -2,8 +2,8 @@
 ghost use Rattle.std.specs.Prelude.{◌≡◌, ◌≤◌, IfOk};
 ghost use Rattle.st_schedule_words.specs.Words.{split, words_behind};
 ghost use Rattle.st_schedule_words.specs.Words as words;
-ghost use Rattle.st_schedule.specs.Reading.{Gives};
-ghost use Rattle.st_schedule.specs.Reading as reading;
+ghost use Rattle.st_schedule.specs.Parser.{Gives};
+ghost use Rattle.st_schedule.specs.Parser as reading;
 
 use crate::fault::{Fault, ReadError};
 use crate::verb::{AskVerb, ask_verb_of, form_of, result_of};
@@ -58,7 +58,7 @@ pub fn word_at(rest: &[u8]) -> Result<(&[u8], &[u8]), ReadError>
 
 /// The next word of a line as a number from `least` to `most`, and what follows it. A word of digits with a leading zero, or out
 /// of range, is `Number`; another word, or none, is `Syntax`.
-#[tactic(auto, unfolding(crate::specs::Reading::number_at))]
+#[tactic(auto, unfolding(crate::specs::Parser::number_at))]
 pub fn number_at(least: u64, most: u64, rest: &[u8]) -> Result<(u64, &[u8]), ReadError>
     ensures value { Gives (λ x. (x.0, words_behind x.1.now)) result (reading.number_at least most (words_behind rest.now)) }
     ensures range { IfOk result (λ x. (least ≤ x.0) × (x.0 ≤ most)) }
@@ -73,7 +73,7 @@ pub fn number_at(least: u64, most: u64, rest: &[u8]) -> Result<(u64, &[u8]), Rea
     }
 }
 
-#[tactic(auto, unfolding(crate::specs::Reading::node_at))]
+#[tactic(auto, unfolding(crate::specs::Parser::node_at))]
 pub(crate) fn node_at(rest: &[u8]) -> Result<(NodeId, &[u8]), ReadError>
     ensures { Gives (λ x. (x.0, words_behind x.1.now)) result (reading.node_at (words_behind rest.now)) }
 {
@@ -84,7 +84,7 @@ pub(crate) fn node_at(rest: &[u8]) -> Result<(NodeId, &[u8]), ReadError>
     }
 }
 
-#[tactic(auto, unfolding(crate::specs::Reading::client_at))]
+#[tactic(auto, unfolding(crate::specs::Parser::client_at))]
 pub(crate) fn client_at(rest: &[u8]) -> Result<(ClientId, &[u8]), ReadError>
     ensures { Gives (λ x. (x.0, words_behind x.1.now)) result (reading.client_at (words_behind rest.now)) }
 {
@@ -95,7 +95,7 @@ pub(crate) fn client_at(rest: &[u8]) -> Result<(ClientId, &[u8]), ReadError>
     }
 }
 
-#[tactic(auto, unfolding(crate::specs::Reading::file_at))]
+#[tactic(auto, unfolding(crate::specs::Parser::file_at))]
 pub(crate) fn file_at(rest: &[u8]) -> Result<(FileId, &[u8]), ReadError>
     ensures { Gives (λ x. (x.0, words_behind x.1.now)) result (reading.file_at (words_behind rest.now)) }
 {
@@ -107,7 +107,7 @@ pub(crate) fn file_at(rest: &[u8]) -> Result<(FileId, &[u8]), ReadError>
 }
 
 /// The next word of a line as a name, of 1 to 100 visible bytes, and what follows it. Another word, or none, is `Syntax`.
-#[tactic(auto, unfolding(crate::specs::Reading::name_at))]
+#[tactic(auto, unfolding(crate::specs::Parser::name_at))]
 pub fn name_at(alloc: Global, rest: &[u8]) -> Result<(Name, &[u8]), ReadError>
     ensures { Gives (λ x. (x.0, words_behind x.1.now)) result (reading.name_at (words_behind rest.now)) }
 {
@@ -126,7 +126,7 @@ fn after_of(word: &[u8]) -> &[u8]
 }
 
 /// A name, or `-`, which stands for the empty name at the beginning of a directory.
-#[tactic(auto, unfolding(crate::specs::Reading::after_at))]
+#[tactic(auto, unfolding(crate::specs::Parser::after_at))]
 pub(crate) fn after_at(alloc: Global, rest: &[u8]) -> Result<(Name, &[u8]), ReadError>
     ensures { Gives (λ x. (x.0, words_behind x.1.now)) result (reading.after_at (words_behind rest.now)) }
 {
@@ -139,7 +139,7 @@ pub(crate) fn after_at(alloc: Global, rest: &[u8]) -> Result<(Name, &[u8]), Read
 }
 
 /// The next word of a line as a result, `ok` or `fail`, and what follows it. Another word, or none, is `Syntax`.
-#[tactic(auto, unfolding(crate::specs::Reading::result_at))]
+#[tactic(auto, unfolding(crate::specs::Parser::result_at))]
 pub fn result_at(rest: &[u8]) -> Result<(bool, &[u8]), ReadError>
     ensures { Gives (λ x. (x.0, words_behind x.1.now)) result (reading.result_at (words_behind rest.now)) }
 {
@@ -150,7 +150,7 @@ pub fn result_at(rest: &[u8]) -> Result<(bool, &[u8]), ReadError>
     }
 }
 
-#[tactic(auto, unfolding(crate::specs::Reading::ask_verb_at))]
+#[tactic(auto, unfolding(crate::specs::Parser::ask_verb_at))]
 pub(crate) fn ask_verb_at(form: u8, rest: &[u8]) -> Result<(AskVerb, &[u8]), ReadError>
     ensures { Gives (λ x. (x.0, words_behind x.1.now)) result (reading.ask_verb_at form (words_behind rest.now)) }
 {
@@ -161,7 +161,7 @@ pub(crate) fn ask_verb_at(form: u8, rest: &[u8]) -> Result<(AskVerb, &[u8]), Rea
     }
 }
 
-#[tactic(auto, unfolding(crate::specs::Reading::form_at))]
+#[tactic(auto, unfolding(crate::specs::Parser::form_at))]
 pub(crate) fn form_at(rest: &[u8]) -> Result<(u8, &[u8]), ReadError>
     ensures { Gives (λ x. (x.0, words_behind x.1.now)) result (reading.form_at (words_behind rest.now)) }
 {
@@ -173,7 +173,7 @@ pub(crate) fn form_at(rest: &[u8]) -> Result<(u8, &[u8]), ReadError>
 }
 
 /// A file and a page of it.
-#[tactic(auto, unfolding(crate::specs::Reading::place_at))]
+#[tactic(auto, unfolding(crate::specs::Parser::place_at))]
 pub(crate) fn place_at(rest: &[u8]) -> Result<((FileId, PageNo), &[u8]), ReadError>
     ensures { Gives (λ x. (x.0, words_behind x.1.now)) result (reading.place_at (words_behind rest.now)) }
 {
@@ -183,7 +183,7 @@ pub(crate) fn place_at(rest: &[u8]) -> Result<((FileId, PageNo), &[u8]), ReadErr
 }
 
 /// The end of a line. A further word is `Syntax`.
-#[tactic(auto, using(crate::proofs::LineEnds::too_much), unfolding(crate::specs::Reading::ends))]
+#[tactic(auto, using(crate::proofs::LineEnds::too_much), unfolding(crate::specs::Parser::ends))]
 pub fn ends(rest: &[u8]) -> Result<(), ReadError>
     ensures { Gives (λ x. x) result (reading.ends (words_behind rest.now)) }
 {

@@ -1,6 +1,6 @@
 // The words for events, asks, results and forms.
 ghost use Rattle.std.specs.Prelude.{◌≡◌};
-ghost use Rattle.st_schedule.specs.Reading as reading;
+ghost use Rattle.st_schedule.specs.Parser as reading;
 
 use st_schedule_words::is;
 

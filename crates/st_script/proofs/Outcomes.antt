@@ -12,7 +12,7 @@ use Rattle.st_script.specs.declared.fault.ScriptFault.{ScriptFault}
 use Rattle.st_script.specs.declared.fault.ScriptFault.TheVariants as faults
 use Rattle.st_script.specs.Scripts.{Ending, Outcome, Rules, Stopped, Whole, answer_lines, behind, begun, ended, first_line, headed_lines, play_from, read_line, stopped, stopped_text, whole, with_read}
 use Rattle.st_script.specs.Ends.{IsNoLine, IsWhole, Refuses, Reports, Writes}
-use Rattle.st_script.specs.Playing.{Goes}
+use Rattle.st_script.specs.States.{Goes}
 
 -- Fronts.
 

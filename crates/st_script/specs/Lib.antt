@@ -1,3 +1,3 @@
 pub mod Scripts
 pub mod Ends
-pub mod Playing
+pub mod States

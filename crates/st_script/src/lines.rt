@@ -1,6 +1,6 @@
 ghost use Rattle.std.specs.Prelude.{◌≡◌, ◌<◌, IfOk, IfSome};
 ghost use Rattle.st_schedule_words.specs.Words.{split};
-ghost use Rattle.st_script.specs.Playing.{IsRead};
+ghost use Rattle.st_script.specs.States.{IsRead};
 ghost use Rattle.st_script.specs.Scripts as scripts;
 
 use crate::fault::Stop;

@@ -3,7 +3,7 @@ ghost use Rattle.std.specs.Prelude.{ℕ, ◌≡◌, ⊤, OnOk, IfOk, IfErr, IfSo
 ghost use Rattle.std.specs.Io.KnownBytes.{Consumes, IsAtEnd};
 ghost use Rattle.st_schedule_words.specs.Lines.{lines_of};
 ghost use Rattle.st_script.specs.Ends.{HasCauses, Reports, WriteCauses};
-ghost use Rattle.st_script.specs.Playing.{IsBegun, IsOfReading};
+ghost use Rattle.st_script.specs.States.{IsBegun, IsOfReading};
 ghost use Rattle.st_script.specs.Scripts as scripts;
 
 use crate::fault::{ScriptFault, Stop};

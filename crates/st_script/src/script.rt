@@ -1,5 +1,5 @@
 ghost use Rattle.std.specs.Prelude.{◌≡◌, ◌<◌, ◌+◌, ◌++◌, OnOk};
-ghost use Rattle.st_schedule.specs.Reading.{Gives};
+ghost use Rattle.st_schedule.specs.Parser.{Gives};
 ghost use Rattle.st_schedule_words.specs.Words.{split};
 ghost use Rattle.st_script.specs.Ends.{Begins};
 ghost use Rattle.st_script.specs.Scripts.{answer_lines};

@@ -5,11 +5,11 @@ use Rattle.std.specs.List.{list_all}
 use Rattle.std.specs.Str.{bytes_eq}
 use Rattle.st_base.specs.declared.ids.ServerId.{ServerId}
 use Rattle.st_rules.specs.Report.{field}
-use Rattle.st_schedule.specs.Reading.{◌>>=◌, Read, ends, number_at, syntax_at, word_at}
+use Rattle.st_schedule.specs.Parser.{◌>>=◌, Read, ends, number_at, syntax_at, word_at}
 use Rattle.st_schedule_words.specs.Words.{MOST_NUMBER, is_visible}
 use Rattle.st_schedule.specs.declared.fault.Fault.{Fault}
 use Rattle.st_script.specs.Scripts.{Rules}
-use Rattle.st_move.specs.Network.{MoveRun}
+use Rattle.st_move.specs.Network.{MoveNetwork}
 use Rattle.st_move.specs.World.{fresh_world, happens, server}
 use Rattle.st_move.specs.declared.record.MoveMessage.{MoveMessage}
 use Rattle.st_move.specs.declared.record.MoveMessage.TheVariants.{Image, Taken}
@@ -142,7 +142,7 @@ event (w ∷ ws) = event_of w (w ∷ ws) ws
 -- First lines.
 
 -- so many servers with so many containers, and no event yet
-abbrev pub fresh : ℕ × ℕ → MoveRun
+abbrev pub fresh : ℕ × ℕ → MoveNetwork
 fresh n = record { world = fresh_world n.0 n.1; events = 0 }
 
 -- the words behind `move`: how many servers there are, and how many containers
@@ -153,12 +153,12 @@ counts_at ws = do
   none ← ends containers.1
   Ok (servers.0, containers.0)
 
-abbrev pub begun : Result (ℕ × ℕ) Fault → Result MoveRun Fault
+abbrev pub begun : Result (ℕ × ℕ) Fault → Result MoveNetwork Fault
 begun (Ok n) = Ok (fresh n)
 begun (Err f) = Err f
 
 -- a first line: `move SERVERS CONTAINERS`
-unfoldable pub head : List (List ℕ) → Result MoveRun Fault
+unfoldable pub head : List (List ℕ) → Result MoveNetwork Fault
 head [] = syntax_at []
 head (w ∷ ws) = if bytes_eq w (codes "move") then begun (counts_at ws) else syntax_at (w ∷ ws)
 
@@ -208,19 +208,19 @@ answer (LostMessage k) = codes " lostmessage" ++ field k
 answer (Sends k m) = sent k m
 
 -- the answers to an event, and what it leaves
-abbrev pub answers : MoveRun → MoveEvent → List (List ℕ)
+abbrev pub answers : MoveNetwork → MoveEvent → List (List ℕ)
 answers r e = map answer (happens r.world e).answers
 
-abbrev pub next : MoveRun → MoveEvent → MoveRun
+abbrev pub next : MoveNetwork → MoveEvent → MoveNetwork
 next r e = record { world = (happens r.world e).world; events = r.events + 1 }
 
 -- the last line: how many events there were, and how many messages were sent
 abbrev pub last_text : ℕ → ℕ → List ℕ
 last_text events sent_count = codes "end events" ++ field events ++ codes " sent" ++ field sent_count ++ codes "\n"
 
-abbrev pub last : ℕ → MoveRun → List ℕ
+abbrev pub last : ℕ → MoveNetwork → List ℕ
 last events r = last_text events (length r.world.sent)
 
 -- the rules of the command
-abbrev pub move_rules : Rules MoveRun MoveEvent
+abbrev pub move_rules : Rules MoveNetwork MoveEvent
 move_rules = record { event = event; answers = answers; next = next; last = last }

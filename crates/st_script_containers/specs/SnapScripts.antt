@@ -4,7 +4,7 @@ use Rattle.std.specs.Str.{bytes_eq}
 use Rattle.st_base.specs.Page.{filled}
 use Rattle.st_rules.specs.Report.{field, runs}
 use Rattle.st_schedule.specs.Grammar.{MOST_PAGE}
-use Rattle.st_schedule.specs.Reading.{◌>>=◌, ends, number_at, syntax_at}
+use Rattle.st_schedule.specs.Parser.{◌>>=◌, ends, number_at, syntax_at}
 use Rattle.st_schedule_words.specs.Words.{MOST_NUMBER}
 use Rattle.st_schedule.specs.declared.fault.Fault.{Fault}
 use Rattle.st_script.specs.Scripts.{Rules}

@@ -2,7 +2,7 @@
 ghost use Rattle.std.specs.Prelude.{◌≡◌, ◌≤◌, IfOk, true};
 ghost use Rattle.std.specs.List.{list_all};
 ghost use Rattle.st_move.specs.Updates.{is_update};
-ghost use Rattle.st_schedule.specs.Reading.{Gives};
+ghost use Rattle.st_schedule.specs.Parser.{Gives};
 ghost use Rattle.st_schedule_words.specs.Words as words;
 ghost use Rattle.st_schedule_words.specs.Words.{left, split, words_behind};
 ghost use Rattle.st_schedule.specs.declared.fault.Fault.{Fault};

@@ -162,12 +162,12 @@ fn put_last(text: &mut Vec<u8>, events: u64, sent: u64) -> Result<(), AllocError
 
 impl Script for MoveScript {
     ghost use Rattle.std.specs.Prelude.{◌≡◌};
-    ghost use Rattle.st_move.specs.Network.{MoveRun};
+    ghost use Rattle.st_move.specs.Network as shown;
     ghost use Rattle.st_script_containers.specs.MoveScripts.{head, move_rules};
 
     type Event = MoveEvent;
 
-    ghost State = { MoveRun };
+    ghost State = { shown.MoveNetwork };
 
     ghost head = { head };
 

@@ -1,7 +1,7 @@
 // The events of a volume with images, from their lines.
 ghost use Rattle.std.specs.Prelude.{◌≡◌, ◌≤◌, IfOk};
 ghost use Rattle.std.specs.Str.{bytes_eq};
-ghost use Rattle.st_schedule.specs.Reading.{Gives};
+ghost use Rattle.st_schedule.specs.Parser.{Gives};
 ghost use Rattle.st_schedule_words.specs.Words.{split, words_behind};
 ghost use Rattle.st_script_containers.specs.SnapScripts as scripts;
 

@@ -14,7 +14,7 @@ use Rattle.st_journal.specs.declared.change.Change.{Change}
 use Rattle.st_journal.specs.declared.change.Change.TheVariants.{Epoch, Allocate, Cut, Create, Mkdir, Remove, Rename}
 use Rattle.st_journal.specs.declared.stable.ChangeRefusal.{ChangeRefusal}
 use Rattle.st_journal.proofs.Exact.{wide16}
-use Rattle.st_journal.proofs.Scanning.{length-framed}
+use Rattle.st_journal.proofs.ScannedBytes.{length-framed}
 use Rattle.st_journal.proofs.Unique.{length-word32}
 
 -- The names of a change that applies have at most 64 bytes.

@@ -3,7 +3,7 @@ use Rattle.std.proofs.Common.{◌≡◌, ℕ, Bool, true, false, List, [], ◌�
 use Rattle.std.specs.Prelude.{IfOk, if◌then◌else◌, nat_lt}
 use Rattle.std.proofs.lemmas.Bool.{le-ltb, lt-ltb}
 use Rattle.st_rules.specs.Server.{Stable}
-use Rattle.st_journal.specs.Opened.{Opened}
+use Rattle.st_journal.specs.OpenedJournal.{Opened}
 use Rattle.st_store.specs.InMemory.{InMemory}
 use Rattle.st_journal.specs.Parts.{Applies}
 use Rattle.st_journal.specs.Stable.{apply}

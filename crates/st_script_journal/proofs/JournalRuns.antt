@@ -8,7 +8,7 @@ use Rattle.st_rules.specs.Server.{Stable}
 use Rattle.st_journal.specs.Changes.{fits}
 use Rattle.st_store.specs.InMemory.{Contents, InMemory, Keeps, held}
 use Rattle.st_journal.specs.Journal.{IsJournal}
-use Rattle.st_journal.specs.Opened.{Calls, NotAppended, Opened, Records, acked_after, room_behind, room_for, under_way_after}
+use Rattle.st_journal.specs.OpenedJournal.{Calls, NotAppended, Opened, Records, acked_after, room_behind, room_for, under_way_after}
 use Rattle.st_store.specs.Plans as plans
 use Rattle.st_journal.specs.Scan.{AreLow}
 use Rattle.st_journal.specs.Stable.{HasRoom, after_changes, apply, kept}
@@ -19,11 +19,11 @@ use Rattle.st_journal.specs.declared.fault.JournalFault.TheVariants.{Damaged, Fu
 use Rattle.st_journal.specs.declared.stable.ChangeRefusal.{ChangeRefusal}
 use Rattle.st_journal.proofs.Counters.{applied_low, low_room}
 use Rattle.st_journal.proofs.Exact.{some_is}
-use Rattle.st_store.proofs.Kept.{length-seen}
-use Rattle.st_journal.proofs.Opening.{fresh_low}
-use Rattle.st_journal.proofs.Recording.{changes_few, gate_within}
-use Rattle.st_journal.proofs.Scanning.{length-framed}
-use Rattle.st_journal.proofs.Stopping.{ends_at_stop, zeros_journal}
+use Rattle.st_store.proofs.StoreBytes.{length-seen}
+use Rattle.st_journal.proofs.OpenedJournal.{fresh_low}
+use Rattle.st_journal.proofs.Records.{changes_few, gate_within}
+use Rattle.st_journal.proofs.ScannedBytes.{length-framed}
+use Rattle.st_journal.proofs.Stops.{ends_at_stop, zeros_journal}
 use Rattle.st_journal.proofs.Unique.{after_append}
 use Rattle.st_script_journal.specs.JournalRuns.{HasJournal, IsFreshStore, IsOpen, IsSound, IsWantOfMemory, Leads, Running, STORE_SIZE, Starts, left_by, read_as}
 use Rattle.st_script_journal.specs.JournalScripts.{fresh_journal}

@@ -5,11 +5,11 @@ use Rattle.st_link.specs.InMemory.{raised}
 use Rattle.st_link.specs.declared.link.Failed.{Failed}
 use Rattle.st_store.specs.InMemory.{Contents, InMemory, SyncBy, Syncs, WriteBy, Writes, changed, counted, with_sync, with_write}
 use Rattle.st_journal.specs.Journal.{framed}
-use Rattle.st_journal.specs.Opened.{Calls, Opened}
+use Rattle.st_journal.specs.OpenedJournal.{Calls, Opened}
 use Rattle.st_store.specs.Plans as plans
 use Rattle.st_store.specs.Plans.{IsQuiet, by_stop, planned}
 use Rattle.st_store.specs.Store.{Step, Then}
-use Rattle.st_journal.specs.Writing.{WritesSynced}
+use Rattle.st_journal.specs.Appends.{WritesSynced}
 use Rattle.st_journal.specs.declared.change.Change.{Change}
 use Rattle.st_journal.specs.declared.fault.JournalFault.TheVariants.{Store}
 use Rattle.st_store.specs.declared.plan.Outcome.{Outcome}

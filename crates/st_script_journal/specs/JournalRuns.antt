@@ -2,7 +2,7 @@
 use Rattle.std.specs.Prelude.{◌≡◌, ℕ, true, List, [], Option, Some, None, Result, Ok, Err, if◌then◌else◌, codes}
 use Rattle.st_store.specs.InMemory.{InMemory, MayLeave, fresh_contents, held, recorded}
 use Rattle.st_journal.specs.Journal.{IsJournal}
-use Rattle.st_journal.specs.Opened.{Opened, Records}
+use Rattle.st_journal.specs.OpenedJournal.{Opened, Records}
 use Rattle.st_store.specs.Plans.{IsQuiet}
 use Rattle.st_journal.specs.Stable.{after_changes}
 use Rattle.st_journal.specs.declared.change.Change.{Change}

@@ -14,7 +14,7 @@ use Rattle.st_rules.specs.Extents.{free}
 use Rattle.st_rules.specs.Report.{field}
 use Rattle.st_rules.specs.Server.{Stable}
 use Rattle.st_schedule.specs.Grammar.{MOST_PAGE}
-use Rattle.st_schedule.specs.Reading.{◌>>=◌, ends, name_at, number_at, syntax_at}
+use Rattle.st_schedule.specs.Parser.{◌>>=◌, ends, name_at, number_at, syntax_at}
 use Rattle.st_schedule_words.specs.Words.{MOST_NUMBER}
 use Rattle.st_schedule.specs.declared.fault.Fault.{Fault}
 use Rattle.st_script.specs.Scripts.{Rules}

@@ -2,7 +2,7 @@
 ghost use Rattle.std.specs.Prelude.{◌≡◌, ◌≤◌, ◌+◌, true};
 ghost use Rattle.std.specs.Str.{bytes_eq};
 ghost use Rattle.st_journal.specs.Changes.{is_ranged};
-ghost use Rattle.st_schedule.specs.Reading.{Gives};
+ghost use Rattle.st_schedule.specs.Parser.{Gives};
 ghost use Rattle.st_schedule_words.specs.Words.{split, words_behind};
 ghost use Rattle.st_script_journal.specs.JournalScripts as scripts;
 

@@ -8,7 +8,7 @@ use Rattle.st_disk.specs.declared.refusal.DiskRefusal.{DiskRefusal}
 use Rattle.st_disk.specs.declared.refusal.DiskRefusal.TheVariants as disk_refusals
 use Rattle.st_rules.specs.Report.{field, runs}
 use Rattle.st_schedule.specs.Grammar.{MOST_PAGE}
-use Rattle.st_schedule.specs.Reading.{◌>>=◌, Read, ends, number_at, result_at, syntax_at}
+use Rattle.st_schedule.specs.Parser.{◌>>=◌, Read, ends, number_at, result_at, syntax_at}
 use Rattle.st_schedule_words.specs.Words.{MOST_NUMBER}
 use Rattle.st_schedule.specs.declared.fault.Fault.{Fault}
 use Rattle.st_script.specs.Scripts.{Rules}

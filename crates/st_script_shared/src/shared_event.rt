@@ -1,6 +1,6 @@
 // The events of a shared file, from their lines.
 ghost use Rattle.std.specs.Prelude.{◌≡◌};
-ghost use Rattle.st_schedule.specs.Reading.{Gives};
+ghost use Rattle.st_schedule.specs.Parser.{Gives};
 ghost use Rattle.st_schedule_words.specs.Words.{split, words_behind};
 ghost use Rattle.st_script_shared.specs.SharedScripts as scripts;
 

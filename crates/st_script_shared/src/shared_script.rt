@@ -2,7 +2,7 @@
 ghost use Rattle.std.specs.Prelude.{◌≡◌, ◌++◌, ◌&&◌, nat_le, OnOk, IfSome, IfNone, ⊤};
 ghost use Rattle.std.specs.Io.KnownBytes.{IsAtEnd};
 ghost use Rattle.st_base.specs.Page.{filled};
-ghost use Rattle.st_locks.specs.Since.{IsClient};
+ghost use Rattle.st_locks.specs.DemandStarts.{IsClient};
 ghost use Rattle.st_script.specs.Ends.{HasCauses, Reports};
 ghost use Rattle.st_script.specs.Scripts.{answer_lines, script_of};
 ghost use Rattle.st_script_shared.specs.SharedCalls.{Performs, done_answer, lacks, number_answer};

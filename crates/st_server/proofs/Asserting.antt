@@ -11,7 +11,7 @@ use Rattle.st_base.specs.declared.ids.Stamp.{Stamp}
 use Rattle.st_base.specs.declared.mode.Mode.{Mode}
 use Rattle.st_messages.specs.Kinds.{allows, between, is_word64}
 use Rattle.st_messages.specs.declared.kind.Need.TheVariants.{Positive}
-use Rattle.st_messages.specs.Fits.{are_locks, are_rows, after_lock, is_body, is_grant, is_ino, is_lock_row, is_mode}
+use Rattle.st_messages.specs.Ranges.{are_locks, are_rows, after_lock, is_body, is_grant, is_ino, is_lock_row, is_mode}
 use Rattle.st_rules.specs.declared.authority.AcceptRefusal.{AcceptRefusal}
 use Rattle.st_rules.specs.declared.authority.AcceptRefusal.TheVariants as refusals
 use Rattle.st_rules.specs.declared.locks.LockRow.{LockRow}
@@ -26,10 +26,10 @@ use Rattle.st_rules.specs.Server.{is_client_node}
 use Rattle.st_lemmas.specs.Lists.{Has}
 use Rattle.st_lemmas.proofs.Tables.{cond_either, each_passes, has_filter, has_map}
 use Rattle.st_lemmas.proofs.Keys.{least_some}
-use Rattle.st_server.specs.Sound.{AreHeld, is_good_row, is_good_session}
+use Rattle.st_server.specs.Invariants.{AreHeld, is_good_row, is_good_session}
 use Rattle.st_server.proofs.Every.{every_append, every_found, every_map}
 use Rattle.st_server.proofs.Holding.{good_row, told_lock, row_of_good}
-use Rattle.st_server.proofs.Serving.{held_on, reasserted_lives, reasserted_here, put_good}
+use Rattle.st_server.proofs.SessionChanges.{held_on, reasserted_lives, reasserted_here, put_good}
 
 -- a file and a client fit into a word
 pub ino_word : (ino : ℕ) → is_ino ino ≡ true → is_word64 ino ≡ true

@@ -9,8 +9,8 @@ use Rattle.st_messages.specs.Kinds.{is_word64}
 use Rattle.st_extents.specs.Layout.{IsWithinLimits}
 use Rattle.st_rules.specs.Names.{fresh_names}
 use Rattle.st_rules.specs.Server.{ServerState, Stable, fresh_server, crash, start, begin_epoch}
-use Rattle.st_server.specs.Restored.{IsStable, crashed_server}
-use Rattle.st_server.specs.Sound.{IsSound, IsSoundTo}
+use Rattle.st_server.specs.Restart.{IsStable, crashed_server}
+use Rattle.st_server.specs.Invariants.{IsSound, IsSoundTo}
 
 pub fresh_sound : (id : ServerId) (k : Config) (servers disks blocks : ℕ) → IsWithinLimits id.0 servers disks blocks → IsSound (fresh_server id k servers disks blocks)
 unfolding fresh_server fresh_names

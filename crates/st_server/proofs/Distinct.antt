@@ -5,7 +5,7 @@ use Rattle.std.proofs.lemmas.Bool.{leb-true, and_parts, and_from, ne_eqb}
 use Rattle.st_base.specs.declared.ids.GrantNo.{GrantNo}
 use Rattle.st_base.specs.declared.mode.Mode.{Mode}
 use Rattle.st_base.specs.declared.mode.Mode.TheVariants as modes
-use Rattle.st_messages.specs.Fits.{are_locks, are_rows, after_lock, is_lock_row, is_mode}
+use Rattle.st_messages.specs.Ranges.{are_locks, are_rows, after_lock, is_lock_row, is_mode}
 use Rattle.st_locks.specs.Calls.{is_lock, same_file}
 use Rattle.st_locks.specs.Calls as locks
 

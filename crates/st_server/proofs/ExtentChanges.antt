@@ -8,7 +8,7 @@ use Rattle.st_base.specs.declared.ids.PageNo.{PageNo}
 use Rattle.st_base.specs.declared.disk.BlockAt.{BlockAt}
 use Rattle.st_base.specs.declared.rows.ExtentRow.{ExtentRow}
 use Rattle.st_messages.specs.Kinds.{between, is_word64}
-use Rattle.st_messages.specs.Fits.{are_extents, are_rows, after_extent, is_block, is_extent_row, is_page}
+use Rattle.st_messages.specs.Ranges.{are_extents, are_rows, after_extent, is_block, is_extent_row, is_page}
 use Rattle.st_rules.specs.declared.extents.Extent.{Extent}
 use Rattle.st_rules.specs.declared.extents.AllocateRefusal.{AllocateRefusal}
 use Rattle.st_rules.specs.declared.extents.AllocateRefusal.TheVariants.{NoSpace}
@@ -16,7 +16,7 @@ use Rattle.st_rules.specs.Extents as extents
 use Rattle.st_rules.specs.Extents.{Extents, numbers}
 use Rattle.st_rules.specs.Keys.{page_no, same_file, same_page}
 use Rattle.st_lemmas.proofs.Tables.{cond_either, found_at}
-use Rattle.st_server.specs.Sound.{AreMapped, is_good_extent}
+use Rattle.st_server.specs.Invariants.{AreMapped, is_good_extent}
 use Rattle.st_server.proofs.Every.{every_append, every_filter, every_found, every_last, every_map}
 use Rattle.st_server.proofs.Holding.{length_filter, length_map}
 

@@ -10,7 +10,7 @@ use Rattle.st_base.specs.declared.ids.Life.{Life}
 use Rattle.st_base.specs.declared.mode.Mode.{Mode}
 use Rattle.st_base.specs.declared.mode.Mode.TheVariants as modes
 use Rattle.st_base.specs.Mode.{covers, number_of}
-use Rattle.st_messages.specs.Fits.{is_grant, is_mode}
+use Rattle.st_messages.specs.Ranges.{is_grant, is_mode}
 use Rattle.st_rules.specs.declared.locks.LockRow.{LockRow}
 use Rattle.st_rules.specs.declared.locks.RowDemand.{RowDemand}
 use Rattle.st_rules.specs.declared.locks.Waiter.{Waiter}
@@ -21,8 +21,8 @@ use Rattle.st_rules.specs.Locks as locks
 use Rattle.st_rules.specs.Locks.{Locks, Acquired, Granting, Demanding, Released}
 use Rattle.st_rules.specs.Sessions.{Sessions, session_of}
 use Rattle.st_lemmas.proofs.Tables.{cond_either}
-use Rattle.st_server.specs.Ready.{is_lived}
-use Rattle.st_server.specs.Sound.{AreHeld, is_good_row, is_good_wait, is_told, is_told_lock, is_told_demand}
+use Rattle.st_server.specs.RuleConditions.{is_lived}
+use Rattle.st_server.specs.Invariants.{AreHeld, is_good_row, is_good_wait, is_told, is_told_lock, is_told_demand}
 use Rattle.st_server.proofs.Every.{every_filter, every_last, every_put, every_found, every_map}
 
 -- a filter leaves no more

@@ -8,14 +8,14 @@ use Rattle.st_base.specs.declared.names.NameRow.{NameRow}
 use Rattle.st_messages.specs.declared.message.Body.TheVariants as bodies
 use Rattle.st_messages.specs.declared.message.NameReply.TheVariants.{Ino, Listed, Refused}
 use Rattle.st_messages.specs.Kinds.{between}
-use Rattle.st_messages.specs.Fits.{are_names, are_rows, after_name, has_length, is_body, is_ino, is_name_reply, is_name_row}
+use Rattle.st_messages.specs.Ranges.{are_names, are_rows, after_name, has_length, is_body, is_ino, is_name_reply, is_name_row}
 use Rattle.st_rules.specs.declared.names.NameEntry.{NameEntry}
 use Rattle.st_rules.specs.declared.names.EntryRefusal.{EntryRefusal}
 use Rattle.st_rules.specs.declared.names.EntryRefusal.TheVariants.{NoEntry, Exists, NotDir, IsDir, NotEmpty, Cycle, BadName, TooMany}
 use Rattle.st_rules.specs.Names as names
 use Rattle.st_rules.specs.Names.{Names, Changed}
 use Rattle.st_lemmas.proofs.Tables.{cond_either}
-use Rattle.st_server.specs.Sound.{AreNamed, is_good_entry, is_reply}
+use Rattle.st_server.specs.Invariants.{AreNamed, is_good_entry, is_reply}
 use Rattle.st_server.proofs.Every.{every_filter, every_found, every_last, every_map}
 
 -- the number of a refusal can be told

@@ -12,7 +12,7 @@ use Rattle.st_rules.specs.declared.extents.Extent.{Extent}
 use Rattle.st_rules.specs.Extents.{Extents, extent_of, extent_row, extent_row_at, extent_rows, is_extent_of, map_page, numbers, place_and_birth}
 use Rattle.st_rules.specs.Keys.{page_no, same_file, same_page}
 use Rattle.st_lemmas.proofs.Tables.{found_at}
-use Rattle.st_server.specs.Told.{row_told}
+use Rattle.st_server.specs.RefusalReplies.{row_told}
 
 cons_front : {A : Type 0} (o : Option A) (xs : List A) → cons_option o xs ≡ option_to_list o ++ xs
 cons_front None xs = refl

@@ -19,7 +19,7 @@ use Rattle.st_messages.specs.declared.message.Why.{Why}
 use Rattle.st_messages.specs.declared.message.Why.TheVariants as why
 use Rattle.st_messages.specs.declared.output.Note.TheVariants as notes
 use Rattle.st_messages.specs.Kinds.{allows, is_word64}
-use Rattle.st_messages.specs.Fits.{is_body, is_count, is_grant, is_ino, is_mode, is_name_op, is_page}
+use Rattle.st_messages.specs.Ranges.{is_body, is_count, is_grant, is_ino, is_mode, is_name_op, is_page}
 use Rattle.st_rules.specs.declared.extents.AllocateRefusal.{AllocateRefusal}
 use Rattle.st_rules.specs.declared.extents.AllocateRefusal.TheVariants.{NoSpace}
 use Rattle.st_rules.specs.declared.names.EntryRefusal.{EntryRefusal}
@@ -35,16 +35,16 @@ use Rattle.st_rules.specs.Names as names
 use Rattle.st_rules.specs.Names.{Names}
 use Rattle.st_rules.specs.Sessions as sessions
 use Rattle.st_rules.specs.Server as server
-use Rattle.st_rules.specs.Server.{ServerState, Turn, Replied, sender, life_in}
+use Rattle.st_rules.specs.Server.{ServerState, ServerTurn, Replied, sender, life_in}
 use Rattle.st_lemmas.proofs.Tables.{cond_either}
-use Rattle.st_server.specs.Ready.{is_lived}
+use Rattle.st_server.specs.RuleConditions.{is_lived}
 use Rattle.st_server.specs.Room.{HasRoom, taken_locks}
-use Rattle.st_server.specs.Sound.{keeps_reply, is_reply}
+use Rattle.st_server.specs.Invariants.{keeps_reply, is_reply}
 use Rattle.st_server.proofs.Holding.{IsFrom, is_good_verdict, AcquiresBy, acquire_held, released_held, drop_file_held}
 use Rattle.st_server.proofs.NameChanges.{Finds, finds, ChangesBy, create_changes, mkdir_changes, remove_changes, rename_changes, Lists, lists, code_fits, ino_fits}
 use Rattle.st_server.proofs.ExtentChanges.{rows_fit, release_mapped, Allocated, allocated}
 use Rattle.st_server.proofs.Sending.{IsTurn, IsAsked, note_turn}
-use Rattle.st_server.proofs.Walking.{locks_turn, names_turn, extents_turn, more_turn, epoch_below}
+use Rattle.st_server.proofs.SoundRules.{locks_turn, names_turn, extents_turn, more_turn, epoch_below}
 
 -- A rule that keeps the server sound, and whose reply can be told.
 pub record IsAnswer (n : ℕ) (a : Replied) : Type 0 where
@@ -61,18 +61,18 @@ ino_word ino e =
     let b : ino ≤ 4294967295 = leb-true ino 4294967295 (and_parts (nat_le 1 ino) (nat_le ino 4294967295) e).1 in
     lt-ltb ino (2 ^ 64) (omega (arith, b))
 
-replies : (n : ℕ) (t : Turn) (b : Body) → is_reply b ≡ true → IsTurn n t → IsAnswer n (server.replied t b)
+replies : (n : ℕ) (t : ServerTurn) (b : Body) → is_reply b ≡ true → IsTurn n t → IsAnswer n (server.replied t b)
 replies n t b e p = record { turn = p; reply = e }
 
 -- What a rule needs: room, and a client whose session lives.
-pub record IsServed (n : ℕ) (t : Turn) (h : Header) : Type 0 where
+pub record IsServed (n : ℕ) (t : ServerTurn) (h : Header) : Type 0 where
   pub turn : IsTurn n t
   pub room : HasRoom t.state
   pub few : n < 2 ^ 32 - 1
   pub asked : IsAsked h
   pub lived : is_lived (life_in h) (sessions.session_of t.state.sessions (sender h)) ≡ true
 
-module _ (n : ℕ) (t : Turn) (h : Header) (s : IsServed n t h) where
+module _ (n : ℕ) (t : ServerTurn) (h : Header) (s : IsServed n t h) where
   same : IsTurn (n + 1) t
   same = more_turn n (n + 1) t (omega arith) s.turn
 
@@ -123,7 +123,7 @@ module _ (n : ℕ) (t : Turn) (h : Header) (s : IsServed n t h) where
       (locks_turn n n t l (released_held t.state.stable.epoch t.state.sessions n t.state.locks (sender h) (life_in h) ino g to s.turn.sound.held) s.turn))
 
   -- Pages.
-  told_extents : (u : Turn) (ino : ℕ) (page : PageNo) (count : ℕ) → is_ino ino ≡ true → count ≤ 64 → page.0 + count ≤ 1048576 → IsTurn (n + 1) u →
+  told_extents : (u : ServerTurn) (ino : ℕ) (page : PageNo) (count : ℕ) → is_ino ino ≡ true → count ≤ 64 → page.0 + count ≤ 1048576 → IsTurn (n + 1) u →
       is_reply (server.extents_body u ino page count) ≡ true
   unfolding is_body
   told_extents u ino page count e few b p = and_from (is_ino ino) _ e (rows_fit u.state.stable.extents p.sound.mapped (server.file u ino) page.0 count few b)
@@ -157,7 +157,7 @@ module _ (n : ℕ) (t : Turn) (h : Header) (s : IsServed n t h) where
       (λ v. not_holder_answer ino g e f))
       (λ r. no_file_answer ino e)
 
-  cut_turn : (u : Turn) (ino : ℕ) (from : PageNo) → IsTurn (n + 1) u → IsTurn (n + 1) (server.cut_pages u ino from)
+  cut_turn : (u : ServerTurn) (ino : ℕ) (from : PageNo) → IsTurn (n + 1) u → IsTurn (n + 1) (server.cut_pages u ino from)
   unfolding server.cut_pages
   cut_turn u ino from p =
       note_turn (n + 1) _ (notes.CutDone (server.file u ino) from)

@@ -9,8 +9,8 @@ use Rattle.st_rules.specs.declared.locks.LockRow.{LockRow}
 use Rattle.st_rules.specs.declared.sessions.Session.{Session}
 use Rattle.st_rules.specs.Locks.{Locks}
 use Rattle.st_rules.specs.Sessions.{Sessions, session_of, knows, knows_at, is_live}
-use Rattle.st_reassert.specs.Accepting.{is_row_from, is_older}
-use Rattle.st_server.specs.Ready.{is_lived, is_row_lived}
+use Rattle.st_reassert.specs.Acceptance.{is_row_from, is_older}
+use Rattle.st_server.specs.RuleConditions.{is_lived, is_row_lived}
 
 -- a life that a living session does not know is above all that it has seen
 above : (a b n : ℕ) → b ≤ n → nat_lt a n ≡ false → (a == n) ≡ false → nat_le a b ≡ false

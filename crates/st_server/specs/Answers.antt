@@ -9,7 +9,7 @@ use Rattle.st_messages.specs.declared.output.Output.{Output}
 use Rattle.st_messages.specs.declared.output.Output.TheVariants as outputs
 use Rattle.st_rules.specs.declared.input.ServerInput.TheVariants.{Control}
 use Rattle.st_rules.specs.Server.{ServerState, turn, thefts, take_input}
-use Rattle.st_server.specs.Sound.{may_keep}
+use Rattle.st_server.specs.Invariants.{may_keep}
 
 -- how many messages are among the outputs
 abbrev pub sends : List Output → ℕ

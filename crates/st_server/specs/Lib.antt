@@ -1,8 +1,8 @@
 pub mod Parts
 pub mod Steps
-pub mod Told
+pub mod RefusalReplies
 pub mod Room
-pub mod Sound
+pub mod Invariants
 pub mod Answers
-pub mod Ready
-pub mod Restored
+pub mod RuleConditions
+pub mod Restart

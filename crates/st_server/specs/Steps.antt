@@ -19,34 +19,34 @@ use Rattle.st_rules.specs.declared.node.StepRefusal.TheVariants as refusals
 use Rattle.st_rules.specs.Locks as locks
 use Rattle.st_rules.specs.Names.{Names}
 use Rattle.st_rules.specs.Sessions as sessions
-use Rattle.st_rules.specs.Server.{Turn, Replied, ServerNode, NodeTurn, with_sessions, with_locks, note, reply, tell, sender, suspect_client, thefts, take_input, suspecting_on, granting, demanding, crash, crash_node}
+use Rattle.st_rules.specs.Server.{ServerTurn, Replied, ServerNode, NodeTurn, with_sessions, with_locks, note, reply, tell, sender, suspect_client, thefts, take_input, suspecting_on, granting, demanding, crash, crash_node}
 
 -- what a rule leaves, and its reply
-abbrev pub answered : Turn → Option Body → Replied
+abbrev pub answered : ServerTurn → Option Body → Replied
 answered t reply = record { turn = t; reply = reply }
 
 -- a server's names, so far in a step
-abbrev pub names_of : Turn → Names
+abbrev pub names_of : ServerTurn → Names
 names_of t = t.state.stable.names
 
 -- the locks of a client are stolen, whose session has this life
-abbrev pub stolen : Turn → ClientId → Life → Turn
+abbrev pub stolen : ServerTurn → ClientId → Life → ServerTurn
 stolen t c life = with_sessions (sessions.end t.state.sessions c) (with_locks (locks.forget t.state.locks c) (note t (notes.Stolen c life)))
 
 -- a client is welcome whose session replaced a living one
-abbrev pub welcomed_anew : Turn → Header → Turn
+abbrev pub welcomed_anew : ServerTurn → Header → ServerTurn
 welcomed_anew t h = reply (with_locks (locks.drop_waits t.state.locks (sender h)) t) h bodies.Welcome
 
 -- a client must wait until its locks of a lower life are stolen
-abbrev pub waiting : Turn → Stamp → Header → Turn
+abbrev pub waiting : ServerTurn → Stamp → Header → ServerTurn
 waiting t now h = reply (suspect_client t now (sender h)) h (bodies.Nack why.Suspect now.0 0)
 
 -- A crash now leaves what it would have left before.
-abbrev pub Keeps : Turn → Turn → Type 0
+abbrev pub Keeps : ServerTurn → ServerTurn → Type 0
 Keeps old new = crash new.state ≡ crash old.state
 
 -- After a rule that ran out of memory a crash leaves what it would have left before the rule, or after it.
-abbrev pub Fails : Turn → Turn → Turn → Type 0
+abbrev pub Fails : ServerTurn → ServerTurn → ServerTurn → Type 0
 Fails old new rule = (crash new.state ≡ crash old.state) ⊎ (crash new.state ≡ crash rule.state)
 
 -- the node that a step of the definition leaves, or the node before it where there is no step
@@ -62,15 +62,15 @@ Steps old new (Err Crashed) rule = (rule ≡ Err refusals.Crashed) × (new ≡ o
 Steps old new (Err Memory) rule = (new ≡ crash_node old) ⊎ (new ≡ crash_node (node_after old rule))
 
 -- one grant is told
-abbrev pub granted_one : Turn → ClientId × Life × ℕ × GrantNo × Mode → Turn
+abbrev pub granted_one : ServerTurn → ClientId × Life × ℕ × GrantNo × Mode → ServerTurn
 granted_one t x = tell t x.0 x.1 (bodies.Granted x.2 x.3 x.4)
 
 -- one demand is told
-abbrev pub demanded_one : Turn → ClientId × Life × ℕ × GrantNo × Mode → Turn
+abbrev pub demanded_one : ServerTurn → ClientId × Life × ℕ × GrantNo × Mode → ServerTurn
 demanded_one t x = tell t x.0 x.1 (bodies.Demand x.2 x.3 x.4)
 
 -- a step from this turn on
-abbrev pub stepped : Turn → Stamp → ServerInput → Turn
+abbrev pub stepped : ServerTurn → Stamp → ServerInput → ServerTurn
 stepped t now i = demanding (granting (suspecting_on (take_input (thefts t now) now i) now i) now) now i
 
 -- What a step of a node that runs returns and leaves.

@@ -3,7 +3,7 @@ ghost use Rattle.std.specs.Prelude.{◌≡◌, OnOk};
 ghost use Rattle.st_rules.specs.Server as server;
 ghost use Rattle.st_server.specs.Steps.{Keeps, waiting, welcomed_anew};
 
-use crate::machine::ServerMachine;
+use crate::turn::ServerTurn;
 use st_base::{ClientId, GrantNo, Life, Stamp};
 use st_messages::{Body, Header, Why};
 use st_sessions::Hello;
@@ -16,7 +16,7 @@ pub(crate) fn sender(h: Header) -> ClientId
     ClientId(h.from)
 }
 
-impl ServerMachine {
+impl ServerTurn {
     pub(crate) fn in_grace(&self, now: Stamp) -> bool
         ensures { result ≡ server.in_grace self.now now }
     {
@@ -110,7 +110,7 @@ impl ServerMachine {
     }
 
     /// A demand on a row waits for no answer any more.
-    #[tactic(auto, unfolding(st_rules::specs::Server::demand_seen, st_rules::specs::Server::see_demand, st_rules::specs::Server::crash))]
+    #[tactic(auto, unfolding(st_rules::specs::Server::demand_seen, st_rules::specs::Server::observe_demand, st_rules::specs::Server::crash))]
     pub(crate) fn demand_seen(&mut self, h: Header, ino: u32, g: GrantNo)
         ensures seen { self.new ≡ server.demand_seen self.old h ino g }
         ensures kept { Keeps self.old self.new }

@@ -3,7 +3,6 @@
 
 mod greetings;
 mod lock_requests;
-mod machine;
 mod name_requests;
 mod node;
 mod outputs;
@@ -11,10 +10,11 @@ mod page_requests;
 mod passes;
 mod reassertions;
 mod requests;
-mod restore;
+mod restart;
 mod stable;
 mod step;
 mod suspicion;
+mod turn;
 
 pub use node::{ServerNode, answers_are_named};
 pub use st_messages::{Note, Output, Outputs, StepFault};

@@ -1,13 +1,13 @@
 // Requests on locks.
 ghost use Rattle.std.specs.Prelude.{true, ◌≡◌, ◌+◌, ◌^◌, ◌<◌, IfOk, Some};
 ghost use Rattle.st_locks.specs.Calls.{is_lock};
-ghost use Rattle.st_locks.specs.Since.{IsClient};
+ghost use Rattle.st_locks.specs.DemandStarts.{IsClient};
 ghost use Rattle.st_rules.specs.Server as server;
 ghost use Rattle.st_server.specs.Steps.{Keeps, answered};
-ghost use Rattle.st_server.specs.Told.{no_file_body, not_holder_body};
+ghost use Rattle.st_server.specs.RefusalReplies.{no_file_body, not_holder_body};
 
 use crate::greetings::sender;
-use crate::machine::ServerMachine;
+use crate::turn::ServerTurn;
 use st_base::{GrantNo, Life, Mode, Stamp};
 use st_locks::{LockRefusal, Verdict};
 use st_messages::{Body, Header, Why};
@@ -23,7 +23,7 @@ fn verdict_body(ino: u32, mode: Mode, verdict: Verdict) -> Body
     }
 }
 
-impl ServerMachine {
+impl ServerTurn {
     /// A client asks for a lock on a file.
     #[tactic(auto, unfolding(st_rules::specs::Server::acquire_lock, st_rules::specs::Server::acquire_by, st_rules::specs::Server::crash))]
     fn acquire_lock(

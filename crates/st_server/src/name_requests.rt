@@ -4,10 +4,10 @@ ghost use Rattle.st_base.specs.declared.names.NameRefusal.TheVariants as refusal
 ghost use Rattle.st_rules.specs.Names as names;
 ghost use Rattle.st_rules.specs.Server as server;
 ghost use Rattle.st_server.specs.Steps.{Keeps, answered, names_of};
-ghost use Rattle.st_server.specs.Told as told;
+ghost use Rattle.st_server.specs.RefusalReplies as told;
 
 use crate::lock_requests::not_holder;
-use crate::machine::ServerMachine;
+use crate::turn::ServerTurn;
 use st_base::{GrantNo, Mode, Name, NameRefusal, NameRows, PageNo};
 use st_messages::{Body, Header, NameOp, NameReply, Note, Output};
 use std::alloc::AllocError;
@@ -39,7 +39,7 @@ fn refused(refusal: NameRefusal) -> Result<Body, AllocError>
     }
 }
 
-impl ServerMachine {
+impl ServerTurn {
     #[tactic(auto, unfolding(st_rules::specs::Server::name_found, st_rules::specs::Server::name_refused))]
     fn lookup(&self, dir: u32, name: &Name) -> Result<Body, AllocError>
         ensures { IfOk result (λ body. answered self.now (Some body) ≡ server.name_found self.now (names.lookup (names_of self.now) dir name.now)) }

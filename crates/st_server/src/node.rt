@@ -3,19 +3,19 @@ ghost use Rattle.std.specs.List.{list_all};
 ghost use Rattle.st_base.specs.Config as settings;
 ghost use Rattle.st_extents.specs.Layout.{IsWithinLimits};
 ghost use Rattle.st_rules.specs.Server as server;
-ghost use Rattle.st_messages.specs.Fits.{fits};
+ghost use Rattle.st_messages.specs.Ranges.{fits};
 ghost use Rattle.st_messages.specs.declared.output.StepFault.TheVariants.{Memory};
 ghost use Rattle.st_rules.specs.declared.input.ServerInput.TheVariants.{Control};
 ghost use Rattle.st_server.specs.Answers.{AnswersAreNamed};
 ghost use Rattle.st_server.specs.Parts.{stable_of};
-ghost use Rattle.st_server.specs.Ready.{comes_fit};
-ghost use Rattle.st_server.specs.Restored.{IsStable, crashed_node};
+ghost use Rattle.st_server.specs.RuleConditions.{comes_fit};
+ghost use Rattle.st_server.specs.Restart.{IsStable, crashed_node};
 ghost use Rattle.st_server.specs.Room.{HasRoom};
-ghost use Rattle.st_server.specs.Sound.{IsSound, is_sent};
+ghost use Rattle.st_server.specs.Invariants.{IsSound, is_sent};
 ghost use Rattle.st_server.specs.Steps.{Runs, Steps};
 
-use crate::machine::ServerMachine;
 use crate::stable::ServerStable;
+use crate::turn::ServerTurn;
 use st_base::{Config, Epoch, ServerId, Stamp};
 use st_extents::Extents;
 use st_lease_server::Authority;
@@ -31,14 +31,14 @@ use std::marker::Model;
 /// One server of a world. Contracts see it as its machine's state, and whether it runs.
 #[derive(Drop)]
 pub struct ServerNode {
-    machine: ServerMachine,
+    machine: ServerTurn,
     running: bool,
 }
 
 impl Model for ServerNode {
     ghost use Rattle.std.specs.Prelude.{◌≡◌, []};
     ghost use Rattle.st_rules.specs.Server as shared;
-    ghost use Rattle.st_server.specs.Sound.{IsSound};
+    ghost use Rattle.st_server.specs.Invariants.{IsSound};
 
     ghost Value = { shared.ServerNode };
 
@@ -63,7 +63,7 @@ impl ServerNode {
         ensures { IfOk result (λ n. n ≡ server.fresh_node id config.now servers disks blocks) }
     {
         Ok(ServerNode {
-            machine: ServerMachine::fresh(alloc, id, *config, servers, disks, blocks)?,
+            machine: ServerTurn::fresh(alloc, id, *config, servers, disks, blocks)?,
             running: true,
         })
     }
@@ -77,7 +77,7 @@ impl ServerNode {
         ensures { result ≡ crashed_node id config.now (stable_of stable) }
     {
         ServerNode {
-            machine: ServerMachine::restore(alloc, id, *config, stable),
+            machine: ServerTurn::restore(alloc, id, *config, stable),
             running: false,
         }
     }

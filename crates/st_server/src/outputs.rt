@@ -2,12 +2,12 @@
 ghost use Rattle.std.specs.Prelude.{◌≡◌, OnOk};
 ghost use Rattle.st_rules.specs.Server as server;
 
-use crate::machine::ServerMachine;
+use crate::turn::ServerTurn;
 use st_base::{ClientId, Life};
 use st_messages::{Body, Header, Message, Note, Output};
 use std::alloc::AllocError;
 
-impl ServerMachine {
+impl ServerTurn {
     fn say(&mut self, output: Output) -> Result<(), AllocError>
         ensures ok { OnOk result (self.new ≡ server.say self.old output) }
         ensures same { self.new.state ≡ self.old.state }

@@ -4,10 +4,10 @@ ghost use Rattle.std.specs.Option.{option_to_list};
 ghost use Rattle.st_rules.specs.Extents as extents;
 ghost use Rattle.st_rules.specs.Server as server;
 ghost use Rattle.st_server.specs.Steps.{Fails, Keeps, answered};
-ghost use Rattle.st_server.specs.Told.{row_told};
+ghost use Rattle.st_server.specs.RefusalReplies.{row_told};
 
 use crate::lock_requests::{no_file, not_holder};
-use crate::machine::ServerMachine;
+use crate::turn::ServerTurn;
 use st_base::{BlockAt, ExtentRow, ExtentRows, FileId, GrantNo, Mode, PageNo};
 use st_extents::{ExtentRefusal, Extents};
 use st_messages::{Body, Header, Note, Why};
@@ -62,7 +62,7 @@ fn rows_of_range(
     Ok(ExtentRows::from_vec(rows))
 }
 
-impl ServerMachine {
+impl ServerTurn {
     /// The file of an inode.
     pub(crate) fn file(&self, ino: u32) -> FileId
         ensures { result ≡ server.file self.now ino }

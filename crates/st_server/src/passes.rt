@@ -4,7 +4,7 @@ ghost use Rattle.st_rules.specs.Server as server;
 ghost use Rattle.st_server.specs.Room.{taken_locks};
 ghost use Rattle.st_server.specs.Steps.{Keeps, demanded_one, granted_one};
 
-use crate::machine::ServerMachine;
+use crate::turn::ServerTurn;
 use st_base::{ClientId, Stamp};
 use st_locks::Sent;
 use st_messages::Body;
@@ -21,7 +21,7 @@ fn is_tick(input: &ServerInput) -> bool
     }
 }
 
-impl ServerMachine {
+impl ServerTurn {
     #[tactic(auto, unfolding(st_rules::specs::Server::suspect_unless))]
     fn suspect_unless(&mut self, now: Stamp, client: ClientId) -> Result<(), AllocError>
         ensures ok { OnOk result (self.new ≡ server.suspect_unless self.old now client) }

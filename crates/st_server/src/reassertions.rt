@@ -1,15 +1,15 @@
 // Reassertions in grace.
 ghost use Rattle.std.specs.Prelude.{◌≡◌, true, IfOk, OnOk};
-ghost use Rattle.st_messages.specs.Fits.{are_locks};
-ghost use Rattle.st_locks.specs.Since.{IsClient};
-ghost use Rattle.st_reassert.specs.Accepting.{is_older};
+ghost use Rattle.st_messages.specs.Ranges.{are_locks};
+ghost use Rattle.st_locks.specs.DemandStarts.{IsClient};
+ghost use Rattle.st_reassert.specs.Acceptance.{is_older};
 ghost use Rattle.st_rules.specs.Server as server;
-ghost use Rattle.st_server.specs.Ready.{AreServed};
+ghost use Rattle.st_server.specs.RuleConditions.{AreServed};
 ghost use Rattle.st_server.specs.Steps.{Keeps};
-ghost use Rattle.st_server.specs.Told.{IsRefusal};
+ghost use Rattle.st_server.specs.RefusalReplies.{IsRefusal};
 
 use crate::greetings::sender;
-use crate::machine::ServerMachine;
+use crate::turn::ServerTurn;
 use st_base::{Epoch, Life, LockRows, Stamp};
 use st_messages::{Body, Header, Why};
 use st_reassert::ReassertRefusal;
@@ -40,7 +40,7 @@ fn refused(refusal: ReassertRefusal) -> Result<Body, AllocError>
     }
 }
 
-impl ServerMachine {
+impl ServerTurn {
     /// A reassertion of a life that is new to the sessions.
     #[tactic(auto, unfolding(st_rules::specs::Server::reassert_new, st_rules::specs::Server::reassert_by, st_rules::specs::Server::crash))]
     fn reassert_new(&mut self, now: Stamp, h: Header, rows: &LockRows) -> Result<(), AllocError>

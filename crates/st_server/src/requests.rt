@@ -1,24 +1,24 @@
 // A message that comes: by its sender, its epoch and number, and its body.
 ghost use Rattle.std.specs.Prelude.{◌≡◌, true, IfOk, OnOk, OnErr};
-ghost use Rattle.st_messages.specs.Fits.{is_body};
-ghost use Rattle.st_locks.specs.Since.{IsClient};
+ghost use Rattle.st_messages.specs.Ranges.{is_body};
+ghost use Rattle.st_locks.specs.DemandStarts.{IsClient};
 ghost use Rattle.st_rules.specs.Server as server;
-ghost use Rattle.st_server.specs.Ready.{AreServed, has_body};
+ghost use Rattle.st_server.specs.RuleConditions.{AreServed, has_body};
 ghost use Rattle.st_server.specs.Room.{HasRoom};
 ghost use Rattle.st_server.specs.Steps.{Fails, Keeps, answered};
-ghost use Rattle.st_server.specs.Told.{no_session};
+ghost use Rattle.st_server.specs.RefusalReplies.{no_session};
 
 use crate::greetings::sender;
-use crate::machine::ServerMachine;
+use crate::turn::ServerTurn;
 use st_base::{GrantNo, Stamp};
 use st_messages::{Body, Header, Why};
 use st_rules::ServerInput;
 use st_sessions::Taken;
 use std::alloc::AllocError;
 
-impl ServerMachine {
+impl ServerTurn {
     /// The rule of a request whose number is the next one, and its reply.
-    #[tactic(auto, using(crate::proofs::Distinct::lock_mode), unfolding(st_rules::specs::Server::rule, st_rules::specs::Server::keep_alive, st_messages::specs::Fits::is_body))]
+    #[tactic(auto, using(crate::proofs::Distinct::lock_mode), unfolding(st_rules::specs::Server::rule, st_rules::specs::Server::keep_alive, st_messages::specs::Ranges::is_body))]
     fn rule(&mut self, now: Stamp, h: Header, body: &Body) -> Result<Option<Body>, AllocError>
         requires client { IsClient (server.sender h) }
         requires fits { is_body body.now ≡ true }
@@ -145,7 +145,7 @@ impl ServerMachine {
     }
 
     /// A request of the present epoch.
-    #[tactic(auto, unfolding(st_rules::specs::Server::request, st_messages::specs::Fits::is_body))]
+    #[tactic(auto, unfolding(st_rules::specs::Server::request, st_messages::specs::Ranges::is_body))]
     fn request(&mut self, now: Stamp, h: Header, body: &Body) -> Result<(), AllocError>
         requires client { IsClient (server.sender h) }
         requires fits { is_body body.now ≡ true }
@@ -177,7 +177,7 @@ impl ServerMachine {
         }
     }
 
-    fn see_demand(&mut self, h: Header, ino: u32, g: GrantNo) -> Result<(), AllocError>
+    fn observe_demand(&mut self, h: Header, ino: u32, g: GrantNo) -> Result<(), AllocError>
         ensures ok { OnOk result (self.new ≡ server.demand_seen self.old h ino g) }
         ensures kept { Keeps self.old self.new }
     {
@@ -197,7 +197,7 @@ impl ServerMachine {
     {
         match body {
             Body::Hello => self.hello(now, h),
-            Body::DemandSeen { ino, g } => self.see_demand(h, *ino, *g),
+            Body::DemandSeen { ino, g } => self.observe_demand(h, *ino, *g),
             _ => self.of_epoch(now, h, body),
         }
     }

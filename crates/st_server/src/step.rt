@@ -1,17 +1,17 @@
 // A whole step of a server.
 ghost use Rattle.std.specs.Prelude.{◌≡◌, ◌≤◌, ◌<◌, ◌^◌, [], true, OnOk, OnErr};
 ghost use Rattle.st_rules.specs.Server as server;
-ghost use Rattle.st_server.specs.Ready.{comes_fit};
+ghost use Rattle.st_server.specs.RuleConditions.{comes_fit};
 ghost use Rattle.st_server.specs.Room.{HasRoom, taken_locks};
-ghost use Rattle.st_server.specs.Sound.{IsSound};
+ghost use Rattle.st_server.specs.Invariants.{IsSound};
 ghost use Rattle.st_server.specs.Steps.{Fails, Keeps, stepped};
 
-use crate::machine::ServerMachine;
+use crate::turn::ServerTurn;
 use st_base::Stamp;
 use st_rules::ServerInput;
 use std::alloc::AllocError;
 
-impl ServerMachine {
+impl ServerTurn {
     /// The passes that come after the rule for the input.
     fn passes(&mut self, now: Stamp, input: &ServerInput) -> Result<(), AllocError>
         requires { taken_locks (server.suspecting_on self.old now input.now).state.locks < 2 ^ 32 }

@@ -3,12 +3,12 @@ ghost use Rattle.std.specs.Prelude.{◌≡◌, OnOk};
 ghost use Rattle.st_rules.specs.Server as server;
 ghost use Rattle.st_server.specs.Steps.{Keeps, stolen};
 
-use crate::machine::ServerMachine;
+use crate::turn::ServerTurn;
 use st_base::{ClientId, Life, Stamp};
 use st_messages::{Body, Header, Note, Why};
 use std::alloc::AllocError;
 
-impl ServerMachine {
+impl ServerTurn {
     /// Steals the locks of a client, whose session has this life.
     #[tactic(auto, unfolding(st_rules::specs::Server::crash))]
     fn steal_from(&mut self, client: ClientId, life: Life) -> Result<(), AllocError>

@@ -1,4 +1,4 @@
 mod Once
 mod Changes
-mod Changed
+mod ChangedSessions
 mod Seated

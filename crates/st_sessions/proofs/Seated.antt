@@ -12,7 +12,7 @@ use Rattle.st_rules.specs.declared.sessions.Session.{Session}
 use Rattle.st_rules.specs.declared.sessions.SessionState.{SessionState}
 use Rattle.st_rules.specs.Sessions.{is_session_of}
 use Rattle.st_sessions.specs.Seats.{AreSeated, SameSeats, seat_of}
-use Rattle.st_sessions.proofs.Changed.{some_session}
+use Rattle.st_sessions.proofs.ChangedSessions.{some_session}
 use Rattle.st_tables.proofs.FirstPlaces.{place_some}
 
 -- More entries of the value that is read past the end.

@@ -14,7 +14,7 @@ use Rattle.st_rules.specs.declared.locks.AcquireRefusal.{AcquireRefusal}
 use Rattle.st_rules.specs.Keys.{client}
 use Rattle.st_rules.specs.Locks.{Acquired, Locks, acquire, forget, is_row_by, is_wait_by, locks_open, new_row, next_grant}
 use Rattle.st_locks.specs.Calls.{Answers, acquired}
-use Rattle.st_locks.specs.Since.{IsClient}
+use Rattle.st_locks.specs.DemandStarts.{IsClient}
 use Rattle.st_lock_tables.specs.declared.refusal.LockRefusal.{LockRefusal}
 use Rattle.st_lock_tables.specs.declared.refusal.LockRefusal.TheVariants.{TooManyLocks, Conflict, Memory}
 use Rattle.st_shared.specs.Rows.{IsFileTable, IsOneRow, holder_of}

@@ -2,4 +2,4 @@ pub mod Rows
 pub mod Shared
 pub mod Calls
 pub mod History
-pub mod Reporting
+pub mod Reports

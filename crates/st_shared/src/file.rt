@@ -1,18 +1,18 @@
 // A shared file, with the law of its histories.
 ghost use Rattle.std.specs.Prelude.{◌≡◌, length};
 ghost use Rattle.std.specs.Borrow.{sem};
-ghost use Rattle.st_locks.specs.Since.{IsClient};
+ghost use Rattle.st_locks.specs.DemandStarts.{IsClient};
 ghost use Rattle.st_shared.specs.Calls.{Does, DoesOrLacks, Numbers, shown, shown_result, told_report};
 ghost use Rattle.st_shared.specs.History as history;
 ghost use Rattle.st_shared.specs.History.{GoesOnRightly, IsLedRightly};
-ghost use Rattle.st_shared.specs.Reporting.{EndsReported};
+ghost use Rattle.st_shared.specs.Reports.{EndsReported};
 ghost use Rattle.st_shared.specs.Shared as rules;
 ghost use Rattle.st_shared.specs.Shared.{fresh_shared};
 
 use crate::answer::SharedAnswer;
 use crate::law::every_history_is_right;
-use crate::machine::Machine;
 use crate::refusal::SharedRefusal;
+use crate::state::SharedState;
 use st_base::{ClientId, PageBytes, PageNo};
 use std::alloc::Global;
 use std::marker::Model;
@@ -22,7 +22,7 @@ use std::marker::Model;
 /// of all calls that do so is right.
 #[derive(Drop)]
 pub struct SharedFile {
-    machine: Machine,
+    machine: SharedState,
 }
 
 impl Model for SharedFile {
@@ -43,7 +43,7 @@ impl SharedFile {
         ensures led { IsLedRightly result }
     {
         let file = SharedFile {
-            machine: Machine::new(alloc, blocks),
+            machine: SharedState::new(alloc, blocks),
         };
         file.is_led_rightly();
         file

@@ -7,10 +7,10 @@ mod commands;
 mod file;
 mod issuers;
 mod law;
-mod machine;
 mod members;
 mod refusal;
 mod rows;
+mod state;
 
 pub use answer::SharedAnswer;
 pub use file::SharedFile;

@@ -1,7 +1,7 @@
 // The lock row of a shared file.
 ghost use Rattle.std.specs.Prelude.{◌≡◌, ◌<◌, ◌+◌, ◌^◌, true, Some, None, OnOk, OnErr};
 ghost use Rattle.std.specs.Bool.{OnTrue, OnFalse};
-ghost use Rattle.st_locks.specs.Since.{IsClient};
+ghost use Rattle.st_locks.specs.DemandStarts.{IsClient};
 ghost use Rattle.st_shared.specs.Rows.{IsFileTable, holder_of};
 ghost use Rattle.st_shared.specs.Shared as rules;
 

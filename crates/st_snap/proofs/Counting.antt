@@ -13,7 +13,7 @@ use Rattle.std.proofs.lemmas.Option.{none-some, same_Some}
 use Rattle.st_snap.specs.declared.versions.VersionKey.{VersionKey}
 use Rattle.st_snap.specs.Changes.{Change, Wrote, Took, Forgot, is_shown, is_write, page_of, shown, shown_among, shows, views}
 use Rattle.st_snap.specs.Versions.{AreVersions, Versions, has_version, key_of, key_order, page_in, same_key, slot_under, version}
-use Rattle.st_snap.specs.Volumes.{Held, IsAfter, is_among, numbered, seen, write_of}
+use Rattle.st_snap.specs.Volumes.{Volume, IsAfter, is_among, numbered, seen, write_of}
 use Rattle.st_snap.proofs.Keys.{same_self, same_true}
 use Rattle.st_snap.proofs.Lists.{all_more, any_member, member_all, passes}
 use Rattle.st_snap.proofs.Pages.{page_wrote, target, wrote_at}
@@ -109,7 +109,7 @@ keys_there (e ∷ es) = (
     still true o h = refl
     still false o h = h
 
-module _ (blocks : ℕ) (cs : List Change) (h : Held) (a : IsAfter blocks cs h) (r : AreVersions h.versions) where
+module _ (blocks : ℕ) (cs : List Change) (h : Volume) (a : IsAfter blocks cs h) (r : AreVersions h.versions) where
   -- the number of a version's write
   abbrev number : VersionKey → ℕ
   number k = a.number k.file k.page k.takes

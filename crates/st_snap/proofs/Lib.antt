@@ -4,7 +4,7 @@ pub mod Keys
 pub mod Latest
 pub mod Pages
 pub mod Writes
-pub mod Kept
+pub mod KeptViews
 pub mod Invariant
 pub mod Rules
 pub mod Counting

@@ -9,15 +9,15 @@ use Rattle.st_snap.specs.declared.refusal.SnapRefusal.TheVariants.{NoSpace, NoIm
 use Rattle.st_snap.specs.Changes.{Change, Wrote, Took, Forgot, images, is_shared, is_view, is_write, last_write, page_of, shown, takes, takes_block}
 use Rattle.st_snap.specs.Images as rules
 use Rattle.st_snap.specs.Versions.{AreVersions, has_version, key_of, page_at, version}
-use Rattle.st_snap.specs.Volumes.{Ends, HasNoRoom, Held, IsAfter, IsHeld, Puts, first_after, is_among, numbered, seen, take_of, write_of}
+use Rattle.st_snap.specs.Volumes.{Ends, HasNoRoom, Volume, IsAfter, IsHeld, Puts, first_after, is_among, numbered, seen, take_of, write_of}
 use Rattle.st_snap.proofs.Lists.{first_none, first_some, none_passes, passes}
 use Rattle.st_snap.proofs.Latest.{latest_is, latest_some}
 use Rattle.st_snap.proofs.Options.{some_is}
-use Rattle.st_snap.proofs.Kept.{among_image, take_image, taken_image}
+use Rattle.st_snap.proofs.KeptViews.{among_image, take_image, taken_image}
 use Rattle.st_snap.proofs.Counting.{counted}
 use Rattle.st_snap.proofs.Writes.{begun, over}
 
-module _ (blocks : ℕ) (cs : List Change) (h : Held) (k : IsHeld h) (a : IsAfter blocks cs h) (f p : ℕ) where
+module _ (blocks : ℕ) (cs : List Change) (h : Volume) (k : IsHeld h) (a : IsAfter blocks cs h) (f p : ℕ) where
   among_kept : (view : ℕ) → list_any (λ y. view == y) (images cs) ≡ true → list_any (λ y. view == y) h.kept ≡ true
   among_kept view m = ap (list_any (λ y. view == y)) a.kept ∙ m
 
@@ -87,7 +87,7 @@ module _ (blocks : ℕ) (cs : List Change) (h : Held) (k : IsHeld h) (a : IsAfte
       let n = counted blocks cs h a r in
       (λ i. if e i && le-leb blocks (shown cs) (omega (arith, n, full, a.size)) i then Err (NoSpace 0 1) else Ok (tt, Wrote f p bytes ∷ cs))
 
-module _ (blocks : ℕ) (cs : List Change) (h : Held) (a : IsAfter blocks cs h) (f p : ℕ) where
+module _ (blocks : ℕ) (cs : List Change) (h : Volume) (a : IsAfter blocks cs h) (f p : ℕ) where
   -- Read.
   page_bytes : (o : Option ℕ) → option_map rules.bytes_of (write_of a.number h.versions f p o) ≡ page_at h.versions f p o
   page_bytes None = refl
@@ -110,7 +110,7 @@ module _ (blocks : ℕ) (cs : List Change) (h : Held) (a : IsAfter blocks cs h) 
   unfolding rules.read
   refused_read image m = ap (λ b. if b then Ok (option_map rules.bytes_of (page_of cs image f p)) else Err (NoImage image)) (view_is image ∙ m)
 
-module _ (blocks : ℕ) (cs : List Change) (h : Held) (a : IsAfter blocks cs h) where
+module _ (blocks : ℕ) (cs : List Change) (h : Volume) (a : IsAfter blocks cs h) where
   -- Take.
   pub taken : length h.kept < 64 → rules.take cs ≡ Ok (h.next, Took ∷ cs)
   unfolding rules.take
@@ -135,7 +135,7 @@ module _ (blocks : ℕ) (cs : List Change) (h : Held) (a : IsAfter blocks cs h) 
   refused_forget image m = ap (λ b. if b then Ok (tt, Forgot image ∷ cs) else Err (NoImage image)) (ap (list_any (λ other. image == other)) (sym a.kept) ∙ m)
 
 -- A write, by what its version is.
-module _ (h : Held) (k : IsHeld h) (f p : ℕ) (shared : (t : ℕ) → seen h 0 f p ≡ Some t → is_some (first_after h.kept t) ≡ true) where
+module _ (h : Volume) (k : IsHeld h) (f p : ℕ) (shared : (t : ℕ) → seen h 0 f p ≡ Some t → is_some (first_after h.kept t) ≡ true) where
   one_take : (h.next - 1) + 1 ≡ h.next
   one_take = omega (arith, k.some)
 
@@ -149,13 +149,13 @@ module _ (h : Held) (k : IsHeld h) (f p : ℕ) (shared : (t : ℕ) → seen h 0 
       let g = taken_image h k i.0 s.there in
       omega (arith, e, s.above, g.below))
 
-pub ends_over : (blocks : ℕ) (cs : List Change) (old new : Held) → IsHeld old → IsAfter blocks cs old → (f p t : ℕ) (bytes : List ℕ) (r : Result (Unit {0}) SnapRefusal)
+pub ends_over : (blocks : ℕ) (cs : List Change) (old new : Volume) → IsHeld old → IsAfter blocks cs old → (f p t : ℕ) (bytes : List ℕ) (r : Result (Unit {0}) SnapRefusal)
     → seen old 0 f p ≡ Some t → first_after old.kept t ≡ None → OnOk r (Puts old new (key_of f p t) bytes) → IfErr r (λ e. e ≡ Memory) → Ends blocks old new r (rules.write blocks cs f p bytes)
 ends_over blocks cs old new k a f p t bytes (Ok x) live alone w m =
     (Wrote f p bytes ∷ cs, (written_over blocks cs old k a f p bytes (over_rule blocks cs old k a f p t live alone), over blocks cs old new k a f p t bytes w live alone))
 ends_over blocks cs old new k a f p t bytes (Err e) live alone w m = subst (λ (x : SnapRefusal). Ends {T = Unit {0}} blocks old new (Err x) (rules.write blocks cs f p bytes)) (sym m) tt
 
-pub ends_new : (blocks : ℕ) (cs : List Change) (old new : Held) → IsHeld old → IsAfter blocks cs old → AreVersions old.versions → (f p : ℕ) (bytes : List ℕ) (r : Result (Unit {0}) SnapRefusal)
+pub ends_new : (blocks : ℕ) (cs : List Change) (old new : Volume) → IsHeld old → IsAfter blocks cs old → AreVersions old.versions → (f p : ℕ) (bytes : List ℕ) (r : Result (Unit {0}) SnapRefusal)
     → ((t : ℕ) → seen old 0 f p ≡ Some t → is_some (first_after old.kept t) ≡ true) → OnOk r (Puts old new (key_of f p (old.next - 1)) bytes) → OnOk r (length old.versions.slots < old.versions.blocks)
     → IfErr r (HasNoRoom old new) → Ends blocks old new r (rules.write blocks cs f p bytes)
 ends_new blocks cs old new k a v f p bytes (Ok x) shared w room n = (

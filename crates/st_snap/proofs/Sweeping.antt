@@ -12,7 +12,7 @@ use Rattle.st_snap.proofs.Counting.{has_slot}
 use Rattle.st_snap.proofs.Keys.{Before, before_is, is_before, order_total, same_false, same_self, same_true}
 use Rattle.st_snap.proofs.Lists.{first_none, first_some, member_all}
 use Rattle.st_snap.proofs.Latest.{latest_is, latest_none, latest_some, none_is}
-use Rattle.st_snap.proofs.Kept.{among_cases, among_image, take_image, there_if}
+use Rattle.st_snap.proofs.KeptViews.{among_cases, among_image, take_image, there_if}
 
 -- the version was passed by the cursor
 abbrev pub IsBehind : Option VersionKey → VersionKey → Type 0

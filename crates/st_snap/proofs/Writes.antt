@@ -7,15 +7,15 @@ use Rattle.std.proofs.lemmas.Bool.{cases_Bool, false_from_ne_true}
 use Rattle.st_snap.specs.declared.versions.VersionKey.{VersionKey}
 use Rattle.st_snap.specs.Changes.{Change, Wrote, last_write, page_of, same_page}
 use Rattle.st_snap.specs.Versions.{has_version, key_of, latest, same_key, version}
-use Rattle.st_snap.specs.Volumes.{Held, IsAfter, IsHeld, IsSeen, Puts, first_after, is_among, numbered, seen, take_of, write_of}
+use Rattle.st_snap.specs.Volumes.{Volume, IsAfter, IsHeld, IsSeen, Puts, first_after, is_among, numbered, seen, take_of, write_of}
 use Rattle.st_snap.proofs.Options.{some_is}
 use Rattle.st_snap.proofs.Keys.{same_false, same_from, same_true, same_self}
 use Rattle.st_snap.proofs.Lists.{first_none, first_some}
 use Rattle.st_snap.proofs.Latest.{IsLatest, latest_is, latest_same, latest_some}
 use Rattle.st_snap.proofs.Pages.{is_page, not_page, page_is, page_low, page_over}
-use Rattle.st_snap.proofs.Kept.{among_cases, among_image, take_image, taken_image}
+use Rattle.st_snap.proofs.KeptViews.{among_cases, among_image, take_image, taken_image}
 
-module _ (blocks : ℕ) (cs : List Change) (h : Held) (a : IsAfter blocks cs h) where
+module _ (blocks : ℕ) (cs : List Change) (h : Volume) (a : IsAfter blocks cs h) where
   -- the write of a version that is seen
   pub seen_write : (q : VersionKey) (s : IsSeen h q) (b : List ℕ) → version h.versions q ≡ Some b → page_of cs s.view q.file q.page ≡ Some (numbered (a.number q.file q.page q.takes) b)
   seen_write q s b e = a.pages s.view q.file q.page s.among ∙ ap (write_of a.number h.versions q.file q.page) s.found ∙ ap (option_map (numbered (a.number q.file q.page q.takes))) e
@@ -28,7 +28,7 @@ module _ (blocks : ℕ) (cs : List Change) (h : Held) (a : IsAfter blocks cs h) 
       page_low cs s.view q.file q.page (numbered (a.number q.file q.page q.takes) b.0) (seen_write q s b.0 b.1)
 
 -- A page is written: its version t has the bytes.
-module _ (blocks : ℕ) (cs : List Change) (h new : Held) (k : IsHeld h) (a : IsAfter blocks cs h) (f p t : ℕ) (bytes : List ℕ) (w : Puts h new (key_of f p t) bytes) where
+module _ (blocks : ℕ) (cs : List Change) (h new : Volume) (k : IsHeld h) (a : IsAfter blocks cs h) (f p t : ℕ) (bytes : List ℕ) (w : Puts h new (key_of f p t) bytes) where
   -- the numbers of the writes
   abbrev number : ℕ → ℕ → ℕ → ℕ
   number g q u = if same_key (key_of f p t) (key_of g q u) then length cs else a.number g q u

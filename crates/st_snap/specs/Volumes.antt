@@ -9,7 +9,7 @@ use Rattle.st_snap.specs.Changes.{Change, Write, images, page_of, takes}
 use Rattle.st_snap.specs.Versions.{Versions, has_version, key_of, latest, same_key, version}
 
 -- the versions of pages, the kept images, and the number that the next image gets
-pub record Held : Type 0 where
+pub record Volume : Type 0 where
   pub versions : Versions
   pub kept : List ℕ
   pub next : ℕ
@@ -25,7 +25,7 @@ pub record IsTaken (next image : ℕ) : Type 0 where
   pub below : image < next
 
 -- the kept images are in order and were taken, and each version began before the next take
-pub record IsHeld (h : Held) : Type 0 where
+pub record IsHeld (h : Volume) : Type 0 where
   pub rising : AreRising h.kept
   pub taken : AllByRecursion (IsTaken h.next) h.kept
   pub few : length h.kept ≤ 64
@@ -43,12 +43,12 @@ abbrev pub is_among : List ℕ → ℕ → Bool
 is_among kept image = list_any (λ view. image == view) (0 ∷ kept)
 
 -- where there is one, the take that a view is before
-abbrev pub IsTakeOf : Held → ℕ → Option ℕ → Type 0
+abbrev pub IsTakeOf : Volume → ℕ → Option ℕ → Type 0
 IsTakeOf h image None = is_among h.kept image ≡ false
 IsTakeOf h image (Some t) = (is_among h.kept image ≡ true) × (t ≡ take_of h.next image)
 
 -- the last version of a page that began before the take of a view
-abbrev pub seen : Held → ℕ → ℕ → ℕ → Option ℕ
+abbrev pub seen : Volume → ℕ → ℕ → ℕ → Option ℕ
 seen h image f p = latest (has_version h.versions) f p (take_of h.next image)
 
 -- a write, by its number and bytes
@@ -61,14 +61,14 @@ write_of number v f p None = None
 write_of number v f p (Some t) = option_map (numbered (number f p t)) (version v (key_of f p t))
 
 -- a view in which a version is seen
-pub record IsSeen (h : Held) (k : VersionKey) : Type 0 where
+pub record IsSeen (h : Volume) (k : VersionKey) : Type 0 where
   pub view : ℕ
   pub among : is_among h.kept view ≡ true
   pub found : seen h view k.file k.page ≡ Some k.takes
 
 -- A volume of so many blocks stands for a list of changes: the kept images are those of the list; each page in each view is
 -- the write that the list gives; each version is seen in a view; and later versions of a page are later writes.
-pub record IsAfter (blocks : ℕ) (changes : List Change) (h : Held) : Type 0 where
+pub record IsAfter (blocks : ℕ) (changes : List Change) (h : Volume) : Type 0 where
   pub size : h.versions.blocks ≡ blocks
   pub kept : h.kept ≡ images changes
   pub next : h.next ≡ takes changes + 1
@@ -78,7 +78,7 @@ pub record IsAfter (blocks : ℕ) (changes : List Change) (h : Held) : Type 0 wh
   pub rises : (f p s t : ℕ) → s < t → has_version h.versions (key_of f p s) ≡ true → has_version h.versions (key_of f p t) ≡ true → number f p s < number f p t
 
 -- What a call answers and leaves: what the definition gives. Where it is refused nothing is changed; where memory runs out nothing is promised.
-abbrev pub Ends : {T : Type 0} → ℕ → Held → Held → Result T SnapRefusal → Result (T × List Change) SnapRefusal → Type 0
+abbrev pub Ends : {T : Type 0} → ℕ → Volume → Volume → Result T SnapRefusal → Result (T × List Change) SnapRefusal → Type 0
 Ends blocks old new (Ok x) rule = (changes : List Change) × ((rule ≡ Ok (x, changes)) × IsAfter blocks changes new)
 Ends blocks old new (Err refusals.Memory) rule = ⊤
 Ends blocks old new (Err e) rule = (rule ≡ Err e) × (new ≡ old)
@@ -104,19 +104,19 @@ abbrev pub is_seen : Versions → List ℕ → ℕ → VersionKey → Bool
 is_seen v kept next k = option_is k.takes (latest (has_version v) k.file k.page (unwrap_or (first_after kept k.takes) next))
 
 -- the live version of a page, where no image shares it; where there is none, none began after the last take
-abbrev pub IsUnshared : Held → ℕ → ℕ → Option VersionKey → Type 0
+abbrev pub IsUnshared : Volume → ℕ → ℕ → Option VersionKey → Type 0
 IsUnshared h f p (Some k) = (t : ℕ) × ((k ≡ key_of f p t) × ((seen h 0 f p ≡ Some t) × (first_after h.kept t ≡ None)))
 IsUnshared h f p None = (t : ℕ) → seen h 0 f p ≡ Some t → is_some (first_after h.kept t) ≡ true
 
 -- the bytes of a version are new
-pub record Puts (old new : Held) (k : VersionKey) (bytes : List ℕ) : Type 0 where
+pub record Puts (old new : Volume) (k : VersionKey) (bytes : List ℕ) : Type 0 where
   pub versions : (q : VersionKey) → version new.versions q ≡ cond (same_key k q) (Some bytes) (version old.versions q)
   pub blocks : new.versions.blocks ≡ old.versions.blocks
   pub kept : new.kept ≡ old.kept
   pub next : new.next ≡ old.next
 
 -- why a version is not begun: each block has one, and nothing is changed; or memory runs out
-abbrev pub HasNoRoom : Held → Held → SnapRefusal → Type 0
+abbrev pub HasNoRoom : Volume → Volume → SnapRefusal → Type 0
 HasNoRoom old new (refusals.NoSpace free asked) = (free ≡ 0) × ((asked ≡ 1) × ((old.versions.blocks ≤ length old.versions.slots) × (new ≡ old)))
 HasNoRoom old new refusals.Memory = ⊤
 HasNoRoom old new e = ⊥

@@ -76,7 +76,7 @@ pub struct Volume {
 impl Model for Volume {
     ghost use Rattle.st_snap.specs.Volumes as shared_volumes;
 
-    ghost Value = { shared_volumes.Held };
+    ghost Value = { shared_volumes.Volume };
 
     ghost view = { λ v. record { versions = v.versions; kept = v.kept.items; next = v.next } };
 

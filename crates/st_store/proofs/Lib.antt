@@ -1,3 +1,3 @@
-pub mod Kept
+pub mod StoreBytes
 pub mod Quiet
 pub mod Parts

@@ -5,14 +5,14 @@ use Rattle.std.proofs.lemmas.Bool.{and_parts, cases_Bool, cases_lt, leb-true, lt
 use Rattle.std.proofs.lemmas.List.{append-nil, drop-drop, drop_all, get_or_past, length-replicate, take_all}
 use borrow.Rule.Slice.PartMut.{put_mid}
 use Rattle.st_store.specs.InMemory.{filled, Contents, Held, after_fill, after, after_all, is_loose, recorded, fresh_held, zeros}
-use Rattle.st_store.specs.Kept.{AreInside, IsKept}
+use Rattle.st_store.specs.Invariants.{AreInside, IsKept}
 use Rattle.st_store.specs.Laws.{IsOutside, fill_stays, length-filled, length-written, outside, stays}
 use Rattle.st_store.specs.Store.{is_within, written}
 use Rattle.st_store.specs.declared.history.Span.{Span}
 use Rattle.st_store.specs.declared.history.StoreCall.{StoreCall}
 use Rattle.st_store.specs.declared.history.StoreCall.TheVariants.{Write, Sync}
 use Rattle.std.specs.Prelude.{Option, Some, None}
-use Rattle.st_store.proofs.Kept.{after_push, same_bytes, takes}
+use Rattle.st_store.proofs.StoreBytes.{after_push, same_bytes, takes}
 
 -- a write within the list is three parts
 pub written_parts : (old : List ℕ) (at : ℕ) (new : List ℕ) → at + length new ≤ length old → written old at new ≡ take at old ++ (new ++ drop (at + length new) old)

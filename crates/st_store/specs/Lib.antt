@@ -1,5 +1,5 @@
 pub mod Store
 pub mod Plans
 pub mod InMemory
-pub mod Kept
+pub mod Invariants
 pub mod Laws

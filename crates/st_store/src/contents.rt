@@ -1,7 +1,7 @@
 // The bytes of a store in memory, with the record of what was written and synced.
 ghost use Rattle.std.specs.Prelude.{◌≡◌, ◌≤◌, ◌+◌, ◌++◌, ◌∷◌, [], All, IfOk, OnOk, OnErr, length, take, drop, replicate};
 ghost use Rattle.st_store.specs.InMemory as memory;
-ghost use Rattle.st_store.specs.Kept.{AreInside};
+ghost use Rattle.st_store.specs.Invariants.{AreInside};
 ghost use Rattle.st_store.specs.Store.{written};
 
 use crate::history::{Piece, Span, StoreCall};
@@ -22,7 +22,7 @@ pub struct Contents {
 impl Model for Contents {
     ghost use Rattle.std.specs.Prelude.{length};
     ghost use Rattle.st_store.specs.InMemory as memory;
-    ghost use Rattle.st_store.specs.Kept.{IsKept};
+    ghost use Rattle.st_store.specs.Invariants.{IsKept};
 
     ghost Value = { memory.Contents };
 

@@ -7,7 +7,7 @@ use Rattle.std.proofs.lemmas.List.Elements.{filter-append}
 use Rattle.st_rules.specs.Keys.{put}
 use Rattle.st_tables.specs.declared.keys.Key.{Key}
 use Rattle.st_tables.specs.Tables.{same_key, has_key}
-use Rattle.st_tables.proofs.Listed.{put_last}
+use Rattle.st_tables.proofs.RowLists.{put_last}
 use Rattle.st_tables.proofs.Places.{key_is, same_is}
 
 -- one more where the test is passed

@@ -10,7 +10,7 @@ use Rattle.std.proofs.lemmas.List.{map-append}
 use Rattle.std.proofs.lemmas.Map.Keys.{IsDistinct-push}
 use Rattle.st_tables.specs.declared.keys.Key.{Key}
 use Rattle.st_tables.specs.Tables.{listed, row_at, same_key, IsTable}
-use Rattle.st_tables.proofs.Listed.{passing, passes_at, none_pass, listed_more, listed_empty}
+use Rattle.st_tables.proofs.RowLists.{passing, passes_at, none_pass, listed_more, listed_empty}
 use Rattle.st_tables.proofs.Places.{key_is, same_is}
 
 same_bools : (a b : Bool) → (a ≡ true → b ≡ true) → (b ≡ true → a ≡ true) → a ≡ b

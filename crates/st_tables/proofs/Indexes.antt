@@ -11,7 +11,7 @@ use Rattle.st_tables.specs.declared.keys.Key.{Key}
 use Rattle.st_tables.specs.Tables.{first_of, second_of, has_key, is_among, is_first, same_key}
 use Rattle.std.specs.Global.{Vec}
 use Rattle.st_tables.specs.Indexes.{AreOwned, AreQueued, Forgets, Gains, Joins, Leaves, Loses, has, queue_in, row_under, waiting}
-use Rattle.st_tables.proofs.Listed.{none_of, put_last}
+use Rattle.st_tables.proofs.RowLists.{none_of, put_last}
 use Rattle.st_tables.proofs.Places.{key_on, key_is, same_is}
 use Rattle.st_tables.proofs.RisingKeys.{any_map_filter, any_same, rising_same}
 use Rattle.st_tables.proofs.Counts.{filter_tests, filter_twice}

@@ -1,4 +1,4 @@
-pub mod Listed
+pub mod RowLists
 pub mod Places
 pub mod Entries
 pub mod Filters
@@ -9,6 +9,6 @@ pub mod RisingKeys
 pub mod InOrder
 pub mod FirstPlaces
 pub mod Puts
-pub mod Passing
+pub mod PassingValues
 pub mod Indexes
 pub mod Sets

@@ -7,7 +7,7 @@ use Rattle.std.proofs.lemmas.Bool.{cases_Bool, and_parts, eqb-true, eqb-false, e
 use Rattle.st_rules.specs.Keys.{put}
 use Rattle.st_tables.specs.declared.keys.Key.{Key}
 use Rattle.st_tables.specs.Tables.{kept, listed, same_key, has_key, is_client, is_on, sooner, IsTable}
-use Rattle.st_tables.proofs.Listed.{listed_push, listed_filter, listed_map, listed_first, listed_none, listed_find, listed_put, put_last, none_of}
+use Rattle.st_tables.proofs.RowLists.{listed_push, listed_filter, listed_map, listed_first, listed_none, listed_find, listed_put, put_last, none_of}
 
 pub key_is : (a b : Key) → same_key a b ≡ true → a ≡ b
 key_is a b h =

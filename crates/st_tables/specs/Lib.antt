@@ -1,4 +1,4 @@
 pub mod Indexes
 pub mod Orders
-pub mod Rising
+pub mod RisingKeys
 pub mod Tables

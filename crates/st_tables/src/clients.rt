@@ -8,7 +8,7 @@ ghost use Rattle.st_tables.specs.Indexes.{AreQueued, has, queue_in};
 ghost use Rattle.st_tables.specs.Tables.{Changes, first_of, firsts_on, has_key, is_among, is_first, is_of_client, same_key, second_of};
 
 use crate::keys::{Key, Row, Test};
-use crate::owned::{Owned, forget, gain, lose, numbers};
+use crate::owned_numbers::{OwnedNumbers, forget, gain, lose, numbers};
 use crate::queues::{Queues, leave, push, queue};
 use crate::rising_keys::rising;
 use crate::table::Table;
@@ -104,7 +104,7 @@ pub struct ClientTable<V: Row> {
     table: Table<V>,
     counts: [u64; 17],
     queues: Queues,
-    owned: Owned,
+    owned: OwnedNumbers,
 }
 
 impl<V: Row> Model for ClientTable<V> {

@@ -5,7 +5,7 @@
 mod arrival_order;
 mod clients;
 mod keys;
-mod owned;
+mod owned_numbers;
 mod queues;
 mod rising_keys;
 mod table;

@@ -5,7 +5,7 @@ ghost use Rattle.st_node.specs.Room.{HasRoomFor};
 ghost use Rattle.st_node.specs.Runs.{MOST};
 ghost use Rattle.st_node.specs.Service.{HasCauses, OfReadings};
 ghost use Rattle.st_tank.specs.NodeEnds.{AttachesBy, Completes, IsAttached, IsServed, Writes};
-ghost use Rattle.st_tank.specs.NodeKnown.{IsKnown};
+ghost use Rattle.st_tank.specs.KnownNodes.{IsKnown};
 ghost use Rattle.st_tank.specs.NodeWords as words_of;
 
 use crate::node_ends::tell;

@@ -1,6 +1,6 @@
 // The words of a call.
 ghost use Rattle.std.specs.Prelude.{◌≡◌, ◌≤◌, IfSome, map, string_bytes};
-ghost use Rattle.st_tank.specs.NodeKnown.{IsKnown};
+ghost use Rattle.st_tank.specs.KnownNodes.{IsKnown};
 ghost use Rattle.st_tank.specs.NodeWords as words_of;
 
 use st_base::{ClientId, NodeId, ServerId};

@@ -2,13 +2,13 @@
 #![tactic(auto)]
 
 #[cfg(test)]
-mod drip;
-#[cfg(test)]
 mod failed_calls;
 #[cfg(test)]
 mod frames;
 #[cfg(test)]
 mod link;
+#[cfg(test)]
+mod one_byte_source;
 #[cfg(test)]
 mod runs;
 #[cfg(test)]

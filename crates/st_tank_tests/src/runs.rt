@@ -1,5 +1,5 @@
 // The program over memory.
-use crate::drip::Drip;
+use crate::one_byte_source::OneByteSource;
 use st_base::Stamp;
 use st_clock::MemoryClock;
 use st_link::{MemoryLink, MemorySink, MemorySource};
@@ -32,10 +32,10 @@ pub fn still(alloc: Global) -> Result<MemoryClock, AllocError> {
 }
 
 /// A schedule that comes one byte a call; the take of this number fails, and none where it is 0.
-pub fn dripping(alloc: Global, schedule: &str, failing: u64) -> Result<Drip, AllocError> {
+pub fn dripping(alloc: Global, schedule: &str, failing: u64) -> Result<OneByteSource, AllocError> {
     let bytes = Vec::from_slice(alloc, schedule.as_bytes())?;
     let failing = Vec::from_slice(alloc, &[failing])?;
-    Ok(Drip {
+    Ok(OneByteSource {
         rest: MemorySource::new(bytes, failing),
     })
 }
@@ -43,7 +43,7 @@ pub fn dripping(alloc: Global, schedule: &str, failing: u64) -> Result<Drip, All
 /// Replays a schedule, asserts its report and its complaint, and returns its status.
 pub fn replays(
     rt: &(impl Abort + AllocGlobal),
-    input: &mut Drip,
+    input: &mut OneByteSource,
     report: &str,
     complaint: &str,
 ) -> Result<u8, Fail> {

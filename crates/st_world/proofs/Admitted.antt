@@ -6,7 +6,7 @@ use Rattle.std.specs.Option.{option_or}
 use Rattle.std.proofs.lemmas.Bool.{and_parts, eqb-true, leb-true, lt-ltb}
 use Rattle.st_base.specs.declared.ids.NodeId.{NodeId}
 use Rattle.st_base.specs.declared.ids.NodeId.TheVariants as nodes
-use Rattle.st_world_parts.specs.Clocked.{is_step}
+use Rattle.st_world_parts.specs.Clocks.{is_step}
 use Rattle.st_messages.specs.declared.event.Event.{Event}
 use Rattle.st_messages.specs.declared.event.Event.TheVariants as events
 use Rattle.st_rules.specs.declared.lease.Excess.{Excess}
@@ -18,7 +18,7 @@ use Rattle.st_rules.specs.Safety.{is_event, is_increment}
 use Rattle.st_rules.specs.World.{World, all_clients, is_running}
 use Rattle.st_world_events.specs.Advances.{IsAccepted}
 use Rattle.st_world_events.specs.Readiness.{IsMet, IsReady, MayCount}
-use Rattle.st_world.specs.Timed.{IsLaid, IsTimed}
+use Rattle.st_world.specs.AdvanceTests.{IsLaid, IsTimed}
 
 neither : {A : Type 0} (o rest : Option A) → option_or o rest ≡ None → (o ≡ None) × (rest ≡ None)
 neither None rest h = (refl, h)

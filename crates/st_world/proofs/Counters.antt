@@ -7,15 +7,15 @@ use Rattle.st_base.specs.declared.ids.ServerId.{ServerId}
 use Rattle.st_client.specs.Room as client_room
 use Rattle.st_client_association.specs.Associations.{has_room_at, may_ask}
 use Rattle.st_laws_bounds.specs.Counters.Counts.{AsksLow, ClientsFew, LocksFew, ReadsFew, ServersFew, TheftsFew}
-use Rattle.st_laws_bounds.specs.Counters.Raised.{ClientsWithin, IsWithin, IsWithinAt}
-use Rattle.st_laws_bounds.specs.Counters.Reached as laws
-use Rattle.st_laws_bounds.specs.Counters.Reached.{InEveryReached}
+use Rattle.st_laws_bounds.specs.Counters.Rises.{ClientsWithin, IsWithin, IsWithinAt}
+use Rattle.st_laws_bounds.specs.Counters.ReachedWorlds as laws
+use Rattle.st_laws_bounds.specs.Counters.ReachedWorlds.{InEveryReached}
 use Rattle.st_lemmas.proofs.Tables.{all_pass, and_both}
 use Rattle.st_rules.specs.ClientState.{Association, ClientSession, ClientState}
 use Rattle.st_rules.specs.Server.{ServerNode}
-use Rattle.st_rules.specs.World.{World, ClientSite, node_of, site_of}
+use Rattle.st_rules.specs.World.{World, WorldClient, node_of, site_of}
 use Rattle.st_world.specs.Counters.{CountersHaveRoom, NodeHasRoom, SiteHasRoom}
-use Rattle.st_world.specs.Reached.{IsReached}
+use Rattle.st_world.specs.ReachedWorlds.{IsReached}
 
 asks_low : (most : ℕ) (s : Option ClientSession) → most < 2 ^ 62 → AsksLow most s → may_ask s ≡ true
 asks_low most None few low = refl
@@ -44,7 +44,7 @@ have_room counts within servers locks reads thefts w r few =
     by : laws.IsReachedBy r.config r.clients r.servers r.disks r.blocks r.form r.events w
     by = record { head = r.by.head; events = r.by.events; world = r.by.world; stands = r.by.stands }
 
-    site : (c : ClientId) (x : ClientSite) → site_of w c ≡ Some x → SiteHasRoom x
+    site : (c : ClientId) (x : WorldClient) → site_of w c ≡ Some x → SiteHasRoom x
     site c x e =
         let f = counts r.config r.clients r.servers r.disks r.blocks r.form r.events w by c x e in
         let i = within r.config r.clients r.servers r.disks r.blocks r.form r.events w by c x e in

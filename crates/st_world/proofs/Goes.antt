@@ -11,7 +11,7 @@ use Rattle.st_rules.specs.Events.{WorldTurn, quiet, world_turn, world_step}
 use Rattle.st_rules.specs.Run.{Run, RunsInParts, behind, go_on, run, run_on}
 use Rattle.st_rules.specs.Safety.{IsHead, is_event}
 use Rattle.st_rules.specs.World.{World, fresh_world}
-use Rattle.st_world.specs.Reached.{IsQuiet, IsReached}
+use Rattle.st_world.specs.ReachedWorlds.{IsQuiet, IsReached}
 use Rattle.st_world.proofs.Shaped.{clocks_are}
 
 -- a run that led to a world, and was not refused, goes on with one event

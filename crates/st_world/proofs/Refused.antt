@@ -10,7 +10,7 @@ use Rattle.st_rules.specs.declared.disks.DiskCommand.{DiskCommand}
 use Rattle.st_rules.specs.declared.world.SentMessage.{SentMessage}
 use Rattle.st_rules.specs.Admissible.{refused_delivery, refused_effect, refused_loss, refused_report, stands}
 use Rattle.st_rules.specs.World.{World}
-use Rattle.st_world.specs.Delivering.{delivery_refused, effect_refused, report_refused}
+use Rattle.st_world.specs.Deliveries.{delivery_refused, effect_refused, report_refused}
 
 -- there is no such message to deliver
 pub delivery_none : (w : World) (k : ℕ) (o : Option SentMessage) → None ≡ option_map head_of o → refused_delivery w k o ≡ Some (refusals.NoMessage k)

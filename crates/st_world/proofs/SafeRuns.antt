@@ -4,7 +4,7 @@ use Rattle.st_messages.specs.declared.event.Event.{Event}
 use Rattle.st_promises.specs.Safe.{EveryRunIsSafe}
 use Rattle.st_rules.specs.Safety.{is_event}
 use Rattle.st_rules.specs.World.{World}
-use Rattle.st_world.specs.Reached.{IsReached}
+use Rattle.st_world.specs.ReachedWorlds.{IsReached}
 use Rattle.st_world.specs.Safe.{AreSafe, GoesOnSafely, IsLedSafely}
 use Rattle.st_world.proofs.Goes.{all_more}
 use Rattle.st_world.proofs.Shaped.{clocks_are}

@@ -8,7 +8,7 @@ use Rattle.st_base.specs.declared.config.Config.{Config}
 use Rattle.st_base.specs.declared.config.ConfigRefusal.{ConfigRefusal}
 use Rattle.st_base.specs.declared.config.ConfigRefusal.TheVariants as faults
 use Rattle.st_base.specs.declared.ids.Stamp.{Stamp}
-use Rattle.st_world_parts.specs.Clocked.{is_at_most}
+use Rattle.st_world_parts.specs.Clocks.{is_at_most}
 use Rattle.st_world_parts.proofs.Later.{advanced_low}
 use Rattle.st_messages.specs.declared.event.Event.{Event}
 use Rattle.st_messages.specs.declared.event.Event.TheVariants as events
@@ -22,9 +22,9 @@ use Rattle.st_rules.specs.Safety.{IsHead, is_event, is_increment}
 use Rattle.st_rules.specs.World.{World, client_clock, fresh_site, fresh_world, node_at_start, server_clock}
 use Rattle.st_messages.specs.declared.event.Counts.{Counts}
 use Rattle.st_world.specs.Heads.{HasCounts}
-use Rattle.st_world.specs.Reached.{IsReached}
-use Rattle.st_world.specs.Shaping.{HasSteps, IsAfter, IsShaped, SameShape, SameTime}
-use Rattle.st_world.specs.Timed.{IsLaid}
+use Rattle.st_world.specs.ReachedWorlds.{IsReached}
+use Rattle.st_world.specs.Shapes.{HasSteps, IsAfter, IsShaped, SameShape, SameTime}
+use Rattle.st_world.specs.AdvanceTests.{IsLaid}
 use Rattle.st_world.proofs.Admitted.{small_steps}
 use Rattle.st_world.proofs.Shapes.{happens_after}
 

@@ -29,9 +29,9 @@ use Rattle.st_rules.specs.Events.{WorldTurn}
 use Rattle.st_rules.specs.Leases.{drift_after, raise_rows}
 use Rattle.st_rules.specs.Server as server
 use Rattle.st_rules.specs.Server.{ServerNode}
-use Rattle.st_rules.specs.World.{ClientSite, World, all_servers, clock_of, message_of, node_of, receiver_of, site_of}
-use Rattle.st_world_events.specs.Flushing.{flush_each}
-use Rattle.st_world.specs.Shaping.{HasSteps, IsAfter, SameShape, SameTime}
+use Rattle.st_rules.specs.World.{WorldClient, World, all_servers, clock_of, message_of, node_of, receiver_of, site_of}
+use Rattle.st_world_events.specs.FlushSteps.{flush_each}
+use Rattle.st_world.specs.Shapes.{HasSteps, IsAfter, SameShape, SameTime}
 use Rattle.st_world_events.proofs.Flushed.{flushes_is}
 
 over : {u v w : World} → SameTime u v → SameTime v w → SameTime u w
@@ -45,14 +45,14 @@ set_length [] i y = refl
 set_length (x ∷ xs) zero y = refl
 set_length (x ∷ xs) (suc i) y = ap suc (set_length xs i y)
 
-site_shape : (w : World) (c : ClientId) (site : ClientSite) → SameTime w (ev.with_site c site w)
+site_shape : (w : World) (c : ClientId) (site : WorldClient) → SameTime w (ev.with_site c site w)
 site_shape w c site = record { events = refl; clocks = refl; drift = refl; clients = set_length w.clients _ site; servers = refl; config = refl }
 
 node_shape : (w : World) (s : ServerId) (node : ServerNode) → SameTime w (ev.with_node s node w)
 node_shape w s node = record { events = refl; clocks = refl; drift = refl; clients = refl; servers = set_length w.servers _ node; config = refl }
 
 -- Outputs.
-submits_shape : (sc : WorldTurn) (c : ClientId) (o : Option ClientSite) (number : ℕ) (at : BlockAt) (what : Command) → SameTime sc.world (ev.submits sc c o number at what).world
+submits_shape : (sc : WorldTurn) (c : ClientId) (o : Option WorldClient) (number : ℕ) (at : BlockAt) (what : Command) → SameTime sc.world (ev.submits sc c o number at what).world
 unfolding ev.submits
 submits_shape sc c None number at what = record { events = refl; clocks = refl; drift = refl; clients = refl; servers = refl; config = refl }
 submits_shape sc c (Some site) number at what = record { events = refl; clocks = refl; drift = refl; clients = refl; servers = refl; config = refl }
@@ -107,7 +107,7 @@ flushed_shape w v c state h =
     }
 
 -- Steps of nodes.
-client_took_shape : (w : World) (c : ClientId) (site : ClientSite) (r : Result client.NodeTurn StepRefusal) → SameTime w (ev.client_took w c site r).world
+client_took_shape : (w : World) (c : ClientId) (site : WorldClient) (r : Result client.NodeTurn StepRefusal) → SameTime w (ev.client_took w c site r).world
 unfolding ev.client_took
 client_took_shape w c site (Ok t) =
     let moved = ev.with_site c (ev.at_node t.node site) w in
@@ -117,7 +117,7 @@ client_took_shape w c site (Ok t) =
     (flushed_shape said.world (ev.flushes c t.node.state (all_servers said.world) said.world) c t.node.state (flushes_is c t.node.state (all_servers said.world) said.world)))
 client_took_shape w c site (Err r) = same w
 
-client_shape : (w : World) (c : ClientId) (input : ClientInput) (o : Option ClientSite) → SameTime w (ev.at_client w c input o).world
+client_shape : (w : World) (c : ClientId) (input : ClientInput) (o : Option WorldClient) → SameTime w (ev.at_client w c input o).world
 unfolding ev.at_client ev.client_takes
 client_shape w c input None = same w
 client_shape w c input (Some site) = client_took_shape w c site _
@@ -138,7 +138,7 @@ unfolding ev.ticks
 ticks_shape w (nodes.Client c) = client_shape w c _ (site_of w c)
 ticks_shape w (nodes.Server s) = server_shape w s _ (node_of w s)
 
-asks_shape : (w : World) (c : ClientId) (ask : Ask) (o : Option ClientSite) → SameTime w (ev.asks_at w c ask o).world
+asks_shape : (w : World) (c : ClientId) (ask : Ask) (o : Option WorldClient) → SameTime w (ev.asks_at w c ask o).world
 unfolding ev.asks_at ev.client_takes
 asks_shape w c ask None = same w
 asks_shape w c ask (Some site) = client_took_shape w c (ev.asked_once_more site) _
@@ -183,11 +183,11 @@ if_shape : (w : World) (b : Bool) (x y : WorldTurn) → SameTime w x.world → S
 if_shape w true x y p q = p
 if_shape w false x y p q = q
 
-site_told_shape : (w : World) (k : ℕ) (ok : Bool) (c : IssuedCommand) (site : ClientSite) → SameTime w (ev.tells_site w k ok c site).world
+site_told_shape : (w : World) (k : ℕ) (ok : Bool) (c : IssuedCommand) (site : WorldClient) → SameTime w (ev.tells_site w k ok c site).world
 unfolding ev.tells_site ev.client_takes
 site_told_shape w k ok c site = if_shape w (ev.is_same_instance c site) (ev.client_takes w c.client (ev.end_told w k ok c) site) (ev.quiet w) (client_took_shape w c.client site _) (same w)
 
-client_told_shape : (w : World) (k : ℕ) (ok : Bool) (c : IssuedCommand) (o : Option ClientSite) → SameTime w (ev.tells_client w k ok c o).world
+client_told_shape : (w : World) (k : ℕ) (ok : Bool) (c : IssuedCommand) (o : Option WorldClient) → SameTime w (ev.tells_client w k ok c o).world
 unfolding ev.tells_client
 client_told_shape w k ok c None = same w
 client_told_shape w k ok c (Some site) = site_told_shape w k ok c site
@@ -204,7 +204,7 @@ reports_shape : (w : World) (k : ℕ) (ok : Bool) → SameTime w (ev.reports_of 
 unfolding ev.reports_of
 reports_shape w k ok = over (disks_shape w _) (tells_shape _ k ok _)
 
-crash_client_shape : (w : World) (c : ClientId) (o : Option ClientSite) → SameTime w (ev.crashes_client w c o).world
+crash_client_shape : (w : World) (c : ClientId) (o : Option WorldClient) → SameTime w (ev.crashes_client w c o).world
 unfolding ev.crashes_client ev.marks
 crash_client_shape w c None = same w
 crash_client_shape w c (Some site) = record { events = refl; clocks = refl; drift = refl; clients = set_length w.clients _ _; servers = refl; config = refl }
@@ -219,7 +219,7 @@ unfolding ev.crashes
 crashes_shape w (nodes.Client c) = crash_client_shape w c (site_of w c)
 crashes_shape w (nodes.Server s) = crash_server_shape w s (node_of w s)
 
-start_client_shape : (w : World) (c : ClientId) (o : Option ClientSite) → SameTime w (ev.starts_client w c o)
+start_client_shape : (w : World) (c : ClientId) (o : Option WorldClient) → SameTime w (ev.starts_client w c o)
 unfolding ev.starts_client
 start_client_shape w c None = same w
 start_client_shape w c (Some site) = site_shape w c _

@@ -8,9 +8,9 @@ use Rattle.st_rules.specs.Admissible.{refusal}
 use Rattle.st_rules.specs.Events.{WorldTurn, counted, happens, world_turn, world_by, world_step}
 use Rattle.st_rules.specs.Safety.{is_event}
 use Rattle.st_rules.specs.World.{World}
-use Rattle.st_world.specs.Shaping.{SameShape}
+use Rattle.st_world.specs.Shapes.{SameShape}
 use Rattle.st_world.specs.Steps.{StepsAs}
-use Rattle.st_world.specs.Timed.{IsLaid}
+use Rattle.st_world.specs.AdvanceTests.{IsLaid}
 use Rattle.st_world.specs.declared.fault.WorldFault.{WorldFault}
 use Rattle.st_world.specs.declared.fault.WorldFault.TheVariants.{Refused, Memory}
 use Rattle.st_world.proofs.Admitted.{timed_any}

@@ -1,9 +1,9 @@
-pub mod Delivering
-pub mod Growing
+pub mod Deliveries
+pub mod Growth
 pub mod Heads
-pub mod Reached
+pub mod ReachedWorlds
 pub mod Safe
-pub mod Shaping
+pub mod Shapes
 pub mod Steps
-pub mod Timed
+pub mod AdvanceTests
 pub mod Counters

@@ -4,7 +4,7 @@ use Rattle.st_base.specs.declared.config.Config.{Config}
 use Rattle.st_messages.specs.declared.event.Event.{Event}
 use Rattle.st_promises.specs.Safe.{IsSafeRun}
 use Rattle.st_rules.specs.World.{World, fresh_world}
-use Rattle.st_world.specs.Reached.{IsReached, IsReachedBy}
+use Rattle.st_world.specs.ReachedWorlds.{IsReached, IsReachedBy}
 
 -- every run that leads to this world is safe
 abbrev pub AreSafe : World → Type 0

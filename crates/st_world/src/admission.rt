@@ -3,8 +3,8 @@ ghost use Rattle.std.specs.Prelude.{◌≡◌, ◌≤◌, List, ℕ, length};
 ghost use Rattle.std.specs.Option.{option_or};
 ghost use Rattle.st_messages.specs.declared.event.Event.TheVariants as events;
 ghost use Rattle.st_rules.specs.Admissible as admissible;
-ghost use Rattle.st_world.specs.Delivering.{advance_refused};
-ghost use Rattle.st_world.specs.Timed.{IsTimed};
+ghost use Rattle.st_world.specs.Deliveries.{advance_refused};
+ghost use Rattle.st_world.specs.AdvanceTests.{IsTimed};
 
 use crate::checks::{
     cannot_step, no_node, not_running, refused_delivery, refused_effect, refused_loss,
@@ -15,10 +15,10 @@ use crate::missed_flushes::flush_missed;
 use st_base::NodeId;
 use st_messages::Event;
 use st_rules::WorldRefusal;
-use st_world_events::WorldMachine;
+use st_world_events::WorldTurn;
 
 /// A tick or an ask of a node.
-fn step_refused(machine: &WorldMachine, node: NodeId) -> Option<WorldRefusal>
+fn step_refused(machine: &WorldTurn, node: NodeId) -> Option<WorldRefusal>
     ensures { result ≡ option_or (admissible.no_node machine.now.world node) (admissible.cannot_step machine.now.world node) }
 {
     match no_node(machine, node) {
@@ -28,7 +28,7 @@ fn step_refused(machine: &WorldMachine, node: NodeId) -> Option<WorldRefusal>
 }
 
 /// A cut or a heal of a direction.
-fn link_refused(machine: &WorldMachine, from: NodeId, to: NodeId) -> Option<WorldRefusal>
+fn link_refused(machine: &WorldTurn, from: NodeId, to: NodeId) -> Option<WorldRefusal>
     ensures { result ≡ option_or (admissible.no_node machine.now.world from) (admissible.no_node machine.now.world to) }
 {
     match no_node(machine, from) {
@@ -37,7 +37,7 @@ fn link_refused(machine: &WorldMachine, from: NodeId, to: NodeId) -> Option<Worl
     }
 }
 
-fn crash_refused(machine: &WorldMachine, node: NodeId) -> Option<WorldRefusal>
+fn crash_refused(machine: &WorldTurn, node: NodeId) -> Option<WorldRefusal>
     ensures { result ≡ option_or (admissible.no_node machine.now.world node) (admissible.not_running machine.now.world node) }
 {
     match no_node(machine, node) {
@@ -46,7 +46,7 @@ fn crash_refused(machine: &WorldMachine, node: NodeId) -> Option<WorldRefusal>
     }
 }
 
-fn start_refused(machine: &WorldMachine, node: NodeId) -> Option<WorldRefusal>
+fn start_refused(machine: &WorldTurn, node: NodeId) -> Option<WorldRefusal>
     ensures { result ≡ option_or (admissible.no_node machine.now.world node) (admissible.still_running machine.now.world node) }
 {
     match no_node(machine, node) {
@@ -55,7 +55,7 @@ fn start_refused(machine: &WorldMachine, node: NodeId) -> Option<WorldRefusal>
     }
 }
 
-fn advance_refused(machine: &WorldMachine, steps: &[u64]) -> Option<WorldRefusal>
+fn advance_refused(machine: &WorldTurn, steps: &[u64]) -> Option<WorldRefusal>
     requires clients { length machine.now.world.clients ≤ 16 }
     requires servers { length machine.now.world.servers ≤ 4 }
     requires timed { IsTimed machine.now.world steps.now }
@@ -69,7 +69,7 @@ fn advance_refused(machine: &WorldMachine, steps: &[u64]) -> Option<WorldRefusal
 
 /// Returns the first refusal of an event that stands. It changes nothing and takes no memory.
 #[tactic(auto, unfolding(st_rules::specs::Admissible::refusal))]
-pub(crate) fn refusal(machine: &WorldMachine, event: &Event) -> Option<WorldRefusal>
+pub(crate) fn refusal(machine: &WorldTurn, event: &Event) -> Option<WorldRefusal>
     requires clients { length machine.now.world.clients ≤ 16 }
     requires servers { length machine.now.world.servers ≤ 4 }
     requires timed { (steps : List ℕ) → event.now ≡ events.Advance steps → IsTimed machine.now.world steps }

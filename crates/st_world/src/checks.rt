@@ -5,12 +5,12 @@ ghost use Rattle.st_rules.specs.Admissible as admissible;
 ghost use Rattle.st_rules.specs.Disks as disks;
 ghost use Rattle.st_rules.specs.World as world;
 ghost use Rattle.st_rules.specs.World.{World};
-ghost use Rattle.st_world.specs.Delivering.{delivery_refused, effect_refused, head_cut, head_refused, report_refused};
+ghost use Rattle.st_world.specs.Deliveries.{delivery_refused, effect_refused, head_cut, head_refused, report_refused};
 
 use st_base::{ClientId, Life, NodeId, ServerId, Stamp};
 use st_rules::{IssuedCommand, WorldRefusal};
 use st_server::ServerNode;
-use st_world_events::{WorldClient, WorldMachine, node_at, node_of_number, site_at};
+use st_world_events::{WorldClient, WorldTurn, node_at, node_of_number, site_at};
 use st_world_parts::{CommandState, MessageEnds, is_done, is_told, late_at, stands};
 
 fn site_runs(site: Option<&WorldClient>) -> bool
@@ -40,7 +40,7 @@ fn end_at(site: Option<&WorldClient>, server: ServerId) -> Option<Stamp>
     }
 }
 
-fn is_running(machine: &WorldMachine, node: NodeId) -> bool
+fn is_running(machine: &WorldTurn, node: NodeId) -> bool
     ensures { result ≡ world.is_running machine.now.world node }
 {
     match node {
@@ -49,7 +49,7 @@ fn is_running(machine: &WorldMachine, node: NodeId) -> bool
     }
 }
 
-fn is_known(machine: &WorldMachine, node: NodeId) -> bool
+fn is_known(machine: &WorldTurn, node: NodeId) -> bool
     ensures { result ≡ world.is_known machine.now.world node }
 {
     match node {
@@ -58,25 +58,25 @@ fn is_known(machine: &WorldMachine, node: NodeId) -> bool
     }
 }
 
-pub(crate) fn no_node(machine: &WorldMachine, node: NodeId) -> Option<WorldRefusal>
+pub(crate) fn no_node(machine: &WorldTurn, node: NodeId) -> Option<WorldRefusal>
     ensures { result ≡ admissible.no_node machine.now.world node }
 {
     stands(!is_known(machine, node), WorldRefusal::NoNode(node))
 }
 
-pub(crate) fn not_running(machine: &WorldMachine, node: NodeId) -> Option<WorldRefusal>
+pub(crate) fn not_running(machine: &WorldTurn, node: NodeId) -> Option<WorldRefusal>
     ensures { result ≡ admissible.not_running machine.now.world node }
 {
     stands(!is_running(machine, node), WorldRefusal::NotRunning(node))
 }
 
-pub(crate) fn still_running(machine: &WorldMachine, node: NodeId) -> Option<WorldRefusal>
+pub(crate) fn still_running(machine: &WorldTurn, node: NodeId) -> Option<WorldRefusal>
     ensures { result ≡ admissible.still_running machine.now.world node }
 {
     stands(is_running(machine, node), WorldRefusal::Running(node))
 }
 
-pub(crate) fn net_full(machine: &WorldMachine) -> Option<WorldRefusal>
+pub(crate) fn net_full(machine: &WorldTurn) -> Option<WorldRefusal>
     ensures { result ≡ admissible.net_full machine.now.world }
 {
     let bytes = machine.net.bytes();
@@ -84,7 +84,7 @@ pub(crate) fn net_full(machine: &WorldMachine) -> Option<WorldRefusal>
 }
 
 /// A node that is to take a step.
-pub(crate) fn cannot_step(machine: &WorldMachine, node: NodeId) -> Option<WorldRefusal>
+pub(crate) fn cannot_step(machine: &WorldTurn, node: NodeId) -> Option<WorldRefusal>
     ensures { result ≡ admissible.cannot_step machine.now.world node }
 {
     match not_running(machine, node) {
@@ -93,7 +93,7 @@ pub(crate) fn cannot_step(machine: &WorldMachine, node: NodeId) -> Option<WorldR
     }
 }
 
-fn link_cut(machine: &WorldMachine, head: MessageEnds) -> Option<WorldRefusal>
+fn link_cut(machine: &WorldTurn, head: MessageEnds) -> Option<WorldRefusal>
     ensures { result ≡ head_cut machine.now.world head }
 {
     let from = node_of_number(head.from);
@@ -104,7 +104,7 @@ fn link_cut(machine: &WorldMachine, head: MessageEnds) -> Option<WorldRefusal>
     )
 }
 
-fn undelivered(machine: &WorldMachine, k: u64, head: MessageEnds) -> Option<WorldRefusal>
+fn undelivered(machine: &WorldTurn, k: u64, head: MessageEnds) -> Option<WorldRefusal>
     ensures { result ≡ delivery_refused machine.now.world k head }
 {
     match stands(head.lost, WorldRefusal::LostMessage(k)) {
@@ -113,7 +113,7 @@ fn undelivered(machine: &WorldMachine, k: u64, head: MessageEnds) -> Option<Worl
     }
 }
 
-fn unsent(machine: &WorldMachine, head: MessageEnds) -> Option<WorldRefusal>
+fn unsent(machine: &WorldTurn, head: MessageEnds) -> Option<WorldRefusal>
     ensures { result ≡ head_refused machine.now.world head }
 {
     match link_cut(machine, head) {
@@ -124,7 +124,7 @@ fn unsent(machine: &WorldMachine, head: MessageEnds) -> Option<WorldRefusal>
 
 /// Delivering the message of a number.
 #[tactic(auto, using(crate::proofs::Refused::delivery_none, crate::proofs::Refused::delivery_some))]
-pub(crate) fn refused_delivery(machine: &WorldMachine, k: u64) -> Option<WorldRefusal>
+pub(crate) fn refused_delivery(machine: &WorldTurn, k: u64) -> Option<WorldRefusal>
     ensures { result ≡ admissible.refused_delivery machine.now.world k (world.message_of machine.now.world k) }
 {
     match machine.net.head(k) {
@@ -135,7 +135,7 @@ pub(crate) fn refused_delivery(machine: &WorldMachine, k: u64) -> Option<WorldRe
 
 /// Losing the message of a number.
 #[tactic(auto, using(crate::proofs::Refused::loss_none, crate::proofs::Refused::loss_some))]
-pub(crate) fn refused_loss(machine: &WorldMachine, k: u64) -> Option<WorldRefusal>
+pub(crate) fn refused_loss(machine: &WorldTurn, k: u64) -> Option<WorldRefusal>
     ensures { result ≡ admissible.refused_loss k (world.message_of machine.now.world k) }
 {
     match machine.net.head(k) {
@@ -144,7 +144,7 @@ pub(crate) fn refused_loss(machine: &WorldMachine, k: u64) -> Option<WorldRefusa
     }
 }
 
-fn present_end(machine: &WorldMachine, client: ClientId, server: ServerId) -> Option<Stamp>
+fn present_end(machine: &WorldTurn, client: ClientId, server: ServerId) -> Option<Stamp>
     ensures { result ≡ world.present_end machine.now.world server (world.site_of machine.now.world client) }
 {
     end_at(site_at(&machine.clients, client), server)
@@ -152,7 +152,7 @@ fn present_end(machine: &WorldMachine, client: ClientId, server: ServerId) -> Op
 
 /// The end of the lease of a client's life at a server.
 fn lease_end_of(
-    machine: &WorldMachine,
+    machine: &WorldTurn,
     client: ClientId,
     server: ServerId,
     life: Life,
@@ -165,7 +165,7 @@ fn lease_end_of(
     }
 }
 
-fn late_disk(machine: &WorldMachine, command: Option<IssuedCommand>) -> Option<WorldRefusal>
+fn late_disk(machine: &WorldTurn, command: Option<IssuedCommand>) -> Option<WorldRefusal>
     requires { length machine.now.world.clients ≤ 16 }
     ensures { result ≡ admissible.late_disk machine.now.world command }
 {
@@ -178,7 +178,7 @@ fn late_disk(machine: &WorldMachine, command: Option<IssuedCommand>) -> Option<W
     }
 }
 
-fn ineffective(machine: &WorldMachine, k: u64, standing: CommandState) -> Option<WorldRefusal>
+fn ineffective(machine: &WorldTurn, k: u64, standing: CommandState) -> Option<WorldRefusal>
     requires { length machine.now.world.clients ≤ 16 }
     ensures { result ≡ effect_refused machine.now.world k standing }
 {
@@ -190,7 +190,7 @@ fn ineffective(machine: &WorldMachine, k: u64, standing: CommandState) -> Option
 
 /// The effect of the command of a number.
 #[tactic(auto, using(crate::proofs::Refused::effect_none, crate::proofs::Refused::effect_some))]
-pub(crate) fn refused_effect(machine: &WorldMachine, k: u64) -> Option<WorldRefusal>
+pub(crate) fn refused_effect(machine: &WorldTurn, k: u64) -> Option<WorldRefusal>
     requires { length machine.now.world.clients ≤ 16 }
     ensures { result ≡ admissible.refused_effect machine.now.world k (disks.command machine.now.world.disks k) }
 {
@@ -200,7 +200,7 @@ pub(crate) fn refused_effect(machine: &WorldMachine, k: u64) -> Option<WorldRefu
     }
 }
 
-fn untold(machine: &WorldMachine, k: u64, ok: bool, standing: CommandState) -> Option<WorldRefusal>
+fn untold(machine: &WorldTurn, k: u64, ok: bool, standing: CommandState) -> Option<WorldRefusal>
     ensures { result ≡ report_refused machine.now.world k ok standing }
 {
     match stands(is_told(ok, standing), WorldRefusal::DiskState(k)) {
@@ -211,7 +211,7 @@ fn untold(machine: &WorldMachine, k: u64, ok: bool, standing: CommandState) -> O
 
 /// The report of the command of a number.
 #[tactic(auto, using(crate::proofs::Refused::report_none, crate::proofs::Refused::report_some))]
-pub(crate) fn refused_report(machine: &WorldMachine, k: u64, ok: bool) -> Option<WorldRefusal>
+pub(crate) fn refused_report(machine: &WorldTurn, k: u64, ok: bool) -> Option<WorldRefusal>
     ensures { result ≡ admissible.refused_report machine.now.world k ok (disks.command machine.now.world.disks k) }
 {
     match machine.commands.standing(k) {

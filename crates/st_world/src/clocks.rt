@@ -4,12 +4,12 @@ ghost use Rattle.st_rules.specs.Admissible as admissible;
 ghost use Rattle.st_rules.specs.declared.observation.WorldRefusal.TheVariants as refusals;
 ghost use Rattle.st_rules.specs.Leases as leases;
 ghost use Rattle.st_rules.specs.World as world;
-ghost use Rattle.st_world.specs.Timed.{IsPair, IsTimed, excess_in};
+ghost use Rattle.st_world.specs.AdvanceTests.{IsPair, IsTimed, excess_in};
 
 use st_base::{ClientId, Config, NodeId, ServerId};
 use st_clock::{Drift, rate_ok};
 use st_rules::{Excess, WorldRefusal};
-use st_world_events::WorldMachine;
+use st_world_events::WorldTurn;
 use st_world_parts::stands;
 
 fn greatest(steps: &[u64]) -> u64
@@ -56,7 +56,7 @@ fn excess_after(drift: &Drift, steps: &[u64], config: &Config) -> Option<Excess>
 
 /// The node of a place among the clocks, from 0.
 #[tactic(auto, unfolding(st_rules::specs::World::node_of_place))]
-fn node_of_place(machine: &WorldMachine, place: usize) -> NodeId
+fn node_of_place(machine: &WorldTurn, place: usize) -> NodeId
     requires { place < 20 }
     ensures { result ≡ world.node_of_place machine.now.world place }
 {
@@ -67,7 +67,7 @@ fn node_of_place(machine: &WorldMachine, place: usize) -> NodeId
     }
 }
 
-fn rate_refused(machine: &WorldMachine, steps: &[u64]) -> Option<WorldRefusal>
+fn rate_refused(machine: &WorldTurn, steps: &[u64]) -> Option<WorldRefusal>
     requires { 1 ≤ length steps.now }
     ensures { result ≡ admissible.rate_refused machine.now.world steps.now }
 {
@@ -77,7 +77,7 @@ fn rate_refused(machine: &WorldMachine, steps: &[u64]) -> Option<WorldRefusal>
     )
 }
 
-fn drift_refused(machine: &WorldMachine, excess: Option<Excess>) -> Option<WorldRefusal>
+fn drift_refused(machine: &WorldTurn, excess: Option<Excess>) -> Option<WorldRefusal>
     requires { IfSome excess (IsPair 20) }
     ensures { result ≡ admissible.drift_refused machine.now.world excess }
 {
@@ -93,7 +93,7 @@ fn drift_refused(machine: &WorldMachine, excess: Option<Excess>) -> Option<World
 
 /// Clocks that would run apart too far.
 #[tactic(auto, unfolding(st_rules::specs::Admissible::clocks_refused))]
-pub(crate) fn clocks_refused(machine: &WorldMachine, steps: &[u64]) -> Option<WorldRefusal>
+pub(crate) fn clocks_refused(machine: &WorldTurn, steps: &[u64]) -> Option<WorldRefusal>
     requires { IsTimed machine.now.world steps.now }
     ensures { result ≡ admissible.clocks_refused machine.now.world steps.now }
 {

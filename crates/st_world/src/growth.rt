@@ -3,10 +3,10 @@ ghost use Rattle.st_base.specs.declared.ids.Stamp.{Stamp};
 ghost use Rattle.st_messages.specs.declared.event.Event.{Event};
 ghost use Rattle.st_rules.specs.Events.{happens};
 ghost use Rattle.st_rules.specs.World.{World};
-ghost use Rattle.st_world.specs.Shaping.{HasSteps, SameShape};
+ghost use Rattle.st_world.specs.Shapes.{HasSteps, SameShape};
 ghost use Rattle.st_rules.specs.declared.input.ServerInput.{ServerInput};
 ghost use Rattle.st_rules.specs.Server.{ServerState, server_step};
-ghost use Rattle.st_world.specs.Growing.{Grows, pages_in};
+ghost use Rattle.st_world.specs.Growth.{Grows, pages_in};
 
 /// In a step of a server its epoch stays, at most one inode more has a number, and each birth is of a page that was asked for.
 #[tactic(auto, using(crate::proofs::Stables::step_grows))]

@@ -6,7 +6,7 @@ mod admission;
 mod checks;
 mod clocks;
 mod fault;
-mod fresh;
+mod first_parts;
 mod growth;
 mod missed_flushes;
 mod parts;

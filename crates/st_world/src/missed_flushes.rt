@@ -2,15 +2,15 @@
 ghost use Rattle.std.specs.Prelude.{◌≡◌, ◌≤◌, ◌<◌, ◌^◌, true, Some, length};
 ghost use Rattle.std.specs.List.{list_all};
 ghost use Rattle.std.specs.Option.{option_copied};
-ghost use Rattle.st_world_parts.specs.Clocked.{is_at_most, is_step};
+ghost use Rattle.st_world_parts.specs.Clocks.{is_at_most, is_step};
 ghost use Rattle.st_rules.specs.Admissible as admissible;
 ghost use Rattle.st_rules.specs.Client as client_rules;
 ghost use Rattle.st_rules.specs.World as world;
-ghost use Rattle.st_world.specs.Timed.{IsTimed};
+ghost use Rattle.st_world.specs.AdvanceTests.{IsTimed};
 
 use st_base::{ClientId, NodeId, ServerId, Stamp};
 use st_rules::{FlushStep, WorldRefusal};
-use st_world_events::{WorldClient, WorldMachine, site_at};
+use st_world_events::{WorldClient, WorldTurn, site_at};
 use st_world_parts::stands;
 
 fn reaches(clock: Stamp, step: u64, end: Option<Stamp>) -> bool
@@ -47,12 +47,7 @@ fn step_of(client: ClientId, steps: &[u64]) -> u64
     steps[(client.0 - 1) as usize]
 }
 
-fn has_flushed(
-    machine: &WorldMachine,
-    client: ClientId,
-    server: ServerId,
-    end: Option<Stamp>,
-) -> bool
+fn has_flushed(machine: &WorldTurn, client: ClientId, server: ServerId, end: Option<Stamp>) -> bool
     ensures { result ≡ admissible.has_flushed machine.now.world client server end }
 {
     machine
@@ -62,7 +57,7 @@ fn has_flushed(
 }
 
 fn is_unflushed(
-    machine: &WorldMachine,
+    machine: &WorldTurn,
     client: ClientId,
     server: ServerId,
     site: &WorldClient,
@@ -75,7 +70,7 @@ fn is_unflushed(
 }
 
 fn misses(
-    machine: &WorldMachine,
+    machine: &WorldTurn,
     client: ClientId,
     server: ServerId,
     step: u64,
@@ -93,7 +88,7 @@ fn misses(
 }
 
 fn site_missed(
-    machine: &WorldMachine,
+    machine: &WorldTurn,
     steps: &[u64],
     client: ClientId,
     server: ServerId,
@@ -112,7 +107,7 @@ fn site_missed(
 }
 
 fn missed_at(
-    machine: &WorldMachine,
+    machine: &WorldTurn,
     steps: &[u64],
     client: ClientId,
     server: ServerId,
@@ -129,7 +124,7 @@ fn missed_at(
 }
 
 fn missed(
-    machine: &WorldMachine,
+    machine: &WorldTurn,
     steps: &[u64],
     client: ClientId,
     server: ServerId,
@@ -149,7 +144,7 @@ fn missed(
 
 /// A client that misses its flush, by the servers in order.
 #[tactic(auto, unfolding(st_rules::specs::Admissible::missed_by))]
-fn missed_by(machine: &WorldMachine, steps: &[u64], client: ClientId) -> Option<WorldRefusal>
+fn missed_by(machine: &WorldTurn, steps: &[u64], client: ClientId) -> Option<WorldRefusal>
     requires few { length machine.now.world.clients ≤ 16 }
     requires servers { length machine.now.world.servers ≤ 4 }
     requires timed { IsTimed machine.now.world steps.now }
@@ -167,7 +162,7 @@ fn missed_by(machine: &WorldMachine, steps: &[u64], client: ClientId) -> Option<
 
 /// A missed flush, by the clients in order.
 #[tactic(auto, unfolding(st_rules::specs::Admissible::flush_missed))]
-pub(crate) fn flush_missed(machine: &WorldMachine, steps: &[u64]) -> Option<WorldRefusal>
+pub(crate) fn flush_missed(machine: &WorldTurn, steps: &[u64]) -> Option<WorldRefusal>
     requires few { length machine.now.world.clients ≤ 16 }
     requires servers { length machine.now.world.servers ≤ 4 }
     requires timed { IsTimed machine.now.world steps.now }

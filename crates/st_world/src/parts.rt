@@ -12,7 +12,7 @@ ghost use Rattle.st_world.specs.Steps.{StepsAs};
 
 use crate::admission::refusal;
 use crate::fault::WorldFault;
-use crate::fresh::{push_client_clocks, push_nodes, push_server_clocks, push_sites};
+use crate::first_parts::{push_client_clocks, push_nodes, push_server_clocks, push_sites};
 use crate::steps::step_admitted;
 use st_base::{ClientId, Config, NodeId, ServerId, Stamp};
 use st_client::ClientNode;
@@ -21,7 +21,7 @@ use st_messages::{Counts, Event};
 use st_model::FlatLog;
 use st_rules::{Observation, Summary, WorldRefusal, runs_go_on_in_parts};
 use st_server::ServerNode;
-use st_world_events::WorldMachine;
+use st_world_events::WorldTurn;
 use st_world_parts::{Commands, Lives, Network};
 use std::alloc::{AllocError, Global};
 use std::marker::Model;
@@ -30,16 +30,16 @@ use std::mem;
 /// The parts of a world: the world itself, and one with a node of each kind, which takes its place when memory runs out. It takes
 /// no event then.
 #[derive(Drop)]
-pub(crate) struct Parts {
-    machine: WorldMachine,
-    spare: WorldMachine,
+pub(crate) struct WorldParts {
+    machine: WorldTurn,
+    spare: WorldTurn,
     pub(crate) broken: bool,
 }
 
-impl Model for Parts {
+impl Model for WorldParts {
     ghost use Rattle.std.specs.Prelude.{◌≡◌, false};
     ghost use Rattle.st_rules.specs.World as shared;
-    ghost use Rattle.st_world.specs.Reached.{IsQuiet};
+    ghost use Rattle.st_world.specs.ReachedWorlds.{IsQuiet};
 
     ghost Value = { shared.World };
 
@@ -59,12 +59,7 @@ fn fresh_lives(alloc: Global, counts: &Counts) -> Result<Lives, AllocError>
 
 /// The parts of a world at the start.
 #[tactic(auto, unfolding(st_rules::specs::World::fresh_world))]
-fn fresh(
-    alloc: Global,
-    config: Config,
-    counts: &Counts,
-    form: u8,
-) -> Result<WorldMachine, AllocError>
+fn fresh(alloc: Global, config: Config, counts: &Counts, form: u8) -> Result<WorldTurn, AllocError>
     requires checked { IsOk (settings.check config) }
     requires counts { HasCounts counts.now }
     ensures { IfOk result (λ m. m ≡ events.quiet (fresh_world config counts.now.clients counts.now.servers counts.now.disks counts.now.blocks form)) }
@@ -75,7 +70,7 @@ fn fresh(
     push_nodes(alloc, &mut servers, &config, counts)?;
     let lives = fresh_lives(alloc, counts)?;
     let drift = Drift::new(alloc, counts.clients as usize + counts.servers as usize)?;
-    Ok(WorldMachine {
+    Ok(WorldTurn {
         alloc,
         config,
         form,
@@ -107,20 +102,20 @@ fn least_counts(blocks: u32) -> Counts
     }
 }
 
-impl Parts {
+impl WorldParts {
     /// The world of a head.
     pub(crate) fn new(
         alloc: Global,
         config: Config,
         counts: Counts,
         form: u8,
-    ) -> Result<Parts, AllocError>
+    ) -> Result<WorldParts, AllocError>
         requires head { IsHead config counts.clients counts.servers counts.disks counts.blocks form }
         ensures { IfOk result (λ w. w ≡ fresh_world config counts.clients counts.servers counts.disks counts.blocks form) }
     {
         let machine = fresh(alloc, config, &counts, form)?;
         let spare = fresh(alloc, config, &least_counts(counts.blocks), form)?;
-        Ok(Parts {
+        Ok(WorldParts {
             machine,
             spare,
             broken: false,

@@ -4,7 +4,7 @@ ghost use Rattle.st_rules.specs.Safety.{is_event};
 ghost use Rattle.st_world.specs.Counters.{CountersHaveRoom};
 ghost use Rattle.st_world.specs.Safe.{GoesOnSafely, IsLedSafely};
 
-use crate::parts::Parts;
+use crate::parts::WorldParts;
 use st_laws_bounds::{
     clients_count_few, clients_stay_within, locks_are_few, reads_are_few, servers_count_few,
     thefts_are_few,
@@ -12,7 +12,7 @@ use st_laws_bounds::{
 use st_laws_safe::every_run_is_safe;
 use st_messages::Event;
 
-impl Parts {
+impl WorldParts {
     /// A run leads to this world, and every run that leads to it is safe.
     pub(crate) fn runs_here_are_safe(&self)
         ensures { IsLedSafely self.now }

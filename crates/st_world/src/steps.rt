@@ -5,17 +5,17 @@ ghost use Rattle.st_rules.specs.Events as events;
 ghost use Rattle.st_rules.specs.Safety.{is_event};
 ghost use Rattle.st_world_events.specs.Readiness.{MayCount, IsReady};
 ghost use Rattle.st_world.specs.Steps.{StepsAs};
-ghost use Rattle.st_world.specs.Timed.{IsLaid};
+ghost use Rattle.st_world.specs.AdvanceTests.{IsLaid};
 ghost use Rattle.st_world.specs.declared.fault.WorldFault.TheVariants.{Memory};
 
 use crate::fault::WorldFault;
 use st_messages::Event;
 use st_rules::Observation;
-use st_world_events::WorldMachine;
+use st_world_events::WorldTurn;
 
 /// An event that is not refused happens.
 fn run(
-    machine: &mut WorldMachine,
+    machine: &mut WorldTurn,
     event: &Event,
     spare: Vec<Observation>,
 ) -> Result<Vec<Observation>, WorldFault>
@@ -39,7 +39,7 @@ fn run(
 }
 
 /// Whether reads and thefts may be counted on.
-fn may_count(machine: &WorldMachine) -> bool
+fn may_count(machine: &WorldTurn) -> bool
     ensures { IsTrue result ↔ MayCount machine.now.world }
 {
     machine.reads < 1 << 63 && machine.stolen < 1 << 63
@@ -47,7 +47,7 @@ fn may_count(machine: &WorldMachine) -> bool
 
 /// Runs one event, where its counts have room.
 fn run_counted(
-    machine: &mut WorldMachine,
+    machine: &mut WorldTurn,
     event: &Event,
     spare: Vec<Observation>,
 ) -> Result<Vec<Observation>, WorldFault>
@@ -70,7 +70,7 @@ fn run_counted(
 /// Runs one event that is not refused, and returns what is observed of it. The room of the spare list is used for what is observed
 /// next. Where a count of reads or thefts is at its end, it returns `Memory`.
 pub(crate) fn step_admitted(
-    machine: &mut WorldMachine,
+    machine: &mut WorldTurn,
     event: &Event,
     spare: Vec<Observation>,
 ) -> Result<Vec<Observation>, WorldFault>

@@ -11,7 +11,7 @@ ghost use Rattle.st_world.specs.Safe.{GoesOnSafely, IsLedSafely};
 ghost use Rattle.st_world.specs.Steps.{StepsAs};
 
 use crate::fault::WorldFault;
-use crate::parts::Parts;
+use crate::parts::WorldParts;
 use st_base::{ClientId, Config, NodeId, ServerId, Stamp};
 use st_client::ClientNode;
 use st_messages::{Counts, Event};
@@ -25,7 +25,7 @@ use std::marker::Model;
 /// it goes from hand to hand.
 #[derive(Drop)]
 pub struct World {
-    of: Box<Parts>,
+    of: Box<WorldParts>,
 }
 
 impl Model for World {
@@ -57,7 +57,7 @@ impl World {
             disks,
             blocks,
         };
-        let parts = Parts::new(alloc, *config, counts, form)?;
+        let parts = WorldParts::new(alloc, *config, counts, form)?;
         parts.runs_here_are_safe();
         Ok(World {
             of: Box::new(alloc, parts)?,
@@ -78,7 +78,7 @@ impl World {
         ensures safe { GoesOnSafely self.old event }
         ensures counters { CountersHaveRoom self.old }
     {
-        let parts: &mut Parts = &mut self.of;
+        let parts: &mut WorldParts = &mut self.of;
         parts.runs_on_are_safe(&event);
         parts.counters_have_room();
         let stepped = parts.step(&event);
@@ -103,7 +103,7 @@ impl World {
         ensures safe { GoesOnSafely self.old event.now }
         ensures counters { CountersHaveRoom self.old }
     {
-        let parts: &mut Parts = &mut self.of;
+        let parts: &mut WorldParts = &mut self.of;
         parts.runs_on_are_safe(event);
         parts.counters_have_room();
         let stepped = parts.run(event, spare);

@@ -10,7 +10,7 @@ use Rattle.st_rules.specs.declared.input.ServerInput.{ServerInput}
 use Rattle.st_rules.specs.declared.world.IssuedCommand.{IssuedCommand}
 use Rattle.st_rules.specs.Server.{ServerNode}
 use Rattle.st_rules.specs.Events.{WorldTurn, asked_once_more, asks_at, at_client, at_server, client_takes, quiet, server_takes, tells_client, tells_site}
-use Rattle.st_rules.specs.World.{ClientSite, World, node_runs, site_runs}
+use Rattle.st_rules.specs.World.{WorldClient, World, node_runs, site_runs}
 
 within : {A : Type 0} (xs : List A) (i : ℕ) → i < length xs → slice_get xs i ≡ None → ⊥
 within [] i h e = absurd (omega arith)
@@ -18,7 +18,7 @@ within (x ∷ xs) zero h e = absurd (cc)
 within (x ∷ xs) (suc i) h e = within xs i (omega (arith, h)) e
 
 -- nothing takes an input where there is no client
-pub client_none : (w : World) (c : ClientId) (input : ClientInput) (o : Option ClientSite) → o ≡ None → quiet w ≡ at_client w c input o
+pub client_none : (w : World) (c : ClientId) (input : ClientInput) (o : Option WorldClient) → o ≡ None → quiet w ≡ at_client w c input o
 unfolding at_client
 client_none w c input None h = refl
 client_none w c input (Some site) h = absurd (cc)
@@ -30,8 +30,8 @@ server_none w s input None h = refl
 server_none w s input (Some node) h = absurd (cc)
 
 -- the client at a place takes an input
-pub client_some : {E : Type 0} (w : World) (c : ClientId) (i : ℕ) (input : ClientInput) (o : Option ClientSite) (r : Result Unit E) (new : WorldTurn) → i < length w.clients → slice_get w.clients i ≡ o →
-    ((site : ClientSite) → slice_get w.clients i ≡ Some site → OnOk r (new ≡ client_takes w c input site)) → OnOk r (new ≡ at_client w c input o)
+pub client_some : {E : Type 0} (w : World) (c : ClientId) (i : ℕ) (input : ClientInput) (o : Option WorldClient) (r : Result Unit E) (new : WorldTurn) → i < length w.clients → slice_get w.clients i ≡ o →
+    ((site : WorldClient) → slice_get w.clients i ≡ Some site → OnOk r (new ≡ client_takes w c input site)) → OnOk r (new ≡ at_client w c input o)
 unfolding at_client
 client_some w c i input None r new low e h = absurd (within w.clients i low e)
 client_some w c i input (Some site) r new low e h = h site e
@@ -44,33 +44,33 @@ server_some w s i input None r new low e h = absurd (within w.servers i low e)
 server_some w s i input (Some node) r new low e h = h node e
 
 -- no client is told
-pub tells_none : (w : World) (k : ℕ) (ok : Bool) (c : IssuedCommand) (o : Option ClientSite) → o ≡ None → quiet w ≡ tells_client w k ok c o
+pub tells_none : (w : World) (k : ℕ) (ok : Bool) (c : IssuedCommand) (o : Option WorldClient) → o ≡ None → quiet w ≡ tells_client w k ok c o
 unfolding tells_client
 tells_none w k ok c None h = refl
 tells_none w k ok c (Some site) h = absurd (cc)
 
 -- the client at a place is told
-pub tells_some : {E : Type 0} (w : World) (k : ℕ) (ok : Bool) (c : IssuedCommand) (i : ℕ) (o : Option ClientSite) (r : Result Unit E) (new : WorldTurn) → i < length w.clients → slice_get w.clients i ≡ o →
-    ((site : ClientSite) → slice_get w.clients i ≡ Some site → OnOk r (new ≡ tells_site w k ok c site)) → OnOk r (new ≡ tells_client w k ok c o)
+pub tells_some : {E : Type 0} (w : World) (k : ℕ) (ok : Bool) (c : IssuedCommand) (i : ℕ) (o : Option WorldClient) (r : Result Unit E) (new : WorldTurn) → i < length w.clients → slice_get w.clients i ≡ o →
+    ((site : WorldClient) → slice_get w.clients i ≡ Some site → OnOk r (new ≡ tells_site w k ok c site)) → OnOk r (new ≡ tells_client w k ok c o)
 unfolding tells_client
 tells_some w k ok c i None r new low e h = absurd (within w.clients i low e)
 tells_some w k ok c i (Some site) r new low e h = h site e
 
 -- no client is asked
-pub asks_none : (w : World) (c : ClientId) (ask : Ask) (o : Option ClientSite) → o ≡ None → quiet w ≡ asks_at w c ask o
+pub asks_none : (w : World) (c : ClientId) (ask : Ask) (o : Option WorldClient) → o ≡ None → quiet w ≡ asks_at w c ask o
 unfolding asks_at
 asks_none w c ask None h = refl
 asks_none w c ask (Some site) h = absurd (cc)
 
 -- the client at a place, which runs, is asked
-pub asks_some : {E : Type 0} (w : World) (c : ClientId) (ask : Ask) (i : ℕ) (o : Option ClientSite) (r : Result Unit E) (new : WorldTurn) → i < length w.clients → slice_get w.clients i ≡ o → site_runs o ≡ true →
-    ((site : ClientSite) → slice_get w.clients i ≡ Some site → site.node.running ≡ true → OnOk r (new ≡ client_takes w c (inputs.App (site.asks + 1) ask) (asked_once_more site))) → OnOk r (new ≡ asks_at w c ask o)
+pub asks_some : {E : Type 0} (w : World) (c : ClientId) (ask : Ask) (i : ℕ) (o : Option WorldClient) (r : Result Unit E) (new : WorldTurn) → i < length w.clients → slice_get w.clients i ≡ o → site_runs o ≡ true →
+    ((site : WorldClient) → slice_get w.clients i ≡ Some site → site.node.running ≡ true → OnOk r (new ≡ client_takes w c (inputs.App (site.asks + 1) ask) (asked_once_more site))) → OnOk r (new ≡ asks_at w c ask o)
 unfolding asks_at
 asks_some w c ask i None r new low e runs h = absurd (within w.clients i low e)
 asks_some w c ask i (Some site) r new low e runs h = h site e runs
 
 -- a client that does not run, where it is
-pub site_stopped : (o : Option ClientSite) (site : ClientSite) → site_runs o ≡ false → o ≡ Some site → site.node.running ≡ false
+pub site_stopped : (o : Option WorldClient) (site : WorldClient) → site_runs o ≡ false → o ≡ Some site → site.node.running ≡ false
 site_stopped None site h e = absurd (cc)
 site_stopped (Some x) site h e = sym (ap site_runs e) ∙ h
 

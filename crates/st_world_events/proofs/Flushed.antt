@@ -12,7 +12,7 @@ use Rattle.st_rules.specs.ClientState.{ClientState}
 use Rattle.st_rules.specs.Events.{flushed_at, flushed_in, flushed_under, flushes}
 use Rattle.st_rules.specs.Extents.{numbers}
 use Rattle.st_rules.specs.World.{World, clock_of}
-use Rattle.st_world_events.specs.Flushing.{flush_each, flush_end, in_flush, with_end}
+use Rattle.st_world_events.specs.FlushSteps.{flush_each, flush_end, in_flush, with_end}
 
 under_is : (w : World) (c : ClientId) (s : ServerId) (o : Option Stamp) → record w { flushed = with_end c s o w.flushed } ≡ flushed_under w c s o
 under_is w c s None = refl

@@ -1,5 +1,5 @@
 pub mod Asked
-pub mod Crashed
+pub mod CrashedLogs
 pub mod Delivered
 pub mod Dispatched
 pub mod Flushed

@@ -7,17 +7,17 @@ use Rattle.st_base.specs.declared.ids.ClientId.{ClientId}
 use Rattle.st_rules.specs.declared.observation.Observation.TheVariants as seen
 use Rattle.st_rules.specs.declared.world.IssuedCommand.{IssuedCommand}
 use Rattle.st_rules.specs.Events.{WorldTurn, issued, observe, submits, with_command}
-use Rattle.st_rules.specs.World.{ClientSite}
+use Rattle.st_rules.specs.World.{WorldClient}
 use Rattle.st_world_events.specs.Shapes.{issued_at}
 
 -- nothing is submitted by a client that is not there
-pub submits_none : (sc : WorldTurn) (c : ClientId) (o : Option ClientSite) (number : ℕ) (at : BlockAt) (what : Command) → None ≡ issued_at sc.world c number at what o → submits sc c o number at what ≡ sc
+pub submits_none : (sc : WorldTurn) (c : ClientId) (o : Option WorldClient) (number : ℕ) (at : BlockAt) (what : Command) → None ≡ issued_at sc.world c number at what o → submits sc c o number at what ≡ sc
 unfolding submits
 submits_none sc c None number at what h = refl
 submits_none sc c (Some site) number at what h = absurd (cc)
 
 -- a command is submitted by a client that is there
-pub submits_some : (sc : WorldTurn) (c : ClientId) (o : Option ClientSite) (number : ℕ) (at : BlockAt) (what : Command) (command : IssuedCommand) → Some command ≡ issued_at sc.world c number at what o →
+pub submits_some : (sc : WorldTurn) (c : ClientId) (o : Option WorldClient) (number : ℕ) (at : BlockAt) (what : Command) (command : IssuedCommand) → Some command ≡ issued_at sc.world c number at what o →
     submits sc c o number at what ≡ observe (with_command command what sc.world) sc (seen.Submitted (length sc.world.commands + 1) c number what)
 unfolding submits
 submits_some sc c None number at what command h = absurd (cc)

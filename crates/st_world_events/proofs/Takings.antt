@@ -11,9 +11,9 @@ use Rattle.st_rules.specs.declared.node.StepRefusal.{StepRefusal}
 use Rattle.st_rules.specs.Client as client
 use Rattle.st_rules.specs.Server as server
 use Rattle.st_rules.specs.Server.{ServerNode}
-use Rattle.st_rules.specs.World.{ClientSite}
+use Rattle.st_rules.specs.World.{WorldClient}
 use Rattle.st_server.specs.Steps.{Steps}
-use Rattle.st_world_events.specs.Takes.{SiteSteps, SitesStep, ServersStep}
+use Rattle.st_world_events.specs.NodeSteps.{SiteSteps, SitesStep, ServersStep}
 
 -- what stands at a place, written there again
 pub set_same : {A : Type 0} (xs : List A) (i : ℕ) (x : A) → slice_get xs i ≡ Some x → set xs i x ≡ xs
@@ -27,17 +27,17 @@ get_set [] i x h = absurd (omega arith)
 get_set (y ∷ ys) zero x h = refl
 get_set (y ∷ ys) (suc i) x h = get_set ys i x (omega (arith, h))
 
-site_steps : (i : ℕ) (site new : ClientSite) (xs : List ClientSite) (result : Result (List Output) StepFault) (rule : Result client.NodeTurn StepRefusal) →
+site_steps : (i : ℕ) (site new : WorldClient) (xs : List WorldClient) (result : Result (List Output) StepFault) (rule : Result client.NodeTurn StepRefusal) →
     slice_get xs i ≡ Some site → SiteSteps site new result rule → SitesStep i site xs (set xs i new) result rule
 site_steps i site new xs (Ok out) rule e h = record { node = new.node; turn = h.0; clients = ap (set xs i) h.1 }
 site_steps i site new xs (Err Crashed) rule e h = (h.0, ap (set xs i) h.1 ∙ set_same xs i site e)
 site_steps i site new xs (Err Memory) rule e h = tt
 
 -- a step of the client that is found at a place
-pub site_steps_at : (i : ℕ) (site found new : ClientSite) (xs : List ClientSite) (result : Result (List Output) StepFault) (now : Stamp) (input : ClientInput) →
+pub site_steps_at : (i : ℕ) (site found new : WorldClient) (xs : List WorldClient) (result : Result (List Output) StepFault) (now : Stamp) (input : ClientInput) →
     found ≡ site → slice_get xs i ≡ Some site → SiteSteps found new result (client.node_step found.node now input) → SitesStep i site xs (set xs i new) result (client.node_step site.node now input)
 site_steps_at i site found new xs result now input q e h =
-    site_steps i site new xs result (client.node_step site.node now input) e (subst (λ (f : ClientSite). SiteSteps f new result (client.node_step f.node now input)) q h)
+    site_steps i site new xs result (client.node_step site.node now input) e (subst (λ (f : WorldClient). SiteSteps f new result (client.node_step f.node now input)) q h)
 
 node_steps : (i : ℕ) (node new : ServerNode) (xs : List ServerNode) (result : Result (List Output) StepFault) (rule : Result server.NodeTurn StepRefusal) →
     slice_get xs i ≡ Some node → Steps node new result rule → ServersStep i xs (set xs i new) result rule

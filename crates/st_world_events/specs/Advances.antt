@@ -1,7 +1,7 @@
 -- What an advance needs.
 use Rattle.std.specs.Prelude.{◌≡◌, ◌≤◌, ◌^◌, ◌==◌, ℕ, List, true, false, None, length}
 use Rattle.std.specs.List.{list_all}
-use Rattle.st_world_parts.specs.Clocked.{is_at_most, is_step}
+use Rattle.st_world_parts.specs.Clocks.{is_at_most, is_step}
 use Rattle.st_rules.specs.Leases.{drift_after, first_excess}
 use Rattle.st_rules.specs.World.{World}
 

@@ -1,9 +1,9 @@
 pub mod Advances
 pub mod Crashes
 pub mod Ends
-pub mod Flushing
+pub mod FlushSteps
 pub mod Indexes
-pub mod Keeping
+pub mod OutputEffects
 pub mod Readiness
 pub mod Shapes
-pub mod Takes
+pub mod NodeSteps

@@ -2,10 +2,10 @@
 use Rattle.std.specs.Prelude.{◌≡◌, ◌≤◌, ◌<◌, ◌^◌, true, false, length, ⊤}
 use Rattle.std.specs.List.{list_all}
 use Rattle.st_base.specs.declared.ids.NodeId.TheVariants as nodes
-use Rattle.st_world_parts.specs.Clocked.{is_at_most}
+use Rattle.st_world_parts.specs.Clocks.{is_at_most}
 use Rattle.st_messages.specs.declared.event.Event.{Event}
 use Rattle.st_messages.specs.declared.event.Event.TheVariants as events
-use Rattle.st_messages.specs.Fits.{is_ask}
+use Rattle.st_messages.specs.Ranges.{is_ask}
 use Rattle.st_rules.specs.World.{World, is_running}
 use Rattle.st_world_events.specs.Advances.{IsAccepted}
 

@@ -11,11 +11,11 @@ use Rattle.st_rules.specs.declared.observation.Observation.TheVariants as seen
 use Rattle.st_rules.specs.declared.world.IssuedCommand.{IssuedCommand}
 use Rattle.st_rules.specs.ClientState.{ClientState}
 use Rattle.st_rules.specs.Events.{WorldTurn, asked_once_more, client_says_all, client_takes, issued, observe, with_command, with_flushes}
-use Rattle.st_rules.specs.World.{World, ClientSite}
+use Rattle.st_rules.specs.World.{World, WorldClient}
 use Rattle.st_world_events.specs.Ends.{HasEnds}
 
 -- the command that a client issues, where there is such a client
-abbrev pub issued_at : World → ClientId → ℕ → BlockAt → Command → Option ClientSite → Option IssuedCommand
+abbrev pub issued_at : World → ClientId → ℕ → BlockAt → Command → Option WorldClient → Option IssuedCommand
 issued_at w c number at what None = None
 issued_at w c number at what (Some site) = Some (issued w c site number at what)
 
@@ -30,11 +30,11 @@ says_and_flushes c before after out sc = with_flushes c after (client_says_all c
 -- what holds of the scene after the client at a place, whose leases had these ends before, said this and its flush steps were noted
 abbrev pub AfterSaid : ClientId → ℕ → LeaseEnds → List Output → WorldTurn → (WorldTurn → Type 0) → Type 0
 AfterSaid c i ends out sc P =
-    (before : ClientState) (site : ClientSite)
+    (before : ClientState) (site : WorldClient)
     → HasEnds before ends
     → slice_get sc.world.clients i ≡ Some site
     → P (says_and_flushes c before site.node.state out sc)
 
 -- a client takes an ask, which is counted
-abbrev pub takes_ask : World → ClientId → Ask → ClientSite → WorldTurn
+abbrev pub takes_ask : World → ClientId → Ask → WorldClient → WorldTurn
 takes_ask w c ask site = client_takes w c (inputs.App (site.asks + 1) ask) (asked_once_more site)

@@ -1,13 +1,13 @@
 // Advances of the clocks.
 ghost use Rattle.std.specs.Prelude.{◌≡◌, ◌≤◌, ◌^◌, ◌++◌, ◌==◌, [], true, false, None, IfOk, OnOk, length};
 ghost use Rattle.std.specs.List.{list_all};
-ghost use Rattle.st_world_parts.specs.Clocked.{is_at_most, is_step};
+ghost use Rattle.st_world_parts.specs.Clocks.{is_at_most, is_step};
 ghost use Rattle.st_rules.specs.Events as events;
 ghost use Rattle.st_rules.specs.Leases.{drift_after, first_excess};
 ghost use Rattle.st_world_events.specs.Advances.{IsAccepted};
 
 use crate::client::WorldClient;
-use crate::machine::WorldMachine;
+use crate::turn::WorldTurn;
 use st_base::Config;
 use st_clock::Drift;
 use st_rules::LeaseLife;
@@ -37,7 +37,7 @@ fn raise(drift: &mut Drift, steps: &[u64], config: &Config)
     let _judged = drift.step(steps, config.num, config.den, config.grain);
 }
 
-impl WorldMachine {
+impl WorldTurn {
     /// Adds the lives whose lease ends an advance reaches.
     #[tactic(auto, unfolding(st_rules::specs::Events::lives_reached), using(crate::proofs::Reached::reached_is))]
     fn reached(&mut self, steps: &[u64]) -> Result<Vec<LeaseLife>, AllocError>

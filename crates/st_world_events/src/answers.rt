@@ -1,9 +1,9 @@
 // Answers to applications.
 ghost use Rattle.std.specs.Prelude.{◌≡◌, ◌<◌, ◌≤◌, ◌^◌, ◌-◌, OnOk};
 ghost use Rattle.st_rules.specs.Events as events;
-ghost use Rattle.st_world_events.specs.Keeping.{Keeps};
+ghost use Rattle.st_world_events.specs.OutputEffects.{Keeps};
 
-use crate::machine::WorldMachine;
+use crate::turn::WorldTurn;
 use st_base::ClientId;
 use st_messages::AppAnswer;
 use st_rules::Observation;
@@ -19,7 +19,7 @@ fn reads_in(answer: &AppAnswer) -> u64
     }
 }
 
-impl WorldMachine {
+impl WorldTurn {
     /// Answers an ask of a client.
     #[tactic(auto, unfolding(st_rules::specs::Events::answers_with))]
     pub(crate) fn answer(

@@ -1,17 +1,16 @@
 // Asks of applications.
 ghost use Rattle.std.specs.Prelude.{◌≡◌, ◌↔◌, ◌<◌, ◌≤◌, ◌+◌, ◌-◌, ◌^◌, [], true, set, slice_get, IsTrue, Some, OnOk, length};
 ghost use Rattle.st_base.specs.declared.ids.NodeId.TheVariants as nodes;
-ghost use Rattle.st_messages.specs.Fits.{is_ask};
+ghost use Rattle.st_messages.specs.Ranges.{is_ask};
 ghost use Rattle.st_rules.specs.Events as events;
 ghost use Rattle.st_rules.specs.World as world;
-ghost use Rattle.st_rules.specs.World.{ClientSite};
 ghost use Rattle.st_world_events.specs.Indexes.{AtPlace};
 ghost use Rattle.st_world_events.specs.Readiness.{IsReady};
 ghost use Rattle.st_world_events.specs.Shapes.{takes_ask};
 
 use crate::client::WorldClient;
 use crate::index::index_of;
-use crate::machine::WorldMachine;
+use crate::turn::WorldTurn;
 use st_base::ClientId;
 use st_messages::Ask;
 use st_rules::ClientInput;
@@ -32,7 +31,7 @@ impl WorldClient {
 /// Whether the asks of the client at a place may be counted on.
 fn may_ask(clients: &[WorldClient], i: usize) -> bool
     requires { i < length clients.now }
-    ensures { (site : ClientSite) → slice_get clients.now i ≡ Some site → IsTrue result ↔ (site.asks < 2 ^ 32 - 1) }
+    ensures { (site : world.WorldClient) → slice_get clients.now i ≡ Some site → IsTrue result ↔ (site.asks < 2 ^ 32 - 1) }
 {
     let site = &clients[i];
     site.asks < u32::MAX
@@ -41,8 +40,8 @@ fn may_ask(clients: &[WorldClient], i: usize) -> bool
 /// One more ask of the client at a place; returns their count.
 fn raise_asks(clients: &mut Vec<WorldClient>, i: usize) -> u32
     requires there { i < length clients.old.items }
-    requires asks { (site : ClientSite) → slice_get clients.old.items i ≡ Some site → site.asks < 2 ^ 32 - 1 }
-    ensures op { (site : ClientSite) → slice_get clients.old.items i ≡ Some site → result ≡ site.asks + 1 }
+    requires asks { (site : world.WorldClient) → slice_get clients.old.items i ≡ Some site → site.asks < 2 ^ 32 - 1 }
+    ensures op { (site : world.WorldClient) → slice_get clients.old.items i ≡ Some site → result ≡ site.asks + 1 }
     ensures asked { AtPlace clients.old.items i (λ site. clients.new.items ≡ set clients.old.items i (events.asked_once_more site)) }
     ensures len { length clients.new.items ≡ length clients.old.items }
 {
@@ -50,7 +49,7 @@ fn raise_asks(clients: &mut Vec<WorldClient>, i: usize) -> u32
     site.ask()
 }
 
-impl WorldMachine {
+impl WorldTurn {
     /// The client at this place, which runs, is asked. Where its count of asks is at its end, it returns an error of memory.
     pub(crate) fn ask_at(&mut self, client: ClientId, i: usize, ask: Ask) -> Result<(), AllocError>
         requires begins { self.old.seen ≡ [] }

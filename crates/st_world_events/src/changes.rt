@@ -4,7 +4,7 @@ ghost use Rattle.st_rules.specs.Events as events;
 ghost use Rattle.st_rules.specs.FlatLog as flat_log;
 ghost use Rattle.st_rules.specs.World as world;
 
-use crate::machine::WorldMachine;
+use crate::turn::WorldTurn;
 use st_base::NodeId;
 use st_rules::{Carried, IssuedCommand};
 use std::alloc::AllocError;
@@ -18,7 +18,7 @@ fn carried_by(command: Option<IssuedCommand>) -> Option<Carried>
     }
 }
 
-impl WorldMachine {
+impl WorldTurn {
     /// The message of this number is lost.
     #[tactic(auto, using(crate::proofs::Logged::loses_is))]
     pub(crate) fn lose_message(&mut self, k: u64)

@@ -18,7 +18,7 @@ pub struct WorldClient {
 impl Model for WorldClient {
     ghost use Rattle.st_rules.specs.World as shared;
 
-    ghost Value = { shared.ClientSite };
+    ghost Value = { shared.WorldClient };
 
     ghost view = { λ s. record { node = s.node; asks = s.asks; starts = s.starts } };
 }

@@ -5,13 +5,12 @@ ghost use Rattle.st_rules.specs.Events as events;
 ghost use Rattle.st_rules.specs.Server as server_rules;
 ghost use Rattle.st_rules.specs.Server.{ServerNode};
 ghost use Rattle.st_rules.specs.World as world;
-ghost use Rattle.st_rules.specs.World.{ClientSite};
 ghost use Rattle.st_world_events.specs.Indexes.{AtPlace};
 ghost use Rattle.st_world_events.specs.Crashes.{crash_marked, crashed_at, with_all_ended};
 
 use crate::client::WorldClient;
 use crate::index::index_of;
-use crate::machine::WorldMachine;
+use crate::turn::WorldTurn;
 use st_base::{ClientId, NodeId, ServerId, Stamp};
 use st_model::Spare;
 use st_rules::LeaseLife;
@@ -85,7 +84,7 @@ fn stop_site(
 /// The client at a place starts.
 fn start_site(clients: &mut Vec<WorldClient>, i: usize) -> Result<(), AllocError>
     requires there { i < length clients.old.items }
-    requires crashed { (site : ClientSite) → slice_get clients.old.items i ≡ Some site → site.node.running ≡ false }
+    requires crashed { (site : world.WorldClient) → slice_get clients.old.items i ≡ Some site → site.node.running ≡ false }
     ensures { AtPlace clients.old.items i (λ site. OnOk result (clients.new.items ≡ set clients.old.items i (events.started_site site))) }
 {
     let site = &mut clients[i];
@@ -115,7 +114,7 @@ fn start_node(servers: &mut Vec<ServerNode>, i: usize, now: Stamp) -> Result<(),
     node.start(now)
 }
 
-impl WorldMachine {
+impl WorldTurn {
     /// A server crashes.
     #[tactic(auto, unfolding(st_rules::specs::Events::crashes_server))]
     pub(crate) fn crash_server(&mut self, server: ServerId)
@@ -148,7 +147,7 @@ impl WorldMachine {
     /// A client starts.
     #[tactic(auto, unfolding(st_rules::specs::Events::starts_client))]
     pub(crate) fn start_client(&mut self, client: ClientId) -> Result<(), AllocError>
-        requires crashed { (site : ClientSite) → world.site_of self.old.world client ≡ Some site → site.node.running ≡ false }
+        requires crashed { (site : world.WorldClient) → world.site_of self.old.world client ≡ Some site → site.node.running ≡ false }
         ensures { OnOk result (self.new ≡ events.world_turn (events.starts_client self.old.world client (world.site_of self.old.world client)) self.old.seen) }
     {
         match index_of(client.0, self.clients.len()) {
@@ -174,7 +173,7 @@ impl WorldMachine {
     fn crash_at(&mut self, client: ClientId, i: usize) -> Result<(), AllocError>
         requires begins { self.old.seen ≡ [] }
         requires there { i < length self.old.world.clients }
-        ensures { (site : ClientSite) → slice_get self.old.world.clients i ≡ Some site → OnOk result (self.new ≡ crashed_at client i site self.old.world) }
+        ensures { (site : world.WorldClient) → slice_get self.old.world.clients i ≡ Some site → OnOk result (self.new ≡ crashed_at client i site self.old.world) }
     {
         let spared = self.commands.spares()?;
         let mut ended = Vec::new(self.alloc);

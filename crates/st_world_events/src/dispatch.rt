@@ -5,14 +5,14 @@ ghost use Rattle.st_rules.specs.Events as events;
 ghost use Rattle.st_rules.specs.World as world;
 ghost use Rattle.st_world_events.specs.Readiness.{IsMet, IsReady};
 
-use crate::machine::WorldMachine;
+use crate::turn::WorldTurn;
 use st_base::{ClientId, NodeId, ServerId};
 use st_messages::Event;
 use st_rules::Observation;
 use std::alloc::AllocError;
 use std::mem;
 
-impl WorldMachine {
+impl WorldTurn {
     /// A node crashes.
     #[tactic(auto, unfolding(st_rules::specs::Events::crashes))]
     fn crash(&mut self, node: NodeId) -> Result<(), AllocError>

@@ -1,19 +1,18 @@
 // Ticks, deliveries and reports.
 ghost use Rattle.std.specs.Prelude.{◌≡◌, ◌≤◌, ◌<◌, ◌+◌, ◌^◌, [], true, OnOk, IfSome, length, slice_get, Some};
 ghost use Rattle.st_client.specs.Inputs.{comes_fit};
-ghost use Rattle.st_messages.specs.Fits.{fits};
+ghost use Rattle.st_messages.specs.Ranges.{fits};
 ghost use Rattle.st_rules.specs.Events as events;
 ghost use Rattle.st_rules.specs.Server.{ServerNode};
 ghost use Rattle.st_rules.specs.World as world;
-ghost use Rattle.st_rules.specs.World.{ClientSite};
-ghost use Rattle.st_server.specs.Ready as ready;
+ghost use Rattle.st_server.specs.RuleConditions as ready;
 ghost use Rattle.st_server.specs.Room.{HasRoom};
 ghost use Rattle.st_world_events.specs.Indexes.{AtPlace};
 ghost use Rattle.st_world_events.specs.Readiness.{IsReady};
 
 use crate::client::WorldClient;
 use crate::index::index_of;
-use crate::machine::WorldMachine;
+use crate::turn::WorldTurn;
 use st_base::{ClientId, NodeId, ServerId};
 use st_messages::Message;
 use st_rules::{ClientInput, IssuedCommand, ServerInput};
@@ -42,13 +41,13 @@ impl WorldClient {
 
 fn is_same_at(clients: &[WorldClient], i: usize, command: &IssuedCommand) -> bool
     requires { i < length clients.now }
-    ensures { (site : ClientSite) → slice_get clients.now i ≡ Some site → result ≡ events.is_same_instance command.now site }
+    ensures { (site : world.WorldClient) → slice_get clients.now i ≡ Some site → result ≡ events.is_same_instance command.now site }
 {
     let site = &clients[i];
     site.is_same_instance(command)
 }
 
-impl WorldMachine {
+impl WorldTurn {
     /// A client takes an input.
     #[tactic(auto, unfolding(st_rules::specs::Events::at_client))]
     fn client_take(&mut self, client: ClientId, mut input: ClientInput) -> Result<(), AllocError>

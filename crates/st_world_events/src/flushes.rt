@@ -5,7 +5,7 @@ ghost use Rattle.st_rules.specs.Client as client_rules;
 ghost use Rattle.st_rules.specs.Extents.{numbers};
 ghost use Rattle.st_rules.specs.Keys as keys;
 ghost use Rattle.st_rules.specs.World as world;
-ghost use Rattle.st_world_events.specs.Flushing.{flush_each, flush_end, in_flush, with_end};
+ghost use Rattle.st_world_events.specs.FlushSteps.{flush_each, flush_end, in_flush, with_end};
 
 use st_base::{ClientId, ServerId, Stamp};
 use st_client::ClientNode;

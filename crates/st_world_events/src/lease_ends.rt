@@ -2,12 +2,12 @@
 ghost use Rattle.std.specs.Prelude.{◌≡◌, [], OnOk};
 ghost use Rattle.st_rules.specs.Events as events;
 
-use crate::machine::WorldMachine;
+use crate::turn::WorldTurn;
 use st_rules::LeaseLife;
 use st_world_parts::Ending;
 use std::alloc::AllocError;
 
-impl WorldMachine {
+impl WorldTurn {
     /// The log when the entries of these lives are gone.
     #[tactic(auto, unfolding(st_rules::specs::Events::marks), using(st_world_parts::proofs::Overs::all_ended))]
     pub(crate) fn end_entries(&mut self, lives: &[LeaseLife]) -> Result<(), AllocError>

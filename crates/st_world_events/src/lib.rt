@@ -13,12 +13,12 @@ mod events;
 mod flushes;
 mod index;
 mod lease_ends;
-mod machine;
 mod node_steps;
 mod notes;
 mod outputs;
 mod summary;
+mod turn;
 
 pub use client::WorldClient;
 pub use events::node_of_number;
-pub use machine::{WorldMachine, node_at, site_at};
+pub use turn::{WorldTurn, node_at, site_at};

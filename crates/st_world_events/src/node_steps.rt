@@ -8,17 +8,16 @@ ghost use Rattle.st_rules.specs.Events as events;
 ghost use Rattle.st_rules.specs.Server as server_rules;
 ghost use Rattle.st_rules.specs.Server.{ServerNode};
 ghost use Rattle.st_rules.specs.World as world;
-ghost use Rattle.st_rules.specs.World.{ClientSite};
-ghost use Rattle.st_server.specs.Ready as ready;
-ghost use Rattle.st_server.specs.Sound as sound;
+ghost use Rattle.st_server.specs.RuleConditions as ready;
+ghost use Rattle.st_server.specs.Invariants as sound;
 ghost use Rattle.st_world_events.specs.Indexes.{AtPlace};
 ghost use Rattle.st_world_events.specs.Ends.{HasEnds};
 ghost use Rattle.st_world_events.specs.Shapes.{AfterSaid};
-ghost use Rattle.st_world_events.specs.Takes.{ServersStep, SiteSteps, SitesStep};
+ghost use Rattle.st_world_events.specs.NodeSteps.{ServersStep, SiteSteps, SitesStep};
 
 use crate::client::WorldClient;
 use crate::flushes::flush_all;
-use crate::machine::WorldMachine;
+use crate::turn::WorldTurn;
 use st_base::{ClientId, NodeId, ServerId, Stamp};
 use st_client::LeaseEnds;
 use st_messages::{Outputs, StepFault};
@@ -51,7 +50,7 @@ impl WorldClient {
 
 fn ends_at(clients: &[WorldClient], i: usize) -> LeaseEnds
     requires { i < length clients.now }
-    ensures { (site : ClientSite) → slice_get clients.now i ≡ Some site → HasEnds site.node.state result }
+    ensures { (site : world.WorldClient) → slice_get clients.now i ≡ Some site → HasEnds site.node.state result }
 {
     let site = &clients[i];
     site.lease_ends()
@@ -95,7 +94,7 @@ fn step_node(
     node.step(now, input)
 }
 
-impl WorldMachine {
+impl WorldTurn {
     /// The flush steps after a step of the client at this place.
     #[tactic(auto, using(crate::proofs::Flushed::flushes_is))]
     fn flush(&mut self, client: ClientId, i: usize) -> Result<(), AllocError>

@@ -5,18 +5,18 @@ ghost use Rattle.st_client.specs.Inputs.{is_noted, is_sent};
 ghost use Rattle.st_rules.specs.ClientState.{ClientState};
 ghost use Rattle.st_rules.specs.Events as events;
 ghost use Rattle.st_rules.specs.declared.observation.Observation.TheVariants as seen;
-ghost use Rattle.st_server.specs.Sound as sound;
+ghost use Rattle.st_server.specs.Invariants as sound;
 ghost use Rattle.st_world_events.specs.Ends.{HasEnds};
-ghost use Rattle.st_world_events.specs.Keeping.{Keeps, SameNodes};
+ghost use Rattle.st_world_events.specs.OutputEffects.{Keeps, SameNodes};
 
-use crate::machine::WorldMachine;
+use crate::turn::WorldTurn;
 use st_base::{ClientId, FileId, Life, PageBytes, PageNo, ServerId};
 use st_client::LeaseEnds;
 use st_messages::{Note, Output, Outputs, PatchBytes};
 use st_rules::{LeaseLife, Observation};
 use std::alloc::AllocError;
 
-impl WorldMachine {
+impl WorldTurn {
     /// An accepted write joins the log.
     #[tactic(auto, unfolding(st_rules::specs::Events::accepts))]
     fn accept(

@@ -1,21 +1,21 @@
 // Messages that are sent, and commands that are submitted.
 ghost use Rattle.std.specs.Prelude.{◌≡◌, ◌≤◌, ◌+◌, true, OnOk, length};
 ghost use Rattle.std.specs.Option.{option_copied};
-ghost use Rattle.st_messages.specs.Fits.{fits};
+ghost use Rattle.st_messages.specs.Ranges.{fits};
 ghost use Rattle.st_rules.specs.Events as events;
 ghost use Rattle.st_rules.specs.World as world;
 ghost use Rattle.st_rules.specs.declared.observation.Observation.TheVariants as seen;
 ghost use Rattle.st_world_events.specs.Shapes.{issued_at, issues};
-ghost use Rattle.st_world_events.specs.Keeping.{Keeps};
+ghost use Rattle.st_world_events.specs.OutputEffects.{Keeps};
 
 use crate::client::WorldClient;
-use crate::machine::{WorldMachine, site_at};
+use crate::turn::{WorldTurn, site_at};
 use st_base::{BlockAt, ClientId, Command, Tag};
 use st_messages::Message;
 use st_rules::{Carried, IssuedCommand, Observation};
 use std::alloc::AllocError;
 
-impl WorldMachine {
+impl WorldTurn {
     /// Sends a message.
     #[tactic(auto, unfolding(st_rules::specs::Events::sends))]
     pub(crate) fn send(&mut self, message: Message) -> Result<(), AllocError>

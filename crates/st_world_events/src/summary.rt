@@ -2,11 +2,11 @@
 ghost use Rattle.std.specs.Prelude.{◌≡◌};
 ghost use Rattle.st_rules.specs.Events as events;
 
-use crate::machine::WorldMachine;
+use crate::turn::WorldTurn;
 use st_rules::Summary;
 use st_world_parts::{Sort, count_of};
 
-impl WorldMachine {
+impl WorldTurn {
     /// Returns the counts of the run so far.
     #[tactic(auto, unfolding(st_rules::specs::Events::summary))]
     pub fn summary(&self) -> Summary

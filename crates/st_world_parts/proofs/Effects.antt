@@ -15,8 +15,8 @@ use Rattle.st_rules.specs.declared.disks.Report.TheVariants as reports
 use Rattle.st_rules.specs.Admissible.{is_open}
 use Rattle.st_rules.specs.Disks.{Disks, command, with_command, effect, effect_at, effect_reported, effect_once, effect_of, done, done_at, done_unreported, done_once, lacks_effect, reported, report_of, effected, sampled, block}
 use Rattle.st_rules.specs.Events.{disks_after}
-use Rattle.st_world_parts.specs.Open.{open_from}
-use Rattle.st_world_parts.specs.Issued.{SameOpen, IsClosed}
+use Rattle.st_world_parts.specs.OutstandingCommands.{open_from}
+use Rattle.st_world_parts.specs.Commands.{SameOpen, IsClosed}
 use Rattle.st_world_parts.proofs.Opens.{open_stays, open_closed}
 
 -- a refused call leaves the disks

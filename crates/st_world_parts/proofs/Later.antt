@@ -9,7 +9,7 @@ use Rattle.st_rules.specs.declared.world.LeaseLife.{LeaseLife}
 use Rattle.st_rules.specs.Admissible.{reaches}
 use Rattle.st_rules.specs.Events.{advanced}
 use Rattle.st_rules.specs.World.{stamp}
-use Rattle.st_world_parts.specs.Clocked.{clock_at, step_at, ends_after, is_ahead, is_reached, is_at_most, is_step}
+use Rattle.st_world_parts.specs.Clocks.{clock_at, step_at, ends_after, is_ahead, is_reached, is_at_most, is_step}
 
 -- a narrower test over what a wider one left
 pub filter_twice : (p q : LeaseLife → Bool) (xs : List LeaseLife) → ((e : LeaseLife) → p e ≡ true → q e ≡ true) → filter p (filter q xs) ≡ filter p xs

@@ -14,7 +14,7 @@ use Rattle.st_rules.specs.declared.world.IssuedCommand.{IssuedCommand}
 use Rattle.st_rules.specs.Admissible.{is_open}
 use Rattle.st_rules.specs.World.{owner_carried}
 use Rattle.st_rules.specs.Events.{spares, spares_by}
-use Rattle.st_world_parts.specs.Open.{open_from, spare_of, nth, spares_at, is_below}
+use Rattle.st_world_parts.specs.OutstandingCommands.{open_from, spare_of, nth, spares_at, is_below}
 
 -- one more command that was not reported
 pub open_more : (n : ℕ) (ds : List DiskCommand) (d : DiskCommand) → is_open d.report ≡ true → open_from n (ds ++ d ∷ []) ≡ open_from n ds ++ (n + length ds) ∷ []

@@ -8,7 +8,7 @@ use Rattle.st_rules.specs.declared.log.LogEntry.{LogEntry}
 use Rattle.st_rules.specs.declared.world.IssuedCommand.{IssuedCommand}
 use Rattle.st_rules.specs.declared.world.LeaseLife.{LeaseLife}
 use Rattle.st_rules.specs.Events.{cause_at_end, is_of_life_over, log_ended, log_ended_all}
-use Rattle.st_world_parts.specs.Overs.{becomes_at, ended_by}
+use Rattle.st_world_parts.specs.LifeEnds.{becomes_at, ended_by}
 
 stays : (f : Fate) → marked_fate f Pending ≡ f
 stays Pending = refl

@@ -8,7 +8,7 @@ use Rattle.st_codec.specs.Grammar.{Spells}
 use Rattle.st_codec.specs.Spelling.{spelling}
 use Rattle.st_codec.proofs.ExactMessage.{decoded_again}
 use Rattle.st_messages.specs.declared.message.Message.{Message}
-use Rattle.st_messages.specs.Fits.{fits}
+use Rattle.st_messages.specs.Ranges.{fits}
 use Rattle.st_rules.specs.declared.world.SentMessage.{SentMessage}
 use Rattle.st_rules.specs.World.{numbered}
 use Rattle.st_world_parts.specs.declared.places.SentPlace.{SentPlace}

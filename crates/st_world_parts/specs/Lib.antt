@@ -1,10 +1,10 @@
-pub mod Clocked
+pub mod Clocks
 pub mod Firsts
-pub mod Kept
-pub mod Issued
-pub mod Open
+pub mod KeptLives
+pub mod Commands
+pub mod OutstandingCommands
 pub mod Owners
 pub mod Pieces
-pub mod Overs
+pub mod LifeEnds
 pub mod Sorts
 pub mod IssuedRows

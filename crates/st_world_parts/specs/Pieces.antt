@@ -3,7 +3,7 @@ use Rattle.std.specs.Prelude.{filter, not, ◌≡◌, ◌≤◌, ◌+◌, ℕ, t
 use Rattle.st_base.specs.declared.ids.NodeId.{NodeId}
 use Rattle.st_codec.specs.declared.refusal.CodecRefusal.{CodecRefusal}
 use Rattle.st_codec.specs.Grammar.{Spells}
-use Rattle.st_codec.specs.Reading.{decoded}
+use Rattle.st_codec.specs.Decoder.{decoded}
 use Rattle.st_codec.specs.Spelling.{spelling}
 use Rattle.st_messages.specs.declared.message.Body.TheVariants as bodies
 use Rattle.st_messages.specs.declared.message.Message.{Message}

@@ -1,7 +1,7 @@
 // The clocks, clients in order and then servers in order.
 ghost use Rattle.std.specs.Prelude.{◌≡◌, ◌≤◌, ◌^◌, ◌-◌, true, length, unwrap_or};
 ghost use Rattle.std.specs.List.{list_all};
-ghost use Rattle.st_world_parts.specs.Clocked.{clock_at, is_at_most, is_step};
+ghost use Rattle.st_world_parts.specs.Clocks.{clock_at, is_at_most, is_step};
 ghost use Rattle.st_rules.specs.Events.{advanced};
 
 use st_base::Stamp;

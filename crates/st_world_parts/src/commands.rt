@@ -1,16 +1,16 @@
 // The commands, and the calls on them.
 ghost use Rattle.std.specs.Prelude.{◌≡◌, ◌<◌, ◌^◌, length, slice_get, IfOk, OnOk, OnErr};
 ghost use Rattle.std.specs.Option.{option_map};
-ghost use Rattle.st_world_parts.specs.Issued as issued;
-ghost use Rattle.st_world_parts.specs.Open.{open_from};
-ghost use Rattle.st_world_parts.specs.Issued.{SameOpen, Spares};
+ghost use Rattle.st_world_parts.specs.Commands as issued;
+ghost use Rattle.st_world_parts.specs.OutstandingCommands.{open_from};
+ghost use Rattle.st_world_parts.specs.Commands.{SameOpen, Spares};
 ghost use Rattle.st_disk.specs.CommandStates.{standing_of};
 ghost use Rattle.st_rules.specs.Disks as rules;
 ghost use Rattle.st_rules.specs.Events as events;
 ghost use Rattle.st_rules.specs.World.{numbered};
 
 use crate::issued_row::IssuedRow;
-use crate::open::close;
+use crate::outstanding::close;
 use crate::owners::{OwnerKey, number_of, put_number};
 use crate::spares::{owner_of, spares_of};
 use indexmap::IndexMap;
@@ -33,9 +33,10 @@ pub struct Commands {
 }
 
 impl Model for Commands {
-    ghost use Rattle.st_world_parts.specs.Issued.{Issued, IsKept};
+    ghost use Rattle.st_world_parts.specs.Commands as shown;
+    ghost use Rattle.st_world_parts.specs.Commands.{IsKept};
 
-    ghost Value = { Issued };
+    ghost Value = { shown.Commands };
 
     ghost view = { λ c. record { disks = c.disks; commands = c.issued.items } };
 

@@ -3,7 +3,7 @@ ghost use Rattle.std.specs.Prelude.{◌≡◌};
 ghost use Rattle.st_model.specs.Walks.{marked_fate};
 ghost use Rattle.st_rules.specs.Events as events;
 ghost use Rattle.st_rules.specs.FlatLog as flat_log;
-ghost use Rattle.st_world_parts.specs.Overs.{ended_by, ends};
+ghost use Rattle.st_world_parts.specs.LifeEnds.{ended_by, ends};
 
 use crate::commands::Commands;
 use st_model::Marking;
@@ -71,7 +71,7 @@ fn fate_after(commands: &Commands, lives: &[LeaseLife], of: LogOwner) -> Fate
 }
 
 impl<'a> Marking for Ending<'a> {
-    ghost use Rattle.st_world_parts.specs.Overs.{becomes_at};
+    ghost use Rattle.st_world_parts.specs.LifeEnds.{becomes_at};
 
     ghost becomes = { λ m. becomes_at m.commands.now.commands m.lives.now };
 

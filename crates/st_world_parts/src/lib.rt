@@ -11,7 +11,7 @@ mod issued_row;
 mod lease_ends;
 mod lives;
 mod network;
-mod open;
+mod outstanding;
 mod owners;
 mod places;
 mod reached_ends;

@@ -1,8 +1,8 @@
 // Clocks and lives, and the calls on them.
 ghost use Rattle.std.specs.Prelude.{◌≡◌, ◌≤◌, ◌^◌, ◌++◌, ◌∷◌, [], true, filter, find, length, OnOk, OnErr};
 ghost use Rattle.std.specs.List.{list_all};
-ghost use Rattle.st_world_parts.specs.Clocked as clocked;
-ghost use Rattle.st_world_parts.specs.Clocked.{clock_at, is_at_most, is_reached, is_step};
+ghost use Rattle.st_world_parts.specs.Clocks as clocked;
+ghost use Rattle.st_world_parts.specs.Clocks.{clock_at, is_at_most, is_reached, is_step};
 ghost use Rattle.st_rules.specs.Events.{advanced};
 ghost use Rattle.st_rules.specs.World.{is_life_of};
 
@@ -27,10 +27,10 @@ pub struct Lives {
 }
 
 impl Model for Lives {
-    ghost use Rattle.st_world_parts.specs.Clocked.{Lived};
-    ghost use Rattle.st_world_parts.specs.Kept.{IsKept};
+    ghost use Rattle.st_world_parts.specs.Clocks as shown;
+    ghost use Rattle.st_world_parts.specs.KeptLives.{IsKept};
 
-    ghost Value = { Lived };
+    ghost Value = { shown.Lives };
 
     ghost view = { λ l. record { clocks = l.clocks.items; ended = l.ended.items } };
 

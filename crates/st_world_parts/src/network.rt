@@ -1,7 +1,7 @@
 // The network, and the calls on it.
 ghost use Rattle.std.specs.Prelude.{◌≡◌, ◌≤◌, ◌<◌, ◌^◌, ◌+◌, ◌++◌, ◌∷◌, [], true, not, filter, length, option_map, IfOk, IfSome, OnOk, OnErr};
 ghost use Rattle.std.specs.List.{list_any};
-ghost use Rattle.st_messages.specs.Fits as fits;
+ghost use Rattle.st_messages.specs.Ranges as fits;
 ghost use Rattle.st_world_parts.specs.Pieces as pieces;
 ghost use Rattle.st_rules.specs.Admissible.{is_link};
 ghost use Rattle.st_rules.specs.World as world;

@@ -1,7 +1,7 @@
 // Lives whose lease ends are reached, or are still ahead.
 ghost use Rattle.std.specs.Prelude.{◌≡◌, ◌++◌, ◌∷◌, [], ◌+◌, ◌≤◌, ◌^◌, true, filter, if◌then◌else◌, length, unwrap_or, OnOk, OnErr};
 ghost use Rattle.std.specs.List.{list_all};
-ghost use Rattle.st_world_parts.specs.Clocked.{clock_at, ends_after, is_ahead, is_at_most, is_reached, is_step, step_at};
+ghost use Rattle.st_world_parts.specs.Clocks.{clock_at, ends_after, is_ahead, is_at_most, is_reached, is_step, step_at};
 ghost use Rattle.st_rules.specs.Admissible.{reaches};
 
 use crate::clocks::clock_of;

@@ -2,7 +2,7 @@
 ghost use Rattle.std.specs.Prelude.{◌≡◌, ◌<◌, ◌++◌, true, IfOk, OnOk, length};
 ghost use Rattle.std.specs.List.{list_all};
 ghost use Rattle.st_rules.specs.World as world;
-ghost use Rattle.st_world_parts.specs.Open.{is_below, spare_of, spares_at};
+ghost use Rattle.st_world_parts.specs.OutstandingCommands.{is_below, spare_of, spares_at};
 
 use crate::issued_row::IssuedRow;
 use st_model::Spare;

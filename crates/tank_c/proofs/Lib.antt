@@ -1,5 +1,5 @@
 -- What the proofs of `tank_c` share.
 pub mod ClientSlots
 pub mod ServerSlots
-mod Opening
+mod Unopened
 pub mod Values

@@ -7,7 +7,7 @@ use Rattle.st_base.specs.declared.ids.Stamp.{Stamp}
 use Rattle.st_rules.specs.Client.{has_dirty_with, lease_end_with, phase_with}
 use Rattle.st_rules.specs.World.{life_with}
 use Rattle.st_embed.specs.Clients.{EmbeddedClient, MayOpen, NotOpened, Refuses, Steps, has_new_life, opened}
-use Rattle.st_embed.specs.Taking.{Takes}
+use Rattle.st_embed.specs.FramePieces.{Takes}
 use Rattle.st_embed.specs.declared.fault.OpenFault.{OpenFault}
 use Rattle.st_embed.specs.declared.fault.StepRefusal.{StepRefusal}
 use Rattle.tank_c.specs.Codes as codes

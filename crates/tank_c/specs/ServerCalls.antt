@@ -1,7 +1,7 @@
 -- What the calls at a server do to a server that may be absent: what the library's calls do to the one that is there.
 use Rattle.std.specs.Prelude.{◌≡◌, ◌⊎◌, ◌<◌, ℕ, false, List, length, take, drop, is_some, Option, Some, None}
 use Rattle.st_embed.specs.Servers.{EmbeddedServer, MayOpen, NotOpened, NotTaken, Opens, Refuses, Steps, kept, record_by, to_keep}
-use Rattle.st_embed.specs.Taking.{Takes}
+use Rattle.st_embed.specs.FramePieces.{Takes}
 use Rattle.st_embed.specs.declared.fault.ServerFault.{ServerFault}
 use Rattle.st_embed.specs.declared.fault.ServerRefusal.{ServerRefusal}
 use Rattle.st_embed.specs.declared.server.Shape.{Shape}

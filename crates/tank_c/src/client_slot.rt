@@ -3,7 +3,7 @@ ghost use Rattle.std.specs.Prelude.{◌≡◌, Option, Some, None, IsSome};
 ghost use Rattle.st_embed.specs.Clients.{EmbeddedClient};
 ghost use Rattle.tank_c.specs.Slots.{client_owns};
 
-use crate::loose::Loose;
+use crate::box_pointer::BoxPointer;
 use st_embed::EmbeddedClient;
 use std::alloc::Global;
 use std::marker::Model;
@@ -29,19 +29,19 @@ impl ClientSlot {
         }
     }
 
-    pub(crate) fn of(client: Loose<EmbeddedClient, Global>) -> ClientSlot
+    pub(crate) fn of(client: BoxPointer<EmbeddedClient, Global>) -> ClientSlot
         ensures { result.value ≡ Some client.value }
     {
-        let Loose { at, alloc: _ } = client;
+        let BoxPointer { at, alloc: _ } = client;
         ClientSlot { at: at as *mut () }
     }
 
-    pub(crate) fn into_loose(self, alloc: Global) -> Loose<EmbeddedClient, Global>
+    pub(crate) fn into_loose(self, alloc: Global) -> BoxPointer<EmbeddedClient, Global>
         requires { IsSome self.value }
         ensures { Some result.value ≡ self.value }
     {
         let ClientSlot { at } = self;
-        Loose {
+        BoxPointer {
             at: at as *mut EmbeddedClient,
             alloc,
         }

@@ -6,17 +6,17 @@ ghost use Rattle.tank_c.specs.Calls.{ClientOpens, ClientSteps, ClientTakes, NoCl
 ghost use Rattle.tank_c.specs.Codes.{ABSENT, DONE};
 ghost use Rattle.tank_c.specs.ServerCalls.{NoServerOpened, NoServerRecord, NoServerStep, NoServerTake, ServerKept, ServerOpens, ServerSteps, ServerTakes, TellsRecord, epoch_of};
 
+mod box_pointer;
 mod client_calls;
 pub mod client_slot;
 mod codes;
-mod loose;
 mod server_calls;
 pub mod server_slot;
 
+use crate::box_pointer::BoxPointer;
 use crate::client_calls::{association_at, config_of, step_client, take_client};
 use crate::client_slot::ClientSlot;
 use crate::codes::{ABSENT, BUSY, DONE, NO_MEMORY, open_code, server_open_code, server_open_place};
-use crate::loose::Loose;
 use crate::server_calls::{record_server, step_server, take_server};
 use crate::server_slot::ServerSlot;
 pub use client_calls::{TankAssociation, TankClientStep, TankSettings};
@@ -52,7 +52,7 @@ pub extern "C" fn tank_client_open(
     match EmbeddedClient::open(alloc, ClientId(id), &config_of(settings), lives) {
         Ok(opened) => match Box::new(alloc, opened) {
             Ok(held) => {
-                client.slot = ClientSlot::of(Loose::of(held));
+                client.slot = ClientSlot::of(BoxPointer::of(held));
                 client.full = true;
                 DONE
             }
@@ -82,7 +82,7 @@ pub extern "C" fn tank_client_step(
         .into_loose(alloc)
         .into_box();
     let code = step_client(&mut held, now, frame, step);
-    client.slot = ClientSlot::of(Loose::of(held));
+    client.slot = ClientSlot::of(BoxPointer::of(held));
     code
 }
 
@@ -108,7 +108,7 @@ pub extern "C" fn tank_client_take(
         .into_loose(alloc)
         .into_box();
     let code = take_client(&mut held, out, count);
-    client.slot = ClientSlot::of(Loose::of(held));
+    client.slot = ClientSlot::of(BoxPointer::of(held));
     code
 }
 
@@ -132,7 +132,7 @@ pub extern "C" fn tank_client_at(
         .into_loose(alloc)
         .into_box();
     *association = association_at(&held, server, now);
-    client.slot = ClientSlot::of(Loose::of(held));
+    client.slot = ClientSlot::of(BoxPointer::of(held));
     DONE
 }
 
@@ -192,7 +192,7 @@ pub extern "C" fn tank_server_open(
     ) {
         Ok(opened) => match Box::new(alloc, opened) {
             Ok(held) => {
-                server.slot = ServerSlot::of(Loose::of(held));
+                server.slot = ServerSlot::of(BoxPointer::of(held));
                 server.full = true;
                 DONE
             }
@@ -225,7 +225,7 @@ pub extern "C" fn tank_server_step(
         .into_loose(alloc)
         .into_box();
     let code = step_server(&mut held, now, frame, step);
-    server.slot = ServerSlot::of(Loose::of(held));
+    server.slot = ServerSlot::of(BoxPointer::of(held));
     code
 }
 
@@ -249,7 +249,7 @@ pub extern "C" fn tank_server_record(
         .into_loose(alloc)
         .into_box();
     let code = record_server(&held, out, told);
-    server.slot = ServerSlot::of(Loose::of(held));
+    server.slot = ServerSlot::of(BoxPointer::of(held));
     code
 }
 
@@ -265,7 +265,7 @@ pub extern "C" fn tank_server_kept(server: &mut TankServer, alloc: Global) -> u3
         .into_loose(alloc)
         .into_box();
     held.kept();
-    server.slot = ServerSlot::of(Loose::of(held));
+    server.slot = ServerSlot::of(BoxPointer::of(held));
     DONE
 }
 
@@ -291,7 +291,7 @@ pub extern "C" fn tank_server_take(
         .into_loose(alloc)
         .into_box();
     let code = take_server(&mut held, out, count);
-    server.slot = ServerSlot::of(Loose::of(held));
+    server.slot = ServerSlot::of(BoxPointer::of(held));
     code
 }
 
@@ -308,7 +308,7 @@ pub extern "C" fn tank_server_epoch(server: &mut TankServer, alloc: Global) -> u
         .into_loose(alloc)
         .into_box();
     let epoch = held.epoch().0;
-    server.slot = ServerSlot::of(Loose::of(held));
+    server.slot = ServerSlot::of(BoxPointer::of(held));
     epoch
 }
 

@@ -3,7 +3,7 @@ ghost use Rattle.std.specs.Prelude.{◌≡◌, Option, Some, None, IsSome};
 ghost use Rattle.st_embed.specs.Servers.{EmbeddedServer};
 ghost use Rattle.tank_c.specs.Slots.{server_owns};
 
-use crate::loose::Loose;
+use crate::box_pointer::BoxPointer;
 use st_embed::EmbeddedServer;
 use std::alloc::Global;
 use std::marker::Model;
@@ -29,19 +29,19 @@ impl ServerSlot {
         }
     }
 
-    pub(crate) fn of(server: Loose<EmbeddedServer, Global>) -> ServerSlot
+    pub(crate) fn of(server: BoxPointer<EmbeddedServer, Global>) -> ServerSlot
         ensures { result.value ≡ Some server.value }
     {
-        let Loose { at, alloc: _ } = server;
+        let BoxPointer { at, alloc: _ } = server;
         ServerSlot { at: at as *mut () }
     }
 
-    pub(crate) fn into_loose(self, alloc: Global) -> Loose<EmbeddedServer, Global>
+    pub(crate) fn into_loose(self, alloc: Global) -> BoxPointer<EmbeddedServer, Global>
         requires { IsSome self.value }
         ensures { Some result.value ≡ self.value }
     {
         let ServerSlot { at } = self;
-        Loose {
+        BoxPointer {
             at: at as *mut EmbeddedServer,
             alloc,
         }

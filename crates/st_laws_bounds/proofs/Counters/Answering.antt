@@ -1,4 +1,4 @@
--- What a client hears, asks and loses leaves of answered reads and pending operations together.
+-- What a client receives, asks and loses leaves of answered reads and pending operations together.
 use Rattle.std.proofs.Common.{ℕ, Bool, true, false, ◌==◌, List, [], ◌∷◌, Option, Some, None, refl, arith, if◌then◌else◌}
 use Rattle.std.specs.Prelude.{map}
 use Rattle.st_laws_bounds.proofs.Counters.Weights.{weigh_both}
@@ -145,7 +145,7 @@ r_nack t s now h why.Conflict a b = r_condemn t s
 r_nack t s now h w a b = r_reply t s now h _
 
 r_demand : (t : Turn) (s : ClientSession) (ino : ℕ) (g : GrantNo) (to : Mode) → R 0 t (cr.demand t s ino g to)
-unfolding cr.demand cr.demand_by cr.demand_as cr.see_demand send
+unfolding cr.demand cr.demand_by cr.demand_as cr.observe_demand send
 r_demand t s ino g to = by (locks.demand s.locks ino g to).asked
   where
     by : (a : Asked) → R 0 t (cr.demand_as t (state.with_cache (locks.demand s.locks ino g to).locks s) ino g a)
@@ -173,9 +173,9 @@ unfolding cr.without_session cr.welcome cr.begin_session cr.note_lease
 r_without t now h bodies.Welcome = r_if 0 t (cr.is_timely t now (record { 0 = h.stamp })) _ t (r_says 0 t (_ ∷ []) (omega arith)) (r_none 0 t)
 r_without t now h b = r_none 0 t
 
-pub r_hear : (now : Stamp) (h : Header) (b : Body) (t : Turn) → R 0 t (cr.receive_at now h b t)
+pub r_receive : (now : Stamp) (h : Header) (b : Body) (t : Turn) → R 0 t (cr.receive_at now h b t)
 unfolding cr.receive_at cr.by_session cr.with_a_session
-r_hear now h b t = r_if 0 t (cr.is_heard t now h) _ t (go t.here.session) (r_none 0 t)
+r_receive now h b t = r_if 0 t (cr.is_received t now h) _ t (go t.here.session) (r_none 0 t)
   where
     go : (o : Option ClientSession) → R 0 t (cr.by_session t now h b o)
     go None = r_without t now h b

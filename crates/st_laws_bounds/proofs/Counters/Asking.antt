@@ -20,19 +20,19 @@ use Rattle.st_rules.specs.Events.{reads_in}
 use Rattle.st_rules.specs.Extents.{numbers}
 use Rattle.st_rules.specs.Keys.{same_server}
 use Rattle.st_rules.specs.World as world
-use Rattle.st_rules.specs.World.{Tally, World, ClientSite, clock_of, fresh_site, fresh_world, numbered, site_of, with_numbered}
+use Rattle.st_rules.specs.World.{Tally, World, WorldClient, clock_of, fresh_site, fresh_world, numbered, site_of, with_numbered}
 use Rattle.st_lemmas.proofs.Lookups.{some_is}
 use Rattle.st_lemmas.proofs.Numbers.{numbered_below, numbered_has, numbered_other, numbered_own}
 use Rattle.st_lemmas.proofs.Tables.{has_map, same_or_not}
-use Rattle.st_laws_steps.specs.Client.Taking as taking
-use Rattle.st_laws_steps.specs.Client.Taking.{Taken}
+use Rattle.st_laws_steps.specs.Client.Inputs as taking
+use Rattle.st_laws_steps.specs.Client.Inputs.{Taken}
 use Rattle.st_laws_steps.proofs.Client.Taking.{taken}
 use Rattle.st_laws_bounds.proofs.Counters.Weights.{weigh, weigh_both}
 use Rattle.st_laws_bounds.proofs.Counters.Events.{Cases, ClientSteps, ServerSteps, Takes}
 use Rattle.st_laws_bounds.proofs.Counters.Clients.{Said, SameRows, flush_rows, said_all, served_all}
 use Rattle.st_laws_bounds.proofs.Counters.Tallies.{Told, of_read, told_all}
 use Rattle.st_laws_bounds.proofs.Counters.Reading.{R, r_none, r_passes}
-use Rattle.st_laws_bounds.proofs.Counters.Answering.{r_finish, r_hear, r_lose, r_take}
+use Rattle.st_laws_bounds.proofs.Counters.Answering.{r_finish, r_receive, r_lose, r_take}
 
 -- the server of an association
 abbrev pub server_at : Association → ServerId
@@ -132,7 +132,7 @@ input_low now t _ _ (taking.Unknown op ask e f) h = goes_more 0 1 t (cl.answered
 input_low now t _ _ (taking.Takes op ask g f) h =
     let at = server_of ask in let e = cost_is at t.state.associations in let l = h at in
     goes_more (cost (one_of at) t.state.associations) 1 t (at_each (only_at at (cl.take_ask op ask)) t) (omega (arith, e, l)) (asked_low at (cl.take_ask op ask) (r_take op ask) t)
-input_low now t _ _ (taking.Hears m e) h = goes_more 0 1 t (at_each (cr.receive_at now m.header m.body) t) (omega arith) (free_low (cr.receive_at now m.header m.body) (r_hear now m.header m.body) t)
+input_low now t _ _ (taking.Receives m e) h = goes_more 0 1 t (at_each (cr.receive_at now m.header m.body) t) (omega arith) (free_low (cr.receive_at now m.header m.body) (r_receive now m.header m.body) t)
 input_low now t _ _ (taking.Finishes number result) h = goes_more 0 1 t (at_each (cl.finish number result) t) (omega arith) (free_low (cl.finish number result) (r_finish number result) t)
 
 -- the whole step
@@ -148,29 +148,29 @@ step_low s now input h =
     record { servers = c.servers ∙ b.servers ∙ a.servers; low = omega (arith, x, y, z) }
 
 -- The pending operations of all clients.
-abbrev pub ops_at : ClientSite → ℕ
+abbrev pub ops_at : WorldClient → ℕ
 ops_at site = length site.node.state.operations
 
-abbrev pub pending : List ClientSite → ℕ
+abbrev pub pending : List WorldClient → ℕ
 pending [] = 0
 pending (site ∷ sites) = ops_at site + pending sites
 
-set_pending : (xs : List ClientSite) (n : ℕ) (old new : ClientSite) → slice_get xs n ≡ Some old → pending (set xs n new) + ops_at old ≡ pending xs + ops_at new
+set_pending : (xs : List WorldClient) (n : ℕ) (old new : WorldClient) → slice_get xs n ≡ Some old → pending (set xs n new) + ops_at old ≡ pending xs + ops_at new
 set_pending [] n old new e = cc
 set_pending (x ∷ xs) zero old new e = let z = ap ops_at (some_is e) in omega (arith, z)
 set_pending (x ∷ xs) (suc n) old new e = let z = set_pending xs n old new e in omega (arith, z)
 
-pending_with : (xs : List ClientSite) (n : ℕ) (old new : ClientSite) → numbered xs n ≡ Some old → pending (with_numbered n new xs) + ops_at old ≡ pending xs + ops_at new
+pending_with : (xs : List WorldClient) (n : ℕ) (old new : WorldClient) → numbered xs n ≡ Some old → pending (with_numbered n new xs) + ops_at old ≡ pending xs + ops_at new
 pending_with xs zero old new e = cc
 pending_with xs (suc n) old new e = set_pending xs n old new e
 
 -- What stands where n events were.
 pub record ReadsLow (n : ℕ) (w : World) : Type 0 where
   pub low : w.tally.reads + pending w.clients ≤ n
-  pub apart : (c : ClientId) (site : ClientSite) → site_of w c ≡ Some site → Apart (map server_at site.node.state.associations)
+  pub apart : (c : ClientId) (site : WorldClient) → site_of w c ≡ Some site → Apart (map server_at site.node.state.associations)
 
 -- one client is another
-replaced : (n : ℕ) (w v : World) (c : ClientId) (old new : ClientSite) → site_of w c ≡ Some old → v.clients ≡ with_numbered c.0 new w.clients → v.tally.reads + ops_at new ≤ w.tally.reads + ops_at old + 1 →
+replaced : (n : ℕ) (w v : World) (c : ClientId) (old new : WorldClient) → site_of w c ≡ Some old → v.clients ≡ with_numbered c.0 new w.clients → v.tally.reads + ops_at new ≤ w.tally.reads + ops_at old + 1 →
     map server_at new.node.state.associations ≡ map server_at old.node.state.associations → ReadsLow n w → ReadsLow (n + 1) v
 replaced n w v c old new there cs more same h =
     record {
@@ -178,13 +178,13 @@ replaced n w v c old new there cs more same h =
       apart = λ d site e. go d site e (same_or_not d.0 c.0);
     }
   where
-    go : (d : ClientId) (site : ClientSite) → site_of v d ≡ Some site → (d.0 ≡ c.0) ⊎ (d.0 ≢ c.0) → Apart (map server_at site.node.state.associations)
+    go : (d : ClientId) (site : WorldClient) → site_of v d ≡ Some site → (d.0 ≡ c.0) ⊎ (d.0 ≢ c.0) → Apart (map server_at site.node.state.associations)
     go d site e (inl i) =
         let s : new ≡ site = some_is (sym (numbered_own w.clients c.0 new old there) ∙ ap (numbered (with_numbered c.0 new w.clients)) (sym i) ∙ ap (λ zs. numbered zs d.0) (sym cs) ∙ e) in
-        subst (λ (y : ClientSite). Apart (map server_at y.node.state.associations)) s (subst Apart (sym same) (h.apart c old there))
+        subst (λ (y : WorldClient). Apart (map server_at y.node.state.associations)) s (subst Apart (sym same) (h.apart c old there))
     go d site e (inr x) = h.apart d site (sym (numbered_other w.clients c.0 d.0 new (numbered_below w.clients c.0 old there).0 x) ∙ ap (λ zs. numbered zs d.0) (sym cs) ∙ e)
 
-took : (n : ℕ) (w : World) (c : ClientId) (input : ClientInput) (old site : ClientSite) → site_of w c ≡ Some old → Takes old site input → ReadsLow n w → ReadsLow (n + 1) (ev.client_took w c site (Ok (ClientSteps w c site input))).world
+took : (n : ℕ) (w : World) (c : ClientId) (input : ClientInput) (old site : WorldClient) → site_of w c ≡ Some old → Takes old site input → ReadsLow n w → ReadsLow (n + 1) (ev.client_took w c site (Ok (ClientSteps w c site input))).world
 unfolding ev.client_took
 took n w c input old site there is h =
     replaced n w v c old after there (rows.clients ∙ said.clients)
@@ -194,7 +194,7 @@ took n w c input old site there is h =
     t : cl.NodeTurn
     t = ClientSteps w c site input
 
-    after : ClientSite
+    after : WorldClient
     after = ev.at_node t.node site
 
     u : World
@@ -264,5 +264,5 @@ fresh_low k clients servers d b form =
       low = let z = fresh_pending k servers (numbers 1 clients) in omega (arith, z);
       apart = λ c site e.
           let x = has_map (fresh_site k servers) (numbers 1 clients) site (numbered_has _ c.0 site e) in
-          subst (λ (y : ClientSite). Apart (map server_at y.node.state.associations)) (sym x.2) (λ s. (fresh_count s 1 servers).0);
+          subst (λ (y : WorldClient). Apart (map server_at y.node.state.associations)) (sym x.2) (λ s. (fresh_count s 1 servers).0);
     }

@@ -23,7 +23,7 @@ use Rattle.st_rules.specs.FlatLog as log
 use Rattle.st_rules.specs.Server as sv
 use Rattle.st_rules.specs.Server.{ServerNode}
 use Rattle.st_rules.specs.World as world
-use Rattle.st_rules.specs.World.{World, ClientSite, clock_of, fresh_world, numbered, site_of, with_numbered}
+use Rattle.st_rules.specs.World.{World, WorldClient, clock_of, fresh_world, numbered, site_of, with_numbered}
 use Rattle.st_lemmas.specs.Lists.{Has}
 use Rattle.st_lemmas.proofs.Lookups.{some_is}
 use Rattle.st_lemmas.proofs.Numbers.{length_more, numbered_below, numbered_other, numbered_own}
@@ -35,14 +35,14 @@ use Rattle.st_laws_bounds.proofs.Counters.Stepping.{AllLow, LowAt, step_low}
 use Rattle.st_laws_bounds.proofs.Counters.Events.{Beside, Cases, ClientSteps, ServerSteps, Takes}
 
 -- What stands of a client where n events were.
-pub record SiteLow (n : ℕ) (w : World) (site : ClientSite) : Type 0 where
+pub record SiteLow (n : ℕ) (w : World) (site : WorldClient) : Type 0 where
   pub asks : site.asks ≤ n
   pub starts : site.starts ≤ n
   pub commands : site.node.state.next_command ≤ 1 + length w.commands
   pub associations : (a : Association) → Has a site.node.state.associations → FewAt w site.starts a
 
 abbrev pub SitesLow : ℕ → World → Type 0
-SitesLow n w = (c : ClientId) (site : ClientSite) → site_of w c ≡ Some site → SiteLow n w site
+SitesLow n w = (c : ClientId) (site : WorldClient) → site_of w c ≡ Some site → SiteLow n w site
 
 -- Rows do not get fewer.
 pub record Grown (w v : World) : Type 0 where
@@ -56,13 +56,13 @@ few_more w v starts a g h =
     let x = h.versions in let y = h.lives in let e = g.log in let f = g.ended in let m = g.messages in
     record { versions = omega (arith, x, e); lives = omega (arith, y, f); requests = asks_more (1 + length w.net.messages) (1 + length v.net.messages) a.session (omega (arith, m)) h.requests }
 
-low_more : (m n : ℕ) (w v : World) (site : ClientSite) → m ≤ n → Grown w v → SiteLow m w site → SiteLow n v site
+low_more : (m n : ℕ) (w v : World) (site : WorldClient) → m ≤ n → Grown w v → SiteLow m w site → SiteLow n v site
 low_more m n w v site l g h =
     let x = h.asks in let y = h.starts in let z = h.commands in let e = g.commands in
     record { asks = omega (arith, x, l); starts = omega (arith, y, l); commands = omega (arith, z, e); associations = λ a i. few_more w v site.starts a g (h.associations a i) }
 
 -- one client is another
-replaced : (m n : ℕ) (w v : World) (c : ClientId) (old new : ClientSite) → m ≤ n → site_of w c ≡ Some old → v.clients ≡ with_numbered c.0 new w.clients → Grown w v → SiteLow n v new → SitesLow m w → SitesLow n v
+replaced : (m n : ℕ) (w v : World) (c : ClientId) (old new : WorldClient) → m ≤ n → site_of w c ≡ Some old → v.clients ≡ with_numbered c.0 new w.clients → Grown w v → SiteLow n v new → SitesLow m w → SitesLow n v
 replaced m n w v c old new l there cs g own h d site e = go (same_or_not d.0 c.0)
   where
     go : (d.0 ≡ c.0) ⊎ (d.0 ≢ c.0) → SiteLow n v site
@@ -82,14 +82,14 @@ pub record Said (c : ClientId) (os : List Output) (w v : World) : Type 0 where
 more_one : {A : Type 0} (xs : List A) (x : A) (n : ℕ) → n ≡ 1 → length (xs ++ x ∷ []) ≡ length xs + n
 more_one xs x n e = let z = length_more xs x in omega (arith, z, e)
 
-said_one : (c : ClientId) (before : ClientState) (site : ClientSite) (o : Output) (sc : WorldTurn) → site_of sc.world c ≡ Some site → Said c (o ∷ []) sc.world (ev.client_says sc c before o).world
+said_one : (c : ClientId) (before : ClientState) (site : WorldClient) (o : Output) (sc : WorldTurn) → site_of sc.world c ≡ Some site → Said c (o ∷ []) sc.world (ev.client_says sc c before o).world
 unfolding ev.client_says ev.client_notes ev.sends ev.submits ev.answers_with ev.accepts ev.patches ev.loses log.accept log.patch
 said_one c before site (outputs.Send m) sc own =
     record { clients = refl; commands = omega arith; log = omega arith; ended = omega arith; messages = more_one sc.world.net.messages _ 1 refl }
 said_one c before site (outputs.Answer op a) sc own = record { clients = refl; commands = omega arith; log = omega arith; ended = omega arith; messages = omega arith }
 said_one c before site (outputs.Submit number at what) sc own = go (site_of sc.world c) own
   where
-    go : (o : Option ClientSite) → o ≡ Some site → Said c (outputs.Submit number at what ∷ []) sc.world (ev.submits sc c o number at what).world
+    go : (o : Option WorldClient) → o ≡ Some site → Said c (outputs.Submit number at what ∷ []) sc.world (ev.submits sc c o number at what).world
     go None e = cc
     go (Some s) e = record { clients = refl; commands = more_one sc.world.commands _ 1 refl; log = omega arith; ended = omega arith; messages = omega arith }
 said_one c before site (outputs.Note n) sc own = note n
@@ -100,7 +100,7 @@ said_one c before site (outputs.Note n) sc own = note n
     note (notes.Lost s life) = record { clients = refl; commands = omega arith; log = omega arith; ended = more_one sc.world.ended _ 1 refl; messages = omega arith }
     note n = record { clients = refl; commands = omega arith; log = omega arith; ended = omega arith; messages = omega arith }
 
-pub said_all : (c : ClientId) (before : ClientState) (site : ClientSite) (os : List Output) (sc : WorldTurn) → site_of sc.world c ≡ Some site → Said c os sc.world (ev.client_says_all c before os sc).world
+pub said_all : (c : ClientId) (before : ClientState) (site : WorldClient) (os : List Output) (sc : WorldTurn) → site_of sc.world c ≡ Some site → Said c os sc.world (ev.client_says_all c before os sc).world
 unfolding ev.client_says_all
 said_all c before site [] sc own = record { clients = refl; commands = omega arith; log = omega arith; ended = omega arith; messages = omega arith }
 said_all c before site (o ∷ os) sc own =
@@ -143,7 +143,7 @@ flush_rows c s (x ∷ ss) w = go (in_phase (cl.lease_end_with s x) (cl.phase_wit
     go a b = record { clients = b.clients ∙ a.clients; servers = b.servers ∙ a.servers; tally = b.tally ∙ a.tally; commands = b.commands ∙ a.commands; log = b.log ∙ a.log; ended = b.ended ∙ a.ended; net = b.net ∙ a.net }
 
 -- A client's step.
-took : (n : ℕ) (w : World) (c : ClientId) (input : ClientInput) (old site : ClientSite) → site_of w c ≡ Some old → Takes old site input → SitesLow n w → SitesLow (n + 1) (ev.client_took w c site (Ok (ClientSteps w c site input))).world
+took : (n : ℕ) (w : World) (c : ClientId) (input : ClientInput) (old site : WorldClient) → site_of w c ≡ Some old → Takes old site input → SitesLow n w → SitesLow (n + 1) (ev.client_took w c site (Ok (ClientSteps w c site input))).world
 unfolding ev.client_took
 took n w c input old site there is h =
     replaced n (n + 1) w v c old after (omega arith) there (rows.clients ∙ said.clients)
@@ -158,7 +158,7 @@ took n w c input old site there is h =
     t : cl.NodeTurn
     t = ClientSteps w c site input
 
-    after : ClientSite
+    after : WorldClient
     after = ev.at_node t.node site
 
     u : World
@@ -274,7 +274,7 @@ same_clients : (m n : ℕ) (w v : World) → m ≤ n → v.clients ≡ w.clients
 same_clients m n w v l cs g h c site e = low_more m n w v site l g (h c site (ap (λ zs. numbered zs c.0) (sym cs) ∙ e))
 
 -- A crash, and a start.
-crashed : (n : ℕ) (w : World) (c : ClientId) (site : ClientSite) (es : List LogEntry) → site_of w c ≡ Some site → length es ≡ length w.log → SitesLow n w → SitesLow (n + 1) (ev.with_log es (ev.with_site c (ev.stopped_site site) (ev.with_crashed_lives site w)))
+crashed : (n : ℕ) (w : World) (c : ClientId) (site : WorldClient) (es : List LogEntry) → site_of w c ≡ Some site → length es ≡ length w.log → SitesLow n w → SitesLow (n + 1) (ev.with_log es (ev.with_site c (ev.stopped_site site) (ev.with_crashed_lives site w)))
 unfolding cl.crash
 crashed n w c site es there l h =
     replaced n (n + 1) w v c site (ev.stopped_site site) (omega arith) there refl grown
@@ -296,7 +296,7 @@ crashed n w c site es there l h =
     one : (a : Association) → (x : Association) × Has x site.node.state.associations × (a ≡ cl.crashed_association x) → FewAt v site.starts a
     one a (x, i, e) = subst (FewAt v site.starts) (sym e) (record { versions = omega arith; lives = (few_more w v site.starts x grown (low.associations x i)).lives; requests = tt })
 
-started : (n : ℕ) (w : World) (c : ClientId) (site : ClientSite) → site_of w c ≡ Some site → SitesLow n w → SitesLow (n + 1) (ev.with_site c (ev.started_site site) w)
+started : (n : ℕ) (w : World) (c : ClientId) (site : WorldClient) → site_of w c ≡ Some site → SitesLow n w → SitesLow (n + 1) (ev.with_site c (ev.started_site site) w)
 unfolding cl.start
 started n w c site there h =
     replaced n (n + 1) w v c site (ev.started_site site) (omega arith) there refl (record { commands = omega arith; log = omega arith; ended = omega arith; messages = omega arith })

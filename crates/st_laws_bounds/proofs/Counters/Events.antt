@@ -29,7 +29,7 @@ use Rattle.st_rules.specs.FlatLog as log
 use Rattle.st_rules.specs.Server as sv
 use Rattle.st_rules.specs.Server.{ServerNode}
 use Rattle.st_rules.specs.World as world
-use Rattle.st_rules.specs.World.{World, ClientSite, clock_of, issued_of, node_of, site_of}
+use Rattle.st_rules.specs.World.{World, WorldClient, clock_of, issued_of, node_of, site_of}
 use Rattle.st_lemmas.proofs.Marks.{length_drop, length_harden}
 use Rattle.st_lemmas.proofs.Numbers.{set_length}
 
@@ -44,14 +44,14 @@ pub record Beside (w v : World) : Type 0 where
   pub messages : length v.net.messages ≡ length w.net.messages
 
 -- the step of a client's node, and of a server's
-abbrev pub ClientSteps : World → ClientId → ClientSite → ClientInput → cl.NodeTurn
+abbrev pub ClientSteps : World → ClientId → WorldClient → ClientInput → cl.NodeTurn
 ClientSteps w c site input = cl.node_turn site.node (cl.client_step site.node.state (clock_of w (nodes.Client c)) input)
 
 abbrev pub ServerSteps : World → ServerId → ServerNode → ServerInput → sv.NodeTurn
 ServerSteps w s node input = sv.node_turn node (sv.server_step node.state (clock_of w (nodes.Server s)) input)
 
 -- the site that takes an input: as it was, or with one more ask
-pub record Takes (old site : ClientSite) (input : ClientInput) : Type 0 where
+pub record Takes (old site : WorldClient) (input : ClientInput) : Type 0 where
   pub node : old.node ≡ site.node
   pub starts : old.starts ≡ site.starts
   pub asks : site.asks ≤ old.asks + 1
@@ -60,10 +60,10 @@ pub record Takes (old site : ClientSite) (input : ClientInput) : Type 0 where
 pub record Cases (I O : World → Type 0) : Type 0 where
   pub beside : (w v : World) → Beside w v → I w → I v
   pub done : (w : World) → I w → O w
-  pub client : (w : World) (c : ClientId) (input : ClientInput) (old site : ClientSite) → site_of w c ≡ Some old → Takes old site input → site.node.running ≡ true → I w → O (ev.client_took w c site (Ok (ClientSteps w c site input))).world
+  pub client : (w : World) (c : ClientId) (input : ClientInput) (old site : WorldClient) → site_of w c ≡ Some old → Takes old site input → site.node.running ≡ true → I w → O (ev.client_took w c site (Ok (ClientSteps w c site input))).world
   pub server : (w : World) (s : ServerId) (input : ServerInput) (node : ServerNode) → node_of w s ≡ Some node → node.running ≡ true → I w → O (ev.server_took w s (Ok (ServerSteps w s node input))).world
-  pub crash : (w : World) (c : ClientId) (site : ClientSite) (es : List LogEntry) → site_of w c ≡ Some site → length es ≡ length w.log → I w → O (ev.with_log es (ev.with_site c (ev.stopped_site site) (ev.with_crashed_lives site w)))
-  pub start : (w : World) (c : ClientId) (site : ClientSite) → site_of w c ≡ Some site → I w → O (ev.with_site c (ev.started_site site) w)
+  pub crash : (w : World) (c : ClientId) (site : WorldClient) (es : List LogEntry) → site_of w c ≡ Some site → length es ≡ length w.log → I w → O (ev.with_log es (ev.with_site c (ev.stopped_site site) (ev.with_crashed_lives site w)))
+  pub start : (w : World) (c : ClientId) (site : WorldClient) → site_of w c ≡ Some site → I w → O (ev.with_site c (ev.started_site site) w)
   pub stop : (w : World) (s : ServerId) (node : ServerNode) → node_of w s ≡ Some node → I w → O (ev.with_node s (sv.crash_node node) w)
   pub begin : (w : World) (s : ServerId) (node : ServerNode) → node_of w s ≡ Some node → I w → O (ev.with_node s (sv.start_node node (clock_of w (nodes.Server s))) w)
 
@@ -118,7 +118,7 @@ beside_lost n m w =
     }
 
 module _ (I O : World → Type 0) (k : Cases I O) where
-  takes : (w : World) (c : ClientId) (input : ClientInput) (old site : ClientSite) → site_of w c ≡ Some old → Takes old site input → I w → (site.node.running ≡ false → O w) → O (ev.client_takes w c input site).world
+  takes : (w : World) (c : ClientId) (input : ClientInput) (old site : WorldClient) → site_of w c ≡ Some old → Takes old site input → I w → (site.node.running ≡ false → O w) → O (ev.client_takes w c input site).world
   unfolding cl.node_step ev.client_takes ev.client_took
   takes w c input old site there same h off = go site.node.running refl
     where
@@ -126,7 +126,7 @@ module _ (I O : World → Type 0) (k : Cases I O) where
       go true r = k.client w c input old site there same r h
       go false r = off r
 
-  at_client : (w : World) (c : ClientId) (input : ClientInput) (o : Option ClientSite) → site_of w c ≡ o → I w → O (ev.at_client w c input o).world
+  at_client : (w : World) (c : ClientId) (input : ClientInput) (o : Option WorldClient) → site_of w c ≡ o → I w → O (ev.at_client w c input o).world
   unfolding ev.at_client
   at_client w c input None e h = k.done w h
   at_client w c input (Some site) e h = takes w c input site site e (record { node = refl; starts = refl; asks = omega arith }) h (λ r. k.done w h)
@@ -150,7 +150,7 @@ module _ (I O : World → Type 0) (k : Cases I O) where
   each_event w (events.Tick (nodes.Server s)) h = at_server w s _ (node_of w s) refl h
   each_event w (events.App c ask) h = go (site_of w c) refl
     where
-      go : (o : Option ClientSite) → site_of w c ≡ o → O (ev.asks_at w c ask o).world
+      go : (o : Option WorldClient) → site_of w c ≡ o → O (ev.asks_at w c ask o).world
       go None e = k.done w h
       go (Some site) e = takes w c (inputs.App (site.asks + 1) ask) site (ev.asked_once_more site) e (record { node = refl; starts = refl; asks = omega arith }) h (λ r. k.done w h)
   each_event w (events.Deliver n) h = go (world.message_of w n)
@@ -185,11 +185,11 @@ module _ (I O : World → Type 0) (k : Cases I O) where
       g : I v
       g = k.beside w v (beside_disks _ w) h
 
-      same : (x : IssuedCommand) (site : ClientSite) → site_of v x.client ≡ Some site → (b : Bool) → O (if b then ev.client_takes v x.client (ev.end_told v n ok x) site else ev.quiet v).world
+      same : (x : IssuedCommand) (site : WorldClient) → site_of v x.client ≡ Some site → (b : Bool) → O (if b then ev.client_takes v x.client (ev.end_told v n ok x) site else ev.quiet v).world
       same x site e true = takes v x.client (ev.end_told v n ok x) site site e (record { node = refl; starts = refl; asks = omega arith }) g (λ r. k.done v g)
       same x site e false = k.done v g
 
-      told : (x : IssuedCommand) (o : Option ClientSite) → site_of v x.client ≡ o → O (ev.tells_client v n ok x o).world
+      told : (x : IssuedCommand) (o : Option WorldClient) → site_of v x.client ≡ o → O (ev.tells_client v n ok x o).world
       told x None e = k.done v g
       told x (Some site) e = same x site e (ev.is_same_instance x site)
 
@@ -198,7 +198,7 @@ module _ (I O : World → Type 0) (k : Cases I O) where
       go (Some x) = told x (site_of v x.client) refl
   each_event w (events.Crash (nodes.Client c)) h = go (site_of w c) refl
     where
-      go : (o : Option ClientSite) → site_of w c ≡ o → O (ev.crashes_client w c o).world
+      go : (o : Option WorldClient) → site_of w c ≡ o → O (ev.crashes_client w c o).world
       go None e = k.done w h
       go (Some site) e = k.crash w c site (ev.log_crashed w c) e (dropped_length w.log _ _) h
   each_event w (events.Crash (nodes.Server s)) h = go (node_of w s) refl
@@ -208,7 +208,7 @@ module _ (I O : World → Type 0) (k : Cases I O) where
       go (Some node) e = k.stop w s node e h
   each_event w (events.Start (nodes.Client c)) h = go (site_of w c) refl
     where
-      go : (o : Option ClientSite) → site_of w c ≡ o → O (ev.starts_client w c o)
+      go : (o : Option WorldClient) → site_of w c ≡ o → O (ev.starts_client w c o)
       go None e = k.done w h
       go (Some site) e = k.start w c site e h
   each_event w (events.Start (nodes.Server s)) h = go (node_of w s) refl

@@ -14,12 +14,12 @@ use Rattle.st_lemmas.proofs.Tables.{and_true}
 use Rattle.st_lemmas.proofs.Steps.{run_keeps, step_happens}
 use Rattle.st_protocol.specs.Assoc.{Config as Terms}
 use Rattle.st_laws_leases.specs.Sides.World.{AllStand}
-use Rattle.st_laws_leases.proofs.Sides.Beginning.{begun}
-use Rattle.st_laws_leases.proofs.Sides.Everywhere.{stays}
+use Rattle.st_laws_leases.proofs.Sides.FirstWorld.{begun}
+use Rattle.st_laws_leases.proofs.Sides.AllAssociations.{stays}
 use Rattle.st_laws_leases.proofs.Sides.Runs.{full}
 use Rattle.st_laws_refine.specs.Server.Pair.{terms_of}
 use Rattle.st_laws_bounds.specs.Counters.Counts.{ClientsFew, LocksFew, ReadsFew, ServersFew, TheftsFew}
-use Rattle.st_laws_bounds.specs.Counters.Reached.{InEveryReached}
+use Rattle.st_laws_bounds.specs.Counters.ReachedWorlds.{InEveryReached}
 use Rattle.st_laws_bounds.proofs.Counters.Asking as asked
 use Rattle.st_laws_bounds.proofs.Counters.Asking.{ReadsLow}
 use Rattle.st_laws_bounds.proofs.Counters.Clients.{SitesLow, cases, fresh_low}

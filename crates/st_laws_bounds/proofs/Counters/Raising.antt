@@ -7,7 +7,7 @@ use Rattle.st_rules.specs.Extents.{numbers}
 use Rattle.st_lemmas.specs.Lists.{Has}
 use Rattle.st_lemmas.proofs.Tables.{has_map}
 use Rattle.st_laws_pages.proofs.Lives.Fresh.{numbers_length}
-use Rattle.st_laws_bounds.specs.Counters.Raised.{FreshClientsBegin, IsWithin, IsWithinAt, StepsRaiseLittle}
+use Rattle.st_laws_bounds.specs.Counters.Rises.{FreshClientsBegin, IsWithin, IsWithinAt, StepsRaiseLittle}
 use Rattle.st_laws_bounds.proofs.Counters.Stepping.{AllLow, LowAt, step_low}
 use Rattle.st_laws_bounds.proofs.Counters.Weights.{asks_more, changes_rise, commands_rise, losses_rise, of_message, weigh}
 use Rattle.st_laws_bounds.proofs.FewMessages.Stepping.{Few, Steps, step_costs}

@@ -12,13 +12,13 @@ use Rattle.st_rules.specs.ClientReplies as cr
 use Rattle.st_rules.specs.ClientState.{Association, ClientState, ClientTurn, Turn, at_each, at_these, client_turn, enter, leave, only_at, server_of, with_associations}
 use Rattle.st_lemmas.specs.Lists.{Has}
 use Rattle.st_lemmas.proofs.Tables.{has_append}
-use Rattle.st_laws_steps.specs.Client.Taking as taking
-use Rattle.st_laws_steps.specs.Client.Taking.{Taken}
+use Rattle.st_laws_steps.specs.Client.Inputs as taking
+use Rattle.st_laws_steps.specs.Client.Inputs.{Taken}
 use Rattle.st_laws_steps.proofs.Client.Taking.{taken}
 use Rattle.st_laws_bounds.specs.Counters.Counts.{AsksLow}
 use Rattle.st_laws_bounds.proofs.Counters.Weights.{Low, Rises, asks_more, of_change, of_command, of_loss, of_message, rises_more, weigh}
 use Rattle.st_laws_bounds.proofs.Counters.Passing.{K, k_passes}
-use Rattle.st_laws_bounds.proofs.Counters.Hearing.{k_finish, k_hear, k_lose, k_take}
+use Rattle.st_laws_bounds.proofs.Counters.Receiving.{k_finish, k_receive, k_lose, k_take}
 
 -- an association's counters are no further than what was said, from bounds on
 pub record LowAt (b c d : ℕ) (out : List Output) (a : Association) : Type 0 where
@@ -77,7 +77,7 @@ input_low a b c d now t _ _ (taking.Nothing i) h = h
 input_low a b c d now t _ _ (taking.Full op ask e) h = said_low a b c d t op answers.OpsFull h
 input_low a b c d now t _ _ (taking.Unknown op ask e f) h = said_low a b c d t op answers.NoFile h
 input_low a b c d now t _ _ (taking.Takes op ask e f) h = each_low (only_at (server_of ask) (cl.take_ask op ask)) (k_take (server_of ask) op ask) a b c d t h
-input_low a b c d now t _ _ (taking.Hears m e) h = each_low (cr.receive_at now m.header m.body) (k_hear now m.header m.body) a b c d t h
+input_low a b c d now t _ _ (taking.Receives m e) h = each_low (cr.receive_at now m.header m.body) (k_receive now m.header m.body) a b c d t h
 input_low a b c d now t _ _ (taking.Finishes number result) h = each_low (cl.finish number result) (k_finish number result) a b c d t h
 
 -- the whole step

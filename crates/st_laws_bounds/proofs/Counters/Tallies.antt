@@ -8,7 +8,7 @@ use Rattle.st_messages.specs.declared.output.Output.TheVariants as outputs
 use Rattle.st_rules.specs.ClientState.{ClientState}
 use Rattle.st_rules.specs.Events as ev
 use Rattle.st_rules.specs.Events.{WorldTurn}
-use Rattle.st_rules.specs.World.{Tally, World, ClientSite, all_servers, site_of}
+use Rattle.st_rules.specs.World.{Tally, World, WorldClient, all_servers, site_of}
 use Rattle.st_laws_bounds.proofs.Counters.Weights.{weigh}
 use Rattle.st_laws_bounds.proofs.Counters.Events.{Cases, ClientSteps, ServerSteps}
 use Rattle.st_laws_bounds.proofs.Counters.Clients.{flush_rows, served_all}
@@ -31,7 +31,7 @@ told_one c before (outputs.Send m) sc = record { servers = refl; events = refl; 
 told_one c before (outputs.Answer op a) sc = record { servers = refl; events = refl; stolen = refl; reads = omega arith }
 told_one c before (outputs.Submit number at what) sc = go (site_of sc.world c)
   where
-    go : (o : Option ClientSite) → Told (outputs.Submit number at what ∷ []) sc.world (ev.submits sc c o number at what).world
+    go : (o : Option WorldClient) → Told (outputs.Submit number at what ∷ []) sc.world (ev.submits sc c o number at what).world
     go None = record { servers = refl; events = refl; stolen = refl; reads = omega arith }
     go (Some s) = record { servers = refl; events = refl; stolen = refl; reads = omega arith }
 told_one c before (outputs.Note n) sc = note n

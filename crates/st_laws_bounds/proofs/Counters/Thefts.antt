@@ -51,7 +51,7 @@ use Rattle.st_rules.specs.Names as names
 use Rattle.st_rules.specs.Names.{Changed}
 use Rattle.st_rules.specs.Sessions as sessions
 use Rattle.st_rules.specs.Server as sv
-use Rattle.st_rules.specs.Server.{ServerState, Turn}
+use Rattle.st_rules.specs.Server.{ServerState, ServerTurn}
 use Rattle.st_lemmas.specs.Lists.{Has}
 use Rattle.st_lemmas.proofs.Keys.{rising_has}
 use Rattle.st_lemmas.proofs.Puts.{has_put}
@@ -86,34 +86,34 @@ pub record Safe (l : Locks) (a : Authority) (out : List Output) (l2 : Locks) (a2
   pub timers : FewLocks l → FewTimers a → FewTimers a2
   pub thefts : weigh of_theft out2 ≡ weigh of_theft out
 
-abbrev pub G : Turn → Turn → Type 0
+abbrev pub G : ServerTurn → ServerTurn → Type 0
 G t u = Safe t.state.locks t.state.authority t.out u.state.locks u.state.authority u.out
 
-g_none : (t : Turn) → G t t
+g_none : (t : ServerTurn) → G t t
 g_none t = record { locks = λ h. h; timers = λ g h. h; thefts = refl }
 
-g_then : (t u v : Turn) → G t u → G u v → G t v
+g_then : (t u v : ServerTurn) → G t u → G u v → G t v
 g_then t u v x y = record { locks = λ h. y.locks (x.locks h); timers = λ g h. y.timers (x.locks g) (x.timers g h); thefts = y.thefts ∙ x.thefts }
 
-g_if : (t : Turn) (b : Bool) (u v : Turn) → G t u → G t v → G t (if b then u else v)
+g_if : (t : ServerTurn) (b : Bool) (u v : ServerTurn) → G t u → G t v → G t (if b then u else v)
 g_if t true u v f g = f
 g_if t false u v f g = g
 
 -- more is said, and no theft
-g_says : (t : Turn) (os : List Output) → weigh of_theft os ≡ 0 → G t (record t { out = t.out ++ os })
+g_says : (t : ServerTurn) (os : List Output) → weigh of_theft os ≡ 0 → G t (record t { out = t.out ++ os })
 g_says t os e = let z = weigh_both of_theft t.out os in record { locks = λ h. h; timers = λ g h. h; thefts = omega (arith, z, e) }
 
 -- a message is sent
-g_reply : (t : Turn) (h : Header) (b : Body) → G t (sv.reply t h b)
+g_reply : (t : ServerTurn) (h : Header) (b : Body) → G t (sv.reply t h b)
 unfolding sv.reply
 g_reply t h b = g_says t (_ ∷ []) refl
 
-g_tell : (t : Turn) (c : ClientId) (life : Life) (b : Body) → G t (sv.tell t c life b)
+g_tell : (t : ServerTurn) (c : ClientId) (life : Life) (b : Body) → G t (sv.tell t c life b)
 unfolding sv.tell
 g_tell t c life b = g_says t (_ ∷ []) refl
 
 -- other locks
-g_locks : (t : Turn) (l : Locks) → (FewLocks t.state.locks → FewLocks l) → G t (sv.with_locks l t)
+g_locks : (t : ServerTurn) (l : Locks) → (FewLocks t.state.locks → FewLocks l) → G t (sv.with_locks l t)
 g_locks t l f = record { locks = f; timers = λ g h. h; thefts = refl }
 
 -- Changes of the locks.
@@ -312,7 +312,7 @@ not_true true e = cc
 not_true false e = refl
 
 -- Suspicion.
-g_suspect : (t : Turn) (now : Stamp) (c : ClientId) → InRange c.0 → G t (sv.suspect_client t now c)
+g_suspect : (t : ServerTurn) (now : Stamp) (c : ClientId) → InRange c.0 → G t (sv.suspect_client t now c)
 unfolding sv.suspect_client authority.suspect authority.start_timer locks.drop_waits
 g_suspect t now c n =
     record {
@@ -336,23 +336,23 @@ g_suspect t now c n =
         }
     go false e h = h
 
-g_unless : (t : Turn) (now : Stamp) (c : ClientId) → InRange c.0 → G t (sv.suspect_unless t now c)
+g_unless : (t : ServerTurn) (now : Stamp) (c : ClientId) → InRange c.0 → G t (sv.suspect_unless t now c)
 unfolding sv.suspect_unless
 g_unless t now c n = g_if t (authority.may_ack t.state.authority c) _ _ (g_suspect t now c n) (g_none t)
 
 -- Greetings, seen demands and reassertions.
-g_dropped : (t : Turn) (c : ClientId) → G t (sv.with_locks (locks.drop_waits t.state.locks c) t)
+g_dropped : (t : ServerTurn) (c : ClientId) → G t (sv.with_locks (locks.drop_waits t.state.locks c) t)
 unfolding locks.drop_waits
 g_dropped t c = g_locks t _ (fewer_waits t.state.locks (λ w. not (locks.is_wait_by c w)))
 
-g_greet_as : (t : Turn) (now : Stamp) (h : Header) (x : Hello) → InRange h.from → G t (sv.greet_as t now h x)
+g_greet_as : (t : ServerTurn) (now : Stamp) (h : Header) (x : Hello) → InRange h.from → G t (sv.greet_as t now h x)
 unfolding sv.greet_as
 g_greet_as t now h hellos.Welcome n = g_reply t h bodies.Welcome
 g_greet_as t now h hellos.Replaced n = let u = sv.with_locks (locks.drop_waits t.state.locks (sv.sender h)) t in g_then t u (sv.reply u h bodies.Welcome) (g_dropped t (sv.sender h)) (g_reply u h bodies.Welcome)
 g_greet_as t now h hellos.Old n = g_none t
 g_greet_as t now h hellos.Wait n = let u = sv.suspect_client t now (sv.sender h) in let b = bodies.Nack why.Suspect now.0 0 in g_then t u (sv.reply u h b) (g_suspect t now (sv.sender h) n) (g_reply u h b)
 
-g_hello : (t : Turn) (now : Stamp) (h : Header) → InRange h.from → G t (sv.hello t now h)
+g_hello : (t : ServerTurn) (now : Stamp) (h : Header) → InRange h.from → G t (sv.hello t now h)
 unfolding sv.hello sv.greet sv.greet_by sv.refuse_in_grace
 g_hello t now h n = g_if t (sv.in_grace t now) _ _ (g_reply t h _) (g_greet_as (sv.with_sessions (sessions.hello t.state.sessions (sv.sender h) (sv.life_in h) (locks.has_rows t.state.locks (sv.sender h))).sessions t) now h _ n)
 
@@ -365,38 +365,38 @@ seen_same c ino g r = go (locks.is_row_of c ino r) (r.g.0 == g.0)
     go true false = refl
     go false b = refl
 
-g_seen : (t : Turn) (h : Header) (ino : ℕ) (g : GrantNo) → G t (sv.demand_seen t h ino g)
-unfolding sv.demand_seen sv.see_demand locks.demand_seen
+g_seen : (t : ServerTurn) (h : Header) (ino : ℕ) (g : GrantNo) → G t (sv.demand_seen t h ino g)
+unfolding sv.demand_seen sv.observe_demand locks.demand_seen
 g_seen t h ino g = g_if t (sv.is_served t h) _ _ (g_locks t _ (same_rows t.state.locks (locks.observe (sv.sender h) ino g) (seen_same (sv.sender h) ino g))) (g_none t)
 
-g_reassert_by : (t : Turn) (h : Header) (r : Result grace.Accepted AcceptRefusal) → AcceptedFew t.state.locks r → G t (sv.reassert_by t h r)
+g_reassert_by : (t : ServerTurn) (h : Header) (r : Result grace.Accepted AcceptRefusal) → AcceptedFew t.state.locks r → G t (sv.reassert_by t h r)
 unfolding sv.reassert_by
 g_reassert_by t h (Ok a) f = let u = sv.with_sessions a.sessions (sv.with_locks a.locks t) in g_then t u (sv.reply u h bodies.Reasserted) (g_locks t a.locks f) (g_reply u h bodies.Reasserted)
 g_reassert_by t h (Err r) f = g_reply t h (sv.refused_reassertion r)
 
-g_again : (t : Turn) (h : Header) (x : Taken Body) → G t (sv.reassert_again t h x)
+g_again : (t : ServerTurn) (h : Header) (x : Taken Body) → G t (sv.reassert_again t h x)
 unfolding sv.reassert_again
 g_again t h (takes.Again body) = g_reply t h body
 g_again t h taken = g_none t
 
-g_reassert : (t : Turn) (now : Stamp) (h : Header) (rows : List (ℕ × GrantNo × Mode)) → InRange h.from → G t (sv.reassert t now h rows)
+g_reassert : (t : ServerTurn) (now : Stamp) (h : Header) (rows : List (ℕ × GrantNo × Mode)) → InRange h.from → G t (sv.reassert t now h rows)
 unfolding sv.reassert sv.reassert_new
 g_reassert t now h rows n =
     g_if t (sessions.knows t.state.sessions (sv.sender h) (sv.life_in h)) _ _ (g_again t h (sv.take t h))
     (g_reassert_by t h (grace.accept t.state.grace now (sv.sender h) (sv.life_in h) rows t.state.locks t.state.sessions) (accepted_few t.state.grace now (sv.sender h) (sv.life_in h) rows t.state.locks t.state.sessions n))
 
 -- Rules of requests.
-g_acquire_by : (t : Turn) (ino : ℕ) (mode : Mode) (r : Result locks.Acquired AcquireRefusal) → AcquiredFew t.state.locks r → G t (sv.acquire_by t ino mode r).turn
+g_acquire_by : (t : ServerTurn) (ino : ℕ) (mode : Mode) (r : Result locks.Acquired AcquireRefusal) → AcquiredFew t.state.locks r → G t (sv.acquire_by t ino mode r).turn
 unfolding sv.acquire_by
 g_acquire_by t ino mode (Ok a) f = g_locks t a.locks f
 g_acquire_by t ino mode (Err r) f = g_none t
 
-g_changed : (t : Turn) (r : Result Changed EntryRefusal) → G t (sv.name_changed t r).turn
+g_changed : (t : ServerTurn) (r : Result Changed EntryRefusal) → G t (sv.name_changed t r).turn
 unfolding sv.name_changed sv.name_refused
 g_changed t (Ok d) = g_none t
 g_changed t (Err r) = g_none t
 
-g_remove_by : (t : Turn) (r : Result Changed EntryRefusal) → G t (sv.remove_by t r).turn
+g_remove_by : (t : ServerTurn) (r : Result Changed EntryRefusal) → G t (sv.remove_by t r).turn
 unfolding sv.remove_by sv.name_refused sv.cut_whole sv.cut_pages locks.drop_file_waits
 g_remove_by t (Ok d) =
     let u = sv.with_locks (record t.state.locks { waiters = filter (λ w. not (locks.is_wait_on d.ino w)) t.state.locks.waiters }) t in
@@ -404,7 +404,7 @@ g_remove_by t (Ok d) =
     record { locks = x.locks; timers = x.timers; thefts = (g_says t (outputs.Note (notes.CutDone (sv.file (sv.with_locks (locks.drop_file_waits t.state.locks d.ino) (sv.with_names d.names t)) d.ino) (page_no 0)) ∷ []) refl).thefts }
 g_remove_by t (Err r) = g_none t
 
-g_remove_found : (t : Turn) (h : Header) (dir : ℕ) (name : List ℕ) (g : GrantNo) (r : Result ℕ EntryRefusal) → G t (sv.remove_found t h dir name g r).turn
+g_remove_found : (t : ServerTurn) (h : Header) (dir : ℕ) (name : List ℕ) (g : GrantNo) (r : Result ℕ EntryRefusal) → G t (sv.remove_found t h dir name g r).turn
 unfolding sv.remove_found sv.remove_ino sv.remove_file sv.remove_dir sv.not_holder sv.name_refused
 g_remove_found t h dir name g (Ok ino) = at (sv.is_file t ino)
   where
@@ -421,17 +421,17 @@ g_remove_found t h dir name g (Ok ino) = at (sv.is_file t ino)
     at false = folder (g.0 == 0)
 g_remove_found t h dir name g (Err r) = g_none t
 
-g_found : (t : Turn) (r : Result ℕ EntryRefusal) → G t (sv.name_found t r).turn
+g_found : (t : ServerTurn) (r : Result ℕ EntryRefusal) → G t (sv.name_found t r).turn
 unfolding sv.name_found sv.name_refused
 g_found t (Ok ino) = g_none t
 g_found t (Err r) = g_none t
 
-g_listed : (t : Turn) (r : Result (List NameRow) EntryRefusal) → G t (sv.names_listed t r).turn
+g_listed : (t : ServerTurn) (r : Result (List NameRow) EntryRefusal) → G t (sv.names_listed t r).turn
 unfolding sv.names_listed sv.name_refused
 g_listed t (Ok rows) = g_none t
 g_listed t (Err r) = g_none t
 
-g_name : (t : Turn) (h : Header) (op : NameOp) → G t (sv.name t h op).turn
+g_name : (t : ServerTurn) (h : Header) (op : NameOp) → G t (sv.name t h op).turn
 unfolding sv.name sv.remove
 g_name t h (Lookup dir n) = g_found t _
 g_name t h (Create dir n) = g_changed t _
@@ -440,12 +440,12 @@ g_name t h (Remove dir n g) = g_remove_found t h dir n g _
 g_name t h (Rename dir n dir2 n2) = g_changed t _
 g_name t h (ListFrom dir after) = g_listed t _
 
-g_allocate_by : (t : Turn) (ino : ℕ) (page : PageNo) (count : ℕ) (r : Result Extents AllocateRefusal) → G t (sv.allocate_by t ino page count r).turn
+g_allocate_by : (t : ServerTurn) (ino : ℕ) (page : PageNo) (count : ℕ) (r : Result Extents AllocateRefusal) → G t (sv.allocate_by t ino page count r).turn
 unfolding sv.allocate_by sv.with_extents_told
 g_allocate_by t ino page count (Ok x) = g_none t
 g_allocate_by t ino page count (Err r) = g_none t
 
-g_allocate : (t : Turn) (h : Header) (ino : ℕ) (g : GrantNo) (page : PageNo) (count : ℕ) → G t (sv.allocate t h ino g page count).turn
+g_allocate : (t : ServerTurn) (h : Header) (ino : ℕ) (g : GrantNo) (page : PageNo) (count : ℕ) → G t (sv.allocate t h ino g page count).turn
 unfolding sv.allocate sv.allocate_held sv.allocate_pages sv.no_file sv.not_holder
 g_allocate t h ino g page count = at (sv.is_file t ino)
   where
@@ -457,7 +457,7 @@ g_allocate t h ino g page count = at (sv.is_file t ino)
     at true = held (sv.holds t h ino g modes.X)
     at false = g_none t
 
-g_cut : (t : Turn) (h : Header) (ino : ℕ) (g : GrantNo) (from : PageNo) → G t (sv.cut t h ino g from).turn
+g_cut : (t : ServerTurn) (h : Header) (ino : ℕ) (g : GrantNo) (from : PageNo) → G t (sv.cut t h ino g from).turn
 unfolding sv.cut sv.cut_held sv.cut_from sv.cut_pages sv.no_file sv.not_holder
 g_cut t h ino g from = at (sv.is_file t ino)
   where
@@ -469,7 +469,7 @@ g_cut t h ino g from = at (sv.is_file t ino)
     at true = held (sv.holds t h ino g modes.X)
     at false = g_none t
 
-g_map : (t : Turn) (h : Header) (ino : ℕ) (g : GrantNo) (page : PageNo) → G t (sv.map t h ino g page).turn
+g_map : (t : ServerTurn) (h : Header) (ino : ℕ) (g : GrantNo) (page : PageNo) → G t (sv.map t h ino g page).turn
 unfolding sv.map sv.map_held sv.map_page sv.with_extents_told sv.no_file sv.not_holder
 g_map t h ino g page = at (sv.is_file t ino)
   where
@@ -481,7 +481,7 @@ g_map t h ino g page = at (sv.is_file t ino)
     at true = held (sv.holds t h ino g modes.S)
     at false = g_none t
 
-g_rule : (t : Turn) (now : Stamp) (h : Header) (body : Body) → InRange h.from → G t (sv.rule t now h body).turn
+g_rule : (t : ServerTurn) (now : Stamp) (h : Header) (body : Body) → InRange h.from → G t (sv.rule t now h body).turn
 unfolding sv.rule sv.keep_alive sv.acquire sv.acquire_lock sv.no_file sv.released sv.released_by
 g_rule t now h bodies.KeepAlive n = g_none t
 g_rule t now h (bodies.Acquire ino mode) n = at (sv.is_file t ino)
@@ -496,12 +496,12 @@ g_rule t now h (bodies.Cut ino g from) n = g_cut t h ino g from
 g_rule t now h (bodies.Name op) n = g_name t h op
 g_rule t now h body n = g_none t
 
-g_keep : (t : Turn) (h : Header) (o : Option Body) → G t (sv.keep h t o)
+g_keep : (t : ServerTurn) (h : Header) (o : Option Body) → G t (sv.keep h t o)
 unfolding sv.keep sv.keep_and_reply
 g_keep t h None = g_none t
 g_keep t h (Some body) = g_reply (sv.with_sessions (sessions.store t.state.sessions (sv.sender h) h.number body) t) h body
 
-g_request_by : (t : Turn) (now : Stamp) (h : Header) (body : Body) (x : Taken Body) → InRange h.from → G t (sv.request_by t now h body x)
+g_request_by : (t : ServerTurn) (now : Stamp) (h : Header) (body : Body) (x : Taken Body) → InRange h.from → G t (sv.request_by t now h body x)
 unfolding sv.request_by sv.refuse_epoch sv.serve
 g_request_by t now h body takes.OtherEpoch n = g_reply t h _
 g_request_by t now h body takes.NoSession n = g_reply t h _
@@ -510,7 +510,7 @@ g_request_by t now h body (takes.Again kept) n = g_reply t h kept
 g_request_by t now h body takes.OutOfOrder n = g_none t
 g_request_by t now h body takes.Fresh n = let a = sv.rule t now h body in g_then t a.turn (sv.keep h a.turn a.reply) (g_rule t now h body n) (g_keep a.turn h a.reply)
 
-g_of_epoch : (t : Turn) (now : Stamp) (h : Header) (body : Body) → InRange h.from → G t (sv.of_epoch t now h body)
+g_of_epoch : (t : ServerTurn) (now : Stamp) (h : Header) (body : Body) → InRange h.from → G t (sv.of_epoch t now h body)
 unfolding sv.of_epoch sv.refuse_epoch sv.request
 g_of_epoch t now h body n = g_if t (h.epoch == t.state.stable.epoch.0) (sv.request t now h body) (sv.refuse_epoch t h) (request body) (g_reply t h _)
   where
@@ -518,23 +518,23 @@ g_of_epoch t now h body n = g_if t (h.epoch == t.state.stable.epoch.0) (sv.reque
     request (bodies.Reassert rows) = g_reassert t now h rows n
     request b = g_request_by t now h b (sv.take t h) n
 
-g_by_body : (t : Turn) (now : Stamp) (h : Header) (body : Body) → InRange h.from → G t (sv.by_body t now h body)
+g_by_body : (t : ServerTurn) (now : Stamp) (h : Header) (body : Body) → InRange h.from → G t (sv.by_body t now h body)
 unfolding sv.by_body
 g_by_body t now h bodies.Hello n = g_hello t now h n
 g_by_body t now h (bodies.DemandSeen ino g) n = g_seen t h ino g
 g_by_body t now h body n = g_of_epoch t now h body n
 
-g_refused : (t : Turn) (h : Header) (start : Stamp) (body : Body) → G t (sv.refuse_suspect t h start body)
+g_refused : (t : ServerTurn) (h : Header) (start : Stamp) (body : Body) → G t (sv.refuse_suspect t h start body)
 unfolding sv.refuse_suspect
 g_refused t h start (bodies.DemandSeen ino g) = g_none t
 g_refused t h start body = g_reply t h _
 
-g_suspicion : (t : Turn) (now : Stamp) (h : Header) (body : Body) (o : Option Stamp) → InRange h.from → G t (sv.by_suspicion t now h body o)
+g_suspicion : (t : ServerTurn) (now : Stamp) (h : Header) (body : Body) (o : Option Stamp) → InRange h.from → G t (sv.by_suspicion t now h body o)
 unfolding sv.by_suspicion
 g_suspicion t now h body None n = g_by_body t now h body n
 g_suspicion t now h body (Some start) n = g_refused t h start body
 
-pub g_input : (t : Turn) (now : Stamp) (i : ServerInput) → G t (sv.take_input t now i)
+pub g_input : (t : ServerTurn) (now : Stamp) (i : ServerInput) → G t (sv.take_input t now i)
 unfolding sv.take_input sv.receive sv.receive_from
 g_input t now Tick = g_none t
 g_input t now (Control m) = go (sv.is_for t.state m.header) refl
@@ -549,7 +549,7 @@ g_input t now (Control m) = go (sv.is_for t.state m.header) refl
     go false e = g_none t
 
 -- Suspecting: the clients of rows.
-pub g_each : (now : Stamp) (cs : List ClientId) (t : Turn) → ((c : ClientId) → Has c cs → InRange c.0) → G t (sv.suspect_each now cs t)
+pub g_each : (now : Stamp) (cs : List ClientId) (t : ServerTurn) → ((c : ClientId) → Has c cs → InRange c.0) → G t (sv.suspect_each now cs t)
 unfolding sv.suspect_each
 g_each now [] t n = g_none t
 g_each now (c ∷ cs) t n = g_then t (sv.suspect_unless t now c) (sv.suspect_each now cs (sv.suspect_unless t now c)) (g_unless t now c (n c (inl refl))) (g_each now cs (sv.suspect_unless t now c) (λ d i. n d (inr i)))
@@ -586,16 +586,16 @@ unfolding locks.grant_files
 files_few [] p h = h
 files_few (ino ∷ inos) p h = files_few inos (locks.grant_file ino (length p.locks.waiters) p) (file_few ino (length p.locks.waiters) p h)
 
-g_told : (rs : List (ClientId × Life × ℕ × GrantNo × Mode)) (t : Turn) → G t (sv.tell_granted rs t)
+g_told : (rs : List (ClientId × Life × ℕ × GrantNo × Mode)) (t : ServerTurn) → G t (sv.tell_granted rs t)
 unfolding sv.tell_granted
 g_told [] t = g_none t
 g_told (r ∷ rs) t = let u = sv.tell t r.0 r.1 (bodies.Granted r.2 r.3 r.4) in g_then t u (sv.tell_granted rs u) (g_tell t r.0 r.1 (bodies.Granted r.2 r.3 r.4)) (g_told rs u)
 
-pub g_granting : (t : Turn) (now : Stamp) → G t (sv.granting t now)
+pub g_granting : (t : ServerTurn) (now : Stamp) → G t (sv.granting t now)
 unfolding sv.granting sv.grant_waiting sv.grant_by locks.next_grants
 g_granting t now = g_if t (sv.in_grace t now) t _ (g_none t) (g_then t u (sv.tell_granted (locks.next_grants t.state.locks).granted u) (g_locks t (locks.next_grants t.state.locks).locks (files_few (locks.waited_files t.state.locks) (locks.nothing_granted t.state.locks))) (g_told (locks.next_grants t.state.locks).granted u))
   where
-    u : Turn
+    u : ServerTurn
     u = sv.with_locks (locks.next_grants t.state.locks).locks t
 
 demand_few : (r : LockRow) (d : RowDemand) (l : Locks) → FewLocks l → FewLocks (locks.with_demand r d l)
@@ -630,28 +630,28 @@ unfolding locks.demand_files
 demand_files_few k now tick ss [] p h = h
 demand_files_few k now tick ss (ino ∷ inos) p h = demand_files_few k now tick ss inos (locks.demand_for k now tick ss (find (locks.is_wait_on ino) p.locks.waiters) p) (demand_for_few k now tick ss (find (locks.is_wait_on ino) p.locks.waiters) p h)
 
-g_demanded : (rs : List (ClientId × Life × ℕ × GrantNo × Mode)) (t : Turn) → G t (sv.tell_demanded rs t)
+g_demanded : (rs : List (ClientId × Life × ℕ × GrantNo × Mode)) (t : ServerTurn) → G t (sv.tell_demanded rs t)
 unfolding sv.tell_demanded
 g_demanded [] t = g_none t
 g_demanded (r ∷ rs) t = let u = sv.tell t r.0 r.1 (bodies.Demand r.2 r.3 r.4) in g_then t u (sv.tell_demanded rs u) (g_tell t r.0 r.1 (bodies.Demand r.2 r.3 r.4)) (g_demanded rs u)
 
-g_demanding : (t : Turn) (now : Stamp) (i : ServerInput) → G t (sv.demanding t now i)
+g_demanding : (t : ServerTurn) (now : Stamp) (i : ServerInput) → G t (sv.demanding t now i)
 unfolding sv.demanding sv.demand_by locks.demands_due
 g_demanding t now i = g_then t u (sv.tell_demanded d.due u) (g_locks t d.locks (demand_files_few t.state.config now (sv.is_tick i) (authority.suspects_of t.state.authority) (locks.waited_files t.state.locks) (locks.nothing_demanded t.state.locks))) (g_demanded d.due u)
   where
     d : locks.Demanding
     d = locks.demands_due t.state.locks now (sv.is_tick i) (authority.suspects_of t.state.authority) t.state.config
 
-    u : Turn
+    u : ServerTurn
     u = sv.with_locks d.locks t
 
 -- Thefts: one for each timer that is over.
-pub record Stolen (n : ℕ) (t u : Turn) : Type 0 where
+pub record Stolen (n : ℕ) (t u : ServerTurn) : Type 0 where
   pub locks : FewLocks t.state.locks → FewLocks u.state.locks
   pub timers : u.state.authority ≡ t.state.authority
   pub thefts : weigh of_theft u.out ≤ n + weigh of_theft t.out
 
-stolen_one : (t : Turn) (c : ClientId) (o : Option Session) → Stolen 1 t (sv.steal_at t c o)
+stolen_one : (t : ServerTurn) (c : ClientId) (o : Option Session) → Stolen 1 t (sv.steal_at t c o)
 unfolding sv.steal_at sv.steal_from locks.forget
 stolen_one t c None = record { locks = λ h. h; timers = refl; thefts = omega arith }
 stolen_one t c (Some s) =
@@ -661,7 +661,7 @@ stolen_one t c (Some s) =
       thefts = let z = weigh_both of_theft t.out (outputs.Note (notes.Stolen c s.life) ∷ []) in omega (arith, z);
     }
 
-pub stolen_each : (cs : List ClientId) (t : Turn) → Stolen (length cs) t (sv.steal_each cs t)
+pub stolen_each : (cs : List ClientId) (t : ServerTurn) → Stolen (length cs) t (sv.steal_each cs t)
 unfolding sv.steal_each sv.steal
 stolen_each [] t = record { locks = λ h. h; timers = refl; thefts = omega arith }
 stolen_each (c ∷ cs) t =
@@ -684,7 +684,7 @@ pub record FewClients (s : ServerState) : Type 0 where
   pub timers : FewTimers s.authority
 
 -- a whole step: it stands again, and at most sixteen thefts were noted
-pub record StepsFew (s : ServerState) (u : Turn) : Type 0 where
+pub record StepsFew (s : ServerState) (u : ServerTurn) : Type 0 where
   pub clients : FewClients u.state
   pub thefts : weigh of_theft u.out ≤ 16
 
@@ -701,10 +701,10 @@ step_few s now i h =
           omega (arith, a, b, d, e, f, g);
     }
   where
-    begun : Turn
+    begun : ServerTurn
     begun = sv.with_authority (authority.still_running s.authority now) (sv.turn s [])
 
-    a : Turn
+    a : ServerTurn
     a = sv.thefts (sv.turn s []) now
 
     stolen : Stolen (length (authority.over s.authority now)) begun a
@@ -719,7 +719,7 @@ step_few s now i h =
         h_wait : ℕ
         h_wait = s.authority.wait
 
-    b : Turn
+    b : ServerTurn
     b = sv.take_input a now i
 
     input : G a b
@@ -732,7 +732,7 @@ step_few s now i h =
     waits : G a (sv.suspecting_on b now i)
     waits = g_then a b (sv.suspecting_on b now i) input (on i)
 
-    c : Turn
+    c : ServerTurn
     c = sv.suspecting_on b now i
 
     passes : G c (sv.demanding (sv.granting c now) now i)

@@ -16,14 +16,14 @@ use Rattle.st_rules.specs.Safety.{IsHead}
 use Rattle.st_rules.specs.Server as sv
 use Rattle.st_rules.specs.Server.{ServerNode}
 use Rattle.st_rules.specs.World as world
-use Rattle.st_rules.specs.World.{World, ClientSite, clock_of, fresh_world, numbered, site_of, with_numbered}
+use Rattle.st_rules.specs.World.{World, WorldClient, clock_of, fresh_world, numbered, site_of, with_numbered}
 use Rattle.st_lemmas.specs.Lists.{Has}
 use Rattle.st_lemmas.proofs.Lookups.{some_is}
 use Rattle.st_lemmas.proofs.Numbers.{numbered_below, numbered_other, numbered_own}
 use Rattle.st_lemmas.proofs.Tables.{has_map, same_or_not}
 use Rattle.st_laws_pages.proofs.Disks.Whole.{site_is}
-use Rattle.st_laws_bounds.specs.Counters.Raised.{ClientsWithin, IsWithin, IsWithinAt}
-use Rattle.st_laws_bounds.specs.Counters.Reached.{InEveryReached}
+use Rattle.st_laws_bounds.specs.Counters.Rises.{ClientsWithin, IsWithin, IsWithinAt}
+use Rattle.st_laws_bounds.specs.Counters.ReachedWorlds.{InEveryReached}
 use Rattle.st_laws_bounds.proofs.Counters.Clients.{flush_rows, said_all, served_all}
 use Rattle.st_laws_bounds.proofs.Counters.Events.{Cases, ClientSteps, ServerSteps, Takes}
 use Rattle.st_laws_bounds.proofs.Counters.Law.{counted_reached}
@@ -32,7 +32,7 @@ use Rattle.st_laws_bounds.proofs.Counters.Weights.{asks_more}
 
 -- What stands of the clients where n events were.
 abbrev pub SitesWithin : ℕ → World → Type 0
-SitesWithin n w = (c : ClientId) (site : ClientSite) → site_of w c ≡ Some site → IsWithin (1 + 32768 * n) site.node.state
+SitesWithin n w = (c : ClientId) (site : WorldClient) → site_of w c ≡ Some site → IsWithin (1 + 32768 * n) site.node.state
 
 within_more : (m n : ℕ) (s : ClientState) → m ≤ n → IsWithin m s → IsWithin n s
 within_more m n s l h =
@@ -46,14 +46,14 @@ next : (n : ℕ) → 1 + 32768 * n ≤ 1 + 32768 * (n + 1)
 next n = omega arith
 
 -- one client is another
-replaced : (n : ℕ) (w v : World) (c : ClientId) (old new : ClientSite) → site_of w c ≡ Some old → v.clients ≡ with_numbered c.0 new w.clients →
+replaced : (n : ℕ) (w v : World) (c : ClientId) (old new : WorldClient) → site_of w c ≡ Some old → v.clients ≡ with_numbered c.0 new w.clients →
     IsWithin (1 + 32768 * (n + 1)) new.node.state → SitesWithin n w → SitesWithin (n + 1) v
 replaced n w v c old new there cs own h d site e = go (same_or_not d.0 c.0)
   where
     go : (d.0 ≡ c.0) ⊎ (d.0 ≢ c.0) → IsWithin (1 + 32768 * (n + 1)) site.node.state
     go (inl i) =
         let s : new ≡ site = some_is (sym (numbered_own w.clients c.0 new old there) ∙ ap (numbered (with_numbered c.0 new w.clients)) (sym i) ∙ ap (λ zs. numbered zs d.0) (sym cs) ∙ e) in
-        subst (λ (x : ClientSite). IsWithin (1 + 32768 * (n + 1)) x.node.state) s own
+        subst (λ (x : WorldClient). IsWithin (1 + 32768 * (n + 1)) x.node.state) s own
     go (inr x) =
         within_more _ _ site.node.state (next n) (h d site (sym (numbered_other w.clients c.0 d.0 new (numbered_below w.clients c.0 old there).0 x) ∙ ap (λ zs. numbered zs d.0) (sym cs) ∙ e))
 
@@ -62,7 +62,7 @@ same : (m n : ℕ) (w v : World) → 1 + 32768 * m ≤ 1 + 32768 * n → v.clien
 same m n w v l cs h c site e = within_more _ _ site.node.state l (h c site (ap (λ zs. numbered zs c.0) (sym cs) ∙ e))
 
 -- a client's step
-took : (n : ℕ) (w : World) (c : ClientId) (input : ClientInput) (old site : ClientSite) → site_of w c ≡ Some old → Takes old site input → SitesWithin n w →
+took : (n : ℕ) (w : World) (c : ClientId) (input : ClientInput) (old site : WorldClient) → site_of w c ≡ Some old → Takes old site input → SitesWithin n w →
     SitesWithin (n + 1) (ev.client_took w c site (Ok (ClientSteps w c site input))).world
 unfolding ev.client_took
 took n w c input old site there is h =
@@ -72,7 +72,7 @@ took n w c input old site there is h =
     t : cl.NodeTurn
     t = ClientSteps w c site input
 
-    after : ClientSite
+    after : WorldClient
     after = ev.at_node t.node site
 
     u : World
@@ -82,7 +82,7 @@ took n w c input old site there is h =
     begun = subst (λ (m : cl.ClientNode). IsWithin (1 + 32768 * n) m.state) is.node (h c old there)
 
 -- a crash, and a start
-crashed : (n : ℕ) (w : World) (c : ClientId) (site : ClientSite) (es : List LogEntry) → site_of w c ≡ Some site → length es ≡ length w.log → SitesWithin n w →
+crashed : (n : ℕ) (w : World) (c : ClientId) (site : WorldClient) (es : List LogEntry) → site_of w c ≡ Some site → length es ≡ length w.log → SitesWithin n w →
     SitesWithin (n + 1) (ev.with_log es (ev.with_site c (ev.stopped_site site) (ev.with_crashed_lives site w)))
 unfolding cl.crash
 crashed n w c site es there l h =
@@ -102,7 +102,7 @@ crashed n w c site es there l h =
         let f = (low.each x i).lives in
         subst (IsWithinAt (1 + 32768 * (n + 1))) (sym e) (record { dirty = omega arith; versions = omega arith; lives = omega (arith, f); requests = tt })
 
-started : (n : ℕ) (w : World) (c : ClientId) (site : ClientSite) → site_of w c ≡ Some site → SitesWithin n w → SitesWithin (n + 1) (ev.with_site c (ev.started_site site) w)
+started : (n : ℕ) (w : World) (c : ClientId) (site : WorldClient) → site_of w c ≡ Some site → SitesWithin n w → SitesWithin (n + 1) (ev.with_site c (ev.started_site site) w)
 unfolding cl.start
 started n w c site there h =
     replaced n w (ev.with_site c (ev.started_site site) w) c site (ev.started_site site) there refl
@@ -142,7 +142,7 @@ fresh : (k : Config) (clients servers d b form : ℕ) → IsHead k clients serve
 unfolding fresh_world
 fresh k clients servers d b form head c site e =
     let few = leb-true servers 4 (and_parts (nat_le 1 servers) (nat_le servers 4) head.some_servers).1 in
-    subst (λ (x : ClientSite). IsWithin 1 x.node.state) (sym (site_is k clients servers c.0 site e).0) (fresh_within (record { 0 = c.0 }) k servers few)
+    subst (λ (x : WorldClient). IsWithin 1 x.node.state) (sym (site_is k clients servers c.0 site e).0) (fresh_within (record { 0 = c.0 }) k servers few)
 
 pub within_law : InEveryReached ClientsWithin
 within_law = counted_reached SitesWithin (λ n v h c site e. h c site e) cases fresh

@@ -21,7 +21,7 @@ use Rattle.st_rules.specs.FlatLog as log
 use Rattle.st_rules.specs.Server as sv
 use Rattle.st_rules.specs.Server.{ServerNode}
 use Rattle.st_rules.specs.World as world
-use Rattle.st_rules.specs.World.{World, ClientSite, Net, clock_of, fresh_site, fresh_world, node_of, numbered, site_of, with_numbered}
+use Rattle.st_rules.specs.World.{World, WorldClient, Net, clock_of, fresh_site, fresh_world, node_of, numbered, site_of, with_numbered}
 use Rattle.st_lemmas.proofs.Lookups.{some_is}
 use Rattle.st_lemmas.proofs.Numbers.{length_more, numbered_below, numbered_has, numbered_other, numbered_own}
 use Rattle.st_lemmas.proofs.Tables.{has_map, same_or_not}
@@ -37,7 +37,7 @@ use Rattle.st_laws_bounds.proofs.FewMessages.Stepping.{Few, Steps, step_costs}
 
 -- What stands where n events were: of each client, of each server's waits, and of the commands.
 pub record Low (n : ℕ) (w : World) : Type 0 where
-  pub clients : (c : ClientId) (site : ClientSite) → site_of w c ≡ Some site → Few site.node.state
+  pub clients : (c : ClientId) (site : WorldClient) → site_of w c ≡ Some site → Few site.node.state
   pub waits : (s : ServerId) (node : ServerNode) → node_of w s ≡ Some node → length node.state.locks.waiters ≤ n
   pub commands : length w.commands ≤ 16468 * n
 
@@ -51,7 +51,7 @@ low_same m n w v l cs ss e h =
     }
 
 -- one client is another
-client_other : (n : ℕ) (w v : World) (c : ClientId) (old new : ClientSite) → site_of w c ≡ Some old → v.clients ≡ with_numbered c.0 new w.clients → v.servers ≡ w.servers → Few new.node.state →
+client_other : (n : ℕ) (w v : World) (c : ClientId) (old new : WorldClient) → site_of w c ≡ Some old → v.clients ≡ with_numbered c.0 new w.clients → v.servers ≡ w.servers → Few new.node.state →
     length v.commands ≤ 16468 + length w.commands → Low n w → Low (n + 1) v
 client_other n w v c old new there cs ss own more h =
     record {
@@ -60,10 +60,10 @@ client_other n w v c old new there cs ss own more h =
       commands = let z = h.commands in omega (arith, z, more);
     }
   where
-    go : (d : ClientId) (site : ClientSite) → site_of v d ≡ Some site → (d.0 ≡ c.0) ⊎ (d.0 ≢ c.0) → Few site.node.state
+    go : (d : ClientId) (site : WorldClient) → site_of v d ≡ Some site → (d.0 ≡ c.0) ⊎ (d.0 ≢ c.0) → Few site.node.state
     go d site e (inl i) =
         let s : new ≡ site = some_is (sym (numbered_own w.clients c.0 new old there) ∙ ap (numbered (with_numbered c.0 new w.clients)) (sym i) ∙ ap (λ zs. numbered zs d.0) (sym cs) ∙ e) in
-        subst (λ (y : ClientSite). Few y.node.state) s own
+        subst (λ (y : WorldClient). Few y.node.state) s own
     go d site e (inr x) = h.clients d site (sym (numbered_other w.clients c.0 d.0 new (numbered_below w.clients c.0 old there).0 x) ∙ ap (λ zs. numbered zs d.0) (sym cs) ∙ e)
 
 -- one server is another
@@ -120,7 +120,7 @@ pub record Behind (n m : ℕ) (w : World) : Type 0 where
   pub messages : length w.net.messages ≤ m + (16 * n + 17)
 
 -- a client's step
-took : (n m : ℕ) (w : World) (c : ClientId) (input : ClientInput) (old site : ClientSite) → site_of w c ≡ Some old → Takes old site input → Before n m w →
+took : (n m : ℕ) (w : World) (c : ClientId) (input : ClientInput) (old site : WorldClient) → site_of w c ≡ Some old → Takes old site input → Before n m w →
     TheftsLow (n + 1) (ev.client_took w c site (Ok (ClientSteps w c site input))).world → Behind n m (ev.client_took w c site (Ok (ClientSteps w c site input))).world
 unfolding ev.client_took
 took n m w c input old site there is h thefts =
@@ -135,7 +135,7 @@ took n m w c input old site there is h thefts =
     t : cl.NodeTurn
     t = ClientSteps w c site input
 
-    after : ClientSite
+    after : WorldClient
     after = ev.at_node t.node site
 
     u : World
@@ -179,7 +179,7 @@ served n m w s input node there h thefts =
     goes = step_serves node.state (clock_of w (nodes.Server s)) input (h.thefts.clients s node there)
 
 -- A client that stopped or started has nothing.
-crashed_few : (site : ClientSite) → Few site.node.state → Few (ev.stopped_site site).node.state
+crashed_few : (site : WorldClient) → Few site.node.state → Few (ev.stopped_site site).node.state
 unfolding cl.crash
 crashed_few site h =
     record {
@@ -188,7 +188,7 @@ crashed_few site h =
       each = λ a i. let x = has_map cl.crashed_association site.node.state.associations a i in subst (λ (b : Association). length b.store.pages.dirty ≤ 64) (sym x.2) (omega arith);
     }
 
-started_few : (site : ClientSite) → Few site.node.state → Few (ev.started_site site).node.state
+started_few : (site : WorldClient) → Few site.node.state → Few (ev.started_site site).node.state
 unfolding cl.start
 started_few site h =
     record {
@@ -253,7 +253,7 @@ fresh_low k clients servers d b form few =
     record {
       clients = λ c site e.
           let x = has_map (fresh_site k servers) (numbers 1 clients) site (numbered_has _ c.0 site e) in
-          subst (λ (y : ClientSite). Few y.node.state) (sym x.2) (one x.0);
+          subst (λ (y : WorldClient). Few y.node.state) (sym x.2) (one x.0);
       waits = λ s node e.
           let x = has_map (world.node_at_start k servers d b) (numbers 1 servers) node (numbered_has _ s.0 node e) in
           subst (λ (y : ServerNode). length y.state.locks.waiters ≤ 0) (sym x.2) (omega arith);

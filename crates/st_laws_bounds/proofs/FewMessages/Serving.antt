@@ -45,7 +45,7 @@ use Rattle.st_rules.specs.Names as names
 use Rattle.st_rules.specs.Names.{Changed}
 use Rattle.st_rules.specs.Sessions as sessions
 use Rattle.st_rules.specs.Server as sv
-use Rattle.st_rules.specs.Server.{ServerState, Turn}
+use Rattle.st_rules.specs.Server.{ServerState, ServerTurn}
 use Rattle.st_lemmas.specs.Lists.{Has}
 use Rattle.st_lemmas.proofs.Keys.{rising_has, rising_rises}
 use Rattle.st_lemmas.proofs.Tables.{and_both, found_at, has_filter, has_map}
@@ -60,19 +60,19 @@ pub record Waits (a b : ℕ) (ws : List Waiter) (out : List Output) (ws2 : List 
   pub waits : length ws2 ≤ a + length ws
   pub sends : weigh of_message out2 ≤ b + weigh of_message out
 
-abbrev W : ℕ → ℕ → Turn → Turn → Type 0
+abbrev W : ℕ → ℕ → ServerTurn → ServerTurn → Type 0
 W a b t u = Waits a b t.state.locks.waiters t.out u.state.locks.waiters u.out
 
-w_none : (a b : ℕ) (t : Turn) → W a b t t
+w_none : (a b : ℕ) (t : ServerTurn) → W a b t t
 w_none a b t = record { waits = omega arith; sends = omega arith }
 
-w_then : (a b c d : ℕ) (t u v : Turn) → W a b t u → W c d u v → W (a + c) (b + d) t v
+w_then : (a b c d : ℕ) (t u v : ServerTurn) → W a b t u → W c d u v → W (a + c) (b + d) t v
 w_then a b c d t u v x y = let e = x.waits in let f = x.sends in let g = y.waits in let h = y.sends in record { waits = omega (arith, e, g); sends = omega (arith, f, h) }
 
-w_more : (a b c d : ℕ) (t u : Turn) → a ≤ c → b ≤ d → W a b t u → W c d t u
+w_more : (a b c d : ℕ) (t u : ServerTurn) → a ≤ c → b ≤ d → W a b t u → W c d t u
 w_more a b c d t u l m x = let e = x.waits in let f = x.sends in record { waits = omega (arith, e, l); sends = omega (arith, f, m) }
 
-w_if : (a b : ℕ) (t : Turn) (x : Bool) (u v : Turn) → W a b t u → W a b t v → W a b t (if x then u else v)
+w_if : (a b : ℕ) (t : ServerTurn) (x : Bool) (u v : ServerTurn) → W a b t u → W a b t v → W a b t (if x then u else v)
 w_if a b t true u v f g = f
 w_if a b t false u v f g = g
 
@@ -80,19 +80,19 @@ w_if a b t false u v f g = g
 waits_say : (a b j : ℕ) (ws ws2 : List Waiter) (out os : List Output) → length ws2 ≤ a + length ws → weigh of_message os ≡ j → j ≤ b → Waits a b ws out ws2 (out ++ os)
 waits_say a b j ws ws2 out os l e m = let z = weigh_both of_message out os in record { waits = l; sends = omega (arith, z, e, m) }
 
-w_says : (a b j : ℕ) (t : Turn) (os : List Output) → weigh of_message os ≡ j → j ≤ b → W a b t (record t { out = t.out ++ os })
+w_says : (a b j : ℕ) (t : ServerTurn) (os : List Output) → weigh of_message os ≡ j → j ≤ b → W a b t (record t { out = t.out ++ os })
 w_says a b j t os e m = waits_say a b j t.state.locks.waiters t.state.locks.waiters t.out os (omega arith) e m
 
-w_reply : (a : ℕ) (t : Turn) (h : Header) (b : Body) → W a 1 t (sv.reply t h b)
+w_reply : (a : ℕ) (t : ServerTurn) (h : Header) (b : Body) → W a 1 t (sv.reply t h b)
 unfolding sv.reply
 w_reply a t h b = w_says a 1 1 t (_ ∷ []) refl (omega arith)
 
-w_tell : (t : Turn) (c : ClientId) (life : Life) (b : Body) → W 0 1 t (sv.tell t c life b)
+w_tell : (t : ServerTurn) (c : ClientId) (life : Life) (b : Body) → W 0 1 t (sv.tell t c life b)
 unfolding sv.tell
 w_tell t c life b = w_says 0 1 1 t (_ ∷ []) refl (omega arith)
 
 -- other locks, with at most so many more waits
-w_locks : (a b : ℕ) (t : Turn) (l : Locks) → length l.waiters ≤ a + length t.state.locks.waiters → W a b t (sv.with_locks l t)
+w_locks : (a b : ℕ) (t : ServerTurn) (l : Locks) → length l.waiters ≤ a + length t.state.locks.waiters → W a b t (sv.with_locks l t)
 w_locks a b t l m = record { waits = m; sends = omega arith }
 
 -- Changes of the locks.
@@ -176,17 +176,17 @@ accepted_waits g now c life rows l s = on (grace.is_on g now)
     on false = tt
 
 -- Suspicion: waits are dropped, and a note is written.
-w_suspect : (t : Turn) (now : Stamp) (c : ClientId) → W 0 0 t (sv.suspect_client t now c)
+w_suspect : (t : ServerTurn) (now : Stamp) (c : ClientId) → W 0 0 t (sv.suspect_client t now c)
 unfolding sv.suspect_client locks.drop_waits
 w_suspect t now c =
     let l = fewer (λ w. not (locks.is_wait_by c w)) t.state.locks.waiters in waits_say 0 0 0 t.state.locks.waiters _ t.out (_ ∷ []) (omega (arith, l)) refl (omega arith)
 
-w_unless : (t : Turn) (now : Stamp) (c : ClientId) → W 0 0 t (sv.suspect_unless t now c)
+w_unless : (t : ServerTurn) (now : Stamp) (c : ClientId) → W 0 0 t (sv.suspect_unless t now c)
 unfolding sv.suspect_unless
 w_unless t now c = w_if 0 0 t (authority.may_ack t.state.authority c) _ _ (w_suspect t now c) (w_none 0 0 t)
 
 -- Greetings, seen demands and reassertions.
-w_greet_as : (t : Turn) (now : Stamp) (h : Header) (x : Hello) → W 1 1 t (sv.greet_as t now h x)
+w_greet_as : (t : ServerTurn) (now : Stamp) (h : Header) (x : Hello) → W 1 1 t (sv.greet_as t now h x)
 unfolding sv.greet_as locks.drop_waits
 w_greet_as t now h hellos.Welcome = w_reply 1 t h bodies.Welcome
 w_greet_as t now h hellos.Replaced =
@@ -199,17 +199,17 @@ w_greet_as t now h hellos.Wait =
     let u = sv.suspect_client t now (sv.sender h) in
     w_more 0 1 1 1 t (sv.reply u h _) (omega arith) (omega arith) (w_then 0 0 0 1 t u (sv.reply u h _) (w_suspect t now (sv.sender h)) (w_reply 0 u h _))
 
-w_hello : (t : Turn) (now : Stamp) (h : Header) → W 1 1 t (sv.hello t now h)
+w_hello : (t : ServerTurn) (now : Stamp) (h : Header) → W 1 1 t (sv.hello t now h)
 unfolding sv.hello sv.greet sv.greet_by sv.refuse_in_grace
 w_hello t now h =
     w_if 1 1 t (sv.in_grace t now) _ _ (w_reply 1 t h _)
     (w_greet_as (sv.with_sessions (sessions.hello t.state.sessions (sv.sender h) (sv.life_in h) (locks.has_rows t.state.locks (sv.sender h))).sessions t) now h _)
 
-w_seen : (t : Turn) (h : Header) (ino : ℕ) (g : GrantNo) → W 1 1 t (sv.demand_seen t h ino g)
-unfolding sv.demand_seen sv.see_demand locks.demand_seen
+w_seen : (t : ServerTurn) (h : Header) (ino : ℕ) (g : GrantNo) → W 1 1 t (sv.demand_seen t h ino g)
+unfolding sv.demand_seen sv.observe_demand locks.demand_seen
 w_seen t h ino g = w_if 1 1 t (sv.is_served t h) _ _ (w_none 1 1 t) (w_none 1 1 t)
 
-w_reassert_by : (t : Turn) (h : Header) (r : Result grace.Accepted AcceptRefusal) → AcceptedWaits t.state.locks r → W 1 1 t (sv.reassert_by t h r)
+w_reassert_by : (t : ServerTurn) (h : Header) (r : Result grace.Accepted AcceptRefusal) → AcceptedWaits t.state.locks r → W 1 1 t (sv.reassert_by t h r)
 unfolding sv.reassert_by
 w_reassert_by t h (Ok a) e =
     let u = sv.with_sessions a.sessions (sv.with_locks a.locks t) in
@@ -217,34 +217,34 @@ w_reassert_by t h (Ok a) e =
     w_then 1 0 0 1 t u (sv.reply u h bodies.Reasserted) (w_locks 1 0 t a.locks (omega (arith, l))) (w_reply 0 u h bodies.Reasserted)
 w_reassert_by t h (Err r) e = w_reply 1 t h (sv.refused_reassertion r)
 
-w_again : (t : Turn) (h : Header) (x : Taken Body) → W 1 1 t (sv.reassert_again t h x)
+w_again : (t : ServerTurn) (h : Header) (x : Taken Body) → W 1 1 t (sv.reassert_again t h x)
 unfolding sv.reassert_again
 w_again t h (takes.Again body) = w_reply 1 t h body
 w_again t h taken = w_none 1 1 t
 
-w_reassert : (t : Turn) (now : Stamp) (h : Header) (rows : List (ℕ × GrantNo × Mode)) → W 1 1 t (sv.reassert t now h rows)
+w_reassert : (t : ServerTurn) (now : Stamp) (h : Header) (rows : List (ℕ × GrantNo × Mode)) → W 1 1 t (sv.reassert t now h rows)
 unfolding sv.reassert sv.reassert_new
 w_reassert t now h rows =
     w_if 1 1 t (sessions.knows t.state.sessions (sv.sender h) (sv.life_in h)) _ _ (w_again t h (sv.take t h))
     (w_reassert_by t h (grace.accept t.state.grace now (sv.sender h) (sv.life_in h) rows t.state.locks t.state.sessions) (accepted_waits t.state.grace now (sv.sender h) (sv.life_in h) rows t.state.locks t.state.sessions))
 
 -- Rules of requests: a wait more at most, and no message but the reply.
-w_acquire_by : (t : Turn) (ino : ℕ) (mode : Mode) (r : Result locks.Acquired AcquireRefusal) → AcquiredWaits t.state.locks r → W 1 0 t (sv.acquire_by t ino mode r).turn
+w_acquire_by : (t : ServerTurn) (ino : ℕ) (mode : Mode) (r : Result locks.Acquired AcquireRefusal) → AcquiredWaits t.state.locks r → W 1 0 t (sv.acquire_by t ino mode r).turn
 unfolding sv.acquire_by
 w_acquire_by t ino mode (Ok a) f = w_locks 1 0 t a.locks f
 w_acquire_by t ino mode (Err r) f = w_none 1 0 t
 
-w_changed : (t : Turn) (r : Result Changed EntryRefusal) → W 1 0 t (sv.name_changed t r).turn
+w_changed : (t : ServerTurn) (r : Result Changed EntryRefusal) → W 1 0 t (sv.name_changed t r).turn
 unfolding sv.name_changed sv.name_refused
 w_changed t (Ok d) = w_none 1 0 t
 w_changed t (Err r) = w_none 1 0 t
 
-w_remove_by : (t : Turn) (r : Result Changed EntryRefusal) → W 1 0 t (sv.remove_by t r).turn
+w_remove_by : (t : ServerTurn) (r : Result Changed EntryRefusal) → W 1 0 t (sv.remove_by t r).turn
 unfolding sv.remove_by sv.name_refused sv.cut_whole sv.cut_pages locks.drop_file_waits
 w_remove_by t (Ok d) = let l = fewer (λ w. not (locks.is_wait_on d.ino w)) t.state.locks.waiters in waits_say 1 0 0 t.state.locks.waiters _ t.out (_ ∷ []) (omega (arith, l)) refl (omega arith)
 w_remove_by t (Err r) = w_none 1 0 t
 
-w_remove_found : (t : Turn) (h : Header) (dir : ℕ) (name : List ℕ) (g : GrantNo) (r : Result ℕ EntryRefusal) → W 1 0 t (sv.remove_found t h dir name g r).turn
+w_remove_found : (t : ServerTurn) (h : Header) (dir : ℕ) (name : List ℕ) (g : GrantNo) (r : Result ℕ EntryRefusal) → W 1 0 t (sv.remove_found t h dir name g r).turn
 unfolding sv.remove_found sv.remove_ino sv.remove_file sv.remove_dir sv.not_holder sv.name_refused
 w_remove_found t h dir name g (Ok ino) = at (sv.is_file t ino)
   where
@@ -261,17 +261,17 @@ w_remove_found t h dir name g (Ok ino) = at (sv.is_file t ino)
     at false = folder (g.0 == 0)
 w_remove_found t h dir name g (Err r) = w_none 1 0 t
 
-w_found : (t : Turn) (r : Result ℕ EntryRefusal) → W 1 0 t (sv.name_found t r).turn
+w_found : (t : ServerTurn) (r : Result ℕ EntryRefusal) → W 1 0 t (sv.name_found t r).turn
 unfolding sv.name_found sv.name_refused
 w_found t (Ok ino) = w_none 1 0 t
 w_found t (Err r) = w_none 1 0 t
 
-w_listed : (t : Turn) (r : Result (List NameRow) EntryRefusal) → W 1 0 t (sv.names_listed t r).turn
+w_listed : (t : ServerTurn) (r : Result (List NameRow) EntryRefusal) → W 1 0 t (sv.names_listed t r).turn
 unfolding sv.names_listed sv.name_refused
 w_listed t (Ok rows) = w_none 1 0 t
 w_listed t (Err r) = w_none 1 0 t
 
-w_name : (t : Turn) (h : Header) (op : NameOp) → W 1 0 t (sv.name t h op).turn
+w_name : (t : ServerTurn) (h : Header) (op : NameOp) → W 1 0 t (sv.name t h op).turn
 unfolding sv.name sv.remove
 w_name t h (Lookup dir n) = w_found t _
 w_name t h (Create dir n) = w_changed t _
@@ -280,12 +280,12 @@ w_name t h (Remove dir n g) = w_remove_found t h dir n g _
 w_name t h (Rename dir n dir2 n2) = w_changed t _
 w_name t h (ListFrom dir after) = w_listed t _
 
-w_allocate_by : (t : Turn) (ino : ℕ) (page : PageNo) (count : ℕ) (r : Result Extents AllocateRefusal) → W 1 0 t (sv.allocate_by t ino page count r).turn
+w_allocate_by : (t : ServerTurn) (ino : ℕ) (page : PageNo) (count : ℕ) (r : Result Extents AllocateRefusal) → W 1 0 t (sv.allocate_by t ino page count r).turn
 unfolding sv.allocate_by sv.with_extents_told
 w_allocate_by t ino page count (Ok x) = w_none 1 0 t
 w_allocate_by t ino page count (Err r) = w_none 1 0 t
 
-w_allocate : (t : Turn) (h : Header) (ino : ℕ) (g : GrantNo) (page : PageNo) (count : ℕ) → W 1 0 t (sv.allocate t h ino g page count).turn
+w_allocate : (t : ServerTurn) (h : Header) (ino : ℕ) (g : GrantNo) (page : PageNo) (count : ℕ) → W 1 0 t (sv.allocate t h ino g page count).turn
 unfolding sv.allocate sv.allocate_held sv.allocate_pages sv.no_file sv.not_holder
 w_allocate t h ino g page count = at (sv.is_file t ino)
   where
@@ -297,7 +297,7 @@ w_allocate t h ino g page count = at (sv.is_file t ino)
     at true = held (sv.holds t h ino g modes.X)
     at false = w_none 1 0 t
 
-w_cut : (t : Turn) (h : Header) (ino : ℕ) (g : GrantNo) (from : PageNo) → W 1 0 t (sv.cut t h ino g from).turn
+w_cut : (t : ServerTurn) (h : Header) (ino : ℕ) (g : GrantNo) (from : PageNo) → W 1 0 t (sv.cut t h ino g from).turn
 unfolding sv.cut sv.cut_held sv.cut_from sv.cut_pages sv.no_file sv.not_holder
 w_cut t h ino g from = at (sv.is_file t ino)
   where
@@ -309,7 +309,7 @@ w_cut t h ino g from = at (sv.is_file t ino)
     at true = held (sv.holds t h ino g modes.X)
     at false = w_none 1 0 t
 
-w_map : (t : Turn) (h : Header) (ino : ℕ) (g : GrantNo) (page : PageNo) → W 1 0 t (sv.map t h ino g page).turn
+w_map : (t : ServerTurn) (h : Header) (ino : ℕ) (g : GrantNo) (page : PageNo) → W 1 0 t (sv.map t h ino g page).turn
 unfolding sv.map sv.map_held sv.map_page sv.with_extents_told sv.no_file sv.not_holder
 w_map t h ino g page = at (sv.is_file t ino)
   where
@@ -321,7 +321,7 @@ w_map t h ino g page = at (sv.is_file t ino)
     at true = held (sv.holds t h ino g modes.S)
     at false = w_none 1 0 t
 
-w_rule : (t : Turn) (now : Stamp) (h : Header) (body : Body) → W 1 0 t (sv.rule t now h body).turn
+w_rule : (t : ServerTurn) (now : Stamp) (h : Header) (body : Body) → W 1 0 t (sv.rule t now h body).turn
 unfolding sv.rule sv.keep_alive sv.acquire sv.acquire_lock sv.no_file sv.released sv.released_by
 w_rule t now h bodies.KeepAlive = w_none 1 0 t
 w_rule t now h (bodies.Acquire ino mode) = at (sv.is_file t ino)
@@ -338,12 +338,12 @@ w_rule t now h (bodies.Cut ino g from) = w_cut t h ino g from
 w_rule t now h (bodies.Name op) = w_name t h op
 w_rule t now h body = w_none 1 0 t
 
-w_keep : (t : Turn) (h : Header) (o : Option Body) → W 0 1 t (sv.keep h t o)
+w_keep : (t : ServerTurn) (h : Header) (o : Option Body) → W 0 1 t (sv.keep h t o)
 unfolding sv.keep sv.keep_and_reply
 w_keep t h None = w_none 0 1 t
 w_keep t h (Some body) = w_reply 0 (sv.with_sessions (sessions.store t.state.sessions (sv.sender h) h.number body) t) h body
 
-w_request_by : (t : Turn) (now : Stamp) (h : Header) (body : Body) (x : Taken Body) → W 1 1 t (sv.request_by t now h body x)
+w_request_by : (t : ServerTurn) (now : Stamp) (h : Header) (body : Body) (x : Taken Body) → W 1 1 t (sv.request_by t now h body x)
 unfolding sv.request_by sv.refuse_epoch sv.serve
 w_request_by t now h body takes.OtherEpoch = w_reply 1 t h _
 w_request_by t now h body takes.NoSession = w_reply 1 t h _
@@ -352,7 +352,7 @@ w_request_by t now h body (takes.Again kept) = w_reply 1 t h kept
 w_request_by t now h body takes.OutOfOrder = w_none 1 1 t
 w_request_by t now h body takes.Fresh = let a = sv.rule t now h body in w_then 1 0 0 1 t a.turn (sv.keep h a.turn a.reply) (w_rule t now h body) (w_keep a.turn h a.reply)
 
-w_of_epoch : (t : Turn) (now : Stamp) (h : Header) (body : Body) → W 1 1 t (sv.of_epoch t now h body)
+w_of_epoch : (t : ServerTurn) (now : Stamp) (h : Header) (body : Body) → W 1 1 t (sv.of_epoch t now h body)
 unfolding sv.of_epoch sv.refuse_epoch sv.request
 w_of_epoch t now h body = w_if 1 1 t (h.epoch == t.state.stable.epoch.0) (sv.request t now h body) (sv.refuse_epoch t h) (request body) (w_reply 1 t h _)
   where
@@ -360,44 +360,44 @@ w_of_epoch t now h body = w_if 1 1 t (h.epoch == t.state.stable.epoch.0) (sv.req
     request (bodies.Reassert rows) = w_reassert t now h rows
     request b = w_request_by t now h b (sv.take t h)
 
-w_by_body : (t : Turn) (now : Stamp) (h : Header) (body : Body) → W 1 1 t (sv.by_body t now h body)
+w_by_body : (t : ServerTurn) (now : Stamp) (h : Header) (body : Body) → W 1 1 t (sv.by_body t now h body)
 unfolding sv.by_body
 w_by_body t now h bodies.Hello = w_hello t now h
 w_by_body t now h (bodies.DemandSeen ino g) = w_seen t h ino g
 w_by_body t now h body = w_of_epoch t now h body
 
-w_refused : (t : Turn) (h : Header) (start : Stamp) (body : Body) → W 1 1 t (sv.refuse_suspect t h start body)
+w_refused : (t : ServerTurn) (h : Header) (start : Stamp) (body : Body) → W 1 1 t (sv.refuse_suspect t h start body)
 unfolding sv.refuse_suspect
 w_refused t h start (bodies.DemandSeen ino g) = w_none 1 1 t
 w_refused t h start body = w_reply 1 t h _
 
-w_suspicion : (t : Turn) (now : Stamp) (h : Header) (body : Body) (o : Option Stamp) → W 1 1 t (sv.by_suspicion t now h body o)
+w_suspicion : (t : ServerTurn) (now : Stamp) (h : Header) (body : Body) (o : Option Stamp) → W 1 1 t (sv.by_suspicion t now h body o)
 unfolding sv.by_suspicion
 w_suspicion t now h body None = w_by_body t now h body
 w_suspicion t now h body (Some start) = w_refused t h start body
 
-w_input : (t : Turn) (now : Stamp) (i : ServerInput) → W 1 1 t (sv.take_input t now i)
+w_input : (t : ServerTurn) (now : Stamp) (i : ServerInput) → W 1 1 t (sv.take_input t now i)
 unfolding sv.take_input sv.receive sv.receive_from
 w_input t now Tick = w_none 1 1 t
 w_input t now (Control m) = w_if 1 1 t (sv.is_for t.state m.header) _ t (w_suspicion t now m.header m.body _) (w_none 1 1 t)
 
 -- Thefts and suspecting drop waits.
-w_steal : (t : Turn) (c : ClientId) (o : Option Session) → W 0 0 t (sv.steal_at t c o)
+w_steal : (t : ServerTurn) (c : ClientId) (o : Option Session) → W 0 0 t (sv.steal_at t c o)
 unfolding sv.steal_at sv.steal_from locks.forget
 w_steal t c None = w_none 0 0 t
 w_steal t c (Some s) = let l = fewer (λ w. not (locks.is_wait_by c w)) t.state.locks.waiters in waits_say 0 0 0 t.state.locks.waiters _ t.out (_ ∷ []) (omega (arith, l)) refl (omega arith)
 
-w_steals : (cs : List ClientId) (t : Turn) → W 0 0 t (sv.steal_each cs t)
+w_steals : (cs : List ClientId) (t : ServerTurn) → W 0 0 t (sv.steal_each cs t)
 unfolding sv.steal_each sv.steal
 w_steals [] t = w_none 0 0 t
 w_steals (c ∷ cs) t = w_then 0 0 0 0 t (sv.steal t c) (sv.steal_each cs (sv.steal t c)) (w_steal t c (sessions.session_of t.state.sessions c)) (w_steals cs (sv.steal t c))
 
-w_suspects : (now : Stamp) (cs : List ClientId) (t : Turn) → W 0 0 t (sv.suspect_each now cs t)
+w_suspects : (now : Stamp) (cs : List ClientId) (t : ServerTurn) → W 0 0 t (sv.suspect_each now cs t)
 unfolding sv.suspect_each
 w_suspects now [] t = w_none 0 0 t
 w_suspects now (c ∷ cs) t = w_then 0 0 0 0 t (sv.suspect_unless t now c) (sv.suspect_each now cs (sv.suspect_unless t now c)) (w_unless t now c) (w_suspects now cs (sv.suspect_unless t now c))
 
-w_suspecting : (t : Turn) (now : Stamp) (i : ServerInput) → W 0 0 t (sv.suspecting_on t now i)
+w_suspecting : (t : ServerTurn) (now : Stamp) (i : ServerInput) → W 0 0 t (sv.suspecting_on t now i)
 unfolding sv.suspecting_on sv.suspecting
 w_suspecting t now Tick = w_suspects now _ t
 w_suspecting t now (Control m) = w_none 0 0 t
@@ -439,7 +439,7 @@ unfolding locks.grant_files
 grant_files [] p = grants_none p
 grant_files (ino ∷ inos) p = let q = locks.grant_file ino (length p.locks.waiters) p in grants_then p q (locks.grant_files inos q) (grant_file ino (length p.locks.waiters) p) (grant_files inos q)
 
-told_grants : (rs : List (ClientId × Life × ℕ × GrantNo × Mode)) (t : Turn) → W 0 (length rs) t (sv.tell_granted rs t)
+told_grants : (rs : List (ClientId × Life × ℕ × GrantNo × Mode)) (t : ServerTurn) → W 0 (length rs) t (sv.tell_granted rs t)
 unfolding sv.tell_granted
 told_grants [] t = w_none 0 0 t
 told_grants (r ∷ rs) t =
@@ -447,18 +447,18 @@ told_grants (r ∷ rs) t =
     w_more 0 (1 + length rs) 0 (length (r ∷ rs)) t (sv.tell_granted rs u) (omega arith) (omega arith) (w_then 0 1 0 (length rs) t u (sv.tell_granted rs u) (w_tell t r.0 r.1 (bodies.Granted r.2 r.3 r.4)) (told_grants rs u))
 
 -- waits and messages together are no more
-record Granted (t u : Turn) : Type 0 where
+record Granted (t u : ServerTurn) : Type 0 where
   sum : length u.state.locks.waiters + weigh of_message u.out ≤ length t.state.locks.waiters + weigh of_message t.out
   waits : length u.state.locks.waiters ≤ length t.state.locks.waiters
 
-granting : (t : Turn) (now : Stamp) → Granted t (sv.granting t now)
+granting : (t : ServerTurn) (now : Stamp) → Granted t (sv.granting t now)
 unfolding sv.granting sv.grant_waiting sv.grant_by locks.next_grants
 granting t now = go (sv.in_grace t now)
   where
     p : locks.Granting
     p = locks.next_grants t.state.locks
 
-    u : Turn
+    u : ServerTurn
     u = sv.with_locks p.locks t
 
     told : W 0 (length p.granted) u (sv.tell_granted p.granted u)
@@ -533,14 +533,14 @@ demand_files k now tick ss (ino ∷ inos) p h =
     let a = x.due in let b = y.due in
     record { waits = y.waits ∙ x.waits; due = omega (arith, a, b) }
 
-told_demands : (rs : List (ClientId × Life × ℕ × GrantNo × Mode)) (t : Turn) → W 0 (length rs) t (sv.tell_demanded rs t)
+told_demands : (rs : List (ClientId × Life × ℕ × GrantNo × Mode)) (t : ServerTurn) → W 0 (length rs) t (sv.tell_demanded rs t)
 unfolding sv.tell_demanded
 told_demands [] t = w_none 0 0 t
 told_demands (r ∷ rs) t =
     let u = sv.tell t r.0 r.1 (bodies.Demand r.2 r.3 r.4) in
     w_more 0 (1 + length rs) 0 (length (r ∷ rs)) t (sv.tell_demanded rs u) (omega arith) (omega arith) (w_then 0 1 0 (length rs) t u (sv.tell_demanded rs u) (w_tell t r.0 r.1 (bodies.Demand r.2 r.3 r.4)) (told_demands rs u))
 
-demanding : (t : Turn) (now : Stamp) (i : ServerInput) → FewLocks t.state.locks → W 0 (16 * length t.state.locks.waiters) t (sv.demanding t now i)
+demanding : (t : ServerTurn) (now : Stamp) (i : ServerInput) → FewLocks t.state.locks → W 0 (16 * length t.state.locks.waiters) t (sv.demanding t now i)
 unfolding sv.demanding sv.demand_by locks.demands_due
 demanding t now i h =
     let a = told.waits in let b = told.sends in let c = all.due in let e = ap (λ (ws : List Waiter). length ws) all.waits in
@@ -551,7 +551,7 @@ demanding t now i h =
     d : locks.Demanding
     d = locks.demands_due t.state.locks now (sv.is_tick i) (authority.suspects_of t.state.authority) t.state.config
 
-    u : Turn
+    u : ServerTurn
     u = sv.with_locks d.locks t
 
     told : W 0 (length d.due) u (sv.tell_demanded d.due u)
@@ -561,7 +561,7 @@ demanding t now i h =
     all = demand_files t.state.config now (sv.is_tick i) (authority.suspects_of t.state.authority) (locks.waited_files t.state.locks) (locks.nothing_demanded t.state.locks) h
 
 -- The whole step.
-pub record Serves (s : ServerState) (u : Turn) : Type 0 where
+pub record Serves (s : ServerState) (u : ServerTurn) : Type 0 where
   pub waits : length u.state.locks.waiters ≤ 1 + length s.locks.waiters
   pub sends : weigh of_message u.out ≤ 17 + 16 * length s.locks.waiters
 
@@ -575,28 +575,28 @@ step_serves s now i h =
     let m = demands.waits in let n = demands.sends in
     record { waits = omega (arith, x, e, g, l, m); sends = omega (arith, x, y, e, f, g, j, k, l, n) }
   where
-    begun : Turn
+    begun : ServerTurn
     begun = sv.with_authority (authority.still_running s.authority now) (sv.turn s [])
 
-    a : Turn
+    a : ServerTurn
     a = sv.thefts (sv.turn s []) now
 
     stolen : W 0 0 begun a
     stolen = w_steals (authority.over s.authority now) begun
 
-    b : Turn
+    b : ServerTurn
     b = sv.take_input a now i
 
     input : W 1 1 a b
     input = w_input a now i
 
-    c : Turn
+    c : ServerTurn
     c = sv.suspecting_on b now i
 
     silent : W 0 0 b c
     silent = w_suspecting b now i
 
-    d : Turn
+    d : ServerTurn
     d = sv.granting c now
 
     grants : Granted c d

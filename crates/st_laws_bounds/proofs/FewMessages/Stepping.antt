@@ -15,13 +15,13 @@ use Rattle.st_rules.specs.ClientReplies as cr
 use Rattle.st_rules.specs.ClientState.{Association, ClientState, ClientTurn, Turn, at_each, at_these, client_turn, enter, is_at, leave, only_at, server_of, with_associations}
 use Rattle.st_lemmas.specs.Lists.{Has}
 use Rattle.st_lemmas.proofs.Tables.{has_append}
-use Rattle.st_laws_steps.specs.Client.Taking as taking
-use Rattle.st_laws_steps.specs.Client.Taking.{Taken}
+use Rattle.st_laws_steps.specs.Client.Inputs as taking
+use Rattle.st_laws_steps.specs.Client.Inputs.{Taken}
 use Rattle.st_laws_steps.proofs.Client.Taking.{taken}
 use Rattle.st_laws_bounds.proofs.Counters.Reading.{length_both}
 use Rattle.st_laws_bounds.proofs.Counters.Weights.{commands_rise, of_command, of_message, of_rise, weigh, weigh_both}
 use Rattle.st_laws_bounds.proofs.FewMessages.Passing.{C, c_none, c_passes}
-use Rattle.st_laws_bounds.proofs.FewMessages.Hearing.{c_finish, c_hear, c_lose, c_take}
+use Rattle.st_laws_bounds.proofs.FewMessages.Receiving.{c_finish, c_receive, c_lose, c_take}
 
 -- at most 64 pages are dirty at each of these servers
 abbrev pub EachLow : List Association → Type 0
@@ -136,7 +136,7 @@ input_left now t _ _ (taking.Nothing i) h = left_none 0 4 t h
 input_left now t _ _ (taking.Full op ask e) h = said 0 4 t op answers.OpsFull h
 input_left now t _ _ (taking.Unknown op ask e f) h = said 0 4 t op answers.NoFile h
 input_left now t _ _ (taking.Takes op ask e f) h = asked t (server_of ask) op ask (leb-false 16 (length t.state.operations) e) h
-input_left now t _ _ (taking.Hears m e) h = each_left 0 1 (cr.receive_at now m.header m.body) (λ u few low. c_hear now m.header m.body u) t h
+input_left now t _ _ (taking.Receives m e) h = each_left 0 1 (cr.receive_at now m.header m.body) (λ u few low. c_receive now m.header m.body u) t h
 input_left now t _ _ (taking.Finishes number result) h =
     let z = each_left 0 0 (cl.finish number result) (λ u few low. c_finish number result u) t h in let m = z.messages in
     record { few = z.few; commands = z.commands; messages = omega (arith, m) }

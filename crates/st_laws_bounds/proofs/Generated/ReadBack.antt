@@ -9,7 +9,7 @@ use Rattle.st_schedule.specs.declared.reader.Progress.TheVariants as progress
 use Rattle.st_schedule_words.specs.Words.{line_of, split}
 use Rattle.st_schedule.specs.Grammar.{Fits, head_words, words}
 use Rattle.st_schedule.specs.Reader.{MOST_EVENTS, read_line, later_line}
-use Rattle.st_schedule.specs.Reading.{line_event, end_of, ends}
+use Rattle.st_schedule.specs.Parser.{line_event, end_of, ends}
 use Rattle.st_schedule.proofs.LinesAsSpelled.{line_is_read}
 use Rattle.st_schedule.proofs.PrintedLines.{read_as}
 use Rattle.st_lemmas.proofs.Tables.{and_true, not_true}

@@ -4,7 +4,7 @@ use Rattle.st_base.specs.declared.ids.ClientId.{ClientId}
 use Rattle.st_base.specs.declared.ids.ServerId.{ServerId}
 use Rattle.st_rules.specs.ClientState.{Association, ClientSession}
 use Rattle.st_rules.specs.Server.{ServerNode}
-use Rattle.st_rules.specs.World.{World, ClientSite, node_of, site_of}
+use Rattle.st_rules.specs.World.{World, WorldClient, node_of, site_of}
 use Rattle.st_lemmas.specs.Lists.{Has}
 
 -- the next request of a session has at most this number
@@ -20,7 +20,7 @@ pub record FewAt (w : World) (starts : ℕ) (a : Association) : Type 0 where
   pub requests : AsksLow (1 + length w.net.messages) a.session
 
 -- A client: its asks and starts are no more than events, and its commands no more than the world's.
-pub record FewOf (w : World) (site : ClientSite) : Type 0 where
+pub record FewOf (w : World) (site : WorldClient) : Type 0 where
   pub asks : site.asks ≤ w.tally.events
   pub starts : site.starts ≤ w.tally.events
   pub commands : site.node.state.next_command ≤ 1 + length w.commands
@@ -28,7 +28,7 @@ pub record FewOf (w : World) (site : ClientSite) : Type 0 where
 
 -- each client of a world
 abbrev pub ClientsFew : World → Type 0
-ClientsFew w = (c : ClientId) (site : ClientSite) → site_of w c ≡ Some site → FewOf w site
+ClientsFew w = (c : ClientId) (site : WorldClient) → site_of w c ≡ Some site → FewOf w site
 
 -- A server: at most one more epoch and one more inode for each event, and for each event as many births as eight disks have blocks.
 pub record FewIn (w : World) (node : ServerNode) : Type 0 where

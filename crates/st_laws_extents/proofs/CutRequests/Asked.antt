@@ -15,24 +15,24 @@ use Rattle.st_rules.specs.Locks.{row_of}
 use Rattle.st_rules.specs.History.{Traced}
 use Rattle.st_rules.specs.Safety.{Step}
 use Rattle.st_rules.specs.Sessions as sessions
-use Rattle.st_rules.specs.World.{ClientSite, clock_of}
+use Rattle.st_rules.specs.World.{WorldClient, clock_of}
 use Rattle.st_protocol.specs.Assoc.{Config}
 use Rattle.st_lemmas.specs.Lists.{Has}
 use Rattle.st_lemmas.proofs.Tables.{same_or_not}
 use Rattle.st_laws_refine.specs.Views.Halves.{held_in}
-use Rattle.st_laws_refine.specs.Client.Shown.{Lasts}
+use Rattle.st_laws_refine.specs.Client.Invariants.{Lasts}
 use Rattle.st_laws_leases.specs.Sides.World.{AllStand}
 use Rattle.st_laws_steps.specs.Client.Session.{cuts_from}
-use Rattle.st_laws_reads.specs.AllClients.Clear.{Cuts}
+use Rattle.st_laws_reads.specs.AllClients.CutFiles.{Cuts}
 use Rattle.st_laws_reads.specs.AllClients.Law.{Running}
 use Rattle.st_laws_reads.proofs.AllClients.Cutting.{unheld}
 use Rattle.st_laws_requests.specs.Cuts.Cuts.{CutsHold}
 use Rattle.st_laws_extents.specs.CutRequests.Asks.{AsksStand, CutNamed, Of, RemoveNamed}
 use Rattle.st_laws_extents.specs.CutRequests.Cut.{AsksCut, CutIn}
 use Rattle.st_laws_extents.specs.CutRequests.Law.{gifts}
-use Rattle.st_laws_extents.specs.CutRequests.Fresh.{FreshAt, IsOutstanding}
+use Rattle.st_laws_extents.specs.CutRequests.FreshRequests.{FreshAt, IsOutstanding}
 use Rattle.st_laws_extents.proofs.CutRequests.Fresh.{is_outstanding}
-use Rattle.st_laws_extents.specs.CutRequests.Named.{Given}
+use Rattle.st_laws_extents.specs.CutRequests.NamedGrants.{Given}
 use Rattle.st_laws_extents.specs.CutRequests.World.{AllAsk, IsServed}
 use Rattle.st_laws_extents.proofs.CutRequests.Standing.{given_row, named}
 
@@ -40,7 +40,7 @@ module _ (k : Config) (count : ℕ) (past : List Step) (t : Traced) (cuts : Cuts
   abbrev m : Message
   m = c.message
 
-  module _ (d : ℕ) (site : ClientSite) (run : Running t.world d site) (b : Association) (h : Has b site.node.state.associations) (e : f.server ≡ b.server)
+  module _ (d : ℕ) (site : WorldClient) (run : Running t.world d site) (b : Association) (h : Has b site.node.state.associations) (e : f.server ≡ b.server)
       (lasts : Lasts site.node.state.config.lease (clock_of t.world (nodes.Client (client d))).0 b.session) (held : 1 ≤ (held_in b.session f.ino).mode) where
     two : 2 ≤ number_of c.by.row.mode
     two = let q = ap number_of c.by.exclusive in omega (arith, q)

@@ -38,7 +38,7 @@ use Rattle.st_rules.specs.Authority as authority
 use Rattle.st_rules.specs.Grace as grace
 use Rattle.st_rules.specs.Keys.{server_node}
 use Rattle.st_rules.specs.Server as sv
-use Rattle.st_rules.specs.Server.{ServerState, Turn, Replied, turn, sender, life_in, reply, say, tell, steal_at, steal_from, steal, steal_each, thefts, suspect_client, greet_as, greet_by, greet, refuse_in_grace, hello, demand_seen, see_demand, refuse_epoch, reassert_by, reassert_new, reassert_again, reassert, rule, keep_and_reply, keep, serve, request_by, request, of_epoch, by_body, refuse_suspect, by_suspicion, receive_from, receive, take_input, suspect_unless, suspect_each, suspecting, suspecting_on, tell_granted, grant_by, grant_waiting, granting, tell_demanded, demand_by, demanding, server_step}
+use Rattle.st_rules.specs.Server.{ServerState, ServerTurn, Replied, turn, sender, life_in, reply, say, tell, steal_at, steal_from, steal, steal_each, thefts, suspect_client, greet_as, greet_by, greet, refuse_in_grace, hello, demand_seen, observe_demand, refuse_epoch, reassert_by, reassert_new, reassert_again, reassert, rule, keep_and_reply, keep, serve, request_by, request, of_epoch, by_body, refuse_suspect, by_suspicion, receive_from, receive, take_input, suspect_unless, suspect_each, suspecting, suspecting_on, tell_granted, grant_by, grant_waiting, granting, tell_demanded, demand_by, demanding, server_step}
 use Rattle.st_lemmas.specs.Lists.{Has}
 use Rattle.st_lemmas.proofs.Tables.{and_true, has_append}
 use Rattle.st_laws_steps.proofs.Server.Taking.{FreshState, Found, found_for, fresh_state}
@@ -55,7 +55,7 @@ clash : {A : Type 0} {b : Bool} → b ≡ true → b ≡ false → A
 clash x y = cc
 
 -- What was cut behind the thefts was cut by the state before them.
-cut_from : (x : ServerState) (t : Turn) (m : Message) (f : FileId) (p : PageNo) → From x t → CutBy t.state m f p → CutBy x m f p
+cut_from : (x : ServerState) (t : ServerTurn) (m : Message) (f : FileId) (p : PageNo) → From x t → CutBy t.state m f p → CutBy x m f p
 cut_from x t m f p z c =
     record {
       server = c.server ∙ z.id;
@@ -82,10 +82,10 @@ exclusive_of modes.X z = refl
 
 -- The walk: the cuts that the outputs note.
 module _ (C : FileId → PageNo → Type 0) where
-  unfoldable pub Noted : Turn → Type 0
+  unfoldable pub Noted : ServerTurn → Type 0
   Noted t = (f : FileId) (p : PageNo) → Has (outputs.Note (notes.CutDone f p)) t.out → C f p
 
-  n_say : (t : Turn) (o : Output) → ((f : FileId) (p : PageNo) → outputs.Note (notes.CutDone f p) ≡ o → C f p) → Noted t → Noted (say t o)
+  n_say : (t : ServerTurn) (o : Output) → ((f : FileId) (p : PageNo) → outputs.Note (notes.CutDone f p) ≡ o → C f p) → Noted t → Noted (say t o)
   unfolding Noted
   n_say t o k n f p h = go (has_append t.out (o ∷ []) (outputs.Note (notes.CutDone f p)) h)
     where
@@ -94,28 +94,28 @@ module _ (C : FileId → PageNo → Type 0) where
       go (inr (inl e)) = k f p e
       go (inr (inr i)) = absurd i
 
-  n_state : (t : Turn) (x : ServerState) → Noted t → Noted (record t { state = x })
+  n_state : (t : ServerTurn) (x : ServerState) → Noted t → Noted (record t { state = x })
   unfolding Noted
   n_state t x n = n
 
-  pub n_reply : (t : Turn) (h : Header) (b : Body) → Noted t → Noted (reply t h b)
+  pub n_reply : (t : ServerTurn) (h : Header) (b : Body) → Noted t → Noted (reply t h b)
   unfolding reply
   n_reply t h b n = n_say t _ (λ f p e. cc e) n
 
-  n_tell : (t : Turn) (c : ClientId) (life : Life) (b : Body) → Noted t → Noted (tell t c life b)
+  n_tell : (t : ServerTurn) (c : ClientId) (life : Life) (b : Body) → Noted t → Noted (tell t c life b)
   unfolding tell
   n_tell t c life b n = n_say t _ (λ f p e. cc e) n
 
-  n_suspect : (t : Turn) (now : Stamp) (c : ClientId) → Noted t → Noted (suspect_client t now c)
+  n_suspect : (t : ServerTurn) (now : Stamp) (c : ClientId) → Noted t → Noted (suspect_client t now c)
   unfolding suspect_client
   n_suspect t now c n = n_state _ _ (n_say t (outputs.Note (notes.Suspected c now)) (λ f p e. cc e) n)
 
-  n_steal : (t : Turn) (c : ClientId) (o : Option Session) → Noted t → Noted (steal_at t c o)
+  n_steal : (t : ServerTurn) (c : ClientId) (o : Option Session) → Noted t → Noted (steal_at t c o)
   unfolding steal_at steal_from
   n_steal t c None n = n
   n_steal t c (Some s) n = n_state _ _ (n_say t (outputs.Note (notes.Stolen c s.life)) (λ f p e. cc e) n)
 
-  n_steals : (cs : List ClientId) (t : Turn) → Noted t → Noted (steal_each cs t)
+  n_steals : (cs : List ClientId) (t : ServerTurn) → Noted t → Noted (steal_each cs t)
   unfolding steal_each steal
   n_steals [] t n = n
   n_steals (c ∷ cs) t n = n_steals cs _ (n_steal t c (sessions.session_of t.state.sessions c) n)
@@ -124,36 +124,36 @@ module _ (C : FileId → PageNo → Type 0) where
   unfolding thefts Noted
   n_thefts x now = n_steals _ _ (λ f p h. absurd h)
 
-  n_greet_as : (t : Turn) (now : Stamp) (h : Header) (x : Hello) → Noted t → Noted (greet_as t now h x)
+  n_greet_as : (t : ServerTurn) (now : Stamp) (h : Header) (x : Hello) → Noted t → Noted (greet_as t now h x)
   unfolding greet_as
   n_greet_as t now h hellos.Welcome n = n_reply t h _ n
   n_greet_as t now h hellos.Replaced n = n_reply _ h _ (n_state t _ n)
   n_greet_as t now h hellos.Old n = n
   n_greet_as t now h hellos.Wait n = n_reply _ h _ (n_suspect t now (sender h) n)
 
-  pub n_hello : (t : Turn) (now : Stamp) (h : Header) → Noted t → Noted (hello t now h)
+  pub n_hello : (t : ServerTurn) (now : Stamp) (h : Header) → Noted t → Noted (hello t now h)
   unfolding hello greet greet_by refuse_in_grace
   n_hello t now h n = if_either Noted (sv.in_grace t now) _ _ (n_reply t h _ n) (n_greet_as _ now h _ (n_state t _ n))
 
-  pub n_seen : (t : Turn) (h : Header) (ino : ℕ) (g : GrantNo) → Noted t → Noted (demand_seen t h ino g)
-  unfolding demand_seen see_demand
+  pub n_seen : (t : ServerTurn) (h : Header) (ino : ℕ) (g : GrantNo) → Noted t → Noted (demand_seen t h ino g)
+  unfolding demand_seen observe_demand
   n_seen t h ino g n = if_either Noted (sv.is_served t h) _ t (n_state t _ n) n
 
-  n_again : (t : Turn) (h : Header) (x : Taken Body) → Noted t → Noted (reassert_again t h x)
+  n_again : (t : ServerTurn) (h : Header) (x : Taken Body) → Noted t → Noted (reassert_again t h x)
   unfolding reassert_again
   n_again t h (takes.Again b) n = n_reply t h b n
   n_again t h x n = n
 
-  n_reassert_by : (t : Turn) (h : Header) (r : Res grace.Accepted AcceptRefusal) → Noted t → Noted (reassert_by t h r)
+  n_reassert_by : (t : ServerTurn) (h : Header) (r : Res grace.Accepted AcceptRefusal) → Noted t → Noted (reassert_by t h r)
   unfolding reassert_by
   n_reassert_by t h (Ok a) n = n_reply _ h _ (n_state t _ n)
   n_reassert_by t h (Err r) n = n_reply t h _ n
 
-  pub n_reassert : (t : Turn) (now : Stamp) (h : Header) (rows : List (ℕ × GrantNo × Mode)) → Noted t → Noted (reassert t now h rows)
+  pub n_reassert : (t : ServerTurn) (now : Stamp) (h : Header) (rows : List (ℕ × GrantNo × Mode)) → Noted t → Noted (reassert t now h rows)
   unfolding reassert reassert_new
   n_reassert t now h rows n = if_either Noted (sessions.knows t.state.sessions (sender h) (life_in h)) _ _ (n_again t h _ n) (n_reassert_by t h _ n)
 
-  pub n_keep : (h : Header) (u : Turn) (b : Option Body) → Noted u → Noted (keep h u b)
+  pub n_keep : (h : Header) (u : ServerTurn) (b : Option Body) → Noted u → Noted (keep h u b)
   unfolding keep keep_and_reply
   n_keep h u None n = n
   n_keep h u (Some b) n = n_reply _ h b (n_state u _ n)
@@ -162,27 +162,27 @@ module _ (C : FileId → PageNo → Type 0) where
   abbrev R : Replied → Type 0
   R a = Noted a.turn
 
-  r_acquire : (t : Turn) (ino : ℕ) (mode : Mode) (r : Res locks.Acquired AcquireRefusal) → Noted t → R (sv.acquire_by t ino mode r)
+  r_acquire : (t : ServerTurn) (ino : ℕ) (mode : Mode) (r : Res locks.Acquired AcquireRefusal) → Noted t → R (sv.acquire_by t ino mode r)
   unfolding sv.acquire_by
   r_acquire t ino mode (Ok a) n = n_state t _ n
   r_acquire t ino mode (Err r) n = n
 
-  r_allocate : (t : Turn) (ino : ℕ) (page : PageNo) (count : ℕ) (r : Res extents.Extents Rattle.st_rules.specs.declared.extents.AllocateRefusal.AllocateRefusal) → Noted t → R (sv.allocate_by t ino page count r)
+  r_allocate : (t : ServerTurn) (ino : ℕ) (page : PageNo) (count : ℕ) (r : Res extents.Extents Rattle.st_rules.specs.declared.extents.AllocateRefusal.AllocateRefusal) → Noted t → R (sv.allocate_by t ino page count r)
   unfolding sv.allocate_by sv.with_extents_told
   r_allocate t ino page count (Ok x) n = n_state t _ n
   r_allocate t ino page count (Err r) n = n
 
-  r_found : (t : Turn) (r : Res ℕ EntryRefusal) → Noted t → R (sv.name_found t r)
+  r_found : (t : ServerTurn) (r : Res ℕ EntryRefusal) → Noted t → R (sv.name_found t r)
   unfolding sv.name_found sv.name_refused
   r_found t (Ok i) n = n
   r_found t (Err r) n = n
 
-  r_changed : (t : Turn) (r : Res names.Changed EntryRefusal) → Noted t → R (sv.name_changed t r)
+  r_changed : (t : ServerTurn) (r : Res names.Changed EntryRefusal) → Noted t → R (sv.name_changed t r)
   unfolding sv.name_changed sv.name_refused
   r_changed t (Ok y) n = n_state t _ n
   r_changed t (Err r) n = n
 
-  r_listed : (t : Turn) (r : Res (List NameRow) EntryRefusal) → Noted t → R (sv.names_listed t r)
+  r_listed : (t : ServerTurn) (r : Res (List NameRow) EntryRefusal) → Noted t → R (sv.names_listed t r)
   unfolding sv.names_listed sv.name_refused
   r_listed t (Ok y) n = n
   r_listed t (Err r) n = n
@@ -190,7 +190,7 @@ module _ (C : FileId → PageNo → Type 0) where
   r_if : (b : Bool) (x y : Replied) → R x → R y → R (if b then x else y)
   r_if b x y p q = if_either R b x y p q
 
-  n_cut : (t : Turn) (ino : ℕ) (page : PageNo) → C (sv.file t ino) page → Noted t → Noted (sv.cut_pages t ino page)
+  n_cut : (t : ServerTurn) (ino : ℕ) (page : PageNo) → C (sv.file t ino) page → Noted t → Noted (sv.cut_pages t ino page)
   unfolding sv.cut_pages
   n_cut t ino page c n = n_say _ _ (λ f p e. subst (λ o. Of o) (sym e) c) (n_state t _ n)
     where
@@ -199,7 +199,7 @@ module _ (C : FileId → PageNo → Type 0) where
       Of o = Unit {0}
 
   -- A message that comes.
-  module _ (m : Message) (t : Turn) (cuts : (f : FileId) (p : PageNo) → CutBy t.state m f p → C f p) (n : Noted t) where
+  module _ (m : Message) (t : ServerTurn) (cuts : (f : FileId) (p : PageNo) → CutBy t.state m f p → C f p) (n : Noted t) where
     -- a request that is served, under an exclusive row
     found : (g : GrantNo) (ino : ℕ) (p : PageNo) → sv.is_for t.state m.header ≡ true → m.header.epoch ≡ t.state.stable.epoch.0 → sv.take t m.header ≡ takes.Fresh → sv.holds t m.header ino g modes.X ≡ true →
         ((h : GrantNo) → g.0 ≡ h.0 → AsksCut m.body ino p h) → C (sv.file t ino) p
@@ -307,35 +307,35 @@ module _ (C : FileId → PageNo → Type 0) where
         by (Some start) for = n_refuse start m.body
 
   -- The passes.
-  n_suspects : (now : Stamp) (cs : List ClientId) (t : Turn) → Noted t → Noted (suspect_each now cs t)
+  n_suspects : (now : Stamp) (cs : List ClientId) (t : ServerTurn) → Noted t → Noted (suspect_each now cs t)
   unfolding suspect_each suspect_unless
   n_suspects now [] t n = n
   n_suspects now (c ∷ cs) t n = n_suspects now cs _ (if_either Noted (authority.may_ack t.state.authority c) _ _ (n_suspect t now c n) n)
 
-  n_suspecting : (t : Turn) (now : Stamp) (j : ServerInput) → Noted t → Noted (suspecting_on t now j)
+  n_suspecting : (t : ServerTurn) (now : Stamp) (j : ServerInput) → Noted t → Noted (suspecting_on t now j)
   unfolding suspecting_on suspecting
   n_suspecting t now Tick n = n_suspects now _ t n
   n_suspecting t now (Control m) n = n
 
-  n_told : (rs : List (ClientId × Life × ℕ × GrantNo × Mode)) (t : Turn) → Noted t → Noted (tell_granted rs t)
+  n_told : (rs : List (ClientId × Life × ℕ × GrantNo × Mode)) (t : ServerTurn) → Noted t → Noted (tell_granted rs t)
   unfolding tell_granted
   n_told [] t n = n
   n_told (r ∷ rs) t n = n_told rs _ (n_tell t r.0 r.1 _ n)
 
-  n_granting : (t : Turn) (now : Stamp) → Noted t → Noted (granting t now)
+  n_granting : (t : ServerTurn) (now : Stamp) → Noted t → Noted (granting t now)
   unfolding granting grant_waiting grant_by
   n_granting t now n = if_either Noted (sv.in_grace t now) t _ n (n_told _ _ (n_state t _ n))
 
-  n_demanded : (rs : List (ClientId × Life × ℕ × GrantNo × Mode)) (t : Turn) → Noted t → Noted (tell_demanded rs t)
+  n_demanded : (rs : List (ClientId × Life × ℕ × GrantNo × Mode)) (t : ServerTurn) → Noted t → Noted (tell_demanded rs t)
   unfolding tell_demanded
   n_demanded [] t n = n
   n_demanded (r ∷ rs) t n = n_demanded rs _ (n_tell t r.0 r.1 _ n)
 
-  n_demanding : (t : Turn) (now : Stamp) (j : ServerInput) → Noted t → Noted (demanding t now j)
+  n_demanding : (t : ServerTurn) (now : Stamp) (j : ServerInput) → Noted t → Noted (demanding t now j)
   unfolding demanding demand_by
   n_demanding t now j n = n_demanded _ _ (n_state t _ n)
 
-  pub n_passes : (now : Stamp) (i : ServerInput) (t : Turn) → Noted t → Noted (demanding (granting (suspecting_on t now i) now) now i)
+  pub n_passes : (now : Stamp) (i : ServerInput) (t : ServerTurn) → Noted t → Noted (demanding (granting (suspecting_on t now i) now) now i)
   n_passes now i t n = n_demanding _ now i (n_granting _ now (n_suspecting _ now i n))
 
 -- A server's step: it cuts nothing on a tick, and else because of the message that comes.

@@ -20,7 +20,7 @@ use Rattle.st_rules.specs.Keys.{client, page_no, server_node}
 use Rattle.st_rules.specs.Safety.{Step}
 use Rattle.st_rules.specs.Server.{ServerNode}
 use Rattle.st_rules.specs.Sessions as sessions
-use Rattle.st_rules.specs.World.{World, ClientSite, node_of}
+use Rattle.st_rules.specs.World.{World, WorldClient, node_of}
 use Rattle.st_protocol.specs.Assoc.{Config}
 use Rattle.st_protocol.proofs.World.{invariant}
 use Rattle.st_protocol.specs.Assoc as net
@@ -29,17 +29,17 @@ use Rattle.st_lemmas.proofs.Tables.{same_or_not}
 use Rattle.st_laws_refine.specs.Views.Halves.{epoch_in}
 use Rattle.st_laws_leases.specs.Dates.Dates.{messages}
 use Rattle.st_laws_leases.specs.Sides.World.{AllStand}
-use Rattle.st_laws_refine.specs.Server.Stands.{pairs}
+use Rattle.st_laws_refine.specs.Server.Invariants.{pairs}
 use Rattle.st_laws_steps.specs.Client.Session.{cuts_from}
-use Rattle.st_laws_reads.specs.AllClients.Clear.{Cuts}
+use Rattle.st_laws_reads.specs.AllClients.CutFiles.{Cuts}
 use Rattle.st_laws_reads.specs.AllClients.Law.{Running}
-use Rattle.st_laws_requests.specs.Replies.Reached.{IsBehind, Reached}
+use Rattle.st_laws_requests.specs.Replies.ServedRequests.{IsBehind, Reached}
 use Rattle.st_laws_requests.specs.Cuts.Cuts.{CutsHold, Numbers, Numbered, SameBody, view}
 use Rattle.st_laws_extents.specs.CutRequests.Asks.{AsksStand, CutNamed, Of, RemoveNamed, first_open, open_from}
 use Rattle.st_laws_extents.specs.CutRequests.Cut.{AsksCut, CutIn}
 use Rattle.st_laws_extents.specs.CutRequests.EndedLives.{Besides, Elsewhere, Goes, Harmless, IsPast, LifeHarmless, NodeGoes, Past, SentBy, Unnumbered}
 use Rattle.st_laws_extents.specs.CutRequests.Law.{gifts}
-use Rattle.st_laws_extents.specs.CutRequests.Named.{Given}
+use Rattle.st_laws_extents.specs.CutRequests.NamedGrants.{Given}
 use Rattle.st_laws_extents.specs.CutRequests.World.{AllAsk, IsServed}
 use Rattle.st_laws_extents.proofs.CutRequests.Standing.{given_row, named, whole}
 
@@ -55,7 +55,7 @@ behind_less (Some s) life k j l (inr h) = inr (h.0, go s.state h.1)
 
 -- A client that runs, and a file of a server that it does not cut: no message of its life cuts the file later on.
 module _ (k : Config) (count : ℕ) (past : List Step) (t : Traced) (cuts : CutsHold past t) (all : AllStand k count t.world) (asks : AllAsk (gifts k count t.world all) t.world)
-    (c : ClientId) (site : ClientSite) (run : Running t.world c.0 site) (a : Association) (i : Has a site.node.state.associations) (ino : ℕ) (uncut : (p : PageNo) → Cuts a.session ino p → ⊥) where
+    (c : ClientId) (site : WorldClient) (run : Running t.world c.0 site) (a : Association) (i : Has a site.node.state.associations) (ino : ℕ) (uncut : (p : PageNo) → Cuts a.session ino p → ⊥) where
   module _ (x : ClientSession) (sess : a.session ≡ Some x) (m : Message) (n : Numbered x.epoch.0 x.requests m) (life : m.header.life ≡ a.life.0) (pos : 1 ≤ m.header.number) where
     stands : AsksStand (IsServed t.world c) (gifts k count t.world all c) a.server a.life.0 x.epoch.0 x.requests x.cutting x.due
     stands = subst (Of (AsksStand (IsServed t.world c) (gifts k count t.world all c)) a.server a.life.0) sess (asks c site run.there a i)

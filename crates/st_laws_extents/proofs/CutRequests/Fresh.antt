@@ -8,20 +8,20 @@ use Rattle.st_rules.specs.Keys.{client, server_node}
 use Rattle.st_rules.specs.History.{Traced}
 use Rattle.st_rules.specs.Safety.{Step}
 use Rattle.st_rules.specs.Sessions as sessions
-use Rattle.st_rules.specs.World.{ClientSite, clock_of, node_of}
+use Rattle.st_rules.specs.World.{WorldClient, clock_of, node_of}
 use Rattle.st_protocol.specs.Assoc.{Config}
 use Rattle.st_lemmas.specs.Lists.{Has}
-use Rattle.st_laws_refine.specs.Client.Shown.{Lasts}
+use Rattle.st_laws_refine.specs.Client.Invariants.{Lasts}
 use Rattle.st_laws_leases.specs.Dates.Dates.{messages}
 use Rattle.st_laws_leases.specs.Sides.World.{AllStand}
 use Rattle.st_laws_reads.specs.AllClients.Law.{Running}
-use Rattle.st_laws_requests.specs.Replies.Reached.{IsBehind, Reached}
+use Rattle.st_laws_requests.specs.Replies.ServedRequests.{IsBehind, Reached}
 use Rattle.st_laws_requests.specs.Cuts.Cuts.{CutsHold, Numbers, Numbered, SameBody, view}
 use Rattle.st_laws_extents.specs.CutRequests.Asks.{AsksStand, Of, first_open, open_from}
 use Rattle.st_laws_extents.specs.CutRequests.Law.{gifts}
 use Rattle.st_laws_extents.specs.CutRequests.World.{AllAsk, IsServed, ServedTo}
 use Rattle.st_laws_extents.proofs.CutRequests.Standing.{own_session}
-use Rattle.st_laws_extents.specs.CutRequests.Fresh.{FreshAt, FreshOutstanding, IsOutstanding}
+use Rattle.st_laws_extents.specs.CutRequests.FreshRequests.{FreshAt, FreshOutstanding, IsOutstanding}
 use Rattle.st_base.specs.declared.ids.ServerId.{ServerId}
 
 -- all numbers below the first open one reached the last number that was served
@@ -31,7 +31,7 @@ open_below last number (suc zero) e f = omega (arith, e)
 open_below last number (suc (suc j)) e f = let z = f (suc j) (omega arith) (omega arith) in omega (arith, z, e)
 
 module _ (k : Config) (count : ℕ) (past : List Step) (t : Traced) (cuts : CutsHold past t) (all : AllStand k count t.world) (asks : AllAsk (gifts k count t.world all) t.world) (s : ServerId) (m : Message) (c : FreshAt t.world s m)
-    (site : ClientSite) (run : Running t.world m.header.from site) (b : Association) (h : Has b site.node.state.associations) (e : b.server ≡ s) (x : ClientSession) (sess : b.session ≡ Some x)
+    (site : WorldClient) (run : Running t.world m.header.from site) (b : Association) (h : Has b site.node.state.associations) (e : b.server ≡ s) (x : ClientSession) (sess : b.session ≡ Some x)
     (lasts : Lasts site.node.state.config.lease (clock_of t.world (nodes.Client (client m.header.from))).0 b.session) where
   own : (c.session.life.0 ≡ b.life.0) × (x.epoch.0 ≡ c.node.state.stable.epoch.0)
   own = own_session k count t.world all s.0 c.node c.there m.header.from site run b h e x sess lasts c.running c.session c.is (ap sessions.is_live_state c.state)

@@ -17,7 +17,7 @@ use Rattle.st_rules.specs.Extents.{numbers}
 use Rattle.st_rules.specs.History.{Traced, traced, traced_after}
 use Rattle.st_rules.specs.Keys.{client}
 use Rattle.st_rules.specs.Safety.{IsHead, Step, is_event, step}
-use Rattle.st_rules.specs.World.{World, ClientSite, clock_of, fresh_world, numbered, site_of}
+use Rattle.st_rules.specs.World.{World, WorldClient, clock_of, fresh_world, numbered, site_of}
 use Rattle.st_protocol.specs.Assoc.{Config, In, Msg}
 use Rattle.st_protocol.specs.Assoc as net
 use Rattle.st_protocol.proofs.Timing.{grows}
@@ -30,10 +30,10 @@ use Rattle.st_laws_steps.specs.Lives.Lives.{clock_in}
 use Rattle.st_laws_leases.proofs.Dates.Law as dates
 use Rattle.st_laws_refine.specs.Server.Pair.{terms_of}
 use Rattle.st_laws_leases.specs.Sides.Law.{InEveryRun}
-use Rattle.st_laws_leases.specs.Sides.Stands.{Standing}
+use Rattle.st_laws_leases.specs.Sides.Invariants.{Standing}
 use Rattle.st_laws_leases.specs.Sides.World.{AllStand, ServerStands}
 use Rattle.st_laws_leases.proofs.Sides.Paths.{follows}
-use Rattle.st_laws_leases.proofs.Sides.Beginning.{begun}
+use Rattle.st_laws_leases.proofs.Sides.FirstWorld.{begun}
 use Rattle.st_laws_leases.proofs.Sides.Pairs.{only_here}
 use Rattle.st_laws_leases.proofs.Sides.Runs.{full, throughout_events}
 use Rattle.st_laws_refine.specs.Server.Paths.{Here, Path, SteppedOn, WorkedOn}
@@ -42,12 +42,12 @@ use Rattle.st_laws_requests.proofs.Replies.Replies as replies
 use Rattle.st_laws_requests.proofs.Replies.Replies.{RepliesHold}
 use Rattle.st_laws_requests.specs.Cuts.Cuts.{CutsHold}
 use Rattle.st_laws_requests.proofs.Cuts.Law as cutting
-use Rattle.st_laws_reads.specs.AllClients.Left.{CutAsked}
+use Rattle.st_laws_reads.specs.AllClients.Obligations.{CutAsked}
 use Rattle.st_laws_steps.specs.Client.Session.{HasExclusive}
 use Rattle.st_laws_extents.specs.CutRequests.Asks.{AsksBehind, AsksStand, Of}
 use Rattle.st_laws_extents.specs.CutRequests.Cut.{CutIn}
 use Rattle.st_laws_extents.specs.CutRequests.Law.{CutsAreAsked, gifts}
-use Rattle.st_laws_extents.specs.CutRequests.Named.{Given}
+use Rattle.st_laws_extents.specs.CutRequests.NamedGrants.{Given}
 use Rattle.st_laws_extents.specs.CutRequests.World.{AllAsk, AllAsked, Gifts, IsServed}
 use Rattle.st_laws_extents.proofs.CutRequests.Asked.{is_asked}
 use Rattle.st_laws_extents.proofs.CutRequests.Named.{given_more}
@@ -58,7 +58,7 @@ use Rattle.st_laws_extents.proofs.CutRequests.Standing.{given_held}
 use Rattle.st_laws_extents.proofs.CutRequests.World.{stand_again}
 use Rattle.st_laws_extents.proofs.CutRequests.ServersGoOn.{event_goes}
 use Rattle.st_laws_extents.specs.CutRequests.EndedLives.{GoesBetween}
-use Rattle.st_laws_extents.specs.CutRequests.Fresh.{FreshAreOutstanding}
+use Rattle.st_laws_extents.specs.CutRequests.FreshRequests.{FreshAreOutstanding}
 use Rattle.st_laws_extents.proofs.CutRequests.Fresh.{outstanding}
 
 -- What stands behind every event.
@@ -100,7 +100,7 @@ asks_held B G s life (Some x) f h = record { last = h.last; first = h.first; ser
     go ino g (inr y) = f x refl ino g y
 
 -- in a world in which all stands, what is held was given
-held_given : (k : Config) (count : ℕ) (w : World) (all : AllStand k count w) (c : ClientId) (site : ClientSite) → site_of w c ≡ Some site → (a : Association) → Has a site.node.state.associations → (x : ClientSession) → a.session ≡ Some x →
+held_given : (k : Config) (count : ℕ) (w : World) (all : AllStand k count w) (c : ClientId) (site : WorldClient) → site_of w c ≡ Some site → (a : Association) → Has a site.node.state.associations → (x : ClientSession) → a.session ≡ Some x →
     (ino : ℕ) (g : GrantNo) → HasExclusive x ino g → gifts k count w all c a.server ino g
 held_given k count w all c site there a i x e ino g y node at = go site.node.running refl
   where
@@ -124,7 +124,7 @@ module _ (k : Config) (count : ℕ) (past : List Step) (t : Traced) (e : Event) 
   pub followed : Followed k count t.world h.all sc.world
   followed = follows k count t.world e sc h.all (full count t.world e h.all.nodes ranges) taken
 
-  pub owed : Rattle.st_laws_requests.specs.Replies.Reached.NewOwed (ev.counted t.world) e
+  pub owed : Rattle.st_laws_requests.specs.Replies.ServedRequests.NewOwed (ev.counted t.world) e
   owed = new_owed k count t.world h.all e (step_happens t.world e sc taken).0
 
   G : Gifts
@@ -150,7 +150,7 @@ module _ (k : Config) (count : ℕ) (past : List Step) (t : Traced) (e : Event) 
   asked : (index : ℕ) (f : FileId) (p : PageNo) → Has (seen.CutAt index f p) sc.seen → CutAsked sc.world f p
   asked index f p i d site a run j e2 lasts alone held =
       is_asked k count past t h.cuts h.all h.asks f p (record { node = known.0.node; there = known.0.there; running = known.0.running; message = known.0.message; among = known.0.among; by = known.0.by }) d site (record { there = ap (λ xs. numbered xs (client d).0) (sym known.1.clients) ∙ run.there; runs = run.runs }) a j e2
-      (subst (λ w. Rattle.st_laws_refine.specs.Client.Shown.Lasts site.node.state.config.lease w a.session) clock lasts) held
+      (subst (λ w. Rattle.st_laws_refine.specs.Client.Invariants.Lasts site.node.state.config.lease w a.session) clock lasts) held
     where
       known : CutIn (ev.counted t.world) f p × Rattle.st_laws_extents.specs.CutRequests.Cut.Unmoved (ev.counted t.world) sc.world
       known = cuts_known t.world e sc (λ s n at. (h.replies.dated.servers s n at).id) taken index f p i
@@ -168,7 +168,7 @@ empty B G a e = subst (Of (AsksStand B G) a.server a.life.0) (sym e) tt
 fresh_asks : (k : base.Config) (clients servers disks blocks form : ℕ) (G : Gifts) → AllAsk G (fresh_world k clients servers disks blocks form)
 unfolding fresh_world cl.fresh_client
 fresh_asks k clients servers disks blocks form G c site e =
-    subst (λ (s : ClientSite). (a : Association) → Has a s.node.state.associations → Of (AsksStand (IsServed (fresh_world k clients servers disks blocks form) c) (G c)) a.server a.life.0 a.session) (sym (site_is k clients servers c.0 site e).0)
+    subst (λ (s : WorldClient). (a : Association) → Has a s.node.state.associations → Of (AsksStand (IsServed (fresh_world k clients servers disks blocks form) c) (G c)) a.server a.life.0 a.session) (sym (site_is k clients servers c.0 site e).0)
     (λ a i. let z = has_map cl.fresh_association (numbers 1 servers) a i in empty _ (G c) a (ap (λ (y : Association). y.session) z.2))
 
 pub first : (k : base.Config) (clients servers disks blocks form : ℕ) → IsHead k clients servers disks blocks form → Hold (terms_of k) (clients + servers) [] (traced (fresh_world k clients servers disks blocks form))

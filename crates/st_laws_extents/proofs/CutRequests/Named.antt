@@ -6,7 +6,7 @@ use Rattle.st_protocol.proofs.Timing.{grows}
 use Rattle.st_protocol.proofs.Locks.{Locks}
 use Rattle.st_protocol.proofs.Invariant.{Invariant, kept_one}
 use Rattle.st_protocol.proofs.World.{invariant}
-use Rattle.st_laws_extents.specs.CutRequests.Named.{Given, Named, NetNamed, NumbersNameFiles, TellsGiven}
+use Rattle.st_laws_extents.specs.CutRequests.NamedGrants.{Given, Named, NetNamed, NumbersNameFiles, TellsGiven}
 
 -- among more messages
 pub given_more : (net more : List Msg) → ((m : Msg) → In m net → In m more) → (i g : ℕ) → Given net i g → Given more i g

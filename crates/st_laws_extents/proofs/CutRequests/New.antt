@@ -26,11 +26,11 @@ use Rattle.st_laws_refine.specs.Server.View.{NotEnded, Sound, StandsAt}
 use Rattle.st_laws_refine.proofs.Server.Thefts.{thefts_go}
 use Rattle.st_laws_leases.specs.Sides.Law.{InEveryRun}
 use Rattle.st_laws_leases.specs.Sides.World.{AllStand, ServerStands}
-use Rattle.st_laws_leases.proofs.Sides.Beginning.{begun}
-use Rattle.st_laws_leases.proofs.Sides.Everywhere.{first_none, running_node, stays}
+use Rattle.st_laws_leases.proofs.Sides.FirstWorld.{begun}
+use Rattle.st_laws_leases.proofs.Sides.AllAssociations.{first_none, running_node, stays}
 use Rattle.st_laws_leases.proofs.Sides.Fold.{not_false, not_stands, second_none}
 use Rattle.st_laws_leases.proofs.Sides.Runs.{full, throughout_events}
-use Rattle.st_laws_requests.specs.Replies.Reached.{AtMessage, AtReceiver, AtServer, FindsNew, NewOwed, ReassertionsNew, RepliesAfter}
+use Rattle.st_laws_requests.specs.Replies.ServedRequests.{AtMessage, AtReceiver, AtServer, FindsNew, NewOwed, ReassertionsNew, RepliesAfter}
 use Rattle.st_laws_requests.proofs.Replies.Replies as askers
 
 module _ (k : Config) (count : ℕ) (w : World) (a : AllStand k count w) where

@@ -30,7 +30,7 @@ use Rattle.st_rules.specs.ClientState.{ClientState}
 use Rattle.st_rules.specs.Server as server
 use Rattle.st_rules.specs.Server.{ServerNode}
 use Rattle.st_rules.specs.World as world
-use Rattle.st_rules.specs.World.{World, ClientSite, site_of, node_of, issued_of, clock_of, numbered}
+use Rattle.st_rules.specs.World.{World, WorldClient, site_of, node_of, issued_of, clock_of, numbered}
 use Rattle.st_rules.specs.Events as ev
 use Rattle.st_rules.specs.Events.{WorldTurn}
 use Rattle.st_lemmas.specs.Lists.{Has}
@@ -73,7 +73,7 @@ module _ (P : FileId → PageNo → Type 0) where
   client_one c before (outputs.Answer op a) sc h = one_more P sc.seen _ (λ i f p e. cc e) h
   client_one c before (outputs.Submit number at what) sc h = go (site_of sc.world c)
     where
-      go : (o : Option ClientSite) → K (ev.submits sc c o number at what)
+      go : (o : Option WorldClient) → K (ev.submits sc c o number at what)
       go None = h
       go (Some site) = one_more P sc.seen _ (λ i f p e. cc e) h
   client_one c before (outputs.Note n) sc h = note n
@@ -111,7 +111,7 @@ module _ (P : FileId → PageNo → Type 0) where
   quiet : (v : World) → K (ev.quiet v)
   quiet v = none P
 
-  client_takes : (w : World) (c : ClientId) (input : ClientInput) (site : ClientSite) → K (ev.client_takes w c input site)
+  client_takes : (w : World) (c : ClientId) (input : ClientInput) (site : WorldClient) → K (ev.client_takes w c input site)
   unfolding ev.client_takes ev.client_took
   client_takes w c input site = go (cl.node_step site.node (clock_of w (nodes.Client c)) input)
     where
@@ -119,7 +119,7 @@ module _ (P : FileId → PageNo → Type 0) where
       go (Err r) = quiet w
       go (Ok t) = client_all c site.node.state t.out (ev.quiet (ev.with_site c (ev.at_node t.node site) w)) (none P)
 
-  at_client : (w : World) (c : ClientId) (input : ClientInput) (o : Option ClientSite) → K (ev.at_client w c input o)
+  at_client : (w : World) (c : ClientId) (input : ClientInput) (o : Option WorldClient) → K (ev.at_client w c input o)
   unfolding ev.at_client
   at_client w c input None = quiet w
   at_client w c input (Some site) = client_takes w c input site
@@ -180,7 +180,7 @@ module _ (w : World) where
   at_server e s input None q k = quiet _ w
   at_server e s input (Some node) q k = go node.running refl
     where
-      t : server.Turn
+      t : server.ServerTurn
       t = server.server_step node.state (clock_of w (nodes.Server s)) input
 
       last : WorldTurn
@@ -209,7 +209,7 @@ module _ (w : World) where
     happens (events.Tick (nodes.Server s)) = at_server (events.Tick (nodes.Server s)) s serving.Tick (node_of w s) refl (λ n e run f p h. absurd (tick_cuts n.state (clock_of w (nodes.Server s)) f p h))
     happens (events.App c ask) = go (site_of w c)
       where
-        go : (x : Option ClientSite) → CutThere w (events.App c ask) (ev.asks_at w c ask x)
+        go : (x : Option WorldClient) → CutThere w (events.App c ask) (ev.asks_at w c ask x)
         go None = quiet _ w
         go (Some site) = client_takes _ w c _ (ev.asked_once_more site)
     happens (events.Deliver k) = go (world.message_of w k) refl
@@ -232,11 +232,11 @@ module _ (w : World) where
         v : World
         v = ev.with_disks (ev.disks_after w.disks (disks.done w.disks k ok)) w
 
-        same : (x : IssuedCommand) (site : ClientSite) (b : Bool) → CutThere w (events.Report k ok) (if b then ev.client_takes v x.client (ev.end_told v k ok x) site else ev.quiet v)
+        same : (x : IssuedCommand) (site : WorldClient) (b : Bool) → CutThere w (events.Report k ok) (if b then ev.client_takes v x.client (ev.end_told v k ok x) site else ev.quiet v)
         same x site true = client_takes _ v x.client (ev.end_told v k ok x) site
         same x site false = quiet _ v
 
-        told : (x : IssuedCommand) (s : Option ClientSite) → CutThere w (events.Report k ok) (ev.tells_client v k ok x s)
+        told : (x : IssuedCommand) (s : Option WorldClient) → CutThere w (events.Report k ok) (ev.tells_client v k ok x s)
         told x None = quiet _ v
         told x (Some site) = same x site (ev.is_same_instance x site)
 
@@ -245,7 +245,7 @@ module _ (w : World) where
         go (Some x) = told x (site_of v x.client)
     happens (events.Crash (nodes.Client c)) = go (site_of w c)
       where
-        go : (x : Option ClientSite) → CutThere w (events.Crash (nodes.Client c)) (ev.crashes_client w c x)
+        go : (x : Option WorldClient) → CutThere w (events.Crash (nodes.Client c)) (ev.crashes_client w c x)
         go None = quiet _ w
         go (Some site) = marks _ 1 w.log (ev.log_crashed w c)
     happens (events.Crash (nodes.Server s)) = quiet _ (ev.crashes_server w s (node_of w s))

@@ -18,16 +18,16 @@ use Rattle.st_rules.specs.History.{Traced}
 use Rattle.st_rules.specs.Server as server
 use Rattle.st_rules.specs.Server.{ServerNode}
 use Rattle.st_rules.specs.World as world
-use Rattle.st_rules.specs.World.{World, ClientSite, site_of, node_of, numbered, with_numbered, clock_of}
+use Rattle.st_rules.specs.World.{World, WorldClient, site_of, node_of, numbered, with_numbered, clock_of}
 use Rattle.st_rules.specs.Safety.{Step}
 use Rattle.st_lemmas.specs.Lists.{Has}
 use Rattle.st_laws_leases.specs.Dates.Dates.{ClientDated, messages}
-use Rattle.st_laws_requests.specs.Replies.Reached.{InputNew, NewOwed}
+use Rattle.st_laws_requests.specs.Replies.ServedRequests.{InputNew, NewOwed}
 use Rattle.st_laws_requests.proofs.Replies.EachEvent.{ClientTook, Comes, NodeAfter, ServerLeft, ServerTook, SiteAfter, event_leaves}
 use Rattle.st_laws_requests.proofs.Replies.Replies.{RepliesHold}
 use Rattle.st_laws_extents.specs.CutRequests.EndedLives.{Goes, NodeGoes, SentBy}
-use Rattle.st_laws_leases.proofs.Dates.Hearing as hearing
-use Rattle.st_laws_leases.proofs.Dates.Hearing.{Held, step_held}
+use Rattle.st_laws_leases.proofs.Dates.Receiving as receiving
+use Rattle.st_laws_leases.proofs.Dates.Receiving.{Held, step_held}
 use Rattle.st_rules.specs.ClientState.{Association, ClientState}
 use Rattle.st_laws_requests.proofs.Replies.Served.{Served, served}
 use Rattle.st_laws_leases.proofs.Dates.Leaving.{Leaves, leaves_from, set_cases}
@@ -46,7 +46,7 @@ pub lived_held : (t : World) (c : ClientId) (now : Stamp) (x : ClientState) (i :
     Held (messages t) c now (Lived x) (λ s life z. (z.0, z.1, z.2, let y = z.3 in omega (arith, y))) (cl.client_step x now i)
 lived_held t c now x i k d = step_held (messages t) c now (Lived x) (λ s life z. (z.0, z.1, z.2, let y = z.3 in omega (arith, y))) x i (comes i k) d (λ a h. (a, h, refl, omega arith))
   where
-    comes : (i : ClientInput) → Comes t i → hearing.Comes (messages t) c now (Lived x) (λ s life z. (z.0, z.1, z.2, let y = z.3 in omega (arith, y))) i
+    comes : (i : ClientInput) → Comes t i → receiving.Comes (messages t) c now (Lived x) (λ s life z. (z.0, z.1, z.2, let y = z.3 in omega (arith, y))) i
     comes inputs.Tick k = tt
     comes (inputs.App op ask) k = tt
     comes (inputs.Control m) k = k
@@ -71,7 +71,7 @@ module _ (past : List Step) (t : Traced) (r : RepliesHold past t) where
   placed s old new v at ss ms g = record { nodes = nodes_placed s old new v at ss g; messages = λ m h. inl (subst (Has m) ms h) }
 
   -- A step of a client.
-  client_step : (v : World) → v.servers ≡ t.world.servers → (c : ClientId) (i : ClientInput) (site old : ClientSite) → site.node ≡ old.node → site.node.running ≡ true → site_of t.world c ≡ Some old → Comes t.world i →
+  client_step : (v : World) → v.servers ≡ t.world.servers → (c : ClientId) (i : ClientInput) (site old : WorldClient) → site.node ≡ old.node → site.node.running ≡ true → site_of t.world c ≡ Some old → Comes t.world i →
       (last : World) → Leaves (messages t.world) (ev.with_site c (SiteAfter v c i site) v) last (ClientTook v c i site).out → Goes t.world last
   client_step v ss c i site old same run at k last l =
       record { nodes = λ s p q. (p, ap (λ xs. numbered xs s.0) (sym ss ∙ sym l.servers) ∙ q, node_same p); messages = λ m h. sent m (leaves_from (messages t.world) (ev.with_site c (SiteAfter v c i site) v) last u.out l m h) }
@@ -107,7 +107,7 @@ module _ (past : List Step) (t : Traced) (r : RepliesHold past t) where
       last : World
       last = (ServerLeft t.world s i node).world
 
-      u : server.Turn
+      u : server.ServerTurn
       u = ServerTook t.world s i node
 
       k : Served s node.state.stable.epoch i node.state.sessions u
@@ -121,11 +121,11 @@ module _ (past : List Step) (t : Traced) (r : RepliesHold past t) where
       from m (inr h) = inr (inl (s, (k.sent m h).0))
 
   -- Crashes and starts.
-  stopped : (c : ClientId) (site : ClientSite) → site_of t.world c ≡ Some site → Goes t.world (ev.crashes_client w c (Some site)).world
+  stopped : (c : ClientId) (site : WorldClient) → site_of t.world c ≡ Some site → Goes t.world (ev.crashes_client w c (Some site)).world
   unfolding ev.crashes_client ev.marks w cl.crash
   stopped c site q = still (ev.crashes_client w c (Some site)).world refl refl
 
-  begun : (c : ClientId) (site : ClientSite) → site_of t.world c ≡ Some site → Goes t.world (ev.starts_client w c (Some site))
+  begun : (c : ClientId) (site : WorldClient) → site_of t.world c ≡ Some site → Goes t.world (ev.starts_client w c (Some site))
   unfolding ev.starts_client w cl.start
   begun c site q = still (ev.starts_client w c (Some site)) refl refl
 

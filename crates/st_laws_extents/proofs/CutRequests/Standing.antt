@@ -10,7 +10,7 @@ use Rattle.st_rules.specs.Keys.{client, server_node}
 use Rattle.st_rules.specs.Locks.{row_of}
 use Rattle.st_rules.specs.Server.{ServerNode}
 use Rattle.st_rules.specs.Sessions as sessions
-use Rattle.st_rules.specs.World.{World, ClientSite, clock_of, node_of, server}
+use Rattle.st_rules.specs.World.{World, WorldClient, clock_of, node_of, server}
 use Rattle.st_protocol.specs.Assoc as net
 use Rattle.st_protocol.specs.Assoc.{Alive, Assoc, Body, Config, Hello, Plain, Released, Reassert, Welcome, Ack, Reasserted, Granted, Demand, OfOtherEpoch, msg, of_session, renews}
 use Rattle.st_protocol.proofs.Claims.{inside}
@@ -19,16 +19,16 @@ use Rattle.st_protocol.proofs.World.{invariant}
 use Rattle.st_lemmas.specs.Lists.{Has}
 use Rattle.st_lemmas.proofs.Tables.{same_or_not}
 use Rattle.st_laws_refine.specs.Views.Halves.{client_of, epoch_in, held_at, held_in, leased_in, life_view, live_view, row_or, row_view}
-use Rattle.st_laws_refine.specs.Client.Shown.{Lasts}
+use Rattle.st_laws_refine.specs.Client.Invariants.{Lasts}
 use Rattle.st_laws_refine.specs.Server.Pair.{client_in}
-use Rattle.st_laws_refine.specs.Server.Stands.{pairs}
-use Rattle.st_laws_leases.specs.Sides.Stands.{Standing}
+use Rattle.st_laws_refine.specs.Server.Invariants.{pairs}
+use Rattle.st_laws_leases.specs.Sides.Invariants.{Standing}
 use Rattle.st_laws_leases.specs.Sides.World.{AllStand, ServerStands}
 use Rattle.st_laws_leases.proofs.Sides.Pairs.{only_here, own_view}
 use Rattle.st_laws_reads.specs.AllClients.Law.{Running}
 use Rattle.st_laws_reads.proofs.AllClients.Alone.{living}
 use Rattle.st_laws_steps.specs.Client.Session.{HasExclusive}
-use Rattle.st_laws_extents.specs.CutRequests.Named.{Given, Named}
+use Rattle.st_laws_extents.specs.CutRequests.NamedGrants.{Given, Named}
 use Rattle.st_laws_extents.proofs.CutRequests.Named.{reached}
 
 -- what renews a lease is of a session
@@ -85,7 +85,7 @@ module _ (k : Config) (count : ℕ) (w : World) (a : AllStand k count w) (s : �
   given_row d i r e m = subst (Given (z.ghosts d).net i) (ap (λ o. (row_or (row_view o)).g) e) ((named d).rows i (let q = ap (λ o. (row_or (row_view o)).mode) e in omega (arith, q, m)))
 
   -- A client that runs, with an association of this server.
-  module _ (d : ℕ) (site : ClientSite) (run : Running w d site) (b : Association) (h : Has b site.node.state.associations) (e : b.server ≡ server s) where
+  module _ (d : ℕ) (site : WorldClient) (run : Running w d site) (b : Association) (h : Has b site.node.state.associations) (e : b.server ≡ server s) where
     pub whole : client_in w d s (z.ended d) ≡ client_of (z.ended d) (clock_of w (nodes.Client (client d))).0 b
     whole = own_view w d s (z.ended d) site q.association run.there run.runs q.sim.place ∙ ap (client_of (z.ended d) (clock_of w (nodes.Client (client d))).0) (sym is)
       where

@@ -10,11 +10,11 @@ use Rattle.st_rules.specs.declared.client.ClientInput.TheVariants as inputs
 use Rattle.st_rules.specs.Client as cl
 use Rattle.st_rules.specs.ClientPasses as cp
 use Rattle.st_rules.specs.ClientState.{Association, ClientState, ClientTurn, at_each, at_these, client_turn, enter, leave, with_associations}
-use Rattle.st_laws_steps.specs.Client.Taking.{Each}
+use Rattle.st_laws_steps.specs.Client.Inputs.{Each}
 use Rattle.st_laws_steps.proofs.Client.Taking.{each, each_taken, taken}
 use Rattle.st_laws_extents.specs.CutRequests.Asks.{AsksBehind, AsksStand, Fact, Of, Tells}
 use Rattle.st_laws_extents.proofs.CutRequests.Walking.{k_finish, k_lose, k_take}
-use Rattle.st_laws_extents.proofs.CutRequests.Hearing.{k_hear}
+use Rattle.st_laws_extents.proofs.CutRequests.Receiving.{k_receive}
 use Rattle.st_laws_extents.proofs.CutRequests.Requesting.{a_passes}
 
 module _ (B : ServerId → ℕ → ℕ → ℕ → Type 0) (G : ServerId → ℕ → GrantNo → Type 0) (start : (server : ServerId) (life epoch : ℕ) → B server life epoch 1) where
@@ -48,7 +48,7 @@ module _ (B : ServerId → ℕ → ℕ → ℕ → Type 0) (G : ServerId → ℕ
   step_stands s now input tells h =
       let t = cl.losses (client_turn s []) now in
       each Stand (λ a. AsksBehind B G a.server a.life.0 a.session) (cp.passes now (cl.is_tick input)) (a_passes B G now (cl.is_tick input)) (cl.take_input t now input)
-      (each_taken Stand (λ m. HasFact (Tells B m.header m.body)) now (k_take (AsksStand B G)) (λ m u p q. k_hear B G start m.header m.body now u q p) (k_finish (AsksStand B G)) t (cl.take_input t now input) input (taken t now input) told
+      (each_taken Stand (λ m. HasFact (Tells B m.header m.body)) now (k_take (AsksStand B G)) (λ m u p q. k_receive B G start m.header m.body now u q p) (k_finish (AsksStand B G)) t (cl.take_input t now input) input (taken t now input) told
       (lost (AsksStand B G) (client_turn s []) now h))
     where
       told : (m : Message) → input ≡ inputs.Control m → (m.header.to == (cl.losses (client_turn s []) now).state.id.0) ≡ true →

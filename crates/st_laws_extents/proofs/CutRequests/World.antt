@@ -20,12 +20,12 @@ use Rattle.st_rules.specs.Sessions as sessions
 use Rattle.st_rules.specs.Server as server
 use Rattle.st_rules.specs.Server.{ServerNode}
 use Rattle.st_rules.specs.World as world
-use Rattle.st_rules.specs.World.{World, ClientSite, site_of, node_of, numbered, with_numbered, clock_of}
+use Rattle.st_rules.specs.World.{World, WorldClient, site_of, node_of, numbered, with_numbered, clock_of}
 use Rattle.st_rules.specs.Safety.{Step}
 use Rattle.st_lemmas.specs.Lists.{Has}
 use Rattle.st_lemmas.proofs.Tables.{has_map}
 use Rattle.st_laws_leases.specs.Dates.Dates.{messages}
-use Rattle.st_laws_requests.specs.Replies.Reached.{Ends, InputNew, IsBehind, NewOwed, Refusal, Says}
+use Rattle.st_laws_requests.specs.Replies.ServedRequests.{Ends, InputNew, IsBehind, NewOwed, Refusal, Says}
 use Rattle.st_laws_leases.proofs.Dates.Leaving.{Leaves, set_cases}
 use Rattle.st_laws_requests.proofs.Replies.EachEvent.{ClientTook, Comes, NodeAfter, ServerLeft, ServerTook, SiteAfter, event_leaves}
 use Rattle.st_laws_requests.proofs.Replies.Replies.{RepliesHold}
@@ -56,7 +56,7 @@ module _ (past : List Step) (t : Traced) (d : CutsHold past t) (r : RepliesHold 
   w : World
   w = ev.counted t.world
 
-  more : (C : ServerId → ℕ → ℕ → ℕ → Type 0) (c : ClientId) (site : ClientSite) → site_of t.world c ≡ Some site → ((server : ServerId) (life epoch n : ℕ) → IsServed t.world c server life epoch n → C server life epoch n) →
+  more : (C : ServerId → ℕ → ℕ → ℕ → Type 0) (c : ClientId) (site : WorldClient) → site_of t.world c ≡ Some site → ((server : ServerId) (life epoch n : ℕ) → IsServed t.world c server life epoch n → C server life epoch n) →
       (a : Association) → Has a site.node.state.associations → AsksBehind C (G c) a.server a.life.0 a.session
   more C c site at f a i = behind_more (IsServed t.world c) C (G c) f a.server a.life.0 a.session (stays_at (IsServed t.world c) (G c) a.server a.life.0 a.session (asks c site at a i))
 
@@ -82,7 +82,7 @@ module _ (past : List Step) (t : Traced) (d : CutsHold past t) (r : RepliesHold 
       it c server life epoch n h node number pos is (inr z) = h node z.1 number pos is
 
   -- A message that comes to a client tells how far its requests were served.
-  module _ (c : ClientId) (old : ClientSite) (there : site_of t.world c ≡ Some old) (runs : old.node.running ≡ true) (m : Message) (among : Has m (messages t.world)) (to : m.header.to ≡ c.0) where
+  module _ (c : ClientId) (old : WorldClient) (there : site_of t.world c ≡ Some old) (runs : old.node.running ≡ true) (m : Message) (among : Has m (messages t.world)) (to : m.header.to ≡ c.0) where
     no_refusal : (a : Association) (x : ClientSession) (q : Request) → Numbers (λ m. Has m (messages t.world)) c a.server a.life.0 (view (Some x)) → AsksStand (IsServed t.world c) (G c) a.server a.life.0 x.epoch.0 x.requests x.cutting x.due →
         x.requests.asked ≡ Some q → m.header.life ≡ a.life.0 → m.header.epoch ≡ x.epoch.0 → m.header.number ≡ q.number → 1 ≤ m.header.number → refuses_reassertion m.body q.body ≡ false → Refusal (messages t.world) a.server m → ⊥
     no_refusal a x q numbers stands asked life epoch number pos fine z = go z.beyond
@@ -142,7 +142,7 @@ module _ (past : List Step) (t : Traced) (d : CutsHold past t) (r : RepliesHold 
   start : (v : World) (c : ClientId) (server : ServerId) (life epoch : ℕ) → IsServed v c server life epoch 1
   start v c server life epoch n at k pos e = absurd (omega (arith, pos, e))
 
-  client_step : (v : World) → v.clients ≡ t.world.clients → v.servers ≡ t.world.servers → (c : ClientId) (i : ClientInput) (site old : ClientSite) → site.node ≡ old.node → site.node.running ≡ true → site_of t.world c ≡ Some old → Comes t.world i →
+  client_step : (v : World) → v.clients ≡ t.world.clients → v.servers ≡ t.world.servers → (c : ClientId) (i : ClientInput) (site old : WorldClient) → site.node ≡ old.node → site.node.running ≡ true → site_of t.world c ≡ Some old → Comes t.world i →
       (last : World) → Leaves (messages t.world) (ev.with_site c (SiteAfter v c i site) v) last (ClientTook v c i site).out → AllAsked G last
   client_step v ps ss c i site old same run at k last l = taken
     where
@@ -152,7 +152,7 @@ module _ (past : List Step) (t : Traced) (d : CutsHold past t) (r : RepliesHold 
       u : ClientTurn
       u = ClientTook v c i site
 
-      after : ClientSite
+      after : WorldClient
       after = SiteAfter v c i site
 
       serving_same : last.servers ≡ t.world.servers
@@ -180,7 +180,7 @@ module _ (past : List Step) (t : Traced) (d : CutsHold past t) (r : RepliesHold 
           it : ((e.0 ≡ c.0) × (x ≡ after)) ⊎ ((e.0 ≢ c.0) × (site_of v e ≡ Some x)) → AsksBehind (IsServed last e) (G e) y.server y.life.0 y.session
           it (inl z) =
               subst (λ z. AsksBehind (IsServed last z) (G z) y.server y.life.0 y.session) (ap (λ (n : ℕ). client n) (sym z.0))
-              (behind_more (IsServed t.world c) (IsServed last c) (G c) (served_same last serving_same c) y.server y.life.0 y.session (own y (subst (λ (s : ClientSite). Has y s.node.state.associations) z.1 j)))
+              (behind_more (IsServed t.world c) (IsServed last c) (G c) (served_same last serving_same c) y.server y.life.0 y.session (own y (subst (λ (s : WorldClient). Has y s.node.state.associations) z.1 j)))
           it (inr z) = more (IsServed last e) e x (ap (λ xs. numbered xs e.0) (sym ps) ∙ z.1) (served_same last serving_same e) y j
 
   -- A step of a server.
@@ -192,7 +192,7 @@ module _ (past : List Step) (t : Traced) (d : CutsHold past t) (r : RepliesHold 
       placed s node (NodeAfter t.world s i node) (ServerLeft t.world s i node).world at l.clients l.servers
       (λ c life epoch n z. record { up_to = let y = z.up_to in omega (arith, y, same); behind = λ run e. k.goes c life n (z.behind run (e ∙ same)) })
     where
-      u : server.Turn
+      u : server.ServerTurn
       u = ServerTook t.world s i node
 
       k : Served s node.state.stable.epoch i node.state.sessions u
@@ -203,22 +203,22 @@ module _ (past : List Step) (t : Traced) (d : CutsHold past t) (r : RepliesHold 
 
   -- Crashes and starts.
   -- a client without sessions
-  emptied : (v : World) (c : ClientId) (old new : ClientSite) → site_of t.world c ≡ Some old → v.clients ≡ with_numbered c.0 new t.world.clients → v.servers ≡ t.world.servers →
+  emptied : (v : World) (c : ClientId) (old new : WorldClient) → site_of t.world c ≡ Some old → v.clients ≡ with_numbered c.0 new t.world.clients → v.servers ≡ t.world.servers →
       ((a : Association) → Has a new.node.state.associations → a.session ≡ None) → AllAsked G v
   emptied v c old new there cs ss n e x q a i = go (set_cases t.world.clients c.0 e.0 old new x there (ap (λ xs. numbered xs e.0) (sym cs) ∙ q))
     where
       go : ((e.0 ≡ c.0) × (x ≡ new)) ⊎ ((e.0 ≢ c.0) × (site_of t.world e ≡ Some x)) → AsksBehind (IsServed v e) (G e) a.server a.life.0 a.session
-      go (inl z) = subst (AsksBehind (IsServed v e) (G e) a.server a.life.0) (sym (n a (subst (λ (s : ClientSite). Has a s.node.state.associations) z.1 i))) tt
+      go (inl z) = subst (AsksBehind (IsServed v e) (G e) a.server a.life.0) (sym (n a (subst (λ (s : WorldClient). Has a s.node.state.associations) z.1 i))) tt
       go (inr z) = more (IsServed v e) e x z.1 (served_same v ss e) a i
 
   none_of : (f : Association → Association) → ((x : Association) → (f x).session ≡ None) → (xs : List Association) → (a : Association) → Has a (map f xs) → a.session ≡ None
   none_of f n xs a i = let z = has_map f xs a i in ap (λ (y : Association). y.session) z.2 ∙ n z.0
 
-  stopped : (c : ClientId) (site : ClientSite) → site_of t.world c ≡ Some site → AllAsked G (ev.crashes_client w c (Some site)).world
+  stopped : (c : ClientId) (site : WorldClient) → site_of t.world c ≡ Some site → AllAsked G (ev.crashes_client w c (Some site)).world
   unfolding ev.crashes_client ev.marks w cl.crash
   stopped c site q = emptied (ev.crashes_client w c (Some site)).world c site (ev.stopped_site site) q refl refl (none_of cl.crashed_association (λ a. refl) site.node.state.associations)
 
-  begun : (c : ClientId) (site : ClientSite) → site_of t.world c ≡ Some site → AllAsked G (ev.starts_client w c (Some site))
+  begun : (c : ClientId) (site : WorldClient) → site_of t.world c ≡ Some site → AllAsked G (ev.starts_client w c (Some site))
   unfolding ev.starts_client w cl.start
   begun c site q = emptied (ev.starts_client w c (Some site)) c site (ev.started_site site) q refl refl (none_of cl.started_association (λ a. refl) site.node.state.associations)
 

@@ -33,14 +33,14 @@ use Rattle.st_rules.specs.FlatLog.{content, touches}
 use Rattle.st_rules.specs.Keys.{client, same_file, same_page}
 use Rattle.st_rules.specs.Safety.{Step}
 use Rattle.st_rules.specs.World as world
-use Rattle.st_rules.specs.World.{World, ClientSite, clock_of, numbered, site_of, with_numbered}
+use Rattle.st_rules.specs.World.{World, WorldClient, clock_of, numbered, site_of, with_numbered}
 use Rattle.st_protocol.specs.Assoc.{Config}
 use Rattle.st_lemmas.specs.Lists.{Has}
 use Rattle.st_lemmas.proofs.Lookups.{some_is}
 use Rattle.st_lemmas.proofs.Numbers.{numbered_below, numbered_has, numbered_other, numbered_own}
 use Rattle.st_lemmas.proofs.Tables.{and_both, and_true, same_or_not, some_passes}
 use Rattle.st_laws_refine.specs.Views.Halves.{held_in}
-use Rattle.st_laws_refine.specs.Client.Shown.{Lasts}
+use Rattle.st_laws_refine.specs.Client.Invariants.{Lasts}
 use Rattle.st_laws_pages.specs.Flush.Flush.{IsIts, file_at}
 use Rattle.st_laws_steps.specs.Lives.Lives.{LivesHold, Once, clock_in, server_number}
 use Rattle.st_laws_steps.specs.Client.Losses.{Fit, is_ended}
@@ -86,7 +86,7 @@ module _ (asks : ℕ → ℕ → Option Ask) (k : Config) (count : ℕ) (past mo
   abbrev T : cl.NodeTurn
   T = SteppedNode W (client c) x.site x.input
 
-  abbrev M : ClientSite
+  abbrev M : WorldClient
   M = ev.at_node T.node x.site
 
   abbrev S : WorldTurn
@@ -255,7 +255,7 @@ module _ (asks : ℕ → ℕ → Option Ask) (k : Config) (count : ℕ) (past mo
   has_behind [] fs y h = h
   has_behind (z ∷ es) fs y h = inr (has_behind es fs y h)
 
-  module _ (d : ℕ) (site : ClientSite) (n : d ≢ c) (run : Running sc.world d site) where
+  module _ (d : ℕ) (site : WorldClient) (n : d ≢ c) (run : Running sc.world d site) where
     before : Running w d site
     before = record { there = sym (ap (λ cs. numbered cs d) clients_v ∙ numbered_other W.clients c d M (numbered_below W.clients c tk.old there).0 n ∙ ap (λ cs. numbered cs d) tk.clients) ∙ run.there; runs = run.runs }
 
@@ -296,16 +296,16 @@ module _ (asks : ℕ → ℕ → Option Ask) (k : Config) (count : ℕ) (past mo
   pub reads_taken : ReadsHold sc.world sc.world.log
   reads_taken = record { clean = λ d site run a i. clean d site run a i (same_or_not d c); right = λ d site run a i l pc m r. right d site run a i l pc m r (same_or_not d c) }
     where
-      same_site : (d : ℕ) (site : ClientSite) → Running sc.world d site → d ≡ c → M ≡ site
+      same_site : (d : ℕ) (site : WorldClient) → Running sc.world d site → d ≡ c → M ≡ site
       same_site d site run z = some_is (sym left ∙ ap (λ n. site_of sc.world (client n)) (sym z) ∙ run.there)
 
-      clean : (d : ℕ) (site : ClientSite) → Running sc.world d site → (a : Association) → Has a site.node.state.associations → (d ≡ c) ⊎ (d ≢ c) → ReadsClean a.store
+      clean : (d : ℕ) (site : WorldClient) → Running sc.world d site → (a : Association) → Has a site.node.state.associations → (d ≡ c) ⊎ (d ≢ c) → ReadsClean a.store
       clean d site run a i (inl z) =
-          ((all_behind (client c) x.site.node.state (clock_of W (nodes.Client (client c))) x.input fit once clean_old).fine a (subst (λ (y : ClientSite). Has a y.node.state.associations) (sym (same_site d site run z)) i)).clean
+          ((all_behind (client c) x.site.node.state (clock_of W (nodes.Client (client c))) x.input fit once clean_old).fine a (subst (λ (y : WorldClient). Has a y.node.state.associations) (sym (same_site d site run z)) i)).clean
       clean d site run a i (inr n) = reads_w.clean d site (before d site n run) a i
 
-      right : (d : ℕ) (site : ClientSite) → Running sc.world d site → (a : Association) → Has a site.node.state.associations → Lasts site.node.state.config.lease (clock_of sc.world (nodes.Client (client d))).0 a.session → (pc : PageCommand) → Has pc a.store.commands → pc.kind ≡ io.Read → (d ≡ c) ⊎ (d ≢ c) → EachRight sc.world sc.world.log d site a pc
+      right : (d : ℕ) (site : WorldClient) → Running sc.world d site → (a : Association) → Has a site.node.state.associations → Lasts site.node.state.config.lease (clock_of sc.world (nodes.Client (client d))).0 a.session → (pc : PageCommand) → Has pc a.store.commands → pc.kind ≡ io.Read → (d ≡ c) ⊎ (d ≢ c) → EachRight sc.world sc.world.log d site a pc
       right d site run a i l pc m r (inr n) = other_reads d site n run a i l pc m r
       right d site run a i l pc m r (inl z) =
           subst (λ v. EachRight sc.world sc.world.log v site a pc) (sym z)
-          (subst (λ (y : ClientSite). EachRight sc.world sc.world.log c y a pc) (same_site d site run z) (own_reads a (subst (λ (y : ClientSite). Has a y.node.state.associations) (sym (same_site d site run z)) i) pc m r))
+          (subst (λ (y : WorldClient). EachRight sc.world sc.world.log c y a pc) (same_site d site run z) (own_reads a (subst (λ (y : WorldClient). Has a y.node.state.associations) (sym (same_site d site run z)) i) pc m r))

@@ -17,7 +17,7 @@ use Rattle.st_rules.specs.Events.{WorldTurn, client_says, client_says_all}
 use Rattle.st_rules.specs.FlatLog as log
 use Rattle.st_rules.specs.FlatLog.{content, matters, touches}
 use Rattle.st_rules.specs.Keys.{same_file, same_page}
-use Rattle.st_rules.specs.World.{ClientSite, site_of}
+use Rattle.st_rules.specs.World.{WorldClient, site_of}
 use Rattle.st_lemmas.specs.Lists.{Has}
 use Rattle.st_lemmas.proofs.Contents.{content_last}
 use Rattle.st_lemmas.proofs.Lookups.{if_false}
@@ -56,7 +56,7 @@ module _ (c : ClientId) (before : ClientState) (sv : ServerId) (pc : PageCommand
   one (outputs.Send m) sc u = refl
   one (outputs.Submit number at what) sc u = go (site_of sc.world c)
     where
-      go : (o : Option ClientSite) → content (ev.submits sc c o number at what).world.log f pc.page ≡ content sc.world.log f pc.page
+      go : (o : Option WorldClient) → content (ev.submits sc c o number at what).world.log f pc.page ≡ content sc.world.log f pc.page
       go None = refl
       go (Some s) = refl
   one (outputs.Answer op a) sc u = refl

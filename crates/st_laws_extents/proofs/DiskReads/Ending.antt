@@ -27,19 +27,19 @@ use Rattle.st_rules.specs.Events as ev
 use Rattle.st_rules.specs.Events.{WorldTurn, counted}
 use Rattle.st_rules.specs.FlatLog.{content}
 use Rattle.st_rules.specs.Keys.{client}
-use Rattle.st_rules.specs.World.{World, ClientSite, clock_of, issued_of, message_of, numbered, receiver_of, site_of}
+use Rattle.st_rules.specs.World.{World, WorldClient, clock_of, issued_of, message_of, numbered, receiver_of, site_of}
 use Rattle.st_lemmas.specs.Lists.{Has}
 use Rattle.st_lemmas.proofs.Lookups.{some_is}
 use Rattle.st_lemmas.proofs.Tables.{and_true, found_at}
-use Rattle.st_laws_refine.specs.Client.Shown.{Lasts}
+use Rattle.st_laws_refine.specs.Client.Invariants.{Lasts}
 use Rattle.st_laws_pages.specs.Flush.Flush.{IsIts, file_at}
 use Rattle.st_laws_steps.specs.Lives.Lives.{clock_in}
 use Rattle.st_laws_steps.specs.Client.Losses.{Fit, is_ended}
 use Rattle.st_laws_pages.specs.Disks.Pages.{mapping_of}
 use Rattle.st_laws_pages.proofs.Flush.Flushing.{pair_of}
 use Rattle.st_laws_steps.proofs.Client.Stepping.{LossesLeft, LostOrNot, losses_left}
-use Rattle.st_laws_reads.specs.Copies.World.{Taking, asking, hearing, hearing_of, now_at, taken, taking, told_at, told_of}
-use Rattle.st_laws_reads.specs.AllClients.Left.{AllLeft, EndLeft, LeftOf}
+use Rattle.st_laws_reads.specs.Copies.World.{Taking, asking, receiving, receiving_of, now_at, taken, taking, told_at, told_of}
+use Rattle.st_laws_reads.specs.AllClients.Obligations.{AllLeft, EndLeft, LeftOf}
 use Rattle.st_laws_reads.specs.AllClients.Law.{Running}
 use Rattle.st_laws_reads.proofs.AllClients.Takings.{Takes}
 use Rattle.st_laws_extents.proofs.Submits.Taking.{report_open}
@@ -93,31 +93,31 @@ found_there w n ok block e = by ok e
 pub ends : (w : World) (e : Event) (x : Taking) → taken w e ≡ Some x → Ends w x
 ends w (events.Tick (nodes.Client c)) x q = go (site_of w c) q
   where
-    go : (o : Option ClientSite) → taking w c inputs.Tick o ≡ Some x → Ends w x
+    go : (o : Option WorldClient) → taking w c inputs.Tick o ≡ Some x → Ends w x
     go None q = cc q
     go (Some site) q = subst (Ends w) (some_is q) tt
 ends w (events.Tick (nodes.Server s)) x q = cc q
 ends w (events.App c ask) x q = go (site_of w c) q
   where
-    go : (o : Option ClientSite) → asking w c ask o ≡ Some x → Ends w x
+    go : (o : Option WorldClient) → asking w c ask o ≡ Some x → Ends w x
     go None q = cc q
     go (Some site) q = subst (Ends w) (some_is q) tt
 ends w (events.Deliver n) x q = go (message_of w n) q
   where
-    at : (m : SentMessage) (c : ClientId) (o : Option ClientSite) → taking w c (inputs.Control m.message) o ≡ Some x → Ends w x
+    at : (m : SentMessage) (c : ClientId) (o : Option WorldClient) → taking w c (inputs.Control m.message) o ≡ Some x → Ends w x
     at m c None q = cc q
     at m c (Some site) q = subst (Ends w) (some_is q) tt
 
-    to : (m : SentMessage) (r : NodeId) → hearing w m.message r ≡ Some x → Ends w x
+    to : (m : SentMessage) (r : NodeId) → receiving w m.message r ≡ Some x → Ends w x
     to m (nodes.Client c) q = at m c (site_of w c) q
     to m (nodes.Server s) q = cc q
 
-    go : (o : Option SentMessage) → hearing_of w o ≡ Some x → Ends w x
+    go : (o : Option SentMessage) → receiving_of w o ≡ Some x → Ends w x
     go None q = cc q
     go (Some m) q = to m (receiver_of m) q
 ends w (events.Report n ok) x q = go (issued_of w n) refl q
   where
-    at : (y : IssuedCommand) → issued_of w n ≡ Some y → (site : ClientSite) → (b : Bool) → ev.is_same_instance y site ≡ b →
+    at : (y : IssuedCommand) → issued_of w n ≡ Some y → (site : WorldClient) → (b : Bool) → ev.is_same_instance y site ≡ b →
         (if b then taking (ev.with_disks (ev.disks_after w.disks (disks.done w.disks n ok)) w) y.client (ev.end_told (ev.with_disks (ev.disks_after w.disks (disks.done w.disks n ok)) w) n ok y) (Some site) else None) ≡ Some x → Ends w x
     at y i site true b q =
         subst (Ends w) (some_is q)
@@ -131,7 +131,7 @@ ends w (events.Report n ok) x q = go (issued_of w n) refl q
         })
     at y i site false b q = cc q
 
-    at_site : (y : IssuedCommand) → issued_of w n ≡ Some y → (o : Option ClientSite) → told_at (ev.with_disks (ev.disks_after w.disks (disks.done w.disks n ok)) w) n ok y o ≡ Some x → Ends w x
+    at_site : (y : IssuedCommand) → issued_of w n ≡ Some y → (o : Option WorldClient) → told_at (ev.with_disks (ev.disks_after w.disks (disks.done w.disks n ok)) w) n ok y o ≡ Some x → Ends w x
     at_site y i None q = cc q
     at_site y i (Some site) q = at y i site (ev.is_same_instance y site) refl q
 

@@ -50,7 +50,7 @@ use Rattle.st_rules.specs.FlatLog.{content, hard_cut, touches}
 use Rattle.st_rules.specs.Keys.{client, same_file}
 use Rattle.st_rules.specs.Server as server
 use Rattle.st_rules.specs.Server.{ServerNode}
-use Rattle.st_rules.specs.World.{World, ClientSite, clock_of, issued_of, message_of, node_of, numbered, receiver_of, site_of, with_numbered}
+use Rattle.st_rules.specs.World.{World, WorldClient, clock_of, issued_of, message_of, node_of, numbered, receiver_of, site_of, with_numbered}
 use Rattle.st_protocol.specs.Assoc.{Config}
 use Rattle.st_lemmas.specs.Lists.{Has}
 use Rattle.st_lemmas.proofs.Contents.{find_stays}
@@ -59,7 +59,7 @@ use Rattle.st_lemmas.proofs.Marks.{content_hard}
 use Rattle.st_lemmas.proofs.Numbers.{numbered_below, numbered_other, numbered_own}
 use Rattle.st_lemmas.proofs.Tables.{and_true, has_map, same_or_not}
 use Rattle.st_laws_refine.specs.Views.Halves.{held_in}
-use Rattle.st_laws_refine.specs.Client.Shown.{Lasts}
+use Rattle.st_laws_refine.specs.Client.Invariants.{Lasts}
 use Rattle.st_laws_pages.specs.Flush.Flush.{IsIts, file_at}
 use Rattle.st_laws_pages.specs.Disks.Folds.{SettledOn}
 use Rattle.st_laws_steps.specs.Lives.Lives.{clock_in}
@@ -76,7 +76,7 @@ use Rattle.st_laws_pages.proofs.Disks.World.{at_set}
 use Rattle.st_laws_leases.specs.Sides.World.{AllStand}
 use Rattle.st_laws_reads.specs.Copies.Copies.{Nothing}
 use Rattle.st_laws_reads.specs.Copies.Law.{StandsAt}
-use Rattle.st_laws_reads.specs.Copies.World.{asking, hearing, hearing_of, taken, taking, told_at, told_of}
+use Rattle.st_laws_reads.specs.Copies.World.{asking, receiving, receiving_of, taken, taking, told_at, told_of}
 use Rattle.st_laws_reads.specs.AllClients.Events.{CutFree, CutsFree, FrozenStandAlone, MessageFree, OthersOwed, ReceiverFree, ServerFree, TurnFree}
 use Rattle.st_laws_reads.specs.AllClients.Law.{Running}
 use Rattle.st_laws_reads.specs.AllClients.World.{CopiesHold}
@@ -112,11 +112,11 @@ content_ended f p cs (l ∷ ls) es s =
 -- where the page of each outstanding read is settled
 abbrev pub ReadsSettled : World → Type 0
 ReadsSettled w =
-    (c : ℕ) (site : ClientSite) → Running w c site → (a : Association) → Has a site.node.state.associations → Lasts site.node.state.config.lease (clock_of w (nodes.Client (client c))).0 a.session → (pc : PageCommand) → Has pc a.store.commands → pc.kind ≡ io.Read →
+    (c : ℕ) (site : WorldClient) → Running w c site → (a : Association) → Has a site.node.state.associations → Lasts site.node.state.config.lease (clock_of w (nodes.Client (client c))).0 a.session → (pc : PageCommand) → Has pc a.store.commands → pc.kind ≡ io.Read →
     SettledOn (file_at a pc.ino) pc.page w.log
 
 module _ (asks : ℕ → ℕ → Option Ask) (w : World) (copies : CopiesHold asks w) (pages_w : PagesHold w) (reads : ReadsHold w w.log) (settled : ReadsSettled w) where
-  held : (c : ℕ) (site : ClientSite) → Running w c site → (a : Association) → Has a site.node.state.associations → Lasts site.node.state.config.lease (clock_of w (nodes.Client (client c))).0 a.session → (pc : PageCommand) → Has pc a.store.commands → pc.kind ≡ io.Read → 1 ≤ (held_in a.session pc.ino).mode
+  held : (c : ℕ) (site : WorldClient) → Running w c site → (a : Association) → Has a site.node.state.associations → Lasts site.node.state.config.lease (clock_of w (nodes.Client (client c))).0 a.session → (pc : PageCommand) → Has pc a.store.commands → pc.kind ≡ io.Read → 1 ≤ (held_in a.session pc.ino).mode
   held c site run a i l pc m r =
       let s : StandsAt (client c) w.log a = (while_at _ _ (client c) w.log site.node.state.associations a ((copies c site run.there).runs run.runs).copies i).lasting l in
       (s.pages pc.ino pc.page).reading (being_read a pc m r)
@@ -128,7 +128,7 @@ module _ (asks : ℕ → ℕ → Option Ask) (w : World) (copies : CopiesHold as
 
   abbrev Fits : World → List LogEntry → Type 0
   Fits v es =
-      (c : ℕ) (site : ClientSite) → Running w c site → (a : Association) → Has a site.node.state.associations → Lasts site.node.state.config.lease (clock_of w (nodes.Client (client c))).0 a.session → (pc : PageCommand) → Has pc a.store.commands → pc.kind ≡ io.Read →
+      (c : ℕ) (site : WorldClient) → Running w c site → (a : Association) → Has a site.node.state.associations → Lasts site.node.state.config.lease (clock_of w (nodes.Client (client c))).0 a.session → (pc : PageCommand) → Has pc a.store.commands → pc.kind ≡ io.Read →
       FitsPage v es (file_at a pc.ino) pc.page
 
   -- a read that samples its block now
@@ -148,7 +148,7 @@ module _ (asks : ℕ → ℕ → Option Ask) (w : World) (copies : CopiesHold as
 
   -- clients as they were, or with nothing outstanding
   abbrev Back : World → Type 0
-  Back v = (c : ℕ) (site : ClientSite) → Running v c site → (a : Association) → Has a site.node.state.associations → Running w c site ⊎ ((pc : PageCommand) → Has pc a.store.commands → ⊥)
+  Back v = (c : ℕ) (site : WorldClient) → Running v c site → (a : Association) → Has a site.node.state.associations → Running w c site ⊎ ((pc : PageCommand) → Has pc a.store.commands → ⊥)
 
   same_clients : (v : World) → v.clients ≡ w.clients → Back v
   same_clients v e c site run a i = inl (record { there = ap (λ z. numbered z c) (sym e) ∙ run.there; runs = run.runs })
@@ -156,7 +156,7 @@ module _ (asks : ℕ → ℕ → Option Ask) (w : World) (copies : CopiesHold as
   moved : (v : World) (es : List LogEntry) → Back v → ((c : ℕ) → (clock_of w (nodes.Client (client c))).0 ≤ (clock_of v (nodes.Client (client c))).0) → v.commands ≡ w.commands → CommandsOn v → Fits v es → ReadsHold v es
   moved v es back clocks cs on fits = record { clean = λ c site run a i. clean c site a i (back c site run a i); right = λ c site run a i l pc m r n y d yi its di. right c site a i l pc m r n y d yi its di (back c site run a i) }
     where
-      clean : (c : ℕ) (site : ClientSite) (a : Association) → Has a site.node.state.associations → Running w c site ⊎ ((pc : PageCommand) → Has pc a.store.commands → ⊥) → ReadsClean a.store
+      clean : (c : ℕ) (site : WorldClient) (a : Association) → Has a site.node.state.associations → Running w c site ⊎ ((pc : PageCommand) → Has pc a.store.commands → ⊥) → ReadsClean a.store
       clean c site a i (inl run) = reads.clean c site run a i
       clean c site a i (inr n) = λ pc m r. absurd (n pc m)
 
@@ -164,7 +164,7 @@ module _ (asks : ℕ → ℕ → Option Ask) (w : World) (copies : CopiesHold as
       earlier c lease None l = tt
       earlier c lease (Some s) l = let z = clocks c in omega (arith, l, z)
 
-      right : (c : ℕ) (site : ClientSite) (a : Association) → Has a site.node.state.associations → Lasts site.node.state.config.lease (clock_of v (nodes.Client (client c))).0 a.session → (pc : PageCommand) → Has pc a.store.commands → pc.kind ≡ io.Read →
+      right : (c : ℕ) (site : WorldClient) (a : Association) → Has a site.node.state.associations → Lasts site.node.state.config.lease (clock_of v (nodes.Client (client c))).0 a.session → (pc : PageCommand) → Has pc a.store.commands → pc.kind ≡ io.Read →
           (n : ℕ) (y : IssuedCommand) (d : DiskCommand) → numbered v.commands n ≡ Some y → IsIts (client c) site.starts pc.number y → disks.command_at v.disks.commands n ≡ Some d → Running w c site ⊎ ((pc : PageCommand) → Has pc a.store.commands → ⊥) → ReadRight v es a pc d
       right c site a i l pc m r n y d yi its di (inr z) = absurd (z pc m)
       right c site a i l pc m r n y d yi its di (inl run) = go (on n d di)
@@ -248,7 +248,7 @@ module _ (asks : ℕ → ℕ → Option Ask) (w : World) (copies : CopiesHold as
       (λ c site run a i l pc m r. record { mapped = λ e z. z; same = content_ended (file_at a pc.ino) pc.page w.commands (ev.lives_reached w steps) w.log (settled c site run a i l pc m r) })
 
   -- a client's crash and start
-  swapped : (v : World) (c : ClientId) (old new : ClientSite) → site_of w c ≡ Some old → v.clients ≡ with_numbered c.0 new w.clients → (new.node.running ≡ true → (a : Association) → Has a new.node.state.associations → (pc : PageCommand) → Has pc a.store.commands → ⊥) → Back v
+  swapped : (v : World) (c : ClientId) (old new : WorldClient) → site_of w c ≡ Some old → v.clients ≡ with_numbered c.0 new w.clients → (new.node.running ≡ true → (a : Association) → Has a new.node.state.associations → (pc : PageCommand) → Has pc a.store.commands → ⊥) → Back v
   swapped v c old new there cs none d site run a i = go (same_or_not d c.0)
     where
       its : numbered (with_numbered c.0 new w.clients) d ≡ Some site
@@ -258,9 +258,9 @@ module _ (asks : ℕ → ℕ → Option Ask) (w : World) (copies : CopiesHold as
       go (inr n) = inl (record { there = sym (numbered_other w.clients c.0 d new (numbered_below w.clients c.0 old there).0 n) ∙ its; runs = run.runs })
       go (inl q) =
           let s : new ≡ site = some_is (sym (numbered_own w.clients c.0 new old there) ∙ ap (numbered (with_numbered c.0 new w.clients)) (sym q) ∙ its) in
-          inr (λ pc m. none (ap (λ (z : ClientSite). z.node.running) s ∙ run.runs) a (subst (λ (z : ClientSite). Has a z.node.state.associations) (sym s) i) pc m)
+          inr (λ pc m. none (ap (λ (z : WorldClient). z.node.running) s ∙ run.runs) a (subst (λ (z : WorldClient). Has a z.node.state.associations) (sym s) i) pc m)
 
-  crash : (c : ClientId) (site : ClientSite) → site_of w c ≡ Some site → ReadsHold (ev.crashes_client w c (Some site)).world (ev.crashes_client w c (Some site)).world.log
+  crash : (c : ClientId) (site : WorldClient) → site_of w c ≡ Some site → ReadsHold (ev.crashes_client w c (Some site)).world (ev.crashes_client w c (Some site)).world.log
   unfolding ev.crashes_client ev.marks ev.log_crashed log.drop_picked content
   crash c site there =
       moved (ev.crashes_client w c (Some site)).world (ev.crashes_client w c (Some site)).world.log
@@ -271,7 +271,7 @@ module _ (asks : ℕ → ℕ → Option Ask) (w : World) (copies : CopiesHold as
       no : false ≡ true → ⊥
       no r = cc
 
-  start : (c : ClientId) (site : ClientSite) → site_of w c ≡ Some site → ReadsHold (ev.starts_client w c (Some site)) (ev.starts_client w c (Some site)).log
+  start : (c : ClientId) (site : WorldClient) → site_of w c ≡ Some site → ReadsHold (ev.starts_client w c (Some site)) (ev.starts_client w c (Some site)).log
   unfolding ev.starts_client cl.start
   start c site there =
       moved (ev.starts_client w c (Some site)) (ev.starts_client w c (Some site)).log
@@ -331,7 +331,7 @@ module _ (asks : ℕ → ℕ → Option Ask) (w : World) (copies : CopiesHold as
   content_all f p s (o ∷ os) sc n = content_all f p s os (ev.server_says sc s o) (λ g q i. n g q (inr i)) ∙ content_one f p s o sc (λ g q e. n g q (inl e))
 
   -- no page of an outstanding read is behind a cut
-  cut_apart : (f : FileId) (p : PageNo) → CutFree w f p → (c : ℕ) (site : ClientSite) → Running w c site → (a : Association) → Has a site.node.state.associations → Lasts site.node.state.config.lease (clock_of w (nodes.Client (client c))).0 a.session →
+  cut_apart : (f : FileId) (p : PageNo) → CutFree w f p → (c : ℕ) (site : WorldClient) → Running w c site → (a : Association) → Has a site.node.state.associations → Lasts site.node.state.config.lease (clock_of w (nodes.Client (client c))).0 a.session →
       (pc : PageCommand) → Has pc a.store.commands → pc.kind ≡ io.Read → touches (file_at a pc.ino) pc.page (hard_cut f p) ≡ true → ⊥
   cut_apart f p free c site run a i l pc m r t = go (free_at asks w copies f p site.node.state.config.lease (clock_of w (nodes.Client (client c))).0 site.node.state.associations (free c site run) a i l sv)
     where
@@ -356,7 +356,7 @@ module _ (asks : ℕ → ℕ → Option Ask) (w : World) (copies : CopiesHold as
           let n = ap (λ j. (held_in a.session j).mode) file in absurd (omega (arith, z, m, n))
       go (inr z) = none (sym (being_read a pc m r) ∙ ap (λ j. pages.is_being_read a.store.commands j pc.page) (sym file) ∙ (z pc.page (leb-true p.0 pc.page.0 x.1)).reading)
 
-  apart : (f : FileId) (p : PageNo) → CutFree w f p → (c : ℕ) (site : ClientSite) → Running w c site → (a : Association) → Has a site.node.state.associations → Lasts site.node.state.config.lease (clock_of w (nodes.Client (client c))).0 a.session →
+  apart : (f : FileId) (p : PageNo) → CutFree w f p → (c : ℕ) (site : WorldClient) → Running w c site → (a : Association) → Has a site.node.state.associations → Lasts site.node.state.config.lease (clock_of w (nodes.Client (client c))).0 a.session →
       (pc : PageCommand) → Has pc a.store.commands → pc.kind ≡ io.Read → touches (file_at a pc.ino) pc.page (hard_cut f p) ≡ false
   apart f p free c site run a i l pc m r = go (touches (file_at a pc.ino) pc.page (hard_cut f p)) refl
     where
@@ -448,7 +448,7 @@ module _ (asks : ℕ → ℕ → Option Ask) (w : World) (copies : CopiesHold as
       now : Stamp
       now = clock_of w (nodes.Server s)
 
-      t : server.Turn
+      t : server.ServerTurn
       t = server.server_step node.state now input
 
       go : (b : Bool) → TurnFree w (if b then Ok (server.node_turn node t) else Err Crashed) → ReadsHold (ev.server_took w s (if b then Ok (server.node_turn node t) else Err Crashed)).world (ev.server_took w s (if b then Ok (server.node_turn node t) else Err Crashed)).world.log
@@ -461,16 +461,16 @@ module _ (asks : ℕ → ℕ → Option Ask) (w : World) (copies : CopiesHold as
       (λ c site run a i l pc m r.
       record { mapped = λ e h. mapped_kept v s node n there ss (file_at a pc.ino) pc.page e (λ z. ap (λ x. extents.extent_of x (file_at a pc.ino) pc.page) same ∙ z) h; same = ap (λ l. content l (file_at a pc.ino) pc.page) ls })
 
-  receiver_reads : (m : Message) (n : NodeId) → hearing w m n ≡ None → ReceiverFree w m n → ReadsHold (ev.delivers_to w m n).world (ev.delivers_to w m n).world.log
+  receiver_reads : (m : Message) (n : NodeId) → receiving w m n ≡ None → ReceiverFree w m n → ReadsHold (ev.delivers_to w m n).world (ev.delivers_to w m n).world.log
   unfolding ev.delivers_to ev.at_client
   receiver_reads m (nodes.Client c) e g = go (site_of w c) e
     where
-      go : (o : Option ClientSite) → taking w c (inputs.Control m) o ≡ None → ReadsHold (ev.at_client w c (inputs.Control m) o).world (ev.at_client w c (inputs.Control m) o).world.log
+      go : (o : Option WorldClient) → taking w c (inputs.Control m) o ≡ None → ReadsHold (ev.at_client w c (inputs.Control m) o).world (ev.at_client w c (inputs.Control m) o).world.log
       go None e = reads
       go (Some site) e = absurd (none_some _ e)
   receiver_reads m (nodes.Server s) e g = server_reads s (serving.Control m) (node_of w s) refl g
 
-  message_reads : (o : Option SentMessage) → hearing_of w o ≡ None → MessageFree w o → ReadsHold (ev.delivers w o).world (ev.delivers w o).world.log
+  message_reads : (o : Option SentMessage) → receiving_of w o ≡ None → MessageFree w o → ReadsHold (ev.delivers w o).world (ev.delivers w o).world.log
   unfolding ev.delivers
   message_reads None e g = reads
   message_reads (Some m) e g = receiver_reads m.message (receiver_of m) e g
@@ -480,13 +480,13 @@ module _ (asks : ℕ → ℕ → Option Ask) (w : World) (copies : CopiesHold as
   unfolding ev.happens ev.ticks ev.loses_message ev.reports_of ev.crashes ev.crashes_server ev.starts ev.starts_server ev.at_client ev.asks_at ev.tells ev.tells_client ev.tells_site ev.crashes_client ev.starts_client server.crash server.start server.begin_epoch
   others_reads (events.Tick (nodes.Client c)) ref t o = go (site_of w c) t
     where
-      go : (s : Option ClientSite) → taking w c inputs.Tick s ≡ None → ReadsHold (ev.at_client w c inputs.Tick s).world (ev.at_client w c inputs.Tick s).world.log
+      go : (s : Option WorldClient) → taking w c inputs.Tick s ≡ None → ReadsHold (ev.at_client w c inputs.Tick s).world (ev.at_client w c inputs.Tick s).world.log
       go None t = reads
       go (Some site) t = absurd (none_some _ t)
   others_reads (events.Tick (nodes.Server s)) ref t o = server_reads s serving.Tick (node_of w s) refl o
   others_reads (events.App c ask) ref t o = go (site_of w c) t
     where
-      go : (s : Option ClientSite) → asking w c ask s ≡ None → ReadsHold (ev.asks_at w c ask s).world (ev.asks_at w c ask s).world.log
+      go : (s : Option WorldClient) → asking w c ask s ≡ None → ReadsHold (ev.asks_at w c ask s).world (ev.asks_at w c ask s).world.log
       go None t = reads
       go (Some site) t = absurd (none_some _ t)
   others_reads (events.Deliver n) ref t o = message_reads (message_of w n) t o
@@ -504,13 +504,13 @@ module _ (asks : ℕ → ℕ → Option Ask) (w : World) (copies : CopiesHold as
       h_v : ReadsHold (ev.with_disks (ev.disks_after w.disks (disks.done w.disks n ok)) w) w.log
       h_v = quiet (ev.with_disks (ev.disks_after w.disks (disks.done w.disks n ok)) w) refl refl refl (λ n2 d i. inl ((report_open w.disks n ok).was n2 d i)) refl refl
 
-      by : (y : IssuedCommand) (site : ClientSite) (b : Bool) → (if b then taking (ev.with_disks (ev.disks_after w.disks (disks.done w.disks n ok)) w) y.client (ev.end_told (ev.with_disks (ev.disks_after w.disks (disks.done w.disks n ok)) w) n ok y) (Some site) else None) ≡ None →
+      by : (y : IssuedCommand) (site : WorldClient) (b : Bool) → (if b then taking (ev.with_disks (ev.disks_after w.disks (disks.done w.disks n ok)) w) y.client (ev.end_told (ev.with_disks (ev.disks_after w.disks (disks.done w.disks n ok)) w) n ok y) (Some site) else None) ≡ None →
           ReadsHold (if b then ev.client_takes (ev.with_disks (ev.disks_after w.disks (disks.done w.disks n ok)) w) y.client (ev.end_told (ev.with_disks (ev.disks_after w.disks (disks.done w.disks n ok)) w) n ok y) site else ev.quiet (ev.with_disks (ev.disks_after w.disks (disks.done w.disks n ok)) w)).world
           (if b then ev.client_takes (ev.with_disks (ev.disks_after w.disks (disks.done w.disks n ok)) w) y.client (ev.end_told (ev.with_disks (ev.disks_after w.disks (disks.done w.disks n ok)) w) n ok y) site else ev.quiet (ev.with_disks (ev.disks_after w.disks (disks.done w.disks n ok)) w)).world.log
       by y site true t = absurd (none_some _ t)
       by y site false t = h_v
 
-      at : (y : IssuedCommand) (s : Option ClientSite) → told_at (ev.with_disks (ev.disks_after w.disks (disks.done w.disks n ok)) w) n ok y s ≡ None → ReadsHold (ev.tells_client (ev.with_disks (ev.disks_after w.disks (disks.done w.disks n ok)) w) n ok y s).world (ev.tells_client (ev.with_disks (ev.disks_after w.disks (disks.done w.disks n ok)) w) n ok y s).world.log
+      at : (y : IssuedCommand) (s : Option WorldClient) → told_at (ev.with_disks (ev.disks_after w.disks (disks.done w.disks n ok)) w) n ok y s ≡ None → ReadsHold (ev.tells_client (ev.with_disks (ev.disks_after w.disks (disks.done w.disks n ok)) w) n ok y s).world (ev.tells_client (ev.with_disks (ev.disks_after w.disks (disks.done w.disks n ok)) w) n ok y s).world.log
       at y None t = h_v
       at y (Some site) t = by y site (ev.is_same_instance y site) t
 
@@ -519,7 +519,7 @@ module _ (asks : ℕ → ℕ → Option Ask) (w : World) (copies : CopiesHold as
       go (Some y) t = at y (site_of w y.client) t
   others_reads (events.Crash (nodes.Client c)) ref t o = go (site_of w c) refl
     where
-      go : (s : Option ClientSite) → site_of w c ≡ s → ReadsHold (ev.crashes_client w c s).world (ev.crashes_client w c s).world.log
+      go : (s : Option WorldClient) → site_of w c ≡ s → ReadsHold (ev.crashes_client w c s).world (ev.crashes_client w c s).world.log
       go None e = reads
       go (Some site) e = crash c site e
   others_reads (events.Crash (nodes.Server s)) ref t o = go (node_of w s) refl
@@ -529,7 +529,7 @@ module _ (asks : ℕ → ℕ → Option Ask) (w : World) (copies : CopiesHold as
       go (Some node) e = same_node (ev.with_node s (server.crash_node node) w) s node (server.crash_node node) e refl refl refl refl refl refl refl
   others_reads (events.Start (nodes.Client c)) ref t o = go (site_of w c) refl
     where
-      go : (s : Option ClientSite) → site_of w c ≡ s → ReadsHold (ev.starts_client w c s) (ev.starts_client w c s).log
+      go : (s : Option WorldClient) → site_of w c ≡ s → ReadsHold (ev.starts_client w c s) (ev.starts_client w c s).log
       go None e = reads
       go (Some site) e = start c site e
   others_reads (events.Start (nodes.Server s)) ref t o = go (node_of w s) refl

@@ -19,7 +19,7 @@ use Rattle.st_rules.specs.History.{Traced, traced, traced_after}
 use Rattle.st_rules.specs.Safety as safety
 use Rattle.st_rules.specs.Safety.{Promise, Step, Throughout, is_event, step, steps}
 use Rattle.st_rules.specs.World as world
-use Rattle.st_rules.specs.World.{World, ClientSite, fresh_world}
+use Rattle.st_rules.specs.World.{World, WorldClient, fresh_world}
 use Rattle.st_protocol.specs.Assoc.{Config}
 use Rattle.st_lemmas.specs.Lists.{Has}
 use Rattle.st_lemmas.proofs.Steps.{step_happens}
@@ -159,9 +159,9 @@ module _ (k : base.Config) (clients servers d b form : ℕ) where
   unfolding fresh_world cl.fresh_client
   fresh_reads = record { clean = λ c site run a i pc m r. absurd (none c site run a i pc m); right = λ c site run a i l pc m r n y e yi its ei. absurd (none c site run a i pc m) }
     where
-      none : (c : ℕ) (site : ClientSite) → Running (fresh_world k clients servers d b form) c site → (a : Association) → Has a site.node.state.associations → (pc : Rattle.st_rules.specs.declared.client.PageCommand.PageCommand) → Has pc a.store.commands → ⊥
+      none : (c : ℕ) (site : WorldClient) → Running (fresh_world k clients servers d b form) c site → (a : Association) → Has a site.node.state.associations → (pc : Rattle.st_rules.specs.declared.client.PageCommand.PageCommand) → Has pc a.store.commands → ⊥
       none c site run a i pc m =
-          let z = has_map cl.fresh_association (numbers 1 servers) a (subst (λ (s : ClientSite). Has a s.node.state.associations) (site_is k clients servers c site run.there).0 i) in
+          let z = has_map cl.fresh_association (numbers 1 servers) a (subst (λ (s : WorldClient). Has a s.node.state.associations) (site_is k clients servers c site run.there).0 i) in
           nothing (subst (λ (y : Association). Has pc y.store.commands) z.2 m)
         where
           nothing : Has pc [] → ⊥

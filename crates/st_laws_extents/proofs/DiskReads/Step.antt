@@ -24,8 +24,8 @@ use Rattle.st_rules.specs.ClientState.{Association, ClientState, ClientTurn, Tur
 use Rattle.st_lemmas.specs.Lists.{Has}
 use Rattle.st_lemmas.proofs.Tables.{has_append, has_filter}
 use Rattle.st_laws_steps.specs.Client.Client.{ChangesPage}
-use Rattle.st_laws_steps.specs.Client.Taking as taking
-use Rattle.st_laws_steps.specs.Client.Taking.{Taken}
+use Rattle.st_laws_steps.specs.Client.Inputs as taking
+use Rattle.st_laws_steps.specs.Client.Inputs.{Taken}
 use Rattle.st_laws_steps.specs.Lives.Lives.{Once, server_number}
 use Rattle.st_laws_steps.specs.Client.Losses.{Ends, Fails, Fit, Hardens, Passes, Unknown, is_ended}
 use Rattle.st_laws_pages.proofs.Flush.Adding.{AllStill}
@@ -35,7 +35,7 @@ use Rattle.st_laws_pages.proofs.Flush.Flushing.{pair_of}
 use Rattle.st_laws_steps.proofs.Client.Taking.{taken}
 use Rattle.st_laws_steps.proofs.Client.Losing.{Finished, c_only, finish_is, is_done, rest_of}
 use Rattle.st_laws_steps.proofs.Client.Nexts.{Next, changes_next, found_fewer, failed_found}
-use Rattle.st_laws_steps.proofs.Client.Replying.{c_hear}
+use Rattle.st_laws_steps.proofs.Client.Replying.{c_receive}
 use Rattle.st_laws_steps.proofs.Client.Stepping.{LossesLeft, LostOrNot, finish_next, losses_left, pairs_has}
 use Rattle.st_laws_pages.proofs.Flush.Quiet.{AllQuiet, losses_quiet}
 use Rattle.st_laws_extents.specs.DiskReads.OutstandingReads.{ReadsClean, ReadsKept, Unchanged}
@@ -270,8 +270,8 @@ module _ (c : ClientId) (s : ClientState) (now : Stamp) (input : ClientInput) (f
   input_all _ _ (taking.Unknown op ask e f) = answered op answers.NoFile begins
   input_all _ _ (taking.Takes op ask e f) =
       each_all t.state.associations s.next_command now (only_at (server_of ask) (cl.take_ask op ask)) (λ x f. changes_next now x _ (c_only now (server_of ask) op ask x)) (λ x f. changes_kept now x _ (c_only now (server_of ask) op ask x)) t begins
-  input_all _ _ (taking.Hears m e) =
-      each_all t.state.associations s.next_command now (cr.receive_at now m.header m.body) (λ y f. changes_next now y _ (c_hear now m.header m.body y f.fresh)) (λ y f. changes_kept now y _ (c_hear now m.header m.body y f.fresh)) t begins
+  input_all _ _ (taking.Receives m e) =
+      each_all t.state.associations s.next_command now (cr.receive_at now m.header m.body) (λ y f. changes_next now y _ (c_receive now m.header m.body y f.fresh)) (λ y f. changes_kept now y _ (c_receive now m.header m.body y f.fresh)) t begins
   input_all _ _ (taking.Finishes number result) =
       each_all t.state.associations s.next_command now (cl.finish number result) (λ y f. finish_next now number result y) (λ y f. finished_kept now number (is_done result) y (cl.finish number result y) (finish_is now number result y)) t begins
 

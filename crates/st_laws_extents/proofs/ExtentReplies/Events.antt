@@ -21,12 +21,12 @@ use Rattle.st_rules.specs.History.{Traced}
 use Rattle.st_rules.specs.Server as server
 use Rattle.st_rules.specs.Server.{ServerNode}
 use Rattle.st_rules.specs.World as world
-use Rattle.st_rules.specs.World.{World, ClientSite, site_of, node_of, numbered, with_numbered, clock_of}
+use Rattle.st_rules.specs.World.{World, WorldClient, site_of, node_of, numbered, with_numbered, clock_of}
 use Rattle.st_rules.specs.Safety.{Step}
 use Rattle.st_lemmas.specs.Lists.{Has}
 use Rattle.st_lemmas.proofs.Numbers.{numbered_below}
 use Rattle.st_laws_leases.specs.Dates.Dates.{ClientDated, messages}
-use Rattle.st_laws_requests.specs.Replies.Reached.{InputNew, NewOwed}
+use Rattle.st_laws_requests.specs.Replies.ServedRequests.{InputNew, NewOwed}
 use Rattle.st_laws_requests.proofs.Replies.EachEvent.{Brings, ClientTook, Comes, NodeAfter, ServerLeft, ServerTook, SiteAfter, event_leaves}
 use Rattle.st_laws_requests.proofs.Replies.Replies.{RepliesHold}
 use Rattle.st_laws_requests.proofs.Replies.Served.{Served, served}
@@ -81,7 +81,7 @@ module _ (past : List Step) (t : Traced) (r : RepliesHold past t) (few : length 
   placed s old new v at ss ms g = inl (record { nodes = nodes_placed s old new v at ss g; messages = λ m h x e. subst (Has m) ms h })
 
   -- A step of a client.
-  client_step : (v : World) → v.servers ≡ t.world.servers → (c : ClientId) (i : ClientInput) (site old : ClientSite) → site.node ≡ old.node → site_of t.world c ≡ Some old → Comes t.world i →
+  client_step : (v : World) → v.servers ≡ t.world.servers → (c : ClientId) (i : ClientInput) (site old : WorldClient) → site.node ≡ old.node → site_of t.world c ≡ Some old → Comes t.world i →
       (last : World) → Leaves (messages t.world) (ev.with_site c (SiteAfter v c i site) v) last (ClientTook v c i site).out → EventTells t.world last
   client_step v ss c i site old same at k last l =
       inl (record { nodes = λ s p q. (p, ap (λ xs. numbered xs s.0) (sym ss ∙ sym l.servers) ∙ q, node_same p); messages = λ m h s e. sent m (leaves_from (messages t.world) (ev.with_site c (SiteAfter v c i site) v) last u.out l m h) s e })
@@ -122,7 +122,7 @@ module _ (past : List Step) (t : Traced) (r : RepliesHold past t) (few : length 
         epoch = ap (λ (y : Rattle.st_base.specs.declared.ids.Epoch.Epoch). y.0) k.epoch;
       })
     where
-      u : server.Turn
+      u : server.ServerTurn
       u = ServerTook t.world s i node
 
       k : Served s node.state.stable.epoch i node.state.sessions u
@@ -137,11 +137,11 @@ module _ (past : List Step) (t : Traced) (r : RepliesHold past t) (few : length 
       input_is : (n m : Message) → serving.Control n ≡ serving.Control m → n ≡ m
       input_is n m e = cc
 
-  stopped : (c : ClientId) (site : ClientSite) → site_of t.world c ≡ Some site → EventTells t.world (ev.crashes_client w c (Some site)).world
+  stopped : (c : ClientId) (site : WorldClient) → site_of t.world c ≡ Some site → EventTells t.world (ev.crashes_client w c (Some site)).world
   unfolding ev.crashes_client ev.marks w cl.crash
   stopped c site q = still (ev.crashes_client w c (Some site)).world refl refl
 
-  begun : (c : ClientId) (site : ClientSite) → site_of t.world c ≡ Some site → EventTells t.world (ev.starts_client w c (Some site))
+  begun : (c : ClientId) (site : WorldClient) → site_of t.world c ≡ Some site → EventTells t.world (ev.starts_client w c (Some site))
   unfolding ev.starts_client w cl.start
   begun c site q = still (ev.starts_client w c (Some site)) refl refl
 

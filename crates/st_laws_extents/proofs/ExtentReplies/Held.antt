@@ -15,13 +15,13 @@ use Rattle.st_rules.specs.Extents as extents
 use Rattle.st_rules.specs.Extents.{Extents}
 use Rattle.st_rules.specs.Keys.{client}
 use Rattle.st_rules.specs.Server.{ServerNode}
-use Rattle.st_rules.specs.World.{World, ClientSite, node_of, server, site_of}
+use Rattle.st_rules.specs.World.{World, WorldClient, node_of, server, site_of}
 use Rattle.st_protocol.specs.Assoc.{Config}
 use Rattle.st_lemmas.specs.Lists.{Has}
 use Rattle.st_lemmas.proofs.Tables.{found_at}
 use Rattle.st_laws_refine.specs.Views.Halves.{held_at, held_in}
-use Rattle.st_laws_refine.specs.Client.Shown.{HaveModes, Kept}
-use Rattle.st_laws_leases.specs.Sides.Stands.{Standing}
+use Rattle.st_laws_refine.specs.Client.Invariants.{HaveModes, Kept}
+use Rattle.st_laws_leases.specs.Sides.Invariants.{Standing}
 use Rattle.st_laws_leases.specs.Sides.World.{AllStand, ServerStands}
 use Rattle.st_laws_leases.proofs.Sides.Pairs.{only_here}
 use Rattle.st_laws_extents.specs.ExtentReplies.Steps.{AsksExtents, TellsRows, file_of}
@@ -46,7 +46,7 @@ current_lock b c ino p n a e = go b a e
     go b a e = clash e refl
 
 -- it has a mode, at a server that is there
-pub current_mode : (k : Config) (count : ℕ) (w : World) → AllStand k count w → (s : ℕ) (node : ServerNode) → node_of w (server s) ≡ Some node → (d : ℕ) (site : ClientSite) → site_of w (client d) ≡ Some site → (a : Association) → Has a site.node.state.associations →
+pub current_mode : (k : Config) (count : ℕ) (w : World) → AllStand k count w → (s : ℕ) (node : ServerNode) → node_of w (server s) ≡ Some node → (d : ℕ) (site : WorldClient) → site_of w (client d) ≡ Some site → (a : Association) → Has a site.node.state.associations →
     a.server ≡ server s → (x : ClientSession) → a.session ≡ Some x → (b : Body) (ino : ℕ) (p : PageNo) (n : ℕ) → AsksExtents b ino p n → is_current x.locks b ≡ true → 1 ≤ (held_in a.session ino).mode
 current_mode k count w all s node is d site at a i e x f b ino p n asks cur =
     subst (λ o. 1 ≤ (held_in o ino).mode) (sym f)

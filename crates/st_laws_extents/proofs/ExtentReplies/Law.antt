@@ -16,14 +16,14 @@ use Rattle.st_rules.specs.History.{Traced, traced, traced_after}
 use Rattle.st_rules.specs.Keys.{client, server_node}
 use Rattle.st_rules.specs.Safety as safety
 use Rattle.st_rules.specs.Safety.{Promise, Step, Throughout, is_event, step, steps}
-use Rattle.st_rules.specs.Server.{ServerNode, Turn, server_step}
-use Rattle.st_rules.specs.World.{ClientSite, World, fresh_world, node_of, numbered, with_numbered}
+use Rattle.st_rules.specs.Server.{ServerNode, ServerTurn, server_step}
+use Rattle.st_rules.specs.World.{WorldClient, World, fresh_world, node_of, numbered, with_numbered}
 use Rattle.st_protocol.specs.Assoc.{Config}
 use Rattle.st_lemmas.specs.Lists.{Has}
 use Rattle.st_lemmas.proofs.Lookups.{some_is}
 use Rattle.st_lemmas.proofs.Numbers.{numbered_below, numbered_other, numbered_own}
 use Rattle.st_lemmas.proofs.Tables.{and_true, same_or_not}
-use Rattle.st_laws_refine.specs.Client.Shown.{Lasts}
+use Rattle.st_laws_refine.specs.Client.Invariants.{Lasts}
 use Rattle.st_laws_steps.specs.Lives.Lives.{clock_in}
 use Rattle.st_laws_leases.specs.Dates.Dates.{messages}
 use Rattle.st_laws_refine.specs.Server.Pair.{terms_of}
@@ -31,7 +31,7 @@ use Rattle.st_laws_extents.proofs.CutRequests.Law as cutters
 use Rattle.st_laws_extents.specs.ExtentReplies.Events.{EventTells, NodeStays, ServerSteps, Stays}
 use Rattle.st_laws_extents.specs.ExtentReplies.Law.{AskedAfter, InRunsAsked, IsAsked, RequestsGo, Untold, WasAsked}
 use Rattle.st_laws_extents.specs.ExtentReplies.Steps.{KeptRows, TellsRows}
-use Rattle.st_laws_extents.specs.ExtentReplies.Told.{AskedAt, AskedRight, RepliesRight, RepliesTo}
+use Rattle.st_laws_extents.specs.ExtentReplies.ToldExtents.{AskedAt, AskedRight, RepliesRight, RepliesTo}
 use Rattle.st_laws_extents.proofs.ExtentReplies.Events.{event_tells}
 use Rattle.st_laws_extents.proofs.ExtentReplies.Serving.{is_kept, is_sent, was_sent}
 use Rattle.st_laws_extents.proofs.ExtentReplies.Step.{step_tells}
@@ -71,13 +71,13 @@ module _ (w v : World) (stays : Stays w v) (right : AskedRight w) where
 
 -- Where a server does.
 module _ (k : Config) (count : ℕ) (past : List Step) (t : Traced) (h : cutters.Hold k count past t) (v : World) (y : ServerSteps t.world v) (right : AskedRight t.world) where
-  abbrev u : Turn
+  abbrev u : ServerTurn
   u = server_step y.node.state y.now y.input
 
   abbrev next : ServerNode
   next = record y.node { state = u.state }
 
-  asked_then : (c : ℕ) (site : ClientSite) (a : Association) (x : ClientSession) (q : Request) → AskedAt v c site a x q → AskedAt t.world c site a x q
+  asked_then : (c : ℕ) (site : WorldClient) (a : Association) (x : ClientSession) (q : Request) → AskedAt v c site a x q → AskedAt t.world c site a x q
   asked_then c site a x q z =
       record {
         run = record { there = ap (λ xs. numbered xs c) (sym y.clients) ∙ z.run.there; runs = z.run.runs };
@@ -168,7 +168,7 @@ fresh_right k clients servers disks blocks form c site a x q z node at =
     no : a.session ≡ None
     no =
         let y = Rattle.st_lemmas.proofs.Tables.has_map Rattle.st_rules.specs.Client.fresh_association (Rattle.st_rules.specs.Extents.numbers 1 servers) a
-        (subst (λ (s : ClientSite). Has a s.node.state.associations) (Rattle.st_laws_pages.proofs.Disks.Whole.site_is k clients servers c site z.run.there).0 z.has) in
+        (subst (λ (s : WorldClient). Has a s.node.state.associations) (Rattle.st_laws_pages.proofs.Disks.Whole.site_is k clients servers c site z.run.there).0 z.has) in
         ap (λ (b : Association). b.session) y.2
 
     none : (x : ClientSession) → ◌≡◌ {A = Option ClientSession} None (Some x) → ⊥

@@ -34,7 +34,7 @@ use Rattle.st_rules.specs.Keys.{same_file, same_page, same_server}
 use Rattle.st_rules.specs.Locks as locks
 use Rattle.st_rules.specs.Names as names
 use Rattle.st_rules.specs.Server as sv
-use Rattle.st_rules.specs.Server.{Turn, Replied, rule, sender}
+use Rattle.st_rules.specs.Server.{ServerTurn, Replied, rule, sender}
 use Rattle.st_lemmas.specs.Lists.{Has}
 use Rattle.st_lemmas.proofs.Tables.{and_true, find_before, find_kept, has_append}
 use Rattle.st_laws_extents.specs.ExtentReplies.Steps.{AsksExtents, ChangesExtents, TellsRows, file_of}
@@ -68,7 +68,7 @@ others_released f q x g p n = find_kept (extents.is_extent_of g p) (λ e. not (e
     at e i false h = refl
 
 -- extents of one file changed, under an exclusive row
-pub record Moved (t : Turn) (h : Header) (b : Body) (after : Extents) : Type 0 where
+pub record Moved (t : ServerTurn) (h : Header) (b : Body) (after : Extents) : Type 0 where
   pub ino : ℕ
   pub row : LockRow
   pub found : locks.row_of t.state.locks (sender h) ino ≡ Some row
@@ -77,7 +77,7 @@ pub record Moved (t : Turn) (h : Header) (b : Body) (after : Extents) : Type 0 w
   pub others : (f : FileId) (p : PageNo) → f ≢ file_of t.state.id ino → extents.extent_of after f p ≡ extents.extent_of t.state.stable.extents f p
 
 -- What a rule leaves.
-pub record Ruled (t : Turn) (h : Header) (b : Body) (a : Replied) : Type 0 where
+pub record Ruled (t : ServerTurn) (h : Header) (b : Body) (a : Replied) : Type 0 where
   pub sessions : a.turn.state.sessions ≡ t.state.sessions
   pub sent : (m : Message) → Has (outputs.Send m) a.turn.out → Has (outputs.Send m) t.out
   pub tells : (ino : ℕ) (rows : List ExtentRow) → a.reply ≡ Some (bd.Extents ino rows) → TellsRows t.state.id a.turn.state.stable.extents b ino rows
@@ -88,7 +88,7 @@ abbrev TellsNone : Option Body → Type 0
 TellsNone o = (ino : ℕ) (rows : List ExtentRow) → o ≡ Some (bd.Extents ino rows) → ⊥
 
 -- a rule that leaves sessions, outputs and extents
-plain : (t : Turn) (h : Header) (b : Body) (a : Replied) → a.turn.state.sessions ≡ t.state.sessions → a.turn.out ≡ t.out → a.turn.state.stable.extents ≡ t.state.stable.extents → TellsNone a.reply → Ruled t h b a
+plain : (t : ServerTurn) (h : Header) (b : Body) (a : Replied) → a.turn.state.sessions ≡ t.state.sessions → a.turn.out ≡ t.out → a.turn.state.stable.extents ≡ t.state.stable.extents → TellsNone a.reply → Ruled t h b a
 plain t h b a p q r f = record { sessions = p; sent = λ m i. subst (λ os. Has (outputs.Send m) os) q i; tells = λ ino rows e. absurd (f ino rows e); moves = inl r }
 
 exclusive_of : (m : Mode) → covers m modes.X ≡ true → m ≡ modes.X
@@ -97,7 +97,7 @@ exclusive_of modes.S z = cc
 exclusive_of modes.X z = refl
 
 -- a change under an exclusive row
-moved : (t : Turn) (h : Header) (b : Body) (after : Extents) (g : GrantNo) (ino : ℕ) → sv.holds t h ino g modes.X ≡ true → ((k : GrantNo) → g.0 ≡ k.0 → ChangesExtents b ino k) →
+moved : (t : ServerTurn) (h : Header) (b : Body) (after : Extents) (g : GrantNo) (ino : ℕ) → sv.holds t h ino g modes.X ≡ true → ((k : GrantNo) → g.0 ≡ k.0 → ChangesExtents b ino k) →
     ((f : FileId) (p : PageNo) → f ≢ file_of t.state.id ino → extents.extent_of after f p ≡ extents.extent_of t.state.stable.extents f p) → Moved t h b after
 moved t h b after g ino holds asks others = go (locks.row_of t.state.locks (sender h) ino) refl holds
   where
@@ -130,7 +130,7 @@ removed_is n dir name ino d e f = go (names.place_refusal n dir name) e f
     go (Some r) e f = cc e
     go None e f = entry (names.entry_at n dir name) e f
 
-module _ (t : Turn) (h : Header) (b : Body) where
+module _ (t : ServerTurn) (h : Header) (b : Body) where
   abbrev R : Replied → Type 0
   R a = Ruled t h b a
 
@@ -204,7 +204,7 @@ module _ (t : Turn) (h : Header) (b : Body) where
       go false = nack _ _ _
 
   -- pages are cut
-  cut : (u : Turn) (i : ℕ) (p : PageNo) (g : GrantNo) (reply : Body) → u.state.sessions ≡ t.state.sessions → u.out ≡ t.out → u.state.stable.extents ≡ t.state.stable.extents → u.state.id ≡ t.state.id →
+  cut : (u : ServerTurn) (i : ℕ) (p : PageNo) (g : GrantNo) (reply : Body) → u.state.sessions ≡ t.state.sessions → u.out ≡ t.out → u.state.stable.extents ≡ t.state.stable.extents → u.state.id ≡ t.state.id →
       sv.holds t h i g modes.X ≡ true → ((k : GrantNo) → g.0 ≡ k.0 → ChangesExtents b i k) → TellsNone (Some reply) → R (sv.replied (sv.cut_pages u i p) reply)
   unfolding sv.cut_pages
   cut u i p g reply ss os xs id holds changes none =

@@ -17,18 +17,18 @@ use Rattle.st_rules.specs.ClientState.{Association, ClientSession}
 use Rattle.st_rules.specs.History.{Traced}
 use Rattle.st_rules.specs.Keys.{client, server_node}
 use Rattle.st_rules.specs.Safety.{Step}
-use Rattle.st_rules.specs.Server.{ServerNode, Turn}
+use Rattle.st_rules.specs.Server.{ServerNode, ServerTurn}
 use Rattle.st_rules.specs.Sessions as sessions
-use Rattle.st_rules.specs.World.{ClientSite, clock_of, node_of}
+use Rattle.st_rules.specs.World.{WorldClient, clock_of, node_of}
 use Rattle.st_protocol.specs.Assoc.{Config}
 use Rattle.st_lemmas.specs.Lists.{Has}
 use Rattle.st_lemmas.proofs.Lookups.{some_is}
 use Rattle.st_lemmas.proofs.Tables.{same_or_not}
 use Rattle.st_laws_refine.specs.Views.Halves.{held_in}
-use Rattle.st_laws_requests.specs.Replies.Reached.{Ends, IsBehind, Reached, Refusal}
-use Rattle.st_laws_refine.specs.Client.Shown.{Lasts}
+use Rattle.st_laws_requests.specs.Replies.ServedRequests.{Ends, IsBehind, Reached, Refusal}
+use Rattle.st_laws_refine.specs.Client.Invariants.{Lasts}
 use Rattle.st_laws_requests.specs.Cuts.Cuts.{Numbers, Numbered, SameBody, view}
-use Rattle.st_laws_extents.specs.CutRequests.Fresh.{FreshAt, IsOutstanding}
+use Rattle.st_laws_extents.specs.CutRequests.FreshRequests.{FreshAt, IsOutstanding}
 use Rattle.st_laws_extents.proofs.CutRequests.Fresh.{outstanding}
 use Rattle.st_laws_extents.proofs.CutRequests.Law.{Hold}
 use Rattle.st_laws_extents.proofs.CutRequests.Standing.{own_session}
@@ -36,7 +36,7 @@ use Rattle.st_laws_leases.specs.Dates.Dates.{messages}
 use Rattle.st_laws_reads.specs.AllClients.Law.{Running}
 use Rattle.st_laws_reads.proofs.AllClients.Cutting.{unheld}
 use Rattle.st_laws_extents.specs.ExtentReplies.Steps.{ChangedNow, KeptRows, ServedAnew, StepTells, TellsRows, ToldBy, file_of}
-use Rattle.st_laws_extents.specs.ExtentReplies.Told.{AskedAt, RepliesRight, RepliesTo}
+use Rattle.st_laws_extents.specs.ExtentReplies.ToldExtents.{AskedAt, RepliesRight, RepliesTo}
 use Rattle.st_laws_extents.proofs.ExtentReplies.Held.{current_mode, tells_same}
 use Rattle.st_laws_extents.proofs.ExtentReplies.Sessions.{clash}
 
@@ -44,8 +44,8 @@ use Rattle.st_laws_extents.proofs.ExtentReplies.Sessions.{clash}
 no_reassert : (b : Body) (c : Rattle.st_rules.specs.ClientLocks.LockCache) (rows : List (ℕ × Rattle.st_base.specs.declared.ids.GrantNo.GrantNo × Rattle.st_base.specs.declared.mode.Mode.Mode)) → bodies.Reassert rows ≡ b → is_current c b ≡ true → ⊥
 no_reassert b c rows e cur = clash (subst (λ y. is_current c y ≡ true) (sym e) cur) refl
 
-module _ (k : Config) (count : ℕ) (past : List Step) (t : Traced) (hold : Hold k count past t) (node : ServerNode) (run : node.running ≡ true) (i : ServerInput) (y : Turn) (tells : StepTells node.state i y) (comes : (m : Message) → i ≡ inputs.Control m → Has m (messages t.world))
-    (c : ℕ) (site : ClientSite) (a : Association) (x : ClientSession) (q : Request) (z : AskedAt t.world c site a x q) (at : node_of t.world a.server ≡ Some node) (old : RepliesRight t.world c a x q node) where
+module _ (k : Config) (count : ℕ) (past : List Step) (t : Traced) (hold : Hold k count past t) (node : ServerNode) (run : node.running ≡ true) (i : ServerInput) (y : ServerTurn) (tells : StepTells node.state i y) (comes : (m : Message) → i ≡ inputs.Control m → Has m (messages t.world))
+    (c : ℕ) (site : WorldClient) (a : Association) (x : ClientSession) (q : Request) (z : AskedAt t.world c site a x q) (at : node_of t.world a.server ≡ Some node) (old : RepliesRight t.world c a x q node) where
   id : node.state.id ≡ a.server
   id = (hold.replies.dated.servers a.server node at).id
 

@@ -12,7 +12,7 @@ use Rattle.st_rules.specs.Extents.{Extents}
 use Rattle.st_rules.specs.Keys.{server_node}
 use Rattle.st_rules.specs.Sessions as sessions
 use Rattle.st_rules.specs.Server as sv
-use Rattle.st_rules.specs.Server.{ServerState, Turn, turn, sender, life_in, thefts, receive, take_input, suspecting_on, granting, demanding, server_step}
+use Rattle.st_rules.specs.Server.{ServerState, ServerTurn, turn, sender, life_in, thefts, receive, take_input, suspecting_on, granting, demanding, server_step}
 use Rattle.st_lemmas.proofs.Tables.{and_true}
 use Rattle.st_laws_steps.proofs.Server.Taking.{FreshState, found_for, fresh_state}
 use Rattle.st_laws_extents.specs.ExtentReplies.Steps.{ChangedNow, KeptRows, ServedAnew, StepTells, StepsTell, TellsRows, ToldBy, file_of}
@@ -22,7 +22,7 @@ use Rattle.st_laws_extents.proofs.ExtentReplies.Walk as walk
 use Rattle.st_laws_extents.proofs.ExtentReplies.Walk.{Stands, o_passes, o_thefts, received}
 
 module _ (x : ServerState) (now : Stamp) (m : Message) where
-  abbrev begun : Turn
+  abbrev begun : ServerTurn
   begun = thefts (turn x []) now
 
   comes : From x begun
@@ -34,7 +34,7 @@ module _ (x : ServerState) (now : Stamp) (m : Message) where
   first : Stands Before x.stable.extents begun
   first = o_thefts Before x.stable.extents x now (record { extents = refl; kept = λ c life number ino rows k. k; sent = λ y ino rows i e. absurd i })
 
-  anew : (u : Turn) → walk.Anew Before x.stable.extents m begun now first u → ServedAnew x m
+  anew : (u : ServerTurn) → walk.Anew Before x.stable.extents m begun now first u → ServedAnew x m
   anew u a =
       let v = and_true (m.header.to == server_node begun.state.id) (sv.is_client_node m.header.from) a.for in
       let z = found_for begun.state.sessions (sender m.header) (life_in m.header) (sv.epoch_in m.header) m.header.number takes.Fresh (FreshState m.header.number) a.fresh (λ r. cc r) (λ r. cc r) (λ r. cc r) (λ y r. fresh_state m.header.number y r) in
@@ -52,7 +52,7 @@ module _ (x : ServerState) (now : Stamp) (m : Message) where
       }
 
   -- where a request is served anew
-  module _ (u t : Turn) (a : walk.Anew Before x.stable.extents m begun now first u) where
+  module _ (u t : ServerTurn) (a : walk.Anew Before x.stable.extents m begun now first u) where
     abbrev after : Extents
     after = (walk.asked Before x.stable.extents m begun now first).turn.state.stable.extents
 

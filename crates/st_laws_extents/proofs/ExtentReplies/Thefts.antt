@@ -10,14 +10,14 @@ use Rattle.st_rules.specs.Extents as extents
 use Rattle.st_rules.specs.Locks as locks
 use Rattle.st_rules.specs.Locks.{Locks}
 use Rattle.st_rules.specs.Sessions as sessions
-use Rattle.st_rules.specs.Server.{ServerState, Turn, turn, steal_at, steal_from, steal, steal_each, thefts}
+use Rattle.st_rules.specs.Server.{ServerState, ServerTurn, turn, steal_at, steal_from, steal, steal_each, thefts}
 use Rattle.st_lemmas.proofs.Lookups.{some_is}
 use Rattle.st_lemmas.proofs.Tables.{and_true, find_gone, find_kept, find_map}
 use Rattle.st_laws_extents.proofs.ExtentReplies.Sessions.{clash, no_some}
 use Rattle.st_laws_requests.proofs.Clients.{end_client}
 
 -- What the thefts at the beginning of a step leave: each session that lives and each row was there before.
-pub record From (x : ServerState) (t : Turn) : Type 0 where
+pub record From (x : ServerState) (t : ServerTurn) : Type 0 where
   pub id : t.state.id ≡ x.id
   pub epoch : t.state.stable.epoch ≡ x.stable.epoch
   pub stable : t.state.stable.extents ≡ x.stable.extents
@@ -51,7 +51,7 @@ forget_from l c d i r e = go (d.0 == c.0) refl
     go true f = no_some r (sym (find_gone (locks.is_row_of d i) (λ r. not (locks.is_row_by c r)) (λ x h. ap not (eq-eqb x.client.0 c.0 (of x h ∙ eqb-true _ _ f))) l.rows) ∙ e)
     go false f = sym (find_kept (locks.is_row_of d i) (λ r. not (locks.is_row_by c r)) (λ x h. pick x f h (x.client.0 == c.0) refl) l.rows) ∙ e
 
-f_steal : (x : ServerState) (t : Turn) (c : ClientId) (o : Option Session) → From x t → From x (steal_at t c o)
+f_steal : (x : ServerState) (t : ServerTurn) (c : ClientId) (o : Option Session) → From x t → From x (steal_at t c o)
 unfolding steal_at steal_from
 f_steal x t c None f = f
 f_steal x t c (Some s) f =
@@ -63,7 +63,7 @@ f_steal x t c (Some s) f =
       rows = λ d i r e. f.rows d i r (forget_from t.state.locks c d i r e);
     }
 
-f_steals : (x : ServerState) (cs : List ClientId) (t : Turn) → From x t → From x (steal_each cs t)
+f_steals : (x : ServerState) (cs : List ClientId) (t : ServerTurn) → From x t → From x (steal_each cs t)
 unfolding steal_each steal
 f_steals x [] t f = f
 f_steals x (c ∷ cs) t f = f_steals x cs _ (f_steal x t c (sessions.session_of t.state.sessions c) f)

@@ -32,7 +32,7 @@ use Rattle.st_rules.specs.Grace as grace
 use Rattle.st_rules.specs.Locks as locks
 use Rattle.st_rules.specs.Sessions as sessions
 use Rattle.st_rules.specs.Server as sv
-use Rattle.st_rules.specs.Server.{ServerState, Turn, Replied, turn, with_locks, with_sessions, sender, life_in, note, reply, say, tell, steal_at, steal_from, steal, steal_each, thefts, suspect_client, greet_as, greet_by, greet, refuse_in_grace, hello, demand_seen, see_demand, refuse_epoch, reassert_by, reassert_new, reassert_again, reassert, rule, keep_and_reply, keep, serve, request_by, request, of_epoch, by_body, refuse_suspect, by_suspicion, receive_from, receive, suspect_unless, suspect_each, suspecting, suspecting_on, tell_granted, grant_by, grant_waiting, granting, tell_demanded, demand_by, demanding}
+use Rattle.st_rules.specs.Server.{ServerState, ServerTurn, Replied, turn, with_locks, with_sessions, sender, life_in, note, reply, say, tell, steal_at, steal_from, steal, steal_each, thefts, suspect_client, greet_as, greet_by, greet, refuse_in_grace, hello, demand_seen, observe_demand, refuse_epoch, reassert_by, reassert_new, reassert_again, reassert, rule, keep_and_reply, keep, serve, request_by, request, of_epoch, by_body, refuse_suspect, by_suspicion, receive_from, receive, suspect_unless, suspect_each, suspecting, suspecting_on, tell_granted, grant_by, grant_waiting, granting, tell_demanded, demand_by, demanding}
 use Rattle.st_lemmas.specs.Lists.{Has}
 use Rattle.st_lemmas.proofs.Tables.{has_append}
 use Rattle.st_laws_steps.proofs.Server.Taking.{found_for}
@@ -46,23 +46,23 @@ abbrev pub Fact : Type 1
 Fact = ℕ → ℕ → ℕ → ℕ → List ExtentRow → Type 0
 
 -- What stands within a step: the extents, and what is kept and sent of extents.
-pub record Stands (Good : Fact) (x : Extents) (t : Turn) : Type 0 where
+pub record Stands (Good : Fact) (x : Extents) (t : ServerTurn) : Type 0 where
   pub extents : t.state.stable.extents ≡ x
   pub kept : (c : ClientId) (life number ino : ℕ) (rows : List ExtentRow) → KeptRows t.state.sessions c life number ino rows → Good c.0 life number ino rows
   pub sent : (m : Message) (ino : ℕ) (rows : List ExtentRow) → Has (outputs.Send m) t.out → m.body ≡ bd.Extents ino rows → Good m.header.to m.header.life m.header.number ino rows
 
 module _ (Good : Fact) (x : Extents) where
-  abbrev O : Turn → Type 0
+  abbrev O : ServerTurn → Type 0
   O t = Stands Good x t
 
   -- other parts of the state
-  o_state : (t : Turn) (y : ServerState) → y.stable.extents ≡ t.state.stable.extents → y.sessions ≡ t.state.sessions → O t → O (record t { state = y })
+  o_state : (t : ServerTurn) (y : ServerState) → y.stable.extents ≡ t.state.stable.extents → y.sessions ≡ t.state.sessions → O t → O (record t { state = y })
   o_state t y a b o = record { extents = a ∙ o.extents; kept = λ c life number ino rows k. o.kept c life number ino rows (subst (λ s. KeptRows s c life number ino rows) b k); sent = o.sent }
 
-  o_sessions : (t : Turn) (s : sessions.Sessions) → From t.state.sessions s → O t → O (with_sessions s t)
+  o_sessions : (t : ServerTurn) (s : sessions.Sessions) → From t.state.sessions s → O t → O (with_sessions s t)
   o_sessions t s f o = record { extents = o.extents; kept = λ c life number ino rows k. o.kept c life number ino rows (from_rows t.state.sessions s f c life number ino rows k); sent = o.sent }
 
-  o_say : (t : Turn) (o : Output) → ((m : Message) (ino : ℕ) (rows : List ExtentRow) → outputs.Send m ≡ o → m.body ≡ bd.Extents ino rows → Good m.header.to m.header.life m.header.number ino rows) → O t → O (say t o)
+  o_say : (t : ServerTurn) (o : Output) → ((m : Message) (ino : ℕ) (rows : List ExtentRow) → outputs.Send m ≡ o → m.body ≡ bd.Extents ino rows → Good m.header.to m.header.life m.header.number ino rows) → O t → O (say t o)
   o_say t o f k = record { extents = k.extents; kept = k.kept; sent = λ m ino rows h e. go m ino rows e (has_append t.out (o ∷ []) (outputs.Send m) h) }
     where
       go : (m : Message) (ino : ℕ) (rows : List ExtentRow) → m.body ≡ bd.Extents ino rows → Has (outputs.Send m) t.out ⊎ Has (outputs.Send m) (o ∷ []) → Good m.header.to m.header.life m.header.number ino rows
@@ -70,10 +70,10 @@ module _ (Good : Fact) (x : Extents) where
       go m ino rows e (inr (inl q)) = f m ino rows q e
       go m ino rows e (inr (inr n)) = absurd n
 
-  o_note : (t : Turn) (n : Note) → O t → O (note t n)
+  o_note : (t : ServerTurn) (n : Note) → O t → O (note t n)
   o_note t n o = o_say t (outputs.Note n) (λ m ino rows q e. cc q) o
 
-  o_reply : (t : Turn) (h : Header) (b : Body) → ((ino : ℕ) (rows : List ExtentRow) → b ≡ bd.Extents ino rows → Good h.from h.life h.number ino rows) → O t → O (reply t h b)
+  o_reply : (t : ServerTurn) (h : Header) (b : Body) → ((ino : ℕ) (rows : List ExtentRow) → b ≡ bd.Extents ino rows → Good h.from h.life h.number ino rows) → O t → O (reply t h b)
   unfolding reply
   o_reply t h b f o = o_say t (outputs.Send m) (λ y ino rows q e. go y ino rows (same y q) e) o
     where
@@ -86,7 +86,7 @@ module _ (Good : Fact) (x : Extents) where
       go : (y : Message) (ino : ℕ) (rows : List ExtentRow) → m ≡ y → y.body ≡ bd.Extents ino rows → Good y.header.to y.header.life y.header.number ino rows
       go y ino rows q = subst (λ (z : Message). z.body ≡ bd.Extents ino rows → Good z.header.to z.header.life z.header.number ino rows) q (λ e. f ino rows e)
 
-  o_tell : (t : Turn) (c : ClientId) (life : Life) (b : Body) → ((ino : ℕ) (rows : List ExtentRow) → b ≡ bd.Extents ino rows → ⊥) → O t → O (tell t c life b)
+  o_tell : (t : ServerTurn) (c : ClientId) (life : Life) (b : Body) → ((ino : ℕ) (rows : List ExtentRow) → b ≡ bd.Extents ino rows → ⊥) → O t → O (tell t c life b)
   unfolding tell
   o_tell t c life b f o = o_say t (outputs.Send m) (λ y ino rows q e. absurd (f ino rows (ap (λ (z : Message). z.body) (same y q) ∙ e))) o
     where
@@ -96,16 +96,16 @@ module _ (Good : Fact) (x : Extents) where
       same : (y : Message) → outputs.Send y ≡ outputs.Send m → m ≡ y
       same y q = cc
 
-  o_suspect : (t : Turn) (now : Stamp) (c : ClientId) → O t → O (suspect_client t now c)
+  o_suspect : (t : ServerTurn) (now : Stamp) (c : ClientId) → O t → O (suspect_client t now c)
   unfolding suspect_client
   o_suspect t now c o = o_state _ _ refl refl (o_note t _ o)
 
-  o_steal : (t : Turn) (c : ClientId) (s : Option Session) → O t → O (steal_at t c s)
+  o_steal : (t : ServerTurn) (c : ClientId) (s : Option Session) → O t → O (steal_at t c s)
   unfolding steal_at steal_from
   o_steal t c None o = o
   o_steal t c (Some s) o = o_sessions (with_locks (locks.forget t.state.locks c) (note t (notes.Stolen c s.life))) _ (from_ended t.state.sessions c) (o_state _ _ refl refl (o_note t (notes.Stolen c s.life) o))
 
-  o_steals : (cs : List ClientId) (t : Turn) → O t → O (steal_each cs t)
+  o_steals : (cs : List ClientId) (t : ServerTurn) → O t → O (steal_each cs t)
   unfolding steal_each steal
   o_steals [] t o = o
   o_steals (c ∷ cs) t o = o_steals cs _ (o_steal t c (sessions.session_of t.state.sessions c) o)
@@ -114,35 +114,35 @@ module _ (Good : Fact) (x : Extents) where
   unfolding thefts
   o_thefts s now o = o_steals _ _ (o_state (turn s []) _ refl refl o)
 
-  o_greet_as : (t : Turn) (now : Stamp) (h : Header) (y : Hello) → O t → O (greet_as t now h y)
+  o_greet_as : (t : ServerTurn) (now : Stamp) (h : Header) (y : Hello) → O t → O (greet_as t now h y)
   unfolding greet_as
   o_greet_as t now h hellos.Welcome o = o_reply t h _ (λ i r e. cc e) o
   o_greet_as t now h hellos.Replaced o = o_reply _ h _ (λ i r e. cc e) (o_state t _ refl refl o)
   o_greet_as t now h hellos.Old o = o
   o_greet_as t now h hellos.Wait o = o_reply _ h _ (λ i r e. cc e) (o_suspect t now (sender h) o)
 
-  o_hello : (t : Turn) (now : Stamp) (h : Header) → O t → O (hello t now h)
+  o_hello : (t : ServerTurn) (now : Stamp) (h : Header) → O t → O (hello t now h)
   unfolding hello greet greet_by refuse_in_grace
   o_hello t now h o =
       if_either O (sv.in_grace t now) _ _ (o_reply t h _ (λ i r e. cc e) o)
       (o_greet_as _ now h _ (o_sessions t _ (from_hello t.state.sessions (sender h) (life_in h) _) o))
 
-  o_seen : (t : Turn) (h : Header) (ino : ℕ) (g : GrantNo) → O t → O (demand_seen t h ino g)
-  unfolding demand_seen see_demand
+  o_seen : (t : ServerTurn) (h : Header) (ino : ℕ) (g : GrantNo) → O t → O (demand_seen t h ino g)
+  unfolding demand_seen observe_demand
   o_seen t h ino g o = if_either O (sv.is_served t h) _ t (o_state t _ refl refl o) o
 
   -- what is given again was kept
-  again : (t : Turn) (h : Header) (b : Body) → sv.take t h ≡ takes.Again b → O t → (ino : ℕ) (rows : List ExtentRow) → b ≡ bd.Extents ino rows → Good h.from h.life h.number ino rows
+  again : (t : ServerTurn) (h : Header) (b : Body) → sv.take t h ≡ takes.Again b → O t → (ino : ℕ) (rows : List ExtentRow) → b ≡ bd.Extents ino rows → Good h.from h.life h.number ino rows
   again t h b q o ino rows e =
       let z = found_for t.state.sessions (sender h) (life_in h) (sv.epoch_in h) h.number (takes.Again b) (λ y. y ≡ states.Live h.number (Some b)) q (λ r. cc r) (λ r. cc r) (λ r. cc r) (λ y r. again_state b h.number y r) in
       o.kept (sender h) h.life h.number ino rows (record { session = z.session; is = z.is; of_life = z.of_life; state = z.state ∙ ap (λ y. states.Live h.number (Some y)) e })
 
-  o_again : (t : Turn) (h : Header) (y : Taken Body) → sv.take t h ≡ y → O t → O (reassert_again t h y)
+  o_again : (t : ServerTurn) (h : Header) (y : Taken Body) → sv.take t h ≡ y → O t → O (reassert_again t h y)
   unfolding reassert_again
   o_again t h (takes.Again b) q o = o_reply t h b (again t h b q o) o
   o_again t h y q o = o
 
-  o_reassert_by : (t : Turn) (h : Header) (r : Res grace.Accepted AcceptRefusal) → AcceptedIs (sender h) (life_in h) t.state.sessions r → O t → O (reassert_by t h r)
+  o_reassert_by : (t : ServerTurn) (h : Header) (r : Res grace.Accepted AcceptRefusal) → AcceptedIs (sender h) (life_in h) t.state.sessions r → O t → O (reassert_by t h r)
   unfolding reassert_by
   o_reassert_by t h (Ok a) z o =
       o_reply _ h _ (λ i r e. cc e) (o_sessions (with_locks a.locks t) _ (subst (From t.state.sessions) (sym z) (from_reasserted t.state.sessions (sender h) (life_in h))) (o_state t _ refl refl o))
@@ -153,51 +153,51 @@ module _ (Good : Fact) (x : Extents) where
       none (refusals.Conflict a b) i rows e = cc e
       none (refusals.NotHolder a b) i rows e = cc e
 
-  o_reassert : (t : Turn) (now : Stamp) (h : Header) (rows : List (ℕ × GrantNo × Mode)) → O t → O (reassert t now h rows)
+  o_reassert : (t : ServerTurn) (now : Stamp) (h : Header) (rows : List (ℕ × GrantNo × Mode)) → O t → O (reassert t now h rows)
   unfolding reassert reassert_new
   o_reassert t now h rows o =
       if_either O (sessions.knows t.state.sessions (sender h) (life_in h)) _ _
       (o_again t h (sv.take t h) refl o) (o_reassert_by t h _ (accepts t.state.grace now (sender h) (life_in h) rows t.state.locks t.state.sessions) o)
 
-  o_refuse : (t : Turn) (h : Header) (start : Stamp) (b : Body) → O t → O (refuse_suspect t h start b)
+  o_refuse : (t : ServerTurn) (h : Header) (start : Stamp) (b : Body) → O t → O (refuse_suspect t h start b)
   unfolding refuse_suspect
   o_refuse t h start (bd.DemandSeen n g) o = o
   o_refuse t h start b o = o_reply t h _ (λ i r e. cc e) o
 
   -- The passes.
-  o_suspects : (now : Stamp) (cs : List ClientId) (t : Turn) → O t → O (suspect_each now cs t)
+  o_suspects : (now : Stamp) (cs : List ClientId) (t : ServerTurn) → O t → O (suspect_each now cs t)
   unfolding suspect_each suspect_unless
   o_suspects now [] t o = o
   o_suspects now (c ∷ cs) t o = o_suspects now cs _ (if_either O (authority.may_ack t.state.authority c) _ _ (o_suspect t now c o) o)
 
-  o_suspecting : (t : Turn) (now : Stamp) (j : ServerInput) → O t → O (suspecting_on t now j)
+  o_suspecting : (t : ServerTurn) (now : Stamp) (j : ServerInput) → O t → O (suspecting_on t now j)
   unfolding suspecting_on suspecting
   o_suspecting t now Tick o = o_suspects now _ t o
   o_suspecting t now (Control m) o = o
 
-  o_told : (rs : List (ClientId × Life × ℕ × GrantNo × Mode)) (t : Turn) → O t → O (tell_granted rs t)
+  o_told : (rs : List (ClientId × Life × ℕ × GrantNo × Mode)) (t : ServerTurn) → O t → O (tell_granted rs t)
   unfolding tell_granted
   o_told [] t o = o
   o_told (r ∷ rs) t o = o_told rs _ (o_tell t r.0 r.1 _ (λ i z e. cc e) o)
 
-  o_granting : (t : Turn) (now : Stamp) → O t → O (granting t now)
+  o_granting : (t : ServerTurn) (now : Stamp) → O t → O (granting t now)
   unfolding granting grant_waiting grant_by
   o_granting t now o = if_either O (sv.in_grace t now) t _ o (o_told _ _ (o_state t _ refl refl o))
 
-  o_demanded : (rs : List (ClientId × Life × ℕ × GrantNo × Mode)) (t : Turn) → O t → O (tell_demanded rs t)
+  o_demanded : (rs : List (ClientId × Life × ℕ × GrantNo × Mode)) (t : ServerTurn) → O t → O (tell_demanded rs t)
   unfolding tell_demanded
   o_demanded [] t o = o
   o_demanded (r ∷ rs) t o = o_demanded rs _ (o_tell t r.0 r.1 _ (λ i z e. cc e) o)
 
-  o_demanding : (t : Turn) (now : Stamp) (j : ServerInput) → O t → O (demanding t now j)
+  o_demanding : (t : ServerTurn) (now : Stamp) (j : ServerInput) → O t → O (demanding t now j)
   unfolding demanding demand_by
   o_demanding t now j o = o_demanded _ _ (o_state t _ refl refl o)
 
-  pub o_passes : (now : Stamp) (i : ServerInput) (t : Turn) → O t → O (demanding (granting (suspecting_on t now i) now) now i)
+  pub o_passes : (now : Stamp) (i : ServerInput) (t : ServerTurn) → O t → O (demanding (granting (suspecting_on t now i) now) now i)
   o_passes now i t o = o_demanding _ now i (o_granting _ now (o_suspecting _ now i o))
 
 -- A message that comes to a turn.
-module _ (Good : Fact) (x : Extents) (m : Message) (t : Turn) (now : Stamp) (o : Stands Good x t) where
+module _ (Good : Fact) (x : Extents) (m : Message) (t : ServerTurn) (now : Stamp) (o : Stands Good x t) where
   -- the rule of its request
   abbrev pub asked : Replied
   asked = rule t now m.header m.body
@@ -210,14 +210,14 @@ module _ (Good : Fact) (x : Extents) (m : Message) (t : Turn) (now : Stamp) (o :
   Right to life number ino rows = Good to life number ino rows ⊎ Now to life number ino rows
 
   -- it is served anew
-  pub record Anew (u : Turn) : Type 0 where
+  pub record Anew (u : ServerTurn) : Type 0 where
     pub for : sv.is_for t.state m.header ≡ true
     pub of_epoch : m.header.epoch ≡ t.state.stable.epoch.0
     pub fresh : sv.take t m.header ≡ takes.Fresh
     pub stands : Stands Right asked.turn.state.stable.extents u
 
   -- nothing is served, or this request
-  abbrev pub Came : Turn → Type 0
+  abbrev pub Came : ServerTurn → Type 0
   Came u = Stands Good x u ⊎ Anew u
 
   served : (b : Option Body) → asked.reply ≡ b → sv.take t m.header ≡ takes.Fresh → Stands Right asked.turn.state.stable.extents (keep m.header asked.turn b)

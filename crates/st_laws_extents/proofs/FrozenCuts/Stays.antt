@@ -20,7 +20,7 @@ use Rattle.st_rules.specs.Events.{WorldTurn, counted, world_step}
 use Rattle.st_rules.specs.History.{Traced}
 use Rattle.st_rules.specs.Keys.{client, server_node}
 use Rattle.st_rules.specs.Safety.{Step}
-use Rattle.st_rules.specs.World.{World, ClientSite, server, site_of}
+use Rattle.st_rules.specs.World.{World, WorldClient, server, site_of}
 use Rattle.st_protocol.specs.Assoc.{Config}
 use Rattle.st_lemmas.specs.Lists.{Has}
 use Rattle.st_lemmas.proofs.Steps.{step_happens}
@@ -35,7 +35,7 @@ use Rattle.st_laws_pages.proofs.Lives.NodeTurns.{row_is}
 use Rattle.st_laws_steps.proofs.Lives.Associations.{own_found}
 use Rattle.st_laws_steps.specs.Lives.Lives.{LivesHold, NodeHolds}
 use Rattle.st_laws_pages.specs.Writes.Writes.{IsListed, OpenHold}
-use Rattle.st_laws_reads.specs.AllClients.Clear.{AllCleared, Cuts}
+use Rattle.st_laws_reads.specs.AllClients.CutFiles.{AllCleared, Cuts}
 use Rattle.st_lemmas.proofs.Lookups.{some_is}
 use Rattle.st_lemmas.proofs.Numbers.{numbered_below}
 use Rattle.st_laws_reads.specs.OpenWrites.StandStill.{OpenThere, OpenTracked, OpenWrite, writer}
@@ -117,7 +117,7 @@ module _ (k : Config) (count : ℕ) (past : List Step) (t : Traced) (e : Event) 
               few = let s = there n x at tag bytes o in let z = (numbered_below t.world.clients x.client.0 s.0 s.1).1 in let y = h.cuts.few in omega (arith, z, y)
 
   -- A client's crash.
-  module _ (c : ClientId) (site : ClientSite) (at_site : site_of t.world c ≡ Some site) (runs : site.node.running ≡ true) (here : sc.world ≡ (ev.crashes_client (counted t.world) c (Some site)).world) where
+  module _ (c : ClientId) (site : WorldClient) (at_site : site_of t.world c ≡ Some site) (runs : site.node.running ≡ true) (here : sc.world ≡ (ev.crashes_client (counted t.world) c (Some site)).world) where
     after0 : AllStand k count (V k count t.world c.0 site at_site runs h.all)
     after0 = subst (AllStand k count) here (followed k count past t e sc ranges h taken).after
 
@@ -174,7 +174,7 @@ module _ (k : Config) (count : ℕ) (past : List Step) (t : Traced) (e : Event) 
       nobody : world.site_runs None ≡ true → ⊥
       nobody z = cc z
 
-      go : (o : Option ClientSite) → site_of t.world c ≡ o → FrozenFilesUncut k count sc.world (followed k count past t e sc ranges h taken).after
+      go : (o : Option WorldClient) → site_of t.world c ≡ o → FrozenFilesUncut k count sc.world (followed k count past t e sc ranges h taken).after
       go None z = absurd (nobody (ap world.site_runs (sym z) ∙ runs))
       go (Some site) z = crash c site z (ap world.site_runs (sym z) ∙ runs) (happened ∙ ap (λ o. (ev.crashes_client (counted t.world) c o).world) z)
 

@@ -19,10 +19,10 @@ use Rattle.st_rules.specs.World.{ended_of}
 use Rattle.st_laws_reads.specs.OpenWrites.StandStill.{OpenWrite}
 use Rattle.st_laws_extents.proofs.CutRequests.Law.{Hold}
 use Rattle.st_laws_pages.specs.Disks.World.{Living, PagesHold, Timely}
-use Rattle.st_laws_extents.specs.Submits.Left.{FrozenUncut}
+use Rattle.st_laws_extents.specs.Submits.Obligations.{FrozenUncut}
 use Rattle.st_laws_extents.specs.CutRequests.Cut.{CutIn}
 use Rattle.st_laws_extents.proofs.CutRequests.EndedLives.{no_cut}
-use Rattle.st_laws_extents.specs.Submits.Left.{FrozenUncut}
+use Rattle.st_laws_extents.specs.Submits.Obligations.{FrozenUncut}
 
 module _ (k : Config) (count : ℕ) (past : List Step) (t : Traced) (h : Hold k count past t) (safe : FrozenFilesUncut k count t.world h.all) (pages_ : PagesHold t.world) where
   -- a cut by a message of the life of a write

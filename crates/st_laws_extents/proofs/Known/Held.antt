@@ -9,13 +9,13 @@ use Rattle.st_rules.specs.ClientLocks as locks
 use Rattle.st_rules.specs.ClientPages as pages
 use Rattle.st_rules.specs.ClientState.{Association, ClientSession}
 use Rattle.st_rules.specs.Keys.{client}
-use Rattle.st_rules.specs.World.{World, ClientSite, site_of}
+use Rattle.st_rules.specs.World.{World, WorldClient, site_of}
 use Rattle.st_protocol.specs.Assoc.{Config}
 use Rattle.st_lemmas.specs.Lists.{Has}
 use Rattle.st_lemmas.proofs.Tables.{and_both, found_at}
 use Rattle.st_laws_refine.specs.Views.Halves.{held_at, held_in}
-use Rattle.st_laws_refine.specs.Client.Shown.{HaveModes, Kept}
-use Rattle.st_laws_leases.specs.Sides.Stands.{Standing}
+use Rattle.st_laws_refine.specs.Client.Invariants.{HaveModes, Kept}
+use Rattle.st_laws_leases.specs.Sides.Invariants.{Standing}
 use Rattle.st_laws_leases.specs.Sides.World.{AllStand, ServerStands, There}
 use Rattle.st_laws_leases.proofs.Sides.Pairs.{only_here}
 use Rattle.st_laws_extents.specs.Known.Known.{HasLock, Locked}
@@ -45,7 +45,7 @@ locked_mode s ino m h =
     subst (λ o. 1 ≤ (held_at o).mode) (sym z.1) (lock_mode s.locks.rows z.0 m (found_at (locks.is_lock_on ino) s.locks.rows z.0 z.1).1)
 
 -- of an association at a server that is there
-pub held_mode : (k : Config) (count : ℕ) (w : World) → AllStand k count w → (d : ℕ) (site : ClientSite) → site_of w (client d) ≡ Some site → (a : Association) → Has a site.node.state.associations → There w a.server → (ino : ℕ) → Locked a.session ino → 1 ≤ (held_in a.session ino).mode
+pub held_mode : (k : Config) (count : ℕ) (w : World) → AllStand k count w → (d : ℕ) (site : WorldClient) → site_of w (client d) ≡ Some site → (a : Association) → Has a site.node.state.associations → There w a.server → (ino : ℕ) → Locked a.session ino → 1 ≤ (held_in a.session ino).mode
 held_mode k count w all d site at a i there ino l = go a.session refl l
   where
     z : ServerStands k w a.server.0 there.node

@@ -185,7 +185,7 @@ module _ (R : Fact) where
   pub k_passes : (now : Stamp) (tick : Bool) (t : Turn) → K t (cp.passes now tick t)
   k_passes now tick t = changes_passing t.operations KeepsOrAsks now t (cp.passes now tick t) (p_passes now tick t)
 
-  -- Each change where no message is heard, and such changes: what is known stays, and no write is submitted.
+  -- Each change where no message is received, and such changes: what is known stays, and no write is submitted.
   abbrev Same : Turn → Turn → Type 0
   Same t u = ((o : Option ClientSession) (xs : List KnownExtent) → Fine t.here.server o xs t.out → Fine u.here.server o xs u.out) × (t.here.session ≡ u.here.session) × (t.here.store.extents ≡ u.here.store.extents)
 
@@ -250,7 +250,7 @@ module _ (R : Fact) where
   k_granted t s ino g mode e = k_session t s (cr.grant (state.forget_wait ino s) ino g mode) e (λ j h. granted_keeps (state.forget_wait ino s) ino g mode j h)
 
   pub k_demand : (t : Turn) (s : ClientSession) (ino : ℕ) (g : GrantNo) (to : Mode) → t.here.session ≡ Some s → K t (cr.demand t s ino g to)
-  unfolding cr.demand cr.demand_by cr.demand_as cr.see_demand cr.release_unheld send
+  unfolding cr.demand cr.demand_by cr.demand_as cr.observe_demand cr.release_unheld send
   k_demand t s ino g to e = by (locks.demand s.locks ino g to).asked
     where
       r : ClientSession

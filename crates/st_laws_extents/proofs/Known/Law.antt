@@ -15,32 +15,32 @@ use Rattle.st_rules.specs.History.{Traced, traced, traced_after}
 use Rattle.st_rules.specs.Safety as safety
 use Rattle.st_rules.specs.Safety.{IsHead, Promise, Step, Throughout, is_event, step, steps}
 use Rattle.st_base.specs.declared.ids.ClientId.{ClientId}
-use Rattle.st_rules.specs.World.{World, ClientSite, fresh_world, site_of}
+use Rattle.st_rules.specs.World.{World, WorldClient, fresh_world, site_of}
 use Rattle.st_protocol.specs.Assoc.{Config}
 use Rattle.st_lemmas.specs.Lists.{Has}
 use Rattle.st_lemmas.proofs.Steps.{step_happens}
 use Rattle.st_lemmas.proofs.Tables.{and_true, has_map}
-use Rattle.st_laws_pages.specs.LockedCuts.Locked.{WaitsHold}
+use Rattle.st_laws_pages.specs.LockedCuts.CutLocks.{WaitsHold}
 use Rattle.st_laws_steps.specs.Client.Losses.{Fit}
 use Rattle.st_laws_pages.proofs.LockedCuts.CutLaw.{law as cut_law}
 use Rattle.st_laws_pages.proofs.Disks.Whole.{fresh_waits}
 use Rattle.st_laws_pages.proofs.Disks.Whole.{site_is}
 use Rattle.st_laws_refine.specs.Server.Pair.{terms_of}
 use Rattle.st_laws_leases.specs.Sides.World.{AllStand}
-use Rattle.st_laws_leases.proofs.Sides.Beginning.{begun}
-use Rattle.st_laws_leases.proofs.Sides.Everywhere.{stays}
+use Rattle.st_laws_leases.proofs.Sides.FirstWorld.{begun}
+use Rattle.st_laws_leases.proofs.Sides.AllAssociations.{stays}
 use Rattle.st_laws_leases.proofs.Sides.Runs.{full}
 use Rattle.st_laws_leases.proofs.Sides.Waiting.{waits_owed}
 use Rattle.st_laws_reads.specs.Copies.World.{Taking, taken}
-use Rattle.st_laws_reads.specs.AllClients.Clear.{AllCleared}
-use Rattle.st_laws_reads.specs.AllClients.Left.{CutsAsked}
+use Rattle.st_laws_reads.specs.AllClients.CutFiles.{AllCleared}
+use Rattle.st_laws_reads.specs.AllClients.Obligations.{CutsAsked}
 use Rattle.st_laws_reads.proofs.AllClients.Cleared.{clear_step, fresh_clear}
 use Rattle.st_laws_reads.proofs.AllClients.Cutting.{others_owed}
 use Rattle.st_laws_reads.proofs.AllClients.Takings.{Takes, takes_event}
 use Rattle.st_laws_extents.specs.CutRequests.Law.{CutsAreAsked}
 use Rattle.st_laws_extents.proofs.CutRequests.Law as cutters
 use Rattle.st_laws_extents.specs.Known.Law.{InRunsTold, IsTold, KnownAfter, SubmitsAt, SubmitsOf}
-use Rattle.st_laws_extents.specs.Known.Lies.{AllKnow, AllLocked, CutsOwed, ExtentsTold}
+use Rattle.st_laws_extents.specs.Known.WritePlaces.{AllKnow, AllLocked, CutsOwed, ExtentsTold}
 use Rattle.st_laws_extents.proofs.Known.Held.{held_mode}
 use Rattle.st_laws_extents.proofs.Known.Locked.{fresh_locked, locked_step}
 use Rattle.st_laws_extents.proofs.Known.World as worlds
@@ -65,7 +65,7 @@ module _ (k : Config) (count : ℕ) (past : List Step) (t : Traced) (e : Event) 
   after : AllStand k count sc.world
   after = stays k count t.world e sc s.all (full count t.world e s.all.nodes in_range) is
 
-  all_fit : (c : ClientId) (site : ClientSite) → site_of t.world c ≡ Some site → (a : Association) → Has a site.node.state.associations → Fit a
+  all_fit : (c : ClientId) (site : WorldClient) → site_of t.world c ≡ Some site → (a : Association) → Has a site.node.state.associations → Fit a
   all_fit c site q = (s.all.fates.lives.lives.sites c site q).fit
 
   clear_after : AllCleared sc.world
@@ -73,8 +73,8 @@ module _ (k : Config) (count : ℕ) (past : List Step) (t : Traced) (e : Event) 
 
   -- the cuts of the event are free
   owed : (f : Event) → e ≡ f → CutsOwed (counted t.world) f
-  owed (events.Tick (nodes.Server n)) q = others_owed k count (counted t.world) sc after clear_after cuts s.waits (events.Tick (nodes.Server n)) (subst (Rattle.st_laws_pages.specs.LockedCuts.Locked.WaitsOwed (counted t.world)) q (waits_owed k count t.world s.all e (step_happens t.world e sc is).0)) ((step_happens t.world e sc is).1 ∙ ap (happens (counted t.world)) q) tt
-  owed (events.Deliver n) q = others_owed k count (counted t.world) sc after clear_after cuts s.waits (events.Deliver n) (subst (Rattle.st_laws_pages.specs.LockedCuts.Locked.WaitsOwed (counted t.world)) q (waits_owed k count t.world s.all e (step_happens t.world e sc is).0)) ((step_happens t.world e sc is).1 ∙ ap (happens (counted t.world)) q) tt
+  owed (events.Tick (nodes.Server n)) q = others_owed k count (counted t.world) sc after clear_after cuts s.waits (events.Tick (nodes.Server n)) (subst (Rattle.st_laws_pages.specs.LockedCuts.CutLocks.WaitsOwed (counted t.world)) q (waits_owed k count t.world s.all e (step_happens t.world e sc is).0)) ((step_happens t.world e sc is).1 ∙ ap (happens (counted t.world)) q) tt
+  owed (events.Deliver n) q = others_owed k count (counted t.world) sc after clear_after cuts s.waits (events.Deliver n) (subst (Rattle.st_laws_pages.specs.LockedCuts.CutLocks.WaitsOwed (counted t.world)) q (waits_owed k count t.world s.all e (step_happens t.world e sc is).0)) ((step_happens t.world e sc is).1 ∙ ap (happens (counted t.world)) q) tt
   owed (events.Tick (nodes.Client c)) q = tt
   owed (events.App c ask) q = tt
   owed (events.Lose n) q = tt
@@ -132,7 +132,7 @@ first k clients servers disks blocks form head =
       waits = fresh_waits k clients servers disks blocks form;
       locked = fresh_locked k clients servers disks blocks form;
       know = λ c site e. worlds.empty_knows (fresh_world k clients servers disks blocks form) c site
-          (subst (λ (s : ClientSite). (a : Association) → Has a s.node.state.associations → a.store.extents ≡ []) (sym (site_is k clients servers c.0 site e).0)
+          (subst (λ (s : WorldClient). (a : Association) → Has a s.node.state.associations → a.store.extents ≡ []) (sym (site_is k clients servers c.0 site e).0)
           (λ a i. let z = has_map cl.fresh_association (numbers 1 servers) a i in ap (λ (y : Association). y.store.extents) z.2));
     }
 

@@ -18,15 +18,15 @@ use Rattle.st_rules.specs.ClientPasses as cp
 use Rattle.st_rules.specs.ClientReplies as cr
 use Rattle.st_rules.specs.ClientState.{Association, ClientSession, Turn, only_at}
 use Rattle.st_rules.specs.Events.{WorldTurn, world_step}
-use Rattle.st_rules.specs.World.{World, ClientSite, fresh_world, site_of}
+use Rattle.st_rules.specs.World.{World, WorldClient, fresh_world, site_of}
 use Rattle.st_lemmas.specs.Lists.{Has}
 use Rattle.st_laws_steps.specs.Client.Losses.{Fit}
 use Rattle.st_laws_pages.proofs.Lives.Associated as associated
-use Rattle.st_laws_reads.specs.AllClients.Clear.{AllCleared, Cleared}
+use Rattle.st_laws_reads.specs.AllClients.CutFiles.{AllCleared, Cleared}
 use Rattle.st_laws_reads.proofs.AllClients.Clearing as clearing
 use Rattle.st_laws_extents.specs.Known.Known.{Knows, OutputAs, OutputsAs}
-use Rattle.st_laws_extents.specs.Known.Lies.{AllLocked, anything}
-use Rattle.st_laws_extents.proofs.Known.Hearing as hearing
+use Rattle.st_laws_extents.specs.Known.WritePlaces.{AllLocked, anything}
+use Rattle.st_laws_extents.proofs.Known.Receiving as receiving
 use Rattle.st_laws_extents.proofs.Known.Knowing as walk
 
 -- what an association cuts is clear, and what it knows is locked
@@ -53,8 +53,8 @@ keeps t u f g h = (f h.0, (g (record { known = h.1; said = any_said t.out })).kn
 k_take : (s : ServerId) (op : ℕ) (ask : Ask) (t : Turn) → Fine t.here → Fine (only_at s (cl.take_ask op ask) t).here
 k_take s op ask t = keeps t (only_at s (cl.take_ask op ask) t) (clearing.k_take s op ask t) (walk.k_take anything s op ask t)
 
-k_hear : (now : Stamp) (h : Header) (b : Body) (t : Turn) → Fit t.here → Fine t.here → Fine (cr.receive_at now h b t).here
-k_hear now h b t f x = keeps t (cr.receive_at now h b t) (clearing.k_hear now h b t f) (hearing.k_hear anything h b now t x.0 (λ s q ino rows e g k l n o u v r j. tt)) x
+k_receive : (now : Stamp) (h : Header) (b : Body) (t : Turn) → Fit t.here → Fine t.here → Fine (cr.receive_at now h b t).here
+k_receive now h b t f x = keeps t (cr.receive_at now h b t) (clearing.k_receive now h b t f) (receiving.k_receive anything h b now t x.0 (λ s q ino rows e g k l n o u v r j. tt)) x
 
 k_finish : (number : ℕ) (r : Option (Option (Tag × List ℕ))) (t : Turn) → Fine t.here → Fine (cl.finish number r t).here
 k_finish number r t = keeps t (cl.finish number r t) (clearing.k_finish number r t) (walk.k_finish anything number r t)
@@ -74,11 +74,11 @@ empty_fine a e st = (λ ino p c. absurd (none c.session (sym e ∙ c.is)), λ x 
 
 -- of each client
 abbrev AllFit : World → Type 0
-AllFit w = (c : ClientId) (site : ClientSite) → site_of w c ≡ Some site → (a : Association) → Has a site.node.state.associations → Fit a
+AllFit w = (c : ClientId) (site : WorldClient) → site_of w c ≡ Some site → (a : Association) → Has a site.node.state.associations → Fit a
 
 -- Every event.
 pub locked_step : (w : World) (e : Event) (sc : WorldTurn) → world_step w e ≡ Ok sc → AllFit w → AllCleared w → AllLocked w → AllLocked sc.world
-locked_step w e sc is f c h d site q a i = (associated.event_keeps Fine empty_fine k_take k_hear k_finish k_lose k_passes w e sc is f (λ d site q a i. (c d site q a i, h d site q a i)) d site q a i).1
+locked_step w e sc is f c h d site q a i = (associated.event_keeps Fine empty_fine k_take k_receive k_finish k_lose k_passes w e sc is f (λ d site q a i. (c d site q a i, h d site q a i)) d site q a i).1
 
 pub fresh_locked : (k : Config) (clients servers d b form : ℕ) → AllLocked (fresh_world k clients servers d b form)
-fresh_locked k clients servers d b form c site e a i = (associated.fresh_all Fine empty_fine k_take k_hear k_finish k_lose k_passes k clients servers d b form c site e a i).1
+fresh_locked k clients servers d b form c site e a i = (associated.fresh_all Fine empty_fine k_take k_receive k_finish k_lose k_passes k clients servers d b form c site e a i).1

@@ -13,13 +13,13 @@ use Rattle.st_rules.specs.ClientReplies as cr
 use Rattle.st_rules.specs.ClientState.{Association, ClientSession, ClientState, ClientTurn, Turn, at_each, at_these, client_turn, enter, leave, only_at, server_of, with_associations}
 use Rattle.st_lemmas.specs.Lists.{Has}
 use Rattle.st_lemmas.proofs.Tables.{has_append}
-use Rattle.st_laws_steps.specs.Client.Taking as taking
-use Rattle.st_laws_steps.specs.Client.Taking.{Each, Taken}
+use Rattle.st_laws_steps.specs.Client.Inputs as taking
+use Rattle.st_laws_steps.specs.Client.Inputs.{Each, Taken}
 use Rattle.st_laws_steps.proofs.Client.Taking.{each as each_keep, taken}
-use Rattle.st_laws_reads.specs.AllClients.Clear.{Cleared}
+use Rattle.st_laws_reads.specs.AllClients.CutFiles.{Cleared}
 use Rattle.st_laws_reads.proofs.AllClients.Clearing as clearing
 use Rattle.st_laws_extents.specs.Known.Known.{Fact, Knows, OutputAs, OutputsAs, Tells}
-use Rattle.st_laws_extents.proofs.Known.Hearing.{k_hear}
+use Rattle.st_laws_extents.proofs.Known.Receiving.{k_receive}
 use Rattle.st_laws_extents.proofs.Known.Knowing as walk
 
 -- what is clear stays clear through losses
@@ -77,7 +77,7 @@ module _ (R : Fact) where
   input_fine now t _ _ (taking.Full op ask e) c k h = at_once t op answers.OpsFull h
   input_fine now t _ _ (taking.Unknown op ask e f) c k h = at_once t op answers.NoFile h
   input_fine now t _ _ (taking.Takes op ask e f) c k h = each Any (only_at (server_of ask) (cl.take_ask op ask)) (λ u p. walk.k_take R (server_of ask) op ask u) t h (λ a i. tt)
-  input_fine now t _ _ (taking.Hears m e) c k h = each (λ a. Cleared a × Tells R a m.header m.body) (cr.receive_at now m.header m.body) (λ u p. k_hear R m.header m.body now u p.0 p.1) t h (λ a i. (c a i, k a i))
+  input_fine now t _ _ (taking.Receives m e) c k h = each (λ a. Cleared a × Tells R a m.header m.body) (cr.receive_at now m.header m.body) (λ u p. k_receive R m.header m.body now u p.0 p.1) t h (λ a i. (c a i, k a i))
   input_fine now t _ _ (taking.Finishes number result) c k h = each Any (cl.finish number result) (λ u p. walk.k_finish R number result u) t h (λ a i. tt)
 
   -- what is lost says no write

@@ -46,7 +46,7 @@ use Rattle.st_rules.specs.Authority as authority
 use Rattle.st_rules.specs.Grace as grace
 use Rattle.st_rules.specs.Keys.{server_node}
 use Rattle.st_rules.specs.Server as sv
-use Rattle.st_rules.specs.Server.{ServerState, Turn, Replied, turn, with_locks, with_sessions, sender, life_in, note, reply, say, tell, steal_at, steal_from, steal, steal_each, thefts, suspect_client, greet_as, greet_by, greet, refuse_in_grace, hello, demand_seen, see_demand, refuse_epoch, reassert_by, reassert_new, reassert_again, reassert, rule, keep_and_reply, keep, serve, request_by, request, of_epoch, by_body, refuse_suspect, by_suspicion, receive_from, receive, take_input, suspect_unless, suspect_each, suspecting, suspecting_on, tell_granted, grant_by, grant_waiting, granting, tell_demanded, demand_by, demanding, server_step}
+use Rattle.st_rules.specs.Server.{ServerState, ServerTurn, Replied, turn, with_locks, with_sessions, sender, life_in, note, reply, say, tell, steal_at, steal_from, steal, steal_each, thefts, suspect_client, greet_as, greet_by, greet, refuse_in_grace, hello, demand_seen, observe_demand, refuse_epoch, reassert_by, reassert_new, reassert_again, reassert, rule, keep_and_reply, keep, serve, request_by, request, of_epoch, by_body, refuse_suspect, by_suspicion, receive_from, receive, take_input, suspect_unless, suspect_each, suspecting, suspecting_on, tell_granted, grant_by, grant_waiting, granting, tell_demanded, demand_by, demanding, server_step}
 use Rattle.st_lemmas.specs.Lists.{Has}
 use Rattle.st_lemmas.proofs.Lookups.{some_is}
 use Rattle.st_lemmas.proofs.Puts.{find_put_by, find_put_other}
@@ -58,7 +58,7 @@ use Rattle.st_rules.specs.Keys.{same_file, same_page}
 use Rattle.st_laws_reads.specs.Copies.Copies.{file_at}
 use Rattle.st_laws_requests.proofs.Clients.{client_same, end_client, keep_client}
 use Rattle.st_laws_extents.proofs.ExtentReplies.Sessions.{AcceptedIs, accepts}
-use Rattle.st_laws_extents.specs.Known.Told.{AllKept, RepliesTellExtents, ReplyFact, RowsRight, RowRight, Says, ToldBy}
+use Rattle.st_laws_extents.specs.Known.ToldExtents.{AllKept, RepliesTellExtents, ReplyFact, RowsRight, RowRight, Says, ToldBy}
 use Rattle.st_laws_steps.proofs.Server.Taking.{if_either, if_cases, clash, Found, again_state, found_for}
 
 -- Rows that are told.
@@ -156,20 +156,20 @@ module _ (s : ServerId) (e : Epoch) (C : ReplyFact) where
       go d x q false f k = k
 
   -- What stands within a step.
-  pub record Fine (t : Turn) : Type 0 where
+  pub record Fine (t : ServerTurn) : Type 0 where
     pub id : t.state.id ≡ s
     pub epoch : t.state.stable.epoch ≡ e
     pub kept : AllKept C t.state.sessions
     pub sent : (x : Message) → Has (outputs.Send x) t.out → Says s e C x
 
   -- other parts of the state
-  o_state : (t : Turn) (x : ServerState) → x.id ≡ t.state.id → x.stable.epoch ≡ t.state.stable.epoch → x.sessions ≡ t.state.sessions → Fine t → Fine (record t { state = x })
+  o_state : (t : ServerTurn) (x : ServerState) → x.id ≡ t.state.id → x.stable.epoch ≡ t.state.stable.epoch → x.sessions ≡ t.state.sessions → Fine t → Fine (record t { state = x })
   o_state t x a b c o = record { id = a ∙ o.id; epoch = b ∙ o.epoch; kept = subst (AllKept C) (sym c) o.kept; sent = o.sent }
 
-  o_sessions : (t : Turn) (x : sessions.Sessions) → AllKept C x → Fine t → Fine (with_sessions x t)
+  o_sessions : (t : ServerTurn) (x : sessions.Sessions) → AllKept C x → Fine t → Fine (with_sessions x t)
   o_sessions t x g o = record { id = o.id; epoch = o.epoch; kept = g; sent = o.sent }
 
-  o_say : (t : Turn) (o : Output) → ((x : Message) → outputs.Send x ≡ o → Says s e C x) → Fine t → Fine (say t o)
+  o_say : (t : ServerTurn) (o : Output) → ((x : Message) → outputs.Send x ≡ o → Says s e C x) → Fine t → Fine (say t o)
   o_say t o f k = record { id = k.id; epoch = k.epoch; kept = k.kept; sent = λ x h. go x (has_append t.out (o ∷ []) (outputs.Send x) h) }
     where
       go : (x : Message) → Has (outputs.Send x) t.out ⊎ Has (outputs.Send x) (o ∷ []) → Says s e C x
@@ -177,10 +177,10 @@ module _ (s : ServerId) (e : Epoch) (C : ReplyFact) where
       go x (inr (inl q)) = f x q
       go x (inr (inr n)) = absurd n
 
-  o_note : (t : Turn) (x : Note) → Fine t → Fine (note t x)
+  o_note : (t : ServerTurn) (x : Note) → Fine t → Fine (note t x)
   o_note t x o = o_say t (outputs.Note x) (λ y q. cc q) o
 
-  o_reply : (t : Turn) (h : Header) (b : Body) → ((ino : ℕ) (rows : List ExtentRow) → b ≡ bd.Extents ino rows → C h.from h.life h.number ino rows) → Fine t → Fine (reply t h b)
+  o_reply : (t : ServerTurn) (h : Header) (b : Body) → ((ino : ℕ) (rows : List ExtentRow) → b ≡ bd.Extents ino rows → C h.from h.life h.number ino rows) → Fine t → Fine (reply t h b)
   unfolding reply
   o_reply t h b w o = o_say t (outputs.Send m) (λ x q. subst (Says s e C) (sym (same x q)) (λ ino rows k. (ap server_node o.id, ap (λ (y : Epoch). y.0) o.epoch, w ino rows k))) o
     where
@@ -190,7 +190,7 @@ module _ (s : ServerId) (e : Epoch) (C : ReplyFact) where
       same : (x : Message) → outputs.Send x ≡ outputs.Send m → x ≡ m
       same x q = cc
 
-  o_tell : (t : Turn) (c : ClientId) (life : Life) (b : Body) → ((ino : ℕ) (rows : List ExtentRow) → b ≡ bd.Extents ino rows → ⊥) → Fine t → Fine (tell t c life b)
+  o_tell : (t : ServerTurn) (c : ClientId) (life : Life) (b : Body) → ((ino : ℕ) (rows : List ExtentRow) → b ≡ bd.Extents ino rows → ⊥) → Fine t → Fine (tell t c life b)
   unfolding tell
   o_tell t c life b w o = o_say t (outputs.Send m) (λ x q. subst (Says s e C) (sym (same x q)) (λ ino rows k. absurd (w ino rows k))) o
     where
@@ -200,49 +200,49 @@ module _ (s : ServerId) (e : Epoch) (C : ReplyFact) where
       same : (x : Message) → outputs.Send x ≡ outputs.Send m → x ≡ m
       same x q = cc
 
-  o_suspect : (t : Turn) (now : Stamp) (c : ClientId) → Fine t → Fine (suspect_client t now c)
+  o_suspect : (t : ServerTurn) (now : Stamp) (c : ClientId) → Fine t → Fine (suspect_client t now c)
   unfolding suspect_client
   o_suspect t now c o = o_state _ _ refl refl refl (o_note t _ o)
 
-  o_steal : (t : Turn) (c : ClientId) (x : Option Session) → Fine t → Fine (steal_at t c x)
+  o_steal : (t : ServerTurn) (c : ClientId) (x : Option Session) → Fine t → Fine (steal_at t c x)
   unfolding steal_at steal_from
   o_steal t c None o = o
   o_steal t c (Some x) o = o_sessions (with_locks (locks.forget t.state.locks c) (note t (notes.Stolen c x.life))) _ (kept_ended t.state.sessions c o.kept) (o_state _ _ refl refl refl (o_note t (notes.Stolen c x.life) o))
 
-  pub o_steals : (cs : List ClientId) (t : Turn) → Fine t → Fine (steal_each cs t)
+  pub o_steals : (cs : List ClientId) (t : ServerTurn) → Fine t → Fine (steal_each cs t)
   unfolding steal_each steal
   o_steals [] t o = o
   o_steals (c ∷ cs) t o = o_steals cs _ (o_steal t c (sessions.session_of t.state.sessions c) o)
 
-  o_greet_as : (t : Turn) (now : Stamp) (h : Header) (x : Hello) → Fine t → Fine (greet_as t now h x)
+  o_greet_as : (t : ServerTurn) (now : Stamp) (h : Header) (x : Hello) → Fine t → Fine (greet_as t now h x)
   unfolding greet_as
   o_greet_as t now h hellos.Welcome o = o_reply t h _ (λ i r q. cc q) o
   o_greet_as t now h hellos.Replaced o = o_reply _ h _ (λ i r q. cc q) (o_state t _ refl refl refl o)
   o_greet_as t now h hellos.Old o = o
   o_greet_as t now h hellos.Wait o = o_reply _ h _ (λ i r q. cc q) (o_suspect t now (sender h) o)
 
-  o_hello : (t : Turn) (now : Stamp) (h : Header) → Fine t → Fine (hello t now h)
+  o_hello : (t : ServerTurn) (now : Stamp) (h : Header) → Fine t → Fine (hello t now h)
   unfolding hello greet greet_by refuse_in_grace
   o_hello t now h o =
       if_either Fine (sv.in_grace t now) _ _ (o_reply t h _ (λ i r q. cc q) o)
       (o_greet_as _ now h _ (o_sessions t _ (kept_hello t.state.sessions (sender h) (life_in h) _ o.kept) o))
 
-  o_seen : (t : Turn) (h : Header) (ino : ℕ) (g : GrantNo) → Fine t → Fine (demand_seen t h ino g)
-  unfolding demand_seen see_demand
+  o_seen : (t : ServerTurn) (h : Header) (ino : ℕ) (g : GrantNo) → Fine t → Fine (demand_seen t h ino g)
+  unfolding demand_seen observe_demand
   o_seen t h ino g o = if_either Fine (sv.is_served t h) _ t (o_state t _ refl refl refl o) o
 
   -- what is given again was kept
-  again_kept : (t : Turn) (h : Header) (b : Body) → sv.take t h ≡ takes.Again b → Fine t → (ino : ℕ) (rows : List ExtentRow) → b ≡ bd.Extents ino rows → C h.from h.life h.number ino rows
+  again_kept : (t : ServerTurn) (h : Header) (b : Body) → sv.take t h ≡ takes.Again b → Fine t → (ino : ℕ) (rows : List ExtentRow) → b ≡ bd.Extents ino rows → C h.from h.life h.number ino rows
   again_kept t h b q o ino rows k =
       let z = found_for t.state.sessions (sender h) (life_in h) (sv.epoch_in h) h.number (takes.Again b) (λ x. x ≡ states.Live h.number (Some b)) q (λ r. cc r) (λ r. cc r) (λ r. cc r) (λ x r. again_state b h.number x r) in
       subst (λ l. C h.from l h.number ino rows) z.of_life (o.kept (sender h) z.session z.is h.number ino rows (z.state ∙ ap (λ y. states.Live h.number (Some y)) k))
 
-  o_reassert_again : (t : Turn) (h : Header) (x : Taken Body) → sv.take t h ≡ x → Fine t → Fine (reassert_again t h x)
+  o_reassert_again : (t : ServerTurn) (h : Header) (x : Taken Body) → sv.take t h ≡ x → Fine t → Fine (reassert_again t h x)
   unfolding reassert_again
   o_reassert_again t h (takes.Again b) q o = o_reply t h b (again_kept t h b q o) o
   o_reassert_again t h x q o = o
 
-  o_reassert_by : (t : Turn) (h : Header) (r : Res grace.Accepted AcceptRefusal) → AcceptedIs (sender h) (life_in h) t.state.sessions r → Fine t → Fine (reassert_by t h r)
+  o_reassert_by : (t : ServerTurn) (h : Header) (r : Res grace.Accepted AcceptRefusal) → AcceptedIs (sender h) (life_in h) t.state.sessions r → Fine t → Fine (reassert_by t h r)
   unfolding reassert_by sessions.reasserted
   o_reassert_by t h (Ok a) z o =
       o_reply _ h _ (λ i r q. cc q)
@@ -254,23 +254,23 @@ module _ (s : ServerId) (e : Epoch) (C : ReplyFact) where
       refused (refusals.Conflict x y) i rs q = cc q
       refused (refusals.NotHolder x y) i rs q = cc q
 
-  o_reassert : (t : Turn) (now : Stamp) (h : Header) (rows : List (ℕ × GrantNo × Mode)) → Fine t → Fine (reassert t now h rows)
+  o_reassert : (t : ServerTurn) (now : Stamp) (h : Header) (rows : List (ℕ × GrantNo × Mode)) → Fine t → Fine (reassert t now h rows)
   unfolding reassert reassert_new
   o_reassert t now h rows o =
       if_either Fine (sessions.knows t.state.sessions (sender h) (life_in h)) _ _ (o_reassert_again t h (sv.take t h) refl o)
       (o_reassert_by t h _ (accepts t.state.grace now (sender h) (life_in h) rows t.state.locks t.state.sessions) o)
 
   -- The rules of requests: a turn with the same sessions, and a reply that tells what the turn has.
-  record Ruled (t : Turn) (a : Replied) : Type 0 where
+  record Ruled (t : ServerTurn) (a : Replied) : Type 0 where
     fine : Fine a.turn
     same : a.turn.state.sessions ≡ t.state.sessions
     right : (ino : ℕ) (rows : List ExtentRow) → a.reply ≡ Some (bd.Extents ino rows) → RowsRight a.turn.state.stable.extents s ino rows
 
   -- a reply that tells no extents
-  plain : (t u : Turn) (b : Body) → ((ino : ℕ) (rows : List ExtentRow) → b ≡ bd.Extents ino rows → ⊥) → u.state.sessions ≡ t.state.sessions → Fine u → Ruled t (sv.replied u b)
+  plain : (t u : ServerTurn) (b : Body) → ((ino : ℕ) (rows : List ExtentRow) → b ≡ bd.Extents ino rows → ⊥) → u.state.sessions ≡ t.state.sessions → Fine u → Ruled t (sv.replied u b)
   plain t u b none same o = record { fine = o; same = same; right = λ ino rows q. absurd (none ino rows (some_is q)) }
 
-  told : (t u : Turn) (ino : ℕ) (page : PageNo) (count : ℕ) → u.state.sessions ≡ t.state.sessions → Fine u → Ruled t (sv.replied u (sv.extents_body u ino page count))
+  told : (t u : ServerTurn) (ino : ℕ) (page : PageNo) (count : ℕ) → u.state.sessions ≡ t.state.sessions → Fine u → Ruled t (sv.replied u (sv.extents_body u ino page count))
   unfolding extents.extent_rows
   told t u ino page count same o = record { fine = o; same = same; right = λ i rows q. go i rows (parts i rows (some_is q)) }
     where
@@ -280,10 +280,10 @@ module _ (s : ServerId) (e : Epoch) (C : ReplyFact) where
       go : (i : ℕ) (rows : List ExtentRow) → (ino ≡ i) × (extents.extent_rows u.state.stable.extents (sv.file u ino) page count ≡ rows) → RowsRight u.state.stable.extents s i rows
       go i rows (a, b) = subst (RowsRight u.state.stable.extents s i) b (λ r j. rows_of u.state.stable.extents (sv.file u ino) s i (ap (λ z. record { server = z; ino = ino }) o.id ∙ ap (λ n. record { server = s; ino = n }) a) (extents.pages_from page count) r j)
 
-  r_if : (t : Turn) (b : Bool) (x y : Replied) → Ruled t x → Ruled t y → Ruled t (if b then x else y)
+  r_if : (t : ServerTurn) (b : Bool) (x y : Replied) → Ruled t x → Ruled t y → Ruled t (if b then x else y)
   r_if t b x y p q = if_either (Ruled t) b x y p q
 
-  r_acquire : (t : Turn) (ino : ℕ) (mode : Mode) (r : Res locks.Acquired AcquireRefusal) → Fine t → Ruled t (sv.acquire_by t ino mode r)
+  r_acquire : (t : ServerTurn) (ino : ℕ) (mode : Mode) (r : Res locks.Acquired AcquireRefusal) → Fine t → Ruled t (sv.acquire_by t ino mode r)
   unfolding sv.acquire_by
   r_acquire t ino mode (Ok a) o = plain t _ _ (verdict a.verdict) refl (o_state t _ refl refl refl o)
     where
@@ -292,7 +292,7 @@ module _ (s : ServerId) (e : Epoch) (C : ReplyFact) where
       verdict v i rows q = cc q
   r_acquire t ino mode (Err r) o = plain t t _ (λ i rows q. cc q) refl o
 
-  r_allocate : (t : Turn) (ino : ℕ) (page : PageNo) (count : ℕ) → Fine t → Ruled t (sv.allocate_pages t ino page count)
+  r_allocate : (t : ServerTurn) (ino : ℕ) (page : PageNo) (count : ℕ) → Fine t → Ruled t (sv.allocate_pages t ino page count)
   unfolding sv.allocate_pages sv.allocate_by extents.allocate extents.allocate_pages sv.with_extents_told
   r_allocate t ino page count o = go (nat_le (length ps) (extents.free t.state.stable.extents))
     where
@@ -303,34 +303,34 @@ module _ (s : ServerId) (e : Epoch) (C : ReplyFact) where
       go true = told t (sv.with_extents (extents.place_pages (sv.file t ino) ps t.state.stable.extents) t) ino page count refl (o_state t _ refl refl refl o)
       go false = plain t t _ (λ i rows q. cc q) refl o
 
-  r_found : (t : Turn) (r : Res ℕ EntryRefusal) → Fine t → Ruled t (sv.name_found t r)
+  r_found : (t : ServerTurn) (r : Res ℕ EntryRefusal) → Fine t → Ruled t (sv.name_found t r)
   unfolding sv.name_found sv.name_refused
   r_found t (Ok n) o = plain t t _ (λ i rows q. cc q) refl o
   r_found t (Err r) o = plain t t _ (λ i rows q. cc q) refl o
 
-  r_changed : (t : Turn) (r : Res names.Changed EntryRefusal) → Fine t → Ruled t (sv.name_changed t r)
+  r_changed : (t : ServerTurn) (r : Res names.Changed EntryRefusal) → Fine t → Ruled t (sv.name_changed t r)
   unfolding sv.name_changed sv.name_refused
   r_changed t (Ok y) o = plain t _ _ (λ i rows q. cc q) refl (o_state t _ refl refl refl o)
   r_changed t (Err r) o = plain t t _ (λ i rows q. cc q) refl o
 
-  r_listed : (t : Turn) (r : Res (List NameRow) EntryRefusal) → Fine t → Ruled t (sv.names_listed t r)
+  r_listed : (t : ServerTurn) (r : Res (List NameRow) EntryRefusal) → Fine t → Ruled t (sv.names_listed t r)
   unfolding sv.names_listed sv.name_refused
   r_listed t (Ok y) o = plain t t _ (λ i rows q. cc q) refl o
   r_listed t (Err r) o = plain t t _ (λ i rows q. cc q) refl o
 
-  r_removed : (t : Turn) (r : Res names.Changed EntryRefusal) → Fine t → Ruled t (sv.remove_by t r)
+  r_removed : (t : ServerTurn) (r : Res names.Changed EntryRefusal) → Fine t → Ruled t (sv.remove_by t r)
   unfolding sv.remove_by sv.name_refused sv.cut_whole sv.cut_pages
   r_removed t (Ok y) o = plain t _ _ (λ i rows q. cc q) refl (o_note _ _ (o_state t _ refl refl refl o))
   r_removed t (Err r) o = plain t t _ (λ i rows q. cc q) refl o
 
-  r_remove : (t : Turn) (h : Header) (dir : ℕ) (x : List ℕ) (g : GrantNo) (r : Res ℕ EntryRefusal) → Fine t → Ruled t (sv.remove_found t h dir x g r)
+  r_remove : (t : ServerTurn) (h : Header) (dir : ℕ) (x : List ℕ) (g : GrantNo) (r : Res ℕ EntryRefusal) → Fine t → Ruled t (sv.remove_found t h dir x g r)
   unfolding sv.remove_found sv.remove_ino sv.remove_file sv.remove_dir sv.name_refused sv.not_holder
   r_remove t h dir x g (Err r) o = plain t t _ (λ i rows q. cc q) refl o
   r_remove t h dir x g (Ok ino) o =
       r_if t (sv.is_file t ino) _ _ (r_if t (sv.holds t h ino g modes.X) _ _ (r_removed t _ o) (plain t t _ (λ i rows q. cc q) refl o))
       (r_if t (g.0 == 0) _ _ (r_changed t _ o) (plain t t _ (λ i rows q. cc q) refl o))
 
-  r_name : (t : Turn) (h : Header) (op : NameOp) → Fine t → Ruled t (sv.name t h op)
+  r_name : (t : ServerTurn) (h : Header) (op : NameOp) → Fine t → Ruled t (sv.name t h op)
   unfolding sv.name sv.remove
   r_name t h (Lookup dir x) o = r_found t _ o
   r_name t h (Create dir x) o = r_changed t _ o
@@ -339,10 +339,10 @@ module _ (s : ServerId) (e : Epoch) (C : ReplyFact) where
   r_name t h (Rename dir x dir2 x2) o = r_changed t _ o
   r_name t h (ListFrom dir after) o = r_listed t _ o
 
-  r_none : (t : Turn) → Fine t → Ruled t (sv.silent t)
+  r_none : (t : ServerTurn) → Fine t → Ruled t (sv.silent t)
   r_none t o = record { fine = o; same = refl; right = λ i rows q. cc q }
 
-  r_rule : (t : Turn) (now : Stamp) (h : Header) (m : Body) → Fine t → Ruled t (rule t now h m)
+  r_rule : (t : ServerTurn) (now : Stamp) (h : Header) (m : Body) → Fine t → Ruled t (rule t now h m)
   unfolding rule sv.keep_alive sv.acquire sv.acquire_lock sv.no_file sv.released sv.released_by sv.map sv.map_held sv.map_page sv.not_holder sv.allocate sv.allocate_held sv.cut sv.cut_held sv.cut_from sv.with_extents_told sv.cut_pages
   r_rule t now h bd.KeepAlive o = plain t t _ (λ i rows q. cc q) refl o
   r_rule t now h (bd.Acquire n m) o = r_if t (sv.is_file t n) _ _ (r_acquire t n m _ o) (plain t t _ (λ i rows q. cc q) refl o)
@@ -355,10 +355,10 @@ module _ (s : ServerId) (e : Epoch) (C : ReplyFact) where
 
   -- An input, where what is told anew by the extents behind it is as the fact says.
   module _ (m : Message) (X : Extents) (new : m.header.to ≡ server_node s → m.header.epoch ≡ e.0 → (ino : ℕ) (rows : List ExtentRow) → RowsRight X s ino rows → C m.header.from m.header.life m.header.number ino rows) (there : m.header.to ≡ server_node s) where
-    G : Turn → Type 0
+    G : ServerTurn → Type 0
     G u = u.state.stable.extents ≡ X → Fine u
 
-    o_serve : (t : Turn) (a : Replied) → Ruled t a → m.header.epoch ≡ e.0 → sv.take t m.header ≡ takes.Fresh → G (serve m.header a)
+    o_serve : (t : ServerTurn) (a : Replied) → Ruled t a → m.header.epoch ≡ e.0 → sv.take t m.header ≡ takes.Fresh → G (serve m.header a)
     unfolding serve keep keep_and_reply reply G
     o_serve t a r ep q eq = go a.reply refl eq
       where
@@ -376,11 +376,11 @@ module _ (s : ServerId) (e : Epoch) (C : ReplyFact) where
             is : (ino : ℕ) (rows : List ExtentRow) → b ≡ bd.Extents ino rows → C m.header.from m.header.life m.header.number ino rows
             is ino rows k = new there ep ino rows (subst (λ y. RowsRight y s ino rows) x (r.right ino rows (f ∙ ap Some k)))
 
-    any : (t : Turn) → Fine t → G t
+    any : (t : ServerTurn) → Fine t → G t
     unfolding G
     any t o x = o
 
-    o_request_by : (t : Turn) (now : Stamp) (x : Taken Body) → m.header.epoch ≡ e.0 → sv.take t m.header ≡ x → Fine t → G (request_by t now m.header m.body x)
+    o_request_by : (t : ServerTurn) (now : Stamp) (x : Taken Body) → m.header.epoch ≡ e.0 → sv.take t m.header ≡ x → Fine t → G (request_by t now m.header m.body x)
     unfolding request_by refuse_epoch
     o_request_by t now takes.OtherEpoch ep q o = any _ (o_reply t m.header _ (λ i r k. cc k) o)
     o_request_by t now takes.NoSession ep q o = any _ (o_reply t m.header _ (λ i r k. cc k) o)
@@ -389,66 +389,66 @@ module _ (s : ServerId) (e : Epoch) (C : ReplyFact) where
     o_request_by t now takes.OutOfOrder ep q o = any _ o
     o_request_by t now takes.Fresh ep q o = o_serve t _ (r_rule t now m.header m.body o) ep q
 
-    o_request : (t : Turn) (now : Stamp) (b : Body) → m.body ≡ b → m.header.epoch ≡ e.0 → Fine t → G (request t now m.header b)
+    o_request : (t : ServerTurn) (now : Stamp) (b : Body) → m.body ≡ b → m.header.epoch ≡ e.0 → Fine t → G (request t now m.header b)
     unfolding request
     o_request t now (bd.Reassert rows) f ep o = any _ (o_reassert t now m.header rows o)
     o_request t now b f ep o = subst (λ y. G (request_by t now m.header y (sv.take t m.header))) f (o_request_by t now (sv.take t m.header) ep refl o)
 
-    o_of_epoch : (t : Turn) (now : Stamp) (b : Body) → m.body ≡ b → Fine t → G (of_epoch t now m.header b)
+    o_of_epoch : (t : ServerTurn) (now : Stamp) (b : Body) → m.body ≡ b → Fine t → G (of_epoch t now m.header b)
     unfolding of_epoch refuse_epoch
     o_of_epoch t now b f o =
         if_cases G (m.header.epoch == t.state.stable.epoch.0) _ _ (λ q. o_request t now b f (eqb-true _ _ q ∙ ap (λ (y : Epoch). y.0) o.epoch) o) (λ q. any _ (o_reply t m.header _ (λ i r k. cc k) o))
 
-    o_by_body : (t : Turn) (now : Stamp) (b : Body) → m.body ≡ b → Fine t → G (by_body t now m.header b)
+    o_by_body : (t : ServerTurn) (now : Stamp) (b : Body) → m.body ≡ b → Fine t → G (by_body t now m.header b)
     unfolding by_body
     o_by_body t now bd.Hello f o = any _ (o_hello t now m.header o)
     o_by_body t now (bd.DemandSeen n g) f o = any _ (o_seen t m.header n g o)
     o_by_body t now b f o = o_of_epoch t now b f o
 
-    o_refuse : (t : Turn) (start : Stamp) (b : Body) → Fine t → Fine (refuse_suspect t m.header start b)
+    o_refuse : (t : ServerTurn) (start : Stamp) (b : Body) → Fine t → Fine (refuse_suspect t m.header start b)
     unfolding refuse_suspect
     o_refuse t start (bd.DemandSeen n g) o = o
     o_refuse t start b o = o_reply t m.header _ (λ i r k. cc k) o
 
-    o_by_suspicion : (t : Turn) (now : Stamp) (x : Option Stamp) → Fine t → G (by_suspicion t now m.header m.body x)
+    o_by_suspicion : (t : ServerTurn) (now : Stamp) (x : Option Stamp) → Fine t → G (by_suspicion t now m.header m.body x)
     unfolding by_suspicion
     o_by_suspicion t now None o = o_by_body t now m.body refl o
     o_by_suspicion t now (Some start) o = any _ (o_refuse t start m.body o)
 
   -- The passes.
-  o_suspects : (now : Stamp) (cs : List ClientId) (t : Turn) → Fine t → Fine (suspect_each now cs t)
+  o_suspects : (now : Stamp) (cs : List ClientId) (t : ServerTurn) → Fine t → Fine (suspect_each now cs t)
   unfolding suspect_each suspect_unless
   o_suspects now [] t o = o
   o_suspects now (c ∷ cs) t o = o_suspects now cs _ (if_either Fine (authority.may_ack t.state.authority c) _ _ (o_suspect t now c o) o)
 
-  pub o_suspecting : (t : Turn) (now : Stamp) (j : ServerInput) → Fine t → Fine (suspecting_on t now j)
+  pub o_suspecting : (t : ServerTurn) (now : Stamp) (j : ServerInput) → Fine t → Fine (suspecting_on t now j)
   unfolding suspecting_on suspecting
   o_suspecting t now Tick o = o_suspects now _ t o
   o_suspecting t now (Control m) o = o
 
-  o_told : (rs : List (ClientId × Life × ℕ × GrantNo × Mode)) (t : Turn) → Fine t → Fine (tell_granted rs t)
+  o_told : (rs : List (ClientId × Life × ℕ × GrantNo × Mode)) (t : ServerTurn) → Fine t → Fine (tell_granted rs t)
   unfolding tell_granted
   o_told [] t o = o
   o_told (r ∷ rs) t o = o_told rs _ (o_tell t r.0 r.1 _ (λ i x q. cc q) o)
 
-  pub o_granting : (t : Turn) (now : Stamp) → Fine t → Fine (granting t now)
+  pub o_granting : (t : ServerTurn) (now : Stamp) → Fine t → Fine (granting t now)
   unfolding granting grant_waiting grant_by
   o_granting t now o = if_either Fine (sv.in_grace t now) t _ o (o_told _ _ (o_state t _ refl refl refl o))
 
-  o_demanded : (rs : List (ClientId × Life × ℕ × GrantNo × Mode)) (t : Turn) → Fine t → Fine (tell_demanded rs t)
+  o_demanded : (rs : List (ClientId × Life × ℕ × GrantNo × Mode)) (t : ServerTurn) → Fine t → Fine (tell_demanded rs t)
   unfolding tell_demanded
   o_demanded [] t o = o
   o_demanded (r ∷ rs) t o = o_demanded rs _ (o_tell t r.0 r.1 _ (λ i x q. cc q) o)
 
-  pub o_demanding : (t : Turn) (now : Stamp) (j : ServerInput) → Fine t → Fine (demanding t now j)
+  pub o_demanding : (t : ServerTurn) (now : Stamp) (j : ServerInput) → Fine t → Fine (demanding t now j)
   unfolding demanding demand_by
   o_demanding t now j o = o_demanded _ _ (o_state t _ refl refl refl o)
 
 -- The passes behind an input leave the extents.
-ESame : Turn → Turn → Type 0
+ESame : ServerTurn → ServerTurn → Type 0
 ESame t u = u.state.stable.extents ≡ t.state.stable.extents
 
-same_suspects : (now : Stamp) (cs : List ClientId) (t : Turn) → ESame t (suspect_each now cs t)
+same_suspects : (now : Stamp) (cs : List ClientId) (t : ServerTurn) → ESame t (suspect_each now cs t)
 unfolding suspect_each suspect_unless suspect_client ESame
 same_suspects now [] t = refl
 same_suspects now (c ∷ cs) t = same_suspects now cs _ ∙ one (authority.may_ack t.state.authority c)
@@ -457,21 +457,21 @@ same_suspects now (c ∷ cs) t = same_suspects now cs _ ∙ one (authority.may_a
     one true = refl
     one false = refl
 
-same_granted : (rs : List (ClientId × Life × ℕ × GrantNo × Mode)) (t : Turn) → ESame t (tell_granted rs t)
+same_granted : (rs : List (ClientId × Life × ℕ × GrantNo × Mode)) (t : ServerTurn) → ESame t (tell_granted rs t)
 unfolding tell_granted tell ESame
 same_granted [] t = refl
 same_granted (r ∷ rs) t = same_granted rs _
 
-same_demanded : (rs : List (ClientId × Life × ℕ × GrantNo × Mode)) (t : Turn) → ESame t (tell_demanded rs t)
+same_demanded : (rs : List (ClientId × Life × ℕ × GrantNo × Mode)) (t : ServerTurn) → ESame t (tell_demanded rs t)
 unfolding tell_demanded tell ESame
 same_demanded [] t = refl
 same_demanded (r ∷ rs) t = same_demanded rs _
 
-same_passes : (t : Turn) (now : Stamp) (i : ServerInput) → ESame t (demanding (granting (suspecting_on t now i) now) now i)
+same_passes : (t : ServerTurn) (now : Stamp) (i : ServerInput) → ESame t (demanding (granting (suspecting_on t now i) now) now i)
 unfolding demanding demand_by granting grant_waiting grant_by suspecting_on suspecting ESame
 same_passes t now i = same_demanded _ _ ∙ granted (suspecting_on t now i) ∙ suspected i
   where
-    granted : (u : Turn) → (granting u now).state.stable.extents ≡ u.state.stable.extents
+    granted : (u : ServerTurn) → (granting u now).state.stable.extents ≡ u.state.stable.extents
     granted u = by (sv.in_grace u now)
       where
         by : (b : Bool) → (if b then u else grant_waiting u).state.stable.extents ≡ u.state.stable.extents
@@ -486,10 +486,10 @@ pub law : RepliesTellExtents
 unfolding server_step thefts take_input receive receive_from ESame G
 law n now i = record { kept = done.kept; sent = done.sent }
   where
-    first : Turn
+    first : ServerTurn
     first = thefts (turn n []) now
 
-    after : Turn
+    after : ServerTurn
     after = take_input first now i
 
     X : Extents

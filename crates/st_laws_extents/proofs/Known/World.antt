@@ -29,14 +29,14 @@ use Rattle.st_rules.specs.Extents as extents
 use Rattle.st_rules.specs.Keys.{client}
 use Rattle.st_rules.specs.Server as server
 use Rattle.st_rules.specs.Server.{ServerNode}
-use Rattle.st_rules.specs.World.{World, ClientSite, clock_of, issued_of, message_of, node_of, numbered, receiver_of, site_of, with_numbered}
+use Rattle.st_rules.specs.World.{World, WorldClient, clock_of, issued_of, message_of, node_of, numbered, receiver_of, site_of, with_numbered}
 use Rattle.st_lemmas.specs.Lists.{Has}
 use Rattle.st_lemmas.proofs.Lookups.{some_is}
 use Rattle.st_lemmas.proofs.Numbers.{numbered_below, numbered_other, numbered_own}
 use Rattle.st_lemmas.proofs.Tables.{has_map, same_or_not}
 use Rattle.st_laws_leases.proofs.Dates.Leaving.{set_cases}
 use Rattle.st_laws_refine.specs.Views.Halves.{held_in}
-use Rattle.st_laws_refine.specs.Client.Shown.{Lasts}
+use Rattle.st_laws_refine.specs.Client.Invariants.{Lasts}
 use Rattle.st_laws_refine.specs.Client.World.{WorldLeft, site_left, world_left}
 use Rattle.st_laws_refine.proofs.Client.Sim.{world_is}
 use Rattle.st_laws_steps.specs.Lives.Lives.{clock_in}
@@ -47,16 +47,16 @@ use Rattle.st_laws_pages.proofs.Disks.Walk.{step_moves}
 use Rattle.st_laws_refine.proofs.Server.Delivery.{all_parts}
 use Rattle.st_laws_leases.specs.Sides.World.{There}
 use Rattle.st_laws_reads.specs.Copies.Copies.{Nothing, file_at}
-use Rattle.st_laws_reads.specs.Copies.World.{Taking, asking, hearing, hearing_of, now_at, taken, taking, told_at, told_of, turn_of}
-use Rattle.st_laws_reads.specs.AllClients.Clear.{AllCleared, Cleared}
+use Rattle.st_laws_reads.specs.Copies.World.{Taking, asking, receiving, receiving_of, now_at, taken, taking, told_at, told_of, turn_of}
+use Rattle.st_laws_reads.specs.AllClients.CutFiles.{AllCleared, Cleared}
 use Rattle.st_laws_reads.specs.AllClients.Events.{CutFree, CutFreeOf, MessageFree, ReceiverFree, ServerFree, TurnFree}
 use Rattle.st_laws_reads.proofs.AllClients.Behind.{Behind, behind}
 use Rattle.st_laws_reads.proofs.AllClients.Takings.{Takes}
 use Rattle.st_laws_extents.specs.Known.Known.{Fact, Knows, Locked}
-use Rattle.st_laws_extents.specs.Known.Lies.{AllKnow, AllLocked, CutsOwed, InputTold, LiesAs, SiteKnows, SubmitsLie, anything, lies}
+use Rattle.st_laws_extents.specs.Known.WritePlaces.{AllKnow, AllLocked, CutsOwed, InputTold, LiesAs, SiteKnows, SubmitsLie, anything, lies}
 use Rattle.st_laws_extents.proofs.Known.Held.{known_found}
 use Rattle.st_laws_extents.proofs.Known.Moved.{CutNoted, moved}
-use Rattle.st_laws_steps.specs.Client.Taking.{Each}
+use Rattle.st_laws_steps.specs.Client.Inputs.{Each}
 use Rattle.st_laws_extents.proofs.Known.Step.{Fine, Told, lost_knows, step_fine}
 
 -- what is known by one fact is known by another
@@ -83,7 +83,7 @@ pub still : (w v : World) → v.clients ≡ w.clients → v.servers ≡ w.server
 still w v cs ss ts = carried w v cs ss (λ c. let z = ap (λ xs. (clock_in xs c).0) ts in omega (arith, z))
 
 -- A client of a world is another one.
-placed : (w v : World) (c : ClientId) (old new : ClientSite) → site_of w c ≡ Some old → v.clients ≡ with_numbered c.0 new w.clients → v.servers ≡ w.servers → v.clocks ≡ w.clocks → SiteKnows v c new → AllKnow w → AllKnow v
+placed : (w v : World) (c : ClientId) (old new : WorldClient) → site_of w c ≡ Some old → v.clients ≡ with_numbered c.0 new w.clients → v.servers ≡ w.servers → v.clocks ≡ w.clocks → SiteKnows v c new → AllKnow w → AllKnow v
 placed w v c old new there cs ss ts n h d site at = go (set_cases w.clients c.0 d.0 old new site there (ap (λ xs. numbered xs d.0) (sym cs) ∙ at))
   where
     go : ((d.0 ≡ c.0) × (site ≡ new)) ⊎ ((d.0 ≢ c.0) × (site_of w d ≡ Some site)) → SiteKnows v d site
@@ -130,14 +130,14 @@ module _ (w : World) (sc : WorldTurn) (x : Taking) (t : Takes (counted w) sc x) 
             by true r = knows_by (lies w) (lies x.world) a (λ ino p m k. lies_same w x.world t.servers a.server ino p m) ((h x.client t.old old_there).knows r a was lasts)
             by false r = none (sym (stopped r a was) ∙ e)
 
-    hears : (i : ClientInput) → InputTold x i → Told (lies x.world) left i
-    hears (inputs.Control m) k = k
-    hears inputs.Tick k = tt
-    hears (inputs.App op ask) k = tt
-    hears (inputs.Done number result) k = tt
+    receives : (i : ClientInput) → InputTold x i → Told (lies x.world) left i
+    receives (inputs.Control m) k = k
+    receives inputs.Tick k = tt
+    receives (inputs.App op ask) k = tt
+    receives (inputs.Done number result) k = tt
 
     fine : Fine (lies x.world) (turn_of x)
-    fine = step_fine (lies x.world) s (now_at x) x.input (of_old Cleared (clear x.client t.old old_there)) (hears x.input told) before
+    fine = step_fine (lies x.world) s (now_at x) x.input (of_old Cleared (clear x.client t.old old_there)) (receives x.input told) before
 
     pub submits : SubmitsLie x
     submits number at to tag bytes i = fine.said _ i
@@ -169,7 +169,7 @@ module _ (w : World) (sc : WorldTurn) (x : Taking) (t : Takes (counted w) sc x) 
 
 -- Locks of files of which something is known have a mode, where their servers are there.
 abbrev pub ModesHeld : World → Type 0
-ModesHeld w = (d : ℕ) (site : ClientSite) → site_of w (client d) ≡ Some site → (a : Association) → Has a site.node.state.associations → There w a.server → (ino : ℕ) → Locked a.session ino → 1 ≤ (held_in a.session ino).mode
+ModesHeld w = (d : ℕ) (site : WorldClient) → site_of w (client d) ≡ Some site → (a : Association) → Has a site.node.state.associations → There w a.server → (ino : ℕ) → Locked a.session ino → 1 ≤ (held_in a.session ino).mode
 
 -- at one association
 free_at : (f : FileId) (p : PageNo) (lease now : ℕ) (xs : List Association) → CutFreeOf f p lease now xs → (a : Association) → Has a xs → Lasts lease now a.session → f.server ≡ a.server → ((held_in a.session f.ino).mode ≡ 0) ⊎ ((q : PageNo) → p.0 ≤ q.0 → Nothing a.store f.ino q)
@@ -181,7 +181,7 @@ free_at f p lease now (x ∷ xs) h a (inr i) = free_at f p lease now xs h.rest a
 module _ (w : World) (modes : ModesHeld w) (h : AllKnow w) where
   module _ (s : ServerId) (node new : ServerNode) (at : node_of w s ≡ Some node) (v : World) (cs : v.clients ≡ w.clients) (ts : v.clocks ≡ w.clocks) (ss : v.servers ≡ with_numbered s.0 new w.servers)
       (keeps : (g : FileId) (p : PageNo) (e : Extent) → extents.extent_of node.state.stable.extents g p ≡ Some e → (extents.extent_of new.state.stable.extents g p ≡ Some e) ⊎ ((from : PageNo) × (from.0 ≤ p.0) × CutFree w g from)) where
-    module _ (d : ClientId) (site : ClientSite) (there : site_of w d ≡ Some site) (run : site.node.running ≡ true) (a : Association) (i : Has a site.node.state.associations) (l : Lasts site.node.state.config.lease (clock_of w (nodes.Client d)).0 a.session) (e : KnownExtent) (j : Has e a.store.extents) (k : Locked a.session e.ino) where
+    module _ (d : ClientId) (site : WorldClient) (there : site_of w d ≡ Some site) (run : site.node.running ≡ true) (a : Association) (i : Has a site.node.state.associations) (l : Lasts site.node.state.config.lease (clock_of w (nodes.Client d)).0 a.session) (e : KnownExtent) (j : Has e a.store.extents) (k : Locked a.session e.ino) where
       abbrev g : FileId
       g = file_at a.server e.ino
 
@@ -227,7 +227,7 @@ module _ (w : World) (modes : ModesHeld w) (h : AllKnow w) where
   server_knows s input None at ids free = h
   server_knows s input (Some node) at ids free = go node.running free
     where
-      u : server.Turn
+      u : server.ServerTurn
       u = server.server_step node.state (clock_of w (nodes.Server s)) input
 
       new : ServerNode
@@ -251,7 +251,7 @@ none_some : {A : Type 0} (x : A) → ◌≡◌ {A = Option A} (Some x) None → 
 none_some x e = cc
 
 -- a client without sessions knows nothing
-pub empty_knows : (v : World) (c : ClientId) (site : ClientSite) → ((a : Association) → Has a site.node.state.associations → a.store.extents ≡ []) → SiteKnows v c site
+pub empty_knows : (v : World) (c : ClientId) (site : WorldClient) → ((a : Association) → Has a site.node.state.associations → a.store.extents ≡ []) → SiteKnows v c site
 empty_knows v c site f = record { knows = λ run a i l e j. absurd (subst (Has e) (f a i) j) }
 
 -- Nobody takes an input.
@@ -259,22 +259,22 @@ module _ (w : World) (modes : ModesHeld w) (ids : (s : ServerId) (n : ServerNode
   at_node : (s : ServerId) (input : ServerInput) → ServerFree w s input (node_of w s) → AllKnow (ev.at_server w s input (node_of w s)).world
   at_node s input free = server_knows w modes h s input (node_of w s) refl (ids s) free
 
-  client_none : (c : ClientId) (input : ClientInput) (o : Option ClientSite) → taking w c input o ≡ None → AllKnow (ev.at_client w c input o).world
+  client_none : (c : ClientId) (input : ClientInput) (o : Option WorldClient) → taking w c input o ≡ None → AllKnow (ev.at_client w c input o).world
   unfolding ev.at_client
   client_none c input None e = h
   client_none c input (Some site) e = absurd (none_some _ e)
 
-  ask_none : (c : ClientId) (ask : Ask) (o : Option ClientSite) → asking w c ask o ≡ None → AllKnow (ev.asks_at w c ask o).world
+  ask_none : (c : ClientId) (ask : Ask) (o : Option WorldClient) → asking w c ask o ≡ None → AllKnow (ev.asks_at w c ask o).world
   unfolding ev.asks_at
   ask_none c ask None e = h
   ask_none c ask (Some site) e = absurd (none_some _ e)
 
-  node_none : (m : Message) (n : NodeId) → hearing w m n ≡ None → ReceiverFree w m n → AllKnow (ev.delivers_to w m n).world
+  node_none : (m : Message) (n : NodeId) → receiving w m n ≡ None → ReceiverFree w m n → AllKnow (ev.delivers_to w m n).world
   unfolding ev.delivers_to
   node_none m (nodes.Client c) e g = client_none c (inputs.Control m) (site_of w c) e
   node_none m (nodes.Server s) e g = at_node s (serving.Control m) g
 
-  message_none : (o : Option SentMessage) → hearing_of w o ≡ None → MessageFree w o → AllKnow (ev.delivers w o).world
+  message_none : (o : Option SentMessage) → receiving_of w o ≡ None → MessageFree w o → AllKnow (ev.delivers w o).world
   unfolding ev.delivers
   message_none None e g = h
   message_none (Some m) e g = node_none m.message (receiver_of m) e g
@@ -284,11 +284,11 @@ module _ (w : World) (modes : ModesHeld w) (ids : (s : ServerId) (n : ServerNode
   told_none v n k ok None e = n
   told_none v n k ok (Some y) e = at_site (site_of v y.client) e
     where
-      at : (site : ClientSite) (b : Bool) → (if b then taking v y.client (ev.end_told v k ok y) (Some site) else None) ≡ None → AllKnow (if b then ev.client_takes v y.client (ev.end_told v k ok y) site else ev.quiet v).world
+      at : (site : WorldClient) (b : Bool) → (if b then taking v y.client (ev.end_told v k ok y) (Some site) else None) ≡ None → AllKnow (if b then ev.client_takes v y.client (ev.end_told v k ok y) site else ev.quiet v).world
       at site true e = absurd (none_some _ e)
       at site false e = n
 
-      at_site : (s : Option ClientSite) → told_at v k ok y s ≡ None → AllKnow (ev.tells_client v k ok y s).world
+      at_site : (s : Option WorldClient) → told_at v k ok y s ≡ None → AllKnow (ev.tells_client v k ok y s).world
       at_site None e = n
       at_site (Some site) e = at site (ev.is_same_instance y site) e
 
@@ -314,7 +314,7 @@ module _ (w : World) (modes : ModesHeld w) (ids : (s : ServerId) (n : ServerNode
   none_know (events.Report n ok) t o = let v : World = ev.with_disks (ev.disks_after w.disks (disks.done w.disks n ok)) w in told_none v (still w v refl refl refl h) n ok (issued_of w n) t
   none_know (events.Crash (nodes.Client c)) t o = go (site_of w c) refl
     where
-      go : (s : Option ClientSite) → site_of w c ≡ s → AllKnow (ev.crashes_client w c s).world
+      go : (s : Option WorldClient) → site_of w c ≡ s → AllKnow (ev.crashes_client w c s).world
       go None e = h
       go (Some site) e = placed w (ev.crashes_client w c (Some site)).world c site (ev.stopped_site site) e refl refl refl (empty_knows _ c (ev.stopped_site site) (λ a i. let z = has_map cl.crashed_association site.node.state.associations a i in ap (λ (y : Association). y.store.extents) z.2)) h
   none_know (events.Crash (nodes.Server s)) t o = go (node_of w s) refl
@@ -324,7 +324,7 @@ module _ (w : World) (modes : ModesHeld w) (ids : (s : ServerId) (n : ServerNode
       go (Some node) e = placed_node s node (server.crash_node node) e refl (ev.crashes_server w s (Some node)) refl refl refl
   none_know (events.Start (nodes.Client c)) t o = go (site_of w c) refl
     where
-      go : (s : Option ClientSite) → site_of w c ≡ s → AllKnow (ev.starts_client w c s)
+      go : (s : Option WorldClient) → site_of w c ≡ s → AllKnow (ev.starts_client w c s)
       go None e = h
       go (Some site) e = placed w (ev.starts_client w c (Some site)) c site (ev.started_site site) e refl refl refl (empty_knows _ c (ev.started_site site) (λ a i. let z = has_map cl.started_association site.node.state.associations a i in ap (λ (y : Association). y.store.extents) z.2)) h
   none_know (events.Start (nodes.Server s)) t o = go (node_of w s) refl

@@ -7,7 +7,7 @@ use Rattle.st_messages.specs.declared.message.Body.TheVariants as bodies
 use Rattle.st_messages.specs.declared.message.Message.{Message}
 use Rattle.st_messages.specs.declared.output.Output.TheVariants as outputs
 use Rattle.st_rules.specs.Keys.{client, server_node}
-use Rattle.st_rules.specs.Server.{ServerNode, Turn, server_step}
+use Rattle.st_rules.specs.Server.{ServerNode, ServerTurn, server_step}
 use Rattle.st_rules.specs.World.{World, node_of, numbered, with_numbered}
 use Rattle.st_lemmas.specs.Lists.{Has}
 use Rattle.st_lemmas.proofs.Lookups.{some_is}
@@ -37,7 +37,7 @@ module _ (w v : World) (grown : (m : Message) → Has m (messages w) → Has m (
       }
 
   module _ (y : ServerSteps w v) where
-    abbrev u : Turn
+    abbrev u : ServerTurn
     u = server_step y.node.state y.now y.input
 
     abbrev next : ServerNode

@@ -29,9 +29,9 @@ use Rattle.st_laws_extents.specs.ExtentReplies.Law.{AskedAfter, IsAsked, Request
 use Rattle.st_laws_extents.specs.ExtentReplies.Maps.{MapsAt}
 use Rattle.st_laws_extents.proofs.ExtentReplies.Events.{event_tells}
 use Rattle.st_laws_extents.proofs.ExtentReplies.Law as told
-use Rattle.st_laws_extents.proofs.ExtentReplies.Heard as heard
+use Rattle.st_laws_extents.proofs.ExtentReplies.Received as received
 use Rattle.st_laws_extents.specs.LockedRequests.Keys.{KeysTold}
-use Rattle.st_laws_extents.specs.LockedRequests.Seen.{AllSeen}
+use Rattle.st_laws_extents.specs.LockedRequests.AllSessions.{AllSeen}
 use Rattle.st_laws_extents.proofs.LockedRequests.Keys.{keyed_step}
 use Rattle.st_laws_extents.proofs.LockedRequests.Seen.{fresh_seen, seen_step}
 use Rattle.st_laws_extents.proofs.LockedRequests.Taking.{runs_go, stops_go}
@@ -124,13 +124,13 @@ pub replies : InEveryRun AskedAfter
 replies k clients servers disks blocks form es head events = told.asked k clients servers disks blocks form es head events (law k clients servers disks blocks form es head events)
 
 pub is_told : InEveryRun IsTold
-is_told k clients servers disks blocks form es head events = heard.is_told k clients servers disks blocks form es head events (law k clients servers disks blocks form es head events)
+is_told k clients servers disks blocks form es head events = received.is_told k clients servers disks blocks form es head events (law k clients servers disks blocks form es head events)
 
 pub known : InEveryRun KnownAfter
-known k clients servers disks blocks form es head events = heard.known k clients servers disks blocks form es head events (law k clients servers disks blocks form es head events)
+known k clients servers disks blocks form es head events = received.known k clients servers disks blocks form es head events (law k clients servers disks blocks form es head events)
 
 pub submits : InEveryRun SubmitsAt
-submits k clients servers disks blocks form es head events = heard.submits k clients servers disks blocks form es head events (law k clients servers disks blocks form es head events)
+submits k clients servers disks blocks form es head events = received.submits k clients servers disks blocks form es head events (law k clients servers disks blocks form es head events)
 
 pub maps_at : InEveryRun MapsAt
-maps_at k clients servers disks blocks form es head events = heard.maps_at k clients servers disks blocks form es head events (law k clients servers disks blocks form es head events)
+maps_at k clients servers disks blocks form es head events = received.maps_at k clients servers disks blocks form es head events (law k clients servers disks blocks form es head events)

@@ -6,10 +6,10 @@ use Rattle.st_rules.specs.Client as cl
 use Rattle.st_rules.specs.ClientPasses as cp
 use Rattle.st_rules.specs.ClientState.{Association, ClientState, client_turn}
 use Rattle.st_laws_steps.specs.Client.Losses.{Fit}
-use Rattle.st_laws_steps.specs.Client.Taking.{Each}
+use Rattle.st_laws_steps.specs.Client.Inputs.{Each}
 use Rattle.st_laws_steps.proofs.Client.Taking.{each, each_taken, taken}
 use Rattle.st_laws_extents.specs.LockedRequests.RequestsGoOn.{Before, Free, Of}
-use Rattle.st_laws_extents.proofs.LockedRequests.Walking.{k_finish, k_hear, k_passes, k_take}
+use Rattle.st_laws_extents.proofs.LockedRequests.Walking.{k_finish, k_receive, k_passes, k_take}
 
 module _ (U : Free) (W : Before) where
   abbrev pub Goes : Association → Type 0
@@ -22,4 +22,4 @@ module _ (U : Free) (W : Before) where
   step_goes s now input f h =
       let t = cl.losses (client_turn s []) now in
       each Goes Goes (cp.passes now (cl.is_tick input)) (k_passes U W now (cl.is_tick input)) (cl.take_input t now input)
-      (each_taken Goes (λ m. Fit) now (k_take U W) (λ m u p q. k_hear U W now m.header m.body u q p) (k_finish U W) t (cl.take_input t now input) input (taken t now input) (λ m e b. f) h)
+      (each_taken Goes (λ m. Fit) now (k_take U W) (λ m u p q. k_receive U W now m.header m.body u q p) (k_finish U W) t (cl.take_input t now input) input (taken t now input) (λ m e b. f) h)

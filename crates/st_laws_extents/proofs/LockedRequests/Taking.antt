@@ -14,10 +14,10 @@ use Rattle.st_rules.specs.History.{Traced}
 use Rattle.st_rules.specs.Keys.{client, server_node}
 use Rattle.st_rules.specs.Safety.{Step}
 use Rattle.st_rules.specs.Sessions as sessions
-use Rattle.st_rules.specs.World.{World, ClientSite, clock_of, numbered, site_of, with_numbered}
+use Rattle.st_rules.specs.World.{World, WorldClient, clock_of, numbered, site_of, with_numbered}
 use Rattle.st_protocol.specs.Assoc.{Config}
 use Rattle.st_lemmas.specs.Lists.{Has}
-use Rattle.st_laws_refine.specs.Client.Shown.{Lasts}
+use Rattle.st_laws_refine.specs.Client.Invariants.{Lasts}
 use Rattle.st_laws_refine.specs.Client.World.{WorldLeft, site_left, world_left}
 use Rattle.st_laws_refine.proofs.Client.Sim.{world_is}
 use Rattle.st_laws_steps.specs.Lives.Lives.{clock_in}
@@ -34,17 +34,17 @@ use Rattle.st_laws_reads.proofs.AllClients.Behind.{Behind, behind}
 use Rattle.st_laws_reads.proofs.AllClients.Takings.{Takes}
 use Rattle.st_laws_leases.proofs.Dates.Leaving.{set_cases}
 use Rattle.st_laws_extents.specs.ExtentReplies.Law.{RequestsGo, Untold, WasAsked}
-use Rattle.st_laws_extents.specs.ExtentReplies.Told.{AskedAt}
+use Rattle.st_laws_extents.specs.ExtentReplies.ToldExtents.{AskedAt}
 use Rattle.st_laws_extents.specs.LockedRequests.RequestsGoOn.{Before, Free, Of, Stand}
 use Rattle.st_laws_extents.specs.LockedRequests.Keys.{KeysTold}
-use Rattle.st_laws_extents.specs.LockedRequests.Seen.{AllSeen, any_before, any_free}
-use Rattle.st_laws_steps.specs.Client.Taking.{Each}
+use Rattle.st_laws_extents.specs.LockedRequests.AllSessions.{AllSeen, any_before, any_free}
+use Rattle.st_laws_steps.specs.Client.Inputs.{Each}
 use Rattle.st_laws_extents.proofs.LockedRequests.Step.{step_goes}
 use Rattle.st_laws_extents.proofs.LockedRequests.World.{back_same, was_at}
 
 -- a request was outstanding before under its lock
 record HeldBefore (w : World) (c : ℕ) (server : ServerId) (life epoch number : ℕ) (body : Body) : Type 0 where
-  site : ClientSite
+  site : WorldClient
   by : Association
   session : ClientSession
   request : Request
@@ -167,7 +167,7 @@ module _ (k : Config) (count : ℕ) (past : List Step) (t : Traced) (hold : Hold
     clients : sc.world.clients ≡ with_numbered x.client.0 (site_left x.world x.client x.site x.input) t.world.clients
     clients = ap (λ (z : World). z.clients) leaves ∙ world_left_is.clients ∙ ap (λ cs. with_numbered x.client.0 (site_left x.world x.client x.site x.input) cs) tk.clients
 
-    module _ (site : ClientSite) (a : Association) (y : ClientSession) (q : Request) (z : AskedAt sc.world x.client.0 site a y q) where
+    module _ (site : WorldClient) (a : Association) (y : ClientSession) (q : Request) (z : AskedAt sc.world x.client.0 site a y q) where
       untold : U a.server a.life.0 y.epoch.0 q.number → Untold t.world x.client.0 a y q
       untold u =
           record {
@@ -199,7 +199,7 @@ module _ (k : Config) (count : ℕ) (past : List Step) (t : Traced) (hold : Hold
         go : ((d ≡ x.client.0) × (site ≡ site_left x.world x.client x.site x.input)) ⊎ ((d ≢ x.client.0) × (numbered t.world.clients d ≡ Some site)) → WasAsked t.world d a y q ⊎ Untold t.world d a y q
         go (inl e) =
             subst (λ n. WasAsked t.world n a y q ⊎ Untold t.world n a y q) (sym e.0)
-            (own_goes site a y q (subst (λ n. AskedAt sc.world n site a y q) e.0 z) (subst (λ (s : ClientSite). Has a s.node.state.associations) e.1 z.has))
+            (own_goes site a y q (subst (λ n. AskedAt sc.world n site a y q) e.0 z) (subst (λ (s : WorldClient). Has a s.node.state.associations) e.1 z.has))
         go (inr e) = inl (was_at t.world sc.world d site a y q e.1 (let u = ap (λ xs. (clock_in xs (client d)).0) clocks in omega (arith, u)) z)
 
   -- one that does not run takes nothing

@@ -128,8 +128,8 @@ module _ (U : Free) (W : Before) where
   pub k_take : (s : ServerId) (op : ℕ) (ask : Ask) (t : Turn) → K t (only_at s (cl.take_ask op ask) t)
   k_take = sessions.k_take (λ s l o. Of U W s l o)
 
-  pub k_hear : (now : Stamp) (h : Header) (b : Body) (t : Turn) → Fit t.here → K t (cr.receive_at now h b t)
-  k_hear now h b t f = sessions.k_hear (λ s l o. Of U W s l o) on first now h b t f.fresh
+  pub k_receive : (now : Stamp) (h : Header) (b : Body) (t : Turn) → Fit t.here → K t (cr.receive_at now h b t)
+  k_receive now h b t f = sessions.k_receive (λ s l o. Of U W s l o) on first now h b t f.fresh
 
   pub k_finish : (number : ℕ) (r : Option (Option (Tag × List ℕ))) (t : Turn) → K t (cl.finish number r t)
   k_finish = sessions.k_finish (λ s l o. Of U W s l o)

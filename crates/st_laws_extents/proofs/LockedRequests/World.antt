@@ -24,21 +24,21 @@ use Rattle.st_rules.specs.Events.{happens}
 use Rattle.st_rules.specs.Keys.{client}
 use Rattle.st_rules.specs.Server as server
 use Rattle.st_rules.specs.Server.{ServerNode}
-use Rattle.st_rules.specs.World.{World, ClientSite, clock_of, issued_of, message_of, node_of, numbered, receiver_of, site_of, with_numbered}
+use Rattle.st_rules.specs.World.{World, WorldClient, clock_of, issued_of, message_of, node_of, numbered, receiver_of, site_of, with_numbered}
 use Rattle.st_lemmas.specs.Lists.{Has}
 use Rattle.st_lemmas.proofs.Tables.{has_map}
-use Rattle.st_laws_refine.specs.Client.Shown.{Lasts}
+use Rattle.st_laws_refine.specs.Client.Invariants.{Lasts}
 use Rattle.st_laws_steps.specs.Lives.Lives.{clock_in}
 use Rattle.st_laws_pages.proofs.Disks.Moves.{clock_up}
 use Rattle.st_laws_refine.proofs.Server.Delivery.{all_parts}
-use Rattle.st_laws_reads.specs.Copies.World.{asking, hearing, hearing_of, taken, taking, told_at, told_of}
+use Rattle.st_laws_reads.specs.Copies.World.{asking, receiving, receiving_of, taken, taking, told_at, told_of}
 use Rattle.st_laws_leases.proofs.Dates.Leaving.{set_cases}
 use Rattle.st_laws_extents.specs.ExtentReplies.Law.{WasAsked}
-use Rattle.st_laws_extents.specs.ExtentReplies.Told.{AskedAt}
+use Rattle.st_laws_extents.specs.ExtentReplies.ToldExtents.{AskedAt}
 
 -- what is outstanding behind was outstanding before
 abbrev pub Back : World → World → Type 0
-Back w v = (c : ℕ) (site : ClientSite) (a : Association) (x : ClientSession) (q : Request) → AskedAt v c site a x q → WasAsked w c a x q
+Back w v = (c : ℕ) (site : WorldClient) (a : Association) (x : ClientSession) (q : Request) → AskedAt v c site a x q → WasAsked w c a x q
 
 -- what lasts later lasts
 lasts_before : (lease now later : ℕ) (o : Option ClientSession) → now ≤ later → Lasts lease later o → Lasts lease now o
@@ -46,7 +46,7 @@ lasts_before lease now later None l h = tt
 lasts_before lease now later (Some s) l h = omega (arith, l, h)
 
 -- a client that is as it was
-pub was_at : (w v : World) (c : ℕ) (site : ClientSite) (a : Association) (x : ClientSession) (q : Request) → site_of w (client c) ≡ Some site → (clock_of w (nodes.Client (client c))).0 ≤ (clock_of v (nodes.Client (client c))).0 → AskedAt v c site a x q → WasAsked w c a x q
+pub was_at : (w v : World) (c : ℕ) (site : WorldClient) (a : Association) (x : ClientSession) (q : Request) → site_of w (client c) ≡ Some site → (clock_of w (nodes.Client (client c))).0 ≤ (clock_of v (nodes.Client (client c))).0 → AskedAt v c site a x q → WasAsked w c a x q
 was_at w v c site a x q there ts z =
     record {
       site = site;
@@ -71,11 +71,11 @@ none_session : {A : Type 0} (x : ClientSession) → ◌≡◌ {A = Option Client
 none_session x e = cc
 
 -- a client that loses all its sessions
-placed : (w v : World) (c : ClientId) (old new : ClientSite) → site_of w c ≡ Some old → v.clients ≡ with_numbered c.0 new w.clients → v.clocks ≡ w.clocks → ((a : Association) → Has a new.node.state.associations → a.session ≡ None) → Back w v
+placed : (w v : World) (c : ClientId) (old new : WorldClient) → site_of w c ≡ Some old → v.clients ≡ with_numbered c.0 new w.clients → v.clocks ≡ w.clocks → ((a : Association) → Has a new.node.state.associations → a.session ≡ None) → Back w v
 placed w v c old new there cs ts n d site a x q z = go (set_cases w.clients c.0 d old new site there (ap (λ xs. numbered xs d) (sym cs) ∙ z.run.there))
   where
     go : ((d ≡ c.0) × (site ≡ new)) ⊎ ((d ≢ c.0) × (numbered w.clients d ≡ Some site)) → WasAsked w d a x q
-    go (inl y) = none_session x (sym (n a (subst (λ (s : ClientSite). Has a s.node.state.associations) y.1 z.has)) ∙ z.session)
+    go (inl y) = none_session x (sym (n a (subst (λ (s : WorldClient). Has a s.node.state.associations) y.1 z.has)) ∙ z.session)
     go (inr y) = was_at w v d site a x q y.1 (let u = ap (λ xs. (clock_in xs (client d)).0) ts in omega (arith, u)) z
 
 none_some : {A : Type 0} (x : A) → ◌≡◌ {A = Option A} (Some x) None → ⊥
@@ -94,7 +94,7 @@ module _ (w : World) where
       at None = same
       at (Some node) = go node.running
         where
-          u : server.Turn
+          u : server.ServerTurn
           u = server.server_step node.state (clock_of w (nodes.Server s)) input
 
           new : ServerNode
@@ -107,22 +107,22 @@ module _ (w : World) where
           go false = same
           go true = let y = all_parts s u.out (ev.quiet (ev.with_node s new w)) in back_same w v y.clients y.clocks
 
-  client_none : (c : ClientId) (input : ClientInput) (o : Option ClientSite) → taking w c input o ≡ None → Back w (ev.at_client w c input o).world
+  client_none : (c : ClientId) (input : ClientInput) (o : Option WorldClient) → taking w c input o ≡ None → Back w (ev.at_client w c input o).world
   unfolding ev.at_client
   client_none c input None e = same
   client_none c input (Some site) e = absurd (none_some _ e)
 
-  ask_none : (c : ClientId) (ask : Ask) (o : Option ClientSite) → asking w c ask o ≡ None → Back w (ev.asks_at w c ask o).world
+  ask_none : (c : ClientId) (ask : Ask) (o : Option WorldClient) → asking w c ask o ≡ None → Back w (ev.asks_at w c ask o).world
   unfolding ev.asks_at
   ask_none c ask None e = same
   ask_none c ask (Some site) e = absurd (none_some _ e)
 
-  node_none : (m : Message) (n : NodeId) → hearing w m n ≡ None → Back w (ev.delivers_to w m n).world
+  node_none : (m : Message) (n : NodeId) → receiving w m n ≡ None → Back w (ev.delivers_to w m n).world
   unfolding ev.delivers_to
   node_none m (nodes.Client c) e = client_none c (inputs.Control m) (site_of w c) e
   node_none m (nodes.Server s) e = at_node s (serving.Control m)
 
-  message_none : (o : Option SentMessage) → hearing_of w o ≡ None → Back w (ev.delivers w o).world
+  message_none : (o : Option SentMessage) → receiving_of w o ≡ None → Back w (ev.delivers w o).world
   unfolding ev.delivers
   message_none None e = same
   message_none (Some m) e = node_none m.message (receiver_of m) e
@@ -132,11 +132,11 @@ module _ (w : World) where
   told_none v n k ok None e = n
   told_none v n k ok (Some y) e = at_site (site_of v y.client) e
     where
-      at : (site : ClientSite) (b : Bool) → (if b then taking v y.client (ev.end_told v k ok y) (Some site) else None) ≡ None → Back w (if b then ev.client_takes v y.client (ev.end_told v k ok y) site else ev.quiet v).world
+      at : (site : WorldClient) (b : Bool) → (if b then taking v y.client (ev.end_told v k ok y) (Some site) else None) ≡ None → Back w (if b then ev.client_takes v y.client (ev.end_told v k ok y) site else ev.quiet v).world
       at site true e = absurd (none_some _ e)
       at site false e = n
 
-      at_site : (s : Option ClientSite) → told_at v k ok y s ≡ None → Back w (ev.tells_client v k ok y s).world
+      at_site : (s : Option WorldClient) → told_at v k ok y s ≡ None → Back w (ev.tells_client v k ok y s).world
       at_site None e = n
       at_site (Some site) e = at site (ev.is_same_instance y site) e
 
@@ -158,7 +158,7 @@ module _ (w : World) where
   none_taken (events.Report n ok) t = let v : World = ev.with_disks (ev.disks_after w.disks (disks.done w.disks n ok)) w in told_none v (back_same w v refl refl) n ok (issued_of w n) t
   none_taken (events.Crash (nodes.Client c)) t = go (site_of w c) refl
     where
-      go : (s : Option ClientSite) → site_of w c ≡ s → Back w (ev.crashes_client w c s).world
+      go : (s : Option WorldClient) → site_of w c ≡ s → Back w (ev.crashes_client w c s).world
       go None e = same
       go (Some site) e = placed w (ev.crashes_client w c (Some site)).world c site (ev.stopped_site site) e refl refl (λ a i. let z = has_map cl.crashed_association site.node.state.associations a i in ap (λ (y : Association). y.session) z.2)
   none_taken (events.Crash (nodes.Server s)) t = go (node_of w s)
@@ -168,7 +168,7 @@ module _ (w : World) where
       go (Some node) = back_same w (ev.crashes_server w s (Some node)) refl refl
   none_taken (events.Start (nodes.Client c)) t = go (site_of w c) refl
     where
-      go : (s : Option ClientSite) → site_of w c ≡ s → Back w (ev.starts_client w c s)
+      go : (s : Option WorldClient) → site_of w c ≡ s → Back w (ev.starts_client w c s)
       go None e = same
       go (Some site) e = placed w (ev.starts_client w c (Some site)) c site (ev.started_site site) e refl refl (λ a i. let z = has_map cl.started_association site.node.state.associations a i in ap (λ (y : Association). y.session) z.2)
   none_taken (events.Start (nodes.Server s)) t = go (node_of w s)

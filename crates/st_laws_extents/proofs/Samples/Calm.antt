@@ -62,21 +62,21 @@ both_of now t u v a b =
     }
 
 -- Each change that is calm, and such changes.
-change_calm : (hears : Bool) (now : Stamp) (t u : Turn) (c : client.Change now t u) → IsCalm hears now t u c → submitted.Calm now t u
-change_calm hears now t _ (client.Says _ o p) q = kept now t (say t o) (o ∷ []) refl refl refl (plain_none o p)
-change_calm hears now t _ (client.Operates _ os) q = kept now t _ [] (empty_right t.out) refl refl none_said
-change_calm hears now t _ (client.Answers _ os ops a) q = kept now t _ (map (answer_to a) ops) refl refl refl (answers_none a ops)
-change_calm hears now t _ (client.Greets _ g) q = kept now t _ [] (empty_right t.out) refl refl none_said
-change_calm hears now t _ (client.TellsLost _ lost) q = kept now t _ [] (empty_right t.out) refl refl none_said
-change_calm hears now t _ (client.Begins _ s a b c) q = kept now t _ [] (empty_right t.out) refl refl none_said
-change_calm hears now t _ (client.Follows _ s u e g) q = kept now t _ [] (empty_right t.out) refl refl none_said
-change_calm hears now t _ (client.Learns _ e a b) q = kept now t _ [] (empty_right t.out) refl refl none_said
-change_calm hears now t _ (client.Forgets _ ino p i) q = absurd q
-change_calm hears now t _ (client.Caches _ clean) q = kept now t _ [] (empty_right t.out) refl refl none_said
-change_calm hears now t _ (client.Writes _ s f p bytes n se sv own m h) q = absurd q
-change_calm hears now t _ (client.Reads _ ino p m i clean) q = absurd q
-change_calm hears now t _ (client.Submits _ s ino p d m se e i w) q = absurd q
+change_calm : (receives : Bool) (now : Stamp) (t u : Turn) (c : client.Change now t u) → IsCalm receives now t u c → submitted.Calm now t u
+change_calm receives now t _ (client.Says _ o p) q = kept now t (say t o) (o ∷ []) refl refl refl (plain_none o p)
+change_calm receives now t _ (client.Operates _ os) q = kept now t _ [] (empty_right t.out) refl refl none_said
+change_calm receives now t _ (client.Answers _ os ops a) q = kept now t _ (map (answer_to a) ops) refl refl refl (answers_none a ops)
+change_calm receives now t _ (client.Greets _ g) q = kept now t _ [] (empty_right t.out) refl refl none_said
+change_calm receives now t _ (client.TellsLost _ lost) q = kept now t _ [] (empty_right t.out) refl refl none_said
+change_calm receives now t _ (client.Begins _ s a b c) q = kept now t _ [] (empty_right t.out) refl refl none_said
+change_calm receives now t _ (client.Follows _ s u e g) q = kept now t _ [] (empty_right t.out) refl refl none_said
+change_calm receives now t _ (client.Learns _ e a b) q = kept now t _ [] (empty_right t.out) refl refl none_said
+change_calm receives now t _ (client.Forgets _ ino p i) q = absurd q
+change_calm receives now t _ (client.Caches _ clean) q = kept now t _ [] (empty_right t.out) refl refl none_said
+change_calm receives now t _ (client.Writes _ s f p bytes n se sv own m h) q = absurd q
+change_calm receives now t _ (client.Reads _ ino p m i clean) q = absurd q
+change_calm receives now t _ (client.Submits _ s ino p d m se e i w) q = absurd q
 
-pub changes_calm : (hears : Bool) (now : Stamp) (t u : Turn) → Only (IsCalm hears) now t u → submitted.Calm now t u
-changes_calm hears now t _ (Ends _) = still {now = now} t
-changes_calm hears now t v (Goes _ u _ c q r) = both_of now t u v (change_calm hears now t u c q) (changes_calm hears now u v r)
+pub changes_calm : (receives : Bool) (now : Stamp) (t u : Turn) → Only (IsCalm receives) now t u → submitted.Calm now t u
+changes_calm receives now t _ (Ends _) = still {now = now} t
+changes_calm receives now t v (Goes _ u _ c q r) = both_of now t u v (change_calm receives now t u c q) (changes_calm receives now u v r)

@@ -17,18 +17,18 @@ use Rattle.st_rules.specs.Keys.{same_page}
 use Rattle.st_rules.specs.World.{World, clock_of, numbered, site_of}
 use Rattle.st_lemmas.specs.Lists.{Has}
 use Rattle.st_lemmas.proofs.Tables.{and_true, found_at}
-use Rattle.st_laws_refine.specs.Client.Shown.{Lasts}
+use Rattle.st_laws_refine.specs.Client.Invariants.{Lasts}
 use Rattle.st_laws_steps.specs.Lives.Lives.{clock_in}
 use Rattle.st_laws_steps.specs.Client.Losses.{Fit}
 use Rattle.st_laws_pages.specs.Disks.World.{mapped_at, mapped_in}
 use Rattle.st_laws_reads.specs.Copies.Copies.{file_at}
 use Rattle.st_laws_reads.specs.Copies.World.{Taking, now_at, turn_of}
-use Rattle.st_laws_reads.specs.AllClients.Clear.{AllCleared, Cleared}
+use Rattle.st_laws_reads.specs.AllClients.CutFiles.{AllCleared, Cleared}
 use Rattle.st_laws_reads.proofs.AllClients.Behind.{Behind, behind}
 use Rattle.st_laws_reads.proofs.AllClients.Takings.{Takes}
 use Rattle.st_laws_extents.specs.Known.Known.{Fact, Knows, Locked}
-use Rattle.st_laws_extents.specs.Known.Lies.{AllKnow, AllLocked, InputTold, LiesAs, anything, lies}
-use Rattle.st_laws_steps.specs.Client.Taking.{Each}
+use Rattle.st_laws_extents.specs.Known.WritePlaces.{AllKnow, AllLocked, InputTold, LiesAs, anything, lies}
+use Rattle.st_laws_steps.specs.Client.Inputs.{Each}
 use Rattle.st_laws_extents.proofs.Known.Step.{Fine, Told, lost_knows, step_fine}
 use Rattle.st_laws_extents.specs.DiskReads.Reads.{LiesAt, ReadsLie}
 use Rattle.st_laws_extents.specs.Samples.SubmittedReads.{KnownTo}
@@ -95,14 +95,14 @@ module _ (w : World) (sc : WorldTurn) (x : Taking) (t : Takes (counted w) sc x) 
               subst (λ (n : cl.ClientNode). Lasts n.state.config.lease (clock_of w (nodes.Client x.client)).0 a.session) (sym t.same)
               (subst (λ ts. Lasts s.config.lease (clock_in ts x.client).0 a.session) t.clocks b.lasts)
 
-  hears : (i : ClientInput) → InputTold x i → Told (lies x.world) left i
-  hears (inputs.Control m) k = k
-  hears inputs.Tick k = tt
-  hears (inputs.App op ask) k = tt
-  hears (inputs.Done number result) k = tt
+  receives : (i : ClientInput) → InputTold x i → Told (lies x.world) left i
+  receives (inputs.Control m) k = k
+  receives inputs.Tick k = tt
+  receives (inputs.App op ask) k = tt
+  receives (inputs.Done number result) k = tt
 
   fine : Fine (lies x.world) (turn_of x)
-  fine = step_fine (lies x.world) s (now_at x) x.input (of_old Cleared (clear x.client t.old old_there)) (hears x.input told) before
+  fine = step_fine (lies x.world) s (now_at x) x.input (of_old Cleared (clear x.client t.old old_there)) (receives x.input told) before
 
   below_here : (a : Association) → Has a s.associations → (pc : PageCommand) → Has pc a.store.commands → pc.number < s.next_command
   below_here = subst (λ (n : cl.ClientNode). (a : Association) → Has a n.state.associations → (pc : PageCommand) → Has pc a.store.commands → pc.number < n.state.next_command) t.same below

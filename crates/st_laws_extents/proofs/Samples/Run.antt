@@ -28,7 +28,7 @@ use Rattle.st_laws_extents.proofs.CutRequests.Law.{Hold, same_all}
 use Rattle.st_laws_extents.specs.FrozenCuts.FrozenFiles.{FrozenFilesUncut}
 use Rattle.st_laws_extents.proofs.FrozenCuts.Stays.{uncut_stays}
 use Rattle.st_laws_extents.proofs.FrozenCuts.Uncut.{frozen_uncut}
-use Rattle.st_laws_extents.specs.Known.Lies.{ExtentsTold, AllKnow, LiesAs}
+use Rattle.st_laws_extents.specs.Known.WritePlaces.{ExtentsTold, AllKnow, LiesAs}
 use Rattle.st_laws_extents.proofs.Known.Law as known
 use Rattle.st_laws_extents.specs.DiskReads.Law.{IsPlaced, TakenReads}
 use Rattle.st_laws_extents.proofs.DiskReads.Run as found
@@ -46,7 +46,7 @@ use Rattle.st_laws_pages.specs.Flush.Flush.{file_at}
 use Rattle.st_laws_pages.specs.Disks.Pages.{mapping_of}
 use Rattle.st_laws_pages.specs.Disks.World.{mapped_in}
 use Rattle.st_laws_extents.specs.Known.Law.{SubmitsOf}
-use Rattle.st_laws_extents.specs.Submits.Left.{SubmitsLeft}
+use Rattle.st_laws_extents.specs.Submits.Obligations.{SubmitsLeft}
 use Rattle.st_laws_extents.specs.DiskReads.Reads.{KnownRight}
 
 -- What clients know, as it is asked for.

@@ -21,8 +21,8 @@ use Rattle.st_lemmas.specs.Lists.{Has}
 use Rattle.st_lemmas.proofs.Tables.{has_append, has_filter}
 use Rattle.st_laws_steps.specs.Client.Losses.{Ends, Fails, Fit, Hardens, Passes, Unknown, is_ended}
 use Rattle.st_laws_pages.proofs.Flush.Adding.{AllStill}
-use Rattle.st_laws_steps.specs.Client.Taking as taking
-use Rattle.st_laws_steps.specs.Client.Taking.{Taken}
+use Rattle.st_laws_steps.specs.Client.Inputs as taking
+use Rattle.st_laws_steps.specs.Client.Inputs.{Taken}
 use Rattle.st_laws_steps.proofs.Client.Taking.{taken}
 use Rattle.st_laws_pages.proofs.Flush.Flushing.{pair_of}
 use Rattle.st_laws_steps.proofs.Client.Nexts.{empty_right}
@@ -32,7 +32,7 @@ use Rattle.st_laws_extents.specs.Samples.SubmittedReads.{AllSent, Begun, Calm, K
 use Rattle.st_laws_steps.proofs.Client.Asking.{p_passes}
 use Rattle.st_laws_steps.proofs.Client.Losing.{Finished, calm_only, finish_is, is_done}
 use Rattle.st_laws_steps.proofs.Client.Passing.{KeepsOrAsks}
-use Rattle.st_laws_steps.proofs.Client.Replying.{calm_hear}
+use Rattle.st_laws_steps.proofs.Client.Replying.{calm_receive}
 use Rattle.st_laws_extents.proofs.Samples.Calm.{both_none, both_of, changes_calm, none_said, plain_none}
 use Rattle.st_laws_extents.proofs.Samples.Rules.{changes_sent}
 
@@ -195,7 +195,7 @@ module _ (c : ClientId) (s : ClientState) (now : Stamp) (input : ClientInput) (f
   input_none _ _ (taking.Full op ask e) = answered op answers.OpsFull
   input_none _ _ (taking.Unknown op ask e f) = answered op answers.NoFile
   input_none _ _ (taking.Takes op ask e f) = each_none now s.next_command (only_at (server_of ask) (cl.take_ask op ask)) (λ x f. changes_calm false now x _ (calm_only now (server_of ask) op ask x)) t fit_t begins
-  input_none _ _ (taking.Hears m e) = each_none now s.next_command (cr.receive_at now m.header m.body) (λ y f. changes_calm true now y _ (calm_hear now m.header m.body y f.fresh)) t fit_t begins
+  input_none _ _ (taking.Receives m e) = each_none now s.next_command (cr.receive_at now m.header m.body) (λ y f. changes_calm true now y _ (calm_receive now m.header m.body y f.fresh)) t fit_t begins
   input_none _ _ (taking.Finishes number result) =
       each_none now s.next_command (cl.finish number result) (λ y f. finished_calm now number (is_done result) y (cl.finish number result y) (finish_is now number result y)) t fit_t begins
 

@@ -33,14 +33,14 @@ use Rattle.st_rules.specs.FlatLog.{is_of_client, matters, touches}
 use Rattle.st_rules.specs.Keys.{client, same_file, same_page}
 use Rattle.st_rules.specs.Safety.{Step}
 use Rattle.st_rules.specs.World as world
-use Rattle.st_rules.specs.World.{World, ClientSite, clock_of, life_with, numbered, site_of, with_numbered}
+use Rattle.st_rules.specs.World.{World, WorldClient, clock_of, life_with, numbered, site_of, with_numbered}
 use Rattle.st_protocol.specs.Assoc.{Config}
 use Rattle.st_lemmas.specs.Lists.{Has}
 use Rattle.st_lemmas.proofs.Lookups.{some_is}
 use Rattle.st_lemmas.proofs.Numbers.{numbered_below, numbered_other, numbered_own}
 use Rattle.st_lemmas.proofs.Tables.{and_true, same_or_not}
 use Rattle.st_laws_refine.specs.Views.Halves.{held_in}
-use Rattle.st_laws_refine.specs.Client.Shown.{Lasts}
+use Rattle.st_laws_refine.specs.Client.Invariants.{Lasts}
 use Rattle.st_laws_pages.specs.Flush.Flush.{FlushHold, file_at}
 use Rattle.st_laws_pages.specs.Disks.Folds.{CutsHard}
 use Rattle.st_laws_steps.specs.Lives.Lives.{LivesHold, clock_in}
@@ -51,7 +51,7 @@ use Rattle.st_laws_pages.specs.Asks.Law.{PlacesHold}
 use Rattle.st_laws_pages.proofs.Causes.FlushSteps.{BothHold}
 use Rattle.st_laws_pages.proofs.Causes.Placed.{Placed, PlacesAt, places_at, step_placed}
 use Rattle.st_laws_pages.proofs.Asks.Places.{Knows}
-use Rattle.st_laws_pages.specs.Causes.Stands.{LatestOwn}
+use Rattle.st_laws_pages.specs.Causes.Invariants.{LatestOwn}
 use Rattle.st_laws_leases.specs.Sides.World.{AllStand}
 use Rattle.st_laws_reads.specs.Copies.Law.{StandsAt}
 use Rattle.st_laws_reads.specs.Copies.Copies.{Right}
@@ -64,7 +64,7 @@ use Rattle.st_laws_reads.proofs.AllClients.Takings.{Takes, keeps, mine, mine_the
 use Rattle.st_laws_pages.specs.Writes.Writes.{OpenHold, WritesOnce}
 use Rattle.st_laws_reads.specs.OpenWrites.StandStill.{WritesHold}
 use Rattle.st_laws_reads.proofs.OpenWrites.Alone as alone
-use Rattle.st_laws_extents.specs.Submits.Lies.{SubmitsLie}
+use Rattle.st_laws_extents.specs.Submits.WritePlaces.{SubmitsLie}
 use Rattle.st_laws_extents.specs.Submits.Submits.{LastIn, LatestLast}
 use Rattle.st_laws_extents.proofs.Submits.Last.{last_other}
 use Rattle.st_laws_extents.proofs.Submits.Owing.{owes}
@@ -73,7 +73,7 @@ use Rattle.st_laws_extents.proofs.Submits.Taking.{Gives, TakenIn}
 use Rattle.st_laws_extents.proofs.Submits.Walk.{All}
 use Rattle.st_laws_reads.proofs.OpenWrites.Growing.{grows_all}
 use Rattle.st_laws_pages.proofs.Lives.Turning.{says_lives}
-use Rattle.st_laws_pages.specs.Disks.Owed.{NodeOwes}
+use Rattle.st_laws_pages.specs.Disks.Obligations.{NodeOwes}
 
 -- Cuts stay hard through a client's outputs.
 cuts_entry : (es : List LogEntry) (e : LogEntry) → (e.change ≡ Rattle.st_rules.specs.declared.log.Change.TheVariants.Cut → e.fate ≡ Rattle.st_rules.specs.declared.log.Fate.TheVariants.Hard) → CutsHard es → CutsHard (es ++ e ∷ [])
@@ -85,7 +85,7 @@ unfolding client_says ev.client_notes ev.sends ev.submits ev.answers_with ev.acc
 cuts_one c before (outputs.Send m) sc h = h
 cuts_one c before (outputs.Submit number at what) sc h = go (site_of sc.world c)
   where
-    go : (o : Option ClientSite) → CutsHard (ev.submits sc c o number at what).world.log
+    go : (o : Option WorldClient) → CutsHard (ev.submits sc c o number at what).world.log
     go None = h
     go (Some s) = h
 cuts_one c before (outputs.Answer o a) sc h = h
@@ -180,7 +180,7 @@ module _ (asks : ℕ → ℕ → Option Ask) (k : Config) (count : ℕ) (past mo
   abbrev T : cl.NodeTurn
   T = alone.t W c tk.old x.site x.input there tk.same runs lives counts placed once
 
-  abbrev M : ClientSite
+  abbrev M : WorldClient
   M = alone.mine W c tk.old x.site x.input there tk.same runs lives counts placed once
 
   own : site_of S.world (client c) ≡ Some M
@@ -216,7 +216,7 @@ module _ (asks : ℕ → ℕ → Option Ask) (k : Config) (count : ℕ) (past mo
   kept = keeps asks k count w e sc x all after step q tk owed copies runs
 
   present : ◌≡◌ {A = ServerId → Life} (life_with (turn_of x).state) (present_life S.world (client c))
-  present = ap {B = ServerId → Life} (λ (o : Option ClientSite). λ (s : ServerId). ev.life_of_site s o) (sym own)
+  present = ap {B = ServerId → Life} (λ (o : Option WorldClient). λ (s : ServerId). ev.life_of_site s o) (sym own)
 
   cuts_v : CutsHard sc.world.log
   cuts_v = subst CutsHard (sym log_v) (cuts_all (client c) x.site.node.state T.out S (subst CutsHard (sym tk.log) pages_w.pages.cuts))
@@ -258,7 +258,7 @@ module _ (asks : ℕ → ℕ → Option Ask) (k : Config) (count : ℕ) (past mo
   joined : sc.world.log ≡ w.log ++ kept.more
   joined = kept.joined ∙ ap (λ l. l ++ kept.more) tk.log
 
-  others : (d : ℕ) (site : ClientSite) → d ≢ c → Running sc.world d site → (a : Association) → Has a site.node.state.associations → Lasts site.node.state.config.lease (clock_of sc.world (nodes.Client (client d))).0 a.session → LatestLast (client d) sc.world.log a
+  others : (d : ℕ) (site : WorldClient) → d ≢ c → Running sc.world d site → (a : Association) → Has a site.node.state.associations → Lasts site.node.state.config.lease (clock_of sc.world (nodes.Client (client d))).0 a.session → LatestLast (client d) sc.world.log a
   others d site n run a i l =
       subst (λ es. LatestLast (client d) es a) (sym joined)
       (last_more d a w.log kept.more foreign untouched
@@ -294,4 +294,4 @@ module _ (asks : ℕ → ℕ → Option Ask) (k : Config) (count : ℕ) (past mo
       go (inl z) =
           let s : M ≡ site = some_is (sym left ∙ ap (λ n. site_of sc.world (client n)) (sym z) ∙ run.there) in
           subst (λ n. LatestLast (client n) sc.world.log a) (sym z)
-          (subst (λ es. LatestLast (client c) es a) (sym log_v) (carried.fine a (subst (λ (y : ClientSite). Has a y.node.state.associations) (sym s) i)).last)
+          (subst (λ es. LatestLast (client c) es a) (sym log_v) (carried.fine a (subst (λ (y : WorldClient). Has a y.node.state.associations) (sym s) i)).last)

@@ -32,18 +32,18 @@ use Rattle.st_protocol.specs.Assoc.{Config}
 use Rattle.st_lemmas.specs.Lists.{Has}
 use Rattle.st_lemmas.proofs.Tables.{and_true}
 use Rattle.st_laws_pages.specs.Flush.Flush.{file_at}
-use Rattle.st_laws_pages.specs.Disks.Owed.{AtServer, ServerNodeOwes}
+use Rattle.st_laws_pages.specs.Disks.Obligations.{AtServer, ServerNodeOwes}
 use Rattle.st_laws_pages.specs.Disks.Pages.{CarriedRight}
 use Rattle.st_laws_pages.specs.Disks.World.{CutQuiet, OneCut, PagesHold, mapped_at}
 use Rattle.st_laws_pages.proofs.Lives.Lasting.{no_option}
-use Rattle.st_laws_reads.specs.Copies.World.{hearing, hearing_of, taken}
+use Rattle.st_laws_reads.specs.Copies.World.{receiving, receiving_of, taken}
 use Rattle.st_laws_reads.specs.AllClients.Events.{CutFree, MessageFree, OthersOwed, ReceiverFree, ServerFree, TurnFree}
 use Rattle.st_laws_reads.specs.AllClients.World.{CopiesHold}
 use Rattle.st_laws_pages.specs.Writes.Writes.{OpenHold}
 use Rattle.st_laws_reads.specs.OpenWrites.StandStill.{WritesHold}
 use Rattle.st_laws_reads.proofs.OpenWrites.Cases.{CrashedWrite, PresentWrite, living_is}
 use Rattle.st_laws_reads.proofs.AllClients.Cutting.{Seen, seen_all}
-use Rattle.st_laws_extents.specs.Submits.Left.{NoFrozenWrites}
+use Rattle.st_laws_extents.specs.Submits.Obligations.{NoFrozenWrites}
 use Rattle.st_laws_extents.proofs.Submits.Others.{cut_apart}
 use Rattle.st_laws_extents.proofs.Submits.Taking.{MessageGives, ReceiverGives, ServerGives}
 
@@ -104,12 +104,12 @@ module _ (asks : ℕ → ℕ → Option Ask) (k : Config) (count : ℕ) (w : Wor
                 quiet f p (counted_free f p (free f p i)) (uncut f p (seen_all f p s t.out (ev.quiet (ev.with_node s t.node (counted w))) (inr i)));
           }
 
-  to_receiver : (m : Message) (n : NodeId) → (hearing (counted w) m n ≡ None → ReceiverFree (counted w) m n) → ((f : FileId) (p : PageNo) → Seen f p (ev.delivers_to (counted w) m n) → NoFrozenWrites w f) → ReceiverGives (counted w) m n
+  to_receiver : (m : Message) (n : NodeId) → (receiving (counted w) m n ≡ None → ReceiverFree (counted w) m n) → ((f : FileId) (p : PageNo) → Seen f p (ev.delivers_to (counted w) m n) → NoFrozenWrites w f) → ReceiverGives (counted w) m n
   unfolding ev.delivers_to
   to_receiver m (nodes.Client c) free uncut = tt
   to_receiver m (nodes.Server s) free uncut = at_server s (serving.Control m) (node_of w s) (free refl) uncut
 
-  to_message : (o : Option SentMessage) → (hearing_of (counted w) o ≡ None → MessageFree (counted w) o) → ((f : FileId) (p : PageNo) → Seen f p (ev.delivers (counted w) o) → NoFrozenWrites w f) → MessageGives (counted w) o
+  to_message : (o : Option SentMessage) → (receiving_of (counted w) o ≡ None → MessageFree (counted w) o) → ((f : FileId) (p : PageNo) → Seen f p (ev.delivers (counted w) o) → NoFrozenWrites w f) → MessageGives (counted w) o
   unfolding ev.delivers
   to_message None free uncut = tt
   to_message (Some m) free uncut = to_receiver m.message (receiver_of m) free uncut

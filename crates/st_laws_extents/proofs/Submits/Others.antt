@@ -43,14 +43,14 @@ use Rattle.st_rules.specs.Keys.{client, same_file}
 use Rattle.st_rules.specs.Server as server
 use Rattle.st_rules.specs.Server.{ServerNode}
 use Rattle.st_rules.specs.World as world
-use Rattle.st_rules.specs.World.{World, ClientSite, clock_of, issued_of, message_of, node_of, numbered, receiver_of, site_of, with_numbered}
+use Rattle.st_rules.specs.World.{World, WorldClient, clock_of, issued_of, message_of, node_of, numbered, receiver_of, site_of, with_numbered}
 use Rattle.st_lemmas.specs.Lists.{Has}
 use Rattle.st_lemmas.proofs.Lookups.{some_is}
 use Rattle.st_lemmas.proofs.Marks.{of_entry}
 use Rattle.st_lemmas.proofs.Numbers.{numbered_below, numbered_other, numbered_own}
 use Rattle.st_lemmas.proofs.Tables.{and_true, has_map, same_or_not}
 use Rattle.st_laws_refine.specs.Views.Halves.{held_in}
-use Rattle.st_laws_refine.specs.Client.Shown.{Lasts}
+use Rattle.st_laws_refine.specs.Client.Invariants.{Lasts}
 use Rattle.st_laws_pages.specs.Flush.Flush.{file_at}
 use Rattle.st_laws_pages.specs.Disks.Folds.{LastIs}
 use Rattle.st_laws_steps.specs.Lives.Lives.{clock_in}
@@ -58,7 +58,7 @@ use Rattle.st_laws_pages.proofs.Disks.Moves.{clock_up}
 use Rattle.st_laws_pages.proofs.Disks.Writer.{latest_same}
 use Rattle.st_laws_reads.specs.Copies.Copies.{Nothing}
 use Rattle.st_laws_reads.specs.Copies.Law.{StandsAt}
-use Rattle.st_laws_reads.specs.Copies.World.{asking, hearing, hearing_of, taken, taking, told_at, told_of}
+use Rattle.st_laws_reads.specs.Copies.World.{asking, receiving, receiving_of, taken, taking, told_at, told_of}
 use Rattle.st_laws_reads.specs.AllClients.Events.{CutFree, CutFreeOf, CutsFree, MessageFree, OthersOwed, ReceiverFree, ServerFree, TurnFree}
 use Rattle.st_laws_reads.specs.AllClients.Law.{Running}
 use Rattle.st_laws_reads.specs.AllClients.World.{CopiesHold}
@@ -167,7 +167,7 @@ module _ (asks : ℕ → ℕ → Option Ask) (w : World) (copies : CopiesHold as
   free_at f p lease now (x ∷ xs) r a (inl e) = subst (λ (y : Association). Lasts lease now y.session → f.server ≡ y.server → ((held_in y.session f.ino).mode ≡ 0) ⊎ ((q : PageNo) → p.0 ≤ q.0 → Nothing y.store f.ino q)) (sym e) r.one
   free_at f p lease now (x ∷ xs) r a (inr i) = free_at f p lease now xs r.rest a i
 
-  pub cut_apart : (f : FileId) (p : PageNo) → CutFree w f p → (c : ℕ) (site : ClientSite) → Running w c site → (a : Association) → Has a site.node.state.associations → Lasts site.node.state.config.lease (clock_of w (nodes.Client (client c))).0 a.session →
+  pub cut_apart : (f : FileId) (p : PageNo) → CutFree w f p → (c : ℕ) (site : WorldClient) → Running w c site → (a : Association) → Has a site.node.state.associations → Lasts site.node.state.config.lease (clock_of w (nodes.Client (client c))).0 a.session →
       (ino : ℕ) (q : PageNo) (d : DirtyPage) → pages.dirty_of a.store.pages ino q ≡ Some d → touches (file_at a ino) q (hard_cut f p) ≡ true → ⊥
   cut_apart f p free c site run a i l ino q d e t = go (free_at f p site.node.state.config.lease (clock_of w (nodes.Client (client c))).0 site.node.state.associations (free c site run) a i l sv)
     where
@@ -197,7 +197,7 @@ module _ (asks : ℕ → ℕ → Option Ask) (w : World) (copies : CopiesHold as
   cut_last f p free es h c site run a i l ino q d e =
       last_other (client c) (file_at a ino) q es (hard_cut f p) (nobodys c site run) (go (touches (file_at a ino) q (hard_cut f p)) refl) (h c site run a i l ino q d e)
     where
-      nobodys : (c : ℕ) (site : ClientSite) → Running w c site → ev.is_entry_of (client c) (file_at a ino) q (hard_cut f p) ≡ false
+      nobodys : (c : ℕ) (site : WorldClient) → Running w c site → ev.is_entry_of (client c) (file_at a ino) q (hard_cut f p) ≡ false
       nobodys c site run = let b = (numbered_below w.clients c site run.there).0 in ap (λ z. z && (same_file f (file_at a ino) && Rattle.st_rules.specs.Keys.same_page p q)) (ne_eqb 0 c (λ z. (let y : 0 ≡ c = z in omega (arith, b, y))))
 
       go : (b : Bool) → touches (file_at a ino) q (hard_cut f p) ≡ b → matters (file_at a ino) q (hard_cut f p) ≡ false
@@ -239,19 +239,19 @@ module _ (asks : ℕ → ℕ → Option Ask) (w : World) (copies : CopiesHold as
       go (Err e) g = h
       go (Ok t) g = said (ev.server_says_all s t.out (ev.quiet (ev.with_node s t.node w))) (says_all s t.out (ev.quiet (ev.with_node s t.node w)) g (record { clients = refl; clocks = refl; last = h }))
 
-  receiver_last : (m : Message) (n : NodeId) → hearing w m n ≡ None → ReceiverFree w m n → LastIn w w.log → LastIn (ev.delivers_to w m n).world (ev.delivers_to w m n).world.log
+  receiver_last : (m : Message) (n : NodeId) → receiving w m n ≡ None → ReceiverFree w m n → LastIn w w.log → LastIn (ev.delivers_to w m n).world (ev.delivers_to w m n).world.log
   unfolding ev.delivers_to ev.at_client
   receiver_last m (nodes.Client c) e g h = go (site_of w c) e
     where
       none_some : {A : Type 0} (x : A) → ◌≡◌ {A = Option A} (Some x) None → ⊥
       none_some x e = cc
 
-      go : (o : Option ClientSite) → taking w c (inputs.Control m) o ≡ None → LastIn (ev.at_client w c (inputs.Control m) o).world (ev.at_client w c (inputs.Control m) o).world.log
+      go : (o : Option WorldClient) → taking w c (inputs.Control m) o ≡ None → LastIn (ev.at_client w c (inputs.Control m) o).world (ev.at_client w c (inputs.Control m) o).world.log
       go None e = h
       go (Some site) e = absurd (none_some _ e)
   receiver_last m (nodes.Server s) e g h = server_last s (serving.Control m) (node_of w s) g h
 
-  message_last : (o : Option SentMessage) → hearing_of w o ≡ None → MessageFree w o → LastIn w w.log → LastIn (ev.delivers w o).world (ev.delivers w o).world.log
+  message_last : (o : Option SentMessage) → receiving_of w o ≡ None → MessageFree w o → LastIn w w.log → LastIn (ev.delivers w o).world (ev.delivers w o).world.log
   unfolding ev.delivers
   message_last None e g h = h
   message_last (Some m) e g h = receiver_last m.message (receiver_of m) e g h
@@ -260,7 +260,7 @@ none_some : {A : Type 0} (x : A) → ◌≡◌ {A = Option A} (Some x) None → 
 none_some x e = cc
 
 -- A client that stops or starts has nothing dirty.
-swapped : (w v : World) (c : ClientId) (old new : ClientSite) (fs : List LogEntry) → site_of w c ≡ Some old → v.clients ≡ with_numbered c.0 new w.clients → v.clocks ≡ w.clocks → Fewer w.log fs →
+swapped : (w v : World) (c : ClientId) (old new : WorldClient) (fs : List LogEntry) → site_of w c ≡ Some old → v.clients ≡ with_numbered c.0 new w.clients → v.clocks ≡ w.clocks → Fewer w.log fs →
     (new.node.running ≡ true → (a : Association) → Has a new.node.state.associations → (ino : ℕ) (p : PageNo) (d : DirtyPage) → pages.dirty_of a.store.pages ino p ≡ Some d → ⊥) → LastIn w w.log → LastIn v fs
 swapped w v c old new fs there cs ts r none h d site run a i l ino p x e = go (same_or_not d c.0)
   where
@@ -273,20 +273,20 @@ swapped w v c old new fs there cs ts r none h d site run a i l ino p x e = go (s
     go : (d ≡ c.0) ⊎ (d ≢ c.0) → LastIs 1 (latest fs (client d) (file_at a ino) p) (file_at a ino) p fs
     go (inl q) =
         let s : new ≡ site = some_is (sym (numbered_own w.clients c.0 new old there) ∙ ap (numbered (with_numbered c.0 new w.clients)) (sym q) ∙ its) in
-        absurd (none (ap (λ (z : ClientSite). z.node.running) s ∙ run.runs) a (subst (λ (z : ClientSite). Has a z.node.state.associations) (sym s) i) ino p x e)
+        absurd (none (ap (λ (z : WorldClient). z.node.running) s ∙ run.runs) a (subst (λ (z : WorldClient). Has a z.node.state.associations) (sym s) i) ino p x e)
     go (inr n) =
         latest_fewer (client d) (file_at a ino) p w.log fs r
         (h d site (record { there = sym (numbered_other w.clients c.0 d new (numbered_below w.clients c.0 old there).0 n) ∙ its; runs = run.runs }) a i
         (subst (λ (t : Stamp). Lasts site.node.state.config.lease t.0 a.session) clock l) ino p x e)
 
-crash_last : (w : World) (c : ClientId) (site : ClientSite) → site_of w c ≡ Some site → LastIn w w.log → LastIn (ev.crashes_client w c (Some site)).world (ev.crashes_client w c (Some site)).world.log
+crash_last : (w : World) (c : ClientId) (site : WorldClient) → site_of w c ≡ Some site → LastIn w w.log → LastIn (ev.crashes_client w c (Some site)).world (ev.crashes_client w c (Some site)).world.log
 unfolding ev.crashes_client ev.marks ev.log_crashed log.drop_picked
 crash_last w c site there h = swapped w (ev.crashes_client w c (Some site)).world c site (ev.stopped_site site) (ev.crashes_client w c (Some site)).world.log there refl refl (fewer_dropped 1 _ _ w.log) (λ r. absurd (no r)) h
   where
     no : false ≡ true → ⊥
     no r = cc
 
-start_last : (w : World) (c : ClientId) (site : ClientSite) → site_of w c ≡ Some site → LastIn w w.log → LastIn (ev.starts_client w c (Some site)) (ev.starts_client w c (Some site)).log
+start_last : (w : World) (c : ClientId) (site : WorldClient) → site_of w c ≡ Some site → LastIn w w.log → LastIn (ev.starts_client w c (Some site)) (ev.starts_client w c (Some site)).log
 unfolding ev.starts_client cl.start
 start_last w c site there h =
     swapped w (ev.starts_client w c (Some site)) c site (ev.started_site site) w.log there refl refl (fewer_same w.log)
@@ -300,13 +300,13 @@ pub others_last : (asks : ℕ → ℕ → Option Ask) (w : World) (e : Event) �
 unfolding ev.happens ev.ticks ev.loses_message ev.reports_of ev.advances ev.marks ev.crashes ev.crashes_server ev.starts ev.starts_server ev.effects ev.at_client ev.asks_at ev.tells ev.tells_client ev.tells_site ev.crashes_client ev.starts_client
 others_last asks w (events.Tick (nodes.Client c)) copies t o h = go (site_of w c) t
   where
-    go : (s : Option ClientSite) → taking w c inputs.Tick s ≡ None → LastIn (ev.at_client w c inputs.Tick s).world (ev.at_client w c inputs.Tick s).world.log
+    go : (s : Option WorldClient) → taking w c inputs.Tick s ≡ None → LastIn (ev.at_client w c inputs.Tick s).world (ev.at_client w c inputs.Tick s).world.log
     go None t = h
     go (Some site) t = absurd (none_some _ t)
 others_last asks w (events.Tick (nodes.Server s)) copies t o h = server_last asks w copies s serving.Tick (node_of w s) o h
 others_last asks w (events.App c ask) copies t o h = go (site_of w c) t
   where
-    go : (s : Option ClientSite) → asking w c ask s ≡ None → LastIn (ev.asks_at w c ask s).world (ev.asks_at w c ask s).world.log
+    go : (s : Option WorldClient) → asking w c ask s ≡ None → LastIn (ev.asks_at w c ask s).world (ev.asks_at w c ask s).world.log
     go None t = h
     go (Some site) t = absurd (none_some _ t)
 others_last asks w (events.Deliver n) copies t o h = message_last asks w copies (message_of w n) t o h
@@ -327,13 +327,13 @@ others_last asks w (events.Report n ok) copies t o h = go (issued_of w n) t
     h_v : LastIn (ev.with_disks (ev.disks_after w.disks (disks.done w.disks n ok)) w) w.log
     h_v = last_still w (ev.with_disks (ev.disks_after w.disks (disks.done w.disks n ok)) w) refl refl refl h
 
-    by : (y : IssuedCommand) (site : ClientSite) (b : Bool) → (if b then taking (ev.with_disks (ev.disks_after w.disks (disks.done w.disks n ok)) w) y.client (ev.end_told (ev.with_disks (ev.disks_after w.disks (disks.done w.disks n ok)) w) n ok y) (Some site) else None) ≡ None →
+    by : (y : IssuedCommand) (site : WorldClient) (b : Bool) → (if b then taking (ev.with_disks (ev.disks_after w.disks (disks.done w.disks n ok)) w) y.client (ev.end_told (ev.with_disks (ev.disks_after w.disks (disks.done w.disks n ok)) w) n ok y) (Some site) else None) ≡ None →
         LastIn (if b then ev.client_takes (ev.with_disks (ev.disks_after w.disks (disks.done w.disks n ok)) w) y.client (ev.end_told (ev.with_disks (ev.disks_after w.disks (disks.done w.disks n ok)) w) n ok y) site else ev.quiet (ev.with_disks (ev.disks_after w.disks (disks.done w.disks n ok)) w)).world
         (if b then ev.client_takes (ev.with_disks (ev.disks_after w.disks (disks.done w.disks n ok)) w) y.client (ev.end_told (ev.with_disks (ev.disks_after w.disks (disks.done w.disks n ok)) w) n ok y) site else ev.quiet (ev.with_disks (ev.disks_after w.disks (disks.done w.disks n ok)) w)).world.log
     by y site true t = absurd (none_some _ t)
     by y site false t = h_v
 
-    at : (y : IssuedCommand) (s : Option ClientSite) → told_at (ev.with_disks (ev.disks_after w.disks (disks.done w.disks n ok)) w) n ok y s ≡ None → LastIn (ev.tells_client (ev.with_disks (ev.disks_after w.disks (disks.done w.disks n ok)) w) n ok y s).world (ev.tells_client (ev.with_disks (ev.disks_after w.disks (disks.done w.disks n ok)) w) n ok y s).world.log
+    at : (y : IssuedCommand) (s : Option WorldClient) → told_at (ev.with_disks (ev.disks_after w.disks (disks.done w.disks n ok)) w) n ok y s ≡ None → LastIn (ev.tells_client (ev.with_disks (ev.disks_after w.disks (disks.done w.disks n ok)) w) n ok y s).world (ev.tells_client (ev.with_disks (ev.disks_after w.disks (disks.done w.disks n ok)) w) n ok y s).world.log
     at y None t = h_v
     at y (Some site) t = by y site (ev.is_same_instance y site) t
 
@@ -342,7 +342,7 @@ others_last asks w (events.Report n ok) copies t o h = go (issued_of w n) t
     go (Some y) t = at y (site_of w y.client) t
 others_last asks w (events.Crash (nodes.Client c)) copies t o h = go (site_of w c) refl
   where
-    go : (s : Option ClientSite) → site_of w c ≡ s → LastIn (ev.crashes_client w c s).world (ev.crashes_client w c s).world.log
+    go : (s : Option WorldClient) → site_of w c ≡ s → LastIn (ev.crashes_client w c s).world (ev.crashes_client w c s).world.log
     go None e = h
     go (Some site) e = crash_last w c site e h
 others_last asks w (events.Crash (nodes.Server s)) copies t o h = go (node_of w s)
@@ -352,7 +352,7 @@ others_last asks w (events.Crash (nodes.Server s)) copies t o h = go (node_of w 
     go (Some node) = last_still w (ev.with_node s (server.crash_node node) w) refl refl refl h
 others_last asks w (events.Start (nodes.Client c)) copies t o h = go (site_of w c) refl
   where
-    go : (s : Option ClientSite) → site_of w c ≡ s → LastIn (ev.starts_client w c s) (ev.starts_client w c s).log
+    go : (s : Option WorldClient) → site_of w c ≡ s → LastIn (ev.starts_client w c s) (ev.starts_client w c s).log
     go None e = h
     go (Some site) e = start_last w c site e h
 others_last asks w (events.Start (nodes.Server s)) copies t o h = go (node_of w s)

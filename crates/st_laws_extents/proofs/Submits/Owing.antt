@@ -29,7 +29,7 @@ use Rattle.st_rules.specs.FlatLog.{owner}
 use Rattle.st_rules.specs.Keys.{client}
 use Rattle.st_rules.specs.Safety.{Step}
 use Rattle.st_rules.specs.World as world
-use Rattle.st_rules.specs.World.{World, ClientSite, clock_of, life_with, numbered, server_of_disk, site_of}
+use Rattle.st_rules.specs.World.{World, WorldClient, clock_of, life_with, numbered, server_of_disk, site_of}
 use Rattle.st_protocol.specs.Assoc.{Config}
 use Rattle.st_lemmas.specs.Lists.{Has}
 use Rattle.st_lemmas.proofs.Lookups.{some_is}
@@ -37,7 +37,7 @@ use Rattle.st_laws_refine.proofs.Client.World.{lives_same, told_one}
 use Rattle.st_laws_pages.specs.Flush.Flush.{FlushHold}
 use Rattle.st_laws_pages.specs.Disks.Folds.{CutsHard, OnlyOwn}
 use Rattle.st_laws_steps.specs.Lives.Lives.{LivesHold}
-use Rattle.st_laws_pages.specs.Disks.Owed.{TimelyIn}
+use Rattle.st_laws_pages.specs.Disks.Obligations.{TimelyIn}
 use Rattle.st_laws_pages.specs.Disks.World.{Living, Owes, OwesOne, SubmitRight, SubmitsRight, Timely, mapped_in}
 use Rattle.st_laws_pages.proofs.Lives.Lasting.{flush_parts}
 use Rattle.st_laws_pages.proofs.Causes.Placed.{Placed}
@@ -52,7 +52,7 @@ use Rattle.st_laws_reads.specs.OpenWrites.StandStill.{WritesHold}
 use Rattle.st_laws_reads.proofs.OpenWrites.Alone as alone
 use Rattle.st_laws_reads.proofs.OpenWrites.Alone.{mine, sc0, t, v}
 use Rattle.st_laws_reads.proofs.OpenWrites.Growing.{grows_all, says_both}
-use Rattle.st_laws_extents.specs.Submits.Lies.{LiesAs}
+use Rattle.st_laws_extents.specs.Submits.WritePlaces.{LiesAs}
 use Rattle.st_laws_extents.specs.Submits.Submits.{EachFine, FineOne, FineSubmit, FineWrite}
 
 -- What joins the log is behind what there was.
@@ -79,7 +79,7 @@ unfolding client_says ev.client_notes ev.sends ev.submits ev.answers_with ev.acc
 log_one c before (outputs.Send m) sc = log_same sc.world.log
 log_one c before (outputs.Submit number at what) sc = go (site_of sc.world c)
   where
-    go : (o : Option ClientSite) → LogGrows sc.world.log (ev.submits sc c o number at what).world.log
+    go : (o : Option WorldClient) → LogGrows sc.world.log (ev.submits sc c o number at what).world.log
     go None = log_same sc.world.log
     go (Some s) = log_same sc.world.log
 log_one c before (outputs.Answer o a) sc = log_same sc.world.log
@@ -108,7 +108,7 @@ append_one : (pre rest : List Output) (o : Output) → (pre ++ o ∷ []) ++ rest
 append_one [] rest o = refl
 append_one (x ∷ pre) rest o = ap (λ z. x ∷ z) (append_one pre rest o)
 
-module _ (w : World) (c : ℕ) (old site : ClientSite) (input : ClientInput) (there : site_of w (client c) ≡ Some old) (same : old.node ≡ site.node) (runs : site.node.running ≡ true) (lives : LivesHold w) (counts : length w.commands ≡ length w.disks.commands)
+module _ (w : World) (c : ℕ) (old site : WorldClient) (input : ClientInput) (there : site_of w (client c) ≡ Some old) (same : old.node ≡ site.node) (runs : site.node.running ≡ true) (lives : LivesHold w) (counts : length w.commands ≡ length w.disks.commands)
     (placed : Placed (length w.servers) (cl.client_step site.node.state (clock_of w (nodes.Client (client c))) input).out) (once : (a : Association) → Has a site.node.state.associations → WritesOnce a) where
   abbrev V : World
   V = v w c old site input there same runs lives counts placed once
@@ -119,7 +119,7 @@ module _ (w : World) (c : ℕ) (old site : ClientSite) (input : ClientInput) (th
   abbrev T : cl.NodeTurn
   T = t w c old site input there same runs lives counts placed once
 
-  abbrev M : ClientSite
+  abbrev M : WorldClient
   M = mine w c old site input there same runs lives counts placed once
 
   abbrev at_pre : List Output → WorldTurn
@@ -207,13 +207,13 @@ module _ (w : World) (c : ℕ) (old site : ClientSite) (input : ClientInput) (th
         own1 : site_of (at_pre pre).world (client c) ≡ Some M
         own1 = ap (λ z. numbered z c) (grows_all (client c) site.node.state pre S).clients ∙ alone.first w c old site input there same runs lives counts placed once
 
-        go : (what : Command) → pre ++ outputs.Submit number at what ∷ rest ≡ T.out → (o : Option ClientSite) → o ≡ Some M → FineSubmit (at_pre pre).world (client c) o at what → RightOne (asks c) (client c) ls last (at_pre pre).world.log (outputs.Submit number at what) →
+        go : (what : Command) → pre ++ outputs.Submit number at what ∷ rest ≡ T.out → (o : Option WorldClient) → o ≡ Some M → FineSubmit (at_pre pre).world (client c) o at what → RightOne (asks c) (client c) ls last (at_pre pre).world.log (outputs.Submit number at what) →
             SubmitsRight (TimelyIn w) (at_pre pre).world (client c) o at what
         go what parts None q f r = cc q
         go (commands.Read to) parts (Some s) q f r = tt
         go (commands.Write to tag bytes) parts (Some s) q f r =
-            subst (λ (z : ClientSite). SubmitsRight (TimelyIn w) (at_pre pre).world (client c) (Some z) at (commands.Write to tag bytes)) (sym (some_is q))
-            (right_write pre rest number at to tag bytes parts (subst (λ (z : ClientSite). FineSubmit (at_pre pre).world (client c) (Some z) at (commands.Write to tag bytes)) (some_is q) f) r)
+            subst (λ (z : WorldClient). SubmitsRight (TimelyIn w) (at_pre pre).world (client c) (Some z) at (commands.Write to tag bytes)) (sym (some_is q))
+            (right_write pre rest number at to tag bytes parts (subst (λ (z : WorldClient). FineSubmit (at_pre pre).world (client c) (Some z) at (commands.Write to tag bytes)) (some_is q) f) r)
 
     owes_from : (pre rest : List Output) (last : Option Output) → pre ++ rest ≡ T.out → EachFine (client c) site.node.state (at_pre pre) rest → RightBehind (asks c) (client c) (present_life (at_pre pre).world (client c)) last (at_pre pre).world.log rest →
         Owes (TimelyIn w) (client c) site.node.state (at_pre pre) rest

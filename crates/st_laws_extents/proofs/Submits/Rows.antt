@@ -32,7 +32,7 @@ use Rattle.st_laws_reads.proofs.FrozenLives.Walks.{row_same, up_same}
 use Rattle.st_laws_extents.specs.CutRequests.Cut.{CutIn}
 use Rattle.st_laws_reads.specs.OpenWrites.StandStill.{OverOrStill, WritesHold, writer}
 use Rattle.st_laws_reads.proofs.OpenWrites.Cases.{timely_end}
-use Rattle.st_laws_extents.specs.Submits.Left.{NoFrozenWrites, NoOwnWrites}
+use Rattle.st_laws_extents.specs.Submits.Obligations.{NoFrozenWrites, NoOwnWrites}
 use Rattle.st_laws_reads.proofs.AllClients.Cutting.{frozen_or_not}
 
 module _ (k : Config) (c i : ℕ) (C : Client) (W : net.World) (ok : ConfigOk k) (locked : LockedHalf C i) (lasts : (W.at c).c.clock < C.date + k.lease) (f : FrozenLife k c C.life C W) where

@@ -22,7 +22,7 @@ use Rattle.st_rules.specs.History.{Traced, traced, traced_after}
 use Rattle.st_rules.specs.Safety as safety
 use Rattle.st_rules.specs.Safety.{Promise, Step, Throughout, is_event, step, steps}
 use Rattle.st_rules.specs.World as world
-use Rattle.st_rules.specs.World.{World, ClientSite, fresh_world, numbered, site_of, site_runs}
+use Rattle.st_rules.specs.World.{World, WorldClient, fresh_world, numbered, site_of, site_runs}
 use Rattle.st_protocol.specs.Assoc.{Config}
 use Rattle.st_lemmas.specs.Lists.{Has}
 use Rattle.st_lemmas.proofs.Steps.{step_happens}
@@ -35,13 +35,13 @@ use Rattle.st_laws_pages.proofs.Disks.Whole.{fresh_holds}
 use Rattle.st_laws_pages.specs.Asks.Law.{PlacesAfter}
 use Rattle.st_laws_refine.specs.Server.Pair.{terms_of}
 use Rattle.st_laws_leases.specs.Sides.World.{AllStand, IsFull}
-use Rattle.st_laws_leases.proofs.Sides.Beginning.{begun}
-use Rattle.st_laws_leases.proofs.Sides.Everywhere.{stays}
+use Rattle.st_laws_leases.proofs.Sides.FirstWorld.{begun}
+use Rattle.st_laws_leases.proofs.Sides.AllAssociations.{stays}
 use Rattle.st_laws_leases.proofs.Sides.Runs.{full}
 use Rattle.st_laws_leases.proofs.Sides.Waiting.{waits_owed}
 use Rattle.st_laws_reads.specs.Copies.World.{Taking, taken}
 use Rattle.st_laws_reads.specs.AllClients.Events.{FrozenStandAlone, OthersOwed}
-use Rattle.st_laws_reads.specs.AllClients.Left.{OthersLeft}
+use Rattle.st_laws_reads.specs.AllClients.Obligations.{OthersLeft}
 use Rattle.st_laws_reads.specs.AllClients.Runs.{TakenOwed}
 use Rattle.st_rules.specs.ClientState.{Association}
 use Rattle.st_laws_reads.specs.AllClients.World.{AllThere, CopiesHold, TakingOwed}
@@ -61,7 +61,7 @@ use Rattle.st_laws_reads.specs.OpenWrites.StandStill.{WritesHold}
 use Rattle.st_laws_reads.proofs.OpenWrites.Falling.{writes_fall}
 use Rattle.st_laws_reads.proofs.OpenWrites.Still.{writes_go_on}
 use Rattle.st_laws_extents.proofs.CutRequests.Seen.{cuts_known}
-use Rattle.st_laws_extents.specs.Submits.Left.{NoFrozenWrites, PagesLeft}
+use Rattle.st_laws_extents.specs.Submits.Obligations.{NoFrozenWrites, PagesLeft}
 use Rattle.st_laws_extents.specs.Submits.Rest.{IsRest, TakenRest}
 use Rattle.st_laws_extents.proofs.Submits.Zeros.{left as left_of, left_stopped}
 use Rattle.st_laws_extents.specs.Submits.Submits.{LastIn}
@@ -119,7 +119,7 @@ module _ (past : List Step) (k : Config) (count : ℕ) (t : Traced) (s : PagesSt
       nobody : site_runs None ≡ true → ⊥
       nobody e = cc e
 
-      go : (o : Option ClientSite) → site_of w c ≡ o → WritesHold k count sc.world
+      go : (o : Option WorldClient) → site_of w c ≡ o → WritesHold k count sc.world
       go None f = absurd (nobody (ap site_runs (sym f) ∙ runs))
       go (Some site) f =
           let r : site.node.running ≡ true = ap site_runs (sym f) ∙ runs in
@@ -205,11 +205,11 @@ module _ (past : List Step) (k : Config) (count : ℕ) (t : Traced) (s : PagesSt
           go : (b : Bool) → x.site.node.running ≡ b → Gives x
           go true r =
               client_step.gives (known (past ++ st ∷ [])) k count past (past ++ st ∷ []) w e sc x s.stood.all behind.1.all took q there r due copies_more behind.1.copies s.stood.places s.stood.stand.both behind.1.stand.both.flush open_v writes_v alone_v s.last s.pages
-              (taken_in (counted w) e x (at_places) q) (subst (Rattle.st_laws_extents.specs.Submits.Left.SubmitsLeft) q left_too.submits)
+              (taken_in (counted w) e x (at_places) q) (subst (Rattle.st_laws_extents.specs.Submits.Obligations.SubmitsLeft) q left_too.submits)
             where
               at_places : Rattle.st_laws_pages.proofs.Causes.Placed.PlacesAt (length w.servers) (counted w)
               at_places = let p = places_at w s.stood.places in record { count = p.count; told = p.told; known = p.known }
-          go false r = subst (λ b. Rattle.st_laws_pages.specs.Disks.Owed.NodeOwes x.world x.client x.site (if b then Ok (cl.node_turn x.site.node (cl.client_step x.site.node.state (world.clock_of x.world (nodes.Client x.client)) x.input)) else Err Crashed)) (sym r) tt
+          go false r = subst (λ b. Rattle.st_laws_pages.specs.Disks.Obligations.NodeOwes x.world x.client x.site (if b then Ok (cl.node_turn x.site.node (cl.client_step x.site.node.state (world.clock_of x.world (nodes.Client x.client)) x.input)) else Err Crashed)) (sym r) tt
 
       last_taken : LastIn sc.world sc.world.log
       unfolding ev.client_takes ev.client_took cl.node_step

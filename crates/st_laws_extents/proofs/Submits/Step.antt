@@ -18,12 +18,12 @@ use Rattle.st_rules.specs.ClientState.{Association, ClientState, ClientTurn, Tur
 use Rattle.st_rules.specs.Events as ev
 use Rattle.st_rules.specs.Events.{WorldTurn}
 use Rattle.st_rules.specs.World as world
-use Rattle.st_rules.specs.World.{World, ClientSite, life_with, site_of}
+use Rattle.st_rules.specs.World.{World, WorldClient, life_with, site_of}
 use Rattle.st_lemmas.specs.Lists.{Has}
 use Rattle.st_laws_steps.specs.Lives.Lives.{LivesHold, NodeHolds, Once, Pairwise, server_number}
 use Rattle.st_laws_steps.specs.Client.Losses.{Fit, is_ended}
-use Rattle.st_laws_steps.specs.Client.Taking as taking
-use Rattle.st_laws_steps.specs.Client.Taking.{Taken}
+use Rattle.st_laws_steps.specs.Client.Inputs as taking
+use Rattle.st_laws_steps.specs.Client.Inputs.{Taken}
 use Rattle.st_laws_pages.proofs.Flush.Adding.{After, AllStill, Grows, still_adds}
 use Rattle.st_laws_steps.proofs.Client.Asking.{c_passes}
 use Rattle.st_laws_steps.proofs.Lives.Associations.{PairLeft, numbers_same, own_found, pair_left}
@@ -31,10 +31,10 @@ use Rattle.st_laws_pages.proofs.Flush.Flushing.{pair_of}
 use Rattle.st_laws_pages.proofs.Flush.Growing.{AddsNothing}
 use Rattle.st_laws_steps.proofs.Client.Losing.{c_only, finish_is, is_done}
 use Rattle.st_laws_steps.proofs.Client.Nexts.{Next, changes_next}
-use Rattle.st_laws_steps.proofs.Client.Replying.{c_hear}
+use Rattle.st_laws_steps.proofs.Client.Replying.{c_receive}
 use Rattle.st_laws_steps.proofs.Client.Stepping.{Goes, LostOrNot, Phased, finish_next, pairs_then, phased}
 use Rattle.st_laws_steps.proofs.Client.Taking.{taken}
-use Rattle.st_laws_pages.specs.Causes.Stands.{LatestOwn}
+use Rattle.st_laws_pages.specs.Causes.Invariants.{LatestOwn}
 use Rattle.st_laws_pages.proofs.Causes.Placed.{Placed}
 use Rattle.st_laws_pages.proofs.Causes.Saying.{placed_grown}
 use Rattle.st_laws_extents.specs.Submits.Submits.{EachFine, LatestLast}
@@ -49,7 +49,7 @@ still_fine c before (outputs.Submit n a w ∷ os) sc h = absurd h.one
 still_fine c before (outputs.Answer op a ∷ os) sc h = record { one = tt; rest = still_fine c before os (ev.client_says sc c before (outputs.Answer op a)) h.rest }
 still_fine c before (outputs.Note n ∷ os) sc h = record { one = tt; rest = still_fine c before os (ev.client_says sc c before (outputs.Note n)) h.rest }
 
-module _ (w : World) (c : ClientId) (old site : ClientSite) (input : ClientInput) (now : Stamp) (there : site_of w c ≡ Some old) (same : old.node ≡ site.node) (h : LivesHold w) where
+module _ (w : World) (c : ClientId) (old site : WorldClient) (input : ClientInput) (now : Stamp) (there : site_of w c ≡ Some old) (same : old.node ≡ site.node) (h : LivesHold w) where
   abbrev s : ClientState
   s = site.node.state
 
@@ -62,7 +62,7 @@ module _ (w : World) (c : ClientId) (old site : ClientSite) (input : ClientInput
   abbrev v : ClientTurn
   v = cl.work u now input
 
-  abbrev after : ClientSite
+  abbrev after : WorldClient
   after = ev.at_node (cl.node_turn site.node v).node site
 
   abbrev pub sc : WorldTurn
@@ -119,7 +119,7 @@ module _ (w : World) (c : ClientId) (old site : ClientSite) (input : ClientInput
 
     stay : Pairwise Stays t.state.associations v.state.associations
     stay =
-        pairs_then (Goes t.state.config now) (Goes u.state.config now) Stays (λ a b d p q. record { server = p.server ∙ q.server; life = p.life ∙ q.life }) t.state.associations u.state.associations v.state.associations phases.heard.pairs phases.worked.pairs
+        pairs_then (Goes t.state.config now) (Goes u.state.config now) Stays (λ a b d p q. record { server = p.server ∙ q.server; life = p.life ∙ q.life }) t.state.associations u.state.associations v.state.associations phases.received.pairs phases.worked.pairs
 
     right_t : (b : Association) → Has b t.state.associations → life_with v.state b.server ≡ b.life
     right_t b i = go (pair_left Stays (λ x y p. p.server) b.server t.state.associations v.state.associations stay b (own_found t.state.associations once_t b i))
@@ -148,9 +148,9 @@ module _ (w : World) (c : ClientId) (old site : ClientSite) (input : ClientInput
     input_all _ _ (taking.Takes op ask e g) o =
         each_all size c s sc after own count now (only_at (server_of ask) (cl.take_ask op ask)) (λ x f. changes_next now x _ (c_only now (server_of ask) op ask x))
         (λ x f others n live p r. changes_in size c s sc after own count now x _ (c_only now (server_of ask) op ask x) others n live p r) t o begins
-    input_all _ _ (taking.Hears m e) o =
-        each_all size c s sc after own count now (cr.receive_at now m.header m.body) (λ y f. changes_next now y _ (c_hear now m.header m.body y f.fresh))
-        (λ y f others n live p r. changes_in size c s sc after own count now y _ (c_hear now m.header m.body y f.fresh) others n live p r) t o begins
+    input_all _ _ (taking.Receives m e) o =
+        each_all size c s sc after own count now (cr.receive_at now m.header m.body) (λ y f. changes_next now y _ (c_receive now m.header m.body y f.fresh))
+        (λ y f others n live p r. changes_in size c s sc after own count now y _ (c_receive now m.header m.body y f.fresh) others n live p r) t o begins
     input_all _ _ (taking.Finishes number result) o =
         each_all size c s sc after own count now (cl.finish number result) (λ y f. finish_next now number result y)
         (λ y f others n live p r. finished_in size c s sc after own count now number (is_done result) y (cl.finish number result y) (finish_is now number result y) others n live p r) t o begins

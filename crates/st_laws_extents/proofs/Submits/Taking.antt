@@ -21,14 +21,14 @@ use Rattle.st_rules.specs.Disks as disks
 use Rattle.st_rules.specs.Disks.{Disks}
 use Rattle.st_rules.specs.Events as ev
 use Rattle.st_rules.specs.World as world
-use Rattle.st_rules.specs.World.{World, ClientSite, clock_of, issued_of, message_of, node_of, receiver_of, site_of}
+use Rattle.st_rules.specs.World.{World, WorldClient, clock_of, issued_of, message_of, node_of, receiver_of, site_of}
 use Rattle.st_lemmas.specs.Lists.{Has}
 use Rattle.st_lemmas.proofs.Lookups.{some_is}
 use Rattle.st_lemmas.proofs.Numbers.{numbered_has, set_length}
-use Rattle.st_laws_pages.specs.Disks.Owed.{AtClient, AtAsk, AtDelivery, AtNode, AtReport, AtServer, AtTold, NodeOwes, Owed}
+use Rattle.st_laws_pages.specs.Disks.Obligations.{AtClient, AtAsk, AtDelivery, AtNode, AtReport, AtServer, AtTold, NodeOwes, Owed}
 use Rattle.st_laws_pages.proofs.Disks.World.{at_set}
 use Rattle.st_laws_pages.proofs.Causes.Placed.{InputTells, PlacesAt}
-use Rattle.st_laws_reads.specs.Copies.World.{Taking, asking, hearing, hearing_of, taken, taking, told_at, told_of}
+use Rattle.st_laws_reads.specs.Copies.World.{Taking, asking, receiving, receiving_of, taken, taking, told_at, told_of}
 
 -- A command but for its report was there.
 pub record WasCommand (ds : Disks) (k : ℕ) (c : DiskCommand) : Type 0 where
@@ -85,15 +85,15 @@ pub record TakenIn (w : World) (x : Taking) : Type 0 where
   pub is : x.world ≡ ev.with_disks disks w
   pub open_ : SameOpen w.disks disks
   pub tells : InputTells (length w.servers) x.input
-  pub starts : (old : ClientSite) → site_of w x.client ≡ Some old → old.starts ≡ x.site.starts
+  pub starts : (old : WorldClient) → site_of w x.client ≡ Some old → old.starts ≡ x.site.starts
 
-in_same : (w : World) (c : ClientId) (input : ClientInput) (site : ClientSite) (x : Taking) → InputTells (length w.servers) input → ((old : ClientSite) → site_of w c ≡ Some old → old.starts ≡ site.starts) → record { world = w; client = c; input = input; site = site } ≡ x → TakenIn w x
+in_same : (w : World) (c : ClientId) (input : ClientInput) (site : WorldClient) (x : Taking) → InputTells (length w.servers) input → ((old : WorldClient) → site_of w c ≡ Some old → old.starts ≡ site.starts) → record { world = w; client = c; input = input; site = site } ≡ x → TakenIn w x
 in_same w c input site x t f e = subst (TakenIn w) e (record { disks = w.disks; is = refl; open_ = same_disks w.disks; tells = t; starts = f })
 
-same_starts : (w : World) (c : ClientId) (site old : ClientSite) → site_of w c ≡ Some site → site_of w c ≡ Some old → old.starts ≡ site.starts
-same_starts w c site old a b = ap (λ (z : ClientSite). z.starts) (some_is (sym b ∙ a))
+same_starts : (w : World) (c : ClientId) (site old : WorldClient) → site_of w c ≡ Some site → site_of w c ≡ Some old → old.starts ≡ site.starts
+same_starts w c site old a b = ap (λ (z : WorldClient). z.starts) (some_is (sym b ∙ a))
 
-by_client : (w : World) (c : ClientId) (input : ClientInput) (o : Option ClientSite) (x : Taking) → InputTells (length w.servers) input → site_of w c ≡ o → taking w c input o ≡ Some x → TakenIn w x
+by_client : (w : World) (c : ClientId) (input : ClientInput) (o : Option WorldClient) (x : Taking) → InputTells (length w.servers) input → site_of w c ≡ o → taking w c input o ≡ Some x → TakenIn w x
 by_client w c input None x t f e = cc e
 by_client w c input (Some site) x t f e = in_same w c input site x t (λ old g. same_starts w c site old f g) (some_is e)
 
@@ -102,16 +102,16 @@ taken_in w (events.Tick (nodes.Client c)) x p q = by_client w c inputs.Tick (sit
 taken_in w (events.Tick (nodes.Server s)) x p q = cc q
 taken_in w (events.App c ask) x p q = go (site_of w c) refl q
   where
-    go : (o : Option ClientSite) → site_of w c ≡ o → asking w c ask o ≡ Some x → TakenIn w x
+    go : (o : Option WorldClient) → site_of w c ≡ o → asking w c ask o ≡ Some x → TakenIn w x
     go None f q = cc q
     go (Some site) f q = in_same w c (inputs.App (site.asks + 1) ask) (ev.asked_once_more site) x tt (λ old g. same_starts w c site old f g) (some_is q)
 taken_in w (events.Deliver n) x p q = go (message_of w n) refl q
   where
-    to : (m : SentMessage) → Has m w.net.messages → (r : NodeId) → hearing w m.message r ≡ Some x → TakenIn w x
+    to : (m : SentMessage) → Has m w.net.messages → (r : NodeId) → receiving w m.message r ≡ Some x → TakenIn w x
     to m i (nodes.Client c) q = by_client w c (inputs.Control m.message) (site_of w c) x (p.told m i) refl q
     to m i (nodes.Server s) q = cc q
 
-    go : (o : Option SentMessage) → message_of w n ≡ o → hearing_of w o ≡ Some x → TakenIn w x
+    go : (o : Option SentMessage) → message_of w n ≡ o → receiving_of w o ≡ Some x → TakenIn w x
     go None e q = cc q
     go (Some m) e q = to m (numbered_has w.net.messages n m e) (receiver_of m) q
 taken_in w (events.Report n ok) x p q = go (issued_of w n) q
@@ -119,12 +119,12 @@ taken_in w (events.Report n ok) x p q = go (issued_of w n) q
     v : World
     v = ev.with_disks (ev.disks_after w.disks (disks.done w.disks n ok)) w
 
-    at : (y : IssuedCommand) (site : ClientSite) → site_of w y.client ≡ Some site → (b : Bool) →
+    at : (y : IssuedCommand) (site : WorldClient) → site_of w y.client ≡ Some site → (b : Bool) →
         (if b then taking (ev.with_disks (ev.disks_after w.disks (disks.done w.disks n ok)) w) y.client (ev.end_told (ev.with_disks (ev.disks_after w.disks (disks.done w.disks n ok)) w) n ok y) (Some site) else None) ≡ Some x → TakenIn w x
     at y site f true q = subst (TakenIn w) (some_is q) (record { disks = ev.disks_after w.disks (disks.done w.disks n ok); is = refl; open_ = report_open w.disks n ok; tells = tt; starts = λ old g. same_starts w y.client site old f g })
     at y site f false q = cc q
 
-    at_site : (y : IssuedCommand) (o : Option ClientSite) → site_of w y.client ≡ o → told_at (ev.with_disks (ev.disks_after w.disks (disks.done w.disks n ok)) w) n ok y o ≡ Some x → TakenIn w x
+    at_site : (y : IssuedCommand) (o : Option WorldClient) → site_of w y.client ≡ o → told_at (ev.with_disks (ev.disks_after w.disks (disks.done w.disks n ok)) w) n ok y o ≡ Some x → TakenIn w x
     at_site y None f q = cc q
     at_site y (Some site) f q = at y site f (ev.is_same_instance y site) q
 
@@ -152,7 +152,7 @@ ServerGives w (events.Deliver n) = MessageGives w (message_of w n)
 ServerGives w e = Unit {0}
 
 module _ (w : World) where
-  client_gives : (v : World) (c : ClientId) (input : ClientInput) (o : Option ClientSite) → ((x : Taking) → taking v c input o ≡ Some x → Gives x) → AtClient v c input o
+  client_gives : (v : World) (c : ClientId) (input : ClientInput) (o : Option WorldClient) → ((x : Taking) → taking v c input o ≡ Some x → Gives x) → AtClient v c input o
   client_gives v c input None f = tt
   client_gives v c input (Some site) f = f (record { world = v; client = c; input = input; site = site }) refl
 
@@ -161,27 +161,27 @@ module _ (w : World) where
   owed_of (events.Tick (nodes.Server s)) f g = g
   owed_of (events.App c ask) f g = go (site_of w c) f
     where
-      go : (o : Option ClientSite) → ((x : Taking) → asking w c ask o ≡ Some x → Gives x) → AtAsk w c ask o
+      go : (o : Option WorldClient) → ((x : Taking) → asking w c ask o ≡ Some x → Gives x) → AtAsk w c ask o
       go None f = tt
       go (Some site) f = f (record { world = w; client = c; input = inputs.App (site.asks + 1) ask; site = ev.asked_once_more site }) refl
   owed_of (events.Deliver n) f g = go (message_of w n) f g
     where
-      to : (m : Message) (r : NodeId) → ((x : Taking) → hearing w m r ≡ Some x → Gives x) → ReceiverGives w m r → AtNode w m r
+      to : (m : Message) (r : NodeId) → ((x : Taking) → receiving w m r ≡ Some x → Gives x) → ReceiverGives w m r → AtNode w m r
       to m (nodes.Client c) f g = client_gives w c (inputs.Control m) (site_of w c) f
       to m (nodes.Server s) f g = g
 
-      go : (o : Option SentMessage) → ((x : Taking) → hearing_of w o ≡ Some x → Gives x) → MessageGives w o → AtDelivery w o
+      go : (o : Option SentMessage) → ((x : Taking) → receiving_of w o ≡ Some x → Gives x) → MessageGives w o → AtDelivery w o
       go None f g = tt
       go (Some m) f g = to m.message (receiver_of m) f g
   owed_of (events.Report n ok) f g = go (issued_of w n) f
     where
-      at : (y : IssuedCommand) (site : ClientSite) (b : Bool) →
+      at : (y : IssuedCommand) (site : WorldClient) (b : Bool) →
           ((x : Taking) → (if b then taking (ev.with_disks (ev.disks_after w.disks (disks.done w.disks n ok)) w) y.client (ev.end_told (ev.with_disks (ev.disks_after w.disks (disks.done w.disks n ok)) w) n ok y) (Some site) else None) ≡ Some x → Gives x) → b ≡ true →
           Gives (record { world = ev.with_disks (ev.disks_after w.disks (disks.done w.disks n ok)) w; client = y.client; input = ev.end_told (ev.with_disks (ev.disks_after w.disks (disks.done w.disks n ok)) w) n ok y; site = site })
       at y site true f e = f _ refl
       at y site false f e = cc e
 
-      at_site : (y : IssuedCommand) (o : Option ClientSite) → ((x : Taking) → told_at (ev.with_disks (ev.disks_after w.disks (disks.done w.disks n ok)) w) n ok y o ≡ Some x → Gives x) → AtTold (ev.with_disks (ev.disks_after w.disks (disks.done w.disks n ok)) w) n ok y o
+      at_site : (y : IssuedCommand) (o : Option WorldClient) → ((x : Taking) → told_at (ev.with_disks (ev.disks_after w.disks (disks.done w.disks n ok)) w) n ok y o ≡ Some x → Gives x) → AtTold (ev.with_disks (ev.disks_after w.disks (disks.done w.disks n ok)) w) n ok y o
       at_site y None f = tt
       at_site y (Some site) f = λ e. at y site (ev.is_same_instance y site) f e
 

@@ -26,7 +26,7 @@ use Rattle.st_rules.specs.Events as ev
 use Rattle.st_rules.specs.Events.{WorldTurn, client_notes, client_says, client_says_all}
 use Rattle.st_rules.specs.FlatLog as log
 use Rattle.st_rules.specs.World as world
-use Rattle.st_rules.specs.World.{World, ClientSite, life_with, server_of_disk, site_of}
+use Rattle.st_rules.specs.World.{World, WorldClient, life_with, server_of_disk, site_of}
 use Rattle.st_lemmas.specs.Lists.{Has}
 use Rattle.st_lemmas.proofs.Lookups.{some_is}
 use Rattle.st_lemmas.proofs.Numbers.{get_last}
@@ -38,7 +38,7 @@ use Rattle.st_laws_pages.proofs.Flush.Growing.{Adds}
 use Rattle.st_laws_pages.proofs.Flush.Keeping.{OfOthers}
 use Rattle.st_laws_steps.proofs.Client.Losing.{Finished, rest_of}
 use Rattle.st_laws_steps.proofs.Client.Nexts.{Next, change_next, changes_next, dirty_on}
-use Rattle.st_laws_pages.specs.Causes.Stands.{LatestOwn}
+use Rattle.st_laws_pages.specs.Causes.Invariants.{LatestOwn}
 use Rattle.st_laws_pages.proofs.Causes.Latest.{change_apart as latest_elsewhere, change_latest, ends_latest}
 use Rattle.st_laws_pages.proofs.Causes.Placed.{Placed}
 use Rattle.st_laws_pages.proofs.Causes.Saying.{change_adds, placed_grown, site_there}
@@ -71,7 +71,7 @@ answers_fine : (c : ClientId) (before : ClientState) (a : AppAnswer) (os : List 
 answers_fine c before a [] sc = record {}
 answers_fine c before a (o ∷ os) sc = record { one = tt; rest = answers_fine c before a os (client_says sc c before (answer_to a o)) }
 
-read_fine : (w : World) (c : ClientId) (o : Option ClientSite) (at to : BlockAt) → FineSubmit w c o at (commands.Read to)
+read_fine : (w : World) (c : ClientId) (o : Option WorldClient) (at to : BlockAt) → FineSubmit w c o at (commands.Read to)
 read_fine w c None at to = tt
 read_fine w c (Some site) at to = tt
 
@@ -83,7 +83,7 @@ same_change : (es : List LogEntry) (x y : LogEntry) (gs : List LogEntry) → gs 
 same_change es x y gs a b = ap (λ (e : LogEntry). e.change) (some_is (sym (get_last es x) ∙ ap (λ z. slice_get z (length es)) (sym a ∙ b) ∙ get_last es y))
 
 -- In the world behind the outputs.
-module _ (size : ℕ) (c : ClientId) (before : ClientState) (sc : WorldTurn) (site : ClientSite) (there : site_of sc.world c ≡ Some site) (count : length sc.world.servers ≡ size) (now : Stamp) where
+module _ (size : ℕ) (c : ClientId) (before : ClientState) (sc : WorldTurn) (site : WorldClient) (there : site_of sc.world c ≡ Some site) (count : length sc.world.servers ≡ size) (now : Stamp) where
   abbrev pub es : List Output → List LogEntry
   es os = (After c before sc os).world.log
 

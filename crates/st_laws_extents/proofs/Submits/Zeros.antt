@@ -31,20 +31,20 @@ use Rattle.st_lemmas.specs.Lists.{Has}
 use Rattle.st_lemmas.proofs.Tables.{found_at}
 use Rattle.st_base.specs.Mode.{number_of}
 use Rattle.st_laws_refine.specs.Views.Halves.{held_at, held_in}
-use Rattle.st_laws_refine.specs.Client.Shown.{HaveModes, Kept, Lasts}
+use Rattle.st_laws_refine.specs.Client.Invariants.{HaveModes, Kept, Lasts}
 use Rattle.st_laws_steps.specs.Client.Client.{map_asked, map_in}
 use Rattle.st_laws_pages.specs.Disks.Folds.{SettledOn}
 use Rattle.st_laws_steps.specs.Lives.Lives.{clock_in}
 use Rattle.st_laws_steps.specs.Client.Losses.{Fit, SessionFresh}
 use Rattle.st_laws_pages.specs.Disks.World.{PagesHold, mapped_at, mapped_in}
 use Rattle.st_laws_pages.proofs.Disks.ReadsFind.{unmapped_finds}
-use Rattle.st_laws_leases.specs.Sides.Stands.{Standing}
+use Rattle.st_laws_leases.specs.Sides.Invariants.{Standing}
 use Rattle.st_laws_leases.specs.Sides.World.{AllStand, ServerStands, There}
 use Rattle.st_laws_leases.proofs.Sides.Pairs.{only_here}
 use Rattle.st_laws_reads.specs.Copies.Copies.{file_at}
 use Rattle.st_laws_reads.specs.Copies.World.{Taking, now_at}
 use Rattle.st_laws_reads.specs.AllClients.Events.{FrozenStandAlone}
-use Rattle.st_laws_reads.specs.AllClients.Left.{AllLeft, LeftAt, ReplyLeft}
+use Rattle.st_laws_reads.specs.AllClients.Obligations.{AllLeft, LeftAt, ReplyLeft}
 use Rattle.st_laws_reads.specs.AllClients.Runs.{InputOwed}
 use Rattle.st_laws_reads.specs.AllClients.World.{CopiesHold}
 use Rattle.st_laws_reads.proofs.AllClients.Behind.{Behind, behind}

@@ -1,4 +1,4 @@
-use Rattle.st_laws_extents.proofs.ExtentReplies.Heard.{is_told, known, submits}
+use Rattle.st_laws_extents.proofs.ExtentReplies.Received.{is_told, known, submits}
 use Rattle.st_laws_extents.proofs.known_extents_are_told.Goals as goal
 
 pub returns-clause-told : goal.returns-clause-told

@@ -12,8 +12,8 @@ use Rattle.st_rules.specs.ClientReplies.{is_counting, refuses_reassertion}
 use Rattle.st_rules.specs.ClientState.{ClientSession, Requests, reasserts}
 use Rattle.st_rules.specs.Keys.{server_node}
 use Rattle.st_laws_steps.specs.Client.Session.{HasExclusive}
-use Rattle.st_laws_requests.specs.Replies.Last.{IsLastRequest}
-use Rattle.st_laws_requests.specs.Replies.Reached.{Ends}
+use Rattle.st_laws_requests.specs.Replies.LastRequests.{IsLastRequest}
+use Rattle.st_laws_requests.specs.Replies.ServedRequests.{Ends}
 
 -- the first number that was not ended: of the outstanding request, or the next one
 abbrev pub open_from : ℕ → Option Request → ℕ
@@ -58,7 +58,7 @@ pub record AsksStand (B : ServerId → ℕ → ℕ → ℕ → Type 0) (G : Serv
   pub cut : (q : Request) → r.asked ≡ Some q → CutNamed cutting q.body
   pub remove : (q : Request) → r.asked ≡ Some q → RemoveNamed (G server) cutting q.body
 
--- what a message that is heard says of the request that it ends: all up to it were served
+-- what a message that is received says of the request that it ends: all up to it were served
 abbrev pub Tells : (ServerId → ℕ → ℕ → ℕ → Type 0) → Header → Body → Fact
 Tells B h body server life epoch r cutting due =
     (q : Request) → r.asked ≡ Some q → h.from ≡ server_node server → h.life ≡ life → h.epoch ≡ epoch → Ends body →

@@ -13,9 +13,9 @@ use Rattle.st_rules.specs.Keys.{server_node}
 use Rattle.st_rules.specs.Server.{ServerNode}
 use Rattle.st_rules.specs.Sessions.{session_of}
 use Rattle.st_rules.specs.Safety.{Promise}
-use Rattle.st_rules.specs.World.{ClientSite, World, node_of, site_of}
+use Rattle.st_rules.specs.World.{WorldClient, World, node_of, site_of}
 use Rattle.st_lemmas.specs.Lists.{Has}
-use Rattle.st_laws_requests.specs.Replies.Reached.{IsBehind}
+use Rattle.st_laws_requests.specs.Replies.ServedRequests.{IsBehind}
 use Rattle.st_laws_leases.specs.Dates.Dates.{messages}
 
 -- a request that cuts no page of this file: of another file, or a remove under a number that was given on another one
@@ -50,7 +50,7 @@ pub record NodeGoes (n p : ServerNode) : Type 0 where
 -- a message that a client sent, at an association of that life or an earlier one
 pub record SentBy (w : World) (m : Message) : Type 0 where
   pub client : ClientId
-  pub site : ClientSite
+  pub site : WorldClient
   pub there : site_of w client ≡ Some site
   pub running : site.node.running ≡ true
   pub from : m.header.from ≡ client.0

@@ -5,8 +5,8 @@ use Rattle.st_rules.specs.Server.{ServerNode}
 use Rattle.st_rules.specs.World.{World, node_of, server}
 use Rattle.st_protocol.specs.Assoc.{Config}
 use Rattle.st_laws_leases.specs.Sides.World.{AllStand}
-use Rattle.st_laws_reads.specs.AllClients.Left.{CutsAsked}
-use Rattle.st_laws_extents.specs.CutRequests.Named.{Given}
+use Rattle.st_laws_reads.specs.AllClients.Obligations.{CutsAsked}
+use Rattle.st_laws_extents.specs.CutRequests.NamedGrants.{Given}
 use Rattle.st_laws_extents.specs.CutRequests.World.{Gifts}
 
 -- behind a step

@@ -6,9 +6,9 @@ use Rattle.st_base.specs.declared.ids.ServerId.{ServerId}
 use Rattle.st_rules.specs.ClientState.{Association}
 use Rattle.st_rules.specs.Server.{ServerNode}
 use Rattle.st_rules.specs.Sessions.{session_of}
-use Rattle.st_rules.specs.World.{ClientSite, World, node_of, site_of}
+use Rattle.st_rules.specs.World.{WorldClient, World, node_of, site_of}
 use Rattle.st_lemmas.specs.Lists.{Has}
-use Rattle.st_laws_requests.specs.Replies.Reached.{IsBehind}
+use Rattle.st_laws_requests.specs.Replies.ServedRequests.{IsBehind}
 use Rattle.st_laws_extents.specs.CutRequests.Asks.{AsksBehind, AsksStand, Of}
 
 -- a server of no earlier epoch; and in that epoch, where it runs, the client's session of that life reached the number
@@ -27,11 +27,11 @@ Gifts = ClientId → ServerId → ℕ → GrantNo → Type 0
 -- what stands of the requests of each session of each client
 abbrev pub AllAsk : Gifts → World → Type 0
 AllAsk G w =
-    (c : ClientId) (site : ClientSite) → site_of w c ≡ Some site → (a : Association) → Has a site.node.state.associations →
+    (c : ClientId) (site : WorldClient) → site_of w c ≡ Some site → (a : Association) → Has a site.node.state.associations →
     Of (AsksStand (IsServed w c) (G c)) a.server a.life.0 a.session
 
 -- the same behind a step, in which something may have been asked
 abbrev pub AllAsked : Gifts → World → Type 0
 AllAsked G w =
-    (c : ClientId) (site : ClientSite) → site_of w c ≡ Some site → (a : Association) → Has a site.node.state.associations →
+    (c : ClientId) (site : WorldClient) → site_of w c ≡ Some site → (a : Association) → Has a site.node.state.associations →
     AsksBehind (IsServed w c) (G c) a.server a.life.0 a.session

@@ -5,8 +5,8 @@ use Rattle.st_rules.specs.declared.client.ClientInput.TheVariants as inputs
 use Rattle.st_rules.specs.Events.{counted}
 use Rattle.st_rules.specs.Safety.{Promise}
 use Rattle.st_laws_reads.specs.Copies.World.{Taking, taken}
-use Rattle.st_laws_reads.specs.AllClients.Left.{CutsAsked}
-use Rattle.st_laws_extents.specs.Submits.Left.{PagesLeft}
+use Rattle.st_laws_reads.specs.AllClients.Obligations.{CutsAsked}
+use Rattle.st_laws_extents.specs.Submits.Obligations.{PagesLeft}
 use Rattle.st_laws_extents.specs.Submits.Rest.{MapsTold}
 use Rattle.st_laws_extents.specs.DiskReads.Reads.{KnownRight, ReadsLie}
 

@@ -18,9 +18,9 @@ use Rattle.st_rules.specs.ClientState.{Association}
 use Rattle.st_rules.specs.Disks as disks
 use Rattle.st_rules.specs.FlatLog.{content}
 use Rattle.st_rules.specs.Keys.{client}
-use Rattle.st_rules.specs.World.{World, ClientSite, clock_of, numbered}
+use Rattle.st_rules.specs.World.{World, WorldClient, clock_of, numbered}
 use Rattle.st_lemmas.specs.Lists.{Has}
-use Rattle.st_laws_refine.specs.Client.Shown.{Lasts}
+use Rattle.st_laws_refine.specs.Client.Invariants.{Lasts}
 use Rattle.st_laws_pages.specs.Flush.Flush.{IsIts, file_at}
 use Rattle.st_laws_pages.specs.Disks.Pages.{mapping_of}
 use Rattle.st_laws_pages.specs.Disks.World.{mapped_in}
@@ -36,15 +36,15 @@ pub record ReadRight (w : World) (es : List LogEntry) (a : Association) (pc : Pa
   pub sampled : (b : Block) → d.sample ≡ Some b → found_under (file_at a pc.ino) pc.page b.tag b.bytes (mapping_of extent) ≡ content es (file_at a pc.ino) pc.page
 
 -- each command of the world that is an outstanding read of this instance of a client
-abbrev pub EachRight : World → List LogEntry → ℕ → ClientSite → Association → PageCommand → Type 0
+abbrev pub EachRight : World → List LogEntry → ℕ → WorldClient → Association → PageCommand → Type 0
 EachRight w es c site a pc =
     (k : ℕ) (y : IssuedCommand) (d : DiskCommand) → numbered w.commands k ≡ Some y → IsIts (client c) site.starts pc.number y →
     disks.command_at w.disks.commands k ≡ Some d → ReadRight w es a pc d
 
 -- What stands of all clients that run: outstanding reads are of pages that are not dirty, and mapped; and where a lease lasts they are right.
 pub record ReadsHold (w : World) (es : List LogEntry) : Type 0 where
-  pub clean : (c : ℕ) (site : ClientSite) → Running w c site → (a : Association) → Has a site.node.state.associations → ReadsClean a.store
-  pub right : (c : ℕ) (site : ClientSite) → Running w c site → (a : Association) → Has a site.node.state.associations →
+  pub clean : (c : ℕ) (site : WorldClient) → Running w c site → (a : Association) → Has a site.node.state.associations → ReadsClean a.store
+  pub right : (c : ℕ) (site : WorldClient) → Running w c site → (a : Association) → Has a site.node.state.associations →
       Lasts site.node.state.config.lease (clock_of w (nodes.Client (client c))).0 a.session → (pc : PageCommand) → Has pc a.store.commands →
       pc.kind ≡ io.Read → EachRight w es c site a pc
 
@@ -64,6 +64,6 @@ ReadsLie x =
 -- Where the server has a page is what a client that runs knows of it.
 abbrev pub KnownRight : World → Type 0
 KnownRight w =
-    (c : ℕ) (site : ClientSite) → Running w c site → (a : Association) → Has a site.node.state.associations →
+    (c : ℕ) (site : WorldClient) → Running w c site → (a : Association) → Has a site.node.state.associations →
     Lasts site.node.state.config.lease (clock_of w (nodes.Client (client c))).0 a.session → (ino : ℕ) (p : PageNo) (m : MappedBlock) →
     known_at a.store.extents ino p ≡ Some m → (e : Extent) × (mapped_in w (file_at a ino) p ≡ Some e) × (mapping_of e ≡ m)

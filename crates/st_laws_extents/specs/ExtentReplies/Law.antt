@@ -12,15 +12,15 @@ use Rattle.st_rules.specs.History.{traced}
 use Rattle.st_rules.specs.Keys.{client}
 use Rattle.st_rules.specs.Safety.{IsHead, Promise, Throughout, is_event, steps}
 use Rattle.st_rules.specs.Server.{ServerNode}
-use Rattle.st_rules.specs.World.{ClientSite, World, fresh_world, node_of}
+use Rattle.st_rules.specs.World.{WorldClient, World, fresh_world, node_of}
 use Rattle.st_lemmas.specs.Lists.{Has}
 use Rattle.st_laws_leases.specs.Dates.Dates.{messages}
 use Rattle.st_laws_extents.specs.ExtentReplies.Steps.{KeptRows}
-use Rattle.st_laws_extents.specs.ExtentReplies.Told.{AskedAt, AskedRight, RepliesTo}
+use Rattle.st_laws_extents.specs.ExtentReplies.ToldExtents.{AskedAt, AskedRight, RepliesTo}
 
 -- a request of this number and body was outstanding before, at the same server in the same life and epoch, under a lock that was held
 pub record WasAsked (w : World) (c : ℕ) (a : Association) (x : ClientSession) (q : Request) : Type 0 where
-  pub site : ClientSite
+  pub site : WorldClient
   pub by : Association
   pub session : ClientSession
   pub request : Request
@@ -39,7 +39,7 @@ pub record Untold (w : World) (c : ℕ) (a : Association) (x : ClientSession) (q
 
 -- What is left at a step: a request that is outstanding behind it under a lock that is held was so before, or nothing was told of it.
 abbrev pub RequestsGo : World → World → Type 0
-RequestsGo w v = (c : ℕ) (site : ClientSite) (a : Association) (x : ClientSession) (q : Request) → AskedAt v c site a x q → WasAsked w c a x q ⊎ Untold w c a x q
+RequestsGo w v = (c : ℕ) (site : WorldClient) (a : Association) (x : ClientSession) (q : Request) → AskedAt v c site a x q → WasAsked w c a x q ⊎ Untold w c a x q
 
 -- at a step
 abbrev pub IsAsked : Promise

@@ -20,7 +20,7 @@ use Rattle.st_laws_pages.specs.Disks.World.{mapped_in}
 use Rattle.st_laws_reads.specs.Copies.Copies.{file_at}
 use Rattle.st_laws_reads.specs.Copies.World.{Taking, now_at, taken}
 
--- A map's reply that a client hears under the lock under which it asked, and that tells of no block: the server has none for the page.
+-- A map's reply that a client receives under the lock under which it asked, and that tells of no block: the server has none for the page.
 abbrev pub UnmappedTold : World → Association → Header → Body → Type 0
 UnmappedTold w a h body =
     (s : ClientSession) (q : Request) (ino : ℕ) (g : GrantNo) (p : PageNo) → a.session ≡ Some s → h.from ≡ server_node a.server →

@@ -23,7 +23,7 @@ use Rattle.st_rules.specs.Extents as extents
 use Rattle.st_rules.specs.Extents.{Extents}
 use Rattle.st_rules.specs.Keys.{server_node}
 use Rattle.st_rules.specs.Locks.{row_of}
-use Rattle.st_rules.specs.Server.{ServerState, Turn, is_client_node, sender, server_step}
+use Rattle.st_rules.specs.Server.{ServerState, ServerTurn, is_client_node, sender, server_step}
 use Rattle.st_rules.specs.Sessions.{Sessions, session_of}
 use Rattle.st_lemmas.specs.Lists.{Has}
 
@@ -99,7 +99,7 @@ pub record ChangedNow (x : ServerState) (i : ServerInput) (after : Extents) : Ty
   pub others : (f : FileId) (p : PageNo) → f ≢ file_of x.id ino → extents.extent_of after f p ≡ extents.extent_of x.stable.extents f p
 
 -- What a step leaves: extents that are the same or were changed so, and replies that tell so.
-pub record StepTells (x : ServerState) (i : ServerInput) (t : Turn) : Type 0 where
+pub record StepTells (x : ServerState) (i : ServerInput) (t : ServerTurn) : Type 0 where
   pub extents : (t.state.stable.extents ≡ x.stable.extents) ⊎ ChangedNow x i t.state.stable.extents
   pub kept : (c : ClientId) (life number ino : ℕ) (rows : List ExtentRow) → KeptRows t.state.sessions c life number ino rows →
       ToldBy x i t.state.stable.extents c.0 life number ino rows

@@ -8,9 +8,9 @@ use Rattle.st_rules.specs.History.{traced}
 use Rattle.st_rules.specs.Safety.{IsHead, Promise, Throughout, is_event, steps}
 use Rattle.st_rules.specs.World.{fresh_world}
 use Rattle.st_laws_reads.specs.Copies.World.{Taking, taken}
-use Rattle.st_laws_extents.specs.Known.Lies.{AllKnow, ExtentsTold, SubmitsLie}
+use Rattle.st_laws_extents.specs.Known.WritePlaces.{AllKnow, ExtentsTold, SubmitsLie}
 
--- What is left at a step: replies that are heard tell extents as their servers have them.
+-- What is left at a step: replies that are received tell extents as their servers have them.
 abbrev pub IsTold : Promise
 IsTold past x = ExtentsTold (taken (counted x.before.world) x.event)
 

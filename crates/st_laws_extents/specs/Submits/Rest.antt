@@ -19,10 +19,10 @@ use Rattle.st_lemmas.specs.Lists.{Has}
 use Rattle.st_laws_pages.specs.Disks.World.{mapped_in}
 use Rattle.st_laws_reads.specs.Copies.Copies.{file_at}
 use Rattle.st_laws_reads.specs.Copies.World.{Taking, now_at, taken}
-use Rattle.st_laws_reads.specs.AllClients.Left.{CutsAsked, LeftOf}
-use Rattle.st_laws_extents.specs.Submits.Left.{PagesLeft}
+use Rattle.st_laws_reads.specs.AllClients.Obligations.{CutsAsked, LeftOf}
+use Rattle.st_laws_extents.specs.Submits.Obligations.{PagesLeft}
 
--- A map's reply that a client hears under the lock under which it asked, and that tells of no block: the server has none for the page.
+-- A map's reply that a client receives under the lock under which it asked, and that tells of no block: the server has none for the page.
 abbrev pub UnmappedTold : World → Association → Header → Body → Type 0
 UnmappedTold w a h body =
     (s : ClientSession) (q : Request) (ino : ℕ) (g : GrantNo) (p : PageNo) → a.session ≡ Some s → h.from ≡ server_node a.server →

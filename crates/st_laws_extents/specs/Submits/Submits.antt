@@ -18,9 +18,9 @@ use Rattle.st_rules.specs.ClientState.{Association, ClientState}
 use Rattle.st_rules.specs.Events.{WorldTurn, client_says, latest}
 use Rattle.st_rules.specs.FlatLog.{owner}
 use Rattle.st_rules.specs.Keys.{client}
-use Rattle.st_rules.specs.World.{World, ClientSite, clock_of, life_with, server_of_disk, site_of}
+use Rattle.st_rules.specs.World.{World, WorldClient, clock_of, life_with, server_of_disk, site_of}
 use Rattle.st_lemmas.specs.Lists.{Has}
-use Rattle.st_laws_refine.specs.Client.Shown.{Lasts}
+use Rattle.st_laws_refine.specs.Client.Invariants.{Lasts}
 use Rattle.st_laws_pages.specs.Flush.Flush.{file_at}
 use Rattle.st_laws_pages.specs.Disks.Folds.{LastIs, owner_at}
 use Rattle.st_laws_reads.specs.AllClients.Law.{Running}
@@ -32,7 +32,7 @@ pub record FineWrite (w : World) (c : ClientId) (life : Life) (at to : BlockAt) 
   pub last : LastIs 1 (latest w.log c tag.file tag.page) tag.file tag.page w.log
 
 -- a read has nothing to carry
-abbrev pub FineSubmit : World → ClientId → Option ClientSite → BlockAt → Command → Type 0
+abbrev pub FineSubmit : World → ClientId → Option WorldClient → BlockAt → Command → Type 0
 FineSubmit w c None at what = Unit {0}
 FineSubmit w c (Some site) at (commands.Read to) = Unit {0}
 FineSubmit w c (Some site) at (commands.Write to tag bytes) = FineWrite w c (life_with site.node.state (server_of_disk w at)) at to tag
@@ -56,5 +56,5 @@ LatestLast c es a =
 -- at all clients that run, where their leases last
 abbrev pub LastIn : World → List LogEntry → Type 0
 LastIn w es =
-    (c : ℕ) (site : ClientSite) → Running w c site → (a : Association) → Has a site.node.state.associations →
+    (c : ℕ) (site : WorldClient) → Running w c site → (a : Association) → Has a site.node.state.associations →
     Lasts site.node.state.config.lease (clock_of w (nodes.Client (client c))).0 a.session → LatestLast (client c) es a

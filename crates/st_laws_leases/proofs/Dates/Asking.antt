@@ -183,7 +183,7 @@ module _ (ms : List Message) (c : ClientId) (now : Stamp) (Lv : ServerId → ℕ
     pub o_passes : (tick : Bool) (t : Turn) → G t → G (cp.passes now tick t)
     o_passes tick t p = changes_passing t.operations t (cp.passes now tick t) (p_passes now tick t) p
 
-    -- Each change where no message is heard, and such changes.
+    -- Each change where no message is received, and such changes.
     says_calm : (t : Turn) (o : Output) → SaysCalm false o → Plain o → G t → G (say t o)
     says_calm t (outputs.Send m) q i p = no_bool q
     says_calm t (outputs.Submit number at what) q i p = absurd i

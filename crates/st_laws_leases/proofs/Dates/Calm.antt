@@ -24,14 +24,14 @@ use Rattle.st_rules.specs.Events.{WorldTurn, client_says, client_says_all}
 use Rattle.st_rules.specs.History.{Traced}
 use Rattle.st_rules.specs.Safety.{Step, is_conflict, is_no_conflict, is_receiver, step, takes_step}
 use Rattle.st_rules.specs.World as world
-use Rattle.st_rules.specs.World.{World, ClientSite, clock_of, site_of}
+use Rattle.st_rules.specs.World.{World, WorldClient, clock_of, site_of}
 use Rattle.st_lemmas.specs.Lists.{Has}
 use Rattle.st_lemmas.proofs.Numbers.{numbered_has}
 use Rattle.st_lemmas.proofs.Steps.{step_happens}
 use Rattle.st_lemmas.proofs.Tables.{has_map_in}
 use Rattle.st_laws_leases.specs.Dates.Dates.{ClientDated, Dated, message_in, messages}
 use Rattle.st_laws_leases.specs.Dates.Law.{ClientsSendNoConflict}
-use Rattle.st_laws_leases.proofs.Dates.Hearing.{Comes, Ever, Held, ever_on, step_held}
+use Rattle.st_laws_leases.proofs.Dates.Receiving.{Comes, Ever, Held, ever_on, step_held}
 
 all_more : (p : Observation → Bool) (os : List Observation) (o : Observation) → list_all p os ≡ true → p o ≡ true → list_all p (os ++ o ∷ []) ≡ true
 all_more p [] o e f = ap (λ b. b && true) f
@@ -47,7 +47,7 @@ calm_one c before (outputs.Send m) sc f h = all_more is_no_conflict sc.seen _ h 
 calm_one c before (outputs.Answer op a) sc f h = all_more is_no_conflict sc.seen _ h refl
 calm_one c before (outputs.Submit n at what) sc f h = go (site_of sc.world c)
   where
-    go : (o : Option ClientSite) → list_all is_no_conflict (ev.submits sc c o n at what).seen ≡ true
+    go : (o : Option WorldClient) → list_all is_no_conflict (ev.submits sc c o n at what).seen ≡ true
     go None = h
     go (Some site) = all_more is_no_conflict sc.seen _ h refl
 calm_one c before (outputs.Note n) sc f h = note n
@@ -65,7 +65,7 @@ calm_all c before [] sc f h = h
 calm_all c before (o ∷ os) sc f h = calm_all c before os (client_says sc c before o) (λ m i. f m (inr i)) (calm_one c before o sc (λ m e. f m (inl (sym e))) h)
 
 -- in a step of a client no such refusal is sent
-pub client_no_conflict : (ms : List Message) (c : ClientId) (v : World) (i : ClientInput) (site : ClientSite) → Comes ms c (clock_of v (nodes.Client c)) Ever ever_on i → ClientDated ms c site.node.state →
+pub client_no_conflict : (ms : List Message) (c : ClientId) (v : World) (i : ClientInput) (site : WorldClient) → Comes ms c (clock_of v (nodes.Client c)) Ever ever_on i → ClientDated ms c site.node.state →
     list_all is_no_conflict (ev.client_takes v c i site).seen ≡ true
 unfolding ev.client_takes ev.client_took cl.node_step
 client_no_conflict ms c v i site k d = go site.node.running
@@ -82,7 +82,7 @@ module _ (past : List Step) (t : Traced) (d : Dated past t) where
   abbrev w : World
   w = ev.counted t.world
 
-  at_client : (c : ClientId) (i : ClientInput) (o : Option ClientSite) → site_of t.world c ≡ o → Comes (messages t.world) c (clock_of w (nodes.Client c)) Ever ever_on i → list_all is_no_conflict (ev.at_client w c i o).seen ≡ true
+  at_client : (c : ClientId) (i : ClientInput) (o : Option WorldClient) → site_of t.world c ≡ o → Comes (messages t.world) c (clock_of w (nodes.Client c)) Ever ever_on i → list_all is_no_conflict (ev.at_client w c i o).seen ≡ true
   unfolding ev.at_client
   at_client c i None q k = refl
   at_client c i (Some site) q k = client_no_conflict (messages t.world) c w i site k (d.clients c site q)
@@ -95,7 +95,7 @@ module _ (past : List Step) (t : Traced) (d : Dated past t) where
       v : World
       v = ev.with_disks (ev.disks_after w.disks (Rattle.st_rules.specs.Disks.done w.disks k ok)) w
 
-      at : (x : IssuedCommand) (o : Option ClientSite) → site_of t.world x.client ≡ o → list_all is_no_conflict (ev.tells_client v k ok x o).seen ≡ true
+      at : (x : IssuedCommand) (o : Option WorldClient) → site_of t.world x.client ≡ o → list_all is_no_conflict (ev.tells_client v k ok x o).seen ≡ true
       at x None q = refl
       at x (Some site) q = pick (ev.is_same_instance x site)
         where
@@ -113,7 +113,7 @@ module _ (past : List Step) (t : Traced) (d : Dated past t) where
   happens_calm (events.Tick (nodes.Server s)) c y = cc y
   happens_calm (events.App b ask) c y = go (site_of t.world b) refl
     where
-      go : (o : Option ClientSite) → site_of t.world b ≡ o → list_all is_no_conflict (ev.asks_at w b ask o).seen ≡ true
+      go : (o : Option WorldClient) → site_of t.world b ≡ o → list_all is_no_conflict (ev.asks_at w b ask o).seen ≡ true
       go None q = refl
       go (Some site) q = client_no_conflict (messages t.world) b w (inputs.App (site.asks + 1) ask) (ev.asked_once_more site) tt (d.clients b site q)
   happens_calm (events.Deliver k) c y = go (world.message_of t.world k) refl y

@@ -19,7 +19,7 @@ use Rattle.st_rules.specs.Client as cl
 use Rattle.st_rules.specs.ClientState.{Association, ClientSession, is_at}
 use Rattle.st_rules.specs.Server as server
 use Rattle.st_rules.specs.Server.{ServerNode}
-use Rattle.st_rules.specs.World.{ClientSite, site_of, numbered, clock_of, fresh_world, fresh_site, node_at_start, all_clients, all_servers}
+use Rattle.st_rules.specs.World.{WorldClient, site_of, numbered, clock_of, fresh_world, fresh_site, node_at_start, all_clients, all_servers}
 use Rattle.st_rules.specs.Events.{WorldTurn, world_step}
 use Rattle.st_rules.specs.History.{Traced, TimerStart, traced, traced_after, association_at}
 use Rattle.st_rules.specs.Dating as dating
@@ -112,11 +112,11 @@ module _ (past : List Step) (t : Traced) (d : Dated past t) where
       session a None e z = refl
       session a (Some x) e z = subst (λ n. session_dated past t c (record { 0 = n }) a.life (Some x) ≡ true) e (session_ok c a.server a.life x.lease.date z.0)
 
-      found : (site : ClientSite) → ClientDated (messages t.world) c site.node.state → (o : Option Association) → find (is_at s) site.node.state.associations ≡ o → association_dated past t c s o ≡ true
+      found : (site : WorldClient) → ClientDated (messages t.world) c site.node.state → (o : Option Association) → find (is_at s) site.node.state.associations ≡ o → association_dated past t c s o ≡ true
       found site k None e = refl
       found site k (Some a) e = let z = found_at (is_at s) site.node.state.associations a e in session a a.session (eqb-true _ _ z.0) (k.all a z.1)
 
-      at : (o : Option ClientSite) → site_of t.world c ≡ o → association_dated past t c s (association_at s o) ≡ true
+      at : (o : Option WorldClient) → site_of t.world c ≡ o → association_dated past t c s (association_at s o) ≡ true
       at None e = refl
       at (Some site) e = found site (d.clients c site e) (find (is_at s) site.node.state.associations) refl
 
@@ -153,7 +153,7 @@ fresh_dated k clients servers disks blocks form head =
     record {
       born = λ m h f r. elim h [ ];
       answered = λ m h f r. elim h [ ];
-      clients = λ c site e. subst (λ (x : ClientSite). ClientDated [] c x.node.state) (sym (fresh_is (fresh_site k servers) clients c.0 site e)) (fresh_client k servers c);
+      clients = λ c site e. subst (λ (x : WorldClient). ClientDated [] c x.node.state) (sym (fresh_is (fresh_site k servers) clients c.0 site e)) (fresh_client k servers c);
       servers = λ s node e. subst (λ (x : ServerNode). ServerKnown s x.state) (sym (fresh_is (node_at_start k servers disks blocks) servers s.0 node e)) (fresh_server k servers disks blocks s);
       timers = λ x h. elim h [ ];
       timed = λ s node e run c z. absurd (fresh_quiet k servers disks blocks s node (fresh_is (node_at_start k servers disks blocks) servers s.0 node e) c z);

@@ -51,7 +51,7 @@ use Rattle.st_rules.specs.World.{World}
 use Rattle.st_rules.specs.History.{TimerStart, timer_start, is_timer_of}
 use Rattle.st_rules.specs.Dating as dating
 use Rattle.st_rules.specs.Server as sv
-use Rattle.st_rules.specs.Server.{ServerState, Turn, Replied, turn, with_locks, with_sessions, with_authority, sender, life_in, reply, tell, steal_at, steal_from, steal, steal_each, thefts, suspect_client, greet_as, greet_by, greet, refuse_in_grace, hello, demand_seen, see_demand, refuse_epoch, reassert_by, reassert_new, reassert_again, reassert, rule, keep_and_reply, keep, serve, request_by, request, of_epoch, by_body, refuse_suspect, by_suspicion, receive_from, receive, take_input, suspect_unless, suspect_each, suspecting, suspecting_on, tell_granted, grant_by, grant_waiting, granting, tell_demanded, demand_by, demanding, server_step, is_client_node}
+use Rattle.st_rules.specs.Server.{ServerState, ServerTurn, Replied, turn, with_locks, with_sessions, with_authority, sender, life_in, reply, tell, steal_at, steal_from, steal, steal_each, thefts, suspect_client, greet_as, greet_by, greet, refuse_in_grace, hello, demand_seen, observe_demand, refuse_epoch, reassert_by, reassert_new, reassert_again, reassert, rule, keep_and_reply, keep, serve, request_by, request, of_epoch, by_body, refuse_suspect, by_suspicion, receive_from, receive, take_input, suspect_unless, suspect_each, suspecting, suspecting_on, tell_granted, grant_by, grant_waiting, granting, tell_demanded, demand_by, demanding, server_step, is_client_node}
 use Rattle.st_lemmas.specs.Lists.{Has}
 use Rattle.st_lemmas.proofs.Tables.{cond_either, and_true, and_both, not_true, has_map, has_map_in, has_filter, has_filter_in, has_append}
 use Rattle.st_lemmas.proofs.Keys.{rising_has}
@@ -115,11 +115,11 @@ module _ (w : World) (s : ServerId) (ts : List TimerStart) (A : Message → Type
     pub quiet : (x : TimerStart) → Has x (timers_out w s out ts) → x.server.0 ≡ s.0 → (m : Message) → Has (outputs.Send m) out → m.header.to ≡ x.client.0 → is_dating m ≡ true → ⊥
     pub outs : (m : Message) → Has (outputs.Send m) out → OutOk m
 
-  abbrev pub P : Turn → Type 0
+  abbrev pub P : ServerTurn → Type 0
   P t = Good t.state.id t.state.authority t.state.sessions t.state.locks t.out
 
   -- a message is sent
-  g_send : (t : Turn) (m : Message) → m.header.from ≡ server_node s → (is_dating m ≡ true → A m × (authority.may_ack t.state.authority (client m.header.to) ≡ true)) → P t → P (sv.say t (outputs.Send m))
+  g_send : (t : ServerTurn) (m : Message) → m.header.from ≡ server_node s → (is_dating m ≡ true → A m × (authority.may_ack t.state.authority (client m.header.to) ≡ true)) → P t → P (sv.say t (outputs.Send m))
   g_send t m f d p =
       record {
         id_ = p.id_;
@@ -152,7 +152,7 @@ module _ (w : World) (s : ServerId) (ts : List TimerStart) (A : Message → Type
       out n (inr (inr i)) = elim i [ ]
 
   -- a cut is noted
-  g_cut : (t : Turn) (f : Rattle.st_base.specs.declared.ids.FileId.FileId) (q : PageNo) → P t → P (sv.note t (notes.CutDone f q))
+  g_cut : (t : ServerTurn) (f : Rattle.st_base.specs.declared.ids.FileId.FileId) (q : PageNo) → P t → P (sv.note t (notes.CutDone f q))
   g_cut t f q p =
       record {
         id_ = p.id_;
@@ -180,15 +180,15 @@ module _ (w : World) (s : ServerId) (ts : List TimerStart) (A : Message → Type
       sent n (inr (inr i)) = elim i [ ]
 
   -- other sessions, in which no client is missing
-  g_sessions : (t : Turn) (v : Sessions) → ((c : ClientId) → Met t.state.sessions c → Met v c) → P t → P (with_sessions v t)
+  g_sessions : (t : ServerTurn) (v : Sessions) → ((c : ClientId) → Met t.state.sessions c → Met v c) → P t → P (with_sessions v t)
   g_sessions t v f p = record { id_ = p.id_; suspects = λ x h. f x.client (p.suspects x h); one = p.one; known = clients_more (Met t.state.sessions) (Met v) f t.state.locks p.known; timed = p.timed; on = p.on; quiet = p.quiet; outs = p.outs }
 
   -- other locks, of clients that have sessions
-  g_locks : (t : Turn) (l : Locks) → Clients (Met t.state.sessions) l → P t → P (with_locks l t)
+  g_locks : (t : ServerTurn) (l : Locks) → Clients (Met t.state.sessions) l → P t → P (with_locks l t)
   g_locks t l k p = record { id_ = p.id_; suspects = p.suspects; one = p.one; known = k; timed = p.timed; on = p.on; quiet = p.quiet; outs = p.outs }
 
   -- a timer starts, before any message was sent
-  g_suspect : (t : Turn) (now : Stamp) (c : ClientId) → Silent t.out → Met t.state.sessions c → P t → P (suspect_client t now c)
+  g_suspect : (t : ServerTurn) (now : Stamp) (c : ClientId) → Silent t.out → Met t.state.sessions c → P t → P (suspect_client t now c)
   unfolding suspect_client
   g_suspect t now c q m p =
       record {
@@ -231,7 +231,7 @@ module _ (w : World) (s : ServerId) (ts : List TimerStart) (A : Message → Type
       run x (inr (inr i)) e = elim i [ ]
 
   -- Thefts: the timers of the clients that are still to be stolen from are over.
-  record Stealing (cs : List ClientId) (t : Turn) : Type 0 where
+  record Stealing (cs : List ClientId) (t : ServerTurn) : Type 0 where
     id_ : t.state.id ≡ s
     suspects : (x : Suspect) → Has x t.state.authority.suspects → Met t.state.sessions x.client
     one : OneTimer t.state.authority.suspects
@@ -242,7 +242,7 @@ module _ (w : World) (s : ServerId) (ts : List TimerStart) (A : Message → Type
     on : (x : TimerStart) → Has x (timers_out w s t.out ts) → x.server.0 ≡ s.0 → Runs t.state.authority x.client ⊎ Has x.client cs
     quiet : Silent t.out
 
-  stolen : (c : ClientId) (cs : List ClientId) (t : Turn) → Stealing (c ∷ cs) t → Stealing cs (steal t c)
+  stolen : (c : ClientId) (cs : List ClientId) (t : ServerTurn) → Stealing (c ∷ cs) t → Stealing cs (steal t c)
   unfolding steal steal_at steal_from
   stolen c cs t p = go (sessions.session_of t.state.sessions c) refl
     where
@@ -279,13 +279,13 @@ module _ (w : World) (s : ServerId) (ts : List TimerStart) (A : Message → Type
             quiet = silent_note t.out _ p.quiet;
           }
 
-  all_stolen : (cs : List ClientId) (t : Turn) → Stealing cs t → Stealing [] (steal_each cs t)
+  all_stolen : (cs : List ClientId) (t : ServerTurn) → Stealing cs t → Stealing [] (steal_each cs t)
   unfolding steal_each
   all_stolen [] t p = p
   all_stolen (c ∷ cs) t p = all_stolen cs (steal t c) (stolen c cs t p)
 
   -- after the thefts
-  pub record Begun (t : Turn) : Type 0 where
+  pub record Begun (t : ServerTurn) : Type 0 where
     pub good : P t
     pub quiet : Silent t.out
 
@@ -330,7 +330,7 @@ module _ (w : World) (s : ServerId) (ts : List TimerStart) (A : Message → Type
               at true q = inr (subst (λ c. Has c (map authority.client_of_suspect (filter (authority.is_over n.authority.wait now) n.authority.suspects))) (client_is y.client x.client e) (has_map_in authority.client_of_suspect (filter (authority.is_over n.authority.wait now) n.authority.suspects) y (has_filter_in (authority.is_over n.authority.wait now) n.authority.suspects y i q)))
               at false q = inl (some_found (authority.is_suspect x.client) (filter (λ x. not (authority.is_over n.authority.wait now x)) n.authority.suspects) y (has_filter_in (λ x. not (authority.is_over n.authority.wait now x)) n.authority.suspects y i (ap not q)) e)
 
-      ends : (t : Turn) → Stealing [] t → Begun t
+      ends : (t : ServerTurn) → Stealing [] t → Begun t
       ends t p =
           record {
             good = record { id_ = p.id_; suspects = p.suspects; one = p.one; known = p.known; timed = p.timed; on = λ x h e. run x (p.on x h e); quiet = λ x h e m i to d. p.quiet m i; outs = λ m i. absurd (p.quiet m i) };
@@ -376,11 +376,11 @@ module _ (w : World) (s : ServerId) (ts : List TimerStart) (now : Stamp) (m : Me
   abbrev h : Header
   h = m.header
 
-  abbrev G : Turn → Type 0
+  abbrev G : ServerTurn → Type 0
   G t = P w s ts (Answers m) t
 
   -- a reply to a request, and an answer that is kept
-  says : (t : Turn) (b : Body) → dating.is_request m.body ≡ true → (dating.may_date h.number b ≡ true → Free t.state m) → G t → G (reply t h b)
+  says : (t : ServerTurn) (b : Body) → dating.is_request m.body ≡ true → (dating.may_date h.number b ≡ true → Free t.state m) → G t → G (reply t h b)
   unfolding reply
   says t b r f p =
       g_send w s ts (Answers m) t _ (ap server_node p.id_)
@@ -393,19 +393,19 @@ module _ (w : World) (s : ServerId) (ts : List TimerStart) (now : Stamp) (m : Me
         f d,
       )) p
 
-  answer : (t : Turn) (b : Body) → dating.is_request m.body ≡ true → Free t.state m → G t → G (serve h (sv.replied t b))
+  answer : (t : ServerTurn) (b : Body) → dating.is_request m.body ≡ true → Free t.state m → G t → G (serve h (sv.replied t b))
   unfolding serve keep keep_and_reply
   answer t b r f p = says _ b r (λ d. f) (g_sessions w s ts (Answers m) t _ (λ c k. met_store t.state.sessions (sender h) h.number b c k) p)
 
   -- Greeting.
-  w_greet_as : (t : Turn) (x : Hello) → dating.is_request m.body ≡ true → Silent t.out → Free t.state m → (x ≡ hellos.Wait → Met t.state.sessions (sender h)) → G t → G (greet_as t now h x)
+  w_greet_as : (t : ServerTurn) (x : Hello) → dating.is_request m.body ≡ true → Silent t.out → Free t.state m → (x ≡ hellos.Wait → Met t.state.sessions (sender h)) → G t → G (greet_as t now h x)
   unfolding greet_as
   w_greet_as t hellos.Welcome r q f k p = says t _ r (λ d. f) p
   w_greet_as t hellos.Replaced r q f k p = says _ _ r (λ d. f) (g_locks w s ts (Answers m) t _ (k_drop (Met t.state.sessions) t.state.locks (sender h) p.known) p)
   w_greet_as t hellos.Old r q f k p = p
   w_greet_as t hellos.Wait r q f k p = says _ _ r (λ d. cc) (g_suspect w s ts (Answers m) t now (sender h) q (k refl) p)
 
-  w_hello : (t : Turn) → dating.is_request m.body ≡ true → Silent t.out → Free t.state m → G t → G (hello t now h)
+  w_hello : (t : ServerTurn) → dating.is_request m.body ≡ true → Silent t.out → Free t.state m → G t → G (hello t now h)
   unfolding hello greet greet_by refuse_in_grace sessions.hello
   w_hello t r q f p =
       cond_either G (sv.in_grace t now) (refuse_in_grace t h) (greet t now h) (λ e. says t _ r (λ d. cc) p)
@@ -415,12 +415,12 @@ module _ (w : World) (s : ServerId) (ts : List TimerStart) (now : Stamp) (m : Me
       (g_sessions w s ts (Answers m) t _ (λ c k. met_hello t.state.sessions (sender h) (life_in h) (locks.has_rows t.state.locks (sender h)) (sessions.session_of t.state.sessions (sender h)) c k) p))
 
   -- Seen demands.
-  w_seen : (t : Turn) (ino : ℕ) (g : GrantNo) → G t → G (demand_seen t h ino g)
-  unfolding demand_seen see_demand
-  w_seen t ino g p = cond_either G (sv.is_served t h) (see_demand t h ino g) t (λ e. g_locks w s ts (Answers m) t _ (k_seen (Met t.state.sessions) t.state.locks (sender h) ino g p.known) p) (λ e. p)
+  w_seen : (t : ServerTurn) (ino : ℕ) (g : GrantNo) → G t → G (demand_seen t h ino g)
+  unfolding demand_seen observe_demand
+  w_seen t ino g p = cond_either G (sv.is_served t h) (observe_demand t h ino g) t (λ e. g_locks w s ts (Answers m) t _ (k_seen (Met t.state.sessions) t.state.locks (sender h) ino g p.known) p) (λ e. p)
 
   -- Reassertion.
-  w_again : (t : Turn) (tk : Taken Body) → dating.is_request m.body ≡ true → Free t.state m → G t → G (reassert_again t h tk)
+  w_again : (t : ServerTurn) (tk : Taken Body) → dating.is_request m.body ≡ true → Free t.state m → G t → G (reassert_again t h tk)
   unfolding reassert_again
   w_again t (takes.Again b) r f p = says t b r (λ d. f) p
   w_again t takes.OtherEpoch r f p = p
@@ -429,7 +429,7 @@ module _ (w : World) (s : ServerId) (ts : List TimerStart) (now : Stamp) (m : Me
   w_again t takes.Fresh r f p = p
   w_again t takes.OutOfOrder r f p = p
 
-  w_accept : (t : Turn) (rs : List (ℕ × GrantNo × Mode)) → dating.is_request m.body ≡ true → Free t.state m → G t → G (reassert_by t h (accept t.state.grace now (sender h) (life_in h) rs t.state.locks t.state.sessions))
+  w_accept : (t : ServerTurn) (rs : List (ℕ × GrantNo × Mode)) → dating.is_request m.body ≡ true → Free t.state m → G t → G (reassert_by t h (accept t.state.grace now (sender h) (life_in h) rs t.state.locks t.state.sessions))
   unfolding reassert_by accept accept_rows accept_earlier accept_own accept_installed accepted install install_at sessions.reasserted
   w_accept t rs r f p =
       cond_either Q (grace.is_on t.state.grace now) (accept_rows l v (sender h) (life_in h) rs) (Err (refusals.GraceOver (grace.grace_start t.state.grace) now)) (λ e. earlier (find (grace.is_new_grant l) rs)) (λ e. says t _ r (λ d. f) p)
@@ -459,26 +459,26 @@ module _ (w : World) (s : ServerId) (ts : List TimerStart) (now : Stamp) (m : Me
       earlier None = own (grace.own_older l (sender h) (life_in h))
       earlier (Some x) = says t _ r (λ d. f) p
 
-  w_reassert : (t : Turn) (rs : List (ℕ × GrantNo × Mode)) → dating.is_request m.body ≡ true → Free t.state m → G t → G (reassert t now h rs)
+  w_reassert : (t : ServerTurn) (rs : List (ℕ × GrantNo × Mode)) → dating.is_request m.body ≡ true → Free t.state m → G t → G (reassert t now h rs)
   unfolding reassert reassert_new
   w_reassert t rs r f p = cond_either G (sessions.knows t.state.sessions (sender h) (life_in h)) (reassert_again t h (sv.take t h)) (reassert_new t now h rs) (λ e. w_again t (sv.take t h) r f p) (λ e. w_accept t rs r f p)
 
   -- Requests.
-  w_more : (t : Turn) (ino : ℕ) (mode : Mode) (b : Bool) → Met t.state.sessions (sender h) → G t → Clients (Met t.state.sessions) (acquire_more t.state.locks (sender h) (life_in h) ino mode b).locks
+  w_more : (t : ServerTurn) (ino : ℕ) (mode : Mode) (b : Bool) → Met t.state.sessions (sender h) → G t → Clients (Met t.state.sessions) (acquire_more t.state.locks (sender h) (life_in h) ino mode b).locks
   unfolding acquire_more acquire_granted acquire_queued
   w_more t ino mode b k p =
       cond_either (λ (a : locks.Acquired). Clients (Met t.state.sessions) a.locks) (locks.may_grant t.state.locks (sender h) ino mode b) (acquire_granted t.state.locks (sender h) (life_in h) ino mode) (acquire_queued t.state.locks (sender h) (life_in h) ino mode)
       (λ e. k_grant (Met t.state.sessions) t.state.locks (sender h) (life_in h) ino mode k p.known) (λ e. k_queue (Met t.state.sessions) t.state.locks (sender h) (life_in h) ino mode k p.known)
 
-  w_acquired : (t : Turn) (ino : ℕ) (mode : Mode) (a : locks.Acquired) → dating.is_request m.body ≡ true → Free t.state m → Clients (Met t.state.sessions) a.locks → G t → G (serve h (sv.acquire_by t ino mode (Ok a)))
+  w_acquired : (t : ServerTurn) (ino : ℕ) (mode : Mode) (a : locks.Acquired) → dating.is_request m.body ≡ true → Free t.state m → Clients (Met t.state.sessions) a.locks → G t → G (serve h (sv.acquire_by t ino mode (Ok a)))
   unfolding sv.acquire_by
   w_acquired t ino mode a r f k p = answer _ _ r f (g_locks w s ts (Answers m) t a.locks k p)
 
-  w_full : (t : Turn) (ino : ℕ) (mode : Mode) → dating.is_request m.body ≡ true → Free t.state m → G t → G (serve h (sv.acquire_by t ino mode (Err TooManyLocks)))
+  w_full : (t : ServerTurn) (ino : ℕ) (mode : Mode) → dating.is_request m.body ≡ true → Free t.state m → G t → G (serve h (sv.acquire_by t ino mode (Err TooManyLocks)))
   unfolding sv.acquire_by
   w_full t ino mode r f p = answer t _ r f p
 
-  w_acquire_at : (t : Turn) (ino : ℕ) (mode : Mode) (b : Bool) (o : Option LockRow) → dating.is_request m.body ≡ true → Free t.state m → Met t.state.sessions (sender h) → G t → G (serve h (sv.acquire_by t ino mode (acquire_at t.state.locks (sender h) (life_in h) ino mode b o)))
+  w_acquire_at : (t : ServerTurn) (ino : ℕ) (mode : Mode) (b : Bool) (o : Option LockRow) → dating.is_request m.body ≡ true → Free t.state m → Met t.state.sessions (sender h) → G t → G (serve h (sv.acquire_by t ino mode (acquire_at t.state.locks (sender h) (life_in h) ino mode b o)))
   unfolding acquire_at acquire_new acquire_over acquire_held
   w_acquire_at t ino mode b None r f k p =
       cond_either Q (locks.has_place t.state.locks (sender h) ino) (Ok _) (Err TooManyLocks) (λ e. w_acquired t ino mode _ r f (w_more t ino mode b k p) p) (λ e. w_full t ino mode r f p)
@@ -491,7 +491,7 @@ module _ (w : World) (s : ServerId) (ts : List TimerStart) (now : Stamp) (m : Me
       Q : locks.Acquired → Type 0
       Q x = G (serve h (sv.acquire_by t ino mode (Ok x)))
 
-  w_released_at : (t : Turn) (ino : ℕ) (g : GrantNo) (md : Mode) (o : Option LockRow) → dating.is_request m.body ≡ true → Free t.state m → G t → G (serve h (sv.released_by t (released_at t.state.locks (sender h) (life_in h) ino g md o)))
+  w_released_at : (t : ServerTurn) (ino : ℕ) (g : GrantNo) (md : Mode) (o : Option LockRow) → dating.is_request m.body ≡ true → Free t.state m → G t → G (serve h (sv.released_by t (released_at t.state.locks (sender h) (life_in h) ino g md o)))
   unfolding released_at locks.release locks.not_released sv.released_by
   w_released_at t ino g md None r f p = answer _ bd.Ack r f (g_locks w s ts (Answers m) t _ p.known p)
   w_released_at t ino g md (Some x) r f p =
@@ -501,48 +501,48 @@ module _ (w : World) (s : ServerId) (ts : List TimerStart) (now : Stamp) (m : Me
       Q : Released → Type 0
       Q x = G (serve h (sv.replied (with_locks x.locks t) bd.Ack))
 
-  w_allocated : (t : Turn) (ino : ℕ) (page : PageNo) (count : ℕ) (x : Res Extents AllocateRefusal) → dating.is_request m.body ≡ true → Free t.state m → G t → G (serve h (sv.allocate_by t ino page count x))
+  w_allocated : (t : ServerTurn) (ino : ℕ) (page : PageNo) (count : ℕ) (x : Res Extents AllocateRefusal) → dating.is_request m.body ≡ true → Free t.state m → G t → G (serve h (sv.allocate_by t ino page count x))
   unfolding sv.allocate_by sv.with_extents_told
   w_allocated t ino page count (Ok x) r f p = answer _ _ r f p
   w_allocated t ino page count (Err x) r f p = answer t _ r f p
 
-  w_cut : (t : Turn) (ino : ℕ) (page : PageNo) → G t → G (sv.cut_pages t ino page)
+  w_cut : (t : ServerTurn) (ino : ℕ) (page : PageNo) → G t → G (sv.cut_pages t ino page)
   unfolding sv.cut_pages
   w_cut t ino page p = g_cut w s ts (Answers m) (sv.with_extents (Rattle.st_rules.specs.Extents.release_from t.state.stable.extents (sv.file t ino) page) t) (sv.file t ino) page p
 
-  cut_free : (t : Turn) (ino : ℕ) (page : PageNo) → Free t.state m → Free (sv.cut_pages t ino page).state m
+  cut_free : (t : ServerTurn) (ino : ℕ) (page : PageNo) → Free t.state m → Free (sv.cut_pages t ino page).state m
   unfolding sv.cut_pages
   cut_free t ino page f = f
 
-  w_found : (t : Turn) (x : Res ℕ EntryRefusal) → dating.is_request m.body ≡ true → Free t.state m → G t → G (serve h (sv.name_found t x))
+  w_found : (t : ServerTurn) (x : Res ℕ EntryRefusal) → dating.is_request m.body ≡ true → Free t.state m → G t → G (serve h (sv.name_found t x))
   unfolding sv.name_found sv.name_refused
   w_found t (Ok i) r f p = answer t _ r f p
   w_found t (Err x) r f p = answer t _ r f p
 
-  w_changed : (t : Turn) (x : Res names.Changed EntryRefusal) → dating.is_request m.body ≡ true → Free t.state m → G t → G (serve h (sv.name_changed t x))
+  w_changed : (t : ServerTurn) (x : Res names.Changed EntryRefusal) → dating.is_request m.body ≡ true → Free t.state m → G t → G (serve h (sv.name_changed t x))
   unfolding sv.name_changed sv.name_refused
   w_changed t (Ok x) r f p = answer _ _ r f p
   w_changed t (Err x) r f p = answer t _ r f p
 
-  w_listed : (t : Turn) (x : Res (List NameRow) EntryRefusal) → dating.is_request m.body ≡ true → Free t.state m → G t → G (serve h (sv.names_listed t x))
+  w_listed : (t : ServerTurn) (x : Res (List NameRow) EntryRefusal) → dating.is_request m.body ≡ true → Free t.state m → G t → G (serve h (sv.names_listed t x))
   unfolding sv.names_listed sv.name_refused
   w_listed t (Ok x) r f p = answer t _ r f p
   w_listed t (Err x) r f p = answer t _ r f p
 
-  w_whole : (t : Turn) (ino : ℕ) → G t → G (sv.cut_whole t ino)
+  w_whole : (t : ServerTurn) (ino : ℕ) → G t → G (sv.cut_whole t ino)
   unfolding sv.cut_whole
   w_whole t ino p = w_cut _ ino _ (g_locks w s ts (Answers m) t _ (k_file (Met t.state.sessions) t.state.locks ino p.known) p)
 
-  whole_free : (t : Turn) (ino : ℕ) → Free t.state m → Free (sv.cut_whole t ino).state m
+  whole_free : (t : ServerTurn) (ino : ℕ) → Free t.state m → Free (sv.cut_whole t ino).state m
   unfolding sv.cut_whole sv.cut_pages
   whole_free t ino f = f
 
-  w_removed : (t : Turn) (x : Res names.Changed EntryRefusal) → dating.is_request m.body ≡ true → Free t.state m → G t → G (serve h (sv.remove_by t x))
+  w_removed : (t : ServerTurn) (x : Res names.Changed EntryRefusal) → dating.is_request m.body ≡ true → Free t.state m → G t → G (serve h (sv.remove_by t x))
   unfolding sv.remove_by sv.name_refused
   w_removed t (Ok x) r f p = answer _ _ r (whole_free (sv.with_names x.names t) x.ino f) (w_whole (sv.with_names x.names t) x.ino p)
   w_removed t (Err x) r f p = answer t _ r f p
 
-  w_remove : (t : Turn) (dir : ℕ) (nm : List ℕ) (g : GrantNo) (x : Res ℕ EntryRefusal) → dating.is_request m.body ≡ true → Free t.state m → G t → G (serve h (sv.remove_found t h dir nm g x))
+  w_remove : (t : ServerTurn) (dir : ℕ) (nm : List ℕ) (g : GrantNo) (x : Res ℕ EntryRefusal) → dating.is_request m.body ≡ true → Free t.state m → G t → G (serve h (sv.remove_found t h dir nm g x))
   unfolding sv.remove_found sv.remove_ino sv.remove_file sv.remove_dir sv.name_refused sv.not_holder
   w_remove t dir nm g (Err x) r f p = answer t _ r f p
   w_remove t dir nm g (Ok ino) r f p =
@@ -551,7 +551,7 @@ module _ (w : World) (s : ServerId) (ts : List TimerStart) (now : Stamp) (m : Me
       B : Replied → Type 0
       B a = G (serve h a)
 
-  w_name : (t : Turn) (op : NameOp) → dating.is_request m.body ≡ true → Free t.state m → G t → G (serve h (sv.name t h op))
+  w_name : (t : ServerTurn) (op : NameOp) → dating.is_request m.body ≡ true → Free t.state m → G t → G (serve h (sv.name t h op))
   unfolding sv.name sv.remove
   w_name t (Lookup dir nm) r f p = w_found t _ r f p
   w_name t (Create dir nm) r f p = w_changed t _ r f p
@@ -560,11 +560,11 @@ module _ (w : World) (s : ServerId) (ts : List TimerStart) (now : Stamp) (m : Me
   w_name t (Rename dir nm dir2 n2) r f p = w_changed t _ r f p
   w_name t (ListFrom dir after) r f p = w_listed t _ r f p
 
-  silent : (t : Turn) → G t → G (serve h (sv.silent t))
+  silent : (t : ServerTurn) → G t → G (serve h (sv.silent t))
   unfolding serve keep
   silent t p = p
 
-  w_rule : (t : Turn) (b : Body) → dating.is_request m.body ≡ true → Free t.state m → Met t.state.sessions (sender h) → G t → G (serve h (rule t now h b))
+  w_rule : (t : ServerTurn) (b : Body) → dating.is_request m.body ≡ true → Free t.state m → Met t.state.sessions (sender h) → G t → G (serve h (rule t now h b))
   unfolding rule sv.keep_alive sv.acquire sv.acquire_lock sv.no_file locks.acquire sv.released locks.released sv.map sv.map_held sv.map_page sv.not_holder sv.allocate sv.allocate_held sv.allocate_pages sv.cut sv.cut_held sv.cut_from
   w_rule t bd.KeepAlive r f k p = answer t _ r f p
   w_rule t (bd.Acquire i md) r f k p = cond_either B (sv.is_file t i) (sv.acquire_lock t now h i md) (sv.no_file t i) (λ e. w_acquire_at t i md _ _ r f k p) (λ e. answer t _ r f p)
@@ -587,7 +587,7 @@ module _ (w : World) (s : ServerId) (ts : List TimerStart) (now : Stamp) (m : Me
   w_rule t (bd.Name op) r f k p = w_name t op r f p
   w_rule t b r f k p = silent t p
 
-  w_request_by : (t : Turn) (b : Body) (tk : Taken Body) → sv.take t h ≡ tk → dating.is_request m.body ≡ true → Free t.state m → G t → G (request_by t now h b tk)
+  w_request_by : (t : ServerTurn) (b : Body) (tk : Taken Body) → sv.take t h ≡ tk → dating.is_request m.body ≡ true → Free t.state m → G t → G (request_by t now h b tk)
   unfolding request_by refuse_epoch
   w_request_by t b takes.OtherEpoch e r f p = says t _ r (λ d. f) p
   w_request_by t b takes.NoSession e r f p = says t _ r (λ d. f) p
@@ -596,27 +596,27 @@ module _ (w : World) (s : ServerId) (ts : List TimerStart) (now : Stamp) (m : Me
   w_request_by t b takes.OutOfOrder e r f p = p
   w_request_by t b takes.Fresh e r f p = w_rule t b r f (fresh_met t.state.sessions (sender h) (life_in h) (sv.epoch_in h) h.number e) p
 
-  w_request : (t : Turn) (b : Body) → dating.is_request m.body ≡ true → Free t.state m → G t → G (request t now h b)
+  w_request : (t : ServerTurn) (b : Body) → dating.is_request m.body ≡ true → Free t.state m → G t → G (request t now h b)
   unfolding request
   w_request t (bd.Reassert rs) r f p = w_reassert t rs r f p
   w_request t b r f p = w_request_by t b (sv.take t h) refl r f p
 
-  w_of_epoch : (t : Turn) (b : Body) → dating.is_request m.body ≡ true → Free t.state m → G t → G (of_epoch t now h b)
+  w_of_epoch : (t : ServerTurn) (b : Body) → dating.is_request m.body ≡ true → Free t.state m → G t → G (of_epoch t now h b)
   unfolding of_epoch refuse_epoch
   w_of_epoch t b r f p = cond_either G (h.epoch == t.state.stable.epoch.0) (request t now h b) (refuse_epoch t h) (λ q. w_request t b r f p) (λ q. says t _ r (λ d. f) p)
 
-  w_by_body : (t : Turn) (b : Body) → m.body ≡ b → Silent t.out → Free t.state m → G t → G (by_body t now h b)
+  w_by_body : (t : ServerTurn) (b : Body) → m.body ≡ b → Silent t.out → Free t.state m → G t → G (by_body t now h b)
   unfolding by_body
   w_by_body t bd.Hello e q f p = w_hello t (ap dating.is_request e) q f p
   w_by_body t (bd.DemandSeen i g) e q f p = w_seen t i g p
   w_by_body t b e q f p = w_of_epoch t b (ap dating.is_request e) f p
 
-  w_refuse : (t : Turn) (start : Stamp) (b : Body) → m.body ≡ b → G t → G (refuse_suspect t h start b)
+  w_refuse : (t : ServerTurn) (start : Stamp) (b : Body) → m.body ≡ b → G t → G (refuse_suspect t h start b)
   unfolding refuse_suspect
   w_refuse t start (bd.DemandSeen i g) e p = p
   w_refuse t start b e p = says t _ (ap dating.is_request e) (λ d. cc) p
 
-  pub w_by_suspicion : (t : Turn) (x : Option Stamp) → authority.started t.state.authority (sender h) ≡ x → Silent t.out → G t → G (by_suspicion t now h m.body x)
+  pub w_by_suspicion : (t : ServerTurn) (x : Option Stamp) → authority.started t.state.authority (sender h) ≡ x → Silent t.out → G t → G (by_suspicion t now h m.body x)
   unfolding by_suspicion
   w_by_suspicion t None e q p = w_by_body t m.body refl q (none_runs (authority.suspect_of t.state.authority (sender h)) e) p
     where
@@ -627,15 +627,15 @@ module _ (w : World) (s : ServerId) (ts : List TimerStart) (now : Stamp) (m : Me
 
 -- The passes, and the whole step.
 module _ (w : World) (s : ServerId) (ts : List TimerStart) (A : Message → Type 0) (now : Stamp) where
-  abbrev H : Turn → Type 0
+  abbrev H : ServerTurn → Type 0
   H t = P w s ts A t
 
-  record Suspecting (cs : List ClientId) (t : Turn) : Type 0 where
+  record Suspecting (cs : List ClientId) (t : ServerTurn) : Type 0 where
     good : H t
     quiet : Silent t.out
     met : (c : ClientId) → Has c cs → Met t.state.sessions c
 
-  w_suspects : (cs : List ClientId) (t : Turn) → Suspecting cs t → H (suspect_each now cs t)
+  w_suspects : (cs : List ClientId) (t : ServerTurn) → Suspecting cs t → H (suspect_each now cs t)
   unfolding suspect_each suspect_unless suspect_client
   w_suspects [] t p = p.good
   w_suspects (c ∷ cs) t p =
@@ -644,7 +644,7 @@ module _ (w : World) (s : ServerId) (ts : List TimerStart) (A : Message → Type
       (λ e. record { good = g_suspect w s ts A t now c p.quiet (p.met c (inl refl)) p.good; quiet = silent_note t.out _ p.quiet; met = λ d h. p.met d (inr h) })
       (λ e. record { good = p.good; quiet = p.quiet; met = λ d h. p.met d (inr h) }))
 
-  w_suspecting : (t : Turn) → Begun w s ts A t → H (suspecting t now)
+  w_suspecting : (t : ServerTurn) → Begun w s ts A t → H (suspecting t now)
   unfolding suspecting locks.unanswered
   w_suspecting t p =
       w_suspects _ t
@@ -657,21 +657,21 @@ module _ (w : World) (s : ServerId) (ts : List TimerStart) (A : Message → Type
             subst (Met t.state.sessions) (sym (a.2 ∙ ap client b.2)) (p.good.known.rows b.0 f.0);
       })
 
-  w_told : (rs : List (ClientId × Life × ℕ × GrantNo × Mode)) (t : Turn) → H t → H (tell_granted rs t)
+  w_told : (rs : List (ClientId × Life × ℕ × GrantNo × Mode)) (t : ServerTurn) → H t → H (tell_granted rs t)
   unfolding tell_granted tell
   w_told [] t p = p
   w_told (r ∷ rs) t p = w_told rs _ (g_send w s ts A t _ (ap server_node p.id_) (λ d. cc) p)
 
-  w_granting : (t : Turn) → H t → H (granting t now)
+  w_granting : (t : ServerTurn) → H t → H (granting t now)
   unfolding granting grant_waiting grant_by
   w_granting t p = cond_either H (sv.in_grace t now) t _ (λ e. p) (λ e. w_told _ (with_locks (next_grants t.state.locks).locks t) (g_locks w s ts A t _ (k_granting (Met t.state.sessions) t.state.locks p.known) p))
 
-  w_demanded : (rs : List (ClientId × Life × ℕ × GrantNo × Mode)) (t : Turn) → H t → H (tell_demanded rs t)
+  w_demanded : (rs : List (ClientId × Life × ℕ × GrantNo × Mode)) (t : ServerTurn) → H t → H (tell_demanded rs t)
   unfolding tell_demanded tell
   w_demanded [] t p = p
   w_demanded (r ∷ rs) t p = w_demanded rs _ (g_send w s ts A t _ (ap server_node p.id_) (λ d. cc) p)
 
-  w_demanding : (t : Turn) (i : ServerInput) → H t → H (demanding t now i)
+  w_demanding : (t : ServerTurn) (i : ServerInput) → H t → H (demanding t now i)
   unfolding demanding demand_by
   w_demanding t i p =
       w_demanded _ (with_locks (demands_due t.state.locks now (sv.is_tick i) (authority.suspects_of t.state.authority) t.state.config).locks t)
@@ -688,7 +688,7 @@ unfolding server_step take_input suspecting_on receive receive_from
 step_good w s ts n now Tick k r z = w_demanding w s ts (AnswersTo Tick) now _ Tick (w_granting w s ts (AnswersTo Tick) now _ (w_suspecting w s ts (AnswersTo Tick) now _ (g_thefts w s ts (AnswersTo Tick) n now k r z)))
 step_good w s ts n now (Control m) k r timed = w_demanding w s ts (Answers m) now _ (Control m) (w_granting w s ts (Answers m) now _ (go (g_thefts w s ts (Answers m) n now k r timed)))
   where
-    t : Turn
+    t : ServerTurn
     t = thefts (turn n []) now
 
     go : Begun w s ts (Answers m) t → P w s ts (Answers m) (receive t now m.header m.body)

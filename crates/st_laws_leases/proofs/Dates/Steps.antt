@@ -33,7 +33,7 @@ use Rattle.st_rules.specs.ClientState.{ClientState}
 use Rattle.st_rules.specs.Server as server
 use Rattle.st_rules.specs.Server.{ServerNode}
 use Rattle.st_rules.specs.World as world
-use Rattle.st_rules.specs.World.{World, ClientSite, site_of, node_of, numbered, with_numbered, clock_of}
+use Rattle.st_rules.specs.World.{World, WorldClient, site_of, node_of, numbered, with_numbered, clock_of}
 use Rattle.st_rules.specs.Admissible as adm
 use Rattle.st_rules.specs.Events as ev
 use Rattle.st_rules.specs.Events.{WorldTurn}
@@ -49,9 +49,9 @@ use Rattle.st_laws_leases.specs.Dates.Dates.{message_in, messages, is_dating, is
 use Rattle.st_laws_leases.proofs.Dates.Known.{has_left, has_right}
 use Rattle.st_laws_leases.proofs.Dates.Serving.{timer_noted, timer_said, timers_out, AnswersTo, P, step_good}
 use Rattle.st_laws_leases.proofs.Dates.Asking.{AsksNow}
-use Rattle.st_laws_leases.proofs.Dates.Hearing.{Ever, Held, Comes, ever_on, step_held}
+use Rattle.st_laws_leases.proofs.Dates.Receiving.{Ever, Held, Comes, ever_on, step_held}
 use Rattle.st_laws_leases.proofs.Dates.Leaving.{Leaves, client_leaves, has_numbered, lost_same, server_not_client, set_cases}
-use Rattle.st_laws_leases.proofs.Dates.Said.{Said, server_said, timers_said, client_said, AllCalm, client_calm, fates_calm, calm_timers}
+use Rattle.st_laws_leases.proofs.Dates.SentMessages.{Said, server_said, timers_said, client_said, AllCalm, client_calm, fates_calm, calm_timers}
 use Rattle.st_laws_pages.proofs.Lives.Fresh.{length_map}
 
 dates_more : (ms ns : List Message) → ((m : Message) → Has m ms → Has m ns) → (c : ClientId) (x : ClientState) → ClientDated ms c x → ClientDated ns c x
@@ -87,7 +87,7 @@ pub record New (t : Traced) (sc : WorldTurn) (m : Message) : Type 0 where
 pub record Next (t : Traced) (e : Event) (sc : WorldTurn) : Type 0 where
   pub old : (m : Message) → Has m (messages t.world) → Has m (messages sc.world)
   pub new : (m : Message) → Has m (messages sc.world) → Has m (messages t.world) ⊎ New t sc m
-  pub clients : (c : ClientId) (site : ClientSite) → site_of sc.world c ≡ Some site → ClientDated (messages sc.world) c site.node.state
+  pub clients : (c : ClientId) (site : WorldClient) → site_of sc.world c ≡ Some site → ClientDated (messages sc.world) c site.node.state
   pub servers : (s : ServerId) (node : ServerNode) → node_of sc.world s ≡ Some node → ServerKnown s node.state
   pub timers : (x : TimerStart) → Has x (history_after t.world e sc t.history).timers → TimerQuiet sc.world x
   pub timed : (s : ServerId) (node : ServerNode) → node_of sc.world s ≡ Some node → node.running ≡ true → Timed (history_after t.world e sc t.history).timers s node.state
@@ -156,7 +156,7 @@ no_calm o h = elim h [ ]
 
 -- A step of a client.
 module _ (past : List Step) (t : Traced) (e : Event) (d : Dated past t) (r : (remember e t.history).timers ≡ t.history.timers) where
-  client_ok : (v : World) → v.clients ≡ t.world.clients → v.servers ≡ t.world.servers → v.net ≡ t.world.net → (c : ClientId) → clock_of v (nodes.Client c) ≡ clock_of t.world (nodes.Client c) → (i : ClientInput) (site old : ClientSite) → site.node ≡ old.node → site_of t.world c ≡ Some old → Comes (messages t.world) c (clock_of v (nodes.Client c)) Ever ever_on i →
+  client_ok : (v : World) → v.clients ≡ t.world.clients → v.servers ≡ t.world.servers → v.net ≡ t.world.net → (c : ClientId) → clock_of v (nodes.Client c) ≡ clock_of t.world (nodes.Client c) → (i : ClientInput) (site old : WorldClient) → site.node ≡ old.node → site_of t.world c ≡ Some old → Comes (messages t.world) c (clock_of v (nodes.Client c)) Ever ever_on i →
       Next t e (ev.client_takes v c i site)
   unfolding ev.client_takes ev.client_took cl.node_step
   client_ok v cs ss net c clock i site old same at k = go site.node.running
@@ -201,7 +201,7 @@ module _ (past : List Step) (t : Traced) (e : Event) (d : Dated past t) (r : (re
       new_one m h = let z = said.told m h in
           record { number = z.0; sent = z.1; client = stamped m (held.outs m h); server = λ g q. absurd (below_client m c (held.outs m h).from few g) }
 
-      site_at : (x : ClientId) (y : ClientSite) → site_of last x ≡ Some y → ((x.0 ≡ c.0) × (y ≡ ev.at_node node site)) ⊎ ((x.0 ≢ c.0) × (site_of t.world x ≡ Some y))
+      site_at : (x : ClientId) (y : WorldClient) → site_of last x ≡ Some y → ((x.0 ≡ c.0) × (y ≡ ev.at_node node site)) ⊎ ((x.0 ≢ c.0) × (site_of t.world x ≡ Some y))
       site_at x y q = set_cases t.world.clients c.0 x.0 old (ev.at_node node site) y at (ap (λ z. numbered (with_numbered c.0 (ev.at_node node site) z) x.0) (sym cs) ∙ ap (λ z. numbered z x.0) (sym l.clients) ∙ q)
 
       taken : Next t e (Rattle.st_rules.specs.Events.world_turn last b.seen)
@@ -224,8 +224,8 @@ module _ (past : List Step) (t : Traced) (e : Event) (d : Dated past t) (r : (re
           pick m k (inl z) = inl (numbered_has (messages t.world) k m z)
           pick m k (inr z) = inr (new_one m z)
 
-          dated : (x : ClientId) (y : ClientSite) → ((x.0 ≡ c.0) × (y ≡ ev.at_node node site)) ⊎ ((x.0 ≢ c.0) × (site_of t.world x ≡ Some y)) → ClientDated (messages last) x y.node.state
-          dated x y (inl z) = subst (λ (k : ClientSite). ClientDated (messages last) x k.node.state) (sym z.1) (subst (λ n. ClientDated (messages last) (record { 0 = n }) u.state) (sym z.0) (dates_more (messages t.world) (messages last) l.old c u.state (record { id = held.id_; all = λ a h. (held.all a h).0 })))
+          dated : (x : ClientId) (y : WorldClient) → ((x.0 ≡ c.0) × (y ≡ ev.at_node node site)) ⊎ ((x.0 ≢ c.0) × (site_of t.world x ≡ Some y)) → ClientDated (messages last) x y.node.state
+          dated x y (inl z) = subst (λ (k : WorldClient). ClientDated (messages last) x k.node.state) (sym z.1) (subst (λ n. ClientDated (messages last) (record { 0 = n }) u.state) (sym z.0) (dates_more (messages t.world) (messages last) l.old c u.state (record { id = held.id_; all = λ a h. (held.all a h).0 })))
           dated x y (inr z) = dates_more (messages t.world) (messages last) l.old x y.node.state (d.clients x y z.1)
 
           quiet : (x : TimerStart) → TimerQuiet t.world x → TimerQuiet last x
@@ -293,7 +293,7 @@ module _ (past : List Step) (t : Traced) (e : Event) (d : Dated past t) (r : (re
       now : Stamp
       now = clock_of (ev.counted t.world) (nodes.Server s)
 
-      u : server.Turn
+      u : server.ServerTurn
       u = server.server_step node.state now i
 
       next : ServerNode
@@ -410,7 +410,7 @@ module _ (past : List Step) (t : Traced) (e : Event) (d : Dated past t) (r : (re
 
 -- A client or a server at its place is another one, and no message is sent.
 module _ (past : List Step) (t : Traced) (e : Event) (d : Dated past t) where
-  client_placed : (c : ClientId) (old new : ClientSite) (sc : WorldTurn) → site_of t.world c ≡ Some old → sc.world.clients ≡ with_numbered c.0 new t.world.clients → sc.world.servers ≡ t.world.servers → messages sc.world ≡ messages t.world → ClientDated (messages t.world) c new.node.state →
+  client_placed : (c : ClientId) (old new : WorldClient) (sc : WorldTurn) → site_of t.world c ≡ Some old → sc.world.clients ≡ with_numbered c.0 new t.world.clients → sc.world.servers ≡ t.world.servers → messages sc.world ≡ messages t.world → ClientDated (messages t.world) c new.node.state →
       (history_after t.world e sc t.history).timers ≡ t.history.timers → Next t e sc
   client_placed c old new sc at cs ss ms k ts =
       record {
@@ -423,8 +423,8 @@ module _ (past : List Step) (t : Traced) (e : Event) (d : Dated past t) where
         few = subst (λ z. length z ≤ 16) (sym cs) (let z = set_length t.world.clients (Rattle.std.specs.Prelude.pred c.0) new in let y = d.few in omega (arith, z, y));
       }
     where
-      it : (x : ClientId) (y : ClientSite) → ((x.0 ≡ c.0) × (y ≡ new)) ⊎ ((x.0 ≢ c.0) × (site_of t.world x ≡ Some y)) → ClientDated (messages t.world) x y.node.state
-      it x y (inl z) = subst (λ (n : ClientSite). ClientDated (messages t.world) x n.node.state) (sym z.1) (subst (λ n. ClientDated (messages t.world) (record { 0 = n }) new.node.state) (sym z.0) k)
+      it : (x : ClientId) (y : WorldClient) → ((x.0 ≡ c.0) × (y ≡ new)) ⊎ ((x.0 ≢ c.0) × (site_of t.world x ≡ Some y)) → ClientDated (messages t.world) x y.node.state
+      it x y (inl z) = subst (λ (n : WorldClient). ClientDated (messages t.world) x n.node.state) (sym z.1) (subst (λ n. ClientDated (messages t.world) (record { 0 = n }) new.node.state) (sym z.0) k)
       it x y (inr z) = d.clients x y z.1
 
   server_placed : (s : ServerId) (old new : ServerNode) (sc : WorldTurn) → node_of t.world s ≡ Some old → sc.world.servers ≡ with_numbered s.0 new t.world.servers → sc.world.clients ≡ t.world.clients → messages sc.world ≡ messages t.world → ServerKnown s new.state →
@@ -506,7 +506,7 @@ module _ (past : List Step) (t : Traced) (d : Dated past t) where
   unfolding ev.at_client
   at_client e r c i k = go (site_of w c) refl
     where
-      go : (o : Option ClientSite) → site_of w c ≡ o → Next t e (ev.at_client w c i o)
+      go : (o : Option WorldClient) → site_of w c ≡ o → Next t e (ev.at_client w c i o)
       go None q = nothing e r w [] refl refl refl no_calm
       go (Some site) q = client_ok past t e d r w refl refl refl c refl i site site refl q k
 
@@ -522,7 +522,7 @@ module _ (past : List Step) (t : Traced) (d : Dated past t) where
   unfolding ev.asks_at remember
   asks c ask = go (site_of w c) refl
     where
-      go : (o : Option ClientSite) → site_of w c ≡ o → Next t (events.App c ask) (ev.asks_at w c ask o)
+      go : (o : Option WorldClient) → site_of w c ≡ o → Next t (events.App c ask) (ev.asks_at w c ask o)
       go None q = nothing (events.App c ask) refl w [] refl refl refl no_calm
       go (Some site) q = client_ok past t (events.App c ask) d refl w refl refl refl c refl (inputs.App (site.asks + 1) ask) (ev.asked_once_more site) site refl q tt
 
@@ -556,11 +556,11 @@ module _ (past : List Step) (t : Traced) (d : Dated past t) where
       v : World
       v = ev.with_disks (ev.disks_after w.disks (Rattle.st_rules.specs.Disks.done w.disks k ok)) w
 
-      same : (x : IssuedCommand) (site : ClientSite) → site_of w x.client ≡ Some site → (b : Bool) → Next t e (if b then ev.client_takes v x.client (ev.end_told v k ok x) site else ev.quiet v)
+      same : (x : IssuedCommand) (site : WorldClient) → site_of w x.client ≡ Some site → (b : Bool) → Next t e (if b then ev.client_takes v x.client (ev.end_told v k ok x) site else ev.quiet v)
       same x site q true = client_ok past t e d refl v refl refl refl x.client refl (ev.end_told v k ok x) site site refl q tt
       same x site q false = nothing e refl v [] refl refl refl no_calm
 
-      at : (x : IssuedCommand) (o : Option ClientSite) → site_of w x.client ≡ o → Next t e (ev.tells_client v k ok x o)
+      at : (x : IssuedCommand) (o : Option WorldClient) → site_of w x.client ≡ o → Next t e (ev.tells_client v k ok x o)
       at x None q = nothing e refl v [] refl refl refl no_calm
       at x (Some site) q = same x site q (ev.is_same_instance x site)
 
@@ -575,7 +575,7 @@ module _ (past : List Step) (t : Traced) (d : Dated past t) where
       e : Event
       e = events.Crash (nodes.Client c)
 
-      go : (o : Option ClientSite) → site_of w c ≡ o → Next t e (ev.crashes_client w c o)
+      go : (o : Option WorldClient) → site_of w c ≡ o → Next t e (ev.crashes_client w c o)
       go None q = nothing e refl w [] refl refl refl no_calm
       go (Some site) q =
           client_placed past t e d c site (ev.stopped_site site) _ q refl refl refl (crashed_dated (messages t.world) c site.node.state (d.clients c site q).id)
@@ -588,7 +588,7 @@ module _ (past : List Step) (t : Traced) (d : Dated past t) where
       e : Event
       e = events.Start (nodes.Client c)
 
-      go : (o : Option ClientSite) → site_of w c ≡ o → Next t e (ev.quiet (ev.starts_client w c o))
+      go : (o : Option WorldClient) → site_of w c ≡ o → Next t e (ev.quiet (ev.starts_client w c o))
       go None q = nothing e refl w [] refl refl refl no_calm
       go (Some site) q = client_placed past t e d c site (ev.started_site site) _ q refl refl refl (started_dated (messages t.world) c site.node.state (d.clients c site q).id) (same_timers t e _ refl no_calm)
 

@@ -20,7 +20,7 @@ use Rattle.st_rules.specs.Events.{WorldTurn, present_life, client_says, client_s
 use Rattle.st_rules.specs.History.{History, LeaseDate, lease_date, is_date_of, recall, recall_all}
 use Rattle.st_rules.specs.Keys.{same_client, same_server}
 use Rattle.st_rules.specs.Safety.{is_date_with}
-use Rattle.st_rules.specs.World.{World, ClientSite, site_of}
+use Rattle.st_rules.specs.World.{World, WorldClient, site_of}
 use Rattle.st_lemmas.proofs.Tables.{and_both, and_true}
 use Rattle.st_laws_leases.specs.History.Notes.{noted, noted_one, noted_by}
 
@@ -120,7 +120,7 @@ dates_said_one w v c before h (outputs.Send m) a = ap (λ (x : History). x.dates
 dates_said_one w v c before h (outputs.Answer op x) a = ap (λ (x : History). x.dates) (recall_more w v a.seen _ h)
 dates_said_one w v c before h (outputs.Submit n at what) a = go (site_of a.world c)
   where
-    go : (o : Option ClientSite) → (recall_all w v (ev.submits a c o n at what).seen h).dates ≡ (recall_all w v a.seen h).dates
+    go : (o : Option WorldClient) → (recall_all w v (ev.submits a c o n at what).seen h).dates ≡ (recall_all w v a.seen h).dates
     go None = refl
     go (Some site) = ap (λ (x : History). x.dates) (recall_more w v a.seen _ h)
 dates_said_one w v c before h (outputs.Note n) a = note n

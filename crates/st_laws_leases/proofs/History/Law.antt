@@ -42,12 +42,12 @@ use Rattle.st_rules.specs.Safety.{Step, TheHistoryIsTheWorlds, IsWorldsHistory, 
 use Rattle.st_rules.specs.Server as server
 use Rattle.st_rules.specs.Server.{ServerNode}
 use Rattle.st_rules.specs.World as world
-use Rattle.st_rules.specs.World.{World, ClientSite, site_of, node_of, with_numbered, clock_of, lives_of, life_of_association, message_of, receiver_of, issued_of, all_clients, all_servers, fresh_world}
+use Rattle.st_rules.specs.World.{World, WorldClient, site_of, node_of, with_numbered, clock_of, lives_of, life_of_association, message_of, receiver_of, issued_of, all_clients, all_servers, fresh_world}
 use Rattle.st_lemmas.specs.Lists.{Has}
 use Rattle.st_lemmas.proofs.Steps.{throughout, step_happens}
 use Rattle.st_lemmas.proofs.Tables.{all_pass, and_both, and_true, has_append, has_map}
 use Rattle.st_laws_steps.specs.Lives.Lives.{LivesHold}
-use Rattle.st_laws_pages.specs.Disks.Owed.{FatesHold}
+use Rattle.st_laws_pages.specs.Disks.Obligations.{FatesHold}
 use Rattle.st_laws_pages.proofs.Disks.Steps.{fates_law}
 use Rattle.st_laws_pages.proofs.Disks.Told.{step_told}
 use Rattle.st_laws_pages.proofs.Disks.Whole.{fresh_fates}
@@ -117,16 +117,16 @@ undated_fates k (e ∷ es) (f ∷ fs) = undated_both (ev.fate_seen k e.fate f.fa
     fate (fates.Gone c) b = tt
 
 -- A client takes an input: what it says, and the world behind it.
-abbrev pub says : World → ClientId → ClientSite → ClientInput → WorldTurn
+abbrev pub says : World → ClientId → WorldClient → ClientInput → WorldTurn
 says w c site input =
     ev.client_says_all c site.node.state (cl.client_step site.node.state (clock_of w (nodes.Client c)) input).out
     (ev.quiet (ev.with_site c (ev.at_node (cl.node_turn site.node (cl.client_step site.node.state (clock_of w (nodes.Client c)) input)).node site) w))
 
-abbrev pub behind : World → ClientId → ClientSite → ClientInput → World
+abbrev pub behind : World → ClientId → WorldClient → ClientInput → World
 behind w c site input =
     ev.flushes c (cl.client_step site.node.state (clock_of w (nodes.Client c)) input).state (all_servers (says w c site input).world) (says w c site input).world
 
-pub took_is : (w : World) (c : ClientId) (site : ClientSite) (input : ClientInput) → site.node.running ≡ true → ev.client_takes w c input site ≡ ev.world_turn (behind w c site input) (says w c site input).seen
+pub took_is : (w : World) (c : ClientId) (site : WorldClient) (input : ClientInput) → site.node.running ≡ true → ev.client_takes w c input site ≡ ev.world_turn (behind w c site input) (says w c site input).seen
 unfolding ev.client_takes ev.client_took cl.node_step
 took_is w c site input runs = go site.node.running runs
   where
@@ -134,7 +134,7 @@ took_is w c site input runs = go site.node.running runs
     go true e = refl
     go false e = cc
 
-pub stopped_is : (w : World) (c : ClientId) (site : ClientSite) (input : ClientInput) → site.node.running ≡ false → ev.client_takes w c input site ≡ ev.quiet w
+pub stopped_is : (w : World) (c : ClientId) (site : WorldClient) (input : ClientInput) → site.node.running ≡ false → ev.client_takes w c input site ≡ ev.quiet w
 unfolding ev.client_takes ev.client_took cl.node_step
 stopped_is w c site input r = go site.node.running r
   where
@@ -150,7 +150,7 @@ module _ (t : Traced) (e : Event) (a : world.Tally) (d : disks.Disks) (lives : L
   abbrev W : World
   W = beside a d t.world
 
-  takes_dated : (c : ClientId) (input : ClientInput) (old site : ClientSite) → site_of t.world c ≡ Some old → old.node ≡ site.node → LivesHold (ev.client_takes W c input site).world → After t e (ev.client_takes W c input site)
+  takes_dated : (c : ClientId) (input : ClientInput) (old site : WorldClient) → site_of t.world c ≡ Some old → old.node ≡ site.node → LivesHold (ev.client_takes W c input site).world → After t e (ev.client_takes W c input site)
   takes_dated c input old site i same after = go site.node.running refl
     where
       in_w : LivesHold W
@@ -170,7 +170,7 @@ module _ (t : Traced) (e : Event) (a : world.Tally) (d : disks.Disks) (lives : L
       go true r = subst (λ sc. After t e sc) (sym (took_is W c site input r)) (went r)
       go false r = subst (λ sc. After t e sc) (sym (stopped_is W c site input r)) (nothing t e W refl refl h)
 
-  client_dated : (c : ClientId) (input : ClientInput) (o : Option ClientSite) → site_of t.world c ≡ o → LivesHold (ev.at_client W c input o).world → After t e (ev.at_client W c input o)
+  client_dated : (c : ClientId) (input : ClientInput) (o : Option WorldClient) → site_of t.world c ≡ o → LivesHold (ev.at_client W c input o).world → After t e (ev.at_client W c input o)
   unfolding ev.at_client
   client_dated c input None i after = nothing t e W refl refl h
   client_dated c input (Some site) i after = takes_dated c input site site i refl after
@@ -180,7 +180,7 @@ module _ (t : Traced) (e : Event) (a : world.Tally) (d : disks.Disks) (lives : L
   server_dated s input None = nothing t e W refl refl h
   server_dated s input (Some node) = go node.running
     where
-      x : server.Turn
+      x : server.ServerTurn
       x = server.server_step node.state (clock_of W (nodes.Server s)) input
 
       v1 : World
@@ -209,23 +209,23 @@ no_end ds k id f g al e i = go (has_map (life_of_association k id) (map f al) e 
     go : (b : Association) × Has b (map f al) × (e ≡ life_of_association k id b) → LifeDated ds e
     go (b, j, z) = at b (none b (has_map f al b j)) z
 
-placed_dated : (ds : List LeaseDate) (w v : World) (c : ClientId) (old site : ClientSite) → site_of w c ≡ Some old → v.clients ≡ with_numbered c.0 site w.clients → ((e : LeaseLife) → Has e (lives_of site.node.state) → LifeDated ds e) →
+placed_dated : (ds : List LeaseDate) (w v : World) (c : ClientId) (old site : WorldClient) → site_of w c ≡ Some old → v.clients ≡ with_numbered c.0 site w.clients → ((e : LeaseLife) → Has e (lives_of site.node.state) → LifeDated ds e) →
     ((e : LeaseLife) → Has e v.ended → LifeDated ds e) → AllDated ds w → AllDated ds v
 placed_dated ds w v c old site there cs f g h e i = go (has_append (present_lives v.clients) v.ended e i)
   where
     at : (p : Present v e) → ((c ≡ p.client) × (p.site ≡ site)) ⊎ (((c.0 == p.client.0) ≡ false) × (site_of w p.client ≡ Some p.site)) → LifeDated ds e
-    at p (inl (q, s)) = f e (subst (λ (y : ClientSite). Has e (lives_of y.node.state)) s p.among)
+    at p (inl (q, s)) = f e (subst (λ (y : WorldClient). Has e (lives_of y.node.state)) s p.among)
     at p (inr (q, s)) = present_dated ds w p.client p.site h s e p.among
 
     go : Has e (present_lives v.clients) ⊎ Has e v.ended → LifeDated ds e
     go (inl j) = let p = is_present v e j in at p (site_case w c old site v.clients there cs p.client p.site p.there)
     go (inr j) = g e j
 
-crashed_dated : (ds : List LeaseDate) (site : ClientSite) (e : LeaseLife) → Has e (lives_of (ev.stopped_site site).node.state) → LifeDated ds e
+crashed_dated : (ds : List LeaseDate) (site : WorldClient) (e : LeaseLife) → Has e (lives_of (ev.stopped_site site).node.state) → LifeDated ds e
 unfolding cl.crash
 crashed_dated ds site e i = no_end ds site.node.state.config site.node.state.id cl.crashed_association (λ b. refl) site.node.state.associations e i
 
-started_dated : (ds : List LeaseDate) (site : ClientSite) (e : LeaseLife) → Has e (lives_of (ev.started_site site).node.state) → LifeDated ds e
+started_dated : (ds : List LeaseDate) (site : WorldClient) (e : LeaseLife) → Has e (lives_of (ev.started_site site).node.state) → LifeDated ds e
 unfolding cl.start
 started_dated ds site e i = no_end ds site.node.state.config site.node.state.id cl.started_association (λ b. refl) site.node.state.associations e i
 
@@ -236,7 +236,7 @@ happens_dated t (events.Tick (nodes.Client c)) l after h = client_dated t (event
 happens_dated t (events.Tick (nodes.Server s)) l after h = server_dated t (events.Tick (nodes.Server s)) (ev.counted t.world).tally t.world.disks l h s serving.Tick (node_of t.world s)
 happens_dated t (events.App c ask) l after h = go (site_of t.world c) refl after
   where
-    go : (o : Option ClientSite) → site_of t.world c ≡ o → LivesHold (ev.asks_at (ev.counted t.world) c ask o).world → After t (events.App c ask) (ev.asks_at (ev.counted t.world) c ask o)
+    go : (o : Option WorldClient) → site_of t.world c ≡ o → LivesHold (ev.asks_at (ev.counted t.world) c ask o).world → After t (events.App c ask) (ev.asks_at (ev.counted t.world) c ask o)
     go None i after = nothing t (events.App c ask) _ refl refl h
     go (Some site) i after = takes_dated t (events.App c ask) (ev.counted t.world).tally t.world.disks l h c (inputs.App (site.asks + 1) ask) site (ev.asked_once_more site) i refl after
 happens_dated t (events.Deliver k) l after h = go (message_of t.world k) after
@@ -269,7 +269,7 @@ happens_dated t (events.Report k ok) l after h = go (issued_of t.world k) after
     go None after = nothing t e reported refl refl h
     go (Some y) after = at (site_of t.world y.client) refl after
       where
-        at : (o : Option ClientSite) → site_of t.world y.client ≡ o → LivesHold (ev.tells_client reported k ok y o).world → After t (events.Report k ok) (ev.tells_client reported k ok y o)
+        at : (o : Option WorldClient) → site_of t.world y.client ≡ o → LivesHold (ev.tells_client reported k ok y o).world → After t (events.Report k ok) (ev.tells_client reported k ok y o)
         at None i after = nothing t e reported refl refl h
         at (Some site) i after = pick (ev.is_same_instance y site) after
           where
@@ -278,7 +278,7 @@ happens_dated t (events.Report k ok) l after h = go (issued_of t.world k) after
             pick false after = nothing t (events.Report k ok) reported refl refl h
 happens_dated t (events.Crash (nodes.Client c)) l after h = go (site_of t.world c) refl
   where
-    go : (o : Option ClientSite) → site_of t.world c ≡ o → After t (events.Crash (nodes.Client c)) (ev.crashes_client (ev.counted t.world) c o)
+    go : (o : Option WorldClient) → site_of t.world c ≡ o → After t (events.Crash (nodes.Client c)) (ev.crashes_client (ev.counted t.world) c o)
     go None i = nothing t (events.Crash (nodes.Client c)) _ refl refl h
     go (Some site) i =
         undated t (events.Crash (nodes.Client c)) _ (undated_fates 1 _ _)
@@ -297,7 +297,7 @@ happens_dated t (events.Crash (nodes.Server s)) l after h = go (node_of t.world 
     go (Some node) = nothing t (events.Crash (nodes.Server s)) _ refl refl h
 happens_dated t (events.Start (nodes.Client c)) l after h = go (site_of t.world c) refl
   where
-    go : (o : Option ClientSite) → site_of t.world c ≡ o → After t (events.Start (nodes.Client c)) (ev.quiet (ev.starts_client (ev.counted t.world) c o))
+    go : (o : Option WorldClient) → site_of t.world c ≡ o → After t (events.Start (nodes.Client c)) (ev.quiet (ev.starts_client (ev.counted t.world) c o))
     go None i = nothing t (events.Start (nodes.Client c)) _ refl refl h
     go (Some site) i =
         undated t (events.Start (nodes.Client c)) _ tt

@@ -416,7 +416,7 @@ module _ (k : Config) (init base : ServerId → Option Stamp) (sv : ServerId) (T
   n_nack t s now h y a b e q g n = n_reply t s now h (bodies.Nack y a b) e q refl g n
 
   n_demand : (t : Turn) (s : ClientSession) (ino : ℕ) (g : GrantNo) (to : Mode) → t.here.session ≡ Some s → N t → N (cr.demand t s ino g to)
-  unfolding cr.demand cr.demand_by cr.demand_as cr.see_demand cr.release_unheld
+  unfolding cr.demand cr.demand_by cr.demand_as cr.observe_demand cr.release_unheld
   n_demand t s ino g to e n = go (locks.demand s.locks ino g to)
     where
       by : (l : locks.LockCache) (a : Asked) → N (cr.demand_as t (cs.with_cache l s) ino g a)
@@ -447,19 +447,19 @@ module _ (k : Config) (init base : ServerId → Option Stamp) (sv : ServerId) (T
   n_of_epoch t s now h (bodies.Demand ino x to) e q g n = n_demand t s ino x to e n
   n_of_epoch t s now h b e q g n = n_reply t s now h b e q refl g n
 
-  pub n_hear : (now : Stamp) (h : Header) (b : Body) (t : Turn) → Unnoted t →
+  pub n_receive : (now : Stamp) (h : Header) (b : Body) (t : Turn) → Unnoted t →
       ((life : Life) (epoch : Epoch) → h.from ≡ server_node t.here.server → h.life ≡ life.0 → h.epoch ≡ epoch.0 → renews_lease h.number b ≡ true → T life epoch (leases.lease_end k (record { 0 = h.stamp }))) →
       N t → N (cr.receive_at now h b t)
   unfolding cr.receive_at cr.by_session cr.with_a_session
-  n_hear now h b t q src n = go (cr.is_heard t now h) refl
+  n_receive now h b t q src n = go (cr.is_received t now h) refl
     where
-      from : cr.is_heard t now h ≡ true → h.from ≡ server_node t.here.server
+      from : cr.is_received t now h ≡ true → h.from ≡ server_node t.here.server
       from e = eqb-true h.from (server_node t.here.server) (and_true (h.from == server_node t.here.server) _ e).0
 
-      life : cr.is_heard t now h ≡ true → h.life ≡ t.here.life.0
+      life : cr.is_received t now h ≡ true → h.life ≡ t.here.life.0
       life e = eqb-true h.life t.here.life.0 (and_true (h.life == t.here.life.0) _ (and_true (h.from == server_node t.here.server) _ e).1).0
 
-      by : cr.is_heard t now h ≡ true → (o : Option ClientSession) → t.here.session ≡ o → N (cr.by_session t now h b o)
+      by : cr.is_received t now h ≡ true → (o : Option ClientSession) → t.here.session ≡ o → N (cr.by_session t now h b o)
       by z None e = n_without t now h b q (λ epoch i m. src t.here.life epoch (from z) (life z) i m) n
       by z (Some s) e = epoch (h.epoch == s.epoch.0) refl
         where
@@ -467,11 +467,11 @@ module _ (k : Config) (init base : ServerId → Option Stamp) (sv : ServerId) (T
           epoch true i = n_of_epoch t s now h b e q (λ m. src t.here.life s.epoch (from z) (life z) (eqb-true h.epoch s.epoch.0 i) m) n
           epoch false i = n_of_other t s _ b e q n
 
-      go : (z : Bool) → cr.is_heard t now h ≡ z → N (if z then cr.by_session t now h b t.here.session else t)
+      go : (z : Bool) → cr.is_received t now h ≡ z → N (if z then cr.by_session t now h b t.here.session else t)
       go true z = by z t.here.session refl
       go false z = n
 
-  -- Where no message is heard: no lease end is noted, and the session stays.
+  -- Where no message is received: no lease end is noted, and the session stays.
   quiet_calm : (o : Output) → SaysCalm false o → Quiet o
   quiet_calm (outputs.Note n) q = no_bool q
   quiet_calm (outputs.Send m) q = no_bool q

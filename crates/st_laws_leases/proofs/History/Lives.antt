@@ -19,7 +19,7 @@ use Rattle.st_rules.specs.Events.{WorldTurn, present_life, present_lives}
 use Rattle.st_rules.specs.History.{History, LeaseDate, remember}
 use Rattle.st_rules.specs.Safety.{all_lives}
 use Rattle.st_rules.specs.World as world
-use Rattle.st_rules.specs.World.{World, ClientSite, site_of, numbered, with_numbered, clock_of, lives_of, life_of_association}
+use Rattle.st_rules.specs.World.{World, WorldClient, site_of, numbered, with_numbered, clock_of, lives_of, life_of_association}
 use Rattle.st_lemmas.specs.Lists.{Has}
 use Rattle.st_lemmas.proofs.Lookups.{some_is}
 use Rattle.st_lemmas.proofs.Numbers.{numbered_own}
@@ -46,27 +46,27 @@ AllDated ds w = (e : LeaseLife) → Has e (all_lives w) → LifeDated ds e
 -- a present life is of a client
 pub record Present (w : World) (e : LeaseLife) : Type 0 where
   pub client : ClientId
-  pub site : ClientSite
+  pub site : WorldClient
   pub there : site_of w client ≡ Some site
   pub among : Has e (lives_of site.node.state)
 
-present : (cs : List ClientSite) (e : LeaseLife) → Has e (present_lives cs) → (n : ℕ) × (site : ClientSite) × (slice_get cs n ≡ Some site) × Has e (lives_of site.node.state)
+present : (cs : List WorldClient) (e : LeaseLife) → Has e (present_lives cs) → (n : ℕ) × (site : WorldClient) × (slice_get cs n ≡ Some site) × Has e (lives_of site.node.state)
 unfolding present_lives
 present [] e h = absurd h
 present (x ∷ cs) e h = go (has_append (lives_of x.node.state) (present_lives cs) e h) (present cs e)
   where
-    go : Has e (lives_of x.node.state) ⊎ Has e (present_lives cs) → (Has e (present_lives cs) → (n : ℕ) × (site : ClientSite) × (slice_get cs n ≡ Some site) × Has e (lives_of site.node.state)) →
-        (n : ℕ) × (site : ClientSite) × (slice_get (x ∷ cs) n ≡ Some site) × Has e (lives_of site.node.state)
+    go : Has e (lives_of x.node.state) ⊎ Has e (present_lives cs) → (Has e (present_lives cs) → (n : ℕ) × (site : WorldClient) × (slice_get cs n ≡ Some site) × Has e (lives_of site.node.state)) →
+        (n : ℕ) × (site : WorldClient) × (slice_get (x ∷ cs) n ≡ Some site) × Has e (lives_of site.node.state)
     go (inl i) f = (zero, x, refl, i)
     go (inr i) f = let z = f i in (suc z.0, z.1, z.2, z.3)
 
 pub is_present : (w : World) (e : LeaseLife) → Has e (present_lives w.clients) → Present w e
 is_present w e h = let z = present w.clients e h in record { client = record { 0 = suc z.0 }; site = z.1; there = z.2; among = z.3 }
 
-present_in : (cs : List ClientSite) (n : ℕ) (site : ClientSite) (e : LeaseLife) → slice_get cs n ≡ Some site → Has e (lives_of site.node.state) → Has e (present_lives cs)
+present_in : (cs : List WorldClient) (n : ℕ) (site : WorldClient) (e : LeaseLife) → slice_get cs n ≡ Some site → Has e (lives_of site.node.state) → Has e (present_lives cs)
 unfolding present_lives
 present_in [] n site e i h = cc
-present_in (x ∷ cs) zero site e i h = left (lives_of x.node.state) (subst (λ (y : ClientSite). Has e (lives_of y.node.state)) (sym (some_is i)) h)
+present_in (x ∷ cs) zero site e i h = left (lives_of x.node.state) (subst (λ (y : WorldClient). Has e (lives_of y.node.state)) (sym (some_is i)) h)
   where
     left : (xs : List LeaseLife) → Has e xs → Has e (xs ++ present_lives cs)
     left [] h = absurd h
@@ -87,7 +87,7 @@ pub has_right : {A : Type 0} (xs ys : List A) (x : A) → Has x ys → Has x (xs
 has_right [] ys x h = h
 has_right (y ∷ xs) ys x h = inr (has_right xs ys x h)
 
-pub present_dated : (ds : List LeaseDate) (w : World) (c : ClientId) (site : ClientSite) → AllDated ds w → site_of w c ≡ Some site → (e : LeaseLife) → Has e (lives_of site.node.state) → LifeDated ds e
+pub present_dated : (ds : List LeaseDate) (w : World) (c : ClientId) (site : WorldClient) → AllDated ds w → site_of w c ≡ Some site → (e : LeaseLife) → Has e (lives_of site.node.state) → LifeDated ds e
 present_dated ds w c site h i e j = go c.0 i
   where
     go : (n : ℕ) → numbered w.clients n ≡ Some site → LifeDated ds e
@@ -101,7 +101,7 @@ remembered (events.Crash (nodes.Client c)) h = refl
 remembered e h = refl
 
 -- A step of a client.
-module _ (w : World) (c : ClientId) (old site : ClientSite) (input : ClientInput) (there : site_of w c ≡ Some old) (same : old.node ≡ site.node) (runs : site.node.running ≡ true) (lives : LivesHold w) where
+module _ (w : World) (c : ClientId) (old site : WorldClient) (input : ClientInput) (there : site_of w c ≡ Some old) (same : old.node ≡ site.node) (runs : site.node.running ≡ true) (lives : LivesHold w) where
   abbrev pub now : Stamp
   now = clock_of w (nodes.Client c)
 
@@ -222,7 +222,7 @@ module _ (w : World) (c : ClientId) (old site : ClientSite) (input : ClientInput
     present_one e p = go (site_case w c old (ev.at_node t.node site) v.clients there clients p.client p.site p.there)
       where
         go : ((c ≡ p.client) × (p.site ≡ ev.at_node t.node site)) ⊎ (((c.0 == p.client.0) ≡ false) × (site_of w p.client ≡ Some p.site)) → LifeDated new e
-        go (inl (q, s)) = at (has_map (life_of_association u.state.config u.state.id) u.state.associations e (subst (λ (y : ClientSite). Has e (lives_of y.node.state)) s p.among))
+        go (inl (q, s)) = at (has_map (life_of_association u.state.config u.state.id) u.state.associations e (subst (λ (y : WorldClient). Has e (lives_of y.node.state)) s p.among))
           where
             at : (a : Association) × Has a u.state.associations × (e ≡ life_of_association u.state.config u.state.id a) → LifeDated new e
             at (a, h, z) = subst (LifeDated new) (sym z) (subst (λ (d : ClientId). Dated new d a.server a.life (lease.end_at u.state.config (cl.lease_at (Some a)))) (sym node_after.id) (mine a h))

@@ -20,7 +20,7 @@ use Rattle.st_rules.specs.ClientState.{Association, ClientState, ClientTurn, is_
 use Rattle.st_rules.specs.Events.{present_life}
 use Rattle.st_rules.specs.History.{LeaseDate, association_of, association_at, is_date_of, lease_date, epoch_at, epoch_at_session}
 use Rattle.st_rules.specs.Keys.{server_node}
-use Rattle.st_rules.specs.World.{World, ClientSite, site_of}
+use Rattle.st_rules.specs.World.{World, WorldClient, site_of}
 use Rattle.st_rules.specs.Events as ev
 use Rattle.st_rules.specs.World as world
 use Rattle.st_lemmas.specs.Lists.{Has}
@@ -71,7 +71,7 @@ replied_more lease ms ns f d r = go (f r.by r.among)
         }
 
 -- A step of a client: its new dates are of the message that came.
-module _ (c : ClientId) (s : ClientState) (now : Stamp) (input : ClientInput) (v : World) (new : ClientSite) (ms : List SentMessage)
+module _ (c : ClientId) (s : ClientState) (now : Stamp) (input : ClientInput) (v : World) (new : WorldClient) (ms : List SentMessage)
     (id : s.id ≡ c) (once : Once (map server_number s.associations)) (there : site_of v c ≡ Some new) (is : new.node.state ≡ (cl.client_step s now input).state)
     (comes : (m : Message) → input ≡ inputs.Control m → (n : SentMessage) × Has n ms × (n.message ≡ m)) where
   abbrev u : ClientTurn

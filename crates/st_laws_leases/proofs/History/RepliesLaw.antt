@@ -27,13 +27,13 @@ use Rattle.st_rules.specs.Safety.{Step, step}
 use Rattle.st_rules.specs.Server as server
 use Rattle.st_rules.specs.Server.{ServerNode}
 use Rattle.st_rules.specs.World as world
-use Rattle.st_rules.specs.World.{World, ClientSite, site_of, node_of, numbered, clock_of, message_of, receiver_of, issued_of, all_servers, fresh_world}
+use Rattle.st_rules.specs.World.{World, WorldClient, site_of, node_of, numbered, clock_of, message_of, receiver_of, issued_of, all_servers, fresh_world}
 use Rattle.st_lemmas.specs.Lists.{Has}
 use Rattle.st_lemmas.proofs.Lookups.{some_is}
 use Rattle.st_lemmas.proofs.Numbers.{numbered_own, numbered_has, numbered_below, get_there, set_length}
 use Rattle.st_lemmas.proofs.Steps.{throughout, step_happens}
 use Rattle.st_laws_steps.specs.Lives.Lives.{LivesHold, NodeHolds, ended_rows}
-use Rattle.st_laws_pages.specs.Disks.Owed.{FatesHold}
+use Rattle.st_laws_pages.specs.Disks.Obligations.{FatesHold}
 use Rattle.st_laws_pages.proofs.Disks.Steps.{fates_law}
 use Rattle.st_laws_pages.proofs.Disks.Whole.{fresh_fates}
 use Rattle.st_laws_pages.proofs.Lives.Lasting.{Flushed, flush_parts}
@@ -79,17 +79,17 @@ abbrev Comes : List SentMessage → ClientInput → Type 0
 Comes ms i = (m : Message) → i ≡ inputs.Control m → (n : SentMessage) × Has n ms × (n.message ≡ m)
 
 -- what a client says in a step, and the client behind it
-abbrev out_of : World → ClientId → ClientSite → ClientInput → List Output
+abbrev out_of : World → ClientId → WorldClient → ClientInput → List Output
 out_of w c site input = (cl.client_step site.node.state (clock_of w (nodes.Client c)) input).out
 
-abbrev site_after : World → ClientId → ClientSite → ClientInput → ClientSite
+abbrev site_after : World → ClientId → WorldClient → ClientInput → WorldClient
 site_after w c site input = ev.at_node (cl.node_turn site.node (cl.client_step site.node.state (clock_of w (nodes.Client c)) input)).node site
 
 module _ (t : Traced) (e : Event) (a : world.Tally) (d : disks.Disks) (lives : LivesHold t.world) (h : Holds t.world t.history.dates) where
   abbrev W : World
   W = beside a d t.world
 
-  takes_replied : (c : ClientId) (input : ClientInput) (old site : ClientSite) → site_of t.world c ≡ Some old → old.node ≡ site.node → Comes t.world.net.messages input → After t e (ev.client_takes W c input site)
+  takes_replied : (c : ClientId) (input : ClientInput) (old site : WorldClient) → site_of t.world c ≡ Some old → old.node ≡ site.node → Comes t.world.net.messages input → After t e (ev.client_takes W c input site)
   takes_replied c input old site i same comes = go site.node.running refl
     where
       node : NodeHolds t.world.config t.world.clocks t.world.ended c site.node
@@ -111,7 +111,7 @@ module _ (t : Traced) (e : Event) (a : world.Tally) (d : disks.Disks) (lives : L
       last = flush_later c (site_after W c site input).node.state (all_servers (says W c site input).world) (says W c site input).world
 
       later : Grown t.world (behind W c site input)
-      later = (last.config ∙ first.config, ap (λ (z : List ClientSite). length z) (fl.clients ∙ said.clients) ∙ set_length t.world.clients (pred c.0) (site_after W c site input), λ m q. (m, last.sent m (first.sent m q), refl))
+      later = (last.config ∙ first.config, ap (λ (z : List WorldClient). length z) (fl.clients ∙ said.clients) ∙ set_length t.world.clients (pred c.0) (site_after W c site input), λ m q. (m, last.sent m (first.sent m q), refl))
 
       dates : (recall_all t.world (behind W c site input) (says W c site input).seen (remember e t.history)).dates ≡ dates_out (behind W c site input) c (out_of W c site input) t.history.dates
       dates =
@@ -140,7 +140,7 @@ module _ (t : Traced) (e : Event) (a : world.Tally) (d : disks.Disks) (lives : L
       go true r = subst (λ sc. After t e sc) (sym (took_is W c site input r)) went
       go false r = subst (λ sc. After t e sc) (sym (stopped_is W c site input r)) (nothing t e W refl refl refl h)
 
-  client_replied : (c : ClientId) (input : ClientInput) (o : Option ClientSite) → site_of t.world c ≡ o → Comes t.world.net.messages input → After t e (ev.at_client W c input o)
+  client_replied : (c : ClientId) (input : ClientInput) (o : Option WorldClient) → site_of t.world c ≡ o → Comes t.world.net.messages input → After t e (ev.at_client W c input o)
   unfolding ev.at_client
   client_replied c input None i comes = nothing t e W refl refl refl h
   client_replied c input (Some site) i comes = takes_replied c input site site i refl comes
@@ -150,7 +150,7 @@ module _ (t : Traced) (e : Event) (a : world.Tally) (d : disks.Disks) (lives : L
   server_replied s input None = nothing t e W refl refl refl h
   server_replied s input (Some node) = go node.running
     where
-      x : server.Turn
+      x : server.ServerTurn
       x = server.server_step node.state (clock_of W (nodes.Server s)) input
 
       v1 : World
@@ -166,7 +166,7 @@ module _ (t : Traced) (e : Event) (a : world.Tally) (d : disks.Disks) (lives : L
       l = server_later s x.out (ev.quiet v1)
 
       go : (b : Bool) → After t e (ev.server_took W s (if b then Ok (server.node_turn node x) else Err Crashed))
-      go true = undated t e sc q.seen (l.config, ap (λ (z : List ClientSite). length z) (server_leaves s x.out (ev.quiet v1)).clients, λ m j. (m, l.sent m j, refl)) h
+      go true = undated t e sc q.seen (l.config, ap (λ (z : List WorldClient). length z) (server_leaves s x.out (ev.quiet v1)).clients, λ m j. (m, l.sent m j, refl)) h
       go false = nothing t e W refl refl refl h
 
 no_message : (i : ClientInput) (ms : List SentMessage) → ((m : Message) → i ≡ inputs.Control m → ⊥) → Comes ms i
@@ -185,7 +185,7 @@ happens_replied t (events.Tick (nodes.Client c)) l h = client_replied t (events.
 happens_replied t (events.Tick (nodes.Server s)) l h = server_replied t (events.Tick (nodes.Server s)) (ev.counted t.world).tally t.world.disks l h s serving.Tick (node_of t.world s)
 happens_replied t (events.App c ask) l h = go (site_of t.world c) refl
   where
-    go : (o : Option ClientSite) → site_of t.world c ≡ o → After t (events.App c ask) (ev.asks_at (ev.counted t.world) c ask o)
+    go : (o : Option WorldClient) → site_of t.world c ≡ o → After t (events.App c ask) (ev.asks_at (ev.counted t.world) c ask o)
     go None i = nothing t (events.App c ask) (ev.counted t.world) refl refl refl h
     go (Some site) i =
         takes_replied t (events.App c ask) (ev.counted t.world).tally t.world.disks l h c (inputs.App (site.asks + 1) ask) site (ev.asked_once_more site) i refl
@@ -225,7 +225,7 @@ happens_replied t (events.Report k ok) l h = go (issued_of t.world k)
     go None = nothing t (events.Report k ok) reported refl refl refl h
     go (Some y) = at (site_of t.world y.client) refl
       where
-        at : (o : Option ClientSite) → site_of t.world y.client ≡ o → After t (events.Report k ok) (ev.tells_client reported k ok y o)
+        at : (o : Option WorldClient) → site_of t.world y.client ≡ o → After t (events.Report k ok) (ev.tells_client reported k ok y o)
         at None i = nothing t (events.Report k ok) reported refl refl refl h
         at (Some site) i = pick (ev.is_same_instance y site)
           where
@@ -236,7 +236,7 @@ happens_replied t (events.Report k ok) l h = go (issued_of t.world k)
             pick false = nothing t (events.Report k ok) reported refl refl refl h
 happens_replied t (events.Crash (nodes.Client c)) l h = go (site_of t.world c)
   where
-    go : (o : Option ClientSite) → After t (events.Crash (nodes.Client c)) (ev.crashes_client (ev.counted t.world) c o)
+    go : (o : Option WorldClient) → After t (events.Crash (nodes.Client c)) (ev.crashes_client (ev.counted t.world) c o)
     go None = nothing t (events.Crash (nodes.Client c)) (ev.counted t.world) refl refl refl h
     go (Some site) = undated t (events.Crash (nodes.Client c)) _ (undated_fates 1 _ _) (refl, set_length t.world.clients (pred c.0) (ev.stopped_site site), λ m i. (m, i, refl)) h
 happens_replied t (events.Crash (nodes.Server s)) l h = go (node_of t.world s)
@@ -246,7 +246,7 @@ happens_replied t (events.Crash (nodes.Server s)) l h = go (node_of t.world s)
     go (Some node) = nothing t (events.Crash (nodes.Server s)) (ev.with_node s (server.crash_node node) (ev.counted t.world)) refl refl refl h
 happens_replied t (events.Start (nodes.Client c)) l h = go (site_of t.world c)
   where
-    go : (o : Option ClientSite) → After t (events.Start (nodes.Client c)) (ev.quiet (ev.starts_client (ev.counted t.world) c o))
+    go : (o : Option WorldClient) → After t (events.Start (nodes.Client c)) (ev.quiet (ev.starts_client (ev.counted t.world) c o))
     go None = nothing t (events.Start (nodes.Client c)) (ev.counted t.world) refl refl refl h
     go (Some site) = nothing t (events.Start (nodes.Client c)) (ev.with_site c (ev.started_site site) (ev.counted t.world)) refl (set_length t.world.clients (pred c.0) (ev.started_site site)) refl h
 happens_replied t (events.Start (nodes.Server s)) l h = go (node_of t.world s)
@@ -260,10 +260,10 @@ pub record Stands (past : List Step) (t : Traced) : Type 0 where
   pub fates : FatesHold t.world
   pub dates : Holds t.world t.history.dates
 
-placed_site : (w : World) (c : ClientId) → 1 ≤ c.0 → c.0 ≤ length w.clients → (site : ClientSite) × (site_of w c ≡ Some site)
+placed_site : (w : World) (c : ClientId) → 1 ≤ c.0 → c.0 ≤ length w.clients → (site : WorldClient) × (site_of w c ≡ Some site)
 placed_site w c a b = go c.0 a b
   where
-    go : (n : ℕ) → 1 ≤ n → n ≤ length w.clients → (site : ClientSite) × (numbered w.clients n ≡ Some site)
+    go : (n : ℕ) → 1 ≤ n → n ≤ length w.clients → (site : WorldClient) × (numbered w.clients n ≡ Some site)
     go zero a b = absurd (omega (arith, a))
     go (suc n) a b = get_there w.clients n (omega (arith, b))
 

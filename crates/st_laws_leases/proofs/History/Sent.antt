@@ -16,7 +16,7 @@ use Rattle.st_rules.specs.Client as cl
 use Rattle.st_rules.specs.ClientState.{ClientState}
 use Rattle.st_rules.specs.Events as ev
 use Rattle.st_rules.specs.Events.{WorldTurn, client_says, client_says_all, server_says, server_says_all}
-use Rattle.st_rules.specs.World.{World, ClientSite, site_of, clock_of}
+use Rattle.st_rules.specs.World.{World, WorldClient, site_of, clock_of}
 use Rattle.st_lemmas.specs.Lists.{Has}
 
 -- settings stay, and what was sent stays sent
@@ -45,7 +45,7 @@ client_one c before (outputs.Send m) sc = sends_later sc m
 client_one c before (outputs.Answer op a) sc = record { config = refl; sent = λ x h. h }
 client_one c before (outputs.Submit n at what) sc = go (site_of sc.world c)
   where
-    go : (o : Option ClientSite) → Later sc.world (ev.submits sc c o n at what).world
+    go : (o : Option WorldClient) → Later sc.world (ev.submits sc c o n at what).world
     go None = later_same sc.world
     go (Some s) = record { config = refl; sent = λ x h. h }
 client_one c before (outputs.Note n) sc = note n

@@ -24,14 +24,14 @@ use Rattle.st_rules.specs.Keys.{same_server, server_node}
 use Rattle.st_rules.specs.Leases as leases
 use Rattle.st_lemmas.specs.Lists.{Has}
 use Rattle.st_lemmas.proofs.Tables.{has_append, has_map_in}
-use Rattle.st_laws_steps.specs.Client.Taking as taking
-use Rattle.st_laws_steps.specs.Client.Taking.{Taken}
+use Rattle.st_laws_steps.specs.Client.Inputs as taking
+use Rattle.st_laws_steps.specs.Client.Inputs.{Taken}
 use Rattle.st_laws_steps.specs.Lives.Lives.{Once, server_number}
 use Rattle.st_laws_steps.proofs.Lives.Associations.{own_found}
 use Rattle.st_laws_steps.proofs.Client.Taking.{taken}
 use Rattle.st_laws_leases.specs.History.Replies.{renews_lease}
 use Rattle.st_laws_leases.specs.History.Notes.{noted}
-use Rattle.st_laws_leases.proofs.History.Leasing.{Noted, leased, none_more, noted_quiet, unsaid, n_lose, n_hear, n_only, n_finish, n_passes}
+use Rattle.st_laws_leases.proofs.History.Leasing.{Noted, leased, none_more, noted_quiet, unsaid, n_lose, n_receive, n_only, n_finish, n_passes}
 
 -- What a message tells of a lease end, by the message's server, the life, the epoch and the end.
 abbrev pub Tells : Type 1
@@ -204,9 +204,9 @@ module _ (k : Config) (init : ServerId → Option Stamp) where
   Brings c (inputs.Control m) s l p end = ToldBy c m s l p end
   Brings c i s l p end = ⊥
 
-  hears : (c : ClientId) (now : Stamp) (m : Message) → m.header.to ≡ c.0 → Rule (Brings c (inputs.Control m)) Nothing (cr.receive_at now m.header m.body)
-  hears c now m to base B sv t n =
-      n_hear k init base sv (ToldBy c m sv) B now m.header m.body t (λ end i. n.told end i)
+  receives : (c : ClientId) (now : Stamp) (m : Message) → m.header.to ≡ c.0 → Rule (Brings c (inputs.Control m)) Nothing (cr.receive_at now m.header m.body)
+  receives c now m to base B sv t n =
+      n_receive k init base sv (ToldBy c m sv) B now m.header m.body t (λ end i. n.told end i)
       (λ life epoch f l p d. record { from = f ∙ ap server_node n.server; to = to; of_life = l; of_epoch = p; renews = d; ends = refl })
       (record { config = n.config; server = n.server; own = n.own; others = n.others; told = λ end i. absurd (n.told end i); untold = n.untold })
 
@@ -231,7 +231,7 @@ module _ (k : Config) (init : ServerId → Option Stamp) where
       go _ _ (taking.Full op ask e) = once_more (inputs.App op ask) op answers.OpsFull
       go _ _ (taking.Unknown op ask e f) = once_more (inputs.App op ask) op answers.NoFile
       go _ _ (taking.Takes op ask e f) = weaker (Brings c (inputs.App op ask)) _ (every Nothing Nothing _ (λ base B sv u n. n_only k init base sv (Nothing sv) B (server_of ask) op ask u n) t h)
-      go _ _ (taking.Hears m e) = every (Brings c (inputs.Control m)) Nothing _ (hears c now m (eqb-true m.header.to t.state.id.0 e ∙ ap (λ (x : ClientId). x.0) id)) t h
+      go _ _ (taking.Receives m e) = every (Brings c (inputs.Control m)) Nothing _ (receives c now m (eqb-true m.header.to t.state.id.0 e ∙ ap (λ (x : ClientId). x.0) id)) t h
       go _ _ (taking.Finishes number result) = weaker (Brings c (inputs.Done number result)) _ (every Nothing Nothing _ (λ base B sv u n. n_finish k init base sv (Nothing sv) B number result u n) t h)
 
   lost_id : (al : List Association) (t : ClientTurn) (now : Stamp) → (at_these (cl.lose now) al t).state.id ≡ t.state.id

@@ -9,7 +9,7 @@ use Rattle.st_laws_refine.specs.Server.Paths.{Path, Here, SteppedOn, WorkedOn}
 use Rattle.st_laws_leases.specs.Order.Order.{Below}
 use Rattle.st_laws_leases.specs.Order.Paths.{EventsKeepOrder}
 use Rattle.st_laws_leases.proofs.Order.Below.{all_moves, one_move}
-use Rattle.st_laws_leases.proofs.Sides.Everywhere.{stays_led}
+use Rattle.st_laws_leases.proofs.Sides.AllAssociations.{stays_led}
 
 -- numbers below the locks of all clients, in a world of the machine that can be reached
 record Under (k : Config) (H : ℕ → ℕ) (v : net.World) : Type 0 where

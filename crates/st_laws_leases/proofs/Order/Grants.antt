@@ -29,7 +29,7 @@ use Rattle.st_rules.specs.Locks.{row_of}
 use Rattle.st_rules.specs.ServerInvariants.{are_once, same_row}
 use Rattle.st_rules.specs.Safety.{ChangesGoInTheOrderOfLocks, IsHead, Step, cuts_under, has_dirty_page, has_exclusive, is_before, is_change_locked, is_event, is_no_lesser, lasts, lasts_at, never_fall, step}
 use Rattle.st_rules.specs.Server.{ServerNode}
-use Rattle.st_rules.specs.World.{World, ClientSite, clock_of, fresh_world, node_of, server, site_of}
+use Rattle.st_rules.specs.World.{World, WorldClient, clock_of, fresh_world, node_of, server, site_of}
 use Rattle.st_protocol.specs.Assoc.{Alive, Client, Config, ConfigOk, Lock, Row, upd}
 use Rattle.st_protocol.proofs.Lists.{upd_tells, upd-same}
 use Rattle.st_lemmas.specs.Lists.{Has}
@@ -37,16 +37,16 @@ use Rattle.st_lemmas.proofs.Lookups.{some_is}
 use Rattle.st_lemmas.proofs.Steps.{step_happens}
 use Rattle.st_lemmas.proofs.Tables.{and_both, and_true, found_at, has_append}
 use Rattle.st_laws_refine.specs.Views.Halves.{held_at, held_in, row_or, row_view}
-use Rattle.st_laws_pages.specs.LockedCuts.Locked.{WaitsHold, is_cut_locked}
+use Rattle.st_laws_pages.specs.LockedCuts.CutLocks.{WaitsHold, is_cut_locked}
 use Rattle.st_laws_pages.proofs.LockedCuts.CutLaw.{law as cut_law}
 use Rattle.st_laws_pages.proofs.Disks.Whole.{fresh_waits}
 use Rattle.st_laws_refine.specs.Server.Pair.{client_in, terms_of}
 use Rattle.st_laws_refine.proofs.Server.OneRow.{row_found}
 use Rattle.st_laws_leases.specs.Sides.Law.{InEveryRun}
 use Rattle.st_laws_leases.specs.Sides.World.{AllStand}
-use Rattle.st_laws_leases.proofs.Sides.Alone.{Lasting, dirty_mode, lasting}
-use Rattle.st_laws_leases.proofs.Sides.Beginning.{begun}
-use Rattle.st_laws_leases.proofs.Sides.Everywhere.{numbered_is}
+use Rattle.st_laws_leases.proofs.Sides.DirtyPages.{Lasting, dirty_mode, lasting}
+use Rattle.st_laws_leases.proofs.Sides.FirstWorld.{begun}
+use Rattle.st_laws_leases.proofs.Sides.AllAssociations.{numbered_is}
 use Rattle.st_laws_leases.proofs.Sides.Known.{fresh_known}
 use Rattle.st_laws_leases.proofs.Sides.Locked.{ServersKnown, Written, both_locked, happens_written}
 use Rattle.st_laws_leases.proofs.Sides.Runs.{full, throughout_events}
@@ -220,7 +220,7 @@ module _ (k : Config) (count : ℕ) (v : World) where
     there : (c : ClientId) (s : ServerId) → lasts v c s ≡ true → (node : ServerNode) × (node_of v (server s.0) ≡ Some node)
     there c s h = go (site_of v c) refl h
       where
-        by : (site : ClientSite) → site_of v c ≡ Some site → (o : Option Association) → cl.association_with site.node.state s ≡ o → is_before (clock_of v (nodes.Client c)) (Rattle.st_rules.specs.ClientLease.end_at site.node.state.config (cl.lease_at o)) ≡ true → (node : ServerNode) × (node_of v (server s.0) ≡ Some node)
+        by : (site : WorldClient) → site_of v c ≡ Some site → (o : Option Association) → cl.association_with site.node.state s ≡ o → is_before (clock_of v (nodes.Client c)) (Rattle.st_rules.specs.ClientLease.end_at site.node.state.config (cl.lease_at o)) ≡ true → (node : ServerNode) × (node_of v (server s.0) ≡ Some node)
         by site e None f b = cc
         by site e (Some a) f b =
             let z = found_at (is_at s) site.node.state.associations a f in
@@ -230,7 +230,7 @@ module _ (k : Config) (count : ℕ) (v : World) where
             let x = eqb-true a.server.0 s.0 z.0 in
             numbered_is v.servers s.0 (omega (arith, l, x)) (omega (arith, u, x))
 
-        go : (o : Option ClientSite) → site_of v c ≡ o → lasts_at (clock_of v (nodes.Client c)) s o ≡ true → (node : ServerNode) × (node_of v (server s.0) ≡ Some node)
+        go : (o : Option WorldClient) → site_of v c ≡ o → lasts_at (clock_of v (nodes.Client c)) s o ≡ true → (node : ServerNode) × (node_of v (server s.0) ≡ Some node)
         go None e b = cc
         go (Some site) e b = by site e (cl.association_with site.node.state s) refl (and_true site.node.running _ b).1
 

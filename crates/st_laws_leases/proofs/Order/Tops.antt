@@ -11,9 +11,9 @@ use Rattle.st_protocol.specs.Assoc.{Alive, Assoc, Config, ConfigOk, Moves, Rises
 use Rattle.st_protocol.proofs.World.{invariant}
 use Rattle.st_laws_refine.specs.Views.Halves.{Ghost}
 use Rattle.st_laws_refine.specs.Server.Pair.{client_in, pair}
-use Rattle.st_laws_refine.specs.Server.Stands.{pairs}
+use Rattle.st_laws_refine.specs.Server.Invariants.{pairs}
 use Rattle.st_laws_refine.specs.Server.View.{StandsAt}
-use Rattle.st_laws_leases.specs.Sides.Stands.{Both}
+use Rattle.st_laws_leases.specs.Sides.Invariants.{Both}
 use Rattle.st_laws_leases.specs.Sides.World.{ServerStands}
 use Rattle.st_laws_leases.specs.Order.Paths.{AllBelow, OrderedServer}
 use Rattle.st_laws_leases.proofs.Order.Changes.{changed, cut}

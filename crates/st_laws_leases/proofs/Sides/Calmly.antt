@@ -21,9 +21,9 @@ use Rattle.st_rules.specs.Events as ev
 use Rattle.st_rules.specs.History.{Traced}
 use Rattle.st_rules.specs.Safety.{is_late}
 use Rattle.st_rules.specs.World as world
-use Rattle.st_rules.specs.World.{World, ClientSite, clock_of, site_of}
+use Rattle.st_rules.specs.World.{World, WorldClient, clock_of, site_of}
 use Rattle.st_lemmas.proofs.Tables.{and_both}
-use Rattle.st_laws_leases.proofs.Dates.Said.{AllCalm, Calm, client_calm, fates_calm}
+use Rattle.st_laws_leases.proofs.Dates.SentMessages.{AllCalm, Calm, client_calm, fates_calm}
 
 nothing : AllCalm []
 nothing o h = elim h [ ]
@@ -38,7 +38,7 @@ late_all t [] k = refl
 late_all t (o ∷ os) k = and_both _ _ (late_of t o (k o (inl refl))) (late_all t os (λ x h. k x (inr h)))
 
 -- a step of a client
-takes_calm : (w : World) (c : ClientId) (input : ClientInput) (site : ClientSite) → AllCalm (ev.client_takes w c input site).seen
+takes_calm : (w : World) (c : ClientId) (input : ClientInput) (site : WorldClient) → AllCalm (ev.client_takes w c input site).seen
 unfolding ev.client_takes ev.client_took cl.node_step
 takes_calm w c input site = go site.node.running
   where
@@ -49,12 +49,12 @@ takes_calm w c input site = go site.node.running
     go true = client_calm c site.node.state t.out (ev.quiet (ev.with_site c (ev.at_node t.node site) w)) nothing
     go false = nothing
 
-at_calm : (w : World) (c : ClientId) (input : ClientInput) (o : Option ClientSite) → AllCalm (ev.at_client w c input o).seen
+at_calm : (w : World) (c : ClientId) (input : ClientInput) (o : Option WorldClient) → AllCalm (ev.at_client w c input o).seen
 unfolding ev.at_client
 at_calm w c input None = nothing
 at_calm w c input (Some site) = takes_calm w c input site
 
-asks_calm : (w : World) (c : ClientId) (ask : Ask) (o : Option ClientSite) → AllCalm (ev.asks_at w c ask o).seen
+asks_calm : (w : World) (c : ClientId) (ask : Ask) (o : Option WorldClient) → AllCalm (ev.asks_at w c ask o).seen
 unfolding ev.asks_at
 asks_calm w c ask None = nothing
 asks_calm w c ask (Some site) = takes_calm w c (inputs.App (site.asks + 1) ask) (ev.asked_once_more site)
@@ -66,11 +66,11 @@ report_calm w n ok = go (world.issued_of w n)
     v : World
     v = ev.with_disks (ev.disks_after w.disks (disks.done w.disks n ok)) w
 
-    same : (x : IssuedCommand) (site : ClientSite) (b : Bool) → AllCalm (if b then ev.client_takes v x.client (ev.end_told v n ok x) site else ev.quiet v).seen
+    same : (x : IssuedCommand) (site : WorldClient) (b : Bool) → AllCalm (if b then ev.client_takes v x.client (ev.end_told v n ok x) site else ev.quiet v).seen
     same x site true = takes_calm v x.client (ev.end_told v n ok x) site
     same x site false = nothing
 
-    at : (x : IssuedCommand) (o : Option ClientSite) → AllCalm (ev.tells_client v n ok x o).seen
+    at : (x : IssuedCommand) (o : Option WorldClient) → AllCalm (ev.tells_client v n ok x o).seen
     at x None = nothing
     at x (Some site) = same x site (ev.is_same_instance x site)
 
@@ -78,7 +78,7 @@ report_calm w n ok = go (world.issued_of w n)
     go None = nothing
     go (Some x) = at x (site_of w x.client)
 
-crash_calm : (w : World) (c : ClientId) (o : Option ClientSite) → AllCalm (ev.crashes_client w c o).seen
+crash_calm : (w : World) (c : ClientId) (o : Option WorldClient) → AllCalm (ev.crashes_client w c o).seen
 unfolding ev.crashes_client ev.marks
 crash_calm w c None = nothing
 crash_calm w c (Some site) = fates_calm 1 w.log (ev.log_crashed w c)
@@ -130,8 +130,8 @@ unfolding ev.happens
 calm_start w n = nothing
 
 -- the delivery of a message to a client
-pub client_hears : (w : World) (n : ℕ) (m : SentMessage) (c : ClientId) → world.message_of w n ≡ Some m → world.receiver_of m ≡ nodes.Client c → AllCalm (ev.happens (ev.counted w) (events.Deliver n)).seen
+pub client_receives : (w : World) (n : ℕ) (m : SentMessage) (c : ClientId) → world.message_of w n ≡ Some m → world.receiver_of m ≡ nodes.Client c → AllCalm (ev.happens (ev.counted w) (events.Deliver n)).seen
 unfolding ev.happens ev.delivers
-client_hears w n m c e f =
+client_receives w n m c e f =
     subst (λ o. AllCalm (ev.delivers (ev.counted w) o).seen) (sym e)
     (subst (λ (x : NodeId). AllCalm (ev.delivers_to (ev.counted w) m.message x).seen) (sym f) (delivered_calm (ev.counted w) m.message c))

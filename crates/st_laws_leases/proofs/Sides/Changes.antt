@@ -29,7 +29,7 @@ use Rattle.st_rules.specs.Events.{WorldTurn}
 use Rattle.st_rules.specs.History.{association_at, association_of, is_exclusive_on, locks_of_session}
 use Rattle.st_rules.specs.Safety.{changes_alone, has_dirty_page, has_exclusive, is_before, lasts, lasts_at}
 use Rattle.st_rules.specs.Server.{ServerNode}
-use Rattle.st_rules.specs.World.{World, ClientSite, clock_of, node_of, numbered, site_of, stamp}
+use Rattle.st_rules.specs.World.{World, WorldClient, clock_of, node_of, numbered, site_of, stamp}
 use Rattle.st_protocol.specs.Assoc as net
 use Rattle.st_protocol.specs.Assoc.{Config}
 use Rattle.st_lemmas.specs.Lists.{Has}
@@ -47,9 +47,9 @@ use Rattle.st_laws_steps.proofs.Client.Noting.{step_notes}
 use Rattle.st_laws_steps.proofs.Client.Stepping.{step_lives}
 use Rattle.st_laws_steps.proofs.Client.Dirtying.{notes_map}
 use Rattle.st_laws_leases.specs.Sides.World.{AllStand}
-use Rattle.st_laws_leases.proofs.Sides.Everywhere.{numbered_is}
+use Rattle.st_laws_leases.proofs.Sides.AllAssociations.{numbered_is}
 use Rattle.st_laws_leases.proofs.Sides.Known.{Known, step_known}
-use Rattle.st_laws_leases.proofs.Sides.Alone.{Lasting, dirty_mode, lasting}
+use Rattle.st_laws_leases.proofs.Sides.DirtyPages.{Lasting, dirty_mode, lasting}
 
 -- a line of a write or a patch has its page locked
 abbrev pub is_write_locked : World → Observation → Bool
@@ -83,7 +83,7 @@ exclusive_listed (Some s) ino h = go (lock_of s.locks ino) refl h
         some_passes (is_exclusive_on ino) s.locks.rows l z.1 (and_both (is_lock_on ino l) (covers l.mode modes.X) z.0 (at_most 2 (number_of l.mode) h))
 
 -- A page that is changed, at a client of a world in which all stands.
-module _ (k : Config) (count : ℕ) (w : World) (a : AllStand k count w) (c : ClientId) (site : ClientSite) (there : site_of w c ≡ Some site) (runs : site.node.running ≡ true) where
+module _ (k : Config) (count : ℕ) (w : World) (a : AllStand k count w) (c : ClientId) (site : WorldClient) (there : site_of w c ≡ Some site) (runs : site.node.running ≡ true) where
   abbrev Now : Stamp
   Now = clock_of w (nodes.Client c)
 
@@ -135,7 +135,7 @@ says_one w c before (outputs.Send m) sc h n = all_more w sc.seen _ h refl
 says_one w c before (outputs.Answer op x) sc h n = all_more w sc.seen _ h refl
 says_one w c before (outputs.Submit number at what) sc h n = go (site_of sc.world c)
   where
-    go : (o : Option ClientSite) → list_all (is_write_locked w) (ev.submits sc c o number at what).seen ≡ true
+    go : (o : Option WorldClient) → list_all (is_write_locked w) (ev.submits sc c o number at what).seen ≡ true
     go None = h
     go (Some site) = all_more w sc.seen _ h refl
 says_one w c before (outputs.Note x) sc h n = note x n
@@ -154,7 +154,7 @@ says_locked w c before [] sc h n = h
 says_locked w c before (o ∷ os) sc h n = says_locked w c before os (ev.client_says sc c before o) (says_one w c before o sc h n.one) n.rest
 
 -- A client's step: its changes are locked in the world that it leaves.
-pub took : (k : Config) (count : ℕ) (w : World) (c : ClientId) (old site : ClientSite) (input : ClientInput) → site_of w c ≡ Some old → old.node ≡ site.node → site.node.running ≡ true → LivesHold w →
+pub took : (k : Config) (count : ℕ) (w : World) (c : ClientId) (old site : WorldClient) (input : ClientInput) → site_of w c ≡ Some old → old.node ≡ site.node → site.node.running ≡ true → LivesHold w →
     Known (length w.servers) w.clients → AllStand k count (world_left w c site input) →
     list_all (is_write_locked (world_left w c site input)) (ev.client_says_all c site.node.state (stepped w c site input).out (ev.quiet (ev.with_site c (site_left w c site input) w))).seen ≡ true
 took k count w c old site input there same runs h known all = says_locked v c site.node.state (stepped w c site input).out _ refl (notes_map (IsChangedAt s.config now al) (λ f p. changes_alone v c f p ≡ true) one (stepped w c site input).out (step_notes c s now input fit))

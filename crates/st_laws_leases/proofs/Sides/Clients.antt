@@ -19,7 +19,7 @@ use Rattle.st_rules.specs.ClientPages.{empty_store}
 use Rattle.st_rules.specs.ClientState.{Association, ClientSession, ClientState, ClientTurn}
 use Rattle.st_rules.specs.Client as cl
 use Rattle.st_rules.specs.Events as ev
-use Rattle.st_rules.specs.World.{World, ClientSite, all_servers, numbered, site_of, clock_of, stamp, server}
+use Rattle.st_rules.specs.World.{World, WorldClient, all_servers, numbered, site_of, clock_of, stamp, server}
 use Rattle.st_rules.specs.Server.{ServerNode}
 use Rattle.st_rules.specs.Client.{ClientNode}
 use Rattle.st_protocol.specs.Assoc as net
@@ -34,20 +34,20 @@ use Rattle.st_messages.specs.declared.message.Body.{Body}
 use Rattle.st_messages.specs.declared.message.Body.TheVariants as bd
 use Rattle.st_rules.specs.declared.client.ClientInput.TheVariants as inputs
 use Rattle.st_protocol.proofs.World.{invariant}
-use Rattle.st_laws_refine.specs.Views.Messages.{Heard, Fine, Shown, Shows, shown, with_date}
+use Rattle.st_laws_refine.specs.Views.Messages.{Received, Fine, Shown, Shows, shown, with_date}
 use Rattle.st_laws_refine.specs.Views.Halves.{client_at, client_of, Ghost, half_of}
 use Rattle.st_laws_refine.proofs.Views.Moves.{Grows, moves_grow, moved}
 use Rattle.st_laws_refine.specs.Server.View.{StandsAt}
 use Rattle.st_laws_refine.specs.Server.Pair.{life_now, client_view, client_at_site, client_in, stamp_number, EndedBy, Wire, Wires, Served, pair}
 use Rattle.st_laws_refine.proofs.Server.Goes.{sound_more}
 use Rattle.st_laws_refine.proofs.Server.Delivery.{wire_more}
-use Rattle.st_laws_refine.specs.Server.Stands.{pairs}
-use Rattle.st_laws_refine.specs.Client.Shown.{Beside, LostNote, Losses}
-use Rattle.st_laws_refine.specs.Client.Law.{Comes, HeardOf, LifeEnds}
+use Rattle.st_laws_refine.specs.Server.Invariants.{pairs}
+use Rattle.st_laws_refine.specs.Client.Invariants.{Beside, LostNote, Losses}
+use Rattle.st_laws_refine.specs.Client.Law.{Comes, ReceivedOf, LifeEnds}
 use Rattle.st_laws_refine.specs.Client.World.{sent, Sim, stepped, site_left, world_left, WorldLeft, OwnMoves, lost_life, lost_lives}
 use Rattle.st_laws_refine.proofs.Client.Steps.{step_losses}
 use Rattle.st_laws_refine.proofs.Client.Sim.{own_moves, others_stay, world_is}
-use Rattle.st_laws_leases.specs.Sides.Stands.{AllPast, Standing, Both, Left}
+use Rattle.st_laws_leases.specs.Sides.Invariants.{AllPast, Standing, Both, Left}
 use Rattle.st_laws_leases.proofs.Sides.Left.{RunsOn, on_then, on_all, on_flushes}
 use Rattle.st_laws_leases.proofs.Sides.Pairs.{length_set, numbered_some, found_at_place, only_here, own_view, said_has}
 use Rattle.st_laws_leases.specs.Sides.Paths.{ClientPath}
@@ -70,7 +70,7 @@ lost_has P c before (outputs.Note n ∷ os) e l h = note n l h (λ l h. lost_has
     note n l h f = f l h
 
 -- a client's step leaves the drift, and no byte goes
-left_by : (w : World) (c : ClientId) (site : ClientSite) (input : ClientInput) → RunsOn w (world_left w c site input)
+left_by : (w : World) (c : ClientId) (site : WorldClient) (input : ClientInput) → RunsOn w (world_left w c site input)
 unfolding ev.client_took
 left_by w c site input =
     on_then w a.world _ (record { drift = refl; bytes = omega arith }) (on_then a.world b.world _ (on_all c site.node.state t.out a) (on_flushes c t.node.state (all_servers b.world) b.world))
@@ -84,7 +84,7 @@ left_by w c site input =
     b : ev.WorldTurn
     b = ev.client_says_all c site.node.state t.out a
 
-module _ (k : Config) (s : ℕ) (w : World) (node : ServerNode) (ended : ℕ → ℕ → ℕ) (G : ℕ → Ghost) (c : ℕ) (site0 site : ClientSite) (input : ClientInput) where
+module _ (k : Config) (s : ℕ) (w : World) (node : ServerNode) (ended : ℕ → ℕ → ℕ) (G : ℕ → Ghost) (c : ℕ) (site0 site : WorldClient) (input : ClientInput) where
   abbrev Now : Stamp
   Now = clock_of w (nodes.Client (client c))
 
@@ -94,12 +94,12 @@ module _ (k : Config) (s : ℕ) (w : World) (node : ServerNode) (ended : ℕ →
   abbrev pub After : World
   After = world_left w (client c) site input
 
-  abbrev Last : ClientSite
+  abbrev Last : WorldClient
   Last = site_left w (client c) site input
 
   -- after the step all stands again
-  pub steps : Both k s w node ended G → site_of w (client c) ≡ Some site0 → site.node ≡ site0.node → site.node.running ≡ true → Comes (server s) c input (G c).net → HeardOf input → ClientPath k s w After node ended G
-  steps b there same runs comes heard = record { ends_of = E2; ghosts = G2; both = record { stands = record { reached = Works b.stands.reached (record { each = each; table = λ u v z. z }); served = served; compat = b.stands.compat }; clients = clients; ends = ends; few = few }; drift = drift; left = left; keeps = λ H o. WorkedOn o (record { each = each; table = λ u v z. z }) }
+  pub steps : Both k s w node ended G → site_of w (client c) ≡ Some site0 → site.node ≡ site0.node → site.node.running ≡ true → Comes (server s) c input (G c).net → ReceivedOf input → ClientPath k s w After node ended G
+  steps b there same runs comes received = record { ends_of = E2; ghosts = G2; both = record { stands = record { reached = Works b.stands.reached (record { each = each; table = λ u v z. z }); served = served; compat = b.stands.compat }; clients = clients; ends = ends; few = few }; drift = drift; left = left; keeps = λ H o. WorkedOn o (record { each = each; table = λ u v z. z }) }
     where
       st : Standing k s c site0 w.ended (G c).net
       st = b.clients c site0 there
@@ -138,7 +138,7 @@ module _ (k : Config) (s : ℕ) (w : World) (node : ServerNode) (ended : ℕ →
       grows = moves_grow r.moves
 
       many : length After.clients ≡ length w.clients
-      many = ap (λ (xs : List ClientSite). length xs) q.clients ∙ length_set w.clients _ Last
+      many = ap (λ (xs : List WorldClient). length xs) q.clients ∙ length_set w.clients _ Last
 
       few : length After.clients ≤ 16
       few = let z = b.few in omega (arith, many)
@@ -189,7 +189,7 @@ module _ (k : Config) (s : ℕ) (w : World) (node : ServerNode) (ended : ℕ →
       site_d : (d : ℕ) → d ≢ c → site_of After (client d) ≡ site_of w (client d)
       site_d d n = (others_stay w (client c) site input).others (client d) pos.0 n
 
-      same_view : (d : ℕ) (e : ℕ → ℕ) (o : Option ClientSite) → client_at_site w d s e o ≡ client_at_site After d s e o
+      same_view : (d : ℕ) (e : ℕ → ℕ) (o : Option WorldClient) → client_at_site w d s e o ≡ client_at_site After d s e o
       same_view d e None = λ j. client_at ((sym q.config j).den * (sym clock_s j).0) 1 None empty_store (λ l. 0)
       same_view d e (Some z) = λ j. client_view z.node.running e (sym (clock_c d) j) (cl.association_with z.node.state (server s))
 
@@ -202,7 +202,7 @@ module _ (k : Config) (s : ℕ) (w : World) (node : ServerNode) (ended : ℕ →
       each d = upd_both (λ d e g. Moves k (pair d s (ended d) w node (G d)) (pair d s e After node g)) ended G c r.ended y own other d
 
       -- what is on its way
-      wires : (d : ℕ) (N M : List Msg) → Grows N M → Wires d s w.net.messages N → ((m : SentMessage) → Has m (sent Turned.out) → m.message.header.to ≡ 32768 + s → m.message.header.from ≡ d → Heard m.message.header m.message.body M) → Wires d s After.net.messages M
+      wires : (d : ℕ) (N M : List Msg) → Grows N M → Wires d s w.net.messages N → ((m : SentMessage) → Has m (sent Turned.out) → m.message.header.to ≡ 32768 + s → m.message.header.from ≡ d → Received m.message.header m.message.body M) → Wires d s After.net.messages M
       wires d N M g ws f m h = go (has_append w.net.messages (sent Turned.out) m (subst (Has m) q.messages h))
         where
           go : Has m w.net.messages ⊎ Has m (sent Turned.out) → Wire d s m.message M
@@ -232,7 +232,7 @@ module _ (k : Config) (s : ℕ) (w : World) (node : ServerNode) (ended : ℕ →
       Fact v l = server_node v ≡ server_node (server s) → record { life : l.0 ≡ a.life.0; before : a.life.0 < r.last.life.0; end : stamp_number (cl.lease_end_with site.node.state v) ≤ r.ended l.0 }
 
       losses : Losses Fact Turned.out
-      losses = step_losses k sv Now x.net (server s) Fact site.node.state input heard (λ z h ss is over e. fact z (only_here s site.node.state.associations a sim.place z h e) ss is over)
+      losses = step_losses k sv Now x.net (server s) Fact site.node.state input received (λ z h ss is over e. fact z (only_here s site.node.state.associations a sim.place z h e) ss is over)
         where
           by_end : (z : Association) → z ≡ a → (ss : ClientSession) → z.session ≡ Some ss → stamp_number (cl.lease_end_with site.node.state z.server) ≡ ss.lease.date.0 + site.node.state.config.lease
           by_end z za ss is =
@@ -320,7 +320,7 @@ module _ (k : Config) (s : ℕ) (w : World) (node : ServerNode) (ended : ℕ →
           go (inl i) = let p = past_own e i ec es in omega (arith, last_life)
           go (inr z) = let f = z.0 (to_s e es) in let g = f.life in let l = f.before in omega arith
 
-      clients : (d : ℕ) (z : ClientSite) → site_of After (client d) ≡ Some z → Standing k s d z After.ended (G2 d).net
+      clients : (d : ℕ) (z : WorldClient) → site_of After (client d) ≡ Some z → Standing k s d z After.ended (G2 d).net
       clients d z f = upd_all (λ d g. site_of After (client d) ≡ Some z → Standing k s d z After.ended g.net) G c y mine theirs d f
         where
           mine : site_of After (client c) ≡ Some z → Standing k s c z After.ended r.net

@@ -10,7 +10,7 @@ use Rattle.st_rules.specs.ClientLease.{end_at}
 use Rattle.st_rules.specs.ClientPages.{empty_store}
 use Rattle.st_rules.specs.ClientState.{Association, ClientSession}
 use Rattle.st_rules.specs.Client as cl
-use Rattle.st_rules.specs.World.{World, ClientSite, numbered, with_numbered, site_of, clock_of, stamp, server, lives_of, life_of_association}
+use Rattle.st_rules.specs.World.{World, WorldClient, numbered, with_numbered, site_of, clock_of, stamp, server, lives_of, life_of_association}
 use Rattle.st_rules.specs.Server.{ServerNode}
 use Rattle.st_rules.specs.Events as ev
 use Rattle.st_protocol.specs.Assoc as net
@@ -27,7 +27,7 @@ use Rattle.st_laws_refine.specs.Server.Pair.{pair}
 use Rattle.st_laws_refine.specs.Client.Law.{Apart, Place}
 use Rattle.st_laws_refine.specs.Server.Paths.{Leads}
 use Rattle.st_laws_refine.specs.Server.Paths.{WorkedOn}
-use Rattle.st_laws_leases.specs.Sides.Stands.{AllPast, Standing, Both}
+use Rattle.st_laws_leases.specs.Sides.Invariants.{AllPast, Standing, Both}
 use Rattle.st_laws_leases.proofs.Sides.Pairs.{length_set, numbered_some, found_at_place, only_here, own_view}
 
 -- associations that each keep their server
@@ -45,9 +45,9 @@ apart_map f h own (x ∷ xs) p = record { one = λ e. p.one (e ∙ ap (λ v. ser
 pub place_map : (f : Association → Association) → KeepsServer f → (own : ServerId) (xs : List Association) (a : Association) → Place own xs a → Place own (map f xs) (f a)
 place_map f h own xs a p = record { before = map f p.before; after = map f p.after; is = ap (map f) p.is ∙ map_both f p.before a p.after; here = h a ∙ p.here; apart_before = apart_map f h own p.before p.apart_before; apart_after = apart_map f h own p.after p.apart_after }
 
-module _ (k : Config) (s : ℕ) (w : World) (node : ServerNode) (ended : ℕ → ℕ → ℕ) (G : ℕ → Ghost) (c : ℕ) (site : ClientSite) where
+module _ (k : Config) (s : ℕ) (w : World) (node : ServerNode) (ended : ℕ → ℕ → ℕ) (G : ℕ → Ghost) (c : ℕ) (site : WorldClient) where
   -- one client is another one, and nothing was sent
-  pub record Changed (v : World) (last : ClientSite) (E : ℕ → ℕ) : Type 0 where
+  pub record Changed (v : World) (last : WorldClient) (E : ℕ → ℕ) : Type 0 where
     pub clients : v.clients ≡ with_numbered c last w.clients
     pub servers : v.servers ≡ w.servers
     pub clocks : v.clocks ≡ w.clocks
@@ -58,12 +58,12 @@ module _ (k : Config) (s : ℕ) (w : World) (node : ServerNode) (ended : ℕ →
     pub ends : EndedBy c s E v.ended
     pub others : (e : LeaseLife) → Has e v.ended → (e.client.0 ≢ c) → Has e w.ended
 
-  pub changed : (v : World) (last : ClientSite) (E : ℕ → ℕ) → Both k s w node ended G → site_of w (client c) ≡ Some site → Changed v last E → Both k s v node (upd ended c E) G × ((H : net.World) → Leads k H s ended w node G → Leads k H s (upd ended c E) v node G)
+  pub changed : (v : World) (last : WorldClient) (E : ℕ → ℕ) → Both k s w node ended G → site_of w (client c) ≡ Some site → Changed v last E → Both k s v node (upd ended c E) G × ((H : net.World) → Leads k H s ended w node G → Leads k H s (upd ended c E) v node G)
   changed v last E b there q =
       (record { stands = record { reached = Works b.stands.reached (record { each = each; table = λ x y z. z }); served = served; compat = b.stands.compat }; clients = clients; ends = ends; few = let z = b.few in omega (arith, many) }, λ H o. WorkedOn o (record { each = each; table = λ x y z. z }))
     where
       many : length v.clients ≡ length w.clients
-      many = ap (λ (xs : List ClientSite). length xs) q.clients ∙ length_set w.clients _ last
+      many = ap (λ (xs : List WorldClient). length xs) q.clients ∙ length_set w.clients _ last
 
       clock_s : clock_of v (nodes.Server (server s)) ≡ clock_of w (nodes.Server (server s))
       clock_s = λ j. unwrap_or (numbered (q.clocks j) (many j + s)) (stamp 0)
@@ -71,7 +71,7 @@ module _ (k : Config) (s : ℕ) (w : World) (node : ServerNode) (ended : ℕ →
       site_d : (d : ℕ) → d ≢ c → site_of v (client d) ≡ site_of w (client d)
       site_d d n = ap (λ xs. numbered xs d) q.clients ∙ numbered_other w.clients c d last (numbered_some w.clients c site there).0 n
 
-      same_view : (d : ℕ) (e : ℕ → ℕ) (o : Option ClientSite) → client_at_site w d s e o ≡ client_at_site v d s e o
+      same_view : (d : ℕ) (e : ℕ → ℕ) (o : Option WorldClient) → client_at_site w d s e o ≡ client_at_site v d s e o
       same_view d e None = λ j. client_at ((sym q.config j).den * (sym clock_s j).0) 1 None empty_store (λ l. 0)
       same_view d e (Some z) = λ j. client_view z.node.running e (unwrap_or (numbered (sym q.clocks j) d) (stamp 0)) (cl.association_with z.node.state (server s))
 
@@ -91,7 +91,7 @@ module _ (k : Config) (s : ℕ) (w : World) (node : ServerNode) (ended : ℕ →
           let z = b.stands.served d in
           record { found = ap (λ xs. numbered xs s) q.servers ∙ z.found; id = z.id; terms = z.terms; stands = subst (λ t. StandsAt d k.wait t node.running node.state (G d)) (sym clock_s) z.stands; wires = subst (λ ms. Wires d s ms (G d).net) (sym q.messages) z.wires }
 
-      clients : (d : ℕ) (z : ClientSite) → site_of v (client d) ≡ Some z → Standing k s d z v.ended (G d).net
+      clients : (d : ℕ) (z : WorldClient) → site_of v (client d) ≡ Some z → Standing k s d z v.ended (G d).net
       clients d z f = upd_all (λ d e. site_of v (client d) ≡ Some z → Standing k s d z v.ended (G d).net) ended c E mine theirs d f
         where
           some_is : {A : Type 0} {x y : A} → Some x ≡ Some y → x ≡ y
@@ -120,7 +120,7 @@ module _ (k : Config) (s : ℕ) (w : World) (node : ServerNode) (ended : ℕ →
       v : World
       v = (ev.crashes_client w (client c) (Some site)).world
 
-      last : ClientSite
+      last : WorldClient
       last = ev.stopped_site site
 
       st : Standing k s c site w.ended (G c).net
@@ -207,7 +207,7 @@ module _ (k : Config) (s : ℕ) (w : World) (node : ServerNode) (ended : ℕ →
       v : World
       v = ev.starts_client w (client c) (Some site)
 
-      last : ClientSite
+      last : WorldClient
       last = ev.started_site site
 
       st : Standing k s c site w.ended (G c).net

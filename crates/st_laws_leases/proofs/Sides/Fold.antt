@@ -11,20 +11,20 @@ use Rattle.st_rules.specs.Client as cl
 use Rattle.st_rules.specs.Disks as disks
 use Rattle.st_rules.specs.Keys.{client}
 use Rattle.st_rules.specs.Server.{ServerNode}
-use Rattle.st_rules.specs.World.{World, ClientSite, clock_of, issued_of, message_of, is_running, numbered, site_runs, server, site_of, stamp}
+use Rattle.st_rules.specs.World.{World, WorldClient, clock_of, issued_of, message_of, is_running, numbered, site_runs, server, site_of, stamp}
 use Rattle.st_rules.specs.Events as ev
 use Rattle.st_rules.specs.Events.{WorldTurn, counted, happens, world_step}
 use Rattle.st_protocol.specs.Assoc as net
 use Rattle.st_protocol.specs.Assoc.{Config}
 use Rattle.st_laws_refine.specs.Views.Halves.{Ghost, half_of}
-use Rattle.st_laws_refine.specs.Client.Law.{Comes, HeardOf}
+use Rattle.st_laws_refine.specs.Client.Law.{Comes, ReceivedOf}
 use Rattle.st_laws_refine.specs.Client.World.{stepped}
 use Rattle.st_lemmas.proofs.Steps.{step_happens}
 use Rattle.st_laws_refine.proofs.Server.Delivery.{message_has}
 use Rattle.st_rules.specs.declared.observation.WorldRefusal.{WorldRefusal}
 use Rattle.st_rules.specs.Admissible as admissible
 use Rattle.std.specs.Option.{option_or}
-use Rattle.st_laws_leases.specs.Sides.Stands.{Both, GrantsHaveModes, Left, Unseen}
+use Rattle.st_laws_leases.specs.Sides.Invariants.{Both, GrantsHaveModes, Left, Unseen}
 use Rattle.st_laws_refine.specs.Server.Paths.{Path, Leads}
 use Rattle.st_laws_leases.specs.Sides.Paths.{ClientPath}
 use Rattle.st_laws_refine.specs.Server.Pair.{client_at_site, client_in, pair}
@@ -36,14 +36,14 @@ use Rattle.st_laws_leases.proofs.Sides.Left.{left_all, left_with, left_then, one
 use Rattle.st_laws_leases.proofs.Sides.Clients.{brings}
 use Rattle.st_laws_leases.proofs.Sides.Clients.{steps}
 use Rattle.st_laws_leases.proofs.Sides.Crashes.{crashed, started}
-use Rattle.st_laws_leases.proofs.Sides.Unseen.{unseen, message_lost, lost_had, link_cut, link_healed}
+use Rattle.st_laws_leases.proofs.Sides.OtherServers.{unseen, message_lost, lost_had, link_cut, link_healed}
 
 -- a client that crashes or starts
-stop_left : (w : World) (c : ℕ) (site : ClientSite) → Left w (ev.crashes_client w (client c) (Some site)).world
+stop_left : (w : World) (c : ℕ) (site : WorldClient) → Left w (ev.crashes_client w (client c) (Some site)).world
 unfolding ev.crashes_client ev.marks
 stop_left w c site = one_changed w (client c) (ev.stopped_site site) _ refl refl refl refl refl refl
 
-start_left : (w : World) (c : ℕ) (site : ClientSite) → Left w (ev.starts_client w (client c) (Some site))
+start_left : (w : World) (c : ℕ) (site : WorldClient) → Left w (ev.starts_client w (client c) (Some site))
 unfolding ev.starts_client
 start_left w c site = one_changed w (client c) (ev.started_site site) _ refl refl refl refl refl refl
 
@@ -79,28 +79,28 @@ module _ (k : Config) (s : ℕ) (node : ServerNode) (ended : ℕ → ℕ → ℕ
   after u v w l x b = record { ends_of = b.ends_of; ghosts = b.ghosts; both = b.both; drift = b.drift; left = left_then u v w l b.left; keeps = λ H o. b.keeps H (same_leads u v x H o) }
 
   -- a client takes an input
-  takes : (w : World) (c : ℕ) (site0 site : ClientSite) (input : ClientInput) → Both k s w node ended G → site_of w (client c) ≡ Some site0 → site.node ≡ site0.node → Comes (server s) c input (G c).net → HeardOf input →
+  takes : (w : World) (c : ℕ) (site0 site : WorldClient) (input : ClientInput) → Both k s w node ended G → site_of w (client c) ≡ Some site0 → site.node ≡ site0.node → Comes (server s) c input (G c).net → ReceivedOf input →
       ClientPath k s w (ev.client_takes w (client c) input site).world node ended G
   unfolding ev.client_takes ev.client_took cl.node_step
-  takes w c site0 site input b there is comes heard = go site.node.running refl
+  takes w c site0 site input b there is comes received = go site.node.running refl
     where
       go : (r : Bool) → site.node.running ≡ r → ClientPath k s w (ev.client_took w (client c) site (if r then Ok (cl.node_turn site.node (stepped w (client c) site input)) else Err refusals.Crashed)).world node ended G
-      go true runs = steps k s w node ended G c site0 site input b there is runs comes heard
+      go true runs = steps k s w node ended G c site0 site input b there is runs comes received
       go false runs = stays w b
 
-  at_client : (w : World) (c : ℕ) (input : ClientInput) → Both k s w node ended G → Comes (server s) c input (G c).net → HeardOf input → ClientPath k s w (ev.at_client w (client c) input (site_of w (client c))).world node ended G
+  at_client : (w : World) (c : ℕ) (input : ClientInput) → Both k s w node ended G → Comes (server s) c input (G c).net → ReceivedOf input → ClientPath k s w (ev.at_client w (client c) input (site_of w (client c))).world node ended G
   unfolding ev.at_client
-  at_client w c input b comes heard = go (site_of w (client c)) refl
+  at_client w c input b comes received = go (site_of w (client c)) refl
     where
-      go : (o : Option ClientSite) → site_of w (client c) ≡ o → ClientPath k s w (ev.at_client w (client c) input o).world node ended G
+      go : (o : Option WorldClient) → site_of w (client c) ≡ o → ClientPath k s w (ev.at_client w (client c) input o).world node ended G
       go None e = stays w b
-      go (Some site) e = takes w c site site input b e refl comes heard
+      go (Some site) e = takes w c site site input b e refl comes received
 
   asked : (w : World) (c : ℕ) (ask : Ask) → Both k s w node ended G → ClientPath k s w (ev.asks_at w (client c) ask (site_of w (client c))).world node ended G
   unfolding ev.asks_at
   asked w c ask b = go (site_of w (client c)) refl
     where
-      go : (o : Option ClientSite) → site_of w (client c) ≡ o → ClientPath k s w (ev.asks_at w (client c) ask o).world node ended G
+      go : (o : Option WorldClient) → site_of w (client c) ≡ o → ClientPath k s w (ev.asks_at w (client c) ask o).world node ended G
       go None e = stays w b
       go (Some site) e = takes w c site (ev.asked_once_more site) (inputs.App _ ask) b e refl (record {}) (record {})
 
@@ -109,11 +109,11 @@ module _ (k : Config) (s : ℕ) (node : ServerNode) (ended : ℕ → ℕ → ℕ
   told w n ok None b = stays w b
   told w n ok (Some x) b = go (site_of w x.client) refl
     where
-      by : (site : ClientSite) → site_of w x.client ≡ Some site → (same : Bool) → ClientPath k s w (if same then ev.client_takes w x.client (ev.end_told w n ok x) site else ev.quiet w).world node ended G
+      by : (site : WorldClient) → site_of w x.client ≡ Some site → (same : Bool) → ClientPath k s w (if same then ev.client_takes w x.client (ev.end_told w n ok x) site else ev.quiet w).world node ended G
       by site e true = takes w x.client.0 site site (ev.end_told w n ok x) b e refl (record {}) (record {})
       by site e false = stays w b
 
-      go : (o : Option ClientSite) → site_of w x.client ≡ o → ClientPath k s w (ev.tells_client w n ok x o).world node ended G
+      go : (o : Option WorldClient) → site_of w x.client ≡ o → ClientPath k s w (ev.tells_client w n ok x o).world node ended G
       go None e = stays w b
       go (Some site) e = by site e (ev.is_same_instance x site)
 
@@ -124,19 +124,19 @@ module _ (k : Config) (s : ℕ) (node : ServerNode) (ended : ℕ → ℕ → ℕ
       after w v _ (left_all w v refl refl refl refl refl refl) (record { clients = refl; clocks = refl; ended = refl; config = refl; found = refl; messages = λ m h. inl (m, h, refl) })
       (told v n ok (issued_of w n) (same w v (record { clients = refl; clocks = refl; ended = refl; config = refl; found = refl; messages = λ m h. inl (m, h, refl) }) b))
 
-  crash_of : (w : World) (c : ℕ) → Both k s w node ended G → ((site : ClientSite) → site_of w (client c) ≡ Some site → site.node.running ≡ true) → ClientPath k s w (ev.crashes_client w (client c) (site_of w (client c))).world node ended G
+  crash_of : (w : World) (c : ℕ) → Both k s w node ended G → ((site : WorldClient) → site_of w (client c) ≡ Some site → site.node.running ≡ true) → ClientPath k s w (ev.crashes_client w (client c) (site_of w (client c))).world node ended G
   unfolding ev.crashes_client
   crash_of w c b runs = go (site_of w (client c)) refl
     where
-      go : (o : Option ClientSite) → site_of w (client c) ≡ o → ClientPath k s w (ev.crashes_client w (client c) o).world node ended G
+      go : (o : Option WorldClient) → site_of w (client c) ≡ o → ClientPath k s w (ev.crashes_client w (client c) o).world node ended G
       go None e = stays w b
       go (Some site) e = let x = crashed k s w node ended G c site b e (runs site e) in record { ends_of = _; ghosts = G; both = x.both; drift = λ d. refl; left = stop_left w c site; keeps = x.keeps }
 
-  start_of : (w : World) (c : ℕ) → Both k s w node ended G → ((site : ClientSite) → site_of w (client c) ≡ Some site → site.node.running ≡ false) → ClientPath k s w (ev.starts_client w (client c) (site_of w (client c))) node ended G
+  start_of : (w : World) (c : ℕ) → Both k s w node ended G → ((site : WorldClient) → site_of w (client c) ≡ Some site → site.node.running ≡ false) → ClientPath k s w (ev.starts_client w (client c) (site_of w (client c))) node ended G
   unfolding ev.starts_client
   start_of w c b stops = go (site_of w (client c)) refl
     where
-      go : (o : Option ClientSite) → site_of w (client c) ≡ o → ClientPath k s w (ev.starts_client w (client c) o) node ended G
+      go : (o : Option WorldClient) → site_of w (client c) ≡ o → ClientPath k s w (ev.starts_client w (client c) o) node ended G
       go None e = stays w b
       go (Some site) e = let x = started k s w node ended G c site b e (stops site e) in record { ends_of = _; ghosts = G; both = x.1; drift = λ d. refl; left = start_left w c site; keeps = x.2 }
 
@@ -161,7 +161,7 @@ unfolding admissible.stands
 not_stands true r e = cc
 not_stands false r e = refl
 
-runs_by : (w : World) (c : ℕ) (site : ClientSite) → site_of w (client c) ≡ Some site → site.node.running ≡ is_running w (nodes.Client (client c))
+runs_by : (w : World) (c : ℕ) (site : WorldClient) → site_of w (client c) ≡ Some site → site.node.running ≡ is_running w (nodes.Client (client c))
 runs_by w c site e = sym (ap (λ o. site_runs o) e)
 
 pub not_false : (b : Bool) → not b ≡ false → b ≡ true

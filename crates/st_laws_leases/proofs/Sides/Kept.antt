@@ -10,7 +10,7 @@ use Rattle.st_laws_pages.proofs.Disks.Whole.{told_law}
 use Rattle.st_laws_refine.proofs.Server.Old.{old_messages}
 use Rattle.st_rules.specs.History.{traced}
 use Rattle.st_rules.specs.World.{fresh_world}
-use Rattle.st_laws_leases.specs.Sides.Kept.{EveryRunIsKept, IsMostPromised}
+use Rattle.st_laws_leases.specs.Sides.KeptPromises.{EveryRunIsKept, IsMostPromised}
 use Rattle.st_laws_leases.proofs.Sides.Runs.{changes_stay_locked, graces_wait_out, no_conflict_sent, pages_stand_alone, thefts_come_late}
 
 every_run : EveryRunIsKept

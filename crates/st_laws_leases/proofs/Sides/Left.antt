@@ -16,11 +16,11 @@ use Rattle.st_rules.specs.declared.world.SentMessage.{SentMessage}
 use Rattle.st_rules.specs.ClientState.{ClientState}
 use Rattle.st_rules.specs.Client as cl
 use Rattle.st_rules.specs.World as world
-use Rattle.st_rules.specs.World.{World, ClientSite, site_of, with_numbered}
+use Rattle.st_rules.specs.World.{World, WorldClient, site_of, with_numbered}
 use Rattle.st_rules.specs.Events as ev
 use Rattle.st_rules.specs.Events.{WorldTurn, client_says, client_says_all}
 use Rattle.st_lemmas.specs.Lists.{Has}
-use Rattle.st_laws_leases.specs.Sides.Stands.{Left}
+use Rattle.st_laws_leases.specs.Sides.Invariants.{Left}
 use Rattle.st_laws_leases.proofs.Sides.Pairs.{length_set}
 
 -- the drift stays, and no byte goes
@@ -40,7 +40,7 @@ unfolding client_says ev.sends ev.submits ev.answers_with ev.client_notes ev.acc
 on_one a c before (outputs.Send m) = record { drift = refl; bytes = omega arith }
 on_one a c before (outputs.Submit number at what) = go (site_of a.world c)
   where
-    go : (o : Option ClientSite) → RunsOn a.world (ev.submits a c o number at what).world
+    go : (o : Option WorldClient) → RunsOn a.world (ev.submits a c o number at what).world
     go None = on_same a.world _ refl refl
     go (Some site) = on_same a.world _ refl refl
 on_one a c before (outputs.Answer op answer) = on_same a.world _ refl refl
@@ -100,7 +100,7 @@ left_with w v s k t d c b n =
     }
 
 -- one client is another one
-pub one_changed : (w : World) (c : ClientId) (new : ClientSite) (v : World) → v.servers ≡ w.servers → v.config ≡ w.config → v.clocks ≡ w.clocks → v.drift ≡ w.drift →
+pub one_changed : (w : World) (c : ClientId) (new : WorldClient) (v : World) → v.servers ≡ w.servers → v.config ≡ w.config → v.clocks ≡ w.clocks → v.drift ≡ w.drift →
     v.clients ≡ with_numbered c.0 new w.clients → v.net ≡ w.net → Left w v
 one_changed w c new v s k t d e n =
     record {

@@ -32,13 +32,13 @@ use Rattle.st_rules.specs.Safety.{is_change_locked}
 use Rattle.st_rules.specs.Server as sv
 use Rattle.st_rules.specs.Server.{ServerNode}
 use Rattle.st_rules.specs.World as world
-use Rattle.st_rules.specs.World.{World, ClientSite, clock_of, issued_of, node_of, site_of}
+use Rattle.st_rules.specs.World.{World, WorldClient, clock_of, issued_of, node_of, site_of}
 use Rattle.st_protocol.specs.Assoc.{Config}
 use Rattle.st_lemmas.proofs.Tables.{and_both, and_true}
 use Rattle.st_laws_refine.specs.Client.World.{stepped, world_left}
 use Rattle.st_laws_refine.proofs.Client.Sim.{world_is}
 use Rattle.st_laws_steps.specs.Lives.Lives.{LivesHold}
-use Rattle.st_laws_pages.specs.LockedCuts.Locked.{is_cut_locked}
+use Rattle.st_laws_pages.specs.LockedCuts.CutLocks.{is_cut_locked}
 use Rattle.st_laws_leases.specs.Sides.World.{AllStand}
 use Rattle.st_laws_leases.proofs.Sides.Changes.{is_write_locked, took}
 use Rattle.st_laws_leases.proofs.Sides.Known.{Known, crash_known, start_known, step_known}
@@ -109,7 +109,7 @@ module _ (k : Config) (count : ℕ) where
   still : (w v : World) → v.clients ≡ w.clients → length v.servers ≡ length w.servers → ServersKnown w → Written (ev.quiet v)
   still w v c s h = quietly w (ev.quiet v) (λ x. refl) c s h
 
-  takes : (w : World) (c : ClientId) (input : ClientInput) (old site : ClientSite) → site_of w c ≡ Some old → old.node ≡ site.node → LivesHold w → ServersKnown w → Written (ev.client_takes w c input site)
+  takes : (w : World) (c : ClientId) (input : ClientInput) (old site : WorldClient) → site_of w c ≡ Some old → old.node ≡ site.node → LivesHold w → ServersKnown w → Written (ev.client_takes w c input site)
   unfolding cl.node_step ev.client_takes ev.client_took
   takes w c input old site there same l h = go site.node.running refl
     where
@@ -120,7 +120,7 @@ module _ (k : Config) (count : ℕ) where
       go true r = record { locked = took k count w c old site input there same r l h; known = left }
       go false r = still w w refl refl h
 
-  at_client : (w : World) (c : ClientId) (input : ClientInput) (o : Option ClientSite) → site_of w c ≡ o → LivesHold w → ServersKnown w → Written (ev.at_client w c input o)
+  at_client : (w : World) (c : ClientId) (input : ClientInput) (o : Option WorldClient) → site_of w c ≡ o → LivesHold w → ServersKnown w → Written (ev.at_client w c input o)
   unfolding ev.at_client
   at_client w c input None e l h = still w w refl refl h
   at_client w c input (Some site) e l h = takes w c input site site e refl l h
@@ -143,7 +143,7 @@ module _ (k : Config) (count : ℕ) where
   happens_written w (events.Tick (nodes.Server s)) l h = at_server w s _ (node_of w s) h
   happens_written w (events.App c ask) l h = go (site_of w c) refl
     where
-      go : (o : Option ClientSite) → site_of w c ≡ o → Written (ev.asks_at w c ask o)
+      go : (o : Option WorldClient) → site_of w c ≡ o → Written (ev.asks_at w c ask o)
       go None e = still w w refl refl h
       go (Some site) e = takes w c _ site (ev.asked_once_more site) e refl l h
   happens_written w (events.Deliver n) l h = go (world.message_of w n)
@@ -172,11 +172,11 @@ module _ (k : Config) (count : ℕ) where
       lives : LivesHold v
       lives = record { lives = l.lives; known = l.known }
 
-      same : (x : IssuedCommand) (site : ClientSite) → site_of v x.client ≡ Some site → (b : Bool) → Written (if b then ev.client_takes v x.client (ev.end_told v n ok x) site else ev.quiet v)
+      same : (x : IssuedCommand) (site : WorldClient) → site_of v x.client ≡ Some site → (b : Bool) → Written (if b then ev.client_takes v x.client (ev.end_told v n ok x) site else ev.quiet v)
       same x site e true = takes v x.client (ev.end_told v n ok x) site site e refl lives h
       same x site e false = still w v refl refl h
 
-      told : (x : IssuedCommand) (o : Option ClientSite) → site_of v x.client ≡ o → Written (ev.tells_client v n ok x o)
+      told : (x : IssuedCommand) (o : Option WorldClient) → site_of v x.client ≡ o → Written (ev.tells_client v n ok x o)
       told x None e = still w v refl refl h
       told x (Some site) e = same x site e (ev.is_same_instance x site)
 
@@ -185,7 +185,7 @@ module _ (k : Config) (count : ℕ) where
       go (Some x) = told x (site_of v x.client) refl
   happens_written w (events.Crash (nodes.Client c)) l h = go (site_of w c) refl
     where
-      go : (o : Option ClientSite) → site_of w c ≡ o → Written (ev.crashes_client w c o)
+      go : (o : Option WorldClient) → site_of w c ≡ o → Written (ev.crashes_client w c o)
       go None e = still w w refl refl h
       go (Some site) e = record { locked = λ a. marks_seen 1 w.log (ev.log_crashed w c) (ev.crashes_client w c (Some site)).world; known = crash_known (length w.servers) w c site (ev.stopped_site site) e refl h }
   happens_written w (events.Crash (nodes.Server s)) l h = go (node_of w s)
@@ -195,7 +195,7 @@ module _ (k : Config) (count : ℕ) where
       go (Some node) = still w (ev.crashes_server w s (Some node)) refl (length_set w.servers (pred s.0) _) h
   happens_written w (events.Start (nodes.Client c)) l h = go (site_of w c) refl
     where
-      go : (o : Option ClientSite) → site_of w c ≡ o → Written (ev.quiet (ev.starts_client w c o))
+      go : (o : Option WorldClient) → site_of w c ≡ o → Written (ev.quiet (ev.starts_client w c o))
       go None e = still w w refl refl h
       go (Some site) e = record { locked = λ a. refl; known = start_known (length w.servers) w c site (ev.started_site site) e refl h }
   happens_written w (events.Start (nodes.Server s)) l h = go (node_of w s)

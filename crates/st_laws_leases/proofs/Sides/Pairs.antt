@@ -10,13 +10,13 @@ use Rattle.st_rules.specs.declared.world.SentMessage.{SentMessage}
 use Rattle.st_rules.specs.Keys.{client, server_node}
 use Rattle.st_rules.specs.ClientState.{Association, ClientState, is_at}
 use Rattle.st_rules.specs.Client.{association_with}
-use Rattle.st_rules.specs.World.{World, ClientSite, numbered, site_of, clock_of, server}
+use Rattle.st_rules.specs.World.{World, WorldClient, numbered, site_of, clock_of, server}
 use Rattle.st_protocol.specs.Assoc.{Msg}
 use Rattle.st_lemmas.specs.Lists.{Has}
-use Rattle.st_laws_refine.specs.Views.Messages.{Heard}
+use Rattle.st_laws_refine.specs.Views.Messages.{Received}
 use Rattle.st_laws_refine.specs.Views.Halves.{client_of}
 use Rattle.st_laws_refine.specs.Server.Pair.{client_view, client_at_site, client_in}
-use Rattle.st_laws_refine.specs.Client.Shown.{Said}
+use Rattle.st_laws_refine.specs.Client.Invariants.{Said}
 use Rattle.st_laws_refine.specs.Client.Law.{Apart, Place}
 use Rattle.st_laws_refine.specs.Client.World.{sent}
 
@@ -67,16 +67,16 @@ only_here s xs a p x h e = go p.before p.apart_before (subst (Has x) p.is h)
     go (y ∷ ys) q (inr h) = go ys q.rest h
 
 -- the client's half of the pair, where the client runs
-pub own_view : (w : World) (c s : ℕ) (e : ℕ → ℕ) (site : ClientSite) (a : Association) → site_of w (client c) ≡ Some site → site.node.running ≡ true → Place (server s) site.node.state.associations a →
+pub own_view : (w : World) (c s : ℕ) (e : ℕ → ℕ) (site : WorldClient) (a : Association) → site_of w (client c) ≡ Some site → site.node.running ≡ true → Place (server s) site.node.state.associations a →
     client_in w c s e ≡ client_of e (clock_of w (nodes.Client (client c))).0 a
 own_view w c s e site a there runs p =
     ap (client_at_site w c s e) there ∙ ap (λ b. client_view b e (clock_of w (nodes.Client (client c))) (association_with site.node.state (server s))) runs
     ∙ ap (client_view true e (clock_of w (nodes.Client (client c)))) (found_at_place s site.node.state a p)
 
--- a message of a client is its own, and a server can hear it
-pub said_has : (id : ℕ) (sv : ServerId) (os : List Output) (N : List Msg) (m : SentMessage) → Said id sv os N → Has m (sent os) → (m.message.header.from ≡ id) × (m.message.header.to ≡ server_node sv → Heard m.message.header m.message.body N)
+-- a message of a client is its own, and a server can receive it
+pub said_has : (id : ℕ) (sv : ServerId) (os : List Output) (N : List Msg) (m : SentMessage) → Said id sv os N → Has m (sent os) → (m.message.header.from ≡ id) × (m.message.header.to ≡ server_node sv → Received m.message.header m.message.body N)
 said_has id sv [] N m q h = elim h [ ]
-said_has id sv (outputs.Send n ∷ os) N m q (inl e) = (ap (λ (x : SentMessage). x.message.header.from) e ∙ q.from, λ f. subst (λ (x : SentMessage). Heard x.message.header x.message.body N) (sym e) (q.one (sym (ap (λ (x : SentMessage). x.message.header.to) e) ∙ f)))
+said_has id sv (outputs.Send n ∷ os) N m q (inl e) = (ap (λ (x : SentMessage). x.message.header.from) e ∙ q.from, λ f. subst (λ (x : SentMessage). Received x.message.header x.message.body N) (sym e) (q.one (sym (ap (λ (x : SentMessage). x.message.header.to) e) ∙ f)))
 said_has id sv (outputs.Send n ∷ os) N m q (inr h) = said_has id sv os N m q.rest h
 said_has id sv (outputs.Submit c a w ∷ os) N m q h = said_has id sv os N m q h
 said_has id sv (outputs.Answer o a ∷ os) N m q h = said_has id sv os N m q h

@@ -7,7 +7,7 @@ use Rattle.st_protocol.specs.Assoc.{Config}
 use Rattle.st_laws_refine.specs.Server.Paths.{Path, Here}
 use Rattle.st_laws_leases.specs.Sides.Paths.{EventsArePaths, Led, pairs_of}
 use Rattle.st_laws_leases.specs.Sides.World.{AllStand}
-use Rattle.st_laws_leases.proofs.Sides.Everywhere.{stays_led}
+use Rattle.st_laws_leases.proofs.Sides.AllAssociations.{stays_led}
 
 -- where the paths begin
 abbrev Begins : (k : Config) (count : ℕ) (w : World) → AllStand k count w → ℕ → net.World → Type 0

@@ -19,15 +19,15 @@ use Rattle.st_protocol.specs.Assoc.{Config}
 use Rattle.st_lemmas.proofs.Tables.{all_pass}
 use Rattle.st_laws_leases.specs.Dates.Dates.{Dated}
 use Rattle.st_laws_leases.proofs.Dates.Calm.{happens_calm, report_calm}
-use Rattle.st_laws_leases.proofs.Dates.Said.{AllCalm}
+use Rattle.st_laws_leases.proofs.Dates.SentMessages.{AllCalm}
 use Rattle.st_laws_leases.specs.History.Replies.{DatesStand}
 use Rattle.st_laws_refine.specs.Server.Pair.{DatesShown}
 use Rattle.st_laws_refine.proofs.Server.Runs.{delivered, ticked}
 use Rattle.st_laws_refine.proofs.Server.Waits.{server_waits}
 use Rattle.st_laws_leases.specs.Sides.World.{AllStand}
-use Rattle.st_laws_leases.proofs.Sides.Calmly.{late_all, client_hears, calm_tick, calm_ask, calm_loss, calm_advance, calm_effect, calm_report, calm_link, calm_crash, calm_stop, calm_start}
+use Rattle.st_laws_leases.proofs.Sides.Calmly.{late_all, client_receives, calm_tick, calm_ask, calm_loss, calm_advance, calm_effect, calm_report, calm_link, calm_crash, calm_stop, calm_start}
 use Rattle.st_laws_leases.proofs.Sides.Quietly.{quiet_advance, quiet_crash, quiet_effect, quiet_link, quiet_loss, quiet_start, quiet_stop}
-use Rattle.st_laws_leases.proofs.Sides.Everywhere.{first_none, message_there, positive, running_node, settings}
+use Rattle.st_laws_leases.proofs.Sides.AllAssociations.{first_none, message_there, positive, running_node, settings}
 use Rattle.st_laws_leases.proofs.Sides.Shown.{dates_shown}
 use Rattle.st_laws_leases.proofs.Sides.Fold.{not_false, not_stands, second_none}
 
@@ -86,7 +86,7 @@ module _ (k : Config) (t : Traced) (count : ℕ) (a : AllStand k count t.world) 
   thefts_late (events.Deliver n) r e = go (message_of w n) refl
     where
       to : (m : SentMessage) → message_of w n ≡ Some m → (x : NodeId) → receiver_of m ≡ x → list_all (is_late t) (happens (counted w) (events.Deliver n)).seen ≡ true
-      to m q (nodes.Client c) f = calm _ (client_hears w n m c q f)
+      to m q (nodes.Client c) f = calm _ (client_receives w n m c q f)
       to m q (nodes.Server s) f = message_late n s.0 m r q f e
 
       go : (o : Option SentMessage) → message_of w n ≡ o → list_all (is_late t) (happens (counted w) (events.Deliver n)).seen ≡ true

@@ -13,7 +13,7 @@ use Rattle.st_rules.specs.declared.log.LogEntry.{LogEntry}
 use Rattle.st_rules.specs.Events as ev
 use Rattle.st_rules.specs.Safety.{is_no_conflict}
 use Rattle.st_rules.specs.World as world
-use Rattle.st_rules.specs.World.{World, ClientSite, site_of}
+use Rattle.st_rules.specs.World.{World, WorldClient, site_of}
 use Rattle.st_lemmas.proofs.Tables.{and_both}
 
 fate_quiet : (n : ℕ) (a b : Fate) → list_all is_no_conflict (ev.fate_seen n a b) ≡ true
@@ -29,7 +29,7 @@ fates_quiet n [] fs = refl
 fates_quiet n (e ∷ es) [] = refl
 fates_quiet n (e ∷ es) (f ∷ fs) = list_all-append is_no_conflict (ev.fate_seen n e.fate f.fate) _ ∙ and_both _ _ (fate_quiet n e.fate f.fate) (fates_quiet (n + 1) es fs)
 
-crash_quiet : (w : World) (c : ClientId) (o : Option ClientSite) → list_all is_no_conflict (ev.crashes_client w c o).seen ≡ true
+crash_quiet : (w : World) (c : ClientId) (o : Option WorldClient) → list_all is_no_conflict (ev.crashes_client w c o).seen ≡ true
 unfolding ev.crashes_client ev.marks
 crash_quiet w c None = refl
 crash_quiet w c (Some site) = fates_quiet 1 w.log (ev.log_crashed w c)

@@ -17,17 +17,17 @@ use Rattle.st_laws_refine.specs.Server.Pair.{terms_of}
 use Rattle.st_protocol.specs.Assoc.{Config}
 use Rattle.st_laws_leases.specs.Sides.Law.{InEveryRun, RunsStand}
 use Rattle.st_laws_leases.specs.Sides.World.{AllStand, IsFull}
-use Rattle.st_laws_leases.proofs.Sides.Beginning.{begun}
+use Rattle.st_laws_leases.proofs.Sides.FirstWorld.{begun}
 use Rattle.st_laws_leases.specs.Dates.Dates.{Dated}
 use Rattle.st_laws_leases.proofs.Dates.Law as dated
 use Rattle.st_laws_leases.proofs.History.RepliesLaw as replies
-use Rattle.st_laws_leases.proofs.Sides.Everywhere.{stays}
-use Rattle.st_laws_leases.proofs.Sides.Alone.{all_stand_alone}
+use Rattle.st_laws_leases.proofs.Sides.AllAssociations.{stays}
+use Rattle.st_laws_leases.proofs.Sides.DirtyPages.{all_stand_alone}
 use Rattle.st_laws_leases.proofs.Sides.Known.{fresh_known}
 use Rattle.st_laws_leases.proofs.Sides.Locked.{ServersKnown, Written, both_locked, happens_written}
 use Rattle.st_laws_leases.proofs.Sides.Promised.{graces_wait, no_conflicts, thefts_late}
 use Rattle.st_laws_leases.proofs.Sides.Waiting.{waits_owed}
-use Rattle.st_laws_pages.specs.LockedCuts.Locked.{WaitsHold}
+use Rattle.st_laws_pages.specs.LockedCuts.CutLocks.{WaitsHold}
 use Rattle.st_laws_pages.proofs.LockedCuts.CutLaw.{law as cut_law}
 use Rattle.st_laws_pages.proofs.Disks.Whole.{fresh_waits}
 

@@ -17,13 +17,13 @@ use Rattle.st_rules.specs.World.{World, clock_of, is_running, message_of, node_o
 use Rattle.st_protocol.specs.Assoc.{Config}
 use Rattle.st_lemmas.proofs.Lookups.{some_is}
 use Rattle.st_lemmas.proofs.Tables.{and_true}
-use Rattle.st_laws_refine.specs.Views.Messages.{Heard}
-use Rattle.st_laws_pages.specs.LockedCuts.Locked.{AtMessage, AtReassertion, AtReceiver, MayAccept, WaitsForNone, WaitsOwed}
+use Rattle.st_laws_refine.specs.Views.Messages.{Received}
+use Rattle.st_laws_pages.specs.LockedCuts.CutLocks.{AtMessage, AtReassertion, AtReceiver, MayAccept, WaitsForNone, WaitsOwed}
 use Rattle.st_laws_refine.specs.Server.Edits.{InGrace}
 use Rattle.st_laws_refine.proofs.Server.Conflicts.{no_waits}
 use Rattle.st_laws_refine.proofs.Server.Delivery.{message_has, to_server}
 use Rattle.st_laws_leases.specs.Sides.World.{AllStand, ServerStands}
-use Rattle.st_laws_leases.proofs.Sides.Everywhere.{first_none, positive, running_node}
+use Rattle.st_laws_leases.proofs.Sides.AllAssociations.{first_none, positive, running_node}
 use Rattle.st_laws_leases.proofs.Sides.Fold.{not_false, not_stands, second_none}
 
 module _ (k : Config) (count : ℕ) (w : World) (a : AllStand k count w) where
@@ -31,13 +31,13 @@ module _ (k : Config) (count : ℕ) (w : World) (a : AllStand k count w) where
   at_running : (n s : ℕ) (m : SentMessage) (node : ServerNode) → node_of w (server s) ≡ Some node → node.running ≡ true → message_of w n ≡ Some m → receiver_of m ≡ nodes.Server (server s) → (body : Body) → m.message.body ≡ body →
       WaitsForNone (thefts (turn node.state []) (clock_of w (nodes.Server (server s)))) (clock_of w (nodes.Server (server s))) m.message.header body
   at_running n s m node at runs em er (bd.Reassert rows) is =
-      λ may x h e. no_waits k s z.ended w node z.ghosts a.sound runs z.both.stands m.message heard (thefts (turn node.state []) (clock_of w (nodes.Server (server s)))) rows (grace may) x h e
+      λ may x h e. no_waits k s z.ended w node z.ghosts a.sound runs z.both.stands m.message received (thefts (turn node.state []) (clock_of w (nodes.Server (server s)))) rows (grace may) x h e
     where
       z : ServerStands k w s node
       z = a.servers s node at
 
-      heard : is_client_node m.message.header.from ≡ true → Heard m.message.header m.message.body (z.ghosts m.message.header.from).net
-      heard f = (((z.both.stands.served m.message.header.from).wires m (message_has w n m em)).to_server (to_server m.message.header.to s (positive k count w a s node at) er) f refl)
+      received : is_client_node m.message.header.from ≡ true → Received m.message.header m.message.body (z.ghosts m.message.header.from).net
+      received f = (((z.both.stands.served m.message.header.from).wires m (message_has w n m em)).to_server (to_server m.message.header.to s (positive k count w a s node at) er) f refl)
 
       grace : MayAccept (thefts (turn node.state []) (clock_of w (nodes.Server (server s)))) (clock_of w (nodes.Server (server s))) m.message.header → InGrace node.state (clock_of w (nodes.Server (server s))) (thefts (turn node.state []) (clock_of w (nodes.Server (server s)))) m.message rows
       grace may =

@@ -20,7 +20,7 @@ use Rattle.st_rules.specs.Sessions as sessions
 use Rattle.st_rules.specs.Sessions.{Sessions}
 use Rattle.st_rules.specs.Locks.{Locks}
 use Rattle.st_rules.specs.Server.{ServerNode, ServerState, is_client_node}
-use Rattle.st_rules.specs.World.{World, ClientSite, clock_of, site_of, node_of, numbered}
+use Rattle.st_rules.specs.World.{World, WorldClient, clock_of, site_of, node_of, numbered}
 use Rattle.st_rules.specs.History.{Traced, TimerStart, is_timer_of}
 use Rattle.st_rules.specs.Dating as dating
 use Rattle.st_rules.specs.Safety.{Step, is_conflict}
@@ -147,7 +147,7 @@ Timed ts s n = (c : ClientId) → Runs n.authority c → TimerOf ts s c
 pub record Dated (past : List Step) (t : Traced) : Type 0 where
   pub born : (m : Message) → Has m (messages t.world) → is_from_client m ≡ true → dating.is_request m.body ≡ true → Born past m
   pub answered : (m : Message) → Has m (messages t.world) → is_from_client m ≡ false → is_dating m ≡ true → Answer (messages t.world) m
-  pub clients : (c : ClientId) (site : ClientSite) → site_of t.world c ≡ Some site → ClientDated (messages t.world) c site.node.state
+  pub clients : (c : ClientId) (site : WorldClient) → site_of t.world c ≡ Some site → ClientDated (messages t.world) c site.node.state
   pub servers : (s : ServerId) (node : ServerNode) → node_of t.world s ≡ Some node → ServerKnown s node.state
   pub timers : (x : TimerStart) → Has x t.history.timers → TimerQuiet t.world x
   pub timed : (s : ServerId) (node : ServerNode) → node_of t.world s ≡ Some node → node.running ≡ true → Timed t.history.timers s node.state

@@ -7,7 +7,7 @@ use Rattle.st_rules.specs.Dating.{refuses_client}
 use Rattle.st_rules.specs.History.{LeaseDate}
 use Rattle.st_rules.specs.Keys.{server_node}
 use Rattle.st_rules.specs.Safety.{Promise}
-use Rattle.st_rules.specs.World.{World, ClientSite, site_of}
+use Rattle.st_rules.specs.World.{World, WorldClient, site_of}
 use Rattle.st_lemmas.specs.Lists.{Has}
 
 -- a message that renews a lease, or begins one: a welcome, or a reply but a refusal of the client or of its epoch; a grant that answers
@@ -41,7 +41,7 @@ DatesReplied lease ms ds = (d : LeaseDate) → Has d ds → Replied lease ms d
 
 -- each of these dates is of a client of the world
 abbrev pub DatesPlaced : World → List LeaseDate → Type 0
-DatesPlaced w ds = (d : LeaseDate) → Has d ds → (site : ClientSite) × (site_of w d.client ≡ Some site)
+DatesPlaced w ds = (d : LeaseDate) → Has d ds → (site : WorldClient) × (site_of w d.client ≡ Some site)
 
 -- Behind a step each date of the history is of a client and of a reply.
 pub record DatesStand (w : World) (ds : List LeaseDate) : Type 0 where

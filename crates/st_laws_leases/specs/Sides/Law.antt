@@ -17,7 +17,7 @@ use Rattle.st_rules.specs.Safety.{IsHead, Promise, Throughout, is_event, steps}
 use Rattle.st_protocol.specs.Assoc.{Config}
 use Rattle.st_laws_refine.specs.Server.Pair.{terms_of}
 use Rattle.st_laws_refine.specs.Views.Halves.{Ghost}
-use Rattle.st_laws_leases.specs.Sides.Stands.{Both, BothAfter, GrantsHaveModes}
+use Rattle.st_laws_leases.specs.Sides.Invariants.{Both, BothAfter, GrantsHaveModes}
 use Rattle.st_laws_leases.specs.Sides.World.{AllStand}
 
 -- an event of a client, or one that no node takes part in

@@ -8,8 +8,8 @@ use Rattle.st_protocol.specs.Assoc as net
 use Rattle.st_protocol.specs.Assoc.{Config}
 use Rattle.st_laws_refine.specs.Views.Halves.{Ghost}
 use Rattle.st_laws_refine.specs.Server.Paths.{Leads, Path}
-use Rattle.st_laws_refine.specs.Server.Stands.{pairs}
-use Rattle.st_laws_leases.specs.Sides.Stands.{Both, Left}
+use Rattle.st_laws_refine.specs.Server.Invariants.{pairs}
+use Rattle.st_laws_leases.specs.Sides.Invariants.{Both, Left}
 use Rattle.st_laws_leases.specs.Sides.World.{AllStand, IsFull, ServerStands}
 
 -- All stands again after an event of a client, and each path goes on.

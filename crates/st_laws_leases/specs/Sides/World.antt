@@ -10,10 +10,10 @@ use Rattle.st_rules.specs.World.{World, node_of, server}
 use Rattle.st_protocol.specs.Assoc.{Config, ConfigOk}
 use Rattle.st_laws_refine.specs.Views.Halves.{Ghost}
 use Rattle.st_lemmas.specs.Lists.{Has}
-use Rattle.st_laws_pages.specs.Disks.Owed.{FatesHold}
+use Rattle.st_laws_pages.specs.Disks.Obligations.{FatesHold}
 use Rattle.st_laws_refine.specs.Server.Pair.{Timed, terms_of}
-use Rattle.st_laws_refine.specs.Server.Stands.{Calm, Few}
-use Rattle.st_laws_leases.specs.Sides.Stands.{Both}
+use Rattle.st_laws_refine.specs.Server.Invariants.{Calm, Few}
+use Rattle.st_laws_leases.specs.Sides.Invariants.{Both}
 
 -- What stands of a server of the world: both sides of its associations, the clocks between them, its grants, and what no conflict
 -- rests on.

@@ -299,7 +299,7 @@ module _ (c : ClientId) (n : ℕ) (asked : ℕ → Option Ask) (old : ℕ → Bo
   pub asks_taken : (op : ℕ) (ask : Ask) → TakesAsk (Asks ((op, ask) ∷ [])) (Asks []) op ask
   asks_taken op ask =
       record {
-        pends = λ ops out h. subst (λ z. H z out) (none_behind (map key (ops ++ cs.new_operation op ask ∷ [])) (map_more ops (cs.new_operation op ask ∷ []))) h;
+        enqueues = λ ops out h. subst (λ z. H z out) (none_behind (map key (ops ++ cs.new_operation op ask ∷ [])) (map_more ops (cs.new_operation op ask ∷ []))) h;
         at_once = λ ops out a e h. h_answers (map key ops) [] out (op, ask) a (unwritten a e) (idle_answer op a e) h;
       }
     where

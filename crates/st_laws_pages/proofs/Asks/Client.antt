@@ -363,7 +363,7 @@ module _ (n : ℕ) (Use : ServerId → Type 0) (c : ClientId) (k : Config) (Q : 
   u_nack t s now h y a b w = u_reply t s now h (bodies.Nack y a b) tt w
 
   u_demand : (t : Turn) (s : ClientSession) (ino : ℕ) (g : GrantNo) (to : Mode) → U t → U (cr.demand t s ino g to)
-  unfolding cr.demand cr.demand_by cr.demand_as cr.see_demand
+  unfolding cr.demand cr.demand_by cr.demand_as cr.observe_demand
   u_demand t s ino g to w = go (locks.demand s.locks ino g to)
     where
       by : (l : ClientSession) (a : Asked) → U (cr.demand_as t l ino g a)
@@ -385,15 +385,15 @@ module _ (n : ℕ) (Use : ServerId → Type 0) (c : ClientId) (k : Config) (Q : 
   unfolding cr.with_a_session
   u_with t s now h b o w = if_either U (h.epoch == s.epoch.0) _ _ (u_of_epoch t s now h b o w) (u_of_other t s _ b w)
 
-  pub g_hear : (now : Stamp) (h : Header) (b : Body) (t : Turn) → ((s : ServerId) → h.from ≡ server_node s → OwnBody n s b) → G t → S (cr.receive_at now h b t)
+  pub g_receive : (now : Stamp) (h : Header) (b : Body) (t : Turn) → ((s : ServerId) → h.from ≡ server_node s → OwnBody n s b) → G t → S (cr.receive_at now h b t)
   unfolding cr.receive_at cr.by_session
-  g_hear now h b t o w = go (cr.is_heard t now h) refl
+  g_receive now h b t o w = go (cr.is_received t now h) refl
     where
       by : OwnBody n t.here.server b → (x : Option ClientSession) → t.here.session ≡ x → S (cr.by_session t now h b x)
       by p None e = g_without t now h b w
       by p (Some s) e = usable _ (u_with t s now h b p (begun_used t s e w))
 
-      go : (z : Bool) → cr.is_heard t now h ≡ z → S (if z then cr.by_session t now h b t.here.session else t)
+      go : (z : Bool) → cr.is_received t now h ≡ z → S (if z then cr.by_session t now h b t.here.session else t)
       go true e = by (o t.here.server (eqb-true h.from (server_node t.here.server) (and_true (h.from == server_node t.here.server) _ e).0)) t.here.session refl
       go false e = begun t w
 

@@ -46,7 +46,7 @@ use Rattle.st_rules.specs.Keys.{same_client, server_node, client}
 use Rattle.st_rules.specs.Server as server
 use Rattle.st_rules.specs.Server.{ServerNode}
 use Rattle.st_rules.specs.World as world
-use Rattle.st_rules.specs.World.{World, ClientSite, site_of, node_of, site_runs, is_running, numbered, with_numbered, clock_of, same_node, message_of, receiver_of, issued_of, all_clients, all_servers, fresh_world}
+use Rattle.st_rules.specs.World.{World, WorldClient, site_of, node_of, site_runs, is_running, numbered, with_numbered, clock_of, same_node, message_of, receiver_of, issued_of, all_clients, all_servers, fresh_world}
 use Rattle.st_rules.specs.Safety as safety
 use Rattle.st_rules.specs.Safety.{Step, IsHead, AsksAreAnsweredOnce, answers_in, ask_in, is_expired, step, takes_step, uses_server}
 use Rattle.st_rules.specs.WorldInvariants.{maps_own, tells_own, knows_own, is_own_extent, is_own_row, is_own_known, knows_own_at, is_on_disk_of, is_own_mapping, tells_own_rows}
@@ -55,7 +55,7 @@ use Rattle.st_lemmas.proofs.Numbers.{numbered_has, numbered_below, numbered_old,
 use Rattle.st_lemmas.proofs.Steps.{throughout, step_happens}
 use Rattle.st_lemmas.proofs.Tables.{all_pass, and_both, and_true, has_append}
 use Rattle.st_laws_steps.specs.Lives.Lives.{LivesHold}
-use Rattle.st_laws_pages.specs.Disks.Owed.{FatesHold}
+use Rattle.st_laws_pages.specs.Disks.Obligations.{FatesHold}
 use Rattle.st_laws_pages.proofs.Disks.Steps.{fates_law}
 use Rattle.st_laws_pages.proofs.Disks.Whole.{fresh_fates}
 use Rattle.st_laws_pages.specs.Asks.Law.{ExpiredLeasesUseNothing, InEveryRun, PlacesHold, PlacesAfter, WrittenIsLogged, is_unused, all_unused}
@@ -96,10 +96,10 @@ same_places : (n : ℕ) (w v : World) → v.clients ≡ w.clients → v.servers 
 same_places n w v c s m pl =
     record {
       count = ap (λ (y : List ServerNode). length y) s ∙ pl.count;
-      few = subst (λ y. y ≤ 16) (sym (ap (λ (y : List ClientSite). length y) c)) pl.few;
+      few = subst (λ y. y ≤ 16) (sym (ap (λ (y : List WorldClient). length y) c)) pl.few;
       nodes = λ d y i. pl.nodes d y (sym (ap (λ (z : List ServerNode). numbered z d.0) s) ∙ i);
       told = λ y i. pl.told y (subst (Has y) m i);
-      known = λ d y i. pl.known d y (sym (ap (λ (z : List ClientSite). numbered z d.0) c) ∙ i);
+      known = λ d y i. pl.known d y (sym (ap (λ (z : List WorldClient). numbered z d.0) c) ∙ i);
     }
 
 -- nothing happens
@@ -118,7 +118,7 @@ client_done past n t e w c sc own same l =
     }
 
 -- a step that is no ask
-begins_same : (past : List Step) (x : Step) (n : ℕ) (c : ClientId) (site : ClientSite) (Gone : ServerId → Type 0) → ask_in c x.event ≡ None → ClientAsks past c site →
+begins_same : (past : List Step) (x : Step) (n : ℕ) (c : ClientId) (site : WorldClient) (Gone : ServerId → Type 0) → ask_in c x.event ≡ None → ClientAsks past c site →
     Holds c n (λ op. numbered (asks_of (past ++ x ∷ []) c) op) (λ op. list_any (answers_in c op) past) Gone (map key site.node.state.operations ++ []) []
 begins_same past x n c site Gone e h =
     subst (λ ks. Holds c n (λ op. numbered (asks_of (past ++ x ∷ []) c) op) (λ op. list_any (answers_in c op) past) Gone ks []) (sym (none_more (map key site.node.state.operations)))
@@ -130,7 +130,7 @@ begins_same past x n c site Gone e h =
       unused = λ o i v g. absurd i;
     })
 
-plain_step : (past : List Step) (x : Step) (n : ℕ) (w : World) (c : ClientId) (old : ClientSite) (input : ClientInput) → NoAsk x.event → site_of w c ≡ Some old → old.node.running ≡ true → AllAsks past w →
+plain_step : (past : List Step) (x : Step) (n : ℕ) (w : World) (c : ClientId) (old : WorldClient) (input : ClientInput) → NoAsk x.event → site_of w c ≡ Some old → old.node.running ≡ true → AllAsks past w →
     ((P : List Operation → List Output → Type 0) → Takes n P P input) → ClientStep past x n w c old old input
 plain_step past x n w c old input na there runs al f =
     record {
@@ -146,7 +146,7 @@ plain_step past x n w c old input na there runs al f =
     }
 
 -- an ask
-asked_step : (past : List Step) (x : Step) (n : ℕ) (w : World) (c : ClientId) (ask : Ask) (old : ClientSite) → x.event ≡ events.App c ask → site_of w c ≡ Some old → old.node.running ≡ true → AllAsks past w →
+asked_step : (past : List Step) (x : Step) (n : ℕ) (w : World) (c : ClientId) (ask : Ask) (old : WorldClient) → x.event ≡ events.App c ask → site_of w c ≡ Some old → old.node.running ≡ true → AllAsks past w →
     ClientStep past x n w c old (ev.asked_once_more old) (inputs.App (old.asks + 1) ask)
 unfolding safety.ask_of_client
 asked_step past x n w c ask old e there runs al =
@@ -223,7 +223,7 @@ client_is : (d c : ClientId) → (d.0 == c.0) ≡ true → c ≡ d
 client_is d c e = ap (λ n. record { 0 = n }) (sym (eqb-true d.0 c.0 e))
 
 -- a client that does not run takes nothing
-stopped_takes : (w : World) (c : ClientId) (input : ClientInput) (site : ClientSite) → site.node.running ≡ false → ev.client_takes w c input site ≡ ev.quiet w
+stopped_takes : (w : World) (c : ClientId) (input : ClientInput) (site : WorldClient) → site.node.running ≡ false → ev.client_takes w c input site ≡ ev.quiet w
 unfolding ev.client_takes ev.client_took cl.node_step
 stopped_takes w c input site r = go site.node.running r
   where
@@ -246,7 +246,7 @@ module _ (past : List Step) (n : ℕ) (t : Traced) (e : Event) (a : world.Tally)
   asks = record { clients = al.clients; later = al.later }
 
   -- a client that is there takes an input that is no ask
-  takes_done : NoAsk e → (c : ClientId) (input : ClientInput) (o : Option ClientSite) → site_of t.world c ≡ o → ((d : ClientId) → takes_step t.world d e ≡ true → d ≡ c) → ((P : List Operation → List Output → Type 0) → Takes n P P input) →
+  takes_done : NoAsk e → (c : ClientId) (input : ClientInput) (o : Option WorldClient) → site_of t.world c ≡ o → ((d : ClientId) → takes_step t.world d e ≡ true → d ≡ c) → ((P : List Operation → List Output → Type 0) → Takes n P P input) →
       Done past n (step t e (ev.at_client W c input o))
   unfolding ev.at_client
   takes_done na c input None i own f = nothing past n t e W refl refl refl na pl al
@@ -257,7 +257,7 @@ module _ (past : List Step) (n : ℕ) (t : Traced) (e : Event) (a : world.Tally)
       go false r = subst (λ z. Done past n (step t e z)) (sym (stopped_takes W c input site r)) (nothing past n t e W refl refl refl na pl al)
 
   -- an ask of a client that runs
-  asks_done : (c : ClientId) (ask : Ask) (o : Option ClientSite) → e ≡ events.App c ask → site_of t.world c ≡ o → site_runs o ≡ true → Done past n (step t e (ev.asks_at W c ask o))
+  asks_done : (c : ClientId) (ask : Ask) (o : Option WorldClient) → e ≡ events.App c ask → site_of t.world c ≡ o → site_runs o ≡ true → Done past n (step t e (ev.asks_at W c ask o))
   unfolding ev.asks_at
   asks_done c ask None q i r = cc
   asks_done c ask (Some site) q i r =
@@ -277,7 +277,7 @@ module _ (past : List Step) (n : ℕ) (t : Traced) (e : Event) (a : world.Tally)
       now : Stamp
       now = clock_of W (nodes.Server s)
 
-      u : server.Turn
+      u : server.ServerTurn
       u = server.server_step node.state now input
 
       after : ServerNode
@@ -310,10 +310,10 @@ module _ (past : List Step) (n : ℕ) (t : Traced) (e : Event) (a : world.Tally)
       stand =
           record {
             count = ap (λ (y : List ServerNode). length y) l.servers ∙ set_length t.world.servers (pred s.0) after ∙ pl.count;
-            few = subst (λ y. y ≤ 16) (sym (ap (λ (y : List ClientSite). length y) l.clients)) pl.few;
+            few = subst (λ y. y ≤ 16) (sym (ap (λ (y : List WorldClient). length y) l.clients)) pl.few;
             nodes = λ r y j. nodes_own r y (node_case t.world s node after sc.world.servers i l.servers r y j);
             told = λ m h. told m (l.messages m h);
-            known = λ c y j. pl.known c y (sym (ap (λ (z : List ClientSite). numbered z c.0) l.clients) ∙ j);
+            known = λ c y j. pl.known c y (sym (ap (λ (z : List WorldClient). numbered z c.0) l.clients) ∙ j);
           }
 
       go : (b : Bool) → Done past n (step t e (ev.server_took W s (if b then Ok (server.node_turn node u) else Err Crashed)))
@@ -345,26 +345,26 @@ marked past n t e v es na f st pl al =
     (record { count = pl.count; few = pl.few; nodes = pl.nodes; told = pl.told; known = pl.known }) al
 
 -- A client that crashes or starts.
-site_left : (n : ℕ) (w v : World) (c : ClientId) (old site : ClientSite) → site_of w c ≡ Some old → v.clients ≡ with_numbered c.0 site w.clients → v.servers ≡ w.servers → v.net.messages ≡ w.net.messages → SiteKnows n site → Places n w → Places n v
+site_left : (n : ℕ) (w v : World) (c : ClientId) (old site : WorldClient) → site_of w c ≡ Some old → v.clients ≡ with_numbered c.0 site w.clients → v.servers ≡ w.servers → v.net.messages ≡ w.net.messages → SiteKnows n site → Places n w → Places n v
 site_left n w v c old site there cs ss ms k pl =
     record {
       count = ap (λ (y : List ServerNode). length y) ss ∙ pl.count;
-      few = subst (λ y. y ≤ 16) (sym (ap (λ (y : List ClientSite). length y) cs ∙ set_length w.clients (pred c.0) site)) pl.few;
+      few = subst (λ y. y ≤ 16) (sym (ap (λ (y : List WorldClient). length y) cs ∙ set_length w.clients (pred c.0) site)) pl.few;
       nodes = λ d y i. pl.nodes d y (sym (ap (λ (z : List ServerNode). numbered z d.0) ss) ∙ i);
       told = λ y i. pl.told y (subst (Has y) ms i);
       known = λ d y i. go d y (site_case w c old site v.clients there cs d y i);
     }
   where
-    go : (d : ClientId) (y : ClientSite) → ((c ≡ d) × (y ≡ site)) ⊎ (((c.0 == d.0) ≡ false) × (site_of w d ≡ Some y)) → SiteKnows n y
+    go : (d : ClientId) (y : WorldClient) → ((c ≡ d) × (y ≡ site)) ⊎ (((c.0 == d.0) ≡ false) × (site_of w d ≡ Some y)) → SiteKnows n y
     go d y (inl (e, f)) = subst (SiteKnows n) (sym f) k
     go d y (inr (e, f)) = pl.known d y f
 
-sites_left : (w v : World) (c : ClientId) (old site : ClientSite) → site_of w c ≡ Some old → v.clients ≡ with_numbered c.0 site w.clients → site.asks ≡ old.asks → site.node.state.operations ≡ [] → SitesStay w v
+sites_left : (w v : World) (c : ClientId) (old site : WorldClient) → site_of w c ≡ Some old → v.clients ≡ with_numbered c.0 site w.clients → site.asks ≡ old.asks → site.node.state.operations ≡ [] → SitesStay w v
 sites_left w v c old site there cs ask os = record { old = λ d y i. go d y (site_case w c old site v.clients there cs d y i) }
   where
-    go : (d : ClientId) (y : ClientSite) → ((c ≡ d) × (y ≡ site)) ⊎ (((c.0 == d.0) ≡ false) × (site_of w d ≡ Some y)) →
-        (before : ClientSite) × (site_of w d ≡ Some before) × (y.asks ≡ before.asks) × ((y.node.state.operations ≡ before.node.state.operations) ⊎ (y.node.state.operations ≡ []))
-    go d y (inl (e, f)) = (old, ap (λ z. site_of w z) (sym e) ∙ there, ap (λ (z : ClientSite). z.asks) f ∙ ask, inr (ap (λ (z : ClientSite). z.node.state.operations) f ∙ os))
+    go : (d : ClientId) (y : WorldClient) → ((c ≡ d) × (y ≡ site)) ⊎ (((c.0 == d.0) ≡ false) × (site_of w d ≡ Some y)) →
+        (before : WorldClient) × (site_of w d ≡ Some before) × (y.asks ≡ before.asks) × ((y.node.state.operations ≡ before.node.state.operations) ⊎ (y.node.state.operations ≡ []))
+    go d y (inl (e, f)) = (old, ap (λ z. site_of w z) (sym e) ∙ there, ap (λ (z : WorldClient). z.asks) f ∙ ask, inr (ap (λ (z : WorldClient). z.node.state.operations) f ∙ os))
     go d y (inr (e, f)) = (y, f, refl, inl refl)
 
 nothing_known : (n : ℕ) (f : Association → Association) → ((a : Association) → (f a).store.extents ≡ []) → (al : List Association) → (a : Association) → Has a (map f al) → Knows n a.server a.store.extents
@@ -372,19 +372,19 @@ nothing_known n f g [] a h = absurd h
 nothing_known n f g (x ∷ al) a (inl e) = subst (λ (b : Association). Knows n b.server b.store.extents) (sym e) (λ z i. absurd (subst (λ (l : List KnownExtent). Has z l) (g x) i))
 nothing_known n f g (x ∷ al) a (inr h) = nothing_known n f g al a h
 
-crash_empty : (site : ClientSite) → (ev.stopped_site site).node.state.operations ≡ []
+crash_empty : (site : WorldClient) → (ev.stopped_site site).node.state.operations ≡ []
 unfolding cl.crash
 crash_empty site = refl
 
-start_empty : (site : ClientSite) → (ev.started_site site).node.state.operations ≡ []
+start_empty : (site : WorldClient) → (ev.started_site site).node.state.operations ≡ []
 unfolding cl.start
 start_empty site = refl
 
-crash_knows : (n : ℕ) (site : ClientSite) → SiteKnows n (ev.stopped_site site)
+crash_knows : (n : ℕ) (site : WorldClient) → SiteKnows n (ev.stopped_site site)
 unfolding cl.crash
 crash_knows n site = nothing_known n cl.crashed_association (λ a. refl) site.node.state.associations
 
-start_knows : (n : ℕ) (site : ClientSite) → SiteKnows n (ev.started_site site)
+start_knows : (n : ℕ) (site : WorldClient) → SiteKnows n (ev.started_site site)
 unfolding cl.start
 start_knows n site = nothing_known n cl.started_association (λ a. refl) site.node.state.associations
 
@@ -494,7 +494,7 @@ happens_done past n t (events.Report k ok) q h pl al = go (issued_of t.world k) 
         own : (d : ClientId) → takes_step t.world d (events.Report k ok) ≡ true → d ≡ y.client
         own d z = client_is y.client d (and_true _ _ (subst (λ o. safety.is_told t.world d o ≡ true) i z)).0
 
-        at : (o : Option ClientSite) → site_of t.world y.client ≡ o → Done past n (step t (events.Report k ok) (ev.tells_client W k ok y o))
+        at : (o : Option WorldClient) → site_of t.world y.client ≡ o → Done past n (step t (events.Report k ok) (ev.tells_client W k ok y o))
         at None j = nothing past n t (events.Report k ok) W refl refl refl (λ d. refl) pl al
         at (Some site) j = pick (ev.is_same_instance y site) (takes_done past n t (events.Report k ok) _ ds pl al h (λ d. refl) y.client (ev.end_told W k ok y) (Some site) j own (λ P ops out x. x))
           where
@@ -503,7 +503,7 @@ happens_done past n t (events.Report k ok) q h pl al = go (issued_of t.world k) 
             pick false d = nothing past n t (events.Report k ok) W refl refl refl (λ d. refl) pl al
 happens_done past n t (events.Crash (nodes.Client c)) q h pl al = go (site_of t.world c) refl
   where
-    go : (o : Option ClientSite) → site_of t.world c ≡ o → Done past n (step t (events.Crash (nodes.Client c)) (ev.crashes_client (ev.counted t.world) c o))
+    go : (o : Option WorldClient) → site_of t.world c ≡ o → Done past n (step t (events.Crash (nodes.Client c)) (ev.crashes_client (ev.counted t.world) c o))
     go None i = nothing past n t (events.Crash (nodes.Client c)) _ refl refl refl (λ d. refl) pl al
     go (Some site) i =
         marked past n t (events.Crash (nodes.Client c)) v _ (λ d. refl) (λ d z. cc z) (sites_left t.world v c site (ev.stopped_site site) i refl refl (crash_empty site)) (site_left n t.world v c site (ev.stopped_site site) i refl refl refl (crash_knows n site) pl) al
@@ -519,7 +519,7 @@ happens_done past n t (events.Crash (nodes.Server s)) q h pl al = go (node_of t.
         (node_left n (ev.counted t.world) s node (server.crash_node node) i (crashed_own n node (pl.nodes s node i)) (same_places n t.world _ refl refl refl pl)) al
 happens_done past n t (events.Start (nodes.Client c)) q h pl al = go (site_of t.world c) refl
   where
-    go : (o : Option ClientSite) → site_of t.world c ≡ o → Done past n (step t (events.Start (nodes.Client c)) (ev.quiet (ev.starts_client (ev.counted t.world) c o)))
+    go : (o : Option WorldClient) → site_of t.world c ≡ o → Done past n (step t (events.Start (nodes.Client c)) (ev.quiet (ev.starts_client (ev.counted t.world) c o)))
     go None i = nothing past n t (events.Start (nodes.Client c)) _ refl refl refl (λ d. refl) pl al
     go (Some site) i =
         silent past n t (events.Start (nodes.Client c)) (ev.quiet v) (λ d. refl) tt (inl refl) (sites_left t.world v c site (ev.started_site site) i refl refl (start_empty site)) (site_left n t.world v c site (ev.started_site site) i refl refl refl (start_knows n site) pl) al
@@ -599,7 +599,7 @@ places_hold n w pl = record { maps = all_pass (maps_own w) w.servers maps; told 
             is : (r : ServerId) → ◌≡◌ {A = NodeId} (nodes.Server s) (nodes.Server r) → s ≡ r
             is r q = cc q
 
-    known : (y : ClientSite) → Has y w.clients → knows_own w y ≡ true
+    known : (y : WorldClient) → Has y w.clients → knows_own w y ≡ true
     known y h = go (has_get w.clients y h)
       where
         mapping : (s : ServerId) (m : Option MappedBlock) → ((z : MappedBlock) → m ≡ Some z → On n s z.at) → is_own_mapping w s m ≡ true
@@ -622,7 +622,7 @@ fresh_nodes k servers d b (j ∷ ns) y (inl e) = subst (NodeOwn servers) (sym e)
 fresh_nodes k servers d b (j ∷ ns) y (inr h) = fresh_nodes k servers d b ns y h
 
 -- a client that did nothing yet
-record FreshSite (n : ℕ) (y : ClientSite) : Type 0 where
+record FreshSite (n : ℕ) (y : WorldClient) : Type 0 where
   pub knows : SiteKnows n y
   pub asks : y.asks ≡ 0
   pub operations : y.node.state.operations ≡ []
@@ -636,7 +636,7 @@ fresh_one k servers j = record { knows = none (extents.numbers 1 servers); asks 
     none (m ∷ ns) a (inl e) = subst (λ (z : Association). Knows servers z.server z.store.extents) (sym e) (λ x i. absurd i)
     none (m ∷ ns) a (inr h) = none ns a h
 
-fresh_sites : (k : Config) (servers : ℕ) (ns : List ℕ) (y : ClientSite) → Has y (map (world.fresh_site k servers) ns) → FreshSite servers y
+fresh_sites : (k : Config) (servers : ℕ) (ns : List ℕ) (y : WorldClient) → Has y (map (world.fresh_site k servers) ns) → FreshSite servers y
 fresh_sites k servers [] y h = absurd h
 fresh_sites k servers (j ∷ ns) y (inl e) = subst (FreshSite servers) (sym e) (fresh_one k servers j)
 fresh_sites k servers (j ∷ ns) y (inr h) = fresh_sites k servers ns y h
@@ -651,7 +651,7 @@ fresh_stands : (k : Config) (clients servers d b form : ℕ) → IsHead k client
 unfolding fresh_world
 fresh_stands k clients servers d b form head = record { fates = fresh_fates k clients servers d b form; places = fresh_places; asks = fresh_asks }
   where
-    site : (c : ClientId) (y : ClientSite) → site_of (fresh_world k clients servers d b form) c ≡ Some y → FreshSite servers y
+    site : (c : ClientId) (y : WorldClient) → site_of (fresh_world k clients servers d b form) c ≡ Some y → FreshSite servers y
     site c y i = fresh_sites k servers (extents.numbers 1 clients) y (numbered_has (fresh_world k clients servers d b form).clients c.0 y i)
 
     fresh_places : Places servers (fresh_world k clients servers d b form)

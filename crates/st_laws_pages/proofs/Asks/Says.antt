@@ -20,7 +20,7 @@ use Rattle.st_rules.specs.declared.world.SentMessage.{SentMessage}
 use Rattle.st_rules.specs.ClientState.{ClientState}
 use Rattle.st_rules.specs.Keys.{same_client, same_server}
 use Rattle.st_rules.specs.World as world
-use Rattle.st_rules.specs.World.{World, ClientSite, site_of}
+use Rattle.st_rules.specs.World.{World, WorldClient, site_of}
 use Rattle.st_rules.specs.Events as ev
 use Rattle.st_rules.specs.Events.{WorldTurn, client_says, client_says_all, client_notes, server_says, server_says_all}
 use Rattle.st_rules.specs.Safety as safety
@@ -56,7 +56,7 @@ client_one c before (outputs.Send m) sc = sends_one [] m sc
 client_one c before (outputs.Answer op a) sc = still _ sc.world _ refl refl refl
 client_one c before (outputs.Submit x at what) sc = go (site_of sc.world c)
   where
-    go : (o : Option ClientSite) → Leaves (outputs.Submit x at what ∷ []) sc.world (ev.submits sc c o x at what).world
+    go : (o : Option WorldClient) → Leaves (outputs.Submit x at what ∷ []) sc.world (ev.submits sc c o x at what).world
     go None = still _ sc.world _ refl refl refl
     go (Some s) = still _ sc.world _ refl refl refl
 client_one c before (outputs.Note x) sc = note x
@@ -248,7 +248,7 @@ module _ (past : List Step) (x : Step) (c : ClientId) (before : ClientState) whe
   unfolding client_says ev.submits
   submit_seen out z at what sc h = go (site_of sc.world c)
     where
-      go : (o : Option ClientSite) → Z (out ++ outputs.Submit z at what ∷ []) (ev.submits sc c o z at what)
+      go : (o : Option WorldClient) → Z (out ++ outputs.Submit z at what ∷ []) (ev.submits sc c o z at what)
       go None = seen_still past x c out _ sc.seen (λ op. refl) h
       go (Some s) = seen_dull past x c out _ sc.seen _ tt (λ op. refl) h
 
@@ -386,7 +386,7 @@ module _ (past : List Step) (x : Step) (c : ClientId) (before : ClientState) whe
           pick true q = absurd (f (ap (λ z. pred at.disk.0 % z + 1) (sym e) ∙ eqb-true (pred at.disk.0 % length x.after.world.servers + 1) s.0 q))
           pick false q = refl
 
-      submitted : (z : ℕ) (at : BlockAt) (what : Command) → (On n s (block_of what) → ⊥) → (o : Option ClientSite) → list_any (uses_server past x s) (ev.submits sc c o z at what).seen ≡ false
+      submitted : (z : ℕ) (at : BlockAt) (what : Command) → (On n s (block_of what) → ⊥) → (o : Option WorldClient) → list_any (uses_server past x s) (ev.submits sc c o z at what).seen ≡ false
       submitted z at what f None = h
       submitted z at what f (Some site) = more _ (elsewhere (block_of what) f)
 

@@ -52,7 +52,7 @@ use Rattle.st_rules.specs.Authority as authority
 use Rattle.st_rules.specs.Grace as grace
 use Rattle.st_rules.specs.Keys.{server_node}
 use Rattle.st_rules.specs.Server as sv
-use Rattle.st_rules.specs.Server.{ServerState, Turn, Replied, turn, with_sessions, with_names, sender, life_in, note, reply, tell, steal_at, steal_from, steal, steal_each, thefts, suspect_client, greet_as, greet_by, greet, refuse_in_grace, hello, demand_seen, see_demand, refuse_epoch, reassert_by, reassert_new, reassert_again, reassert, rule, keep_and_reply, keep, serve, request_by, request, of_epoch, by_body, refuse_suspect, by_suspicion, receive_from, receive, take_input, suspect_unless, suspect_each, suspecting, suspecting_on, tell_granted, grant_by, grant_waiting, granting, tell_demanded, demand_by, demanding, server_step}
+use Rattle.st_rules.specs.Server.{ServerState, ServerTurn, Replied, turn, with_sessions, with_names, sender, life_in, note, reply, tell, steal_at, steal_from, steal, steal_each, thefts, suspect_client, greet_as, greet_by, greet, refuse_in_grace, hello, demand_seen, observe_demand, refuse_epoch, reassert_by, reassert_new, reassert_again, reassert, rule, keep_and_reply, keep, serve, request_by, request, of_epoch, by_body, refuse_suspect, by_suspicion, receive_from, receive, take_input, suspect_unless, suspect_each, suspecting, suspecting_on, tell_granted, grant_by, grant_waiting, granting, tell_demanded, demand_by, demanding, server_step}
 use Rattle.st_lemmas.specs.Lists.{Has}
 use Rattle.st_lemmas.proofs.Lookups.{some_is}
 use Rattle.st_lemmas.proofs.Puts.{has_put}
@@ -81,7 +81,7 @@ SentOwn n s (outputs.Send m) = (m.header.from ≡ server_node s) × OwnBody n s 
 SentOwn n s o = Unit {0}
 
 -- What stands of a server's turn.
-pub record Own (n : ℕ) (s : ServerId) (t : Turn) : Type 0 where
+pub record Own (n : ℕ) (s : ServerId) (t : ServerTurn) : Type 0 where
   pub id : t.state.id ≡ s
   pub extents : ExtentsOwn n s t.state.stable.extents
   pub kept : (x : Session) → Has x t.state.sessions.rows → Kept n s x
@@ -239,17 +239,17 @@ module _ (n : ℕ) (s : ServerId) where
       go (Some x) e = if_either AgainOwn (nat_lt x.life.0 life.0) _ _ (λ b q. cc) (if_either AgainOwn (nat_lt life.0 x.life.0) _ _ (λ b q. cc) (state x (found_at (sessions.is_session_of c) t.rows x e).1 x.state refl))
 
   -- Turns.
-  abbrev O : Turn → Type 0
+  abbrev O : ServerTurn → Type 0
   O t = Own n s t
 
-  o_state : (t : Turn) (x : ServerState) → x.id ≡ t.state.id → x.stable.extents ≡ t.state.stable.extents → x.sessions ≡ t.state.sessions → O t → O (record t { state = x })
+  o_state : (t : ServerTurn) (x : ServerState) → x.id ≡ t.state.id → x.stable.extents ≡ t.state.stable.extents → x.sessions ≡ t.state.sessions → O t → O (record t { state = x })
   o_state t x i e y o =
       record { id = i ∙ o.id; extents = subst (ExtentsOwn n s) (sym e) o.extents; kept = subst Keeps (sym y) o.kept; sent = o.sent }
 
-  o_sessions : (t : Turn) (x : sessions.Sessions) → Keeps x → O t → O (with_sessions x t)
+  o_sessions : (t : ServerTurn) (x : sessions.Sessions) → Keeps x → O t → O (with_sessions x t)
   o_sessions t x k o = record { id = o.id; extents = o.extents; kept = k; sent = o.sent }
 
-  o_extents : (t : Turn) (x : Extents) → ExtentsOwn n s x → O t → O (sv.with_extents x t)
+  o_extents : (t : ServerTurn) (x : Extents) → ExtentsOwn n s x → O t → O (sv.with_extents x t)
   o_extents t x k o = record { id = o.id; extents = k; kept = o.kept; sent = o.sent }
 
   sent_more : (os : List Output) (o : Output) → SentOwn n s o → ((x : Output) → Has x os → SentOwn n s x) → (x : Output) → Has x (os ++ o ∷ []) → SentOwn n s x
@@ -260,44 +260,44 @@ module _ (n : ℕ) (s : ServerId) where
       go (inr (inl e)) = subst (SentOwn n s) (sym e) k
       go (inr (inr i)) = absurd i
 
-  o_note : (t : Turn) (x : Note) → O t → O (note t x)
+  o_note : (t : ServerTurn) (x : Note) → O t → O (note t x)
   o_note t x o = record { id = o.id; extents = o.extents; kept = o.kept; sent = sent_more t.out (outputs.Note x) tt o.sent }
 
-  o_reply : (t : Turn) (h : Header) (b : Body) → OwnBody n s b → O t → O (reply t h b)
+  o_reply : (t : ServerTurn) (h : Header) (b : Body) → OwnBody n s b → O t → O (reply t h b)
   unfolding reply
   o_reply t h b w o = record { id = o.id; extents = o.extents; kept = o.kept; sent = sent_more t.out _ (ap server_node o.id, w) o.sent }
 
-  o_tell : (t : Turn) (c : ClientId) (life : Life) (b : Body) → OwnBody n s b → O t → O (tell t c life b)
+  o_tell : (t : ServerTurn) (c : ClientId) (life : Life) (b : Body) → OwnBody n s b → O t → O (tell t c life b)
   unfolding tell
   o_tell t c life b w o = record { id = o.id; extents = o.extents; kept = o.kept; sent = sent_more t.out _ (ap server_node o.id, w) o.sent }
 
-  o_suspect : (t : Turn) (now : Stamp) (c : ClientId) → O t → O (suspect_client t now c)
+  o_suspect : (t : ServerTurn) (now : Stamp) (c : ClientId) → O t → O (suspect_client t now c)
   unfolding suspect_client
   o_suspect t now c o = o_state _ _ refl refl refl (o_note t _ o)
 
-  o_steal : (t : Turn) (c : ClientId) (x : Option Session) → O t → O (steal_at t c x)
+  o_steal : (t : ServerTurn) (c : ClientId) (x : Option Session) → O t → O (steal_at t c x)
   unfolding steal_at steal_from
   o_steal t c None o = o
   o_steal t c (Some x) o = o_sessions _ _ (kept_ended t.state.sessions c o.kept) (o_state _ _ refl refl refl (o_note t _ o))
 
-  o_steals : (cs : List ClientId) (t : Turn) → O t → O (steal_each cs t)
+  o_steals : (cs : List ClientId) (t : ServerTurn) → O t → O (steal_each cs t)
   unfolding steal_each steal
   o_steals [] t o = o
   o_steals (c ∷ cs) t o = o_steals cs _ (o_steal t c (sessions.session_of t.state.sessions c) o)
 
-  o_greet_as : (t : Turn) (now : Stamp) (h : Header) (x : Hello) → O t → O (greet_as t now h x)
+  o_greet_as : (t : ServerTurn) (now : Stamp) (h : Header) (x : Hello) → O t → O (greet_as t now h x)
   unfolding greet_as
   o_greet_as t now h hellos.Welcome o = o_reply t h _ tt o
   o_greet_as t now h hellos.Replaced o = o_reply _ h _ tt (o_state t _ refl refl refl o)
   o_greet_as t now h hellos.Old o = o
   o_greet_as t now h hellos.Wait o = o_reply _ h _ tt (o_suspect t now (sender h) o)
 
-  o_hello : (t : Turn) (now : Stamp) (h : Header) → O t → O (hello t now h)
+  o_hello : (t : ServerTurn) (now : Stamp) (h : Header) → O t → O (hello t now h)
   unfolding hello greet greet_by refuse_in_grace
   o_hello t now h o = if_either O (sv.in_grace t now) _ _ (o_reply t h _ tt o) (o_greet_as _ now h _ (o_sessions t _ (kept_hello t.state.sessions (sender h) (life_in h) _ o.kept) o))
 
-  o_seen : (t : Turn) (h : Header) (ino : ℕ) (g : GrantNo) → O t → O (demand_seen t h ino g)
-  unfolding demand_seen see_demand
+  o_seen : (t : ServerTurn) (h : Header) (ino : ℕ) (g : GrantNo) → O t → O (demand_seen t h ino g)
+  unfolding demand_seen observe_demand
   o_seen t h ino g o = if_either O (sv.is_served t h) _ t (o_state t _ refl refl refl o) o
 
   refused_own : (r : AcceptRefusal) → OwnBody n s (sv.refused_reassertion r)
@@ -325,17 +325,17 @@ module _ (n : ℕ) (s : ServerId) where
       earlier None = own (grace.own_older l c life)
       earlier (Some r) = tt
 
-  o_reassert_by : (t : Turn) (h : Header) (r : Res grace.Accepted AcceptRefusal) → AcceptedOwn r → O t → O (reassert_by t h r)
+  o_reassert_by : (t : ServerTurn) (h : Header) (r : Res grace.Accepted AcceptRefusal) → AcceptedOwn r → O t → O (reassert_by t h r)
   unfolding reassert_by
   o_reassert_by t h (Ok a) k o = o_reply _ h _ tt (o_sessions _ _ k (o_state t _ refl refl refl o))
   o_reassert_by t h (Err r) k o = o_reply t h _ (refused_own r) o
 
-  o_reassert_again : (t : Turn) (h : Header) (x : Taken Body) → AgainOwn x → O t → O (reassert_again t h x)
+  o_reassert_again : (t : ServerTurn) (h : Header) (x : Taken Body) → AgainOwn x → O t → O (reassert_again t h x)
   unfolding reassert_again
   o_reassert_again t h (takes.Again b) k o = o_reply t h b (k b refl) o
   o_reassert_again t h x k o = o
 
-  o_reassert : (t : Turn) (now : Stamp) (h : Header) (rows : List (ℕ × GrantNo × Mode)) → O t → O (reassert t now h rows)
+  o_reassert : (t : ServerTurn) (now : Stamp) (h : Header) (rows : List (ℕ × GrantNo × Mode)) → O t → O (reassert t now h rows)
   unfolding reassert reassert_new
   o_reassert t now h rows o =
       if_either O (sessions.knows t.state.sessions (sender h) (life_in h)) _ _
@@ -354,16 +354,16 @@ module _ (n : ℕ) (s : ServerId) where
   verdict_own ino mode (verdicts.Granted g held) = tt
   verdict_own ino mode (verdicts.Queued cs) = tt
 
-  r_acquire : (t : Turn) (ino : ℕ) (mode : Mode) (r : Res locks.Acquired AcquireRefusal) → O t → R (sv.acquire_by t ino mode r)
+  r_acquire : (t : ServerTurn) (ino : ℕ) (mode : Mode) (r : Res locks.Acquired AcquireRefusal) → O t → R (sv.acquire_by t ino mode r)
   unfolding sv.acquire_by
   r_acquire t ino mode (Ok a) o = (o_state t _ refl refl refl o, verdict_own ino mode a.verdict)
   r_acquire t ino mode (Err r) o = (o, tt)
 
-  r_told : (t : Turn) (ino : ℕ) (page : PageNo) (count : ℕ) → O t → R (sv.with_extents_told t ino page count)
+  r_told : (t : ServerTurn) (ino : ℕ) (page : PageNo) (count : ℕ) → O t → R (sv.with_extents_told t ino page count)
   unfolding sv.with_extents_told
   r_told t ino page count o = (o, told_own n s t.state.stable.extents (sv.file t ino) page count o.extents)
 
-  r_allocate : (t : Turn) (ino : ℕ) (page : PageNo) (count : ℕ) → O t → R (sv.allocate_pages t ino page count)
+  r_allocate : (t : ServerTurn) (ino : ℕ) (page : PageNo) (count : ℕ) → O t → R (sv.allocate_pages t ino page count)
   unfolding sv.allocate_pages sv.allocate_by extents.allocate extents.allocate_pages
   r_allocate t ino page count o = go (nat_le (length (extents.unmapped t.state.stable.extents (sv.file t ino) page count)) (extents.free t.state.stable.extents))
     where
@@ -377,37 +377,37 @@ module _ (n : ℕ) (s : ServerId) where
       go true = r_told (sv.with_extents placed t) ino page count (o_extents t placed (place_own n s (sv.file t ino) ps t.state.stable.extents o.extents) o)
       go false = (o, tt)
 
-  o_cut : (t : Turn) (ino : ℕ) (page : PageNo) → O t → O (sv.cut_pages t ino page)
+  o_cut : (t : ServerTurn) (ino : ℕ) (page : PageNo) → O t → O (sv.cut_pages t ino page)
   unfolding sv.cut_pages
   o_cut t ino page o = o_note _ _ (o_extents t _ (release_own n s t.state.stable.extents (sv.file t ino) page o.extents) o)
 
-  r_found : (t : Turn) (r : Res ℕ EntryRefusal) → O t → R (sv.name_found t r)
+  r_found : (t : ServerTurn) (r : Res ℕ EntryRefusal) → O t → R (sv.name_found t r)
   unfolding sv.name_found sv.name_refused
   r_found t (Ok i) o = (o, tt)
   r_found t (Err r) o = (o, tt)
 
-  r_changed : (t : Turn) (r : Res names.Changed EntryRefusal) → O t → R (sv.name_changed t r)
+  r_changed : (t : ServerTurn) (r : Res names.Changed EntryRefusal) → O t → R (sv.name_changed t r)
   unfolding sv.name_changed sv.name_refused
   r_changed t (Ok y) o = (o_state t _ refl refl refl o, tt)
   r_changed t (Err r) o = (o, tt)
 
-  r_listed : (t : Turn) (r : Res (List NameRow) EntryRefusal) → O t → R (sv.names_listed t r)
+  r_listed : (t : ServerTurn) (r : Res (List NameRow) EntryRefusal) → O t → R (sv.names_listed t r)
   unfolding sv.names_listed sv.name_refused
   r_listed t (Ok y) o = (o, tt)
   r_listed t (Err r) o = (o, tt)
 
-  r_removed : (t : Turn) (r : Res names.Changed EntryRefusal) → O t → R (sv.remove_by t r)
+  r_removed : (t : ServerTurn) (r : Res names.Changed EntryRefusal) → O t → R (sv.remove_by t r)
   unfolding sv.remove_by sv.name_refused sv.cut_whole
   r_removed t (Ok y) o = (o_cut _ y.ino _ (o_state (with_names y.names t) _ refl refl refl (o_state t _ refl refl refl o)), tt)
   r_removed t (Err r) o = (o, tt)
 
-  r_remove : (t : Turn) (h : Header) (dir : ℕ) (x : List ℕ) (g : GrantNo) (r : Res ℕ EntryRefusal) → O t → R (sv.remove_found t h dir x g r)
+  r_remove : (t : ServerTurn) (h : Header) (dir : ℕ) (x : List ℕ) (g : GrantNo) (r : Res ℕ EntryRefusal) → O t → R (sv.remove_found t h dir x g r)
   unfolding sv.remove_found sv.remove_ino sv.remove_file sv.remove_dir sv.name_refused sv.not_holder
   r_remove t h dir x g (Err r) o = (o, tt)
   r_remove t h dir x g (Ok ino) o =
       if_either R (sv.is_file t ino) _ _ (if_either R (sv.holds t h ino g modes.X) _ _ (r_removed t _ o) (o, tt)) (if_either R (g.0 == 0) _ _ (r_changed t _ o) (o, tt))
 
-  r_name : (t : Turn) (h : Header) (op : NameOp) → O t → R (sv.name t h op)
+  r_name : (t : ServerTurn) (h : Header) (op : NameOp) → O t → R (sv.name t h op)
   unfolding sv.name sv.remove
   r_name t h (Lookup dir x) o = r_found t _ o
   r_name t h (Create dir x) o = r_changed t _ o
@@ -416,7 +416,7 @@ module _ (n : ℕ) (s : ServerId) where
   r_name t h (Rename dir x dir2 x2) o = r_changed t _ o
   r_name t h (ListFrom dir after) o = r_listed t _ o
 
-  r_rule : (t : Turn) (now : Stamp) (h : Header) (m : Body) → O t → R (rule t now h m)
+  r_rule : (t : ServerTurn) (now : Stamp) (h : Header) (m : Body) → O t → R (rule t now h m)
   unfolding rule sv.keep_alive sv.acquire sv.acquire_lock sv.no_file sv.released sv.released_by sv.map sv.map_held sv.map_page sv.not_holder sv.allocate sv.allocate_held sv.cut sv.cut_held sv.cut_from
   r_rule t now h bd.KeepAlive o = (o, tt)
   r_rule t now h (bd.Acquire i m) o = if_either R (sv.is_file t i) _ _ (r_acquire t i m _ o) (o, tt)
@@ -436,7 +436,7 @@ module _ (n : ℕ) (s : ServerId) where
       go None w = r.0
       go (Some b) w = o_reply _ h b w (o_sessions a.turn _ (kept_stored a.turn.state.sessions (sender h) h.number b w r.0.kept) r.0)
 
-  o_request_by : (t : Turn) (now : Stamp) (h : Header) (m : Body) (x : Taken Body) → AgainOwn x → O t → O (request_by t now h m x)
+  o_request_by : (t : ServerTurn) (now : Stamp) (h : Header) (m : Body) (x : Taken Body) → AgainOwn x → O t → O (request_by t now h m x)
   unfolding request_by refuse_epoch
   o_request_by t now h m takes.OtherEpoch k o = o_reply t h _ tt o
   o_request_by t now h m takes.NoSession k o = o_reply t h _ tt o
@@ -445,62 +445,62 @@ module _ (n : ℕ) (s : ServerId) where
   o_request_by t now h m takes.OutOfOrder k o = o
   o_request_by t now h m takes.Fresh k o = o_serve h _ (r_rule t now h m o)
 
-  o_request : (t : Turn) (now : Stamp) (h : Header) (m : Body) → O t → O (request t now h m)
+  o_request : (t : ServerTurn) (now : Stamp) (h : Header) (m : Body) → O t → O (request t now h m)
   unfolding request
   o_request t now h (bd.Reassert rows) o = o_reassert t now h rows o
   o_request t now h m o = o_request_by t now h m _ (taken_own t.state.sessions (sender h) (life_in h) _ h.number o.kept) o
 
-  o_of_epoch : (t : Turn) (now : Stamp) (h : Header) (m : Body) → O t → O (of_epoch t now h m)
+  o_of_epoch : (t : ServerTurn) (now : Stamp) (h : Header) (m : Body) → O t → O (of_epoch t now h m)
   unfolding of_epoch refuse_epoch
   o_of_epoch t now h m o = if_either O (h.epoch == t.state.stable.epoch.0) _ _ (o_request t now h m o) (o_reply t h _ tt o)
 
-  o_by_body : (t : Turn) (now : Stamp) (h : Header) (m : Body) → O t → O (by_body t now h m)
+  o_by_body : (t : ServerTurn) (now : Stamp) (h : Header) (m : Body) → O t → O (by_body t now h m)
   unfolding by_body
   o_by_body t now h bd.Hello o = o_hello t now h o
   o_by_body t now h (bd.DemandSeen i g) o = o_seen t h i g o
   o_by_body t now h m o = o_of_epoch t now h m o
 
-  o_refuse : (t : Turn) (h : Header) (start : Stamp) (b : Body) → O t → O (refuse_suspect t h start b)
+  o_refuse : (t : ServerTurn) (h : Header) (start : Stamp) (b : Body) → O t → O (refuse_suspect t h start b)
   unfolding refuse_suspect
   o_refuse t h start (bd.DemandSeen i g) o = o
   o_refuse t h start b o = o_reply t h _ tt o
 
-  o_by_suspicion : (t : Turn) (now : Stamp) (h : Header) (m : Body) (x : Option Stamp) → O t → O (by_suspicion t now h m x)
+  o_by_suspicion : (t : ServerTurn) (now : Stamp) (h : Header) (m : Body) (x : Option Stamp) → O t → O (by_suspicion t now h m x)
   unfolding by_suspicion
   o_by_suspicion t now h m None o = o_by_body t now h m o
   o_by_suspicion t now h m (Some start) o = o_refuse t h start m o
 
-  o_input : (t : Turn) (now : Stamp) (i : ServerInput) → O t → O (take_input t now i)
+  o_input : (t : ServerTurn) (now : Stamp) (i : ServerInput) → O t → O (take_input t now i)
   unfolding take_input receive receive_from
   o_input t now Tick o = o
   o_input t now (Control m) o = if_either O (sv.is_for t.state m.header) _ _ (o_by_suspicion t now m.header m.body _ o) o
 
   -- The passes.
-  o_suspects : (now : Stamp) (cs : List ClientId) (t : Turn) → O t → O (suspect_each now cs t)
+  o_suspects : (now : Stamp) (cs : List ClientId) (t : ServerTurn) → O t → O (suspect_each now cs t)
   unfolding suspect_each suspect_unless
   o_suspects now [] t o = o
   o_suspects now (c ∷ cs) t o = o_suspects now cs _ (if_either O (authority.may_ack t.state.authority c) _ _ (o_suspect t now c o) o)
 
-  o_suspecting : (t : Turn) (now : Stamp) (i : ServerInput) → O t → O (suspecting_on t now i)
+  o_suspecting : (t : ServerTurn) (now : Stamp) (i : ServerInput) → O t → O (suspecting_on t now i)
   unfolding suspecting_on suspecting
   o_suspecting t now Tick o = o_suspects now _ t o
   o_suspecting t now (Control m) o = o
 
-  o_told : (rs : List (ClientId × Life × ℕ × GrantNo × Mode)) (t : Turn) → O t → O (tell_granted rs t)
+  o_told : (rs : List (ClientId × Life × ℕ × GrantNo × Mode)) (t : ServerTurn) → O t → O (tell_granted rs t)
   unfolding tell_granted
   o_told [] t o = o
   o_told (r ∷ rs) t o = o_told rs _ (o_tell t r.0 r.1 _ tt o)
 
-  o_granting : (t : Turn) (now : Stamp) → O t → O (granting t now)
+  o_granting : (t : ServerTurn) (now : Stamp) → O t → O (granting t now)
   unfolding granting grant_waiting grant_by
   o_granting t now o = if_either O (sv.in_grace t now) t _ o (o_told _ _ (o_state t _ refl refl refl o))
 
-  o_demanded : (rs : List (ClientId × Life × ℕ × GrantNo × Mode)) (t : Turn) → O t → O (tell_demanded rs t)
+  o_demanded : (rs : List (ClientId × Life × ℕ × GrantNo × Mode)) (t : ServerTurn) → O t → O (tell_demanded rs t)
   unfolding tell_demanded
   o_demanded [] t o = o
   o_demanded (r ∷ rs) t o = o_demanded rs _ (o_tell t r.0 r.1 _ tt o)
 
-  o_demanding : (t : Turn) (now : Stamp) (i : ServerInput) → O t → O (demanding t now i)
+  o_demanding : (t : ServerTurn) (now : Stamp) (i : ServerInput) → O t → O (demanding t now i)
   unfolding demanding demand_by
   o_demanding t now i o = o_demanded _ _ (o_state t _ refl refl refl o)
 

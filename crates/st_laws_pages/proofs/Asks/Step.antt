@@ -28,7 +28,7 @@ use Rattle.st_lemmas.specs.Lists.{Has}
 use Rattle.st_lemmas.proofs.Tables.{has_append, has_map_in}
 use Rattle.st_laws_steps.specs.Lives.Lives.{Once, server_number}
 use Rattle.st_laws_pages.proofs.Asks.Places.{Knows, OwnBody}
-use Rattle.st_laws_pages.proofs.Asks.Client.{Lasts, Stands, Usable, Begun, Lasting, Each, g_hear, w_lose, w_finish, s_passes, each, these, begun}
+use Rattle.st_laws_pages.proofs.Asks.Client.{Lasts, Stands, Usable, Begun, Lasting, Each, g_receive, w_lose, w_finish, s_passes, each, these, begun}
 
 -- A fact of operations and outputs, before the input and behind it.
 abbrev pub Fact : Type 1
@@ -39,7 +39,7 @@ Goes P R = (ops : List Operation) (out : List Output) → P ops out → R ops ou
 
 -- an ask is pending from now on, or is answered at once
 pub record TakesAsk (P R : Fact) (op : ℕ) (ask : Ask) : Type 0 where
-  pub pends : (ops : List Operation) (out : List Output) → P ops out → R (ops ++ cs.new_operation op ask ∷ []) out
+  pub enqueues : (ops : List Operation) (out : List Output) → P ops out → R (ops ++ cs.new_operation op ask ∷ []) out
   pub at_once : (ops : List Operation) (out : List Output) (a : AppAnswer) → is_use a ≡ false → P ops out → R ops (out ++ outputs.Answer op a ∷ [])
 
 -- what a message tells of pages is of the disks of its sender
@@ -121,16 +121,16 @@ module _ (n : ℕ) (Use : ServerId → Type 0) (c : ClientId) (k : Config) (P R 
     unfolding cl.take_ask cl.take_by cl.take_sync cl.enqueue cl.tell_lost
     taken t w = by ask
       where
-        pended : Stands n c k R (Usable Use) (cl.enqueue t op ask)
-        pended = record { id = w.id; config = w.config; done = g.pends t.operations t.out w.done; own = w.own; cond = (begun n Use c k P p t w).cond }
+        enqueued : Stands n c k R (Usable Use) (cl.enqueue t op ask)
+        enqueued = record { id = w.id; config = w.config; done = g.enqueues t.operations t.out w.done; own = w.own; cond = (begun n Use c k P p t w).cond }
 
         by : (a : Ask) → Stands n c k R (Usable Use) (cl.take_by t op ask a)
         by (asks.Sync f) = lost (pages.has_lost t.here.lost f.ino)
           where
             lost : (b : Bool) → Stands n c k R (Usable Use) (if b then cl.tell_lost t op f.ino else cl.enqueue t op ask)
             lost true = record { id = w.id; config = w.config; done = g.at_once t.operations t.out _ refl w.done; own = w.own; cond = (begun n Use c k P p t w).cond }
-            lost false = pended
-        by a = pended
+            lost false = enqueued
+        by a = enqueued
 
     -- the associations with other servers
     abbrev Elsewhere : ServerId → Option ClientSession → Option Stamp → Type 0
@@ -221,7 +221,7 @@ module _ (n : ℕ) (Use : ServerId → Type 0) (c : ClientId) (k : Config) (P R 
       go (inputs.Control m) g = to (m.header.to == t.state.id.0)
         where
           to : (b : Bool) → B (Usable Use) (if b then cr.receive_here t now m.header m.body else t)
-          to true = each n Use c k R r (Begun Use) (Usable Use) (cr.receive_at now m.header m.body) (λ u w. g_hear n Use c k R r now m.header m.body u g.1 w) t (goes (Begun Use) g.0 t e)
+          to true = each n Use c k R r (Begun Use) (Usable Use) (cr.receive_at now m.header m.body) (λ u w. g_receive n Use c k R r now m.header m.body u g.1 w) t (goes (Begun Use) g.0 t e)
           to false = goes (Usable Use) g.0 t (weaker t e)
       go (inputs.Done number result) g =
           each n Use c k R r (Usable Use) (Usable Use) (cl.finish number result) (λ u w. w_finish n Use c k R r (Usable Use) number result u w) t (goes (Usable Use) g t (weaker t e))

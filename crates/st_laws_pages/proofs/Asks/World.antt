@@ -27,7 +27,7 @@ use Rattle.st_rules.specs.Events.{WorldTurn}
 use Rattle.st_rules.specs.Keys.{server_node}
 use Rattle.st_rules.specs.Server.{ServerNode}
 use Rattle.st_rules.specs.World as world
-use Rattle.st_rules.specs.World.{World, ClientSite, site_of, node_of, numbered, with_numbered, clock_of}
+use Rattle.st_rules.specs.World.{World, WorldClient, site_of, node_of, numbered, with_numbered, clock_of}
 use Rattle.st_rules.specs.Safety.{Step, answers_in, ask_in, event_of, is_answer_to, is_expired, has_reached, uses_server}
 use Rattle.st_lemmas.specs.Lists.{Has}
 use Rattle.st_lemmas.proofs.Lookups.{some_is}
@@ -54,7 +54,7 @@ pub record NodeOwn (n : ℕ) (node : ServerNode) : Type 0 where
   pub kept : (x : Session) → Has x node.state.sessions.rows → Kept n node.state.id x
 
 -- a client knows nothing else
-abbrev pub SiteKnows : ℕ → ClientSite → Type 0
+abbrev pub SiteKnows : ℕ → WorldClient → Type 0
 SiteKnows n site = (a : Association) → Has a site.node.state.associations → Knows n a.server a.store.extents
 
 pub record Places (n : ℕ) (w : World) : Type 0 where
@@ -62,7 +62,7 @@ pub record Places (n : ℕ) (w : World) : Type 0 where
   pub few : length w.clients ≤ 16
   pub nodes : (s : ServerId) (node : ServerNode) → node_of w s ≡ Some node → NodeOwn n node
   pub told : (m : SentMessage) → Has m w.net.messages → SentBy n m.message.header.from m.message.body
-  pub known : (c : ClientId) (site : ClientSite) → site_of w c ≡ Some site → SiteKnows n site
+  pub known : (c : ClientId) (site : WorldClient) → site_of w c ≡ Some site → SiteKnows n site
 
 pub sent_told : (n from : ℕ) (b : Body) → SentBy n from b → ToldBy n from b
 sent_told n from b (inl h) s e = absurd (omega (arith, h, e))
@@ -75,14 +75,14 @@ abbrev pub asks_of : List Step → ClientId → List Ask
 asks_of past c = filter_map (ask_in c) (map event_of past)
 
 -- What stands of a client's pending asks behind steps.
-pub record ClientAsks (past : List Step) (c : ClientId) (site : ClientSite) : Type 0 where
+pub record ClientAsks (past : List Step) (c : ClientId) (site : WorldClient) : Type 0 where
   pub count : length (asks_of past c) ≡ site.asks
   pub pending : (k : ℕ × Ask) → Has k (map key site.node.state.operations) → numbered (asks_of past c) k.0 ≡ Some k.1
   pub apart : Apart (map key site.node.state.operations)
   pub unsaid : (k : ℕ × Ask) → Has k (map key site.node.state.operations) → list_any (answers_in c k.0) past ≡ false
 
 pub record AllAsks (past : List Step) (w : World) : Type 0 where
-  pub clients : (c : ClientId) (site : ClientSite) → site_of w c ≡ Some site → ClientAsks past c site
+  pub clients : (c : ClientId) (site : WorldClient) → site_of w c ≡ Some site → ClientAsks past c site
   pub later : (c : ClientId) (op : ℕ) → length (asks_of past c) < op → list_any (answers_in c op) past ≡ false
 
 map_last : {A B : Type 0} (f : A → B) (xs : List A) (y : A) → map f (xs ++ y ∷ []) ≡ map f xs ++ f y ∷ []
@@ -112,7 +112,7 @@ answers_more past x c op a b = any_more (answers_in c op) past (x ∷ []) ∙ go
     go false false e f = refl
 
 -- a client of which nothing happens
-other_asks : (past : List Step) (x : Step) (c : ClientId) (site : ClientSite) → ask_in c x.event ≡ None → ((op : ℕ) → list_any (is_answer_to c op) x.seen ≡ false) → ClientAsks past c site → ClientAsks (past ++ x ∷ []) c site
+other_asks : (past : List Step) (x : Step) (c : ClientId) (site : WorldClient) → ask_in c x.event ≡ None → ((op : ℕ) → list_any (is_answer_to c op) x.seen ≡ false) → ClientAsks past c site → ClientAsks (past ++ x ∷ []) c site
 other_asks past x c site e n h =
     record {
       count = ap (λ z. length z) (asks_same past x c e) ∙ h.count;
@@ -127,7 +127,7 @@ other_later past x c e n h op l = answers_more past x c op (h op (subst (λ z. l
 
 -- An event that is no ask and answers nothing, and leaves the operations and asks of clients, or empties them.
 pub record SitesStay (w v : World) : Type 0 where
-  pub old : (c : ClientId) (site : ClientSite) → site_of v c ≡ Some site → (before : ClientSite) × (site_of w c ≡ Some before) × (site.asks ≡ before.asks) ×
+  pub old : (c : ClientId) (site : WorldClient) → site_of v c ≡ Some site → (before : WorldClient) × (site_of w c ≡ Some before) × (site.asks ≡ before.asks) ×
       ((site.node.state.operations ≡ before.node.state.operations) ⊎ (site.node.state.operations ≡ []))
 
 pub quiet_asks : (past : List Step) (x : Step) (w v : World) → ((c : ClientId) → ask_in c x.event ≡ None) → AllDull x.seen → SitesStay w v → AllAsks past w → AllAsks (past ++ x ∷ []) v
@@ -137,7 +137,7 @@ quiet_asks past x w v e d st h =
       later = λ c op. other_later past x c (e c) (λ m. dull_unanswered c m x.seen d) (h.later c) op;
     }
   where
-    go : (c : ClientId) (site : ClientSite) → (before : ClientSite) × (site_of w c ≡ Some before) × (site.asks ≡ before.asks) × ((site.node.state.operations ≡ before.node.state.operations) ⊎ (site.node.state.operations ≡ [])) → ClientAsks (past ++ x ∷ []) c site
+    go : (c : ClientId) (site : WorldClient) → (before : WorldClient) × (site_of w c ≡ Some before) × (site.asks ≡ before.asks) × ((site.node.state.operations ≡ before.node.state.operations) ⊎ (site.node.state.operations ≡ [])) → ClientAsks (past ++ x ∷ []) c site
     go c site (before, i, n, inl o) =
         let y = other_asks past x c before (e c) (λ m. dull_unanswered c m x.seen d) (h.clients c before i) in
         record {
@@ -158,7 +158,7 @@ quiet_asks past x w v e d st h =
 -- A step of a client in the world.
 
 -- what the step knows: the client, its asks with the new one, what it takes
-pub record ClientStep (past : List Step) (x : Step) (n : ℕ) (w : World) (c : ClientId) (old site : ClientSite) (input : ClientInput) : Type 0 where
+pub record ClientStep (past : List Step) (x : Step) (n : ℕ) (w : World) (c : ClientId) (old site : WorldClient) (input : ClientInput) : Type 0 where
   pub there : site_of w c ≡ Some old
   pub same : old.node ≡ site.node
   pub runs : site.node.running ≡ true
@@ -198,7 +198,7 @@ flush_same c s (y ∷ ss) w = go (in_phase (cl.lease_end_with s y) (cl.phase_wit
         at m (inr h) = inr h
 
 -- the client of a number behind a change of one client
-pub site_case : (w : World) (c : ClientId) (old site : ClientSite) (cs : List ClientSite) → site_of w c ≡ Some old → cs ≡ with_numbered c.0 site w.clients → (d : ClientId) (y : ClientSite) → numbered cs d.0 ≡ Some y →
+pub site_case : (w : World) (c : ClientId) (old site : WorldClient) (cs : List WorldClient) → site_of w c ≡ Some old → cs ≡ with_numbered c.0 site w.clients → (d : ClientId) (y : WorldClient) → numbered cs d.0 ≡ Some y →
     ((c ≡ d) × (y ≡ site)) ⊎ (((c.0 == d.0) ≡ false) × (site_of w d ≡ Some y))
 site_case w c old site cs there e d y i = go (c.0 == d.0) refl
   where
@@ -243,7 +243,7 @@ expired_lost k now a e = go a.session e
     go None e = cc
     go (Some s) e = over_is k s.lease now ∙ e
 
-module _ (past : List Step) (x : Step) (n : ℕ) (w : World) (c : ClientId) (old site : ClientSite) (input : ClientInput) (z : ClientStep past x n w c old site input) (h : NodeHolds w.config w.clocks w.ended c old.node) (pl : Places n w) (al : AllAsks past w) where
+module _ (past : List Step) (x : Step) (n : ℕ) (w : World) (c : ClientId) (old site : WorldClient) (input : ClientInput) (z : ClientStep past x n w c old site input) (h : NodeHolds w.config w.clocks w.ended c old.node) (pl : Places n w) (al : AllAsks past w) where
   abbrev answered : ℕ → Bool
   answered op = list_any (answers_in c op) past
 
@@ -331,13 +331,13 @@ module _ (past : List Step) (x : Step) (n : ℕ) (w : World) (c : ClientId) (old
   places =
       record {
         count = ap (λ (y : List ServerNode). length y) servers ∙ pl.count;
-        few = subst (λ y. y ≤ 16) (sym (ap (λ (y : List ClientSite). length y) clients ∙ set_length w.clients (pred c.0) (ev.at_node t.node site))) pl.few;
+        few = subst (λ y. y ≤ 16) (sym (ap (λ (y : List WorldClient). length y) clients ∙ set_length w.clients (pred c.0) (ev.at_node t.node site))) pl.few;
         nodes = λ s y i. pl.nodes s y (sym (ap (λ (z : List ServerNode). numbered z s.0) servers) ∙ i);
         told = told;
         known = λ d y i. known d y (site_case w c old (ev.at_node t.node site) v.clients z.there clients d y i);
       }
     where
-      known : (d : ClientId) (y : ClientSite) → ((c ≡ d) × (y ≡ ev.at_node t.node site)) ⊎ (((c.0 == d.0) ≡ false) × (site_of w d ≡ Some y)) → SiteKnows n y
+      known : (d : ClientId) (y : WorldClient) → ((c ≡ d) × (y ≡ ev.at_node t.node site)) ⊎ (((c.0 == d.0) ≡ false) × (site_of w d ≡ Some y)) → SiteKnows n y
       known d y (inl (e, f)) = subst (SiteKnows n) (sym f) ends.own
       known d y (inr (e, f)) = pl.known d y f
 
@@ -366,7 +366,7 @@ module _ (past : List Step) (x : Step) (n : ℕ) (w : World) (c : ClientId) (old
             unsaid = λ k i. answers_more past x c k.0 (holds.unsaid k i).0 (own k.0 ∙ (holds.unsaid k i).1);
           }
 
-      one : (d : ClientId) (y : ClientSite) → ((c ≡ d) × (y ≡ ev.at_node t.node site)) ⊎ (((c.0 == d.0) ≡ false) × (site_of w d ≡ Some y)) → ClientAsks (past ++ x ∷ []) d y
+      one : (d : ClientId) (y : WorldClient) → ((c ≡ d) × (y ≡ ev.at_node t.node site)) ⊎ (((c.0 == d.0) ≡ false) × (site_of w d ≡ Some y)) → ClientAsks (past ++ x ∷ []) d y
       one d y (inl (e, f)) = subst (λ d. ClientAsks (past ++ x ∷ []) d y) e (subst (ClientAsks (past ++ x ∷ []) c) (sym f) mine)
       one d y (inr (e, f)) = other_asks past x d y (z.other d e) (λ op. others d op e) (al.clients d y f)
 

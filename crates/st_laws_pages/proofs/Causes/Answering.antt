@@ -19,25 +19,25 @@ use Rattle.st_rules.specs.ClientState.{Association, ClientState, ClientTurn, Tur
 use Rattle.st_rules.specs.Events as ev
 use Rattle.st_rules.specs.Events.{WorldTurn}
 use Rattle.st_rules.specs.Safety.{Step}
-use Rattle.st_rules.specs.World.{World, ClientSite, life_with, site_of}
+use Rattle.st_rules.specs.World.{World, WorldClient, life_with, site_of}
 use Rattle.st_lemmas.specs.Lists.{Has}
 use Rattle.st_laws_pages.specs.Fates.Fates.{GoneAll}
 use Rattle.st_laws_pages.specs.Flush.Flush.{NodeCared}
 use Rattle.st_laws_steps.specs.Lives.Lives.{LivesHold}
 use Rattle.st_laws_steps.specs.Client.Losses.{Fit}
-use Rattle.st_laws_steps.specs.Client.Taking as taking
-use Rattle.st_laws_steps.specs.Client.Taking.{Taken}
+use Rattle.st_laws_steps.specs.Client.Inputs as taking
+use Rattle.st_laws_steps.specs.Client.Inputs.{Taken}
 use Rattle.st_laws_steps.proofs.Client.Taking.{taken}
 use Rattle.st_laws_pages.proofs.Flush.Flushing.{InputTold}
 use Rattle.st_laws_pages.proofs.Asks.Client.{key}
 use Rattle.st_laws_pages.proofs.Asks.Places.{Knows}
-use Rattle.st_laws_pages.specs.Causes.Stands.{CommandsStand, LatestOwn}
+use Rattle.st_laws_pages.specs.Causes.Invariants.{CommandsStand, LatestOwn}
 use Rattle.st_laws_pages.proofs.Causes.Hardly.{Hards, Ungone, each_said_at, quiet_hards}
-use Rattle.st_laws_pages.proofs.Causes.Placed.{AllPlaced, From, InputTells, Placed, Since, each_from, each_place, finish_places, hear_places, input_places, lose_places, only_left, passes_place, since_none, since_one, since_then}
+use Rattle.st_laws_pages.proofs.Causes.Placed.{AllPlaced, From, InputTells, Placed, Since, each_from, each_place, finish_places, receive_places, input_places, lose_places, only_left, passes_place, since_none, since_one, since_then}
 use Rattle.st_laws_pages.proofs.Causes.Saying.{placed_grown}
 use Rattle.st_laws_pages.proofs.Causes.Stepping.{input_all, phases, work_grows}
 use Rattle.st_laws_steps.specs.Client.Client.{Unhard}
-use Rattle.st_laws_pages.proofs.Causes.Unhard.{H, h_ask, h_finish, h_hear, h_lose}
+use Rattle.st_laws_pages.proofs.Causes.Unhard.{H, h_ask, h_finish, h_receive, h_lose}
 
 -- A rule at each server in turn answers no sync hard.
 these_unhard : (rule : Turn → Turn) → ((t : Turn) → Fit t.here → H t (rule t)) → (al : List Association) (t : ClientTurn) → ((a : Association) → Has a al → Fit a) → Since Unhard t.out (at_these rule al t).out
@@ -56,7 +56,7 @@ input_unhard now _ t _ (taking.Nothing i) f = since_none Unhard t.out
 input_unhard now _ t _ (taking.Full op ask e) f = since_one Unhard t.out (outputs.Answer op answers.OpsFull) tt
 input_unhard now _ t _ (taking.Unknown op ask e g) f = since_one Unhard t.out (outputs.Answer op answers.NoFile) tt
 input_unhard now _ t _ (taking.Takes op ask e g) f = each_unhard (only_at (server_of ask) (cl.take_ask op ask)) (λ u g. h_ask (server_of ask) op ask u) t f
-input_unhard now _ t _ (taking.Hears m e) f = each_unhard (cr.receive_at now m.header m.body) (λ u g. h_hear now m.header m.body u g.fresh) t f
+input_unhard now _ t _ (taking.Receives m e) f = each_unhard (cr.receive_at now m.header m.body) (λ u g. h_receive now m.header m.body u g.fresh) t f
 input_unhard now _ t _ (taking.Finishes number r) f = each_unhard (cl.finish number r) (λ u g. h_finish number r u) t f
 
 -- The operations behind an ask: those that there were, and it.
@@ -77,16 +77,16 @@ ask_one : (s : _) (op : ℕ) (ask : Ask) (t : Turn) → OrNew (map key t.operati
 unfolding only_at cl.take_ask cl.take_by cl.take_sync cl.enqueue cl.tell_lost
 ask_one s op ask t = go (is_at s t.here)
   where
-    pended : OrNew (map key t.operations) (op, ask) (cl.enqueue t op ask).operations
-    pended = λ k i. last_key t.operations (Rattle.st_rules.specs.ClientState.new_operation op ask) k i
+    enqueued : OrNew (map key t.operations) (op, ask) (cl.enqueue t op ask).operations
+    enqueued = λ k i. last_key t.operations (Rattle.st_rules.specs.ClientState.new_operation op ask) k i
 
     lost : (g : FileId) (b : Bool) → OrNew (map key t.operations) (op, ask) (if b then cl.tell_lost t op g.ino else cl.enqueue t op ask).operations
     lost g true = λ k i. inl i
-    lost g false = pended
+    lost g false = enqueued
 
     by : (a : Ask) → OrNew (map key t.operations) (op, ask) (cl.take_by t op ask a).operations
     by (asks.Sync g) = lost g (pages.has_lost t.here.lost g.ino)
-    by a = pended
+    by a = enqueued
 
     go : (b : Bool) → OrNew (map key t.operations) (op, ask) (if b then cl.take_ask op ask t else t).operations
     go true = by ask
@@ -125,11 +125,11 @@ input_asked n now asked _ t _ (taking.Takes op ask e g) told new f k h = λ x i.
     either : (x : ℕ × Ask) → Has x (map key t.state.operations) ⊎ (x ≡ (op, ask)) → asked x.0 ≡ Some x.1
     either x (inl i) = h x i
     either x (inr e) = subst (λ (y : ℕ × Ask). asked y.0 ≡ Some y.1) (sym e) new
-input_asked n now asked _ t _ (taking.Hears m e) told new f k h = from_asked asked t.state.operations (at_each (cr.receive_at now m.header m.body) t).state.operations (each_from n (cr.receive_at now m.header m.body) (hear_places n now m.header m.body told) t f k) h
+input_asked n now asked _ t _ (taking.Receives m e) told new f k h = from_asked asked t.state.operations (at_each (cr.receive_at now m.header m.body) t).state.operations (each_from n (cr.receive_at now m.header m.body) (receive_places n now m.header m.body told) t f k) h
 input_asked n now asked _ t _ (taking.Finishes number r) told new f k h = from_asked asked t.state.operations (at_each (cl.finish number r) t).state.operations (each_from n (cl.finish number r) (finish_places n now number r) t f k) h
 
 -- The whole step.
-module _ (past : List Step) (w : World) (c : ClientId) (old site : ClientSite) (input : ClientInput) (now : Stamp) (there : site_of w c ≡ Some old) (same : old.node ≡ site.node) (starts : old.starts ≡ site.starts) (h : LivesHold w) where
+module _ (past : List Step) (w : World) (c : ClientId) (old site : WorldClient) (input : ClientInput) (now : Stamp) (there : site_of w c ≡ Some old) (same : old.node ≡ site.node) (starts : old.starts ≡ site.starts) (h : LivesHold w) where
   abbrev s : ClientState
   s = site.node.state
 
@@ -142,7 +142,7 @@ module _ (past : List Step) (w : World) (c : ClientId) (old site : ClientSite) (
   abbrev v : ClientTurn
   v = cl.work u now input
 
-  abbrev after : ClientSite
+  abbrev after : WorldClient
   after = ev.at_node (cl.node_turn site.node v).node site
 
   abbrev sc : WorldTurn

@@ -25,7 +25,7 @@ use Rattle.st_rules.specs.Events as ev
 use Rattle.st_rules.specs.Events.{WorldTurn, client_notes, client_says, client_says_all, latest, latest_at, latest_from}
 use Rattle.st_rules.specs.FlatLog as log
 use Rattle.st_rules.specs.FlatLog.{entry_at}
-use Rattle.st_rules.specs.World.{ClientSite, numbered, site_of}
+use Rattle.st_rules.specs.World.{WorldClient, numbered, site_of}
 use Rattle.st_lemmas.proofs.Marks.{of_entry, owners_drop, owners_harden}
 use Rattle.st_lemmas.proofs.Numbers.{get_below, get_more, length_more, set_length}
 use Rattle.st_lemmas.proofs.Lookups.{some_is}
@@ -33,7 +33,7 @@ use Rattle.st_laws_pages.specs.Disks.Folds.{DoneUpto, owner_at}
 use Rattle.st_laws_pages.proofs.Disks.Folds.{done_drop, done_harden, done_last, harden_done}
 use Rattle.st_laws_pages.proofs.Disks.Law.{length_same, owner_same}
 use Rattle.st_laws_pages.proofs.Disks.World.{at_set}
-use Rattle.st_laws_pages.specs.Causes.Stands.{CarriedDone, Carries, CommandsStand}
+use Rattle.st_laws_pages.specs.Causes.Invariants.{CarriedDone, Carries, CommandsStand}
 
 -- the latest entry is an entry of the log, or 0
 latest_low : (n before : ℕ) (c : ClientId) (f : FileId) (p : PageNo) (es : List LogEntry) → before < n → latest_from n before c f p es < n + length es
@@ -176,7 +176,7 @@ says_one c before (outputs.Send m) sc h = h
 says_one c before (outputs.Answer op a) sc h = h
 says_one c before (outputs.Submit n at what) sc h = go (site_of sc.world c)
   where
-    go : (o : Option ClientSite) → Here (ev.submits sc c o n at what)
+    go : (o : Option WorldClient) → Here (ev.submits sc c o n at what)
     go None = h
     go (Some site) = command_joins sc.world.log sc.world.commands sc.world.disks.commands (ev.issued sc.world c site n at what) what (read what) (write what) h
       where

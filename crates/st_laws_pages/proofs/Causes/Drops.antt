@@ -42,7 +42,7 @@ use Rattle.st_rules.specs.Keys.{same_client, same_server, same_file}
 use Rattle.st_laws_pages.proofs.Lives.Turning.{says_one}
 use Rattle.std.proofs.Common.{◌≡◌, ℕ, ◌+◌, ◌⊎◌, Bool, true, false, ◌&&◌, List, [], ◌∷◌, ◌++◌, ◌==◌, Option, Some, None, Ok, Err, refl, sym, ap, ◌∙◌, subst, inl, inr, if◌then◌else◌}
 use Rattle.std.specs.Prelude.{Result, filter, map, length, pred, ◌%◌}
-use Rattle.st_rules.specs.World.{World, ClientSite, numbered, site_of, node_of, issued_of, clock_of, life_with, server_of_disk}
+use Rattle.st_rules.specs.World.{World, WorldClient, numbered, site_of, node_of, issued_of, clock_of, life_with, server_of_disk}
 use Rattle.st_rules.specs.ClientState.{Association, ClientState}
 use Rattle.st_rules.specs.Events.{WorldTurn, client_notes, client_says, client_says_all, last_write, present_lives}
 use Rattle.st_lemmas.proofs.Numbers.{numbered_has, numbered_own}
@@ -50,7 +50,7 @@ use Rattle.st_lemmas.proofs.Tables.{and_true, has_append, has_filter}
 use Rattle.st_laws_pages.specs.Fates.Fates.{GoneAll, GoneHold}
 use Rattle.st_laws_steps.specs.Lives.Lives.{owner_of, LivesHold}
 use Rattle.st_laws_steps.specs.Client.Losses.{Fit}
-use Rattle.st_laws_pages.specs.Disks.Owed.{FatesHold}
+use Rattle.st_laws_pages.specs.Disks.Obligations.{FatesHold}
 use Rattle.st_laws_pages.proofs.Fates.GoneLaw.{Over}
 use Rattle.st_laws_pages.proofs.Fates.Owing.{crash_owes, last_more, lives_owe, over_apart}
 use Rattle.st_laws_pages.proofs.Asks.Places.{Knows, On}
@@ -71,7 +71,7 @@ one_failed size c before o after apart (outputs.Note n) sc e r h = note n
     note n = refl
 one_failed size c before o after apart (outputs.Submit k at what) sc e r h = go (site_of sc.world c) refl
   where
-    differs : (site : ClientSite) → site_of sc.world c ≡ Some site → (tag : Tag) → On size tag.file.server at → (b : Bool) →
+    differs : (site : WorldClient) → site_of sc.world c ≡ Some site → (tag : Tag) → On size tag.file.server at → (b : Bool) →
         log.same_owner (log.owner c (life_with site.node.state (server_of_disk sc.world at)) tag.file tag.page) o ≡ b → b ≡ false
     differs site q tag s false t = refl
     differs site q tag s true t =
@@ -84,11 +84,11 @@ one_failed size c before o after apart (outputs.Submit k at what) sc e r h = go 
         ap (λ (l : Life). l.0) (sym (e o.file.server)) ∙ ap (λ y. (ev.life_of_site o.file.server y).0) q ∙ ap (λ v. (life_with site.node.state v).0) (sym server) ∙ eqb-true (life_with site.node.state (server_of_disk sc.world at)).0 o.life.0 x.1 in
         absurd (apart (sym (eqb-true c.0 o.client.0 x.0)) life)
 
-    by : (site : ClientSite) → site_of sc.world c ≡ Some site → (w : Command) → PlacedOne size (outputs.Submit k at w) → ev.carries_for o (ev.issued sc.world c site k at w) (ev.carries sc.world c w) ≡ false
+    by : (site : WorldClient) → site_of sc.world c ≡ Some site → (w : Command) → PlacedOne size (outputs.Submit k at w) → ev.carries_for o (ev.issued sc.world c site k at w) (ev.carries sc.world c w) ≡ false
     by site q (commands.Read to) r = refl
     by site q (commands.Write to tag bytes) r = differs site q tag r _ refl
 
-    go : (x : Option ClientSite) → site_of sc.world c ≡ x → ev.last_write_from 1 0 o (ev.submits sc c x k at what).world.commands ≡ ev.last_write_from 1 0 o sc.world.commands
+    go : (x : Option WorldClient) → site_of sc.world c ≡ x → ev.last_write_from 1 0 o (ev.submits sc c x k at what).world.commands ≡ ev.last_write_from 1 0 o sc.world.commands
     go None q = refl
     go (Some site) q = last_more o 1 0 sc.world.commands (ev.issued sc.world c site k at what) (by site q what r)
 
@@ -106,7 +106,7 @@ failed_all cs ds P [] f h = record {}
 failed_all cs ds P (e ∷ es) f h = record { one = λ k q. f e.of (inl refl) (h.one (ap log.counts q)); rest = failed_all cs ds P es (λ o i. f o (inr i)) h.rest }
 
 module _ (w : World) (size : ℕ) (l : LivesHold w) (pl : PlacesAt size w) (g : GoneHold w) where
-  client_failed : (c : ClientId) (old site : ClientSite) (input : ClientInput) → site_of w c ≡ Some old → old.node ≡ site.node → site.node.running ≡ true → InputTells size input →
+  client_failed : (c : ClientId) (old site : WorldClient) (input : ClientInput) → site_of w c ≡ Some old → old.node ≡ site.node → site.node.running ≡ true → InputTells size input →
       FailedStay w.commands (ev.client_took w c site (Ok (cl.node_turn site.node (cl.client_step site.node.state (clock_of w (nodes.Client c)) input)))).world.commands w.log
   unfolding ev.client_took
   client_failed c old site input there same r tells =
@@ -133,7 +133,7 @@ module _ (w : World) (size : ℕ) (l : LivesHold w) (pl : PlacesAt size w) (g : 
       knows : (b : Association) → Has b site.node.state.associations → Knows size b.server b.store.extents
       knows = subst (λ (m : cl.ClientNode). (b : Association) → Has b m.state.associations → Knows size b.server b.store.extents) same (pl.known c old there)
 
-  takes_failed : (c : ClientId) (input : ClientInput) (old site : ClientSite) → site_of w c ≡ Some old → old.node ≡ site.node → InputTells size input → FailedStay w.commands (ev.client_takes w c input site).world.commands w.log
+  takes_failed : (c : ClientId) (input : ClientInput) (old site : WorldClient) → site_of w c ≡ Some old → old.node ≡ site.node → InputTells size input → FailedStay w.commands (ev.client_takes w c input site).world.commands w.log
   unfolding cl.node_step ev.client_takes ev.client_took
   takes_failed c input old site there same tells = go site.node.running refl
     where
@@ -144,7 +144,7 @@ module _ (w : World) (size : ℕ) (l : LivesHold w) (pl : PlacesAt size w) (g : 
       go true r = client_failed c old site input there same r tells
       go false r = same_failed w.commands w.log
 
-  at_client_failed : (c : ClientId) (input : ClientInput) (s : Option ClientSite) → site_of w c ≡ s → InputTells size input → FailedStay w.commands (ev.at_client w c input s).world.commands w.log
+  at_client_failed : (c : ClientId) (input : ClientInput) (s : Option WorldClient) → site_of w c ≡ s → InputTells size input → FailedStay w.commands (ev.at_client w c input s).world.commands w.log
   unfolding ev.at_client
   at_client_failed c input None e tells = same_failed w.commands w.log
   at_client_failed c input (Some site) e tells = takes_failed c input site site e refl tells
@@ -191,11 +191,11 @@ report_failed w size k ok l pl g = go (issued_of w k)
     gone : GoneHold v
     gone = Rattle.st_laws_pages.proofs.Fates.GoneLaw.gone_known (Over w) (Over v) w.log (λ o i z. Rattle.st_laws_pages.proofs.Fates.GoneLaw.kept w o v (λ x. record { row = x.row; is = x.is; crashed = x.crashed }) (λ x. record { end = x.end; is = x.is; late = x.late }) z) g
 
-    same : (x : IssuedCommand) (site : ClientSite) → site_of v x.client ≡ Some site → (b : Bool) → FailedStay w.commands (if b then ev.client_takes v x.client (ev.end_told v k ok x) site else ev.quiet v).world.commands w.log
+    same : (x : IssuedCommand) (site : WorldClient) → site_of v x.client ≡ Some site → (b : Bool) → FailedStay w.commands (if b then ev.client_takes v x.client (ev.end_told v k ok x) site else ev.quiet v).world.commands w.log
     same x site e true = takes_failed v size lives places gone x.client (ev.end_told v k ok x) site site e refl tt
     same x site e false = same_failed w.commands w.log
 
-    told : (x : IssuedCommand) (s : Option ClientSite) → site_of v x.client ≡ s → FailedStay w.commands (ev.tells_client v k ok x s).world.commands w.log
+    told : (x : IssuedCommand) (s : Option WorldClient) → site_of v x.client ≡ s → FailedStay w.commands (ev.tells_client v k ok x s).world.commands w.log
     told x None e = same_failed w.commands w.log
     told x (Some site) e = same x site e (ev.is_same_instance x site)
 
@@ -231,7 +231,7 @@ causes_owed past w size (events.Tick (nodes.Client c)) d f pl k = at_client_fail
 causes_owed past w size (events.Tick (nodes.Server s)) d f pl k = at_server_failed w s _ (node_of w s)
 causes_owed past w size (events.App c ask) d f pl k = go (site_of w c) refl
   where
-    go : (s : Option ClientSite) → site_of w c ≡ s → FailedStay w.commands (ev.asks_at w c ask s).world.commands w.log
+    go : (s : Option WorldClient) → site_of w c ≡ s → FailedStay w.commands (ev.asks_at w c ask s).world.commands w.log
     go None e = same_failed w.commands w.log
     go (Some site) e = takes_failed w size f.lives pl f.gone c (inputs.App (site.asks + 1) ask) site (ev.asked_once_more site) e refl tt
 causes_owed past w size (events.Deliver n) d f pl k = go (world.message_of w n) refl
@@ -256,7 +256,7 @@ causes_owed past w size (events.Effect n) d f pl k = same_failed w.commands w.lo
 causes_owed past w size (events.Report n ok) d f pl k = report_failed w size n ok f.lives pl f.gone
 causes_owed past w size (events.Crash (nodes.Client c)) d f pl k = go (site_of w c) refl
   where
-    go : (s : Option ClientSite) → site_of w c ≡ s → CrashSiteOwes w c s
+    go : (s : Option WorldClient) → site_of w c ≡ s → CrashSiteOwes w c s
     go None e = record {}
     go (Some site) e = record { pending = crash_owes w c f; lives = lives_owe w c site e f }
 causes_owed past w size (events.Crash (nodes.Server s)) d f pl k = go (node_of w s)
@@ -266,7 +266,7 @@ causes_owed past w size (events.Crash (nodes.Server s)) d f pl k = go (node_of w
     go (Some node) = same_failed w.commands w.log
 causes_owed past w size (events.Start (nodes.Client c)) d f pl k = go (site_of w c)
   where
-    go : (s : Option ClientSite) → FailedStay w.commands (ev.starts_client w c s).commands w.log
+    go : (s : Option WorldClient) → FailedStay w.commands (ev.starts_client w c s).commands w.log
     go None = same_failed w.commands w.log
     go (Some site) = same_failed w.commands w.log
 causes_owed past w size (events.Start (nodes.Server s)) d f pl k = go (node_of w s)

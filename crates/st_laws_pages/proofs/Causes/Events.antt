@@ -37,7 +37,7 @@ use Rattle.st_rules.specs.ClientState.{Association, ClientSession}
 use Rattle.st_rules.specs.Server as server
 use Rattle.st_rules.specs.Server.{ServerNode}
 use Rattle.st_rules.specs.World as world
-use Rattle.st_rules.specs.World.{World, ClientSite, numbered, with_numbered, site_of, node_of, issued_of, clock_of}
+use Rattle.st_rules.specs.World.{World, WorldClient, numbered, with_numbered, site_of, node_of, issued_of, clock_of}
 use Rattle.st_rules.specs.Admissible as adm
 use Rattle.st_rules.specs.Events as ev
 use Rattle.st_rules.specs.Events.{WorldTurn, latest}
@@ -65,7 +65,7 @@ use Rattle.st_rules.specs.ClientPages as pages
 use Rattle.st_rules.specs.declared.pages.DirtyPage.{DirtyPage}
 use Rattle.st_laws_steps.specs.Client.Losses.{Fit}
 use Rattle.st_laws_pages.proofs.Asks.Places.{Knows}
-use Rattle.st_laws_pages.specs.Causes.Stands.{CommandsStand, LatestOwn, LatestStand, WritesStand}
+use Rattle.st_laws_pages.specs.Causes.Invariants.{CommandsStand, LatestOwn, LatestStand, WritesStand}
 use Rattle.st_laws_pages.proofs.Causes.Commands.{effect_stands, entry_joins, lives_end, picked_drop, report_stands}
 use Rattle.st_laws_pages.proofs.Causes.Latest.{latest_elsewhere, latest_owned}
 use Rattle.st_laws_pages.proofs.Causes.Placed.{InputTells, PlacesAt, step_placed}
@@ -123,7 +123,7 @@ module _ (past : List Step) (x : Step) where
       }
 
   -- what is told at the end of a command: it was reported among these steps, or had its effect
-  pub told_of : (w : World) (k : ℕ) (ok : Bool) (d : DiskCommand) → disks.command w.disks k ≡ Some d → (ok ≡ true → d.effected ≡ true) → x.event ≡ events.Report k ok → (y : IssuedCommand) → issued_of w k ≡ Some y → (site : ClientSite) → ev.is_same_instance y site ≡ true →
+  pub told_of : (w : World) (k : ℕ) (ok : Bool) (d : DiskCommand) → disks.command w.disks k ≡ Some d → (ok ≡ true → d.effected ≡ true) → x.event ≡ events.Report k ok → (y : IssuedCommand) → issued_of w k ≡ Some y → (site : WorldClient) → ev.is_same_instance y site ≡ true →
       (sc : WorldTurn) → sc.world.commands ≡ w.commands → sc.world.disks ≡ w.disks → InputTold more sc y.client site.starts (ev.end_told w k ok y)
   told_of w k ok d is done e y q site t sc a b = by ok refl
     where
@@ -152,7 +152,7 @@ module _ (past : List Step) (x : Step) where
 
   -- A client's step.
   module _ (w : World) (size : ℕ) (l : LivesHold w) (pl : PlacesAt size w) where
-    takes_both : (c : ClientId) (input : ClientInput) (old site : ClientSite) → site_of w c ≡ Some old → old.node ≡ site.node → old.starts ≡ site.starts → InputTells size input →
+    takes_both : (c : ClientId) (input : ClientInput) (old site : WorldClient) → site_of w c ≡ Some old → old.node ≡ site.node → old.starts ≡ site.starts → InputTells size input →
         ((sc : WorldTurn) → sc.world.commands ≡ w.commands → sc.world.disks ≡ w.disks → InputTold more sc c site.starts input) → BothHold past w → BothHold more (ev.client_takes w c input site).world
     unfolding cl.node_step ev.client_takes ev.client_took
     takes_both c input old site there n s tells told h = go site.node.running refl
@@ -172,7 +172,7 @@ module _ (past : List Step) (x : Step) where
             (told (ev.quiet (ev.with_site c (ev.at_node t.node site) w)) refl refl)
         go false r = both_same w h
 
-    at_client_both : (c : ClientId) (input : ClientInput) (o : Option ClientSite) → site_of w c ≡ o → InputTells size input → ((starts : ℕ) (sc : WorldTurn) → InputTold more sc c starts input) → BothHold past w → BothHold more (ev.at_client w c input o).world
+    at_client_both : (c : ClientId) (input : ClientInput) (o : Option WorldClient) → site_of w c ≡ o → InputTells size input → ((starts : ℕ) (sc : WorldTurn) → InputTold more sc c starts input) → BothHold past w → BothHold more (ev.at_client w c input o).world
     unfolding ev.at_client
     at_client_both c input None e tells told h = both_same w h
     at_client_both c input (Some site) e tells told h = takes_both c input site site e refl refl tells (λ sc a b. told site.starts sc) h
@@ -183,11 +183,11 @@ module _ (past : List Step) (x : Step) where
     told_both k ok d is done e None q h = both_same w h
     told_both k ok d is done e (Some y) q h = at_site (site_of w y.client) refl
       where
-        at : (site : ClientSite) → site_of w y.client ≡ Some site → (b : Bool) → ev.is_same_instance y site ≡ b → BothHold more (if b then ev.client_takes w y.client (ev.end_told w k ok y) site else ev.quiet w).world
+        at : (site : WorldClient) → site_of w y.client ≡ Some site → (b : Bool) → ev.is_same_instance y site ≡ b → BothHold more (if b then ev.client_takes w y.client (ev.end_told w k ok y) site else ev.quiet w).world
         at site s true t = takes_both y.client (ev.end_told w k ok y) site site s refl refl tt (told_of w k ok d is done e y q site t) h
         at site s false t = both_same w h
 
-        at_site : (s : Option ClientSite) → site_of w y.client ≡ s → BothHold more (ev.tells_client w k ok y s).world
+        at_site : (s : Option WorldClient) → site_of w y.client ≡ s → BothHold more (ev.tells_client w k ok y s).world
         at_site None s = both_same w h
         at_site (Some site) s = at site s (ev.is_same_instance y site) refl
 
@@ -234,8 +234,8 @@ module _ (past : List Step) (x : Step) where
       (λ P z. pending_ended P w.commands (ev.lives_reached w steps) w.log z) h
 
   -- A crash of a client, and its start.
-  module _ (w : World) (c : ClientId) (site : ClientSite) (there : site_of w c ≡ Some site) where
-    other_or_own : (new : ClientSite) (d : ClientId) (y : ClientSite) → numbered (with_numbered c.0 new w.clients) d.0 ≡ Some y → ((d ≡ c) × (y ≡ new)) ⊎ (numbered w.clients d.0 ≡ Some y)
+  module _ (w : World) (c : ClientId) (site : WorldClient) (there : site_of w c ≡ Some site) where
+    other_or_own : (new : WorldClient) (d : ClientId) (y : WorldClient) → numbered (with_numbered c.0 new w.clients) d.0 ≡ Some y → ((d ≡ c) × (y ≡ new)) ⊎ (numbered w.clients d.0 ≡ Some y)
     other_or_own new d y e = go (same_or_not d.0 c.0)
       where
         go : (d.0 ≡ c.0) ⊎ (d.0 ≢ c.0) → ((d ≡ c) × (y ≡ new)) ⊎ (numbered w.clients d.0 ≡ Some y)
@@ -255,29 +255,29 @@ module _ (past : List Step) (x : Step) where
         es : List LogEntry
         es = log.drop_from 1 (ev.is_of_crashed w c) (log.always causes.Crash) w.log
 
-        no : (y : ClientSite) → y ≡ ev.stopped_site site → y.node.running ≡ true → ⊥
-        no y e r = bad (sym (ap (λ (z : ClientSite). z.node.running) e) ∙ r)
+        no : (y : WorldClient) → y ≡ ev.stopped_site site → y.node.running ≡ true → ⊥
+        no y e r = bad (sym (ap (λ (z : WorldClient). z.node.running) e) ∙ r)
           where
             bad : ◌≡◌ {A = Bool} false true → ⊥
             bad z = cc
 
-        node : (d : ClientId) (y : ClientSite) → y.node.running ≡ true → ((d ≡ c) × (y ≡ ev.stopped_site site)) ⊎ (numbered w.clients d.0 ≡ Some y) → NodeCared more w.commands es d y
+        node : (d : ClientId) (y : WorldClient) → y.node.running ≡ true → ((d ≡ c) × (y ≡ ev.stopped_site site)) ⊎ (numbered w.clients d.0 ≡ Some y) → NodeCared more w.commands es d y
         node d y r (inl q) = absurd (no y q.1 r)
         node d y r (inr q) =
             node_fates past more w.commands w.log es d y (up_one past x) (λ f p. latest_owners d f p w.log es (owners_drop 1 (ev.is_of_crashed w c) (log.always causes.Crash) w.log)) (λ P z. pending_fewer P 1 (ev.is_of_crashed w c) (log.always causes.Crash) w.log z) (h.sites d y q r)
 
-        starts : (d : ClientId) (y : ClientSite) → ((d ≡ c) × (y ≡ ev.stopped_site site)) ⊎ (numbered w.clients d.0 ≡ Some y) → StartsBelow w.commands d y.starts
-        starts d y (inl q) = λ z i e. subst (λ (s : ClientSite). z.starts ≤ s.starts) (sym q.1) (h.starts c site there z i (e ∙ q.0))
+        starts : (d : ClientId) (y : WorldClient) → ((d ≡ c) × (y ≡ ev.stopped_site site)) ⊎ (numbered w.clients d.0 ≡ Some y) → StartsBelow w.commands d y.starts
+        starts d y (inl q) = λ z i e. subst (λ (s : WorldClient). z.starts ≤ s.starts) (sym q.1) (h.starts c site there z i (e ∙ q.0))
         starts d y (inr q) = h.starts d y q
 
-        servers : (d : ClientId) (y : ClientSite) → ((d ≡ c) × (y ≡ ev.stopped_site site)) ⊎ (numbered w.clients d.0 ≡ Some y) → (a : Association) → Has a y.node.state.associations → (1 ≤ a.server.0) × (a.server.0 ≤ length w.servers)
-        servers d y (inl q) a i = go (has_map cl.crashed_association site.node.state.associations a (subst (λ (s : ClientSite). Has a s.node.state.associations) q.1 i))
+        servers : (d : ClientId) (y : WorldClient) → ((d ≡ c) × (y ≡ ev.stopped_site site)) ⊎ (numbered w.clients d.0 ≡ Some y) → (a : Association) → Has a y.node.state.associations → (1 ≤ a.server.0) × (a.server.0 ≤ length w.servers)
+        servers d y (inl q) a i = go (has_map cl.crashed_association site.node.state.associations a (subst (λ (s : WorldClient). Has a s.node.state.associations) q.1 i))
           where
             go : (b : Association) × Has b site.node.state.associations × (a ≡ cl.crashed_association b) → (1 ≤ a.server.0) × (a.server.0 ≤ length w.servers)
             go (b, j, e) = subst (λ (z : Association). (1 ≤ z.server.0) × (z.server.0 ≤ length w.servers)) (sym e) (h.servers c site there b j)
         servers d y (inr q) a i = h.servers d y q a i
 
-        cover : (z : FlushStep) → FlushRight w z → (y : ClientSite) → y.node.running ≡ true → ((z.client ≡ c) × (y ≡ ev.stopped_site site)) ⊎ (numbered w.clients z.client.0 ≡ Some y) → (a : Association) → Has a y.node.state.associations → a.server.0 ≡ z.server.0 → (s : ClientSession) → a.session ≡ Some s →
+        cover : (z : FlushStep) → FlushRight w z → (y : WorldClient) → y.node.running ≡ true → ((z.client ≡ c) × (y ≡ ev.stopped_site site)) ⊎ (numbered w.clients z.client.0 ≡ Some y) → (a : Association) → Has a y.node.state.associations → a.server.0 ≡ z.server.0 → (s : ClientSession) → a.session ≡ Some s →
             (Rattle.st_rules.specs.ClientLease.end_of w.config s.lease).0 ≡ z.end.0 → Rattle.st_laws_pages.specs.Flush.Flush.Covered a
         cover z f y r (inl q) = absurd (no y q.1 r)
         cover z f y r (inr q) = f.covered y q r
@@ -292,14 +292,14 @@ module _ (past : List Step) (x : Step) where
           servers = λ d y e. servers d y (other_or_own (ev.started_site site) d y e);
         }
       where
-        new : ClientSite
+        new : WorldClient
         new = ev.started_site site
 
         Came : Association → Type 0
         Came a = (b : Association) × Has b site.node.state.associations × (a ≡ cl.started_association b)
 
-        from : (y : ClientSite) → y ≡ new → (a : Association) → Has a y.node.state.associations → Came a
-        from y e a i = has_map cl.started_association site.node.state.associations a (subst (λ (s : ClientSite). Has a s.node.state.associations) e i)
+        from : (y : WorldClient) → y ≡ new → (a : Association) → Has a y.node.state.associations → Came a
+        from y e a i = has_map cl.started_association site.node.state.associations a (subst (λ (s : WorldClient). Has a s.node.state.associations) e i)
 
         own : NodeCared more w.commands w.log c new
         own =
@@ -315,22 +315,22 @@ module _ (past : List Step) (x : Step) where
             apart : (a : Association) → Came a → NumbersApart a.store.commands
             apart a (b, j, e) = subst (λ (z : Association). NumbersApart z.store.commands) (sym e) (λ pc qc p q n. absurd p)
 
-        node : (d : ClientId) (y : ClientSite) → y.node.running ≡ true → ((d ≡ c) × (y ≡ new)) ⊎ (numbered w.clients d.0 ≡ Some y) → NodeCared more w.commands w.log d y
+        node : (d : ClientId) (y : WorldClient) → y.node.running ≡ true → ((d ≡ c) × (y ≡ new)) ⊎ (numbered w.clients d.0 ≡ Some y) → NodeCared more w.commands w.log d y
         node d y r (inl q) = subst (λ z. NodeCared more w.commands w.log z y) (sym q.0) (subst (NodeCared more w.commands w.log c) (sym q.1) own)
         node d y r (inr q) = node_fates past more w.commands w.log w.log d y (up_one past x) (λ f p. refl) (λ P z. z) (h.sites d y q r)
 
-        starts : (d : ClientId) (y : ClientSite) → ((d ≡ c) × (y ≡ new)) ⊎ (numbered w.clients d.0 ≡ Some y) → StartsBelow w.commands d y.starts
-        starts d y (inl q) = λ z i e. let a = h.starts c site there z i (e ∙ q.0) in let b = ap (λ (s : ClientSite). s.starts) q.1 in omega (arith, a, b)
+        starts : (d : ClientId) (y : WorldClient) → ((d ≡ c) × (y ≡ new)) ⊎ (numbered w.clients d.0 ≡ Some y) → StartsBelow w.commands d y.starts
+        starts d y (inl q) = λ z i e. let a = h.starts c site there z i (e ∙ q.0) in let b = ap (λ (s : WorldClient). s.starts) q.1 in omega (arith, a, b)
         starts d y (inr q) = h.starts d y q
 
-        servers : (d : ClientId) (y : ClientSite) → ((d ≡ c) × (y ≡ new)) ⊎ (numbered w.clients d.0 ≡ Some y) → (a : Association) → Has a y.node.state.associations → (1 ≤ a.server.0) × (a.server.0 ≤ length w.servers)
+        servers : (d : ClientId) (y : WorldClient) → ((d ≡ c) × (y ≡ new)) ⊎ (numbered w.clients d.0 ≡ Some y) → (a : Association) → Has a y.node.state.associations → (1 ≤ a.server.0) × (a.server.0 ≤ length w.servers)
         servers d y (inl q) a i = go (from y q.1 a i)
           where
             go : Came a → (1 ≤ a.server.0) × (a.server.0 ≤ length w.servers)
             go (b, j, e) = subst (λ (z : Association). (1 ≤ z.server.0) × (z.server.0 ≤ length w.servers)) (sym e) (h.servers c site there b j)
         servers d y (inr q) a i = h.servers d y q a i
 
-        cover : (z : FlushStep) → FlushRight w z → (y : ClientSite) → y.node.running ≡ true → ((z.client ≡ c) × (y ≡ new)) ⊎ (numbered w.clients z.client.0 ≡ Some y) → (a : Association) → Has a y.node.state.associations → a.server.0 ≡ z.server.0 → (s : ClientSession) → a.session ≡ Some s →
+        cover : (z : FlushStep) → FlushRight w z → (y : WorldClient) → y.node.running ≡ true → ((z.client ≡ c) × (y ≡ new)) ⊎ (numbered w.clients z.client.0 ≡ Some y) → (a : Association) → Has a y.node.state.associations → a.server.0 ≡ z.server.0 → (s : ClientSession) → a.session ≡ Some s →
             (Rattle.st_rules.specs.ClientLease.end_of w.config s.lease).0 ≡ z.end.0 → Rattle.st_laws_pages.specs.Flush.Flush.Covered a
         cover z f y r (inl q) = λ a i sv s e d. absurd (none a s (from y q.1 a i) e)
           where
@@ -452,7 +452,7 @@ module _ (past : List Step) (x : Step) where
       }
 
   -- A crash of a client, and its start.
-  module _ (w : World) (c : ClientId) (site : ClientSite) (there : site_of w c ≡ Some site) where
+  module _ (w : World) (c : ClientId) (site : WorldClient) (there : site_of w c ≡ Some site) where
     crash_writes : WritesStand w → WritesStand (ev.crashes_client w c (Some site)).world
     unfolding ev.crashes_client ev.marks ev.log_crashed log.drop_picked cl.crash
     crash_writes h =
@@ -461,13 +461,13 @@ module _ (past : List Step) (x : Step) where
           latest_own = λ d y e r a i. latest_owned d a w.log _ (owners_drop 1 (ev.is_of_crashed w c) (log.always causes.Crash) w.log) (old d y r a i (other_or_own w c site there (ev.stopped_site site) d y e));
         }
       where
-        no : (y : ClientSite) → y ≡ ev.stopped_site site → y.node.running ≡ true → ⊥
-        no y e r = bad (sym (ap (λ (z : ClientSite). z.node.running) e) ∙ r)
+        no : (y : WorldClient) → y ≡ ev.stopped_site site → y.node.running ≡ true → ⊥
+        no y e r = bad (sym (ap (λ (z : WorldClient). z.node.running) e) ∙ r)
           where
             bad : ◌≡◌ {A = Bool} false true → ⊥
             bad z = cc
 
-        old : (d : ClientId) (y : ClientSite) → y.node.running ≡ true → (a : Association) → Has a y.node.state.associations → ((d ≡ c) × (y ≡ ev.stopped_site site)) ⊎ (numbered w.clients d.0 ≡ Some y) → LatestOwn d w.log a
+        old : (d : ClientId) (y : WorldClient) → y.node.running ≡ true → (a : Association) → Has a y.node.state.associations → ((d ≡ c) × (y ≡ ev.stopped_site site)) ⊎ (numbered w.clients d.0 ≡ Some y) → LatestOwn d w.log a
         old d y r a i (inl q) = absurd (no y q.1 r)
         old d y r a i (inr q) = h.latest_own d y q r a i
 
@@ -485,8 +485,8 @@ module _ (past : List Step) (x : Step) where
             none : (x : DirtyPage) → ◌≡◌ {A = Option DirtyPage} None (Some x) → ⊥
             none x z = cc
 
-        at : (d : ClientId) (y : ClientSite) → y.node.running ≡ true → (a : Association) → Has a y.node.state.associations → ((d ≡ c) × (y ≡ ev.started_site site)) ⊎ (numbered w.clients d.0 ≡ Some y) → LatestOwn d w.log a
-        at d y r a i (inl q) = let z = has_map cl.started_association site.node.state.associations a (subst (λ (s : ClientSite). Has a s.node.state.associations) q.1 i) in fresh d a z.0 z.2
+        at : (d : ClientId) (y : WorldClient) → y.node.running ≡ true → (a : Association) → Has a y.node.state.associations → ((d ≡ c) × (y ≡ ev.started_site site)) ⊎ (numbered w.clients d.0 ≡ Some y) → LatestOwn d w.log a
+        at d y r a i (inl q) = let z = has_map cl.started_association site.node.state.associations a (subst (λ (s : WorldClient). Has a s.node.state.associations) q.1 i) in fresh d a z.0 z.2
         at d y r a i (inr q) = h.latest_own d y q r a i
 
   still_both : (w v : World) → v.config ≡ w.config → v.clocks ≡ w.clocks → v.clients ≡ w.clients → v.commands ≡ w.commands → v.flushed ≡ w.flushed → length v.servers ≡ length w.servers → v.log ≡ w.log → v.disks.commands ≡ w.disks.commands → BothHold past w → BothHold more v
@@ -499,7 +499,7 @@ module _ (past : List Step) (x : Step) where
   happens_both w (events.Tick (nodes.Server s)) size r q l p h = at_server_both w s serving.Tick (node_of w s) h
   happens_both w (events.App c ask) size r q l p h = go (site_of w c) refl
     where
-      go : (s : Option ClientSite) → site_of w c ≡ s → BothHold more (ev.asks_at w c ask s).world
+      go : (s : Option WorldClient) → site_of w c ≡ s → BothHold more (ev.asks_at w c ask s).world
       go None e = both_same w h
       go (Some site) e = takes_both w size l p c (inputs.App (site.asks + 1) ask) site (ev.asked_once_more site) e refl refl tt (λ sc a b. tt) h
   happens_both w (events.Deliver k) size r q l p h = go (world.message_of w k) refl
@@ -527,7 +527,7 @@ module _ (past : List Step) (x : Step) where
   happens_both w (events.Report k ok) size r q l p h = report_both w size k ok r q l p h
   happens_both w (events.Crash (nodes.Client c)) size r q l p h = go (site_of w c) refl
     where
-      go : (s : Option ClientSite) → site_of w c ≡ s → BothHold more (ev.crashes_client w c s).world
+      go : (s : Option WorldClient) → site_of w c ≡ s → BothHold more (ev.crashes_client w c s).world
       go None e = both_same w h
       go (Some site) e = record { flush = crash_flush w c site e h.flush; writes = crash_writes w c site e h.writes }
   happens_both w (events.Crash (nodes.Server s)) size r q l p h = go (node_of w s)
@@ -537,7 +537,7 @@ module _ (past : List Step) (x : Step) where
       go (Some node) = still_both w _ refl refl refl refl refl (set_length w.servers _ (server.crash_node node)) refl refl h
   happens_both w (events.Start (nodes.Client c)) size r q l p h = go (site_of w c) refl
     where
-      go : (s : Option ClientSite) → site_of w c ≡ s → BothHold more (ev.starts_client w c s)
+      go : (s : Option WorldClient) → site_of w c ≡ s → BothHold more (ev.starts_client w c s)
       go None e = both_same w h
       go (Some site) e = record { flush = start_flush w c site e l h.flush; writes = start_writes w c site e h.writes }
   happens_both w (events.Start (nodes.Server s)) size r q l p h = go (node_of w s)

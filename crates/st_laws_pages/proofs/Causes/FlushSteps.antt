@@ -25,7 +25,7 @@ use Rattle.st_rules.specs.ClientLease as lease
 use Rattle.st_rules.specs.Client as cl
 use Rattle.st_rules.specs.ClientState.{Association, ClientState, ClientSession}
 use Rattle.st_rules.specs.World as world
-use Rattle.st_rules.specs.World.{World, ClientSite, numbered, with_numbered, site_of, clock_of}
+use Rattle.st_rules.specs.World.{World, WorldClient, numbered, with_numbered, site_of, clock_of}
 use Rattle.st_rules.specs.Events as ev
 use Rattle.st_rules.specs.Events.{WorldTurn, client_says, client_says_all, client_notes}
 use Rattle.st_rules.specs.Safety.{Step, reports_failure}
@@ -44,26 +44,26 @@ use Rattle.st_laws_pages.proofs.Lives.Turning.{says_one}
 use Rattle.st_laws_pages.proofs.Flush.Adding.{After, after_clients}
 use Rattle.st_laws_pages.proofs.Flush.Flushing.{InputTold, FlushedBy, step_flushed, pair_of}
 use Rattle.st_laws_pages.proofs.Flush.FlushSteps.{node_fates}
-use Rattle.st_laws_pages.specs.Causes.Stands.{CommandsStand, LatestOwn, LatestStand, WritesStand}
+use Rattle.st_laws_pages.specs.Causes.Invariants.{CommandsStand, LatestOwn, LatestStand, WritesStand}
 use Rattle.st_laws_pages.proofs.Causes.Commands.{says_stand}
 use Rattle.st_laws_pages.proofs.Causes.Latest.{latest_elsewhere}
 use Rattle.st_laws_pages.proofs.Causes.Placed.{Placed}
 use Rattle.st_laws_pages.proofs.Causes.Stepping.{step_cared, step_latest}
 
 -- What one output of a client adds: at most one command, of this instance, and at most one entry, of this client.
-record OneMore (c : ClientId) (site : ClientSite) (w v : World) : Type 0 where
+record OneMore (c : ClientId) (site : WorldClient) (w v : World) : Type 0 where
   pub commands : (v.commands ≡ w.commands) ⊎ ((x : IssuedCommand) × (v.commands ≡ w.commands ++ x ∷ []) × (x.client ≡ c) × (x.starts ≡ site.starts))
   pub log : (v.log ≡ w.log) ⊎ ((e : LogEntry) × (v.log ≡ w.log ++ e ∷ []) × (e.of.client ≡ c))
 
-one_more : (c : ClientId) (before : ClientState) (site : ClientSite) (sc : WorldTurn) → site_of sc.world c ≡ Some site → (o : Output) → OneMore c site sc.world (client_says sc c before o).world
+one_more : (c : ClientId) (before : ClientState) (site : WorldClient) (sc : WorldTurn) → site_of sc.world c ≡ Some site → (o : Output) → OneMore c site sc.world (client_says sc c before o).world
 unfolding client_says client_notes ev.sends ev.submits ev.answers_with ev.accepts ev.patches ev.loses log.accept log.patch
 one_more c before site sc own (outputs.Send m) = record { commands = inl refl; log = inl refl }
 one_more c before site sc own (outputs.Answer op a) = record { commands = inl refl; log = inl refl }
 one_more c before site sc own (outputs.Submit number at what) = go (site_of sc.world c) own
   where
-    go : (o : Option ClientSite) → o ≡ Some site → OneMore c site sc.world (ev.submits sc c o number at what).world
+    go : (o : Option WorldClient) → o ≡ Some site → OneMore c site sc.world (ev.submits sc c o number at what).world
     go None e = cc
-    go (Some s) e = record { commands = inr (ev.issued sc.world c s number at what, refl, refl, ap (λ (z : ClientSite). z.starts) (some_is e)); log = inl refl }
+    go (Some s) e = record { commands = inr (ev.issued sc.world c s number at what, refl, refl, ap (λ (z : WorldClient). z.starts) (some_is e)); log = inl refl }
 one_more c before site sc own (outputs.Note n) = note n
   where
     note : (n : Note) → OneMore c site sc.world (client_notes sc c before n).world
@@ -78,7 +78,7 @@ cared_entry past cs es c d starts next b e n q h =
     entry_elsewhere past cs es d starts next b e (λ p u v w. absurd (n (ap (λ (x : ClientId). x.0) (sym u ∙ q))))
     (λ pc i. ap (λ z. z && (same_file e.of.file (Rattle.st_laws_pages.specs.Flush.Flush.file_at b pc.ino) && same_page e.of.page pc.page)) (ne_eqb e.of.client.0 d.0 (λ z. n (sym z ∙ ap (λ (x : ClientId). x.0) q)))) h
 
-other_says : (past : List Step) (c d : ClientId) (before : ClientState) (site : ClientSite) (starts next : ℕ) (b : Association) → (d.0 ≡ c.0 → ⊥) → (os : List Output) (sc : WorldTurn) → site_of sc.world c ≡ Some site → Cared past sc.world.commands sc.world.log d starts next b →
+other_says : (past : List Step) (c d : ClientId) (before : ClientState) (site : WorldClient) (starts next : ℕ) (b : Association) → (d.0 ≡ c.0 → ⊥) → (os : List Output) (sc : WorldTurn) → site_of sc.world c ≡ Some site → Cared past sc.world.commands sc.world.log d starts next b →
     Cared past (After c before sc os).world.commands (After c before sc os).world.log d starts next b
 unfolding client_says_all
 other_says past c d before site starts next b n [] sc own h = h
@@ -99,7 +99,7 @@ other_says past c d before site starts next b n (o ∷ os) sc own h = other_says
         logs (inr (x, e, q)) = subst (λ es. Cared past u.world.commands es d starts next b) (sym e) (commands (sc.world.log ++ x ∷ []) (cared_entry past sc.world.commands sc.world.log c d starts next b x n q h) m.commands)
 
 -- whose the latest entries of another client's dirty pages are stays too
-other_latest : (c d : ClientId) (before : ClientState) (site : ClientSite) (b : Association) → (d.0 ≡ c.0 → ⊥) → (os : List Output) (sc : WorldTurn) → site_of sc.world c ≡ Some site → LatestOwn d sc.world.log b → LatestOwn d (After c before sc os).world.log b
+other_latest : (c d : ClientId) (before : ClientState) (site : WorldClient) (b : Association) → (d.0 ≡ c.0 → ⊥) → (os : List Output) (sc : WorldTurn) → site_of sc.world c ≡ Some site → LatestOwn d sc.world.log b → LatestOwn d (After c before sc os).world.log b
 unfolding client_says_all
 other_latest c d before site b n [] sc own h = h
 other_latest c d before site b n (o ∷ os) sc own h = other_latest c d before site b n os u (ap (λ xs. numbered xs c.0) (says_one c before o sc).clients ∙ own) (one (one_more c before site sc own o).log)
@@ -114,7 +114,7 @@ other_latest c d before site b n (o ∷ os) sc own h = other_latest c d before s
         (latest_elsewhere d b sc.world.log x (λ ino p. ap (λ z. z && (same_file x.of.file (Rattle.st_laws_pages.specs.Flush.Flush.file_at b ino) && same_page x.of.page p)) (ne_eqb x.of.client.0 d.0 (λ z. n (sym z ∙ ap (λ (y : ClientId). y.0) q)))) h)
 
 -- What is said of all commands stays, where it is true of those of this client's instance.
-commands_say : (P : IssuedCommand → Type 0) (c : ClientId) (before : ClientState) (site : ClientSite) → ((x : IssuedCommand) → x.client ≡ c → x.starts ≡ site.starts → P x) → (os : List Output) (sc : WorldTurn) → site_of sc.world c ≡ Some site → ((x : IssuedCommand) → Has x sc.world.commands → P x) →
+commands_say : (P : IssuedCommand → Type 0) (c : ClientId) (before : ClientState) (site : WorldClient) → ((x : IssuedCommand) → x.client ≡ c → x.starts ≡ site.starts → P x) → (os : List Output) (sc : WorldTurn) → site_of sc.world c ≡ Some site → ((x : IssuedCommand) → Has x sc.world.commands → P x) →
     (x : IssuedCommand) → Has x (After c before sc os).world.commands → P x
 unfolding client_says_all
 commands_say P c before site new [] sc own h = h
@@ -148,7 +148,7 @@ less_one c before (outputs.Send m) sc = record { config = refl; clocks = refl; s
 less_one c before (outputs.Answer op a) sc = record { config = refl; clocks = refl; servers = refl; flushed = refl }
 less_one c before (outputs.Submit number at what) sc = go (site_of sc.world c)
   where
-    go : (o : Option ClientSite) → SaysLess sc.world (ev.submits sc c o number at what).world
+    go : (o : Option WorldClient) → SaysLess sc.world (ev.submits sc c o number at what).world
     go None = same_less sc.world
     go (Some s) = record { config = refl; clocks = refl; servers = refl; flushed = refl }
 less_one c before (outputs.Note n) sc = note n
@@ -271,7 +271,7 @@ pub record BothHold (past : List Step) (w : World) : Type 0 where
   pub writes : WritesStand w
 
 -- A step of a client.
-module _ (past more : List Step) (w : World) (c : ClientId) (old site : ClientSite) (input : ClientInput) (there : site_of w c ≡ Some old) (same : old.node ≡ site.node) (starts : old.starts ≡ site.starts) (up : (n : ℕ) → list_any (reports_failure n) past ≡ true → list_any (reports_failure n) more ≡ true)
+module _ (past more : List Step) (w : World) (c : ClientId) (old site : WorldClient) (input : ClientInput) (there : site_of w c ≡ Some old) (same : old.node ≡ site.node) (starts : old.starts ≡ site.starts) (up : (n : ℕ) → list_any (reports_failure n) past ≡ true → list_any (reports_failure n) more ≡ true)
     (h : LivesHold w) (fh : FlushHold past w) (ws : WritesStand w) (size : ℕ) (many : length w.servers ≡ size) (placed : Placed size (cl.client_step site.node.state (clock_of w (nodes.Client c)) input).out) where
   abbrev now : Stamp
   now = clock_of w (nodes.Client c)
@@ -279,7 +279,7 @@ module _ (past more : List Step) (w : World) (c : ClientId) (old site : ClientSi
   abbrev turn : cl.NodeTurn
   turn = cl.node_turn site.node (cl.client_step site.node.state now input)
 
-  abbrev after : ClientSite
+  abbrev after : WorldClient
   after = ev.at_node turn.node site
 
   abbrev sc : WorldTurn
@@ -310,7 +310,7 @@ module _ (past more : List Step) (w : World) (c : ClientId) (old site : ClientSi
   config = sym st.config ∙ m.config
 
   -- a client of the new world: this one, or one as it was
-  at_site : (d : ClientId) (x : ClientSite) → numbered v.clients d.0 ≡ Some x → ((d ≡ c) × (x ≡ after)) ⊎ ((d.0 ≡ c.0 → ⊥) × (numbered w.clients d.0 ≡ Some x))
+  at_site : (d : ClientId) (x : WorldClient) → numbered v.clients d.0 ≡ Some x → ((d ≡ c) × (x ≡ after)) ⊎ ((d.0 ≡ c.0 → ⊥) × (numbered w.clients d.0 ≡ Some x))
   at_site d x e = go (same_or_not d.0 c.0)
     where
       its : numbered (with_numbered c.0 after w.clients) d.0 ≡ Some x
@@ -321,7 +321,7 @@ module _ (past more : List Step) (w : World) (c : ClientId) (old site : ClientSi
       go (inr n) = inr (n, sym (numbered_other w.clients c.0 d.0 after (numbered_below w.clients c.0 old there).0 n) ∙ its)
 
   -- of another client
-  other_node : (d : ClientId) (x : ClientSite) → (d.0 ≡ c.0 → ⊥) → NodeCared past w.commands w.log d x → NodeCared more v.commands v.log d x
+  other_node : (d : ClientId) (x : WorldClient) → (d.0 ≡ c.0 → ⊥) → NodeCared past w.commands w.log d x → NodeCared more v.commands v.log d x
   other_node d x n g =
       subst (λ es. NodeCared more v.commands es d x) (sym fl.log)
       (subst (λ xs. NodeCared more xs u.log d x) (sym fl.commands)
@@ -341,16 +341,16 @@ module _ (past more : List Step) (w : World) (c : ClientId) (old site : ClientSi
       (step_cared more w c old site input now there same starts h size own many ws.commands placed told
       (node_fates past more w.commands w.log w.log c old up (λ f q. refl) (λ P z. z) (fh.sites c old there (ap (λ (n : cl.ClientNode). n.running) same ∙ r))) (ws.latest_own c old there (ap (λ (n : cl.ClientNode). n.running) same ∙ r))))
 
-  starts_of : (d : ClientId) (x : ClientSite) → numbered v.clients d.0 ≡ Some x → StartsBelow v.commands d x.starts
+  starts_of : (d : ClientId) (x : WorldClient) → numbered v.clients d.0 ≡ Some x → StartsBelow v.commands d x.starts
   starts_of d x e = subst (λ ys. StartsBelow ys d x.starts) (sym fl.commands) (go (at_site d x e))
     where
       go : ((d ≡ c) × (x ≡ after)) ⊎ ((d.0 ≡ c.0 → ⊥) × (numbered w.clients d.0 ≡ Some x)) → StartsBelow u.commands d x.starts
       go (inl (q, y)) =
-          commands_say (λ z. z.client ≡ d → z.starts ≤ x.starts) c site.node.state after (λ z a b f. let k = ap (λ (s : ClientSite). s.starts) y in omega (arith, b, k)) turn.out sc own
-          (λ z i f. let b = fh.starts c old there z i (f ∙ q) in let k = ap (λ (s : ClientSite). s.starts) y in omega (arith, b, k, starts))
+          commands_say (λ z. z.client ≡ d → z.starts ≤ x.starts) c site.node.state after (λ z a b f. let k = ap (λ (s : WorldClient). s.starts) y in omega (arith, b, k)) turn.out sc own
+          (λ z i f. let b = fh.starts c old there z i (f ∙ q) in let k = ap (λ (s : WorldClient). s.starts) y in omega (arith, b, k, starts))
       go (inr (n, f)) = commands_say (λ z. z.client ≡ d → z.starts ≤ x.starts) c site.node.state after (λ z a b e. absurd (n (ap (λ (y : ClientId). y.0) (sym e ∙ a)))) turn.out sc own (λ z i e. fh.starts d x f z i e)
 
-  servers_of : (d : ClientId) (x : ClientSite) → numbered v.clients d.0 ≡ Some x → (a : Association) → Has a x.node.state.associations → (1 ≤ a.server.0) × (a.server.0 ≤ length v.servers)
+  servers_of : (d : ClientId) (x : WorldClient) → numbered v.clients d.0 ≡ Some x → (a : Association) → Has a x.node.state.associations → (1 ≤ a.server.0) × (a.server.0 ≤ length v.servers)
   servers_of d x e a i = go (at_site d x e)
     where
       count : length v.servers ≡ length w.servers
@@ -361,7 +361,7 @@ module _ (past more : List Step) (w : World) (c : ClientId) (old site : ClientSi
 
       go : ((d ≡ c) × (x ≡ after)) ⊎ ((d.0 ≡ c.0 → ⊥) × (numbered w.clients d.0 ≡ Some x)) → (1 ≤ a.server.0) × (a.server.0 ≤ length v.servers)
       go (inl (q, y)) =
-          let z = pair_of (LifeNext now old.node.state) old.node.state.associations turn.node.state.associations st.pairs a (subst (λ (s : ClientSite). Has a s.node.state.associations) y i) in
+          let z = pair_of (LifeNext now old.node.state) old.node.state.associations turn.node.state.associations st.pairs a (subst (λ (s : WorldClient). Has a s.node.state.associations) y i) in
           up_to z.0 (fh.servers c old there z.0 z.1) (sym z.2.server)
       go (inr (n, f)) = up_to a (fh.servers d x f a i) refl
 
@@ -383,7 +383,7 @@ module _ (past more : List Step) (w : World) (c : ClientId) (old site : ClientSi
             covered = λ y e r a j sv s q d. at y e r a j sv s q (ap (λ (k : Config). (lease.end_of k s.lease).0) (sym same_config) ∙ d) (at_site x.client y e);
           }
         where
-          at : (y : ClientSite) → numbered v.clients x.client.0 ≡ Some y → y.node.running ≡ true → (a : Association) → Has a y.node.state.associations → a.server.0 ≡ x.server.0 → (s : ClientSession) → a.session ≡ Some s → (lease.end_of w.config s.lease).0 ≡ x.end.0 →
+          at : (y : WorldClient) → numbered v.clients x.client.0 ≡ Some y → y.node.running ≡ true → (a : Association) → Has a y.node.state.associations → a.server.0 ≡ x.server.0 → (s : ClientSession) → a.session ≡ Some s → (lease.end_of w.config s.lease).0 ≡ x.end.0 →
               ((x.client ≡ c) × (y ≡ after)) ⊎ ((x.client.0 ≡ c.0 → ⊥) × (numbered w.clients x.client.0 ≡ Some y)) → Covered a
           at y e r a j sv s q d (inr (n, f)) = old_one which
             where
@@ -396,7 +396,7 @@ module _ (past more : List Step) (w : World) (c : ClientId) (old site : ClientSi
               state_config = ap (λ (n : cl.ClientNode). n.state.config) (sym same) ∙ m.config
 
               b : FlushedBy site.node.state.config now a
-              b = step_flushed more w c old site input now there same starts h a (subst (λ (s : ClientSite). Has a s.node.state.associations) z j)
+              b = step_flushed more w c old site input now there same starts h a (subst (λ (s : WorldClient). Has a s.node.state.associations) z j)
 
               early : s.lease.date.0 + w.config.flush ≤ now.0
               early = let t = ap (λ (o : ClientId). (clock_in w.clocks o).0) k in omega (arith, low, t, d)
@@ -415,7 +415,7 @@ module _ (past more : List Step) (w : World) (c : ClientId) (old site : ClientSi
   client_flush : site.node.running ≡ true → InputTold more sc c site.starts input → FlushHold more v
   client_flush r told = record { sites = sites; starts = starts_of; flushes = right; servers = servers_of }
     where
-      sites : (d : ClientId) (x : ClientSite) → numbered v.clients d.0 ≡ Some x → x.node.running ≡ true → NodeCared more v.commands v.log d x
+      sites : (d : ClientId) (x : WorldClient) → numbered v.clients d.0 ≡ Some x → x.node.running ≡ true → NodeCared more v.commands v.log d x
       sites d x e q = go (at_site d x e)
         where
           go : ((d ≡ c) × (x ≡ after)) ⊎ ((d.0 ≡ c.0 → ⊥) × (numbered w.clients d.0 ≡ Some x)) → NodeCared more v.commands v.log d x
@@ -432,7 +432,7 @@ module _ (past more : List Step) (w : World) (c : ClientId) (old site : ClientSi
           (node_fates past more w.commands w.log w.log c old up (λ f q. refl) (λ P z. z) (fh.sites c old there (ap (λ (n : cl.ClientNode). n.running) same ∙ r))) (ws.latest_own c old there (ap (λ (n : cl.ClientNode). n.running) same ∙ r))
 
       go : ((d ≡ c) × (x ≡ after)) ⊎ ((d.0 ≡ c.0 → ⊥) × (numbered w.clients d.0 ≡ Some x)) → LatestOwn d u.log a
-      go (inl (y, z)) = subst (λ k. LatestOwn k u.log a) (sym y) (mine a (subst (λ (s : ClientSite). Has a s.node.state.associations) z i))
+      go (inl (y, z)) = subst (λ k. LatestOwn k u.log a) (sym y) (mine a (subst (λ (s : WorldClient). Has a s.node.state.associations) z i))
       go (inr (n, f)) = other_latest c d site.node.state after a n turn.out sc own (ws.latest_own d x f q a i)
 
   commands_after : CommandsStand v.log v.commands v.disks.commands

@@ -33,7 +33,7 @@ use Rattle.st_rules.specs.Safety.{Step, ask_in}
 use Rattle.st_rules.specs.Server as server
 use Rattle.st_rules.specs.Server.{ServerNode}
 use Rattle.st_rules.specs.World as world
-use Rattle.st_rules.specs.World.{World, ClientSite, clock_of, issued_of, life_with, node_of, numbered, site_of, with_numbered}
+use Rattle.st_rules.specs.World.{World, WorldClient, clock_of, issued_of, life_with, node_of, numbered, site_of, with_numbered}
 use Rattle.st_lemmas.specs.Lists.{Has}
 use Rattle.st_lemmas.proofs.Lookups.{some_is}
 use Rattle.st_lemmas.proofs.Numbers.{get_last, length_more, numbered_below, numbered_has, numbered_old, numbered_other, numbered_own}
@@ -41,7 +41,7 @@ use Rattle.st_lemmas.proofs.Tables.{not_false, same_or_not}
 use Rattle.st_laws_pages.specs.Fates.Fates.{BeforeEnd, GoneAll}
 use Rattle.st_laws_pages.specs.Flush.Flush.{NodeCared}
 use Rattle.st_laws_steps.specs.Client.Losses.{Fit}
-use Rattle.st_laws_pages.specs.Disks.Owed.{FatesHold}
+use Rattle.st_laws_pages.specs.Disks.Obligations.{FatesHold}
 use Rattle.st_laws_pages.proofs.Flush.Adding.{after_clients}
 use Rattle.st_laws_pages.proofs.Disks.Effects.{or_none, report_finds, report_is, reported_world, stands_not}
 use Rattle.st_laws_pages.proofs.Fates.Fates.{pending_map}
@@ -62,12 +62,12 @@ use Rattle.st_laws_pages.proofs.Causes.Hardly.{Hards, Ungone}
 use Rattle.st_laws_pages.proofs.Causes.Placed.{InputTells, Placed, PlacesAt, step_placed}
 
 -- What stands of a client's pending operations behind steps: each is what was asked under its number.
-pub record AskedSo (past : List Step) (c : ClientId) (site : ClientSite) : Type 0 where
+pub record AskedSo (past : List Step) (c : ClientId) (site : WorldClient) : Type 0 where
   pub count : length (asks_of past c) ≡ site.asks
   pub keys : KeysAsked (λ op. numbered (asks_of past c) op) site.node.state.operations
 
 abbrev pub AskedHold : List Step → World → Type 0
-AskedHold past w = (c : ClientId) (site : ClientSite) → site_of w c ≡ Some site → AskedSo past c site
+AskedHold past w = (c : ClientId) (site : WorldClient) → site_of w c ≡ Some site → AskedSo past c site
 
 -- what was asked before is asked behind one more step
 grows : (xs : List Ask) (o : Option Ask) (op : ℕ) (y : Ask) → numbered xs op ≡ Some y → numbered (xs ++ cons_option o []) op ≡ Some y
@@ -78,7 +78,7 @@ pub asks_grow : (past : List Step) (x : Step) (c : ClientId) (op : ℕ) (y : Ask
 asks_grow past x c op y e = ap (λ l. numbered l op) (asks_more past x c) ∙ grows (asks_of past c) (ask_in c x.event) op y e
 
 -- a client of which nothing happened, or that was emptied
-still_asked : (past : List Step) (x : Step) (c : ClientId) (old new : ClientSite) → ask_in c x.event ≡ None → new.asks ≡ old.asks → (new.node.state.operations ≡ old.node.state.operations) ⊎ (new.node.state.operations ≡ []) → AskedSo past c old → AskedSo (past ++ x ∷ []) c new
+still_asked : (past : List Step) (x : Step) (c : ClientId) (old new : WorldClient) → ask_in c x.event ≡ None → new.asks ≡ old.asks → (new.node.state.operations ≡ old.node.state.operations) ⊎ (new.node.state.operations ≡ []) → AskedSo past c old → AskedSo (past ++ x ∷ []) c new
 still_asked past x c old new none e ops h =
     record { count = ap (λ l. length l) (asks_same past x c none) ∙ h.count ∙ sym e; keys = go ops }
   where
@@ -104,11 +104,11 @@ module _ (past : List Step) (x : Step) where
       }
 
   -- one client is another, with nothing pending
-  emptied : (w : World) (sc : WorldTurn) (c : ClientId) (old new : ClientSite) → ((d : ClientId) → ask_in d x.event ≡ None) → AllDull sc.seen → site_of w c ≡ Some old → sc.world.clients ≡ with_numbered c.0 new w.clients → new.asks ≡ old.asks → new.node.state.operations ≡ [] → AskedHold past w → Left w sc
+  emptied : (w : World) (sc : WorldTurn) (c : ClientId) (old new : WorldClient) → ((d : ClientId) → ask_in d x.event ≡ None) → AllDull sc.seen → site_of w c ≡ Some old → sc.world.clients ≡ with_numbered c.0 new w.clients → new.asks ≡ old.asks → new.node.state.operations ≡ [] → AskedHold past w → Left w sc
   emptied w sc c old new none d there cs e ops h =
       record { hard = dull_hard past x x.after.world w.log sc.seen d; asks = λ y site q. go y site q (same_or_not y.0 c.0) }
     where
-      go : (y : ClientId) (site : ClientSite) → site_of sc.world y ≡ Some site → (y.0 ≡ c.0) ⊎ (y.0 ≢ c.0) → AskedSo more y site
+      go : (y : ClientId) (site : WorldClient) → site_of sc.world y ≡ Some site → (y.0 ≡ c.0) ⊎ (y.0 ≢ c.0) → AskedSo more y site
       go y site q (inl i) =
           let is : c ≡ y = ap (λ n. record { 0 = n }) (sym i) in
           let s : new ≡ site = some_is (sym (numbered_own w.clients c.0 new old there) ∙ ap (numbered (with_numbered c.0 new w.clients)) (sym i) ∙ ap (λ zs. numbered zs y.0) (sym cs) ∙ q) in
@@ -118,7 +118,7 @@ module _ (past : List Step) (x : Step) where
 
   -- A client takes an input.
   module _ (w : World) (size : ℕ) (f : FatesHold w) (pl : PlacesAt size w) (b : BothHold past w) (asked : AskedHold past w) where
-    module _ (c : ClientId) (input : ClientInput) (old site : ClientSite) (there : site_of w c ≡ Some old) (same : old.node ≡ site.node) (starts : old.starts ≡ site.starts) (tells : InputTells size input) (told : (sc : WorldTurn) → sc.world.commands ≡ w.commands → sc.world.disks ≡ w.disks → InputTold more sc c site.starts input)
+    module _ (c : ClientId) (input : ClientInput) (old site : WorldClient) (there : site_of w c ≡ Some old) (same : old.node ≡ site.node) (starts : old.starts ≡ site.starts) (tells : InputTells size input) (told : (sc : WorldTurn) → sc.world.commands ≡ w.commands → sc.world.disks ≡ w.disks → InputTold more sc c site.starts input)
         (new : AsksIt (λ op. numbered (asks_of more c) op) input) (others : (d : ClientId) → d.0 ≢ c.0 → ask_in d x.event ≡ None) (count : length (asks_of more c) ≡ site.asks) where
       abbrev now : Stamp
       now = clock_of w (nodes.Client c)
@@ -126,7 +126,7 @@ module _ (past : List Step) (x : Step) where
       abbrev t : cl.NodeTurn
       t = cl.node_turn site.node (cl.client_step site.node.state now input)
 
-      abbrev after : ClientSite
+      abbrev after : WorldClient
       after = ev.at_node t.node site
 
       abbrev v0 : World
@@ -184,7 +184,7 @@ module _ (past : List Step) (x : Step) where
             hard : AtEach (safety.IsHardAt past x) x.after.world w.log (client_says_all c site.node.state t.out (ev.quiet v0)).seen
             hard = says_hard past x c (λ r. life_with after.node.state r) site.node.state t.out v0 life (λ r. ap (ev.life_of_site r) own) said
 
-            go : (d : ClientId) (y : ClientSite) → site_of v d ≡ Some y → (d.0 ≡ c.0) ⊎ (d.0 ≢ c.0) → AskedSo more d y
+            go : (d : ClientId) (y : WorldClient) → site_of v d ≡ Some y → (d.0 ≡ c.0) ⊎ (d.0 ≢ c.0) → AskedSo more d y
             go d y q (inl i) =
                 let is : c ≡ d = ap (λ n. record { 0 = n }) (sym i) in
                 let s : after ≡ y = some_is (sym own ∙ ap (numbered (with_numbered c.0 after w.clients)) (sym i) ∙ ap (λ zs. numbered zs d.0) (sym clients) ∙ q) in
@@ -206,7 +206,7 @@ module _ (past : List Step) (x : Step) where
             go false q e = cc
 
     -- an input that is no ask
-    quiet_takes : (c : ClientId) (input : ClientInput) (site : ClientSite) → site_of w c ≡ Some site → InputTells size input → ((sc : WorldTurn) → sc.world.commands ≡ w.commands → sc.world.disks ≡ w.disks → InputTold more sc c site.starts input) → AsksIt (λ op. numbered (asks_of more c) op) input →
+    quiet_takes : (c : ClientId) (input : ClientInput) (site : WorldClient) → site_of w c ≡ Some site → InputTells size input → ((sc : WorldTurn) → sc.world.commands ≡ w.commands → sc.world.disks ≡ w.disks → InputTold more sc c site.starts input) → AsksIt (λ op. numbered (asks_of more c) op) input →
         ((d : ClientId) → ask_in d x.event ≡ None) → x.after.world ≡ (ev.client_takes w c input site).world → Left w (ev.client_takes w c input site)
     unfolding ev.client_takes ev.client_took cl.node_step
     quiet_takes c input site there tells told new none e = go site.node.running refl e
@@ -220,14 +220,14 @@ module _ (past : List Step) (x : Step) where
             record { hard = z.hard; asks = z.asks }
         go false q e = silent w (ev.quiet w) none tt refl asked
 
-    at_client_left : (c : ClientId) (input : ClientInput) (o : Option ClientSite) → site_of w c ≡ o → InputTells size input → ((starts : ℕ) (sc : WorldTurn) → InputTold more sc c starts input) → AsksIt (λ op. numbered (asks_of more c) op) input → ((d : ClientId) → ask_in d x.event ≡ None) →
+    at_client_left : (c : ClientId) (input : ClientInput) (o : Option WorldClient) → site_of w c ≡ o → InputTells size input → ((starts : ℕ) (sc : WorldTurn) → InputTold more sc c starts input) → AsksIt (λ op. numbered (asks_of more c) op) input → ((d : ClientId) → ask_in d x.event ≡ None) →
         x.after.world ≡ (ev.at_client w c input o).world → Left w (ev.at_client w c input o)
     unfolding ev.at_client
     at_client_left c input None there tells told new none e = silent w (ev.quiet w) none tt refl asked
     at_client_left c input (Some site) there tells told new none e = quiet_takes c input site there tells (λ sc a b. told site.starts sc) new none e
 
     -- an ask
-    ask_left : (c : ClientId) (ask : Ask) (o : Option ClientSite) → site_of w c ≡ o → world.site_runs o ≡ true → x.event ≡ events.App c ask → x.after.world ≡ (ev.asks_at w c ask o).world → Left w (ev.asks_at w c ask o)
+    ask_left : (c : ClientId) (ask : Ask) (o : Option WorldClient) → site_of w c ≡ o → world.site_runs o ≡ true → x.event ≡ events.App c ask → x.after.world ≡ (ev.asks_at w c ask o).world → Left w (ev.asks_at w c ask o)
     unfolding ev.asks_at safety.ask_of_client
     ask_left c ask None there runs q e = cc
     ask_left c ask (Some site) there runs q e =
@@ -257,11 +257,11 @@ module _ (past : List Step) (x : Step) where
     told_left k ok d is done q none None i e = silent w (ev.quiet w) none tt refl asked
     told_left k ok d is done q none (Some y) i e = at_site (site_of w y.client) refl e
       where
-        at : (site : ClientSite) → site_of w y.client ≡ Some site → (b : Bool) → ev.is_same_instance y site ≡ b → x.after.world ≡ (if b then ev.client_takes w y.client (ev.end_told w k ok y) site else ev.quiet w).world → Left w (if b then ev.client_takes w y.client (ev.end_told w k ok y) site else ev.quiet w)
+        at : (site : WorldClient) → site_of w y.client ≡ Some site → (b : Bool) → ev.is_same_instance y site ≡ b → x.after.world ≡ (if b then ev.client_takes w y.client (ev.end_told w k ok y) site else ev.quiet w).world → Left w (if b then ev.client_takes w y.client (ev.end_told w k ok y) site else ev.quiet w)
         at site s true t e = quiet_takes y.client (ev.end_told w k ok y) site s tt (told_of past x w k ok d is done q y i site t) tt none e
         at site s false t e = silent w (ev.quiet w) none tt refl asked
 
-        at_site : (s : Option ClientSite) → site_of w y.client ≡ s → x.after.world ≡ (ev.tells_client w k ok y s).world → Left w (ev.tells_client w k ok y s)
+        at_site : (s : Option WorldClient) → site_of w y.client ≡ s → x.after.world ≡ (ev.tells_client w k ok y s).world → Left w (ev.tells_client w k ok y s)
         at_site None s e = silent w (ev.quiet w) none tt refl asked
         at_site (Some site) s e = at site s (ev.is_same_instance y site) refl e
 
@@ -319,7 +319,7 @@ module _ (past : List Step) (x : Step) where
   happens_left w (events.Report k ok) size r q a f pl b h = report_left w size k ok r q (λ d. ap (ask_in d) q) f pl b h a
   happens_left w (events.Crash (nodes.Client c)) size r q a f pl b h = go (site_of w c) refl
     where
-      go : (s : Option ClientSite) → site_of w c ≡ s → Left w (ev.crashes_client w c s)
+      go : (s : Option WorldClient) → site_of w c ≡ s → Left w (ev.crashes_client w c s)
       go None e = silent w (ev.quiet w) (λ d. ap (ask_in d) q) tt refl h
       go (Some site) e = emptied w (ev.crashes_client w c (Some site)) c site (ev.stopped_site site) (λ d. ap (ask_in d) q) (dull_fates 1 w.log _) e refl refl refl h
   happens_left w (events.Crash (nodes.Server s)) size r q a f pl b h = go (node_of w s)
@@ -329,7 +329,7 @@ module _ (past : List Step) (x : Step) where
       go (Some node) = silent w (ev.quiet (ev.with_node s (server.crash_node node) w)) (λ d. ap (ask_in d) q) tt refl h
   happens_left w (events.Start (nodes.Client c)) size r q a f pl b h = go (site_of w c) refl
     where
-      go : (s : Option ClientSite) → site_of w c ≡ s → Left w (ev.quiet (ev.starts_client w c s))
+      go : (s : Option WorldClient) → site_of w c ≡ s → Left w (ev.quiet (ev.starts_client w c s))
       go None e = silent w (ev.quiet w) (λ d. ap (ask_in d) q) tt refl h
       go (Some site) e = emptied w (ev.quiet (ev.with_site c (ev.started_site site) w)) c site (ev.started_site site) (λ d. ap (ask_in d) q) tt e refl refl refl h
   happens_left w (events.Start (nodes.Server s)) size r q a f pl b h = go (node_of w s)

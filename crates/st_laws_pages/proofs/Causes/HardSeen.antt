@@ -23,7 +23,7 @@ use Rattle.st_rules.specs.FlatLog as log
 use Rattle.st_rules.specs.Lines.{AtEach, log_behind, log_told}
 use Rattle.st_rules.specs.Safety as safety
 use Rattle.st_rules.specs.Safety.{Step}
-use Rattle.st_rules.specs.World.{World, ClientSite, numbered, site_of}
+use Rattle.st_rules.specs.World.{World, WorldClient, numbered, site_of}
 use Rattle.st_laws_pages.proofs.Asks.Places.{none_more}
 use Rattle.st_laws_pages.proofs.Lives.Turning.{says_one}
 use Rattle.st_laws_pages.proofs.Asks.Says.{AllDull, Dull}
@@ -88,7 +88,7 @@ one_told past x c lives before (outputs.Answer op a) sc l n r = record { more = 
     hard a r = refl
 one_told past x c lives before (outputs.Submit k at what) sc l n r = go (site_of sc.world c)
   where
-    go : (o : Option ClientSite) → ToldHard past x sc (ev.submits sc c o k at what)
+    go : (o : Option WorldClient) → ToldHard past x sc (ev.submits sc c o k at what)
     go None = record { more = []; is = sym (none_more sc.seen); right = tt; told = refl }
     go (Some s) = record { more = _ ∷ []; is = refl; right = (refl, tt); told = refl }
 one_told past x c lives before (outputs.Note m) sc l n r = note m

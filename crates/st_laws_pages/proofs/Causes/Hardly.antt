@@ -32,7 +32,7 @@ use Rattle.st_rules.specs.FlatLog as log
 use Rattle.st_rules.specs.Keys.{same_client, same_file, same_server}
 use Rattle.st_rules.specs.Safety as safety
 use Rattle.st_rules.specs.Safety.{Step}
-use Rattle.st_rules.specs.World.{ClientSite, life_with, site_of}
+use Rattle.st_rules.specs.World.{WorldClient, life_with, site_of}
 use Rattle.st_lemmas.specs.Lists.{Has}
 use Rattle.st_lemmas.proofs.Tables.{and_true, found_at}
 use Rattle.st_laws_steps.specs.Client.Client as client
@@ -51,7 +51,7 @@ use Rattle.st_laws_pages.proofs.Flush.Keeping.{OfOthers}
 use Rattle.st_laws_steps.proofs.Client.Nexts.{Next, change_next, changes_next}
 use Rattle.st_laws_pages.proofs.Asks.Client.{key}
 use Rattle.st_laws_pages.proofs.Asks.Places.{Knows}
-use Rattle.st_laws_pages.specs.Causes.Stands.{CommandsStand}
+use Rattle.st_laws_pages.specs.Causes.Invariants.{CommandsStand}
 use Rattle.st_laws_pages.proofs.Causes.Keeping.{All, In, RightLife, all_left, changes_around, others_next, right_next, these_grow}
 use Rattle.st_laws_pages.proofs.Causes.Placed.{EachOut, Placed, Since, passes_place, since_one}
 use Rattle.st_laws_pages.proofs.Causes.Saying.{placed_grown}
@@ -102,7 +102,7 @@ gone_one P c before (outputs.Send m) sc h = h
 gone_one P c before (outputs.Answer op a) sc h = h
 gone_one P c before (outputs.Submit n at what) sc h = go (site_of sc.world c)
   where
-    go : (o : Option ClientSite) → GoneAll P (ev.submits sc c o n at what).world.log
+    go : (o : Option WorldClient) → GoneAll P (ev.submits sc c o n at what).world.log
     go None = h
     go (Some site) = h
 gone_one P c before (outputs.Note n) sc h = note n
@@ -165,7 +165,7 @@ file_hard : (c : ClientId) (lives : ServerId → Life) (a : Association) (f : Fi
 file_hard c lives a f [] sv lf h p g = refl
 file_hard c lives a f (e ∷ es) sv lf h p g = Rattle.st_lemmas.proofs.Tables.and_both _ _ (entry_hard c lives a f e sv lf h p.one g.one) (file_hard c lives a f es sv lf h p.rest g.rest)
 
-module _ (past : List Step) (size : ℕ) (c : ClientId) (before : ClientState) (sc : WorldTurn) (site : ClientSite) (there : site_of sc.world c ≡ Some site) (count : length sc.world.servers ≡ size) (holds : CommandsStand sc.world.log sc.world.commands sc.world.disks.commands) (now : Stamp) (asked : ℕ → Option Ask)
+module _ (past : List Step) (size : ℕ) (c : ClientId) (before : ClientState) (sc : WorldTurn) (site : WorldClient) (there : site_of sc.world c ≡ Some site) (count : length sc.world.servers ≡ size) (holds : CommandsStand sc.world.log sc.world.commands sc.world.disks.commands) (now : Stamp) (asked : ℕ → Option Ask)
     (gone : GoneAll (Ungone c (life_with site.node.state)) sc.world.log) where
   abbrev pub lives : ServerId → Life
   lives s = life_with site.node.state s

@@ -14,7 +14,7 @@ use Rattle.st_rules.specs.declared.world.IssuedCommand.{IssuedCommand}
 use Rattle.st_rules.specs.Disks as disks
 use Rattle.st_rules.specs.Client as cl
 use Rattle.st_rules.specs.ClientState.{Association, ClientState, ClientTurn, Turn, enter, leave, at_these, at_each, with_associations}
-use Rattle.st_rules.specs.World.{ClientSite, numbered, site_of, life_with}
+use Rattle.st_rules.specs.World.{WorldClient, numbered, site_of, life_with}
 use Rattle.st_rules.specs.Events.{WorldTurn}
 use Rattle.st_rules.specs.Safety.{Step}
 use Rattle.st_lemmas.specs.Lists.{Has}
@@ -29,7 +29,7 @@ use Rattle.st_laws_pages.proofs.Flush.Growing.{Adds}
 use Rattle.st_laws_pages.proofs.Flush.Adding.{Grows, grows_none, grows_then, After, after_numbered, after_disk}
 use Rattle.st_laws_steps.proofs.Client.Losing.{Finished, rest_of}
 use Rattle.st_laws_pages.proofs.Flush.Keeping.{Around, OfOthers, Told, change_around}
-use Rattle.st_laws_pages.specs.Causes.Stands.{CommandsStand, LatestOwn}
+use Rattle.st_laws_pages.specs.Causes.Invariants.{CommandsStand, LatestOwn}
 use Rattle.st_laws_pages.proofs.Causes.Commands.{says_stand}
 use Rattle.st_laws_pages.proofs.Causes.Latest.{change_apart as change_elsewhere, change_latest, ends_latest, success_own}
 use Rattle.st_laws_pages.proofs.Causes.Placed.{Placed}
@@ -43,7 +43,7 @@ pub record Cares (past : List Step) (cs : List IssuedCommand) (es : List LogEntr
   pub latests : (b : Association) → Has b others → LatestOwn c es b
 
 -- Lists of changes, and ends of commands, in the world behind the outputs.
-module _ (past : List Step) (size : ℕ) (c : ClientId) (before : ClientState) (sc : WorldTurn) (site : ClientSite) (there : site_of sc.world c ≡ Some site) (count : length sc.world.servers ≡ size) (holds : CommandsStand sc.world.log sc.world.commands sc.world.disks.commands) (now : Stamp) where
+module _ (past : List Step) (size : ℕ) (c : ClientId) (before : ClientState) (sc : WorldTurn) (site : WorldClient) (there : site_of sc.world c ≡ Some site) (count : length sc.world.servers ≡ size) (holds : CommandsStand sc.world.log sc.world.commands sc.world.disks.commands) (now : Stamp) where
   abbrev pub In : Turn → List Association → Type 0
   In t others = Cares past (After c before sc t.out).world.commands (After c before sc t.out).world.log c site.starts t others
 

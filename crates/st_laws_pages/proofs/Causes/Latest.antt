@@ -47,7 +47,7 @@ use Rattle.st_laws_pages.proofs.Flush.Growing.{Adds, AddsEntry}
 use Rattle.st_laws_pages.proofs.Disks.Law.{owner_more, owner_same}
 use Rattle.st_laws_steps.proofs.Client.Nexts.{dirty_put, failed_found, found_fewer}
 use Rattle.st_laws_pages.proofs.Disks.Writer.{latest_last, latest_same}
-use Rattle.st_laws_pages.specs.Causes.Stands.{CommandsStand, LatestOwn}
+use Rattle.st_laws_pages.specs.Causes.Invariants.{CommandsStand, LatestOwn}
 
 -- Logs with the same owners.
 pub latest_owned : (c : ClientId) (a : Association) (es fs : List LogEntry) → map of_entry fs ≡ map of_entry es → LatestOwn c es a → LatestOwn c fs a

@@ -8,7 +8,7 @@ use Rattle.st_rules.specs.declared.world.IssuedCommand.{IssuedCommand}
 use Rattle.st_rules.specs.Extents.{numbers}
 use Rattle.st_rules.specs.Server as server
 use Rattle.st_rules.specs.Server.{ServerNode}
-use Rattle.st_rules.specs.World.{World, ClientSite, numbered, fresh_world, node_at_start, fresh_site}
+use Rattle.st_rules.specs.World.{World, WorldClient, numbered, fresh_world, node_at_start, fresh_site}
 use Rattle.st_rules.specs.Events as ev
 use Rattle.st_rules.specs.Events.{WorldTurn}
 use Rattle.st_rules.specs.History.{Traced, traced, traced_after}
@@ -18,7 +18,7 @@ use Rattle.st_laws_pages.specs.Drops.Causes.{CausesHold}
 use Rattle.st_laws_pages.specs.Flush.Flush.{Cared, NumbersApart, NodeCared, FlushHold}
 use Rattle.st_rules.specs.declared.pages.DirtyPage.{DirtyPage}
 use Rattle.st_lemmas.proofs.Tables.{has_map}
-use Rattle.st_laws_pages.specs.Disks.Owed.{FatesHold}
+use Rattle.st_laws_pages.specs.Disks.Obligations.{FatesHold}
 use Rattle.st_lemmas.specs.Lists.{Has}
 use Rattle.st_rules.specs.Client as cl
 use Rattle.st_rules.specs.ClientState.{Association}
@@ -31,14 +31,14 @@ use Rattle.st_rules.specs.WorldInvariants.{knows_own, knows_own_at, maps_own}
 use Rattle.st_rules.specs.ClientPages as pages
 use Rattle.st_lemmas.proofs.Tables.{all_pass}
 use Rattle.st_laws_pages.specs.Drops.Causes.{CausesHold}
-use Rattle.st_laws_pages.specs.Disks.Owed.{FatesHold}
+use Rattle.st_laws_pages.specs.Disks.Obligations.{FatesHold}
 use Rattle.st_laws_pages.proofs.Drops.Dropping.{advance_owed}
 use Rattle.st_laws_pages.proofs.Drops.Grows.{happens_causes}
 use Rattle.st_laws_pages.proofs.Disks.Steps.{counted_fates, fates_law}
 use Rattle.st_laws_pages.proofs.Disks.Whole.{fresh_fates, site_is}
 use Rattle.st_laws_pages.specs.Asks.Law.{InEveryRun, PlacesAfter, PlacesHold}
 use Rattle.st_laws_pages.proofs.Asks.Law.{places_law}
-use Rattle.st_laws_pages.specs.Causes.Stands.{LatestOwn, WritesStand}
+use Rattle.st_laws_pages.specs.Causes.Invariants.{LatestOwn, WritesStand}
 use Rattle.st_laws_pages.proofs.Causes.Drops.{causes_owed}
 use Rattle.st_laws_pages.proofs.Causes.Events.{counted_both, happens_both}
 use Rattle.st_laws_pages.proofs.Causes.FlushSteps.{BothHold}
@@ -66,7 +66,7 @@ fresh_flush k clients servers d b form =
       sites = λ c site e r. node c site (site_is k clients servers c.0 site e).0;
       starts = λ c site e x i. absurd i;
       flushes = λ x i. absurd i;
-      servers = λ c site e a i. server a (has_map cl.fresh_association (numbers 1 servers) a (subst (λ (s : ClientSite). Has a s.node.state.associations) (site_is k clients servers c.0 site e).0 i));
+      servers = λ c site e a i. server a (has_map cl.fresh_association (numbers 1 servers) a (subst (λ (s : WorldClient). Has a s.node.state.associations) (site_is k clients servers c.0 site e).0 i));
     }
   where
     Came : Association → Type 0
@@ -87,7 +87,7 @@ fresh_flush k clients servers d b form =
           failed = λ ino p x m e. absurd (no_page x e);
         }
 
-    node : (c : ClientId) (site : ClientSite) → site ≡ fresh_site k servers c.0 → NodeCared [] [] [] c site
+    node : (c : ClientId) (site : WorldClient) → site ≡ fresh_site k servers c.0 → NodeCared [] [] [] c site
     node c site e =
         subst (NodeCared [] [] [] c) (sym e)
         (record {
@@ -189,7 +189,7 @@ fresh_places k clients servers d b form = record { maps = all_pass (maps_own w) 
     none [] = refl
     none (n ∷ ns) = none ns
 
-    known : (ns : List ℕ) (y : ClientSite) → Has y (map (fresh_site k servers) ns) → knows_own w y ≡ true
+    known : (ns : List ℕ) (y : WorldClient) → Has y (map (fresh_site k servers) ns) → knows_own w y ≡ true
     known ns y i = let z = has_map (fresh_site k servers) ns y i in ap (knows_own w) z.2 ∙ none (numbers 1 servers)
 
 fresh_writes : (k : Config) (clients servers d b form : ℕ) → WritesStand (fresh_world k clients servers d b form)
@@ -197,7 +197,7 @@ unfolding fresh_world cl.fresh_client
 fresh_writes k clients servers d b form =
     record {
       commands = record { counts = refl; reads = λ j x y at i e z. absurd (none j x i); writes = λ j x y at tag bytes i e z. absurd (none j x i); done = λ j x y at tag bytes i e z f. absurd (none j x i) };
-      latest_own = λ c site e r a i. latest c a (has_map cl.fresh_association (numbers 1 servers) a (subst (λ (s : ClientSite). Has a s.node.state.associations) (site_is k clients servers c.0 site e).0 i));
+      latest_own = λ c site e r a i. latest c a (has_map cl.fresh_association (numbers 1 servers) a (subst (λ (s : WorldClient). Has a s.node.state.associations) (site_is k clients servers c.0 site e).0 i));
     }
   where
     none : (j : ℕ) (x : IssuedCommand) → numbered {A = IssuedCommand} [] j ≡ Some x → ⊥

@@ -29,10 +29,10 @@ use Rattle.st_lemmas.proofs.Tables.{has_append}
 use Rattle.st_laws_steps.specs.Client.Client.{Plain, Change, Says, Operates, Answers, Greets, TellsLost, Begins, Follows, Learns, Forgets, Caches, Writes, Reads, Submits, Changes, Still, Then}
 use Rattle.st_laws_steps.specs.Client.Losses.{Fit, Ends, Unknown, Passes, Hardens, Fails, Loses, IsLost}
 use Rattle.st_laws_steps.specs.Client.Losses.{Lasts as IsLasting}
-use Rattle.st_laws_steps.specs.Client.Taking as taking
-use Rattle.st_laws_steps.specs.Client.Taking.{Taken}
+use Rattle.st_laws_steps.specs.Client.Inputs as taking
+use Rattle.st_laws_steps.specs.Client.Inputs.{Taken}
 use Rattle.st_laws_steps.proofs.Client.Asking.{c_passes}
-use Rattle.st_laws_steps.proofs.Client.Replying.{c_hear}
+use Rattle.st_laws_steps.proofs.Client.Replying.{c_receive}
 use Rattle.st_laws_steps.proofs.Client.Stepping.{Phased, phased}
 use Rattle.st_laws_steps.proofs.Client.Taking.{taken}
 use Rattle.st_laws_steps.proofs.Client.Nexts.{change_next, empty_right}
@@ -46,13 +46,13 @@ use Rattle.st_messages.specs.declared.message.Body.TheVariants as bodies
 use Rattle.st_rules.specs.declared.world.SentMessage.{SentMessage}
 use Rattle.st_rules.specs.Keys.{client}
 use Rattle.st_rules.specs.World as world
-use Rattle.st_rules.specs.World.{World, ClientSite, site_of}
+use Rattle.st_rules.specs.World.{World, WorldClient, site_of}
 use Rattle.st_rules.specs.WorldInvariants.{is_on_disk_of, is_own_known, is_own_mapping, is_own_row, knows_own, knows_own_at, tells_own, tells_own_rows}
 use Rattle.st_lemmas.proofs.Numbers.{numbered_has}
 use Rattle.st_lemmas.proofs.Tables.{each_passes}
 use Rattle.st_laws_pages.specs.Asks.Law.{PlacesHold}
 use Rattle.st_laws_pages.proofs.Asks.Places.{On, Knows, OwnBody}
-use Rattle.st_laws_pages.proofs.Asks.Client.{key, Begun, Lasting, Lasts, Neutral, Stands, Usable, g_hear, s_passes, w_finish, w_lose}
+use Rattle.st_laws_pages.proofs.Asks.Client.{key, Begun, Lasting, Lasts, Neutral, Stands, Usable, g_receive, s_passes, w_finish, w_lose}
 use Rattle.st_rules.specs.Safety.{block_of}
 
 -- a fact of each output
@@ -234,11 +234,11 @@ passes_place n now tick t f k =
     joined n t (cp.passes now tick t) (Usable (λ v. v ≡ s)) (changes_tagged now t _ (c_passes now tick t))
     (s_passes n (λ v. v ≡ s) t.id t.config (Blocks n s t.out (map key t.operations)) (blocks_last n s t.id t.out (map key t.operations)) now tick t (own_begins n t (Usable (λ v. v ≡ s)) (λ e. refl) k))
 
-pub hear_places : (n : ℕ) (now : Stamp) (h : Header) (b : Body) → ((s : ServerId) → h.from ≡ server_node s → OwnBody n s b) → RuleKept n (cr.receive_at now h b)
-hear_places n now h b o t f k =
+pub receive_places : (n : ℕ) (now : Stamp) (h : Header) (b : Body) → ((s : ServerId) → h.from ≡ server_node s → OwnBody n s b) → RuleKept n (cr.receive_at now h b)
+receive_places n now h b o t f k =
     let s = t.here.server in
-    joined n t (cr.receive_at now h b t) (Usable (λ v. v ≡ s)) (changes_tagged now t _ (c_hear now h b t f.fresh))
-    (g_hear n (λ v. v ≡ s) t.id t.config (Blocks n s t.out (map key t.operations)) (blocks_last n s t.id t.out (map key t.operations)) now h b t o (own_begins n t (Begun (λ v. v ≡ s)) (λ e. refl) k))
+    joined n t (cr.receive_at now h b t) (Usable (λ v. v ≡ s)) (changes_tagged now t _ (c_receive now h b t f.fresh))
+    (g_receive n (λ v. v ≡ s) t.id t.config (Blocks n s t.out (map key t.operations)) (blocks_last n s t.id t.out (map key t.operations)) now h b t o (own_begins n t (Begun (λ v. v ≡ s)) (λ e. refl) k))
 
 pub finish_places : (n : ℕ) (now : Stamp) (number : ℕ) (r : Option (Option (Tag × List ℕ))) → RuleKept n (cl.finish number r)
 finish_places n now number r t f k =
@@ -326,7 +326,7 @@ input_places n now _ t _ (taking.Nothing i) told f k = record { knows = k; place
 input_places n now _ t _ (taking.Full op ask e) told f k = record { knows = k; placed = since_one (PlacedOne n) t.out _ tt }
 input_places n now _ t _ (taking.Unknown op ask e g) told f k = record { knows = k; placed = since_one (PlacedOne n) t.out _ tt }
 input_places n now _ t _ (taking.Takes op ask e g) told f k = each_place n (only_at (server_of ask) (cl.take_ask op ask)) (ask_places n (server_of ask) op ask) t f k
-input_places n now _ t _ (taking.Hears m e) told f k = each_place n (cr.receive_at now m.header m.body) (only_left n (cr.receive_at now m.header m.body) (hear_places n now m.header m.body told)) t f k
+input_places n now _ t _ (taking.Receives m e) told f k = each_place n (cr.receive_at now m.header m.body) (only_left n (cr.receive_at now m.header m.body) (receive_places n now m.header m.body told)) t f k
 input_places n now _ t _ (taking.Finishes number r) told f k = each_place n (cl.finish number r) (only_left n (cl.finish number r) (finish_places n now number r)) t f k
 
 -- The whole step.
@@ -363,7 +363,7 @@ step_placed n c s now input told f k = whole (since_then _ [] t.out v.out a.plac
 pub record PlacesAt (size : ℕ) (w : World) : Type 0 where
   pub count : length w.servers ≡ size
   pub told : (m : SentMessage) → Has m w.net.messages → (s : ServerId) → m.message.header.from ≡ server_node s → OwnBody size s m.message.body
-  pub known : (c : ClientId) (site : ClientSite) → site_of w c ≡ Some site → (a : Association) → Has a site.node.state.associations → Knows size a.server a.store.extents
+  pub known : (c : ClientId) (site : WorldClient) → site_of w c ≡ Some site → (a : Association) → Has a site.node.state.associations → Knows size a.server a.store.extents
 
 from_server : (from : ℕ) (s : ServerId) → from ≡ server_node s → world.node_at from ≡ nodes.Server s
 unfolding world.node_at
@@ -386,7 +386,7 @@ places_at w h = record { count = refl; told = told; known = known }
         by (bodies.Extents ino rows) q = λ r j. on s r.at (each_passes (is_own_row w s) rows q r j)
         by b q = tt
 
-    known : (c : ClientId) (site : ClientSite) → site_of w c ≡ Some site → (a : Association) → Has a site.node.state.associations → Knows (length w.servers) a.server a.store.extents
+    known : (c : ClientId) (site : WorldClient) → site_of w c ≡ Some site → (a : Association) → Has a site.node.state.associations → Knows (length w.servers) a.server a.store.extents
     known c site e a i x j m q =
         on a.server m.at
         (subst (λ o. is_own_mapping w a.server o ≡ true) q

@@ -23,7 +23,7 @@ use Rattle.st_rules.specs.declared.world.IssuedCommand.{IssuedCommand}
 use Rattle.st_rules.specs.FlatLog as log
 use Rattle.st_rules.specs.ClientPasses as cp
 use Rattle.st_rules.specs.ClientState.{ClientState, Turn, answer_to}
-use Rattle.st_rules.specs.World.{ClientSite, numbered, site_of, life_with, server_of_disk}
+use Rattle.st_rules.specs.World.{WorldClient, numbered, site_of, life_with, server_of_disk}
 use Rattle.st_rules.specs.Events as ev
 use Rattle.st_rules.specs.Events.{WorldTurn, client_says, client_says_all, client_notes}
 use Rattle.st_laws_steps.specs.Client.Client.{Plain, PlainNote, ChangesPage, Change, Says, Operates, Answers, Greets, TellsLost, Begins, Follows, Learns, Forgets, Caches, Writes, Reads, Submits}
@@ -67,7 +67,7 @@ answers_still a [] = record {}
 answers_still a (o ∷ os) = record { one = tt; rest = answers_still a os }
 
 -- What each change adds, in the world behind the outputs so far: pages are changed and written in the present life.
-module _ (size : ℕ) (c : ClientId) (before : ClientState) (sc : WorldTurn) (site : ClientSite) (there : site_of sc.world c ≡ Some site) (count : length sc.world.servers ≡ size) where
+module _ (size : ℕ) (c : ClientId) (before : ClientState) (sc : WorldTurn) (site : WorldClient) (there : site_of sc.world c ≡ Some site) (count : length sc.world.servers ≡ size) where
   abbrev pub cs : List Output → List IssuedCommand
   cs os = (After c before sc os).world.commands
 

@@ -15,33 +15,33 @@ use Rattle.st_rules.specs.Client as cl
 use Rattle.st_rules.specs.ClientState as state
 use Rattle.st_rules.specs.ClientState.{Association, ClientState, ClientTurn, Turn, client_turn, only_at, server_of}
 use Rattle.st_rules.specs.World as world
-use Rattle.st_rules.specs.World.{World, ClientSite, numbered, site_of, life_with}
+use Rattle.st_rules.specs.World.{World, WorldClient, numbered, site_of, life_with}
 use Rattle.st_rules.specs.Events as ev
 use Rattle.st_rules.specs.Events.{WorldTurn}
 use Rattle.st_rules.specs.Safety.{Step}
 use Rattle.st_lemmas.specs.Lists.{Has}
 use Rattle.st_laws_steps.specs.Client.Losses.{Fit, is_ended}
-use Rattle.st_laws_steps.specs.Client.Taking as taking
-use Rattle.st_laws_steps.specs.Client.Taking.{Taken}
+use Rattle.st_laws_steps.specs.Client.Inputs as taking
+use Rattle.st_laws_steps.specs.Client.Inputs.{Taken}
 use Rattle.st_laws_steps.specs.Lives.Lives.{Pairwise, Once, server_number, NodeHolds, LivesHold}
 use Rattle.st_laws_pages.specs.Flush.Flush.{Cared, NumbersBelow, NumbersApart, NodeCared}
 use Rattle.st_laws_steps.proofs.Lives.Associations.{own_found, numbers_same, PairLeft, pair_left}
 use Rattle.st_laws_steps.proofs.Client.Nexts.{Next, changes_next}
 use Rattle.st_laws_steps.proofs.Client.Asking.{c_passes}
-use Rattle.st_laws_steps.proofs.Client.Replying.{c_hear}
+use Rattle.st_laws_steps.proofs.Client.Replying.{c_receive}
 use Rattle.st_laws_steps.proofs.Client.Losing.{c_only, finish_is, is_done}
 use Rattle.st_laws_steps.proofs.Client.Stepping.{Goes, LostOrNot, Phased, finish_next, pairs_then, phased}
 use Rattle.st_laws_steps.proofs.Client.Taking.{taken}
 use Rattle.st_laws_pages.proofs.Flush.Adding.{Grows, After, still_adds, more_still}
 use Rattle.st_laws_pages.proofs.Flush.Flushing.{InputTold, emptied_cared, pair_of}
-use Rattle.st_laws_pages.specs.Causes.Stands.{CommandsStand, LatestOwn}
+use Rattle.st_laws_pages.specs.Causes.Invariants.{CommandsStand, LatestOwn}
 use Rattle.st_laws_pages.proofs.Causes.Keeping.{All, changes_around, each_all, each_grows, finished_around}
 use Rattle.st_laws_pages.proofs.Causes.Placed.{Placed}
 use Rattle.st_laws_pages.proofs.Causes.Saying.{placed_grown}
 use Rattle.st_laws_pages.proofs.Flush.Quiet.{AllQuiet, losses_quiet}
 
 -- A whole step.
-module _ (past : List Step) (w : World) (c : ClientId) (old site : ClientSite) (input : ClientInput) (now : Stamp) (there : site_of w c ≡ Some old) (same : old.node ≡ site.node) (starts : old.starts ≡ site.starts) (h : LivesHold w) where
+module _ (past : List Step) (w : World) (c : ClientId) (old site : WorldClient) (input : ClientInput) (now : Stamp) (there : site_of w c ≡ Some old) (same : old.node ≡ site.node) (starts : old.starts ≡ site.starts) (h : LivesHold w) where
   abbrev s : ClientState
   s = site.node.state
 
@@ -54,7 +54,7 @@ module _ (past : List Step) (w : World) (c : ClientId) (old site : ClientSite) (
   abbrev v : ClientTurn
   v = cl.work u now input
 
-  abbrev after : ClientSite
+  abbrev after : WorldClient
   after = ev.at_node (cl.node_turn site.node v).node site
 
   abbrev sc : WorldTurn
@@ -145,7 +145,7 @@ module _ (past : List Step) (w : World) (c : ClientId) (old site : ClientSite) (
 
     stay : Pairwise Stays t.state.associations v.state.associations
     stay =
-        pairs_then (Goes t.state.config now) (Goes u.state.config now) Stays (λ a b d p q. record { server = p.server ∙ q.server; life = p.life ∙ q.life }) t.state.associations u.state.associations v.state.associations phases.heard.pairs phases.worked.pairs
+        pairs_then (Goes t.state.config now) (Goes u.state.config now) Stays (λ a b d p q. record { server = p.server ∙ q.server; life = p.life ∙ q.life }) t.state.associations u.state.associations v.state.associations phases.received.pairs phases.worked.pairs
 
     pub right_t : (b : Association) → Has b t.state.associations → life_with v.state b.server ≡ b.life
     right_t b i = go (pair_left Stays (λ x y p. p.server) b.server t.state.associations v.state.associations stay b (own_found t.state.associations once_t b i))
@@ -187,9 +187,9 @@ module _ (past : List Step) (w : World) (c : ClientId) (old site : ClientSite) (
     input_all _ _ (taking.Takes op ask e g) told o =
         each_all past size c s sc after own count holds now (only_at (server_of ask) (cl.take_ask op ask)) (λ x f. changes_next now x _ (c_only now (server_of ask) op ask x))
         (λ x f others n live p r. changes_around past size c s sc after own count holds now x _ (c_only now (server_of ask) op ask x) others n live p r) t o begins
-    input_all _ _ (taking.Hears m e) told o =
-        each_all past size c s sc after own count holds now (cr.receive_at now m.header m.body) (λ y f. changes_next now y _ (c_hear now m.header m.body y f.fresh))
-        (λ y f others n live p r. changes_around past size c s sc after own count holds now y _ (c_hear now m.header m.body y f.fresh) others n live p r) t o begins
+    input_all _ _ (taking.Receives m e) told o =
+        each_all past size c s sc after own count holds now (cr.receive_at now m.header m.body) (λ y f. changes_next now y _ (c_receive now m.header m.body y f.fresh))
+        (λ y f others n live p r. changes_around past size c s sc after own count holds now y _ (c_receive now m.header m.body y f.fresh) others n live p r) t o begins
     input_all _ _ (taking.Finishes number result) told o =
         each_all past size c s sc after own count holds now (cl.finish number result) (λ y f. finish_next now number result y)
         (λ y f others n live p r. finished_around past size c s sc after own count holds now number (is_done result) y (cl.finish number result y) (finish_is now number result y) told others n live p r) t o begins

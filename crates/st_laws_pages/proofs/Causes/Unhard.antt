@@ -23,7 +23,7 @@ use Rattle.st_laws_steps.proofs.Client.Calm.{IsCalm, SaysCalm}
 use Rattle.st_laws_steps.proofs.Client.Losing.{Finished, c_end_each, calm_only, finish_is, is_done}
 use Rattle.st_laws_steps.proofs.Client.Only.{Only, Goes}
 use Rattle.st_laws_steps.proofs.Client.Only as only
-use Rattle.st_laws_steps.proofs.Client.Replying.{calm_hear}
+use Rattle.st_laws_steps.proofs.Client.Replying.{calm_receive}
 use Rattle.st_laws_pages.proofs.Causes.Placed.{EachOut, Since, since_none, since_one, since_then}
 
 abbrev pub H : Turn → Turn → Type 0
@@ -34,34 +34,34 @@ each_unhard a q [] = tt
 each_unhard a q (o ∷ os) = record { one = q; rest = each_unhard a q os }
 
 -- Changes that are calm.
-said_calm : (hears : Bool) (o : Output) → SaysCalm hears o → Unhard o
-said_calm hears (outputs.Note n) q = tt
-said_calm hears (outputs.Send m) q = tt
-said_calm hears (outputs.Submit number at what) q = q
-said_calm hears (outputs.Answer op a) q = q
+said_calm : (receives : Bool) (o : Output) → SaysCalm receives o → Unhard o
+said_calm receives (outputs.Note n) q = tt
+said_calm receives (outputs.Send m) q = tt
+said_calm receives (outputs.Submit number at what) q = q
+said_calm receives (outputs.Answer op a) q = q
 
-change_calm : (hears : Bool) (now : Stamp) (t u : Turn) (c : Change now t u) → IsCalm hears now t u c → H t u
-change_calm hears now t _ (client.Says _ o p) q = since_one Unhard t.out o (said_calm hears o q)
-change_calm hears now t _ (client.Operates _ os) q = since_none Unhard t.out
-change_calm hears now t _ (client.Answers _ os ops a) q = record { more = map (answer_to a) ops; out = refl; each = each_unhard a q ops }
-change_calm hears now t _ (client.Greets _ g) q = since_none Unhard t.out
-change_calm hears now t _ (client.TellsLost _ lost) q = since_none Unhard t.out
-change_calm hears now t _ (client.Begins _ s a b c) q = since_none Unhard t.out
-change_calm hears now t _ (client.Follows _ s u e g) q = since_none Unhard t.out
-change_calm hears now t _ (client.Learns _ e a b) q = since_none Unhard t.out
-change_calm hears now t _ (client.Forgets _ ino p i) q = absurd q
-change_calm hears now t _ (client.Caches _ clean) q = since_none Unhard t.out
-change_calm hears now t _ (client.Writes _ s f p bytes n se sv own m h) q = absurd q
-change_calm hears now t _ (client.Reads _ ino p m i clean) q = absurd q
-change_calm hears now t _ (client.Submits _ s ino p d m se e i w) q = absurd q
+change_calm : (receives : Bool) (now : Stamp) (t u : Turn) (c : Change now t u) → IsCalm receives now t u c → H t u
+change_calm receives now t _ (client.Says _ o p) q = since_one Unhard t.out o (said_calm receives o q)
+change_calm receives now t _ (client.Operates _ os) q = since_none Unhard t.out
+change_calm receives now t _ (client.Answers _ os ops a) q = record { more = map (answer_to a) ops; out = refl; each = each_unhard a q ops }
+change_calm receives now t _ (client.Greets _ g) q = since_none Unhard t.out
+change_calm receives now t _ (client.TellsLost _ lost) q = since_none Unhard t.out
+change_calm receives now t _ (client.Begins _ s a b c) q = since_none Unhard t.out
+change_calm receives now t _ (client.Follows _ s u e g) q = since_none Unhard t.out
+change_calm receives now t _ (client.Learns _ e a b) q = since_none Unhard t.out
+change_calm receives now t _ (client.Forgets _ ino p i) q = absurd q
+change_calm receives now t _ (client.Caches _ clean) q = since_none Unhard t.out
+change_calm receives now t _ (client.Writes _ s f p bytes n se sv own m h) q = absurd q
+change_calm receives now t _ (client.Reads _ ino p m i clean) q = absurd q
+change_calm receives now t _ (client.Submits _ s ino p d m se e i w) q = absurd q
 
-changes_calm : (hears : Bool) (now : Stamp) (t u : Turn) → Only (IsCalm hears) now t u → H t u
-changes_calm hears now t _ (only.Ends _) = since_none Unhard t.out
-changes_calm hears now t v (Goes _ u _ c q r) = since_then Unhard t.out u.out v.out (change_calm hears now t u c q) (changes_calm hears now u v r)
+changes_calm : (receives : Bool) (now : Stamp) (t u : Turn) → Only (IsCalm receives) now t u → H t u
+changes_calm receives now t _ (only.Ends _) = since_none Unhard t.out
+changes_calm receives now t v (Goes _ u _ c q r) = since_then Unhard t.out u.out v.out (change_calm receives now t u c q) (changes_calm receives now u v r)
 
 -- The rules.
-pub h_hear : (now : Stamp) (h : Header) (b : Body) (t : Turn) → SessionFresh t.here.store t.here.session → H t (cr.receive_at now h b t)
-h_hear now h b t f = changes_calm true now t (cr.receive_at now h b t) (calm_hear now h b t f)
+pub h_receive : (now : Stamp) (h : Header) (b : Body) (t : Turn) → SessionFresh t.here.store t.here.session → H t (cr.receive_at now h b t)
+h_receive now h b t f = changes_calm true now t (cr.receive_at now h b t) (calm_receive now h b t f)
 
 ends_unhard : (number : ℕ) (ok : Bool) (t u : Turn) → Ends number ok t u → H t u
 unfolding cl.hardened

@@ -27,13 +27,13 @@ use Rattle.st_rules.specs.Disks as disks
 use Rattle.st_rules.specs.Client as cl
 use Rattle.st_rules.specs.ClientState.{ClientState}
 use Rattle.st_rules.specs.World as world
-use Rattle.st_rules.specs.World.{World, ClientSite, site_of, numbered, server_of_disk}
+use Rattle.st_rules.specs.World.{World, WorldClient, site_of, numbered, server_of_disk}
 use Rattle.st_rules.specs.Events as ev
 use Rattle.st_rules.specs.Events.{WorldTurn, client_says, client_says_all, client_notes, latest}
 use Rattle.st_laws_pages.specs.Disks.Folds.{of_entry, owner_at}
 use Rattle.st_laws_pages.specs.Disks.Pages.{CarriedRight}
 use Rattle.st_laws_pages.specs.Disks.World.{Living, Timely, EffectDone, HoldsBy, PagesHold, mapped_in, births_in, block_in, LateStays, SubmitsRight, OwesOne, Owes}
-use Rattle.st_laws_pages.specs.Disks.Owed.{TimelyIn}
+use Rattle.st_laws_pages.specs.Disks.Obligations.{TimelyIn}
 use Rattle.st_lemmas.proofs.Numbers.{get_more, get_below, length_more}
 use Rattle.st_laws_pages.proofs.Disks.Folds.{done_last, upto_all, carry_all}
 use Rattle.st_laws_pages.proofs.Disks.Law.{more_pending, submitted, NewRight}
@@ -126,7 +126,7 @@ owner_high es (suc n) o e = go (slice_get es n) refl e
     go None q f = cc
     go (Some x) q f = let z = get_below es n x q in omega (arith, z)
 
-submits_keeps : (T : ℕ → IssuedCommand → Type 0) (w : World) (c : ClientId) (site : ClientSite) (number : ℕ) (at : BlockAt) (what : Command) → SubmitsRight T w c (Some site) at what → HoldsBy T w →
+submits_keeps : (T : ℕ → IssuedCommand → Type 0) (w : World) (c : ClientId) (site : WorldClient) (number : ℕ) (at : BlockAt) (what : Command) → SubmitsRight T w c (Some site) at what → HoldsBy T w →
     HoldsBy T (ev.with_command (ev.issued w c site number at what) what w)
 unfolding log.content
 submits_keeps T w c site number at (commands.Read to) r h = submit_keeps T w _ (commands.Read to) (record { read = λ b e. refl; write = λ b t ct e. absurd (no b t ct e); alone = λ b t ct e. absurd (no b t ct e) }) h
@@ -183,7 +183,7 @@ says_keeps T c before (outputs.Send m) sc r h = record { pages = h.pages; comman
 says_keeps T c before (outputs.Answer op a) sc r h = record { pages = h.pages; commands = h.commands; extents = record { settings = h.extents.settings; ids = h.extents.ids; lies = h.extents.lies } }
 says_keeps T c before (outputs.Submit n at what) sc r h = go (site_of sc.world c) r
   where
-    go : (o : Option ClientSite) → SubmitsRight T sc.world c o at what → HoldsBy T (ev.submits sc c o n at what).world
+    go : (o : Option WorldClient) → SubmitsRight T sc.world c o at what → HoldsBy T (ev.submits sc c o n at what).world
     go None r = h
     go (Some site) r = submits_keeps T sc.world c site n at what r h
 says_keeps T c before (outputs.Note n) sc r h = note n
@@ -217,7 +217,7 @@ flush_keeps T c s (x ∷ ss) w h = flush_keeps T c s ss (ev.flushed_at w c x s) 
     in_phase o None = h
 
 -- A step of a client.
-pub client_keeps : (w : World) (c : ClientId) (site : ClientSite) (t : cl.NodeTurn) → Owes (TimelyIn w) c site.node.state (ev.quiet (ev.with_site c (ev.at_node t.node site) w)) t.out → LateStays w (ev.client_took w c site (Ok t)).world →
+pub client_keeps : (w : World) (c : ClientId) (site : WorldClient) (t : cl.NodeTurn) → Owes (TimelyIn w) c site.node.state (ev.quiet (ev.with_site c (ev.at_node t.node site) w)) t.out → LateStays w (ev.client_took w c site (Ok t)).world →
     PagesHold w → PagesHold (ev.client_took w c site (Ok t)).world
 unfolding ev.client_took
 client_keeps w c site t owes late h =

@@ -23,7 +23,7 @@ use Rattle.st_rules.specs.declared.world.LeaseLife.{LeaseLife}
 use Rattle.st_rules.specs.Keys.{same_client, same_server}
 use Rattle.st_rules.specs.FlatLog as log
 use Rattle.st_rules.specs.FlatLog.{owner, same_owner}
-use Rattle.st_rules.specs.World.{World, ClientSite, numbered, clock_of, lease_end_of}
+use Rattle.st_rules.specs.World.{World, WorldClient, numbered, clock_of, lease_end_of}
 use Rattle.st_rules.specs.Admissible as adm
 use Rattle.st_rules.specs.Events as ev
 use Rattle.st_laws_pages.specs.Disks.Pages.{ExtentsOf, LivingOf, CarriedRight, PagesAreKept}
@@ -200,7 +200,7 @@ spared T w (suc n) x at tag bytes i l c m a le s = any_zip (ev.spares m a) w.com
         turn : a ≡ owner x.client x.life tag.file tag.page → same_owner (owner x.client x.life tag.file tag.page) a ≡ true
         turn e = subst (λ o. same_owner o a ≡ true) e (subst (λ o. same_owner a o ≡ true) (sym e) s)
 
-pub crash_keeps : (w : World) (c : ClientId) (site : ClientSite) → LateStays w (ev.crashes_client w c (Some site)).world → PagesHold w → PagesHold (ev.crashes_client w c (Some site)).world
+pub crash_keeps : (w : World) (c : ClientId) (site : WorldClient) → LateStays w (ev.crashes_client w c (Some site)).world → PagesHold w → PagesHold (ev.crashes_client w c (Some site)).world
 unfolding ev.crashes_client ev.marks ev.log_crashed log.drop_picked
 crash_keeps w c site late h =
     let v : World = ev.with_site c (ev.stopped_site site) (ev.with_crashed_lives site w) in
@@ -219,7 +219,7 @@ crash_keeps w c site late h =
     left false d e = refl
 
 -- Start of a client.
-pub start_keeps : (w : World) (c : ClientId) (site : ClientSite) → LateStays w (ev.starts_client w c (Some site)) → PagesHold w → PagesHold (ev.starts_client w c (Some site))
+pub start_keeps : (w : World) (c : ClientId) (site : WorldClient) → LateStays w (ev.starts_client w c (Some site)) → PagesHold w → PagesHold (ev.starts_client w c (Some site))
 unfolding ev.starts_client
 start_keeps w c site late h =
     let v : World = ev.with_site c (ev.started_site site) w in

@@ -447,7 +447,7 @@ by_parts T v u es t l h = subst (HoldsBy T) path rebuilt
     path = λ j. record u { clients = sym t.clients j; servers = sym t.servers j; clocks = sym t.clocks j; disks = sym t.disks j; commands = sym t.commands j; ended = sym t.ended j; log = sym l j }
 
 -- A step of a server.
-pub server_keeps : (w : World) (s : ServerId) (node : ServerNode) (t : server.Turn) → node_of w s ≡ Some node → t.state.id ≡ node.state.id → ExtentsMove s node.state.stable.extents t.state.stable.extents t.out →
+pub server_keeps : (w : World) (s : ServerId) (node : ServerNode) (t : server.ServerTurn) → node_of w s ≡ Some node → t.state.id ≡ node.state.id → ExtentsMove s node.state.stable.extents t.state.stable.extents t.out →
     ((f : FileId) (p : PageNo) → OneCut f p t.out → CutQuiet w f p) → PagesHold w → PagesHold (ev.server_took w s (Ok (server.node_turn node t))).world
 unfolding ev.server_took
 server_keeps w s node t e i move quiet h =

@@ -25,12 +25,12 @@ use Rattle.st_rules.specs.Server as server
 use Rattle.st_rules.specs.Disks as disks
 use Rattle.st_rules.specs.World as world
 use Rattle.st_rules.specs.Server.{ServerNode}
-use Rattle.st_rules.specs.World.{World, ClientSite, site_of, node_of, issued_of, clock_of}
+use Rattle.st_rules.specs.World.{World, WorldClient, site_of, node_of, issued_of, clock_of}
 use Rattle.st_rules.specs.Admissible as adm
 use Rattle.st_rules.specs.Events as ev
 use Rattle.st_rules.specs.Events.{WorldTurn}
 use Rattle.st_laws_pages.specs.Disks.World.{ExtentsMove, PagesHold}
-use Rattle.st_laws_pages.specs.Disks.Owed.{NodeOwes, ServerNodeOwes, TakesOwes, AtClient, AtServer, AtAsk, AtNode, AtDelivery, AtEnd, AtTold, AtReport, Owed, StepsKeepPages, FatesHold, StepsKeepFates}
+use Rattle.st_laws_pages.specs.Disks.Obligations.{NodeOwes, ServerNodeOwes, TakesOwes, AtClient, AtServer, AtAsk, AtNode, AtDelivery, AtEnd, AtTold, AtReport, Owed, StepsKeepPages, FatesHold, StepsKeepFates}
 use Rattle.st_laws_pages.specs.Fates.Fates.{BeforeEnd, FatesAreKept, GoneHold}
 use Rattle.st_laws_steps.specs.Lives.Lives.{LivesHold}
 use Rattle.st_laws_pages.proofs.Disks.Effects.{effect_finds, report_finds, report_is, reported_world, reported_is}
@@ -46,7 +46,7 @@ use Rattle.st_laws_pages.proofs.Disks.Clients.{client_keeps}
 use Rattle.st_laws_pages.proofs.Disks.Walk.{step_moves, step_id}
 use Rattle.st_laws_pages.proofs.Disks.Servers.{server_keeps, server_crash_keeps, server_start_keeps}
 
-takes_keeps : (w : World) (c : ClientId) (input : ClientInput) (old site : ClientSite) → site_of w c ≡ Some old → old.node ≡ site.node → TakesOwes w c input site → LivesHold w → PagesHold w → PagesHold (ev.client_takes w c input site).world
+takes_keeps : (w : World) (c : ClientId) (input : ClientInput) (old site : WorldClient) → site_of w c ≡ Some old → old.node ≡ site.node → TakesOwes w c input site → LivesHold w → PagesHold w → PagesHold (ev.client_takes w c input site).world
 unfolding ev.client_takes ev.client_took
 takes_keeps w c input old site there same o l h = go (cl.node_step site.node (clock_of w (nodes.Client c)) input) o (takes_stays w c input old site there same l)
   where
@@ -54,7 +54,7 @@ takes_keeps w c input old site there same o l h = go (cl.node_step site.node (cl
     go (Ok t) o late = client_keeps w c site t o.outputs late h
     go (Err r) o late = h
 
-at_client_keeps : (w : World) (c : ClientId) (input : ClientInput) (o : Option ClientSite) → site_of w c ≡ o → AtClient w c input o → LivesHold w → PagesHold w → PagesHold (ev.at_client w c input o).world
+at_client_keeps : (w : World) (c : ClientId) (input : ClientInput) (o : Option WorldClient) → site_of w c ≡ o → AtClient w c input o → LivesHold w → PagesHold w → PagesHold (ev.at_client w c input o).world
 unfolding ev.at_client
 at_client_keeps w c input None e o l h = h
 at_client_keeps w c input (Some site) e o l h = takes_keeps w c input site site e refl o l h
@@ -67,7 +67,7 @@ at_server_keeps w s input (Some node) e o h = go node.running o
     now : Stamp
     now = clock_of w (nodes.Server s)
 
-    t : server.Turn
+    t : server.ServerTurn
     t = server.server_step node.state now input
 
     turn : Bool → Result server.NodeTurn StepRefusal
@@ -78,7 +78,7 @@ at_server_keeps w s input (Some node) e o h = go node.running o
     go false o = h
 
 -- an ask is counted at its client, which no law of the pages looks at
-counts_ask : (w : World) (c : ClientId) (ask : Ask) (o : Option ClientSite) → site_of w c ≡ o → AtAsk w c ask o → LivesHold w → PagesHold w → PagesHold (ev.asks_at w c ask o).world
+counts_ask : (w : World) (c : ClientId) (ask : Ask) (o : Option WorldClient) → site_of w c ≡ o → AtAsk w c ask o → LivesHold w → PagesHold w → PagesHold (ev.asks_at w c ask o).world
 unfolding ev.asks_at
 counts_ask w c ask None e o l h = h
 counts_ask w c ask (Some site) e o l h = takes_keeps w c (inputs.App (site.asks + 1) ask) site (ev.asked_once_more site) e refl o l h
@@ -88,11 +88,11 @@ unfolding ev.tells ev.tells_client ev.tells_site
 told_keeps w k ok None o l h = h
 told_keeps w k ok (Some x) o l h = at_site (site_of w x.client) refl o
   where
-    same : (site : ClientSite) → site_of w x.client ≡ Some site → (b : Bool) → ev.is_same_instance x site ≡ b → AtEnd w k site ok x → PagesHold (if b then ev.client_takes w x.client (ev.end_told w k ok x) site else ev.quiet w).world
+    same : (site : WorldClient) → site_of w x.client ≡ Some site → (b : Bool) → ev.is_same_instance x site ≡ b → AtEnd w k site ok x → PagesHold (if b then ev.client_takes w x.client (ev.end_told w k ok x) site else ev.quiet w).world
     same site q true e o = takes_keeps w x.client (ev.end_told w k ok x) site site q refl (o e) l h
     same site q false e o = h
 
-    at_site : (s : Option ClientSite) → site_of w x.client ≡ s → AtTold w k ok x s → PagesHold (ev.tells_client w k ok x s).world
+    at_site : (s : Option WorldClient) → site_of w x.client ≡ s → AtTold w k ok x s → PagesHold (ev.tells_client w k ok x s).world
     at_site None q o = h
     at_site (Some site) q o = same site q (ev.is_same_instance x site) refl o
 
@@ -155,7 +155,7 @@ happens_keeps w (events.Effect k) r o l h = at_effect w k r h
 happens_keeps w (events.Report k ok) r o l h = at_report w k ok r o l h
 happens_keeps w (events.Crash (nodes.Client c)) r o l h = go (site_of w c) refl
   where
-    go : (s : Option ClientSite) → site_of w c ≡ s → PagesHold (ev.crashes_client w c s).world
+    go : (s : Option WorldClient) → site_of w c ≡ s → PagesHold (ev.crashes_client w c s).world
     go None e = h
     go (Some site) e = crash_keeps w c site (crash_late w c site e (l.lives.sites c site e).id (known_crash w c l)) h
 happens_keeps w (events.Crash (nodes.Server s)) r o l h = go (node_of w s) refl
@@ -165,7 +165,7 @@ happens_keeps w (events.Crash (nodes.Server s)) r o l h = go (node_of w s) refl
     go (Some node) e = server_crash_keeps w s node e h
 happens_keeps w (events.Start (nodes.Client c)) r o l h = go (site_of w c) refl
   where
-    go : (s : Option ClientSite) → site_of w c ≡ s → PagesHold (ev.starts_client w c s)
+    go : (s : Option WorldClient) → site_of w c ≡ s → PagesHold (ev.starts_client w c s)
     go None e = h
     go (Some site) e = start_keeps w c site (start_stays w c site e (stopped_is w c site e r) l) h
 happens_keeps w (events.Start (nodes.Server s)) r o l h = go (node_of w s) refl

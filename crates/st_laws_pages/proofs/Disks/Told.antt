@@ -36,7 +36,7 @@ use Rattle.st_rules.specs.Server.{ServerNode}
 use Rattle.st_rules.specs.Client as cl
 use Rattle.st_rules.specs.ClientState.{ClientState}
 use Rattle.st_rules.specs.World as world
-use Rattle.st_rules.specs.World.{World, ClientSite, numbered, site_of, node_of, issued_of, clock_of}
+use Rattle.st_rules.specs.World.{World, WorldClient, numbered, site_of, node_of, issued_of, clock_of}
 use Rattle.st_rules.specs.Events as ev
 use Rattle.st_rules.specs.Events.{WorldTurn, client_says, client_says_all, client_notes}
 use Rattle.st_rules.specs.History.{Traced}
@@ -79,7 +79,7 @@ says_told f old c before (outputs.Send m) sc l h = told_more f old sc.seen sc.wo
 says_told f old c before (outputs.Answer op a) sc l h = told_more f old sc.seen sc.world.log _ refl h
 says_told f old c before (outputs.Submit n at what) sc l h = go (site_of sc.world c)
   where
-    go : (o : Option ClientSite) → SceneTold f old (ev.submits sc c o n at what)
+    go : (o : Option WorldClient) → SceneTold f old (ev.submits sc c o n at what)
     go None = h
     go (Some site) = told_more f old sc.seen sc.world.log _ refl h
 says_told f old c before (outputs.Note n) sc l h = note n
@@ -101,7 +101,7 @@ says_all_told f old c before [] sc l h = h
 says_all_told f old c before (o ∷ os) sc l h =
     says_all_told f old c before os (client_says sc c before o) (λ s. l s ∙ ap (λ z. ev.life_of_site s (numbered z c.0)) (sym (says_one c before o sc).clients)) (says_told f old c before o sc l h)
 
-takes_told : (w : World) (c : ClientId) (input : ClientInput) (site : ClientSite) → SceneTold (ev.client_takes w c input site).world w.log (ev.client_takes w c input site)
+takes_told : (w : World) (c : ClientId) (input : ClientInput) (site : WorldClient) → SceneTold (ev.client_takes w c input site).world w.log (ev.client_takes w c input site)
 unfolding ev.client_takes ev.client_took lines.log_told lines.all_tell_log
 takes_told w c input site = go (cl.node_step site.node (clock_of w (nodes.Client c)) input)
   where
@@ -116,7 +116,7 @@ takes_told w c input site = go (cl.node_step site.node (clock_of w (nodes.Client
         subst (Told u w.log sc.seen) (sym fl.log)
         (says_all_told u w.log c site.node.state t.out (ev.quiet v) (λ s. ap (λ z. ev.life_of_site s (numbered z c.0)) (fl.clients ∙ said.clients)) (record { entries = refl; numbers = refl }))
 
-at_client_told : (w : World) (c : ClientId) (input : ClientInput) (o : Option ClientSite) → SceneTold (ev.at_client w c input o).world w.log (ev.at_client w c input o)
+at_client_told : (w : World) (c : ClientId) (input : ClientInput) (o : Option WorldClient) → SceneTold (ev.at_client w c input o).world w.log (ev.at_client w c input o)
 unfolding ev.at_client lines.log_told lines.all_tell_log
 at_client_told w c input None = record { entries = refl; numbers = refl }
 at_client_told w c input (Some site) = takes_told w c input site
@@ -298,7 +298,7 @@ happens_told w (events.Tick (nodes.Client c)) = at_client_told w c _ (site_of w 
 happens_told w (events.Tick (nodes.Server s)) = at_server_told w s _ (node_of w s)
 happens_told w (events.App c ask) = go (site_of w c)
   where
-    go : (o : Option ClientSite) → SceneTold (ev.asks_at w c ask o).world w.log (ev.asks_at w c ask o)
+    go : (o : Option WorldClient) → SceneTold (ev.asks_at w c ask o).world w.log (ev.asks_at w c ask o)
     go None = record { entries = refl; numbers = refl }
     go (Some site) = takes_told w c _ (ev.asked_once_more site)
 happens_told w (events.Deliver k) = go (world.message_of w k)
@@ -324,11 +324,11 @@ happens_told w (events.Report k ok) = go (issued_of w k)
     v : World
     v = ev.with_disks (ev.disks_after w.disks (disks.done w.disks k ok)) w
 
-    same : (x : IssuedCommand) (site : ClientSite) (b : Bool) → SceneTold (if b then ev.client_takes v x.client (ev.end_told v k ok x) site else ev.quiet v).world w.log (if b then ev.client_takes v x.client (ev.end_told v k ok x) site else ev.quiet v)
+    same : (x : IssuedCommand) (site : WorldClient) (b : Bool) → SceneTold (if b then ev.client_takes v x.client (ev.end_told v k ok x) site else ev.quiet v).world w.log (if b then ev.client_takes v x.client (ev.end_told v k ok x) site else ev.quiet v)
     same x site true = takes_told v x.client (ev.end_told v k ok x) site
     same x site false = record { entries = refl; numbers = refl }
 
-    told : (x : IssuedCommand) (o : Option ClientSite) → SceneTold (ev.tells_client v k ok x o).world w.log (ev.tells_client v k ok x o)
+    told : (x : IssuedCommand) (o : Option WorldClient) → SceneTold (ev.tells_client v k ok x o).world w.log (ev.tells_client v k ok x o)
     told x None = record { entries = refl; numbers = refl }
     told x (Some site) = same x site (ev.is_same_instance x site)
 
@@ -337,7 +337,7 @@ happens_told w (events.Report k ok) = go (issued_of w k)
     go (Some x) = told x (site_of v x.client)
 happens_told w (events.Crash (nodes.Client c)) = go (site_of w c)
   where
-    go : (o : Option ClientSite) → SceneTold (ev.crashes_client w c o).world w.log (ev.crashes_client w c o)
+    go : (o : Option WorldClient) → SceneTold (ev.crashes_client w c o).world w.log (ev.crashes_client w c o)
     go None = record { entries = refl; numbers = refl }
     go (Some site) = marks_told w _ _ (fated_drop 1 (ev.is_of_crashed w c) (log.always Rattle.st_rules.specs.declared.log.Cause.TheVariants.Crash) w.log)
 happens_told w (events.Crash (nodes.Server s)) = go (node_of w s)
@@ -347,7 +347,7 @@ happens_told w (events.Crash (nodes.Server s)) = go (node_of w s)
     go (Some node) = record { entries = refl; numbers = refl }
 happens_told w (events.Start (nodes.Client c)) = go (site_of w c)
   where
-    go : (o : Option ClientSite) → Told (ev.starts_client w c o) w.log [] (ev.starts_client w c o).log
+    go : (o : Option WorldClient) → Told (ev.starts_client w c o) w.log [] (ev.starts_client w c o).log
     go None = record { entries = refl; numbers = refl }
     go (Some site) = record { entries = refl; numbers = refl }
 happens_told w (events.Start (nodes.Server s)) = go (node_of w s)

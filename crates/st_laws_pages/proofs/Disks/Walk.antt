@@ -37,105 +37,105 @@ use Rattle.st_rules.specs.Sessions as sessions
 use Rattle.st_rules.specs.Authority as authority
 use Rattle.st_rules.specs.Grace as grace
 use Rattle.st_rules.specs.Server as sv
-use Rattle.st_rules.specs.Server.{ServerState, Turn, Replied, turn, with_authority, sender, life_in, reply, tell, steal_at, steal_from, steal, steal_each, thefts, suspect_client, greet_as, greet_by, greet, refuse_in_grace, hello, demand_seen, see_demand, refuse_epoch, reassert_by, reassert_new, reassert_again, reassert, rule, keep_and_reply, keep, serve, request_by, request, of_epoch, by_body, refuse_suspect, by_suspicion, receive_from, receive, take_input, suspect_unless, suspect_each, suspecting, suspecting_on, tell_granted, grant_by, grant_waiting, granting, tell_demanded, demand_by, demanding, server_step}
+use Rattle.st_rules.specs.Server.{ServerState, ServerTurn, Replied, turn, with_authority, sender, life_in, reply, tell, steal_at, steal_from, steal, steal_each, thefts, suspect_client, greet_as, greet_by, greet, refuse_in_grace, hello, demand_seen, observe_demand, refuse_epoch, reassert_by, reassert_new, reassert_again, reassert, rule, keep_and_reply, keep, serve, request_by, request, of_epoch, by_body, refuse_suspect, by_suspicion, receive_from, receive, take_input, suspect_unless, suspect_each, suspecting, suspecting_on, tell_granted, grant_by, grant_waiting, granting, tell_demanded, demand_by, demanding, server_step}
 use Rattle.st_rules.specs.Extents as extents
 use Rattle.st_laws_pages.specs.Disks.World.{NoCut, NoCuts, OneCut, ExtentsMove, Stays, Maps, Cuts}
 use Rattle.st_laws_steps.proofs.Server.Taking.{if_either}
 
 -- What stands of a turn as far as its extents, its server and its outputs go.
-pub record Kept (Q : Extents → ServerId → List Output → Type 0) (t : Turn) : Type 0 where
+pub record Kept (Q : Extents → ServerId → List Output → Type 0) (t : ServerTurn) : Type 0 where
   pub is : Q t.state.stable.extents t.state.id t.out
 
 -- all rules but allocations, cuts and removals keep whatever lasts under outputs that are no cuts
 module _ (Q : Extents → ServerId → List Output → Type 0) (more : (x : Extents) (i : ServerId) (os : List Output) (o : Output) → NoCut o → Q x i os → Q x i (os ++ o ∷ [])) where
-  abbrev O : Turn → Type 0
+  abbrev O : ServerTurn → Type 0
   O t = Kept Q t
 
-  o_reply : (t : Turn) (h : Header) (b : Body) → O t → O (reply t h b)
+  o_reply : (t : ServerTurn) (h : Header) (b : Body) → O t → O (reply t h b)
   unfolding reply
   o_reply t h b o = record { is = more _ _ t.out _ tt o.is }
 
-  o_tell : (t : Turn) (c : ClientId) (life : Life) (b : Body) → O t → O (tell t c life b)
+  o_tell : (t : ServerTurn) (c : ClientId) (life : Life) (b : Body) → O t → O (tell t c life b)
   unfolding tell
   o_tell t c life b o = record { is = more _ _ t.out _ tt o.is }
 
-  o_suspect : (t : Turn) (now : Stamp) (c : ClientId) → O t → O (suspect_client t now c)
+  o_suspect : (t : ServerTurn) (now : Stamp) (c : ClientId) → O t → O (suspect_client t now c)
   unfolding suspect_client
   o_suspect t now c o = record { is = more _ _ t.out _ tt o.is }
 
-  o_greet_as : (t : Turn) (now : Stamp) (h : Header) (x : Hello) → O t → O (greet_as t now h x)
+  o_greet_as : (t : ServerTurn) (now : Stamp) (h : Header) (x : Hello) → O t → O (greet_as t now h x)
   unfolding greet_as
   o_greet_as t now h hellos.Welcome o = o_reply t h _ o
   o_greet_as t now h hellos.Replaced o = o_reply _ h _ (record { is = o.is })
   o_greet_as t now h hellos.Old o = o
   o_greet_as t now h hellos.Wait o = o_reply _ h _ (o_suspect t now (sender h) o)
 
-  o_hello : (t : Turn) (now : Stamp) (h : Header) → O t → O (hello t now h)
+  o_hello : (t : ServerTurn) (now : Stamp) (h : Header) → O t → O (hello t now h)
   unfolding hello greet greet_by refuse_in_grace
   o_hello t now h o = if_either O (sv.in_grace t now) _ _ (o_reply t h _ o) (o_greet_as _ now h _ (record { is = o.is }))
 
-  o_seen : (t : Turn) (h : Header) (ino : ℕ) (g : GrantNo) → O t → O (demand_seen t h ino g)
-  unfolding demand_seen see_demand
+  o_seen : (t : ServerTurn) (h : Header) (ino : ℕ) (g : GrantNo) → O t → O (demand_seen t h ino g)
+  unfolding demand_seen observe_demand
   o_seen t h ino g o = if_either O (sv.is_served t h) _ _ (record { is = o.is }) (o)
 
-  o_reassert_by : (t : Turn) (h : Header) (r : Res grace.Accepted AcceptRefusal) → O t → O (reassert_by t h r)
+  o_reassert_by : (t : ServerTurn) (h : Header) (r : Res grace.Accepted AcceptRefusal) → O t → O (reassert_by t h r)
   unfolding reassert_by
   o_reassert_by t h (Ok a) o = o_reply _ h _ (record { is = o.is })
   o_reassert_by t h (Err r) o = o_reply t h _ o
 
-  o_reassert_again : (t : Turn) (h : Header) (tk : Taken Body) → O t → O (reassert_again t h tk)
+  o_reassert_again : (t : ServerTurn) (h : Header) (tk : Taken Body) → O t → O (reassert_again t h tk)
   unfolding reassert_again
   o_reassert_again t h (takes.Again b) o = o_reply t h b o
   o_reassert_again t h tk o = o
 
-  o_reassert : (t : Turn) (now : Stamp) (h : Header) (rs : List (ℕ × GrantNo × Mode)) → O t → O (reassert t now h rs)
+  o_reassert : (t : ServerTurn) (now : Stamp) (h : Header) (rs : List (ℕ × GrantNo × Mode)) → O t → O (reassert t now h rs)
   unfolding reassert reassert_new
   o_reassert t now h rs o = if_either O (sessions.knows t.state.sessions (sender h) (life_in h)) _ _ (o_reassert_again t h _ o) (o_reassert_by t h _ o)
 
-  o_keep : (h : Header) (u : Turn) (b : Option Body) → O u → O (keep h u b)
+  o_keep : (h : Header) (u : ServerTurn) (b : Option Body) → O u → O (keep h u b)
   unfolding keep keep_and_reply
   o_keep h u None o = o
   o_keep h u (Some b) o = o_reply _ h b (record { is = o.is })
 
-  o_refuse : (t : Turn) (h : Header) (start : Stamp) (b : Body) → O t → O (refuse_suspect t h start b)
+  o_refuse : (t : ServerTurn) (h : Header) (start : Stamp) (b : Body) → O t → O (refuse_suspect t h start b)
   unfolding refuse_suspect
   o_refuse t h start (bd.DemandSeen i g) o = o
   o_refuse t h start b o = o_reply t h _ o
 
-  o_suspects : (now : Stamp) (cs : List ClientId) (t : Turn) → O t → O (suspect_each now cs t)
+  o_suspects : (now : Stamp) (cs : List ClientId) (t : ServerTurn) → O t → O (suspect_each now cs t)
   unfolding suspect_each suspect_unless
   o_suspects now [] t o = o
   o_suspects now (c ∷ cs) t o = o_suspects now cs _ (if_either O (authority.may_ack t.state.authority c) _ _ (o_suspect t now c o) (o))
 
-  o_suspecting : (t : Turn) (now : Stamp) (i : ServerInput) → O t → O (suspecting_on t now i)
+  o_suspecting : (t : ServerTurn) (now : Stamp) (i : ServerInput) → O t → O (suspecting_on t now i)
   unfolding suspecting_on suspecting
   o_suspecting t now Tick o = o_suspects now _ t o
   o_suspecting t now (Control m) o = o
 
-  o_told : (rs : List (ClientId × Life × ℕ × GrantNo × Mode)) (t : Turn) → O t → O (tell_granted rs t)
+  o_told : (rs : List (ClientId × Life × ℕ × GrantNo × Mode)) (t : ServerTurn) → O t → O (tell_granted rs t)
   unfolding tell_granted
   o_told [] t o = o
   o_told (r ∷ rs) t o = o_told rs _ (o_tell t r.0 r.1 _ o)
 
-  o_granting : (t : Turn) (now : Stamp) → O t → O (granting t now)
+  o_granting : (t : ServerTurn) (now : Stamp) → O t → O (granting t now)
   unfolding granting grant_waiting grant_by
   o_granting t now o = if_either O (sv.in_grace t now) t _ (o) (o_told _ _ (record { is = o.is }))
 
-  o_demanded : (rs : List (ClientId × Life × ℕ × GrantNo × Mode)) (t : Turn) → O t → O (tell_demanded rs t)
+  o_demanded : (rs : List (ClientId × Life × ℕ × GrantNo × Mode)) (t : ServerTurn) → O t → O (tell_demanded rs t)
   unfolding tell_demanded
   o_demanded [] t o = o
   o_demanded (r ∷ rs) t o = o_demanded rs _ (o_tell t r.0 r.1 _ o)
 
-  o_demanding : (t : Turn) (now : Stamp) (i : ServerInput) → O t → O (demanding t now i)
+  o_demanding : (t : ServerTurn) (now : Stamp) (i : ServerInput) → O t → O (demanding t now i)
   unfolding demanding demand_by
   o_demanding t now i o = o_demanded _ _ (record { is = o.is })
 
-  o_steal : (t : Turn) (c : ClientId) (x : Option Session) → O t → O (steal_at t c x)
+  o_steal : (t : ServerTurn) (c : ClientId) (x : Option Session) → O t → O (steal_at t c x)
   unfolding steal_at steal_from
   o_steal t c None o = o
   o_steal t c (Some x) o = record { is = more _ _ t.out _ tt o.is }
 
-  o_steals : (cs : List ClientId) (t : Turn) → O t → O (steal_each cs t)
+  o_steals : (cs : List ClientId) (t : ServerTurn) → O t → O (steal_each cs t)
   unfolding steal_each steal
   o_steals [] t o = o
   o_steals (c ∷ cs) t o = o_steals cs _ (o_steal t c (sessions.session_of t.state.sessions c) o)
@@ -166,10 +166,10 @@ move_more s x _ _ o n (Maps os f ps e h) = Maps (os ++ o ∷ []) f ps e (none_mo
 move_more s x _ _ o n (Cuts os f p e h) = Cuts (os ++ o ∷ []) f p e (one_more f p os o n h)
 
 module _ (s : ServerId) (x : Extents) where
-  abbrev B : Turn → Type 0
+  abbrev B : ServerTurn → Type 0
   B t = Kept (Before s x) t
 
-  abbrev A : Turn → Type 0
+  abbrev A : ServerTurn → Type 0
   A t = Kept (After s x) t
 
   abbrev R : Replied → Type 0
@@ -181,15 +181,15 @@ module _ (s : ServerId) (x : Extents) where
   a_more : (y : Extents) (i : ServerId) (os : List Output) (o : Output) → NoCut o → After s x y i os → After s x y i (os ++ o ∷ [])
   a_more y i os o n h = record { id = h.id; move = move_more s x y os o n h.move }
 
-  then_after : (t : Turn) → B t → A t
+  then_after : (t : ServerTurn) → B t → A t
   then_after t b = record { is = record { id = b.is.id; move = subst (λ y. ExtentsMove s x y t.out) (sym b.is.same) (Stays t.out b.is.none) } }
 
-  a_acquire : (t : Turn) (ino : ℕ) (mode : Mode) (r : Res locks.Acquired AcquireRefusal) → B t → R (sv.acquire_by t ino mode r)
+  a_acquire : (t : ServerTurn) (ino : ℕ) (mode : Mode) (r : Res locks.Acquired AcquireRefusal) → B t → R (sv.acquire_by t ino mode r)
   unfolding sv.acquire_by
   a_acquire t ino mode (Ok a) b = then_after _ (record { is = b.is })
   a_acquire t ino mode (Err r) b = then_after t b
 
-  a_allocate : (t : Turn) (ino : ℕ) (page : PageNo) (count : ℕ) → B t → R (sv.allocate_pages t ino page count)
+  a_allocate : (t : ServerTurn) (ino : ℕ) (page : PageNo) (count : ℕ) → B t → R (sv.allocate_pages t ino page count)
   unfolding sv.allocate_pages sv.allocate_by sv.with_extents_told extents.allocate extents.allocate_pages
   a_allocate t ino page count b = go (Rattle.std.specs.Prelude.nat_le (Rattle.std.specs.Prelude.length (extents.unmapped t.state.stable.extents (sv.file t ino) page count)) (extents.free t.state.stable.extents))
     where
@@ -203,37 +203,37 @@ module _ (s : ServerId) (x : Extents) where
       go true = record { is = record { id = b.is.id; move = subst (λ y. ExtentsMove s x (extents.place_pages (sv.file t ino) ps y) t.out) (sym b.is.same) (Maps t.out (sv.file t ino) ps b.is.id b.is.none) } }
       go false = then_after t b
 
-  a_cut : (t : Turn) (ino : ℕ) (page : PageNo) → B t → A (sv.cut_pages t ino page)
+  a_cut : (t : ServerTurn) (ino : ℕ) (page : PageNo) → B t → A (sv.cut_pages t ino page)
   unfolding sv.cut_pages
   a_cut t ino page b = record { is = record { id = b.is.id; move = subst (λ y. ExtentsMove s x (extents.release_from y (sv.file t ino) page) (t.out ++ outputs.Note (notes.CutDone (sv.file t ino) page) ∷ [])) (sym b.is.same) (Cuts _ (sv.file t ino) page b.is.id (one_here (sv.file t ino) page t.out b.is.none)) } }
 
-  a_found : (t : Turn) (r : Res ℕ EntryRefusal) → B t → R (sv.name_found t r)
+  a_found : (t : ServerTurn) (r : Res ℕ EntryRefusal) → B t → R (sv.name_found t r)
   unfolding sv.name_found sv.name_refused
   a_found t (Ok i) b = then_after t b
   a_found t (Err r) b = then_after t b
 
-  a_changed : (t : Turn) (r : Res names.Changed EntryRefusal) → B t → R (sv.name_changed t r)
+  a_changed : (t : ServerTurn) (r : Res names.Changed EntryRefusal) → B t → R (sv.name_changed t r)
   unfolding sv.name_changed sv.name_refused
   a_changed t (Ok y) b = then_after _ (record { is = b.is })
   a_changed t (Err r) b = then_after t b
 
-  a_listed : (t : Turn) (r : Res (List NameRow) EntryRefusal) → B t → R (sv.names_listed t r)
+  a_listed : (t : ServerTurn) (r : Res (List NameRow) EntryRefusal) → B t → R (sv.names_listed t r)
   unfolding sv.names_listed sv.name_refused
   a_listed t (Ok y) b = then_after t b
   a_listed t (Err r) b = then_after t b
 
-  a_removed : (t : Turn) (r : Res names.Changed EntryRefusal) → B t → R (sv.remove_by t r)
+  a_removed : (t : ServerTurn) (r : Res names.Changed EntryRefusal) → B t → R (sv.remove_by t r)
   unfolding sv.remove_by sv.name_refused sv.cut_whole
   a_removed t (Ok y) b = a_cut _ y.ino _ (record { is = b.is })
   a_removed t (Err r) b = then_after t b
 
-  a_remove : (t : Turn) (h : Header) (dir : ℕ) (n : List ℕ) (g : GrantNo) (r : Res ℕ EntryRefusal) → B t → R (sv.remove_found t h dir n g r)
+  a_remove : (t : ServerTurn) (h : Header) (dir : ℕ) (n : List ℕ) (g : GrantNo) (r : Res ℕ EntryRefusal) → B t → R (sv.remove_found t h dir n g r)
   unfolding sv.remove_found sv.remove_ino sv.remove_file sv.remove_dir sv.name_refused sv.not_holder
   a_remove t h dir n g (Err r) b = then_after t b
   a_remove t h dir n g (Ok ino) b =
       if_either R (sv.is_file t ino) _ _ (if_either R (sv.holds t h ino g modes.X) _ (sv.replied t _) (a_removed t _ b) (then_after t b)) (if_either R (g.0 == 0) _ (sv.replied t _) (a_changed t _ b) (then_after t b))
 
-  a_name : (t : Turn) (h : Header) (op : NameOp) → B t → R (sv.name t h op)
+  a_name : (t : ServerTurn) (h : Header) (op : NameOp) → B t → R (sv.name t h op)
   unfolding sv.name sv.remove
   a_name t h (Lookup dir n) b = a_found t _ b
   a_name t h (Create dir n) b = a_changed t _ b
@@ -242,7 +242,7 @@ module _ (s : ServerId) (x : Extents) where
   a_name t h (Rename dir n dir2 n2) b = a_changed t _ b
   a_name t h (ListFrom dir after) b = a_listed t _ b
 
-  a_rule : (t : Turn) (now : Stamp) (h : Header) (m : Body) → B t → R (rule t now h m)
+  a_rule : (t : ServerTurn) (now : Stamp) (h : Header) (m : Body) → B t → R (rule t now h m)
   unfolding rule sv.keep_alive sv.acquire sv.acquire_lock sv.no_file sv.released sv.released_by sv.map sv.map_held sv.map_page sv.not_holder sv.allocate sv.allocate_held sv.cut sv.cut_held sv.cut_from
   a_rule t now h bd.KeepAlive b = then_after t b
   a_rule t now h (bd.Acquire i m) b = if_either R (sv.is_file t i) (sv.acquire_lock t now h i m) (sv.no_file t i) (a_acquire t i m _ b) (then_after t b)
@@ -253,7 +253,7 @@ module _ (s : ServerId) (x : Extents) where
   a_rule t now h (bd.Name op) b = a_name t h op b
   a_rule t now h m b = then_after t b
 
-  a_request_by : (t : Turn) (now : Stamp) (h : Header) (m : Body) (tk : Taken Body) → B t → A (request_by t now h m tk)
+  a_request_by : (t : ServerTurn) (now : Stamp) (h : Header) (m : Body) (tk : Taken Body) → B t → A (request_by t now h m tk)
   unfolding request_by refuse_epoch serve
   a_request_by t now h m takes.OtherEpoch b = o_reply (After s x) a_more t h _ (then_after t b)
   a_request_by t now h m takes.NoSession b = o_reply (After s x) a_more t h _ (then_after t b)
@@ -262,27 +262,27 @@ module _ (s : ServerId) (x : Extents) where
   a_request_by t now h m takes.OutOfOrder b = then_after t b
   a_request_by t now h m takes.Fresh b = o_keep (After s x) a_more h _ _ (a_rule t now h m b)
 
-  a_request : (t : Turn) (now : Stamp) (h : Header) (m : Body) → B t → A (request t now h m)
+  a_request : (t : ServerTurn) (now : Stamp) (h : Header) (m : Body) → B t → A (request t now h m)
   unfolding request
   a_request t now h (bd.Reassert rs) b = o_reassert (After s x) a_more t now h rs (then_after t b)
   a_request t now h m b = a_request_by t now h m _ b
 
-  a_of_epoch : (t : Turn) (now : Stamp) (h : Header) (m : Body) → B t → A (of_epoch t now h m)
+  a_of_epoch : (t : ServerTurn) (now : Stamp) (h : Header) (m : Body) → B t → A (of_epoch t now h m)
   unfolding of_epoch refuse_epoch
   a_of_epoch t now h m b = if_either A (h.epoch == t.state.stable.epoch.0) _ _ (a_request t now h m b) (o_reply (After s x) a_more t h _ (then_after t b))
 
-  a_by_body : (t : Turn) (now : Stamp) (h : Header) (m : Body) → B t → A (by_body t now h m)
+  a_by_body : (t : ServerTurn) (now : Stamp) (h : Header) (m : Body) → B t → A (by_body t now h m)
   unfolding by_body
   a_by_body t now h bd.Hello b = o_hello (After s x) a_more t now h (then_after t b)
   a_by_body t now h (bd.DemandSeen i g) b = o_seen (After s x) a_more t h i g (then_after t b)
   a_by_body t now h m b = a_of_epoch t now h m b
 
-  a_by_suspicion : (t : Turn) (now : Stamp) (h : Header) (m : Body) (y : Option Stamp) → B t → A (by_suspicion t now h m y)
+  a_by_suspicion : (t : ServerTurn) (now : Stamp) (h : Header) (m : Body) (y : Option Stamp) → B t → A (by_suspicion t now h m y)
   unfolding by_suspicion
   a_by_suspicion t now h m None b = a_by_body t now h m b
   a_by_suspicion t now h m (Some start) b = o_refuse (After s x) a_more t h start m (then_after t b)
 
-  a_input : (t : Turn) (now : Stamp) (i : ServerInput) → B t → A (take_input t now i)
+  a_input : (t : ServerTurn) (now : Stamp) (i : ServerInput) → B t → A (take_input t now i)
   unfolding take_input receive receive_from
   a_input t now Tick b = then_after t b
   a_input t now (Control m) b = if_either A (sv.is_for t.state m.header) _ _ (a_by_suspicion t now m.header m.body _ b) (then_after t b)

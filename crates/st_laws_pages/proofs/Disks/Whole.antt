@@ -12,7 +12,7 @@ use Rattle.st_rules.specs.declared.world.IssuedCommand.{IssuedCommand}
 use Rattle.st_rules.specs.Extents.{numbers}
 use Rattle.st_rules.specs.Server as server
 use Rattle.st_rules.specs.Server.{ServerNode}
-use Rattle.st_rules.specs.World.{World, ClientSite, numbered, fresh_world, node_at_start, fresh_site, fresh_clocks, client_clock, server_clock}
+use Rattle.st_rules.specs.World.{World, WorldClient, numbered, fresh_world, node_at_start, fresh_site, fresh_clocks, client_clock, server_clock}
 use Rattle.st_rules.specs.Events as ev
 use Rattle.st_rules.specs.Events.{WorldTurn}
 use Rattle.st_rules.specs.History.{Traced, traced, traced_after}
@@ -22,7 +22,7 @@ use Rattle.st_laws_pages.specs.Disks.World.{PagesHold, mapped_at, mapped_in, blo
 use Rattle.st_laws_pages.specs.Disks.Runs.{FatesAfter, RunsKeepFates}
 use Rattle.st_lemmas.proofs.Lookups.{some_is}
 use Rattle.st_lemmas.proofs.Numbers.{get_map}
-use Rattle.st_laws_pages.specs.Disks.Owed.{FatesHold}
+use Rattle.st_laws_pages.specs.Disks.Obligations.{FatesHold}
 use Rattle.st_laws_steps.specs.Client.Losses.{Fit}
 use Rattle.st_laws_steps.specs.Lives.Lives.{Once, server_number, NodeHolds, LivesHold}
 use Rattle.st_laws_pages.proofs.Lives.Turning.{fresh_fit}
@@ -32,8 +32,8 @@ use Rattle.st_rules.specs.Client as cl
 use Rattle.st_rules.specs.ClientState.{Association}
 use Rattle.st_base.specs.declared.ids.ClientId.{ClientId}
 use Rattle.st_laws_pages.proofs.Disks.Steps as pages
-use Rattle.st_laws_pages.specs.Disks.Told.{RunsTellTheLog}
-use Rattle.st_laws_pages.specs.LockedCuts.Locked.{TableHolds, WaitsHold, ReassertionsOwed, CutsAreLocked, RunsLockCuts}
+use Rattle.st_laws_pages.specs.Disks.ToldLog.{RunsTellTheLog}
+use Rattle.st_laws_pages.specs.LockedCuts.CutLocks.{TableHolds, WaitsHold, ReassertionsOwed, CutsAreLocked, RunsLockCuts}
 use Rattle.st_laws_pages.proofs.LockedCuts.CutLaw.{law as cut_law}
 use Rattle.st_laws_pages.proofs.Disks.Told.{step_told}
 use Rattle.st_laws_pages.proofs.Lives.Fresh.{length_map, numbers_get, numbers_length}
@@ -107,7 +107,7 @@ server_numbers : (ns : List ℕ) → map server_number (map cl.fresh_association
 server_numbers [] = refl
 server_numbers (n ∷ ns) = ap (λ z. n ∷ z) (server_numbers ns)
 
-pub site_is : (k : Config) (clients servers : ℕ) (j : ℕ) (s : ClientSite) → numbered (map (fresh_site k servers) (numbers 1 clients)) j ≡ Some s →
+pub site_is : (k : Config) (clients servers : ℕ) (j : ℕ) (s : WorldClient) → numbered (map (fresh_site k servers) (numbers 1 clients)) j ≡ Some s →
     (s ≡ fresh_site k servers j) × (slice_get (numbers 1 clients) (pred j) ≡ Some j)
 site_is k clients servers zero s e = cc
 site_is k clients servers (suc i) s e = at (slice_get (numbers 1 clients) i) refl (sym (get_map (fresh_site k servers) (numbers 1 clients) i) ∙ e)
@@ -157,12 +157,12 @@ fresh_lives k clients servers d b form =
           below = λ x i z a f. absurd i;
         }
 
-    go : (j : ℕ) (site : ClientSite) → numbered (map (fresh_site k servers) (numbers 1 clients)) j ≡ Some site → (c : ClientId) → c.0 ≡ j → NodeHolds k (fresh_clocks clients servers) [] c site.node
+    go : (j : ℕ) (site : WorldClient) → numbered (map (fresh_site k servers) (numbers 1 clients)) j ≡ Some site → (c : ClientId) → c.0 ≡ j → NodeHolds k (fresh_clocks clients servers) [] c site.node
     go zero site e c n = cc
     go (suc i) site e c n =
         let z = site_is k clients servers (suc i) site e in
         subst (λ (d : ClientId). NodeHolds k (fresh_clocks clients servers) [] d site.node) (ap (λ m. record { 0 = m }) (sym n))
-        (subst (λ (s : ClientSite). NodeHolds k (fresh_clocks clients servers) [] (record { 0 = suc i }) s.node) (sym z.0) (fresh_one (suc i) i refl z.1))
+        (subst (λ (s : WorldClient). NodeHolds k (fresh_clocks clients servers) [] (record { 0 = suc i }) s.node) (sym z.0) (fresh_one (suc i) i refl z.1))
 
 pub fresh_fates : (k : Config) (clients servers d b form : ℕ) → FatesHold (fresh_world k clients servers d b form)
 unfolding fresh_world

@@ -20,7 +20,7 @@ use Rattle.st_rules.specs.declared.world.IssuedCommand.{IssuedCommand}
 use Rattle.st_rules.specs.declared.world.LeaseLife.{LeaseLife}
 use Rattle.st_rules.specs.Keys.{same_client, same_server}
 use Rattle.st_rules.specs.FlatLog as log
-use Rattle.st_rules.specs.World.{World, ClientSite, lives_of}
+use Rattle.st_rules.specs.World.{World, WorldClient, lives_of}
 use Rattle.st_rules.specs.Events as ev
 use Rattle.st_rules.specs.Events.{last_write, present_life, lives_reached}
 use Rattle.st_rules.specs.Safety as safety
@@ -200,7 +200,7 @@ crash_picked past x v w c n (y ∷ es) e b k h = record { one = λ s p. let z = 
     go s (inl l) = any_last (ends_life_of y.of) past x (its s l)
     go s (inr l) = any_more (ends_life_of y.of) past x (known_any past y.of w.ended k l)
 
-pub crash_caused : (past : List Step) (x : Step) (w : World) (c : ClientId) (site : ClientSite) → x.event ≡ events.Crash (nodes.Client c) → ((k : ClientId) (s : ServerId) → present_life x.before.world k s ≡ present_life w k s) → CrashOwes w w.log c → CausesHold past w →
+pub crash_caused : (past : List Step) (x : Step) (w : World) (c : ClientId) (site : WorldClient) → x.event ≡ events.Crash (nodes.Client c) → ((k : ClientId) (s : ServerId) → present_life x.before.world k s ≡ present_life w k s) → CrashOwes w w.log c → CausesHold past w →
     list_all (has_cause (past ++ x ∷ []) (ev.crashes_client w c (Some site)).world) (ev.crashes_client w c (Some site)).world.log ≡ true
 unfolding ev.crashes_client ev.marks ev.log_crashed log.drop_picked
 crash_caused past x w c site e b o h =
@@ -225,7 +225,7 @@ known_lives past x w c (y ∷ es) e b l =
       rest = known_lives past x w c es e b l.rest;
     }
 
-pub crash_known : (past : List Step) (x : Step) (w : World) (c : ClientId) (site : ClientSite) → x.event ≡ events.Crash (nodes.Client c) → ((k : ClientId) (s : ServerId) → present_life x.before.world k s ≡ present_life w k s) → LivesOwe w c (lives_of site.node.state) → CrashesKnown past w.ended →
+pub crash_known : (past : List Step) (x : Step) (w : World) (c : ClientId) (site : WorldClient) → x.event ≡ events.Crash (nodes.Client c) → ((k : ClientId) (s : ServerId) → present_life x.before.world k s ≡ present_life w k s) → LivesOwe w c (lives_of site.node.state) → CrashesKnown past w.ended →
     CrashesKnown (past ++ x ∷ []) (ev.crashes_client w c (Some site)).world.ended
 unfolding ev.crashes_client ev.marks
 crash_known past x w c site e b l k = known_both (past ++ x ∷ []) w.ended (map ev.crashed_life (lives_of site.node.state)) (known_more past x w.ended k) (known_lives past x w c (lives_of site.node.state) e b l)

@@ -35,7 +35,7 @@ use Rattle.st_lemmas.proofs.Tables.{and_true, has_append, has_filter, has_map_in
 use Rattle.st_laws_pages.specs.Drops.Causes.{AdvanceOwes, FlushOwes}
 use Rattle.st_laws_pages.specs.Fates.Fates.{PendingAll, BeforeEnd}
 use Rattle.st_laws_steps.specs.Lives.Lives.{NodeHolds}
-use Rattle.st_laws_pages.specs.Disks.Owed.{FatesHold}
+use Rattle.st_laws_pages.specs.Disks.Obligations.{FatesHold}
 use Rattle.st_laws_pages.specs.Flush.Flush.{owner_at_page, DirtyHere, Cared, Covered, FlushHold}
 use Rattle.st_laws_steps.proofs.Lives.Associations.{own_found}
 use Rattle.st_laws_pages.proofs.Disks.Effects.{or_none, stands_not}

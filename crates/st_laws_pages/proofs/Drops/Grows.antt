@@ -30,7 +30,7 @@ use Rattle.st_rules.specs.Server as server
 use Rattle.st_rules.specs.ClientState.{ClientState}
 use Rattle.st_rules.specs.World as world
 use Rattle.st_rules.specs.Server.{ServerNode}
-use Rattle.st_rules.specs.World.{World, ClientSite, site_of}
+use Rattle.st_rules.specs.World.{World, WorldClient, site_of}
 use Rattle.st_rules.specs.Events as ev
 use Rattle.st_rules.specs.Events.{WorldTurn, client_says, client_says_all, client_notes}
 use Rattle.st_rules.specs.Safety.{Step, has_cause}
@@ -54,7 +54,7 @@ says_one c before (outputs.Send m) sc = stays sc.world _ refl refl
 says_one c before (outputs.Answer op a) sc = stays sc.world _ refl refl
 says_one c before (outputs.Submit n at what) sc = go (site_of sc.world c)
   where
-    go : (o : Option ClientSite) → Grows sc.world (ev.submits sc c o n at what).world
+    go : (o : Option WorldClient) → Grows sc.world (ev.submits sc c o n at what).world
     go None = stays sc.world _ refl refl
     go (Some site) = stays sc.world _ refl refl
 says_one c before (outputs.Note n) sc = note n
@@ -90,7 +90,7 @@ flushes c s (x ∷ ss) w = behind w (ev.flushed_at w c x s) _ (in_phase (cl.leas
     in_phase o (Some phases.Expired) = stays w _ refl refl
     in_phase o None = stays w _ refl refl
 
-client_grows : (w : World) (c : ClientId) (input : ClientInput) (site : ClientSite) → Grows w (ev.client_takes w c input site).world
+client_grows : (w : World) (c : ClientId) (input : ClientInput) (site : WorldClient) → Grows w (ev.client_takes w c input site).world
 unfolding ev.client_takes ev.client_took
 client_grows w c input site = go (cl.node_step site.node (world.clock_of w (nodes.Client c)) input)
   where
@@ -102,7 +102,7 @@ client_grows w c input site = go (cl.node_step site.node (world.clock_of w (node
         let a : Grows w v = stays w v refl refl in
         behind w v _ a (behind v sc.world _ (says_all c site.node.state t.out (ev.quiet v)) (flushes c t.node.state (world.all_servers sc.world) sc.world))
 
-at_client : (w : World) (c : ClientId) (input : ClientInput) (o : Option ClientSite) → Grows w (ev.at_client w c input o).world
+at_client : (w : World) (c : ClientId) (input : ClientInput) (o : Option WorldClient) → Grows w (ev.at_client w c input o).world
 unfolding ev.at_client
 at_client w c input None = stays w _ refl refl
 at_client w c input (Some site) = client_grows w c input site
@@ -149,7 +149,7 @@ happens_grows w (events.Tick (nodes.Client c)) nc na = at_client w c _ (site_of 
 happens_grows w (events.Tick (nodes.Server s)) nc na = at_server w s _ (world.node_of w s)
 happens_grows w (events.App c ask) nc na = go (site_of w c)
   where
-    go : (o : Option ClientSite) → Grows w (ev.asks_at w c ask o).world
+    go : (o : Option WorldClient) → Grows w (ev.asks_at w c ask o).world
     go None = stays w _ refl refl
     go (Some site) = client_grows w c _ (ev.asked_once_more site)
 happens_grows w (events.Deliver k) nc na = go (world.message_of w k)
@@ -178,11 +178,11 @@ happens_grows w (events.Report k ok) nc na = go (world.issued_of w k)
     first : Grows w v
     first = stays w v refl refl
 
-    same : (x : IssuedCommand) (site : ClientSite) (b : Bool) → Grows w (if b then ev.client_takes v x.client (ev.end_told v k ok x) site else ev.quiet v).world
+    same : (x : IssuedCommand) (site : WorldClient) (b : Bool) → Grows w (if b then ev.client_takes v x.client (ev.end_told v k ok x) site else ev.quiet v).world
     same x site true = behind w v _ first (client_grows v x.client (ev.end_told v k ok x) site)
     same x site false = first
 
-    told : (x : IssuedCommand) (o : Option ClientSite) → Grows w (ev.tells_client v k ok x o).world
+    told : (x : IssuedCommand) (o : Option WorldClient) → Grows w (ev.tells_client v k ok x o).world
     told x None = first
     told x (Some site) = same x site (ev.is_same_instance x site)
 
@@ -197,7 +197,7 @@ happens_grows w (events.Crash (nodes.Server s)) nc na = go (world.node_of w s)
     go (Some node) = stays w _ refl refl
 happens_grows w (events.Start (nodes.Client c)) nc na = go (site_of w c)
   where
-    go : (o : Option ClientSite) → Grows w (ev.starts_client w c o)
+    go : (o : Option WorldClient) → Grows w (ev.starts_client w c o)
     go None = stays w _ refl refl
     go (Some site) = stays w _ refl refl
 happens_grows w (events.Start (nodes.Server s)) nc na = go (world.node_of w s)
@@ -217,7 +217,7 @@ happens_causes past x w (events.Crash (nodes.Client c)) q b o h = go (site_of w 
     none : CausesHold (past ++ x ∷ []) (ev.crashes_client w c None).world
     none = grown past x w w (stays w w refl refl) (same_failed w.commands w.log) h
 
-    go : (s : Option ClientSite) → CrashSiteOwes w c s → CausesHold (past ++ x ∷ []) (ev.crashes_client w c s).world
+    go : (s : Option WorldClient) → CrashSiteOwes w c s → CausesHold (past ++ x ∷ []) (ev.crashes_client w c s).world
     go None o = none
     go (Some site) o = record { caused = crash_caused past x w c site q b o.pending h; crashes = crash_known past x w c site q b o.lives h.crashes }
 happens_causes past x w (events.Crash (nodes.Server s)) q b o h = grown past x w _ (happens_grows w (events.Crash (nodes.Server s)) (λ c e. cc) (λ c e. cc)) o h

@@ -23,7 +23,7 @@ use Rattle.st_rules.specs.Client as cl
 use Rattle.st_rules.specs.ClientLease as lease
 use Rattle.st_rules.specs.ClientState.{Association, is_at}
 use Rattle.st_rules.specs.World as world
-use Rattle.st_rules.specs.World.{World, ClientSite, numbered, with_numbered, site_of, clock_of, is_life_of, ended_of, end_or_present, lease_end_of, life_of_association, lives_of}
+use Rattle.st_rules.specs.World.{World, WorldClient, numbered, with_numbered, site_of, clock_of, is_life_of, ended_of, end_or_present, lease_end_of, life_of_association, lives_of}
 use Rattle.st_rules.specs.Events as ev
 use Rattle.st_rules.specs.Events.{client_says_all, present_lives}
 use Rattle.st_lemmas.specs.Lists.{Has}
@@ -45,7 +45,7 @@ use Rattle.st_laws_pages.proofs.Lives.LifeSteps.{steps_so}
 use Rattle.st_laws_pages.proofs.Fates.FateSteps.{still_before, changed_before, says_pending}
 
 -- A client's step.
-pub client_fates : (w : World) (c : ClientId) (old site : ClientSite) (input : ClientInput) → site_of w c ≡ Some old → old.node ≡ site.node → site.node.running ≡ true → LivesHold w → FatesAreKept w →
+pub client_fates : (w : World) (c : ClientId) (old site : WorldClient) (input : ClientInput) → site_of w c ≡ Some old → old.node ≡ site.node → site.node.running ≡ true → LivesHold w → FatesAreKept w →
     FatesAreKept (ev.client_took w c site (Ok (cl.node_turn site.node (cl.client_step site.node.state (clock_of w (nodes.Client c)) input)))).world
 unfolding ev.client_took
 client_fates w c old site input there same r h fh = subst (PendingAll (BeforeEnd v)) (sym fl.log) (says_pending (BeforeEnd v) c site.node.state (λ s. ev.present_life v0 c s) t.out (ev.quiet v0) (λ s. refl) new (pending_map (BeforeEnd w) (BeforeEnd v) w.log old_ones fh))
@@ -56,7 +56,7 @@ client_fates w c old site input there same r h fh = subst (PendingAll (BeforeEnd
     t : cl.NodeTurn
     t = cl.node_turn site.node (cl.client_step site.node.state now input)
 
-    now_site : ClientSite
+    now_site : WorldClient
     now_site = ev.at_node t.node site
 
     v0 : World
@@ -140,14 +140,14 @@ pending_fewer P n picked cause (e ∷ es) h = go (picked n e.of) (pending_fewer 
     go false r = record { one = h.one; rest = r }
 
 -- a life that is known, and none of those that ended, is the association's
-pub known_life : (w : World) (c : ClientId) (site : ClientSite) → site_of w c ≡ Some site → (o : LogOwner) (a : Association) →
+pub known_life : (w : World) (c : ClientId) (site : WorldClient) → site_of w c ≡ Some site → (o : LogOwner) (a : Association) →
     find (is_at o.file.server) site.node.state.associations ≡ Some a → o.client.0 ≡ c.0 → ended_of w o.client o.file.server o.life ≡ None →
     IsKnown w.clients w.ended o.client o.file.server o.life → a.life.0 ≡ o.life.0
 known_life w c site there o a f i n (inl (e, z)) = absurd (no_option e (sym n ∙ z))
 known_life w c site there o a f i n (inr z) = ap (λ x. (world.life_at x).0) (sym f) ∙ ap (λ x. (ev.life_of_site o.file.server x).0) (sym there) ∙ ap (λ j. (ev.life_of_site o.file.server (numbered w.clients j)).0) (sym i) ∙ z
 
 -- Crash: the client's lives end with the ends that they had.
-pub end_crashed : (w : World) (c : ClientId) (site : ClientSite) → site_of w c ≡ Some site → LivesHold w → (o : LogOwner) →
+pub end_crashed : (w : World) (c : ClientId) (site : WorldClient) → site_of w c ≡ Some site → LivesHold w → (o : LogOwner) →
     IsKnown w.clients w.ended o.client o.file.server o.life → (end : Stamp) → lease_end_of w o.client o.file.server o.life ≡ Some end →
     lease_end_of (ev.with_site c (ev.stopped_site site) (ev.with_crashed_lives site w)) o.client o.file.server o.life ≡ Some end
 end_crashed w c site there h o kn end is = go (ended_of w o.client o.file.server o.life) refl (same_or_not o.client.0 c.0)
@@ -184,11 +184,11 @@ end_crashed w c site there h o kn end is = go (ended_of w o.client o.file.server
         (find_back p w.ended rows q ∙ rows_other site.node.state.config site.node.state.id o.client o.file.server o.life site.node.state.associations (ap (λ z. same_client z o.client) m.id ∙ ne_eqb c.0 o.client.0 (λ z. i (sym z))))
         ∙ ap (world.present_end w o.file.server) (numbered_other w.clients c.0 o.client.0 (ev.stopped_site site) (numbered_below w.clients c.0 site there).0 i) ∙ ap (end_or_present w o.client o.file.server) (sym q) ∙ is
 
-pub crash_before : (w : World) (c : ClientId) (site : ClientSite) → site_of w c ≡ Some site → LivesHold w → (o : LogOwner) → IsKnown w.clients w.ended o.client o.file.server o.life → BeforeEnd w o → BeforeEnd (ev.with_site c (ev.stopped_site site) (ev.with_crashed_lives site w)) o
+pub crash_before : (w : World) (c : ClientId) (site : WorldClient) → site_of w c ≡ Some site → LivesHold w → (o : LogOwner) → IsKnown w.clients w.ended o.client o.file.server o.life → BeforeEnd w o → BeforeEnd (ev.with_site c (ev.stopped_site site) (ev.with_crashed_lives site w)) o
 crash_before w c site there h o kn b = record { end = b.end; is = end_crashed w c site there h o kn b.end b.is; before = b.before }
 
 -- Start: a client that does not run has no session, so each end is of a life that ended, or of another client.
-pub end_started : (w : World) (c : ClientId) (site : ClientSite) → site_of w c ≡ Some site → site.node.running ≡ false → LivesHold w →
+pub end_started : (w : World) (c : ClientId) (site : WorldClient) → site_of w c ≡ Some site → site.node.running ≡ false → LivesHold w →
     (o : LogOwner) (end : Stamp) → lease_end_of w o.client o.file.server o.life ≡ Some end →
     lease_end_of (ev.with_site c (ev.started_site site) w) o.client o.file.server o.life ≡ Some end
 end_started w c site there r h o end is = go (ended_of w o.client o.file.server o.life) refl (same_or_not o.client.0 c.0)
@@ -209,7 +209,7 @@ end_started w c site there r h o end is = go (ended_of w o.client o.file.server 
         ∙ ap (end_or_present w o.client o.file.server) (sym q) ∙ is))
     go None q (inr i) = ap (end_or_present v o.client o.file.server) q ∙ ap (world.present_end w o.file.server) (numbered_other w.clients c.0 o.client.0 (ev.started_site site) (numbered_below w.clients c.0 site there).0 i) ∙ ap (end_or_present w o.client o.file.server) (sym q) ∙ is
 
-pub start_before : (w : World) (c : ClientId) (site : ClientSite) → site_of w c ≡ Some site → site.node.running ≡ false → LivesHold w → (o : LogOwner) → BeforeEnd w o → BeforeEnd (ev.with_site c (ev.started_site site) w) o
+pub start_before : (w : World) (c : ClientId) (site : WorldClient) → site_of w c ≡ Some site → site.node.running ≡ false → LivesHold w → (o : LogOwner) → BeforeEnd w o → BeforeEnd (ev.with_site c (ev.started_site site) w) o
 start_before w c site there r h o b = record { end = b.end; is = end_started w c site there r h o b.end b.is; before = b.before }
 
 -- Advance: the life of what is pending is among those that are looked at.
@@ -217,10 +217,10 @@ pub pending_known : (P Q : LogOwner → Type 0) (es : List LogEntry) → ((o : L
 pending_known P Q [] f h = h
 pending_known P Q (e ∷ es) f h = record { one = λ q. f e.of (inl refl) (h.one q); rest = pending_known P Q es (λ o i. f o (inr i)) h.rest }
 
-present_in : (sites : List ClientSite) (n : ℕ) (site : ClientSite) (e : LeaseLife) → slice_get sites n ≡ Some site → Has e (lives_of site.node.state) → Has e (present_lives sites)
+present_in : (sites : List WorldClient) (n : ℕ) (site : WorldClient) (e : LeaseLife) → slice_get sites n ≡ Some site → Has e (lives_of site.node.state) → Has e (present_lives sites)
 unfolding present_lives
 present_in [] n site e q i = cc
-present_in (x ∷ sites) zero site e q i = front (lives_of x.node.state) (present_lives sites) (subst (λ (z : ClientSite). Has e (lives_of z.node.state)) (sym (some_is q)) i)
+present_in (x ∷ sites) zero site e q i = front (lives_of x.node.state) (present_lives sites) (subst (λ (z : WorldClient). Has e (lives_of z.node.state)) (sym (some_is q)) i)
   where
     front : (xs ys : List LeaseLife) → Has e xs → Has e (xs ++ ys)
     front [] ys i = absurd i
@@ -271,7 +271,7 @@ row_of w h o i b = go (h.known.owners o i) (ended_of w o.client o.file.server o.
     present : (ev.present_life w o.client o.file.server).0 ≡ o.life.0 → ended_of w o.client o.file.server o.life ≡ None → RowOf w o
     present q n = at_site o.client.0 refl (numbered w.clients o.client.0) refl (ap (end_or_present w o.client o.file.server) (sym n) ∙ b.is) q
       where
-        at_site : (j : ℕ) → o.client.0 ≡ j → (s : Option ClientSite) → numbered w.clients j ≡ s → world.present_end w o.file.server (numbered w.clients o.client.0) ≡ Some b.end → (ev.present_life w o.client o.file.server).0 ≡ o.life.0 → RowOf w o
+        at_site : (j : ℕ) → o.client.0 ≡ j → (s : Option WorldClient) → numbered w.clients j ≡ s → world.present_end w o.file.server (numbered w.clients o.client.0) ≡ Some b.end → (ev.present_life w o.client o.file.server).0 ≡ o.life.0 → RowOf w o
         at_site zero j s f e l = absurd (no_option b.end (ap (λ x. world.present_end w o.file.server (numbered w.clients x)) (sym j) ∙ e))
         at_site (suc k) j None f e l = absurd (no_option b.end (ap (world.present_end w o.file.server) (sym f) ∙ ap (λ x. world.present_end w o.file.server (numbered w.clients x)) (sym j) ∙ e))
         at_site (suc k) j (Some site) f e l = at (find (is_at o.file.server) site.node.state.associations) refl

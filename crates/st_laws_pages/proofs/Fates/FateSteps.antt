@@ -22,7 +22,7 @@ use Rattle.st_rules.specs.ClientLease as lease
 use Rattle.st_rules.specs.Client as cl
 use Rattle.st_rules.specs.ClientState.{Association, ClientState, ClientSession, is_at}
 use Rattle.st_rules.specs.World as world
-use Rattle.st_rules.specs.World.{World, ClientSite, numbered, with_numbered, site_of, clock_of, is_life_of, ended_of, end_or_present, lease_end_of}
+use Rattle.st_rules.specs.World.{World, WorldClient, numbered, with_numbered, site_of, clock_of, is_life_of, ended_of, end_or_present, lease_end_of}
 use Rattle.st_rules.specs.Events as ev
 use Rattle.st_rules.specs.Events.{WorldTurn, client_says, client_says_all, client_notes}
 use Rattle.st_lemmas.specs.Lists.{Has}
@@ -59,7 +59,7 @@ none_lost c s now k ts es n e h a l i f = go (find (is_life_of c a.server l) (ro
         absurd (clash (is_ended s.config now a.session) (ap (λ (x : Association). is_ended s.config now x.session) (sym same) ∙ w.ended) f)
 
 -- what is pending stays before its end, by the parts of a world
-module _ (w v : World) (c : ClientId) (old site : ClientSite) (there : site_of w c ≡ Some old) (h : LivesHold w) (ts : v.clocks ≡ w.clocks) (cs : v.clients ≡ with_numbered c.0 site w.clients)
+module _ (w v : World) (c : ClientId) (old site : WorldClient) (there : site_of w c ≡ Some old) (h : LivesHold w) (ts : v.clocks ≡ w.clocks) (cs : v.clients ≡ with_numbered c.0 site w.clients)
     (es : v.ended ≡ w.ended ++ rows_lost c old.node.state (clock_in w.clocks c) old.node.state.associations) (after : ClientState) (node : site.node.state ≡ after)
     (pairs : Rattle.st_laws_steps.specs.Lives.Lives.Pairwise (LifeNext (clock_in w.clocks c) old.node.state) old.node.state.associations after.associations) (config : old.node.state.config ≡ after.config) where
   abbrev rows : List LeaseLife
@@ -153,7 +153,7 @@ module _ (w v : World) (c : ClientId) (old site : ClientSite) (there : site_of w
           }
 
 -- a page that was changed is of a life before its end
-pub changed_before : (v : World) (c : ClientId) (site : ClientSite) (now : Stamp) → site_of v c ≡ Some site → site.node.running ≡ true → LivesHold v → clock_in v.clocks c ≡ now → (f : FileId) (p : PageNo) → IsChangedAt v.config now site.node.state.associations f p →
+pub changed_before : (v : World) (c : ClientId) (site : WorldClient) (now : Stamp) → site_of v c ≡ Some site → site.node.running ≡ true → LivesHold v → clock_in v.clocks c ≡ now → (f : FileId) (p : PageNo) → IsChangedAt v.config now site.node.state.associations f p →
     BeforeEnd v (log.owner c (ev.present_life v c f.server) f p)
 changed_before v c site now there r h t f p (a, i, z) =
     record {
@@ -190,7 +190,7 @@ one_pending P c before (outputs.Send m) sc n h = h
 one_pending P c before (outputs.Answer op a) sc n h = h
 one_pending P c before (outputs.Submit k at what) sc n h = go (site_of sc.world c)
   where
-    go : (o : Option ClientSite) → PendingAll P (ev.submits sc c o k at what).world.log
+    go : (o : Option WorldClient) → PendingAll P (ev.submits sc c o k at what).world.log
     go None = h
     go (Some site) = h
 one_pending P c before (outputs.Note m) sc n h = note m n

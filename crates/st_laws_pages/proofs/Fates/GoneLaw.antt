@@ -28,7 +28,7 @@ use Rattle.st_rules.specs.Client as cl
 use Rattle.st_rules.specs.ClientLease as lease
 use Rattle.st_rules.specs.ClientState.{Association, ClientState, ClientSession, is_at}
 use Rattle.st_rules.specs.World as world
-use Rattle.st_rules.specs.World.{World, ClientSite, numbered, with_numbered, site_of, clock_of, is_life_of, ended_of, end_or_present, lease_end_of, life_of_association, lives_of}
+use Rattle.st_rules.specs.World.{World, WorldClient, numbered, with_numbered, site_of, clock_of, is_life_of, ended_of, end_or_present, lease_end_of, life_of_association, lives_of}
 use Rattle.st_rules.specs.Admissible as adm
 use Rattle.st_rules.specs.Events as ev
 use Rattle.st_rules.specs.Events.{WorldTurn, client_says, client_says_all, client_notes, present_lives}
@@ -67,7 +67,7 @@ one_gone P c before (outputs.Send m) sc h = h
 one_gone P c before (outputs.Answer op a) sc h = h
 one_gone P c before (outputs.Submit k at what) sc h = go (site_of sc.world c)
   where
-    go : (o : Option ClientSite) → GoneAll P (ev.submits sc c o k at what).world.log
+    go : (o : Option WorldClient) → GoneAll P (ev.submits sc c o k at what).world.log
     go None = h
     go (Some site) = h
 one_gone P c before (outputs.Note m) sc h = note m
@@ -84,7 +84,7 @@ says_gone P c before [] sc h = h
 says_gone P c before (o ∷ os) sc h = says_gone P c before os (client_says sc c before o) (one_gone P c before o sc h)
 
 -- what is over stays so
-module _ (w v : World) (c : ClientId) (old site : ClientSite) (there : site_of w c ≡ Some old) (h : LivesHold w) (ts : v.clocks ≡ w.clocks) (cs : v.clients ≡ with_numbered c.0 site w.clients)
+module _ (w v : World) (c : ClientId) (old site : WorldClient) (there : site_of w c ≡ Some old) (h : LivesHold w) (ts : v.clocks ≡ w.clocks) (cs : v.clients ≡ with_numbered c.0 site w.clients)
     (es : v.ended ≡ w.ended ++ rows_lost c old.node.state (clock_in w.clocks c) old.node.state.associations) where
   abbrev rows : List LeaseLife
   rows = rows_lost c old.node.state (clock_in w.clocks c) old.node.state.associations
@@ -148,7 +148,7 @@ module _ (w v : World) (c : ClientId) (old site : ClientSite) (there : site_of w
             late = late_now o.client x.end x.late;
           }
 
-pub client_gone : (w : World) (c : ClientId) (old site : ClientSite) (t : cl.NodeTurn) → site_of w c ≡ Some old → old.node ≡ site.node → Stepped (clock_of w (nodes.Client c)) c old.node.state t.node.state t.out → LivesHold w → GoneHold w → GoneHold (ev.client_took w c site (Ok t)).world
+pub client_gone : (w : World) (c : ClientId) (old site : WorldClient) (t : cl.NodeTurn) → site_of w c ≡ Some old → old.node ≡ site.node → Stepped (clock_of w (nodes.Client c)) c old.node.state t.node.state t.out → LivesHold w → GoneHold w → GoneHold (ev.client_took w c site (Ok t)).world
 unfolding ev.client_took
 client_gone w c old site t there same st h g =
     subst (GoneAll (Over v)) (sym fl.log)
@@ -270,7 +270,7 @@ pending_crashed w h o e q b = go e.crashed refl
         absurd (omega (arith, t, n, lt))
 
 -- Crash.
-crash_over : (w : World) (c : ClientId) (site : ClientSite) → site_of w c ≡ Some site → LivesHold w → (o : LogOwner) → IsKnown w.clients w.ended o.client o.file.server o.life → Over w o ⊎ ((o.client.0 ≡ c.0) × BeforeEnd w o) →
+crash_over : (w : World) (c : ClientId) (site : WorldClient) → site_of w c ≡ Some site → LivesHold w → (o : LogOwner) → IsKnown w.clients w.ended o.client o.file.server o.life → Over w o ⊎ ((o.client.0 ≡ c.0) × BeforeEnd w o) →
     Over (ev.with_site c (ev.stopped_site site) (ev.with_crashed_lives site w)) o
 crash_over w c site there h o kn x = go (ended_of w o.client o.file.server o.life) refl x
   where
@@ -312,7 +312,7 @@ crash_over w c site there h o kn x = go (ended_of w o.client o.file.server o.lif
     go None q (inr (i, b)) = present i q b.end b.is
 
 -- Start.
-pub start_over : (w : World) (c : ClientId) (site : ClientSite) → site_of w c ≡ Some site → site.node.running ≡ false → LivesHold w → (o : LogOwner) → Over w o → Over (ev.with_site c (ev.started_site site) w) o
+pub start_over : (w : World) (c : ClientId) (site : WorldClient) → site_of w c ≡ Some site → site.node.running ≡ false → LivesHold w → (o : LogOwner) → Over w o → Over (ev.with_site c (ev.started_site site) w) o
 start_over w c site there r h o (inl z) = inl (record { row = z.row; is = z.is; crashed = z.crashed })
 start_over w c site there r h o (inr b) = inr (record { end = b.end; is = end_started w c site there r h o b.end b.is; late = b.late })
 
@@ -327,7 +327,7 @@ owner_has [] e i = absurd i
 owner_has (x ∷ es) e (inl q) = inl (ap owner_of q)
 owner_has (x ∷ es) e (inr i) = inr (owner_has es e i)
 
-pub crash_gone : (w : World) (c : ClientId) (site : ClientSite) → site_of w c ≡ Some site → LivesHold w → FatesAreKept w → GoneHold w → GoneHold (ev.crashes_client w c (Some site)).world
+pub crash_gone : (w : World) (c : ClientId) (site : WorldClient) → site_of w c ≡ Some site → LivesHold w → FatesAreKept w → GoneHold w → GoneHold (ev.crashes_client w c (Some site)).world
 unfolding ev.crashes_client ev.marks ev.log_crashed log.drop_picked
 crash_gone w c site e l f h =
     gone_known (Over v) (Over (ev.with_log (log.drop_from 1 (ev.is_of_crashed w c) (log.always causes.Crash) w.log) v)) (log.drop_from 1 (ev.is_of_crashed w c) (log.always causes.Crash) w.log)

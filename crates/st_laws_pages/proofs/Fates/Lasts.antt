@@ -14,12 +14,12 @@ use Rattle.st_rules.specs.FlatLog as log
 use Rattle.st_rules.specs.Disks.{Disks}
 use Rattle.st_rules.specs.Client as cl
 use Rattle.st_rules.specs.Server.{ServerNode}
-use Rattle.st_rules.specs.World.{World, ClientSite, Net, Tally, site_of}
+use Rattle.st_rules.specs.World.{World, WorldClient, Net, Tally, site_of}
 use Rattle.st_rules.specs.Admissible as adm
 use Rattle.st_rules.specs.Events as ev
 use Rattle.st_laws_pages.specs.Fates.Fates.{PendingAll, BeforeEnd, RowOf}
 use Rattle.st_laws_steps.specs.Lives.Lives.{AllKnown, owner_of}
-use Rattle.st_laws_pages.specs.Disks.Owed.{FatesHold}
+use Rattle.st_laws_pages.specs.Disks.Obligations.{FatesHold}
 use Rattle.st_laws_pages.proofs.Lives.Each.{Besides, SteppedNode, Cases, each_event}
 use Rattle.st_laws_pages.proofs.Fates.Fates.{pending_map, advance_fates}
 use Rattle.st_laws_pages.proofs.Fates.FateSteps.{pending_more}
@@ -69,7 +69,7 @@ hard_fates w x h =
       gone = gone_hard (Over _) w.log x (gone_known (Over w) (Over _) w.log (λ o i z. logged_over w (ev.log_hard w.log x) o z) h.gone);
     }
 
-client_all : (w : World) (c : ClientId) (input : ClientInput) (old site : ClientSite) → site_of w c ≡ Some old → old.node ≡ site.node → site.node.running ≡ true → FatesHold w → FatesHold (ev.client_took w c site (Ok (SteppedNode w c site input))).world
+client_all : (w : World) (c : ClientId) (input : ClientInput) (old site : WorldClient) → site_of w c ≡ Some old → old.node ≡ site.node → site.node.running ≡ true → FatesHold w → FatesHold (ev.client_took w c site (Ok (SteppedNode w c site input))).world
 client_all w c input old site there same r h =
     record {
       lives = client_lives w c old site (SteppedNode w c site input) there same (ap (λ (n : cl.ClientNode). n.running) same ∙ r) r (steps_so w c old site input there same h.lives) h.lives;
@@ -77,7 +77,7 @@ client_all w c input old site there same r h =
       gone = client_gone w c old site (SteppedNode w c site input) there same (steps_so w c old site input there same h.lives) h.lives h.gone;
     }
 
-crash_pending : (w : World) (c : ClientId) (site : ClientSite) → site_of w c ≡ Some site → FatesHold w → PendingAll (BeforeEnd (ev.crashes_client w c (Some site)).world) (ev.crashes_client w c (Some site)).world.log
+crash_pending : (w : World) (c : ClientId) (site : WorldClient) → site_of w c ≡ Some site → FatesHold w → PendingAll (BeforeEnd (ev.crashes_client w c (Some site)).world) (ev.crashes_client w c (Some site)).world.log
 unfolding ev.crashes_client ev.marks ev.log_crashed log.drop_picked
 crash_pending w c site there h =
     pending_map (BeforeEnd v) (BeforeEnd _) _ (λ o b. record { end = b.end; is = b.is; before = b.before })
@@ -87,7 +87,7 @@ crash_pending w c site there h =
     v : World
     v = ev.with_site c (ev.stopped_site site) (ev.with_crashed_lives site w)
 
-start_all : (w : World) (c : ClientId) (site : ClientSite) → site_of w c ≡ Some site → site.node.running ≡ false → FatesHold w → FatesHold (ev.starts_client w c (Some site))
+start_all : (w : World) (c : ClientId) (site : WorldClient) → site_of w c ≡ Some site → site.node.running ≡ false → FatesHold w → FatesHold (ev.starts_client w c (Some site))
 unfolding ev.starts_client
 start_all w c site there r h =
     record {

@@ -19,12 +19,12 @@ use Rattle.st_rules.specs.Client as cl
 use Rattle.st_rules.specs.ClientLease as lease
 use Rattle.st_rules.specs.ClientState.{Association, ClientState, ClientSession, is_at}
 use Rattle.st_rules.specs.World as world
-use Rattle.st_rules.specs.World.{World, ClientSite, numbered, site_of, clock_of, ended_of, end_or_present, life_of_association, lives_of, life_with}
+use Rattle.st_rules.specs.World.{World, WorldClient, numbered, site_of, clock_of, ended_of, end_or_present, life_of_association, lives_of, life_with}
 use Rattle.st_rules.specs.Events as ev
 use Rattle.st_lemmas.specs.Lists.{Has}
 use Rattle.st_lemmas.proofs.Tables.{some_passes, has_map}
 use Rattle.st_laws_pages.specs.Drops.Causes.{CrashOwes, LivesOwe}
-use Rattle.st_laws_pages.specs.Disks.Owed.{FatesHold}
+use Rattle.st_laws_pages.specs.Disks.Obligations.{FatesHold}
 use Rattle.st_laws_pages.specs.Fates.Fates.{PendingAll, BeforeEnd}
 use Rattle.st_laws_steps.specs.Client.Losses.{is_ended}
 use Rattle.st_laws_steps.specs.Lives.Lives.{LifeNext, Stepped, clock_in, IsKnown, NodeHolds, owner_of, LivesHold}
@@ -56,7 +56,7 @@ crash_owes w c h = go w.log h.pending (λ o i. h.lives.known.owners o i)
     go (e ∷ es) p k = record { one = λ t q. one e.of (k e.of (inl refl)) (p.one q) t; rest = go es p.rest (λ o i. k o (inr i)) }
 
 -- The present lives of a client are what is looked up.
-pub lives_owe : (w : World) (c : ClientId) (site : ClientSite) → site_of w c ≡ Some site → FatesHold w → LivesOwe w c (lives_of site.node.state)
+pub lives_owe : (w : World) (c : ClientId) (site : WorldClient) → site_of w c ≡ Some site → FatesHold w → LivesOwe w c (lives_of site.node.state)
 lives_owe w c site there h = go (lives_of site.node.state) (λ e i. has_map (life_of_association site.node.state.config site.node.state.id) site.node.state.associations e i)
   where
     m : NodeHolds w.config w.clocks w.ended c site.node
@@ -76,7 +76,7 @@ lives_owe w c site there h = go (lives_of site.node.state) (λ e i. has_map (lif
         }
 
 -- A life that is over is none of the lives of a client's node behind its step.
-pub over_apart : (w : World) (c : ClientId) (old : ClientSite) (after : ClientState) (out : List Output) → site_of w c ≡ Some old → old.node.running ≡ true → Stepped (clock_of w (nodes.Client c)) c old.node.state after out → LivesHold w →
+pub over_apart : (w : World) (c : ClientId) (old : WorldClient) (after : ClientState) (out : List Output) → site_of w c ≡ Some old → old.node.running ≡ true → Stepped (clock_of w (nodes.Client c)) c old.node.state after out → LivesHold w →
     (o : LogOwner) → IsKnown w.clients w.ended o.client o.file.server o.life → Over w o → o.client.0 ≡ c.0 → (life_with after o.file.server).0 ≡ o.life.0 → ⊥
 over_apart w c old after out there r st h o kn ov i l = go (find (is_at o.file.server) after.associations) refl
   where

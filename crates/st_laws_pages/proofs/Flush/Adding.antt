@@ -14,7 +14,7 @@ use Rattle.st_rules.specs.declared.world.IssuedCommand.{IssuedCommand}
 use Rattle.st_rules.specs.FlatLog as log
 use Rattle.st_rules.specs.Disks as disks
 use Rattle.st_rules.specs.ClientState.{ClientState}
-use Rattle.st_rules.specs.World.{ClientSite, numbered, site_of}
+use Rattle.st_rules.specs.World.{WorldClient, numbered, site_of}
 use Rattle.st_rules.specs.Events as ev
 use Rattle.st_rules.specs.Events.{WorldTurn, client_says, client_says_all, client_notes}
 use Rattle.st_lemmas.proofs.Numbers.{numbered_old}
@@ -95,7 +95,7 @@ after_numbered c before (o ∷ os) sc k x i = after_numbered c before os (client
     note (notes.Lost s life) = i
     note n = i
 
-    submit : (number : ℕ) (at : BlockAt) (what : Command) (s : Option ClientSite) → numbered (ev.submits sc c s number at what).world.commands k ≡ Some x
+    submit : (number : ℕ) (at : BlockAt) (what : Command) (s : Option WorldClient) → numbered (ev.submits sc c s number at what).world.commands k ≡ Some x
     submit number at what None = i
     submit number at what (Some site) = numbered_old sc.world.commands _ k x i
 
@@ -120,7 +120,7 @@ after_disk c before (o ∷ os) sc k x i = after_disk c before os (client_says sc
     note (notes.Lost s life) = i
     note n = i
 
-    submit : (number : ℕ) (at : BlockAt) (what : Command) (s : Option ClientSite) → disks.command_at (ev.submits sc c s number at what).world.disks.commands k ≡ Some x
+    submit : (number : ℕ) (at : BlockAt) (what : Command) (s : Option WorldClient) → disks.command_at (ev.submits sc c s number at what).world.disks.commands k ≡ Some x
     submit number at what None = i
     submit number at what (Some site) = at_old sc.world.disks.commands _ k x i
 

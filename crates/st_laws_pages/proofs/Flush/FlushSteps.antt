@@ -12,7 +12,7 @@ use Rattle.st_rules.specs.declared.world.FlushStep.{FlushStep}
 use Rattle.st_rules.specs.declared.world.IssuedCommand.{IssuedCommand}
 use Rattle.st_rules.specs.FlatLog as log
 use Rattle.st_rules.specs.ClientLease as lease
-use Rattle.st_rules.specs.World.{World, ClientSite, numbered}
+use Rattle.st_rules.specs.World.{World, WorldClient, numbered}
 use Rattle.st_rules.specs.Events.{latest}
 use Rattle.st_rules.specs.Safety.{Step, reports_failure}
 use Rattle.st_lemmas.specs.Lists.{Has}
@@ -29,7 +29,7 @@ unfolding latest
 latest_owners c f p es fs e = latest_same 1 0 c f p es fs e
 
 -- What stands of a client that runs, behind more steps and with other fates.
-pub node_fates : (past more : List Step) (cs : List IssuedCommand) (es fs : List LogEntry) (c : ClientId) (site : ClientSite) → ((n : ℕ) → list_any (reports_failure n) past ≡ true → list_any (reports_failure n) more ≡ true) →
+pub node_fates : (past more : List Step) (cs : List IssuedCommand) (es fs : List LogEntry) (c : ClientId) (site : WorldClient) → ((n : ℕ) → list_any (reports_failure n) past ≡ true → list_any (reports_failure n) more ≡ true) →
     ((f : FileId) (p : PageNo) → latest fs c f p ≡ latest es c f p) → ((P : LogOwner → Type 0) → PendingAll P es → PendingAll P fs) → NodeCared past cs es c site → NodeCared more cs fs c site
 node_fates past more cs es fs c site up same fewer h =
     record { cared = λ a i. cared_fates past more cs es fs c site.starts site.node.state.next_command a up same (fewer (DirtyHere c a)) (h.cared a i); apart = h.apart; numbers = h.numbers }
@@ -46,7 +46,7 @@ moved_flush past more w v k ts cs xs fl ns up same fewer h =
       servers = λ c site e a i. let z = h.servers c site (old c site e) a i in (z.0, subst (λ n. a.server.0 ≤ n) (sym ns) z.1);
     }
   where
-    old : (c : ClientId) (site : ClientSite) → numbered v.clients c.0 ≡ Some site → numbered w.clients c.0 ≡ Some site
+    old : (c : ClientId) (site : WorldClient) → numbered v.clients c.0 ≡ Some site → numbered w.clients c.0 ≡ Some site
     old c site e = ap (λ zs. numbered zs c.0) (sym cs) ∙ e
 
     right : (x : FlushStep) → FlushRight w x → FlushRight v x

@@ -19,7 +19,7 @@ use Rattle.st_rules.specs.Client as cl
 use Rattle.st_rules.specs.ClientState as state
 use Rattle.st_rules.specs.ClientState.{Association, ClientState, ClientSession, ClientTurn, Turn, client_turn, is_at}
 use Rattle.st_rules.specs.World as world
-use Rattle.st_rules.specs.World.{World, ClientSite, numbered, site_of}
+use Rattle.st_rules.specs.World.{World, WorldClient, numbered, site_of}
 use Rattle.st_rules.specs.Events as ev
 use Rattle.st_rules.specs.Events.{WorldTurn}
 use Rattle.st_rules.specs.Safety.{Step}
@@ -45,7 +45,7 @@ pair_of R (x ∷ al) (y ∷ bl) p b (inl e) = (x, inl refl, subst (R x) (sym e) 
 pair_of R (x ∷ al) (y ∷ bl) p b (inr h) = let z = pair_of R al bl p.rest b h in (z.0, inr z.1, z.2)
 
 -- nothing of a life that is still to come is in the log
-pub none_next : (w : World) (c : ClientId) (site : ClientSite) → numbered w.clients c.0 ≡ Some site → LivesHold w → (a : Association) → Has a site.node.state.associations → (o : LogOwner) → Has o (map owner_of w.log) → o.client ≡ c → o.file.server ≡ a.server → o.life.0 ≡ a.life.0 + 1 → ⊥
+pub none_next : (w : World) (c : ClientId) (site : WorldClient) → numbered w.clients c.0 ≡ Some site → LivesHold w → (a : Association) → Has a site.node.state.associations → (o : LogOwner) → Has o (map owner_of w.log) → o.client ≡ c → o.file.server ≡ a.server → o.life.0 ≡ a.life.0 + 1 → ⊥
 none_next w c site there h a i o j e f l = go (h.known.owners o j)
   where
     m : NodeHolds w.config w.clocks w.ended c site.node
@@ -65,7 +65,7 @@ none_next w c site there h a i o j e f l = go (h.known.owners o j)
         omega (arith, y, q, l)
 
 -- an association in its next life, with nothing, has nothing to care for
-pub emptied_cared : (past : List Step) (w : World) (c : ClientId) (site : ClientSite) (starts next : ℕ) → numbered w.clients c.0 ≡ Some site → LivesHold w → (a b : Association) → Has a site.node.state.associations → a.server ≡ b.server → cl.next_life a.life ≡ b.life → b.store ≡ pages.empty_store →
+pub emptied_cared : (past : List Step) (w : World) (c : ClientId) (site : WorldClient) (starts next : ℕ) → numbered w.clients c.0 ≡ Some site → LivesHold w → (a b : Association) → Has a site.node.state.associations → a.server ≡ b.server → cl.next_life a.life ≡ b.life → b.store ≡ pages.empty_store →
     Cared past w.commands w.log c starts next b
 emptied_cared past w c site starts next there h a b i sv lf st =
     record {
@@ -119,7 +119,7 @@ pub record FlushedBy (k : Config) (now : Stamp) (b : Association) : Type 0 where
   pub covered : (s : ClientSession) → b.session ≡ Some s → lease.may_drain (lease.standing_of k s.lease now) ≡ true → Covered b
 
 -- A whole step.
-module _ (past : List Step) (w : World) (c : ClientId) (old site : ClientSite) (input : ClientInput) (now : Stamp) (there : site_of w c ≡ Some old) (same : old.node ≡ site.node) (starts : old.starts ≡ site.starts) (h : LivesHold w) where
+module _ (past : List Step) (w : World) (c : ClientId) (old site : WorldClient) (input : ClientInput) (now : Stamp) (there : site_of w c ≡ Some old) (same : old.node ≡ site.node) (starts : old.starts ≡ site.starts) (h : LivesHold w) where
   abbrev s : ClientState
   s = site.node.state
 
@@ -147,8 +147,8 @@ module _ (past : List Step) (w : World) (c : ClientId) (old site : ClientSite) (
 
   going_v : (a : Association) → Has a v.state.associations → is_ended s.config now a.session ≡ false
   going_v =
-      pairs_has (Goes u.state.config now) (λ b. is_ended s.config now b.session ≡ false) (λ b. is_ended s.config now b.session ≡ false) (λ a b. going_on u.state.config a b (sym (phases.lost.config ∙ phases.heard.config))) u.state.associations v.state.associations phases.worked.pairs
-      (pairs_has (Goes t.state.config now) (λ b. is_ended s.config now b.session ≡ false) (λ b. is_ended s.config now b.session ≡ false) (λ a b. going_on t.state.config a b (sym phases.lost.config)) t.state.associations u.state.associations phases.heard.pairs going_t)
+      pairs_has (Goes u.state.config now) (λ b. is_ended s.config now b.session ≡ false) (λ b. is_ended s.config now b.session ≡ false) (λ a b. going_on u.state.config a b (sym (phases.lost.config ∙ phases.received.config))) u.state.associations v.state.associations phases.worked.pairs
+      (pairs_has (Goes t.state.config now) (λ b. is_ended s.config now b.session ≡ false) (λ b. is_ended s.config now b.session ≡ false) (λ a b. going_on t.state.config a b (sym phases.lost.config)) t.state.associations u.state.associations phases.received.pairs going_t)
 
   abbrev NoneLost : Association → List LeaseLife
   NoneLost a = []
@@ -163,7 +163,7 @@ module _ (past : List Step) (w : World) (c : ClientId) (old site : ClientSite) (
       (λ x e f. record { one = λ y q d. passes_cover now (cl.is_tick input) x f y q (ap (λ k. lease.may_drain (lease.standing_of k y.lease now)) e ∙ d); said = refl }) phases.fit_too
 
   pub step_flushed : (b : Association) → Has b v.state.associations → FlushedBy s.config now b
-  step_flushed b i = record { going = going_v b i; covered = λ x q d. covered b i x q (ap (λ k. lease.may_drain (lease.standing_of k x.lease now)) (sym (phases.lost.config ∙ phases.heard.config)) ∙ d) }
+  step_flushed b i = record { going = going_v b i; covered = λ x q d. covered b i x q (ap (λ k. lease.may_drain (lease.standing_of k x.lease now)) (sym (phases.lost.config ∙ phases.received.config)) ∙ d) }
     where
       covered : (b : Association) → Has b v.state.associations → (x : ClientSession) → b.session ≡ Some x → lease.may_drain (lease.standing_of u.state.config x.lease now) ≡ true → Covered b
       covered = pairs_has Covers Fit (λ b. (x : ClientSession) → b.session ≡ Some x → lease.may_drain (lease.standing_of u.state.config x.lease now) ≡ true → Covered b) (λ a b r f. r) u.state.associations v.state.associations covers.pairs phases.fit_too

@@ -23,18 +23,18 @@ use Rattle.st_rules.specs.History.{Traced, traced, traced_after}
 use Rattle.st_rules.specs.Safety as safety
 use Rattle.st_rules.specs.Safety.{Promise, Step, Throughout, step, steps}
 use Rattle.st_rules.specs.World as world
-use Rattle.st_rules.specs.World.{World, ClientSite, clock_of, fresh_world, numbered, site_of, with_numbered}
+use Rattle.st_rules.specs.World.{World, WorldClient, clock_of, fresh_world, numbered, site_of, with_numbered}
 use Rattle.st_lemmas.specs.Lists.{Has}
 use Rattle.st_lemmas.proofs.Lookups.{some_is}
 use Rattle.st_lemmas.proofs.Numbers.{numbered_below, numbered_other, numbered_own}
 use Rattle.st_lemmas.proofs.Steps.{step_happens}
 use Rattle.st_lemmas.proofs.Tables.{has_map, same_or_not}
 use Rattle.st_laws_steps.specs.Client.Losses.{Fit, SessionFresh}
-use Rattle.st_laws_steps.specs.Client.Taking.{Each}
+use Rattle.st_laws_steps.specs.Client.Inputs.{Each}
 use Rattle.st_laws_steps.proofs.Client.Asking.{c_passes}
 use Rattle.st_laws_steps.proofs.Client.Losing.{c_only, lose_is}
 use Rattle.st_laws_steps.proofs.Client.Nexts.{changes_next}
-use Rattle.st_laws_steps.proofs.Client.Replying.{c_hear}
+use Rattle.st_laws_steps.proofs.Client.Replying.{c_receive}
 use Rattle.st_laws_steps.proofs.Client.Stepping.{finish_next, lost_fit}
 use Rattle.st_laws_steps.proofs.Client.Taking.{each, each_taken, taken}
 use Rattle.st_laws_pages.proofs.Flush.Adding.{after_clients}
@@ -65,7 +65,7 @@ fresh_fit n = none_fit (cl.fresh_association n) refl refl
 
 module _ (F : Association → Type 0) (empty : (a : Association) → a.session ≡ None → a.store ≡ pages.empty_store → F a)
     (k_take : (s : ServerId) (op : ℕ) (ask : Ask) (t : Turn) → F t.here → F (only_at s (cl.take_ask op ask) t).here)
-    (k_hear : (now : Stamp) (h : Header) (b : Body) (t : Turn) → Fit t.here → F t.here → F (cr.receive_at now h b t).here)
+    (k_receive : (now : Stamp) (h : Header) (b : Body) (t : Turn) → Fit t.here → F t.here → F (cr.receive_at now h b t).here)
     (k_finish : (number : ℕ) (r : Option (Option (Tag × List ℕ))) (t : Turn) → F t.here → F (cl.finish number r t).here)
     (k_lose : (now : Stamp) (t : Turn) → F t.here → F (cl.lose now t).here)
     (k_passes : (now : Stamp) (tick : Bool) (t : Turn) → F t.here → F (cp.passes now tick t).here) where
@@ -79,11 +79,11 @@ module _ (F : Association → Type 0) (empty : (a : Association) → a.session �
 
   -- of each client of a world
   abbrev pub AllHave : World → Type 0
-  AllHave w = (c : ClientId) (site : ClientSite) → site_of w c ≡ Some site → EachHas site.node.state.associations
+  AllHave w = (c : ClientId) (site : WorldClient) → site_of w c ≡ Some site → EachHas site.node.state.associations
 
   -- behind a step
   abbrev pub HaveAfter : Promise
-  HaveAfter past x = (c : ClientId) (site : ClientSite) → site_of x.after.world c ≡ Some site → (a : Association) → Has a site.node.state.associations → F a
+  HaveAfter past x = (c : ClientId) (site : WorldClient) → site_of x.after.world c ≡ Some site → (a : Association) → Has a site.node.state.associations → F a
 
   abbrev K : Turn → Turn → Type 0
   K t u = H t.here → H u.here
@@ -91,8 +91,8 @@ module _ (F : Association → Type 0) (empty : (a : Association) → a.session �
   h_take : (s : ServerId) (op : ℕ) (ask : Ask) (t : Turn) → K t (only_at s (cl.take_ask op ask) t)
   h_take s op ask t (f, h) = let now : Stamp = record { 0 = 0 } in ((changes_next now t (only_at s (cl.take_ask op ask) t) (c_only now s op ask t)).fit f, k_take s op ask t h)
 
-  h_hear : (now : Stamp) (m : Header) (b : Body) (t : Turn) → K t (cr.receive_at now m b t)
-  h_hear now m b t (f, h) = ((changes_next now t (cr.receive_at now m b t) (c_hear now m b t f.fresh)).fit f, k_hear now m b t f h)
+  h_receive : (now : Stamp) (m : Header) (b : Body) (t : Turn) → K t (cr.receive_at now m b t)
+  h_receive now m b t (f, h) = ((changes_next now t (cr.receive_at now m b t) (c_receive now m b t f.fresh)).fit f, k_receive now m b t f h)
 
   h_finish : (number : ℕ) (r : Option (Option (Tag × List ℕ))) (t : Turn) → K t (cl.finish number r t)
   h_finish number r t (f, h) = ((finish_next (record { 0 = 0 }) number r t).fit f, k_finish number r t h)
@@ -108,22 +108,22 @@ module _ (F : Association → Type 0) (empty : (a : Association) → a.session �
   step_keeps s now input h =
       let t = cl.losses (client_turn s []) now in
       each H H (cp.passes now (cl.is_tick input)) (h_passes now (cl.is_tick input)) (cl.take_input t now input)
-      (each_taken H (λ m a. Unit {0}) now h_take (λ m u p q. h_hear now m.header m.body u p) h_finish t (cl.take_input t now input) input (taken t now input) (λ m e b a i. tt) (each H H (cl.lose now) (h_lose now) (client_turn s []) h))
+      (each_taken H (λ m a. Unit {0}) now h_take (λ m u p q. h_receive now m.header m.body u p) h_finish t (cl.take_input t now input) input (taken t now input) (λ m e b a i. tt) (each H H (cl.lose now) (h_lose now) (client_turn s []) h))
 
   all_empty : {A : Type 0} (f : A → Association) → ((x : A) → Fit (f x) × ((f x).session ≡ None) × ((f x).store ≡ pages.empty_store)) → (xs : List A) → EachHas (map f xs)
   all_empty f n xs a i = let z = has_map f xs a i in let y = n z.0 in subst H (sym z.2) (y.0, empty (f z.0) y.1 y.2)
 
   -- One client is another.
-  replaced : (w v : World) (c : ClientId) (old new : ClientSite) → site_of w c ≡ Some old → v.clients ≡ with_numbered c.0 new w.clients → EachHas new.node.state.associations → AllHave w → AllHave v
+  replaced : (w v : World) (c : ClientId) (old new : WorldClient) → site_of w c ≡ Some old → v.clients ≡ with_numbered c.0 new w.clients → EachHas new.node.state.associations → AllHave w → AllHave v
   replaced w v c old new there cs n h d site e = go (same_or_not d.0 c.0)
     where
       go : (d.0 ≡ c.0) ⊎ (d.0 ≢ c.0) → EachHas site.node.state.associations
       go (inl i) =
           let s : new ≡ site = some_is (sym (numbered_own w.clients c.0 new old there) ∙ ap (numbered (with_numbered c.0 new w.clients)) (sym i) ∙ ap (λ zs. numbered zs d.0) (sym cs) ∙ e) in
-          subst (λ (z : ClientSite). EachHas z.node.state.associations) s n
+          subst (λ (z : WorldClient). EachHas z.node.state.associations) s n
       go (inr m) = h d site (sym (numbered_other w.clients c.0 d.0 new (numbered_below w.clients c.0 old there).0 m) ∙ ap (λ zs. numbered zs d.0) (sym cs) ∙ e)
 
-  took : (w : World) (c : ClientId) (input : ClientInput) (old site : ClientSite) → site_of w c ≡ Some old → old.node ≡ site.node → AllHave w → AllHave (ev.client_took w c site (Ok (SteppedNode w c site input))).world
+  took : (w : World) (c : ClientId) (input : ClientInput) (old site : WorldClient) → site_of w c ≡ Some old → old.node ≡ site.node → AllHave w → AllHave (ev.client_took w c site (Ok (SteppedNode w c site input))).world
   unfolding ev.client_took
   took w c input old site there same h =
       replaced w (ev.flushes c t.node.state (world.all_servers u) u) c old after there ((flush_parts c t.node.state (world.all_servers u) u).clients ∙ after_clients c site.node.state t.out (ev.quiet (ev.with_site c after w)))
@@ -132,17 +132,17 @@ module _ (F : Association → Type 0) (empty : (a : Association) → a.session �
       t : cl.NodeTurn
       t = SteppedNode w c site input
 
-      after : ClientSite
+      after : WorldClient
       after = ev.at_node t.node site
 
       u : World
       u = (ev.client_says_all c site.node.state t.out (ev.quiet (ev.with_site c after w))).world
 
-  crashed : (w : World) (c : ClientId) (site : ClientSite) → site_of w c ≡ Some site → AllHave w → AllHave (ev.crashes_client w c (Some site)).world
+  crashed : (w : World) (c : ClientId) (site : WorldClient) → site_of w c ≡ Some site → AllHave w → AllHave (ev.crashes_client w c (Some site)).world
   unfolding ev.crashes_client ev.marks cl.crash
   crashed w c site there h = replaced w (ev.crashes_client w c (Some site)).world c site (ev.stopped_site site) there refl (all_empty cl.crashed_association (λ a. (crashed_fit a, refl, refl)) site.node.state.associations) h
 
-  started : (w : World) (c : ClientId) (site : ClientSite) → site_of w c ≡ Some site → AllHave w → AllHave (ev.starts_client w c (Some site))
+  started : (w : World) (c : ClientId) (site : WorldClient) → site_of w c ≡ Some site → AllHave w → AllHave (ev.starts_client w c (Some site))
   unfolding ev.starts_client cl.start
   started w c site there h = replaced w (ev.starts_client w c (Some site)) c site (ev.started_site site) there refl (all_empty cl.started_association (λ a. (started_fit a, refl, refl)) site.node.state.associations) h
 
@@ -170,9 +170,9 @@ module _ (F : Association → Type 0) (empty : (a : Association) → a.session �
       all : (w : World) (e : Event) → adm.refusal w e ≡ None → AllHave w → AllHave (ev.happens (counted w) e).world
       all w e r h = each_event (λ c. Unit {0}) AllHave cases (counted w) e (λ c q. tt) r h
 
-  pub event_keeps : (w : World) (e : Event) (sc : WorldTurn) → world_step w e ≡ Ok sc → ((c : ClientId) (site : ClientSite) → site_of w c ≡ Some site → (a : Association) → Has a site.node.state.associations → Fit a) →
-      ((c : ClientId) (site : ClientSite) → site_of w c ≡ Some site → (a : Association) → Has a site.node.state.associations → F a) →
-      (c : ClientId) (site : ClientSite) → site_of sc.world c ≡ Some site → (a : Association) → Has a site.node.state.associations → F a
+  pub event_keeps : (w : World) (e : Event) (sc : WorldTurn) → world_step w e ≡ Ok sc → ((c : ClientId) (site : WorldClient) → site_of w c ≡ Some site → (a : Association) → Has a site.node.state.associations → Fit a) →
+      ((c : ClientId) (site : WorldClient) → site_of w c ≡ Some site → (a : Association) → Has a site.node.state.associations → F a) →
+      (c : ClientId) (site : WorldClient) → site_of sc.world c ≡ Some site → (a : Association) → Has a site.node.state.associations → F a
   event_keeps w e sc is f h c site q a i = (event_have w e sc is (λ c site q a i. (f c site q a i, h c site q a i)) c site q a i).1
 
   -- Every run.
@@ -188,9 +188,9 @@ module _ (F : Association → Type 0) (empty : (a : Association) → a.session �
   fresh_have : (k : Config) (clients servers d b form : ℕ) → AllHave (fresh_world k clients servers d b form)
   unfolding fresh_world cl.fresh_client
   fresh_have k clients servers d b form c site e =
-      subst (λ (s : ClientSite). EachHas s.node.state.associations) (sym (site_is k clients servers c.0 site e).0) (all_empty cl.fresh_association (λ a. (fresh_fit a, refl, refl)) (numbers 1 servers))
+      subst (λ (s : WorldClient). EachHas s.node.state.associations) (sym (site_is k clients servers c.0 site e).0) (all_empty cl.fresh_association (λ a. (fresh_fit a, refl, refl)) (numbers 1 servers))
 
-  pub fresh_all : (k : Config) (clients servers d b form : ℕ) (c : ClientId) (site : ClientSite) → site_of (fresh_world k clients servers d b form) c ≡ Some site → (a : Association) → Has a site.node.state.associations → F a
+  pub fresh_all : (k : Config) (clients servers d b form : ℕ) (c : ClientId) (site : WorldClient) → site_of (fresh_world k clients servers d b form) c ≡ Some site → (a : Association) → Has a site.node.state.associations → F a
   fresh_all k clients servers d b form c site e a i = (fresh_have k clients servers d b form c site e a i).1
 
   pub law : (k : Config) (clients servers disks blocks form : ℕ) (es : List Event) → Throughout HaveAfter [] (steps es (traced (fresh_world k clients servers disks blocks form)))

@@ -28,7 +28,7 @@ use Rattle.st_rules.specs.Client as cl
 use Rattle.st_rules.specs.Server as server
 use Rattle.st_rules.specs.Server.{ServerNode}
 use Rattle.st_rules.specs.World as world
-use Rattle.st_rules.specs.World.{World, ClientSite, Net, Tally, site_of, node_of, issued_of, clock_of}
+use Rattle.st_rules.specs.World.{World, WorldClient, Net, Tally, site_of, node_of, issued_of, clock_of}
 use Rattle.st_rules.specs.Admissible as adm
 use Rattle.st_rules.specs.Events as ev
 use Rattle.st_rules.specs.Events.{WorldTurn}
@@ -40,7 +40,7 @@ abbrev pub Besides : World → Net → List ServerNode → Disks → Tally → W
 Besides w n s d t = record w { net = n; servers = s; disks = d; tally = t }
 
 -- the step of a client's node
-abbrev pub SteppedNode : World → ClientId → ClientSite → ClientInput → cl.NodeTurn
+abbrev pub SteppedNode : World → ClientId → WorldClient → ClientInput → cl.NodeTurn
 SteppedNode w c site input = cl.node_turn site.node (cl.client_step site.node.state (clock_of w (nodes.Client c)) input)
 
 -- The cases: Crash says which crashes of clients there are.
@@ -48,13 +48,13 @@ pub record Cases (Crash : ClientId → Type 0) (I : World → Type 0) : Type 0 w
   pub besides : (w : World) (n : Net) (s : List ServerNode) (d : Disks) (t : Tally) → GoesOn w.disks.commands d.commands → I w → I (Besides w n s d t)
   pub cut : (w : World) (f : FileId) (p : PageNo) → I w → I (ev.with_log (w.log ++ log.hard_cut f p ∷ []) w)
   pub hard : (w : World) (x : Option Carried) → I w → I (ev.with_log (ev.log_hard w.log x) w)
-  pub client : (w : World) (c : ClientId) (input : ClientInput) (old site : ClientSite) → site_of w c ≡ Some old → old.node ≡ site.node → site.node.running ≡ true → I w → I (ev.client_took w c site (Ok (SteppedNode w c site input))).world
+  pub client : (w : World) (c : ClientId) (input : ClientInput) (old site : WorldClient) → site_of w c ≡ Some old → old.node ≡ site.node → site.node.running ≡ true → I w → I (ev.client_took w c site (Ok (SteppedNode w c site input))).world
   pub advance : (w : World) (steps : List ℕ) → I w → I (ev.advances w steps).world
-  pub crash : (w : World) (c : ClientId) (site : ClientSite) → Crash c → site_of w c ≡ Some site → site.node.running ≡ true → I w → I (ev.crashes_client w c (Some site)).world
-  pub start : (w : World) (c : ClientId) (site : ClientSite) → site_of w c ≡ Some site → site.node.running ≡ false → I w → I (ev.starts_client w c (Some site))
+  pub crash : (w : World) (c : ClientId) (site : WorldClient) → Crash c → site_of w c ≡ Some site → site.node.running ≡ true → I w → I (ev.crashes_client w c (Some site)).world
+  pub start : (w : World) (c : ClientId) (site : WorldClient) → site_of w c ≡ Some site → site.node.running ≡ false → I w → I (ev.starts_client w c (Some site))
 
 module _ (Crash : ClientId → Type 0) (I : World → Type 0) (k : Cases Crash I) where
-  takes : (w : World) (c : ClientId) (input : ClientInput) (old site : ClientSite) → site_of w c ≡ Some old → old.node ≡ site.node → I w → I (ev.client_takes w c input site).world
+  takes : (w : World) (c : ClientId) (input : ClientInput) (old site : WorldClient) → site_of w c ≡ Some old → old.node ≡ site.node → I w → I (ev.client_takes w c input site).world
   unfolding cl.node_step ev.client_takes ev.client_took
   takes w c input old site there same h = go site.node.running refl
     where
@@ -62,7 +62,7 @@ module _ (Crash : ClientId → Type 0) (I : World → Type 0) (k : Cases Crash I
       go true r = k.client w c input old site there same r h
       go false r = h
 
-  at_client : (w : World) (c : ClientId) (input : ClientInput) (o : Option ClientSite) → site_of w c ≡ o → I w → I (ev.at_client w c input o).world
+  at_client : (w : World) (c : ClientId) (input : ClientInput) (o : Option WorldClient) → site_of w c ≡ o → I w → I (ev.at_client w c input o).world
   unfolding ev.at_client
   at_client w c input None e h = h
   at_client w c input (Some site) e h = takes w c input site site e refl h
@@ -108,7 +108,7 @@ module _ (Crash : ClientId → Type 0) (I : World → Type 0) (k : Cases Crash I
   each_event w (events.Tick (nodes.Server s)) may r h = at_server w s _ (node_of w s) h
   each_event w (events.App c ask) may r h = go (site_of w c) refl
     where
-      go : (o : Option ClientSite) → site_of w c ≡ o → I (ev.asks_at w c ask o).world
+      go : (o : Option WorldClient) → site_of w c ≡ o → I (ev.asks_at w c ask o).world
       go None e = h
       go (Some site) e = takes w c _ site (ev.asked_once_more site) e refl h
   each_event w (events.Deliver n) may r h = go (world.message_of w n)
@@ -137,11 +137,11 @@ module _ (Crash : ClientId → Type 0) (I : World → Type 0) (k : Cases Crash I
       g : I v
       g = at_disks w (ev.disks_after w.disks (disks.done w.disks n ok)) (goes_report w.disks n ok) h
 
-      same : (x : IssuedCommand) (site : ClientSite) → site_of v x.client ≡ Some site → (b : Bool) → I (if b then ev.client_takes v x.client (ev.end_told v n ok x) site else ev.quiet v).world
+      same : (x : IssuedCommand) (site : WorldClient) → site_of v x.client ≡ Some site → (b : Bool) → I (if b then ev.client_takes v x.client (ev.end_told v n ok x) site else ev.quiet v).world
       same x site e true = takes v x.client (ev.end_told v n ok x) site site e refl g
       same x site e false = g
 
-      told : (x : IssuedCommand) (o : Option ClientSite) → site_of v x.client ≡ o → I (ev.tells_client v n ok x o).world
+      told : (x : IssuedCommand) (o : Option WorldClient) → site_of v x.client ≡ o → I (ev.tells_client v n ok x o).world
       told x None e = g
       told x (Some site) e = same x site e (ev.is_same_instance x site)
 
@@ -150,7 +150,7 @@ module _ (Crash : ClientId → Type 0) (I : World → Type 0) (k : Cases Crash I
       go (Some x) = told x (site_of v x.client) refl
   each_event w (events.Crash (nodes.Client c)) may r h = go (site_of w c) refl
     where
-      go : (o : Option ClientSite) → site_of w c ≡ o → I (ev.crashes_client w c o).world
+      go : (o : Option WorldClient) → site_of w c ≡ o → I (ev.crashes_client w c o).world
       go None e = h
       go (Some site) e = k.crash w c site (may c refl) e (runs_is w c site e r) h
   each_event w (events.Crash (nodes.Server s)) may r h = go (node_of w s)
@@ -160,7 +160,7 @@ module _ (Crash : ClientId → Type 0) (I : World → Type 0) (k : Cases Crash I
       go (Some node) = with_server w s (server.crash_node node) h
   each_event w (events.Start (nodes.Client c)) may r h = go (site_of w c) refl
     where
-      go : (o : Option ClientSite) → site_of w c ≡ o → I (ev.starts_client w c o)
+      go : (o : Option WorldClient) → site_of w c ≡ o → I (ev.starts_client w c o)
       go None e = h
       go (Some site) e = k.start w c site e (stopped_is w c site e r) h
   each_event w (events.Start (nodes.Server s)) may r h = go (node_of w s)

@@ -15,7 +15,7 @@ use Rattle.st_rules.specs.ClientLease as lease
 use Rattle.st_rules.specs.Client as cl
 use Rattle.st_rules.specs.ClientState.{Association, ClientState, ClientSession, is_at}
 use Rattle.st_rules.specs.World as world
-use Rattle.st_rules.specs.World.{World, ClientSite, numbered, with_numbered, site_of, clock_of, is_life_of, ended_of, end_or_present, lease_end_of, life_of_association, lives_of}
+use Rattle.st_rules.specs.World.{World, WorldClient, numbered, with_numbered, site_of, clock_of, is_life_of, ended_of, end_or_present, lease_end_of, life_of_association, lives_of}
 use Rattle.st_rules.specs.Admissible as adm
 use Rattle.st_rules.specs.Events as ev
 use Rattle.st_rules.specs.Events.{client_says_all, present_lives}
@@ -42,7 +42,7 @@ known_crash w c h k x i q n = go (h.known.commands x (numbered_has w.commands k 
     go (inr z) = z
 
 -- Start: a client that does not run has no session.
-pub start_stays : (w : World) (c : ClientId) (site : ClientSite) → site_of w c ≡ Some site → site.node.running ≡ false → LivesHold w → LateStays w (ev.starts_client w c (Some site))
+pub start_stays : (w : World) (c : ClientId) (site : WorldClient) → site_of w c ≡ Some site → site.node.running ≡ false → LivesHold w → LateStays w (ev.starts_client w c (Some site))
 unfolding ev.starts_client
 start_stays w c site there r h k x i t = go (ended_of w x.client x.server x.life) refl (same_or_not x.client.0 c.0)
   where
@@ -99,7 +99,7 @@ flush_parts c s (x ∷ ss) w = go (in_phase (cl.lease_end_with s x) (cl.phase_wi
     go a b = record { clocks = b.clocks ∙ a.clocks; clients = b.clients ∙ a.clients; ended = b.ended ∙ a.ended; log = b.log ∙ a.log; commands = b.commands ∙ a.commands; config = b.config ∙ a.config; servers = b.servers ∙ a.servers }
 
 -- what was late stays late, by the parts of a world
-late_parts : (w v : World) (c : ClientId) (old site : ClientSite) → site_of w c ≡ Some old → LivesHold w → v.clocks ≡ w.clocks → v.clients ≡ with_numbered c.0 site w.clients →
+late_parts : (w v : World) (c : ClientId) (old site : WorldClient) → site_of w c ≡ Some old → LivesHold w → v.clocks ≡ w.clocks → v.clients ≡ with_numbered c.0 site w.clients →
     v.ended ≡ w.ended ++ rows_lost c old.node.state (clock_in w.clocks c) old.node.state.associations → LateStays w v
 unfolding adm.stands
 late_parts w v c old site there h ts cs es k x i t = go (ended_of w x.client x.server x.life) refl (same_or_not x.client.0 c.0)
@@ -173,7 +173,7 @@ late_parts w v c old site there h ts cs es k x i t = go (ended_of w x.client x.s
         ∙ ap (λ z. adm.late_at clock (world.present_end w x.server z)) (sym (ap (λ z. numbered z x.client.0) cs ∙ numbered_other w.clients c.0 x.client.0 site (numbered_below w.clients c.0 old there).0 n))
         ∙ now_timely None (find_back p w.ended rows q ∙ lost_other c x.client old.node.state (clock_in w.clocks c) x.server x.life old.node.state.associations (ne_eqb c.0 x.client.0 (λ z. n (sym z))))
 
-pub client_stays : (w : World) (c : ClientId) (old site : ClientSite) (t : cl.NodeTurn) → site_of w c ≡ Some old → old.node ≡ site.node → Stepped (clock_of w (nodes.Client c)) c old.node.state t.node.state t.out → LivesHold w → LateStays w (ev.client_took w c site (Ok t)).world
+pub client_stays : (w : World) (c : ClientId) (old site : WorldClient) (t : cl.NodeTurn) → site_of w c ≡ Some old → old.node ≡ site.node → Stepped (clock_of w (nodes.Client c)) c old.node.state t.node.state t.out → LivesHold w → LateStays w (ev.client_took w c site (Ok t)).world
 unfolding ev.client_took
 client_stays w c old site t there same st h =
     late_parts w (ev.flushes c t.node.state (world.all_servers u) u) c old (ev.at_node t.node site) there h (f.clocks ∙ said.clocks) (f.clients ∙ said.clients)
@@ -192,18 +192,18 @@ client_stays w c old site t there same st h =
     f = flush_parts c t.node.state (world.all_servers u) u
 
 -- The ends that an advance looks at.
-present_has : (sites : List ClientSite) (e : LeaseLife) → Has e (present_lives sites) → (n : ℕ) × (site : ClientSite) × (slice_get sites n ≡ Some site) × Has e (lives_of site.node.state)
+present_has : (sites : List WorldClient) (e : LeaseLife) → Has e (present_lives sites) → (n : ℕ) × (site : WorldClient) × (slice_get sites n ≡ Some site) × Has e (lives_of site.node.state)
 unfolding present_lives
 present_has [] e i = absurd i
 present_has (x ∷ sites) e i = go (has_append (lives_of x.node.state) (present_lives sites) e i) (present_has sites e)
   where
-    go : Has e (lives_of x.node.state) ⊎ Has e (present_lives sites) → (Has e (present_lives sites) → (n : ℕ) × (site : ClientSite) × (slice_get sites n ≡ Some site) × Has e (lives_of site.node.state)) → (n : ℕ) × (site : ClientSite) × (slice_get (x ∷ sites) n ≡ Some site) × Has e (lives_of site.node.state)
+    go : Has e (lives_of x.node.state) ⊎ Has e (present_lives sites) → (Has e (present_lives sites) → (n : ℕ) × (site : WorldClient) × (slice_get sites n ≡ Some site) × Has e (lives_of site.node.state)) → (n : ℕ) × (site : WorldClient) × (slice_get (x ∷ sites) n ≡ Some site) × Has e (lives_of site.node.state)
     go (inl i) f = (zero, x, refl, i)
     go (inr i) f = let z = f i in (suc z.0, z.1, z.2, z.3)
 
 -- a present life with a lease end is of a client that runs, and has not ended
 pub record Present (w : World) (e : LeaseLife) : Type 0 where
-  pub site : ClientSite
+  pub site : WorldClient
   pub there : numbered w.clients e.client.0 ≡ Some site
   pub a : Association
   pub has : Has a site.node.state.associations
@@ -212,7 +212,7 @@ pub record Present (w : World) (e : LeaseLife) : Type 0 where
 pub present_is : (w : World) → LivesHold w → (e : LeaseLife) → Has e (present_lives w.clients) → Present w e
 present_is w h e i = go (present_has w.clients e i)
   where
-    go : (n : ℕ) × (site : ClientSite) × (slice_get w.clients n ≡ Some site) × Has e (lives_of site.node.state) → Present w e
+    go : (n : ℕ) × (site : WorldClient) × (slice_get w.clients n ≡ Some site) × Has e (lives_of site.node.state) → Present w e
     go (n, site, q, i) = at (has_map (life_of_association site.node.state.config site.node.state.id) site.node.state.associations e i)
       where
         c : ClientId

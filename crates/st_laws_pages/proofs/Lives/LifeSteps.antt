@@ -17,7 +17,7 @@ use Rattle.st_rules.specs.FlatLog as log
 use Rattle.st_rules.specs.Client as cl
 use Rattle.st_rules.specs.ClientState.{Association}
 use Rattle.st_rules.specs.World as world
-use Rattle.st_rules.specs.World.{World, ClientSite, numbered, site_of, clock_of}
+use Rattle.st_rules.specs.World.{World, WorldClient, numbered, site_of, clock_of}
 use Rattle.st_rules.specs.Admissible as adm
 use Rattle.st_rules.specs.Events as ev
 use Rattle.st_lemmas.specs.Lists.{Has}
@@ -33,7 +33,7 @@ use Rattle.st_laws_pages.proofs.Lives.Turning.{crash_turned, start_turned, lives
 use Rattle.st_laws_pages.proofs.Lives.Lasting.{client_stays}
 
 -- A client's node that runs takes an input.
-pub steps_so : (w : World) (c : ClientId) (old site : ClientSite) (input : ClientInput) → site_of w c ≡ Some old → old.node ≡ site.node → LivesHold w →
+pub steps_so : (w : World) (c : ClientId) (old site : WorldClient) (input : ClientInput) → site_of w c ≡ Some old → old.node ≡ site.node → LivesHold w →
     Stepped (clock_of w (nodes.Client c)) c old.node.state (cl.node_turn site.node (cl.client_step site.node.state (clock_of w (nodes.Client c)) input)).node.state (cl.client_step site.node.state (clock_of w (nodes.Client c)) input).out
 steps_so w c old site input there same h =
     subst (λ (n : cl.ClientNode). Stepped now c n.state (cl.client_step site.node.state now input).state (cl.client_step site.node.state now input).out) (sym same)
@@ -43,10 +43,10 @@ steps_so w c old site input there same h =
     now = clock_of w (nodes.Client c)
 
 -- what was late stays late, however the node's step ends
-abbrev pub StaysLate : World → ClientId → ClientSite → Result cl.NodeTurn StepRefusal → Type 0
+abbrev pub StaysLate : World → ClientId → WorldClient → Result cl.NodeTurn StepRefusal → Type 0
 StaysLate w c site r = LateStays w (ev.client_took w c site r).world
 
-pub takes_stays : (w : World) (c : ClientId) (input : ClientInput) (old site : ClientSite) → site_of w c ≡ Some old → old.node ≡ site.node → LivesHold w → StaysLate w c site (cl.node_step site.node (clock_of w (nodes.Client c)) input)
+pub takes_stays : (w : World) (c : ClientId) (input : ClientInput) (old site : WorldClient) → site_of w c ≡ Some old → old.node ≡ site.node → LivesHold w → StaysLate w c site (cl.node_step site.node (clock_of w (nodes.Client c)) input)
 unfolding cl.node_step ev.client_took
 takes_stays w c input old site there same h = go site.node.running
   where
@@ -85,7 +85,7 @@ advance_lives w steps h =
     ticks zero t e = cc
     ticks (suc n) t e = (_, advanced_get steps w.clocks n t e)
 
-    node : (c : ClientId) (site : ClientSite) → NodeHolds w.config w.clocks w.ended c site.node → NodeHolds w.config (ev.advanced steps w.clocks) w.ended c site.node
+    node : (c : ClientId) (site : WorldClient) → NodeHolds w.config w.clocks w.ended c site.node → NodeHolds w.config (ev.advanced steps w.clocks) w.ended c site.node
     node c site o = let z = ticks c.0 o.clock o.ticks in record { id = o.id; config = o.config; once = o.once; fit = o.fit; stopped = o.stopped; born = o.born; clock = z.0; ticks = z.1; below = o.below }
 
     ended : (e : LeaseLife) → EndedHolds w.clocks w.clients w.ended e → EndedHolds (ev.advanced steps w.clocks) w.clients w.ended e
@@ -95,7 +95,7 @@ advance_lives w steps h =
         up t z = let y = clock_up w steps e.client in omega (arith, z, y)
 
 -- Crash and start of a client.
-pub runs_is : (w : World) (c : ClientId) (site : ClientSite) → site_of w c ≡ Some site → adm.refusal w (events.Crash (nodes.Client c)) ≡ None → site.node.running ≡ true
+pub runs_is : (w : World) (c : ClientId) (site : WorldClient) → site_of w c ≡ Some site → adm.refusal w (events.Crash (nodes.Client c)) ≡ None → site.node.running ≡ true
 unfolding adm.refusal
 runs_is w c site e r = go site.node.running refl
   where
@@ -109,13 +109,13 @@ runs_is w c site e r = go site.node.running refl
         bad true u v = cc
         bad false u v = cc
 
-pub stopped_is : (w : World) (c : ClientId) (site : ClientSite) → site_of w c ≡ Some site → adm.refusal w (events.Start (nodes.Client c)) ≡ None → site.node.running ≡ false
+pub stopped_is : (w : World) (c : ClientId) (site : WorldClient) → site_of w c ≡ Some site → adm.refusal w (events.Start (nodes.Client c)) ≡ None → site.node.running ≡ false
 unfolding adm.refusal
 stopped_is w c site e r =
     let z = or_none (adm.no_node w (nodes.Client c)) (adm.still_running w (nodes.Client c)) r in
     ap world.site_runs (sym e) ∙ stands_not (world.is_running w (nodes.Client c)) (refusals.Running (nodes.Client c)) z.1
 
-pub crash_lives : (w : World) (c : ClientId) (site : ClientSite) → site_of w c ≡ Some site → site.node.running ≡ true → LivesHold w → LivesHold (ev.crashes_client w c (Some site)).world
+pub crash_lives : (w : World) (c : ClientId) (site : WorldClient) → site_of w c ≡ Some site → site.node.running ≡ true → LivesHold w → LivesHold (ev.crashes_client w c (Some site)).world
 unfolding ev.crashes_client ev.marks ev.log_crashed log.drop_picked
 crash_lives w c site there r h =
     lives_by (ev.with_log (log.drop_from 1 (ev.is_of_crashed w c) (log.always Rattle.st_rules.specs.declared.log.Cause.TheVariants.Crash) w.log) (ev.with_site c (ev.stopped_site site) (ev.with_crashed_lives site w))) w.config w.clocks
@@ -136,7 +136,7 @@ crash_lives w c site there r h =
     turned : Rattle.st_laws_pages.proofs.Lives.NodeTurns.Turned Kind w.clocks w.ended c site.node (cl.crash_node site.node) rows
     turned = crash_turned w.clocks w.ended c site.node w.config node r
 
-pub start_lives : (w : World) (c : ClientId) (site : ClientSite) → site_of w c ≡ Some site → site.node.running ≡ false → LivesHold w → LivesHold (ev.starts_client w c (Some site))
+pub start_lives : (w : World) (c : ClientId) (site : WorldClient) → site_of w c ≡ Some site → site.node.running ≡ false → LivesHold w → LivesHold (ev.starts_client w c (Some site))
 unfolding ev.starts_client
 start_lives w c site there r h =
     lives_by (ev.with_site c (ev.started_site site) w) w.config w.clocks (world.with_numbered c.0 (ev.started_site site) w.clients) (w.ended ++ []) refl refl refl (none_rows w.ended)

@@ -14,7 +14,7 @@ use Rattle.st_rules.specs.Client as cl
 use Rattle.st_rules.specs.ClientLease.{end_at}
 use Rattle.st_rules.specs.ClientState.{Association, is_at}
 use Rattle.st_rules.specs.World as world
-use Rattle.st_rules.specs.World.{World, ClientSite, site_of, numbered, clock_of, is_life_of, ended_of, end_or_present, life_of_association, lives_of}
+use Rattle.st_rules.specs.World.{World, WorldClient, site_of, numbered, clock_of, is_life_of, ended_of, end_or_present, life_of_association, lives_of}
 use Rattle.st_rules.specs.Admissible as adm
 use Rattle.st_rules.specs.Events as ev
 use Rattle.st_laws_pages.specs.Disks.World.{Timely, LateStays}
@@ -81,11 +81,11 @@ flip_client c d n = go (same_client c d) refl
     go true e = absurd (clash _ (eq-eqb d.0 c.0 (sym (eqb-true c.0 d.0 e))) n)
     go false e = refl
 
-other_site : (w : World) (c d : ClientId) (site new : ClientSite) → site_of w c ≡ Some site → same_client d c ≡ false → numbered (set w.clients (pred c.0) new) d.0 ≡ numbered w.clients d.0
+other_site : (w : World) (c d : ClientId) (site new : WorldClient) → site_of w c ≡ Some site → same_client d c ≡ false → numbered (set w.clients (pred c.0) new) d.0 ≡ numbered w.clients d.0
 other_site w c d site new e n = numbered_other w.clients c.0 d.0 new site e n
 
 -- Crash: the client's lives end with the ends that they had.
-pub crash_late : (w : World) (c : ClientId) (site : ClientSite) → site_of w c ≡ Some site → site.node.state.id ≡ c → CrashLives w c → LateStays w (ev.crashes_client w c (Some site)).world
+pub crash_late : (w : World) (c : ClientId) (site : WorldClient) → site_of w c ≡ Some site → site.node.state.id ≡ c → CrashLives w c → LateStays w (ev.crashes_client w c (Some site)).world
 unfolding ev.crashes_client ev.marks
 crash_late w c site there id h k x i t = go (same_client x.client c) refl (ended_of w x.client x.server x.life) refl
   where

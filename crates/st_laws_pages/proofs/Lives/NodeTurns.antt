@@ -14,7 +14,7 @@ use Rattle.st_rules.specs.Keys.{same_client, same_server}
 use Rattle.st_rules.specs.Client as cl
 use Rattle.st_rules.specs.ClientState.{Association, is_at}
 use Rattle.st_rules.specs.World as world
-use Rattle.st_rules.specs.World.{ClientSite, numbered, with_numbered, is_life_of}
+use Rattle.st_rules.specs.World.{WorldClient, numbered, with_numbered, is_life_of}
 use Rattle.st_rules.specs.Events as ev
 use Rattle.st_lemmas.specs.Lists.{Has}
 use Rattle.st_lemmas.proofs.Lookups.{some_is}
@@ -72,9 +72,9 @@ pub record Turned (R : Association → Association → Type 0) (ts : List Stamp)
   pub stopped : m.running ≡ false → (b : Association) → Has b m.state.associations → IsStopped (es ++ rows) c b
   pub new : (e : LeaseLife) → Has e rows → NewRow R ts c n m rows e
 
-module _ (R : Association → Association → Type 0) (k : Config) (ts : List Stamp) (cs : List ClientSite) (es : List LeaseLife) (c : ClientId) (old site : ClientSite) (m : cl.ClientNode) (rows : List LeaseLife)
+module _ (R : Association → Association → Type 0) (k : Config) (ts : List Stamp) (cs : List WorldClient) (es : List LeaseLife) (c : ClientId) (old site : WorldClient) (m : cl.ClientNode) (rows : List LeaseLife)
     (there : numbered cs c.0 ≡ Some old) (node : site.node ≡ m) (t : Turned R ts es c old.node m rows) (h : LivesAreKept k ts cs es) where
-  abbrev now_sites : List ClientSite
+  abbrev now_sites : List WorldClient
   now_sites = with_numbered c.0 site cs
 
   low : 1 ≤ c.0
@@ -125,7 +125,7 @@ module _ (R : Association → Association → Type 0) (k : Config) (ts : List St
       }
 
   -- another client
-  node_other : (d : ClientId) (s : ClientSite) → d.0 ≢ c.0 → NodeHolds k ts es d s.node → NodeHolds k ts (es ++ rows) d s.node
+  node_other : (d : ClientId) (s : WorldClient) → d.0 ≢ c.0 → NodeHolds k ts es d s.node → NodeHolds k ts (es ++ rows) d s.node
   node_other d s n o =
       record {
         id = o.id;
@@ -143,21 +143,21 @@ module _ (R : Association → Association → Type 0) (k : Config) (ts : List St
       go e q a f (inl i) = o.below e i q a f
       go e q a f (inr i) = absurd (n (ap (λ (z : ClientId). z.0) (sym q ∙ (t.new e i).client)))
 
-  sites_now : (d : ClientId) (s : ClientSite) → numbered now_sites d.0 ≡ Some s → NodeHolds k ts (es ++ rows) d s.node
+  sites_now : (d : ClientId) (s : WorldClient) → numbered now_sites d.0 ≡ Some s → NodeHolds k ts (es ++ rows) d s.node
   sites_now d s e = go (same_or_not d.0 c.0)
     where
       go : (d.0 ≡ c.0) ⊎ (d.0 ≢ c.0) → NodeHolds k ts (es ++ rows) d s.node
       go (inl q) =
           let id : c ≡ d = ap (λ n. record { 0 = n }) (sym q) in
           let same : site ≡ s = some_is (sym own_site ∙ ap (numbered now_sites) (sym q) ∙ e) in
-          subst (λ z. NodeHolds k ts (es ++ rows) z s.node) id (subst (λ (z : ClientSite). NodeHolds k ts (es ++ rows) c z.node) same (subst (NodeHolds k ts (es ++ rows) c) (sym node) node_now))
+          subst (λ z. NodeHolds k ts (es ++ rows) z s.node) id (subst (λ (z : WorldClient). NodeHolds k ts (es ++ rows) c z.node) same (subst (NodeHolds k ts (es ++ rows) c) (sym node) node_now))
       go (inr n) = node_other d s n (h.sites d s (sym (other_site d.0 n) ∙ e))
 
   -- there are the clients that there were
-  still : (d : ClientId) (s : ClientSite) → numbered cs d.0 ≡ Some s → (u : ClientSite) × (numbered now_sites d.0 ≡ Some u)
+  still : (d : ClientId) (s : WorldClient) → numbered cs d.0 ≡ Some s → (u : WorldClient) × (numbered now_sites d.0 ≡ Some u)
   still d s e = go (same_or_not d.0 c.0)
     where
-      go : (d.0 ≡ c.0) ⊎ (d.0 ≢ c.0) → (u : ClientSite) × (numbered now_sites d.0 ≡ Some u)
+      go : (d.0 ≡ c.0) ⊎ (d.0 ≢ c.0) → (u : WorldClient) × (numbered now_sites d.0 ≡ Some u)
       go (inl q) = (site, ap (numbered now_sites) q ∙ own_site)
       go (inr n) = (s, other_site d.0 n ∙ e)
 

@@ -24,7 +24,7 @@ use Rattle.st_rules.specs.ClientLease as lease
 use Rattle.st_rules.specs.Client as cl
 use Rattle.st_rules.specs.ClientState.{Association, ClientState, ClientSession}
 use Rattle.st_rules.specs.World as world
-use Rattle.st_rules.specs.World.{World, ClientSite, site_of, is_life_of, life_of_association, lives_of}
+use Rattle.st_rules.specs.World.{World, WorldClient, site_of, is_life_of, life_of_association, lives_of}
 use Rattle.st_rules.specs.Events as ev
 use Rattle.st_rules.specs.Events.{WorldTurn, client_says, client_says_all, client_notes}
 use Rattle.st_lemmas.specs.Lists.{Has}
@@ -224,7 +224,7 @@ same_said c v u k t s e x l =
       known = λ es a. subst (λ z. AllKnown v.clients es z (map owner_of u.log)) (sym x) (subst (λ z. AllKnown v.clients es v.commands (map owner_of z)) (sym l) a);
     }
 
-pub known_owner : (cs : List ClientSite) (es : List LeaseLife) (xs : List IssuedCommand) (os : List LogOwner) (o : LogOwner) → IsKnown cs es o.client o.file.server o.life → AllKnown cs es xs os → AllKnown cs es xs (os ++ o ∷ [])
+pub known_owner : (cs : List WorldClient) (es : List LeaseLife) (xs : List IssuedCommand) (os : List LogOwner) (o : LogOwner) → IsKnown cs es o.client o.file.server o.life → AllKnown cs es xs os → AllKnown cs es xs (os ++ o ∷ [])
 known_owner cs es xs os o k a = record { commands = a.commands; owners = λ p i. go p (has_append os (o ∷ []) p i) }
   where
     go : (p : LogOwner) → Has p os ⊎ Has p (o ∷ []) → IsKnown cs es p.client p.file.server p.life
@@ -232,7 +232,7 @@ known_owner cs es xs os o k a = record { commands = a.commands; owners = λ p i.
     go p (inr (inl e)) = subst (λ (z : LogOwner). IsKnown cs es z.client z.file.server z.life) (sym e) k
     go p (inr (inr i)) = absurd i
 
-known_command : (cs : List ClientSite) (es : List LeaseLife) (xs : List IssuedCommand) (os : List LogOwner) (x : IssuedCommand) → IsKnown cs es x.client x.server x.life → AllKnown cs es xs os → AllKnown cs es (xs ++ x ∷ []) os
+known_command : (cs : List WorldClient) (es : List LeaseLife) (xs : List IssuedCommand) (os : List LogOwner) (x : IssuedCommand) → IsKnown cs es x.client x.server x.life → AllKnown cs es xs os → AllKnown cs es (xs ++ x ∷ []) os
 known_command cs es xs os x k a = record { commands = λ y i. go y (has_append xs (x ∷ []) y i); owners = a.owners }
   where
     go : (y : IssuedCommand) → Has y xs ⊎ Has y (x ∷ []) → IsKnown cs es y.client y.server y.life
@@ -258,7 +258,7 @@ says_one c before (outputs.Send m) sc = same_said c sc.world _ refl refl refl re
 says_one c before (outputs.Answer op a) sc = same_said c sc.world _ refl refl refl refl refl refl
 says_one c before (outputs.Submit n at what) sc = go (site_of sc.world c) refl
   where
-    go : (o : Option ClientSite) → site_of sc.world c ≡ o → Said c [] sc.world (ev.submits sc c o n at what).world
+    go : (o : Option WorldClient) → site_of sc.world c ≡ o → Said c [] sc.world (ev.submits sc c o n at what).world
     go None e = same_said c sc.world _ refl refl refl refl refl refl
     go (Some site) e =
         record {
@@ -310,7 +310,7 @@ flush_lives c s (x ∷ ss) w h = flush_lives c s ss (ev.flushed_at w c x s) (in_
     in_phase o None = h
 
 -- by the parts of a world
-pub lives_by : (v : World) (k : Config) (ts : List Stamp) (cs : List ClientSite) (es : List LeaseLife) → v.config ≡ k → v.clocks ≡ ts → v.clients ≡ cs → v.ended ≡ es → LivesAreKept k ts cs es → AllKnown cs es v.commands (map owner_of v.log) → LivesHold v
+pub lives_by : (v : World) (k : Config) (ts : List Stamp) (cs : List WorldClient) (es : List LeaseLife) → v.config ≡ k → v.clocks ≡ ts → v.clients ≡ cs → v.ended ≡ es → LivesAreKept k ts cs es → AllKnown cs es v.commands (map owner_of v.log) → LivesHold v
 lives_by v k ts cs es a b d e h n =
     record {
       lives = subst (λ z. LivesAreKept v.config v.clocks v.clients z) (sym e) (subst (λ z. LivesAreKept v.config v.clocks z es) (sym d) (subst (λ z. LivesAreKept v.config z cs es) (sym b) (subst (λ z. LivesAreKept z ts cs es) (sym a) h)));
@@ -318,7 +318,7 @@ lives_by v k ts cs es a b d e h n =
     }
 
 -- A step of a client.
-pub client_lives : (w : World) (c : ClientId) (old site : ClientSite) (t : cl.NodeTurn) → site_of w c ≡ Some old → old.node ≡ site.node → old.node.running ≡ true → t.node.running ≡ true → Stepped (world.clock_of w (nodes.Client c)) c old.node.state t.node.state t.out → LivesHold w →
+pub client_lives : (w : World) (c : ClientId) (old site : WorldClient) (t : cl.NodeTurn) → site_of w c ≡ Some old → old.node ≡ site.node → old.node.running ≡ true → t.node.running ≡ true → Stepped (world.clock_of w (nodes.Client c)) c old.node.state t.node.state t.out → LivesHold w →
     LivesHold (ev.client_took w c site (Ok t)).world
 unfolding ev.client_took
 client_lives w c old site t there same r q st h =
@@ -327,7 +327,7 @@ client_lives w c old site t there same r q st h =
     (turned_lives (LifeNext (clock_in w.clocks c) old.node.state) w.config w.clocks w.clients w.ended c old now_site t.node rows there refl turned h.lives)
     (said.known (w.ended ++ rows) (turned_all (LifeNext (clock_in w.clocks c) old.node.state) w.config w.clocks w.clients w.ended c old now_site t.node rows there refl turned h.lives w.commands (map owner_of w.log) h.known)))
   where
-    now_site : ClientSite
+    now_site : WorldClient
     now_site = ev.at_node t.node site
 
     v : World

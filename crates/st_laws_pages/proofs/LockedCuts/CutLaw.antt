@@ -34,7 +34,7 @@ use Rattle.st_rules.specs.Locks.{Locks}
 use Rattle.st_rules.specs.Server as server
 use Rattle.st_rules.specs.Server.{ServerNode, turn, thefts}
 use Rattle.st_rules.specs.World as world
-use Rattle.st_rules.specs.World.{World, ClientSite, numbered, with_numbered, site_of, node_of, issued_of, clock_of}
+use Rattle.st_rules.specs.World.{World, WorldClient, numbered, with_numbered, site_of, node_of, issued_of, clock_of}
 use Rattle.st_rules.specs.Events as ev
 use Rattle.st_rules.specs.Events.{WorldTurn}
 use Rattle.st_rules.specs.History.{is_exclusive_row}
@@ -44,7 +44,7 @@ use Rattle.st_lemmas.proofs.Lookups.{some_is}
 use Rattle.st_lemmas.proofs.Steps.{step_happens}
 use Rattle.st_lemmas.proofs.Numbers.{numbered_own, numbered_other, numbered_below}
 use Rattle.st_lemmas.proofs.Tables.{same_or_not, and_both, and_true, found_at, some_passes}
-use Rattle.st_laws_pages.specs.LockedCuts.Locked.{is_cut_locked, TableHolds, IsHeld, CutHeld, CutsHeld, WaitsHold, AtReassertion, AtReceiver, AtMessage, WaitsOwed, StepsLockCuts}
+use Rattle.st_laws_pages.specs.LockedCuts.CutLocks.{is_cut_locked, TableHolds, IsHeld, CutHeld, CutsHeld, WaitsHold, AtReassertion, AtReceiver, AtMessage, WaitsOwed, StepsLockCuts}
 use Rattle.st_laws_pages.proofs.LockedCuts.RowWalk.{Behind, InputAlone, step_rows}
 use Rattle.st_laws_pages.proofs.Lives.Lasting.{flush_parts}
 
@@ -64,7 +64,7 @@ client_one ns c before (outputs.Send m) sc h = record { servers = h.servers; see
 client_one ns c before (outputs.Answer op a) sc h = record { servers = h.servers; seen = all_more (is_cut_locked ns) sc.seen _ h.seen refl }
 client_one ns c before (outputs.Submit number at what) sc h = go (site_of sc.world c)
   where
-    go : (o : Option ClientSite) → Unlocked ns (ev.submits sc c o number at what)
+    go : (o : Option WorldClient) → Unlocked ns (ev.submits sc c o number at what)
     go None = h
     go (Some site) = record { servers = h.servers; seen = all_more (is_cut_locked ns) sc.seen _ h.seen refl }
 client_one ns c before (outputs.Note n) sc h = note n
@@ -114,7 +114,7 @@ quiet_after w v e h = record { locked = refl; holds = same_servers w v e h }
 flush_servers : (c : ClientId) (s : ClientState) (ss : List ServerId) (w : World) → (ev.flushes c s ss w).servers ≡ w.servers
 flush_servers c s ss w = (flush_parts c s ss w).servers
 
-client_after : (w : World) (c : ClientId) (input : ClientInput) (site : ClientSite) → WaitsHold w → LockedAfter (ev.client_takes w c input site)
+client_after : (w : World) (c : ClientId) (input : ClientInput) (site : WorldClient) → WaitsHold w → LockedAfter (ev.client_takes w c input site)
 unfolding ev.client_takes ev.client_took
 client_after w c input site h = go (cl.node_step site.node (clock_of w (nodes.Client c)) input)
   where
@@ -125,7 +125,7 @@ client_after w c input site h = go (cl.node_step site.node (clock_of w (nodes.Cl
         let sc = ev.client_says_all c site.node.state t.out (ev.quiet (ev.with_site c (ev.at_node t.node site) w)) in
         unlocked_after w (ev.with_flushes c t.node.state sc) (record { servers = flush_servers c t.node.state (world.all_servers sc.world) sc.world ∙ u.servers; seen = u.seen }) h
 
-at_client_after : (w : World) (c : ClientId) (input : ClientInput) (o : Option ClientSite) → WaitsHold w → LockedAfter (ev.at_client w c input o)
+at_client_after : (w : World) (c : ClientId) (input : ClientInput) (o : Option WorldClient) → WaitsHold w → LockedAfter (ev.at_client w c input o)
 unfolding ev.at_client
 at_client_after w c input None h = quiet_after w w refl h
 at_client_after w c input (Some site) h = client_after w c input site h
@@ -182,7 +182,7 @@ unfolding ev.at_server ev.server_takes ev.server_took server.node_step
 at_server_after w s input None e n h = quiet_after w w refl h
 at_server_after w s input (Some node) e n h = go node.running refl
   where
-    t : server.Turn
+    t : server.ServerTurn
     t = server.server_step node.state (clock_of w (nodes.Server s)) input
 
     new : ServerNode
@@ -217,7 +217,7 @@ happens_cuts w (events.Tick (nodes.Client c)) o h = at_client_after w c _ (site_
 happens_cuts w (events.Tick (nodes.Server s)) o h = at_server_after w s serving.Tick (node_of w s) refl (λ n e. tt) h
 happens_cuts w (events.App c ask) o h = go (site_of w c)
   where
-    go : (x : Option ClientSite) → LockedAfter (ev.asks_at w c ask x)
+    go : (x : Option WorldClient) → LockedAfter (ev.asks_at w c ask x)
     go None = quiet_after w w refl h
     go (Some site) = client_after w c _ (ev.asked_once_more site) h
 happens_cuts w (events.Deliver k) o h = go (world.message_of w k) o
@@ -250,11 +250,11 @@ happens_cuts w (events.Report k ok) o h = go (issued_of w k)
     g : WaitsHold v
     g = same_servers w v refl h
 
-    same : (x : IssuedCommand) (site : ClientSite) (b : Bool) → LockedAfter (if b then ev.client_takes v x.client (ev.end_told v k ok x) site else ev.quiet v)
+    same : (x : IssuedCommand) (site : WorldClient) (b : Bool) → LockedAfter (if b then ev.client_takes v x.client (ev.end_told v k ok x) site else ev.quiet v)
     same x site true = client_after v x.client (ev.end_told v k ok x) site g
     same x site false = quiet_after w v refl h
 
-    told : (x : IssuedCommand) (s : Option ClientSite) → LockedAfter (ev.tells_client v k ok x s)
+    told : (x : IssuedCommand) (s : Option WorldClient) → LockedAfter (ev.tells_client v k ok x s)
     told x None = quiet_after w v refl h
     told x (Some site) = same x site (ev.is_same_instance x site)
 
@@ -263,7 +263,7 @@ happens_cuts w (events.Report k ok) o h = go (issued_of w k)
     go (Some x) = told x (site_of v x.client)
 happens_cuts w (events.Crash (nodes.Client c)) o h = go (site_of w c)
   where
-    go : (x : Option ClientSite) → LockedAfter (ev.crashes_client w c x)
+    go : (x : Option WorldClient) → LockedAfter (ev.crashes_client w c x)
     go None = quiet_after w w refl h
     go (Some site) = record { locked = marks_seen w.servers 1 w.log (ev.log_crashed w c); holds = same_servers w (ev.crashes_client w c (Some site)).world refl h }
 happens_cuts w (events.Crash (nodes.Server s)) o h = go (node_of w s) refl
@@ -273,7 +273,7 @@ happens_cuts w (events.Crash (nodes.Server s)) o h = go (node_of w s) refl
     go (Some node) e = record { locked = refl; holds = with_node_holds w s node (server.crash_node node) e (crashed s node (h s node e)) h }
 happens_cuts w (events.Start (nodes.Client c)) o h = go (site_of w c)
   where
-    go : (x : Option ClientSite) → LockedAfter (ev.quiet (ev.starts_client w c x))
+    go : (x : Option WorldClient) → LockedAfter (ev.quiet (ev.starts_client w c x))
     go None = quiet_after w w refl h
     go (Some site) = quiet_after w (ev.starts_client w c (Some site)) refl h
 happens_cuts w (events.Start (nodes.Server s)) o h = go (node_of w s) refl

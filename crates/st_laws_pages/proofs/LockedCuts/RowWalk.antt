@@ -37,7 +37,7 @@ use Rattle.st_rules.specs.Sessions as sessions
 use Rattle.st_rules.specs.Authority as authority
 use Rattle.st_rules.specs.Grace as grace
 use Rattle.st_rules.specs.Server as sv
-use Rattle.st_rules.specs.Server.{ServerState, Turn, Replied, turn, with_locks, with_sessions, sender, life_in, reply, tell, steal_at, steal_from, steal, steal_each, thefts, suspect_client, greet_as, greet_by, greet, refuse_in_grace, hello, demand_seen, see_demand, refuse_epoch, reassert_by, reassert_new, reassert_again, reassert, rule, keep_and_reply, keep, serve, request_by, request, of_epoch, by_body, refuse_suspect, by_suspicion, receive_from, receive, take_input, suspect_unless, suspect_each, suspecting, suspecting_on, tell_granted, grant_by, grant_waiting, granting, tell_demanded, demand_by, demanding, server_step}
+use Rattle.st_rules.specs.Server.{ServerState, ServerTurn, Replied, turn, with_locks, with_sessions, sender, life_in, reply, tell, steal_at, steal_from, steal, steal_each, thefts, suspect_client, greet_as, greet_by, greet, refuse_in_grace, hello, demand_seen, observe_demand, refuse_epoch, reassert_by, reassert_new, reassert_again, reassert, rule, keep_and_reply, keep, serve, request_by, request, of_epoch, by_body, refuse_suspect, by_suspicion, receive_from, receive, take_input, suspect_unless, suspect_each, suspecting, suspecting_on, tell_granted, grant_by, grant_waiting, granting, tell_demanded, demand_by, demanding, server_step}
 use Rattle.st_rules.specs.Extents as extents
 use Rattle.st_lemmas.specs.Lists.{Has}
 use Rattle.st_rules.specs.declared.locks.LockRow.{LockRow}
@@ -47,7 +47,7 @@ use Rattle.st_rules.specs.Locks.{Locks}
 use Rattle.st_messages.specs.declared.output.Note.{Note}
 use Rattle.st_base.specs.Mode.{covers}
 use Rattle.st_laws_pages.specs.Disks.World.{NoCut, NoCuts}
-use Rattle.st_laws_pages.specs.LockedCuts.Locked.{WaitsApart, IsHeld, CutHeld, CutsHeld, WaitsForNone}
+use Rattle.st_laws_pages.specs.LockedCuts.CutLocks.{WaitsApart, IsHeld, CutHeld, CutsHeld, WaitsForNone}
 use Rattle.st_laws_pages.proofs.LockedCuts.Rows.{drop_apart, file_apart, forget_apart, seen_apart, released_apart, acquire_apart, install_apart, grants_grown, demands_grown}
 use Rattle.st_lemmas.proofs.Tables.{and_true}
 use Rattle.st_laws_steps.proofs.Server.Taking.{if_either}
@@ -90,23 +90,23 @@ none_more [] o n h = record { one = n; rest = record {} }
 none_more (x ∷ os) o n h = record { one = h.one; rest = none_more os o n h.rest }
 
 -- Before the rule of the input, and behind it.
-record Before (s : ServerId) (t : Turn) : Type 0 where
+record Before (s : ServerId) (t : ServerTurn) : Type 0 where
   pub id : t.state.id ≡ s
   pub waits : WaitsApart t.state.locks
   pub none : NoCuts t.out
 
-pub record Behind (s : ServerId) (t : Turn) : Type 0 where
+pub record Behind (s : ServerId) (t : ServerTurn) : Type 0 where
   pub id : t.state.id ≡ s
   pub waits : WaitsApart t.state.locks
   pub cuts : CutsHeld s t.state.locks t.out
 
 -- what is owed where the input is a reassertion
-abbrev pub InputAlone : Turn → Stamp → ServerInput → Type 0
+abbrev pub InputAlone : ServerTurn → Stamp → ServerInput → Type 0
 InputAlone t now Tick = Unit {0}
 InputAlone t now (Control m) = WaitsForNone t now m.header m.body
 
 -- the same, of a message that is to this server, and of its epoch
-abbrev IsMet : Turn → Stamp → Header → Body → Type 0
+abbrev IsMet : ServerTurn → Stamp → Header → Body → Type 0
 IsMet t now h m = WaitsForNone t now h m × (sv.is_for t.state h ≡ true)
 
 -- an entry that is removed is the one that was looked up
@@ -136,27 +136,27 @@ removed_is n dir name ino d e f = go (names.place_refusal n dir name) e f
     go None e f = entry (names.entry_at n dir name) e f
 
 module _ (s : ServerId) where
-  abbrev B : Turn → Type 0
+  abbrev B : ServerTurn → Type 0
   B t = Before s t
 
-  abbrev A : Turn → Type 0
+  abbrev A : ServerTurn → Type 0
   A t = Behind s t
 
   abbrev R : Replied → Type 0
   R a = Behind s a.turn
 
-  then_after : (t : Turn) → B t → A t
+  then_after : (t : ServerTurn) → B t → A t
   then_after t b = record { id = b.id; waits = b.waits; cuts = none_held s t.state.locks t.out b.none }
 
   -- with a table of fewer waits
-  a_fewer : (t : Turn) (l : Locks) → WaitsApart l → ((i : ℕ) → IsHeld i t.state.locks → IsHeld i l) → A t → A (with_locks l t)
+  a_fewer : (t : ServerTurn) (l : Locks) → WaitsApart l → ((i : ℕ) → IsHeld i t.state.locks → IsHeld i l) → A t → A (with_locks l t)
   a_fewer t l w f a = record { id = a.id; waits = w; cuts = held_all s t.state.locks l f t.out a.cuts }
 
-  a_reply : (t : Turn) (h : Header) (b : Body) → A t → A (reply t h b)
+  a_reply : (t : ServerTurn) (h : Header) (b : Body) → A t → A (reply t h b)
   unfolding reply
   a_reply t h b a = record { id = a.id; waits = a.waits; cuts = held_more s t.state.locks t.out _ tt a.cuts }
 
-  a_tell : (t : Turn) (c : ClientId) (life : Life) (b : Body) → A t → A (tell t c life b)
+  a_tell : (t : ServerTurn) (c : ClientId) (life : Life) (b : Body) → A t → A (tell t c life b)
   unfolding tell
   a_tell t c life b a = record { id = a.id; waits = a.waits; cuts = held_more s t.state.locks t.out _ tt a.cuts }
 
@@ -164,7 +164,7 @@ module _ (s : ServerId) where
   unfolding locks.drop_waits
   drop_held l c i h = record { client = h.client; row = h.row; is = h.is; exclusive = h.exclusive }
 
-  a_suspect : (t : Turn) (now : Stamp) (c : ClientId) → A t → A (suspect_client t now c)
+  a_suspect : (t : ServerTurn) (now : Stamp) (c : ClientId) → A t → A (suspect_client t now c)
   unfolding suspect_client
   a_suspect t now c a =
       record {
@@ -173,39 +173,39 @@ module _ (s : ServerId) where
         cuts = held_more s (locks.drop_waits t.state.locks c) t.out _ tt (held_all s t.state.locks (locks.drop_waits t.state.locks c) (drop_held t.state.locks c) t.out a.cuts);
       }
 
-  a_greet_as : (t : Turn) (now : Stamp) (h : Header) (x : Hello) → A t → A (greet_as t now h x)
+  a_greet_as : (t : ServerTurn) (now : Stamp) (h : Header) (x : Hello) → A t → A (greet_as t now h x)
   unfolding greet_as
   a_greet_as t now h hellos.Welcome a = a_reply t h _ a
   a_greet_as t now h hellos.Replaced a = a_reply _ h _ (a_fewer t (locks.drop_waits t.state.locks (sender h)) (drop_apart t.state.locks (sender h) a.waits) (drop_held t.state.locks (sender h)) a)
   a_greet_as t now h hellos.Old a = a
   a_greet_as t now h hellos.Wait a = a_reply _ h _ (a_suspect t now (sender h) a)
 
-  a_hello : (t : Turn) (now : Stamp) (h : Header) → A t → A (hello t now h)
+  a_hello : (t : ServerTurn) (now : Stamp) (h : Header) → A t → A (hello t now h)
   unfolding hello greet greet_by refuse_in_grace
   a_hello t now h a = if_either A (sv.in_grace t now) _ _ (a_reply t h _ a) (a_greet_as _ now h _ (record { id = a.id; waits = a.waits; cuts = a.cuts }))
 
-  a_seen : (t : Turn) (h : Header) (ino : ℕ) (g : GrantNo) → B t → A (demand_seen t h ino g)
-  unfolding demand_seen see_demand
+  a_seen : (t : ServerTurn) (h : Header) (ino : ℕ) (g : GrantNo) → B t → A (demand_seen t h ino g)
+  unfolding demand_seen observe_demand
   a_seen t h ino g b =
       if_either A (sv.is_served t h) _ _ (then_after (with_locks (locks.demand_seen t.state.locks (sender h) ino g) t) (record { id = b.id; waits = seen_apart t.state.locks (sender h) ino g b.waits; none = b.none })) (then_after t b)
 
-  a_keep : (h : Header) (u : Turn) (b : Option Body) → A u → A (keep h u b)
+  a_keep : (h : Header) (u : ServerTurn) (b : Option Body) → A u → A (keep h u b)
   unfolding keep keep_and_reply
   a_keep h u None a = a
   a_keep h u (Some b) a = a_reply _ h b (record { id = a.id; waits = a.waits; cuts = a.cuts })
 
-  a_refuse : (t : Turn) (h : Header) (start : Stamp) (b : Body) → A t → A (refuse_suspect t h start b)
+  a_refuse : (t : ServerTurn) (h : Header) (start : Stamp) (b : Body) → A t → A (refuse_suspect t h start b)
   unfolding refuse_suspect
   a_refuse t h start (bd.DemandSeen i g) a = a
   a_refuse t h start b a = a_reply t h _ a
 
   -- a reassertion
-  a_reassert_again : (t : Turn) (h : Header) (tk : Taken Body) → A t → A (reassert_again t h tk)
+  a_reassert_again : (t : ServerTurn) (h : Header) (tk : Taken Body) → A t → A (reassert_again t h tk)
   unfolding reassert_again
   a_reassert_again t h (takes.Again b) a = a_reply t h b a
   a_reassert_again t h tk a = a
 
-  accepted_apart : (t : Turn) (now : Stamp) (h : Header) (rs : List (ℕ × GrantNo × Mode)) (x : grace.Accepted) → grace.accept t.state.grace now (sender h) (life_in h) rs t.state.locks t.state.sessions ≡ Ok x →
+  accepted_apart : (t : ServerTurn) (now : Stamp) (h : Header) (rs : List (ℕ × GrantNo × Mode)) (x : grace.Accepted) → grace.accept t.state.grace now (sender h) (life_in h) rs t.state.locks t.state.sessions ≡ Ok x →
       (grace.is_on t.state.grace now ≡ true → (w : Waiter) → Has w t.state.locks.waiters → w.client ≡ sender h → ⊥) → WaitsApart t.state.locks → WaitsApart x.locks
   unfolding grace.accept grace.accept_rows grace.accept_earlier grace.accept_own grace.accept_installed grace.accepted
   accepted_apart t now h rs x e n a = on (grace.is_on t.state.grace now) refl e
@@ -232,7 +232,7 @@ module _ (s : ServerId) where
       on true q z = earlier (n q) (Rattle.std.specs.Prelude.find (grace.is_new_grant t.state.locks) rs) z
       on false q z = cc
 
-  a_reassert : (t : Turn) (now : Stamp) (h : Header) (rs : List (ℕ × GrantNo × Mode)) → IsMet t now h (bd.Reassert rs) → (h.epoch == t.state.stable.epoch.0) ≡ true → B t → A (reassert t now h rs)
+  a_reassert : (t : ServerTurn) (now : Stamp) (h : Header) (rs : List (ℕ × GrantNo × Mode)) → IsMet t now h (bd.Reassert rs) → (h.epoch == t.state.stable.epoch.0) ≡ true → B t → A (reassert t now h rs)
   unfolding reassert reassert_new reassert_by
   a_reassert t now h rs n ep b =
       if_known A (sessions.knows t.state.sessions (sender h) (life_in h)) _ _ (λ e. a_reassert_again t h _ (then_after t b))
@@ -243,10 +243,10 @@ module _ (s : ServerId) where
       by (Err r) q n = a_reply t h _ (then_after t b)
 
   -- the rules of requests
-  b_locks : (t : Turn) (l : Locks) → WaitsApart l → B t → A (with_locks l t)
+  b_locks : (t : ServerTurn) (l : Locks) → WaitsApart l → B t → A (with_locks l t)
   b_locks t l w b = then_after (with_locks l t) (record { id = b.id; waits = w; none = b.none })
 
-  a_acquire : (t : Turn) (now : Stamp) (h : Header) (ino : ℕ) (mode : Mode) → B t → R (sv.acquire_lock t now h ino mode)
+  a_acquire : (t : ServerTurn) (now : Stamp) (h : Header) (ino : ℕ) (mode : Mode) → B t → R (sv.acquire_lock t now h ino mode)
   unfolding sv.acquire_lock sv.acquire_by
   a_acquire t now h ino mode b = go (locks.acquire t.state.locks (sender h) (life_in h) ino mode (sv.grants_now t now)) refl
     where
@@ -254,7 +254,7 @@ module _ (s : ServerId) where
       go (Ok a) q = b_locks t a.locks (acquire_apart t.state.locks (sender h) (life_in h) ino mode (sv.grants_now t now) a q b.waits) b
       go (Err r) q = then_after t b
 
-  a_allocate : (t : Turn) (ino : ℕ) (page : PageNo) (count : ℕ) → B t → R (sv.allocate_pages t ino page count)
+  a_allocate : (t : ServerTurn) (ino : ℕ) (page : PageNo) (count : ℕ) → B t → R (sv.allocate_pages t ino page count)
   unfolding sv.allocate_pages sv.allocate_by sv.with_extents_told
   a_allocate t ino page count b = go (extents.allocate t.state.stable.extents (sv.file t ino) page count)
     where
@@ -263,7 +263,7 @@ module _ (s : ServerId) where
       go (Err r) = then_after t b
 
   -- a cut, by somebody who holds the file exclusively
-  held_is : (t : Turn) (h : Header) (ino : ℕ) (g : GrantNo) → sv.holds t h ino g modes.X ≡ true → IsHeld ino t.state.locks
+  held_is : (t : ServerTurn) (h : Header) (ino : ℕ) (g : GrantNo) → sv.holds t h ino g modes.X ≡ true → IsHeld ino t.state.locks
   held_is t h ino g e = go (locks.row_of t.state.locks (sender h) ino) refl e
     where
       full : (m : Mode) → covers m modes.X ≡ true → m ≡ modes.X
@@ -275,21 +275,21 @@ module _ (s : ServerId) where
       go None q z = cc
       go (Some r) q z = record { client = sender h; row = r; is = q; exclusive = full r.mode (and_true (r.g.0 == g.0) (covers r.mode modes.X) z).1 }
 
-  a_cut : (t : Turn) (ino : ℕ) (page : PageNo) → IsHeld ino t.state.locks → B t → A (sv.cut_pages t ino page)
+  a_cut : (t : ServerTurn) (ino : ℕ) (page : PageNo) → IsHeld ino t.state.locks → B t → A (sv.cut_pages t ino page)
   unfolding sv.cut_pages
   a_cut t ino page i b = record { id = b.id; waits = b.waits; cuts = held_more s t.state.locks t.out (outputs.Note (notes.CutDone (sv.file t ino) page)) (b.id, i) (none_held s t.state.locks t.out b.none) }
 
-  a_found : (t : Turn) (r : Res ℕ EntryRefusal) → B t → R (sv.name_found t r)
+  a_found : (t : ServerTurn) (r : Res ℕ EntryRefusal) → B t → R (sv.name_found t r)
   unfolding sv.name_found sv.name_refused
   a_found t (Ok i) b = then_after t b
   a_found t (Err r) b = then_after t b
 
-  a_changed : (t : Turn) (r : Res names.Changed EntryRefusal) → B t → R (sv.name_changed t r)
+  a_changed : (t : ServerTurn) (r : Res names.Changed EntryRefusal) → B t → R (sv.name_changed t r)
   unfolding sv.name_changed sv.name_refused
   a_changed t (Ok y) b = record { id = b.id; waits = b.waits; cuts = none_held s t.state.locks t.out b.none }
   a_changed t (Err r) b = then_after t b
 
-  a_listed : (t : Turn) (r : Res (List NameRow) EntryRefusal) → B t → R (sv.names_listed t r)
+  a_listed : (t : ServerTurn) (r : Res (List NameRow) EntryRefusal) → B t → R (sv.names_listed t r)
   unfolding sv.names_listed sv.name_refused
   a_listed t (Ok y) b = then_after t b
   a_listed t (Err r) b = then_after t b
@@ -298,14 +298,14 @@ module _ (s : ServerId) where
   unfolding locks.drop_file_waits
   file_held l ino i h = record { client = h.client; row = h.row; is = h.is; exclusive = h.exclusive }
 
-  a_removed : (t : Turn) (ino : ℕ) (r : Res names.Changed EntryRefusal) → ((d : names.Changed) → r ≡ Ok d → d.ino ≡ ino) → IsHeld ino t.state.locks → B t → R (sv.remove_by t r)
+  a_removed : (t : ServerTurn) (ino : ℕ) (r : Res names.Changed EntryRefusal) → ((d : names.Changed) → r ≡ Ok d → d.ino ≡ ino) → IsHeld ino t.state.locks → B t → R (sv.remove_by t r)
   unfolding sv.remove_by sv.name_refused sv.cut_whole
   a_removed t ino (Ok y) q i b =
       a_cut (with_locks (locks.drop_file_waits t.state.locks y.ino) (sv.with_names y.names t)) y.ino _ (file_held t.state.locks y.ino y.ino (subst (λ n. IsHeld n t.state.locks) (sym (q y refl)) i))
       (record { id = b.id; waits = file_apart t.state.locks y.ino b.waits; none = b.none })
   a_removed t ino (Err r) q i b = then_after t b
 
-  a_remove : (t : Turn) (h : Header) (dir : ℕ) (n : List ℕ) (g : GrantNo) (r : Res ℕ EntryRefusal) → names.lookup t.state.stable.names dir n ≡ r → B t → R (sv.remove_found t h dir n g r)
+  a_remove : (t : ServerTurn) (h : Header) (dir : ℕ) (n : List ℕ) (g : GrantNo) (r : Res ℕ EntryRefusal) → names.lookup t.state.stable.names dir n ≡ r → B t → R (sv.remove_found t h dir n g r)
   unfolding sv.remove_found sv.remove_ino sv.remove_file sv.remove_dir sv.name_refused sv.not_holder
   a_remove t h dir n g (Err r) e b = then_after t b
   a_remove t h dir n g (Ok ino) e b =
@@ -313,7 +313,7 @@ module _ (s : ServerId) where
       (if_known R (sv.holds t h ino g modes.X) _ (sv.replied t _) (λ x. a_removed t ino (names.remove t.state.stable.names dir n) (λ d y. removed_is t.state.stable.names dir n ino d e y) (held_is t h ino g x) b) (λ x. then_after t b))
       (if_either R (g.0 == 0) _ (sv.replied t _) (a_changed t _ b) (then_after t b))
 
-  a_name : (t : Turn) (h : Header) (op : NameOp) → B t → R (sv.name t h op)
+  a_name : (t : ServerTurn) (h : Header) (op : NameOp) → B t → R (sv.name t h op)
   unfolding sv.name sv.remove
   a_name t h (Lookup dir n) b = a_found t _ b
   a_name t h (Create dir n) b = a_changed t _ b
@@ -322,7 +322,7 @@ module _ (s : ServerId) where
   a_name t h (Rename dir n dir2 n2) b = a_changed t _ b
   a_name t h (ListFrom dir after) b = a_listed t _ b
 
-  a_rule : (t : Turn) (now : Stamp) (h : Header) (m : Body) → B t → R (rule t now h m)
+  a_rule : (t : ServerTurn) (now : Stamp) (h : Header) (m : Body) → B t → R (rule t now h m)
   unfolding rule sv.keep_alive sv.acquire sv.no_file sv.released sv.released_by sv.map sv.map_held sv.map_page sv.not_holder sv.allocate sv.allocate_held sv.cut sv.cut_held sv.cut_from
   a_rule t now h bd.KeepAlive b = then_after t b
   a_rule t now h (bd.Acquire i m) b = if_either R (sv.is_file t i) (sv.acquire_lock t now h i m) (sv.no_file t i) (a_acquire t now h i m b) (then_after t b)
@@ -333,7 +333,7 @@ module _ (s : ServerId) where
   a_rule t now h (bd.Name op) b = a_name t h op b
   a_rule t now h m b = then_after t b
 
-  a_request_by : (t : Turn) (now : Stamp) (h : Header) (m : Body) (tk : Taken Body) → B t → A (request_by t now h m tk)
+  a_request_by : (t : ServerTurn) (now : Stamp) (h : Header) (m : Body) (tk : Taken Body) → B t → A (request_by t now h m tk)
   unfolding request_by refuse_epoch serve
   a_request_by t now h m takes.OtherEpoch b = a_reply t h _ (then_after t b)
   a_request_by t now h m takes.NoSession b = a_reply t h _ (then_after t b)
@@ -342,71 +342,71 @@ module _ (s : ServerId) where
   a_request_by t now h m takes.OutOfOrder b = then_after t b
   a_request_by t now h m takes.Fresh b = a_keep h _ _ (a_rule t now h m b)
 
-  a_request : (t : Turn) (now : Stamp) (h : Header) (m : Body) → IsMet t now h m → (h.epoch == t.state.stable.epoch.0) ≡ true → B t → A (request t now h m)
+  a_request : (t : ServerTurn) (now : Stamp) (h : Header) (m : Body) → IsMet t now h m → (h.epoch == t.state.stable.epoch.0) ≡ true → B t → A (request t now h m)
   unfolding request
   a_request t now h (bd.Reassert rs) n ep b = a_reassert t now h rs n ep b
   a_request t now h m n ep b = a_request_by t now h m _ b
 
-  a_of_epoch : (t : Turn) (now : Stamp) (h : Header) (m : Body) → IsMet t now h m → B t → A (of_epoch t now h m)
+  a_of_epoch : (t : ServerTurn) (now : Stamp) (h : Header) (m : Body) → IsMet t now h m → B t → A (of_epoch t now h m)
   unfolding of_epoch refuse_epoch
   a_of_epoch t now h m n b = if_known A (h.epoch == t.state.stable.epoch.0) _ _ (λ e. a_request t now h m n e b) (λ e. a_reply t h _ (then_after t b))
 
-  a_by_body : (t : Turn) (now : Stamp) (h : Header) (m : Body) → IsMet t now h m → B t → A (by_body t now h m)
+  a_by_body : (t : ServerTurn) (now : Stamp) (h : Header) (m : Body) → IsMet t now h m → B t → A (by_body t now h m)
   unfolding by_body
   a_by_body t now h bd.Hello n b = a_hello t now h (then_after t b)
   a_by_body t now h (bd.DemandSeen i g) n b = a_seen t h i g b
   a_by_body t now h m n b = a_of_epoch t now h m n b
 
-  a_by_suspicion : (t : Turn) (now : Stamp) (h : Header) (m : Body) (y : Option Stamp) → IsMet t now h m → B t → A (by_suspicion t now h m y)
+  a_by_suspicion : (t : ServerTurn) (now : Stamp) (h : Header) (m : Body) (y : Option Stamp) → IsMet t now h m → B t → A (by_suspicion t now h m y)
   unfolding by_suspicion
   a_by_suspicion t now h m None n b = a_by_body t now h m n b
   a_by_suspicion t now h m (Some start) n b = a_refuse t h start m (then_after t b)
 
-  a_input : (t : Turn) (now : Stamp) (i : ServerInput) → InputAlone t now i → B t → A (take_input t now i)
+  a_input : (t : ServerTurn) (now : Stamp) (i : ServerInput) → InputAlone t now i → B t → A (take_input t now i)
   unfolding take_input receive receive_from
   a_input t now Tick n b = then_after t b
   a_input t now (Control m) n b = if_known A (sv.is_for t.state m.header) _ _ (λ e. a_by_suspicion t now m.header m.body _ (n, e) b) (λ e. then_after t b)
 
   -- the passes
-  a_suspects : (now : Stamp) (cs : List ClientId) (t : Turn) → A t → A (suspect_each now cs t)
+  a_suspects : (now : Stamp) (cs : List ClientId) (t : ServerTurn) → A t → A (suspect_each now cs t)
   unfolding suspect_each suspect_unless
   a_suspects now [] t a = a
   a_suspects now (c ∷ cs) t a = a_suspects now cs _ (if_either A (authority.may_ack t.state.authority c) _ _ (a_suspect t now c a) a)
 
-  a_suspecting : (t : Turn) (now : Stamp) (i : ServerInput) → A t → A (suspecting_on t now i)
+  a_suspecting : (t : ServerTurn) (now : Stamp) (i : ServerInput) → A t → A (suspecting_on t now i)
   unfolding suspecting_on suspecting
   a_suspecting t now Tick a = a_suspects now _ t a
   a_suspecting t now (Control m) a = a
 
-  a_told : (rs : List (ClientId × Life × ℕ × GrantNo × Mode)) (t : Turn) → A t → A (tell_granted rs t)
+  a_told : (rs : List (ClientId × Life × ℕ × GrantNo × Mode)) (t : ServerTurn) → A t → A (tell_granted rs t)
   unfolding tell_granted
   a_told [] t a = a
   a_told (r ∷ rs) t a = a_told rs _ (a_tell t r.0 r.1 _ a)
 
-  a_granting : (t : Turn) (now : Stamp) → A t → A (granting t now)
+  a_granting : (t : ServerTurn) (now : Stamp) → A t → A (granting t now)
   unfolding granting grant_waiting grant_by
   a_granting t now a =
       let g = grants_grown t.state.locks a.waits in
       if_either A (sv.in_grace t now) t _ a (a_told _ _ (a_fewer t (locks.next_grants t.state.locks).locks g.waits g.held a))
 
-  a_demanded : (rs : List (ClientId × Life × ℕ × GrantNo × Mode)) (t : Turn) → A t → A (tell_demanded rs t)
+  a_demanded : (rs : List (ClientId × Life × ℕ × GrantNo × Mode)) (t : ServerTurn) → A t → A (tell_demanded rs t)
   unfolding tell_demanded
   a_demanded [] t a = a
   a_demanded (r ∷ rs) t a = a_demanded rs _ (a_tell t r.0 r.1 _ a)
 
-  a_demanding : (t : Turn) (now : Stamp) (i : ServerInput) → A t → A (demanding t now i)
+  a_demanding : (t : ServerTurn) (now : Stamp) (i : ServerInput) → A t → A (demanding t now i)
   unfolding demanding demand_by
   a_demanding t now i a =
       let g = demands_grown t.state.locks now (sv.is_tick i) (authority.suspects_of t.state.authority) t.state.config a.waits in
       a_demanded _ _ (a_fewer t (locks.demands_due t.state.locks now (sv.is_tick i) (authority.suspects_of t.state.authority) t.state.config).locks g.waits g.held a)
 
   -- the thefts
-  b_steal : (t : Turn) (c : ClientId) (x : Option Session) → B t → B (steal_at t c x)
+  b_steal : (t : ServerTurn) (c : ClientId) (x : Option Session) → B t → B (steal_at t c x)
   unfolding steal_at steal_from
   b_steal t c None b = b
   b_steal t c (Some x) b = record { id = b.id; waits = forget_apart t.state.locks c b.waits; none = none_more t.out _ tt b.none }
 
-  b_steals : (cs : List ClientId) (t : Turn) → B t → B (steal_each cs t)
+  b_steals : (cs : List ClientId) (t : ServerTurn) → B t → B (steal_each cs t)
   unfolding steal_each steal
   b_steals [] t b = b
   b_steals (c ∷ cs) t b = b_steals cs _ (b_steal t c (sessions.session_of t.state.sessions c) b)

@@ -23,7 +23,7 @@ use Rattle.st_lemmas.specs.Lists.{Has}
 use Rattle.st_lemmas.proofs.Lookups.{some_is}
 use Rattle.st_lemmas.proofs.Puts.{find_put_other}
 use Rattle.st_lemmas.proofs.Tables.{and_true, and_both, not_true, has_filter, has_append, has_map, find_kept, find_gone, find_map, found_at}
-use Rattle.st_laws_pages.specs.LockedCuts.Locked.{WaitsApart, IsHeld}
+use Rattle.st_laws_pages.specs.LockedCuts.CutLocks.{WaitsApart, IsHeld}
 use Rattle.st_laws_steps.proofs.Clash.{clash}
 
 -- Two keys: a client and a file.
@@ -94,9 +94,9 @@ map_held : (ino : ℕ) (l : Locks) (f : LockRow → LockRow) → SameKeys f → 
 map_held ino l f k m h = record { client = h.client; row = f h.row; is = map_found f k h.client ino l.rows ∙ ap (option_map f) h.is; exclusive = m h.row ∙ h.exclusive }
 
 -- a demand that is seen
-see_keys : (c : ClientId) (ino : ℕ) (g : GrantNo) → SameKeys (locks.observe c ino g)
+observe_keys : (c : ClientId) (ino : ℕ) (g : GrantNo) → SameKeys (locks.observe c ino g)
 unfolding locks.answered_row
-see_keys c ino g = record { client = λ r. client r (is_row_of c ino r && (r.g.0 == g.0)); ino = λ r. number r (is_row_of c ino r && (r.g.0 == g.0)); exclusive = λ r. mode r (is_row_of c ino r && (r.g.0 == g.0)) }
+observe_keys c ino g = record { client = λ r. client r (is_row_of c ino r && (r.g.0 == g.0)); ino = λ r. number r (is_row_of c ino r && (r.g.0 == g.0)); exclusive = λ r. mode r (is_row_of c ino r && (r.g.0 == g.0)) }
   where
     client : (r : LockRow) (b : Bool) → (if b then locks.answered_row r else r).client ≡ r.client
     client r true = refl
@@ -112,7 +112,7 @@ see_keys c ino g = record { client = λ r. client r (is_row_of c ino r && (r.g.0
 
 pub seen_apart : (l : Locks) (c : ClientId) (ino : ℕ) (g : GrantNo) → WaitsApart l → WaitsApart (locks.demand_seen l c ino g)
 unfolding locks.demand_seen
-seen_apart l c ino g h = map_apart l (locks.observe c ino g) (see_keys c ino g) h
+seen_apart l c ino g h = map_apart l (locks.observe c ino g) (observe_keys c ino g) h
 
 -- A release.
 lower_keys : (c : ClientId) (ino : ℕ) → SameKeys (locks.lower c ino)

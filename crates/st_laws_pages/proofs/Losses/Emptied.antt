@@ -69,9 +69,9 @@ take_bare s op ask t b = if_turn Bare (is_at s t.here) _ t (by ask) b
     by (asks.Sync f) = if_turn Bare (pages.has_lost t.here.lost f.ino) _ _ (record { session = b.session; greeting = b.greeting; store = b.store }) b
     by a = b
 
-hear_bare : (now : Stamp) (h : Header) (body : Body) (t : Turn) → Bare t.here → Bare (cr.receive_at now h body t).here
+receive_bare : (now : Stamp) (h : Header) (body : Body) (t : Turn) → Bare t.here → Bare (cr.receive_at now h body t).here
 unfolding cr.receive_at cr.by_session cr.without_session cr.welcome
-hear_bare now h body t b = if_turn Bare (cr.is_heard t now h) _ t (subst (λ o. Bare (cr.by_session t now h body o).here) (sym b.session) (by body)) b
+receive_bare now h body t b = if_turn Bare (cr.is_received t now h) _ t (subst (λ o. Bare (cr.by_session t now h body o).here) (sym b.session) (by body)) b
   where
     late : (stamp : Stamp) → cr.is_timely t now stamp ≡ false
     late stamp = ap (λ g. is_some g && nat_lt now.0 (stamp.0 + t.config.lease)) b.greeting
@@ -210,7 +210,7 @@ input_gives k t now input c = go input
     go (inputs.App op ask) =
         if_gives k Bare Bare (cl.is_full t.state) t _ _ (record { config = same.config; pairs = same.pairs })
         (if_gives k Bare Bare (cl.is_configured t.state (server_of ask)) t _ _ (each k Bare Bare _ (λ u e b. take_bare (server_of ask) op ask u b) t c) (record { config = same.config; pairs = same.pairs }))
-    go (inputs.Control m) = if_gives k Bare Bare (m.header.to == t.state.id.0) t _ t (each k Bare Bare _ (λ u e b. hear_bare now m.header m.body u b) t c) same
+    go (inputs.Control m) = if_gives k Bare Bare (m.header.to == t.state.id.0) t _ t (each k Bare Bare _ (λ u e b. receive_bare now m.header m.body u b) t c) same
     go (inputs.Done number result) = each k Bare Bare _ (λ u e b. finish_bare number result u b) t c
 
 step_gives : (s : ClientState) (now : Stamp) (input : ClientInput) → TurnGives s.config (Over s.config now) Empty (client_turn s []) (cl.client_step s now input)
@@ -227,10 +227,10 @@ step_gives s now input = go (each s.config (Over s.config now) Bare (cl.lose now
     v = at_each (cp.passes now (cl.is_tick input)) u
 
     go : TurnGives s.config (Over s.config now) Bare (client_turn s []) t → TurnGives s.config (Over s.config now) Empty (client_turn s []) v
-    go l = heard (input_gives s.config t now input l.config)
+    go l = received (input_gives s.config t now input l.config)
       where
-        heard : TurnGives s.config Bare Bare t u → TurnGives s.config (Over s.config now) Empty (client_turn s []) v
-        heard i =
+        received : TurnGives s.config Bare Bare t u → TurnGives s.config (Over s.config now) Empty (client_turn s []) v
+        received i =
             gives_then s.config (Over s.config now) Bare Empty (client_turn s []) u v (gives_then s.config (Over s.config now) Bare Bare (client_turn s []) t u l i)
             (each s.config Bare Empty (cp.passes now (cl.is_tick input)) (λ x e b. passes_empty now (cl.is_tick input) x (record { session = b.session; store = b.store })) u i.config)
 

@@ -30,7 +30,7 @@ use Rattle.st_rules.specs.Events as ev
 use Rattle.st_rules.specs.Events.{WorldTurn, present_life}
 use Rattle.st_rules.specs.History.{Traced, traced, association_of, association_at}
 use Rattle.st_rules.specs.World as world
-use Rattle.st_rules.specs.World.{World, ClientSite, site_of, site_runs, is_running, numbered, clock_of, same_node, message_of, receiver_of, issued_of, all_clients, all_servers, fresh_world}
+use Rattle.st_rules.specs.World.{World, WorldClient, site_of, site_runs, is_running, numbered, clock_of, same_node, message_of, receiver_of, issued_of, all_clients, all_servers, fresh_world}
 use Rattle.st_rules.specs.Safety.{step, takes_step, is_expired, has_reached, is_emptied, is_empty_store, is_told_at}
 use Rattle.st_lemmas.specs.Lists.{Has}
 use Rattle.st_lemmas.proofs.Numbers.{numbered_own}
@@ -38,7 +38,7 @@ use Rattle.st_lemmas.proofs.Steps.{throughout, step_happens}
 use Rattle.st_lemmas.proofs.Tables.{all_pass, and_both, and_true}
 use Rattle.st_laws_steps.specs.Client.Losses.{Fit, is_ended}
 use Rattle.st_laws_steps.specs.Lives.Lives.{ended_rows, LivesHold}
-use Rattle.st_laws_pages.specs.Disks.Owed.{FatesHold}
+use Rattle.st_laws_pages.specs.Disks.Obligations.{FatesHold}
 use Rattle.st_laws_pages.proofs.Lives.Lasting.{Flushed, flush_parts}
 use Rattle.st_laws_pages.proofs.Disks.Steps.{counted_fates, fates_law}
 use Rattle.st_laws_pages.proofs.Lives.Turning.{Said, says_lives}
@@ -71,7 +71,7 @@ abbrev LeftEmpty : World → World → ClientId → ServerId → Type 0
 LeftEmpty w v c s = is_emptied (present_life w c s) (association_of v c s) ≡ true
 
 -- A client takes an input.
-client_empties : (w : World) (c : ClientId) (s : ServerId) (input : ClientInput) (old site : ClientSite) → site_of w c ≡ Some old → old.node ≡ site.node → site.node.running ≡ true → LivesHold w → is_expired w c s ≡ true →
+client_empties : (w : World) (c : ClientId) (s : ServerId) (input : ClientInput) (old site : WorldClient) → site_of w c ≡ Some old → old.node ≡ site.node → site.node.running ≡ true → LivesHold w → is_expired w c s ≡ true →
     LeftEmpty w (ev.client_takes w c input site).world c s
 unfolding cl.node_step ev.client_takes ev.client_took
 client_empties w c s input old site there same runs h x = go site.node.running runs
@@ -133,7 +133,7 @@ at_empties : (w : World) (c : ClientId) (s : ServerId) (input : ClientInput) →
 unfolding ev.at_client
 at_empties w c s input runs h x = go (site_of w c) refl runs
   where
-    go : (o : Option ClientSite) → site_of w c ≡ o → site_runs o ≡ true → LeftEmpty w (ev.at_client w c input o).world c s
+    go : (o : Option WorldClient) → site_of w c ≡ o → site_runs o ≡ true → LeftEmpty w (ev.at_client w c input o).world c s
     go None e r = cc
     go (Some site) e r = client_empties w c s input site site e refl r h x
 
@@ -141,7 +141,7 @@ asks_empties : (w : World) (c : ClientId) (s : ServerId) (ask : Ask) → site_ru
 unfolding ev.asks_at
 asks_empties w c s ask runs h x = go (site_of w c) refl runs
   where
-    go : (o : Option ClientSite) → site_of w c ≡ o → site_runs o ≡ true → LeftEmpty w (ev.asks_at w c ask o).world c s
+    go : (o : Option WorldClient) → site_of w c ≡ o → site_runs o ≡ true → LeftEmpty w (ev.asks_at w c ask o).world c s
     go None e r = cc
     go (Some site) e r = client_empties w c s _ site (ev.asked_once_more site) e refl r h x
 
@@ -150,12 +150,12 @@ told_empties : (w : World) (s : ServerId) (k : ℕ) (ok : Bool) (y : IssuedComma
 unfolding ev.tells_client ev.tells_site
 told_empties w s k ok y told h x = go (site_of w y.client) refl told
   where
-    at : (site : ClientSite) → site_of w y.client ≡ Some site → site.node.running ≡ true → (b : Bool) → b ≡ true →
+    at : (site : WorldClient) → site_of w y.client ≡ Some site → site.node.running ≡ true → (b : Bool) → b ≡ true →
         LeftEmpty w (if b then ev.client_takes w y.client (ev.end_told w k ok y) site else ev.quiet w).world y.client s
     at site e r true q = client_empties w y.client s _ site site e refl r h x
     at site e r false q = cc
 
-    go : (o : Option ClientSite) → site_of w y.client ≡ o → is_told_at y o ≡ true → LeftEmpty w (ev.tells_client w k ok y o).world y.client s
+    go : (o : Option WorldClient) → site_of w y.client ≡ o → is_told_at y o ≡ true → LeftEmpty w (ev.tells_client w k ok y o).world y.client s
     go None e r = cc
     go (Some site) e r = at site e (and_true site.node.running (site.starts == y.starts) r).0 (ev.is_same_instance y site) r
 

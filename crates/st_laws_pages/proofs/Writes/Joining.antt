@@ -23,7 +23,7 @@ use Rattle.st_rules.specs.Disks as disks
 use Rattle.st_rules.specs.Events as ev
 use Rattle.st_rules.specs.Events.{WorldTurn, client_notes, client_says, client_says_all}
 use Rattle.st_rules.specs.World as world
-use Rattle.st_rules.specs.World.{World, ClientSite, clock_of, life_with, numbered, site_of, with_numbered}
+use Rattle.st_rules.specs.World.{World, WorldClient, clock_of, life_with, numbered, site_of, with_numbered}
 use Rattle.st_lemmas.specs.Lists.{Has}
 use Rattle.st_lemmas.proofs.Lookups.{some_is}
 use Rattle.st_lemmas.proofs.Numbers.{length_more, numbered_below, numbered_has, numbered_other, numbered_own}
@@ -43,7 +43,7 @@ use Rattle.st_laws_pages.proofs.Causes.FlushSteps.{flushes_disks}
 use Rattle.st_laws_pages.proofs.Causes.Commands.{at_more}
 
 -- a command that these outputs submit
-pub record IsNew (c : ClientId) (site : ClientSite) (size : ℕ) (os : List Output) (x : IssuedCommand) (d : DiskCommand) : Type 0 where
+pub record IsNew (c : ClientId) (site : WorldClient) (size : ℕ) (os : List Output) (x : IssuedCommand) (d : DiskCommand) : Type 0 where
   pub at : BlockAt
   pub what : Command
   pub said : Has (outputs.Submit x.number at what) os
@@ -55,7 +55,7 @@ pub record IsNew (c : ClientId) (site : ClientSite) (size : ℕ) (os : List Outp
   pub fresh : d.sample ≡ None
 
 -- Commands go by one number at the disks and at their clients.
-pub record Counted (c : ClientId) (site : ClientSite) (size : ℕ) (sc : WorldTurn) : Type 0 where
+pub record Counted (c : ClientId) (site : WorldClient) (size : ℕ) (sc : WorldTurn) : Type 0 where
   pub own : site_of sc.world c ≡ Some site
   pub counts : length sc.world.commands ≡ length sc.world.disks.commands
   pub servers : length sc.world.servers ≡ size
@@ -64,18 +64,18 @@ abbrev pub IsAt : WorldTurn → ℕ → IssuedCommand → DiskCommand → Type 0
 IsAt sc k x d = (numbered sc.world.commands k ≡ Some x) × (disks.command_at sc.world.disks.commands k ≡ Some d)
 
 -- one output
-record OneSays (c : ClientId) (site : ClientSite) (size : ℕ) (o : Output) (sc u : WorldTurn) : Type 0 where
+record OneSays (c : ClientId) (site : WorldClient) (size : ℕ) (o : Output) (sc u : WorldTurn) : Type 0 where
   counts : length u.world.commands ≡ length u.world.disks.commands
   servers : length u.world.servers ≡ size
   from : (k : ℕ) (x : IssuedCommand) (d : DiskCommand) → IsAt u k x d → IsAt sc k x d ⊎ IsNew c site size (o ∷ []) x d
 
-one_says : (c : ClientId) (before : ClientState) (site : ClientSite) (size : ℕ) (o : Output) (sc : WorldTurn) → Counted c site size sc → OneSays c site size o sc (client_says sc c before o)
+one_says : (c : ClientId) (before : ClientState) (site : WorldClient) (size : ℕ) (o : Output) (sc : WorldTurn) → Counted c site size sc → OneSays c site size o sc (client_says sc c before o)
 unfolding client_says client_notes ev.sends ev.submits ev.answers_with ev.accepts ev.patches ev.loses
 one_says c before site size (outputs.Send m) sc h = record { counts = h.counts; servers = h.servers; from = λ k x d i. inl i }
 one_says c before site size (outputs.Answer op a) sc h = record { counts = h.counts; servers = h.servers; from = λ k x d i. inl i }
 one_says c before site size (outputs.Submit number at what) sc h = go (site_of sc.world c) h.own
   where
-    go : (o : Option ClientSite) → o ≡ Some site → OneSays c site size (outputs.Submit number at what) sc (ev.submits sc c o number at what)
+    go : (o : Option WorldClient) → o ≡ Some site → OneSays c site size (outputs.Submit number at what) sc (ev.submits sc c o number at what)
     go None e = cc
     go (Some s) e =
         record {
@@ -96,9 +96,9 @@ one_says c before site size (outputs.Submit number at what) sc h = go (site_of s
               what = what;
               said = inl (ap (λ (z : IssuedCommand). outputs.Submit z.number at what) q);
               client = ap (λ (z : IssuedCommand). z.client) q;
-              starts = ap (λ (z : IssuedCommand). z.starts) q ∙ ap (λ (z : ClientSite). z.starts) (some_is e);
+              starts = ap (λ (z : IssuedCommand). z.starts) q ∙ ap (λ (z : WorldClient). z.starts) (some_is e);
               server = ap (λ (z : IssuedCommand). z.server) q ∙ ap (λ n. world.server (pred at.disk.0 % n + 1)) h.servers;
-              life = ap (λ (z : IssuedCommand). z.life) q ∙ ap (λ (z : ClientSite). life_with z.node.state y.server) (some_is e) ∙ ap (life_with site.node.state) (ap (λ (z : IssuedCommand). z.server) (sym q));
+              life = ap (λ (z : IssuedCommand). z.life) q ∙ ap (λ (z : WorldClient). life_with z.node.state y.server) (some_is e) ∙ ap (life_with site.node.state) (ap (λ (z : IssuedCommand). z.server) (sym q));
               what_is = ap (λ (z : DiskCommand). z.what) r;
               fresh = ap (λ (z : DiskCommand). z.sample) r;
             })
@@ -110,11 +110,11 @@ one_says c before site size (outputs.Note n) sc h = note n
     note (notes.Lost s life) = record { counts = h.counts; servers = h.servers; from = λ k x d i. inl i }
     note n = record { counts = h.counts; servers = h.servers; from = λ k x d i. inl i }
 
-new_more : (c : ClientId) (site : ClientSite) (size : ℕ) (os ps : List Output) (x : IssuedCommand) (d : DiskCommand) → ((o : Output) → Has o os → Has o ps) → IsNew c site size os x d → IsNew c site size ps x d
+new_more : (c : ClientId) (site : WorldClient) (size : ℕ) (os ps : List Output) (x : IssuedCommand) (d : DiskCommand) → ((o : Output) → Has o os → Has o ps) → IsNew c site size os x d → IsNew c site size ps x d
 new_more c site size os ps x d f n = record { at = n.at; what = n.what; said = f _ n.said; client = n.client; starts = n.starts; server = n.server; life = n.life; what_is = n.what_is; fresh = n.fresh }
 
 -- all outputs
-pub all_say : (c : ClientId) (before : ClientState) (site : ClientSite) (size : ℕ) (os : List Output) (sc : WorldTurn) → Counted c site size sc → (k : ℕ) (x : IssuedCommand) (d : DiskCommand) → IsAt (After c before sc os) k x d →
+pub all_say : (c : ClientId) (before : ClientState) (site : WorldClient) (size : ℕ) (os : List Output) (sc : WorldTurn) → Counted c site size sc → (k : ℕ) (x : IssuedCommand) (d : DiskCommand) → IsAt (After c before sc os) k x d →
     IsAt sc k x d ⊎ IsNew c site size os x d
 unfolding client_says_all
 all_say c before site size [] sc h k x d i = inl i
@@ -145,7 +145,7 @@ placed_at size (o ∷ os) h n at to tag bytes (inl e) = subst (PlacedOne size) (
 placed_at size (o ∷ os) h n at to tag bytes (inr i) = placed_at size os h.rest n at to tag bytes i
 
 -- A command of a client that there is, at a server of it, is of its present life or of one before.
-pub life_low : (w : World) (c : ClientId) (site : ClientSite) → site_of w c ≡ Some site → LivesHold w → (b : Association) → Has b site.node.state.associations → (k : ℕ) (x : IssuedCommand) → numbered w.commands k ≡ Some x → x.client ≡ c → x.server ≡ b.server →
+pub life_low : (w : World) (c : ClientId) (site : WorldClient) → site_of w c ≡ Some site → LivesHold w → (b : Association) → Has b site.node.state.associations → (k : ℕ) (x : IssuedCommand) → numbered w.commands k ≡ Some x → x.client ≡ c → x.server ≡ b.server →
     x.life.0 ≤ b.life.0
 life_low w c site there h b i k x is cx sx = go (h.known.commands x (numbered_has w.commands k x is))
   where
@@ -174,13 +174,13 @@ pair_before R (x ∷ al) (y ∷ bl) p b (inl e) = (x, inl refl, subst (R x) (sym
 pair_before R (x ∷ al) (y ∷ bl) p b (inr i) = let z = pair_before R al bl p.rest b i in (z.0, inr z.1, z.2)
 
 -- What an input ends was reported.
-abbrev pub EndsReported : World → ClientId → ClientSite → ClientInput → Type 0
+abbrev pub EndsReported : World → ClientId → WorldClient → ClientInput → Type 0
 EndsReported w c old input =
     (k : ℕ) (x : IssuedCommand) (d : DiskCommand) (tag : Tag) (a : Association) → numbered w.commands k ≡ Some x → disks.command_at w.disks.commands k ≡ Some d → d.report ≡ reports.Open → x.client ≡ c →
     Has a old.node.state.associations → ListedSince old.starts a x tag → EndedBy input x.number → ⊥
 
 -- A client's step.
-module _ (w : World) (c : ClientId) (old site : ClientSite) (input : ClientInput) (there : site_of w c ≡ Some old) (same : old.node ≡ site.node) (starts : old.starts ≡ site.starts) (runs : site.node.running ≡ true) (h : LivesHold w) (counts : length w.commands ≡ length w.disks.commands)
+module _ (w : World) (c : ClientId) (old site : WorldClient) (input : ClientInput) (there : site_of w c ≡ Some old) (same : old.node ≡ site.node) (starts : old.starts ≡ site.starts) (runs : site.node.running ≡ true) (h : LivesHold w) (counts : length w.commands ≡ length w.disks.commands)
     (placed : Placed (length w.servers) (cl.client_step site.node.state (clock_of w (nodes.Client c)) input).out) (once_old : (a : Association) → Has a old.node.state.associations → WritesOnce a) (ends : EndsReported w c old input) (open_ : OpenHold w) where
   abbrev now : Stamp
   now = clock_of w (nodes.Client c)
@@ -188,7 +188,7 @@ module _ (w : World) (c : ClientId) (old site : ClientSite) (input : ClientInput
   abbrev turn : cl.NodeTurn
   turn = cl.node_turn site.node (cl.client_step site.node.state now input)
 
-  abbrev after : ClientSite
+  abbrev after : WorldClient
   after = ev.at_node turn.node site
 
   abbrev sc : WorldTurn
@@ -265,9 +265,9 @@ module _ (w : World) (c : ClientId) (old site : ClientSite) (input : ClientInput
 
       mine : (p : d.0 ≡ c.0) (q : after ≡ y) → IsAt sc k x dc ⊎ IsNew c after (length w.servers) turn.out x dc → ListedSince y.starts a x tag
       mine p q (inl z) =
-          subst (λ (s : ClientSite). ListedSince s.starts a x tag) q
-          (mine_old a (subst (λ (s : ClientSite). Has a s.node.state.associations) (sym q) i) k x dc at tag bytes z wh op (cx ∙ ap (λ n. record { 0 = n }) p) sx lx)
-      mine p q (inr n) = subst (λ (s : ClientSite). ListedSince s.starts a x tag) q (mine_new a (subst (λ (s : ClientSite). Has a s.node.state.associations) (sym q) i) x dc at tag bytes n wh sx)
+          subst (λ (s : WorldClient). ListedSince s.starts a x tag) q
+          (mine_old a (subst (λ (s : WorldClient). Has a s.node.state.associations) (sym q) i) k x dc at tag bytes z wh op (cx ∙ ap (λ n. record { 0 = n }) p) sx lx)
+      mine p q (inr n) = subst (λ (s : WorldClient). ListedSince s.starts a x tag) q (mine_new a (subst (λ (s : WorldClient). Has a s.node.state.associations) (sym q) i) x dc at tag bytes n wh sx)
 
       others : (d.0 ≢ c.0) → IsAt sc k x dc ⊎ IsNew c after (length w.servers) turn.out x dc → ListedSince y.starts a x tag
       others n (inl z) = open_ d y (sym (numbered_other w.clients c.0 d.0 after (numbered_below w.clients c.0 old there).0 n) ∙ its) r a i k x dc at tag bytes z.0 z.1 wh op cx sx lx

@@ -40,7 +40,7 @@ use Rattle.st_rules.specs.Safety.{Step, Throughout, step, steps}
 use Rattle.st_rules.specs.Server as server
 use Rattle.st_rules.specs.Server.{ServerNode}
 use Rattle.st_rules.specs.World as world
-use Rattle.st_rules.specs.World.{World, ClientSite, clock_of, fresh_world, issued_of, node_of, numbered, site_of, with_numbered}
+use Rattle.st_rules.specs.World.{World, WorldClient, clock_of, fresh_world, issued_of, node_of, numbered, site_of, with_numbered}
 use Rattle.st_lemmas.specs.Lists.{Has}
 use Rattle.st_lemmas.proofs.Lookups.{some_is}
 use Rattle.st_lemmas.proofs.Numbers.{numbered_below, numbered_has, numbered_other, numbered_own, set_length, set_own}
@@ -69,7 +69,7 @@ moved w v cs xs f h c site e r a i k x d at tag bytes is js wh op cx sx lx =
     h c site (ap (λ zs. numbered zs c.0) (sym cs) ∙ e) r a i k x z.0 at tag bytes (ap (λ zs. numbered zs k) (sym xs) ∙ is) z.1 (sym z.3 ∙ wh) z.2 cx sx lx
 
 -- A client that takes an input.
-takes : (past : List Step) (w : World) (c : ClientId) (input : ClientInput) (old site : ClientSite) → site_of w c ≡ Some old → old.node ≡ site.node → old.starts ≡ site.starts → LivesHold w → PlacesAt (length w.servers) w → length w.commands ≡ length w.disks.commands →
+takes : (past : List Step) (w : World) (c : ClientId) (input : ClientInput) (old site : WorldClient) → site_of w c ≡ Some old → old.node ≡ site.node → old.starts ≡ site.starts → LivesHold w → PlacesAt (length w.servers) w → length w.commands ≡ length w.disks.commands →
     InputTells (length w.servers) input → (site.node.running ≡ true → (a : Association) → Has a old.node.state.associations → WritesOnce a) → (site.node.running ≡ true → EndsReported w c old input) → OpenHold w → OpenHold (ev.client_takes w c input site).world
 unfolding cl.node_step ev.client_takes ev.client_took
 takes past w c input old site there same starts l pl n tells once ends h = go site.node.running refl
@@ -114,14 +114,14 @@ at_server w s input (Some node) h = go (server.node_step node (clock_of w (nodes
     go (Ok t) = server_says s t.out (ev.quiet (ev.with_node s t.node w)) h
 
 -- A crash of a client, and its start.
-own_or_other : (w : World) (c d : ClientId) (site new y : ClientSite) → site_of w c ≡ Some site → numbered (with_numbered c.0 new w.clients) d.0 ≡ Some y → ((d ≡ c) × (y ≡ new)) ⊎ (numbered w.clients d.0 ≡ Some y)
+own_or_other : (w : World) (c d : ClientId) (site new y : WorldClient) → site_of w c ≡ Some site → numbered (with_numbered c.0 new w.clients) d.0 ≡ Some y → ((d ≡ c) × (y ≡ new)) ⊎ (numbered w.clients d.0 ≡ Some y)
 own_or_other w c d site new y there e = go (same_or_not d.0 c.0)
   where
     go : (d.0 ≡ c.0) ⊎ (d.0 ≢ c.0) → ((d ≡ c) × (y ≡ new)) ⊎ (numbered w.clients d.0 ≡ Some y)
     go (inl q) = inl (ap (λ n. record { 0 = n }) q, some_is (sym e ∙ ap (numbered (with_numbered c.0 new w.clients)) q ∙ numbered_own w.clients c.0 new site there))
     go (inr n) = inr (sym (numbered_other w.clients c.0 d.0 new (numbered_below w.clients c.0 site there).0 n) ∙ e)
 
-crashed : (w : World) (c : ClientId) (site : ClientSite) → site_of w c ≡ Some site → OpenHold w → OpenHold (ev.crashes_client w c (Some site)).world
+crashed : (w : World) (c : ClientId) (site : WorldClient) → site_of w c ≡ Some site → OpenHold w → OpenHold (ev.crashes_client w c (Some site)).world
 unfolding ev.crashes_client ev.marks cl.crash
 crashed w c site there h d y e r a i = go (own_or_other w c d site (ev.stopped_site site) y there e)
   where
@@ -129,30 +129,30 @@ crashed w c site there h d y e r a i = go (own_or_other w c d site (ev.stopped_s
     no z = cc
 
     go : ((d ≡ c) × (y ≡ ev.stopped_site site)) ⊎ (numbered w.clients d.0 ≡ Some y) → Rattle.st_laws_pages.specs.Writes.Writes.OpenListed w.commands w.disks.commands d y.starts a
-    go (inl q) = absurd (no (sym (ap (λ (z : ClientSite). z.node.running) q.1) ∙ r))
+    go (inl q) = absurd (no (sym (ap (λ (z : WorldClient). z.node.running) q.1) ∙ r))
     go (inr q) = h d y q r a i
 
-started : (w : World) (c : ClientId) (site : ClientSite) → site_of w c ≡ Some site → LivesHold w → OpenHold w → OpenHold (ev.starts_client w c (Some site))
+started : (w : World) (c : ClientId) (site : WorldClient) → site_of w c ≡ Some site → LivesHold w → OpenHold w → OpenHold (ev.starts_client w c (Some site))
 unfolding ev.starts_client cl.start
 started w c site there l h d y e r a i = go (own_or_other w c d site (ev.started_site site) y there e)
   where
     go : ((d ≡ c) × (y ≡ ev.started_site site)) ⊎ (numbered w.clients d.0 ≡ Some y) → Rattle.st_laws_pages.specs.Writes.Writes.OpenListed w.commands w.disks.commands d y.starts a
     go (inr q) = h d y q r a i
     go (inl q) = λ k x dc at tag bytes is js wh op cx sx lx.
-        let z = has_map cl.started_association site.node.state.associations a (subst (λ (s : ClientSite). Has a s.node.state.associations) q.1 i) in
+        let z = has_map cl.started_association site.node.state.associations a (subst (λ (s : WorldClient). Has a s.node.state.associations) q.1 i) in
         let low = life_low w c site there l z.0 z.1 k x is (cx ∙ q.0) (sx ∙ ap (λ (b : Association). b.server) z.2) in
         let next = ap (λ (b : Association). b.life.0) z.2 in
         let same = ap (λ (v : Life). v.0) lx in absurd (omega (arith, low, next, same))
 
 -- Every event.
 module _ (past : List Step) (w : World) (l : LivesHold w) (pl : PlacesAt (length w.servers) w) (b : BothHold past w) (h : OpenHold w) where
-  none_ends : (c : ClientId) (old : ClientSite) (input : ClientInput) → ((n : ℕ) → EndedBy input n → ⊥) → EndsReported w c old input
+  none_ends : (c : ClientId) (old : WorldClient) (input : ClientInput) → ((n : ℕ) → EndedBy input n → ⊥) → EndsReported w c old input
   none_ends c old input f k x d tag a is js op cx i ls e = f x.number e
 
-  once_at : (c : ClientId) (site : ClientSite) → site_of w c ≡ Some site → site.node.running ≡ true → (a : Association) → Has a site.node.state.associations → WritesOnce a
+  once_at : (c : ClientId) (site : WorldClient) → site_of w c ≡ Some site → site.node.running ≡ true → (a : Association) → Has a site.node.state.associations → WritesOnce a
   once_at c site e r a i = ((b.flush.sites c site e r).cared a i).once
 
-  at_client : (c : ClientId) (input : ClientInput) (o : Option ClientSite) → site_of w c ≡ o → InputTells (length w.servers) input → ((n : ℕ) → EndedBy input n → ⊥) → OpenHold (ev.at_client w c input o).world
+  at_client : (c : ClientId) (input : ClientInput) (o : Option WorldClient) → site_of w c ≡ o → InputTells (length w.servers) input → ((n : ℕ) → EndedBy input n → ⊥) → OpenHold (ev.at_client w c input o).world
   unfolding ev.at_client
   at_client c input None e tells f = h
   at_client c input (Some site) e tells f = takes past w c input site site e refl refl l pl b.writes.commands.counts tells (once_at c site e) (λ r. none_ends c site input f) h
@@ -172,7 +172,7 @@ module _ (past : List Step) (w : World) (l : LivesHold w) (pl : PlacesAt (length
     own : disks.command v.disks (suc n) ≡ Some (disks.reported ok d)
     own = set_own w.disks.commands n (disks.reported ok d) d is
 
-    ends : (y : IssuedCommand) (site : ClientSite) → issued_of w (suc n) ≡ Some y → site_of w y.client ≡ Some site → y.starts ≡ site.starts → site.node.running ≡ true → EndsReported v y.client site (ev.end_told v (suc n) ok y)
+    ends : (y : IssuedCommand) (site : WorldClient) → issued_of w (suc n) ≡ Some y → site_of w y.client ≡ Some site → y.starts ≡ site.starts → site.node.running ≡ true → EndsReported v y.client site (ev.end_told v (suc n) ok y)
     ends y site q there st r k x dc tag a xs js op cx i ls e =
         shut ok (ap (λ (z : DiskCommand). z.report) (some_is (sym own ∙ ap (disks.command_at v.disks.commands) (sym same) ∙ js)) ∙ op)
       where
@@ -189,14 +189,14 @@ module _ (past : List Step) (w : World) (l : LivesHold w) (pl : PlacesAt (length
     told None q = open_v
     told (Some y) q = at_site (site_of w y.client) refl
       where
-        at : (site : ClientSite) → site_of w y.client ≡ Some site → (z : Bool) → ev.is_same_instance y site ≡ z → OpenHold (if z then ev.client_takes v y.client (ev.end_told v (suc n) ok y) site else ev.quiet v).world
+        at : (site : WorldClient) → site_of w y.client ≡ Some site → (z : Bool) → ev.is_same_instance y site ≡ z → OpenHold (if z then ev.client_takes v y.client (ev.end_told v (suc n) ok y) site else ev.quiet v).world
         at site s true t =
             takes past v y.client (ev.end_told v (suc n) ok y) site site s refl refl (record { lives = l.lives; known = l.known }) (record { count = pl.count; told = pl.told; known = pl.known })
             (b.writes.commands.counts ∙ sym (set_length w.disks.commands n (disks.reported ok d))) tt (once_at y.client site s)
             (ends y site q s (sym (eqb-true site.starts y.starts (and_true site.node.running (site.starts == y.starts) t).1))) open_v
         at site s false t = open_v
 
-        at_site : (s : Option ClientSite) → site_of w y.client ≡ s → OpenHold (ev.tells_client v (suc n) ok y s).world
+        at_site : (s : Option WorldClient) → site_of w y.client ≡ s → OpenHold (ev.tells_client v (suc n) ok y s).world
         at_site None s = open_v
         at_site (Some site) s = at site s (ev.is_same_instance y site) refl
 
@@ -224,7 +224,7 @@ module _ (past : List Step) (w : World) (l : LivesHold w) (pl : PlacesAt (length
   happens_open (events.Tick (nodes.Server s)) r = at_server w s serving.Tick (node_of w s) h
   happens_open (events.App c ask) r = go (site_of w c) refl
     where
-      go : (s : Option ClientSite) → site_of w c ≡ s → OpenHold (ev.asks_at w c ask s).world
+      go : (s : Option WorldClient) → site_of w c ≡ s → OpenHold (ev.asks_at w c ask s).world
       go None e = h
       go (Some site) e = takes past w c (inputs.App (site.asks + 1) ask) site (ev.asked_once_more site) e refl refl l pl b.writes.commands.counts tt (once_at c site e) (λ z. none_ends c site (inputs.App (site.asks + 1) ask) none) h
   happens_open (events.Deliver k) r = go (world.message_of w k) refl
@@ -248,7 +248,7 @@ module _ (past : List Step) (w : World) (l : LivesHold w) (pl : PlacesAt (length
   happens_open (events.Report k ok) r = report_open k ok r
   happens_open (events.Crash (nodes.Client c)) r = go (site_of w c) refl
     where
-      go : (s : Option ClientSite) → site_of w c ≡ s → OpenHold (ev.crashes_client w c s).world
+      go : (s : Option WorldClient) → site_of w c ≡ s → OpenHold (ev.crashes_client w c s).world
       go None e = h
       go (Some site) e = crashed w c site e h
   happens_open (events.Crash (nodes.Server s)) r = go (node_of w s)
@@ -258,7 +258,7 @@ module _ (past : List Step) (w : World) (l : LivesHold w) (pl : PlacesAt (length
       go (Some node) = h
   happens_open (events.Start (nodes.Client c)) r = go (site_of w c) refl
     where
-      go : (s : Option ClientSite) → site_of w c ≡ s → OpenHold (ev.starts_client w c s)
+      go : (s : Option WorldClient) → site_of w c ≡ s → OpenHold (ev.starts_client w c s)
       go None e = h
       go (Some site) e = started w c site e l h
   happens_open (events.Start (nodes.Server s)) r = go (node_of w s)

@@ -24,12 +24,12 @@ use Rattle.st_rules.specs.ClientState.{Association, ClientState, ClientSession, 
 use Rattle.st_lemmas.specs.Lists.{Has}
 use Rattle.st_lemmas.proofs.Tables.{has_append}
 use Rattle.st_laws_steps.specs.Client.Losses.{Fit, is_ended}
-use Rattle.st_laws_steps.specs.Client.Taking as taking
-use Rattle.st_laws_steps.specs.Client.Taking.{Taken}
+use Rattle.st_laws_steps.specs.Client.Inputs as taking
+use Rattle.st_laws_steps.specs.Client.Inputs.{Taken}
 use Rattle.st_laws_steps.specs.Lives.Lives.{Pairwise}
 use Rattle.st_laws_steps.proofs.Client.Nexts.{changes_next}
 use Rattle.st_laws_steps.proofs.Client.Asking.{c_passes}
-use Rattle.st_laws_steps.proofs.Client.Replying.{c_hear}
+use Rattle.st_laws_steps.proofs.Client.Replying.{c_receive}
 use Rattle.st_laws_steps.proofs.Client.Losing.{c_only, finish_is, is_done}
 use Rattle.st_laws_steps.proofs.Client.Noting.{pair_has}
 use Rattle.st_laws_steps.proofs.Client.Stepping.{each, LostOrNot, Phased, finish_next, pairs_then, pairs_has, pairs_same, phased}
@@ -146,7 +146,7 @@ input_keeps now _ t _ k f o = go _ _ k
     go _ _ (taking.Full op ask e) = at_once op answers.OpsFull
     go _ _ (taking.Unknown op ask e g) = at_once op answers.NoFile
     go _ _ (taking.Takes op ask e g) = each_keeps Fit NoneEnds (only_at (server_of ask) (cl.take_ask op ask)) (λ u p. changes_rule now u _ (c_only now (server_of ask) op ask u)) t f
-    go _ _ (taking.Hears m e) = each_keeps Fit NoneEnds (cr.receive_at now m.header m.body) (λ u p. changes_rule now u _ (c_hear now m.header m.body u p.fresh)) t f
+    go _ _ (taking.Receives m e) = each_keeps Fit NoneEnds (cr.receive_at now m.header m.body) (λ u p. changes_rule now u _ (c_receive now m.header m.body u p.fresh)) t f
     go _ _ (taking.Finishes number result) =
         each_keeps FitOnce (λ n. n ≡ number) (cl.finish number result)
         (λ u p. let n = finish_next now number result u in record { keeps = finished_keeps now number (is_done result) u (cl.finish number result u) p.once (finish_is now number result u); server = n.server; life = n.life }) t
@@ -246,7 +246,7 @@ unfolding cl.client_step cl.work
 step_keeps c s now input f o =
     record {
       pairs = pairs_then (LostOrNot s.config now) (FollowsOn (EndedBy input)) (AfterStep (EndedBy input) s.config now) (lost_then (EndedBy input) s.config now) s.associations t.state.associations v.state.associations p.lost.pairs
-          (pairs_then (FollowsOn (EndedBy input)) (FollowsOn NoneEnds) (FollowsOn (EndedBy input)) (on_then (EndedBy input)) t.state.associations u.state.associations v.state.associations heard.pairs worked.pairs);
+          (pairs_then (FollowsOn (EndedBy input)) (FollowsOn NoneEnds) (FollowsOn (EndedBy input)) (on_then (EndedBy input)) t.state.associations u.state.associations v.state.associations received.pairs worked.pairs);
       said = λ n at to tag bytes i. late n at to tag bytes (worked.said n at to tag bytes i);
     }
   where
@@ -265,8 +265,8 @@ step_keeps c s now input f o =
     once_t : (a : Association) → Has a t.state.associations → WritesOnce a
     once_t = pairs_has (LostOrNot s.config now) WritesOnce WritesOnce (λ a b r h. lost_once s.config now a b r h) s.associations t.state.associations p.lost.pairs o
 
-    heard : AllKeep (EndedBy input) t u
-    heard = input_keeps now input t u (taken t now input) p.fit once_t
+    received : AllKeep (EndedBy input) t u
+    received = input_keeps now input t u (taken t now input) p.fit once_t
 
     worked : AllKeep NoneEnds u v
     worked = each_keeps Fit NoneEnds (cp.passes now (cl.is_tick input)) (λ x p. changes_rule now x _ (c_passes now (cl.is_tick input) x)) u p.fit_too
@@ -276,5 +276,5 @@ step_keeps c s now input f o =
     early n at to tag bytes (inr (b, i, h)) = let z = pair_has (FollowsOn NoneEnds) u.state.associations v.state.associations worked.pairs b i in (z.0, z.1, z.2.stays n tag (λ y. y) h)
 
     late : (n : ℕ) (at to : BlockAt) (tag : Tag) (bytes : List ℕ) → Has (write_said n at to tag bytes) u.out ⊎ ListedAt v.state.associations n tag → ListedAt v.state.associations n tag
-    late n at to tag bytes (inl i) = early n at to tag bytes (heard.said n at to tag bytes i)
+    late n at to tag bytes (inl i) = early n at to tag bytes (received.said n at to tag bytes i)
     late n at to tag bytes (inr h) = h

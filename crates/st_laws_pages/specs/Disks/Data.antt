@@ -20,7 +20,7 @@ use Rattle.st_laws_pages.specs.Disks.Folds.{SettledOn}
 use Rattle.st_laws_pages.specs.Disks.Pages.{mapping_of}
 use Rattle.st_laws_pages.specs.Disks.World.{mapped_in, block_in, PagesHold}
 use Rattle.st_laws_pages.specs.Fates.Fates.{BeforeEnd}
-use Rattle.st_laws_pages.specs.Disks.Owed.{FatesHold}
+use Rattle.st_laws_pages.specs.Disks.Obligations.{FatesHold}
 
 -- all entries of an owner are hard
 abbrev pub HardOf : LogOwner → List LogEntry → Type 0

@@ -6,7 +6,7 @@ use Rattle.st_rules.specs.World.{fresh_world}
 use Rattle.st_rules.specs.History.{traced}
 use Rattle.st_rules.specs.Safety.{Promise, Throughout, Step, steps}
 use Rattle.st_laws_pages.specs.Disks.World.{PagesHold}
-use Rattle.st_laws_pages.specs.Disks.Owed.{FatesHold}
+use Rattle.st_laws_pages.specs.Disks.Obligations.{FatesHold}
 
 -- the pages hold behind a step
 abbrev pub PagesAfter : Promise

@@ -26,7 +26,7 @@ use Rattle.st_rules.specs.Extents as extents
 use Rattle.st_rules.specs.Extents.{Extents}
 use Rattle.st_rules.specs.ClientState.{ClientState}
 use Rattle.st_rules.specs.Server.{ServerNode}
-use Rattle.st_rules.specs.World.{World, ClientSite, node_of, numbered, lease_end_of, server_of_disk, life_with, site_of}
+use Rattle.st_rules.specs.World.{World, WorldClient, node_of, numbered, lease_end_of, server_of_disk, life_with, site_of}
 use Rattle.st_rules.specs.Admissible as adm
 use Rattle.st_rules.specs.Events.{WorldTurn, client_says, latest}
 use Rattle.st_laws_pages.specs.Disks.Folds.{DoneUpto, OnlyOwn, LastIs, owner_at}
@@ -120,7 +120,7 @@ pub record SubmitRight (timely_by : ℕ → IssuedCommand →
   pub born : extent.birth ≡ tag.birth
 
 -- a write that is submitted is right; a read owes nothing
-abbrev pub SubmitsRight : (ℕ → IssuedCommand → Type 0) → World → ClientId → Option ClientSite → BlockAt → Command → Type 0
+abbrev pub SubmitsRight : (ℕ → IssuedCommand → Type 0) → World → ClientId → Option WorldClient → BlockAt → Command → Type 0
 SubmitsRight timely_by w c None at what = Unit {0}
 SubmitsRight timely_by w c (Some site) at (commands.Read to) = Unit {0}
 SubmitsRight timely_by w c (Some site) at (commands.Write to tag bytes) =

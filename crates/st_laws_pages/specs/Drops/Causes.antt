@@ -12,7 +12,7 @@ use Rattle.st_rules.specs.declared.log.LogOwner.{LogOwner}
 use Rattle.st_rules.specs.declared.world.IssuedCommand.{IssuedCommand}
 use Rattle.st_rules.specs.declared.world.LeaseLife.{LeaseLife}
 use Rattle.st_rules.specs.FlatLog as log
-use Rattle.st_rules.specs.World.{World, ClientSite, site_of, lives_of}
+use Rattle.st_rules.specs.World.{World, WorldClient, site_of, lives_of}
 use Rattle.st_rules.specs.Events as ev
 use Rattle.st_rules.specs.Events.{last_write, present_life, lives_reached}
 use Rattle.st_rules.specs.Safety.{Step, ends_life_of, reports_failure, has_cause}
@@ -77,7 +77,7 @@ FailedStay cs ds (e ∷ es) = record {
 }
 
 -- Owed at an event, for the causes.
-abbrev pub CrashSiteOwes : World → ClientId → Option ClientSite → Type 0
+abbrev pub CrashSiteOwes : World → ClientId → Option WorldClient → Type 0
 CrashSiteOwes w c None = Unit {0}
 CrashSiteOwes w c (Some site) = record { pending : CrashOwes w w.log c; lives : LivesOwe w c (lives_of site.node.state) }
 

@@ -15,7 +15,7 @@ use Rattle.st_rules.specs.FlatLog.{owner}
 use Rattle.st_rules.specs.ClientLease as lease
 use Rattle.st_rules.specs.ClientPages as pages
 use Rattle.st_rules.specs.ClientState.{Association, ClientSession}
-use Rattle.st_rules.specs.World.{World, ClientSite, numbered}
+use Rattle.st_rules.specs.World.{World, WorldClient, numbered}
 use Rattle.st_rules.specs.Events.{latest, last_write}
 use Rattle.st_rules.specs.Safety.{Step, reports_failure}
 use Rattle.st_lemmas.specs.Lists.{Has}
@@ -87,7 +87,7 @@ abbrev pub Covered : Association → Type 0
 Covered a = (ino : ℕ) (p : PageNo) → PageCovered a ino p
 
 -- What stands of all associations of a client that runs.
-pub record NodeCared (past : List Step) (cs : List IssuedCommand) (es : List LogEntry) (c : ClientId) (site : ClientSite) : Type 0 where
+pub record NodeCared (past : List Step) (cs : List IssuedCommand) (es : List LogEntry) (c : ClientId) (site : WorldClient) : Type 0 where
   pub cared : (a : Association) → Has a site.node.state.associations → Cared past cs es c site.starts site.node.state.next_command a
   pub apart : (a : Association) → Has a site.node.state.associations → NumbersApart a.store.commands
   pub numbers : NumbersBelow cs c site.starts site.node.state.next_command
@@ -100,15 +100,15 @@ StartsBelow cs c n = (x : IssuedCommand) → Has x cs → x.client ≡ c → x.s
 -- write outstanding or a failed command.
 pub record FlushRight (w : World) (x : FlushStep) : Type 0 where
   pub low : x.end.0 + w.config.flush ≤ (clock_in w.clocks x.client).0 + w.config.lease
-  pub covered : (site : ClientSite) → numbered w.clients x.client.0 ≡ Some site → site.node.running ≡ true → (a : Association) →
+  pub covered : (site : WorldClient) → numbered w.clients x.client.0 ≡ Some site → site.node.running ≡ true → (a : Association) →
       Has a site.node.state.associations → a.server.0 ≡ x.server.0 → (s : ClientSession) → a.session ≡ Some s →
       (lease.end_of w.config s.lease).0 ≡ x.end.0 → Covered a
 
 -- What stands of the flush in a world behind steps.
 pub record FlushHold (past : List Step) (w : World) : Type 0 where
-  pub sites : (c : ClientId) (site : ClientSite) → numbered w.clients c.0 ≡ Some site → site.node.running ≡ true →
+  pub sites : (c : ClientId) (site : WorldClient) → numbered w.clients c.0 ≡ Some site → site.node.running ≡ true →
       NodeCared past w.commands w.log c site
-  pub starts : (c : ClientId) (site : ClientSite) → numbered w.clients c.0 ≡ Some site → StartsBelow w.commands c site.starts
+  pub starts : (c : ClientId) (site : WorldClient) → numbered w.clients c.0 ≡ Some site → StartsBelow w.commands c site.starts
   pub flushes : (x : FlushStep) → Has x w.flushed → FlushRight w x
-  pub servers : (c : ClientId) (site : ClientSite) → numbered w.clients c.0 ≡ Some site → (a : Association) →
+  pub servers : (c : ClientId) (site : WorldClient) → numbered w.clients c.0 ≡ Some site → (a : Association) →
       Has a site.node.state.associations → (1 ≤ a.server.0) × (a.server.0 ≤ length w.servers)

@@ -14,7 +14,7 @@ use Rattle.st_rules.specs.ClientPages.{dirty_of}
 use Rattle.st_rules.specs.ClientState.{Association}
 use Rattle.st_rules.specs.Disks as disks
 use Rattle.st_rules.specs.Safety.{Promise}
-use Rattle.st_rules.specs.World.{World, ClientSite, numbered, site_of}
+use Rattle.st_rules.specs.World.{World, WorldClient, numbered, site_of}
 use Rattle.st_lemmas.specs.Lists.{Has}
 
 -- a write of this number, for the page of a tag, is outstanding at an association, and its page is dirty
@@ -51,7 +51,7 @@ OpenListed cs ds c starts a =
 -- of all clients that run
 abbrev pub OpenHold : World → Type 0
 OpenHold w =
-    (c : ClientId) (site : ClientSite) → site_of w c ≡ Some site → site.node.running ≡ true → (a : Association) →
+    (c : ClientId) (site : WorldClient) → site_of w c ≡ Some site → site.node.running ≡ true → (a : Association) →
     Has a site.node.state.associations → OpenListed w.commands w.disks.commands c site.starts a
 
 -- behind a step

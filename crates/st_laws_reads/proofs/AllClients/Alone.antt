@@ -21,19 +21,19 @@ use Rattle.st_rules.specs.Events.{is_hard_fate}
 use Rattle.st_rules.specs.FlatLog.{is_of_client, is_pending}
 use Rattle.st_rules.specs.Keys.{client, same_client, same_server, server_node}
 use Rattle.st_rules.specs.Server.{ServerNode}
-use Rattle.st_rules.specs.World.{World, ClientSite, clock_of, end_or_present, ended_of, is_life_of, lease_end_of, node_of, present_end, server, site_of}
+use Rattle.st_rules.specs.World.{World, WorldClient, clock_of, end_or_present, ended_of, is_life_of, lease_end_of, node_of, present_end, server, site_of}
 use Rattle.st_protocol.specs.Assoc as net
 use Rattle.st_protocol.specs.Assoc.{Alive, Config}
 use Rattle.st_protocol.proofs.World.{exclusive}
 use Rattle.st_lemmas.specs.Lists.{Has}
 use Rattle.st_lemmas.proofs.Tables.{and_true, found_at}
 use Rattle.st_laws_refine.specs.Views.Halves.{client_of, date_in, held_in, leased_in}
-use Rattle.st_laws_refine.specs.Client.Shown.{Lasts}
+use Rattle.st_laws_refine.specs.Client.Invariants.{Lasts}
 use Rattle.st_laws_refine.specs.Server.Pair.{client_in}
-use Rattle.st_laws_refine.specs.Server.Stands.{pairs}
+use Rattle.st_laws_refine.specs.Server.Invariants.{pairs}
 use Rattle.st_laws_pages.specs.Fates.Fates.{BeforeEnd, PendingAll}
-use Rattle.st_laws_pages.specs.Disks.Owed.{FatesHold}
-use Rattle.st_laws_leases.specs.Sides.Stands.{Standing}
+use Rattle.st_laws_pages.specs.Disks.Obligations.{FatesHold}
+use Rattle.st_laws_leases.specs.Sides.Invariants.{Standing}
 use Rattle.st_laws_leases.specs.Sides.World.{AllStand, ServerStands}
 use Rattle.st_laws_leases.proofs.Sides.Pairs.{only_here, own_view}
 use Rattle.st_laws_reads.specs.Copies.Copies.{FatesOk, FateOk}
@@ -72,7 +72,7 @@ lasts_date l now None e h = cc e
 lasts_date l now (Some s) e h = h
 
 -- The lease of a present life lasts while an entry of it is pending.
-module _ (w : World) (f : FatesHold w) (c : ClientId) (site : ClientSite) (there : site_of w c ≡ Some site) (runs : site.node.running ≡ true) (a : Association) (apart : Apart site.node.state.associations) (here : Has a site.node.state.associations) where
+module _ (w : World) (f : FatesHold w) (c : ClientId) (site : WorldClient) (there : site_of w c ≡ Some site) (runs : site.node.running ≡ true) (a : Association) (apart : Apart site.node.state.associations) (here : Has a site.node.state.associations) where
   pub present_ends : ended_of w c a.server a.life ≡ None
   present_ends = go (ended_of w c a.server a.life) refl
     where
@@ -117,7 +117,7 @@ module _ (k : Config) (count : ℕ) (w : World) (a : AllStand k count w) (s : �
     pub alive : Alive k (view d)
     pub mode : (i : ℕ) → ((view d).held i).mode ≡ (held_in b.session i).mode
 
-  pub living : (d : ℕ) (site : ClientSite) → Running w d site → (b : Association) → Has b site.node.state.associations → b.server ≡ server s →
+  pub living : (d : ℕ) (site : WorldClient) → Running w d site → (b : Association) → Has b site.node.state.associations → b.server ≡ server s →
       Lasts site.node.state.config.lease (clock_of w (nodes.Client (client d))).0 b.session → leased_in b.session ≡ true → Living d b
   living d site run b h e l y =
       record {
@@ -148,7 +148,7 @@ module _ (k : Config) (count : ℕ) (w : World) (a : AllStand k count w) (s : �
           absurd (omega (arith, sum, own, its, two, q))
 
   -- no lock of another client that runs
-  no_lock : (c d i : ℕ) (site other : ClientSite) (x y : Association) → c ≢ d → Running w c site → Running w d other → Has x site.node.state.associations → x.server ≡ server s →
+  no_lock : (c d i : ℕ) (site other : WorldClient) (x y : Association) → c ≢ d → Running w c site → Running w d other → Has x site.node.state.associations → x.server ≡ server s →
       Lasts site.node.state.config.lease (clock_of w (nodes.Client (client c))).0 x.session → 2 ≤ (held_in x.session i).mode → Has y other.node.state.associations → y.server ≡ server s →
       Lasts other.node.state.config.lease (clock_of w (nodes.Client (client d))).0 y.session → (held_in y.session i).mode ≡ 0
   no_lock c d i site other x y n rc rd hx ex lx two hy ey ly = go (leased_in y.session) refl

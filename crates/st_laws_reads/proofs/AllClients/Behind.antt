@@ -9,7 +9,7 @@ use Rattle.st_rules.specs.Client as cl
 use Rattle.st_rules.specs.ClientLease as lease
 use Rattle.st_rules.specs.ClientState.{Association, ClientSession, ClientState, Turn, client_turn}
 use Rattle.st_lemmas.specs.Lists.{Has}
-use Rattle.st_laws_refine.specs.Client.Shown.{Lasts}
+use Rattle.st_laws_refine.specs.Client.Invariants.{Lasts}
 use Rattle.st_laws_steps.specs.Lives.Lives.{Pairwise}
 use Rattle.st_laws_steps.specs.Client.Losses.{Fit, IsLost, Loses, Lasts as StaysOn, is_ended}
 use Rattle.st_laws_pages.proofs.Flush.Flushing.{pair_of}

@@ -27,7 +27,7 @@ use Rattle.st_rules.specs.History.{Traced}
 use Rattle.st_rules.specs.Lines.{AtEach, log_behind, log_told}
 use Rattle.st_rules.specs.Safety.{Step, step}
 use Rattle.st_rules.specs.Server as server
-use Rattle.st_rules.specs.World.{World, ClientSite, life_with, numbered, site_of}
+use Rattle.st_rules.specs.World.{World, WorldClient, life_with, numbered, site_of}
 use Rattle.st_protocol.specs.Assoc.{Config}
 use Rattle.st_lemmas.proofs.Numbers.{numbered_own}
 use Rattle.st_laws_refine.proofs.Client.Steps.{nothing_more}
@@ -35,7 +35,7 @@ use Rattle.st_laws_refine.proofs.Client.World.{lives_same, told_one}
 use Rattle.st_laws_leases.specs.Sides.World.{AllStand}
 use Rattle.st_laws_reads.specs.Copies.Copies.{Right, RightBehind, RightOne}
 use Rattle.st_laws_reads.specs.Copies.World.{Taking, taken, turn_of}
-use Rattle.st_laws_reads.specs.AllClients.Carry.{CarriesContent, IsCarried}
+use Rattle.st_laws_reads.specs.AllClients.CarriedContents.{CarriesContent, IsCarried}
 use Rattle.st_laws_reads.specs.AllClients.World.{CopiesHold, TakingOwed}
 use Rattle.st_laws_reads.proofs.AllClients.Reading.{known}
 use Rattle.st_laws_reads.proofs.AllClients.Untaken.{others}
@@ -60,7 +60,7 @@ module _ (asked : ℕ → Option Ask) (v : World) (c : ClientId) (before : Clien
       carried (commands.Write to tag bytes) r = r
       carried (commands.Read to) r = tt
 
-      go : (o : Option ClientSite) → SeenCarried v sc.seen sc (ev.submits sc c o n at what)
+      go : (o : Option WorldClient) → SeenCarried v sc.seen sc (ev.submits sc c o n at what)
       go None = record { more = []; is = sym (nothing_more sc.seen); right = tt; told = refl }
       go (Some s) = record { more = _ ∷ []; is = refl; right = (carried what r, tt); told = refl }
   seen_one last (outputs.Note n) sc l r = note n
@@ -93,7 +93,7 @@ module _ (k : Config) (count : ℕ) (past : List Step) (t : Traced) (e : Event) 
   abbrev asks : ℕ → ℕ → Option Ask
   asks = known (past ++ step t e sc ∷ [])
 
-  abbrev mine : ClientSite
+  abbrev mine : WorldClient
   mine = ev.at_node (cl.node_turn x.site.node (turn_of x)).node x.site
 
   abbrev v : World
@@ -120,10 +120,10 @@ module _ (k : Config) (count : ℕ) (past : List Step) (t : Traced) (e : Event) 
       left = mine_there asks k count t.world e sc x all after is q tk owed h r
 
       lives : ◌≡◌ {A = ServerId → Life} (present_life sc.world x.client) (present_life v x.client)
-      lives = ap {B = ServerId → Life} (λ (o : Option ClientSite). λ (s : ServerId). ev.life_of_site s o) (left ∙ sym here)
+      lives = ap {B = ServerId → Life} (λ (o : Option WorldClient). λ (s : ServerId). ev.life_of_site s o) (left ∙ sym here)
 
       present : ◌≡◌ {A = ServerId → Life} (life_with (turn_of x).state) (present_life v x.client)
-      present = ap {B = ServerId → Life} (λ (o : Option ClientSite). λ (s : ServerId). ev.life_of_site s o) (sym here)
+      present = ap {B = ServerId → Life} (λ (o : Option WorldClient). λ (s : ServerId). ev.life_of_site s o) (sym here)
 
       right : SeenCarried sc.world [] (ev.quiet v) (client_says_all x.client x.site.node.state (turn_of x).out (ev.quiet v))
       right =

@@ -9,7 +9,7 @@ use Rattle.st_lemmas.specs.Lists.{Has}
 use Rattle.st_lemmas.proofs.Contents.{one_place}
 use Rattle.st_lemmas.proofs.Tables.{and_true}
 use Rattle.st_laws_reads.specs.Copies.Copies.{Nothing}
-use Rattle.st_laws_reads.specs.AllClients.Clear.{Clear}
+use Rattle.st_laws_reads.specs.AllClients.CutFiles.{Clear}
 
 none_found : {A : Type 0} (f : A → Bool) (xs : List A) → ((x : A) → Has x xs → f x ≡ true → ⊥) → find f xs ≡ None
 none_found f [] n = refl

@@ -40,9 +40,9 @@ use Rattle.st_laws_steps.proofs.Client.Calm.{IsCalm}
 use Rattle.st_laws_steps.proofs.Client.Only.{Only, Goes}
 use Rattle.st_laws_steps.proofs.Client.Only as only
 use Rattle.st_laws_steps.proofs.Client.Passing.{IsPassing, KeepsOrAsks, Part, Uncut}
-use Rattle.st_laws_steps.proofs.Client.Replying.{calm_hear}
+use Rattle.st_laws_steps.proofs.Client.Replying.{calm_receive}
 use Rattle.st_laws_steps.proofs.Client.Working.{has_take}
-use Rattle.st_laws_reads.specs.AllClients.Clear.{Clear, Cleared, Cuts}
+use Rattle.st_laws_reads.specs.AllClients.CutFiles.{Clear, Cleared, Cuts}
 
 abbrev pub K : Turn → Turn → Type 0
 K t u = Cleared t.here → Cleared u.here
@@ -204,31 +204,31 @@ changes_passing syncs asks now t v (Goes _ u _ c q r) h = changes_passing syncs 
 pub k_passes : (now : Stamp) (tick : Bool) (t : Turn) → K t (cp.passes now tick t)
 k_passes now tick t = changes_passing t.operations KeepsOrAsks now t (cp.passes now tick t) (p_passes now tick t)
 
--- Each change where a message is heard, and such changes.
-change_heard : (now : Stamp) (t u : Turn) (c : Change now t u) → IsCalm true now t u c → K t u
-change_heard now t _ (client.Says _ o p) q h = h
-change_heard now t _ (client.Operates _ os) q h = h
-change_heard now t _ (client.Answers _ os ops a) q h = h
-change_heard now t _ (client.Greets _ g) q h = h
-change_heard now t _ (client.TellsLost _ lost) q h = h
-change_heard now t _ (client.Begins _ s a b n) q h = unasked (with_session s t).here (λ r e. ap (λ (z : ClientSession). z.requests.asked) (some_is (sym e)) ∙ ap (λ (z : ClientSession). z.requests.asked) n.2)
-change_heard now t _ (client.Follows _ s u e g) q h = k_follows t s u e g.how h
-change_heard now t _ (client.Learns _ e a b) q h = unasked (with_store (record t.here.store { extents = pages.with_known e t.here.store.extents }) t).here (λ s i. subst client.Unasked i a)
-change_heard now t _ (client.Forgets _ ino p i) q h = absurd q
-change_heard now t _ (client.Caches _ clean) q h = absurd (no q)
+-- Each change where a message is received, and such changes.
+change_received : (now : Stamp) (t u : Turn) (c : Change now t u) → IsCalm true now t u c → K t u
+change_received now t _ (client.Says _ o p) q h = h
+change_received now t _ (client.Operates _ os) q h = h
+change_received now t _ (client.Answers _ os ops a) q h = h
+change_received now t _ (client.Greets _ g) q h = h
+change_received now t _ (client.TellsLost _ lost) q h = h
+change_received now t _ (client.Begins _ s a b n) q h = unasked (with_session s t).here (λ r e. ap (λ (z : ClientSession). z.requests.asked) (some_is (sym e)) ∙ ap (λ (z : ClientSession). z.requests.asked) n.2)
+change_received now t _ (client.Follows _ s u e g) q h = k_follows t s u e g.how h
+change_received now t _ (client.Learns _ e a b) q h = unasked (with_store (record t.here.store { extents = pages.with_known e t.here.store.extents }) t).here (λ s i. subst client.Unasked i a)
+change_received now t _ (client.Forgets _ ino p i) q h = absurd q
+change_received now t _ (client.Caches _ clean) q h = absurd (no q)
   where
     no : true ≡ false → ⊥
     no z = cc
-change_heard now t _ (client.Writes _ s f p bytes n se sv own m x) q h = absurd q
-change_heard now t _ (client.Reads _ ino p m i clean) q h = absurd q
-change_heard now t _ (client.Submits _ s ino p d m se e i w) q h = absurd q
+change_received now t _ (client.Writes _ s f p bytes n se sv own m x) q h = absurd q
+change_received now t _ (client.Reads _ ino p m i clean) q h = absurd q
+change_received now t _ (client.Submits _ s ino p d m se e i w) q h = absurd q
 
-changes_heard : (now : Stamp) (t u : Turn) → Only (IsCalm true) now t u → K t u
-changes_heard now t _ (only.Ends _) h = h
-changes_heard now t v (Goes _ u _ c q r) h = changes_heard now u v r (change_heard now t u c q h)
+changes_received : (now : Stamp) (t u : Turn) → Only (IsCalm true) now t u → K t u
+changes_received now t _ (only.Ends _) h = h
+changes_received now t v (Goes _ u _ c q r) h = changes_received now u v r (change_received now t u c q h)
 
-pub k_hear : (now : Stamp) (h : Header) (b : Body) (t : Turn) → Fit t.here → K t (cr.receive_at now h b t)
-k_hear now h b t f = changes_heard now t (cr.receive_at now h b t) (calm_hear now h b t f.fresh)
+pub k_receive : (now : Stamp) (h : Header) (b : Body) (t : Turn) → Fit t.here → K t (cr.receive_at now h b t)
+k_receive now h b t f = changes_received now t (cr.receive_at now h b t) (calm_receive now h b t f.fresh)
 
 -- The end of a command.
 fewer_clear : (x : Store) (ino : ℕ) (p : PageNo) (n : ℕ) → Clear x ino p → Clear (record x { commands = pages.without_command n x.commands }) ino p

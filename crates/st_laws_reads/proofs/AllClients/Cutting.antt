@@ -27,7 +27,7 @@ use Rattle.st_rules.specs.Keys.{client}
 use Rattle.st_rules.specs.Locks as locks
 use Rattle.st_rules.specs.Server as server
 use Rattle.st_rules.specs.Server.{ServerNode, thefts, turn}
-use Rattle.st_rules.specs.World.{World, ClientSite, clock_of, message_of, node_of, numbered, receiver_of}
+use Rattle.st_rules.specs.World.{World, WorldClient, clock_of, message_of, node_of, numbered, receiver_of}
 use Rattle.st_protocol.specs.Assoc as net
 use Rattle.st_protocol.specs.Assoc.{Alive, ByHeld, ByRow, Config, Frozen, InService}
 use Rattle.st_protocol.proofs.Claims.{in_service}
@@ -37,17 +37,17 @@ use Rattle.st_lemmas.proofs.Lookups.{some_is}
 use Rattle.st_lemmas.proofs.Numbers.{numbered_own}
 use Rattle.st_lemmas.proofs.Tables.{same_or_not}
 use Rattle.st_laws_refine.specs.Views.Halves.{held_in, row_or, row_view}
-use Rattle.st_laws_refine.specs.Client.Shown.{Lasts}
+use Rattle.st_laws_refine.specs.Client.Invariants.{Lasts}
 use Rattle.st_laws_steps.specs.Lives.Lives.{clock_in}
-use Rattle.st_laws_pages.specs.LockedCuts.Locked.{AtMessage, AtReassertion, AtReceiver, CutHeld, CutsHeld, IsHeld, WaitsHold, WaitsOwed}
+use Rattle.st_laws_pages.specs.LockedCuts.CutLocks.{AtMessage, AtReassertion, AtReceiver, CutHeld, CutsHeld, IsHeld, WaitsHold, WaitsOwed}
 use Rattle.st_laws_pages.proofs.LockedCuts.RowWalk.{InputAlone, step_rows}
-use Rattle.st_laws_refine.specs.Server.Stands.{pairs}
+use Rattle.st_laws_refine.specs.Server.Invariants.{pairs}
 use Rattle.st_laws_leases.specs.Sides.World.{AllStand}
 use Rattle.st_laws_reads.specs.Copies.Copies.{Nothing}
-use Rattle.st_laws_reads.specs.AllClients.Clear.{AllCleared}
+use Rattle.st_laws_reads.specs.AllClients.CutFiles.{AllCleared}
 use Rattle.st_laws_reads.specs.AllClients.Events.{CutFree, CutFreeOf, MessageFree, OthersOwed, ReceiverFree, ServerFree, TurnFree}
 use Rattle.st_laws_reads.specs.AllClients.Law.{Running}
-use Rattle.st_laws_reads.specs.AllClients.Left.{CutAsked, HasAlone, OthersLeft}
+use Rattle.st_laws_reads.specs.AllClients.Obligations.{CutAsked, HasAlone, OthersLeft}
 use Rattle.st_laws_reads.proofs.AllClients.Alone.{leased_held, living, z}
 use Rattle.st_laws_reads.proofs.AllClients.ClearPages.{nothing_of}
 
@@ -78,7 +78,7 @@ module _ (k : Config) (count : ℕ) (w : World) (a : AllStand k count w) (s : �
           let y = st.rows t c d i ne (omega (arith, two)) (omega (arith, x, e)) in omega (arith, y, two, x, e)
 
   -- the same of an association of a client that runs
-  pub unheld : (c d i : ℕ) → c ≢ d → (row : LockRow) → locks.row_of node.state.locks (client c) i ≡ Some row → 2 ≤ number_of row.mode → (site : ClientSite) → Running w d site → (b : Association) → Has b site.node.state.associations →
+  pub unheld : (c d i : ℕ) → c ≢ d → (row : LockRow) → locks.row_of node.state.locks (client c) i ≡ Some row → 2 ≤ number_of row.mode → (site : WorldClient) → Running w d site → (b : Association) → Has b site.node.state.associations →
       b.server ≡ Rattle.st_rules.specs.World.server s → Lasts site.node.state.config.lease (clock_of w (nodes.Client (client d))).0 b.session → (held_in b.session i).mode ≡ 0
   unheld c d i ne row is two site run b h e l = go (held_in b.session i).mode refl
     where
@@ -94,7 +94,7 @@ module _ (k : Config) (count : ℕ) (w : World) (a : AllStand k count w) (s : �
 
 -- A cut that is asked, of a file of which somebody has an exclusive row, is free.
 module _ (k : Config) (count : ℕ) (v : World) (all : AllStand k count v) (clear : AllCleared v) (f : FileId) (p : PageNo) (node : ServerNode) (at : node_of v f.server ≡ Some node) (runs : node.running ≡ true) (held : IsHeld f.ino node.state.locks) (asked : CutAsked v f p) where
-  free_at : (d : ℕ) (site : ClientSite) → Running v d site → (a : Association) → Has a site.node.state.associations → Lasts site.node.state.config.lease (clock_of v (nodes.Client (client d))).0 a.session → f.server ≡ a.server →
+  free_at : (d : ℕ) (site : WorldClient) → Running v d site → (a : Association) → Has a site.node.state.associations → Lasts site.node.state.config.lease (clock_of v (nodes.Client (client d))).0 a.session → f.server ≡ a.server →
       ((held_in a.session f.ino).mode ≡ 0) ⊎ ((q : PageNo) → p.0 ≤ q.0 → Nothing a.store f.ino q)
   free_at d site run a i l e = go (same_or_not held.client.0 d)
     where
@@ -111,7 +111,7 @@ module _ (k : Config) (count : ℕ) (v : World) (all : AllStand k count v) (clea
       go (inr n) = inl (unheld k count v all f.server.0 node at runs held.client.0 d f.ino n held.row held.is two site run a i (sym e) l)
       go (inl q) = mine (record { node = node; there = at; row = held.row; is = subst (λ n. locks.row_of node.state.locks (client n) f.ino ≡ Some held.row) q held.is; exclusive = held.exclusive }) (held_in a.session f.ino).mode refl
 
-  of_each : (d : ℕ) (site : ClientSite) → Running v d site → (xs : List Association) → ((a : Association) → Has a xs → Has a site.node.state.associations) → CutFreeOf f p site.node.state.config.lease (clock_of v (nodes.Client (client d))).0 xs
+  of_each : (d : ℕ) (site : WorldClient) → Running v d site → (xs : List Association) → ((a : Association) → Has a xs → Has a site.node.state.associations) → CutFreeOf f p site.node.state.config.lease (clock_of v (nodes.Client (client d))).0 xs
   of_each d site run [] h = record {}
   of_each d site run (a ∷ xs) h = record { one = λ l e. free_at d site run a (h a (inl refl)) l e; rest = of_each d site run xs (λ b i. h b (inr i)) }
 
@@ -195,7 +195,7 @@ module _ (k : Config) (count : ℕ) (w : World) (s : ServerId) (input : ServerIn
   server_free None there n is = tt
   server_free (Some node) there n is = go node.running refl is
     where
-      t : server.Turn
+      t : server.ServerTurn
       t = server.server_step node.state (clock_of w (nodes.Server s)) input
 
       new : ServerNode

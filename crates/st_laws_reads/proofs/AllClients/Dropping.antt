@@ -24,13 +24,13 @@ use Rattle.st_rules.specs.Events.{present_lives}
 use Rattle.st_rules.specs.FlatLog as log
 use Rattle.st_rules.specs.FlatLog.{is_of_client, is_of_life, is_pending}
 use Rattle.st_rules.specs.Keys.{client, same_client, same_server}
-use Rattle.st_rules.specs.World.{World, ClientSite, clock_of, end_or_present, lease_end_of, present_end, site_of}
+use Rattle.st_rules.specs.World.{World, WorldClient, clock_of, end_or_present, lease_end_of, present_end, site_of}
 use Rattle.st_protocol.specs.Assoc.{Config}
 use Rattle.st_lemmas.specs.Lists.{Has}
 use Rattle.st_lemmas.proofs.Lookups.{some_is}
 use Rattle.st_lemmas.proofs.Tables.{and_true, has_filter, same_or_not}
 use Rattle.st_laws_refine.specs.Views.Halves.{held_in}
-use Rattle.st_laws_refine.specs.Client.Shown.{Lasts}
+use Rattle.st_laws_refine.specs.Client.Invariants.{Lasts}
 use Rattle.st_laws_pages.specs.Fates.Fates.{PendingAll}
 use Rattle.st_laws_pages.proofs.Fates.FateLaw.{pending_fewer}
 use Rattle.st_laws_pages.proofs.Lives.Lasting.{end_one}
@@ -77,15 +77,15 @@ life_parts c s l o e =
     (ap (λ n. record { 0 = n }) (eqb-true o.client.0 c.0 x.0), ap (λ n. record { 0 = n }) (eqb-true o.file.server.0 s.0 y.0), ap (λ n. record { 0 = n }) (eqb-true o.life.0 l.0 y.1))
 
 -- whose something is pending in a log
-pub record Pends (es : List LogEntry) (o : LogOwner) : Type 0 where
+pub record Enqueues (es : List LogEntry) (o : LogOwner) : Type 0 where
   pub entry : LogEntry
   pub has : Has entry es
   pub pending : is_pending entry.fate ≡ true
   pub is : entry.of ≡ o
 
-pends_all : (es fs : List LogEntry) → ((e : LogEntry) → Has e fs → Has e es) → PendingAll (Pends es) fs
-pends_all es [] g = record {}
-pends_all es (e ∷ fs) g = record { one = λ p. record { entry = e; has = g e (inl refl); pending = p; is = refl }; rest = pends_all es fs (λ x i. g x (inr i)) }
+enqueues_all : (es fs : List LogEntry) → ((e : LogEntry) → Has e fs → Has e es) → PendingAll (Enqueues es) fs
+enqueues_all es [] g = record {}
+enqueues_all es (e ∷ fs) g = record { one = λ p. record { entry = e; has = g e (inl refl); pending = p; is = refl }; rest = enqueues_all es fs (λ x i. g x (inr i)) }
 
 -- drops of pending entries of which this is known
 drops_from : (P : LogOwner → Type 0) (c : ClientId) (picked : ℕ → LogOwner → Bool) (l now : ℕ) (xs : List Association) → ((n : ℕ) (o : LogOwner) → picked n o ≡ true → P o → OfNoPresentLife c o l now xs × Unheld o.file l now xs) → (n : ℕ) (es : List LogEntry) → PendingAll P es →
@@ -96,7 +96,7 @@ drops_from P c picked l now xs f n (e ∷ es) h = record { other = λ q p. (f n 
 -- Whose a pending entry is: of a present life of a client that runs, or of a life that is over.
 record PresentEntry (w : World) (e : LogEntry) : Type 0 where
   c : ℕ
-  site : ClientSite
+  site : WorldClient
   run : Running w c site
   a : Association
   has : Has a site.node.state.associations
@@ -109,7 +109,7 @@ status w e = go (site_of w (client e.of.client.0)) refl
     its : (c : ℕ) (a : Association) → is_of_life (client c) a.server a.life e.of ≡ true → c ≡ e.of.client.0
     its c a q = sym (ap (λ (x : ClientId). x.0) (life_parts (client c) a.server a.life e.of q).0)
 
-    search : (site : ClientSite) (xs : List Association) → ((a : Association) → Has a xs → Has a site.node.state.associations) →
+    search : (site : WorldClient) (xs : List Association) → ((a : Association) → Has a xs → Has a site.node.state.associations) →
         ((a : Association) × Has a site.node.state.associations × (is_of_life (client e.of.client.0) a.server a.life e.of ≡ true)) ⊎ ((a : Association) → Has a xs → is_of_life (client e.of.client.0) a.server a.life e.of ≡ true → ⊥)
     search site [] g = inr (λ a i q. absurd i)
     search site (x ∷ xs) g = at (is_of_life (client e.of.client.0) x.server x.life e.of) refl (search site xs (λ a i. g a (inr i)))
@@ -129,31 +129,31 @@ status w e = go (site_of w (client e.of.client.0)) refl
             either a (inl i) p = no (is_of_life (client e.of.client.0) x.server x.life e.of) (ap (λ (y : Association). is_of_life (client e.of.client.0) y.server y.life e.of) (sym i) ∙ p) q
             either a (inr i) p = r a i p
 
-    elder : ((site : ClientSite) → Running w e.of.client.0 site → (a : Association) → Has a site.node.state.associations → is_of_life (client e.of.client.0) a.server a.life e.of ≡ true → ⊥) → OfFrozen w e
+    elder : ((site : WorldClient) → Running w e.of.client.0 site → (a : Association) → Has a site.node.state.associations → is_of_life (client e.of.client.0) a.server a.life e.of ≡ true → ⊥) → OfFrozen w e
     elder f c site a run h q =
         let s = its c a q in
         f site (subst (λ n. Running w n site) s run) a h (subst (λ n. is_of_life (client n) a.server a.life e.of ≡ true) s q)
 
-    no_site : (site : ClientSite) → ◌≡◌ {A = Option ClientSite} None (Some site) → ⊥
+    no_site : (site : WorldClient) → ◌≡◌ {A = Option WorldClient} None (Some site) → ⊥
     no_site site z = cc
 
-    go : (o : Option ClientSite) → site_of w (client e.of.client.0) ≡ o → PresentEntry w e ⊎ OfFrozen w e
+    go : (o : Option WorldClient) → site_of w (client e.of.client.0) ≡ o → PresentEntry w e ⊎ OfFrozen w e
     go None q = inr (elder (λ site run a h p. no_site site (sym q ∙ run.there)))
     go (Some site) q = by site.node.running refl (search site site.node.state.associations (λ a i. i))
       where
-        is : (y : ClientSite) → Running w e.of.client.0 y → site ≡ y
+        is : (y : WorldClient) → Running w e.of.client.0 y → site ≡ y
         is y run = some_is (sym q ∙ run.there)
 
         by : (b : Bool) → site.node.running ≡ b →
             (((a : Association) × Has a site.node.state.associations × (is_of_life (client e.of.client.0) a.server a.life e.of ≡ true)) ⊎ ((a : Association) → Has a site.node.state.associations → is_of_life (client e.of.client.0) a.server a.life e.of ≡ true → ⊥)) → PresentEntry w e ⊎ OfFrozen w e
         by true r (inl (a, h, p)) = inl (record { c = e.of.client.0; site = site; run = record { there = q; runs = r }; a = a; has = h; own = p })
-        by true r (inr f) = inr (elder (λ y run a h p. f a (subst (λ (z : ClientSite). Has a z.node.state.associations) (sym (is y run)) h) p))
-        by false r x = inr (elder (λ y run a h p. absurd (stopped (sym (ap (λ (z : ClientSite). z.node.running) (is y run) ∙ run.runs) ∙ r))))
+        by true r (inr f) = inr (elder (λ y run a h p. f a (subst (λ (z : WorldClient). Has a z.node.state.associations) (sym (is y run)) h) p))
+        by false r x = inr (elder (λ y run a h p. absurd (stopped (sym (ap (λ (z : WorldClient). z.node.running) (is y run) ∙ run.runs) ∙ r))))
           where
             stopped : ◌≡◌ {A = Bool} true false → ⊥
             stopped z = cc
 
-module _ (asks : ℕ → ℕ → Option Ask) (k : Config) (count : ℕ) (w : World) (all : AllStand k count w) (copies : CopiesHold asks w) (frozen_lives : FrozenStandAlone w) (d : ℕ) (other : ClientSite) (runs : Running w d other) where
+module _ (asks : ℕ → ℕ → Option Ask) (k : Config) (count : ℕ) (w : World) (all : AllStand k count w) (copies : CopiesHold asks w) (frozen_lives : FrozenStandAlone w) (d : ℕ) (other : WorldClient) (runs : Running w d other) where
   abbrev state : ClientState
   state = other.node.state
 
@@ -164,7 +164,7 @@ module _ (asks : ℕ → ℕ → Option Ask) (k : Config) (count : ℕ) (w : Wor
   own_copies = (copies d other runs.there).runs runs.runs
 
   -- of no lock where something of another client is pending, or of a life that is over
-  pub unheld_for : (o : LogOwner) → Pends w.log o → ((a : Association) → Has a state.associations → is_of_life (client d) a.server a.life o ≡ true → ⊥) ⊎ Unit {0} → (b : Association) → Has b state.associations → Lasts state.config.lease now b.session → o.file.server ≡ b.server →
+  pub unheld_for : (o : LogOwner) → Enqueues w.log o → ((a : Association) → Has a state.associations → is_of_life (client d) a.server a.life o ≡ true → ⊥) ⊎ Unit {0} → (b : Association) → Has b state.associations → Lasts state.config.lease now b.session → o.file.server ≡ b.server →
       (is_of_life (client d) b.server b.life o ≡ true → ⊥) → (held_in b.session o.file.ino).mode ≡ 0
   unheld_for o p x b hb lb sv not_own = go (status w p.entry)
     where
@@ -181,7 +181,7 @@ module _ (asks : ℕ → ℕ → Option Ask) (k : Config) (count : ℕ) (w : Wor
               from (alone.law (asks y.c) k count w y.c d y.site other y.a p.entry all n y.run runs (s.runs y.run.runs) y.has (record { logged = p.has; pending = p.pending; own = y.own; server = there_at w y.site.node.state.associations y.a s.servers y.has }))
           at (inl e) =
               let site : y.site ≡ other = some_is (sym y.run.there ∙ ap (λ n. site_of w (client n)) e ∙ runs.there) in
-              let ha : Has y.a state.associations = subst (λ (z : ClientSite). Has y.a z.node.state.associations) site y.has in
+              let ha : Has y.a state.associations = subst (λ (z : WorldClient). Has y.a z.node.state.associations) site y.has in
               let own : is_of_life (client d) y.a.server y.a.life o ≡ true = subst (λ n. is_of_life (client n) y.a.server y.a.life o ≡ true) e (subst (λ (z : LogOwner). is_of_life (client y.c) y.a.server y.a.life z ≡ true) p.is y.own) in
               let same : y.a ≡ b = same_association state.associations own_copies.apart y.a b ha hb (sym (life_parts (client d) y.a.server y.a.life o own).1 ∙ sv) in
               absurd (not_own (subst (λ (z : Association). is_of_life (client d) z.server z.life o ≡ true) same own))
@@ -191,7 +191,7 @@ module _ (asks : ℕ → ℕ → Option Ask) (k : Config) (count : ℕ) (w : Wor
   unfolding ev.log_crashed
   crash_drops c n =
       drops_law (asks d) (client d) w.log (clock_of w (nodes.Client (client d))) state (ev.is_of_crashed w c) (log.always Rattle.st_rules.specs.declared.log.Cause.TheVariants.Crash)
-      (drops_from (Pends w.log) (client d) (ev.is_of_crashed w c) state.config.lease now state.associations facts 1 w.log (pends_all w.log w.log (λ e i. i))) own_copies
+      (drops_from (Enqueues w.log) (client d) (ev.is_of_crashed w c) state.config.lease now state.associations facts 1 w.log (enqueues_all w.log w.log (λ e i. i))) own_copies
     where
       others : (m : ℕ) (o : LogOwner) → ev.is_of_crashed w c m o ≡ true → (b : Association) → is_of_life (client d) b.server b.life o ≡ true → ⊥
       others m o q b e = n (sym (eqb-true o.client.0 c.0 (and_true (is_of_client c o) _ q).0) ∙ ap (λ (x : ClientId). x.0) (life_parts (client d) b.server b.life o e).0)
@@ -200,7 +200,7 @@ module _ (asks : ℕ → ℕ → Option Ask) (k : Config) (count : ℕ) (w : Wor
       not_true true f = absurd (f refl)
       not_true false f = refl
 
-      facts : (m : ℕ) (o : LogOwner) → ev.is_of_crashed w c m o ≡ true → Pends w.log o → OfNoPresentLife (client d) o state.config.lease now state.associations × Unheld o.file state.config.lease now state.associations
+      facts : (m : ℕ) (o : LogOwner) → ev.is_of_crashed w c m o ≡ true → Enqueues w.log o → OfNoPresentLife (client d) o state.config.lease now state.associations × Unheld o.file state.config.lease now state.associations
       facts m o q p = (
         no_present (client d) o state.config.lease now state.associations (λ b i l. not_true _ (others m o q b)),
         unheld_all o.file state.config.lease now state.associations (λ b i l s. unheld_for o p (inr tt) b i l s (others m o q b)),
@@ -265,24 +265,24 @@ module _ (asks : ℕ → ℕ → Option Ask) (k : Config) (count : ℕ) (w : Wor
     not_true true f = absurd (f refl)
     not_true false f = refl
 
-    facts : (l : LeaseLife) → Has l (ev.lives_reached w steps) → (m : ℕ) (o : LogOwner) → ev.is_of_life_over l m o ≡ true → Pends w.log o → OfNoPresentLife (client d) o state.config.lease later state.associations × Unheld o.file state.config.lease later state.associations
+    facts : (l : LeaseLife) → Has l (ev.lives_reached w steps) → (m : ℕ) (o : LogOwner) → ev.is_of_life_over l m o ≡ true → Enqueues w.log o → OfNoPresentLife (client d) o state.config.lease later state.associations × Unheld o.file state.config.lease later state.associations
     facts l i m o q p = (
       no_present (client d) o state.config.lease later state.associations (λ b j lb. not_true _ (lapsed l i o q b j lb)),
       unheld_all o.file state.config.lease later state.associations (λ b j lb s. unheld_for o p (inr tt) b j (lasts_before state.config.lease now later up b.session lb) s (lapsed l i o q b j lb)),
     )
 
-    ended_all : (cs : List IssuedCommand) (ls : List LeaseLife) → ((l : LeaseLife) → Has l ls → Has l (ev.lives_reached w steps)) → (es : List LogEntry) → PendingAll (Pends w.log) es → ClientCopies (asks d) (client d) es (clock_of v (nodes.Client (client d))) state →
+    ended_all : (cs : List IssuedCommand) (ls : List LeaseLife) → ((l : LeaseLife) → Has l ls → Has l (ev.lives_reached w steps)) → (es : List LogEntry) → PendingAll (Enqueues w.log) es → ClientCopies (asks d) (client d) es (clock_of v (nodes.Client (client d))) state →
         ClientCopies (asks d) (client d) (ev.log_ended_all cs ls es) (clock_of v (nodes.Client (client d))) state
     unfolding ev.log_ended_all ev.log_ended log.drop_picked
     ended_all cs [] g es p h = h
     ended_all cs (l ∷ ls) g es p h =
-        ended_all cs ls (λ x i. g x (inr i)) (ev.log_ended cs l es) (pending_fewer (Pends w.log) 1 (ev.is_of_life_over l) (ev.cause_at_end cs l) es p)
+        ended_all cs ls (λ x i. g x (inr i)) (ev.log_ended cs l es) (pending_fewer (Enqueues w.log) 1 (ev.is_of_life_over l) (ev.cause_at_end cs l) es p)
         (drops_law (asks d) (client d) es (clock_of v (nodes.Client (client d))) state (ev.is_of_life_over l) (ev.cause_at_end cs l)
-        (drops_from (Pends w.log) (client d) (ev.is_of_life_over l) state.config.lease later state.associations (facts l (g l (inl refl))) 1 es p) h)
+        (drops_from (Enqueues w.log) (client d) (ev.is_of_life_over l) state.config.lease later state.associations (facts l (g l (inl refl))) 1 es p) h)
 
     pub advance_drops : ClientCopies (asks d) (client d) (ev.log_ended_all w.commands (ev.lives_reached w steps) w.log) (clock_of v (nodes.Client (client d))) state
     advance_drops =
-        ended_all w.commands (ev.lives_reached w steps) (λ l i. i) w.log (pends_all w.log w.log (λ e i. i))
+        ended_all w.commands (ev.lives_reached w steps) (λ l i. i) w.log (enqueues_all w.log w.log (λ e i. i))
         ((clocks_law (asks d) (client d) w.log (clock_of w (nodes.Client (client d))) state).later (clock_of v (nodes.Client (client d))) up own_copies)
 
 -- What rests goes on to rest through an advance.

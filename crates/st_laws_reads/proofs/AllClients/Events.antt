@@ -26,7 +26,7 @@ use Rattle.st_rules.specs.FlatLog.{content, is_of_client}
 use Rattle.st_rules.specs.Keys.{client, same_file, same_server}
 use Rattle.st_rules.specs.Server as server
 use Rattle.st_rules.specs.Server.{ServerNode}
-use Rattle.st_rules.specs.World.{World, ClientSite, clock_of, issued_of, numbered, site_of, with_numbered}
+use Rattle.st_rules.specs.World.{World, WorldClient, clock_of, issued_of, numbered, site_of, with_numbered}
 use Rattle.st_protocol.specs.Assoc.{Config}
 use Rattle.st_lemmas.proofs.Contents.{content_last}
 use Rattle.st_lemmas.proofs.Lookups.{some_is}
@@ -126,8 +126,8 @@ all_long w v (a ∷ xs) l h = record { one = there_long w v a.server l h.one; re
 
 -- The clients are as they were; each keeps its copies, or goes on to rest.
 each_keeps : (asks : ℕ → ℕ → Option Ask) (w v : World) → v.clients ≡ w.clients → length v.servers ≡ length w.servers →
-    ((d : ℕ) (site : ClientSite) → Running w d site → ClientCopies (asks d) (client d) w.log (clock_of w (nodes.Client (client d))) site.node.state → ClientCopies (asks d) (client d) v.log (clock_of v (nodes.Client (client d))) site.node.state) →
-    ((d : ℕ) (site : ClientSite) → ClientRests (client d) w.log site.node.state → ClientRests (client d) v.log site.node.state) → CopiesHold asks w → CopiesHold asks v
+    ((d : ℕ) (site : WorldClient) → Running w d site → ClientCopies (asks d) (client d) w.log (clock_of w (nodes.Client (client d))) site.node.state → ClientCopies (asks d) (client d) v.log (clock_of v (nodes.Client (client d))) site.node.state) →
+    ((d : ℕ) (site : WorldClient) → ClientRests (client d) w.log site.node.state → ClientRests (client d) v.log site.node.state) → CopiesHold asks w → CopiesHold asks v
 each_keeps asks w v cs l runs rests h d site e =
     let e2 : site_of w (client d) ≡ Some site = ap (λ zs. numbered zs d) (sym cs) ∙ e in
     let s = h d site e2 in
@@ -170,11 +170,11 @@ says_keeps asks w s (o ∷ os) sc cs ts g h = one o (λ f p e. g f p (inl (sym e
         })
         (λ d site z. rest d site z (same_or_not d 0)) h)
       where
-        rest : (d : ℕ) (site : ClientSite) → ClientRests (client d) sc.world.log site.node.state → (d ≡ 0) ⊎ (d ≢ 0) → ClientRests (client d) (sc.world.log ++ log.hard_cut f p ∷ []) site.node.state
+        rest : (d : ℕ) (site : WorldClient) → ClientRests (client d) sc.world.log site.node.state → (d ≡ 0) ⊎ (d ≢ 0) → ClientRests (client d) (sc.world.log ++ log.hard_cut f p ∷ []) site.node.state
         rest d site z (inr n) = (rests_law (client d) sc.world.log site.node.state z).entry (log.hard_cut f p) (ne_eqb 0 d (λ e. n (sym e)))
         rest d site z (inl e) = zero_rests d site z e
           where
-            zero_rests : (d : ℕ) (site : ClientSite) → ClientRests (client d) sc.world.log site.node.state → d ≡ 0 → ClientRests (client d) (sc.world.log ++ log.hard_cut f p ∷ []) site.node.state
+            zero_rests : (d : ℕ) (site : WorldClient) → ClientRests (client d) sc.world.log site.node.state → d ≡ 0 → ClientRests (client d) (sc.world.log ++ log.hard_cut f p ∷ []) site.node.state
             zero_rests d site z e = record { apart = z.apart; lived = lived_all site.node.state.associations z.lived }
               where
                 lived_one : (sv : ServerId) (life : _) (es : List LogEntry) → Rattle.st_laws_reads.specs.Copies.Law.Lived (client d) sv life es → Rattle.st_laws_reads.specs.Copies.Law.Lived (client d) sv life (es ++ log.hard_cut f p ∷ [])
@@ -220,15 +220,15 @@ advance_keeps asks k count w steps all frozen_lives h =
     (λ d site z. rests_ended (client d) w.commands (ev.lives_reached w steps) w.log site.node.state z) h
 
 -- Crash and start of a client.
-module _ (asks : ℕ → ℕ → Option Ask) (w : World) (c : ClientId) (site new : ClientSite) (there : site_of w c ≡ Some site) where
-  which : (d : ℕ) (y : ClientSite) → numbered (with_numbered c.0 new w.clients) d ≡ Some y → ((c.0 ≡ d) × (new ≡ y)) ⊎ ((c.0 ≢ d) × (site_of w (client d) ≡ Some y))
+module _ (asks : ℕ → ℕ → Option Ask) (w : World) (c : ClientId) (site new : WorldClient) (there : site_of w c ≡ Some site) where
+  which : (d : ℕ) (y : WorldClient) → numbered (with_numbered c.0 new w.clients) d ≡ Some y → ((c.0 ≡ d) × (new ≡ y)) ⊎ ((c.0 ≢ d) × (site_of w (client d) ≡ Some y))
   which d y e = go (same_or_not d c.0)
     where
       go : (d ≡ c.0) ⊎ (d ≢ c.0) → ((c.0 ≡ d) × (new ≡ y)) ⊎ ((c.0 ≢ d) × (site_of w (client d) ≡ Some y))
       go (inl q) = inl (sym q, some_is (sym (numbered_own w.clients c.0 new site there) ∙ ap (numbered (with_numbered c.0 new w.clients)) (sym q) ∙ e))
       go (inr n) = inr (λ q. n (sym q), sym (numbered_other w.clients c.0 d new (numbered_below w.clients c.0 site there).0 n) ∙ e)
 
-pub crash_keeps : (asks : ℕ → ℕ → Option Ask) (k : Config) (count : ℕ) (w : World) (c : ClientId) (site : ClientSite) → site_of w c ≡ Some site → site.node.running ≡ true → AllStand k count w → FrozenStandAlone w → CopiesHold asks w → CopiesHold asks (ev.crashes_client w c (Some site)).world
+pub crash_keeps : (asks : ℕ → ℕ → Option Ask) (k : Config) (count : ℕ) (w : World) (c : ClientId) (site : WorldClient) → site_of w c ≡ Some site → site.node.running ≡ true → AllStand k count w → FrozenStandAlone w → CopiesHold asks w → CopiesHold asks (ev.crashes_client w c (Some site)).world
 unfolding ev.crashes_client ev.marks ev.log_crashed cl.crash
 crash_keeps asks k count w c site there runs all frozen_lives h d y e = go (which asks w c site (ev.stopped_site site) there d y e)
   where
@@ -261,7 +261,7 @@ crash_keeps asks k count w c site there runs all frozen_lives h d y e = go (whic
           rests = λ r. (rests_law (client d) w.log y.node.state (s.rests r)).drop (ev.is_of_crashed w c) (log.always Rattle.st_rules.specs.declared.log.Cause.TheVariants.Crash);
         }
 
-pub start_keeps : (asks : ℕ → ℕ → Option Ask) (w : World) (c : ClientId) (site : ClientSite) → site_of w c ≡ Some site → site.node.running ≡ false → CopiesHold asks w → CopiesHold asks (ev.with_site c (ev.started_site site) w)
+pub start_keeps : (asks : ℕ → ℕ → Option Ask) (w : World) (c : ClientId) (site : WorldClient) → site_of w c ≡ Some site → site.node.running ≡ false → CopiesHold asks w → CopiesHold asks (ev.with_site c (ev.started_site site) w)
 unfolding cl.start
 start_keeps asks w c site there rests h d y e = go (which asks w c site (ev.started_site site) there d y e)
   where

@@ -31,13 +31,13 @@ use Rattle.st_rules.specs.Events.{WorldTurn, is_hard_fate}
 use Rattle.st_rules.specs.FlatLog as log
 use Rattle.st_rules.specs.Keys.{same_client, same_server}
 use Rattle.st_rules.specs.Safety.{Step}
-use Rattle.st_rules.specs.World.{World, ClientSite, clock_of, issued_of, life_with, site_of}
+use Rattle.st_rules.specs.World.{World, WorldClient, clock_of, issued_of, life_with, site_of}
 use Rattle.st_lemmas.specs.Lists.{Has}
 use Rattle.st_lemmas.proofs.Numbers.{numbered_own}
 use Rattle.st_lemmas.proofs.Tables.{and_both, and_true}
 use Rattle.st_laws_pages.specs.Fates.Fates.{GoneAll, PendingAll}
 use Rattle.st_laws_pages.specs.Flush.Flush.{Cared, DirtyHere, IsIts, NodeCared, owner_at_page}
-use Rattle.st_laws_pages.specs.Disks.Owed.{FatesHold}
+use Rattle.st_laws_pages.specs.Disks.Obligations.{FatesHold}
 use Rattle.st_laws_pages.proofs.Flush.Ending.{NonePending, SuccessOwed}
 use Rattle.st_laws_pages.proofs.Fates.Fates.{pending_map}
 use Rattle.st_laws_pages.proofs.Flush.Flushing.{InputTold}
@@ -45,7 +45,7 @@ use Rattle.st_laws_pages.proofs.Flush.FlushSteps.{node_fates}
 use Rattle.st_laws_pages.proofs.Fates.GoneLaw.{Over, gone_known}
 use Rattle.st_laws_pages.proofs.Lives.LifeSteps.{steps_so}
 use Rattle.st_laws_pages.proofs.Fates.Owing.{over_apart}
-use Rattle.st_laws_pages.specs.Causes.Stands.{LatestOwn}
+use Rattle.st_laws_pages.specs.Causes.Invariants.{LatestOwn}
 use Rattle.st_laws_pages.proofs.Causes.Events.{told_of, up_one}
 use Rattle.st_laws_pages.proofs.Causes.FlushSteps.{BothHold}
 use Rattle.st_laws_pages.proofs.Causes.Hardly.{Ungone}
@@ -116,7 +116,7 @@ page_hard c lives a pc v es live done dirty gone same = hard_on c lives a pc.ino
 
 -- An instance that runs is told of its command that is done.
 module _ (past : List Step) (x : Step) (w : World) (size : ℕ) (f : FatesHold w) (pl : PlacesAt size w) (b : BothHold past w) (k : ℕ) (ok : Bool) (d : DiskCommand) (is : disks.command w.disks k ≡ Some d) (done : ok ≡ true → d.effected ≡ true) (happens : x.event ≡ events.Report k ok)
-    (y : IssuedCommand) (issued : issued_of w k ≡ Some y) (site : ClientSite) (there : site_of w y.client ≡ Some site) (same : ev.is_same_instance y site ≡ true) where
+    (y : IssuedCommand) (issued : issued_of w k ≡ Some y) (site : WorldClient) (there : site_of w y.client ≡ Some site) (same : ev.is_same_instance y site ≡ true) where
   abbrev more : List Step
   more = past ++ x ∷ []
 
@@ -132,7 +132,7 @@ module _ (past : List Step) (x : Step) (w : World) (size : ℕ) (f : FatesHold w
   abbrev t : cl.NodeTurn
   t = cl.node_turn site.node (cl.client_step site.node.state now input)
 
-  abbrev after : ClientSite
+  abbrev after : WorldClient
   after = ev.at_node t.node site
 
   abbrev sc : WorldTurn

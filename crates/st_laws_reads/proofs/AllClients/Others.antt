@@ -18,14 +18,14 @@ use Rattle.st_rules.specs.Events as ev
 use Rattle.st_rules.specs.Events.{WorldTurn, counted, happens}
 use Rattle.st_rules.specs.Server as server
 use Rattle.st_rules.specs.Server.{ServerNode}
-use Rattle.st_rules.specs.World.{World, ClientSite, issued_of, message_of, node_of, receiver_of, site_of, site_runs}
+use Rattle.st_rules.specs.World.{World, WorldClient, issued_of, message_of, node_of, receiver_of, site_of, site_runs}
 use Rattle.st_protocol.specs.Assoc.{Config}
 use Rattle.st_lemmas.proofs.Numbers.{set_length}
 use Rattle.st_lemmas.proofs.Steps.{step_happens}
 use Rattle.st_lemmas.proofs.Tables.{not_false}
 use Rattle.st_laws_pages.proofs.Disks.Effects.{or_none, stands_not}
 use Rattle.st_laws_leases.specs.Sides.World.{AllStand}
-use Rattle.st_laws_reads.specs.Copies.World.{asking, hearing, hearing_of, taken, taking, told_at, told_of}
+use Rattle.st_laws_reads.specs.Copies.World.{asking, receiving, receiving_of, taken, taking, told_at, told_of}
 use Rattle.st_laws_reads.specs.AllClients.Events.{FrozenStandAlone, MessageFree, OthersKeepCopies, OthersOwed, ReceiverFree}
 use Rattle.st_laws_reads.specs.AllClients.World.{CopiesHold}
 use Rattle.st_laws_reads.proofs.AllClients.Events.{advance_keeps, crash_keeps, effect_keeps, quiet_keeps, server_keeps, start_keeps}
@@ -44,22 +44,22 @@ start_stopped w c r = stands_not _ _ (or_none _ _ r).1
 
 module _ (asks : ℕ → ℕ → Option Ask) where
   -- nobody takes it
-  client_none : (w : World) (c : ClientId) (input : ClientInput) (o : Option ClientSite) → taking w c input o ≡ None → CopiesHold asks w → CopiesHold asks (ev.at_client w c input o).world
+  client_none : (w : World) (c : ClientId) (input : ClientInput) (o : Option WorldClient) → taking w c input o ≡ None → CopiesHold asks w → CopiesHold asks (ev.at_client w c input o).world
   unfolding ev.at_client
   client_none w c input None e h = h
   client_none w c input (Some site) e h = absurd (none_some _ e)
 
-  ask_none : (w : World) (c : ClientId) (ask : Ask) (o : Option ClientSite) → asking w c ask o ≡ None → CopiesHold asks w → CopiesHold asks (ev.asks_at w c ask o).world
+  ask_none : (w : World) (c : ClientId) (ask : Ask) (o : Option WorldClient) → asking w c ask o ≡ None → CopiesHold asks w → CopiesHold asks (ev.asks_at w c ask o).world
   unfolding ev.asks_at
   ask_none w c ask None e h = h
   ask_none w c ask (Some site) e h = absurd (none_some _ e)
 
-  node_none : (w : World) (m : Message) (n : NodeId) → hearing w m n ≡ None → ReceiverFree w m n → CopiesHold asks w → CopiesHold asks (ev.delivers_to w m n).world
+  node_none : (w : World) (m : Message) (n : NodeId) → receiving w m n ≡ None → ReceiverFree w m n → CopiesHold asks w → CopiesHold asks (ev.delivers_to w m n).world
   unfolding ev.delivers_to
   node_none w m (nodes.Client c) e g h = client_none w c (inputs.Control m) (site_of w c) e h
   node_none w m (nodes.Server s) e g h = server_keeps asks w s (serving.Control m) (node_of w s) g h
 
-  message_none : (w : World) (o : Option SentMessage) → hearing_of w o ≡ None → MessageFree w o → CopiesHold asks w → CopiesHold asks (ev.delivers w o).world
+  message_none : (w : World) (o : Option SentMessage) → receiving_of w o ≡ None → MessageFree w o → CopiesHold asks w → CopiesHold asks (ev.delivers w o).world
   unfolding ev.delivers
   message_none w None e g h = h
   message_none w (Some m) e g h = node_none w m.message (receiver_of m) e g h
@@ -69,11 +69,11 @@ module _ (asks : ℕ → ℕ → Option Ask) where
   told_none w k ok None e h = h
   told_none w k ok (Some y) e h = at_site (site_of w y.client) e
     where
-      at : (site : ClientSite) (b : Bool) → (if b then taking w y.client (ev.end_told w k ok y) (Some site) else None) ≡ None → CopiesHold asks (if b then ev.client_takes w y.client (ev.end_told w k ok y) site else ev.quiet w).world
+      at : (site : WorldClient) (b : Bool) → (if b then taking w y.client (ev.end_told w k ok y) (Some site) else None) ≡ None → CopiesHold asks (if b then ev.client_takes w y.client (ev.end_told w k ok y) site else ev.quiet w).world
       at site true e = absurd (none_some _ e)
       at site false e = h
 
-      at_site : (s : Option ClientSite) → told_at w k ok y s ≡ None → CopiesHold asks (ev.tells_client w k ok y s).world
+      at_site : (s : Option WorldClient) → told_at w k ok y s ≡ None → CopiesHold asks (ev.tells_client w k ok y s).world
       at_site None e = h
       at_site (Some site) e = at site (ev.is_same_instance y site) e
 
@@ -102,7 +102,7 @@ module _ (asks : ℕ → ℕ → Option Ask) where
       told_none (ev.with_disks (ev.disks_after w.disks (disks.done w.disks n ok)) (counted w)) n ok (issued_of w n) t (still w (ev.with_disks (ev.disks_after w.disks (disks.done w.disks n ok)) (counted w)) refl refl refl refl h)
   happens_keeps k count w (events.Crash (nodes.Client c)) all r t o h = go (site_of w c) refl
     where
-      go : (s : Option ClientSite) → site_of w c ≡ s → CopiesHold asks (ev.crashes_client (counted w) c s).world
+      go : (s : Option WorldClient) → site_of w c ≡ s → CopiesHold asks (ev.crashes_client (counted w) c s).world
       go None e = still w (counted w) refl refl refl refl h
       go (Some site) e = still (ev.crashes_client w c (Some site)).world (ev.crashes_client (counted w) c (Some site)).world refl refl refl refl (crash_keeps asks k count w c site e (ap site_runs (sym e) ∙ crash_runs w c r) all (frozen_lives w o) h)
   happens_keeps k count w (events.Crash (nodes.Server s)) all r t o h = go (node_of w s)
@@ -112,7 +112,7 @@ module _ (asks : ℕ → ℕ → Option Ask) where
       go (Some node) = still w (ev.with_node s (server.crash_node node) (counted w)) refl (set_length w.servers _ (server.crash_node node)) refl refl h
   happens_keeps k count w (events.Start (nodes.Client c)) all r t o h = go (site_of w c) refl
     where
-      go : (s : Option ClientSite) → site_of w c ≡ s → CopiesHold asks (ev.starts_client (counted w) c s)
+      go : (s : Option WorldClient) → site_of w c ≡ s → CopiesHold asks (ev.starts_client (counted w) c s)
       go None e = still w (counted w) refl refl refl refl h
       go (Some site) e = start_keeps asks (counted w) c site e (ap site_runs (sym e) ∙ start_stopped w c r) (still w (counted w) refl refl refl refl h)
   happens_keeps k count w (events.Start (nodes.Server s)) all r t o h = go (node_of w s)

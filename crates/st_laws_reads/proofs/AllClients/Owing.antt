@@ -29,7 +29,7 @@ use Rattle.st_rules.specs.History.{Traced}
 use Rattle.st_rules.specs.Keys.{client, page_no}
 use Rattle.st_rules.specs.Safety.{Step, step}
 use Rattle.st_rules.specs.World as world
-use Rattle.st_rules.specs.World.{World, ClientSite, issued_of, life_with, message_of, node_at, receiver_of, site_of}
+use Rattle.st_rules.specs.World.{World, WorldClient, issued_of, life_with, message_of, node_at, receiver_of, site_of}
 use Rattle.st_protocol.specs.Assoc.{Config}
 use Rattle.st_lemmas.specs.Lists.{Has}
 use Rattle.st_lemmas.proofs.Lookups.{some_is}
@@ -37,7 +37,7 @@ use Rattle.st_lemmas.proofs.Numbers.{numbered_has}
 use Rattle.st_lemmas.proofs.Steps.{step_happens}
 use Rattle.st_laws_pages.specs.Asks.Law.{PlacesHold}
 use Rattle.st_laws_pages.specs.Fates.Fates.{BeforeEnd}
-use Rattle.st_laws_pages.specs.Disks.Owed.{FatesHold}
+use Rattle.st_laws_pages.specs.Disks.Obligations.{FatesHold}
 use Rattle.st_laws_pages.proofs.Disks.Effects.{ReportFinds, report_finds, reported_is, reported_world}
 use Rattle.st_laws_pages.proofs.Fates.Fates.{pending_map}
 use Rattle.st_laws_pages.proofs.Fates.GoneLaw.{Over, gone_known, kept}
@@ -47,12 +47,12 @@ use Rattle.st_laws_pages.proofs.Causes.Placed.{PlacesAt, places_at}
 use Rattle.st_laws_leases.specs.Sides.World.{AllStand}
 use Rattle.st_laws_reads.specs.Copies.Copies.{Nothing}
 use Rattle.st_laws_reads.specs.Copies.Law.{AllOwed}
-use Rattle.st_laws_reads.specs.Copies.Owed.{OwedAt}
-use Rattle.st_laws_reads.specs.Copies.World.{OwedOf, Taking, asking, hearing, hearing_of, now_at, taken, taking, told_at, told_of, turn_of}
+use Rattle.st_laws_reads.specs.Copies.Obligations.{OwedAt}
+use Rattle.st_laws_reads.specs.Copies.World.{OwedOf, Taking, asking, receiving, receiving_of, now_at, taken, taking, told_at, told_of, turn_of}
 use Rattle.st_laws_steps.specs.Client.Session.{cuts_from}
-use Rattle.st_laws_reads.specs.AllClients.Clear.{AllCleared, Clear, Cleared}
+use Rattle.st_laws_reads.specs.AllClients.CutFiles.{AllCleared, Clear, Cleared}
 use Rattle.st_laws_reads.specs.AllClients.Law.{Running}
-use Rattle.st_laws_reads.specs.AllClients.Left.{AllLeft, LeftAt}
+use Rattle.st_laws_reads.specs.AllClients.Obligations.{AllLeft, LeftAt}
 use Rattle.st_laws_reads.specs.AllClients.Runs.{InputOwed}
 use Rattle.st_laws_reads.proofs.AllClients.ClearPages.{nothing_of}
 use Rattle.st_laws_reads.proofs.AllClients.Behind.{Behind, behind}
@@ -100,12 +100,12 @@ module _ (k : Config) (count : ℕ) (past : List Step) (t : Traced) (e : Event) 
   w = counted t.world
 
   -- A message.
-  module _ (n : ℕ) (m : SentMessage) (found : message_of w n ≡ Some m) (c : ClientId) (to : receiver_of m ≡ nodes.Client c) (site : ClientSite) (there : site_of w c ≡ Some site) where
+  module _ (n : ℕ) (m : SentMessage) (found : message_of w n ≡ Some m) (c : ClientId) (to : receiver_of m ≡ nodes.Client c) (site : WorldClient) (there : site_of w c ≡ Some site) where
     abbrev x : Taking
     x = record { world = w; client = c; input = inputs.Control m.message; site = site }
 
-    hears : Suffices x
-    hears a i h s session from life epoch =
+    receives : Suffices x
+    receives a i h s session from life epoch =
         record {
           modes = reply_modes k count t.world all c.0 site run m sent number a b.was s session from life epoch;
           up = reply_up k count t.world all c.0 site run m sent number a b.was s session from life epoch b.lasts;
@@ -133,7 +133,7 @@ module _ (k : Config) (count : ℕ) (past : List Step) (t : Traced) (e : Event) 
             go false q = absurd (none_some (sym ((st.fates.lives.lives.sites c site there).stopped q a b.was).session ∙ session))
 
   -- The end of a command.
-  module _ (n : ℕ) (ok : Bool) (happens : e ≡ events.Report n ok) (free : adm.refusal w (events.Report n ok) ≡ None) (d : DiskCommand) (found : disks.command w.disks n ≡ Some d) (y : IssuedCommand) (issued : issued_of w n ≡ Some y) (site : ClientSite) (there : site_of w y.client ≡ Some site) (same : ev.is_same_instance y site ≡ true) where
+  module _ (n : ℕ) (ok : Bool) (happens : e ≡ events.Report n ok) (free : adm.refusal w (events.Report n ok) ≡ None) (d : DiskCommand) (found : disks.command w.disks n ≡ Some d) (y : IssuedCommand) (issued : issued_of w n ≡ Some y) (site : WorldClient) (there : site_of w y.client ≡ Some site) (same : ev.is_same_instance y site ≡ true) where
     abbrev v : World
     v = reported_world w n ok d
 
@@ -167,23 +167,23 @@ module _ (k : Config) (count : ℕ) (past : List Step) (t : Traced) (e : Event) 
         done true q r = refl
         done false q r = cc r
 
-  by_tick : (c : ClientId) (o : Option ClientSite) (x : Taking) → taking w c inputs.Tick o ≡ Some x → Suffices x
+  by_tick : (c : ClientId) (o : Option WorldClient) (x : Taking) → taking w c inputs.Tick o ≡ Some x → Suffices x
   by_tick c None x q = cc q
   by_tick c (Some site) x q = subst Suffices (some_is q) (λ a i h. record {})
 
-  by_ask : (c : ClientId) (ask : Ask) (o : Option ClientSite) (x : Taking) → asking w c ask o ≡ Some x → Suffices x
+  by_ask : (c : ClientId) (ask : Ask) (o : Option WorldClient) (x : Taking) → asking w c ask o ≡ Some x → Suffices x
   by_ask c ask None x q = cc q
   by_ask c ask (Some site) x q = subst Suffices (some_is q) (λ a i h. record {})
 
-  by_message : (n : ℕ) (m : SentMessage) → message_of w n ≡ Some m → (r : NodeId) → receiver_of m ≡ r → (x : Taking) → hearing w m.message r ≡ Some x → Suffices x
+  by_message : (n : ℕ) (m : SentMessage) → message_of w n ≡ Some m → (r : NodeId) → receiver_of m ≡ r → (x : Taking) → receiving w m.message r ≡ Some x → Suffices x
   by_message n m found (nodes.Server s) to x q = cc q
   by_message n m found (nodes.Client c) to x q = go (site_of w c) refl q
     where
-      go : (o : Option ClientSite) → site_of w c ≡ o → taking w c (inputs.Control m.message) o ≡ Some x → Suffices x
+      go : (o : Option WorldClient) → site_of w c ≡ o → taking w c (inputs.Control m.message) o ≡ Some x → Suffices x
       go None there q = cc q
-      go (Some site) there q = subst Suffices (some_is q) (hears n m found c to site there)
+      go (Some site) there q = subst Suffices (some_is q) (receives n m found c to site there)
 
-  by_delivery : (n : ℕ) (o : Option SentMessage) → message_of w n ≡ o → (x : Taking) → hearing_of w o ≡ Some x → Suffices x
+  by_delivery : (n : ℕ) (o : Option SentMessage) → message_of w n ≡ o → (x : Taking) → receiving_of w o ≡ Some x → Suffices x
   by_delivery n None found x q = cc q
   by_delivery n (Some m) found x q = by_message n m found (receiver_of m) refl x q
 
@@ -194,11 +194,11 @@ module _ (k : Config) (count : ℕ) (past : List Step) (t : Traced) (e : Event) 
       v : World
       v = reported_world w n ok d
 
-      go : (site : ClientSite) → site_of w y.client ≡ Some site → (b : Bool) → ev.is_same_instance y site ≡ b → (if b then taking v y.client (ev.end_told v n ok y) (Some site) else None) ≡ Some x → Suffices x
+      go : (site : WorldClient) → site_of w y.client ≡ Some site → (b : Bool) → ev.is_same_instance y site ≡ b → (if b then taking v y.client (ev.end_told v n ok y) (Some site) else None) ≡ Some x → Suffices x
       go site there true same q = subst Suffices (some_is q) (ends n ok happens free d found y issued site there same)
       go site there false same q = cc q
 
-      at : (o : Option ClientSite) → site_of w y.client ≡ o → told_at v n ok y o ≡ Some x → Suffices x
+      at : (o : Option WorldClient) → site_of w y.client ≡ o → told_at v n ok y o ≡ Some x → Suffices x
       at None there q = cc q
       at (Some site) there q = go site there (ev.is_same_instance y site) refl q
 

@@ -30,7 +30,7 @@ use Rattle.st_rules.specs.Keys.{client, same_client}
 use Rattle.st_rules.specs.Lines.{AtEach, log_behind}
 use Rattle.st_rules.specs.Safety as safety
 use Rattle.st_rules.specs.Safety.{IsLast, Step, ask_in, step}
-use Rattle.st_rules.specs.World.{World, ClientSite, issued_of, life_with, message_of, numbered, receiver_of, site_of}
+use Rattle.st_rules.specs.World.{World, WorldClient, issued_of, life_with, message_of, numbered, receiver_of, site_of}
 use Rattle.st_protocol.specs.Assoc.{Config}
 use Rattle.st_lemmas.proofs.Lookups.{some_is}
 use Rattle.st_lemmas.proofs.Numbers.{get_last, numbered_own}
@@ -41,8 +41,8 @@ use Rattle.st_laws_pages.proofs.Causes.HardSeen.{dull_fates}
 use Rattle.st_laws_leases.specs.Sides.World.{AllStand}
 use Rattle.st_laws_reads.specs.Copies.Copies.{AskedSo, Right}
 use Rattle.st_laws_reads.specs.Copies.Law.{SeenRight}
-use Rattle.st_laws_reads.specs.Copies.Owed.{Numbered}
-use Rattle.st_laws_reads.specs.Copies.World.{Taking, asking, hearing, hearing_of, taken, taking, told_at, told_of, turn_of}
+use Rattle.st_laws_reads.specs.Copies.Obligations.{Numbered}
+use Rattle.st_laws_reads.specs.Copies.World.{Taking, asking, receiving, receiving_of, taken, taking, told_at, told_of, turn_of}
 use Rattle.st_laws_reads.proofs.Copies.Seen as answered
 use Rattle.st_laws_reads.specs.AllClients.World.{CopiesHold, TakingOwed}
 use Rattle.st_laws_reads.proofs.AllClients.Takings.{Takes, keeps, mine_there}
@@ -72,11 +72,11 @@ module _ (past : List Step) (x : Step) where
   abbrev Numbers : Taking → Type 0
   Numbers y = Numbered (known (past ++ x ∷ []) y.client.0) y.input
 
-  by_client : (w : World) (c : ClientId) (input : ClientInput) (o : Option ClientSite) (y : Taking) → Numbered (known (past ++ x ∷ []) c.0) input → taking w c input o ≡ Some y → Numbers y
+  by_client : (w : World) (c : ClientId) (input : ClientInput) (o : Option WorldClient) (y : Taking) → Numbered (known (past ++ x ∷ []) c.0) input → taking w c input o ≡ Some y → Numbers y
   by_client w c input None y n q = cc q
   by_client w c input (Some site) y n q = subst Numbers (some_is q) n
 
-  by_ask : (w : World) (c : ClientId) (ask : Ask) (o : Option ClientSite) (y : Taking) → site_of w c ≡ o → x.event ≡ events.App c ask → AskedHold past w → asking w c ask o ≡ Some y → Numbers y
+  by_ask : (w : World) (c : ClientId) (ask : Ask) (o : Option WorldClient) (y : Taking) → site_of w c ≡ o → x.event ≡ events.App c ask → AskedHold past w → asking w c ask o ≡ Some y → Numbers y
   unfolding safety.ask_of_client
   by_ask w c ask None y there e a q = cc q
   by_ask w c ask (Some site) y there e a q = subst Numbers (some_is q) new
@@ -93,15 +93,15 @@ module _ (past : List Step) (x : Step) where
       new : numbered (asks_of (past ++ x ∷ []) c) (site.asks + 1) ≡ Some ask
       new = ap (λ l. numbered l (site.asks + 1)) own ∙ ap (λ m. numbered (asks_of past c ++ ask ∷ []) m) (let z : site.asks + 1 ≡ suc (length (asks_of past c)) = omega (arith, was) in z) ∙ get_last (asks_of past c) ask
 
-  by_message : (w : World) (m : Message) (n : NodeId) (y : Taking) → hearing w m n ≡ Some y → Numbers y
+  by_message : (w : World) (m : Message) (n : NodeId) (y : Taking) → receiving w m n ≡ Some y → Numbers y
   by_message w m (nodes.Client c) y q = by_client w c (inputs.Control m) (site_of w c) y tt q
   by_message w m (nodes.Server s) y q = cc q
 
-  by_delivery : (w : World) (o : Option SentMessage) (y : Taking) → hearing_of w o ≡ Some y → Numbers y
+  by_delivery : (w : World) (o : Option SentMessage) (y : Taking) → receiving_of w o ≡ Some y → Numbers y
   by_delivery w None y q = cc q
   by_delivery w (Some m) y q = by_message w m.message (receiver_of m) y q
 
-  by_end : (v : World) (k : ℕ) (ok : Bool) (i : IssuedCommand) (o : Option ClientSite) (y : Taking) → told_at v k ok i o ≡ Some y → Numbers y
+  by_end : (v : World) (k : ℕ) (ok : Bool) (i : IssuedCommand) (o : Option WorldClient) (y : Taking) → told_at v k ok i o ≡ Some y → Numbers y
   by_end v k ok i None y q = cc q
   by_end v k ok i (Some site) y q = go (ev.is_same_instance i site) q
     where
@@ -128,7 +128,7 @@ module _ (k : Config) (count : ℕ) (past : List Step) (t : Traced) (e : Event) 
   abbrev asks : ℕ → ℕ → Option Ask
   asks = known (past ++ st ∷ [])
 
-  abbrev mine : ClientSite
+  abbrev mine : WorldClient
   mine = ev.at_node (cl.node_turn x.site.node (turn_of x)).node x.site
 
   abbrev v : World
@@ -156,10 +156,10 @@ module _ (k : Config) (count : ℕ) (past : List Step) (t : Traced) (e : Event) 
       left = mine_there asks k count t.world e sc x all after is q tk owed h r
 
       lives : ◌≡◌ {A = ServerId → Life} (present_life sc.world x.client) (present_life v x.client)
-      lives = ap {B = ServerId → Life} (λ (o : Option ClientSite). λ (s : ServerId). ev.life_of_site s o) (left ∙ sym here)
+      lives = ap {B = ServerId → Life} (λ (o : Option WorldClient). λ (s : ServerId). ev.life_of_site s o) (left ∙ sym here)
 
       present : ◌≡◌ {A = ServerId → Life} (life_with (turn_of x).state) (present_life v x.client)
-      present = ap {B = ServerId → Life} (λ (o : Option ClientSite). λ (s : ServerId). ev.life_of_site s o) (sym here)
+      present = ap {B = ServerId → Life} (λ (o : Option WorldClient). λ (s : ServerId). ev.life_of_site s o) (sym here)
 
       right : SeenRight past st x.world.log (client_says_all x.client x.site.node.state (turn_of x).out (ev.quiet v)).seen
       right =

@@ -11,17 +11,17 @@ use Rattle.st_rules.specs.declared.world.SentMessage.{SentMessage}
 use Rattle.st_rules.specs.ClientLocks.{is_above_seen, lock_of, seen_of}
 use Rattle.st_rules.specs.ClientState.{Association, ClientSession}
 use Rattle.st_rules.specs.Keys.{client, server_node}
-use Rattle.st_rules.specs.World.{World, ClientSite, clock_of}
+use Rattle.st_rules.specs.World.{World, WorldClient, clock_of}
 use Rattle.st_protocol.specs.Assoc as net
 use Rattle.st_protocol.specs.Assoc.{Alive, Config, Exactly, In, Msg, msg}
 use Rattle.st_lemmas.specs.Lists.{Has}
 use Rattle.st_laws_refine.specs.Views.Halves.{client_of, date_in, held_at, leased_in}
 use Rattle.st_laws_refine.specs.Views.Messages.{Shows, shown, with_date}
-use Rattle.st_laws_refine.specs.Client.Shown.{HaveModes, Kept, Lasts}
+use Rattle.st_laws_refine.specs.Client.Invariants.{HaveModes, Kept, Lasts}
 use Rattle.st_laws_refine.specs.Server.Pair.{client_in}
-use Rattle.st_laws_refine.specs.Server.Stands.{pairs}
+use Rattle.st_laws_refine.specs.Server.Invariants.{pairs}
 use Rattle.st_protocol.proofs.World.{invariant, exactly as exact_law}
-use Rattle.st_laws_leases.specs.Sides.Stands.{Standing}
+use Rattle.st_laws_leases.specs.Sides.Invariants.{Standing}
 use Rattle.st_laws_leases.specs.Sides.World.{AllStand, ServerStands, There}
 use Rattle.st_laws_leases.proofs.Sides.Pairs.{only_here, own_view}
 use Rattle.st_laws_reads.specs.AllClients.Law.{Running}
@@ -39,7 +39,7 @@ lasts_date : (l now : ℕ) (o : Option ClientSession) (s : ClientSession) → o 
 lasts_date l now None s e h = cc e
 lasts_date l now (Some t) s e h = h
 
-module _ (k : Config) (count : ℕ) (w : World) (all : AllStand k count w) (c : ℕ) (site : ClientSite) (run : Running w c site) (m : SentMessage) (sent : Has m w.net.messages) (to : m.message.header.to ≡ c) (a : Association) (here : Has a site.node.state.associations)
+module _ (k : Config) (count : ℕ) (w : World) (all : AllStand k count w) (c : ℕ) (site : WorldClient) (run : Running w c site) (m : SentMessage) (sent : Has m w.net.messages) (to : m.message.header.to ≡ c) (a : Association) (here : Has a site.node.state.associations)
     (s : ClientSession) (session : a.session ≡ Some s) (from : m.message.header.from ≡ server_node a.server) (life : m.message.header.life ≡ a.life.0) (epoch : m.message.header.epoch ≡ s.epoch.0) where
   there : There w a.server
   there = all.senders m sent a.server from

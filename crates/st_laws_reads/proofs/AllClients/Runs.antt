@@ -13,7 +13,7 @@ use Rattle.st_rules.specs.History.{Traced, traced, traced_after}
 use Rattle.st_rules.specs.Keys.{client}
 use Rattle.st_rules.specs.Lines.{AtEach}
 use Rattle.st_rules.specs.Safety.{IsHead, IsLast, ReadsReturnLastWrites, Step, is_event, step}
-use Rattle.st_rules.specs.World.{World, ClientSite, clock_of, fresh_site, fresh_world, node_at_start}
+use Rattle.st_rules.specs.World.{World, WorldClient, clock_of, fresh_site, fresh_world, node_at_start}
 use Rattle.st_protocol.specs.Assoc.{Config}
 use Rattle.st_lemmas.specs.Lists.{Has}
 use Rattle.st_lemmas.proofs.Steps.{step_happens}
@@ -22,8 +22,8 @@ use Rattle.st_laws_pages.proofs.Causes.Law.{Stand, fresh_places, fresh_stand, nu
 use Rattle.st_laws_pages.proofs.Disks.Whole.{site_is}
 use Rattle.st_laws_refine.specs.Server.Pair.{terms_of}
 use Rattle.st_laws_leases.specs.Sides.World.{AllStand, There}
-use Rattle.st_laws_leases.proofs.Sides.Beginning.{begun}
-use Rattle.st_laws_leases.proofs.Sides.Everywhere.{numbered_is, stays}
+use Rattle.st_laws_leases.proofs.Sides.FirstWorld.{begun}
+use Rattle.st_laws_leases.proofs.Sides.AllAssociations.{numbered_is, stays}
 use Rattle.st_laws_leases.proofs.Sides.Runs.{full}
 use Rattle.st_laws_reads.specs.Copies.Law.{EachStands, Apart, Differs}
 use Rattle.st_laws_reads.specs.Copies.World.{Taking, taken}
@@ -32,15 +32,15 @@ use Rattle.st_laws_reads.proofs.Copies.Rests.{clocks_law}
 use Rattle.st_laws_reads.specs.AllClients.Runs.{IsOwed, TakenOwed}
 use Rattle.st_laws_reads.specs.AllClients.World.{AllThere, CopiesHold, SiteHolds, TakingOwed}
 use Rattle.st_laws_reads.proofs.AllClients.Others as others
-use Rattle.st_laws_reads.specs.AllClients.Clear.{AllCleared}
+use Rattle.st_laws_reads.specs.AllClients.CutFiles.{AllCleared}
 use Rattle.st_laws_reads.proofs.AllClients.Cleared.{clear_step, fresh_clear}
-use Rattle.st_laws_pages.specs.LockedCuts.Locked.{WaitsHold}
+use Rattle.st_laws_pages.specs.LockedCuts.CutLocks.{WaitsHold}
 use Rattle.st_laws_pages.proofs.LockedCuts.CutLaw.{law as cut_law}
 use Rattle.st_laws_pages.proofs.Disks.Whole.{fresh_waits}
 use Rattle.st_laws_leases.proofs.Sides.Waiting.{waits_owed}
 use Rattle.st_laws_reads.specs.AllClients.Events.{OthersOwed}
-use Rattle.st_laws_reads.specs.AllClients.Left.{CutsAsked}
-use Rattle.st_laws_reads.specs.AllClients.Carry.{IsCarried, WritesCarryTheContent}
+use Rattle.st_laws_reads.specs.AllClients.Obligations.{CutsAsked}
+use Rattle.st_laws_reads.specs.AllClients.CarriedContents.{IsCarried, WritesCarryTheContent}
 use Rattle.st_laws_reads.proofs.AllClients.Carrying.{carried_taken, others_silent, silent_carried}
 use Rattle.st_laws_reads.proofs.AllClients.Cutting.{others_owed}
 use Rattle.st_laws_reads.proofs.AllClients.Owing.{input_owed}
@@ -150,7 +150,7 @@ module _ (k : base.Config) (clients servers d b form : ℕ) where
   fresh_copies : CopiesHold (known []) w
   unfolding fresh_world cl.fresh_client
   fresh_copies c site e =
-      subst (λ (s : ClientSite). SiteHolds (known [] c) w c s) (sym (site_is k clients servers c site e).0)
+      subst (λ (s : WorldClient). SiteHolds (known [] c) w c s) (sym (site_is k clients servers c site e).0)
       (record {
         servers = all_there (numbers 1 servers) (λ n i. i);
         runs = λ r. (clocks_law (known [] c) (client c) [] (clock_of w (nodes.Client (client c))) (fresh_site k servers c).node.state).behind (record { apart = apart 1 servers; copies = stand_empty c (numbers 1 servers); asked = record {} });

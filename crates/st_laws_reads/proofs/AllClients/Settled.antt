@@ -15,19 +15,19 @@ use Rattle.st_rules.specs.ClientState.{Association}
 use Rattle.st_rules.specs.Events.{is_hard_fate}
 use Rattle.st_rules.specs.FlatLog.{is_of_life, is_pending, owner, reaches, same_owner, touches}
 use Rattle.st_rules.specs.Keys.{client, same_client, same_file, same_server}
-use Rattle.st_rules.specs.World.{World, ClientSite, clock_of}
+use Rattle.st_rules.specs.World.{World, WorldClient, clock_of}
 use Rattle.st_protocol.specs.Assoc.{Config}
 use Rattle.st_lemmas.specs.Lists.{Has}
 use Rattle.st_lemmas.proofs.Tables.{and_both, and_true}
 use Rattle.st_laws_refine.specs.Views.Halves.{held_in}
-use Rattle.st_laws_refine.specs.Client.Shown.{Lasts}
+use Rattle.st_laws_refine.specs.Client.Invariants.{Lasts}
 use Rattle.st_laws_pages.specs.Disks.Folds.{CutsHard, OnlyOwn, SettledOn}
 use Rattle.st_laws_leases.specs.Sides.World.{AllStand}
 use Rattle.st_laws_reads.specs.Copies.Copies.{file_at}
 use Rattle.st_laws_reads.specs.Copies.Law.{StandsAt}
 use Rattle.st_laws_reads.specs.AllClients.Events.{FrozenStandAlone}
 use Rattle.st_laws_reads.specs.AllClients.Law.{Running}
-use Rattle.st_laws_reads.specs.AllClients.Settled.{LockedPagesAreOwn, LockedPagesAreSettled}
+use Rattle.st_laws_reads.specs.AllClients.OwnEntries.{LockedPagesAreOwn, LockedPagesAreSettled}
 use Rattle.st_laws_reads.specs.AllClients.World.{CopiesHold}
 use Rattle.st_laws_reads.proofs.AllClients.Alone.{fate_at, while_at}
 use Rattle.st_laws_reads.proofs.AllClients.Dropping.{own_copies, unheld_for}
@@ -41,7 +41,7 @@ pending_hard fates.Pending q r = cc r
 pending_hard fates.Hard q r = cc q
 pending_hard (fates.Gone c) q r = cc q
 
-module _ (asks : ℕ → ℕ → Option Ask) (k : Config) (count : ℕ) (w : World) (d : ℕ) (site : ClientSite) (a : Association) (ino : ℕ) (p : PageNo) (all : AllStand k count w) (copies : CopiesHold asks w) (frozen_lives : FrozenStandAlone w) (run : Running w d site) (here : Has a site.node.state.associations)
+module _ (asks : ℕ → ℕ → Option Ask) (k : Config) (count : ℕ) (w : World) (d : ℕ) (site : WorldClient) (a : Association) (ino : ℕ) (p : PageNo) (all : AllStand k count w) (copies : CopiesHold asks w) (frozen_lives : FrozenStandAlone w) (run : Running w d site) (here : Has a site.node.state.associations)
     (lasts : Lasts site.node.state.config.lease (clock_of w (nodes.Client (client d))).0 a.session) (held : 1 ≤ (held_in a.session ino).mode) where
   stands : StandsAt (client d) w.log a
   stands = (while_at _ _ (client d) w.log site.node.state.associations a (own_copies asks k count w all copies frozen_lives d site run).copies here).lasting lasts

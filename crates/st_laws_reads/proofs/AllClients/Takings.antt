@@ -23,7 +23,7 @@ use Rattle.st_rules.specs.Events as ev
 use Rattle.st_rules.specs.Events.{WorldTurn, counted, happens, world_step}
 use Rattle.st_rules.specs.FlatLog.{is_of_client}
 use Rattle.st_rules.specs.Keys.{client}
-use Rattle.st_rules.specs.World.{World, ClientSite, clock_of, issued_of, message_of, numbered, receiver_of, site_of}
+use Rattle.st_rules.specs.World.{World, WorldClient, clock_of, issued_of, message_of, numbered, receiver_of, site_of}
 use Rattle.st_protocol.specs.Assoc.{Config}
 use Rattle.st_lemmas.specs.Lists.{Has}
 use Rattle.st_lemmas.proofs.Lookups.{some_is}
@@ -38,7 +38,7 @@ use Rattle.st_laws_steps.specs.Client.Losses.{Fit}
 use Rattle.st_laws_steps.proofs.Client.Stepping.{step_lives}
 use Rattle.st_laws_leases.specs.Sides.World.{AllStand, There}
 use Rattle.st_laws_reads.specs.Copies.Law.{ClientCopies}
-use Rattle.st_laws_reads.specs.Copies.World.{AllOwn, ClientRests, OwnEntry, Taking, Unheld, WorldKeeps, asking, hearing, hearing_of, now_at, taken, taking, told_at, told_of, turn_of}
+use Rattle.st_laws_reads.specs.Copies.World.{AllOwn, ClientRests, OwnEntry, Taking, Unheld, WorldKeeps, asking, receiving, receiving_of, now_at, taken, taking, told_at, told_of, turn_of}
 use Rattle.st_laws_reads.proofs.Copies.Others.{entries_law}
 use Rattle.st_laws_reads.proofs.Copies.Rests.{clocks_law, rests_law}
 use Rattle.st_laws_reads.proofs.Copies.World as own
@@ -88,7 +88,7 @@ there_at w (x ∷ xs) a t (inr h) = there_at w xs a t.rest h
 
 -- What is taken, and the step that follows.
 pub record Takes (w : World) (sc : WorldTurn) (x : Taking) : Type 0 where
-  pub old : ClientSite
+  pub old : WorldClient
   pub there : site_of w x.client ≡ Some old
   pub same : old.node ≡ x.site.node
   pub clients : x.world.clients ≡ w.clients
@@ -97,30 +97,30 @@ pub record Takes (w : World) (sc : WorldTurn) (x : Taking) : Type 0 where
   pub log : x.world.log ≡ w.log
   pub is : sc ≡ ev.client_takes x.world x.client x.input x.site
 
-by_client : (w : World) (c : ClientId) (input : ClientInput) (o : Option ClientSite) (x : Taking) → site_of w c ≡ o → taking w c input o ≡ Some x → Takes w (ev.at_client w c input o) x
+by_client : (w : World) (c : ClientId) (input : ClientInput) (o : Option WorldClient) (x : Taking) → site_of w c ≡ o → taking w c input o ≡ Some x → Takes w (ev.at_client w c input o) x
 unfolding ev.at_client
 by_client w c input None x e q = cc q
 by_client w c input (Some site) x e q =
     subst (Takes w (ev.client_takes w c input site)) (some_is q) (record { old = site; there = e; same = refl; clients = refl; clocks = refl; servers = refl; log = refl; is = refl })
 
-by_ask : (w : World) (c : ClientId) (ask : Ask) (o : Option ClientSite) (x : Taking) → site_of w c ≡ o → asking w c ask o ≡ Some x → Takes w (ev.asks_at w c ask o) x
+by_ask : (w : World) (c : ClientId) (ask : Ask) (o : Option WorldClient) (x : Taking) → site_of w c ≡ o → asking w c ask o ≡ Some x → Takes w (ev.asks_at w c ask o) x
 unfolding ev.asks_at
 by_ask w c ask None x e q = cc q
 by_ask w c ask (Some site) x e q =
     subst (Takes w (ev.client_takes w c (inputs.App (site.asks + 1) ask) (ev.asked_once_more site))) (some_is q)
     (record { old = site; there = e; same = refl; clients = refl; clocks = refl; servers = refl; log = refl; is = refl })
 
-by_message : (w : World) (m : Message) (n : NodeId) (x : Taking) → hearing w m n ≡ Some x → Takes w (ev.delivers_to w m n) x
+by_message : (w : World) (m : Message) (n : NodeId) (x : Taking) → receiving w m n ≡ Some x → Takes w (ev.delivers_to w m n) x
 unfolding ev.delivers_to
 by_message w m (nodes.Client c) x q = by_client w c (inputs.Control m) (site_of w c) x refl q
 by_message w m (nodes.Server s) x q = cc q
 
-by_delivery : (w : World) (o : Option SentMessage) (x : Taking) → hearing_of w o ≡ Some x → Takes w (ev.delivers w o) x
+by_delivery : (w : World) (o : Option SentMessage) (x : Taking) → receiving_of w o ≡ Some x → Takes w (ev.delivers w o) x
 unfolding ev.delivers
 by_delivery w None x q = cc q
 by_delivery w (Some m) x q = by_message w m.message (receiver_of m) x q
 
-by_end : (w : World) (d : disks.Disks) (k : ℕ) (ok : Bool) (y : IssuedCommand) (o : Option ClientSite) (x : Taking) → site_of w y.client ≡ o → told_at (ev.with_disks d w) k ok y o ≡ Some x → Takes w (ev.tells_client (ev.with_disks d w) k ok y o) x
+by_end : (w : World) (d : disks.Disks) (k : ℕ) (ok : Bool) (y : IssuedCommand) (o : Option WorldClient) (x : Taking) → site_of w y.client ≡ o → told_at (ev.with_disks d w) k ok y o ≡ Some x → Takes w (ev.tells_client (ev.with_disks d w) k ok y o) x
 unfolding ev.tells_client ev.tells_site
 by_end w d k ok y None x e q = cc q
 by_end w d k ok y (Some site) x e q = go (ev.is_same_instance y site) q
@@ -188,7 +188,7 @@ module _ (asks : ℕ → ℕ → Option Ask) (k : Config) (count : ℕ) (w : Wor
       (subst (λ (n : cl.ClientNode). ClientCopies (asks c) x.client x.world.log (now_at x) n.state) t.same
       (subst (λ n. ClientCopies (asks c) x.client x.world.log n t.old.node.state) clock_there (subst (λ l. ClientCopies (asks c) x.client l (clock_of w (nodes.Client x.client)) t.old.node.state) (sym t.log) (old_holds.runs old_runs)))) owed.numbered owed.owed
 
-  abbrev pub mine : ClientSite
+  abbrev pub mine : WorldClient
   mine = site_left x.world x.client x.site x.input
 
   pub mine_there : site_of sc.world x.client ≡ Some mine
@@ -210,7 +210,7 @@ module _ (asks : ℕ → ℕ → Option Ask) (k : Config) (count : ℕ) (w : Wor
           (step_lives x.client x.site.node.state (now_at x) x.input
           (subst (λ (n : cl.ClientNode). (a : Association) → Has a n.state.associations → Fit a) t.same (all.fates.lives.lives.sites x.client t.old t.there).fit)).pairs
 
-  others : (d : ℕ) (site : ClientSite) → d ≢ c → site_of sc.world (client d) ≡ Some site → SiteHolds (asks d) sc.world d site
+  others : (d : ℕ) (site : WorldClient) → d ≢ c → site_of sc.world (client d) ≡ Some site → SiteHolds (asks d) sc.world d site
   others d site n f =
       record {
         servers = there_on w sc.world site.node.state.associations servers was.servers;
@@ -244,7 +244,7 @@ module _ (asks : ℕ → ℕ → Option Ask) (k : Config) (count : ℕ) (w : Wor
       go (inr n) = others d site n f
       go (inl i) =
           subst (λ j. SiteHolds (asks j) sc.world j site) (sym i)
-          (subst (λ (s : ClientSite). SiteHolds (asks c) sc.world c s) (some_is (sym mine_there ∙ subst (λ j. site_of sc.world (client j) ≡ Some site) i f)) mine_holds)
+          (subst (λ (s : WorldClient). SiteHolds (asks c) sc.world c s) (some_is (sym mine_there ∙ subst (λ j. site_of sc.world (client j) ≡ Some site) i f)) mine_holds)
 
 -- A client that does not run takes nothing.
 stopped : (asks : ℕ → ℕ → Option Ask) (w : World) (sc : WorldTurn) (x : Taking) → Takes (counted w) sc x → CopiesHold asks w → x.site.node.running ≡ false → CopiesHold asks sc.world

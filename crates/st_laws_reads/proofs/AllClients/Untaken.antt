@@ -26,20 +26,20 @@ use Rattle.st_rules.specs.Events.{WorldTurn, happens}
 use Rattle.st_rules.specs.FlatLog as log
 use Rattle.st_rules.specs.Server as server
 use Rattle.st_rules.specs.Server.{ServerNode}
-use Rattle.st_rules.specs.World.{World, ClientSite, clock_of, issued_of, message_of, node_of, receiver_of, site_of}
-use Rattle.st_laws_reads.specs.Copies.World.{asking, hearing, hearing_of, taken, taking, told_at, told_of}
+use Rattle.st_rules.specs.World.{World, WorldClient, clock_of, issued_of, message_of, node_of, receiver_of, site_of}
+use Rattle.st_laws_reads.specs.Copies.World.{asking, receiving, receiving_of, taken, taking, told_at, told_of}
 
 none_some : {A : Type 0} (x : A) → ◌≡◌ {A = Option A} (Some x) None → ⊥
 none_some x e = cc
 
 module _ (S : List Observation → Type 0) (none : S []) (says : (s : ServerId) (os : List Output) (sc : WorldTurn) → S sc.seen → S (ev.server_says_all s os sc).seen)
     (of_fates : (k : ℕ) (es fs : List LogEntry) → S (ev.fates_from k es fs)) where
-  at_client : (w : World) (c : ClientId) (input : ClientInput) (o : Option ClientSite) → taking w c input o ≡ None → S (ev.at_client w c input o).seen
+  at_client : (w : World) (c : ClientId) (input : ClientInput) (o : Option WorldClient) → taking w c input o ≡ None → S (ev.at_client w c input o).seen
   unfolding ev.at_client
   at_client w c input None e = none
   at_client w c input (Some site) e = absurd (none_some _ e)
 
-  at_ask : (w : World) (c : ClientId) (ask : Ask) (o : Option ClientSite) → asking w c ask o ≡ None → S (ev.asks_at w c ask o).seen
+  at_ask : (w : World) (c : ClientId) (ask : Ask) (o : Option WorldClient) → asking w c ask o ≡ None → S (ev.asks_at w c ask o).seen
   unfolding ev.asks_at
   at_ask w c ask None e = none
   at_ask w c ask (Some site) e = absurd (none_some _ e)
@@ -53,12 +53,12 @@ module _ (S : List Observation → Type 0) (none : S []) (says : (s : ServerId) 
       go (Err e) = none
       go (Ok t) = says s t.out (ev.quiet (ev.with_node s t.node w)) none
 
-  at_node : (w : World) (m : Message) (n : NodeId) → hearing w m n ≡ None → S (ev.delivers_to w m n).seen
+  at_node : (w : World) (m : Message) (n : NodeId) → receiving w m n ≡ None → S (ev.delivers_to w m n).seen
   unfolding ev.delivers_to
   at_node w m (nodes.Client c) e = at_client w c (inputs.Control m) (site_of w c) e
   at_node w m (nodes.Server s) e = at_server w s (serving.Control m) (node_of w s)
 
-  at_message : (w : World) (o : Option SentMessage) → hearing_of w o ≡ None → S (ev.delivers w o).seen
+  at_message : (w : World) (o : Option SentMessage) → receiving_of w o ≡ None → S (ev.delivers w o).seen
   unfolding ev.delivers
   at_message w None e = none
   at_message w (Some m) e = at_node w m.message (receiver_of m) e
@@ -68,11 +68,11 @@ module _ (S : List Observation → Type 0) (none : S []) (says : (s : ServerId) 
   at_end w k ok None e = none
   at_end w k ok (Some y) e = at_site (site_of w y.client) e
     where
-      at : (site : ClientSite) (b : Bool) → (if b then taking w y.client (ev.end_told w k ok y) (Some site) else None) ≡ None → S (if b then ev.client_takes w y.client (ev.end_told w k ok y) site else ev.quiet w).seen
+      at : (site : WorldClient) (b : Bool) → (if b then taking w y.client (ev.end_told w k ok y) (Some site) else None) ≡ None → S (if b then ev.client_takes w y.client (ev.end_told w k ok y) site else ev.quiet w).seen
       at site true e = absurd (none_some _ e)
       at site false e = none
 
-      at_site : (s : Option ClientSite) → told_at w k ok y s ≡ None → S (ev.tells_client w k ok y s).seen
+      at_site : (s : Option WorldClient) → told_at w k ok y s ≡ None → S (ev.tells_client w k ok y s).seen
       at_site None e = none
       at_site (Some site) e = at site (ev.is_same_instance y site) e
 
@@ -90,7 +90,7 @@ module _ (S : List Observation → Type 0) (none : S []) (says : (s : ServerId) 
   others w (events.Report n ok) t = at_end (ev.with_disks (ev.disks_after w.disks (disks.done w.disks n ok)) w) n ok (issued_of w n) t
   others w (events.Crash (nodes.Client c)) t = go (site_of w c)
     where
-      go : (s : Option ClientSite) → S (ev.crashes_client w c s).seen
+      go : (s : Option WorldClient) → S (ev.crashes_client w c s).seen
       go None = none
       go (Some site) = of_fates 1 w.log _
   others w (events.Crash (nodes.Server s)) t = none

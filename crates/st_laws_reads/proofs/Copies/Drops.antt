@@ -22,7 +22,7 @@ use Rattle.st_rules.specs.ClientState.{Association}
 use Rattle.st_rules.specs.Events.{is_hard_fate}
 use Rattle.st_laws_refine.specs.Views.Halves.{held_in}
 use Rattle.st_lemmas.proofs.Tables.{and_true}
-use Rattle.st_laws_refine.specs.Client.Shown.{Lasts}
+use Rattle.st_laws_refine.specs.Client.Invariants.{Lasts}
 use Rattle.st_laws_reads.specs.Copies.Copies.{PageOk, FatesOk, file_at}
 use Rattle.st_laws_reads.specs.Copies.Law.{Lived, AllWhile}
 use Rattle.st_laws_reads.specs.Copies.World.{DropsUnheld, DropsKeepCopies}

@@ -21,7 +21,7 @@ use Rattle.st_lemmas.proofs.Lookups.{some_is, any_filter}
 use Rattle.st_laws_refine.specs.Client.World.{logged}
 use Rattle.st_laws_refine.proofs.Client.Work.{any_found}
 use Rattle.st_laws_reads.specs.Copies.Copies.{Keeps}
-use Rattle.st_laws_reads.specs.Copies.Owed.{EndOwed}
+use Rattle.st_laws_reads.specs.Copies.Obligations.{EndOwed}
 use Rattle.st_laws_reads.proofs.Copies.Logs.{still}
 use Rattle.st_laws_reads.proofs.Copies.Copies.{found_test, k_same, k_store, k_finish}
 use Rattle.st_laws_reads.proofs.Copies.Caches.{k_filled}

@@ -24,7 +24,7 @@ use Rattle.st_rules.specs.ClientLease.{end_at}
 use Rattle.st_rules.specs.ClientLocks.{is_lock_on, lock_of}
 use Rattle.st_rules.specs.ClientPages.{is_dirty_of}
 use Rattle.st_rules.specs.ClientState.{Association, ClientSession, ClientState, is_at}
-use Rattle.st_rules.specs.World.{World, ClientSite, clock_of, site_of}
+use Rattle.st_rules.specs.World.{World, WorldClient, clock_of, site_of}
 use Rattle.st_rules.specs.Events as ev
 use Rattle.st_rules.specs.Events.{WorldTurn, client_notes, client_says, client_says_all}
 use Rattle.st_rules.specs.History.{association_of, is_exclusive_on, locks_of_session}
@@ -32,7 +32,7 @@ use Rattle.st_rules.specs.Safety as safety
 use Rattle.st_lemmas.specs.Lists.{Has}
 use Rattle.st_lemmas.proofs.Tables.{and_both}
 use Rattle.st_laws_refine.specs.Views.Halves.{held_at, held_in}
-use Rattle.st_laws_refine.specs.Client.Shown.{Lasts}
+use Rattle.st_laws_refine.specs.Client.Invariants.{Lasts}
 use Rattle.st_laws_refine.proofs.Client.Steps.{nothing_more}
 use Rattle.st_laws_refine.proofs.Client.Work.{any_found}
 use Rattle.st_laws_reads.specs.Copies.Law.{AllHeld, AllLast, Apart, ChangesLieUnderLocks, Differs, HeldPage, NoteHeld}
@@ -84,7 +84,7 @@ dirty_listed ds ino p h = go (find (is_dirty_of ino p) ds) refl h
     go None e h = cc
     go (Some d) e h = any_found (is_dirty_of ino p) (is_dirty_of ino p) d ds e (found_test (is_dirty_of ino p) ds d e)
 
-module _ (w : World) (c : ClientId) (site : ClientSite) (there : site_of w c ≡ Some site) (runs : site.node.running ≡ true) (apart : Apart site.node.state.associations)
+module _ (w : World) (c : ClientId) (site : WorldClient) (there : site_of w c ≡ Some site) (runs : site.node.running ≡ true) (apart : Apart site.node.state.associations)
     (last : AllLast site.node.state.config.lease (clock_of w (nodes.Client c)).0 site.node.state.associations) where
   abbrev Now : Stamp
   Now = clock_of w (nodes.Client c)
@@ -105,7 +105,7 @@ module _ (w : World) (c : ClientId) (site : ClientSite) (there : site_of w c ≡
       at : association_of w c f.server ≡ Some a
       at = ap (λ o. safety_at o) there ∙ is
         where
-          safety_at : Option ClientSite → Option Association
+          safety_at : Option WorldClient → Option Association
           safety_at None = None
           safety_at (Some z) = cl.association_with z.node.state f.server
 
@@ -134,7 +134,7 @@ module _ (w : World) (c : ClientId) (site : ClientSite) (there : site_of w c ≡
   locked_all before (outputs.Answer op a ∷ os) sc r = line_then sc.seen _ _ refl (locked_all before os (client_says sc c before (outputs.Answer op a)) r.rest)
   locked_all before (outputs.Submit n at what ∷ os) sc r = go (site_of sc.world c) (λ sc. locked_all before os sc r.rest)
     where
-      go : (o : Option ClientSite) → ((sc : WorldTurn) → LockedSeen sc.seen (client_says_all c before os sc).seen) → LockedSeen sc.seen (client_says_all c before os (ev.submits sc c o n at what)).seen
+      go : (o : Option WorldClient) → ((sc : WorldTurn) → LockedSeen sc.seen (client_says_all c before os sc).seen) → LockedSeen sc.seen (client_says_all c before os (ev.submits sc c o n at what)).seen
       go None f = f sc
       go (Some z) f = line_then sc.seen _ _ refl (f (ev.submits sc c (Some z) n at what))
   locked_all before (outputs.Note n ∷ os) sc r = note n r.one (λ sc. locked_all before os sc r.rest)

@@ -24,7 +24,7 @@ use Rattle.st_rules.specs.ClientState as st
 use Rattle.st_rules.specs.ClientState.{ClientSession, Turn, is_of, with_operations, answered, with_lost_rows, note}
 use Rattle.st_lemmas.proofs.Tables.{and_true}
 use Rattle.st_laws_refine.specs.Client.World.{logged}
-use Rattle.st_laws_refine.specs.Client.Shown.{Lasts}
+use Rattle.st_laws_refine.specs.Client.Invariants.{Lasts}
 use Rattle.st_laws_refine.proofs.Client.Losses.{not_over}
 use Rattle.st_laws_reads.specs.Copies.Copies.{Right, RightOne, FatesOk, AskedSo}
 use Rattle.st_laws_reads.specs.Copies.Law.{CopiesAt, StandsWhile, Lived}

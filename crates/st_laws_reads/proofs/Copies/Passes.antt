@@ -28,7 +28,7 @@ use Rattle.st_laws_reads.specs.Copies.Copies.{AskedSo, Keeps}
 use Rattle.st_laws_reads.proofs.Copies.Logs.{still}
 use Rattle.st_laws_reads.proofs.Copies.Copies.{k_same, k_then, k_if, k_aside, k_writes}
 use Rattle.st_laws_reads.proofs.Copies.Caches.{k_reduced_none, k_reduced_shared, k_cut}
-use Rattle.st_laws_reads.proofs.Copies.Hears.{k_like}
+use Rattle.st_laws_reads.proofs.Copies.Receives.{k_like}
 use Rattle.st_laws_reads.proofs.Copies.Away.{k_operations}
 
 module _ (ask_of : ℕ → Option Ask) (c : ClientId) (lives : ServerId → Life) (es : List LogEntry) where

@@ -11,7 +11,7 @@ use Rattle.st_rules.specs.ClientState.{Association, ClientSession}
 use Rattle.st_rules.specs.Events as ev
 use Rattle.st_rules.specs.FlatLog as log
 use Rattle.st_rules.specs.FlatLog.{is_of_client}
-use Rattle.st_laws_refine.specs.Client.Shown.{Lasts}
+use Rattle.st_laws_refine.specs.Client.Invariants.{Lasts}
 use Rattle.st_laws_reads.specs.Copies.Law.{AllLived, EachStands, AllWhile}
 use Rattle.st_laws_reads.specs.Copies.World.{ClientRests, RestsStay, ClocksKeepCopies}
 use Rattle.st_laws_reads.proofs.Copies.Others.{lived_more, lived_hard}

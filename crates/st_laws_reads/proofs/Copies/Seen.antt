@@ -18,7 +18,7 @@ use Rattle.st_rules.specs.declared.log.Cause.TheVariants as causes
 use Rattle.st_rules.specs.declared.observation.Observation.{Observation}
 use Rattle.st_rules.specs.declared.observation.Observation.TheVariants as seen
 use Rattle.st_rules.specs.ClientState.{ClientState}
-use Rattle.st_rules.specs.World.{World, ClientSite, site_of}
+use Rattle.st_rules.specs.World.{World, WorldClient, site_of}
 use Rattle.st_rules.specs.Events as ev
 use Rattle.st_rules.specs.Events.{WorldTurn, client_says, client_says_all, client_notes, present_life}
 use Rattle.st_rules.specs.FlatLog as log
@@ -61,7 +61,7 @@ seen_one past x c before last (outputs.Answer op a) sc l r = record { more = see
     hard a r = refl
 seen_one past x c before last (outputs.Submit n at what) sc l r = go (site_of sc.world c)
   where
-    go : (o : Option ClientSite) → SeenRight past x sc.seen sc (ev.submits sc c o n at what)
+    go : (o : Option WorldClient) → SeenRight past x sc.seen sc (ev.submits sc c o n at what)
     go None = record { more = []; is = sym (nothing_more sc.seen); right = tt; log = refl }
     go (Some s) = record { more = _ ∷ []; is = refl; right = ((tt, refl), tt); log = refl }
 seen_one past x c before last (outputs.Note n) sc l r = note n
@@ -147,7 +147,7 @@ written_all past x c before lives last line (outputs.Answer op a ∷ os) es sc l
 written_all past x c before lives last line (outputs.Submit n at what ∷ os) es sc l r =
     go (site_of sc.world c) (λ line sc. written_all past x c before lives (Some (outputs.Submit n at what)) line os es sc (record {}) r.rest)
   where
-    go : (o : Option ClientSite) → ((line : Option Observation) (sc : WorldTurn) → WrittenSeen past x line sc.seen (client_says_all c before os sc).seen) → WrittenSeen past x line sc.seen (client_says_all c before os (ev.submits sc c o n at what)).seen
+    go : (o : Option WorldClient) → ((line : Option Observation) (sc : WorldTurn) → WrittenSeen past x line sc.seen (client_says_all c before os sc).seen) → WrittenSeen past x line sc.seen (client_says_all c before os (ev.submits sc c o n at what)).seen
     go None f = f line sc
     go (Some site) f = line_then past x line sc.seen _ _ (record {}) (f _ (ev.submits sc c (Some site) n at what))
 written_all past x c before lives last line (outputs.Note n ∷ os) es sc l r =

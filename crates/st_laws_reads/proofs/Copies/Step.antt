@@ -30,12 +30,12 @@ use Rattle.st_rules.specs.ClientState.{Association, ClientState, ClientTurn, Tur
 use Rattle.st_laws_refine.specs.Client.World.{logged}
 use Rattle.st_laws_refine.proofs.Client.Steps.{nothing_more}
 use Rattle.st_laws_reads.specs.Copies.Copies.{Right, RightOne, FatesOk, HardOn, AskedSo, Joined, AllOf, Keeps, file_at}
-use Rattle.st_laws_reads.specs.Copies.Owed.{MessageOwed, EndOwed, Numbered}
+use Rattle.st_laws_reads.specs.Copies.Obligations.{MessageOwed, EndOwed, Numbered}
 use Rattle.st_laws_reads.specs.Copies.Law.{CopiesAt, AllCopies, Apart, Lived, AllLived, StandsWhile, EachStands, AllWhile, AllOwed, LivesAre, StepsKeepCopies, JoinedBy}
 use Rattle.st_laws_reads.proofs.Copies.Logs.{logged_both, right_both, still}
 use Rattle.st_laws_reads.proofs.Copies.Away.{joined_content}
 use Rattle.st_laws_reads.proofs.Copies.Copies.{k_same, k_then, k_if, k_aside, k_keep}
-use Rattle.st_laws_reads.proofs.Copies.Hearing.{k_hear}
+use Rattle.st_laws_reads.proofs.Copies.Receiving.{k_receive}
 use Rattle.st_laws_reads.proofs.Copies.Ends.{k_end_of}
 use Rattle.st_laws_reads.proofs.Copies.Passes.{k_passes}
 use Rattle.st_laws_reads.proofs.Copies.Losing.{lose_keeps, Loses}
@@ -254,7 +254,7 @@ module _ (ask_of : ℕ → Option Ask) (c : ClientId) (lives : ServerId → Life
       (made_if T (cl.is_configured T.state (st.server_of ask)) _ _ (made_free (st.only_at (st.server_of ask) (cl.take_ask op ask)) (k_only (st.server_of ask) (cl.take_ask op ask) (k_take op ask a)) T d) (made_answer T op answers.NoFile (λ last x. record {})))
   made_input T n (inputs.Control m) d a o =
       made_if T (m.header.to == T.state.id.0) _ T
-      (each_keep ask_of c lives es (λ l a. MessageOwed l a m.header m.body) (message_away m.header m.body) (cr.receive_at n m.header m.body) (k_hear ask_of c lives es n m.header m.body) T d (owed_message (logged c lives T.out es) m T.state.associations o)) (made_same T)
+      (each_keep ask_of c lives es (λ l a. MessageOwed l a m.header m.body) (message_away m.header m.body) (cr.receive_at n m.header m.body) (k_receive ask_of c lives es n m.header m.body) T d (owed_message (logged c lives T.out es) m T.state.associations o)) (made_same T)
   made_input T n (inputs.Done number result) d a o =
       each_keep ask_of c lives es (λ l a. EndOwed c (lives a.server) l a number result) (end_away c lives number result) (cl.finish number result) (k_end_of ask_of c lives es number result) T d (owed_end (logged c lives T.out es) number result T.state.associations o)
 

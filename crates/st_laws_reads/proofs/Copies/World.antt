@@ -22,7 +22,7 @@ use Rattle.st_rules.specs.Client as cl
 use Rattle.st_rules.specs.ClientState.{Association, ClientState, is_at}
 use Rattle.st_rules.specs.Disks as disks
 use Rattle.st_rules.specs.World as world
-use Rattle.st_rules.specs.World.{World, ClientSite, site_of, clock_of, issued_of, life_with, message_of, receiver_of}
+use Rattle.st_rules.specs.World.{World, WorldClient, site_of, clock_of, issued_of, life_with, message_of, receiver_of}
 use Rattle.st_rules.specs.Events as ev
 use Rattle.st_rules.specs.Events.{WorldTurn, present_life}
 use Rattle.st_lemmas.specs.Lists.{Has}
@@ -31,9 +31,9 @@ use Rattle.st_lemmas.proofs.Numbers.{numbered_own}
 use Rattle.st_lemmas.proofs.Steps.{step_happens}
 use Rattle.st_laws_refine.specs.Client.World.{logged}
 use Rattle.st_laws_refine.proofs.Client.World.{told_all}
-use Rattle.st_laws_reads.specs.Copies.Owed.{Numbered}
+use Rattle.st_laws_reads.specs.Copies.Obligations.{Numbered}
 use Rattle.st_laws_reads.specs.Copies.Law.{Apart, LivesAre, ClientStands, ClientCopies, StepKeeps}
-use Rattle.st_laws_reads.specs.Copies.World.{Taking, taking, asking, hearing, hearing_of, told_at, told_of, taken, now_at, turn_of, OwedOf, WorldKeeps, EventsKeepCopies}
+use Rattle.st_laws_reads.specs.Copies.World.{Taking, taking, asking, receiving, receiving_of, told_at, told_of, taken, now_at, turn_of, OwedOf, WorldKeeps, EventsKeepCopies}
 use Rattle.st_laws_reads.proofs.Copies.Held.{Owns, entries_own}
 use Rattle.st_laws_reads.proofs.Copies.Locked.{found_there}
 use Rattle.st_laws_reads.proofs.Copies.Step.{law as step_law, step_apart}
@@ -65,7 +65,7 @@ flushes_log c s (y ∷ ss) w = flushes_log c s ss (ev.flushed_at w c y s) ∙ in
     in_phase o None = refl
 
 -- A client takes an input.
-takes_keep : (asked_as : ℕ → Option Ask) (x : Taking) (old : ClientSite) → site_of x.world x.client ≡ Some old → x.site.node.running ≡ true → ClientCopies asked_as x.client x.world.log (now_at x) x.site.node.state → Numbered asked_as x.input → OwedOf x →
+takes_keep : (asked_as : ℕ → Option Ask) (x : Taking) (old : WorldClient) → site_of x.world x.client ≡ Some old → x.site.node.running ≡ true → ClientCopies asked_as x.client x.world.log (now_at x) x.site.node.state → Numbered asked_as x.input → OwedOf x →
     WorldKeeps asked_as x.client x.world.log (ev.client_takes x.world x.client x.input x.site).world.log (turn_of x)
 unfolding ev.client_takes ev.client_took cl.node_step
 takes_keep asked_as x old there r h a o =
@@ -75,7 +75,7 @@ takes_keep asked_as x old there r h a o =
     t : cl.NodeTurn
     t = cl.node_turn x.site.node (turn_of x)
 
-    after : ClientSite
+    after : WorldClient
     after = ev.at_node t.node x.site
 
     sc : WorldTurn
@@ -108,29 +108,29 @@ module _ (asked_as : ℕ → Option Ask) where
       x.site.node.running ≡ true → ClientCopies asked_as x.client x.world.log (now_at x) x.site.node.state → Numbered asked_as x.input → OwedOf x →
       WorldKeeps asked_as x.client x.world.log sc.world.log (turn_of x)
 
-  by_client : (w : World) (c : ClientId) (input : ClientInput) (o : Option ClientSite) (x : Taking) → site_of w c ≡ o → taking w c input o ≡ Some x → KeepsAt (ev.at_client w c input o) x
+  by_client : (w : World) (c : ClientId) (input : ClientInput) (o : Option WorldClient) (x : Taking) → site_of w c ≡ o → taking w c input o ≡ Some x → KeepsAt (ev.at_client w c input o) x
   unfolding ev.at_client
   by_client w c input None x e q = cc q
   by_client w c input (Some site) x e q = subst (KeepsAt (ev.client_takes w c input site)) (some_is q) (takes_keep asked_as (record { world = w; client = c; input = input; site = site }) site e)
 
-  by_ask : (w : World) (c : ClientId) (ask : Ask) (o : Option ClientSite) (x : Taking) → site_of w c ≡ o → asking w c ask o ≡ Some x → KeepsAt (ev.asks_at w c ask o) x
+  by_ask : (w : World) (c : ClientId) (ask : Ask) (o : Option WorldClient) (x : Taking) → site_of w c ≡ o → asking w c ask o ≡ Some x → KeepsAt (ev.asks_at w c ask o) x
   unfolding ev.asks_at
   by_ask w c ask None x e q = cc q
   by_ask w c ask (Some site) x e q =
       subst (KeepsAt (ev.client_takes w c (inputs.App (site.asks + 1) ask) (ev.asked_once_more site))) (some_is q)
       (takes_keep asked_as (record { world = w; client = c; input = inputs.App (site.asks + 1) ask; site = ev.asked_once_more site }) site e)
 
-  by_message : (w : World) (m : Message) (n : NodeId) (x : Taking) → hearing w m n ≡ Some x → KeepsAt (ev.delivers_to w m n) x
+  by_message : (w : World) (m : Message) (n : NodeId) (x : Taking) → receiving w m n ≡ Some x → KeepsAt (ev.delivers_to w m n) x
   unfolding ev.delivers_to
   by_message w m (nodes.Client c) x q = by_client w c (inputs.Control m) (site_of w c) x refl q
   by_message w m (nodes.Server s) x q = cc q
 
-  by_delivery : (w : World) (o : Option SentMessage) (x : Taking) → hearing_of w o ≡ Some x → KeepsAt (ev.delivers w o) x
+  by_delivery : (w : World) (o : Option SentMessage) (x : Taking) → receiving_of w o ≡ Some x → KeepsAt (ev.delivers w o) x
   unfolding ev.delivers
   by_delivery w None x q = cc q
   by_delivery w (Some m) x q = by_message w m.message (receiver_of m) x q
 
-  by_end : (v : World) (k : ℕ) (ok : Bool) (y : IssuedCommand) (o : Option ClientSite) (x : Taking) → site_of v y.client ≡ o → told_at v k ok y o ≡ Some x → KeepsAt (ev.tells_client v k ok y o) x
+  by_end : (v : World) (k : ℕ) (ok : Bool) (y : IssuedCommand) (o : Option WorldClient) (x : Taking) → site_of v y.client ≡ o → told_at v k ok y o ≡ Some x → KeepsAt (ev.tells_client v k ok y o) x
   unfolding ev.tells_client ev.tells_site
   by_end v k ok y None x e q = cc q
   by_end v k ok y (Some site) x e q = go (ev.is_same_instance y site) q

@@ -16,21 +16,21 @@ use Rattle.st_rules.specs.FlatLog.{is_of_life, is_pending}
 use Rattle.st_rules.specs.Keys.{client, server_node}
 use Rattle.st_rules.specs.Server.{ServerNode}
 use Rattle.st_rules.specs.World as world
-use Rattle.st_rules.specs.World.{World, ClientSite, clock_of, end_or_present, ended_of, node_of, server, site_of}
+use Rattle.st_rules.specs.World.{World, WorldClient, clock_of, end_or_present, ended_of, node_of, server, site_of}
 use Rattle.st_protocol.specs.Assoc as net
 use Rattle.st_protocol.specs.Assoc.{Alive, Config}
 use Rattle.st_lemmas.specs.Lists.{Has}
 use Rattle.st_laws_refine.specs.Views.Halves.{client_of, date_in, held_in, leased_in}
-use Rattle.st_laws_refine.specs.Client.Shown.{Lasts}
+use Rattle.st_laws_refine.specs.Client.Invariants.{Lasts}
 use Rattle.st_laws_refine.specs.Server.Pair.{client_in, stamp_number}
 use Rattle.st_laws_pages.specs.Fates.Fates.{BeforeEnd}
 use Rattle.st_laws_steps.specs.Lives.Lives.{IsKnown, owner_of}
 use Rattle.st_laws_steps.proofs.Lives.Associations.{found_has}
 use Rattle.st_laws_pages.proofs.Lives.Lasting.{no_option}
 use Rattle.st_laws_pages.proofs.Lives.NodeTurns.{row_is}
-use Rattle.st_laws_leases.specs.Sides.Stands.{Standing}
+use Rattle.st_laws_leases.specs.Sides.Invariants.{Standing}
 use Rattle.st_laws_leases.specs.Sides.World.{ServerStands, There}
-use Rattle.st_laws_leases.proofs.Sides.Everywhere.{numbered_is}
+use Rattle.st_laws_leases.proofs.Sides.AllAssociations.{numbered_is}
 use Rattle.st_laws_leases.proofs.Sides.Pairs.{only_here, own_view}
 use Rattle.st_laws_reads.specs.Copies.World.{Unheld}
 use Rattle.st_laws_reads.specs.AllClients.Events.{OfFrozen, FrozenStandAlone}
@@ -68,7 +68,7 @@ module _ (k : Config) (count : ℕ) (w : World) (h : FrozenHold k count w) (e : 
   present : ended_of w o.client o.file.server o.life ≡ None → (ev.life_of_site o.file.server (site_of w o.client)).0 ≡ o.life.0 → ⊥
   present n l = at_site (site_of w o.client) refl l (ap (end_or_present w o.client o.file.server) (sym n) ∙ before.is)
     where
-      at_site : (s : Option ClientSite) → site_of w o.client ≡ s → (ev.life_of_site o.file.server s).0 ≡ o.life.0 → world.present_end w o.file.server s ≡ Some before.end → ⊥
+      at_site : (s : Option WorldClient) → site_of w o.client ≡ s → (ev.life_of_site o.file.server s).0 ≡ o.life.0 → world.present_end w o.file.server s ≡ Some before.end → ⊥
       at_site None f l q = no_option before.end q
       at_site (Some site) f l q = at (find (is_at o.file.server) site.node.state.associations) refl l q
         where
@@ -109,7 +109,7 @@ module _ (k : Config) (count : ℕ) (w : World) (h : FrozenHold k count w) (e : 
               absurd (omega (arith, late, a, end))
 
   -- no lock of a client that runs
-  unheld : (d : ℕ) (other : ClientSite) → Running w d other → (y : Association) → Has y other.node.state.associations → There w y.server → Lasts other.node.state.config.lease (clock_of w (nodes.Client (client d))).0 y.session → o.file.server ≡ y.server →
+  unheld : (d : ℕ) (other : WorldClient) → Running w d other → (y : Association) → Has y other.node.state.associations → There w y.server → Lasts other.node.state.config.lease (clock_of w (nodes.Client (client d))).0 y.session → o.file.server ≡ y.server →
       (held_in y.session o.file.ino).mode ≡ 0
   unheld d other run y here there lasts sv = go (leased_in y.session) refl
     where
@@ -155,13 +155,13 @@ module _ (k : Config) (count : ℕ) (w : World) (h : FrozenHold k count w) (e : 
           ∙ stand_alone k o.client.0 o.file.ino d x.half (pairs_of k w s node z) h.all.sound x.locked clock x.frozen
           (subst (Alive k) (sym view) (record { leased = f; lasts = let t = q.sim.terms in let u = lasts_date other.node.state.config.lease (clock_of w (nodes.Client (client d))).0 y.session f lasts in omega (arith, t, u) }))
 
-  pub all_unheld : (d : ℕ) (other : ClientSite) → Running w d other → (xs : List Association) → ((y : Association) → Has y xs → Has y other.node.state.associations) → AllThere w xs →
+  pub all_unheld : (d : ℕ) (other : WorldClient) → Running w d other → (xs : List Association) → ((y : Association) → Has y xs → Has y other.node.state.associations) → AllThere w xs →
       Unheld e.of.file other.node.state.config.lease (clock_of w (nodes.Client (client d))).0 xs
   all_unheld d other run [] f t = record {}
   all_unheld d other run (y ∷ xs) f t = record { one = λ l sv. unheld d other run y (f y (inl refl)) t.one l sv; rest = all_unheld d other run xs (λ x i. f x (inr i)) t.rest }
 
 pub frozen_alone : (k : Config) (count : ℕ) (w : World) → FrozenHold k count w →
-    ((d : ℕ) (site : ClientSite) → site_of w (client d) ≡ Some site → (a : Association) → Has a site.node.state.associations → (1 ≤ a.server.0) × (a.server.0 ≤ length w.servers)) → FrozenStandAlone w
+    ((d : ℕ) (site : WorldClient) → site_of w (client d) ≡ Some site → (a : Association) → Has a site.node.state.associations → (1 ≤ a.server.0) × (a.server.0 ≤ length w.servers)) → FrozenStandAlone w
 frozen_alone k count w h placed e logged pending elder d other run =
     all_unheld k count w h e logged pending elder d other run other.node.state.associations (λ y i. i) (there other.node.state.associations (λ y i. placed d other run.there y i))
   where

@@ -7,7 +7,7 @@ use Rattle.st_rules.specs.Keys.{client}
 use Rattle.st_rules.specs.ClientPages.{empty_store}
 use Rattle.st_rules.specs.ClientState.{Association}
 use Rattle.st_rules.specs.Client as cl
-use Rattle.st_rules.specs.World.{World, ClientSite, numbered, site_of, clock_of, stamp, server}
+use Rattle.st_rules.specs.World.{World, WorldClient, numbered, site_of, clock_of, stamp, server}
 use Rattle.st_rules.specs.Server.{ServerNode}
 use Rattle.st_rules.specs.Events as ev
 use Rattle.st_protocol.specs.Assoc as net
@@ -16,14 +16,14 @@ use Rattle.st_protocol.proofs.Lists.{upd-same, upd-other}
 use Rattle.st_lemmas.proofs.Numbers.{numbered_own, numbered_other}
 use Rattle.st_laws_refine.specs.Views.Halves.{client_at, client_of, Ghost, half_of}
 use Rattle.st_laws_refine.specs.Server.Pair.{client_view, client_at_site, client_in, pair}
-use Rattle.st_laws_refine.specs.Server.Stands.{pairs}
+use Rattle.st_laws_refine.specs.Server.Invariants.{pairs}
 use Rattle.st_laws_refine.specs.Client.Law.{Place}
-use Rattle.st_laws_leases.specs.Sides.Stands.{Standing, Both}
+use Rattle.st_laws_leases.specs.Sides.Invariants.{Standing, Both}
 use Rattle.st_laws_leases.proofs.Sides.Pairs.{length_set, numbered_some, found_at_place, own_view}
 use Rattle.st_laws_reads.specs.FrozenLives.Frozen.{Crashed}
 use Rattle.st_laws_leases.proofs.Sides.Crashes.{crashed, place_map}
 
-module _ (k : Config) (ok : ConfigOk k) (s : ℕ) (w : World) (node : ServerNode) (ended : ℕ → ℕ → ℕ) (G : ℕ → Ghost) (c : ℕ) (site : ClientSite) (b : Both k s w node ended G) (there : site_of w (client c) ≡ Some site) (runs : site.node.running ≡ true) where
+module _ (k : Config) (ok : ConfigOk k) (s : ℕ) (w : World) (node : ServerNode) (ended : ℕ → ℕ → ℕ) (G : ℕ → Ghost) (c : ℕ) (site : WorldClient) (b : Both k s w node ended G) (there : site_of w (client c) ≡ Some site) (runs : site.node.running ≡ true) where
   abbrev v : World
   v = (ev.crashes_client w (client c) (Some site)).world
 
@@ -34,7 +34,7 @@ module _ (k : Config) (ok : ConfigOk k) (s : ℕ) (w : World) (node : ServerNode
   unfolding ev.crashes_client ev.marks cl.crash
   crash_is = record { own = own; others = others }
     where
-      last : ClientSite
+      last : WorldClient
       last = ev.stopped_site site
 
       st : Standing k s c site w.ended (G c).net
@@ -73,7 +73,7 @@ module _ (k : Config) (ok : ConfigOk k) (s : ℕ) (w : World) (node : ServerNode
       site_d : (d : ℕ) → d ≢ c → site_of v (client d) ≡ site_of w (client d)
       site_d d n = numbered_other w.clients c d last (numbered_some w.clients c site there).0 n
 
-      same_view : (d : ℕ) (e : ℕ → ℕ) (o : Option ClientSite) → client_at_site v d s e o ≡ client_at_site w d s e o
+      same_view : (d : ℕ) (e : ℕ → ℕ) (o : Option WorldClient) → client_at_site v d s e o ≡ client_at_site w d s e o
       same_view d e None = λ j. client_at (w.config.den * (clock_s j).0) 1 None empty_store (λ l. 0)
       same_view d e (Some z) = refl
 

@@ -20,7 +20,7 @@ use Rattle.st_rules.specs.FlatLog as log
 use Rattle.st_rules.specs.FlatLog.{is_pending}
 use Rattle.st_rules.specs.Keys.{client, server_node}
 use Rattle.st_rules.specs.Server.{ServerNode}
-use Rattle.st_rules.specs.World.{World, ClientSite, clock_of, end_or_present, ended_of, is_life_of, life_of_association, lives_of, node_of, server, site_of}
+use Rattle.st_rules.specs.World.{World, WorldClient, clock_of, end_or_present, ended_of, is_life_of, life_of_association, lives_of, node_of, server, site_of}
 use Rattle.st_protocol.proofs.World.{exactly}
 use Rattle.st_protocol.specs.Assoc as net
 use Rattle.st_protocol.specs.Assoc.{Config, Crashes, GoesOn, Moves, Row, Stays, upd}
@@ -37,7 +37,7 @@ use Rattle.std.specs.List.{list_any}
 use Rattle.st_laws_pages.proofs.Fates.FateLaw.{pending_fewer}
 use Rattle.st_laws_pages.proofs.Lives.Lives.{find_back, find_front}
 use Rattle.st_laws_pages.proofs.Lives.NodeTurns.{row_is}
-use Rattle.st_laws_leases.specs.Sides.Stands.{Both, Standing}
+use Rattle.st_laws_leases.specs.Sides.Invariants.{Both, Standing}
 use Rattle.st_laws_leases.specs.Sides.World.{AllStand, ServerStands}
 use Rattle.st_laws_leases.proofs.Sides.Pairs.{length_set, only_here, own_view}
 use Rattle.st_laws_reads.specs.FrozenLives.PendingEntries.{FrozenHold, OfCrashed, StandsStill, StoodLife}
@@ -46,7 +46,7 @@ use Rattle.st_laws_refine.specs.Server.Paths.{Here, Path, WorkedOn}
 use Rattle.st_laws_leases.specs.Sides.Paths.{CameFrom, pairs_of}
 use Rattle.st_laws_leases.proofs.Sides.Crashes.{crashed}
 use Rattle.st_laws_reads.proofs.FrozenLives.Crashing.{crash_is}
-use Rattle.st_laws_leases.proofs.Sides.Everywhere.{timed_on}
+use Rattle.st_laws_leases.proofs.Sides.AllAssociations.{timed_on}
 use Rattle.st_laws_leases.proofs.Sides.Fold.{counted_same, same}
 use Rattle.st_laws_reads.proofs.FrozenLives.Stepping.{still_on}
 use Rattle.st_laws_reads.proofs.FrozenLives.Walks.{begins}
@@ -112,7 +112,7 @@ end_is kb None e = cc e
 end_is kb (Some s) e = refl
 
 -- A crash of a client that runs.
-module _ (k : Config) (count : ℕ) (w : World) (c : ℕ) (site : ClientSite) (there : site_of w (client c) ≡ Some site) (runs : site.node.running ≡ true) (all : AllStand k count w) where
+module _ (k : Config) (count : ℕ) (w : World) (c : ℕ) (site : WorldClient) (there : site_of w (client c) ≡ Some site) (runs : site.node.running ≡ true) (all : AllStand k count w) where
   abbrev pub V : World
   V = (ev.crashes_client (counted w) (client c) (Some site)).world
 

@@ -7,14 +7,14 @@ use Rattle.st_messages.specs.declared.event.Event.TheVariants as events
 use Rattle.st_rules.specs.Admissible as adm
 use Rattle.st_rules.specs.Events as ev
 use Rattle.st_rules.specs.Events.{WorldTurn, counted, happens, world_step}
-use Rattle.st_rules.specs.World.{World, ClientSite, fresh_world, site_of, site_runs}
+use Rattle.st_rules.specs.World.{World, WorldClient, fresh_world, site_of, site_runs}
 use Rattle.st_protocol.specs.Assoc.{Config}
 use Rattle.st_lemmas.proofs.Steps.{step_happens}
 use Rattle.st_laws_pages.proofs.Disks.Effects.{or_none, stands_not}
 use Rattle.st_lemmas.proofs.Tables.{not_false}
 use Rattle.st_laws_leases.specs.Sides.World.{AllStand, IsFull}
-use Rattle.st_laws_leases.proofs.Sides.Beginning.{begun}
-use Rattle.st_laws_leases.proofs.Sides.Everywhere.{stays}
+use Rattle.st_laws_leases.proofs.Sides.FirstWorld.{begun}
+use Rattle.st_laws_leases.proofs.Sides.AllAssociations.{stays}
 use Rattle.st_rules.specs.Keys.{client}
 use Rattle.st_rules.specs.Safety.{Step}
 use Rattle.st_laws_pages.specs.Flush.Flush.{FlushHold}
@@ -46,7 +46,7 @@ module _ (past : List Step) (k : Config) (count : ℕ) (w : World) (h : FrozenHo
       nobody : site_runs None ≡ true → ⊥
       nobody e = cc e
 
-      go : (s : Option ClientSite) → site_of w c ≡ s → FrozenHold k count sc.world
+      go : (s : Option WorldClient) → site_of w c ≡ s → FrozenHold k count sc.world
       go None f = absurd (nobody (ap site_runs (sym f) ∙ runs))
       go (Some site) f =
           let r : site.node.running ≡ true = ap site_runs (sym f) ∙ runs in

@@ -14,7 +14,7 @@ use Rattle.st_rules.specs.Events.{WorldTurn, counted, world_step}
 use Rattle.st_rules.specs.Keys.{client}
 use Rattle.st_rules.specs.Server.{ServerNode}
 use Rattle.st_rules.specs.World as world
-use Rattle.st_rules.specs.World.{World, ClientSite, clock_of, end_or_present, ended_of, server, site_of}
+use Rattle.st_rules.specs.World.{World, WorldClient, clock_of, end_or_present, ended_of, server, site_of}
 use Rattle.st_protocol.specs.Assoc.{Config}
 use Rattle.st_lemmas.proofs.Steps.{step_happens}
 use Rattle.st_laws_pages.specs.Fates.Fates.{BeforeEnd, PendingAll}
@@ -35,8 +35,8 @@ pending_both P Q R [] f a b = record {}
 pending_both P Q R (e ∷ es) f a b = record { one = λ p. f e.of (a.one p) (b.one p); rest = pending_both P Q R es f a.rest b.rest }
 
 -- a client's clock in the machine
-pub clock_there : (w : World) (c s : ℕ) (ended : ℕ → ℕ) (site : ClientSite) → site_of w (client c) ≡ Some site → (client_in w c s ended).clock ≡ (clock_of w (nodes.Client (client c))).0
-clock_there w c s ended site e = ap (λ (o : Option ClientSite). (client_at_site w c s ended o).clock) e ∙ go (association_with site.node.state (server s))
+pub clock_there : (w : World) (c s : ℕ) (ended : ℕ → ℕ) (site : WorldClient) → site_of w (client c) ≡ Some site → (client_in w c s ended).clock ≡ (clock_of w (nodes.Client (client c))).0
+clock_there w c s ended site e = ap (λ (o : Option WorldClient). (client_at_site w c s ended o).clock) e ∙ go (association_with site.node.state (server s))
   where
     go : (o : Option Association) → (client_view site.node.running ended (clock_of w (nodes.Client (client c))) o).clock ≡ (clock_of w (nodes.Client (client c))).0
     go None = refl
@@ -47,7 +47,7 @@ pub ahead : (w : World) (o : LogOwner) → BeforeEnd w o → (row : LeaseLife) �
 ahead w o b row q = let e = ap (λ x. stamp_number (end_or_present w o.client o.file.server x)) (sym q) ∙ ap stamp_number b.is in let z = b.before in omega (arith, e, z)
 
 -- the site of a life that ended
-pub site_there : (w : World) → LivesHold w → (o : LogOwner) (row : LeaseLife) → ended_of w o.client o.file.server o.life ≡ Some row → (site : ClientSite) × (site_of w o.client ≡ Some site)
+pub site_there : (w : World) → LivesHold w → (o : LogOwner) (row : LeaseLife) → ended_of w o.client o.file.server o.life ≡ Some row → (site : WorldClient) × (site_of w o.client ≡ Some site)
 site_there w h o row q =
     let y = row_is o.client o.file.server o.life w.ended row q in
     let x = h.lives.ends row y.0 in

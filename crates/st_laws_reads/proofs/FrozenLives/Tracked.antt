@@ -28,7 +28,7 @@ use Rattle.st_rules.specs.Events.{client_says_all}
 use Rattle.st_rules.specs.FlatLog as log
 use Rattle.st_rules.specs.Server.{ServerNode}
 use Rattle.st_rules.specs.World as world
-use Rattle.st_rules.specs.World.{World, ClientSite, Net, Tally, clock_of, is_life_of, numbered, site_of, with_numbered}
+use Rattle.st_rules.specs.World.{World, WorldClient, Net, Tally, clock_of, is_life_of, numbered, site_of, with_numbered}
 use Rattle.st_lemmas.specs.Lists.{Has}
 use Rattle.st_lemmas.proofs.Numbers.{numbered_own}
 use Rattle.st_laws_pages.specs.Fates.Fates.{PendingAll}
@@ -81,7 +81,7 @@ module _ (P : LeaseLife → LogOwner → Type 0) where
       go None z = absurd (clash row.crashed crashed (lost row (row_is o.client o.file.server o.life rows row (sym (find_back p w.ended rows z) ∙ there)).0))
 
   -- a page that was changed is of a life that is not over
-  unended : (v : World) (c : ClientId) (site : ClientSite) (now : Stamp) → site_of v c ≡ Some site → site.node.running ≡ true → LivesHold v → (f : FileId) (p : PageNo) → IsChangedAt v.config now site.node.state.associations f p →
+  unended : (v : World) (c : ClientId) (site : WorldClient) (now : Stamp) → site_of v c ≡ Some site → site.node.running ≡ true → LivesHold v → (f : FileId) (p : PageNo) → IsChangedAt v.config now site.node.state.associations f p →
       OfCrashed P v (log.owner c (ev.present_life v c f.server) f p)
   unended v c site now there r h f p (a, i, z) row q crashed =
       let y = row_is c f.server (ev.present_life v c f.server) v.ended row q in
@@ -113,7 +113,7 @@ module _ (P : LeaseLife → LogOwner → Type 0) where
   hard w x h = record { lives = record { lives = h.lives.lives; known = same_owners w (ev.log_hard w.log x) (owners_hard w.log x) h.lives.known }; pending = pending_hard (OfCrashed P w) w.log x h.pending }
 
   -- a client's step
-  stepped : (w : World) (c : ClientId) (input : ClientInput) (old site : ClientSite) → site_of w c ≡ Some old → old.node ≡ site.node → site.node.running ≡ true → Tracked P w → Tracked P (ev.client_took w c site (Ok (SteppedNode w c site input))).world
+  stepped : (w : World) (c : ClientId) (input : ClientInput) (old site : WorldClient) → site_of w c ≡ Some old → old.node ≡ site.node → site.node.running ≡ true → Tracked P w → Tracked P (ev.client_took w c site (Ok (SteppedNode w c site input))).world
   unfolding ev.client_took
   stepped w c input old site there same r h =
       record {
@@ -127,7 +127,7 @@ module _ (P : LeaseLife → LogOwner → Type 0) where
       t : cl.NodeTurn
       t = SteppedNode w c site input
 
-      now_site : ClientSite
+      now_site : WorldClient
       now_site = ev.at_node t.node site
 
       v0 : World
@@ -180,7 +180,7 @@ module _ (P : LeaseLife → LogOwner → Type 0) where
   unfolding ev.advances ev.marks
   advanced w steps h = record { lives = advance_lives w steps h.lives; pending = ended_all (OfCrashed P w) w.commands (ev.lives_reached w steps) w.log h.pending }
 
-  started : (w : World) (c : ClientId) (site : ClientSite) → site_of w c ≡ Some site → site.node.running ≡ false → Tracked P w → Tracked P (ev.starts_client w c (Some site))
+  started : (w : World) (c : ClientId) (site : WorldClient) → site_of w c ≡ Some site → site.node.running ≡ false → Tracked P w → Tracked P (ev.starts_client w c (Some site))
   unfolding ev.starts_client
   started w c site there r h = record { lives = start_lives w c site there r h.lives; pending = h.pending }
 

@@ -27,17 +27,17 @@ use Rattle.st_rules.specs.Events.{WorldTurn, client_says_all}
 use Rattle.st_rules.specs.Keys.{client}
 use Rattle.st_rules.specs.Safety.{Step}
 use Rattle.st_rules.specs.World as world
-use Rattle.st_rules.specs.World.{World, ClientSite, clock_of, end_or_present, ended_of, is_life_of, lease_end_of, life_with, numbered, present_end, site_of, with_numbered}
+use Rattle.st_rules.specs.World.{World, WorldClient, clock_of, end_or_present, ended_of, is_life_of, lease_end_of, life_with, numbered, present_end, site_of, with_numbered}
 use Rattle.st_protocol.specs.Assoc.{Config}
 use Rattle.st_lemmas.specs.Lists.{Has}
 use Rattle.st_lemmas.proofs.Numbers.{numbered_below, numbered_has, numbered_other, numbered_own}
 use Rattle.st_lemmas.proofs.Tables.{same_or_not}
 use Rattle.st_laws_refine.specs.Views.Halves.{held_in}
-use Rattle.st_laws_refine.specs.Client.Shown.{Lasts}
+use Rattle.st_laws_refine.specs.Client.Invariants.{Lasts}
 use Rattle.st_laws_pages.specs.Flush.Flush.{Cared, FlushHold, NodeCared}
 use Rattle.st_laws_steps.specs.Lives.Lives.{IsKnown, LivesHold, NodeHolds, Once, Stepped, ended_rows, server_number}
 use Rattle.st_laws_steps.specs.Client.Losses.{Fit, is_ended}
-use Rattle.st_laws_pages.specs.Disks.Owed.{TimelyIn}
+use Rattle.st_laws_pages.specs.Disks.Obligations.{TimelyIn}
 use Rattle.st_laws_pages.specs.Disks.Pages.{same_place}
 use Rattle.st_laws_pages.specs.Disks.World.{Living, Timely}
 use Rattle.st_laws_steps.proofs.Lives.Associations.{lost_other, own_found}
@@ -64,7 +64,7 @@ use Rattle.st_laws_reads.proofs.OpenWrites.Lasting.{step_lasts}
 use Rattle.st_laws_pages.proofs.Causes.FlushSteps.{flushes_disks}
 
 -- What is of other clients or of lives that ended is as late as it was.
-pub record StepsOn (w v : World) (c : ℕ) (old new : ClientSite) : Type 0 where
+pub record StepsOn (w v : World) (c : ℕ) (old new : WorldClient) : Type 0 where
   pub there : site_of w (client c) ≡ Some old
   pub clocks : v.clocks ≡ w.clocks
   pub clients : v.clients ≡ with_numbered c new w.clients
@@ -72,7 +72,7 @@ pub record StepsOn (w v : World) (c : ℕ) (old new : ClientSite) : Type 0 where
   pub ended : v.ended ≡ w.ended ++ rows
   pub others : (x : IssuedCommand) → x.client.0 ≢ c → find (is_life_of x.client x.server x.life) rows ≡ None
 
-still_timely : (w v : World) (c : ℕ) (old new : ClientSite) → StepsOn w v c old new → (k : ℕ) (x : IssuedCommand) → Timely w k x → ((e : LeaseLife) × (ended_of w x.client x.server x.life ≡ Some e)) ⊎ ((x.client.0 ≢ c) × (ended_of w x.client x.server x.life ≡ None)) → Timely v k x
+still_timely : (w v : World) (c : ℕ) (old new : WorldClient) → StepsOn w v c old new → (k : ℕ) (x : IssuedCommand) → Timely w k x → ((e : LeaseLife) × (ended_of w x.client x.server x.life ≡ Some e)) ⊎ ((x.client.0 ≢ c) × (ended_of w x.client x.server x.life ≡ None)) → Timely v k x
 still_timely w v c old new s k x t h = ap (λ o. adm.late_at (clock_of v (nodes.Client x.client)) o) (ends h) ∙ ap (λ ts. adm.late_at (Rattle.std.specs.Prelude.unwrap_or (numbered ts x.client.0) (world.stamp 0)) (lease_end_of w x.client x.server x.life)) s.clocks ∙ t
   where
     p : LeaseLife → Bool
@@ -85,7 +85,7 @@ still_timely w v c old new s k x t h = ap (λ o. adm.late_at (clock_of v (nodes.
         ∙ ap (present_end v x.server) (ap (λ cs. numbered cs x.client.0) s.clients ∙ numbered_other w.clients c x.client.0 new (numbered_below w.clients c old s.there).0 n)
         ∙ ap (end_or_present w x.client x.server) (sym q)
 
-module _ (w : World) (c : ℕ) (old site : ClientSite) (input : ClientInput) (there : site_of w (client c) ≡ Some old) (same : old.node ≡ site.node) (runs : site.node.running ≡ true) (lives : LivesHold w) (counts : length w.commands ≡ length w.disks.commands)
+module _ (w : World) (c : ℕ) (old site : WorldClient) (input : ClientInput) (there : site_of w (client c) ≡ Some old) (same : old.node ≡ site.node) (runs : site.node.running ≡ true) (lives : LivesHold w) (counts : length w.commands ≡ length w.disks.commands)
     (placed : Placed (length w.servers) (cl.client_step site.node.state (clock_of w (nodes.Client (client c))) input).out) (once : (a : Association) → Has a site.node.state.associations → WritesOnce a) where
   abbrev pub now : Stamp
   now = clock_of w (nodes.Client (client c))
@@ -93,7 +93,7 @@ module _ (w : World) (c : ℕ) (old site : ClientSite) (input : ClientInput) (th
   abbrev pub t : cl.NodeTurn
   t = SteppedNode w (client c) site input
 
-  abbrev pub mine : ClientSite
+  abbrev pub mine : WorldClient
   mine = ev.at_node t.node site
 
   abbrev pub sc0 : WorldTurn

@@ -20,14 +20,14 @@ use Rattle.st_rules.specs.Events as ev
 use Rattle.st_rules.specs.Keys.{client, server_node}
 use Rattle.st_rules.specs.Server.{ServerNode}
 use Rattle.st_rules.specs.World as world
-use Rattle.st_rules.specs.World.{World, ClientSite, clock_of, end_or_present, ended_of, lease_end_of, node_of, present_end, server, site_of}
+use Rattle.st_rules.specs.World.{World, WorldClient, clock_of, end_or_present, ended_of, lease_end_of, node_of, present_end, server, site_of}
 use Rattle.st_protocol.specs.Assoc as net
 use Rattle.st_protocol.specs.Assoc.{Alive, Config}
 use Rattle.st_lemmas.specs.Lists.{Has}
 use Rattle.st_lemmas.proofs.Numbers.{numbered_has}
 use Rattle.st_lemmas.proofs.Tables.{same_or_not}
 use Rattle.st_laws_refine.specs.Views.Halves.{client_of, date_in, held_in, leased_in}
-use Rattle.st_laws_refine.specs.Client.Shown.{Lasts}
+use Rattle.st_laws_refine.specs.Client.Invariants.{Lasts}
 use Rattle.st_laws_refine.specs.Server.Pair.{client_in, stamp_number}
 use Rattle.st_laws_steps.specs.Lives.Lives.{IsKnown}
 use Rattle.st_laws_pages.specs.Disks.World.{Living, Timely}
@@ -35,7 +35,7 @@ use Rattle.st_laws_steps.proofs.Lives.Associations.{own_found}
 use Rattle.st_laws_pages.proofs.Disks.Effects.{stands_not}
 use Rattle.st_laws_pages.proofs.Lives.Lasting.{no_option}
 use Rattle.st_laws_pages.proofs.Lives.NodeTurns.{row_is}
-use Rattle.st_laws_leases.specs.Sides.Stands.{Standing}
+use Rattle.st_laws_leases.specs.Sides.Invariants.{Standing}
 use Rattle.st_laws_leases.specs.Sides.World.{AllStand, ServerStands, There}
 use Rattle.st_laws_leases.proofs.Sides.Pairs.{only_here, own_view}
 use Rattle.st_laws_reads.specs.Copies.Law.{StandsAt}
@@ -61,7 +61,7 @@ lasts_date l now (Some s) e h = h
 
 -- It is of a present life.
 pub record PresentWrite (w : World) (x : IssuedCommand) (tag : Tag) : Type 0 where
-  pub site : ClientSite
+  pub site : WorldClient
   pub running : Running w x.client.0 site
   pub a : Association
   pub here : Has a site.node.state.associations
@@ -114,7 +114,7 @@ module _ (k : Config) (count : ℕ) (w : World) (h : WritesHold k count w) (open
   present : ended_of w x.client x.server x.life ≡ None → (ev.life_of_site x.server (site_of w x.client)).0 ≡ x.life.0 → PresentWrite w x tag
   present none life = go site.node.running refl
     where
-      site : ClientSite
+      site : WorldClient
       site = (h.there n x at tag bytes an_open).0
 
       f : site_of w x.client ≡ Some site
@@ -174,7 +174,7 @@ module _ (k : Config) (count : ℕ) (w : World) (h : WritesHold k count w) (open
       go None q (inr life) = inl (present q life)
 
 -- Beside a life that stands still with an exclusive lock on a file no client that runs has a lock on it.
-pub crashed_alone : (k : Config) (count : ℕ) (w : World) (all : AllStand k count w) (x : IssuedCommand) (tag : Tag) → CrashedWrite k count w all x tag → (d : ℕ) (other : ClientSite) → Running w d other → (y : Association) → Has y other.node.state.associations → There w y.server →
+pub crashed_alone : (k : Config) (count : ℕ) (w : World) (all : AllStand k count w) (x : IssuedCommand) (tag : Tag) → CrashedWrite k count w all x tag → (d : ℕ) (other : WorldClient) → Running w d other → (y : Association) → Has y other.node.state.associations → There w y.server →
     Lasts other.node.state.config.lease (clock_of w (nodes.Client (client d))).0 y.session → x.server ≡ y.server → (held_in y.session tag.file.ino).mode ≡ 0
 crashed_alone k count w all x tag z d other run y here there lasts sv = go (leased_in y.session) refl
   where
@@ -229,11 +229,11 @@ present_locked asks w x tag copies z =
     subst (λ i. 2 ≤ (held_in z.a.session i).mode) z.listed.listed.ino ((s.pages z.listed.listed.command.ino z.listed.listed.command.page).mode z.listed.listed.dirty z.listed.listed.dirty_is)
 
 -- A write that may have its effect on a file on which a client has a lock is of that client's present life.
-pub record OwnWrite (w : World) (d : ℕ) (other : ClientSite) (y : Association) (x : IssuedCommand) (tag : Tag) : Type 0 where
+pub record OwnWrite (w : World) (d : ℕ) (other : WorldClient) (y : Association) (x : IssuedCommand) (tag : Tag) : Type 0 where
   pub of : OfLife d y x
   pub listed : ListedSince other.starts y x tag
 
-module _ (asks : ℕ → ℕ → Option Ask) (k : Config) (count : ℕ) (w : World) (h : WritesHold k count w) (open_ : OpenHold w) (copies : CopiesHold asks w) (d : ℕ) (other : ClientSite) (run : Running w d other) (y : Association) (here : Has y other.node.state.associations) (there : There w y.server)
+module _ (asks : ℕ → ℕ → Option Ask) (k : Config) (count : ℕ) (w : World) (h : WritesHold k count w) (open_ : OpenHold w) (copies : CopiesHold asks w) (d : ℕ) (other : WorldClient) (run : Running w d other) (y : Association) (here : Has y other.node.state.associations) (there : There w y.server)
     (lasts : Lasts other.node.state.config.lease (clock_of w (nodes.Client (client d))).0 y.session) where
   pub living_own : (n : ℕ) (x : IssuedCommand) (at : BlockAt) (tag : Tag) (bytes : List ℕ) → Living (Timely w) w.commands w.disks.commands n x at tag bytes → x.server ≡ y.server → 1 ≤ (held_in y.session tag.file.ino).mode → OwnWrite w d other y x tag
   living_own n x at tag bytes l sv mode = go (living_is k count w h open_ n x at tag bytes l (there.node, ap (λ (v : ServerId). node_of w v) sv ∙ there.is))
@@ -249,13 +249,13 @@ module _ (asks : ℕ → ℕ → Option Ask) (k : Config) (count : ℕ) (w : Wor
           by (inr ne) =
               let m = no_lock k count w h.all y.server.0 there.node node x.client.0 d tag.file.ino z.site other z.a y ne z.running run z.here (sym z.server ∙ sv) z.lasts (present_locked asks w x tag copies z) here refl lasts in
               absurd (omega (arith, m, mode))
-          by (inl e) = record { of = record { client = ap client e; server = sv; life = z.life ∙ ap (λ (b : Association). b.life) same }; listed = subst (λ (s : ClientSite). ListedSince s.starts y x tag) site_same (subst (λ b. ListedSince z.site.starts b x tag) same z.listed) }
+          by (inl e) = record { of = record { client = ap client e; server = sv; life = z.life ∙ ap (λ (b : Association). b.life) same }; listed = subst (λ (s : WorldClient). ListedSince s.starts y x tag) site_same (subst (λ b. ListedSince z.site.starts b x tag) same z.listed) }
             where
               site_same : z.site ≡ other
               site_same = Rattle.st_lemmas.proofs.Lookups.some_is (sym z.running.there ∙ ap (λ m. site_of w (client m)) e ∙ run.there)
 
               once_in : Has z.a other.node.state.associations
-              once_in = subst (λ (s : ClientSite). Has z.a s.node.state.associations) site_same z.here
+              once_in = subst (λ (s : WorldClient). Has z.a s.node.state.associations) site_same z.here
 
               same : z.a ≡ y
               same =

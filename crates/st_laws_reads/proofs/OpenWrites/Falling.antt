@@ -17,11 +17,11 @@ use Rattle.st_rules.specs.ClientState.{Association, ClientSession}
 use Rattle.st_rules.specs.Events as ev
 use Rattle.st_rules.specs.Keys.{client}
 use Rattle.st_rules.specs.Server.{ServerNode}
-use Rattle.st_rules.specs.World.{World, ClientSite, clock_of, ended_of, node_of, server, site_of}
+use Rattle.st_rules.specs.World.{World, WorldClient, clock_of, ended_of, node_of, server, site_of}
 use Rattle.st_protocol.specs.Assoc.{Config}
 use Rattle.st_lemmas.specs.Lists.{Has}
 use Rattle.st_laws_refine.specs.Views.Halves.{held_in}
-use Rattle.st_laws_refine.specs.Client.Shown.{Lasts}
+use Rattle.st_laws_refine.specs.Client.Invariants.{Lasts}
 use Rattle.st_laws_leases.specs.Sides.World.{AllStand}
 use Rattle.st_laws_reads.specs.Copies.Law.{ClientCopies, StandsAt}
 use Rattle.st_laws_reads.proofs.AllClients.Alone.{while_at}
@@ -33,7 +33,7 @@ use Rattle.st_laws_reads.proofs.OpenWrites.Still.{still_on}
 use Rattle.st_laws_reads.proofs.OpenWrites.Tracked.{site_kept}
 
 -- a page is dirty under a lease only
-session_there : (asks : ℕ → Option Ask) (c : ℕ) (w : World) (site : ClientSite) (a : Association) (ino : ℕ) (p : Rattle.st_base.specs.declared.ids.PageNo.PageNo) (d : DirtyPage) → ClientCopies asks (client c) w.log (clock_of w (nodes.Client (client c))) site.node.state → Has a site.node.state.associations →
+session_there : (asks : ℕ → Option Ask) (c : ℕ) (w : World) (site : WorldClient) (a : Association) (ino : ℕ) (p : Rattle.st_base.specs.declared.ids.PageNo.PageNo) (d : DirtyPage) → ClientCopies asks (client c) w.log (clock_of w (nodes.Client (client c))) site.node.state → Has a site.node.state.associations →
     dirty_of a.store.pages ino p ≡ Some d → (s : ClientSession) × (a.session ≡ Some s)
 session_there asks c w site a ino p d copies here dirty = go a.session refl
   where
@@ -45,7 +45,7 @@ session_there asks c w site a ino p d copies here dirty = go a.session refl
         let m = (z.pages ino p).mode d dirty in
         let n = ap (λ o. (held_in o ino).mode) e in absurd (omega (arith, m, n))
 
-module _ (asks : ℕ → Option Ask) (k : Config) (count : ℕ) (w : World) (c : ℕ) (site : ClientSite) (there : site_of w (client c) ≡ Some site) (runs : site.node.running ≡ true) (h : WritesHold k count w) (open_ : OpenHold w)
+module _ (asks : ℕ → Option Ask) (k : Config) (count : ℕ) (w : World) (c : ℕ) (site : WorldClient) (there : site_of w (client c) ≡ Some site) (runs : site.node.running ≡ true) (h : WritesHold k count w) (open_ : OpenHold w)
     (copies : ClientCopies asks (client c) w.log (clock_of w (nodes.Client (client c))) site.node.state) (after0 : AllStand k count (V k count w c site there runs h.all)) where
   abbrev v : World
   v = V k count w c site there runs h.all
@@ -97,7 +97,7 @@ module _ (asks : ℕ → Option Ask) (k : Config) (count : ℕ) (w : World) (c :
           by end is node at (inl late) = inl (same_clock x.client end.0 late)
           by end is node at (inr s) = still_on k count w v h.all new (writer x tag) row q end is node (new.servers (writer x tag).file.server.0 node at) (came k count w c site there runs h.all after0 (writer x tag).file.server.0 node at) s
 
-  is_there : (n : ℕ) (x : IssuedCommand) (at : BlockAt) (tag : Tag) (bytes : List ℕ) → OpenWrite w n x at tag bytes → (s : ClientSite) × (site_of v x.client ≡ Some s)
+  is_there : (n : ℕ) (x : IssuedCommand) (at : BlockAt) (tag : Tag) (bytes : List ℕ) → OpenWrite w n x at tag bytes → (s : WorldClient) × (site_of v x.client ≡ Some s)
   unfolding ev.crashes_client ev.marks
   is_there n x at tag bytes o = let z = h.there n x at tag bytes o in site_kept w.clients c x.client.0 (ev.stopped_site site) z.0 z.1
 

@@ -14,7 +14,7 @@ use Rattle.st_rules.specs.ClientState.{ClientState}
 use Rattle.st_rules.specs.Disks as disks
 use Rattle.st_rules.specs.Events as ev
 use Rattle.st_rules.specs.Events.{WorldTurn, client_says, client_says_all}
-use Rattle.st_rules.specs.World.{World, ClientSite, numbered, site_of}
+use Rattle.st_rules.specs.World.{World, WorldClient, numbered, site_of}
 use Rattle.st_lemmas.proofs.Numbers.{get_last, get_old, numbered_old}
 
 -- Commands stay, and servers are the same.
@@ -36,7 +36,7 @@ unfolding client_says ev.client_notes ev.sends ev.submits ev.answers_with ev.acc
 grows_one c before (outputs.Send m) sc = same_grows sc.world _ refl refl refl refl
 grows_one c before (outputs.Submit number at what) sc = go (site_of sc.world c)
   where
-    go : (o : Option ClientSite) → Grows sc.world (ev.submits sc c o number at what).world
+    go : (o : Option WorldClient) → Grows sc.world (ev.submits sc c o number at what).world
     go None = same_grows sc.world _ refl refl refl refl
     go (Some s) = record { issued = λ k x i. numbered_old sc.world.commands _ k x i; command = λ k d i. command_old sc.world.disks.commands _ k d i; servers = refl; clients = refl }
 grows_one c before (outputs.Answer o a) sc = same_grows sc.world _ refl refl refl refl
@@ -63,22 +63,22 @@ says_both c before [] rest sc = refl
 says_both c before (o ∷ pre) rest sc = says_both c before pre rest (client_says sc c before o)
 
 -- A command that is submitted is the last one.
-pub record Submitted (c : ClientId) (site : ClientSite) (number : ℕ) (at : BlockAt) (what : Command) (w u : World) : Type 0 where
+pub record Submitted (c : ClientId) (site : WorldClient) (number : ℕ) (at : BlockAt) (what : Command) (w u : World) : Type 0 where
   pub issued : numbered u.commands (suc (length w.commands)) ≡ Some (ev.issued w c site number at what)
   pub command : disks.command_at u.disks.commands (suc (length w.disks.commands)) ≡ Some (disks.new_command what)
 
-pub submitted : (c : ClientId) (before : ClientState) (site : ClientSite) (number : ℕ) (at : BlockAt) (what : Command) (rest : List Output) (sc : WorldTurn) → site_of sc.world c ≡ Some site →
+pub submitted : (c : ClientId) (before : ClientState) (site : WorldClient) (number : ℕ) (at : BlockAt) (what : Command) (rest : List Output) (sc : WorldTurn) → site_of sc.world c ≡ Some site →
     Submitted c site number at what sc.world (client_says_all c before (outputs.Submit number at what ∷ rest) sc).world
 unfolding client_says_all client_says ev.submits
 submitted c before site number at what rest sc e =
     let g = grows_all c before rest (client_says sc c before (outputs.Submit number at what)) in
     record { issued = g.issued (suc (length sc.world.commands)) (ev.issued sc.world c site number at what) (first (site_of sc.world c) e).0; command = g.command (suc (length sc.world.disks.commands)) (disks.new_command what) (first (site_of sc.world c) e).1 }
   where
-    first : (o : Option ClientSite) → o ≡ Some site →
+    first : (o : Option WorldClient) → o ≡ Some site →
         (numbered (ev.submits sc c o number at what).world.commands (suc (length sc.world.commands)) ≡ Some (ev.issued sc.world c site number at what)) ×
         (disks.command_at (ev.submits sc c o number at what).world.disks.commands (suc (length sc.world.disks.commands)) ≡ Some (disks.new_command what))
     first None q = cc q
     first (Some s) q = (
-      get_last sc.world.commands (ev.issued sc.world c s number at what) ∙ ap (λ (z : ClientSite). Some (ev.issued sc.world c z number at what)) (Rattle.st_lemmas.proofs.Lookups.some_is q),
+      get_last sc.world.commands (ev.issued sc.world c s number at what) ∙ ap (λ (z : WorldClient). Some (ev.issued sc.world c z number at what)) (Rattle.st_lemmas.proofs.Lookups.some_is q),
       get_last sc.world.disks.commands (disks.new_command what),
     )

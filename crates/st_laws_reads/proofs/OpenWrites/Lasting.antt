@@ -9,7 +9,7 @@ use Rattle.st_rules.specs.Client as cl
 use Rattle.st_rules.specs.ClientLease as lease
 use Rattle.st_rules.specs.ClientState.{Association, ClientSession, ClientState, ClientTurn}
 use Rattle.st_lemmas.specs.Lists.{Has}
-use Rattle.st_laws_refine.specs.Client.Shown.{Lasts}
+use Rattle.st_laws_refine.specs.Client.Invariants.{Lasts}
 use Rattle.st_laws_steps.specs.Lives.Lives.{Pairwise}
 use Rattle.st_laws_steps.specs.Client.Losses.{Fit, SessionNext, is_ended}
 use Rattle.st_laws_steps.proofs.Client.Stepping.{Goes, LostOrNot, Phased, pairs_has, phased}
@@ -32,7 +32,7 @@ step_lasts c s now input f = go _ _ _ (phased c s now input f)
     Last b = Lasts s.config.lease now.0 b.session
 
     go : (t u v : ClientTurn) → Phased c s now t u v → (b : Association) → Has b v.state.associations → Last b
-    go t u v p = on u v u.state.config (sym (p.lost.config ∙ p.heard.config)) p.worked.pairs (on t u t.state.config (sym p.lost.config) p.heard.pairs going)
+    go t u v p = on u v u.state.config (sym (p.lost.config ∙ p.received.config)) p.worked.pairs (on t u t.state.config (sym p.lost.config) p.received.pairs going)
       where
         going : (a : Association) → Has a t.state.associations → Last a
         going = pairs_has (LostOrNot s.config now) (λ a. Unit {0}) Last (λ a b r z. ongoing_lasts s.config now b.session r.going) s.associations t.state.associations p.lost.pairs (λ a i. tt)

@@ -12,13 +12,13 @@ use Rattle.st_rules.specs.Client as cl
 use Rattle.st_rules.specs.ClientState.{Association, ClientSession}
 use Rattle.st_rules.specs.Keys.{client}
 use Rattle.st_rules.specs.Server.{ServerNode}
-use Rattle.st_rules.specs.World.{World, ClientSite, clock_of, end_or_present, lease_end_of, node_of, present_end, server}
+use Rattle.st_rules.specs.World.{World, WorldClient, clock_of, end_or_present, lease_end_of, node_of, present_end, server}
 use Rattle.st_protocol.specs.Assoc.{Config}
 use Rattle.st_protocol.proofs.World.{exclusive}
 use Rattle.st_lemmas.specs.Lists.{Has}
 use Rattle.st_laws_refine.specs.Views.Halves.{held_in, leased_in}
-use Rattle.st_laws_refine.specs.Client.Shown.{Lasts}
-use Rattle.st_laws_refine.specs.Server.Stands.{pairs}
+use Rattle.st_laws_refine.specs.Client.Invariants.{Lasts}
+use Rattle.st_laws_refine.specs.Server.Invariants.{pairs}
 use Rattle.st_laws_leases.specs.Sides.World.{AllStand}
 use Rattle.st_laws_reads.specs.Copies.Law.{StandsAt}
 use Rattle.st_laws_reads.specs.Copies.World.{Unheld}
@@ -42,7 +42,7 @@ module _ (k : Config) (count : ℕ) (w : World) (a : AllStand k count w) (s : �
           let sum = exclusive k (pairs s v.ended w node v.ghosts) a.sound v.both.stands.reached c d i n l.alive m.alive (omega (arith, own, two)) (omega (arith, its, q)) in
           absurd (omega (arith, sum, own, its, two, q))
 
-  pub no_lock : (c d i : ℕ) (site other : ClientSite) (x y : Association) → c ≢ d → Running w c site → Running w d other → Has x site.node.state.associations → x.server ≡ server s →
+  pub no_lock : (c d i : ℕ) (site other : WorldClient) (x y : Association) → c ≢ d → Running w c site → Running w d other → Has x site.node.state.associations → x.server ≡ server s →
       Lasts site.node.state.config.lease (clock_of w (nodes.Client (client c))).0 x.session → 2 ≤ (held_in x.session i).mode → Has y other.node.state.associations → y.server ≡ server s →
       Lasts other.node.state.config.lease (clock_of w (nodes.Client (client d))).0 y.session → (held_in y.session i).mode ≡ 0
   no_lock c d i site other x y n rc rd hx ex lx two hy ey ly = go (leased_in y.session) refl

@@ -16,7 +16,7 @@ use Rattle.st_rules.specs.Events as ev
 use Rattle.st_rules.specs.Events.{WorldTurn, client_says_all, counted, world_step}
 use Rattle.st_rules.specs.Server.{ServerNode}
 use Rattle.st_rules.specs.World as world
-use Rattle.st_rules.specs.World.{World, ClientSite, clock_of, ended_of, node_of, numbered, server, site_of}
+use Rattle.st_rules.specs.World.{World, WorldClient, clock_of, ended_of, node_of, numbered, server, site_of}
 use Rattle.st_protocol.specs.Assoc.{Config}
 use Rattle.st_lemmas.proofs.Steps.{step_happens}
 use Rattle.st_laws_pages.proofs.Lives.Each.{SteppedNode, each_event}
@@ -42,7 +42,7 @@ module _ (d : ClientId) (n : ℕ) where
   reads_same : (w v : World) → v.clocks ≡ w.clocks → Reads w → Reads v
   reads_same w v e h = subst (λ ts. n ≤ (Rattle.std.specs.Prelude.unwrap_or (numbered ts d.0) (world.stamp 0)).0) (sym e) h
 
-  reads_step : (w : World) (c : ClientId) (input : ClientInput) (old site : ClientSite) → site_of w c ≡ Some old → old.node ≡ site.node → site.node.running ≡ true → Reads w → Reads (ev.client_took w c site (Ok (SteppedNode w c site input))).world
+  reads_step : (w : World) (c : ClientId) (input : ClientInput) (old site : WorldClient) → site_of w c ≡ Some old → old.node ≡ site.node → site.node.running ≡ true → Reads w → Reads (ev.client_took w c site (Ok (SteppedNode w c site input))).world
   unfolding ev.client_took
   reads_step w c input old site there same r h = reads_same w (ev.flushes c t.node.state (world.all_servers u) u) (fl ∙ said) h
     where
@@ -65,7 +65,7 @@ module _ (d : ClientId) (n : ℕ) where
   unfolding ev.advances ev.marks
   reads_advance w steps h = let z = clock_up w steps d in omega (arith, h, z)
 
-  reads_start : (w : World) (c : ClientId) (site : ClientSite) → site_of w c ≡ Some site → site.node.running ≡ false → Reads w → Reads (ev.starts_client w c (Some site))
+  reads_start : (w : World) (c : ClientId) (site : WorldClient) → site_of w c ≡ Some site → site.node.running ≡ false → Reads w → Reads (ev.starts_client w c (Some site))
   unfolding ev.starts_client
   reads_start w c site there r h = h
 

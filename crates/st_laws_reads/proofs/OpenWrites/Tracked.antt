@@ -27,10 +27,10 @@ use Rattle.st_rules.specs.Events.{client_says_all}
 use Rattle.st_rules.specs.FlatLog as log
 use Rattle.st_rules.specs.Server.{ServerNode}
 use Rattle.st_rules.specs.World as world
-use Rattle.st_rules.specs.World.{World, ClientSite, Net, Tally, clock_of, numbered, site_of, with_numbered}
+use Rattle.st_rules.specs.World.{World, WorldClient, Net, Tally, clock_of, numbered, site_of, with_numbered}
 use Rattle.st_lemmas.specs.Lists.{Has}
 use Rattle.st_lemmas.proofs.Numbers.{length_more, numbered_below, numbered_own}
-use Rattle.st_laws_leases.proofs.Sides.Everywhere.{numbered_is}
+use Rattle.st_laws_leases.proofs.Sides.AllAssociations.{numbered_is}
 use Rattle.st_laws_leases.proofs.Sides.Pairs.{length_set}
 use Rattle.st_laws_steps.specs.Lives.Lives.{AllKnown, ended_rows, LivesHold, NodeHolds, owner_of, Stepped}
 use Rattle.st_laws_pages.proofs.Lives.Each.{Besides, SteppedNode, each_event}
@@ -49,7 +49,7 @@ use Rattle.st_laws_pages.proofs.Disks.Opens.{GoesOn}
 use Rattle.st_laws_pages.proofs.Causes.FlushSteps.{flushes_disks}
 
 -- a client that is there stays there
-pub site_kept : (xs : List ClientSite) (c d : ℕ) (new s : ClientSite) → numbered xs d ≡ Some s → (y : ClientSite) × (numbered (with_numbered c new xs) d ≡ Some y)
+pub site_kept : (xs : List WorldClient) (c d : ℕ) (new s : WorldClient) → numbered xs d ≡ Some s → (y : WorldClient) × (numbered (with_numbered c new xs) d ≡ Some y)
 site_kept xs c d new s e = let z = numbered_below xs d s e in numbered_is (with_numbered c new xs) d z.0 (let l = length_set xs (pred c) new in let u = z.1 in omega (arith, l, u))
 
 -- Outputs submit as many commands as they issue.
@@ -58,7 +58,7 @@ unfolding ev.client_says ev.client_notes ev.sends ev.submits ev.answers_with ev.
 one_counts c before (outputs.Send m) sc h = h
 one_counts c before (outputs.Submit number at what) sc h = go (site_of sc.world c)
   where
-    go : (o : Option ClientSite) → length (ev.submits sc c o number at what).world.commands ≡ length (ev.submits sc c o number at what).world.disks.commands
+    go : (o : Option WorldClient) → length (ev.submits sc c o number at what).world.commands ≡ length (ev.submits sc c o number at what).world.disks.commands
     go None = h
     go (Some site) = length_more sc.world.commands _ ∙ ap suc h ∙ sym (length_more sc.world.disks.commands (disks.new_command what))
 one_counts c before (outputs.Answer o a) sc h = h
@@ -77,7 +77,7 @@ all_counts c before (o ∷ os) sc h = all_counts c before os (ev.client_says sc 
 
 module _ (P : LeaseLife → LogOwner → Type 0) where
   -- a new command is of a life that is not over
-  unended : (v : World) (c : ClientId) (site : ClientSite) → site_of v c ≡ Some site → site.node.running ≡ true → LivesHold v → (x : IssuedCommand) (tag : Tag) → x.client ≡ c → x.life ≡ world.life_with site.node.state x.server → OfCrashed P v (writer x tag)
+  unended : (v : World) (c : ClientId) (site : WorldClient) → site_of v c ≡ Some site → site.node.running ≡ true → LivesHold v → (x : IssuedCommand) (tag : Tag) → x.client ≡ c → x.life ≡ world.life_with site.node.state x.server → OfCrashed P v (writer x tag)
   unended v c site there r h x tag cx lx row q crashed = at (find (is_at x.server) site.node.state.associations) refl
     where
       m : NodeHolds v.config v.clocks v.ended c site.node
@@ -133,7 +133,7 @@ module _ (P : LeaseLife → LogOwner → Type 0) where
       }
 
   -- a client's step
-  stepped : (w : World) (c : ClientId) (input : ClientInput) (old site : ClientSite) → site_of w c ≡ Some old → old.node ≡ site.node → site.node.running ≡ true → OpenTracked P w → OpenTracked P (ev.client_took w c site (Ok (SteppedNode w c site input))).world
+  stepped : (w : World) (c : ClientId) (input : ClientInput) (old site : WorldClient) → site_of w c ≡ Some old → old.node ≡ site.node → site.node.running ≡ true → OpenTracked P w → OpenTracked P (ev.client_took w c site (Ok (SteppedNode w c site input))).world
   unfolding ev.client_took
   stepped w c input old site there same r h =
       record {
@@ -149,7 +149,7 @@ module _ (P : LeaseLife → LogOwner → Type 0) where
       t : cl.NodeTurn
       t = SteppedNode w c site input
 
-      now_site : ClientSite
+      now_site : WorldClient
       now_site = ev.at_node t.node site
 
       v0 : World
@@ -196,10 +196,10 @@ module _ (P : LeaseLife → LogOwner → Type 0) where
           ((numbered v0.commands k ≡ Some x) × (disks.command_at v0.disks.commands k ≡ Some o.command)) ⊎ IsNew c now_site (length w.servers) t.out x o.command
       from k x at tag bytes o = all_say c site.node.state now_site (length w.servers) t.out (ev.quiet v0) (record { own = at_first; counts = h.counts; servers = refl }) k x o.command (o.issued, o.is)
 
-      is_there : (k : ℕ) (x : IssuedCommand) (at : BlockAt) (tag : Tag) (bytes : List ℕ) → OpenWrite u k x at tag bytes → (s : ClientSite) × (site_of v x.client ≡ Some s)
+      is_there : (k : ℕ) (x : IssuedCommand) (at : BlockAt) (tag : Tag) (bytes : List ℕ) → OpenWrite u k x at tag bytes → (s : WorldClient) × (site_of v x.client ≡ Some s)
       is_there k x at tag bytes o = by (from k x at tag bytes o)
         where
-          by : ((numbered v0.commands k ≡ Some x) × (disks.command_at v0.disks.commands k ≡ Some o.command)) ⊎ IsNew c now_site (length w.servers) t.out x o.command → (s : ClientSite) × (site_of v x.client ≡ Some s)
+          by : ((numbered v0.commands k ≡ Some x) × (disks.command_at v0.disks.commands k ≡ Some o.command)) ⊎ IsNew c now_site (length w.servers) t.out x o.command → (s : WorldClient) × (site_of v x.client ≡ Some s)
           by (inl i) =
               let z = h.there k x at tag bytes (record { issued = i.0; command = o.command; is = i.1; what = o.what; unreported = o.unreported }) in
               let y = site_kept w.clients c.0 x.client.0 now_site z.0 z.1 in
@@ -219,7 +219,7 @@ module _ (P : LeaseLife → LogOwner → Type 0) where
   unfolding ev.advances ev.marks
   advanced w steps h = record { lives = advance_lives w steps h.lives; counts = h.counts; there = λ k x at tag bytes o. h.there k x at tag bytes (same_open w (ev.advances w steps).world refl refl k x at tag bytes o); open_ = λ k x at tag bytes o. h.open_ k x at tag bytes (same_open w (ev.advances w steps).world refl refl k x at tag bytes o) }
 
-  started : (w : World) (c : ClientId) (site : ClientSite) → site_of w c ≡ Some site → site.node.running ≡ false → OpenTracked P w → OpenTracked P (ev.starts_client w c (Some site))
+  started : (w : World) (c : ClientId) (site : WorldClient) → site_of w c ≡ Some site → site.node.running ≡ false → OpenTracked P w → OpenTracked P (ev.starts_client w c (Some site))
   unfolding ev.starts_client
   started w c site there r h = record { lives = start_lives w c site there r h.lives; counts = h.counts; there = λ k x at tag bytes o. (let z = h.there k x at tag bytes (same_open w (ev.starts_client w c (Some site)) refl refl k x at tag bytes o) in site_kept w.clients c.0 x.client.0 (ev.started_site site) z.0 z.1); open_ = λ k x at tag bytes o. h.open_ k x at tag bytes (same_open w (ev.starts_client w c (Some site)) refl refl k x at tag bytes o) }
 

@@ -23,12 +23,12 @@ use Rattle.st_rules.specs.FlatLog.{is_of_life, is_pending}
 use Rattle.st_rules.specs.Keys.{client}
 use Rattle.st_rules.specs.Server as server
 use Rattle.st_rules.specs.Server.{ServerNode}
-use Rattle.st_rules.specs.World.{World, ClientSite, clock_of, message_of, node_of, receiver_of}
+use Rattle.st_rules.specs.World.{World, WorldClient, clock_of, message_of, node_of, receiver_of}
 use Rattle.st_protocol.specs.Assoc.{Config}
 use Rattle.st_lemmas.specs.Lists.{Has}
 use Rattle.st_laws_refine.specs.Views.Halves.{held_in}
 use Rattle.st_laws_leases.specs.Sides.World.{AllStand}
-use Rattle.st_laws_refine.specs.Client.Shown.{Lasts}
+use Rattle.st_laws_refine.specs.Client.Invariants.{Lasts}
 use Rattle.st_laws_reads.specs.Copies.Copies.{Nothing}
 use Rattle.st_laws_reads.specs.Copies.World.{taken}
 use Rattle.st_laws_reads.specs.AllClients.Law.{Running, UnheldBy}
@@ -37,13 +37,13 @@ use Rattle.st_laws_reads.specs.AllClients.World.{CopiesHold}
 -- an entry of no present life of a client that runs
 abbrev pub OfFrozen : World → LogEntry → Type 0
 OfFrozen w e =
-    (c : ℕ) (site : ClientSite) (a : Association) → Running w c site → Has a site.node.state.associations →
+    (c : ℕ) (site : WorldClient) (a : Association) → Running w c site → Has a site.node.state.associations →
     is_of_life (client c) a.server a.life e.of ≡ true → ⊥
 
 -- What is pending of lives that are over stands alone too: no client that runs has a lock on its file, under a lease that is not over.
 abbrev pub FrozenStandAlone : World → Type 0
 FrozenStandAlone w =
-    (e : LogEntry) → Has e w.log → is_pending e.fate ≡ true → OfFrozen w e → (d : ℕ) (other : ClientSite) → Running w d other →
+    (e : LogEntry) → Has e w.log → is_pending e.fate ≡ true → OfFrozen w e → (d : ℕ) (other : WorldClient) → Running w d other →
     UnheldBy w d other e
 
 -- where these associations are, a file is cut that is not locked, or of which nothing is at hand from the page on
@@ -58,7 +58,7 @@ CutFreeOf f p lease now (a ∷ xs) =
 
 -- of each client that runs
 abbrev pub CutFree : World → FileId → PageNo → Type 0
-CutFree w f p = (d : ℕ) (site : ClientSite) → Running w d site →
+CutFree w f p = (d : ℕ) (site : WorldClient) → Running w d site →
     CutFreeOf f p site.node.state.config.lease (clock_of w (nodes.Client (client d))).0 site.node.state.associations
 
 -- each cut that outputs note

@@ -7,9 +7,9 @@ use Rattle.st_rules.specs.Events.{counted}
 use Rattle.st_rules.specs.Safety.{Promise}
 use Rattle.st_rules.specs.World.{World}
 use Rattle.st_laws_reads.specs.Copies.World.{Taking, taken}
-use Rattle.st_laws_reads.specs.AllClients.Left.{CutsAsked, LeftOf, OthersLeft}
+use Rattle.st_laws_reads.specs.AllClients.Obligations.{CutsAsked, LeftOf, OthersLeft}
 
--- of a client that hears a message or the end of a command; a tick and an ask owe nothing
+-- of a client that receives a message or the end of a command; a tick and an ask owe nothing
 abbrev pub InputOwed : Taking → ClientInput → Type 0
 InputOwed x inputs.Tick = Unit {0}
 InputOwed x (inputs.App op ask) = Unit {0}

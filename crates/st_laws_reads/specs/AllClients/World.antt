@@ -6,11 +6,11 @@ use Rattle.st_messages.specs.declared.event.Event.{Event}
 use Rattle.st_rules.specs.ClientState.{Association}
 use Rattle.st_rules.specs.Events.{WorldTurn, counted, world_step}
 use Rattle.st_rules.specs.Keys.{client}
-use Rattle.st_rules.specs.World.{World, ClientSite, clock_of, site_of}
+use Rattle.st_rules.specs.World.{World, WorldClient, clock_of, site_of}
 use Rattle.st_protocol.specs.Assoc.{Config}
 use Rattle.st_laws_leases.specs.Sides.World.{AllStand, There}
 use Rattle.st_laws_reads.specs.Copies.Law.{ClientCopies}
-use Rattle.st_laws_reads.specs.Copies.Owed.{Numbered}
+use Rattle.st_laws_reads.specs.Copies.Obligations.{Numbered}
 use Rattle.st_laws_reads.specs.Copies.World.{ClientRests, OwedOf, Taking, taken}
 
 -- the servers of associations are there
@@ -19,14 +19,14 @@ AllThere w [] = Unit {0}
 AllThere w (a ∷ xs) = record { one : There w a.server; rest : AllThere w xs }
 
 -- What stands of a client of the world: its servers are there; its copies stand where it runs; and where it does not, it rests.
-pub record SiteHolds (asked_as : ℕ → Option Ask) (w : World) (c : ℕ) (site : ClientSite) : Type 0 where
+pub record SiteHolds (asked_as : ℕ → Option Ask) (w : World) (c : ℕ) (site : WorldClient) : Type 0 where
   pub servers : AllThere w site.node.state.associations
   pub runs : site.node.running ≡ true → ClientCopies asked_as (client c) w.log (clock_of w (nodes.Client (client c))) site.node.state
   pub rests : site.node.running ≡ false → ClientRests (client c) w.log site.node.state
 
 -- Of each client. What each one was asked is known by the number of the ask.
 abbrev pub CopiesHold : (ℕ → ℕ → Option Ask) → World → Type 0
-CopiesHold asks w = (c : ℕ) (site : ClientSite) → site_of w (client c) ≡ Some site → SiteHolds (asks c) w c site
+CopiesHold asks w = (c : ℕ) (site : WorldClient) → site_of w (client c) ≡ Some site → SiteHolds (asks c) w c site
 
 -- What is owed where a client takes an input.
 pub record TakingOwed (asks : ℕ → ℕ → Option Ask) (x : Taking) : Type 0 where

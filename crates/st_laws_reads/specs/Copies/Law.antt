@@ -17,7 +17,7 @@ use Rattle.st_messages.specs.declared.output.Note.TheVariants as notes
 use Rattle.st_messages.specs.declared.output.Output.TheVariants as outputs
 use Rattle.st_rules.specs.Lines.{AtEach}
 use Rattle.st_rules.specs.Safety as safety
-use Rattle.st_rules.specs.World.{World, ClientSite, site_of, clock_of}
+use Rattle.st_rules.specs.World.{World, WorldClient, site_of, clock_of}
 use Rattle.st_rules.specs.Events.{client_says_all, quiet, present_life}
 use Rattle.st_rules.specs.Client as cl
 use Rattle.st_rules.specs.ClientState.{Association, ClientState, ClientTurn, Turn, client_turn}
@@ -27,12 +27,12 @@ use Rattle.st_laws_refine.specs.Views.Halves.{held_in}
 use Rattle.st_rules.specs.ClientPasses as cp
 use Rattle.st_laws_reads.specs.Copies.Copies.{Copies, Right, AskedSo, PageOk, FatesOk, file_at}
 use Rattle.st_laws_refine.specs.Client.World.{logged}
-use Rattle.st_laws_reads.specs.Copies.Owed.{OwedAt, Numbered}
+use Rattle.st_laws_reads.specs.Copies.Obligations.{OwedAt, Numbered}
 use Rattle.st_base.specs.declared.ids.FileId.{FileId}
 use Rattle.st_lemmas.specs.Lists.{Has}
 use Rattle.st_rules.specs.ClientPages.{dirty_of}
 use Rattle.std.specs.List.{list_all}
-use Rattle.st_laws_refine.specs.Client.Shown.{Lasts}
+use Rattle.st_laws_refine.specs.Client.Invariants.{Lasts}
 
 -- What stands of the copies at one server, by a log: each page is as the log has it, and an entry of the present life that is not hard
 -- has its page dirty.
@@ -176,7 +176,7 @@ AllLast lease now (a ∷ xs) = record { one : Lasts lease now a.session; rest : 
 -- changes are locked.
 abbrev pub ChangesLieUnderLocks : Type 0
 ChangesLieUnderLocks =
-    (w v : World) (c : ClientId) (site : ClientSite) (before : ClientState) (os : List Output) → site_of w c ≡ Some site → site.node.running ≡ true →
+    (w v : World) (c : ClientId) (site : WorldClient) (before : ClientState) (os : List Output) → site_of w c ≡ Some site → site.node.running ≡ true →
     Apart site.node.state.associations →
     AllLast site.node.state.config.lease (clock_of w (nodes.Client c)).0 site.node.state.associations → AllHeld site.node.state.associations os →
     list_all (safety.is_change_locked w) (client_says_all c before os (quiet v)).seen ≡ true

@@ -21,7 +21,7 @@ use Rattle.st_rules.specs.declared.world.SentMessage.{SentMessage}
 use Rattle.st_rules.specs.Client as cl
 use Rattle.st_rules.specs.ClientState.{Association, ClientState, ClientTurn, client_turn}
 use Rattle.st_rules.specs.Disks as disks
-use Rattle.st_rules.specs.World.{World, ClientSite, site_of, clock_of, issued_of, life_with, message_of, receiver_of}
+use Rattle.st_rules.specs.World.{World, WorldClient, site_of, clock_of, issued_of, life_with, message_of, receiver_of}
 use Rattle.st_rules.specs.FlatLog as log
 use Rattle.st_rules.specs.FlatLog.{is_of_client, is_of_life, is_pending}
 use Rattle.st_rules.specs.Events as ev
@@ -29,9 +29,9 @@ use Rattle.st_rules.specs.Events.{WorldTurn}
 use Rattle.st_laws_refine.specs.Views.Halves.{held_in}
 use Rattle.st_lemmas.specs.Lists.{Has}
 use Rattle.st_laws_refine.specs.Client.World.{logged}
-use Rattle.st_laws_refine.specs.Client.Shown.{Lasts}
+use Rattle.st_laws_refine.specs.Client.Invariants.{Lasts}
 use Rattle.st_laws_reads.specs.Copies.Copies.{Right}
-use Rattle.st_laws_reads.specs.Copies.Owed.{Numbered}
+use Rattle.st_laws_reads.specs.Copies.Obligations.{Numbered}
 use Rattle.st_laws_reads.specs.Copies.Law.{Apart, AllLived, ClientStands, ClientCopies, AllOwed}
 
 -- What a client takes at an event: in which world, which input, and where it stands then.
@@ -39,30 +39,30 @@ pub record Taking : Type 0 where
   pub world : World
   pub client : ClientId
   pub input : ClientInput
-  pub site : ClientSite
+  pub site : WorldClient
 
 -- a client that is there takes it
-abbrev pub taking : World → ClientId → ClientInput → Option ClientSite → Option Taking
+abbrev pub taking : World → ClientId → ClientInput → Option WorldClient → Option Taking
 taking w c input None = None
 taking w c input (Some site) = Some (record { world = w; client = c; input = input; site = site })
 
 -- an ask is counted at its client
-abbrev pub asking : World → ClientId → Ask → Option ClientSite → Option Taking
+abbrev pub asking : World → ClientId → Ask → Option WorldClient → Option Taking
 asking w c ask None = None
 asking w c ask (Some site) = Some (record { world = w; client = c; input = inputs.App (site.asks + 1) ask; site = ev.asked_once_more site })
 
 -- a message for a client
-abbrev pub hearing : World → Message → NodeId → Option Taking
-hearing w m (nodes.Client c) = taking w c (inputs.Control m) (site_of w c)
-hearing w m (nodes.Server s) = None
+abbrev pub receiving : World → Message → NodeId → Option Taking
+receiving w m (nodes.Client c) = taking w c (inputs.Control m) (site_of w c)
+receiving w m (nodes.Server s) = None
 
 -- the message of a number
-abbrev pub hearing_of : World → Option SentMessage → Option Taking
-hearing_of w None = None
-hearing_of w (Some m) = hearing w m.message (receiver_of m)
+abbrev pub receiving_of : World → Option SentMessage → Option Taking
+receiving_of w None = None
+receiving_of w (Some m) = receiving w m.message (receiver_of m)
 
 -- a client is told the end of its command, where the instance that submitted it runs
-abbrev pub told_at : World → ℕ → Bool → IssuedCommand → Option ClientSite → Option Taking
+abbrev pub told_at : World → ℕ → Bool → IssuedCommand → Option WorldClient → Option Taking
 told_at w k ok x None = None
 told_at w k ok x (Some site) = if ev.is_same_instance x site then taking w x.client (ev.end_told w k ok x) (Some site) else None
 
@@ -75,7 +75,7 @@ told_of w k ok (Some x) = told_at w k ok x (site_of w x.client)
 abbrev pub taken : World → Event → Option Taking
 taken w (events.Tick (nodes.Client c)) = taking w c inputs.Tick (site_of w c)
 taken w (events.App c ask) = asking w c ask (site_of w c)
-taken w (events.Deliver k) = hearing_of w (message_of w k)
+taken w (events.Deliver k) = receiving_of w (message_of w k)
 taken w (events.Report k ok) = told_of (ev.with_disks (ev.disks_after w.disks (disks.done w.disks k ok)) w) k ok (issued_of w k)
 taken w e = None
 

@@ -13,7 +13,7 @@ use Rattle.st_laws_pages.specs.Fates.Fates.{PendingAll}
 use Rattle.st_laws_pages.specs.Flush.Flush.{FlushHold}
 use Rattle.st_laws_steps.specs.Lives.Lives.{LivesHold}
 use Rattle.st_laws_refine.specs.Server.Pair.{stamp_number, terms_of}
-use Rattle.st_laws_refine.specs.Server.Stands.{pairs}
+use Rattle.st_laws_refine.specs.Server.Invariants.{pairs}
 use Rattle.st_laws_leases.specs.Sides.World.{AllStand, IsFull, ServerStands}
 use Rattle.st_laws_reads.specs.AllClients.Events.{FrozenStandAlone}
 use Rattle.st_laws_reads.specs.FrozenLives.Frozen.{FrozenLife, LockedHalf}

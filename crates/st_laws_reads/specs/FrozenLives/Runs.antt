@@ -3,7 +3,7 @@ use Rattle.std.specs.Prelude.{[], Option, Some, None}
 use Rattle.st_rules.specs.Events.{counted}
 use Rattle.st_rules.specs.Safety.{Promise}
 use Rattle.st_laws_reads.specs.Copies.World.{Taking, taken}
-use Rattle.st_laws_reads.specs.AllClients.Left.{CutsAsked}
+use Rattle.st_laws_reads.specs.AllClients.Obligations.{CutsAsked}
 use Rattle.st_laws_reads.specs.AllClients.Runs.{InputOwed}
 
 -- of a client that takes an input; each other event owes nothing

@@ -13,7 +13,7 @@ use Rattle.st_rules.specs.declared.world.LeaseLife.{LeaseLife}
 use Rattle.st_rules.specs.Disks as disks
 use Rattle.st_rules.specs.FlatLog.{owner}
 use Rattle.st_rules.specs.Server.{ServerNode}
-use Rattle.st_rules.specs.World.{World, ClientSite, clock_of, node_of, numbered, server, site_of}
+use Rattle.st_rules.specs.World.{World, WorldClient, clock_of, node_of, numbered, server, site_of}
 use Rattle.st_protocol.specs.Assoc.{Config}
 use Rattle.st_laws_steps.specs.Lives.Lives.{LivesHold}
 use Rattle.st_laws_leases.specs.Sides.World.{AllStand}
@@ -40,7 +40,7 @@ OpenCrashed P w =
 abbrev pub OpenThere : World → Type 0
 OpenThere w =
     (k : ℕ) (x : IssuedCommand) (at : BlockAt) (tag : Tag) (bytes : List ℕ) → OpenWrite w k x at tag bytes →
-    (site : ClientSite) × (site_of w x.client ≡ Some site)
+    (site : WorldClient) × (site_of w x.client ≡ Some site)
 
 -- and the commands of the disks are the world's
 pub record OpenTracked (P : LeaseLife → LogOwner → Type 0) (w : World) : Type 0 where

@@ -33,7 +33,7 @@ use Rattle.st_protocol.specs.Assoc as net
 use Rattle.st_laws_refine.specs.Views.Messages.{Fine, shown, with_date, Shows}
 use Rattle.st_laws_refine.specs.Views.Halves.{held_at, busy_in, client_of}
 use Rattle.st_protocol.specs.Assoc.{Stays}
-use Rattle.st_laws_refine.specs.Client.Shown.{at, Beside, Outstanding, Quiet, KeptIn, Ready, Frame, Result, Goes}
+use Rattle.st_laws_refine.specs.Client.Invariants.{at, Beside, Outstanding, Quiet, KeptIn, Ready, Frame, Result, Goes}
 use Rattle.st_lemmas.proofs.Lookups.{if_true, if_false}
 use Rattle.st_lemmas.proofs.Tables.{and_true}
 use Rattle.st_laws_refine.proofs.Views.Moves.{one, one_to}
@@ -60,7 +60,7 @@ module _ (k : Config) (sv : Beside) (now : ℕ) (hs : List Msg) where
         go = λ N r. record {
           net = N;
           moves = Stays (at sv now (with_session s t) N);
-          ready = record { terms = r.terms; born = r.born; lasts = r.lasts; said = r.said; kept = record { queue = r.kept.queue; asked = r.kept.asked; told = r.kept.told; modes = r.kept.modes; quiet = r.kept.quiet }; heard = r.heard };
+          ready = record { terms = r.terms; born = r.born; lasts = r.lasts; said = r.said; kept = record { queue = r.kept.queue; asked = r.kept.asked; told = r.kept.told; modes = r.kept.modes; quiet = r.kept.quiet }; received = r.received };
         };
       }
 
@@ -72,7 +72,7 @@ module _ (k : Config) (sv : Beside) (now : ℕ) (hs : List Msg) where
         go = λ N r. record {
           net = N;
           moves = Stays (at sv now (with_session s t) N);
-          ready = record { terms = r.terms; born = r.born; lasts = r.lasts; said = r.said; kept = record { queue = r.kept.queue; asked = record {}; told = r.kept.told; modes = r.kept.modes; quiet = record {} }; heard = r.heard };
+          ready = record { terms = r.terms; born = r.born; lasts = r.lasts; said = r.said; kept = record { queue = r.kept.queue; asked = record {}; told = r.kept.told; modes = r.kept.modes; quiet = record {} }; received = r.received };
         };
       }
 
@@ -84,7 +84,7 @@ module _ (k : Config) (sv : Beside) (now : ℕ) (hs : List Msg) where
         frame = frame_more _ _ _ _ _ (λ x M n. record {}) (λ P. record {});
         go = λ N r. record {
           net = N;
-          moves = one (Renews (at sv now (with_session s t) N) stamp.0 (r.heard _ has) (alive k sv now hs t s N r) lt) refl;
+          moves = one (Renews (at sv now (with_session s t) N) stamp.0 (r.received _ has) (alive k sv now hs t s N r) lt) refl;
           ready =
               record {
                 terms = r.terms;
@@ -92,7 +92,7 @@ module _ (k : Config) (sv : Beside) (now : ℕ) (hs : List Msg) where
                 lasts = let y = r.lasts in omega arith;
                 said = said_both t.id.0 t.here.server t.out _ N r.said (record {});
                 kept = record { queue = r.kept.queue; asked = r.kept.asked; told = r.kept.told; modes = r.kept.modes; quiet = r.kept.quiet };
-                heard = r.heard;
+                received = r.received;
               };
         };
       }
@@ -175,7 +175,7 @@ module _ (k : Config) (sv : Beside) (now : ℕ) (hs : List Msg) where
                         modes = modes_filter _ s.locks.rows x.kept.modes;
                         quiet = x.kept.quiet;
                       };
-                  heard = x.heard;
+                  received = x.received;
                 };
           }
 
@@ -232,7 +232,7 @@ module _ (k : Config) (sv : Beside) (now : ℕ) (hs : List Msg) where
         frame = frame_same _ _ _ _;
         go = λ N r. record {
           net = N;
-          moves = one (Settles (at sv now (with_session s t) N) stamp (r.heard _ has) (alive k sv now hs t s N r)) refl;
+          moves = one (Settles (at sv now (with_session s t) N) stamp (r.received _ has) (alive k sv now hs t s N r)) refl;
           ready =
               record {
                 terms = r.terms;
@@ -240,7 +240,7 @@ module _ (k : Config) (sv : Beside) (now : ℕ) (hs : List Msg) where
                 lasts = r.lasts;
                 said = r.said;
                 kept = record { queue = r.kept.queue; asked = subst (λ o. Outstanding t.here.life.0 s.epoch.0 false o N) (sym no_one) (record {}); told = r.kept.told; modes = r.kept.modes; quiet = r.kept.quiet };
-                heard = r.heard;
+                received = r.received;
               };
         };
       }
@@ -429,8 +429,8 @@ module _ (k : Config) (sv : Beside) (now : ℕ) (hs : List Msg) where
         frame = frame_same _ _ _ _;
         go = λ N r. record {
           net = N;
-          moves = one (Adopts (at sv now (with_session s t) N) stamp epoch.0 (r.heard _ has) (alive k sv now hs t s N r) lt) refl;
-          ready = record { terms = r.terms; born = r.born; lasts = r.lasts; said = r.said; kept = record { queue = record {}; asked = record {}; told = record {}; modes = r.kept.modes; quiet = record {} }; heard = r.heard };
+          moves = one (Adopts (at sv now (with_session s t) N) stamp epoch.0 (r.received _ has) (alive k sv now hs t s N r) lt) refl;
+          ready = record { terms = r.terms; born = r.born; lasts = r.lasts; said = r.said; kept = record { queue = record {}; asked = record {}; told = record {}; modes = r.kept.modes; quiet = record {} }; received = r.received };
         };
       })
       (each_goes k sv now hs (is_asked t.here.server) (answers.Uncertain s.epoch.0 epoch.0) (with_session (cr.in_epoch epoch s) t))
@@ -462,7 +462,7 @@ module _ (k : Config) (sv : Beside) (now : ℕ) (hs : List Msg) where
             let le : now < stamp.0 + k.lease = subst (λ n. now < stamp.0 + n) r.terms lt in
             record {
               net = N;
-              moves = one (Begins (at sv now (no_session t) N) stamp.0 epoch.0 (r.heard _ has) refl le) refl;
+              moves = one (Begins (at sv now (no_session t) N) stamp.0 epoch.0 (r.received _ has) refl le) refl;
               ready =
                   record {
                     terms = r.terms;
@@ -470,7 +470,7 @@ module _ (k : Config) (sv : Beside) (now : ℕ) (hs : List Msg) where
                     lasts = le;
                     said = said_both t.id.0 t.here.server t.out _ N r.said (record {});
                     kept = record { queue = record {}; asked = record {}; told = record {}; modes = record {}; quiet = record {} };
-                    heard = r.heard;
+                    received = r.received;
                   };
             };
       }
@@ -483,11 +483,11 @@ module _ (k : Config) (sv : Beside) (now : ℕ) (hs : List Msg) where
       (λ x. goes_same k sv now hs (no_session t))
   none_goes t n h body e v = goes_same k sv now hs (no_session t)
 
-  -- hearing, at a server
-  pub hear_goes : (t : Turn) (n : Stamp) (h : Header) (body : Body) → n.0 ≡ now → (h.from ≡ server_node t.here.server → Fine body) → (h.from ≡ server_node t.here.server → Shows h.life h.epoch h.stamp (shown h.number body) hs) → Goes k sv now hs t (cr.receive_at n h body t)
+  -- receiving, at a server
+  pub receive_goes : (t : Turn) (n : Stamp) (h : Header) (body : Body) → n.0 ≡ now → (h.from ≡ server_node t.here.server → Fine body) → (h.from ≡ server_node t.here.server → Shows h.life h.epoch h.stamp (shown h.number body) hs) → Goes k sv now hs t (cr.receive_at n h body t)
   unfolding cr.receive_at cr.by_session
-  hear_goes t n h body e f v =
-      if_goes k sv now hs t (cr.is_heard t n h) _ t
+  receive_goes t n h body e f v =
+      if_goes k sv now hs t (cr.is_received t n h) _ t
       (λ x. let p = and_true (h.from == server_node t.here.server) _ x in
       let w = v (eqb-true _ _ p.0) in
       let l = eqb-true _ _ (and_true (h.life == t.here.life.0) _ p.1).0 in

@@ -23,12 +23,12 @@ use Rattle.st_protocol.specs.Assoc.{Config, Msg, Alive, Rests, Works}
 use Rattle.st_laws_refine.specs.Views.Messages.{shown}
 use Rattle.st_laws_refine.specs.Views.Halves.{held_at, busy_in, client_of}
 use Rattle.st_protocol.specs.Assoc.{Stays}
-use Rattle.st_laws_refine.specs.Client.Shown.{Losses, LostNote, at, Beside, Quiet, Said, Waiting, AllTold, Outstanding, KeptIn, Kept, Ready, Frame, Goes}
-use Rattle.st_laws_refine.proofs.Views.Moves.{moves_on, one, Grows, shows_more, heard_more}
+use Rattle.st_laws_refine.specs.Client.Invariants.{Losses, LostNote, at, Beside, Quiet, Said, Waiting, AllTold, Outstanding, KeptIn, Kept, Ready, Frame, Goes}
+use Rattle.st_laws_refine.proofs.Views.Moves.{moves_on, one, Grows, shows_more, received_more}
 
 pub said_more : (id : ℕ) (sv : ServerId) (os : List Output) (N M : List Msg) → Grows N M → Said id sv os N → Said id sv os M
 said_more id sv [] N M g s = s
-said_more id sv (outputs.Send m ∷ os) N M g s = record { from = s.from; one = λ e. heard_more m.header m.body N M g (s.one e); rest = said_more id sv os N M g s.rest }
+said_more id sv (outputs.Send m ∷ os) N M g s = record { from = s.from; one = λ e. received_more m.header m.body N M g (s.one e); rest = said_more id sv os N M g s.rest }
 said_more id sv (outputs.Submit c a w ∷ os) N M g s = said_more id sv os N M g s
 said_more id sv (outputs.Answer o a ∷ os) N M g s = said_more id sv os N M g s
 said_more id sv (outputs.Note n ∷ os) N M g s = said_more id sv os N M g s
@@ -80,7 +80,7 @@ ready_more k now hs t N M g r =
       lasts = r.lasts;
       said = said_more t.id.0 t.here.server t.out N M g r.said;
       kept = kept_any t.here.life.0 t.here.store t.here.session N M g r.kept;
-      heard = λ m i. g m (r.heard m i);
+      received = λ m i. g m (r.received m i);
     }
 
 false_of : (b x : Bool) → (b ≡ true → x ≡ true) → x ≡ false → b ≡ false
@@ -177,13 +177,13 @@ module _ (k : Config) (sv : Beside) (now : ℕ) (hs : List Msg) where
         go = λ N r. record {
           net = N;
           moves = Stays (at sv now t N);
-          ready = record { terms = r.terms; born = r.born; lasts = r.lasts; said = said_both t.id.0 t.here.server t.out out N r.said (f t.here.server N); kept = r.kept; heard = r.heard };
+          ready = record { terms = r.terms; born = r.born; lasts = r.lasts; said = said_both t.id.0 t.here.server t.out out N r.said (f t.here.server N); kept = r.kept; received = r.received };
         };
       }
 
   pub ops_goes : (t : Turn) (os : List Operation) → Goes k sv now hs t (record t { operations = os })
   ops_goes t os =
-      record { frame = frame_same _ _ _ _; go = λ N r. record { net = N; moves = Stays (at sv now t N); ready = record { terms = r.terms; born = r.born; lasts = r.lasts; said = r.said; kept = r.kept; heard = r.heard } } }
+      record { frame = frame_same _ _ _ _; go = λ N r. record { net = N; moves = Stays (at sv now t N); ready = record { terms = r.terms; born = r.born; lasts = r.lasts; said = r.said; kept = r.kept; received = r.received } } }
 
   pub each_goes : (picked : Operation → Bool) (answer : AppAnswer) (t : Turn) → Goes k sv now hs t (answer_each picked answer t)
   unfolding answer_each
@@ -197,7 +197,7 @@ module _ (k : Config) (sv : Beside) (now : ℕ) (hs : List Msg) where
         go = λ N r. record {
           net = N;
           moves = one (Rests (at sv now t N) (λ i. busy_in x i) h) refl;
-          ready = record { terms = r.terms; born = r.born; lasts = r.lasts; said = r.said; kept = kept_less t.here.life.0 t.here.store x t.here.session N h r.kept; heard = r.heard };
+          ready = record { terms = r.terms; born = r.born; lasts = r.lasts; said = r.said; kept = kept_less t.here.life.0 t.here.store x t.here.session N h r.kept; received = r.received };
         };
       }
 
@@ -217,7 +217,7 @@ module _ (k : Config) (sv : Beside) (now : ℕ) (hs : List Msg) where
                 lasts = r.lasts;
                 said = r.said;
                 kept = record { queue = r.kept.queue; asked = r.kept.asked; told = r.kept.told; modes = r.kept.modes; quiet = quiet_work t.here.store x s.cutting ino h free r.kept.quiet };
-                heard = r.heard;
+                received = r.received;
               };
         };
       }

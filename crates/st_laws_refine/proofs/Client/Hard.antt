@@ -29,7 +29,7 @@ use Rattle.st_rules.specs.FlatLog as log
 use Rattle.st_rules.specs.Disks as disks
 use Rattle.st_rules.specs.ClientState.{ClientState}
 use Rattle.st_rules.specs.World as world
-use Rattle.st_rules.specs.World.{World, ClientSite, site_of}
+use Rattle.st_rules.specs.World.{World, WorldClient, site_of}
 use Rattle.st_rules.specs.Server.{ServerNode}
 use Rattle.st_rules.specs.Events as ev
 use Rattle.st_rules.specs.Events.{WorldTurn, happens}
@@ -85,7 +85,7 @@ flushes_log c s (x ∷ ss) w = flushes_log c s ss (ev.flushed_at w c x s) ∙ in
     in_phase o (Some phases.Expired) = refl
     in_phase o None = refl
 
-hard_client : (w : World) (c : ClientId) (input : ClientInput) (site : ClientSite) → Kept_hard w.log (ev.client_takes w c input site).world.log
+hard_client : (w : World) (c : ClientId) (input : ClientInput) (site : WorldClient) → Kept_hard w.log (ev.client_takes w c input site).world.log
 unfolding ev.client_takes ev.client_took
 hard_client w c input site = go (cl.node_step site.node (world.clock_of w (nodes.Client c)) input)
   where
@@ -97,7 +97,7 @@ hard_client w c input site = go (cl.node_step site.node (world.clock_of w (nodes
         let d = told_all c site.node.state t.out (ev.world_turn v []) in
         subst (λ l. Kept_hard w.log l) (sym (flushes_log c t.node.state (world.all_servers sc.world) sc.world ∙ d.log)) (hard_logged c (ev.present_life v c) t.out w.log)
 
-hard_at_client : (w : World) (c : ClientId) (input : ClientInput) (o : Option ClientSite) → Kept_hard w.log (ev.at_client w c input o).world.log
+hard_at_client : (w : World) (c : ClientId) (input : ClientInput) (o : Option WorldClient) → Kept_hard w.log (ev.at_client w c input o).world.log
 unfolding ev.at_client
 hard_at_client w c input None = hard_same w.log
 hard_at_client w c input (Some site) = hard_client w c input site
@@ -130,7 +130,7 @@ hard_happens w (events.Tick (nodes.Client c)) = hard_at_client w c _ (site_of w 
 hard_happens w (events.Tick (nodes.Server s)) = hard_at_server w s _ (world.node_of w s)
 hard_happens w (events.App c ask) = go (site_of w c)
   where
-    go : (o : Option ClientSite) → Kept_hard w.log (ev.asks_at w c ask o).world.log
+    go : (o : Option WorldClient) → Kept_hard w.log (ev.asks_at w c ask o).world.log
     go None = hard_same w.log
     go (Some site) = hard_client w c _ (ev.asked_once_more site)
 hard_happens w (events.Deliver k) = go (world.message_of w k)
@@ -156,11 +156,11 @@ hard_happens w (events.Report k ok) = go (world.issued_of w k)
     v : World
     v = ev.with_disks (ev.disks_after w.disks (disks.done w.disks k ok)) w
 
-    same : (x : IssuedCommand) (site : ClientSite) (b : Bool) → Kept_hard w.log (if b then ev.client_takes v x.client (ev.end_told v k ok x) site else ev.quiet v).world.log
+    same : (x : IssuedCommand) (site : WorldClient) (b : Bool) → Kept_hard w.log (if b then ev.client_takes v x.client (ev.end_told v k ok x) site else ev.quiet v).world.log
     same x site true = hard_client v x.client (ev.end_told v k ok x) site
     same x site false = hard_same w.log
 
-    told : (x : IssuedCommand) (o : Option ClientSite) → Kept_hard w.log (ev.tells_client v k ok x o).world.log
+    told : (x : IssuedCommand) (o : Option WorldClient) → Kept_hard w.log (ev.tells_client v k ok x o).world.log
     told x None = hard_same w.log
     told x (Some site) = same x site (ev.is_same_instance x site)
 
@@ -169,7 +169,7 @@ hard_happens w (events.Report k ok) = go (world.issued_of w k)
     go (Some x) = told x (site_of v x.client)
 hard_happens w (events.Crash (nodes.Client c)) = go (site_of w c)
   where
-    go : (o : Option ClientSite) → Kept_hard w.log (ev.crashes_client w c o).world.log
+    go : (o : Option WorldClient) → Kept_hard w.log (ev.crashes_client w c o).world.log
     go None = hard_same w.log
     go (Some site) = hard_drop 1 (ev.is_of_crashed w c) (log.always causes.Crash) w.log
 hard_happens w (events.Crash (nodes.Server s)) = go (world.node_of w s)
@@ -179,7 +179,7 @@ hard_happens w (events.Crash (nodes.Server s)) = go (world.node_of w s)
     go (Some node) = hard_same w.log
 hard_happens w (events.Start (nodes.Client c)) = go (site_of w c)
   where
-    go : (o : Option ClientSite) → Kept_hard w.log (ev.starts_client w c o).log
+    go : (o : Option WorldClient) → Kept_hard w.log (ev.starts_client w c o).log
     go None = hard_same w.log
     go (Some site) = hard_same w.log
 hard_happens w (events.Start (nodes.Server s)) = go (world.node_of w s)

@@ -23,7 +23,7 @@ use Rattle.st_laws_refine.specs.Client.Law.{LifeEnds}
 use Rattle.st_protocol.specs.Assoc.{upd, end_now, Config, Msg, In, Loses}
 use Rattle.st_laws_refine.specs.Views.Halves.{client_of}
 use Rattle.st_protocol.specs.Assoc.{Stays}
-use Rattle.st_laws_refine.specs.Client.Shown.{at, Beside, Said, Kept, Losses, Leaves, Lasts, Result}
+use Rattle.st_laws_refine.specs.Client.Invariants.{at, Beside, Said, Kept, Losses, Leaves, Lasts, Result}
 use Rattle.st_laws_refine.proofs.Views.Moves.{one_to}
 use Rattle.st_laws_refine.proofs.Client.Goes.{losses_both, said_both}
 
@@ -33,7 +33,7 @@ pub record Begun (k : Config) (hs : List Msg) (t : Turn) (N : List Msg) : Type 0
   pub born : 1 ≤ t.here.life.0
   pub said : Said t.id.0 t.here.server t.out N
   pub kept : Kept t.here.life.0 t.here.store t.here.session N
-  pub heard : (m : Msg) → In m hs → In m N
+  pub received : (m : Msg) → In m hs → In m N
 
 living : (k : base.Config) (d n : Stamp) (c : Bool) → lease.must_discard (lease.standing_by (phase_living k d c n)) ≡ false
 unfolding phase_living phase_serving phase_young
@@ -111,7 +111,7 @@ module _ (k : Config) (sv : Beside) (n : Stamp) (hs : List Msg) where
     moves =
         one_to (at (after_loss (with_session s t)) n.0 (cl.lose_session (with_session s t) s) N) (Loses (at sv n.0 (with_session s t) N) refl (subst (λ x. s.lease.date.0 + x ≤ n.0) b.terms o)) refl
         (λ j. record { c = record (client_of (after_loss (with_session s t)).ended n.0 (cl.lose_session (with_session s t) s).here) { life = (sym e.life j).0 + 1 }; s = sv.s; net = N });
-    ready = record { terms = ap (λ (c : base.Config). c.lease) e.config ∙ b.terms; born = (let z = ap (λ (l : Life). l.0) e.life in omega arith); lasts = record {}; said = subst (λ y. Said y.0 u.here.server u.out N) (sym e.id_) (subst (λ x. Said t.id.0 x u.out N) (sym e.server) (e.said t.id.0 t.here.server N (said_both t.id.0 t.here.server t.out _ N b.said (record {})))); kept = record {}; heard = b.heard };
+    ready = record { terms = ap (λ (c : base.Config). c.lease) e.config ∙ b.terms; born = (let z = ap (λ (l : Life). l.0) e.life in omega arith); lasts = record {}; said = subst (λ y. Said y.0 u.here.server u.out N) (sym e.id_) (subst (λ x. Said t.id.0 x u.out N) (sym e.server) (e.said t.id.0 t.here.server N (said_both t.id.0 t.here.server t.out _ N b.said (record {})))); kept = record {}; received = b.received };
   }
     where
       v : Turn
@@ -143,7 +143,7 @@ module _ (k : Config) (sv : Beside) (n : Stamp) (hs : List Msg) where
       with_it o q = λ j. record t { here = record t.here { session = q j } }
 
       none : (u : Turn) → u.here.session ≡ None → Begun k hs u N → Loss u u N
-      none u q b = record { ended = sv.ended; ends = inl (record { lasts = subst (λ o. Lasts k.lease n.0 o) (sym q) (record {}); same = refl; life = omega arith }); result = record { net = N; moves = Stays (at sv n.0 u N); ready = record { terms = b.terms; born = b.born; lasts = subst (λ o. Lasts k.lease n.0 o) (sym q) (record {}); said = b.said; kept = b.kept; heard = b.heard } } }
+      none u q b = record { ended = sv.ended; ends = inl (record { lasts = subst (λ o. Lasts k.lease n.0 o) (sym q) (record {}); same = refl; life = omega arith }); result = record { net = N; moves = Stays (at sv n.0 u N); ready = record { terms = b.terms; born = b.born; lasts = subst (λ o. Lasts k.lease n.0 o) (sym q) (record {}); said = b.said; kept = b.kept; received = b.received } } }
 
       some : (s : ClientSession) (u : Turn) → Begun k hs (with_session s u) N → (b : Bool) → cl.is_over (with_session s u) s n ≡ b → Loss (with_session s u) (if b then cl.lose_session (with_session s u) s else with_session s u) N
       some s u b true e = record { ended = (after_loss (with_session s u)).ended; ends = inr (record { ended = refl; life = lost_life u s }); result = lost_goes u s N b (over (with_session s u) s n e) }
@@ -155,7 +155,7 @@ module _ (k : Config) (sv : Beside) (n : Stamp) (hs : List Msg) where
                 record {
                   net = N;
                   moves = Stays (at sv n.0 (with_session s u) N);
-                  ready = record { terms = b.terms; born = b.born; lasts = subst (λ x. n.0 < s.lease.date.0 + x) b.terms (not_over (with_session s u) s n e); said = b.said; kept = b.kept; heard = b.heard };
+                  ready = record { terms = b.terms; born = b.born; lasts = subst (λ x. n.0 < s.lease.date.0 + x) b.terms (not_over (with_session s u) s n e); said = b.said; kept = b.kept; received = b.received };
                 };
           }
 

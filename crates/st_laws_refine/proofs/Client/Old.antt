@@ -46,28 +46,28 @@ by_session t n h body (Some s) e =
     let p = and_true (not (h.epoch == s.epoch.0)) (not (safety.is_newer_epoch s h body)) e in
     if_false (h.epoch == s.epoch.0) _ _ (not_true _ p.0) ∙ other_epoch t s h body (not_true _ p.1)
 
-hears : (n : Stamp) (h : Header) (body : Body) (t : Turn) → safety.is_old_at h body t.here ≡ true → cr.receive_at n h body t ≡ t
+receives : (n : Stamp) (h : Header) (body : Body) (t : Turn) → safety.is_old_at h body t.here ≡ true → cr.receive_at n h body t ≡ t
 unfolding cr.receive_at
-hears n h body t e = go (cr.is_heard t n h) refl
+receives n h body t e = go (cr.is_received t n h) refl
   where
     third : (a b c : Bool) → (not a || (not b || c)) ≡ true → a ≡ true → b ≡ true → c ≡ true
     third true true c e f g = e
     third true false c e f g = cc
     third false b c e f g = cc
 
-    go : (b : Bool) → cr.is_heard t n h ≡ b → (if b then cr.by_session t n h body t.here.session else t) ≡ t
+    go : (b : Bool) → cr.is_received t n h ≡ b → (if b then cr.by_session t n h body t.here.session else t) ≡ t
     go false f = refl
     go true f =
         let p = and_true (h.from == server_node t.here.server) _ f in
         let q = and_true (h.life == t.here.life.0) (nat_le h.stamp n.0) p.1 in
         by_session t n h body t.here.session (third (h.from == server_node t.here.server) (h.life == t.here.life.0) (safety.is_old_for t.here.session h body) e p.0 q.0)
 
-these_hear : (n : Stamp) (h : Header) (body : Body) (list : List Association) (T : ClientTurn) → AllOld h body list → at_these (cr.receive_at n h body) list T ≡ with_associations (T.state.associations ++ list) T
+these_receive : (n : Stamp) (h : Header) (body : Body) (list : List Association) (T : ClientTurn) → AllOld h body list → at_these (cr.receive_at n h body) list T ≡ with_associations (T.state.associations ++ list) T
 unfolding at_these
-these_hear n h body [] T o = ap (λ x. with_associations x T) (sym (nothing_more T.state.associations))
-these_hear n h body (a ∷ rest) T o =
-    ap (λ r. at_these (cr.receive_at n h body) rest (leave T r)) (hears n h body (enter T a) o.one)
-    ∙ these_hear n h body rest (leave T (enter T a)) o.rest
+these_receive n h body [] T o = ap (λ x. with_associations x T) (sym (nothing_more T.state.associations))
+these_receive n h body (a ∷ rest) T o =
+    ap (λ r. at_these (cr.receive_at n h body) rest (leave T r)) (receives n h body (enter T a) o.one)
+    ∙ these_receive n h body rest (leave T (enter T a)) o.rest
     ∙ ap (λ x. with_associations x T) (append_assoc T.state.associations (a ∷ []) rest)
 
 pub law : safety.OldMessagesChangeNoClient
@@ -75,5 +75,5 @@ unfolding cl.take_input cr.receive cr.receive_here at_each
 law t n m e = go (m.header.to == t.state.id.0)
   where
     go : (b : Bool) → (if b then at_these (cr.receive_at n m.header m.body) t.state.associations (with_associations [] t) else t) ≡ t
-    go true = these_hear n m.header m.body t.state.associations (with_associations [] t) (all_old m.header m.body t.state.associations e)
+    go true = these_receive n m.header m.body t.state.associations (with_associations [] t) (all_old m.header m.body t.state.associations e)
     go false = refl

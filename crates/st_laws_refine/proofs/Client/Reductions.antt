@@ -18,7 +18,7 @@ use Rattle.st_protocol.specs.Assoc.{Config, Lock, Msg, msg, In, Demanded, Reduce
 use Rattle.st_protocol.specs.Assoc as net
 use Rattle.st_laws_refine.specs.Views.Messages.{released_to}
 use Rattle.st_laws_refine.specs.Views.Halves.{held_at, busy_in, client_of}
-use Rattle.st_laws_refine.specs.Client.Shown.{at, Beside, Told, AllTold, Ready, Result, Goes}
+use Rattle.st_laws_refine.specs.Client.Invariants.{at, Beside, Told, AllTold, Ready, Result, Goes}
 use Rattle.st_lemmas.proofs.Lookups.{some_is, found_ino}
 use Rattle.st_lemmas.proofs.Tables.{and_true, not_true}
 use Rattle.st_laws_refine.proofs.Views.Moves.{one_to}
@@ -101,7 +101,7 @@ module _ (k : Config) (sv : Beside) (now : ℕ) (hs : List Msg) where
                         modes = modes_put _ (held_lock ino l.g modes.S) s.locks.rows x.kept.modes (omega arith);
                         quiet = x.kept.quiet;
                       };
-                  heard = x.heard;
+                  received = x.received;
                 };
           }
 

@@ -19,7 +19,7 @@ use Rattle.st_protocol.specs.Assoc.{Config, no_lock, Msg, msg, In, upd, Installs
 use Rattle.st_protocol.specs.Assoc as net
 use Rattle.st_laws_refine.specs.Views.Halves.{held_at, client_of}
 use Rattle.st_protocol.specs.Assoc.{Moves, Stays}
-use Rattle.st_laws_refine.specs.Client.Shown.{at, Beside, Told, AllTold, HaveModes, Ready, Result, Goes}
+use Rattle.st_laws_refine.specs.Client.Invariants.{at, Beside, Told, AllTold, HaveModes, Ready, Result, Goes}
 use Rattle.st_lemmas.proofs.Lookups.{some_is, or_false}
 use Rattle.st_laws_refine.proofs.Views.Places.{put_at, cut_at}
 use Rattle.st_laws_refine.proofs.Views.Moves.{one_to}
@@ -83,7 +83,7 @@ module _ (k : Config) (sv : Beside) (now : ℕ) (hs : List Msg) where
         go = λ N r. record {
           net = N;
           moves = Stays (at sv now (with_session s t) N);
-          ready = record { terms = r.terms; born = r.born; lasts = r.lasts; said = r.said; kept = record { queue = r.kept.queue; asked = r.kept.asked; told = r.kept.told; modes = r.kept.modes; quiet = r.kept.quiet }; heard = r.heard };
+          ready = record { terms = r.terms; born = r.born; lasts = r.lasts; said = r.said; kept = record { queue = r.kept.queue; asked = r.kept.asked; told = r.kept.told; modes = r.kept.modes; quiet = r.kept.quiet }; received = r.received };
         };
       }
 
@@ -97,7 +97,7 @@ module _ (k : Config) (sv : Beside) (now : ℕ) (hs : List Msg) where
           net = N;
           moves =
               one_to (at sv now (with_session (cr.accept_grant s ino g mode) t) N)
-              (Installs (at sv now (with_session s t) N) stamp ino g.0 (number_of mode) (r.heard _ has) (alive k sv now hs t s N r) lt) refl
+              (Installs (at sv now (with_session s t) N) stamp ino g.0 (number_of mode) (r.received _ has) (alive k sv now hs t s N r) lt) refl
               (λ j. record {
                 c = record (client_of sv.ended now (with_session s t).here) {
                   held = λ d. sym (lock_set s.locks.rows (held_lock ino g mode) d) j;
@@ -120,7 +120,7 @@ module _ (k : Config) (sv : Beside) (now : ℕ) (hs : List Msg) where
                       modes = modes_put _ (held_lock ino g mode) s.locks.rows r.kept.modes some;
                       quiet = r.kept.quiet;
                     };
-                heard = r.heard;
+                received = r.received;
               };
         };
       }
@@ -138,7 +138,7 @@ module _ (k : Config) (sv : Beside) (now : ℕ) (hs : List Msg) where
               net = c ∷ N;
               moves =
                   one_to (at sv now (with_session (cr.decline s ino g) t) (c ∷ N))
-                  (Declines (at sv now (with_session s t) N) stamp ino g.0 (number_of mode) (r.heard _ has) (alive k sv now hs t s N r) lt zero) refl
+                  (Declines (at sv now (with_session s t) N) stamp ino g.0 (number_of mode) (r.received _ has) (alive k sv now hs t s N r) lt zero) refl
                   (λ j. record { c = record (client_of sv.ended now (with_session s t).here) { seen = λ d. sym (seen_set s.locks.seen ino g d) j }; s = sv.s; net = c ∷ N });
               ready =
                   record {
@@ -147,7 +147,7 @@ module _ (k : Config) (sv : Beside) (now : ℕ) (hs : List Msg) where
                     lasts = x.lasts;
                     said = x.said;
                     kept = record { queue = waiting_both _ _ s.releases _ (c ∷ N) x.kept.queue (record { one = inl refl; rest = record {} }); asked = x.kept.asked; told = x.kept.told; modes = x.kept.modes; quiet = x.kept.quiet };
-                    heard = x.heard;
+                    received = x.received;
                   };
             };
       }
@@ -188,7 +188,7 @@ module _ (k : Config) (sv : Beside) (now : ℕ) (hs : List Msg) where
               net = N;
               moves =
                   one_to (at sv now (with_session (st.with_cache (locks.demand_lock s.locks ino g to l).locks s) t) N)
-                  (Asked (at sv now (with_session s t) N) stamp ino g.0 (number_of to) (r.heard _ has) (alive k sv now hs t s N r)
+                  (Asked (at sv now (with_session s t) N) stamp ino g.0 (number_of to) (r.received _ has) (alive k sv now hs t s N r)
                   (subst (λ m. 1 ≤ m) same some) (subst (λ o. (held_at o).g ≤ g.0) (sym is) le)) refl
                   (λ j. record {
                     c = record (client_of sv.ended now (with_session s t).here) {
@@ -210,18 +210,18 @@ module _ (k : Config) (sv : Beside) (now : ℕ) (hs : List Msg) where
                           asked = r.kept.asked;
                           told =
                               told_last _ _ _ _ N (told_filter _ _ _ s.locks.demanded N r.kept.told)
-                              (record { stamp = stamp; g = g.0; to = number_of to; is = r.heard _ has });
+                              (record { stamp = stamp; g = g.0; to = number_of to; is = r.received _ has });
                           modes = modes_put _ (held_lock ino g l.mode) s.locks.rows r.kept.modes some;
                           quiet = r.kept.quiet;
                         };
-                    heard = r.heard;
+                    received = r.received;
                   };
             };
       }
 
-  see_goes : (t : Turn) (s : ClientSession) (ino : ℕ) (g : GrantNo) → Goes k sv now hs (with_session s t) (cr.see_demand (with_session s t) s ino g)
-  unfolding cr.see_demand send
-  see_goes t s ino g = record {
+  observe_goes : (t : Turn) (s : ClientSession) (ino : ℕ) (g : GrantNo) → Goes k sv now hs (with_session s t) (cr.observe_demand (with_session s t) s ino g)
+  unfolding cr.observe_demand send
+  observe_goes t s ino g = record {
     frame = frame_send _ _ _ _ _ refl refl;
     go = λ N r. record {
       net = N;
@@ -233,7 +233,7 @@ module _ (k : Config) (sv : Beside) (now : ℕ) (hs : List Msg) where
             lasts = r.lasts;
             said = said_both t.id.0 t.here.server t.out _ N r.said (record { from = refl; one = λ e. record { born = r.born; clients = refl; wishes = record {}; shows = record {} }; rest = record {} });
             kept = r.kept;
-            heard = r.heard;
+            received = r.received;
           };
     };
   }
@@ -245,7 +245,7 @@ module _ (k : Config) (sv : Beside) (now : ℕ) (hs : List Msg) where
       let c : Msg = msg t.here.life.0 s.epoch.0 0 (net.Released ino g.0 0) in
       let top : GrantNo = locks.greater_grant (seen_of s.locks ino) g in
       one_to (at sv now (with_session (st.with_cache (locks.observe s.locks ino top) s) t) (c ∷ N))
-      (AskedOfNone (at sv now (with_session s t) N) stamp ino g.0 (number_of to) (r.heard _ has) (alive k sv now hs t s N r) (ap (λ o. (held_at o).mode) is) top.0 (omega arith) (omega arith)) refl
+      (AskedOfNone (at sv now (with_session s t) N) stamp ino g.0 (number_of to) (r.received _ has) (alive k sv now hs t s N r) (ap (λ o. (held_at o).mode) is) top.0 (omega arith) (omega arith)) refl
       (λ j. record { c = record (client_of sv.ended now (with_session s t).here) { seen = λ d. sym (seen_set s.locks.seen ino top d) j }; s = sv.s; net = c ∷ N })
 
   unheld_goes : (t : Turn) (s : ClientSession) (stamp ino : ℕ) (g : GrantNo) (to : Mode) → In (msg t.here.life.0 s.epoch.0 stamp (net.Demand ino g.0 (number_of to))) hs → lock_of s.locks ino ≡ None →
@@ -266,7 +266,7 @@ module _ (k : Config) (sv : Beside) (now : ℕ) (hs : List Msg) where
           record {
             net = c ∷ N;
             moves = unheld_move t s stamp ino g to N r has is;
-            ready = record { terms = x.terms; born = x.born; lasts = x.lasts; said = x.said; kept = record { queue = x.kept.queue; asked = x.kept.asked; told = x.kept.told; modes = x.kept.modes; quiet = x.kept.quiet }; heard = x.heard };
+            ready = record { terms = x.terms; born = x.born; lasts = x.lasts; said = x.said; kept = record { queue = x.kept.queue; asked = x.kept.asked; told = x.kept.told; modes = x.kept.modes; quiet = x.kept.quiet }; received = x.received };
           }
 
       new : (N : List Msg) → Ready k now hs (with_session s t) N → Result k sv sv now hs (with_session s t) (with_session (st.with_release ino g modes.None u) t) N
@@ -282,16 +282,16 @@ module _ (k : Config) (sv : Beside) (now : ℕ) (hs : List Msg) where
                   lasts = x.lasts;
                   said = x.said;
                   kept = record { queue = waiting_both _ _ s.releases _ (c ∷ N) x.kept.queue (record { one = inl refl; rest = record {} }); asked = x.kept.asked; told = x.kept.told; modes = x.kept.modes; quiet = x.kept.quiet };
-                  heard = x.heard;
+                  received = x.received;
                 };
           }
 
   held_goes : (t : Turn) (s : ClientSession) (stamp ino : ℕ) (g : GrantNo) (to : Mode) (l : HeldLock) → In (msg t.here.life.0 s.epoch.0 stamp (net.Demand ino g.0 (number_of to))) hs → lock_of s.locks ino ≡ Some l →
       Goes k sv now hs (with_session s t) (cr.demand_by (with_session s t) s ino g (locks.demand_held s.locks ino g to l))
-  unfolding cr.demand_by cr.demand_as locks.demand_held locks.demand_lock locks.demand_stale cr.see_demand
+  unfolding cr.demand_by cr.demand_as locks.demand_held locks.demand_lock locks.demand_stale cr.observe_demand
   held_goes t s stamp ino g to l has is =
       if_within k sv now hs (with_session s t) (λ d. cr.demand_by (with_session s t) s ino g d) (nat_le l.g.0 g.0) _ _
-      (λ h. goes_then k sv now hs (with_session s t) (with_session u t) _ (mark_goes t s stamp ino g to l has is (leb-true _ _ h)) (see_goes t u ino g))
+      (λ h. goes_then k sv now hs (with_session s t) (with_session u t) _ (mark_goes t s stamp ino g to l has is (leb-true _ _ h)) (observe_goes t u ino g))
       (λ h. goes_same k sv now hs (with_session s t))
     where
       u : ClientSession

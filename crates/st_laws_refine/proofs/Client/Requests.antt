@@ -31,7 +31,7 @@ use Rattle.st_protocol.specs.Assoc as net
 use Rattle.st_laws_refine.specs.Views.Messages.{is_clients, epoch_shown, Wishes, released_to, shown, lock_in, lock_in_row, is_row_on, Shows, on_same_file}
 use Rattle.st_laws_refine.specs.Views.Halves.{held_at, busy_in, client_of}
 use Rattle.st_protocol.specs.Assoc.{Moves, Stays, GoesOn}
-use Rattle.st_laws_refine.specs.Client.Shown.{at, Beside, is_request, Waiting, Standing, Outstanding, Quiet, Ready, Result, Goes, HaveModes}
+use Rattle.st_laws_refine.specs.Client.Invariants.{at, Beside, is_request, Waiting, Standing, Outstanding, Quiet, Ready, Result, Goes, HaveModes}
 use Rattle.st_lemmas.proofs.Lookups.{if_true, if_false, some_is, found_ino}
 use Rattle.st_lemmas.specs.Lists.{Has, Rises}
 use Rattle.st_lemmas.proofs.Keys.{rising_rises}
@@ -318,7 +318,7 @@ module _ (k : Config) (sv : Beside) (n : Stamp) (hs : List Msg) where
               lasts = r.lasts;
               said = said_both t.id.0 t.here.server t.out _ M r.said (record { from = refl; one = λ e. record { born = r.born; clients = request_clients body q; wishes = wi; shows = subst (λ x. Shows t.here.life.0 x n.0 (shown s.requests.next body) M) (sym (request_epoch body s.epoch.0 q)) sh }; rest = record {} });
               kept = record { queue = r.kept.queue; asked = record { stamp = n.0; before = sh; request = q; wishes = wi; settled = du }; told = r.kept.told; modes = r.kept.modes; quiet = qu };
-              heard = r.heard;
+              received = r.received;
             };
       }
 
@@ -353,7 +353,7 @@ module _ (k : Config) (sv : Beside) (n : Stamp) (hs : List Msg) where
       go N r w =
           let x = ready_more k n.0 hs (with_session s t) N (c ∷ a ∷ N) (λ x i. inr (inr i)) r in
           let y : Ready k n.0 hs (with_session u t) (c ∷ a ∷ N) =
-          record { terms = x.terms; born = x.born; lasts = x.lasts; said = x.said; kept = record { queue = waiting_more _ _ rs N (c ∷ a ∷ N) (λ x i. inr (inr i)) w.rest; asked = x.kept.asked; told = x.kept.told; modes = x.kept.modes; quiet = x.kept.quiet }; heard = x.heard } in
+          record { terms = x.terms; born = x.born; lasts = x.lasts; said = x.said; kept = record { queue = waiting_more _ _ rs N (c ∷ a ∷ N) (λ x i. inr (inr i)) w.rest; asked = x.kept.asked; told = x.kept.told; modes = x.kept.modes; quiet = x.kept.quiet }; received = x.received } in
           let h = alive k sv n.0 hs t s N r in
           let z = requested t u N (c ∷ a ∷ N) (bodies.Released q.ino q.g q.to) None y refl (record {}) (λ x. du) (record {})
           (GoesOn (Asks (at sv n.0 (with_session u t) N) h) refl (one (Repeats (at sv n.0 (with_session u t) (a ∷ N)) 0 b (inr w.one) refl h) refl))
@@ -413,7 +413,7 @@ module _ (k : Config) (sv : Beside) (n : Stamp) (hs : List Msg) where
                   lasts = x.lasts;
                   said = said_both t.id.0 t.here.server t.out _ z.net x.said (record { from = refl; one = λ e. record { born = r.born; clients = request_clients q.body w.request; wishes = w.wishes; shows = subst (λ x. Shows t.here.life.0 x n.0 (shown q.number q.body) z.net) (sym (request_epoch q.body s.epoch.0 w.request)) z.shows }; rest = record {} });
                   kept = record { queue = x.kept.queue; asked = record { stamp = n.0; before = z.shows; request = w.request; wishes = w.wishes; settled = w.settled }; told = x.kept.told; modes = x.kept.modes; quiet = x.kept.quiet };
-                  heard = x.heard;
+                  received = x.received;
                 };
           }
 
@@ -497,7 +497,7 @@ module _ (k : Config) (sv : Beside) (n : Stamp) (hs : List Msg) where
                     lasts = x.lasts;
                     said = said_both t.id.0 t.here.server t.out _ (c ∷ N) x.said (record { from = refl; one = λ e. record { born = r.born; clients = refl; wishes = record {}; shows = record { one = inl refl; rest = record {} } }; rest = record {} });
                     kept = x.kept;
-                    heard = x.heard;
+                    received = x.received;
                   };
             };
       }

@@ -16,10 +16,10 @@ use Rattle.st_rules.specs.ClientReplies as cr
 use Rattle.st_rules.specs.ClientPasses as cp
 use Rattle.st_rules.specs.Client as cl
 use Rattle.st_rules.specs.World as world
-use Rattle.st_rules.specs.World.{World, ClientSite, site_of, numbered, clock_of, all_servers}
+use Rattle.st_rules.specs.World.{World, WorldClient, site_of, numbered, clock_of, all_servers}
 use Rattle.st_rules.specs.Events as ev
 use Rattle.st_rules.specs.Events.{WorldTurn}
-use Rattle.st_laws_refine.specs.Client.Shown.{Said}
+use Rattle.st_laws_refine.specs.Client.Invariants.{Said}
 use Rattle.st_laws_refine.specs.Client.Law.{ClientResult, ClientStep, Comes}
 use Rattle.st_laws_refine.specs.Client.World.{lost_life, lost_lives, stepped, site_left, WorldLeft, OwnAssociationsMove, OtherAssociationsStay}
 use Rattle.st_laws_refine.proofs.Client.Steps.{step_moves}
@@ -60,7 +60,7 @@ ended_one c before (outputs.Send m) sc = (refl, sym (nothing_more sc.world.ended
 ended_one c before (outputs.Answer op a) sc = (refl, sym (nothing_more sc.world.ended))
 ended_one c before (outputs.Submit n at what) sc = go (site_of sc.world c)
   where
-    go : (o : Option ClientSite) → ((ev.submits sc c o n at what).world.config ≡ sc.world.config) × ((ev.submits sc c o n at what).world.ended ≡ sc.world.ended ++ [])
+    go : (o : Option WorldClient) → ((ev.submits sc c o n at what).world.config ≡ sc.world.config) × ((ev.submits sc c o n at what).world.ended ≡ sc.world.ended ++ [])
     go None = (refl, sym (nothing_more sc.world.ended))
     go (Some s) = (refl, sym (nothing_more sc.world.ended))
 ended_one c before (outputs.Note n) sc = note n
@@ -112,7 +112,7 @@ step_id s now input =
     let T : ClientTurn = cl.losses (st.client_turn s []) now in
     each_id (cp.passes now (cl.is_tick input)) (cl.take_input T now input) ∙ input_id T now input ∙ each_id (cl.lose now) (st.client_turn s [])
 
-pub world_is : (w : World) (c : ClientId) (site : ClientSite) (input : ClientInput) → WorldLeft w c site input
+pub world_is : (w : World) (c : ClientId) (site : WorldClient) (input : ClientInput) → WorldLeft w c site input
 unfolding ev.client_took
 world_is w c site input =
     let t : ClientTurn = stepped w c site input in

@@ -24,11 +24,11 @@ use Rattle.st_protocol.specs.Assoc.{Config, no_row, Msg, msg, In}
 use Rattle.st_protocol.specs.Assoc as net
 use Rattle.st_laws_refine.specs.Views.Messages.{Fine, shown, Shows}
 use Rattle.st_protocol.specs.Assoc.{Stays}
-use Rattle.st_laws_refine.specs.Client.Shown.{Beside, Said, Kept, Ready, Losses, Leaves, Frame, Result, Goes}
-use Rattle.st_laws_refine.specs.Client.Law.{HeardOf, LifeEnds, Apart, Place, ClientResult, ClientStep, Comes, ClientStepsAreMoves, IsOver, LostLeasesAreOver}
+use Rattle.st_laws_refine.specs.Client.Invariants.{Beside, Said, Kept, Ready, Losses, Leaves, Frame, Result, Goes}
+use Rattle.st_laws_refine.specs.Client.Law.{ReceivedOf, LifeEnds, Apart, Place, ClientResult, ClientStep, Comes, ClientStepsAreMoves, IsOver, LostLeasesAreOver}
 use Rattle.st_laws_refine.proofs.Views.Moves.{lives_up, moves_on, shows_more}
 use Rattle.st_laws_refine.proofs.Client.Goes.{losses_both, said_both, goes_same, goes_then, if_goes}
-use Rattle.st_laws_refine.proofs.Client.Effects.{hear_goes}
+use Rattle.st_laws_refine.proofs.Client.Effects.{receive_goes}
 use Rattle.st_laws_refine.proofs.Client.Reductions.{reductions_goes}
 use Rattle.st_laws_refine.proofs.Client.Requests.{requests_goes, greeting_goes}
 use Rattle.st_laws_refine.proofs.Client.Work.{operations_goes, writes_goes, finish_goes, take_goes}
@@ -87,7 +87,7 @@ module _ (k : Config) (sv : Beside) (now : ℕ) (hs : List Msg) (own : ServerId)
         lasts = r.lasts;
         said = subst (λ x. Said U.state.id.0 x U.out N) (sym e) (s N (subst (λ x. Said T.state.id.0 x T.out N) e r.said));
         kept = r.kept;
-        heard = r.heard;
+        received = r.received;
       }
 
   -- the rule at each association
@@ -119,12 +119,12 @@ module _ (k : Config) (sv : Beside) (now : ℕ) (hs : List Msg) (own : ServerId)
         moves = r.moves;
         place = record { before = v.added; after = w.added; is = w.is ∙ ap (λ x. (x ++ (rule (enter V a)).here ∷ []) ++ w.added) v.is ∙ append_assoc v.added ((rule (enter V a)).here ∷ []) w.added; here = fr.server ∙ p.here; apart_before = v.apart; apart_after = w.apart };
         ready = ready_at W (at_these rule p.after W) (rule (enter V a)).here r.net w.config (fr.server ∙ p.here) w.said
-            (record { terms = ap (λ (x : base.Config). x.lease) (sym fr.config) ∙ r.ready.terms; born = r.ready.born; lasts = r.ready.lasts; said = subst (λ i. Said i (rule (enter V a)).here.server (rule (enter V a)).out r.net) fr.id_ r.ready.said; kept = r.ready.kept; heard = r.ready.heard });
+            (record { terms = ap (λ (x : base.Config). x.lease) (sym fr.config) ∙ r.ready.terms; born = r.ready.born; lasts = r.ready.lasts; said = subst (λ i. Said i (rule (enter V a)).here.server (rule (enter V a)).out r.net) fr.id_ r.ready.said; kept = r.ready.kept; received = r.ready.received });
       }
 
   -- the turns before the rule, at this server
   at_own : (T : ClientTurn) (V : ClientTurn) (a : Association) (N : List Msg) → a.server ≡ own → Passed own (with_associations [] T) V → Ready k now hs (enter T a) N → Ready k now hs (enter V a) N
-  at_own T V a N e v r = ready_at (with_associations [] T) V a N v.config e v.said (record { terms = r.terms; born = r.born; lasts = r.lasts; said = r.said; kept = r.kept; heard = r.heard })
+  at_own T V a N e v r = ready_at (with_associations [] T) V a N v.config e v.said (record { terms = r.terms; born = r.born; lasts = r.lasts; said = r.said; kept = r.kept; received = r.received })
 
   pub each_at : (rule : Turn → Turn) → Framed rule → (T : ClientTurn) (a : Association) (N : List Msg) → Place own T.state.associations a →
       ((V : ClientTurn) → Passed own (with_associations [] T) V → Result k sv sv now hs (enter V a) (rule (enter V a)) N) → ClientResult k sv sv now hs own a (at_each rule T) N
@@ -162,15 +162,15 @@ module _ (k : Config) (sv : Beside) (now : Stamp) (hs : List Msg) (own : ServerI
       (goes_then k sv now.0 hs v w _ (writes_goes k sv now.0 hs now tick v)
       (goes_then k sv now.0 hs w x _ (greeting_goes k sv now hs w tick) (requests_goes k sv now hs x tick))))
 
-  hear_frame : (h : Header) (body : Body) → ((x : ServerId) → h.from ≡ server_node x → Fine body) → Framed (cr.receive_at now h body)
-  hear_frame h body f t = leaves (hear_goes k sv now.0 (map (msg h.life h.epoch h.stamp) (shown h.number body)) t now h body refl (λ e. f t.here.server e) (λ e. shows_self h.life h.epoch h.stamp (shown h.number body))).frame
+  receive_frame : (h : Header) (body : Body) → ((x : ServerId) → h.from ≡ server_node x → Fine body) → Framed (cr.receive_at now h body)
+  receive_frame h body f t = leaves (receive_goes k sv now.0 (map (msg h.life h.epoch h.stamp) (shown h.number body)) t now h body refl (λ e. f t.here.server e) (λ e. shows_self h.life h.epoch h.stamp (shown h.number body))).frame
 
   only_goes : (s : ServerId) (op : ℕ) (ask : Ask) (t : Turn) → Goes k sv now.0 hs t (st.only_at s (cl.take_ask op ask) t)
   unfolding st.only_at
   only_goes s op ask t = if_goes k sv now.0 hs t (st.is_at s t.here) _ t (λ h. take_goes k sv now.0 hs op ask t) (λ h. goes_same k sv now.0 hs t)
 
   at_once : (T : ClientTurn) (op : ℕ) (x : AppAnswer) (a : Association) (N : List Msg) → Place own T.state.associations a → Ready k now.0 hs (enter T a) N → ClientResult k sv sv now.0 hs own a (cl.answered_at_once T op x) N
-  at_once T op x a N p r = record { last = a; net = N; moves = Stays _; place = p; ready = record { terms = r.terms; born = r.born; lasts = r.lasts; said = said_both T.state.id.0 a.server T.out _ N r.said (record {}); kept = r.kept; heard = r.heard } }
+  at_once T op x a N p r = record { last = a; net = N; moves = Stays _; place = p; ready = record { terms = r.terms; born = r.born; lasts = r.lasts; said = said_both T.state.id.0 a.server T.out _ N r.said (record {}); kept = r.kept; received = r.received } }
 
   input_goes : (T : ClientTurn) (input : ClientInput) (a : Association) (N : List Msg) → Place own T.state.associations a → Ready k now.0 hs (enter T a) N → Comes own T.state.id.0 input hs → ClientResult k sv sv now.0 hs own a (cl.take_input T now input) N
   unfolding cl.take_input cl.app cl.app_known cl.done cr.receive cr.receive_here
@@ -182,8 +182,8 @@ module _ (k : Config) (sv : Beside) (now : Stamp) (hs : List Msg) (own : ServerI
       (λ e. at_once T op answers.NoFile a N p r))
   input_goes T (inputs.Control m) a N p r c =
       if_result k sv now.0 hs own a N (m.header.to == T.state.id.0) _ T
-      (λ h. each_goes_at k sv now.0 hs own (cr.receive_at now m.header m.body) (hear_frame m.header m.body c.fine) T a N p r
-      (λ t q. hear_goes k sv now.0 hs t now m.header m.body refl (λ e. c.fine t.here.server e) (λ e. c.shows (e ∙ ap (λ v. server_node v) q) (eqb-true _ _ h))))
+      (λ h. each_goes_at k sv now.0 hs own (cr.receive_at now m.header m.body) (receive_frame m.header m.body c.fine) T a N p r
+      (λ t q. receive_goes k sv now.0 hs t now m.header m.body refl (λ e. c.fine t.here.server e) (λ e. c.shows (e ∙ ap (λ v. server_node v) q) (eqb-true _ _ h))))
       (λ h. result_same k sv now.0 hs own T a N p r)
   input_goes T (inputs.Done number result) a N p r c = each_goes_at k sv now.0 hs own (cl.finish number result) (λ t. leaves (finish_goes k sv now.0 hs number result t).frame) T a N p r (λ t q. finish_goes k sv now.0 hs number result t)
 
@@ -193,7 +193,7 @@ module _ (k : Config) (sv : Beside) (now : Stamp) (hs : List Msg) (own : ServerI
       let T : ClientTurn = st.client_turn s [] in
       let V : ClientTurn = at_these (cl.lose now) p.before (with_associations [] T) in
       let v : Passed own (with_associations [] T) V = passed own (cl.lose now) (lose_frame now) p.before (with_associations [] T) p.apart_before in
-      let l = lose_goes k sv now hs (enter V a) N (record { terms = ap (λ (x : base.Config). x.lease) v.config ∙ le; born = pos; said = subst (λ x. Said V.state.id.0 x V.out N) (sym p.here) (v.said N (record {})); kept = kept; heard = g }) in
+      let l = lose_goes k sv now hs (enter V a) N (record { terms = ap (λ (x : base.Config). x.lease) v.config ∙ le; born = pos; said = subst (λ x. Said V.state.id.0 x V.out N) (sym p.here) (v.said N (record {})); kept = kept; received = g }) in
       record { ended = l.ended; ends = l.ends; result = each_once k sv now.0 hs own (record { s = sv.s; ended = l.ended }) (cl.lose now) (lose_frame now) T a N p l.result }
 
   -- the id stays
@@ -231,7 +231,7 @@ module _ (k : Config) (sv : Beside) (now : Stamp) (hs : List Msg) (own : ServerI
       lost_these P lease xs (leave T (cl.lose now (enter T x))) c (λ y h s e o. f y (inr h) s e o)
       (lose_losses P now (enter T x) (λ s e o. f x (inl refl) s e (subst (λ n. s.lease.date.0 + n ≤ now.0) c o)) l)
 
-  input_losses : (P : ServerId → Life → Type 0) (T : ClientTurn) (input : ClientInput) → HeardOf input → Losses P T.out → Losses P (cl.take_input T now input).out
+  input_losses : (P : ServerId → Life → Type 0) (T : ClientTurn) (input : ClientInput) → ReceivedOf input → Losses P T.out → Losses P (cl.take_input T now input).out
   unfolding cl.take_input cl.app cl.app_known cl.done cr.receive cr.receive_here
   input_losses P T inputs.Tick f l = l
   input_losses P T (inputs.App op ask) f l =
@@ -240,11 +240,11 @@ module _ (k : Config) (sv : Beside) (now : Stamp) (hs : List Msg) (own : ServerI
       (λ e. each_losses P (st.only_at (st.server_of ask) (cl.take_ask op ask)) (λ t. (only_goes (st.server_of ask) op ask t).frame.lost P) T l) (λ e. losses_both P T.out _ l (record {})))
   input_losses P T (inputs.Control m) f l =
       if_losses P (m.header.to == T.state.id.0) _ T
-      (λ h. each_losses P (cr.receive_at now m.header m.body) (λ t. (hear_goes k sv now.0 (map (msg m.header.life m.header.epoch m.header.stamp) (shown m.header.number m.body)) t now m.header m.body refl (λ e. f t.here.server e) (λ e. shows_self m.header.life m.header.epoch m.header.stamp (shown m.header.number m.body))).frame.lost P) T l)
+      (λ h. each_losses P (cr.receive_at now m.header m.body) (λ t. (receive_goes k sv now.0 (map (msg m.header.life m.header.epoch m.header.stamp) (shown m.header.number m.body)) t now m.header m.body refl (λ e. f t.here.server e) (λ e. shows_self m.header.life m.header.epoch m.header.stamp (shown m.header.number m.body))).frame.lost P) T l)
       (λ h. l)
   input_losses P T (inputs.Done number result) f l = each_losses P (cl.finish number result) (λ t. (finish_goes k sv now.0 hs number result t).frame.lost P) T l
 
-  pub step_losses : (P : ServerId → Life → Type 0) (s : ClientState) (input : ClientInput) → HeardOf input → ((x : Association) → Has x s.associations → (ss : ClientSession) → x.session ≡ Some ss → ss.lease.date.0 + s.config.lease ≤ now.0 → P x.server x.life) → Losses P (cl.client_step s now input).out
+  pub step_losses : (P : ServerId → Life → Type 0) (s : ClientState) (input : ClientInput) → ReceivedOf input → ((x : Association) → Has x s.associations → (ss : ClientSession) → x.session ≡ Some ss → ss.lease.date.0 + s.config.lease ≤ now.0 → P x.server x.life) → Losses P (cl.client_step s now input).out
   unfolding cl.client_step cl.work cl.losses at_each
   step_losses P s input f h =
       let T : ClientTurn = cl.losses (st.client_turn s []) now in

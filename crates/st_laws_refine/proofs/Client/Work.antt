@@ -42,7 +42,7 @@ use Rattle.st_rules.specs.Client as cl
 use Rattle.st_protocol.specs.Assoc.{Config, Msg}
 use Rattle.st_laws_refine.specs.Views.Halves.{held_at, busy_in}
 use Rattle.st_protocol.specs.Assoc.{Stays}
-use Rattle.st_laws_refine.specs.Client.Shown.{at, Beside, Goes}
+use Rattle.st_laws_refine.specs.Client.Invariants.{at, Beside, Goes}
 use Rattle.st_lemmas.proofs.Lookups.{some_is, any_filter, any_last, or_false, or_cases, or_left, or_right}
 use Rattle.st_lemmas.proofs.Tables.{and_true, not_true}
 use Rattle.st_laws_refine.proofs.Client.Goes.{is_loss, no_loss, frame_more, said_both, goes_same, goes_then, if_goes, aside_goes, ops_goes, each_goes, rests_goes, works_goes}
@@ -319,7 +319,7 @@ module _ (k : Config) (sv : Beside) (now : ℕ) (hs : List Msg) where
   -- asks
   lost_goes : (t : Turn) (lost : List LostPage) (op : ℕ) (a : AppAnswer) → Goes k sv now hs t (st.answered (st.with_lost_rows lost t) op a)
   lost_goes t lost op a =
-      record { frame = frame_more _ _ _ _ _ (λ x M n. record {}) (λ P. record {}); go = λ N r. record { net = N; moves = Stays (at sv now t N); ready = record { terms = r.terms; born = r.born; lasts = r.lasts; said = said_both t.id.0 t.here.server t.out _ N r.said (record {}); kept = r.kept; heard = r.heard } } }
+      record { frame = frame_more _ _ _ _ _ (λ x M n. record {}) (λ P. record {}); go = λ N r. record { net = N; moves = Stays (at sv now t N); ready = record { terms = r.terms; born = r.born; lasts = r.lasts; said = said_both t.id.0 t.here.server t.out _ N r.said (record {}); kept = r.kept; received = r.received } } }
 
   pub take_goes : (op : ℕ) (ask : Ask) (t : Turn) → Goes k sv now hs t (cl.take_ask op ask t)
   unfolding cl.take_ask cl.take_by cl.take_sync cl.tell_lost cl.enqueue

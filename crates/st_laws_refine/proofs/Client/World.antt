@@ -8,7 +8,7 @@ use Rattle.st_messages.specs.declared.output.Note.TheVariants as notes
 use Rattle.st_messages.specs.declared.output.Output.{Output}
 use Rattle.st_messages.specs.declared.output.Output.TheVariants as outputs
 use Rattle.st_rules.specs.ClientState.{ClientState}
-use Rattle.st_rules.specs.World.{World, ClientSite, site_of, numbered}
+use Rattle.st_rules.specs.World.{World, WorldClient, site_of, numbered}
 use Rattle.st_rules.specs.Events as ev
 use Rattle.st_rules.specs.Events.{WorldTurn, client_says, client_says_all, client_notes, present_life}
 use Rattle.st_laws_refine.specs.Client.World.{logged, sent, Told}
@@ -20,7 +20,7 @@ told_one c before (outputs.Send m) sc = record { clients = refl; servers = refl;
 told_one c before (outputs.Answer op a) sc = record { clients = refl; servers = refl; clocks = refl; messages = sym (nothing_more sc.world.net.messages); log = refl }
 told_one c before (outputs.Submit n at what) sc = go (site_of sc.world c)
   where
-    go : (o : Option ClientSite) → Told c (outputs.Submit n at what ∷ []) sc.world (ev.submits sc c o n at what).world
+    go : (o : Option WorldClient) → Told c (outputs.Submit n at what ∷ []) sc.world (ev.submits sc c o n at what).world
     go None = record { clients = refl; servers = refl; clocks = refl; messages = sym (nothing_more sc.world.net.messages); log = refl }
     go (Some s) = record { clients = refl; servers = refl; clocks = refl; messages = sym (nothing_more sc.world.net.messages); log = refl }
 told_one c before (outputs.Note n) sc = note n

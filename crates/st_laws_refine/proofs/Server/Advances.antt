@@ -14,7 +14,7 @@ use Rattle.st_rules.specs.ClientState.{Association}
 use Rattle.st_rules.specs.Client.{association_with}
 use Rattle.st_rules.specs.Grace as grace
 use Rattle.st_rules.specs.Server.{ServerNode}
-use Rattle.st_rules.specs.World.{World, ClientSite, numbered, site_of, clock_of, server, stamp}
+use Rattle.st_rules.specs.World.{World, WorldClient, numbered, site_of, clock_of, server, stamp}
 use Rattle.st_rules.specs.Admissible.{refusal, clocks_refused}
 use Rattle.st_rules.specs.Events.{WorldTurn, counted, with_log, with_clocks, drift_with, advanced, advances, marks, log_ended_all, lives_reached, happens, world_step}
 use Rattle.st_rules.specs.Leases.{drift_after}
@@ -31,7 +31,7 @@ use Rattle.st_laws_refine.specs.Server.Paths.{Leads, Path, SteppedOn}
 use Rattle.st_laws_refine.proofs.Server.Clocks.{Rated, accepted, clock_after}
 use Rattle.st_laws_refine.proofs.Server.Delivery.{sound_of}
 use Rattle.st_laws_refine.proofs.Server.Epochs as epochs
-use Rattle.st_laws_refine.specs.Server.Stands.{pairs, Stands}
+use Rattle.st_laws_refine.specs.Server.Invariants.{pairs, Stands}
 
 -- a clock after an advance, by its place from 1
 clock_on : (steps : List ℕ) (clocks : List Stamp) (p : ℕ) → 1 ≤ p → p ≤ length clocks → length steps ≡ length clocks →
@@ -117,7 +117,7 @@ module _ (k : Config) (s : ℕ) (ended : ℕ → ℕ → ℕ) (w : World) (node 
   Ds = slice_index steps (pred (length w.clients + s))
 
   -- the drift of a client after the advance
-  abbrev drift_now : ℕ → Option ClientSite → ℕ
+  abbrev drift_now : ℕ → Option WorldClient → ℕ
   drift_now c None = 0
   drift_now c (Some site) = drift_between V c s
 
@@ -147,7 +147,7 @@ module _ (k : Config) (s : ℕ) (ended : ℕ → ℕ → ℕ) (w : World) (node 
     limit c = (invariant k (pairs s ended w node G) b.ok b.stands.reached c).timing_.limit
 
     -- what the accepted advance says of the server and a client
-    rated : (c : ℕ) (site : ClientSite) → site_of w (client c) ≡ Some site → Rated w steps (length w.clocks) (pred (length w.clients + s)) (pred c)
+    rated : (c : ℕ) (site : WorldClient) → site_of w (client c) ≡ Some site → Rated w steps (length w.clocks) (pred (length w.clients + s)) (pred c)
     rated c site e =
         let z = numbered_below w.clients c site e in let t = there in let n = b.timed.count in let p = b.pos in
         accepted w steps (length w.clocks) (pred (length w.clients + s)) (pred c) b.accepted b.full square (omega arith) (omega arith)
@@ -164,7 +164,7 @@ module _ (k : Config) (s : ℕ) (ended : ℕ → ℕ → ℕ) (w : World) (node 
         at : net.Client → ℕ → ℕ → Bool → Assoc
         at cl clock e x = record { c = cl; s = record (half_of (client c) Now node.running node.state (G c)) { clock = clock; drift = e }; net = (G c).net }
 
-        go : (o : Option ClientSite) → site_of w (client c) ≡ o →
+        go : (o : Option WorldClient) → site_of w (client c) ≡ o →
             Move k (record { c = client_at_site w c s (ended c) o; s = half_of (client c) Now node.running node.state (G c); net = (G c).net })
             (record { c = client_at_site V c s (ended c) o; s = record (half_of (client c) Later node.running node.state (record (G c) { drift = drift_now c o })) { grace = grace.is_on node.state.grace Now }; net = (G c).net })
         go (Some site) e =

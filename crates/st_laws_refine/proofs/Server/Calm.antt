@@ -22,14 +22,14 @@ use Rattle.st_rules.specs.ServerInvariants.{are_once, same_row}
 use Rattle.st_rules.specs.Sessions as sessions
 use Rattle.st_rules.specs.Sessions.{Sessions}
 use Rattle.st_rules.specs.Grace as grace
-use Rattle.st_rules.specs.Server.{ServerState, Turn, sender, life_in, reply, tell, steal_from, suspect_client, keep_and_reply, refused_reassertion, server_step, crash, start, begin_epoch, fresh_server}
+use Rattle.st_rules.specs.Server.{ServerState, ServerTurn, sender, life_in, reply, tell, steal_from, suspect_client, keep_and_reply, refused_reassertion, server_step, crash, start, begin_epoch, fresh_server}
 use Rattle.st_rules.specs.Safety.{is_conflict}
 use Rattle.st_laws_refine.specs.Views.Messages.{on_same_file}
 use Rattle.st_lemmas.specs.Lists.{Has}
 use Rattle.st_lemmas.proofs.Tables.{cond_either, found_at, has_map}
 use Rattle.st_lemmas.proofs.Once.{once_none}
 use Rattle.st_lemmas.proofs.Puts.{has_put}
-use Rattle.st_laws_refine.specs.Server.Stands.{CalmState, Calm}
+use Rattle.st_laws_refine.specs.Server.Invariants.{CalmState, Calm}
 use Rattle.st_laws_refine.specs.Server.Edits.{WishInput, InGrace, Edit, TakesTimers, Steals, Suspects, Begins, DropsWaits, Keeps, Reasserts, Sees, Acquires, Releases, DropsFile, Grants, Demands, NamesChange, ExtentsChange, Cuts, Replies, Repeats, Refuses, TellsGrant, TellsDemand}
 use Rattle.st_laws_refine.proofs.Server.Walk.{kept_calm, walk}
 use Rattle.st_laws_refine.proofs.Server.OneRow.{OnceEach, forget_once, drop_once, file_once, seen_once, demanded_once, released_once, granted_once, acquired_once, installed_once}
@@ -79,18 +79,18 @@ kept_found t c s last b k e f = subst (λ st. CalmState st) f (k s (found_at (se
 
 -- what is owed of a reassertion in grace: its files differ, its client has no row, and it is refused for no conflict
 pub record Reassertions (n : ServerState) (now : Stamp) (i : ServerInput) : Type 0 where
-  pub differ : (t : Turn) (m : Message) (rows : List (ℕ × GrantNo × Mode)) → i ≡ Control m → InGrace n now t m rows → are_once on_same_file rows ≡ true
-  pub none : (t : Turn) (m : Message) (rows : List (ℕ × GrantNo × Mode)) → i ≡ Control m → InGrace n now t m rows → (ino : ℕ) → row_of t.state.locks (sender m.header) ino ≡ None
-  pub calm : (t : Turn) (m : Message) (rows : List (ℕ × GrantNo × Mode)) (r : AcceptRefusal) → i ≡ Control m → InGrace n now t m rows → OnceEach t.state.locks →
+  pub differ : (t : ServerTurn) (m : Message) (rows : List (ℕ × GrantNo × Mode)) → i ≡ Control m → InGrace n now t m rows → are_once on_same_file rows ≡ true
+  pub none : (t : ServerTurn) (m : Message) (rows : List (ℕ × GrantNo × Mode)) → i ≡ Control m → InGrace n now t m rows → (ino : ℕ) → row_of t.state.locks (sender m.header) ino ≡ None
+  pub calm : (t : ServerTurn) (m : Message) (rows : List (ℕ × GrantNo × Mode)) (r : AcceptRefusal) → i ≡ Control m → InGrace n now t m rows → OnceEach t.state.locks →
       grace.accept t.state.grace now (sender m.header) (life_in m.header) rows t.state.locks t.state.sessions ≡ Err r → is_conflict (refused_reassertion r) ≡ false
 
-pub record CalmTurn (n : ServerState) (now : Stamp) (t : Turn) : Type 0 where
+pub record CalmTurn (n : ServerState) (now : Stamp) (t : ServerTurn) : Type 0 where
   pub same : t.state.grace ≡ n.grace
   pub once : OnceEach t.state.locks
   pub kept : (s : Session) → Has s t.state.sessions.rows → CalmState s.state
   pub calm : AllCalm t.out
 
-calm_edit : (n : ServerState) (now : Stamp) (i : ServerInput) → Reassertions n now i → (t u : Turn) → Edit n now i t u → CalmTurn n now t → CalmTurn n now u
+calm_edit : (n : ServerState) (now : Stamp) (i : ServerInput) → Reassertions n now i → (t u : ServerTurn) → Edit n now i t u → CalmTurn n now t → CalmTurn n now u
 unfolding steal_from suspect_client keep_and_reply reply tell sessions.reasserted
 calm_edit n now i q t u (TakesTimers _ first) o = record { same = o.same; once = o.once; kept = o.kept; calm = o.calm }
 calm_edit n now i q t u (Steals _ c s h e) o = record { same = o.same; once = forget_once t.state.locks c o.once; kept = kept_end t.state.sessions c o.kept; calm = calm_append t.out _ o.calm tt }

@@ -25,7 +25,7 @@ use Rattle.st_lemmas.proofs.Tables.{same_or_not, and_true, and_both, cond_either
 use Rattle.st_laws_refine.proofs.Server.Changes.{forget_row, forget_own, forget_wait, grant_other, grant_elsewhere, grant_own, grant_wait}
 use Rattle.st_laws_refine.proofs.Server.Reasserting.{least_none}
 use Rattle.st_laws_refine.proofs.Server.Locking.{QueuedWait, Old, New, Raised, queue_rows, queue_waits, raised_mode, released_other, released_elsewhere}
-use Rattle.st_laws_refine.specs.Server.Stands.{Compat}
+use Rattle.st_laws_refine.specs.Server.Invariants.{Compat}
 use Rattle.st_laws_refine.specs.Server.Edits.{AllSome, WishInput}
 use Rattle.st_laws_refine.proofs.Server.Table.{Wanted, Closed, step_locks}
 

@@ -25,7 +25,7 @@ use Rattle.st_rules.specs.Sessions.{session_of}
 use Rattle.st_rules.specs.Authority as authority
 use Rattle.st_rules.specs.Grace as grace
 use Rattle.st_rules.specs.Grace.{accept, accept_rows, accept_earlier, accept_own, accept_installed, is_row_below, own_older}
-use Rattle.st_rules.specs.Server.{ServerState, ServerNode, Turn, turn, with_authority, sender, life_in, is_client_node, steal_at, steal_from, steal, steal_each, thefts, refused_reassertion}
+use Rattle.st_rules.specs.Server.{ServerState, ServerNode, ServerTurn, turn, with_authority, sender, life_in, is_client_node, steal_at, steal_from, steal, steal_each, thefts, refused_reassertion}
 use Rattle.st_rules.specs.World.{World, clock_of, server}
 use Rattle.st_rules.specs.Safety.{is_conflict}
 use Rattle.st_protocol.specs.Assoc as net
@@ -33,14 +33,14 @@ use Rattle.st_protocol.specs.Assoc.{Config, ConfigOk, In, msg}
 use Rattle.st_protocol.proofs.Invariant.{Invariant}
 use Rattle.st_protocol.proofs.Lives.{first_in_grace}
 use Rattle.st_protocol.proofs.World.{invariant, no_conflict}
-use Rattle.st_laws_refine.specs.Views.Messages.{lock_in_row, lock_in, shown, Shows, epoch_shown, Wishes, Heard}
+use Rattle.st_laws_refine.specs.Views.Messages.{lock_in_row, lock_in, shown, Shows, epoch_shown, Wishes, Received}
 use Rattle.st_laws_refine.specs.Views.Halves.{Ghost, life_view, live_view, row_view, row_or}
 use Rattle.st_lemmas.specs.Lists.{Has}
 use Rattle.st_lemmas.proofs.Tables.{and_true, and_both, has_filter, has_map, none_has, not_true}
 use Rattle.st_lemmas.proofs.Keys.{least_some}
 use Rattle.st_laws_refine.specs.Server.View.{at, RowOk, NotEnded, ServesLife, Sound}
 use Rattle.st_laws_refine.specs.Server.Pair.{client_in}
-use Rattle.st_laws_refine.specs.Server.Stands.{pairs, Stands}
+use Rattle.st_laws_refine.specs.Server.Invariants.{pairs, Stands}
 use Rattle.st_laws_refine.specs.Server.Edits.{InGrace}
 use Rattle.st_laws_refine.proofs.Server.Delivery.{sound_of, pair_runs}
 use Rattle.st_laws_refine.proofs.Server.Late.{timer_over}
@@ -50,12 +50,12 @@ use Rattle.st_laws_refine.proofs.Server.Calm.{Reassertions}
 use Rattle.st_laws_refine.proofs.Server.Thefts.{within}
 
 -- thefts leave grace as it was
-steal_grace : (t : Turn) (c : ClientId) (o : Option Session) → (steal_at t c o).state.grace ≡ t.state.grace
+steal_grace : (t : ServerTurn) (c : ClientId) (o : Option Session) → (steal_at t c o).state.grace ≡ t.state.grace
 unfolding steal_at steal_from
 steal_grace t c None = refl
 steal_grace t c (Some s) = refl
 
-steals_grace : (cs : List ClientId) (t : Turn) → (steal_each cs t).state.grace ≡ t.state.grace
+steals_grace : (cs : List ClientId) (t : ServerTurn) → (steal_each cs t).state.grace ≡ t.state.grace
 unfolding steal_each steal
 steals_grace [] t = refl
 steals_grace (c ∷ cs) t = steals_grace cs (steal t c) ∙ steal_grace t c (session_of t.state.sessions c)
@@ -144,7 +144,7 @@ why g now l t c life rows r on e = earlier (find (grace.is_new_grant l) rows) (s
         refusal_is r e = cc
 
 module _ (k : Config) (s : ℕ) (ended : ℕ → ℕ → ℕ) (w : World) (node : ServerNode) (G : ℕ → Ghost) (ok : ConfigOk k) (runs : node.running ≡ true) (st : Stands k s ended w node G)
-    (m : Message) (heard : is_client_node m.header.from ≡ true → Heard m.header m.body (G m.header.from).net) where
+    (m : Message) (received : is_client_node m.header.from ≡ true → Received m.header m.body (G m.header.from).net) where
   abbrev N : ServerState
   N = node.state
 
@@ -157,8 +157,8 @@ module _ (k : Config) (s : ℕ) (ended : ℕ → ℕ → ℕ) (w : World) (node 
   inv : (c : ℕ) → Invariant k (at (client_in w c s (ended c)) (client c) Now N (G c))
   inv c = subst (Invariant k) (pair_runs k c s (ended c) w node (G c) runs) (invariant k (pairs s ended w node G) ok st.reached c)
 
-  on_before : (t : Turn) (rows : List (ℕ × GrantNo × Mode)) → InGrace N Now t m rows → grace.is_on N.grace Now ≡ true
-  on_before t rows g = ap (λ g. grace.is_on g Now) (sym (thefts_grace N Now) ∙ ap (λ (t : Turn). t.state.grace) (sym g.first)) ∙ g.on
+  on_before : (t : ServerTurn) (rows : List (ℕ × GrantNo × Mode)) → InGrace N Now t m rows → grace.is_on N.grace Now ≡ true
+  on_before t rows g = ap (λ g. grace.is_on g Now) (sym (thefts_grace N Now) ∙ ap (λ (t : ServerTurn). t.state.grace) (sym g.first)) ∙ g.on
 
   empty : (cs : List ClientId) → ((c : ClientId) → Has c cs → ⊥) → cs ≡ []
   empty [] h = refl
@@ -169,22 +169,22 @@ module _ (k : Config) (s : ℕ) (ended : ℕ → ℕ → ℕ) (w : World) (node 
       let a = so.timer o.0 in let b = within k.wait Now N.grace (G c.0).gstart so.gstart on in let d = o.1 in absurd (omega arith))
 
   -- the state in which the reassertion is met
-  met : (t : Turn) (rows : List (ℕ × GrantNo × Mode)) → InGrace N Now t m rows → t ≡ with_authority (authority.still_running N.authority Now) (turn N [])
+  met : (t : ServerTurn) (rows : List (ℕ × GrantNo × Mode)) → InGrace N Now t m rows → t ≡ with_authority (authority.still_running N.authority Now) (turn N [])
   met t rows g = g.first ∙ no_thefts N Now (nothing_over (on_before t rows g))
 
-  locks_met : (t : Turn) (rows : List (ℕ × GrantNo × Mode)) → InGrace N Now t m rows → t.state.locks ≡ N.locks
-  locks_met t rows g = ap (λ (t : Turn). t.state.locks) (met t rows g)
+  locks_met : (t : ServerTurn) (rows : List (ℕ × GrantNo × Mode)) → InGrace N Now t m rows → t.state.locks ≡ N.locks
+  locks_met t rows g = ap (λ (t : ServerTurn). t.state.locks) (met t rows g)
 
-  wishes : (t : Turn) (rows : List (ℕ × GrantNo × Mode)) → InGrace N Now t m rows → Wishes (bd.Reassert rows)
-  wishes t rows g = subst Wishes g.body (heard g.from).wishes
+  wishes : (t : ServerTurn) (rows : List (ℕ × GrantNo × Mode)) → InGrace N Now t m rows → Wishes (bd.Reassert rows)
+  wishes t rows g = subst Wishes g.body (received g.from).wishes
 
-  in_net : (t : Turn) (rows : List (ℕ × GrantNo × Mode)) → InGrace N Now t m rows → In (msg m.header.life N.stable.epoch.0 m.header.stamp (net.Reassert (λ i. lock_in rows i))) (G m.header.from).net
+  in_net : (t : ServerTurn) (rows : List (ℕ × GrantNo × Mode)) → InGrace N Now t m rows → In (msg m.header.life N.stable.epoch.0 m.header.stamp (net.Reassert (λ i. lock_in rows i))) (G m.header.from).net
   in_net t rows g =
-      let sh = subst (λ b. Shows m.header.life (epoch_shown b m.header.epoch) m.header.stamp (shown m.header.number b) (G m.header.from).net) g.body (heard g.from).shows in
-      subst (λ e. In (msg m.header.life e m.header.stamp (net.Reassert (λ i. lock_in rows i))) (G m.header.from).net) (g.epoch ∙ ap (λ (t : Turn). t.state.stable.epoch.0) (met t rows g)) sh.rest.one
+      let sh = subst (λ b. Shows m.header.life (epoch_shown b m.header.epoch) m.header.stamp (shown m.header.number b) (G m.header.from).net) g.body (received g.from).shows in
+      subst (λ e. In (msg m.header.life e m.header.stamp (net.Reassert (λ i. lock_in rows i))) (G m.header.from).net) (g.epoch ∙ ap (λ (t : ServerTurn). t.state.stable.epoch.0) (met t rows g)) sh.rest.one
 
   -- in grace a client that reasserts anew has no session
-  no_session : (t : Turn) (rows : List (ℕ × GrantNo × Mode)) → InGrace N Now t m rows → session_of N.sessions (client m.header.from) ≡ None
+  no_session : (t : ServerTurn) (rows : List (ℕ × GrantNo × Mode)) → InGrace N Now t m rows → session_of N.sessions (client m.header.from) ≡ None
   no_session t rows g = go (session_of N.sessions (client m.header.from)) refl (so.graced on)
     where
       so : Sound m.header.from k.wait Now N (G m.header.from)
@@ -194,10 +194,10 @@ module _ (k : Config) (s : ℕ) (ended : ℕ → ℕ → ℕ) (w : World) (node 
       on = on_before t rows g
 
       new : sessions.knows N.sessions (sender m.header) (life_in m.header) ≡ false
-      new = ap (λ (t : Turn). sessions.knows t.state.sessions (sender m.header) (life_in m.header)) (sym (met t rows g)) ∙ g.new
+      new = ap (λ (t : ServerTurn). sessions.knows t.state.sessions (sender m.header) (life_in m.header)) (sym (met t rows g)) ∙ g.new
 
       lt : life_view (session_of N.sessions (client m.header.from)) < m.header.life
-      lt = lower k (client_in w m.header.from s (ended m.header.from)) Now (session_of N.sessions (client m.header.from)) (life_in m.header) new (so.graced on) (heard g.from).born
+      lt = lower k (client_in w m.header.from s (ended m.header.from)) Now (session_of N.sessions (client m.header.from)) (life_in m.header) new (so.graced on) (received g.from).born
 
       zero : life_view (session_of N.sessions (client m.header.from)) ≡ 0
       zero = first_in_grace k (at (client_in w m.header.from s (ended m.header.from)) (client m.header.from) Now N (G m.header.from)) (inv m.header.from).lives_ refl on m.header.life m.header.stamp (λ i. lock_in rows i) (in_net t rows g) lt
@@ -209,19 +209,19 @@ module _ (k : Config) (s : ℕ) (ended : ℕ → ℕ → ℕ) (w : World) (node 
           let z = sym (ap life_view e) ∙ zero in let y = ap life_view e in absurd (omega arith)
 
   -- so it waits for nothing
-  pub no_waits : (t : Turn) (rows : List (ℕ × GrantNo × Mode)) → InGrace N Now t m rows → (x : Waiter) → Has x t.state.locks.waiters → x.client ≡ sender m.header → ⊥
+  pub no_waits : (t : ServerTurn) (rows : List (ℕ × GrantNo × Mode)) → InGrace N Now t m rows → (x : Waiter) → Has x t.state.locks.waiters → x.client ≡ sender m.header → ⊥
   no_waits t rows g x h e =
       subst (ServesLife x.life.0) (no_session t rows g) ((sound m.header.from).waits x (subst (λ (l : Locks). Has x l.waiters) (locks_met t rows g) h) (ap (λ (c : ClientId). c.0) e)).served
 
   -- and it has no row
-  no_row_before : (t : Turn) (rows : List (ℕ × GrantNo × Mode)) → InGrace N Now t m rows → (ino : ℕ) → row_of N.locks (client m.header.from) ino ≡ None
+  no_row_before : (t : ServerTurn) (rows : List (ℕ × GrantNo × Mode)) → InGrace N Now t m rows → (ino : ℕ) → row_of N.locks (client m.header.from) ino ≡ None
   no_row_before t rows g ino = go (row_of N.locks (client m.header.from) ino) (subst (λ o. RowOk o (row_view (row_of N.locks (client m.header.from) ino))) (no_session t rows g) ((sound m.header.from).rows ino))
     where
       go : (o : Option LockRow) → RowOk None (row_view o) → o ≡ None
       go None r = refl
       go (Some x) r = elim (r.served) [ ]
 
-  no_row_met : (t : Turn) (rows : List (ℕ × GrantNo × Mode)) → InGrace N Now t m rows → (ino : ℕ) → row_of t.state.locks (sender m.header) ino ≡ None
+  no_row_met : (t : ServerTurn) (rows : List (ℕ × GrantNo × Mode)) → InGrace N Now t m rows → (ino : ℕ) → row_of t.state.locks (sender m.header) ino ≡ None
   no_row_met t rows g ino = ap (λ l. row_of l (sender m.header) ino) (locks_met t rows g) ∙ no_row_before t rows g ino
 
   not_both : (b : Bool) → b ≡ true → b ≡ false → ⊥
@@ -229,7 +229,7 @@ module _ (k : Config) (s : ℕ) (ended : ℕ → ℕ → ℕ) (w : World) (node 
   not_both false e f = cc
 
   -- and no other client's row conflicts
-  no_other : (t : Turn) (rows : List (ℕ × GrantNo × Mode)) → InGrace N Now t m rows → OnceEach t.state.locks → Against t.state.locks (sender m.header) rows → ⊥
+  no_other : (t : ServerTurn) (rows : List (ℕ × GrantNo × Mode)) → InGrace N Now t m rows → OnceEach t.state.locks → Against t.state.locks (sender m.header) rows → ⊥
   no_other t rows g once a =
       let z = and_true (a.other.ino == a.row.0) _ a.stands in let y = and_true (not (a.other.client.0 == m.header.from)) _ z.1 in
       let at_ino : a.other.ino ≡ a.row.0 = eqb-true _ _ z.0 in
@@ -253,10 +253,10 @@ module _ (k : Config) (s : ℕ) (ended : ℕ → ℕ → ℕ) (w : World) (node 
       same : (m2 : Message) → ◌≡◌ {A = ServerInput} (Control m) (Control m2) → m ≡ m2
       same m2 e = cc
 
-      mine : (t : Turn) (m2 : Message) (rows : List (ℕ × GrantNo × Mode)) → ◌≡◌ {A = ServerInput} (Control m) (Control m2) → InGrace N Now t m2 rows → InGrace N Now t m rows
+      mine : (t : ServerTurn) (m2 : Message) (rows : List (ℕ × GrantNo × Mode)) → ◌≡◌ {A = ServerInput} (Control m) (Control m2) → InGrace N Now t m2 rows → InGrace N Now t m rows
       mine t m2 rows e g = subst (λ x. InGrace N Now t x rows) (sym (same m2 e)) g
 
-      calmly : (t : Turn) (rows : List (ℕ × GrantNo × Mode)) (r : AcceptRefusal) → InGrace N Now t m rows → OnceEach t.state.locks → accept t.state.grace Now (sender m.header) (life_in m.header) rows t.state.locks t.state.sessions ≡ Err r →
+      calmly : (t : ServerTurn) (rows : List (ℕ × GrantNo × Mode)) (r : AcceptRefusal) → InGrace N Now t m rows → OnceEach t.state.locks → accept t.state.grace Now (sender m.header) (life_in m.header) rows t.state.locks t.state.sessions ≡ Err r →
           is_conflict (refused_reassertion r) ≡ false
       calmly t rows r g once acc = go (why t.state.grace Now t.state.locks t.state.sessions (sender m.header) m.header.life rows r g.on acc)
         where

@@ -21,14 +21,14 @@ use Rattle.st_rules.specs.Locks as locks
 use Rattle.st_rules.specs.Locks.{Locks, is_wait_of, wait_of, grant, queue, queue_at, raise, release_to, with_rows}
 use Rattle.st_rules.specs.Sessions as sessions
 use Rattle.st_rules.specs.Authority as authority
-use Rattle.st_rules.specs.Server.{ServerState, Turn, turn, sender, life_in, reply, tell, steal_at, steal_from, steal, steal_each, thefts, suspect_client, keep_and_reply, server_step, crash, start, begin_epoch, fresh_server}
+use Rattle.st_rules.specs.Server.{ServerState, ServerTurn, turn, sender, life_in, reply, tell, steal_at, steal_from, steal, steal_each, thefts, suspect_client, keep_and_reply, server_step, crash, start, begin_epoch, fresh_server}
 use Rattle.st_rules.specs.Events.{WorldTurn, sends, cuts, server_notes, server_says, server_says_all}
 use Rattle.st_lemmas.specs.Lists.{Has}
 use Rattle.st_lemmas.proofs.Numbers.{length_more}
 use Rattle.st_lemmas.proofs.Tables.{and_both}
 use Rattle.std.proofs.lemmas.Bool.{eq-eqb}
 use Rattle.st_laws_refine.specs.Server.Edits.{WishInput, Acquired, AtOnce, InTurn, Edit, TakesTimers, Steals, Suspects, Begins, DropsWaits, Keeps, Reasserts, Sees, Acquires, Releases, DropsFile, Grants, Demands, NamesChange, ExtentsChange, Cuts, Replies, Repeats, Refuses, TellsGrant, TellsDemand}
-use Rattle.st_laws_refine.specs.Server.Stands.{taken_locks, Few}
+use Rattle.st_laws_refine.specs.Server.Invariants.{taken_locks, Few}
 use Rattle.st_laws_refine.proofs.Server.Walk.{walk}
 
 fewer : {A : Type 0} (p : A → Bool) (xs : List A) → length (filter p xs) ≤ length xs
@@ -114,12 +114,12 @@ t_acquired g l c life ino mode v (AtOnce off w f nobody) = t_grant l c life ino 
 t_acquired g l c life ino mode v (InTurn w) = t_queue l c life ino mode
 
 -- thefts take none
-steal_taken : (t : Turn) (c : ClientId) (o : Option Session) → taken_locks (steal_at t c o).state.locks ≤ taken_locks t.state.locks
+steal_taken : (t : ServerTurn) (c : ClientId) (o : Option Session) → taken_locks (steal_at t c o).state.locks ≤ taken_locks t.state.locks
 unfolding steal_at steal_from
 steal_taken t c None = omega arith
 steal_taken t c (Some s) = t_forget t.state.locks c
 
-steals_taken : (cs : List ClientId) (t : Turn) → taken_locks (steal_each cs t).state.locks ≤ taken_locks t.state.locks
+steals_taken : (cs : List ClientId) (t : ServerTurn) → taken_locks (steal_each cs t).state.locks ≤ taken_locks t.state.locks
 unfolding steal_each steal
 steals_taken [] t = omega arith
 steals_taken (c ∷ cs) t = let a = steals_taken cs (steal t c) in let b = steal_taken t c (sessions.session_of t.state.sessions c) in omega arith
@@ -141,11 +141,11 @@ paid_for : (a b c d e : ℕ) → a ≤ b + 1 → b ≤ c + d → e ≡ d + 1 →
 paid_for a b c d e h k l = omega arith
 
 -- what a step takes
-pub record TakenTurn (n : ServerState) (t : Turn) : Type 0 where
+pub record TakenTurn (n : ServerState) (t : ServerTurn) : Type 0 where
   pub one : taken_locks t.state.locks ≤ taken_locks n.locks + 1
   pub paid : taken_locks t.state.locks ≤ taken_locks n.locks + sent t.out
 
-taken_edit : (n : ServerState) (now : Stamp) (i : ServerInput) (t u : Turn) → Edit n now i t u → TakenTurn n t → TakenTurn n u
+taken_edit : (n : ServerState) (now : Stamp) (i : ServerInput) (t u : ServerTurn) → Edit n now i t u → TakenTurn n t → TakenTurn n u
 unfolding steal_from suspect_client keep_and_reply reply tell
 taken_edit n now i t u (TakesTimers _ first) o = record { one = o.one; paid = o.paid }
 taken_edit n now i t u (Steals _ c s h e) o = let z = t_forget t.state.locks c in let y = sent_more t.out (outputs.Note (notes.Stolen c s.life)) in record { one = let a = o.one in omega arith; paid = let a = o.paid in omega arith }
@@ -157,7 +157,7 @@ taken_edit n now i t u (Reasserts _ m rows is w g f) o = let z = t_rows t.state.
 taken_edit n now i t u (Sees _ m ino g is fi b) o = let z = t_seen t.state.locks (sender m.header) ino g in record { one = let a = o.one in omega arith; paid = let a = o.paid in omega arith }
 taken_edit n now i t u (Acquires _ m ino mode l b s is fi eb es el ok k a) o =
     let z = t_acquired _ t.state.locks (sender m.header) (life_in m.header) ino mode l a in
-    let f = subst (λ (t : Turn). taken_locks t.state.locks ≤ taken_locks n.locks) (sym fi) (thefts_taken n now) in
+    let f = subst (λ (t : ServerTurn). taken_locks t.state.locks ≤ taken_locks n.locks) (sym fi) (thefts_taken n now) in
     record { one = within_one _ _ _ z f; paid = paid_for _ _ _ _ _ z o.paid (sent_send t.out _) }
 taken_edit n now i t u (Releases _ m ino g to r is fi b er eu) o = let z = t_release t.state.locks (sender m.header) ino to in record { one = let a = o.one in omega arith; paid = let a = o.paid in omega arith }
 taken_edit n now i t u (DropsFile _ m dir name g ino is b e) o = let z = t_file t.state.locks ino in record { one = let a = o.one in omega arith; paid = let a = o.paid in omega arith }

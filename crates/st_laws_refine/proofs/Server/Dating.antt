@@ -22,7 +22,7 @@ use Rattle.st_rules.specs.declared.sessions.Session.{Session}
 use Rattle.st_rules.specs.Keys.{client}
 use Rattle.st_rules.specs.Authority as authority
 use Rattle.st_rules.specs.Authority.{Authority, suspect_of, is_over}
-use Rattle.st_rules.specs.Server.{ServerState, Turn, reply, tell, steal_from, suspect_client, keep_and_reply, with_authority, sender, reply_header, own_header}
+use Rattle.st_rules.specs.Server.{ServerState, ServerTurn, reply, tell, steal_from, suspect_client, keep_and_reply, with_authority, sender, reply_header, own_header}
 use Rattle.st_rules.specs.World.{World}
 use Rattle.st_rules.specs.Events.{WorldTurn, sends, cuts, server_notes, server_says, server_says_all}
 use Rattle.st_rules.specs.History.{History, TimerStart, timer_start, is_timer_of, recall, recall_all}
@@ -108,7 +108,7 @@ pub record AnswersRequest (s : ℕ) (i : ServerInput) (a : Authority) (m : Messa
   pub replies : is_reply_to request m ≡ true
 
 -- a step so far, behind its thefts
-pub record DatingTurn (w : World) (s : ℕ) (i : ServerInput) (now : Stamp) (ts : List TimerStart) (t : Turn) : Type 0 where
+pub record DatingTurn (w : World) (s : ℕ) (i : ServerInput) (now : Stamp) (ts : List TimerStart) (t : ServerTurn) : Type 0 where
   pub id : t.state.id.0 ≡ s
   pub wait : 0 < t.state.authority.wait
   pub young : (x : Suspect) → Has x t.state.authority.suspects → is_over t.state.authority.wait now x ≡ false
@@ -129,7 +129,7 @@ sent_one s i a os o f g m h d = go (has_append os (o ∷ []) (outputs.Send m) h)
     go (inr (inr e)) = elim e [ ]
 
 -- a reply to the request that came
-replied_to : (s : ℕ) (i : ServerInput) (t : Turn) (q : Message) (b : Body) → t.state.id.0 ≡ s → i ≡ Control q → q.header.to ≡ 32768 + s → is_request q.body ≡ true → (may_date q.header.number b ≡ true → authority.may_ack t.state.authority (sender q.header) ≡ true) →
+replied_to : (s : ℕ) (i : ServerInput) (t : ServerTurn) (q : Message) (b : Body) → t.state.id.0 ≡ s → i ≡ Control q → q.header.to ≡ 32768 + s → is_request q.body ≡ true → (may_date q.header.number b ≡ true → authority.may_ack t.state.authority (sender q.header) ≡ true) →
     (m : Message) → ◌≡◌ {A = Output} (outputs.Send m) (outputs.Send (record { header = reply_header t.state q.header; body = b })) → may_date m.header.number m.body ≡ true → AnswersRequest s i t.state.authority m
 replied_to s i t q b id came to r free m e d = subst (AnswersRequest s i t.state.authority) (sym (same m e)) (here (subst (λ (m : Message). may_date m.header.number m.body ≡ true) (same m e) d))
   where
@@ -241,11 +241,11 @@ module _ (w : World) (s : ℕ) (n : ServerState) (now : Stamp) (i : ServerInput)
   abbrev S : ServerId
   S = record { 0 = s }
 
-  abbrev D : Turn → Type 0
+  abbrev D : ServerTurn → Type 0
   D t = DatingTurn w s i now ts t
 
   -- one more output that is no timer's, where the rest of what this speaks of is as it was
-  said : (t : Turn) (o : Output) → timers_by w S (o ∷ []) (timers_by w S t.out ts) ≡ timers_by w S t.out ts → ((m : Message) → outputs.Send m ≡ o → may_date m.header.number m.body ≡ true → AnswersRequest s i t.state.authority m) → D t → D (record t { out = t.out ++ o ∷ [] })
+  said : (t : ServerTurn) (o : Output) → timers_by w S (o ∷ []) (timers_by w S t.out ts) ≡ timers_by w S t.out ts → ((m : Message) → outputs.Send m ≡ o → may_date m.header.number m.body ≡ true → AnswersRequest s i t.state.authority m) → D t → D (record t { out = t.out ++ o ∷ [] })
   said t o e g d = record {
     id = d.id;
     wait = d.wait;
@@ -255,7 +255,7 @@ module _ (w : World) (s : ℕ) (n : ServerState) (now : Stamp) (i : ServerInput)
   }
 
   -- a timer starts where nothing was sent yet
-  starts_timer : (t : Turn) (c : ClientId) → NoSends t.out → authority.may_ack t.state.authority c ≡ true → D t → D (suspect_client t now c)
+  starts_timer : (t : ServerTurn) (c : ClientId) → NoSends t.out → authority.may_ack t.state.authority c ≡ true → D t → D (suspect_client t now c)
   unfolding suspect_client
   starts_timer t c quiet free d = record {
     id = d.id;
@@ -271,7 +271,7 @@ module _ (w : World) (s : ℕ) (n : ServerState) (now : Stamp) (i : ServerInput)
       by x f (inr (inr e)) = elim e [ ]
 
   -- more of the parts of which this does not speak
-  same_parts : (t : Turn) (v : ServerState) → v.id ≡ t.state.id → v.authority ≡ t.state.authority → D t → D (record t { state = v })
+  same_parts : (t : ServerTurn) (v : ServerState) → v.id ≡ t.state.id → v.authority ≡ t.state.authority → D t → D (record t { state = v })
   same_parts t v e f d = record {
     id = ap (λ (x : ServerId). x.0) e ∙ d.id;
     wait = subst (λ (a : Authority). 0 < a.wait) (sym f) d.wait;
@@ -281,14 +281,14 @@ module _ (w : World) (s : ℕ) (n : ServerState) (now : Stamp) (i : ServerInput)
   }
 
   -- a reply to the request
-  replied : (t : Turn) (v : ServerState) (q : Message) (b : Body) → v.id ≡ t.state.id → v.authority ≡ t.state.authority → i ≡ Control q → is_request q.body ≡ true → (may_date q.header.number b ≡ true → authority.may_ack t.state.authority (sender q.header) ≡ true) → D t → D (reply (record t { state = v }) q.header b)
+  replied : (t : ServerTurn) (v : ServerState) (q : Message) (b : Body) → v.id ≡ t.state.id → v.authority ≡ t.state.authority → i ≡ Control q → is_request q.body ≡ true → (may_date q.header.number b ≡ true → authority.may_ack t.state.authority (sender q.header) ≡ true) → D t → D (reply (record t { state = v }) q.header b)
   unfolding reply
   replied t v q b e f came r free d =
       let d2 = same_parts t v e f d in
       said (record t { state = v }) (outputs.Send (record { header = reply_header v q.header; body = b })) refl
       (replied_to s i (record t { state = v }) q b d2.id came (to_s q came) r (subst (λ (a : Authority). may_date q.header.number b ≡ true → authority.may_ack a (sender q.header) ≡ true) (sym f) free)) d2
 
-  taken_out : (t : Turn) → D t → D (with_authority (authority.still_running t.state.authority now) t)
+  taken_out : (t : ServerTurn) → D t → D (with_authority (authority.still_running t.state.authority now) t)
   taken_out t d = record {
     id = d.id;
     wait = subst (λ a. 0 < a) (sym (kept_wait t.state.authority now)) d.wait;
@@ -297,7 +297,7 @@ module _ (w : World) (s : ℕ) (n : ServerState) (now : Stamp) (i : ServerInput)
     sends = λ m h e. let a = d.sends m h e in record { ack = ap (λ o. not (is_some o)) (kept_timers t.state.authority now (client m.header.to) d.young) ∙ a.ack; request = a.request; came = a.came; asks = a.asks; replies = a.replies };
   }
 
-  stolen : (t : Turn) (c : ClientId) (x : Session) → D t → D (steal_from t c x)
+  stolen : (t : ServerTurn) (c : ClientId) (x : Session) → D t → D (steal_from t c x)
   unfolding steal_from
   stolen t c x d = record {
     id = d.id;
@@ -307,7 +307,7 @@ module _ (w : World) (s : ℕ) (n : ServerState) (now : Stamp) (i : ServerInput)
     sends = sent_one s i t.state.authority t.out (outputs.Note (notes.Stolen c x.life)) d.sends (λ m e. cc);
   }
 
-  pub dating_edit : (t u : Turn) → Edit n now i t u → D t → D u
+  pub dating_edit : (t u : ServerTurn) → Edit n now i t u → D t → D u
   unfolding keep_and_reply tell
   dating_edit t u (TakesTimers _ first) d = taken_out t d
   dating_edit t u (Steals _ c x h e) d = stolen t c x d

@@ -18,7 +18,7 @@ use Rattle.st_rules.specs.declared.world.SentMessage.{SentMessage}
 use Rattle.st_rules.specs.Keys.{client}
 use Rattle.st_rules.specs.declared.node.StepRefusal.TheVariants.{Crashed}
 use Rattle.st_rules.specs.Leases.{steal_wait}
-use Rattle.st_rules.specs.Server.{ServerState, ServerNode, Turn, server_step, node_turn, node_step, is_client_node}
+use Rattle.st_rules.specs.Server.{ServerState, ServerNode, ServerTurn, server_step, node_turn, node_step, is_client_node}
 use Rattle.st_rules.specs.World.{World, numbered, node_of, clock_of, message_of, receiver_of, server, stamp, node_at}
 use Rattle.st_rules.specs.Admissible.{refusal}
 use Rattle.st_rules.specs.Events.{WorldTurn, quiet, counted, with_node, sends, cuts, server_notes, server_says, server_says_all, server_took, server_takes, ticks, at_server, delivers_to, delivers, happens, world_by, world_step}
@@ -30,9 +30,9 @@ use Rattle.st_laws_refine.specs.Server.View.{at, SaidOne, Said, Sound, StandsAt}
 use Rattle.st_laws_refine.specs.Server.Pair.{client_at_site, client_in, pair, Wire, Wires, Served}
 use Rattle.st_laws_refine.specs.Server.Edits.{WishInput}
 use Rattle.st_lemmas.proofs.Tables.{has_append, and_true}
-use Rattle.st_laws_refine.proofs.Views.Moves.{heard_more, moved, Grows, moves_grow, shown_more}
+use Rattle.st_laws_refine.proofs.Views.Moves.{received_more, moved, Grows, moves_grow, shown_more}
 use Rattle.st_laws_refine.proofs.Server.Outputs.{all_has, step_outs}
-use Rattle.st_laws_refine.proofs.Server.Step.{HeardInput, step_goes}
+use Rattle.st_laws_refine.proofs.Server.Step.{ReceivedInput, step_goes}
 
 -- what a server's outputs leave as it is
 pub record SameParts (w v : World) : Type 0 where
@@ -105,7 +105,7 @@ pub not_client : (n s : ℕ) → n ≡ 32768 + s → is_client_node n ≡ true �
 not_client n s e f = let z = leb-true n 16 (and_true (nat_le 1 n) _ f).1 in absurd (omega arith)
 
 pub wire_more : (c s : ℕ) (m : Message) (N M : List Msg) → Grows N M → Wire c s m N → Wire c s m M
-wire_more c s m N M g q = record { to_client = λ e f. shown_more m N M g (q.to_client e f); to_server = λ e f h. heard_more m.header m.body N M g (q.to_server e f h) }
+wire_more c s m N M g q = record { to_client = λ e f. shown_more m N M g (q.to_client e f); to_server = λ e f h. received_more m.header m.body N M g (q.to_server e f h) }
 
 pub wires_said : (c s : ℕ) (id : ServerId) (os : List Output) (sc : WorldTurn) (N M : List Msg) → Grows N M → From s os → Said c os M → Wires c s sc.world.net.messages N → Wires c s (server_says_all id os sc).world.net.messages M
 wires_said c s id os sc N M g from said ws m h = go (all_messages id os sc m h)
@@ -213,15 +213,15 @@ module _ (k : Config) (c s : ℕ) (ended : ℕ → ℕ) where
   abbrev pub stepped : World → ServerNode → ServerInput → ServerNode
   stepped w node i = record node { state = (server_step node.state (clock_of w (nodes.Server (server s))) i).state }
 
-  pub takes : (w : World) (node : ServerNode) (x : Ghost) (i : ServerInput) → ConfigOk k → node.running ≡ true → WishInput i → Served k.wait c s w node x → HeardInput k (client_in w c s ended) (clock_of w (nodes.Server (server s))) c i x.net →
+  pub takes : (w : World) (node : ServerNode) (x : Ghost) (i : ServerInput) → ConfigOk k → node.running ≡ true → WishInput i → Served k.wait c s w node x → ReceivedInput k (client_in w c s ended) (clock_of w (nodes.Server (server s))) c i x.net →
       Invariant k (pair c s ended w node x) → Steps w (server_takes w (server s) i node).world node (stepped w node i) x
-  takes w node x i ok runs wish sd heard a =
+  takes w node x i ok runs wish sd received a =
       let now : Stamp = clock_of w (nodes.Server (server s)) in
-      let t : Turn = server_step node.state now i in
+      let t : ServerTurn = server_step node.state now i in
       let w1 : World = with_node (server s) (record node { state = t.state }) w in
       let v : World = (server_says_all (server s) t.out (quiet w1)).world in
       let so = sound_of c k.wait now node.running node.state x runs sd.stands in
-      let r = step_goes k (client_in w c s ended) now c node.state x i ok heard (subst (Invariant k) (pair_runs w node x runs) a) (record { said = tt; sound = so }) in
+      let r = step_goes k (client_in w c s ended) now c node.state x i ok received (subst (Invariant k) (pair_runs w node x runs) a) (record { said = tt; sound = so }) in
       let os = step_outs s node.state.config (λ c l. Unit {0}) node.state now i wish sd.id refl (λ c h l. tt) in
       let from : From s t.out = λ m h. all_has s (λ c l. Unit {0}) t.out (outputs.Send m) os.all h in
       let p = all_parts (server s) t.out (quiet w1) in

@@ -19,7 +19,7 @@ use Rattle.st_laws_refine.specs.Server.Pair.{client_in, pair}
 use Rattle.st_laws_refine.specs.Server.Paths.{Leads, SteppedOn}
 use Rattle.st_laws_refine.proofs.Server.Delivery.{taken, sound_of}
 use Rattle.st_laws_refine.proofs.Server.Epochs as epochs
-use Rattle.st_laws_refine.specs.Server.Stands.{Compat, Stands}
+use Rattle.st_laws_refine.specs.Server.Invariants.{Compat, Stands}
 
 -- no rows fit
 no_rows_fit : (n : ServerState) → Compat (crash n).locks

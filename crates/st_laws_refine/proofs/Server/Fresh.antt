@@ -12,7 +12,7 @@ use Rattle.st_protocol.specs.Assoc.{BeginsAt}
 use Rattle.st_laws_refine.specs.Views.Halves.{Ghost}
 use Rattle.st_laws_refine.specs.Server.View.{at, Sound}
 use Rattle.st_laws_refine.specs.Server.Pair.{client_view}
-use Rattle.st_laws_refine.specs.Server.Stands.{Compat}
+use Rattle.st_laws_refine.specs.Server.Invariants.{Compat}
 use Rattle.st_laws_refine.specs.Views.Halves.{client_at}
 use Rattle.st_rules.specs.ClientPages.{empty_store}
 

@@ -17,7 +17,7 @@ use Rattle.st_rules.specs.Locks as locks
 use Rattle.st_rules.specs.Sessions as sessions
 use Rattle.st_rules.specs.Authority as authority
 use Rattle.st_rules.specs.Grace as grace
-use Rattle.st_rules.specs.Server.{ServerState, Turn, reply}
+use Rattle.st_rules.specs.Server.{ServerState, ServerTurn, reply}
 use Rattle.st_protocol.specs.Assoc as net
 use Rattle.st_protocol.specs.Assoc.{Config, Msg, Assoc, Moves, Stays}
 use Rattle.st_laws_refine.proofs.Views.Moves.{moves_on, moved, Grows, moves_grow, shows_more, shown_more}
@@ -161,26 +161,26 @@ module _ (k : Config) (cl : net.Client) (d : ℕ) (now : Stamp) where
   abbrev pub observe : ServerState → Ghost → Assoc
   observe n x = at cl (client d) now n x
 
-  pub record Result (t u : Turn) (x : Ghost) : Type 0 where
+  pub record Result (t u : ServerTurn) (x : Ghost) : Type 0 where
     pub ghost : Ghost
     pub moves : Moves k (observe t.state x) (observe u.state ghost)
     pub ready : Ready d k.wait now u ghost
 
-  pub record Goes (t u : Turn) : Type 0 where
+  pub record Goes (t u : ServerTurn) : Type 0 where
     pub go : (x : Ghost) → Ready d k.wait now t x → Result t u x
 
-  pub goes_same : (t : Turn) → Goes t t
+  pub goes_same : (t : ServerTurn) → Goes t t
   goes_same t = record { go = λ x r. record { ghost = x; moves = Stays (observe t.state x); ready = r } }
 
-  pub goes_then : (t u v : Turn) → Goes t u → Goes u v → Goes t v
+  pub goes_then : (t u v : ServerTurn) → Goes t u → Goes u v → Goes t v
   goes_then t u v f g = record { go = λ x r. let a = f.go x r in let b = g.go a.ghost a.ready in record { ghost = b.ghost; moves = moves_on a.moves b.moves; ready = b.ready } }
 
-  pub if_goes : (t : Turn) (b : Bool) (u v : Turn) → (b ≡ true → Goes t u) → (b ≡ false → Goes t v) → Goes t (cond b u v)
+  pub if_goes : (t : ServerTurn) (b : Bool) (u v : ServerTurn) → (b ≡ true → Goes t u) → (b ≡ false → Goes t v) → Goes t (cond b u v)
   if_goes t true u v p q = p refl
   if_goes t false u v p q = q refl
 
   -- what this client does not see
-  pub unseen : (t u : Turn) → Frame d t.state u.state → ((N : List Msg) → Said d t.out N → Said d u.out N) → Goes t u
+  pub unseen : (t u : ServerTurn) → Frame d t.state u.state → ((N : List Msg) → Said d t.out N → Said d u.out N) → Goes t u
   unseen t u f s =
       record {
         go = λ x r. record {
@@ -191,27 +191,27 @@ module _ (k : Config) (cl : net.Client) (d : ℕ) (now : Stamp) where
       }
 
   -- first what this client does not see
-  pub first_unseen : (t u v : Turn) (x : Ghost) → Frame d t.state u.state → (Said d t.out x.net → Said d u.out x.net) → Ready d k.wait now t x → (Ready d k.wait now u x → Result u v x) → Result t v x
+  pub first_unseen : (t u v : ServerTurn) (x : Ghost) → Frame d t.state u.state → (Said d t.out x.net → Said d u.out x.net) → Ready d k.wait now t x → (Ready d k.wait now u x → Result u v x) → Result t v x
   first_unseen t u v x f s r g =
       let b = g (record { said = s r.said; sound = frame_sound d k.wait now t.state u.state x f r.sound }) in
       record { ghost = b.ghost; moves = moves_on (moved k _ _ _ (Stays (observe t.state x)) (frame_at cl d now t.state u.state x f)) b.moves; ready = b.ready }
 
   -- more in the network, and nothing else
-  pub heard_more : (t : Turn) (x y : Ghost) → SameStarts x y → Moves k (observe t.state x) (observe t.state y) → y.top ≡ x.top → Ready d k.wait now t x → Ready d k.wait now t y
-  heard_more t x y st m e r =
+  pub received_more : (t : ServerTurn) (x y : Ghost) → SameStarts x y → Moves k (observe t.state x) (observe t.state y) → y.top ≡ x.top → Ready d k.wait now t x → Ready d k.wait now t y
+  received_more t x y st m e r =
       record {
         said = said_more d t.out x.net y.net (moves_grow m) r.said;
         sound = sound_more d k.wait now t.state x y st (moves_grow m) (let a = r.sound.top in omega arith) r.sound;
       }
 
   -- a reply of this client, that is in the network
-  pub replies : (t : Turn) (h : Header) (body : Body) (x y : Ghost) → SameStarts x y → Moves k (observe t.state x) (observe t.state y) → y.top ≡ x.top → Shows h.life t.state.stable.epoch.0 h.stamp (shown h.number body) y.net → Ready d k.wait now t x → Result t (reply t h body) x
+  pub replies : (t : ServerTurn) (h : Header) (body : Body) (x y : Ghost) → SameStarts x y → Moves k (observe t.state x) (observe t.state y) → y.top ≡ x.top → Shows h.life t.state.stable.epoch.0 h.stamp (shown h.number body) y.net → Ready d k.wait now t x → Result t (reply t h body) x
   unfolding reply
   replies t h body x y st m e w r =
-      let q = heard_more t x y st m e r in
+      let q = received_more t x y st m e r in
       record { ghost = y; moves = m; ready = record { said = said_append d t.out _ y.net q.said (λ e. record { all = w }); sound = q.sound } }
 
   -- a reply to another client
-  pub replies_other : (t : Turn) (h : Header) (body : Body) → h.from ≢ d → Goes t (reply t h body)
+  pub replies_other : (t : ServerTurn) (h : Header) (body : Body) → h.from ≢ d → Goes t (reply t h body)
   unfolding reply
   replies_other t h body ne = unseen t (reply t h body) (frame_same d t.state) (λ N s. said_append d t.out _ N s (λ e. absurd (ne e)))

@@ -21,7 +21,7 @@ use Rattle.st_rules.specs.Sessions as sessions
 use Rattle.st_rules.specs.Sessions.{Sessions, session_of, with_new_session, new_session, is_live, is_past, greeted, begin_session, hello_higher, hello_again, hello_live, hello_ended, hello_by, hello_at}
 use Rattle.st_rules.specs.Authority.{may_ack}
 use Rattle.st_rules.specs.Grace as grace
-use Rattle.st_rules.specs.Server.{ServerState, Turn, with_locks, with_sessions, in_grace, sender, life_in, reply, suspect_client, greet_as, greet_by, greet, refuse_in_grace, hello}
+use Rattle.st_rules.specs.Server.{ServerState, ServerTurn, with_locks, with_sessions, in_grace, sender, life_in, reply, suspect_client, greet_as, greet_by, greet, refuse_in_grace, hello}
 use Rattle.st_protocol.specs.Assoc as net
 use Rattle.st_protocol.specs.Assoc.{Config, msg, In, Welcomes, WelcomesAgain, Moves, Stays}
 use Rattle.st_laws_refine.specs.Views.Messages.{shown, Shows}
@@ -59,10 +59,10 @@ hello_other d t c life rows (Some s) ne =
     (λ e. cond_either (OtherHello d t) rows (greeted hellos.Wait t) (begin_session hellos.Replaced c life t) (λ e. others_same d t) (λ e. begins_other d t c life hellos.Replaced ne))))
     (λ e. cond_either (OtherHello d t) (is_past life s) (greeted hellos.Old t) (begin_session hellos.Welcome c life t) (λ e. others_same d t) (λ e. begins_other d t c life hellos.Welcome ne))
 
-pub sessions_frame : (d : ℕ) (t : Turn) (v : Sessions) → Others d t.state.sessions v → Frame d t.state (with_sessions v t).state
+pub sessions_frame : (d : ℕ) (t : ServerTurn) (v : Sessions) → Others d t.state.sessions v → Frame d t.state (with_sessions v t).state
 sessions_frame d t v o = record { epoch = refl; lepoch = refl; sepoch = o.epoch; await = refl; grace = refl; grants = omega arith; session = o.session; suspect = refl; rows = λ i. refl; waits = λ w h e. h; suspects = λ s h e. h }
 
-pub drop_frame : (d : ℕ) (t : Turn) (c : ClientId) → Frame d t.state (with_locks (locks.drop_waits t.state.locks c) t).state
+pub drop_frame : (d : ℕ) (t : ServerTurn) (c : ClientId) → Frame d t.state (with_locks (locks.drop_waits t.state.locks c) t).state
 unfolding locks.drop_waits
 drop_frame d t c = record { epoch = refl; lepoch = refl; sepoch = refl; await = refl; grace = refl; grants = omega arith; session = refl; suspect = refl; rows = λ i. refl; waits = λ w h e. (drop_wait t.state.locks c w h).0; suspects = λ s h e. h }
 
@@ -86,12 +86,12 @@ dropped_row l c i = refl
 
 module _ (k : Config) (cl : net.Client) (now : Stamp) where
   -- a refusal that says nothing to the association
-  pub refused : (d : ℕ) (t : Turn) (h : Header) (body : Body) → shown h.number body ≡ [] → Goes k cl d now t (reply t h body)
+  pub refused : (d : ℕ) (t : ServerTurn) (h : Header) (body : Body) → shown h.number body ≡ [] → Goes k cl d now t (reply t h body)
   refused d t h body e =
       record { go = λ x r. replies k cl d now t h body x x (record { start = refl; gstart = refl; top = refl }) (Stays (observe k cl d now t.state x)) refl (subst (λ bs. Shows h.life t.state.stable.epoch.0 h.stamp bs x.net) (sym e) tt) r }
 
   -- a session begins
-  begins : (t : Turn) (h : Header) (x : Ghost) → Ready h.from k.wait now t x → In (msg h.life 0 h.stamp net.Hello) x.net → may_ack t.state.authority (sender h) ≡ true → grace.is_on t.state.grace now ≡ false →
+  begins : (t : ServerTurn) (h : Header) (x : Ghost) → Ready h.from k.wait now t x → In (msg h.life 0 h.stamp net.Hello) x.net → may_ack t.state.authority (sender h) ≡ true → grace.is_on t.state.grace now ≡ false →
       life_view (session_of t.state.sessions (sender h)) < h.life → ((i : ℕ) → row_view (row_of t.state.locks (sender h) i) ≡ None) → ((w : Waiter) → Has w t.state.locks.waiters → w.client.0 ≡ h.from → ⊥) →
       Result k cl h.from now t (reply (with_sessions (with_new_session (sender h) (life_in h) t.state.sessions) t) h bd.Welcome) x
   unfolding reply
@@ -130,7 +130,7 @@ module _ (k : Config) (cl : net.Client) (now : Stamp) where
       }
 
   -- the session of this life stands
-  welcomes_again : (t : Turn) (h : Header) (x : Ghost) → Ready h.from k.wait now t x → In (msg h.life 0 h.stamp net.Hello) x.net → may_ack t.state.authority (sender h) ≡ true → grace.is_on t.state.grace now ≡ false →
+  welcomes_again : (t : ServerTurn) (h : Header) (x : Ghost) → Ready h.from k.wait now t x → In (msg h.life 0 h.stamp net.Hello) x.net → may_ack t.state.authority (sender h) ≡ true → grace.is_on t.state.grace now ≡ false →
       life_view (session_of t.state.sessions (sender h)) ≡ h.life → live_view (session_of t.state.sessions (sender h)) ≡ true → Result k cl h.from now t (reply t h bd.Welcome) x
   welcomes_again t h x r i free off is live =
       replies k cl h.from now t h bd.Welcome x (record x { net = msg h.life t.state.stable.epoch.0 h.stamp net.Welcome ∷ x.net }) (record { start = refl; gstart = refl; top = refl })
@@ -139,7 +139,7 @@ module _ (k : Config) (cl : net.Client) (now : Stamp) where
       refl (record { one = inl refl; rest = tt }) r
 
   -- a greeting of this client
-  greet_own : (t : Turn) (h : Header) (x : Ghost) → Ready h.from k.wait now t x → 1 ≤ h.life → In (msg h.life 0 h.stamp net.Hello) x.net → may_ack t.state.authority (sender h) ≡ true → grace.is_on t.state.grace now ≡ false →
+  greet_own : (t : ServerTurn) (h : Header) (x : Ghost) → Ready h.from k.wait now t x → 1 ≤ h.life → In (msg h.life 0 h.stamp net.Hello) x.net → may_ack t.state.authority (sender h) ≡ true → grace.is_on t.state.grace now ≡ false →
       (o : Option Session) → session_of t.state.sessions (sender h) ≡ o → Result k cl h.from now t (greet_by t now h (hello_at t.state.sessions (sender h) (life_in h) (has_rows t.state.locks (sender h)) o)) x
   unfolding hello_at hello_by hello_live hello_again hello_higher hello_ended greeted begin_session greet_by greet_as
   greet_own t h x r born i free off None e =
@@ -181,7 +181,7 @@ module _ (k : Config) (cl : net.Client) (now : Stamp) where
           no_rows_dropped : (i : ℕ) → row_view (row_of (locks.drop_waits t.state.locks (sender h)) (sender h) i) ≡ None
           no_rows_dropped i = dropped_row t.state.locks (sender h) i ∙ no_rows t.state.locks (sender h) none i
 
-  greet_as_other : (d : ℕ) (t : Turn) (h : Header) (x : Hello) → h.from ≢ d → may_ack t.state.authority (sender h) ≡ true → Goes k cl d now t (greet_as t now h x)
+  greet_as_other : (d : ℕ) (t : ServerTurn) (h : Header) (x : Hello) → h.from ≢ d → may_ack t.state.authority (sender h) ≡ true → Goes k cl d now t (greet_as t now h x)
   unfolding greet_as
   greet_as_other d t h hellos.Welcome ne free = replies_other k cl d now t h bd.Welcome ne
   greet_as_other d t h hellos.Replaced ne free =
@@ -189,29 +189,29 @@ module _ (k : Config) (cl : net.Client) (now : Stamp) where
   greet_as_other d t h hellos.Old ne free = goes_same k cl d now t
   greet_as_other d t h hellos.Wait ne free = goes_then k cl d now t (suspect_client t now (sender h)) _ (suspect_goes k cl d now t (sender h) free) (replies_other k cl d now (suspect_client t now (sender h)) h (bd.Nack why.Suspect now.0 0) ne)
 
-  greet_other : (d : ℕ) (t : Turn) (h : Header) (g : sessions.Greeted) → h.from ≢ d → may_ack t.state.authority (sender h) ≡ true → Others d t.state.sessions g.sessions → Goes k cl d now t (greet_by t now h g)
+  greet_other : (d : ℕ) (t : ServerTurn) (h : Header) (g : sessions.Greeted) → h.from ≢ d → may_ack t.state.authority (sender h) ≡ true → Others d t.state.sessions g.sessions → Goes k cl d now t (greet_by t now h g)
   unfolding greet_by
   greet_other d t h g ne free o =
       goes_then k cl d now t (with_sessions g.sessions t) _ (unseen k cl d now t (with_sessions g.sessions t) (sessions_frame d t g.sessions o) (λ N s. s)) (go (with_sessions g.sessions t) free g.hello)
     where
-      go : (u : Turn) → may_ack u.state.authority (sender h) ≡ true → (x : Hello) → Goes k cl d now u (greet_as u now h x)
+      go : (u : ServerTurn) → may_ack u.state.authority (sender h) ≡ true → (x : Hello) → Goes k cl d now u (greet_as u now h x)
       go u free x = greet_as_other d u h x ne free
 
-  pub greet_goes : (d : ℕ) (t : Turn) (h : Header) (x : Ghost) → may_ack t.state.authority (sender h) ≡ true → grace.is_on t.state.grace now ≡ false → (h.from ≡ d → record { born : 1 ≤ h.life; hello : In (msg h.life 0 h.stamp net.Hello) x.net }) → Ready d k.wait now t x → Result k cl d now t (greet t now h) x
+  pub greet_goes : (d : ℕ) (t : ServerTurn) (h : Header) (x : Ghost) → may_ack t.state.authority (sender h) ≡ true → grace.is_on t.state.grace now ≡ false → (h.from ≡ d → record { born : 1 ≤ h.life; hello : In (msg h.life 0 h.stamp net.Hello) x.net }) → Ready d k.wait now t x → Result k cl d now t (greet t now h) x
   unfolding greet sessions.hello
-  greet_goes d t h x free off heard r = go (same_or_not h.from d) heard r
+  greet_goes d t h x free off received r = go (same_or_not h.from d) received r
     where
       own : (h.from ≡ h.from → record { born : 1 ≤ h.life; hello : In (msg h.life 0 h.stamp net.Hello) x.net }) → Ready h.from k.wait now t x → Result k cl h.from now t (greet t now h) x
-      own heard r = greet_own t h x r (heard refl).born (heard refl).hello free off (session_of t.state.sessions (sender h)) refl
+      own received r = greet_own t h x r (received refl).born (received refl).hello free off (session_of t.state.sessions (sender h)) refl
 
       go : (h.from ≡ d) ⊎ (h.from ≢ d) → (h.from ≡ d → record { born : 1 ≤ h.life; hello : In (msg h.life 0 h.stamp net.Hello) x.net }) → Ready d k.wait now t x → Result k cl d now t (greet t now h) x
       go (inl e) = subst (λ d. (h.from ≡ d → record { born : 1 ≤ h.life; hello : In (msg h.life 0 h.stamp net.Hello) x.net }) → Ready d k.wait now t x → Result k cl d now t (greet t now h) x) e own
-      go (inr ne) = λ heard r. (greet_other d t h (hello_at t.state.sessions (sender h) (life_in h) (has_rows t.state.locks (sender h)) (session_of t.state.sessions (sender h))) ne free
+      go (inr ne) = λ received r. (greet_other d t h (hello_at t.state.sessions (sender h) (life_in h) (has_rows t.state.locks (sender h)) (session_of t.state.sessions (sender h))) ne free
           (hello_other d t.state.sessions (sender h) (life_in h) (has_rows t.state.locks (sender h)) (session_of t.state.sessions (sender h)) ne)).go x r
 
   -- in grace, or not
-  pub hello_goes : (d : ℕ) (t : Turn) (h : Header) (x : Ghost) → may_ack t.state.authority (sender h) ≡ true → (h.from ≡ d → record { born : 1 ≤ h.life; hello : In (msg h.life 0 h.stamp net.Hello) x.net }) → Ready d k.wait now t x → Result k cl d now t (hello t now h) x
+  pub hello_goes : (d : ℕ) (t : ServerTurn) (h : Header) (x : Ghost) → may_ack t.state.authority (sender h) ≡ true → (h.from ≡ d → record { born : 1 ≤ h.life; hello : In (msg h.life 0 h.stamp net.Hello) x.net }) → Ready d k.wait now t x → Result k cl d now t (hello t now h) x
   unfolding hello refuse_in_grace
-  hello_goes d t h x free heard r =
+  hello_goes d t h x free received r =
       cond_either (λ u. Result k cl d now t u x) (in_grace t now) (refuse_in_grace t h) (greet t now h)
-      (λ e. (refused d t h (bd.Nack why.Grace (grace.grace_start t.state.grace).0 0) refl).go x r) (λ off. greet_goes d t h x free off heard r)
+      (λ e. (refused d t h (bd.Nack why.Grace (grace.grace_start t.state.grace).0 0) refl).go x r) (λ off. greet_goes d t h x free off received r)

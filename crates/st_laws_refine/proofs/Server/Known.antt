@@ -21,12 +21,12 @@ use Rattle.st_rules.specs.Locks.{Locks, is_row_of, is_wait_of, wait_of, grant, q
 use Rattle.st_rules.specs.Sessions as sessions
 use Rattle.st_rules.specs.Sessions.{Sessions, session_of, is_session_of}
 use Rattle.st_rules.specs.Authority as authority
-use Rattle.st_rules.specs.Server.{ServerState, Turn, sender, life_in, reply, tell, steal_from, suspect_client, keep_and_reply, server_step}
+use Rattle.st_rules.specs.Server.{ServerState, ServerTurn, sender, life_in, reply, tell, steal_from, suspect_client, keep_and_reply, server_step}
 use Rattle.st_lemmas.specs.Lists.{Has}
 use Rattle.st_lemmas.proofs.Tables.{cond_either, cond_true, cond_false, find_map, has_append, has_filter, has_map}
 use Rattle.st_lemmas.proofs.Puts.{find_put, has_put}
 use Rattle.st_laws_refine.specs.Server.Edits.{WishInput, KnownClient, Acquired, AtOnce, InTurn, Edit, TakesTimers, Steals, Suspects, Begins, DropsWaits, Keeps, Reasserts, Sees, Acquires, Releases, DropsFile, Grants, Demands, NamesChange, ExtentsChange, Cuts, Replies, Repeats, Refuses, TellsGrant, TellsDemand}
-use Rattle.st_laws_refine.specs.Server.Stands.{Known}
+use Rattle.st_laws_refine.specs.Server.Invariants.{Known}
 use Rattle.st_laws_refine.proofs.Server.Changes.{has_suspect}
 use Rattle.st_laws_refine.proofs.Server.Walk.{walk}
 
@@ -154,11 +154,11 @@ k_more : (t v : Sessions) (l : Locks) → ((c : ClientId) → There t c → Ther
 k_more t v l m k = record { rows = λ r i. m r.client (k.rows r i); waits = λ w i. m w.client (k.waits w i) }
 
 -- a step so far
-record KnownTurn (t : Turn) : Type 0 where
+record KnownTurn (t : ServerTurn) : Type 0 where
   table : TableKnown t.state.sessions t.state.locks
   timers : (x : Suspect) → Has x t.state.authority.suspects → There t.state.sessions x.client
 
-met_client : (t : Turn) (c : ClientId) → KnownClient t.state c → KnownTurn t → There t.state.sessions c
+met_client : (t : ServerTurn) (c : ClientId) → KnownClient t.state c → KnownTurn t → There t.state.sessions c
 met_client t c (inl e) k = e
 met_client t c (inr r) k = subst (There t.state.sessions) r.2 (k.table.rows r.0 r.1)
 
@@ -178,7 +178,7 @@ timer_less : (a : authority.Authority) (now : Stamp) (x : Suspect) → Has x (au
 unfolding authority.still_running
 timer_less a now x h = (has_filter _ a.suspects x h).0
 
-known_edit : (n : ServerState) (now : Stamp) (i : ServerInput) (t u : Turn) → Edit n now i t u → KnownTurn t → KnownTurn u
+known_edit : (n : ServerState) (now : Stamp) (i : ServerInput) (t u : ServerTurn) → Edit n now i t u → KnownTurn t → KnownTurn u
 unfolding steal_from suspect_client keep_and_reply reply tell sessions.reasserted
 known_edit n now i t u (TakesTimers _ first) o = record { table = o.table; timers = λ x h. o.timers x (timer_less t.state.authority now x h) }
 known_edit n now i t u (Steals _ c s h e) o =

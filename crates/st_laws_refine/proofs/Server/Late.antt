@@ -20,7 +20,7 @@ use Rattle.st_rules.specs.Keys.{client}
 use Rattle.st_rules.specs.Authority.{suspect_of, over}
 use Rattle.st_rules.specs.ClientState.{ClientSession, Association}
 use Rattle.st_rules.specs.Client.{association_with, lease_at, lease_of_session}
-use Rattle.st_rules.specs.World.{World, ClientSite, site_of, clock_of, server, ended_of, present_end, end_or_present, lease_end_of, is_life_of}
+use Rattle.st_rules.specs.World.{World, WorldClient, site_of, clock_of, server, ended_of, present_end, end_or_present, lease_end_of, is_life_of}
 use Rattle.st_rules.specs.Events.{WorldTurn, counted, sends, cuts, server_notes, server_says, server_says_all, server_takes}
 use Rattle.st_rules.specs.Server.{ServerNode, ServerState, server_step}
 use Rattle.st_rules.specs.Safety.{is_past, is_date_past, all_dates_past, is_late}
@@ -33,7 +33,7 @@ use Rattle.st_lemmas.specs.Lists.{Has}
 use Rattle.st_laws_refine.specs.Server.View.{at, TimerIs, Sound}
 use Rattle.st_laws_refine.specs.Views.Halves.{leased_in, date_in}
 use Rattle.st_laws_refine.specs.Server.Pair.{client_view, stamp_number, EndedBy, client_at_site, client_in, pair, Served, DatesShown, DatesKnown}
-use Rattle.st_laws_refine.specs.Server.Stands.{Settings}
+use Rattle.st_laws_refine.specs.Server.Invariants.{Settings}
 use Rattle.st_laws_refine.specs.Server.Edits.{WishInput}
 use Rattle.st_laws_refine.proofs.Server.Thefts.{over_has}
 use Rattle.st_laws_refine.proofs.Server.Outputs.{OutOk, AllOk, step_outs}
@@ -57,7 +57,7 @@ view_clock running ended now None = refl
 view_clock running ended now (Some a) = refl
 
 -- the client's clock, where there is such a client
-pub clock_in : (w : World) (c s : ℕ) (ended : ℕ → ℕ) (site : ClientSite) → site_of w (client c) ≡ Some site → (client_in w c s ended).clock ≡ (clock_of w (nodes.Client (client c))).0
+pub clock_in : (w : World) (c s : ℕ) (ended : ℕ → ℕ) (site : WorldClient) → site_of w (client c) ≡ Some site → (client_in w c s ended).clock ≡ (clock_of w (nodes.Client (client c))).0
 clock_in w c s ended site e = ap (λ o. (client_at_site w c s ended o).clock) e ∙ view_clock site.node.running ended (clock_of w (nodes.Client (client c))) (association_with site.node.state (server s))
 
 module _ (k : Config) where
@@ -83,7 +83,7 @@ module _ (k : Config) where
       clock : Stamp
       clock = clock_of w (nodes.Client (client c))
 
-      by_site : (o : Option ClientSite) → site_of w (client c) ≡ o → (e : Option LeaseLife) → ended_of w (client c) (server s) life ≡ e → IsLate (client_at_site w c s ended o) → is_past clock (end_or_present w (client c) (server s) e) ≡ true
+      by_site : (o : Option WorldClient) → site_of w (client c) ≡ o → (e : Option LeaseLife) → ended_of w (client c) (server s) life ≡ e → IsLate (client_at_site w c s ended o) → is_past clock (end_or_present w (client c) (server s) e) ≡ true
       by_site None f None g l = ap (λ o. is_past clock (present_end w (server s) o)) f
       by_site None f (Some e) g l = let z : ◌≡◌ {A = Option LeaseLife} None (Some e) = sym (st.ended (client c) (server s) life f) ∙ g in cc
       by_site (Some site) f (Some e) g l =

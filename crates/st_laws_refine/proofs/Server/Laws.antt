@@ -7,8 +7,8 @@ use Rattle.st_rules.specs.declared.input.ServerInput.TheVariants.{Tick, Control}
 use Rattle.st_protocol.proofs.Invariant.{Invariant}
 use Rattle.st_protocol.proofs.World.{invariant}
 use Rattle.st_laws_refine.specs.Server.Law.{Comes, ServerStepsAreMoves, RowsStayCompatible, StepsKeepServers, AdvancesKeepServers, CrashesKeepServers, StartsKeepServers, ServersWait, CalmStays, FewStay}
-use Rattle.st_laws_refine.specs.Server.Stands.{ByTick, ByMessage}
-use Rattle.st_laws_refine.proofs.Server.Step.{HeardInput, step_goes}
+use Rattle.st_laws_refine.specs.Server.Invariants.{ByTick, ByMessage}
+use Rattle.st_laws_refine.proofs.Server.Step.{ReceivedInput, step_goes}
 use Rattle.st_laws_refine.proofs.Server.Compat.{compat_step}
 use Rattle.st_laws_refine.proofs.Server.Runs.{ticked, delivered}
 use Rattle.st_laws_refine.proofs.Server.Fold.{crashed, started}
@@ -19,12 +19,12 @@ use Rattle.st_laws_refine.proofs.Server.Waits.{server_waits}
 
 pub law : ServerStepsAreMoves
 law k w cl now d n x i ok reached is comes ready =
-    let r = step_goes k cl now d n x i ok (heard i comes) (subst (Invariant k) is (invariant k w ok reached d)) ready in
+    let r = step_goes k cl now d n x i ok (received i comes) (subst (Invariant k) is (invariant k w ok reached d)) ready in
     record { ghost = r.ghost; moves = r.moves; ready = r.ready }
   where
-    heard : (i : ServerInput) → Comes d i x.net → HeardInput k cl now d i x.net
-    heard Tick c = c
-    heard (Control m) c = c
+    received : (i : ServerInput) → Comes d i x.net → ReceivedInput k cl now d i x.net
+    received Tick c = c
+    received (Control m) c = c
 
 pub compatible : RowsStayCompatible
 compatible = compat_step

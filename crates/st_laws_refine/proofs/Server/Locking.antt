@@ -24,7 +24,7 @@ use Rattle.st_rules.specs.Sessions.{session_of}
 use Rattle.st_rules.specs.Authority.{suspect_of}
 use Rattle.st_rules.specs.Grace as grace
 use Rattle.st_rules.specs.Server as sv
-use Rattle.st_rules.specs.Server.{ServerState, Turn, Replied, replied, with_locks, sender, life_in, is_file, grants_now, acquire_by, acquire_lock, no_file, released_by}
+use Rattle.st_rules.specs.Server.{ServerState, ServerTurn, Replied, replied, with_locks, sender, life_in, is_file, grants_now, acquire_by, acquire_lock, no_file, released_by}
 use Rattle.st_protocol.specs.Assoc as net
 use Rattle.st_protocol.specs.Assoc.{Config, Msg, msg, In, Assoc, upd, Again, GrantsAgain, Releases, Sweeps, Moves}
 use Rattle.st_protocol.proofs.Lists.{upd-same, upd-other}
@@ -35,7 +35,7 @@ use Rattle.st_laws_refine.specs.Server.View.{ServesLife, RowOk, WaitOk, AllKept,
 use Rattle.st_lemmas.proofs.Tables.{same_or_not, and_true, not_true, cond_either, cond_false, find_kept, find_gone, find_other, find_own, has_append, has_map}
 use Rattle.st_laws_refine.proofs.Server.Changes.{row_not, row_not_ino}
 use Rattle.st_laws_refine.proofs.Views.Moves.{one, moved, moves_on, moves_grow}
-use Rattle.st_laws_refine.proofs.Server.Goes.{said_more, kept_more, wait_kept, wait_more, sound_more, Frame, frame_same, observe, heard_more}
+use Rattle.st_laws_refine.proofs.Server.Goes.{said_more, kept_more, wait_kept, wait_more, sound_more, Frame, frame_same, observe, received_more}
 use Rattle.st_laws_refine.proofs.Server.Passes.{grant_moves, grant_frame, granted_state}
 use Rattle.st_laws_refine.proofs.Server.Requests.{quiet_answer, ReplyOk, Serving, Rule, acks, serving_life, quiet_rule}
 
@@ -77,7 +77,7 @@ raised_client : (v : Waiter) (mode : Mode) → v.client.0 ≡ (wait_for mode v).
 unfolding wait_for
 raised_client v mode = refl
 
-raised_wait : (v : Waiter) (mode : Mode) (t : Turn) (h : Header) (x : Ghost) → WaitOk (session_of t.state.sessions (client h.from)) (is_some (suspect_of t.state.authority (client h.from))) (row_view (row_of t.state.locks (client h.from) v.ino)) t.state.stable.epoch.0 x.net v →
+raised_wait : (v : Waiter) (mode : Mode) (t : ServerTurn) (h : Header) (x : Ghost) → WaitOk (session_of t.state.sessions (client h.from)) (is_some (suspect_of t.state.authority (client h.from))) (row_view (row_of t.state.locks (client h.from) v.ino)) t.state.stable.epoch.0 x.net v →
     WaitOk (session_of t.state.sessions (client h.from)) (is_some (suspect_of t.state.authority (client h.from))) (row_view (row_of t.state.locks (client h.from) (wait_for mode v).ino)) t.state.stable.epoch.0 x.net (wait_for mode v)
 unfolding wait_for
 raised_wait v mode t h x o = record { born = o.born; served = o.served; free = o.free; higher = let a = o.higher in let b = raised_mode v.mode mode in omega arith; asked = record { stamp = o.asked.stamp; is = o.asked.is } }
@@ -138,7 +138,7 @@ to_low modes.X = omega arith
 
 module _ (k : Config) (cl : net.Client) (now : Stamp) where
   -- a release of this client's row
-  release_own : (t : Turn) (h : Header) (x : Ghost) (ino : ℕ) (g : GrantNo) (to : Mode) (r : LockRow) → Ready h.from k.wait now t x → Serving h.from t h x.net → In (msg h.life t.state.stable.epoch.0 h.stamp (net.Released ino g.0 (released_to to))) x.net →
+  release_own : (t : ServerTurn) (h : Header) (x : Ghost) (ino : ℕ) (g : GrantNo) (to : Mode) (r : LockRow) → Ready h.from k.wait now t x → Serving h.from t h x.net → In (msg h.life t.state.stable.epoch.0 h.stamp (net.Released ino g.0 (released_to to))) x.net →
       row_of t.state.locks (sender h) ino ≡ Some r → r.life.0 ≡ h.life → r.g.0 ≡ g.0 → Rule k cl now h.from t h x (replied (with_locks (release_to t.state.locks (sender h) ino to) t) bd.Ack)
   release_own t h x ino g to r rd q i e el eg =
       record { ghost = y; moves = moves; ready = record { said = said_more h.from t.out x.net y.net (λ m i. inr i) rd.said; sound = sound }; same = refl; epoch = refl; reply = record { shows = record { one = inl refl; rest = tt }; all = record { one = refl; rest = tt } } }
@@ -234,7 +234,7 @@ module _ (k : Config) (cl : net.Client) (now : Stamp) where
         kept = kept_more n.stable.epoch.0 (session_of n.sessions (client h.from)) x.net y.net (λ m i. inr i) s.kept;
       }
 
-  pub released_rule : (t : Turn) (h : Header) (x : Ghost) (ino : ℕ) (g : GrantNo) (to : Mode) → Ready h.from k.wait now t x → Serving h.from t h x.net → In (msg h.life t.state.stable.epoch.0 h.stamp (net.Released ino g.0 (released_to to))) x.net → Rule k cl now h.from t h x (sv.released t h ino g to)
+  pub released_rule : (t : ServerTurn) (h : Header) (x : Ghost) (ino : ℕ) (g : GrantNo) (to : Mode) → Ready h.from k.wait now t x → Serving h.from t h x.net → In (msg h.life t.state.stable.epoch.0 h.stamp (net.Released ino g.0 (released_to to))) x.net → Rule k cl now h.from t h x (sv.released t h ino g to)
   unfolding sv.released released_by locks.released released_at release not_released
   released_rule t h x ino g to rd q i = go (row_of t.state.locks (sender h) ino) refl
     where
@@ -248,12 +248,12 @@ module _ (k : Config) (cl : net.Client) (now : Stamp) where
           (λ u. let p = and_true _ _ u in release_own t h x ino g to r rd q i e (eqb-true r.life.0 h.life p.0) (eqb-true r.g.0 g.0 p.1))
           (λ u. quiet_rule k cl now h.from t h x (replied t bd.Ack) rd q (quiet_answer h.from t bd.Ack (λ n. refl)))
 
-  release_frame : (d : ℕ) (t : Turn) (c : ClientId) (ino : ℕ) (to : Mode) → c.0 ≢ d → Frame d t.state (with_locks (release_to t.state.locks c ino to) t).state
+  release_frame : (d : ℕ) (t : ServerTurn) (c : ClientId) (ino : ℕ) (to : Mode) → c.0 ≢ d → Frame d t.state (with_locks (release_to t.state.locks c ino to) t).state
   release_frame d t c ino to ne =
       let p = released_waits t.state.locks c ino to in
       record { epoch = refl; lepoch = p.1; sepoch = refl; await = refl; grace = refl; grants = let z = p.2 in omega arith; session = refl; suspect = refl; rows = λ i. ap row_view (released_other t.state.locks c ino to d i ne); waits = λ w h e. subst (λ ws. Has w ws) p.0 h; suspects = λ s h e. h }
 
-  pub released_frame : (d : ℕ) (t : Turn) (h : Header) (ino : ℕ) (g : GrantNo) (to : Mode) → h.from ≢ d → Frame d t.state (sv.released t h ino g to).turn.state
+  pub released_frame : (d : ℕ) (t : ServerTurn) (h : Header) (ino : ℕ) (g : GrantNo) (to : Mode) → h.from ≢ d → Frame d t.state (sv.released t h ino g to).turn.state
   unfolding sv.released released_by locks.released released_at release not_released
   released_frame d t h ino g to ne = go (row_of t.state.locks (sender h) ino)
     where
@@ -294,9 +294,9 @@ module _ (k : Config) (cl : net.Client) (now : Stamp) where
           (λ j. record { c = cl; s = half (client d) now n x; net = msg (is j) n.stable.epoch.0 h.stamp (net.Granted ino g.0 (number_of m)) ∷ x.net })
 
   -- the held lock is told again
-  held_rule : (t : Turn) (h : Header) (x : Ghost) (ino : ℕ) (r : LockRow) → Ready h.from k.wait now t x → Serving h.from t h x.net → row_of t.state.locks (sender h) ino ≡ Some r → Rule k cl now h.from t h x (replied t (bd.Granted ino r.g r.mode))
+  held_rule : (t : ServerTurn) (h : Header) (x : Ghost) (ino : ℕ) (r : LockRow) → Ready h.from k.wait now t x → Serving h.from t h x.net → row_of t.state.locks (sender h) ino ≡ Some r → Rule k cl now h.from t h x (replied t (bd.Granted ino r.g r.mode))
   held_rule t h x ino r rd q e =
-      record { ghost = z; moves = moves; ready = heard_more k cl h.from now t x z (record { start = refl; gstart = refl; top = refl }) moves refl rd; same = refl; epoch = refl; reply = dg.reply }
+      record { ghost = z; moves = moves; ready = received_more k cl h.from now t x z (record { start = refl; gstart = refl; top = refl }) moves refl rd; same = refl; epoch = refl; reply = dg.reply }
     where
       n : ServerState
       n = t.state
@@ -328,13 +328,13 @@ module _ (k : Config) (cl : net.Client) (now : Stamp) where
       moves : Moves k (observe k cl h.from now n x) (observe k cl h.from now n z)
       moves = moves_on told dg.moves
 
-  wait_served : (t : Turn) (h : Header) (x : Ghost) (ino : ℕ) (mode : Mode) → Serving h.from t h x.net → (row_or (row_view (row_of t.state.locks (client h.from) ino))).mode < number_of mode →
+  wait_served : (t : ServerTurn) (h : Header) (x : Ghost) (ino : ℕ) (mode : Mode) → Serving h.from t h x.net → (row_or (row_view (row_of t.state.locks (client h.from) ino))).mode < number_of mode →
       WaitOk (session_of t.state.sessions (client h.from)) (is_some (suspect_of t.state.authority (client h.from))) (row_view (row_of t.state.locks (client h.from) ino)) t.state.stable.epoch.0 x.net (new_wait (sender h) (life_in h) ino mode)
   wait_served t h x ino mode q lt =
       record { born = q.born; served = subst (ServesLife h.life) (sym q.found) (record { live = ap sessions.is_live_state q.state; is = q.life }); free = q.free; higher = lt; asked = record { stamp = h.stamp; is = q.plain } }
 
   -- a new lock
-  granted_rule : (t : Turn) (h : Header) (x : Ghost) (ino : ℕ) (mode : Mode) → Ready h.from k.wait now t x → Serving h.from t h x.net → grace.is_on t.state.grace now ≡ false → (row_or (row_view (row_of t.state.locks (client h.from) ino))).mode < number_of mode →
+  granted_rule : (t : ServerTurn) (h : Header) (x : Ghost) (ino : ℕ) (mode : Mode) → Ready h.from k.wait now t x → Serving h.from t h x.net → grace.is_on t.state.grace now ≡ false → (row_or (row_view (row_of t.state.locks (client h.from) ino))).mode < number_of mode →
       Rule k cl now h.from t h x (replied (with_locks (grant t.state.locks (sender h) (life_in h) ino mode) t) (bd.Granted ino (next_grant t.state.locks) mode))
   unfolding grant
   granted_rule t h x ino mode rd q off lt =
@@ -369,7 +369,7 @@ module _ (k : Config) (cl : net.Client) (now : Stamp) where
       z = record gm.0 { net = dg.net }
 
   -- a lock that is waited for
-  queued_rule : (t : Turn) (h : Header) (x : Ghost) (ino : ℕ) (mode : Mode) → Ready h.from k.wait now t x → Serving h.from t h x.net → (row_or (row_view (row_of t.state.locks (client h.from) ino))).mode < number_of mode →
+  queued_rule : (t : ServerTurn) (h : Header) (x : Ghost) (ino : ℕ) (mode : Mode) → Ready h.from k.wait now t x → Serving h.from t h x.net → (row_or (row_view (row_of t.state.locks (client h.from) ino))).mode < number_of mode →
       Rule k cl now h.from t h x (replied (with_locks (queue t.state.locks (sender h) (life_in h) ino mode) t) (bd.Queued ino mode))
   unfolding queue
   queued_rule t h x ino mode rd q lt =
@@ -434,14 +434,14 @@ module _ (k : Config) (cl : net.Client) (now : Stamp) where
       }
 
   -- granted, or waited for
-  more_rule : (t : Turn) (h : Header) (x : Ghost) (ino : ℕ) (mode : Mode) → Ready h.from k.wait now t x → Serving h.from t h x.net → (row_or (row_view (row_of t.state.locks (client h.from) ino))).mode < number_of mode →
+  more_rule : (t : ServerTurn) (h : Header) (x : Ghost) (ino : ℕ) (mode : Mode) → Ready h.from k.wait now t x → Serving h.from t h x.net → (row_or (row_view (row_of t.state.locks (client h.from) ino))).mode < number_of mode →
       Rule k cl now h.from t h x (acquire_by t ino mode (Ok (acquire_more t.state.locks (sender h) (life_in h) ino mode (grants_now t now))))
   unfolding acquire_by acquire_more acquire_granted acquire_queued
   more_rule t h x ino mode rd q lt =
       cond_either (λ (a : Acquired). Rule k cl now h.from t h x (acquire_by t ino mode (Ok a))) (may_grant t.state.locks (sender h) ino mode (grants_now t now)) (acquire_granted t.state.locks (sender h) (life_in h) ino mode) (acquire_queued t.state.locks (sender h) (life_in h) ino mode)
       (λ e. granted_rule t h x ino mode rd q (not_true _ (and_true (grants_now t now) _ e).0) lt) (λ e. queued_rule t h x ino mode rd q lt)
 
-  pub acquire_rule : (t : Turn) (h : Header) (x : Ghost) (ino : ℕ) (mode : Mode) → Ready h.from k.wait now t x → Serving h.from t h x.net → 1 ≤ number_of mode → Rule k cl now h.from t h x (sv.acquire t now h ino mode)
+  pub acquire_rule : (t : ServerTurn) (h : Header) (x : Ghost) (ino : ℕ) (mode : Mode) → Ready h.from k.wait now t x → Serving h.from t h x.net → 1 ≤ number_of mode → Rule k cl now h.from t h x (sv.acquire t now h ino mode)
   unfolding sv.acquire acquire_lock no_file locks.acquire acquire_at acquire_new acquire_over acquire_held acquire_by
   acquire_rule t h x ino mode rd q some =
       cond_either (λ a. Rule k cl now h.from t h x a) (is_file t ino) (acquire_lock t now h ino mode) (no_file t ino) (λ e. go (row_of t.state.locks (sender h) ino) refl)
@@ -459,7 +459,7 @@ module _ (k : Config) (cl : net.Client) (now : Stamp) where
           (λ f. held_rule t h x ino r rd q e) (λ f. more_rule t h x ino mode rd q (let z = ap (λ o. (row_or (row_view o)).mode) e in let y = leb-false (number_of mode) (number_of r.mode) f in omega arith))
 
   -- another client's
-  queue_frame : (d : ℕ) (t : Turn) (c : ClientId) (life : Life) (ino : ℕ) (mode : Mode) → c.0 ≢ d → Frame d t.state (with_locks (queue t.state.locks c life ino mode) t).state
+  queue_frame : (d : ℕ) (t : ServerTurn) (c : ClientId) (life : Life) (ino : ℕ) (mode : Mode) → c.0 ≢ d → Frame d t.state (with_locks (queue t.state.locks c life ino mode) t).state
   unfolding queue
   queue_frame d t c life ino mode ne =
       let o = wait_of t.state.locks c ino in
@@ -483,13 +483,13 @@ module _ (k : Config) (cl : net.Client) (now : Stamp) where
       go w e (New f) = absurd (ne (ap (λ (w : Waiter). w.client.0) (sym f) ∙ e))
       go w e (Raised v i f g) = absurd (ne (sym (eqb-true v.client.0 c.0 (and_true _ _ f).0) ∙ raised_client v mode ∙ ap (λ (w : Waiter). w.client.0) (sym g) ∙ e))
 
-  more_frame : (d : ℕ) (t : Turn) (c : ClientId) (life : Life) (ino : ℕ) (mode : Mode) (b : Bool) → c.0 ≢ d → Frame d t.state (with_locks (acquire_more t.state.locks c life ino mode b).locks t).state
+  more_frame : (d : ℕ) (t : ServerTurn) (c : ClientId) (life : Life) (ino : ℕ) (mode : Mode) (b : Bool) → c.0 ≢ d → Frame d t.state (with_locks (acquire_more t.state.locks c life ino mode b).locks t).state
   unfolding acquire_more acquire_granted acquire_queued
   more_frame d t c life ino mode b ne =
       cond_either (λ (a : Acquired). Frame d t.state (with_locks a.locks t).state) (may_grant t.state.locks c ino mode b) (acquire_granted t.state.locks c life ino mode) (acquire_queued t.state.locks c life ino mode)
       (λ e. grant_frame k cl d now t t.state.locks (new_wait c life ino mode) ne) (λ e. queue_frame d t c life ino mode ne)
 
-  pub acquire_frame : (d : ℕ) (t : Turn) (h : Header) (ino : ℕ) (mode : Mode) → h.from ≢ d → Frame d t.state (sv.acquire t now h ino mode).turn.state
+  pub acquire_frame : (d : ℕ) (t : ServerTurn) (h : Header) (ino : ℕ) (mode : Mode) → h.from ≢ d → Frame d t.state (sv.acquire t now h ino mode).turn.state
   unfolding sv.acquire acquire_lock no_file locks.acquire acquire_at acquire_new acquire_over acquire_held acquire_by
   acquire_frame d t h ino mode ne =
       cond_either (λ (a : Replied). Frame d t.state a.turn.state) (is_file t ino) (acquire_lock t now h ino mode) (no_file t ino) (λ e. go (row_of t.state.locks (sender h) ino)) (λ e. frame_same d t.state)

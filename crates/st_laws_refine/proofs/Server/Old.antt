@@ -17,19 +17,19 @@ use Rattle.st_rules.specs.Locks as locks
 use Rattle.st_rules.specs.Sessions as sessions
 use Rattle.st_rules.specs.Safety.{OldMessagesChangeNoServer, is_of_other_epoch, is_of_past_life, is_below, is_greeting}
 use Rattle.st_rules.specs.Server as sv
-use Rattle.st_rules.specs.Server.{Turn, sender, life_in, reply, refuse_in_grace, hello, greet, greet_by, greet_as, demand_seen, see_demand, refuse_epoch, reassert_again, reassert_new, reassert, request_by, request, of_epoch, by_body, refuse_suspect, by_suspicion, receive_from, receive, take_input}
+use Rattle.st_rules.specs.Server.{ServerTurn, sender, life_in, reply, refuse_in_grace, hello, greet, greet_by, greet_as, demand_seen, observe_demand, refuse_epoch, reassert_again, reassert_new, reassert, request_by, request, of_epoch, by_body, refuse_suspect, by_suspicion, receive_from, receive, take_input}
 use Rattle.st_lemmas.proofs.Tables.{cond_either, and_true, and_left, and_right}
 use Rattle.st_lemmas.proofs.Lookups.{or_cases}
 
 -- the state is as it was
-abbrev Still : Turn → Turn → Type 0
+abbrev Still : ServerTurn → ServerTurn → Type 0
 Still t u = u.state ≡ t.state
 
 -- the message is old
-abbrev Old : Turn → Message → Type 0
+abbrev Old : ServerTurn → Message → Type 0
 Old t m = (is_of_other_epoch t.state m ≡ true) ⊎ (is_of_past_life t.state m ≡ true)
 
-s_reply : (t : Turn) (h : Header) (b : Body) → Still t (reply t h b)
+s_reply : (t : ServerTurn) (h : Header) (b : Body) → Still t (reply t h b)
 unfolding reply
 s_reply t h b = refl
 
@@ -49,11 +49,11 @@ greeting_past t h rows s lt =
     over : sessions.is_past (life_in h) s ≡ false → ⊥
     over f = let z = leb-false h.life s.life.0 f in absurd (omega arith)
 
-s_old : (t : Turn) (now : Stamp) (h : Header) → Still t (greet_as t now h hellos.Old)
+s_old : (t : ServerTurn) (now : Stamp) (h : Header) → Still t (greet_as t now h hellos.Old)
 unfolding greet_as
 s_old t now h = refl
 
-s_hello : (t : Turn) (now : Stamp) (h : Header) (s : Session) → sessions.session_of t.state.sessions (sender h) ≡ Some s → h.life < s.life.0 → Still t (hello t now h)
+s_hello : (t : ServerTurn) (now : Stamp) (h : Header) (s : Session) → sessions.session_of t.state.sessions (sender h) ≡ Some s → h.life < s.life.0 → Still t (hello t now h)
 unfolding hello greet greet_by refuse_in_grace sessions.hello sessions.hello_at
 s_hello t now h s e lt =
     cond_either (Still t) (sv.in_grace t now) _ _ (λ f. s_reply t h _)
@@ -70,13 +70,13 @@ taken_life s h lt =
     ap (λ b. cond b takes.NoSession (sessions.take_past s (life_in h) h.number)) (le-ltb s.life.0 h.life (omega arith))
     ∙ ap (λ b. cond b takes.Stale (sessions.take_state s.state h.number)) (lt-ltb h.life s.life.0 lt)
 
-taken_past : (t : Turn) (h : Header) (s : Session) → sessions.session_of t.state.sessions (sender h) ≡ Some s → h.life < s.life.0 → Passed (sv.take t h)
+taken_past : (t : ServerTurn) (h : Header) (s : Session) → sessions.session_of t.state.sessions (sender h) ≡ Some s → h.life < s.life.0 → Passed (sv.take t h)
 unfolding sessions.take sessions.take_at
 taken_past t h s e lt =
     cond_either Passed (h.epoch == t.state.sessions.epoch.0) (sessions.take_at (sessions.session_of t.state.sessions (sender h)) (life_in h) h.number) takes.OtherEpoch
     (λ f. inr (ap (λ o. sessions.take_at o (life_in h) h.number) e ∙ taken_life s h lt)) (λ f. inl refl)
 
-s_request_by : (t : Turn) (now : Stamp) (h : Header) (b : Body) (k : Taken Body) → Passed k → Still t (request_by t now h b k)
+s_request_by : (t : ServerTurn) (now : Stamp) (h : Header) (b : Body) (k : Taken Body) → Passed k → Still t (request_by t now h b k)
 unfolding request_by refuse_epoch
 s_request_by t now h b takes.OtherEpoch p = s_reply t h _
 s_request_by t now h b takes.Stale p = refl
@@ -89,7 +89,7 @@ s_request_by t now h b takes.Fresh (inr e) = cc
 s_request_by t now h b takes.OutOfOrder (inl e) = cc
 s_request_by t now h b takes.OutOfOrder (inr e) = cc
 
-s_again : (t : Turn) (h : Header) (k : Taken Body) → Still t (reassert_again t h k)
+s_again : (t : ServerTurn) (h : Header) (k : Taken Body) → Still t (reassert_again t h k)
 unfolding reassert_again
 s_again t h (takes.Again r) = s_reply t h r
 s_again t h takes.OtherEpoch = refl
@@ -99,7 +99,7 @@ s_again t h takes.Fresh = refl
 s_again t h takes.OutOfOrder = refl
 
 -- a reassertion of a life that is past meets a session that knows it
-s_reassert : (t : Turn) (now : Stamp) (h : Header) (rs : List (ℕ × GrantNo × Mode)) (s : Session) → sessions.session_of t.state.sessions (sender h) ≡ Some s → h.life < s.life.0 → Still t (reassert t now h rs)
+s_reassert : (t : ServerTurn) (now : Stamp) (h : Header) (rs : List (ℕ × GrantNo × Mode)) (s : Session) → sessions.session_of t.state.sessions (sender h) ≡ Some s → h.life < s.life.0 → Still t (reassert t now h rs)
 unfolding reassert
 s_reassert t now h rs s e lt =
     cond_either (Still t) (sessions.knows t.state.sessions (sender h) (life_in h)) (reassert_again t h (sv.take t h)) (reassert_new t now h rs) (λ f. s_again t h (sv.take t h))
@@ -112,30 +112,30 @@ s_reassert t now h rs s e lt =
     known : sessions.knows t.state.sessions (sender h) (life_in h) ≡ true
     known = ap (λ o. sessions.knows_at o (life_in h)) e ∙ ap (λ b. b || (sessions.is_live s && (h.life == s.life.0))) (lt-ltb h.life s.life.0 lt)
 
-s_request : (t : Turn) (now : Stamp) (h : Header) (b : Body) (s : Session) → sessions.session_of t.state.sessions (sender h) ≡ Some s → h.life < s.life.0 → Still t (request t now h b)
+s_request : (t : ServerTurn) (now : Stamp) (h : Header) (b : Body) (s : Session) → sessions.session_of t.state.sessions (sender h) ≡ Some s → h.life < s.life.0 → Still t (request t now h b)
 unfolding request
 s_request t now h (bd.Reassert rs) s e lt = s_reassert t now h rs s e lt
 s_request t now h b s e lt = s_request_by t now h b (sv.take t h) (taken_past t h s e lt)
 
 -- what is old of a message with this body
-data OfOld (t : Turn) (h : Header) (b : Body) : Type 0 where
+data OfOld (t : ServerTurn) (h : Header) (b : Body) : Type 0 where
   EpochIsOther : (h.epoch == t.state.stable.epoch.0) ≡ false → OfOld t h b
   LifeIsPast : (s : Session) → sessions.session_of t.state.sessions (sender h) ≡ Some s → h.life < s.life.0 → OfOld t h b
 
-s_of_epoch : (t : Turn) (now : Stamp) (h : Header) (b : Body) → OfOld t h b → Still t (of_epoch t now h b)
+s_of_epoch : (t : ServerTurn) (now : Stamp) (h : Header) (b : Body) → OfOld t h b → Still t (of_epoch t now h b)
 unfolding of_epoch refuse_epoch
 s_of_epoch t now h b (EpochIsOther e) = subst (λ c. Still t (cond c (request t now h b) (refuse_epoch t h))) (sym e) (s_reply t h _)
 s_of_epoch t now h b (LifeIsPast s e lt) = cond_either (Still t) (h.epoch == t.state.stable.epoch.0) (request t now h b) (refuse_epoch t h) (λ f. s_request t now h b s e lt) (λ f. s_reply t h _)
 
-not_served : (t : Turn) (h : Header) (b : Body) → OfOld t h b → sv.is_served t h ≡ false
+not_served : (t : ServerTurn) (h : Header) (b : Body) → OfOld t h b → sv.is_served t h ≡ false
 not_served t h b (EpochIsOther e) = and_left _ _ e
 not_served t h b (LifeIsPast s e lt) = and_right (h.epoch == t.state.stable.epoch.0) _ (ap (sv.serves_at (life_in h)) e ∙ and_right (sessions.is_live s) _ (ne_eqb s.life.0 h.life (λ z. absurd (omega arith))))
 
-s_seen : (t : Turn) (h : Header) (ino : ℕ) (g : GrantNo) → sv.is_served t h ≡ false → Still t (demand_seen t h ino g)
+s_seen : (t : ServerTurn) (h : Header) (ino : ℕ) (g : GrantNo) → sv.is_served t h ≡ false → Still t (demand_seen t h ino g)
 unfolding demand_seen
-s_seen t h ino g e = subst (λ c. Still t (cond c (see_demand t h ino g) t)) (sym e) refl
+s_seen t h ino g e = subst (λ c. Still t (cond c (observe_demand t h ino g) t)) (sym e) refl
 
-old_kind : (t : Turn) (m : Message) (b : Body) → m.body ≡ b → Old t m → (b ≡ bd.Hello → ⊥) → OfOld t m.header b
+old_kind : (t : ServerTurn) (m : Message) (b : Body) → m.body ≡ b → Old t m → (b ≡ bd.Hello → ⊥) → OfOld t m.header b
 old_kind t m b e (inl o) n = EpochIsOther (let z = and_true _ _ o in other (m.header.epoch == t.state.stable.epoch.0) z.1)
   where
     other : (b : Bool) → not b ≡ true → b ≡ false
@@ -143,22 +143,22 @@ old_kind t m b e (inl o) n = EpochIsOther (let z = and_true _ _ o in other (m.he
     other false e = refl
 old_kind t m b e (inr o) n = let z = past_life (sessions.session_of t.state.sessions (sender m.header)) m.header o in LifeIsPast z.0 z.1 z.2
 
-old_greeting : (t : Turn) (m : Message) → m.body ≡ bd.Hello → Old t m → (s : Session) × (sessions.session_of t.state.sessions (sender m.header) ≡ Some s) × (m.header.life < s.life.0)
+old_greeting : (t : ServerTurn) (m : Message) → m.body ≡ bd.Hello → Old t m → (s : Session) × (sessions.session_of t.state.sessions (sender m.header) ≡ Some s) × (m.header.life < s.life.0)
 old_greeting t m e (inl o) = let z = and_true (not (is_greeting m.body)) (not (m.header.epoch == t.state.stable.epoch.0)) o in let y = ap (λ b. not (is_greeting b)) e in cc
 old_greeting t m e (inr o) = past_life (sessions.session_of t.state.sessions (sender m.header)) m.header o
 
-s_by_body : (t : Turn) (now : Stamp) (m : Message) (b : Body) → m.body ≡ b → Old t m → Still t (by_body t now m.header b)
+s_by_body : (t : ServerTurn) (now : Stamp) (m : Message) (b : Body) → m.body ≡ b → Old t m → Still t (by_body t now m.header b)
 unfolding by_body
 s_by_body t now m bd.Hello e o = let z = old_greeting t m e o in s_hello t now m.header z.0 z.1 z.2
 s_by_body t now m (bd.DemandSeen i g) e o = s_seen t m.header i g (not_served t m.header _ (old_kind t m _ e o (λ z. cc)))
 s_by_body t now m b e o = s_of_epoch t now m.header b (old_kind t m b e o (λ z. cc))
 
-s_refuse : (t : Turn) (h : Header) (start : Stamp) (b : Body) → Still t (refuse_suspect t h start b)
+s_refuse : (t : ServerTurn) (h : Header) (start : Stamp) (b : Body) → Still t (refuse_suspect t h start b)
 unfolding refuse_suspect
 s_refuse t h start (bd.DemandSeen i g) = refl
 s_refuse t h start b = s_reply t h _
 
-s_by_suspicion : (t : Turn) (now : Stamp) (m : Message) (x : Option Stamp) → Old t m → Still t (by_suspicion t now m.header m.body x)
+s_by_suspicion : (t : ServerTurn) (now : Stamp) (m : Message) (x : Option Stamp) → Old t m → Still t (by_suspicion t now m.header m.body x)
 unfolding by_suspicion
 s_by_suspicion t now m None o = s_by_body t now m m.body refl o
 s_by_suspicion t now m (Some start) o = s_refuse t m.header start m.body

@@ -9,7 +9,7 @@ use Rattle.st_messages.specs.declared.output.Output.{Output}
 use Rattle.st_messages.specs.declared.output.Output.TheVariants as outputs
 use Rattle.st_rules.specs.declared.input.ServerInput.{ServerInput}
 use Rattle.st_rules.specs.Authority as authority
-use Rattle.st_rules.specs.Server.{ServerState, Turn, reply, tell, steal_from, suspect_client, keep_and_reply, server_step}
+use Rattle.st_rules.specs.Server.{ServerState, ServerTurn, reply, tell, steal_from, suspect_client, keep_and_reply, server_step}
 use Rattle.st_lemmas.specs.Lists.{Has}
 use Rattle.st_laws_refine.specs.Server.Edits.{WishInput, Edit, TakesTimers, Steals, Suspects, Begins, DropsWaits, Keeps, Reasserts, Sees, Acquires, Releases, DropsFile, Grants, Demands, NamesChange, ExtentsChange, Cuts, Replies, Repeats, Refuses, TellsGrant, TellsDemand}
 use Rattle.st_laws_refine.proofs.Server.Walk.{walk}
@@ -35,13 +35,13 @@ all_has s T (x ∷ os) o a (inl e) = subst (OutOk s T) (sym e) a.one
 all_has s T (x ∷ os) o a (inr i) = all_has s T os o a.rest i
 
 -- the server's number and settings stay, and all that was put out is as it is to be
-pub record Outs (s : ℕ) (kb : base.Config) (T : ClientId → Life → Type 0) (t : Turn) : Type 0 where
+pub record Outs (s : ℕ) (kb : base.Config) (T : ClientId → Life → Type 0) (t : ServerTurn) : Type 0 where
   pub id : t.state.id.0 ≡ s
   pub config : t.state.config ≡ kb
   pub all : AllOk s T t.out
 
 module _ (s : ℕ) (kb : base.Config) (T : ClientId → Life → Type 0) where
-  pub outs_edit : (n : ServerState) (now : Stamp) (i : ServerInput) → ((c : ClientId) → Has c (authority.over n.authority now) → (life : Life) → T c life) → (t u : Turn) → Edit n now i t u → Outs s kb T t → Outs s kb T u
+  pub outs_edit : (n : ServerState) (now : Stamp) (i : ServerInput) → ((c : ClientId) → Has c (authority.over n.authority now) → (life : Life) → T c life) → (t u : ServerTurn) → Edit n now i t u → Outs s kb T t → Outs s kb T u
   unfolding steal_from suspect_client keep_and_reply reply tell
   outs_edit n now i h t u (TakesTimers _ first) o = record { id = o.id; config = o.config; all = o.all }
   outs_edit n now i h t u (Steals _ c x j e) o = record { id = o.id; config = o.config; all = all_append s T t.out _ o.all (h c j x.life) }

@@ -27,7 +27,7 @@ use Rattle.st_rules.specs.Sessions as sessions
 use Rattle.st_rules.specs.Authority as authority
 use Rattle.st_rules.specs.Authority.{Authority, is_suspect, suspect_of, new_suspect, may_ack, start_timer, suspects_of, client_of_suspect}
 use Rattle.st_rules.specs.Grace as grace
-use Rattle.st_rules.specs.Server.{ServerState, Turn, with_locks, in_grace, tell, suspect_client, suspect_unless, suspect_each, suspecting, suspecting_on, tell_granted, grant_by, grant_waiting, granting, tell_demanded, demand_by, is_tick, demanding}
+use Rattle.st_rules.specs.Server.{ServerState, ServerTurn, with_locks, in_grace, tell, suspect_client, suspect_unless, suspect_each, suspecting, suspecting_on, tell_granted, grant_by, grant_waiting, granting, tell_demanded, demand_by, is_tick, demanding}
 use Rattle.st_protocol.specs.Assoc as net
 use Rattle.st_protocol.specs.Assoc.{Config, Msg, msg, In, upd, Suspects, Grants, Demands, Moves, Stays}
 use Rattle.st_protocol.proofs.Lists.{upd-same, upd-other}
@@ -51,7 +51,7 @@ two modes.X = omega arith
 
 module _ (k : Config) (cl : net.Client) (d : ℕ) (now : Stamp) where
   -- a timer of this client, or of another, begins
-  suspect_frame : (t : Turn) (c : ClientId) → c.0 ≢ d → Frame d t.state (suspect_client t now c).state
+  suspect_frame : (t : ServerTurn) (c : ClientId) → c.0 ≢ d → Frame d t.state (suspect_client t now c).state
   unfolding suspect_client authority.suspect start_timer locks.drop_waits
   suspect_frame t c ne =
       cond_either (λ (a : Authority). Frame d t.state (record t.state { locks = locks.drop_waits t.state.locks c; authority = a })) (may_ack t.state.authority c) (start_timer t.state.authority c now) t.state.authority
@@ -74,7 +74,7 @@ module _ (k : Config) (cl : net.Client) (d : ℕ) (now : Stamp) where
       go s f (inl e) = absurd (ne (ap (λ (s : Suspect). s.client.0) (sym e) ∙ f))
       go s f (inr h) = h
 
-  suspect_own_goes : (t : Turn) (c : ClientId) → c.0 ≡ d → may_ack t.state.authority c ≡ true → Goes k cl d now t (suspect_client t now c)
+  suspect_own_goes : (t : ServerTurn) (c : ClientId) → c.0 ≡ d → may_ack t.state.authority c ≡ true → Goes k cl d now t (suspect_client t now c)
   unfolding suspect_client authority.suspect start_timer locks.drop_waits
   suspect_own_goes t c e m = record { go = λ x r. subst (λ a. Result k cl d now t (record { state = record t.state { locks = locks.drop_waits t.state.locks c; authority = a }; out = (suspect_client t now c).out }) x) (sym is) (result x r) }
     where
@@ -84,7 +84,7 @@ module _ (k : Config) (cl : net.Client) (d : ℕ) (now : Stamp) where
       is : authority.suspect t.state.authority c now ≡ a
       is = cond_either (λ y. y ≡ a) (may_ack t.state.authority c) a t.state.authority (λ e. refl) (λ f. cc)
 
-      v : Turn
+      v : ServerTurn
       v = record { state = record t.state { locks = locks.drop_waits t.state.locks c; authority = a }; out = (suspect_client t now c).out }
 
       none : suspect_of t.state.authority (client d) ≡ None
@@ -127,11 +127,11 @@ module _ (k : Config) (cl : net.Client) (d : ℕ) (now : Stamp) where
           once s f (inl z) = begun ∙ ap Some (sym z)
           once s f (inr h) = let z = none_has (is_suspect (client d)) t.state.authority.suspects none s h in let q = eq-eqb s.client.0 d f in cc
 
-  said_note : (t : Turn) (c : ClientId) (N : List Msg) → Said d t.out N → Said d (suspect_client t now c).out N
+  said_note : (t : ServerTurn) (c : ClientId) (N : List Msg) → Said d t.out N → Said d (suspect_client t now c).out N
   unfolding suspect_client
   said_note t c N s = said_append d t.out _ N s tt
 
-  pub suspect_goes : (t : Turn) (c : ClientId) → may_ack t.state.authority c ≡ true → Goes k cl d now t (suspect_client t now c)
+  pub suspect_goes : (t : ServerTurn) (c : ClientId) → may_ack t.state.authority c ≡ true → Goes k cl d now t (suspect_client t now c)
   suspect_goes t c m = go (same_or_not c.0 d)
     where
       said : (N : List Msg) → Said d t.out N → Said d (suspect_client t now c).out N
@@ -141,7 +141,7 @@ module _ (k : Config) (cl : net.Client) (d : ℕ) (now : Stamp) where
       go (inl e) = suspect_own_goes t c e m
       go (inr ne) = unseen k cl d now t (suspect_client t now c) (suspect_frame t c ne) said
 
-  suspect_pass : (cs : List ClientId) (t : Turn) → Goes k cl d now t (suspect_each now cs t)
+  suspect_pass : (cs : List ClientId) (t : ServerTurn) → Goes k cl d now t (suspect_each now cs t)
   unfolding suspect_each suspect_unless
   suspect_pass [] t = goes_same k cl d now t
   suspect_pass (c ∷ cs) t =
@@ -149,7 +149,7 @@ module _ (k : Config) (cl : net.Client) (d : ℕ) (now : Stamp) where
       (if_goes k cl d now t (may_ack t.state.authority c) (suspect_client t now c) t (λ m. suspect_goes t c m) (λ m. goes_same k cl d now t))
       (suspect_pass cs (suspect_unless t now c))
 
-  pub suspecting_goes : (t : Turn) (input : ServerInput) → Goes k cl d now t (suspecting_on t now input)
+  pub suspecting_goes : (t : ServerTurn) (input : ServerInput) → Goes k cl d now t (suspecting_on t now input)
   unfolding suspecting_on suspecting
   suspecting_goes t Tick = suspect_pass (locks.unanswered t.state.locks now t.state.config) t
   suspecting_goes t (Control m) = goes_same k cl d now t
@@ -167,17 +167,17 @@ module _ (k : Config) (cl : net.Client) (d : ℕ) (now : Stamp) where
   tells_append body epoch [] r N s e = record { one = e; rest = tt }
   tells_append body epoch (q ∷ rs) r N s e = record { one = s.one; rest = tells_append body epoch rs r N s.rest e }
 
-  record SoFar (t : Turn) (x : Ghost) (body : ℕ → GrantNo → Mode → Body) (l : Locks) (rs : List (ClientId × Life × ℕ × GrantNo × Mode)) : Type 0 where
+  record SoFar (t : ServerTurn) (x : Ghost) (body : ℕ → GrantNo → Mode → Body) (l : Locks) (rs : List (ClientId × Life × ℕ × GrantNo × Mode)) : Type 0 where
     ghost : Ghost
     moves : Moves k (observe k cl d now t.state x) (observe k cl d now (with_locks l t).state ghost)
     sound : Sound d k.wait now (with_locks l t).state ghost
     tells : Tells body t.state.stable.epoch.0 rs ghost.net
 
   -- one grant
-  abbrev pub granted_state : Turn → Locks → Waiter → ServerState
+  abbrev pub granted_state : ServerTurn → Locks → Waiter → ServerState
   granted_state t l w = (with_locks (grant l w.client w.life w.ino w.mode) t).state
 
-  pub grant_frame : (t : Turn) (l : Locks) (w : Waiter) → w.client.0 ≢ d → Frame d (with_locks l t).state (granted_state t l w)
+  pub grant_frame : (t : ServerTurn) (l : Locks) (w : Waiter) → w.client.0 ≢ d → Frame d (with_locks l t).state (granted_state t l w)
   unfolding grant
   grant_frame t l w ne =
       record {
@@ -202,7 +202,7 @@ module _ (k : Config) (cl : net.Client) (d : ℕ) (now : Stamp) where
   unfolding with_date
   shows_grant life epoch ino g m N i = record { one = i; rest = tt }
 
-  pub grant_moves : (t : Turn) (l : Locks) (w : Waiter) (y : Ghost) → grace.is_on t.state.grace now ≡ false → w.client.0 ≡ d →
+  pub grant_moves : (t : ServerTurn) (l : Locks) (w : Waiter) (y : Ghost) → grace.is_on t.state.grace now ≡ false → w.client.0 ≡ d →
       WaitOk (sessions.session_of t.state.sessions (client d)) (is_some (suspect_of t.state.authority (client d))) (row_view (row_of l (client d) w.ino)) t.state.stable.epoch.0 y.net w → Sound d k.wait now (with_locks l t).state y →
       (z : Ghost) × Moves k (observe k cl d now (with_locks l t).state y) (observe k cl d now (granted_state t l w) z) × Sound d k.wait now (granted_state t l w) z × In (msg w.life.0 t.state.stable.epoch.0 0 (net.Granted w.ino (next_grant l).0 (number_of w.mode))) z.net
   unfolding grant
@@ -285,7 +285,7 @@ module _ (k : Config) (cl : net.Client) (d : ℕ) (now : Stamp) where
               (record { served = q.served; some = let b = q.higher in omega arith }))
           row_ok i (inr ne) = subst (RowOk (sessions.session_of n.sessions (client d))) (sym (same i ne)) (s.rows i)
 
-  grants_one : (t : Turn) (x : Ghost) (p : Granting) (w : Waiter) → grace.is_on t.state.grace now ≡ false → Has w p.locks.waiters → SoFar t x bd.Granted p.locks p.granted → SoFar t x bd.Granted (grant_waiter p w).locks (grant_waiter p w).granted
+  grants_one : (t : ServerTurn) (x : Ghost) (p : Granting) (w : Waiter) → grace.is_on t.state.grace now ≡ false → Has w p.locks.waiters → SoFar t x bd.Granted p.locks p.granted → SoFar t x bd.Granted (grant_waiter p w).locks (grant_waiter p w).granted
   unfolding grant_waiter
   grants_one t x p w off h f = go (same_or_not w.client.0 d)
     where
@@ -316,7 +316,7 @@ module _ (k : Config) (cl : net.Client) (d : ℕ) (now : Stamp) where
       go true e = cc
       go false e = e
 
-  grants_file : (t : Turn) (x : Ghost) (ino : ℕ) (n : ℕ) (p : Granting) → grace.is_on t.state.grace now ≡ false → SoFar t x bd.Granted p.locks p.granted → SoFar t x bd.Granted (grant_file ino n p).locks (grant_file ino n p).granted
+  grants_file : (t : ServerTurn) (x : Ghost) (ino : ℕ) (n : ℕ) (p : Granting) → grace.is_on t.state.grace now ≡ false → SoFar t x bd.Granted p.locks p.granted → SoFar t x bd.Granted (grant_file ino n p).locks (grant_file ino n p).granted
   unfolding grant_file
   grants_file t x ino zero p off f = f
   grants_file t x ino (suc n) p off f = go (next_waiter p.locks ino) refl (λ q g. grants_file t x ino n q off g)
@@ -326,23 +326,23 @@ module _ (k : Config) (cl : net.Client) (d : ℕ) (now : Stamp) where
       go None e r = f
       go (Some w) e r = r (grant_waiter p w) (grants_one t x p w off (found_at (is_wait_on ino) p.locks.waiters w (grantable_is p.locks (find (is_wait_on ino) p.locks.waiters) w e)).1 f)
 
-  grants_files : (t : Turn) (x : Ghost) (inos : List ℕ) (p : Granting) → grace.is_on t.state.grace now ≡ false → SoFar t x bd.Granted p.locks p.granted → SoFar t x bd.Granted (grant_files inos p).locks (grant_files inos p).granted
+  grants_files : (t : ServerTurn) (x : Ghost) (inos : List ℕ) (p : Granting) → grace.is_on t.state.grace now ≡ false → SoFar t x bd.Granted p.locks p.granted → SoFar t x bd.Granted (grant_files inos p).locks (grant_files inos p).granted
   unfolding grant_files
   grants_files t x [] p off f = f
   grants_files t x (ino ∷ inos) p off f = grants_files t x inos (grant_file ino (length p.locks.waiters) p) off (grants_file t x ino (length p.locks.waiters) p off f)
 
   -- and then it is told
-  told_ready : (body : ℕ → GrantNo → Mode → Body) (t : Turn) (y : Ghost) (c : ClientId) (life : Life) (ino : ℕ) (g : GrantNo) (m : Mode) → Ready d k.wait now t y → (c.0 ≡ d → Shows life.0 t.state.stable.epoch.0 0 (shown 0 (body ino g m)) y.net) →
+  told_ready : (body : ℕ → GrantNo → Mode → Body) (t : ServerTurn) (y : Ghost) (c : ClientId) (life : Life) (ino : ℕ) (g : GrantNo) (m : Mode) → Ready d k.wait now t y → (c.0 ≡ d → Shows life.0 t.state.stable.epoch.0 0 (shown 0 (body ino g m)) y.net) →
       Ready d k.wait now (tell t c life (body ino g m)) y
   unfolding tell
   told_ready body t y c life ino g m r s = record { said = said_append d t.out _ y.net r.said (λ e. record { all = s e }); sound = r.sound }
 
-  grants_told : (rs : List (ClientId × Life × ℕ × GrantNo × Mode)) (t : Turn) (y : Ghost) → Ready d k.wait now t y → Tells bd.Granted t.state.stable.epoch.0 rs y.net → Ready d k.wait now (tell_granted rs t) y × ((tell_granted rs t).state ≡ t.state)
+  grants_told : (rs : List (ClientId × Life × ℕ × GrantNo × Mode)) (t : ServerTurn) (y : Ghost) → Ready d k.wait now t y → Tells bd.Granted t.state.stable.epoch.0 rs y.net → Ready d k.wait now (tell_granted rs t) y × ((tell_granted rs t).state ≡ t.state)
   unfolding tell_granted tell
   grants_told [] t y r s = (r, refl)
   grants_told (q ∷ rs) t y r s = grants_told rs (tell t q.0 q.1 (bd.Granted q.2 q.3 q.4)) y (told_ready bd.Granted t y q.0 q.1 q.2 q.3 q.4 r s.one) s.rest
 
-  pub granting_goes : (t : Turn) → Goes k cl d now t (granting t now)
+  pub granting_goes : (t : ServerTurn) → Goes k cl d now t (granting t now)
   unfolding granting grant_waiting grant_by next_grants
   granting_goes t = if_goes k cl d now t (in_grace t now) t (grant_waiting t) (λ e. goes_same k cl d now t) (λ off. record { go = λ x r. result x r off })
     where
@@ -352,7 +352,7 @@ module _ (k : Config) (cl : net.Client) (d : ℕ) (now : Stamp) where
       result : (x : Ghost) → Ready d k.wait now t x → grace.is_on t.state.grace now ≡ false → Result k cl d now t (grant_waiting t) x
       result x r off =
           let f = grants_files t x (waited_files t.state.locks) (locks.nothing_granted t.state.locks) off (record { ghost = x; moves = Stays (observe k cl d now t.state x); sound = r.sound; tells = tt }) in
-          let u : Turn = with_locks p.locks t in
+          let u : ServerTurn = with_locks p.locks t in
           let z = grants_told p.granted u f.ghost (record { said = said_more d t.out x.net f.ghost.net (moves_grow f.moves) r.said; sound = f.sound }) f.tells in
           record { ghost = f.ghost; moves = subst (λ n. Moves k (observe k cl d now t.state x) (observe k cl d now n f.ghost)) (sym z.1) f.moves; ready = z.0 }
 
@@ -367,7 +367,7 @@ module _ (k : Config) (cl : net.Client) (d : ℕ) (now : Stamp) where
           let z = none_passes (same_client c) (suspects_of a) h s.client (has_map_in client_of_suspect a.suspects s p.1) in
           let y = eq-eqb c.0 s.client.0 (e ∙ sym (eqb-true s.client.0 d p.0)) in cc
 
-  demand_frame : (t : Turn) (l : Locks) (r : LockRow) (x : RowDemand) → Frame d (with_locks l t).state (with_locks (with_demand r x l) t).state
+  demand_frame : (t : ServerTurn) (l : Locks) (r : LockRow) (x : RowDemand) → Frame d (with_locks l t).state (with_locks (with_demand r x l) t).state
   demand_frame t l r x = record { epoch = refl; lepoch = refl; sepoch = refl; await = refl; grace = refl; grants = omega arith; session = refl; suspect = refl; rows = λ i. demand_view l r x d i; waits = λ y h e. h; suspects = λ s h e. h }
 
   demand_moves : (n : ServerState) (y : Ghost) (ino : ℕ) (r : LockRow) (to : Mode) → row_of n.locks (client d) ino ≡ Some r → is_some (suspect_of n.authority (client d)) ≡ false → Sound d k.wait now n y →
@@ -384,7 +384,7 @@ module _ (k : Config) (cl : net.Client) (d : ℕ) (now : Stamp) where
       moves = moved k (observe k cl d now n y) _ (observe k cl d now n z) (one (Demands (observe k cl d now n y) ino (number_of to) (record { up = refl; free = free }) some) refl)
           (λ j. record { c = cl; s = half (client d) now n y; net = msg (row_or (row_view (e j))).life n.stable.epoch.0 0 (net.Demand ino (row_or (row_view (e j))).g (number_of to)) ∷ y.net })
 
-  demands_one : (t : Turn) (x : Ghost) (p : Demanding) (c : ClientId) (ino : ℕ) (r : LockRow) (o : Option RowDemand) → is_among (suspects_of t.state.authority) c ≡ false → row_of p.locks c ino ≡ Some r →
+  demands_one : (t : ServerTurn) (x : Ghost) (p : Demanding) (c : ClientId) (ino : ℕ) (r : LockRow) (o : Option RowDemand) → is_among (suspects_of t.state.authority) c ≡ false → row_of p.locks c ino ≡ Some r →
       SoFar t x bd.Demand p.locks p.due → SoFar t x bd.Demand (demand_with p r o).locks (demand_with p r o).due
   unfolding demand_with
   demands_one t x p c ino r None free e f = f
@@ -418,39 +418,39 @@ module _ (k : Config) (cl : net.Client) (d : ℕ) (now : Stamp) where
             tells = tells_append bd.Demand t.state.stable.epoch.0 p.due (r.client, r.life, r.ino, r.g, q.to) f.ghost.net f.tells (λ y. absurd (ne y));
           }
 
-  demands_row : (kb : base.Config) (tick : Bool) (to : Mode) (t : Turn) (x : Ghost) (p : Demanding) (c : ClientId) (ino : ℕ) (o : Option LockRow) → is_among (suspects_of t.state.authority) c ≡ false → row_of p.locks c ino ≡ o →
+  demands_row : (kb : base.Config) (tick : Bool) (to : Mode) (t : ServerTurn) (x : Ghost) (p : Demanding) (c : ClientId) (ino : ℕ) (o : Option LockRow) → is_among (suspects_of t.state.authority) c ≡ false → row_of p.locks c ino ≡ o →
       SoFar t x bd.Demand p.locks p.due → SoFar t x bd.Demand (demand_row kb now tick to o p).locks (demand_row kb now tick to o p).due
   unfolding demand_row
   demands_row kb tick to t x p c ino None free e f = f
   demands_row kb tick to t x p c ino (Some r) free e f = demands_one t x p c ino r (demand_now kb now tick to r.demand) free e f
 
-  demands_clients : (kb : base.Config) (tick : Bool) (to : Mode) (t : Turn) (x : Ghost) (ino : ℕ) (cs : List ClientId) (p : Demanding) → ((c : ClientId) → Has c cs → is_among (suspects_of t.state.authority) c ≡ false) →
+  demands_clients : (kb : base.Config) (tick : Bool) (to : Mode) (t : ServerTurn) (x : Ghost) (ino : ℕ) (cs : List ClientId) (p : Demanding) → ((c : ClientId) → Has c cs → is_among (suspects_of t.state.authority) c ≡ false) →
       SoFar t x bd.Demand p.locks p.due → SoFar t x bd.Demand (demand_clients kb now tick ino to cs p).locks (demand_clients kb now tick ino to cs p).due
   unfolding demand_clients
   demands_clients kb tick to t x ino [] p free f = f
   demands_clients kb tick to t x ino (c ∷ cs) p free f =
       demands_clients kb tick to t x ino cs (demand_row kb now tick to (row_of p.locks c ino) p) (λ c i. free c (inr i)) (demands_row kb tick to t x p c ino (row_of p.locks c ino) (free c (inl refl)) refl f)
 
-  demands_for : (kb : base.Config) (tick : Bool) (t : Turn) (x : Ghost) (o : Option Waiter) (p : Demanding) → SoFar t x bd.Demand p.locks p.due →
+  demands_for : (kb : base.Config) (tick : Bool) (t : ServerTurn) (x : Ghost) (o : Option Waiter) (p : Demanding) → SoFar t x bd.Demand p.locks p.due →
       SoFar t x bd.Demand (demand_for kb now tick (suspects_of t.state.authority) o p).locks (demand_for kb now tick (suspects_of t.state.authority) o p).due
   unfolding demand_for
   demands_for kb tick t x None p f = f
   demands_for kb tick t x (Some w) p f =
       demands_clients kb tick (wish w.mode) t x w.ino (to_demand p.locks (suspects_of t.state.authority) w) p (λ c i. not_true _ (has_filter (λ c. not (is_among (suspects_of t.state.authority) c)) _ c i).1) f
 
-  demands_files : (kb : base.Config) (tick : Bool) (t : Turn) (x : Ghost) (inos : List ℕ) (p : Demanding) → SoFar t x bd.Demand p.locks p.due →
+  demands_files : (kb : base.Config) (tick : Bool) (t : ServerTurn) (x : Ghost) (inos : List ℕ) (p : Demanding) → SoFar t x bd.Demand p.locks p.due →
       SoFar t x bd.Demand (demand_files kb now tick (suspects_of t.state.authority) inos p).locks (demand_files kb now tick (suspects_of t.state.authority) inos p).due
   unfolding demand_files
   demands_files kb tick t x [] p f = f
   demands_files kb tick t x (ino ∷ inos) p f =
       demands_files kb tick t x inos (demand_for kb now tick (suspects_of t.state.authority) (find (is_wait_on ino) p.locks.waiters) p) (demands_for kb tick t x (find (is_wait_on ino) p.locks.waiters) p f)
 
-  demands_told : (rs : List (ClientId × Life × ℕ × GrantNo × Mode)) (t : Turn) (y : Ghost) → Ready d k.wait now t y → Tells bd.Demand t.state.stable.epoch.0 rs y.net → Ready d k.wait now (tell_demanded rs t) y × ((tell_demanded rs t).state ≡ t.state)
+  demands_told : (rs : List (ClientId × Life × ℕ × GrantNo × Mode)) (t : ServerTurn) (y : Ghost) → Ready d k.wait now t y → Tells bd.Demand t.state.stable.epoch.0 rs y.net → Ready d k.wait now (tell_demanded rs t) y × ((tell_demanded rs t).state ≡ t.state)
   unfolding tell_demanded tell
   demands_told [] t y r s = (r, refl)
   demands_told (q ∷ rs) t y r s = demands_told rs (tell t q.0 q.1 (bd.Demand q.2 q.3 q.4)) y (told_ready bd.Demand t y q.0 q.1 q.2 q.3 q.4 r s.one) s.rest
 
-  pub demanding_goes : (t : Turn) (input : ServerInput) → Goes k cl d now t (demanding t now input)
+  pub demanding_goes : (t : ServerTurn) (input : ServerInput) → Goes k cl d now t (demanding t now input)
   unfolding demanding demand_by demands_due
   demanding_goes t input = record { go = result }
     where
@@ -460,6 +460,6 @@ module _ (k : Config) (cl : net.Client) (d : ℕ) (now : Stamp) where
       result : (x : Ghost) → Ready d k.wait now t x → Result k cl d now t (demand_by t p) x
       result x r =
           let f = demands_files t.state.config (is_tick input) t x (waited_files t.state.locks) (locks.nothing_demanded t.state.locks) (record { ghost = x; moves = Stays (observe k cl d now t.state x); sound = r.sound; tells = tt }) in
-          let u : Turn = with_locks p.locks t in
+          let u : ServerTurn = with_locks p.locks t in
           let z = demands_told p.due u f.ghost (record { said = said_more d t.out x.net f.ghost.net (moves_grow f.moves) r.said; sound = f.sound }) f.tells in
           record { ghost = f.ghost; moves = subst (λ n. Moves k (observe k cl d now t.state x) (observe k cl d now n f.ghost)) (sym z.1) f.moves; ready = z.0 }

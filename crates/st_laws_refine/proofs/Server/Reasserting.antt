@@ -31,7 +31,7 @@ use Rattle.st_rules.specs.Sessions.{Sessions, session_of, is_live, again, take_n
 use Rattle.st_rules.specs.Authority.{suspect_of}
 use Rattle.st_rules.specs.Grace as grace
 use Rattle.st_rules.specs.Grace.{is_new_grant, is_row_below, own_older, accepted, accept_installed, accept_own, accept_earlier, accept_rows, accept}
-use Rattle.st_rules.specs.Server.{ServerState, Turn, with_locks, with_sessions, sender, life_in, reply, take, refused_reassertion, reassert_by, reassert_new, reassert_again, reassert}
+use Rattle.st_rules.specs.Server.{ServerState, ServerTurn, with_locks, with_sessions, sender, life_in, reply, take, refused_reassertion, reassert_by, reassert_new, reassert_again, reassert}
 use Rattle.st_protocol.specs.Assoc as net
 use Rattle.st_protocol.specs.Assoc.{Config, Msg, msg, In, Server, Again, Acks, Accepts, Sweeps, Moves, Stays, GoesOn}
 use Rattle.st_laws_refine.specs.Views.Messages.{lock_in_row, lock_in, is_row_on, shown, Shows}
@@ -172,7 +172,7 @@ module _ (k : Config) (cl : net.Client) (now : Stamp) where
   is_live_of s last old e = ap sessions.is_live_state e
 
   -- the kept reply once more
-  pub again_goes : (t : Turn) (h : Header) (x : Ghost) (r : Body) → Ready h.from k.wait now t x → is_some (suspect_of t.state.authority (client h.from)) ≡ false → In (msg h.life t.state.stable.epoch.0 h.stamp net.Plain) x.net →
+  pub again_goes : (t : ServerTurn) (h : Header) (x : Ghost) (r : Body) → Ready h.from k.wait now t x → is_some (suspect_of t.state.authority (client h.from)) ≡ false → In (msg h.life t.state.stable.epoch.0 h.stamp net.Plain) x.net →
       TakeOk (session_of t.state.sessions (client h.from)) h.life h.number (takes.Again r) → Result k cl h.from now t (reply t h r) x
   again_goes t h x r rd free p tk =
       let s = tk.0 in
@@ -181,7 +181,7 @@ module _ (k : Config) (cl : net.Client) (now : Stamp) where
       replies k cl h.from now t h r x (record x { net = o.net }) (record { start = refl; gstart = refl; top = refl }) o.moves refl o.shows rd
 
   -- a reassertion that is accepted
-  accepts : (t : Turn) (h : Header) (rs : List (ℕ × GrantNo × Mode)) (x : Ghost) → Ready h.from k.wait now t x → is_some (suspect_of t.state.authority (client h.from)) ≡ false → grace.is_on t.state.grace now ≡ true →
+  accepts : (t : ServerTurn) (h : Header) (rs : List (ℕ × GrantNo × Mode)) (x : Ghost) → Ready h.from k.wait now t x → is_some (suspect_of t.state.authority (client h.from)) ≡ false → grace.is_on t.state.grace now ≡ true →
       In (msg h.life t.state.stable.epoch.0 h.stamp net.Plain) x.net → In (msg h.life t.state.stable.epoch.0 h.stamp (net.Reassert (λ i. lock_in rs i))) x.net → ((r : ℕ × GrantNo × Mode) → Has r rs → 1 ≤ number_of r.2) →
       life_view (session_of t.state.sessions (client h.from)) < h.life → ((i : ℕ) → row_view (row_of t.state.locks (client h.from) i) ≡ None) → ((w : Waiter) → Has w t.state.locks.waiters → w.client.0 ≡ h.from → ⊥) →
       Result k cl h.from now t (reply (with_sessions (sessions.reasserted t.state.sessions (sender h) (life_in h)) (with_locks (with_rows t.state.locks (sender h) (life_in h) rs) t)) h bd.Reasserted) x
@@ -273,7 +273,7 @@ module _ (k : Config) (cl : net.Client) (now : Stamp) where
 
   -- what is heard of a reassertion, and two facts that the association's own invariant gives: its grants are of earlier epochs,
   -- and no wait of this client stands
-  pub record Reassertion (t : Turn) (h : Header) (rs : List (ℕ × GrantNo × Mode)) (N : List Msg) : Type 0 where
+  pub record Reassertion (t : ServerTurn) (h : Header) (rs : List (ℕ × GrantNo × Mode)) (N : List Msg) : Type 0 where
     pub born : 1 ≤ h.life
     pub plain : In (msg h.life t.state.stable.epoch.0 h.stamp net.Plain) N
     pub locks : In (msg h.life t.state.stable.epoch.0 h.stamp (net.Reassert (λ i. lock_in rs i))) N
@@ -281,13 +281,13 @@ module _ (k : Config) (cl : net.Client) (now : Stamp) where
     pub earlier : grace.is_on t.state.grace now ≡ true → Earlier t.state.locks.epoch rs
     pub waits : grace.is_on t.state.grace now ≡ true → sessions.knows t.state.sessions (sender h) (life_in h) ≡ false → (w : Waiter) → Has w t.state.locks.waiters → w.client.0 ≡ h.from → ⊥
 
-  reasserted_again : (t : Turn) (h : Header) (x : Ghost) → Ready h.from k.wait now t x → is_some (suspect_of t.state.authority (client h.from)) ≡ false → In (msg h.life t.state.stable.epoch.0 h.stamp net.Plain) x.net →
+  reasserted_again : (t : ServerTurn) (h : Header) (x : Ghost) → Ready h.from k.wait now t x → is_some (suspect_of t.state.authority (client h.from)) ≡ false → In (msg h.life t.state.stable.epoch.0 h.stamp net.Plain) x.net →
       (tk : Taken Body) → TakeOk (session_of t.state.sessions (client h.from)) h.life h.number tk → Result k cl h.from now t (reassert_again t h tk) x
   unfolding reassert_again
   reasserted_again t h x rd free p (takes.Again r) ok = again_goes t h x r rd free p ok
   reasserted_again t h x rd free p tk ok = (goes_same k cl h.from now t).go x rd
 
-  reassert_own : (t : Turn) (h : Header) (rs : List (ℕ × GrantNo × Mode)) (x : Ghost) → Ready h.from k.wait now t x → is_some (suspect_of t.state.authority (client h.from)) ≡ false → Reassertion t h rs x.net → Result k cl h.from now t (reassert t now h rs) x
+  reassert_own : (t : ServerTurn) (h : Header) (rs : List (ℕ × GrantNo × Mode)) (x : Ghost) → Ready h.from k.wait now t x → is_some (suspect_of t.state.authority (client h.from)) ≡ false → Reassertion t h rs x.net → Result k cl h.from now t (reassert t now h rs) x
   unfolding reassert reassert_new reassert_by accept accept_rows accept_earlier accept_own accept_installed accepted install install_at
   reassert_own t h rs x rd free q =
       cond_either (λ u. Result k cl h.from now t u x) (sessions.knows t.state.sessions (sender h) (life_in h)) (reassert_again t h (take t h)) (reassert_new t now h rs)
@@ -314,11 +314,11 @@ module _ (k : Config) (cl : net.Client) (now : Stamp) where
       own new on (Some ino) e = (refused k cl now h.from t h (bd.Nack why.Conflict ino h.from) refl).go x rd
 
   -- and of another client
-  abbrev AcceptedFrame : ℕ → Turn → Res grace.Accepted AcceptRefusal → Type 0
+  abbrev AcceptedFrame : ℕ → ServerTurn → Res grace.Accepted AcceptRefusal → Type 0
   AcceptedFrame d t (Ok a) = Frame d t.state (with_sessions a.sessions (with_locks a.locks t)).state
   AcceptedFrame d t (Err r) = Unit {0}
 
-  accepted_other : (d : ℕ) (t : Turn) (c : ClientId) (life : Life) (rs : List (ℕ × GrantNo × Mode)) → c.0 ≢ d → AcceptedFrame d t (accept t.state.grace now c life rs t.state.locks t.state.sessions)
+  accepted_other : (d : ℕ) (t : ServerTurn) (c : ClientId) (life : Life) (rs : List (ℕ × GrantNo × Mode)) → c.0 ≢ d → AcceptedFrame d t (accept t.state.grace now c life rs t.state.locks t.state.sessions)
   unfolding accept accept_rows accept_earlier accept_own accept_installed accepted install install_at with_rows sessions.reasserted
   accepted_other d t c life rs ne =
       cond_either (AcceptedFrame d t) (grace.is_on t.state.grace now) (accept_rows t.state.locks t.state.sessions c life rs) (Err (refusals.GraceOver (grace.grace_start t.state.grace) now))
@@ -349,23 +349,23 @@ module _ (k : Config) (cl : net.Client) (now : Stamp) where
       earlier None = own (own_older t.state.locks c life)
       earlier (Some r) = tt
 
-  reassert_by_other : (d : ℕ) (t : Turn) (h : Header) → h.from ≢ d → (r : Res grace.Accepted AcceptRefusal) → AcceptedFrame d t r → Goes k cl d now t (reassert_by t h r)
+  reassert_by_other : (d : ℕ) (t : ServerTurn) (h : Header) → h.from ≢ d → (r : Res grace.Accepted AcceptRefusal) → AcceptedFrame d t r → Goes k cl d now t (reassert_by t h r)
   unfolding reassert_by
   reassert_by_other d t h ne (Ok a) f = goes_then k cl d now t (with_sessions a.sessions (with_locks a.locks t)) _ (unseen k cl d now t (with_sessions a.sessions (with_locks a.locks t)) f (λ N s. s)) (replies_other k cl d now _ h bd.Reasserted ne)
   reassert_by_other d t h ne (Err r) f = replies_other k cl d now t h (refused_reassertion r) ne
 
-  reassert_again_other : (d : ℕ) (t : Turn) (h : Header) → h.from ≢ d → (tk : Taken Body) → Goes k cl d now t (reassert_again t h tk)
+  reassert_again_other : (d : ℕ) (t : ServerTurn) (h : Header) → h.from ≢ d → (tk : Taken Body) → Goes k cl d now t (reassert_again t h tk)
   unfolding reassert_again
   reassert_again_other d t h ne (takes.Again r) = replies_other k cl d now t h r ne
   reassert_again_other d t h ne tk = goes_same k cl d now t
 
-  reassert_other : (d : ℕ) (t : Turn) (h : Header) (rs : List (ℕ × GrantNo × Mode)) → h.from ≢ d → Goes k cl d now t (reassert t now h rs)
+  reassert_other : (d : ℕ) (t : ServerTurn) (h : Header) (rs : List (ℕ × GrantNo × Mode)) → h.from ≢ d → Goes k cl d now t (reassert t now h rs)
   unfolding reassert reassert_new
   reassert_other d t h rs ne =
       if_goes k cl d now t (sessions.knows t.state.sessions (sender h) (life_in h)) (reassert_again t h (take t h)) (reassert_new t now h rs) (λ e. reassert_again_other d t h ne (take t h))
       (λ e. reassert_by_other d t h ne _ (accepted_other d t (sender h) (life_in h) rs ne))
 
-  pub reassert_goes : (d : ℕ) (t : Turn) (h : Header) (rs : List (ℕ × GrantNo × Mode)) (x : Ghost) → (h.from ≡ d → is_some (suspect_of t.state.authority (client d)) ≡ false) → (h.from ≡ d → Reassertion t h rs x.net) → Ready d k.wait now t x → Result k cl d now t (reassert t now h rs) x
+  pub reassert_goes : (d : ℕ) (t : ServerTurn) (h : Header) (rs : List (ℕ × GrantNo × Mode)) (x : Ghost) → (h.from ≡ d → is_some (suspect_of t.state.authority (client d)) ≡ false) → (h.from ≡ d → Reassertion t h rs x.net) → Ready d k.wait now t x → Result k cl d now t (reassert t now h rs) x
   reassert_goes d t h rs x free q r = go (same_or_not h.from d)
     where
       own : (d : ℕ) → h.from ≡ d → is_some (suspect_of t.state.authority (client d)) ≡ false → Reassertion t h rs x.net → Ready d k.wait now t x → Result k cl d now t (reassert t now h rs) x

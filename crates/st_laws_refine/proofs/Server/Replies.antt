@@ -21,7 +21,7 @@ use Rattle.st_rules.specs.Keys.{client}
 use Rattle.st_rules.specs.Authority as authority
 use Rattle.st_rules.specs.Authority.{Authority, suspect_of, is_over, is_suspect}
 use Rattle.st_rules.specs.Sessions.{session_of}
-use Rattle.st_rules.specs.Server.{ServerState, ServerNode, Turn, turn, with_authority, steal_at, steal_from, steal, steal_each, thefts, server_step}
+use Rattle.st_rules.specs.Server.{ServerState, ServerNode, ServerTurn, turn, with_authority, steal_at, steal_from, steal, steal_each, thefts, server_step}
 use Rattle.st_rules.specs.World.{World, numbered, node_of, clock_of, server}
 use Rattle.st_rules.specs.Events.{WorldTurn, quiet, counted, with_node, sends, cuts, server_notes, server_says, server_says_all, server_takes, world_step}
 use Rattle.st_rules.specs.History.{Traced, History, TimerStart, is_timer_of, recall_all, remember, traced_after}
@@ -31,8 +31,8 @@ use Rattle.st_lemmas.proofs.Tables.{and_both, cond_true, cond_false, found_at, h
 use Rattle.st_lemmas.proofs.Numbers.{numbered_more, numbered_below, numbered_own}
 use Rattle.st_laws_refine.specs.Server.Edits.{WishInput, NoSends}
 use Rattle.st_laws_refine.specs.Server.Pair.{terms_of}
-use Rattle.st_laws_refine.specs.Server.Stands.{Known, ByTick, ByMessage}
-use Rattle.st_laws_refine.specs.Server.Dated.{DatesLease, Dated, DatedAfter, RepliesStayDated}
+use Rattle.st_laws_refine.specs.Server.Invariants.{Known, ByTick, ByMessage}
+use Rattle.st_laws_refine.specs.Server.DatingReplies.{DatesLease, Dated, DatedAfter, RepliesStayDated}
 use Rattle.st_laws_refine.proofs.Server.Delivery.{takes_is, all_messages, all_parts, tick_is, delivery_is, taken, message_has, to_server}
 use Rattle.st_laws_refine.proofs.Server.Known.{There, there_end, known_step}
 use Rattle.st_laws_refine.proofs.Server.Thefts.{over_has, has_over}
@@ -68,14 +68,14 @@ module _ (w : World) (s : ℕ) (ts : List TimerStart) (a : Authority) where
   S = record { 0 = s }
 
   -- the thefts of these clients are still to come
-  record Stealing (cs : List ClientId) (t : Turn) : Type 0 where
+  record Stealing (cs : List ClientId) (t : ServerTurn) : Type 0 where
     id : t.state.id.0 ≡ s
     same : t.state.authority ≡ a
     met : (c : ClientId) → Has c cs → There t.state.sessions c
     quiet : NoSends t.out
     timers : (x : TimerStart) → Has x (timers_by w S t.out ts) → x.server.0 ≡ s → (is_some (suspect_of a x.client) ≡ true) ⊎ Has x.client cs
 
-  steals_one : (c : ClientId) (cs : List ClientId) (t : Turn) (x : Session) → Stealing (c ∷ cs) t → Stealing cs (steal_from t c x)
+  steals_one : (c : ClientId) (cs : List ClientId) (t : ServerTurn) (x : Session) → Stealing (c ∷ cs) t → Stealing cs (steal_from t c x)
   unfolding steal_from
   steals_one c cs t x k = record {
     id = k.id;
@@ -94,7 +94,7 @@ module _ (w : World) (s : ℕ) (ts : List TimerStart) (a : Authority) where
       by y f n (inr (inl e)) = absurd (clash (is_timer_of S c y) (and_both (y.server.0 == s) (y.client.0 == c.0) (eq-eqb _ _ f) (eq-eqb _ _ (ap (λ (c : ClientId). c.0) e))) n)
       by y f n (inr (inr h)) = inr h
 
-  steal_met : (c : ClientId) (cs : List ClientId) (t : Turn) (o : Option Session) → session_of t.state.sessions c ≡ o → Stealing (c ∷ cs) t → Stealing cs (steal_at t c o)
+  steal_met : (c : ClientId) (cs : List ClientId) (t : ServerTurn) (o : Option Session) → session_of t.state.sessions c ≡ o → Stealing (c ∷ cs) t → Stealing cs (steal_at t c o)
   unfolding steal_at
   steal_met c cs t None e k = let z = k.met c (inl refl) in let y = ap is_some e in absurd (none_there (session_of t.state.sessions c) e z)
     where
@@ -103,7 +103,7 @@ module _ (w : World) (s : ℕ) (ts : List TimerStart) (a : Authority) where
       none_there (Some x) e f = cc
   steal_met c cs t (Some x) e k = steals_one c cs t x k
 
-  steals : (cs : List ClientId) (t : Turn) → Stealing cs t → Stealing [] (steal_each cs t)
+  steals : (cs : List ClientId) (t : ServerTurn) → Stealing cs t → Stealing [] (steal_each cs t)
   unfolding steal_each steal
   steals [] t k = k
   steals (c ∷ cs) t k = steals cs (steal t c) (steal_met c cs t (session_of t.state.sessions c) refl k)
@@ -212,7 +212,7 @@ dated_step s t node i runs id pos known wish came d =
     Now : Stamp
     Now = clock_of t.world (nodes.Server (server s))
 
-    step : Turn
+    step : ServerTurn
     step = server_step node.state Now i
 
     w1 : World
@@ -263,7 +263,7 @@ after : (s : ℕ) (t : Traced) (node : ServerNode) (i : ServerInput) → node_of
     ((q : Message) → i ≡ Control q → (q.header.to ≡ 32768 + s) × (x : SentMessage) × Has x t.world.net.messages × (x.message ≡ q)) → Dated s t node → DatedAfter s (after_step t (server_takes (counted t.world) (server s) i node))
 after s t node i found runs id pos known wish came d =
     let now : Stamp = clock_of t.world (nodes.Server (server s)) in
-    let step : Turn = server_step node.state now i in
+    let step : ServerTurn = server_step node.state now i in
     record {
       node = record node { state = step.state };
       found = subst (λ (sc : WorldTurn). node_of sc.world (server s) ≡ Some (record node { state = step.state })) (sym (takes_is (counted t.world) (server s) i node runs))

@@ -41,14 +41,14 @@ use Rattle.st_protocol.proofs.Timing.{Timing}
 use Rattle.st_protocol.specs.Assoc as net
 use Rattle.st_protocol.specs.Assoc.{Config, ConfigOk, Works}
 use Rattle.st_protocol.proofs.World.{invariant}
-use Rattle.st_laws_refine.specs.Views.Messages.{Wishes, Heard}
+use Rattle.st_laws_refine.specs.Views.Messages.{Wishes, Received}
 use Rattle.st_laws_refine.specs.Views.Halves.{Ghost, row_or, row_view}
 use Rattle.st_laws_refine.specs.Server.Pair.{client_in, pair, EndedBy, Served, DatesShown, DatesKnown}
-use Rattle.st_laws_refine.proofs.Server.Step.{HeardInput}
+use Rattle.st_laws_refine.proofs.Server.Step.{ReceivedInput}
 use Rattle.st_laws_refine.specs.Server.Edits.{Wish, WishInput}
 use Rattle.st_laws_refine.proofs.Server.Compat.{compat_step}
 use Rattle.st_laws_refine.proofs.Server.Delivery.{ClientsSame, stepped, Steps, takes, taken, delivery_is, tick_is, message_has, to_server, takes_is}
-use Rattle.st_laws_refine.specs.Server.Stands.{Compat, pairs, Stands, Settings, Calm, Few}
+use Rattle.st_laws_refine.specs.Server.Invariants.{Compat, pairs, Stands, Settings, Calm, Few}
 use Rattle.st_laws_refine.proofs.Server.Late.{thefts_come_late}
 use Rattle.st_laws_refine.proofs.Views.Moves.{drift_same, Grows, moves_grow}
 
@@ -106,11 +106,11 @@ module _ (k : Config) (s : ℕ) (ended : ℕ → ℕ → ℕ) where
     pub keeps : (H : net.World) → Leads k H s ended w node G → Leads k H s ended v node2 ghosts
 
   pub works : (w : World) (node : ServerNode) (G : ℕ → Ghost) (i : ServerInput) → ConfigOk k → node.running ≡ true → Stands k s ended w node G →
-      ((c : ℕ) → HeardInput k (client_in w c s (ended c)) (clock_of w (nodes.Server (server s))) c i (G c).net) → WishInput i →
+      ((c : ℕ) → ReceivedInput k (client_in w c s (ended c)) (clock_of w (nodes.Server (server s))) c i (G c).net) → WishInput i →
       Stepped w (server_takes w (server s) i node).world node (stepped k 0 s (ended 0) w node i) G
-  works w node G i ok runs st heard wish =
+  works w node G i ok runs st received wish =
       let t : (c : ℕ) → Steps k c s (ended c) w (server_takes w (server s) i node).world node (stepped k 0 s (ended 0) w node i) (G c) =
-      λ c. takes k c s (ended c) w node (G c) i ok runs wish (st.served c) (heard c) (invariant k (pairs s ended w node G) ok st.reached c) in
+      λ c. takes k c s (ended c) w node (G c) i ok runs wish (st.served c) (received c) (invariant k (pairs s ended w node G) ok st.reached c) in
       let compat2 : Compat (stepped k 0 s (ended 0) w node i).state.locks = compat_step node.state (clock_of w (nodes.Server (server s))) i wish st.compat in
       record {
         ghosts = λ c. (t c).ghost;
@@ -163,9 +163,9 @@ module _ (k : Config) (s : ℕ) (ended : ℕ → ℕ → ℕ) where
   all_calm (outputs.Submit x y z ∷ os) sc a h = all_calm os _ a (says_calm (outputs.Submit x y z) sc tt h)
 
   stepped_late : (w : World) (node : ServerNode) (G : ℕ → Ghost) (i : ServerInput) → ConfigOk k → node.running ≡ true → Settings k w → ((c : ℕ) → EndedBy c s (ended c) w.ended) → Stands k s ended w node G →
-      ((c : ℕ) → HeardInput k (client_in w c s (ended c)) (clock_of w (nodes.Server (server s))) c i (G c).net) → WishInput i → Reassertions node.state (clock_of w (nodes.Server (server s))) i → w.net.bytes < 536870912 → SteppedLate w (server_takes (counted w) (server s) i node) node G
-  stepped_late w node G i ok runs settings ends st heard wish owed below =
-      let step = works (counted w) node G i ok runs (counted_stands w node G st) heard wish in
+      ((c : ℕ) → ReceivedInput k (client_in w c s (ended c)) (clock_of w (nodes.Server (server s))) c i (G c).net) → WishInput i → Reassertions node.state (clock_of w (nodes.Server (server s))) i → w.net.bytes < 536870912 → SteppedLate w (server_takes (counted w) (server s) i node) node G
+  stepped_late w node G i ok runs settings ends st received wish owed below =
+      let step = works (counted w) node G i ok runs (counted_stands w node G st) received wish in
       record {
         node2 = stepped k 0 s (ended 0) (counted w) node i;
         runs = runs;
@@ -192,11 +192,11 @@ module _ (k : Config) (s : ℕ) (ended : ℕ → ℕ → ℕ) where
       world_step w (events.Deliver n) ≡ Ok sc → message_of w n ≡ Some m → receiver_of m ≡ nodes.Server (server s) → Stands k s ended w node G → SteppedLate w sc node G
   delivered w n m sc node G ok pos runs settings ends e em er st =
       subst (λ sc. SteppedLate w sc node G) (sym (delivery_is k 0 s (ended 0) w n m node em er (st.served 0).found) ∙ taken w (events.Deliver n) sc e)
-      (stepped_late w node G (Control m.message) ok runs settings ends st heard (λ f. wish_of m.message.body (heard m.message.header.from f refl).wishes)
-      (reassertions k s ended w node G ok runs st m.message (λ f. heard m.message.header.from f refl)) (delivery_below w n m (step_happens w (events.Deliver n) sc e).0 em))
+      (stepped_late w node G (Control m.message) ok runs settings ends st received (λ f. wish_of m.message.body (received m.message.header.from f refl).wishes)
+      (reassertions k s ended w node G ok runs st m.message (λ f. received m.message.header.from f refl)) (delivery_below w n m (step_happens w (events.Deliver n) sc e).0 em))
     where
-      heard : (c : ℕ) → is_client_node m.message.header.from ≡ true → m.message.header.from ≡ c → Heard m.message.header m.message.body (G c).net
-      heard c f g = ((st.served c).wires m (message_has w n m em)).to_server (to_server m.message.header.to s pos er) f g
+      received : (c : ℕ) → is_client_node m.message.header.from ≡ true → m.message.header.from ≡ c → Received m.message.header m.message.body (G c).net
+      received c f g = ((st.served c).wires m (message_has w n m em)).to_server (to_server m.message.header.to s pos er) f g
 
   -- a tick of the server
   pub ticked : (w : World) (sc : WorldTurn) (node : ServerNode) (G : ℕ → Ghost) → ConfigOk k → node.running ≡ true → Settings k w → ((c : ℕ) → EndedBy c s (ended c) w.ended) →

@@ -14,7 +14,7 @@ use Rattle.st_rules.specs.declared.locks.RowDemand.{RowDemand}
 use Rattle.st_rules.specs.declared.locks.Waiter.{Waiter}
 use Rattle.st_rules.specs.Locks as locks
 use Rattle.st_rules.specs.Locks.{Locks, stands_against, grant, queue, release_to, first_conflict, with_rows, with_demand}
-use Rattle.st_rules.specs.Server.{ServerState, Turn, sender, life_in, reply, tell, steal_from, suspect_client, keep_and_reply, server_step}
+use Rattle.st_rules.specs.Server.{ServerState, ServerTurn, sender, life_in, reply, tell, steal_from, suspect_client, keep_and_reply, server_step}
 use Rattle.st_lemmas.specs.Lists.{Has}
 use Rattle.st_laws_refine.specs.Server.Edits.{AllSome, WishInput, Acquired, AtOnce, InTurn, Edit, TakesTimers, Steals, Suspects, Begins, DropsWaits, Keeps, Reasserts, Sees, Acquires, Releases, DropsFile, Grants, Demands, NamesChange, ExtentsChange, Cuts, Replies, Repeats, Refuses, TellsGrant, TellsDemand}
 use Rattle.st_laws_refine.proofs.Server.Walk.{walk}
@@ -40,7 +40,7 @@ module _ (P : Locks → Type 0) (k : Closed P) where
   acquired g l c life ino mode v (AtOnce off w f nobody) p = k.granted l c life ino mode (inl w) f p
   acquired g l c life ino mode v (InTurn w) p = k.queued l c life ino mode w p
 
-  pub table_edit : (n : ServerState) (now : Stamp) (i : ServerInput) (t u : Turn) → Edit n now i t u → P t.state.locks → P u.state.locks
+  pub table_edit : (n : ServerState) (now : Stamp) (i : ServerInput) (t u : ServerTurn) → Edit n now i t u → P t.state.locks → P u.state.locks
   unfolding steal_from suspect_client keep_and_reply reply tell
   table_edit n now i t u (TakesTimers _ first) p = p
   table_edit n now i t u (Steals _ c s h e) p = k.forget t.state.locks c p

@@ -13,7 +13,7 @@ use Rattle.st_rules.specs.Sessions as sessions
 use Rattle.st_rules.specs.Authority.{Authority, is_suspect, is_over, client_of_suspect, suspect_of, over, still_running}
 use Rattle.st_rules.specs.Grace as grace
 use Rattle.st_rules.specs.Grace.{Grace}
-use Rattle.st_rules.specs.Server.{ServerState, Turn, with_authority, steal_from, steal_at, steal, steal_each, thefts}
+use Rattle.st_rules.specs.Server.{ServerState, ServerTurn, with_authority, steal_from, steal_at, steal, steal_each, thefts}
 use Rattle.st_protocol.specs.Assoc as net
 use Rattle.st_protocol.specs.Assoc.{Config, Msg, Steals}
 use Rattle.st_laws_refine.specs.Views.Halves.{Ghost, half, row_or, row_view, life_view, live_view}
@@ -46,7 +46,7 @@ record Stolen (d : ℕ) (n v : ServerState) : Type 0 where
   waits : (w : Waiter) → Has w v.locks.waiters → w.client.0 ≡ d → Has w n.locks.waiters × IsNone (sessions.session_of n.sessions (client d))
   suspects : (s : Suspect) → Has s v.authority.suspects → s.client.0 ≡ d → Has s n.authority.suspects
 
-steal_other : (d : ℕ) (t : Turn) (c : ClientId) (o : Option Session) → c.0 ≢ d → Frame d t.state (steal_at t c o).state
+steal_other : (d : ℕ) (t : ServerTurn) (c : ClientId) (o : Option Session) → c.0 ≢ d → Frame d t.state (steal_at t c o).state
 unfolding steal_at steal_from locks.forget sessions.end
 steal_other d t c None ne = frame_same d t.state
 steal_other d t c (Some s) ne =
@@ -64,7 +64,7 @@ steal_other d t c (Some s) ne =
       suspects = λ s h e. h;
     }
 
-steal_own : (t : Turn) (c : ClientId) (o : Option Session) → sessions.session_of t.state.sessions c ≡ o → Stolen c.0 t.state (steal_at t c o).state
+steal_own : (t : ServerTurn) (c : ClientId) (o : Option Session) → sessions.session_of t.state.sessions c ≡ o → Stolen c.0 t.state (steal_at t c o).state
 unfolding steal_at steal_from locks.forget sessions.end
 steal_own t c None e =
     record {
@@ -153,15 +153,15 @@ stolen_twice d n v u f g =
       suspects = λ s h e. f.suspects s (g.suspects s h e) e;
     }
 
-steal_at_own : (d : ℕ) (t : Turn) (c : ClientId) → c.0 ≡ d → Stolen d t.state (steal t c).state
+steal_at_own : (d : ℕ) (t : ServerTurn) (c : ClientId) → c.0 ≡ d → Stolen d t.state (steal t c).state
 unfolding steal
 steal_at_own d t c e = subst (λ d. Stolen d t.state (steal t c).state) e (steal_own t c (sessions.session_of t.state.sessions c) refl)
 
-steal_at_other : (d : ℕ) (t : Turn) (c : ClientId) → c.0 ≢ d → Frame d t.state (steal t c).state
+steal_at_other : (d : ℕ) (t : ServerTurn) (c : ClientId) → c.0 ≢ d → Frame d t.state (steal t c).state
 unfolding steal
 steal_at_other d t c ne = steal_other d t c (sessions.session_of t.state.sessions c) ne
 
-stolen_more : (d : ℕ) (n : ServerState) (cs : List ClientId) (t : Turn) → Stolen d n t.state → Stolen d n (steal_each cs t).state
+stolen_more : (d : ℕ) (n : ServerState) (cs : List ClientId) (t : ServerTurn) → Stolen d n t.state → Stolen d n (steal_each cs t).state
 unfolding steal_each
 stolen_more d n [] t s = s
 stolen_more d n (c ∷ cs) t s = stolen_more d n cs (steal t c) (go (same_or_not c.0 d))
@@ -170,12 +170,12 @@ stolen_more d n (c ∷ cs) t s = stolen_more d n cs (steal t c) (go (same_or_not
     go (inl e) = stolen_twice d n t.state (steal t c).state s (steal_at_own d t c e)
     go (inr ne) = stolen_frame d n t.state (steal t c).state s (steal_at_other d t c ne)
 
-steal_none : (d : ℕ) (cs : List ClientId) (t : Turn) → ((c : ClientId) → Has c cs → c.0 ≢ d) → Frame d t.state (steal_each cs t).state
+steal_none : (d : ℕ) (cs : List ClientId) (t : ServerTurn) → ((c : ClientId) → Has c cs → c.0 ≢ d) → Frame d t.state (steal_each cs t).state
 unfolding steal_each
 steal_none d [] t h = frame_same d t.state
 steal_none d (c ∷ cs) t h = frame_then d t.state (steal t c).state _ (steal_at_other d t c (h c (inl refl))) (steal_none d cs (steal t c) (λ c i. h c (inr i)))
 
-steal_some : (d : ℕ) (cs : List ClientId) (t : Turn) (c : ClientId) → Has c cs → c.0 ≡ d → Stolen d t.state (steal_each cs t).state
+steal_some : (d : ℕ) (cs : List ClientId) (t : ServerTurn) (c : ClientId) → Has c cs → c.0 ≡ d → Stolen d t.state (steal_each cs t).state
 unfolding steal_each
 steal_some d [] t c h e = elim h [ ]
 steal_some d (b ∷ cs) t c h e = go (same_or_not b.0 d) h (λ i. steal_some d cs (steal t b) c i e)
@@ -186,12 +186,12 @@ steal_some d (b ∷ cs) t c h e = go (same_or_not b.0 d) h (λ i. steal_some d c
     go (inr ne) (inr i) r = frame_stolen d t.state (steal t b).state _ (steal_at_other d t b ne) (r i)
 
 -- only notes are said
-steal_said : (d : ℕ) (t : Turn) (c : ClientId) (o : Option Session) (N : List Msg) → Said d t.out N → Said d (steal_at t c o).out N
+steal_said : (d : ℕ) (t : ServerTurn) (c : ClientId) (o : Option Session) (N : List Msg) → Said d t.out N → Said d (steal_at t c o).out N
 unfolding steal_at steal_from
 steal_said d t c None N s = s
 steal_said d t c (Some x) N s = said_append d t.out _ N s tt
 
-steals_said : (d : ℕ) (cs : List ClientId) (t : Turn) (N : List Msg) → Said d t.out N → Said d (steal_each cs t).out N
+steals_said : (d : ℕ) (cs : List ClientId) (t : ServerTurn) (N : List Msg) → Said d t.out N → Said d (steal_each cs t).out N
 unfolding steal_each steal
 steals_said d [] t N s = s
 steals_said d (c ∷ cs) t N s = steals_said d cs (steal t c) N (steal_said d t c (sessions.session_of t.state.sessions c) N s)
@@ -250,7 +250,7 @@ module _ (k : Config) (cl : net.Client) (d : ℕ) (now : Stamp) where
       unwrap (Some z) = z
 
   -- a timer that is over
-  theft : (t : Turn) (x : Ghost) → Ready d k.wait now t x → (s : Suspect) → suspect_of t.state.authority (client d) ≡ Some s → is_over t.state.authority.wait now s ≡ true → Result k cl d now t (thefts t now) x
+  theft : (t : ServerTurn) (x : Ghost) → Ready d k.wait now t x → (s : Suspect) → suspect_of t.state.authority (client d) ≡ Some s → is_over t.state.authority.wait now s ≡ true → Result k cl d now t (thefts t now) x
   unfolding thefts still_running
   theft t x r s e o =
       record {
@@ -331,7 +331,7 @@ module _ (k : Config) (cl : net.Client) (d : ℕ) (now : Stamp) where
       }
 
   -- and where none of this client is over
-  no_theft : (t : Turn) (x : Ghost) → Ready d k.wait now t x → ((y : Suspect) → Has y t.state.authority.suspects → y.client.0 ≡ d → is_over t.state.authority.wait now y ≡ false) → Result k cl d now t (thefts t now) x
+  no_theft : (t : ServerTurn) (x : Ghost) → Ready d k.wait now t x → ((y : Suspect) → Has y t.state.authority.suspects → y.client.0 ≡ d → is_over t.state.authority.wait now y ≡ false) → Result k cl d now t (thefts t now) x
   unfolding thefts still_running
   no_theft t x r h =
       (unseen k cl d now t (thefts t now)
@@ -353,7 +353,7 @@ module _ (k : Config) (cl : net.Client) (d : ℕ) (now : Stamp) where
       (λ c i e. let o = over_has t.state.authority now c i in let z = h o.0 o.1 (ap (λ (c : ClientId). c.0) (sym o.3) ∙ e) in let y = o.2 in cc)))
       (λ N s. steals_said d (over t.state.authority now) (with_authority (still_running t.state.authority now) t) N s)).go x r
 
-  pub thefts_go : (t : Turn) → Goes k cl d now t (thefts t now)
+  pub thefts_go : (t : ServerTurn) → Goes k cl d now t (thefts t now)
   thefts_go t = record { go = λ x r. by x r (suspect_of t.state.authority (client d)) refl }
     where
       by_test : (x : Ghost) → Ready d k.wait now t x → (s : Suspect) → suspect_of t.state.authority (client d) ≡ Some s → (b : Bool) → is_over t.state.authority.wait now s ≡ b → Result k cl d now t (thefts t now) x

@@ -16,7 +16,7 @@ use Rattle.st_laws_refine.specs.Views.Halves.{Ghost}
 use Rattle.st_lemmas.specs.Lists.{Has}
 use Rattle.st_lemmas.proofs.Tables.{and_true, not_true, all_pass}
 use Rattle.st_laws_refine.specs.Server.Pair.{DatesShown, DatesKnown}
-use Rattle.st_laws_refine.specs.Server.Stands.{pairs, Stands}
+use Rattle.st_laws_refine.specs.Server.Invariants.{pairs, Stands}
 use Rattle.st_laws_refine.proofs.Server.Late.{clock_in}
 
 module _ (k : Config) (s : ℕ) (ended : ℕ → ℕ → ℕ) (t : Traced) (node : ServerNode) (G : ℕ → Ghost) where

@@ -54,7 +54,7 @@ use Rattle.st_rules.specs.Grace.{accept, accept_rows, accept_earlier, accept_own
 use Rattle.st_rules.specs.Dating.{is_request, may_date}
 use Rattle.st_rules.specs.Safety.{is_conflict}
 use Rattle.st_rules.specs.Server as sv
-use Rattle.st_rules.specs.Server.{is_client_node, ServerState, Turn, Replied, turn, with_locks, with_sessions, sender, life_in, reply, steal_at, steal_from, steal, steal_each, thefts, suspect_client, greet_as, greet_by, greet, refuse_in_grace, hello, demand_seen, see_demand, refuse_epoch, reassert_by, reassert_new, reassert_again, reassert, rule, keep_and_reply, keep, serve, request_by, request, of_epoch, by_body, refuse_suspect, by_suspicion, receive_from, receive, take_input, suspect_unless, suspect_each, suspecting, suspecting_on, tell_granted, grant_by, grant_waiting, granting, tell_demanded, demand_by, demanding, server_step, tell, refused_reassertion}
+use Rattle.st_rules.specs.Server.{is_client_node, ServerState, ServerTurn, Replied, turn, with_locks, with_sessions, sender, life_in, reply, steal_at, steal_from, steal, steal_each, thefts, suspect_client, greet_as, greet_by, greet, refuse_in_grace, hello, demand_seen, observe_demand, refuse_epoch, reassert_by, reassert_new, reassert_again, reassert, rule, keep_and_reply, keep, serve, request_by, request, of_epoch, by_body, refuse_suspect, by_suspicion, receive_from, receive, take_input, suspect_unless, suspect_each, suspecting, suspecting_on, tell_granted, grant_by, grant_waiting, granting, tell_demanded, demand_by, demanding, server_step, tell, refused_reassertion}
 use Rattle.st_lemmas.specs.Lists.{Has}
 use Rattle.st_lemmas.proofs.Tables.{cond_either, and_true, not_true, found_at, has_map, has_filter}
 use Rattle.st_lemmas.proofs.Keys.{rising_has}
@@ -81,12 +81,12 @@ no_sends_note (outputs.Answer c d ∷ os) o a b = no_sends_note os o a b
 no_sends_note (outputs.Submit c d e ∷ os) o a b = no_sends_note os o a b
 
 -- thefts send nothing
-steal_quiet : (t : Turn) (c : ClientId) (o : Option Session) → NoSends t.out → NoSends (steal_at t c o).out
+steal_quiet : (t : ServerTurn) (c : ClientId) (o : Option Session) → NoSends t.out → NoSends (steal_at t c o).out
 unfolding steal_at steal_from
 steal_quiet t c None q = q
 steal_quiet t c (Some s) q = no_sends_note t.out _ q tt
 
-steals_quiet : (cs : List ClientId) (t : Turn) → NoSends t.out → NoSends (steal_each cs t).out
+steals_quiet : (cs : List ClientId) (t : ServerTurn) → NoSends t.out → NoSends (steal_each cs t).out
 unfolding steal_each steal
 steals_quiet [] t q = q
 steals_quiet (c ∷ cs) t q = steals_quiet cs (steal t c) (steal_quiet t c (sessions.session_of t.state.sessions c) q)
@@ -95,18 +95,18 @@ pub thefts_quiet : (n : ServerState) (now : Stamp) → NoSends (thefts (turn n [
 unfolding thefts
 thefts_quiet n now = steals_quiet (authority.over n.authority now) _ tt
 
-module _ (n : ServerState) (now : Stamp) (i : ServerInput) (P : Turn → Type 0) (keeps : (t u : Turn) → Edit n now i t u → P t → P u) where
-  edit_any : {t u : Turn} → Edit n now i t u → P t → P u
+module _ (n : ServerState) (now : Stamp) (i : ServerInput) (P : ServerTurn → Type 0) (keeps : (t u : ServerTurn) → Edit n now i t u → P t → P u) where
+  edit_any : {t u : ServerTurn} → Edit n now i t u → P t → P u
   edit_any {t} {u} e p = keeps t u e p
 
   -- Thefts.
-  w_steal : (t : Turn) (c : ClientId) (o : Option Session) → sessions.session_of t.state.sessions c ≡ o → Has c (authority.over n.authority now) → P t →
+  w_steal : (t : ServerTurn) (c : ClientId) (o : Option Session) → sessions.session_of t.state.sessions c ≡ o → Has c (authority.over n.authority now) → P t →
       P (steal_at t c o)
   unfolding steal_at
   w_steal t c None e h p = p
   w_steal t c (Some s) e h p = edit_any (Steals t c s h e) p
 
-  w_steals : (cs : List ClientId) (t : Turn) → ((c : ClientId) → Has c cs → Has c (authority.over n.authority now)) → P t → P (steal_each cs t)
+  w_steals : (cs : List ClientId) (t : ServerTurn) → ((c : ClientId) → Has c cs → Has c (authority.over n.authority now)) → P t → P (steal_each cs t)
   unfolding steal_each steal
   w_steals [] t h p = p
   w_steals (c ∷ cs) t h p = w_steals cs (steal t c) (λ d k. h d (inr k)) (w_steal t c (sessions.session_of t.state.sessions c) refl (h c (inl refl)) p)
@@ -204,33 +204,33 @@ accept_off : (g : Option grace.Grace) (now : Stamp) (c : ClientId) (life : Life)
 unfolding accept
 accept_off g now c life rs l t e = ap (λ b. cond b (accept_rows l t c life rs) (Err (refusals.GraceOver (grace.grace_start g) now))) e
 
-module _ (n : ServerState) (now : Stamp) (m : Message) (P : Turn → Type 0) (keeps : (t u : Turn) → Edit n now (Control m) t u → P t → P u) where
-  edit : {t u : Turn} → Edit n now (Control m) t u → P t → P u
+module _ (n : ServerState) (now : Stamp) (m : Message) (P : ServerTurn → Type 0) (keeps : (t u : ServerTurn) → Edit n now (Control m) t u → P t → P u) where
+  edit : {t u : ServerTurn} → Edit n now (Control m) t u → P t → P u
   edit {t} {u} e p = keeps t u e p
 
   abbrev h : Header
   h = m.header
 
   -- a message of a client to this server, right after the thefts
-  record First (t : Turn) : Type 0 where
+  record First (t : ServerTurn) : Type 0 where
     is : t ≡ thefts (turn n []) now
     from : is_client_node h.from ≡ true
     there : h.to ≡ server_node t.state.id
 
   -- the sender has a session of its life
-  abbrev HasSession : Turn → Type 0
+  abbrev HasSession : ServerTurn → Type 0
   HasSession t = (s : Session) × (sessions.session_of t.state.sessions (sender h) ≡ Some s) × (s.life.0 ≡ h.life)
 
   -- a reply to a request, and an answer that is kept
-  says : (t : Turn) (b : Body) → is_request m.body ≡ true → is_conflict b ≡ false → (may_date h.number b ≡ true → Free t.state m) → P t → P (reply t h b)
+  says : (t : ServerTurn) (b : Body) → is_request m.body ≡ true → is_conflict b ≡ false → (may_date h.number b ≡ true → Free t.state m) → P t → P (reply t h b)
   says t b r c f p = edit (Replies t m b refl (record { calm = c; free = f; request = r })) p
 
-  answer : (t : Turn) (b : Body) → is_request m.body ≡ true → is_kept b ≡ true → Free t.state m → P t → P (serve h (sv.replied t b))
+  answer : (t : ServerTurn) (b : Body) → is_request m.body ≡ true → is_kept b ≡ true → Free t.state m → P t → P (serve h (sv.replied t b))
   unfolding serve keep keep_and_reply
   answer t b r k f p = says _ b r (kept_calm b k) (λ d. f) (edit (Keeps t (sender h) h.number b k) p)
 
   -- Greeting.
-  begins : (t : Turn) (c : ClientId) (life : Life) (rows : Bool) (o : Option Session) → P t →
+  begins : (t : ServerTurn) (c : ClientId) (life : Life) (rows : Bool) (o : Option Session) → P t →
       P (with_sessions (sessions.hello_at t.state.sessions c life rows o).sessions t)
   unfolding sessions.hello_at sessions.hello_by sessions.hello_live sessions.hello_again sessions.hello_higher sessions.hello_ended sessions.begin_session sessions.greeted
   begins t c life rows None p = edit (Begins t c life) p
@@ -244,7 +244,7 @@ module _ (n : ServerState) (now : Stamp) (m : Message) (P : Turn → Type 0) (ke
       Q : sessions.Greeted → Type 0
       Q g = P (with_sessions g.sessions t)
 
-  w_greet_as : (t : Turn) (x : Hello) → m.body ≡ bd.Hello → NoSends t.out → Free t.state m →
+  w_greet_as : (t : ServerTurn) (x : Hello) → m.body ≡ bd.Hello → NoSends t.out → Free t.state m →
       (x ≡ hellos.Wait → is_some (sessions.session_of t.state.sessions (sender h)) ≡ true) →
       (x ≡ hellos.Replaced → (s : Session) × (sessions.session_of (thefts (turn n []) now).state.sessions (sender h) ≡ Some s) × (s.life.0 < h.life)) →
       P t → P (greet_as t now h x)
@@ -254,7 +254,7 @@ module _ (n : ServerState) (now : Stamp) (m : Message) (P : Turn → Type 0) (ke
   w_greet_as t hellos.Old b q f w l p = p
   w_greet_as t hellos.Wait b q f w l p = says _ _ (ap is_request b) refl (λ d. cc) (edit (Suspects t (sender h) q f (inl (w refl))) p)
 
-  w_hello : (t : Turn) → m.body ≡ bd.Hello → First t → NoSends t.out → Free t.state m → P t → P (hello t now h)
+  w_hello : (t : ServerTurn) → m.body ≡ bd.Hello → First t → NoSends t.out → Free t.state m → P t → P (hello t now h)
   unfolding hello greet greet_by refuse_in_grace sessions.hello
   w_hello t b first q f p =
       cond_either P (sv.in_grace t now) (refuse_in_grace t h) (greet t now h) (λ e. says t _ (ap is_request b) refl (λ d. cc) p)
@@ -263,16 +263,16 @@ module _ (n : ServerState) (now : Stamp) (m : Message) (P : Turn → Type 0) (ke
       (λ w. let z = greeted_known t.state.sessions (sender h) (life_in h) (locks.has_rows t.state.locks (sender h)) (sessions.session_of t.state.sessions (sender h)) refl w in
       subst (λ v. is_some (sessions.session_of v (sender h)) ≡ true) (sym z.1) z.0)
       (λ w. let z = greeted_later t.state.sessions (sender h) (life_in h) (locks.has_rows t.state.locks (sender h)) (sessions.session_of t.state.sessions (sender h)) w in
-      (z.0, ap (λ (u : Turn). sessions.session_of u.state.sessions (sender h)) (sym first.is) ∙ z.1, z.2))
+      (z.0, ap (λ (u : ServerTurn). sessions.session_of u.state.sessions (sender h)) (sym first.is) ∙ z.1, z.2))
       (begins t (sender h) (life_in h) (locks.has_rows t.state.locks (sender h)) (sessions.session_of t.state.sessions (sender h)) p))
 
   -- Seen demands.
-  w_seen : (t : Turn) (ino : ℕ) (g : GrantNo) → m.body ≡ bd.DemandSeen ino g → First t → P t → P (demand_seen t h ino g)
-  unfolding demand_seen see_demand
-  w_seen t ino g b first p = cond_either P (sv.is_served t h) (see_demand t h ino g) t (λ e. edit (Sees t m ino g refl first.is b) p) (λ e. p)
+  w_seen : (t : ServerTurn) (ino : ℕ) (g : GrantNo) → m.body ≡ bd.DemandSeen ino g → First t → P t → P (demand_seen t h ino g)
+  unfolding demand_seen observe_demand
+  w_seen t ino g b first p = cond_either P (sv.is_served t h) (observe_demand t h ino g) t (λ e. edit (Sees t m ino g refl first.is b) p) (λ e. p)
 
   -- Reassertion.
-  w_again : (t : Turn) (tk : Taken Body) → is_request m.body ≡ true → Free t.state m →
+  w_again : (t : ServerTurn) (tk : Taken Body) → is_request m.body ≡ true → Free t.state m →
       TakeOk (sessions.session_of t.state.sessions (sender h)) h.life h.number tk → P t → P (reassert_again t h tk)
   unfolding reassert_again
   w_again t (takes.Again b) r f k p = edit (Repeats t m k.0 h.number b refl r f k.1 k.3) p
@@ -283,11 +283,11 @@ module _ (n : ServerState) (now : Stamp) (m : Message) (P : Turn → Type 0) (ke
   w_again t takes.OutOfOrder r f k p = p
 
   -- grace is over
-  w_over : (t : Turn) → is_request m.body ≡ true → P t → P (reassert_by t h (Err (refusals.GraceOver (grace.grace_start t.state.grace) now)))
+  w_over : (t : ServerTurn) → is_request m.body ≡ true → P t → P (reassert_by t h (Err (refusals.GraceOver (grace.grace_start t.state.grace) now)))
   unfolding reassert_by
   w_over t r p = says t _ r refl (λ d. cc) p
 
-  w_accept : (t : Turn) (x : Res grace.Accepted AcceptRefusal) (rs : List (ℕ × GrantNo × Mode)) → Free t.state m → AllSome rs → InGrace n now t m rs →
+  w_accept : (t : ServerTurn) (x : Res grace.Accepted AcceptRefusal) (rs : List (ℕ × GrantNo × Mode)) → Free t.state m → AllSome rs → InGrace n now t m rs →
       accept t.state.grace now (sender h) (life_in h) rs t.state.locks t.state.sessions ≡ x → P t → P (reassert_by t h x)
   unfolding reassert_by
   w_accept t (Err r) rs f w g e p = edit (Refuses t m rs r refl f g e) p
@@ -296,7 +296,7 @@ module _ (n : ServerState) (now : Stamp) (m : Message) (P : Turn → Type 0) (ke
       subst (λ (a : grace.Accepted). P (reply (with_sessions a.sessions (with_locks a.locks t)) h bd.Reasserted)) (sym z.1)
       (says _ bd.Reasserted (ap is_request g.body) refl (λ d. f) (edit (Reasserts t m rs refl w g z.0) p))
 
-  w_reassert : (t : Turn) (rs : List (ℕ × GrantNo × Mode)) → m.body ≡ bd.Reassert rs → First t → h.epoch ≡ t.state.stable.epoch.0 → Free t.state m →
+  w_reassert : (t : ServerTurn) (rs : List (ℕ × GrantNo × Mode)) → m.body ≡ bd.Reassert rs → First t → h.epoch ≡ t.state.stable.epoch.0 → Free t.state m →
       AllSome rs → P t → P (reassert t now h rs)
   unfolding reassert reassert_new
   w_reassert t rs b first ep f w p =
@@ -310,14 +310,14 @@ module _ (n : ServerState) (now : Stamp) (m : Message) (P : Turn → Type 0) (ke
       by_grace new false off = subst (λ x. P (reassert_by t h x)) (sym (accept_off t.state.grace now (sender h) (life_in h) rs t.state.locks t.state.sessions off)) (w_over t (ap is_request b) p)
 
   -- Requests.
-  w_more : (t : Turn) (c : ClientId) (life : Life) (ino : ℕ) (mode : Mode) → 1 ≤ number_of mode →
+  w_more : (t : ServerTurn) (c : ClientId) (life : Life) (ino : ℕ) (mode : Mode) → 1 ≤ number_of mode →
       Acquired (grace.is_on t.state.grace now) t.state.locks c life ino mode (acquire_more t.state.locks c life ino mode (sv.grants_now t now)).locks
   unfolding acquire_more acquire_granted acquire_queued
   w_more t c life ino mode w =
       cond_either (λ (a : locks.Acquired). Acquired (grace.is_on t.state.grace now) t.state.locks c life ino mode a.locks) (may_grant t.state.locks c ino mode (sv.grants_now t now)) (acquire_granted t.state.locks c life ino mode) (acquire_queued t.state.locks c life ino mode)
       (λ e. let z = and_true (sv.grants_now t now) _ e in AtOnce (not_true _ z.0) w (not_true _ (and_true _ _ z.1).1) (not_true _ (and_true _ _ z.1).0)) (λ e. InTurn w)
 
-  w_acquired : (t : Turn) (ino : ℕ) (mode : Mode) (a : locks.Acquired) → m.body ≡ bd.Acquire ino mode → First t → HasSession t → Free t.state m →
+  w_acquired : (t : ServerTurn) (ino : ℕ) (mode : Mode) (a : locks.Acquired) → m.body ≡ bd.Acquire ino mode → First t → HasSession t → Free t.state m →
       Acquired (grace.is_on t.state.grace now) t.state.locks (sender h) (life_in h) ino mode a.locks → P t → P (serve h (sv.acquire_by t ino mode (Ok a)))
   unfolding serve keep sv.acquire_by
   w_acquired t ino mode a b first has f q p =
@@ -328,16 +328,16 @@ module _ (n : ServerState) (now : Stamp) (m : Message) (P : Turn → Type 0) (ke
       verdict (verdicts.Granted g held) = refl
       verdict (verdicts.Queued cs) = refl
 
-  w_full : (t : Turn) (ino : ℕ) (mode : Mode) → is_request m.body ≡ true → Free t.state m → P t → P (serve h (sv.acquire_by t ino mode (Err TooManyLocks)))
+  w_full : (t : ServerTurn) (ino : ℕ) (mode : Mode) → is_request m.body ≡ true → Free t.state m → P t → P (serve h (sv.acquire_by t ino mode (Err TooManyLocks)))
   unfolding sv.acquire_by
   w_full t ino mode r f p = answer t _ r refl f p
 
-  w_held : (t : Turn) (ino : ℕ) (mode : Mode) (x : LockRow) → is_request m.body ≡ true → Free t.state m → P t →
+  w_held : (t : ServerTurn) (ino : ℕ) (mode : Mode) (x : LockRow) → is_request m.body ≡ true → Free t.state m → P t →
       P (serve h (sv.acquire_by t ino mode (Ok (acquire_held t.state.locks x))))
   unfolding sv.acquire_by acquire_held
   w_held t ino mode x r f p = answer t _ r refl f p
 
-  w_acquire_at : (t : Turn) (ino : ℕ) (mode : Mode) (o : Option LockRow) → m.body ≡ bd.Acquire ino mode → First t → HasSession t → Free t.state m →
+  w_acquire_at : (t : ServerTurn) (ino : ℕ) (mode : Mode) (o : Option LockRow) → m.body ≡ bd.Acquire ino mode → First t → HasSession t → Free t.state m →
       1 ≤ number_of mode → P t → P (serve h (sv.acquire_by t ino mode (acquire_at t.state.locks (sender h) (life_in h) ino mode (sv.grants_now t now) o)))
   unfolding acquire_at acquire_new acquire_over acquire_held
   w_acquire_at t ino mode None b first has f w p =
@@ -351,7 +351,7 @@ module _ (n : ServerState) (now : Stamp) (m : Message) (P : Turn → Type 0) (ke
       Q : locks.Acquired → Type 0
       Q x = P (serve h (sv.acquire_by t ino mode (Ok x)))
 
-  w_released_at : (t : Turn) (ino : ℕ) (g : GrantNo) (to : Mode) (o : Option LockRow) → row_of t.state.locks (sender h) ino ≡ o →
+  w_released_at : (t : ServerTurn) (ino : ℕ) (g : GrantNo) (to : Mode) (o : Option LockRow) → row_of t.state.locks (sender h) ino ≡ o →
       m.body ≡ bd.Released ino g to → First t → Free t.state m → P t →
       P (serve h (sv.released_by t (released_at t.state.locks (sender h) (life_in h) ino g to o)))
   unfolding released_at locks.release locks.not_released sv.released_by
@@ -362,54 +362,54 @@ module _ (n : ServerState) (now : Stamp) (m : Message) (P : Turn → Type 0) (ke
       Q : Released → Type 0
       Q x = P (serve h (sv.replied (with_locks x.locks t) bd.Ack))
 
-  w_allocated : (t : Turn) (ino : ℕ) (page : PageNo) (count : ℕ) (x : Res Extents AllocateRefusal) → is_request m.body ≡ true → Free t.state m → P t →
+  w_allocated : (t : ServerTurn) (ino : ℕ) (page : PageNo) (count : ℕ) (x : Res Extents AllocateRefusal) → is_request m.body ≡ true → Free t.state m → P t →
       P (serve h (sv.allocate_by t ino page count x))
   unfolding sv.allocate_by sv.with_extents_told
   w_allocated t ino page count (Ok x) r f p = answer _ _ r refl f (edit (ExtentsChange t x) p)
   w_allocated t ino page count (Err (wants.NoSpace a b)) r f p = answer t _ r refl f p
 
-  w_cut : (t : Turn) (ino : ℕ) (page : PageNo) → P t → P (sv.cut_pages t ino page)
+  w_cut : (t : ServerTurn) (ino : ℕ) (page : PageNo) → P t → P (sv.cut_pages t ino page)
   unfolding sv.cut_pages
   w_cut t ino page p = edit (Cuts _ _ page) (edit (ExtentsChange t _) p)
 
-  cut_free : (t : Turn) (ino : ℕ) (page : PageNo) → Free t.state m → Free (sv.cut_pages t ino page).state m
+  cut_free : (t : ServerTurn) (ino : ℕ) (page : PageNo) → Free t.state m → Free (sv.cut_pages t ino page).state m
   unfolding sv.cut_pages
   cut_free t ino page f = f
 
-  w_found : (t : Turn) (x : Res ℕ EntryRefusal) → is_request m.body ≡ true → Free t.state m → P t → P (serve h (sv.name_found t x))
+  w_found : (t : ServerTurn) (x : Res ℕ EntryRefusal) → is_request m.body ≡ true → Free t.state m → P t → P (serve h (sv.name_found t x))
   unfolding sv.name_found sv.name_refused
   w_found t (Ok i) r f p = answer t _ r refl f p
   w_found t (Err x) r f p = answer t _ r refl f p
 
-  w_changed : (t : Turn) (x : Res names.Changed EntryRefusal) → is_request m.body ≡ true → Free t.state m → P t → P (serve h (sv.name_changed t x))
+  w_changed : (t : ServerTurn) (x : Res names.Changed EntryRefusal) → is_request m.body ≡ true → Free t.state m → P t → P (serve h (sv.name_changed t x))
   unfolding sv.name_changed sv.name_refused
   w_changed t (Ok x) r f p = answer _ _ r refl f (edit (NamesChange t x.names) p)
   w_changed t (Err x) r f p = answer t _ r refl f p
 
-  w_listed : (t : Turn) (x : Res (List NameRow) EntryRefusal) → is_request m.body ≡ true → Free t.state m → P t → P (serve h (sv.names_listed t x))
+  w_listed : (t : ServerTurn) (x : Res (List NameRow) EntryRefusal) → is_request m.body ≡ true → Free t.state m → P t → P (serve h (sv.names_listed t x))
   unfolding sv.names_listed sv.name_refused
   w_listed t (Ok x) r f p = answer t _ r refl f p
   w_listed t (Err x) r f p = answer t _ r refl f p
 
-  w_whole : (t : Turn) (dir : ℕ) (nm : List ℕ) (g : GrantNo) (ino : ℕ) → m.body ≡ bd.Name (Remove dir nm g) →
+  w_whole : (t : ServerTurn) (dir : ℕ) (nm : List ℕ) (g : GrantNo) (ino : ℕ) → m.body ≡ bd.Name (Remove dir nm g) →
       names.lookup (thefts (turn n []) now).state.stable.names dir nm ≡ Ok ino → P t → P (sv.cut_whole t ino)
   unfolding sv.cut_whole
   w_whole t dir nm g ino b e p = w_cut _ ino _ (edit (DropsFile t m dir nm g ino refl b e) p)
 
-  whole_free : (t : Turn) (ino : ℕ) → Free t.state m → Free (sv.cut_whole t ino).state m
+  whole_free : (t : ServerTurn) (ino : ℕ) → Free t.state m → Free (sv.cut_whole t ino).state m
   unfolding sv.cut_whole sv.cut_pages
   whole_free t ino f = f
 
-  w_removed : (t : Turn) (dir : ℕ) (nm : List ℕ) (g : GrantNo) (x : Res names.Changed EntryRefusal) → m.body ≡ bd.Name (Remove dir nm g) → First t →
+  w_removed : (t : ServerTurn) (dir : ℕ) (nm : List ℕ) (g : GrantNo) (x : Res names.Changed EntryRefusal) → m.body ≡ bd.Name (Remove dir nm g) → First t →
       names.remove t.state.stable.names dir nm ≡ x → Free t.state m → P t → P (serve h (sv.remove_by t x))
   unfolding sv.remove_by sv.name_refused
   w_removed t dir nm g (Ok x) b first e f p =
       answer _ _ (ap is_request b) refl (whole_free _ x.ino f)
-      (w_whole _ dir nm g x.ino b (ap (λ (u : Turn). names.lookup u.state.stable.names dir nm) (sym first.is) ∙ removed_ino t.state.stable.names dir nm x e)
+      (w_whole _ dir nm g x.ino b (ap (λ (u : ServerTurn). names.lookup u.state.stable.names dir nm) (sym first.is) ∙ removed_ino t.state.stable.names dir nm x e)
       (edit (NamesChange t x.names) p))
   w_removed t dir nm g (Err x) b first e f p = answer t _ (ap is_request b) refl f p
 
-  w_remove : (t : Turn) (dir : ℕ) (nm : List ℕ) (g : GrantNo) (x : Res ℕ EntryRefusal) → m.body ≡ bd.Name (Remove dir nm g) → First t → Free t.state m → P t →
+  w_remove : (t : ServerTurn) (dir : ℕ) (nm : List ℕ) (g : GrantNo) (x : Res ℕ EntryRefusal) → m.body ≡ bd.Name (Remove dir nm g) → First t → Free t.state m → P t →
       P (serve h (sv.remove_found t h dir nm g x))
   unfolding sv.remove_found sv.remove_ino sv.remove_file sv.remove_dir sv.name_refused sv.not_holder
   w_remove t dir nm g (Err x) b first f p = answer t _ (ap is_request b) refl f p
@@ -420,7 +420,7 @@ module _ (n : ServerState) (now : Stamp) (m : Message) (P : Turn → Type 0) (ke
       A : Replied → Type 0
       A a = P (serve h a)
 
-  w_name : (t : Turn) (op : NameOp) → m.body ≡ bd.Name op → First t → Free t.state m → P t → P (serve h (sv.name t h op))
+  w_name : (t : ServerTurn) (op : NameOp) → m.body ≡ bd.Name op → First t → Free t.state m → P t → P (serve h (sv.name t h op))
   unfolding sv.name sv.remove
   w_name t (Lookup dir nm) b first f p = w_found t _ (ap is_request b) f p
   w_name t (Create dir nm) b first f p = w_changed t _ (ap is_request b) f p
@@ -429,11 +429,11 @@ module _ (n : ServerState) (now : Stamp) (m : Message) (P : Turn → Type 0) (ke
   w_name t (Rename dir nm dir2 n2) b first f p = w_changed t _ (ap is_request b) f p
   w_name t (ListFrom dir after) b first f p = w_listed t _ (ap is_request b) f p
 
-  silent : (t : Turn) → P t → P (serve h (sv.silent t))
+  silent : (t : ServerTurn) → P t → P (serve h (sv.silent t))
   unfolding serve keep
   silent t p = p
 
-  w_rule : (t : Turn) (b : Body) → m.body ≡ b → First t → HasSession t → is_request m.body ≡ true → Free t.state m → Wish b → P t → P (serve h (rule t now h b))
+  w_rule : (t : ServerTurn) (b : Body) → m.body ≡ b → First t → HasSession t → is_request m.body ≡ true → Free t.state m → Wish b → P t → P (serve h (rule t now h b))
   unfolding rule sv.keep_alive sv.acquire sv.acquire_lock sv.no_file locks.acquire sv.released locks.released sv.map sv.map_held sv.map_page sv.not_holder sv.allocate sv.allocate_held sv.allocate_pages sv.cut sv.cut_held sv.cut_from
   w_rule t bd.KeepAlive is first has r f w p = answer t _ r refl f p
   w_rule t (bd.Acquire i md) is first has r f w p = cond_either A (sv.is_file t i) (sv.acquire_lock t now h i md) (sv.no_file t i) (λ e. w_acquire_at t i md _ is first has f w p) (λ e. answer t _ r refl f p)
@@ -456,7 +456,7 @@ module _ (n : ServerState) (now : Stamp) (m : Message) (P : Turn → Type 0) (ke
   w_rule t (bd.Name op) is first has r f w p = w_name t op is first f p
   w_rule t b is first has r f w p = silent t p
 
-  w_request_by : (t : Turn) (b : Body) (tk : Taken Body) → m.body ≡ b → First t → is_request m.body ≡ true → Free t.state m →
+  w_request_by : (t : ServerTurn) (b : Body) (tk : Taken Body) → m.body ≡ b → First t → is_request m.body ≡ true → Free t.state m →
       TakeOk (sessions.session_of t.state.sessions (sender h)) h.life h.number tk → Wish b → P t → P (request_by t now h b tk)
   unfolding request_by refuse_epoch
   w_request_by t b takes.OtherEpoch is first r f k w p = says t _ r refl (λ d. cc) p
@@ -466,28 +466,28 @@ module _ (n : ServerState) (now : Stamp) (m : Message) (P : Turn → Type 0) (ke
   w_request_by t b takes.OutOfOrder is first r f k w p = p
   w_request_by t b takes.Fresh is first r f k w p = w_rule t b is first (k.0, k.1, k.2) r f w p
 
-  w_request : (t : Turn) (b : Body) → m.body ≡ b → First t → h.epoch ≡ t.state.stable.epoch.0 → is_request m.body ≡ true → Free t.state m → Wish b → P t →
+  w_request : (t : ServerTurn) (b : Body) → m.body ≡ b → First t → h.epoch ≡ t.state.stable.epoch.0 → is_request m.body ≡ true → Free t.state m → Wish b → P t →
       P (request t now h b)
   unfolding request
   w_request t (bd.Reassert rs) e first ep r f w p = w_reassert t rs e first ep f w p
   w_request t b e first ep r f w p = w_request_by t b (sv.take t h) e first r f (taken_ok t.state.sessions (sender h) (life_in h) (record { 0 = h.epoch }) h.number) w p
 
-  w_of_epoch : (t : Turn) (b : Body) → m.body ≡ b → First t → is_request m.body ≡ true → Free t.state m → Wish b → P t → P (of_epoch t now h b)
+  w_of_epoch : (t : ServerTurn) (b : Body) → m.body ≡ b → First t → is_request m.body ≡ true → Free t.state m → Wish b → P t → P (of_epoch t now h b)
   unfolding of_epoch refuse_epoch
   w_of_epoch t b e first r f w p = cond_either P (h.epoch == t.state.stable.epoch.0) (request t now h b) (refuse_epoch t h) (λ q. w_request t b e first (eqb-true _ _ q) r f w p) (λ q. says t _ r refl (λ d. cc) p)
 
-  w_by_body : (t : Turn) (b : Body) → m.body ≡ b → First t → NoSends t.out → Free t.state m → Wish b → P t → P (by_body t now h b)
+  w_by_body : (t : ServerTurn) (b : Body) → m.body ≡ b → First t → NoSends t.out → Free t.state m → Wish b → P t → P (by_body t now h b)
   unfolding by_body
   w_by_body t bd.Hello e first q f w p = w_hello t e first q f p
   w_by_body t (bd.DemandSeen i g) e first q f w p = w_seen t i g e first p
   w_by_body t b e first q f w p = w_of_epoch t b e first (ap is_request e) f w p
 
-  w_refuse : (t : Turn) (start : Stamp) (b : Body) → m.body ≡ b → P t → P (refuse_suspect t h start b)
+  w_refuse : (t : ServerTurn) (start : Stamp) (b : Body) → m.body ≡ b → P t → P (refuse_suspect t h start b)
   unfolding refuse_suspect
   w_refuse t start (bd.DemandSeen i g) e p = p
   w_refuse t start b e p = says t _ (ap is_request e) refl (λ d. cc) p
 
-  w_by_suspicion : (t : Turn) (x : Option Stamp) → authority.started t.state.authority (sender h) ≡ x → First t → NoSends t.out → Wish m.body → P t →
+  w_by_suspicion : (t : ServerTurn) (x : Option Stamp) → authority.started t.state.authority (sender h) ≡ x → First t → NoSends t.out → Wish m.body → P t →
       P (by_suspicion t now h m.body x)
   unfolding by_suspicion
   w_by_suspicion t None e first q w p = w_by_body t m.body refl first q (none_runs (authority.suspect_of t.state.authority (sender h)) e) w p
@@ -505,22 +505,22 @@ module _ (n : ServerState) (now : Stamp) (m : Message) (P : Turn → Type 0) (ke
       w_by_suspicion (thefts (turn n []) now) _ refl (record { is = refl; from = z.1; there = eqb-true _ _ z.0 }) (thefts_quiet n now) (w z.1) p) (λ e. p)
 
 -- The passes, and the whole step.
-module _ (n : ServerState) (now : Stamp) (i : ServerInput) (P : Turn → Type 0) (keeps : (t u : Turn) → Edit n now i t u → P t → P u) where
-  edit_in : {t u : Turn} → Edit n now i t u → P t → P u
+module _ (n : ServerState) (now : Stamp) (i : ServerInput) (P : ServerTurn → Type 0) (keeps : (t u : ServerTurn) → Edit n now i t u → P t → P u) where
+  edit_in : {t u : ServerTurn} → Edit n now i t u → P t → P u
   edit_in {t} {u} e p = keeps t u e p
 
   -- what suspicion leaves: the rows, the sessions, and that nothing was sent
-  record Suspecting (rows : List LockRow) (t : Turn) : Type 0 where
+  record Suspecting (rows : List LockRow) (t : ServerTurn) : Type 0 where
     holds : P t
     rows_stay : t.state.locks.rows ≡ rows
     quiet : NoSends t.out
 
-  suspected : (rows : List LockRow) (t : Turn) (c : ClientId) → (r : LockRow) → Has r rows → r.client ≡ c → authority.may_ack t.state.authority c ≡ true →
+  suspected : (rows : List LockRow) (t : ServerTurn) (c : ClientId) → (r : LockRow) → Has r rows → r.client ≡ c → authority.may_ack t.state.authority c ≡ true →
       Suspecting rows t → Suspecting rows (suspect_client t now c)
   unfolding suspect_client locks.drop_waits
   suspected rows t c r k e f s = record { holds = edit_in (Suspects t c s.quiet f (inr (r, subst (Has r) (sym s.rows_stay) k, e))) s.holds; rows_stay = s.rows_stay; quiet = no_sends_note t.out _ s.quiet tt }
 
-  w_suspects : (rows : List LockRow) (cs : List ClientId) (t : Turn) → ((c : ClientId) → Has c cs → (r : LockRow) × Has r rows × (r.client ≡ c)) →
+  w_suspects : (rows : List LockRow) (cs : List ClientId) (t : ServerTurn) → ((c : ClientId) → Has c cs → (r : LockRow) × Has r rows × (r.client ≡ c)) →
       Suspecting rows t → Suspecting rows (suspect_each now cs t)
   unfolding suspect_each suspect_unless
   w_suspects rows [] t k s = s
@@ -528,7 +528,7 @@ module _ (n : ServerState) (now : Stamp) (i : ServerInput) (P : Turn → Type 0)
       w_suspects rows cs _ (λ d j. k d (inr j))
       (cond_either (Suspecting rows) (authority.may_ack t.state.authority c) (suspect_client t now c) t (λ f. let z = k c (inl refl) in suspected rows t c z.0 z.1 z.2 f s) (λ f. s))
 
-  pub w_suspecting : (t : Turn) → NoSends t.out → P t → P (suspecting t now)
+  pub w_suspecting : (t : ServerTurn) → NoSends t.out → P t → P (suspecting t now)
   unfolding suspecting locks.unanswered
   w_suspecting t q p =
       (w_suspects t.state.locks.rows _ t
@@ -569,7 +569,7 @@ module _ (n : ServerState) (now : Stamp) (i : ServerInput) (P : Turn → Type 0)
       let z = and_true (r.client.0 == c.0) (r.ino == ino) (found_at (locks.is_row_of c ino) l.rows r e).0 in
       subst (λ n. row_of l n r.ino ≡ Some r) (sym (ap (λ n. client n) (eqb-true r.client.0 c.0 z.0))) (subst (λ f. row_of l c f ≡ Some r) (sym (eqb-true r.ino ino z.1)) e)
 
-  w_file : (t : Turn) (ino k : ℕ) (p : Granting) → grace.is_on t.state.grace now ≡ false → P (with_locks p.locks t) →
+  w_file : (t : ServerTurn) (ino k : ℕ) (p : Granting) → grace.is_on t.state.grace now ≡ false → P (with_locks p.locks t) →
       P (with_locks (grant_file ino k p).locks t)
   unfolding grant_file grant_waiter
   w_file t ino zero p off q = q
@@ -583,74 +583,74 @@ module _ (n : ServerState) (now : Stamp) (i : ServerInput) (P : Turn → Type 0)
           (edit_in (Grants (with_locks p.locks t) w off (found_at (locks.is_wait_on ino) p.locks.waiters w (waiter_is p.locks (find (locks.is_wait_on ino) p.locks.waiters) w e)).1
           (own_wait p.locks.waiters w ino (waiter_is p.locks (find (locks.is_wait_on ino) p.locks.waiters) w e)) (waiter_free p.locks (find (locks.is_wait_on ino) p.locks.waiters) w e)) q)
 
-  w_files : (t : Turn) (inos : List ℕ) (p : Granting) → grace.is_on t.state.grace now ≡ false → P (with_locks p.locks t) →
+  w_files : (t : ServerTurn) (inos : List ℕ) (p : Granting) → grace.is_on t.state.grace now ≡ false → P (with_locks p.locks t) →
       P (with_locks (grant_files inos p).locks t)
   unfolding grant_files
   w_files t [] p off q = q
   w_files t (ino ∷ inos) p off q = w_files t inos _ off (w_file t ino (length p.locks.waiters) p off q)
 
-  w_told : (rs : List (ClientId × Life × ℕ × GrantNo × Mode)) (t : Turn) → P t → P (tell_granted rs t)
+  w_told : (rs : List (ClientId × Life × ℕ × GrantNo × Mode)) (t : ServerTurn) → P t → P (tell_granted rs t)
   unfolding tell_granted
   w_told [] t p = p
   w_told (r ∷ rs) t p = w_told rs _ (edit_in (TellsGrant t r.0 r.1 r.2 r.3 r.4) p)
 
-  pub w_granting : (t : Turn) → P t → P (granting t now)
+  pub w_granting : (t : ServerTurn) → P t → P (granting t now)
   unfolding granting grant_waiting grant_by next_grants
   w_granting t p = cond_either P (sv.in_grace t now) t _ (λ e. p) (λ e. w_told _ (with_locks (next_grants t.state.locks).locks t) (w_files t _ (locks.nothing_granted t.state.locks) e p))
 
   -- demanding
-  w_with : (t : Turn) (p : Demanding) (r : LockRow) (to : Mode) (x : Option RowDemand) → row_of p.locks r.client r.ino ≡ Some r →
+  w_with : (t : ServerTurn) (p : Demanding) (r : LockRow) (to : Mode) (x : Option RowDemand) → row_of p.locks r.client r.ino ≡ Some r →
       demand_now t.state.config now (sv.is_tick i) to r.demand ≡ x → P (with_locks p.locks t) → P (with_locks (demand_with p r x).locks t)
   unfolding demand_with
   w_with t p r to None e d q = q
   w_with t p r to (Some x) e d q = edit_in (Demands (with_locks p.locks t) r x to e d) q
 
-  w_row : (t : Turn) (to : Mode) (c : ClientId) (ino : ℕ) (o : Option LockRow) (p : Demanding) → row_of p.locks c ino ≡ o → P (with_locks p.locks t) →
+  w_row : (t : ServerTurn) (to : Mode) (c : ClientId) (ino : ℕ) (o : Option LockRow) (p : Demanding) → row_of p.locks c ino ≡ o → P (with_locks p.locks t) →
       P (with_locks (demand_row t.state.config now (sv.is_tick i) to o p).locks t)
   unfolding demand_row
   w_row t to c ino None p e q = q
   w_row t to c ino (Some r) p e q = w_with t p r to _ (own_row p.locks c ino r e) refl q
 
-  w_clients : (t : Turn) (ino : ℕ) (to : Mode) (cs : List ClientId) (p : Demanding) → P (with_locks p.locks t) →
+  w_clients : (t : ServerTurn) (ino : ℕ) (to : Mode) (cs : List ClientId) (p : Demanding) → P (with_locks p.locks t) →
       P (with_locks (demand_clients t.state.config now (sv.is_tick i) ino to cs p).locks t)
   unfolding demand_clients
   w_clients t ino to [] p q = q
   w_clients t ino to (c ∷ cs) p q = w_clients t ino to cs _ (w_row t to c ino (row_of p.locks c ino) p refl q)
 
-  w_for : (t : Turn) (ss : List ClientId) (o : Option Waiter) (p : Demanding) → P (with_locks p.locks t) →
+  w_for : (t : ServerTurn) (ss : List ClientId) (o : Option Waiter) (p : Demanding) → P (with_locks p.locks t) →
       P (with_locks (demand_for t.state.config now (sv.is_tick i) ss o p).locks t)
   unfolding demand_for
   w_for t ss None p q = q
   w_for t ss (Some w) p q = w_clients t w.ino _ _ p q
 
-  w_demand_files : (t : Turn) (ss : List ClientId) (inos : List ℕ) (p : Demanding) → P (with_locks p.locks t) →
+  w_demand_files : (t : ServerTurn) (ss : List ClientId) (inos : List ℕ) (p : Demanding) → P (with_locks p.locks t) →
       P (with_locks (demand_files t.state.config now (sv.is_tick i) ss inos p).locks t)
   unfolding demand_files
   w_demand_files t ss [] p q = q
   w_demand_files t ss (ino ∷ inos) p q = w_demand_files t ss inos _ (w_for t ss (find (locks.is_wait_on ino) p.locks.waiters) p q)
 
-  w_demanded : (rs : List (ClientId × Life × ℕ × GrantNo × Mode)) (t : Turn) → P t → P (tell_demanded rs t)
+  w_demanded : (rs : List (ClientId × Life × ℕ × GrantNo × Mode)) (t : ServerTurn) → P t → P (tell_demanded rs t)
   unfolding tell_demanded
   w_demanded [] t p = p
   w_demanded (r ∷ rs) t p = w_demanded rs _ (edit_in (TellsDemand t r.0 r.1 r.2 r.3 r.4) p)
 
-  pub w_demanding : (t : Turn) → P t → P (demanding t now i)
+  pub w_demanding : (t : ServerTurn) → P t → P (demanding t now i)
   unfolding demanding demand_by demands_due
   w_demanding t p = w_demanded _ (with_locks (demands_due t.state.locks now (sv.is_tick i) (authority.suspects_of t.state.authority) t.state.config).locks t) (w_demand_files t _ _ (locks.nothing_demanded t.state.locks) p)
 
   -- all that follows the input
-  w_passes : (t : Turn) → P (suspecting_on t now i) → P (demanding (granting (suspecting_on t now i) now) now i)
+  w_passes : (t : ServerTurn) → P (suspecting_on t now i) → P (demanding (granting (suspecting_on t now i) now) now i)
   w_passes t p = w_demanding _ (w_granting _ p)
 
 -- a whole step: what stands at its beginning stands at its end
-pub walk : (n : ServerState) (now : Stamp) (i : ServerInput) (P : Turn → Type 0) → ((t u : Turn) → Edit n now i t u → P t → P u) → WishInput i →
+pub walk : (n : ServerState) (now : Stamp) (i : ServerInput) (P : ServerTurn → Type 0) → ((t u : ServerTurn) → Edit n now i t u → P t → P u) → WishInput i →
     P (turn n []) → P (server_step n now i)
 unfolding server_step take_input suspecting_on
 walk n now Tick P k w p = w_passes n now Tick P k (thefts (turn n []) now) (w_suspecting n now Tick P k (thefts (turn n []) now) (thefts_quiet n now) (w_thefts n now Tick P k p))
 walk n now (Control m) P k w p = w_passes n now (Control m) P k (take_input (thefts (turn n []) now) now (Control m)) (w_message n now m P k w (w_thefts n now (Control m) P k p))
 
 -- and after the thefts alone
-pub walk_on : (n : ServerState) (now : Stamp) (i : ServerInput) (P : Turn → Type 0) → ((t u : Turn) → Edit n now i t u → P t → P u) → WishInput i → P (thefts (turn n []) now) → P (server_step n now i)
+pub walk_on : (n : ServerState) (now : Stamp) (i : ServerInput) (P : ServerTurn → Type 0) → ((t u : ServerTurn) → Edit n now i t u → P t → P u) → WishInput i → P (thefts (turn n []) now) → P (server_step n now i)
 unfolding server_step take_input suspecting_on
 walk_on n now Tick P k w p = w_passes n now Tick P k (thefts (turn n []) now) (w_suspecting n now Tick P k (thefts (turn n []) now) (thefts_quiet n now) p)
 walk_on n now (Control m) P k w p = w_passes n now (Control m) P k (take_input (thefts (turn n []) now) now (Control m)) (w_message n now m P k w p)

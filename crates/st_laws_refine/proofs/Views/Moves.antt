@@ -6,7 +6,7 @@ use Rattle.st_messages.specs.declared.message.Body.{Body}
 use Rattle.st_protocol.specs.Assoc as net
 use Rattle.st_protocol.specs.Assoc.{Config, Msg, In, Assoc, Move, Moves, Stays, GoesOn, steady, Loses, Crashes, Advance, Stops, Starts, GraceEnds}
 use Rattle.st_protocol.proofs.Timing.{grows}
-use Rattle.st_laws_refine.specs.Views.Messages.{shown, Shows, Shown, epoch_shown, Heard}
+use Rattle.st_laws_refine.specs.Views.Messages.{shown, Shows, Shown, epoch_shown, Received}
 
 pub moves_on : {k : Config} {a b c : Assoc} → Moves k a b → Moves k b c → Moves k a c
 moves_on (Stays a) n = n
@@ -57,5 +57,5 @@ shown_more m N M g s = record { all = shows_more m.header.life m.header.epoch m.
 pub one_to : {k : Config} {a b : Assoc} (c : Assoc) (m : Move k a b) → steady m ≡ true → b ≡ c → Moves k a c
 one_to {k} {a} {b} c m s e = subst (λ x. Moves k a x) e (GoesOn m s (Stays b))
 
-pub heard_more : (h : Header) (b : Body) (N M : List Msg) → Grows N M → Heard h b N → Heard h b M
-heard_more h b N M g q = record { born = q.born; clients = q.clients; wishes = q.wishes; shows = shows_more h.life (epoch_shown b h.epoch) h.stamp (shown h.number b) N M g q.shows }
+pub received_more : (h : Header) (b : Body) (N M : List Msg) → Grows N M → Received h b N → Received h b M
+received_more h b N M g q = record { born = q.born; clients = q.clients; wishes = q.wishes; shows = shows_more h.life (epoch_shown b h.epoch) h.stamp (shown h.number b) N M g q.shows }

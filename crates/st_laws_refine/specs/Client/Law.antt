@@ -15,7 +15,7 @@ use Rattle.st_protocol.specs.Assoc.{Config, Msg, In, Moves, upd, end_now}
 use Rattle.st_laws_refine.specs.Views.Messages.{Fine, shown, Shows}
 use Rattle.st_laws_refine.specs.Views.Halves.{client_of}
 use Rattle.st_lemmas.specs.Lists.{Has}
-use Rattle.st_laws_refine.specs.Client.Shown.{Beside, Lasts, Kept, Losses, Ready}
+use Rattle.st_laws_refine.specs.Client.Invariants.{Beside, Lasts, Kept, Losses, Ready}
 
 -- associations with other servers
 abbrev pub Apart : ServerId → List Association → Type 0
@@ -52,10 +52,10 @@ pub record ClientStep (k : Config) (b : Beside) (now : ℕ) (hs : List Msg) (own
   pub ends : LifeEnds k now a result.last.life.0 b.ended ended
 
 -- what any server says has modes
-abbrev pub HeardOf : ClientInput → Type 0
+abbrev pub ReceivedOf : ClientInput → Type 0
 -- what any server says has modes
-HeardOf (inputs.Control m) = (x : ServerId) → m.header.from ≡ server_node x → Fine m.body
-HeardOf input = Unit {0}
+ReceivedOf (inputs.Control m) = (x : ServerId) → m.header.from ≡ server_node x → Fine m.body
+ReceivedOf input = Unit {0}
 
 -- what an input brings to a client from this server
 abbrev pub Comes : ServerId → ℕ → ClientInput → List Msg → Type 0
@@ -85,7 +85,7 @@ pub record IsOver (now : Stamp) (s : ClientState) (v : ServerId) (life : Life) :
 
 -- A step loses only lives whose leases are over.
 abbrev pub LostLeasesAreOver : Type 0
-LostLeasesAreOver = (now : Stamp) (s : ClientState) (input : ClientInput) → HeardOf input → Losses (IsOver now s) (cl.client_step s now input).out
+LostLeasesAreOver = (now : Stamp) (s : ClientState) (input : ClientInput) → ReceivedOf input → Losses (IsOver now s) (cl.client_step s now input).out
 
 -- an entry that is hard stays hard, over every run
 abbrev pub RunsKeepHard : Type 0

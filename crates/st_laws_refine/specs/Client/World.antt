@@ -15,12 +15,12 @@ use Rattle.st_rules.specs.declared.client.ClientInput.{ClientInput}
 use Rattle.st_rules.specs.declared.world.LeaseLife.{LeaseLife}
 use Rattle.st_rules.specs.Client as cl
 use Rattle.st_rules.specs.ClientState.{Association, ClientState, ClientTurn}
-use Rattle.st_rules.specs.World.{World, ClientSite, clock_of, site_of, with_numbered}
+use Rattle.st_rules.specs.World.{World, WorldClient, clock_of, site_of, with_numbered}
 use Rattle.st_rules.specs.Events as ev
 use Rattle.st_rules.specs.Events.{present_life}
 use Rattle.st_protocol.specs.Assoc.{Config, Msg, Moves}
 use Rattle.st_laws_refine.specs.Views.Halves.{client_of}
-use Rattle.st_laws_refine.specs.Client.Shown.{Beside, Kept, Lasts, Said}
+use Rattle.st_laws_refine.specs.Client.Invariants.{Beside, Kept, Lasts, Said}
 use Rattle.st_laws_refine.specs.Client.Law.{Comes, LifeEnds, Place}
 
 -- the log behind an output of a client: an accepted write or patch joins it, under the client's life at the file's server
@@ -70,7 +70,7 @@ lost_lives c before (outputs.Note n ∷ os) = lost_life c before n ++ lost_lives
 
 -- What stands between events of a client of the world at one server: it has its number, the lease time of the machine, one association
 -- with the server in a life above 0, and what stands of that association with the messages of the two.
-pub record Sim (k : Config) (c : ClientId) (own : ServerId) (site : ClientSite) (a : Association) (N : List Msg) : Type 0 where
+pub record Sim (k : Config) (c : ClientId) (own : ServerId) (site : WorldClient) (a : Association) (N : List Msg) : Type 0 where
   pub id_ : site.node.state.id.0 ≡ c.0
   pub terms : site.node.state.config.lease ≡ k.lease
   pub place : Place own site.node.state.associations a
@@ -78,20 +78,20 @@ pub record Sim (k : Config) (c : ClientId) (own : ServerId) (site : ClientSite) 
   pub kept : Kept a.life.0 a.store a.session N
 
 -- a step of the client's machine, at the client's clock
-abbrev pub stepped : World → ClientId → ClientSite → ClientInput → ClientTurn
+abbrev pub stepped : World → ClientId → WorldClient → ClientInput → ClientTurn
 stepped w c site input = cl.client_step site.node.state (clock_of w (nodes.Client c)) input
 
 -- the client as the step leaves it
-abbrev pub site_left : World → ClientId → ClientSite → ClientInput → ClientSite
+abbrev pub site_left : World → ClientId → WorldClient → ClientInput → WorldClient
 site_left w c site input = ev.at_node (cl.node_turn site.node (stepped w c site input)).node site
 
 -- the world as the step leaves it
-abbrev pub world_left : World → ClientId → ClientSite → ClientInput → World
+abbrev pub world_left : World → ClientId → WorldClient → ClientInput → World
 world_left w c site input = (ev.client_took w c site (Ok (cl.node_turn site.node (stepped w c site input)))).world
 
 -- What a client's step leaves of the world: the client itself is changed, its messages are behind the others, and the lives that
 -- it lost are among those that ended.
-pub record WorldLeft (w : World) (c : ClientId) (site : ClientSite) (input : ClientInput) : Type 0 where
+pub record WorldLeft (w : World) (c : ClientId) (site : WorldClient) (input : ClientInput) : Type 0 where
   pub clients : (world_left w c site input).clients ≡ with_numbered c.0 (site_left w c site input) w.clients
   pub servers : (world_left w c site input).servers ≡ w.servers
   pub clocks : (world_left w c site input).clocks ≡ w.clocks
@@ -101,7 +101,7 @@ pub record WorldLeft (w : World) (c : ClientId) (site : ClientSite) (input : Cli
 
 -- What a client's step makes of its association with one server: moves, and what stood of it stands again, with the messages that
 -- it said; and a lease that is held then lasts.
-pub record OwnMoves (k : Config) (b : Beside) (w : World) (c : ClientId) (site : ClientSite) (input : ClientInput) (own : ServerId)
+pub record OwnMoves (k : Config) (b : Beside) (w : World) (c : ClientId) (site : WorldClient) (input : ClientInput) (own : ServerId)
     (a : Association) (N : List Msg) : Type 0 where
   pub ended : ℕ → ℕ
   pub last : Association
@@ -117,14 +117,14 @@ pub record OwnMoves (k : Config) (b : Beside) (w : World) (c : ClientId) (site :
 -- In the world a client's step is moves of its association with each server.
 abbrev pub OwnAssociationsMove : Type 0
 OwnAssociationsMove =
-    (k : Config) (b : Beside) (w : World) (c : ClientId) (site : ClientSite) (input : ClientInput) (own : ServerId) (a : Association) (N : List Msg) →
+    (k : Config) (b : Beside) (w : World) (c : ClientId) (site : WorldClient) (input : ClientInput) (own : ServerId) (a : Association) (N : List Msg) →
     Sim k c own site a N → Comes own c.0 input N → OwnMoves k b w c site input own a N
 
 -- It leaves every other client as it was.
-pub record OthersAsBefore (w : World) (c : ClientId) (site : ClientSite) (input : ClientInput) : Type 0 where
+pub record OthersAsBefore (w : World) (c : ClientId) (site : WorldClient) (input : ClientInput) : Type 0 where
   pub world : WorldLeft w c site input
   pub others : (d : ClientId) → 1 ≤ c.0 → d.0 ≢ c.0 → site_of (world_left w c site input) d ≡ site_of w d
 
 -- In the world a client's step leaves every other client as it was.
 abbrev pub OtherAssociationsStay : Type 0
-OtherAssociationsStay = (w : World) (c : ClientId) (site : ClientSite) (input : ClientInput) → OthersAsBefore w c site input
+OtherAssociationsStay = (w : World) (c : ClientId) (site : WorldClient) (input : ClientInput) → OthersAsBefore w c site input

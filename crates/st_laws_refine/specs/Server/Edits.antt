@@ -34,7 +34,7 @@ use Rattle.st_rules.specs.Keys.{server_node}
 use Rattle.st_rules.specs.Extents.{Extents}
 use Rattle.st_rules.specs.Names as names
 use Rattle.st_rules.specs.Names.{Names}
-use Rattle.st_rules.specs.Server.{ServerState, Turn, turn, with_sessions, with_locks, with_authority, with_names, with_extents, note, reply, tell, sender, life_in, thefts, steal_from, suspect_client, keep_and_reply, refused_reassertion, is_client_node, is_tick}
+use Rattle.st_rules.specs.Server.{ServerState, ServerTurn, turn, with_sessions, with_locks, with_authority, with_names, with_extents, note, reply, tell, sender, life_in, thefts, steal_from, suspect_client, keep_and_reply, refused_reassertion, is_client_node, is_tick}
 use Rattle.st_rules.specs.Dating.{refuses_client, is_request, may_date}
 use Rattle.st_rules.specs.Safety.{is_conflict}
 use Rattle.st_lemmas.specs.Lists.{Has}
@@ -89,7 +89,7 @@ pub data Acquired (graced : Bool) (l : Locks) (c : ClientId) (life : Life) (ino 
   InTurn : 1 ≤ number_of mode → Acquired graced l c life ino mode (queue l c life ino mode)
 
 -- A reassertion of a new life, in grace and right after the thefts.
-pub record InGrace (n : ServerState) (now : Stamp) (t : Turn) (m : Message) (rows : List (ℕ × GrantNo × Mode)) : Type 0 where
+pub record InGrace (n : ServerState) (now : Stamp) (t : ServerTurn) (m : Message) (rows : List (ℕ × GrantNo × Mode)) : Type 0 where
   pub from : is_client_node m.header.from ≡ true
   pub there : m.header.to ≡ server_node t.state.id
   pub body : m.body ≡ bodies.Reassert rows
@@ -99,61 +99,61 @@ pub record InGrace (n : ServerState) (now : Stamp) (t : Turn) (m : Message) (row
   pub new : sessions.knows t.state.sessions (sender m.header) (life_in m.header) ≡ false
 
 -- One change of a step that began in the state n, at a moment and with an input.
-pub data Edit (n : ServerState) (now : Stamp) (i : ServerInput) : Turn → Turn → Type 0 where
+pub data Edit (n : ServerState) (now : Stamp) (i : ServerInput) : ServerTurn → ServerTurn → Type 0 where
   -- the timers that are over are taken out, and their clients' locks are stolen
-  TakesTimers : (t : Turn) → t ≡ turn n [] → Edit n now i t (with_authority (authority.still_running t.state.authority now) t)
-  Steals : (t : Turn) (c : ClientId) (s : Session) → Has c (authority.over n.authority now) → sessions.session_of t.state.sessions c ≡ Some s →
+  TakesTimers : (t : ServerTurn) → t ≡ turn n [] → Edit n now i t (with_authority (authority.still_running t.state.authority now) t)
+  Steals : (t : ServerTurn) (c : ClientId) (s : Session) → Has c (authority.over n.authority now) → sessions.session_of t.state.sessions c ≡ Some s →
       Edit n now i t (steal_from t c s)
   -- a client's timer starts
-  Suspects : (t : Turn) (c : ClientId) → NoSends t.out → authority.may_ack t.state.authority c ≡ true → KnownClient t.state c →
+  Suspects : (t : ServerTurn) (c : ClientId) → NoSends t.out → authority.may_ack t.state.authority c ≡ true → KnownClient t.state c →
       Edit n now i t (suspect_client t now c)
   -- a session begins, loses its waits, keeps a reply
-  Begins : (t : Turn) (c : ClientId) (life : Life) → Edit n now i t (with_sessions (sessions.with_new_session c life t.state.sessions) t)
-  DropsWaits : (t : Turn) (m : Message) (s : Session) → i ≡ Control m → m.body ≡ bodies.Hello →
+  Begins : (t : ServerTurn) (c : ClientId) (life : Life) → Edit n now i t (with_sessions (sessions.with_new_session c life t.state.sessions) t)
+  DropsWaits : (t : ServerTurn) (m : Message) (s : Session) → i ≡ Control m → m.body ≡ bodies.Hello →
       sessions.session_of (thefts (turn n []) now).state.sessions (sender m.header) ≡ Some s → s.life.0 < m.header.life →
       Edit n now i t (with_locks (locks.drop_waits t.state.locks (sender m.header)) t)
-  Keeps : (t : Turn) (c : ClientId) (number : ℕ) (b : Body) → is_kept b ≡ true →
+  Keeps : (t : ServerTurn) (c : ClientId) (number : ℕ) (b : Body) → is_kept b ≡ true →
       Edit n now i t (with_sessions (sessions.store t.state.sessions c number b) t)
   -- a reassertion is accepted
-  Reasserts : (t : Turn) (m : Message) (rows : List (ℕ × GrantNo × Mode)) → i ≡ Control m → AllSome rows → InGrace n now t m rows →
+  Reasserts : (t : ServerTurn) (m : Message) (rows : List (ℕ × GrantNo × Mode)) → i ≡ Control m → AllSome rows → InGrace n now t m rows →
       first_conflict t.state.locks (sender m.header) rows ≡ None →
       Edit n now i t
       (with_sessions (sessions.reasserted t.state.sessions (sender m.header) (life_in m.header))
       (with_locks (with_rows t.state.locks (sender m.header) (life_in m.header) rows) t))
   -- the lock table
-  Sees : (t : Turn) (m : Message) (ino : ℕ) (g : GrantNo) → i ≡ Control m → t ≡ thefts (turn n []) now → m.body ≡ bodies.DemandSeen ino g →
+  Sees : (t : ServerTurn) (m : Message) (ino : ℕ) (g : GrantNo) → i ≡ Control m → t ≡ thefts (turn n []) now → m.body ≡ bodies.DemandSeen ino g →
       Edit n now i t (with_locks (locks.demand_seen t.state.locks (sender m.header) ino g) t)
-  Acquires : (t : Turn) (m : Message) (ino : ℕ) (mode : Mode) (l : Locks) (b : Body) (s : Session) → i ≡ Control m → t ≡ thefts (turn n []) now →
+  Acquires : (t : ServerTurn) (m : Message) (ino : ℕ) (mode : Mode) (l : Locks) (b : Body) (s : Session) → i ≡ Control m → t ≡ thefts (turn n []) now →
       m.body ≡ bodies.Acquire ino mode →
       sessions.session_of t.state.sessions (sender m.header) ≡ Some s → s.life.0 ≡ m.header.life → ReplyOk t.state m b → is_kept b ≡ true →
       Acquired (grace.is_on t.state.grace now) t.state.locks (sender m.header) (life_in m.header) ino mode l →
       Edit n now i t (keep_and_reply (with_locks l t) m.header b)
-  Releases : (t : Turn) (m : Message) (ino : ℕ) (g : GrantNo) (to : Mode) (r : LockRow) → i ≡ Control m → t ≡ thefts (turn n []) now →
+  Releases : (t : ServerTurn) (m : Message) (ino : ℕ) (g : GrantNo) (to : Mode) (r : LockRow) → i ≡ Control m → t ≡ thefts (turn n []) now →
       m.body ≡ bodies.Released ino g to →
       row_of t.state.locks (sender m.header) ino ≡ Some r → is_under (life_in m.header) g r ≡ true →
       Edit n now i t (with_locks (release_to t.state.locks (sender m.header) ino to) t)
-  DropsFile : (t : Turn) (m : Message) (dir : ℕ) (name : List ℕ) (g : GrantNo) (ino : ℕ) → i ≡ Control m →
+  DropsFile : (t : ServerTurn) (m : Message) (dir : ℕ) (name : List ℕ) (g : GrantNo) (ino : ℕ) → i ≡ Control m →
       m.body ≡ bodies.Name (Remove dir name g) →
       names.lookup (thefts (turn n []) now).state.stable.names dir name ≡ Ok ino →
       Edit n now i t (with_locks (locks.drop_file_waits t.state.locks ino) t)
-  Grants : (t : Turn) (w : Waiter) → grace.is_on t.state.grace now ≡ false → Has w t.state.locks.waiters →
+  Grants : (t : ServerTurn) (w : Waiter) → grace.is_on t.state.grace now ≡ false → Has w t.state.locks.waiters →
       find (is_wait_on w.ino) t.state.locks.waiters ≡ Some w →
       list_any (stands_against w.client w.ino w.mode) t.state.locks.rows ≡ false →
       Edit n now i t (with_locks (grant t.state.locks w.client w.life w.ino w.mode) t)
-  Demands : (t : Turn) (r : LockRow) (x : RowDemand) (to : Mode) → row_of t.state.locks r.client r.ino ≡ Some r →
+  Demands : (t : ServerTurn) (r : LockRow) (x : RowDemand) (to : Mode) → row_of t.state.locks r.client r.ino ≡ Some r →
       demand_now t.state.config now (is_tick i) to r.demand ≡ Some x → Edit n now i t (with_locks (with_demand r x t.state.locks) t)
   -- names and pages
-  NamesChange : (t : Turn) (v : Names) → Edit n now i t (with_names v t)
-  ExtentsChange : (t : Turn) (v : Extents) → Edit n now i t (with_extents v t)
-  Cuts : (t : Turn) (f : FileId) (p : PageNo) → Edit n now i t (note t (notes.CutDone f p))
+  NamesChange : (t : ServerTurn) (v : Names) → Edit n now i t (with_names v t)
+  ExtentsChange : (t : ServerTurn) (v : Extents) → Edit n now i t (with_extents v t)
+  Cuts : (t : ServerTurn) (f : FileId) (p : PageNo) → Edit n now i t (note t (notes.CutDone f p))
   -- what is sent
-  Replies : (t : Turn) (m : Message) (b : Body) → i ≡ Control m → ReplyOk t.state m b → Edit n now i t (reply t m.header b)
-  Repeats : (t : Turn) (m : Message) (s : Session) (last : ℕ) (b : Body) → i ≡ Control m → is_request m.body ≡ true →
+  Replies : (t : ServerTurn) (m : Message) (b : Body) → i ≡ Control m → ReplyOk t.state m b → Edit n now i t (reply t m.header b)
+  Repeats : (t : ServerTurn) (m : Message) (s : Session) (last : ℕ) (b : Body) → i ≡ Control m → is_request m.body ≡ true →
       authority.may_ack t.state.authority (sender m.header) ≡ true → sessions.session_of t.state.sessions (sender m.header) ≡ Some s →
       s.state ≡ Live last (Some b) → Edit n now i t (reply t m.header b)
-  Refuses : (t : Turn) (m : Message) (rows : List (ℕ × GrantNo × Mode)) (r : AcceptRefusal) → i ≡ Control m →
+  Refuses : (t : ServerTurn) (m : Message) (rows : List (ℕ × GrantNo × Mode)) (r : AcceptRefusal) → i ≡ Control m →
       authority.may_ack t.state.authority (sender m.header) ≡ true → InGrace n now t m rows →
       grace.accept t.state.grace now (sender m.header) (life_in m.header) rows t.state.locks t.state.sessions ≡ Err r →
       Edit n now i t (reply t m.header (refused_reassertion r))
-  TellsGrant : (t : Turn) (c : ClientId) (life : Life) (ino : ℕ) (g : GrantNo) (mode : Mode) → Edit n now i t (tell t c life (bodies.Granted ino g mode))
-  TellsDemand : (t : Turn) (c : ClientId) (life : Life) (ino : ℕ) (g : GrantNo) (mode : Mode) → Edit n now i t (tell t c life (bodies.Demand ino g mode))
+  TellsGrant : (t : ServerTurn) (c : ClientId) (life : Life) (ino : ℕ) (g : GrantNo) (mode : Mode) → Edit n now i t (tell t c life (bodies.Granted ino g mode))
+  TellsDemand : (t : ServerTurn) (c : ClientId) (life : Life) (ino : ℕ) (g : GrantNo) (mode : Mode) → Edit n now i t (tell t c life (bodies.Demand ino g mode))

@@ -9,27 +9,27 @@ use Rattle.st_messages.specs.declared.event.Event.TheVariants as events
 use Rattle.st_rules.specs.declared.input.ServerInput.{ServerInput}
 use Rattle.st_rules.specs.declared.input.ServerInput.TheVariants.{Tick, Control}
 use Rattle.st_rules.specs.Keys.{client}
-use Rattle.st_rules.specs.Server.{ServerState, ServerNode, Turn, turn, server_step, fresh_server, crash, start, crash_node, start_node, is_client_node}
+use Rattle.st_rules.specs.Server.{ServerState, ServerNode, ServerTurn, turn, server_step, fresh_server, crash, start, crash_node, start_node, is_client_node}
 use Rattle.st_rules.specs.World.{World, clock_of, server}
 use Rattle.st_rules.specs.Events.{WorldTurn, world_step}
 use Rattle.st_rules.specs.History.{Traced}
 use Rattle.st_rules.specs.Safety.{has_waited}
 use Rattle.st_protocol.specs.Assoc as net
 use Rattle.st_protocol.specs.Assoc.{Config, ConfigOk, Msg, Moves, Reached}
-use Rattle.st_laws_refine.specs.Views.Messages.{Heard}
+use Rattle.st_laws_refine.specs.Views.Messages.{Received}
 use Rattle.st_laws_refine.specs.Views.Halves.{Ghost}
 use Rattle.st_laws_refine.specs.Server.View.{at, Ready}
 use Rattle.st_laws_refine.specs.Server.Pair.{client_in, EndedBy, Timed, DatesShown, DatesKnown}
-use Rattle.st_laws_refine.specs.Server.Stands.{Compat, Calm, Few, Stands, Settings, StepsAt, AfterStep, AfterAdvance}
+use Rattle.st_laws_refine.specs.Server.Invariants.{Compat, Calm, Few, Stands, Settings, StepsAt, AfterStep, AfterAdvance}
 use Rattle.st_laws_refine.specs.Server.Edits.{WishInput}
 
 -- what an input brings to the server from this client
 abbrev pub Comes : ℕ → ServerInput → List Msg → Type 0
 Comes d Tick N = Unit {0}
-Comes d (Control m) N = is_client_node m.header.from ≡ true → m.header.from ≡ d → Heard m.header m.body N
+Comes d (Control m) N = is_client_node m.header.from ≡ true → m.header.from ≡ d → Received m.header m.body N
 
 -- a step of the server, seen from one client
-pub record ServerResult (k : Config) (cl : net.Client) (d : ℕ) (now : Stamp) (t u : Turn) (x : Ghost) : Type 0 where
+pub record ServerResult (k : Config) (cl : net.Client) (d : ℕ) (now : Stamp) (t u : ServerTurn) (x : Ghost) : Type 0 where
   pub ghost : Ghost
   pub moves : Moves k (at cl (client d) now t.state x) (at cl (client d) now u.state ghost)
   pub ready : Ready d k.wait now u ghost

@@ -13,11 +13,11 @@ use Rattle.st_rules.specs.ClientPages.{empty_store}
 use Rattle.st_rules.specs.ClientState.{Association}
 use Rattle.st_rules.specs.Client.{association_with}
 use Rattle.st_rules.specs.History.{LeaseDate}
-use Rattle.st_rules.specs.World.{World, ClientSite, site_of, node_of, clock_of, server}
+use Rattle.st_rules.specs.World.{World, WorldClient, site_of, node_of, clock_of, server}
 use Rattle.st_rules.specs.Server.{ServerNode, is_client_node}
 use Rattle.st_protocol.specs.Assoc as net
 use Rattle.st_protocol.specs.Assoc.{Msg, msg, In, Assoc}
-use Rattle.st_laws_refine.specs.Views.Messages.{Shown, Heard}
+use Rattle.st_laws_refine.specs.Views.Messages.{Shown, Received}
 use Rattle.st_laws_refine.specs.Views.Halves.{client_at, half_of, Ghost}
 use Rattle.st_lemmas.specs.Lists.{Has}
 use Rattle.st_laws_refine.specs.Server.View.{StandsAt}
@@ -42,7 +42,7 @@ abbrev pub idle_client : World → ℕ → net.Client
 idle_client w s = client_at (w.config.den * (clock_of w (nodes.Server (server s))).0) 1 None empty_store (λ l. 0)
 
 -- a client of the world, where there is one
-abbrev pub client_at_site : World → ℕ → ℕ → (ℕ → ℕ) → Option ClientSite → net.Client
+abbrev pub client_at_site : World → ℕ → ℕ → (ℕ → ℕ) → Option WorldClient → net.Client
 client_at_site w c s ended None = idle_client w s
 client_at_site w c s ended (Some site) =
     client_view site.node.running ended (clock_of w (nodes.Client (client c))) (association_with site.node.state (server s))
@@ -58,7 +58,7 @@ EndedBy c s ended es = (e : LeaseLife) → Has e es → e.client.0 ≡ c → e.s
 -- a message between the two
 pub record Wire (c s : ℕ) (m : Message) (N : List Msg) : Type 0 where
   pub to_client : m.header.from ≡ SERVER_BASE + s → m.header.to ≡ c → Shown m N
-  pub to_server : m.header.to ≡ SERVER_BASE + s → is_client_node m.header.from ≡ true → m.header.from ≡ c → Heard m.header m.body N
+  pub to_server : m.header.to ≡ SERVER_BASE + s → is_client_node m.header.from ≡ true → m.header.from ≡ c → Received m.header m.body N
 
 -- all messages between the two
 abbrev pub Wires : ℕ → ℕ → List SentMessage → List Msg → Type 0
@@ -87,7 +87,7 @@ pub record DateShown (lease : ℕ) (d : LeaseDate) (N : List Msg) : Type 0 where
 
 -- each lease that was dated is of a client of the world
 abbrev pub DatesKnown : World → List LeaseDate → Type 0
-DatesKnown w ds = (d : LeaseDate) → Has d ds → (site : ClientSite) × (site_of w d.client ≡ Some site)
+DatesKnown w ds = (d : LeaseDate) → Has d ds → (site : WorldClient) × (site_of w d.client ≡ Some site)
 
 -- so has each lease that the client ever had at the server
 abbrev pub DatesShown : ℕ → ℕ → ℕ → List LeaseDate → List Msg → Type 0
@@ -108,5 +108,5 @@ pub record Timed (k : net.Config) (s : ℕ) (w : World) (G : ℕ → Ghost) : Ty
   pub tall : length w.drift ≡ length w.clocks
   pub wide : (m : ℕ) → m < length w.clocks → length (get_or w.drift m []) ≡ length w.clocks
   pub count : length w.clocks ≡ length w.clients + length w.servers
-  pub known : (c : ℕ) (site : ClientSite) → site_of w (client c) ≡ Some site → (G c).drift ≡ drift_between w c s
+  pub known : (c : ℕ) (site : WorldClient) → site_of w (client c) ≡ Some site → (G c).drift ≡ drift_between w c s
   pub idle : (c : ℕ) → site_of w (client c) ≡ None → (G c).drift ≡ 0

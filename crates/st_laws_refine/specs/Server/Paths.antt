@@ -5,7 +5,7 @@ use Rattle.st_rules.specs.World.{World}
 use Rattle.st_protocol.specs.Assoc as net
 use Rattle.st_protocol.specs.Assoc.{Config, Step, Work}
 use Rattle.st_laws_refine.specs.Views.Halves.{Ghost}
-use Rattle.st_laws_refine.specs.Server.Stands.{pairs}
+use Rattle.st_laws_refine.specs.Server.Invariants.{pairs}
 
 -- steps of the machine from one world to another, one after another
 pub data Path (k : Config) : net.World → net.World → Type 0 where

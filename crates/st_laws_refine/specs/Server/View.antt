@@ -17,7 +17,7 @@ use Rattle.st_rules.specs.Sessions as sessions
 use Rattle.st_rules.specs.Authority as authority
 use Rattle.st_rules.specs.Grace as grace
 use Rattle.st_rules.specs.Grace.{Grace}
-use Rattle.st_rules.specs.Server.{ServerState, Turn, crash, next_epoch}
+use Rattle.st_rules.specs.Server.{ServerState, ServerTurn, crash, next_epoch}
 use Rattle.st_protocol.specs.Assoc as net
 use Rattle.st_protocol.specs.Assoc.{Msg, msg, In, Assoc}
 use Rattle.st_lemmas.specs.Lists.{Has}
@@ -127,7 +127,7 @@ pub record Sound (d wait : ℕ) (now : Stamp) (n : ServerState) (x : Ghost) : Ty
   pub kept : Kept n.stable.epoch.0 (sessions.session_of n.sessions (client d)) x.net
 
 -- within a step
-pub record Ready (d wait : ℕ) (now : Stamp) (t : Turn) (x : Ghost) : Type 0 where
+pub record Ready (d wait : ℕ) (now : Stamp) (t : ServerTurn) (x : Ghost) : Type 0 where
   pub said : Said d t.out x.net
   pub sound : Sound d wait now t.state x
 

@@ -113,7 +113,7 @@ Wishes (bd.Reassert rows) = ReassertedLocks rows
 Wishes b = Unit {0}
 
 -- what a server may rely on in a message of a client
-pub record Heard (h : Header) (b : Body) (N : List Msg) : Type 0 where
+pub record Received (h : Header) (b : Body) (N : List Msg) : Type 0 where
   pub born : 1 ≤ h.life
   pub clients : is_clients b ≡ true
   pub wishes : Wishes b

@@ -227,7 +227,7 @@ module _ (M : List Message) (c : ClientId) (Known : ℕ → Ask → Type 0) (Bef
       w_nack t x y a b e w lf ep = w_reply t x (bodies.Nack y a b) e w (λ f. cc f) lf ep
 
       w_demand : (t : Turn) (x : ClientSession) (ino : ℕ) (g : GrantNo) (to : Mode) → t.here.session ≡ Some x → (W M c Known Before Done s B out0) t → (W M c Known Before Done s B out0) (cr.demand t x ino g to)
-      unfolding cr.demand cr.demand_by cr.demand_as cr.see_demand cr.release_unheld
+      unfolding cr.demand cr.demand_by cr.demand_as cr.observe_demand cr.release_unheld
       w_demand t x ino g to e w = by (locks.demand x.locks ino g to).asked
         where
           l : ClientSession
@@ -253,16 +253,16 @@ module _ (M : List Message) (c : ClientId) (Known : ℕ → Ask → Type 0) (Bef
       unfolding cr.with_a_session
       w_with t x b e w told lf = if_case (W M c Known Before Done s B out0) (h.epoch == x.epoch.0) _ _ (λ f. w_of_epoch t x b e w told lf (eqb-true h.epoch x.epoch.0 f)) (λ f. (w_of_other M c Known Before Done s B out0) t x _ b e w)
 
-      pub w_hear : (t : Turn) → (is_report m.body ≡ true → (sv : ServerId) → h.from ≡ server_node sv → Told m.body sv) → (W M c Known Before Done s B out0) t → (W M c Known Before Done s B out0) (cr.receive_at now h m.body t)
+      pub w_receive : (t : Turn) → (is_report m.body ≡ true → (sv : ServerId) → h.from ≡ server_node sv → Told m.body sv) → (W M c Known Before Done s B out0) t → (W M c Known Before Done s B out0) (cr.receive_at now h m.body t)
       unfolding cr.receive_at cr.by_session
-      w_hear t told w = if_case (W M c Known Before Done s B out0) (cr.is_heard t now h) (cr.by_session t now h m.body t.here.session) t heard (λ f. w)
+      w_receive t told w = if_case (W M c Known Before Done s B out0) (cr.is_received t now h) (cr.by_session t now h m.body t.here.session) t received (λ f. w)
         where
           by : (is_report m.body ≡ true → Told m.body t.here.server) → h.life ≡ t.here.life.0 → (o : Option ClientSession) → t.here.session ≡ o → (W M c Known Before Done s B out0) (cr.by_session t now h m.body o)
           by k lf None e = (w_without M c Known Before Done s B out0) t now h m.body e w
           by k lf (Some x) e = w_with t x m.body e w k lf
 
-          heard : cr.is_heard t now h ≡ true → (W M c Known Before Done s B out0) (cr.by_session t now h m.body t.here.session)
-          heard f =
+          received : cr.is_received t now h ≡ true → (W M c Known Before Done s B out0) (cr.by_session t now h m.body t.here.session)
+          received f =
               let z = and_true (h.from == server_node t.here.server) _ f in
               by (λ g. told g t.here.server (eqb-true _ _ z.0)) (eqb-true _ _ (and_true (h.life == t.here.life.0) _ z.1).0) t.here.session refl
 
@@ -563,8 +563,8 @@ module _ (M : List Message) (c : ClientId) (Known : ℕ → Ask → Type 0) (Bef
         clash : {b : Bool} → b ≡ true → b ≡ false → ⊥
         clash x y = cc
 
-        pended : cs.is_at (server_of ask) t.here ≡ true → (W M c Known Before Done s B out0) (cs.keep new t)
-        pended at =
+        enqueued : cs.is_at (server_of ask) t.here ≡ true → (W M c Known Before Done s B out0) (cs.keep new t)
+        enqueued at =
             record {
               base = record {
                 id_ = w.base.id_;
@@ -609,5 +609,5 @@ module _ (M : List Message) (c : ClientId) (Known : ℕ → Ask → Type 0) (Bef
             waits o (inr (inr i)) e = absurd i
 
         by : cs.is_at (server_of ask) t.here ≡ true → (a : Ask) → (W M c Known Before Done s B out0) (cl.take_by t op ask a)
-        by at (asks.Sync f) = if_both (W M c Known Before Done s B out0) (pages.has_lost t.here.lost f.ino) _ _ ((w_say M c Known Before Done s B out0) (cs.with_lost_rows (pages.untold t.here.lost f.ino) t) _ tt w) (pended at)
-        by at a = pended at
+        by at (asks.Sync f) = if_both (W M c Known Before Done s B out0) (pages.has_lost t.here.lost f.ino) _ _ ((w_say M c Known Before Done s B out0) (cs.with_lost_rows (pages.untold t.here.lost f.ino) t) _ tt w) (enqueued at)
+        by at a = enqueued at

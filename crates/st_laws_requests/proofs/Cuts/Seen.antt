@@ -19,12 +19,12 @@ use Rattle.st_rules.specs.declared.observation.Observation.TheVariants as seen
 use Rattle.st_rules.specs.ClientState.{ClientState}
 use Rattle.st_rules.specs.Events as ev
 use Rattle.st_rules.specs.Events.{WorldTurn, client_says, client_says_all, server_says, server_says_all}
-use Rattle.st_rules.specs.World.{ClientSite, site_of}
+use Rattle.st_rules.specs.World.{WorldClient, site_of}
 use Rattle.st_lemmas.specs.Lists.{Has}
 use Rattle.st_lemmas.proofs.Tables.{has_append, has_map_in}
 use Rattle.st_laws_leases.specs.Dates.Dates.{message_in, messages}
 use Rattle.st_laws_leases.proofs.Dates.Known.{has_right}
-use Rattle.st_laws_leases.proofs.Dates.Said.{client_said, server_said}
+use Rattle.st_laws_leases.proofs.Dates.SentMessages.{client_said, server_said}
 
 -- Observations.
 -- it answers nothing
@@ -119,7 +119,7 @@ unfolding client_says ev.submits ev.answers_with ev.client_notes ev.accepts ev.p
 answered_one c before (outputs.Send m) sc = other_seen c _ sc.seen _ tt
 answered_one c before (outputs.Submit number at what) sc = go (site_of sc.world c)
   where
-    go : (o : Option ClientSite) → AnswersOf c (outputs.Submit number at what ∷ []) sc.seen (ev.submits sc c o number at what).seen
+    go : (o : Option WorldClient) → AnswersOf c (outputs.Submit number at what ∷ []) sc.seen (ev.submits sc c o number at what).seen
     go None = λ d op a h. inl h
     go (Some site) = other_seen c _ sc.seen _ tt
 answered_one c before (outputs.Answer n b) sc = go

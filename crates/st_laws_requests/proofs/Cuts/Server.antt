@@ -50,7 +50,7 @@ use Rattle.st_rules.specs.Keys.{client, server_node}
 use Rattle.st_rules.specs.Names as names
 use Rattle.st_rules.specs.Names.{Names}
 use Rattle.st_rules.specs.Server as sv
-use Rattle.st_rules.specs.Server.{ServerState, Stable, Turn, Replied, turn, with_locks, with_sessions, sender, life_in, note, reply, say, tell, steal_at, steal_from, steal, steal_each, thefts, suspect_client, greet_as, greet_by, greet, refuse_in_grace, hello, demand_seen, see_demand, refuse_epoch, reassert_by, reassert_new, reassert_again, reassert, rule, keep_and_reply, keep, serve, request_by, request, of_epoch, by_body, refuse_suspect, by_suspicion, receive_from, receive, take_input, suspect_unless, suspect_each, suspecting, suspecting_on, tell_granted, grant_by, grant_waiting, granting, tell_demanded, demand_by, demanding, server_step}
+use Rattle.st_rules.specs.Server.{ServerState, Stable, ServerTurn, Replied, turn, with_locks, with_sessions, sender, life_in, note, reply, say, tell, steal_at, steal_from, steal, steal_each, thefts, suspect_client, greet_as, greet_by, greet, refuse_in_grace, hello, demand_seen, observe_demand, refuse_epoch, reassert_by, reassert_new, reassert_again, reassert, rule, keep_and_reply, keep, serve, request_by, request, of_epoch, by_body, refuse_suspect, by_suspicion, receive_from, receive, take_input, suspect_unless, suspect_each, suspecting, suspecting_on, tell_granted, grant_by, grant_waiting, granting, tell_demanded, demand_by, demanding, server_step}
 use Rattle.st_lemmas.specs.Lists.{Has}
 use Rattle.st_lemmas.proofs.Lookups.{some_is}
 use Rattle.st_lemmas.proofs.Puts.{find_put_by, find_put_other}
@@ -173,16 +173,16 @@ module _ (Q : Body → Bool) (kind : Kind Q) (s : ServerId) (e : Epoch) (F : Lis
   Said out x = (x.header.from ≡ server_node s) × (Q x.body ≡ true → (x.header.epoch ≡ e.0) × F out (client x.header.to) x.header.life x.header.number x.body)
 
   -- What stands within a step.
-  pub record Acks (t : Turn) : Type 0 where
+  pub record Acks (t : ServerTurn) : Type 0 where
     pub id : t.state.id ≡ s
     pub epoch : t.state.stable.epoch ≡ e
     pub kept : Keeps Q (F t.out) t.state.sessions
     pub sent : (x : Message) → Has (outputs.Send x) t.out → Said t.out x
 
-  pub acks_state : (t : Turn) (x : ServerState) → x.id ≡ t.state.id → x.stable.epoch ≡ t.state.stable.epoch → x.sessions ≡ t.state.sessions → Acks t → Acks (record t { state = x })
+  pub acks_state : (t : ServerTurn) (x : ServerState) → x.id ≡ t.state.id → x.stable.epoch ≡ t.state.stable.epoch → x.sessions ≡ t.state.sessions → Acks t → Acks (record t { state = x })
   acks_state t x a b c o = record { id = a ∙ o.id; epoch = b ∙ o.epoch; kept = subst (Keeps Q (F t.out)) (sym c) o.kept; sent = o.sent }
 
-  acks_say : (t : Turn) (o : Output) → ((x : Message) → outputs.Send x ≡ o → Said (t.out ++ o ∷ []) x) → Acks t → Acks (say t o)
+  acks_say : (t : ServerTurn) (o : Output) → ((x : Message) → outputs.Send x ≡ o → Said (t.out ++ o ∷ []) x) → Acks t → Acks (say t o)
   acks_say t o f k = record { id = k.id; epoch = k.epoch; kept = λ c x h. state_more t.out (o ∷ []) c x.life.0 x.state (k.kept c x h); sent = λ x h. go x (has_append t.out (o ∷ []) (outputs.Send x) h) }
     where
       go : (x : Message) → Has (outputs.Send x) t.out ⊎ Has (outputs.Send x) (o ∷ []) → Said (t.out ++ o ∷ []) x
@@ -190,10 +190,10 @@ module _ (Q : Body → Bool) (kind : Kind Q) (s : ServerId) (e : Epoch) (F : Lis
       go x (inr (inl q)) = f x q
       go x (inr (inr n)) = absurd n
 
-  pub acks_note : (t : Turn) (x : Note) → Acks t → Acks (note t x)
+  pub acks_note : (t : ServerTurn) (x : Note) → Acks t → Acks (note t x)
   acks_note t x o = acks_say t (outputs.Note x) (λ y q. cc q) o
 
-  pub acks_reply : (t : Turn) (h : Header) (b : Body) → (Q b ≡ true → F t.out (client h.from) h.life h.number b) → Acks t → Acks (reply t h b)
+  pub acks_reply : (t : ServerTurn) (h : Header) (b : Body) → (Q b ≡ true → F t.out (client h.from) h.life h.number b) → Acks t → Acks (reply t h b)
   unfolding reply
   acks_reply t h b w o = acks_say t (outputs.Send m) (λ x q. subst (Said (t.out ++ outputs.Send m ∷ [])) (sym (same x q)) (ap server_node o.id, λ f. (ap (λ (y : Epoch). y.0) o.epoch, more t.out _ (client h.from) h.life h.number b (w f)))) o
     where
@@ -203,7 +203,7 @@ module _ (Q : Body → Bool) (kind : Kind Q) (s : ServerId) (e : Epoch) (F : Lis
       same : (x : Message) → outputs.Send x ≡ outputs.Send m → x ≡ m
       same x q = cc
 
-  acks_tell : (t : Turn) (c : ClientId) (life : Life) (b : Body) → (Q b ≡ true → ⊥) → Acks t → Acks (tell t c life b)
+  acks_tell : (t : ServerTurn) (c : ClientId) (life : Life) (b : Body) → (Q b ≡ true → ⊥) → Acks t → Acks (tell t c life b)
   unfolding tell
   acks_tell t c life b w o = acks_say t (outputs.Send m) (λ x q. subst (Said (t.out ++ outputs.Send m ∷ [])) (sym (same x q)) (ap server_node o.id, λ f. absurd (w f))) o
     where
@@ -214,47 +214,47 @@ module _ (Q : Body → Bool) (kind : Kind Q) (s : ServerId) (e : Epoch) (F : Lis
       same x q = cc
 
   -- what is given again is of this key
-  pub again_good : (t : Turn) (h : Header) (b : Body) → sv.take t h ≡ takes.Again b → Q b ≡ true → Acks t → F t.out (client h.from) h.life h.number b
+  pub again_good : (t : ServerTurn) (h : Header) (b : Body) → sv.take t h ≡ takes.Again b → Q b ≡ true → Acks t → F t.out (client h.from) h.life h.number b
   again_good t h b q f o =
       let z = found_for t.state.sessions (sender h) (life_in h) (sv.epoch_in h) h.number (takes.Again b) (λ x. x ≡ states.Live h.number (Some b)) q (λ r. cc r) (λ r. cc r) (λ r. cc r) (λ x r. again_state b h.number x r) in
       subst (λ l. F t.out (sender h) l h.number b) z.of_life ((subst (KeptBy Q (F t.out (sender h) z.session.life.0)) z.state (o.kept (sender h) z.session z.is)) f)
 
   -- The same, where the names of the server are these.
   module _ (n : Names) where
-    pub record O (t : Turn) : Type 0 where
+    pub record O (t : ServerTurn) : Type 0 where
       pub acks : Acks t
       pub names : t.state.stable.names ≡ n
 
     -- other parts of the state
-    o_state : (t : Turn) (x : ServerState) → x.id ≡ t.state.id → x.stable ≡ t.state.stable → x.sessions ≡ t.state.sessions → O t → O (record t { state = x })
+    o_state : (t : ServerTurn) (x : ServerState) → x.id ≡ t.state.id → x.stable ≡ t.state.stable → x.sessions ≡ t.state.sessions → O t → O (record t { state = x })
     o_state t x a b c o = record { acks = acks_state t x a (ap (λ (y : Stable). y.epoch) b) c o.acks; names = ap (λ (y : Stable). y.names) b ∙ o.names }
 
-    o_sessions : (t : Turn) (x : sessions.Sessions) → Keeps Q (F t.out) x → O t → O (with_sessions x t)
+    o_sessions : (t : ServerTurn) (x : sessions.Sessions) → Keeps Q (F t.out) x → O t → O (with_sessions x t)
     o_sessions t x k o = record { acks = record { id = o.acks.id; epoch = o.acks.epoch; kept = k; sent = o.acks.sent }; names = o.names }
 
-    o_note : (t : Turn) (x : Note) → O t → O (note t x)
+    o_note : (t : ServerTurn) (x : Note) → O t → O (note t x)
     o_note t x o = record { acks = acks_note t x o.acks; names = o.names }
 
-    pub o_reply : (t : Turn) (h : Header) (b : Body) → (Q b ≡ true → F t.out (client h.from) h.life h.number b) → O t → O (reply t h b)
+    pub o_reply : (t : ServerTurn) (h : Header) (b : Body) → (Q b ≡ true → F t.out (client h.from) h.life h.number b) → O t → O (reply t h b)
     unfolding reply
     o_reply t h b w o = record { acks = acks_reply t h b w o.acks; names = o.names }
 
-    o_tell : (t : Turn) (c : ClientId) (life : Life) (b : Body) → (Q b ≡ true → ⊥) → O t → O (tell t c life b)
+    o_tell : (t : ServerTurn) (c : ClientId) (life : Life) (b : Body) → (Q b ≡ true → ⊥) → O t → O (tell t c life b)
     unfolding tell
     o_tell t c life b w o = record { acks = acks_tell t c life b w o.acks; names = o.names }
 
-    o_suspect : (t : Turn) (now : Stamp) (c : ClientId) → O t → O (suspect_client t now c)
+    o_suspect : (t : ServerTurn) (now : Stamp) (c : ClientId) → O t → O (suspect_client t now c)
     unfolding suspect_client
     o_suspect t now c o = o_state _ _ refl refl refl (o_note t _ o)
 
-    o_steal : (t : Turn) (c : ClientId) (x : Option Session) → O t → O (steal_at t c x)
+    o_steal : (t : ServerTurn) (c : ClientId) (x : Option Session) → O t → O (steal_at t c x)
     unfolding steal_at steal_from
     o_steal t c None o = o
     o_steal t c (Some x) o =
         let v = o_note t (notes.Stolen c x.life) o in
         o_sessions (with_locks (locks.forget t.state.locks c) (note t (notes.Stolen c x.life))) _ (kept_ended Q (F (t.out ++ outputs.Note (notes.Stolen c x.life) ∷ [])) t.state.sessions c v.acks.kept) (o_state _ _ refl refl refl v)
 
-    o_steals : (cs : List ClientId) (t : Turn) → O t → O (steal_each cs t)
+    o_steals : (cs : List ClientId) (t : ServerTurn) → O t → O (steal_each cs t)
     unfolding steal_each steal
     o_steals [] t o = o
     o_steals (c ∷ cs) t o = o_steals cs _ (o_steal t c (sessions.session_of t.state.sessions c) o)
@@ -263,21 +263,21 @@ module _ (Q : Body → Bool) (kind : Kind Q) (s : ServerId) (e : Epoch) (F : Lis
     unfolding thefts
     o_thefts x now o = o_steals _ _ (o_state (turn x []) _ refl refl refl o)
 
-    o_greet_as : (t : Turn) (now : Stamp) (h : Header) (x : Hello) → O t → O (greet_as t now h x)
+    o_greet_as : (t : ServerTurn) (now : Stamp) (h : Header) (x : Hello) → O t → O (greet_as t now h x)
     unfolding greet_as
     o_greet_as t now h hellos.Welcome o = o_reply t h _ (λ q. absurd (clash q kind.welcome)) o
     o_greet_as t now h hellos.Replaced o = o_reply _ h _ (λ q. absurd (clash q kind.welcome)) (o_state t _ refl refl refl o)
     o_greet_as t now h hellos.Old o = o
     o_greet_as t now h hellos.Wait o = o_reply _ h _ (λ q. absurd (clash q (kind.suspect _ _))) (o_suspect t now (sender h) o)
 
-    pub o_hello : (t : Turn) (now : Stamp) (h : Header) → O t → O (hello t now h)
+    pub o_hello : (t : ServerTurn) (now : Stamp) (h : Header) → O t → O (hello t now h)
     unfolding hello greet greet_by refuse_in_grace
     o_hello t now h o =
         if_either O (sv.in_grace t now) _ _ (o_reply t h _ (λ q. absurd (clash q (kind.grace _ _))) o)
         (o_greet_as _ now h _ (o_sessions t _ (kept_hello Q (F t.out) t.state.sessions (sender h) (life_in h) _ o.acks.kept) o))
 
-    pub o_seen : (t : Turn) (h : Header) (ino : ℕ) (g : GrantNo) → O t → O (demand_seen t h ino g)
-    unfolding demand_seen see_demand
+    pub o_seen : (t : ServerTurn) (h : Header) (ino : ℕ) (g : GrantNo) → O t → O (demand_seen t h ino g)
+    unfolding demand_seen observe_demand
     o_seen t h ino g o = if_either O (sv.is_served t h) _ t (o_state t _ refl refl refl o) o
 
     abbrev AcceptedKeeps : List Output → Res grace.Accepted AcceptRefusal → Type 0
@@ -301,67 +301,67 @@ module _ (Q : Body → Bool) (kind : Kind Q) (s : ServerId) (e : Epoch) (F : Lis
         earlier (Some r) = tt
 
     -- a refusal of a reassertion has the fact
-    abbrev pub RefusedOk : Turn → Header → Type 0
+    abbrev pub RefusedOk : ServerTurn → Header → Type 0
     RefusedOk t h = (r : AcceptRefusal) → Q (sv.refused_reassertion r) ≡ true → F t.out (client h.from) h.life h.number (sv.refused_reassertion r)
 
-    o_reassert_by : (t : Turn) (h : Header) (r : Res grace.Accepted AcceptRefusal) → RefusedOk t h → AcceptedKeeps t.out r → O t → O (reassert_by t h r)
+    o_reassert_by : (t : ServerTurn) (h : Header) (r : Res grace.Accepted AcceptRefusal) → RefusedOk t h → AcceptedKeeps t.out r → O t → O (reassert_by t h r)
     unfolding reassert_by
     o_reassert_by t h (Ok a) w k o = o_reply _ h _ (λ q. absurd (clash q kind.reasserted)) (o_sessions (with_locks a.locks t) _ k (o_state t _ refl refl refl o))
     o_reassert_by t h (Err r) w k o = o_reply t h _ (λ q. w r q) o
 
-    o_reassert_again : (t : Turn) (h : Header) (x : Taken Body) → sv.take t h ≡ x → O t → O (reassert_again t h x)
+    o_reassert_again : (t : ServerTurn) (h : Header) (x : Taken Body) → sv.take t h ≡ x → O t → O (reassert_again t h x)
     unfolding reassert_again
     o_reassert_again t h (takes.Again b) q o = o_reply t h b (λ f. again_good t h b q f o.acks) o
     o_reassert_again t h x q o = o
 
-    pub o_reassert : (t : Turn) (now : Stamp) (h : Header) (rows : List (ℕ × GrantNo × Mode)) → RefusedOk t h → O t → O (reassert t now h rows)
+    pub o_reassert : (t : ServerTurn) (now : Stamp) (h : Header) (rows : List (ℕ × GrantNo × Mode)) → RefusedOk t h → O t → O (reassert t now h rows)
     unfolding reassert reassert_new
     o_reassert t now h rows w o =
         if_either O (sessions.knows t.state.sessions (sender h) (life_in h)) _ _
         (o_reassert_again t h (sv.take t h) refl o)
         (o_reassert_by t h _ w (accepts t.out t.state.grace now (sender h) (life_in h) rows t.state.locks t.state.sessions o.acks.kept) o)
 
-    pub o_refuse : (t : Turn) (h : Header) (start : Stamp) (b : Body) → O t → O (refuse_suspect t h start b)
+    pub o_refuse : (t : ServerTurn) (h : Header) (start : Stamp) (b : Body) → O t → O (refuse_suspect t h start b)
     unfolding refuse_suspect
     o_refuse t h start (bd.DemandSeen n g) o = o
     o_refuse t h start b o = o_reply t h _ (λ f. absurd (clash f (kind.suspect _ _))) o
 
     -- The passes.
-    o_suspects : (now : Stamp) (cs : List ClientId) (t : Turn) → O t → O (suspect_each now cs t)
+    o_suspects : (now : Stamp) (cs : List ClientId) (t : ServerTurn) → O t → O (suspect_each now cs t)
     unfolding suspect_each suspect_unless
     o_suspects now [] t o = o
     o_suspects now (c ∷ cs) t o = o_suspects now cs _ (if_either O (authority.may_ack t.state.authority c) _ _ (o_suspect t now c o) o)
 
-    o_suspecting : (t : Turn) (now : Stamp) (j : ServerInput) → O t → O (suspecting_on t now j)
+    o_suspecting : (t : ServerTurn) (now : Stamp) (j : ServerInput) → O t → O (suspecting_on t now j)
     unfolding suspecting_on suspecting
     o_suspecting t now Tick o = o_suspects now _ t o
     o_suspecting t now (Control m) o = o
 
-    o_told : (rs : List (ClientId × Life × ℕ × GrantNo × Mode)) (t : Turn) → O t → O (tell_granted rs t)
+    o_told : (rs : List (ClientId × Life × ℕ × GrantNo × Mode)) (t : ServerTurn) → O t → O (tell_granted rs t)
     unfolding tell_granted
     o_told [] t o = o
     o_told (r ∷ rs) t o = o_told rs _ (o_tell t r.0 r.1 _ (λ f. clash f (kind.granted _ _ _)) o)
 
-    o_granting : (t : Turn) (now : Stamp) → O t → O (granting t now)
+    o_granting : (t : ServerTurn) (now : Stamp) → O t → O (granting t now)
     unfolding granting grant_waiting grant_by
     o_granting t now o = if_either O (sv.in_grace t now) t _ o (o_told _ _ (o_state t _ refl refl refl o))
 
-    o_demanded : (rs : List (ClientId × Life × ℕ × GrantNo × Mode)) (t : Turn) → O t → O (tell_demanded rs t)
+    o_demanded : (rs : List (ClientId × Life × ℕ × GrantNo × Mode)) (t : ServerTurn) → O t → O (tell_demanded rs t)
     unfolding tell_demanded
     o_demanded [] t o = o
     o_demanded (r ∷ rs) t o = o_demanded rs _ (o_tell t r.0 r.1 _ (λ f. clash f (kind.demand _ _ _)) o)
 
-    o_demanding : (t : Turn) (now : Stamp) (j : ServerInput) → O t → O (demanding t now j)
+    o_demanding : (t : ServerTurn) (now : Stamp) (j : ServerInput) → O t → O (demanding t now j)
     unfolding demanding demand_by
     o_demanding t now j o = o_demanded _ _ (o_state t _ refl refl refl o)
 
-    pub o_passes : (t : Turn) (now : Stamp) (j : ServerInput) → O t → O (demanding (granting (suspecting_on t now j) now) now j)
+    pub o_passes : (t : ServerTurn) (now : Stamp) (j : ServerInput) → O t → O (demanding (granting (suspecting_on t now j) now) now j)
     o_passes t now j o = o_demanding _ now j (o_granting _ now (o_suspecting _ now j o))
 
 -- A step of a server with an input, from these names.
 module _ (Q : Body → Bool) (kind : Kind Q) (s : ServerId) (e : Epoch) (i : ServerInput) (n : Names) (Old : ClientId → ℕ → ℕ → Body → Type 0) (state : ServerState) (now : Stamp) where
   -- behind the thefts
-  abbrev pub start : Turn
+  abbrev pub start : ServerTurn
   start = thefts (turn state []) now
 
   -- names said this, and are these now
@@ -414,10 +414,10 @@ module _ (Q : Body → Bool) (kind : Kind Q) (s : ServerId) (e : Epoch) (i : Ser
   before_more out os c life number b o = o
 
   -- before the input is taken, and behind it
-  abbrev Ob : Turn → Type 0
+  abbrev Ob : ServerTurn → Type 0
   Ob t = O Q kind s e Before before_more n t
 
-  abbrev Oa : Names → Turn → Type 0
+  abbrev Oa : Names → ServerTurn → Type 0
   Oa m t = O Q kind s e (Good m) (good_more m) m t
 
   -- a request was served, by whose rule names became these
@@ -431,7 +431,7 @@ module _ (Q : Body → Bool) (kind : Kind Q) (s : ServerId) (e : Epoch) (i : Ser
     pub names_ : (rule start now by.header by.body).turn.state.stable.names ≡ m
 
   -- what stands behind the input, and why names are these
-  abbrev Left : Turn → Type 0
+  abbrev Left : ServerTurn → Type 0
   Left t = (m : Names) × (Oa m t × ((m ≡ n) ⊎ ServesNames m))
 
   -- nothing was served
@@ -440,18 +440,18 @@ module _ (Q : Body → Bool) (kind : Kind Q) (s : ServerId) (e : Epoch) (i : Ser
   state_left out c life (states.Live last None) k = tt
   state_left out c life states.Ended k = tt
 
-  acks_left : (m : Names) (t : Turn) → m ≡ n → Acks Q kind s e Before before_more t → Acks Q kind s e (Good m) (good_more m) t
+  acks_left : (m : Names) (t : ServerTurn) → m ≡ n → Acks Q kind s e Before before_more t → Acks Q kind s e (Good m) (good_more m) t
   acks_left m t q o = subst (λ y. Acks Q kind s e (Good y) (good_more y) t) (sym q)
       (record { id = o.id; epoch = o.epoch; kept = λ c x h. state_left t.out c x.life.0 x.state (o.kept c x h); sent = λ x h. let z = o.sent x h in (z.0, λ f. let y = z.1 f in (y.0, inl y.1)) })
 
-  left : (t : Turn) → Ob t → Left t
+  left : (t : ServerTurn) → Ob t → Left t
   left t o = (n, (record { acks = acks_left n t refl o.acks; names = o.names }, inl refl))
 
   -- The rules of requests: a turn with the same sessions.
-  abbrev R : Turn → Replied → Type 0
+  abbrev R : ServerTurn → Replied → Type 0
   R t a = Acks Q kind s e Before before_more a.turn × (a.turn.state.sessions ≡ t.state.sessions)
 
-  r_rule : (t : Turn) (now : Stamp) (h : Header) (m : Body) → Acks Q kind s e Before before_more t → R t (rule t now h m)
+  r_rule : (t : ServerTurn) (now : Stamp) (h : Header) (m : Body) → Acks Q kind s e Before before_more t → R t (rule t now h m)
   r_rule = rules.r_rule (Acks Q kind s e Before before_more) (acks_state Q kind s e Before before_more) (acks_note Q kind s e Before before_more)
 
   -- what names say
@@ -464,26 +464,26 @@ module _ (Q : Body → Bool) (kind : Kind Q) (s : ServerId) (e : Epoch) (i : Ser
   telling : (x : Saying) (m : Names) (b : Body) → IsSaid x m b → Telling x m (Some b)
   telling x m b k c q = subst (IsSaid x m) (some_is q) k
 
-  t_refused : (t : Turn) (r : EntryRefusal) → TellingBy (refused t.state.stable.names r) (sv.name_refused t r)
+  t_refused : (t : ServerTurn) (r : EntryRefusal) → TellingBy (refused t.state.stable.names r) (sv.name_refused t r)
   unfolding sv.name_refused
   t_refused t r = telling (refused t.state.stable.names r) t.state.stable.names (bd.Named (replies.Refused (names.code_of r))) refl
 
-  t_found : (t : Turn) (r : Res ℕ EntryRefusal) → TellingBy (found t.state.stable.names r) (sv.name_found t r)
+  t_found : (t : ServerTurn) (r : Res ℕ EntryRefusal) → TellingBy (found t.state.stable.names r) (sv.name_found t r)
   unfolding sv.name_found
   t_found t (Ok ino) = telling (said t.state.stable.names (answers.Named ino)) t.state.stable.names (bd.Named (replies.Ino ino)) refl
   t_found t (Err r) = t_refused t r
 
-  t_changed : (t : Turn) (r : Res names.Changed EntryRefusal) → TellingBy (changed t.state.stable.names r) (sv.name_changed t r)
+  t_changed : (t : ServerTurn) (r : Res names.Changed EntryRefusal) → TellingBy (changed t.state.stable.names r) (sv.name_changed t r)
   unfolding sv.name_changed
   t_changed t (Ok d) = telling (said d.names (answers.Named d.ino)) d.names (bd.Named (replies.Ino d.ino)) refl
   t_changed t (Err r) = t_refused t r
 
-  t_listed : (t : Turn) (r : Res (List NameRow) EntryRefusal) → TellingBy (listed t.state.stable.names r) (sv.names_listed t r)
+  t_listed : (t : ServerTurn) (r : Res (List NameRow) EntryRefusal) → TellingBy (listed t.state.stable.names r) (sv.names_listed t r)
   unfolding sv.names_listed
   t_listed t (Ok rows) = telling (said t.state.stable.names (answers.Listed rows)) t.state.stable.names (bd.Named (replies.Listed rows)) refl
   t_listed t (Err r) = t_refused t r
 
-  t_removed : (t : Turn) (r : Res names.Changed EntryRefusal) → TellingBy (changed t.state.stable.names r) (sv.remove_by t r)
+  t_removed : (t : ServerTurn) (r : Res names.Changed EntryRefusal) → TellingBy (changed t.state.stable.names r) (sv.remove_by t r)
   unfolding sv.remove_by sv.cut_whole sv.cut_pages
   t_removed t (Ok d) = telling (said d.names (answers.Named d.ino)) d.names (bd.Named (replies.Ino d.ino)) refl
   t_removed t (Err r) = t_refused t r
@@ -492,12 +492,12 @@ module _ (Q : Body → Bool) (kind : Kind Q) (s : ServerId) (e : Epoch) (i : Ser
   t_if true x y a b p q = p
   t_if false x y a b p q = q
 
-  t_held : (c : Bool) (x : Saying) (t : Turn) (ino : ℕ) (g : GrantNo) (a : Replied) → t.state.stable.names ≡ n → TellingBy x a → TellingBy x (if c then a else sv.not_holder t ino g)
+  t_held : (c : Bool) (x : Saying) (t : ServerTurn) (ino : ℕ) (g : GrantNo) (a : Replied) → t.state.stable.names ≡ n → TellingBy x a → TellingBy x (if c then a else sv.not_holder t ino g)
   unfolding sv.not_holder
   t_held true x t ino g a at p = p
   t_held false x t ino g a at p = telling x t.state.stable.names (bd.Nack why.NotHolder ino g.0) at
 
-  t_remove : (t : Turn) (h : Header) (dir : ℕ) (x : List ℕ) (g : GrantNo) (r : Res ℕ EntryRefusal) → t.state.stable.names ≡ n → TellingBy (does_remove t.state.stable.names dir x g r) (sv.remove_found t h dir x g r)
+  t_remove : (t : ServerTurn) (h : Header) (dir : ℕ) (x : List ℕ) (g : GrantNo) (r : Res ℕ EntryRefusal) → t.state.stable.names ≡ n → TellingBy (does_remove t.state.stable.names dir x g r) (sv.remove_found t h dir x g r)
   unfolding sv.remove_found sv.remove_ino sv.remove_file sv.remove_dir
   t_remove t h dir x g (Err r) at = t_refused t r
   t_remove t h dir x g (Ok ino) at =
@@ -505,7 +505,7 @@ module _ (Q : Body → Bool) (kind : Kind Q) (s : ServerId) (e : Epoch) (i : Ser
       (t_held (sv.holds t h ino g modes.X) (changed t.state.stable.names (names.remove t.state.stable.names dir x)) t ino g (sv.remove_by t (names.remove t.state.stable.names dir x)) at (t_removed t (names.remove t.state.stable.names dir x)))
       (t_if (g.0 == 0) (changed t.state.stable.names (names.remove t.state.stable.names dir x)) (refused t.state.stable.names IsDir) _ _ (t_changed t (names.remove t.state.stable.names dir x)) (t_refused t IsDir))
 
-  pub t_name : (t : Turn) (h : Header) (op : NameOp) → t.state.stable.names ≡ n → TellingBy (does t.state.stable.names op) (sv.name t h op)
+  pub t_name : (t : ServerTurn) (h : Header) (op : NameOp) → t.state.stable.names ≡ n → TellingBy (does t.state.stable.names op) (sv.name t h op)
   unfolding sv.name sv.remove
   t_name t h (Lookup dir x) at = t_found t _
   t_name t h (Create dir x) at = t_changed t _
@@ -518,7 +518,7 @@ module _ (Q : Body → Bool) (kind : Kind Q) (s : ServerId) (e : Epoch) (i : Ser
   abbrev Noting : Body → Replied → Type 0
   Noting m a = (b : Body) → a.reply ≡ Some b → Q b ≡ true → Noted m a.turn.out a.turn.state.stable.names b
 
-  rule_notes : (t : Turn) (now : Stamp) (h : Header) (m : Body) → t.state.id ≡ s → t.state.stable.names ≡ n → Noting m (rule t now h m)
+  rule_notes : (t : ServerTurn) (now : Stamp) (h : Header) (m : Body) → t.state.id ≡ s → t.state.stable.names ≡ n → Noting m (rule t now h m)
   unfolding rule sv.cut sv.cut_held sv.cut_from sv.cut_pages sv.no_file sv.not_holder
   rule_notes t now h (bd.Cut k g p) id at = if_either (Noting (bd.Cut k g p)) (sv.is_file t k) _ _ (if_either (Noting (bd.Cut k g p)) (sv.holds t h k g modes.X) _ _ cut (λ b q f. no why.NotHolder k g.0 b q)) (λ b q f. no why.NoFile k 0 b q)
     where
@@ -637,10 +637,10 @@ module _ (Q : Body → Bool) (kind : Kind Q) (s : ServerId) (e : Epoch) (i : Ser
   o_input : (j : ServerInput) → i ≡ j → Ob start → Left (take_input start now j)
   unfolding take_input receive receive_from
   o_input Tick q o = left _ o
-  o_input (Control m) q o = if_cases Left (sv.is_for start.state m.header) _ _ heard (λ f. left _ o)
+  o_input (Control m) q o = if_cases Left (sv.is_for start.state m.header) _ _ received (λ f. left _ o)
     where
-      heard : sv.is_for start.state m.header ≡ true → Left (by_suspicion start now m.header m.body (authority.started start.state.authority (sender m.header)))
-      heard f = let z = and_true (m.header.to == server_node start.state.id) _ f in o_by_suspicion m q (eqb-true _ _ z.0 ∙ ap server_node o.acks.id) z.1 _ o
+      received : sv.is_for start.state m.header ≡ true → Left (by_suspicion start now m.header m.body (authority.started start.state.authority (sender m.header)))
+      received f = let z = and_true (m.header.to == server_node start.state.id) _ f in o_by_suspicion m q (eqb-true _ _ z.0 ∙ ap server_node o.acks.id) z.1 _ o
 
   -- The whole step, and the names that it leaves.
   pub served : Ob (turn state []) → Left (server_step state now i)

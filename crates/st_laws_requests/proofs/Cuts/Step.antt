@@ -27,7 +27,7 @@ use Rattle.st_lemmas.proofs.Tables.{has_append, has_map_in}
 use Rattle.st_laws_steps.specs.Lives.Lives.{Once, server_number}
 use Rattle.st_laws_leases.proofs.Dates.Known.{has_left}
 use Rattle.st_laws_requests.specs.Cuts.Cuts.{AllWait, AsksFor, Between, Keyed, Numbers, OneWaits, is_report, view}
-use Rattle.st_laws_requests.proofs.Cuts.Client.{w_finish, w_hear, w_lose, w_passes, w_take}
+use Rattle.st_laws_requests.proofs.Cuts.Client.{w_finish, w_receive, w_lose, w_passes, w_take}
 use Rattle.st_laws_requests.proofs.Cuts.Keeping.{Answers, SaidOf, Sent, Whole, asked_of, sent_more}
 
 -- associations of servers that differ
@@ -238,11 +238,11 @@ module _ (M : List Message) (c : ClientId) (Known : ℕ → Ask → Type 0) (Bef
         (if_held (cl.is_configured t.state (server_of ask)) _ _ (each (cs.only_at (server_of ask) (cl.take_ask op ask)) (λ s B out0 u w. w_take M c Known Before Done s B out0 op ask g u w) t k) (at_once t op answers.NoFile (λ x. tt) k))
     taken t now (inputs.Control m) g k = go (m.header.to == t.state.id.0) refl
       where
-        heard : m.header.to ≡ c.0 → Held [] (at_each (cr.receive_at now m.header m.body) t)
-        heard to = each (cr.receive_at now m.header m.body) (λ s B out0 u w. w_hear M c Known Before Done s B out0 now m (Told m) (ends m) u (g to) w) t k
+        received : m.header.to ≡ c.0 → Held [] (at_each (cr.receive_at now m.header m.body) t)
+        received to = each (cr.receive_at now m.header m.body) (λ s B out0 u w. w_receive M c Known Before Done s B out0 now m (Told m) (ends m) u (g to) w) t k
 
         go : (b : Bool) → (m.header.to == t.state.id.0) ≡ b → Held [] (if b then at_each (cr.receive_at now m.header m.body) t else t)
-        go true e = heard (eqb-true m.header.to t.state.id.0 e ∙ ap (λ (v : ClientId). v.0) k.id_)
+        go true e = received (eqb-true m.header.to t.state.id.0 e ∙ ap (λ (v : ClientId). v.0) k.id_)
         go false e = k
     taken t now (inputs.Done number result) g k = each (cl.finish number result) (λ s B out0 u w. w_finish M c Known Before Done s B out0 number result u w) t k
 

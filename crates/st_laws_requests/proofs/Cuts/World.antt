@@ -52,7 +52,7 @@ use Rattle.st_rules.specs.Names.{Names}
 use Rattle.st_rules.specs.Server as server
 use Rattle.st_rules.specs.Server.{ServerNode}
 use Rattle.st_rules.specs.World as world
-use Rattle.st_rules.specs.World.{World, ClientSite, site_of, node_of, numbered, with_numbered, clock_of}
+use Rattle.st_rules.specs.World.{World, WorldClient, site_of, node_of, numbered, with_numbered, clock_of}
 use Rattle.st_rules.specs.Safety as safety
 use Rattle.st_rules.specs.Safety.{Step, ask_in, ask_of_client, cuts_after, is_after_ask, is_cut_at, step, was_cut}
 use Rattle.st_lemmas.specs.Lists.{Has}
@@ -61,7 +61,7 @@ use Rattle.st_lemmas.proofs.Tables.{and_both, has_append, has_map, has_map_in, s
 use Rattle.st_laws_leases.specs.Dates.Dates.{message_in, messages}
 use Rattle.st_laws_leases.proofs.Dates.Known.{has_left, has_right}
 use Rattle.st_laws_leases.proofs.Dates.Leaving.{Leaves, client_leaves, leaves_from, lost_same, server_leaves, server_not_client, set_cases}
-use Rattle.st_laws_leases.proofs.Dates.Said.{flushed}
+use Rattle.st_laws_leases.proofs.Dates.SentMessages.{flushed}
 use Rattle.st_laws_pages.proofs.Asks.World.{asks_more}
 use Rattle.st_laws_steps.specs.Lives.Lives.{NodeHolds}
 use Rattle.st_promises.specs.NameAnswers.{is_of_names, said}
@@ -106,7 +106,7 @@ module _ (past : List Step) (t : Traced) (e : Event) (d : CutsHold past t) where
     pub old : (m : Message) → Has m (messages t.world) → Has m (messages sc.world)
     pub new : (m : Message) → Has m (messages sc.world) → Has m (messages t.world) ⊎ (is_report m.body ≡ true → (s : ServerId) → m.header.from ≡ server_node s →
         Acked (past ++ step t e sc ∷ []) (messages sc.world) (client m.header.to) s m.header.life m.header.epoch m.header.number m.body)
-    pub clients : (c : ClientId) (site : ClientSite) → site_of sc.world c ≡ Some site → ClientOk (past ++ step t e sc ∷ []) (messages sc.world) c site
+    pub clients : (c : ClientId) (site : WorldClient) → site_of sc.world c ≡ Some site → ClientOk (past ++ step t e sc ∷ []) (messages sc.world) c site
     pub servers : (s : ServerId) (node : ServerNode) → node_of sc.world s ≡ Some node → ServerOk (past ++ step t e sc ∷ []) (messages sc.world) s node
     pub few : length sc.world.clients ≤ 16
     pub cuts : CutsAreLogged past (step t e sc)
@@ -127,7 +127,7 @@ module _ (past : List Step) (t : Traced) (e : Event) (d : CutsHold past t) where
   asked_same c q = ap (λ z. asks_of past c ++ cons_option z []) q ∙ none_behind (asks_of past c)
 
   -- an ask that was made before this event was made before its step
-  early_more : (sc : WorldTurn) (c : ClientId) (site : ClientSite) → site_of t.world c ≡ Some site → (s : ServerId) (life epoch number op : ℕ) → op ≤ site.asks → Early past c s life epoch number op → Early (past ++ step t e sc ∷ []) c s life epoch number op
+  early_more : (sc : WorldTurn) (c : ClientId) (site : WorldClient) → site_of t.world c ≡ Some site → (s : ServerId) (life epoch number op : ℕ) → op ≤ site.asks → Early past c s life epoch number op → Early (past ++ step t e sc ∷ []) c s life epoch number op
   early_more sc c site at s life epoch number op l k y m h i z = go (has_append past _ y h)
     where
       go : Has y past ⊎ Has y (step t e sc ∷ []) → is_after_ask c op y ≡ true
@@ -136,7 +136,7 @@ module _ (past : List Step) (t : Traced) (e : Event) (d : CutsHold past t) where
       go (inr (inr j)) = absurd j
 
   -- a client of which nothing happens
-  client_more : (sc : WorldTurn) (c : ClientId) (site : ClientSite) → ((m : Message) → Has m (messages t.world) → Has m (messages sc.world)) → ((m : Message) → Has m (messages sc.world) → Has m (messages t.world) ⊎ (m.header.from ≢ c.0)) → ask_in c e ≡ None → site_of t.world c ≡ Some site →
+  client_more : (sc : WorldTurn) (c : ClientId) (site : WorldClient) → ((m : Message) → Has m (messages t.world) → Has m (messages sc.world)) → ((m : Message) → Has m (messages sc.world) → Has m (messages t.world) ⊎ (m.header.from ≢ c.0)) → ask_in c e ≡ None → site_of t.world c ≡ Some site →
       ClientOk past (messages t.world) c site → ClientOk (past ++ step t e sc ∷ []) (messages sc.world) c site
   client_more sc c site old new q at k =
       record {
@@ -193,7 +193,7 @@ module _ (past : List Step) (t : Traced) (e : Event) (d : CutsHold past t) where
       }
 
   -- A client at its place is another one, and no message is sent.
-  client_placed : (c : ClientId) (old new : ClientSite) (sc : WorldTurn) → ((c : ClientId) → ask_in c e ≡ None) → site_of t.world c ≡ Some old → sc.world.clients ≡ with_numbered c.0 new t.world.clients → sc.world.servers ≡ t.world.servers → messages sc.world ≡ messages t.world →
+  client_placed : (c : ClientId) (old new : WorldClient) (sc : WorldTurn) → ((c : ClientId) → ask_in c e ≡ None) → site_of t.world c ≡ Some old → sc.world.clients ≡ with_numbered c.0 new t.world.clients → sc.world.servers ≡ t.world.servers → messages sc.world ≡ messages t.world →
       ((past2 : List Step) → ClientOk past (messages t.world) c old → asks_of past2 c ≡ asks_of past c → ClientOk past2 (messages t.world) c new) → NoAnswers sc.seen → Next sc
   client_placed c old new sc q at cs ss ms k n =
       record {
@@ -212,7 +212,7 @@ module _ (past : List Step) (t : Traced) (e : Event) (d : CutsHold past t) where
       its : ClientOk past2 (messages sc.world) c new
       its = subst (λ l. ClientOk past2 l c new) (sym ms) (k past2 (d.clients c old at) (asked_all sc c ∙ asked_same c (q c)))
 
-      it : (x : ClientId) (y : ClientSite) → ((x.0 ≡ c.0) × (y ≡ new)) ⊎ ((x.0 ≢ c.0) × (site_of t.world x ≡ Some y)) → ClientOk past2 (messages sc.world) x y
+      it : (x : ClientId) (y : WorldClient) → ((x.0 ≡ c.0) × (y ≡ new)) ⊎ ((x.0 ≢ c.0) × (site_of t.world x ≡ Some y)) → ClientOk past2 (messages sc.world) x y
       it x y (inl z) = subst (ClientOk past2 (messages sc.world) x) (sym z.1) (subst (λ n. ClientOk past2 (messages sc.world) (record { 0 = n }) new) (sym z.0) its)
       it x y (inr z) = client_more sc x y (λ m h. subst (Has m) (sym ms) h) (λ m h. inl (subst (Has m) ms h)) (q x) z.1 (d.clients x y z.1)
 
@@ -245,7 +245,7 @@ module _ (past : List Step) (t : Traced) (e : Event) (d : CutsHold past t) where
   Tells c (inputs.Control m) = Has m (messages t.world) × (m.header.to ≡ c.0)
   Tells c (inputs.Done number result) = Unit {0}
 
-  record Takes (c : ClientId) (i : ClientInput) (site old : ClientSite) : Type 0 where
+  record Takes (c : ClientId) (i : ClientInput) (site old : WorldClient) : Type 0 where
     pub same : site.node ≡ old.node
     pub there : site_of t.world c ≡ Some old
     pub count : length (asked_now c) ≡ site.asks
@@ -253,7 +253,7 @@ module _ (past : List Step) (t : Traced) (e : Event) (d : CutsHold past t) where
     pub input : Tells c i
     pub others : (x : ClientId) → x.0 ≢ c.0 → ask_in x e ≡ None
 
-  client_step : (v : World) → v.clients ≡ t.world.clients → v.servers ≡ t.world.servers → v.net ≡ t.world.net → (c : ClientId) (i : ClientInput) (site old : ClientSite) → Takes c i site old → ((c : ClientId) → site.node.running ≡ false → ask_in c e ≡ None) →
+  client_step : (v : World) → v.clients ≡ t.world.clients → v.servers ≡ t.world.servers → v.net ≡ t.world.net → (c : ClientId) (i : ClientInput) (site old : WorldClient) → Takes c i site old → ((c : ClientId) → site.node.running ≡ false → ask_in c e ≡ None) →
       Next (ev.client_takes v c i site)
   unfolding ev.client_takes ev.client_took cl.node_step
   client_step v ps ss net c i site old z quiet = go site.node.running refl
@@ -452,7 +452,7 @@ module _ (past : List Step) (t : Traced) (e : Event) (d : CutsHold past t) where
           other y n m (inl h) = inl h
           other y n m (inr h) = inr (λ q. n (sym q ∙ k.from m h))
 
-          it : (y : ClientId) (r : ClientSite) → ((y.0 ≡ c.0) × (r ≡ ev.at_node node site)) ⊎ ((y.0 ≢ c.0) × (site_of t.world y ≡ Some r)) → ClientOk past2 (messages last) y r
+          it : (y : ClientId) (r : WorldClient) → ((y.0 ≡ c.0) × (r ≡ ev.at_node node site)) ⊎ ((y.0 ≢ c.0) × (site_of t.world y ≡ Some r)) → ClientOk past2 (messages last) y r
           it y r (inl q) = subst (ClientOk past2 (messages last) y) (sym q.1) (subst (λ n. ClientOk past2 (messages last) (record { 0 = n }) (ev.at_node node site)) (sym q.0) own)
           it y r (inr q) = client_more sc y r l.old (λ m h. other y q.0 m (leaves_from M a.world last u.out l m h)) (z.others y q.0) q.1 (d.clients y r q.1)
 
@@ -495,7 +495,7 @@ module _ (past : List Step) (t : Traced) (e : Event) (d : CutsHold past t) where
       now : Stamp
       now = clock_of w (nodes.Server s)
 
-      u : server.Turn
+      u : server.ServerTurn
       u = server.server_step node.state now i
 
       next : ServerNode
@@ -579,7 +579,7 @@ module _ (past : List Step) (t : Traced) (e : Event) (d : CutsHold past t) where
               subst (λ n. Acked past2 (messages sc.world) (client m.header.to) (record { 0 = n }) m.header.life m.header.epoch m.header.number m.body) same
               (subst (λ n. Acked past2 (messages sc.world) (client m.header.to) s m.header.life n m.header.number m.body) (sym z.0) (good (client m.header.to) m.header.life m.header.number m.body z.1))
 
-      of_server : (m : Message) (c : ClientId) (site : ClientSite) → site_of t.world c ≡ Some site → Has m M ⊎ Has (outputs.Send m) u.out → Has m M ⊎ (m.header.from ≢ c.0)
+      of_server : (m : Message) (c : ClientId) (site : WorldClient) → site_of t.world c ≡ Some site → Has m M ⊎ Has (outputs.Send m) u.out → Has m M ⊎ (m.header.from ≢ c.0)
       of_server m c site there (inl h) = inl h
       of_server m c site there (inr h) = inr (λ r. server_not_client c.0 s.0 (let y = (numbered_below t.world.clients c.0 site there).1 in let w = d.few in omega (arith, y, w)) (sym r ∙ (k.sent m h).0))
 
@@ -611,7 +611,7 @@ module _ (past : List Step) (t : Traced) (e : Event) (d : CutsHold past t) where
       go false = still (ev.quiet w) q refl refl refl none_answered
 
 -- a client that crashed or started
-crashed_ok : (past past2 : List Step) (ms : List Message) (c : ClientId) (site : ClientSite) → asks_of past2 c ≡ asks_of past c → ClientOk past ms c site → ClientOk past2 ms c (ev.stopped_site site)
+crashed_ok : (past past2 : List Step) (ms : List Message) (c : ClientId) (site : WorldClient) → asks_of past2 c ≡ asks_of past c → ClientOk past ms c site → ClientOk past2 ms c (ev.stopped_site site)
 unfolding cl.crash
 crashed_ok past past2 ms c site q k =
     record {
@@ -628,7 +628,7 @@ crashed_ok past past2 ms c site q k =
     none : false ≡ true → ⊥
     none e = cc
 
-started_ok : (past past2 : List Step) (ms : List Message) (c : ClientId) (site : ClientSite) → asks_of past2 c ≡ asks_of past c → ClientOk past ms c site → ClientOk past2 ms c (ev.started_site site)
+started_ok : (past past2 : List Step) (ms : List Message) (c : ClientId) (site : WorldClient) → asks_of past2 c ≡ asks_of past c → ClientOk past ms c site → ClientOk past2 ms c (ev.started_site site)
 unfolding cl.start
 started_ok past past2 ms c site q k =
     record {
@@ -689,7 +689,7 @@ module _ (past : List Step) (t : Traced) (d : CutsHold past t) where
   w = ev.counted t.world
 
   -- an event that is no ask
-  plain : (e : Event) → ((c : ClientId) → ask_in c e ≡ None) → (c : ClientId) (i : ClientInput) (site : ClientSite) → site_of t.world c ≡ Some site → Tells past t e d c i → Takes past t e d c i site site
+  plain : (e : Event) → ((c : ClientId) → ask_in c e ≡ None) → (c : ClientId) (i : ClientInput) (site : WorldClient) → site_of t.world c ≡ Some site → Tells past t e d c i → Takes past t e d c i site site
   plain e q c i site at k =
       let o = d.clients c site at in
       let same = asked_same past t e d c (q c) in
@@ -699,7 +699,7 @@ module _ (past : List Step) (t : Traced) (d : CutsHold past t) where
   unfolding ev.at_client
   at_client e q c i k = go (site_of w c) refl
     where
-      go : (o : Option ClientSite) → site_of w c ≡ o → Next past t e d (ev.at_client w c i o)
+      go : (o : Option WorldClient) → site_of w c ≡ o → Next past t e d (ev.at_client w c i o)
       go None r = still past t e d (ev.quiet w) q refl refl refl none_answered
       go (Some site) r = client_step past t e d w refl refl refl c i site site (plain e q c i site r k) (λ x f. q x)
 
@@ -711,7 +711,7 @@ module _ (past : List Step) (t : Traced) (d : CutsHold past t) where
       go None r = still past t e d (ev.quiet w) q refl refl refl none_answered
       go (Some node) r = server_step past t e d s i node q r k
 
-  asks_take : (c : ClientId) (ask : Ask) (site : ClientSite) → site_of t.world c ≡ Some site → Takes past t (events.App c ask) d c (inputs.App (site.asks + 1) ask) (ev.asked_once_more site) site
+  asks_take : (c : ClientId) (ask : Ask) (site : WorldClient) → site_of t.world c ≡ Some site → Takes past t (events.App c ask) d c (inputs.App (site.asks + 1) ask) (ev.asked_once_more site) site
   unfolding ask_of_client
   asks_take c ask site at =
       record {
@@ -749,7 +749,7 @@ module _ (past : List Step) (t : Traced) (d : CutsHold past t) where
       clash : {b : Bool} → b ≡ true → b ≡ false → ⊥
       clash x y = cc
 
-      runs : (o : Option ClientSite) → site_of t.world c ≡ o → world.site_runs o ≡ true
+      runs : (o : Option WorldClient) → site_of t.world c ≡ o → world.site_runs o ≡ true
       runs o r = subst (λ v. world.site_runs v ≡ true) r run
 
       stopped : site_of t.world c ≡ None → ⊥
@@ -758,7 +758,7 @@ module _ (past : List Step) (t : Traced) (d : CutsHold past t) where
           no : false ≡ true → ⊥
           no e = cc
 
-      go : (o : Option ClientSite) → site_of w c ≡ o → Next past t (events.App c ask) d (ev.asks_at w c ask o)
+      go : (o : Option WorldClient) → site_of w c ≡ o → Next past t (events.App c ask) d (ev.asks_at w c ask o)
       go None r = absurd (stopped r)
       go (Some site) r = client_step past t (events.App c ask) d w refl refl refl c (inputs.App (site.asks + 1) ask) (ev.asked_once_more site) site (asks_take c ask site r) (λ x f. absurd (clash (runs (Some site) r) f))
 
@@ -798,11 +798,11 @@ module _ (past : List Step) (t : Traced) (d : CutsHold past t) where
       none : Next past t e d (ev.quiet v)
       none = still past t e d (ev.quiet v) (λ c. refl) refl refl refl none_answered
 
-      same : (x : IssuedCommand) (site : ClientSite) → site_of w x.client ≡ Some site → (b : Bool) → Next past t e d (if b then ev.client_takes v x.client (ev.end_told v k ok x) site else ev.quiet v)
+      same : (x : IssuedCommand) (site : WorldClient) → site_of w x.client ≡ Some site → (b : Bool) → Next past t e d (if b then ev.client_takes v x.client (ev.end_told v k ok x) site else ev.quiet v)
       same x site q true = client_step past t e d v refl refl refl x.client (ev.end_told v k ok x) site site (plain e (λ c. refl) x.client (ev.end_told v k ok x) site q tt) (λ c f. refl)
       same x site q false = none
 
-      at : (x : IssuedCommand) (o : Option ClientSite) → site_of w x.client ≡ o → Next past t e d (ev.tells_client v k ok x o)
+      at : (x : IssuedCommand) (o : Option WorldClient) → site_of w x.client ≡ o → Next past t e d (ev.tells_client v k ok x o)
       at x None q = none
       at x (Some site) q = same x site q (ev.is_same_instance x site)
 
@@ -817,7 +817,7 @@ module _ (past : List Step) (t : Traced) (d : CutsHold past t) where
       e : Event
       e = events.Crash (nodes.Client c)
 
-      go : (o : Option ClientSite) → site_of w c ≡ o → Next past t e d (ev.crashes_client w c o)
+      go : (o : Option WorldClient) → site_of w c ≡ o → Next past t e d (ev.crashes_client w c o)
       go None q = still past t e d (ev.quiet w) (λ c. refl) refl refl refl none_answered
       go (Some site) q = client_placed past t e d c site (ev.stopped_site site) _ (λ c. refl) q refl refl refl (λ past2 k r. crashed_ok past past2 (messages t.world) c site r k) (fates_none 1 w.log (ev.log_crashed w c))
 
@@ -828,7 +828,7 @@ module _ (past : List Step) (t : Traced) (d : CutsHold past t) where
       e : Event
       e = events.Start (nodes.Client c)
 
-      go : (o : Option ClientSite) → site_of w c ≡ o → Next past t e d (ev.quiet (ev.starts_client w c o))
+      go : (o : Option WorldClient) → site_of w c ≡ o → Next past t e d (ev.quiet (ev.starts_client w c o))
       go None q = still past t e d (ev.quiet w) (λ c. refl) refl refl refl none_answered
       go (Some site) q = client_placed past t e d c site (ev.started_site site) _ (λ c. refl) q refl refl refl (λ past2 k r. started_ok past past2 (messages t.world) c site r k) none_answered
 

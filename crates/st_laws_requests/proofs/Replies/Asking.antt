@@ -18,7 +18,7 @@ use Rattle.st_laws_steps.proofs.Client.Sessions as sessions
 use Rattle.st_laws_steps.specs.Client.Client.{IsBegun}
 use Rattle.st_laws_steps.specs.Client.Losses.{Fit}
 use Rattle.st_laws_steps.specs.Client.Session.{SessionChange, Keeps, DropsLock, IsReasserted, EndsRequest, NewEpoch, AsksNew, AsksAgain}
-use Rattle.st_laws_requests.specs.Replies.Last.{AsksLast, IsLastRequest}
+use Rattle.st_laws_requests.specs.Replies.LastRequests.{AsksLast, IsLastRequest}
 
 abbrev pub K : Turn → Turn → Type 0
 K t u = AsksLast t.here.session → AsksLast u.here.session
@@ -51,8 +51,8 @@ first server life s b h = none_last s (ap (λ (z : ClientSession). z.requests.as
 pub k_passes : (now : Stamp) (tick : Bool) (t : Turn) → K t (cp.passes now tick t)
 k_passes = sessions.k_passes (λ s l o. AsksLast o) follows first
 
-pub k_hear : (now : Stamp) (h : Header) (b : Body) (t : Turn) → Fit t.here → K t (cr.receive_at now h b t)
-k_hear now h b t f = sessions.k_hear (λ s l o. AsksLast o) follows first now h b t f.fresh
+pub k_receive : (now : Stamp) (h : Header) (b : Body) (t : Turn) → Fit t.here → K t (cr.receive_at now h b t)
+k_receive now h b t f = sessions.k_receive (λ s l o. AsksLast o) follows first now h b t f.fresh
 
 pub k_finish : (number : ℕ) (r : Option (Option (Tag × List ℕ))) (t : Turn) → K t (cl.finish number r t)
 k_finish = sessions.k_finish (λ s l o. AsksLast o)

@@ -24,7 +24,7 @@ use Rattle.st_rules.specs.Events.{WorldTurn, world_step, server_says_all}
 use Rattle.st_rules.specs.Server as server
 use Rattle.st_rules.specs.Server.{ServerNode}
 use Rattle.st_rules.specs.World as world
-use Rattle.st_rules.specs.World.{World, ClientSite, site_of, node_of, clock_of}
+use Rattle.st_rules.specs.World.{World, WorldClient, site_of, node_of, clock_of}
 use Rattle.st_rules.specs.Safety.{steps}
 use Rattle.st_lemmas.specs.Lists.{Has}
 use Rattle.st_lemmas.proofs.Numbers.{numbered_has}
@@ -32,7 +32,7 @@ use Rattle.st_lemmas.proofs.Tables.{has_map_in}
 use Rattle.st_laws_leases.specs.Dates.Dates.{message_in, messages}
 use Rattle.st_laws_leases.proofs.Dates.Leaving.{Leaves, client_leaves, lost_same, server_leaves}
 use Rattle.st_lemmas.proofs.Steps.{step_happens}
-use Rattle.st_laws_requests.specs.Replies.Reached.{AtMessage, AtReceiver, AtServer, InputNew, NewOwed}
+use Rattle.st_laws_requests.specs.Replies.ServedRequests.{AtMessage, AtReceiver, AtServer, InputNew, NewOwed}
 
 -- a message that comes to a client, or to a server, was sent
 abbrev pub Comes : World → ClientInput → Type 0
@@ -44,14 +44,14 @@ Brings t serving.Tick = Unit {0}
 Brings t (serving.Control m) = Has m (messages t)
 
 -- the step of a client, and its place behind it
-abbrev pub ClientTook : World → ClientId → ClientInput → ClientSite → ClientTurn
+abbrev pub ClientTook : World → ClientId → ClientInput → WorldClient → ClientTurn
 ClientTook v c i site = cl.client_step site.node.state (clock_of v (nodes.Client c)) i
 
-abbrev pub SiteAfter : World → ClientId → ClientInput → ClientSite → ClientSite
+abbrev pub SiteAfter : World → ClientId → ClientInput → WorldClient → WorldClient
 SiteAfter v c i site = ev.at_node (record site.node { state = (ClientTook v c i site).state }) site
 
 -- the step of a server, its node behind it, and the world that it leaves
-abbrev pub ServerTook : World → ServerId → ServerInput → ServerNode → server.Turn
+abbrev pub ServerTook : World → ServerId → ServerInput → ServerNode → server.ServerTurn
 ServerTook t s i node = server.server_step node.state (clock_of (ev.counted t) (nodes.Server s)) i
 
 abbrev pub NodeAfter : World → ServerId → ServerInput → ServerNode → ServerNode
@@ -64,19 +64,19 @@ ServerLeft t s i node = server_says_all s (ServerTook t s i node).out (ev.quiet 
 module _ (t : World) (e : Event) (B : ServerInput → Type 0) (ticks_one : (s : ServerId) → e ≡ events.Tick (nodes.Server s) → B serving.Tick)
     (delivers_one : (k : ℕ) (m : SentMessage) → e ≡ events.Deliver k → world.message_of t k ≡ Some m → B (serving.Control m.message)) (R : World → Type 0)
     (alike : (v : World) → v.clients ≡ t.clients → v.servers ≡ t.servers → messages v ≡ messages t → R v)
-    (client_step : (v : World) → v.clients ≡ t.clients → v.servers ≡ t.servers → (c : ClientId) (i : ClientInput) (site old : ClientSite) → site.node ≡ old.node → site.node.running ≡ true → site_of t c ≡ Some old → Comes t i →
+    (client_step : (v : World) → v.clients ≡ t.clients → v.servers ≡ t.servers → (c : ClientId) (i : ClientInput) (site old : WorldClient) → site.node ≡ old.node → site.node.running ≡ true → site_of t c ≡ Some old → Comes t i →
     (last : World) → Leaves (messages t) (ev.with_site c (SiteAfter v c i site) v) last (ClientTook v c i site).out → R last)
     (server_step : (s : ServerId) (i : ServerInput) (node : ServerNode) → node_of t s ≡ Some node → node.running ≡ true → B i →
     InputNew (server.thefts (server.turn node.state []) (clock_of (ev.counted t) (nodes.Server s))) (clock_of (ev.counted t) (nodes.Server s)) i →
     Leaves (messages t) (ev.with_node s (NodeAfter t s i node) (ev.counted t)) (ServerLeft t s i node).world (ServerTook t s i node).out → R (ServerLeft t s i node).world)
-    (stopped : (c : ClientId) (site : ClientSite) → site_of t c ≡ Some site → R (ev.crashes_client (ev.counted t) c (Some site)).world)
-    (begun : (c : ClientId) (site : ClientSite) → site_of t c ≡ Some site → R (ev.starts_client (ev.counted t) c (Some site)))
+    (stopped : (c : ClientId) (site : WorldClient) → site_of t c ≡ Some site → R (ev.crashes_client (ev.counted t) c (Some site)).world)
+    (begun : (c : ClientId) (site : WorldClient) → site_of t c ≡ Some site → R (ev.starts_client (ev.counted t) c (Some site)))
     (crashed : (s : ServerId) (node : ServerNode) → node_of t s ≡ Some node → R (ev.crashes_server (ev.counted t) s (Some node)))
     (started : (s : ServerId) (node : ServerNode) → node_of t s ≡ Some node → R (ev.starts_server (ev.counted t) s (Some node))) where
   w : World
   w = ev.counted t
 
-  takes : (v : World) → v.clients ≡ t.clients → v.servers ≡ t.servers → v.net ≡ t.net → (c : ClientId) (i : ClientInput) (site old : ClientSite) → site.node ≡ old.node → site_of t c ≡ Some old → Comes t i →
+  takes : (v : World) → v.clients ≡ t.clients → v.servers ≡ t.servers → v.net ≡ t.net → (c : ClientId) (i : ClientInput) (site old : WorldClient) → site.node ≡ old.node → site_of t c ≡ Some old → Comes t i →
       R (ev.client_takes v c i site).world
   unfolding ev.client_takes ev.client_took cl.node_step
   takes v cs ss net c i site old same at k = go site.node.running refl
@@ -107,7 +107,7 @@ module _ (t : World) (e : Event) (B : ServerInput → Type 0) (ticks_one : (s : 
   unfolding ev.at_client w
   at_client c i k = go (site_of w c) refl
     where
-      go : (o : Option ClientSite) → site_of w c ≡ o → R (ev.at_client w c i o).world
+      go : (o : Option WorldClient) → site_of w c ≡ o → R (ev.at_client w c i o).world
       go None r = alike w refl refl refl
       go (Some site) r = takes w refl refl refl c i site site refl r k
 
@@ -123,7 +123,7 @@ module _ (t : World) (e : Event) (B : ServerInput → Type 0) (ticks_one : (s : 
   unfolding ev.asks_at w
   asks_happen c ask = go (site_of w c) refl
     where
-      go : (o : Option ClientSite) → site_of w c ≡ o → R (ev.asks_at w c ask o).world
+      go : (o : Option WorldClient) → site_of w c ≡ o → R (ev.asks_at w c ask o).world
       go None r = alike w refl refl refl
       go (Some site) r = takes w refl refl refl c (inputs.App (site.asks + 1) ask) (ev.asked_once_more site) site refl r tt
 
@@ -160,11 +160,11 @@ module _ (t : World) (e : Event) (B : ServerInput → Type 0) (ticks_one : (s : 
       comes : (x : IssuedCommand) → Comes t (ev.end_told v k ok x)
       comes x = tt
 
-      same : (x : IssuedCommand) (site : ClientSite) → site_of w x.client ≡ Some site → (b : Bool) → R (if b then ev.client_takes v x.client (ev.end_told v k ok x) site else ev.quiet v).world
+      same : (x : IssuedCommand) (site : WorldClient) → site_of w x.client ≡ Some site → (b : Bool) → R (if b then ev.client_takes v x.client (ev.end_told v k ok x) site else ev.quiet v).world
       same x site q true = takes v refl refl refl x.client (ev.end_told v k ok x) site site refl q (comes x)
       same x site q false = none
 
-      at : (x : IssuedCommand) (o : Option ClientSite) → site_of w x.client ≡ o → R (ev.tells_client v k ok x o).world
+      at : (x : IssuedCommand) (o : Option WorldClient) → site_of w x.client ≡ o → R (ev.tells_client v k ok x o).world
       at x None q = none
       at x (Some site) q = same x site q (ev.is_same_instance x site)
 
@@ -176,7 +176,7 @@ module _ (t : World) (e : Event) (B : ServerInput → Type 0) (ticks_one : (s : 
   unfolding ev.crashes_client ev.marks w
   crashes_client c = go (site_of w c) refl
     where
-      go : (o : Option ClientSite) → site_of w c ≡ o → R (ev.crashes_client w c o).world
+      go : (o : Option WorldClient) → site_of w c ≡ o → R (ev.crashes_client w c o).world
       go None q = alike w refl refl refl
       go (Some site) q = stopped c site q
 
@@ -184,7 +184,7 @@ module _ (t : World) (e : Event) (B : ServerInput → Type 0) (ticks_one : (s : 
   unfolding ev.starts_client w
   starts_client c = go (site_of w c) refl
     where
-      go : (o : Option ClientSite) → site_of w c ≡ o → R (ev.starts_client w c o)
+      go : (o : Option WorldClient) → site_of w c ≡ o → R (ev.starts_client w c o)
       go None q = alike w refl refl refl
       go (Some site) q = begun c site q
 
@@ -229,13 +229,13 @@ module _ (t : World) (e : Event) (B : ServerInput → Type 0) (ticks_one : (s : 
 -- An event, where a message that a server takes was sent.
 module _ (t : World) (R : World → Type 0)
     (alike : (v : World) → v.clients ≡ t.clients → v.servers ≡ t.servers → messages v ≡ messages t → R v)
-    (client_step : (v : World) → v.clients ≡ t.clients → v.servers ≡ t.servers → (c : ClientId) (i : ClientInput) (site old : ClientSite) → site.node ≡ old.node → site.node.running ≡ true → site_of t c ≡ Some old → Comes t i →
+    (client_step : (v : World) → v.clients ≡ t.clients → v.servers ≡ t.servers → (c : ClientId) (i : ClientInput) (site old : WorldClient) → site.node ≡ old.node → site.node.running ≡ true → site_of t c ≡ Some old → Comes t i →
     (last : World) → Leaves (messages t) (ev.with_site c (SiteAfter v c i site) v) last (ClientTook v c i site).out → R last)
     (server_step : (s : ServerId) (i : ServerInput) (node : ServerNode) → node_of t s ≡ Some node → node.running ≡ true → Brings t i →
     InputNew (server.thefts (server.turn node.state []) (clock_of (ev.counted t) (nodes.Server s))) (clock_of (ev.counted t) (nodes.Server s)) i →
     Leaves (messages t) (ev.with_node s (NodeAfter t s i node) (ev.counted t)) (ServerLeft t s i node).world (ServerTook t s i node).out → R (ServerLeft t s i node).world)
-    (stopped : (c : ClientId) (site : ClientSite) → site_of t c ≡ Some site → R (ev.crashes_client (ev.counted t) c (Some site)).world)
-    (begun : (c : ClientId) (site : ClientSite) → site_of t c ≡ Some site → R (ev.starts_client (ev.counted t) c (Some site)))
+    (stopped : (c : ClientId) (site : WorldClient) → site_of t c ≡ Some site → R (ev.crashes_client (ev.counted t) c (Some site)).world)
+    (begun : (c : ClientId) (site : WorldClient) → site_of t c ≡ Some site → R (ev.starts_client (ev.counted t) c (Some site)))
     (crashed : (s : ServerId) (node : ServerNode) → node_of t s ≡ Some node → R (ev.crashes_server (ev.counted t) s (Some node)))
     (started : (s : ServerId) (node : ServerNode) → node_of t s ≡ Some node → R (ev.starts_server (ev.counted t) s (Some node))) where
   -- an event that happens

@@ -20,16 +20,16 @@ use Rattle.st_rules.specs.Sessions as sessions
 use Rattle.st_rules.specs.Server as server
 use Rattle.st_rules.specs.Server.{ServerNode}
 use Rattle.st_rules.specs.World as world
-use Rattle.st_rules.specs.World.{World, ClientSite, fresh_world, site_of, node_of, numbered, with_numbered, clock_of}
+use Rattle.st_rules.specs.World.{World, WorldClient, fresh_world, site_of, node_of, numbered, with_numbered, clock_of}
 use Rattle.st_rules.specs.Safety as safety
 use Rattle.st_rules.specs.Safety.{Step, Throughout, step, steps}
 use Rattle.st_lemmas.specs.Lists.{Has}
 use Rattle.st_lemmas.proofs.Numbers.{numbered_below}
 use Rattle.st_laws_leases.specs.Dates.Dates.{Dated, messages}
 use Rattle.st_laws_leases.proofs.Dates.Leaving.{Leaves, leaves_from, server_not_client, set_cases}
-use Rattle.st_laws_leases.proofs.Dates.Hearing.{Ever, Held, ever_on, step_held}
+use Rattle.st_laws_leases.proofs.Dates.Receiving.{Ever, Held, ever_on, step_held}
 use Rattle.st_laws_leases.proofs.Dates.Law as dates
-use Rattle.st_laws_requests.specs.Replies.Reached.{InputNew, IsBehind, NewOwed, ReassertionsNew, Refusal, RepliesAfter, RepliesAreReached, RepliesSay, Says}
+use Rattle.st_laws_requests.specs.Replies.ServedRequests.{InputNew, IsBehind, NewOwed, ReassertionsNew, Refusal, RepliesAfter, RepliesAreReached, RepliesSay, Says}
 use Rattle.st_laws_requests.proofs.Replies.EachEvent.{Brings, ClientTook, Comes, NodeAfter, ServerLeft, ServerTook, SiteAfter, event_leaves}
 use Rattle.st_laws_requests.proofs.Replies.Served.{Refused, Served, served}
 
@@ -64,7 +64,7 @@ module _ (past : List Step) (t : Traced) (d : RepliesHold past t) where
       it (inr z) = d.replies x n z.1 m (subst (Has m) ms h) r
 
   -- A step of a client.
-  client_step : (v : World) → v.servers ≡ t.world.servers → (c : ClientId) (i : ClientInput) (site old : ClientSite) → site.node ≡ old.node → site_of t.world c ≡ Some old → Comes t.world i →
+  client_step : (v : World) → v.servers ≡ t.world.servers → (c : ClientId) (i : ClientInput) (site old : WorldClient) → site.node ≡ old.node → site_of t.world c ≡ Some old → Comes t.world i →
       (last : World) → Leaves (messages t.world) (ev.with_site c (SiteAfter v c i site) v) last (ClientTook v c i site).out → RepliesSay last
   client_step v ss c i site old same at k last l s n q m h r = it (leaves_from (messages t.world) (ev.with_site c (SiteAfter v c i site) v) last (ClientTook v c i site).out l m h)
     where
@@ -74,7 +74,7 @@ module _ (past : List Step) (t : Traced) (d : RepliesHold past t) where
       few : c.0 ≤ 16
       few = let z = (numbered_below t.world.clients c.0 old at).1 in let y = d.dated.few in omega (arith, z, y)
 
-      comes : (i : ClientInput) → Comes t.world i → Rattle.st_laws_leases.proofs.Dates.Hearing.Comes (messages t.world) c now Ever ever_on i
+      comes : (i : ClientInput) → Comes t.world i → Rattle.st_laws_leases.proofs.Dates.Receiving.Comes (messages t.world) c now Ever ever_on i
       comes inputs.Tick k = tt
       comes (inputs.App op ask) k = tt
       comes (inputs.Control m) k = k
@@ -99,7 +99,7 @@ module _ (past : List Step) (t : Traced) (d : RepliesHold past t) where
       now : Stamp
       now = clock_of w (nodes.Server s)
 
-      u : server.Turn
+      u : server.ServerTurn
       u = ServerTook t.world s i node
 
       next : ServerNode
@@ -154,11 +154,11 @@ module _ (past : List Step) (t : Traced) (d : RepliesHold past t) where
   w : World
   w = ev.counted t.world
 
-  stopped : (c : ClientId) (site : ClientSite) → RepliesSay (ev.crashes_client w c (Some site)).world
+  stopped : (c : ClientId) (site : WorldClient) → RepliesSay (ev.crashes_client w c (Some site)).world
   unfolding ev.crashes_client ev.marks w
   stopped c site = still (ev.crashes_client w c (Some site)).world refl refl
 
-  begun : (c : ClientId) (site : ClientSite) → RepliesSay (ev.starts_client w c (Some site))
+  begun : (c : ClientId) (site : WorldClient) → RepliesSay (ev.starts_client w c (Some site))
   unfolding ev.starts_client w
   begun c site = still (ev.starts_client w c (Some site)) refl refl
 

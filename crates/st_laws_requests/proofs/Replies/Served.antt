@@ -38,12 +38,12 @@ use Rattle.st_rules.specs.Authority as authority
 use Rattle.st_rules.specs.Grace as grace
 use Rattle.st_rules.specs.Keys.{client, server_node}
 use Rattle.st_rules.specs.Server as sv
-use Rattle.st_rules.specs.Server.{ServerState, Turn, Replied, turn, with_locks, with_sessions, sender, life_in, note, reply, say, tell, steal_at, steal_from, steal, steal_each, thefts, suspect_client, greet_as, greet_by, greet, refuse_in_grace, hello, demand_seen, see_demand, refuse_epoch, reassert_by, reassert_new, reassert_again, reassert, rule, keep_and_reply, keep, serve, request_by, request, of_epoch, by_body, refuse_suspect, by_suspicion, receive_from, receive, take_input, suspect_unless, suspect_each, suspecting, suspecting_on, tell_granted, grant_by, grant_waiting, granting, tell_demanded, demand_by, demanding, server_step}
+use Rattle.st_rules.specs.Server.{ServerState, ServerTurn, Replied, turn, with_locks, with_sessions, sender, life_in, note, reply, say, tell, steal_at, steal_from, steal, steal_each, thefts, suspect_client, greet_as, greet_by, greet, refuse_in_grace, hello, demand_seen, observe_demand, refuse_epoch, reassert_by, reassert_new, reassert_again, reassert, rule, keep_and_reply, keep, serve, request_by, request, of_epoch, by_body, refuse_suspect, by_suspicion, receive_from, receive, take_input, suspect_unless, suspect_each, suspecting, suspecting_on, tell_granted, grant_by, grant_waiting, granting, tell_demanded, demand_by, demanding, server_step}
 use Rattle.st_lemmas.specs.Lists.{Has}
 use Rattle.st_lemmas.proofs.Lookups.{or_false, some_is}
 use Rattle.st_lemmas.proofs.Puts.{find_put_by, find_put_other}
 use Rattle.st_lemmas.proofs.Tables.{and_both, and_true, find_map, found_at, has_append, same_or_not}
-use Rattle.st_laws_requests.specs.Replies.Reached.{Ends, FindsNew, InputNew, IsBehind, Reached}
+use Rattle.st_laws_requests.specs.Replies.ServedRequests.{Ends, FindsNew, InputNew, IsBehind, Reached}
 use Rattle.st_laws_steps.proofs.Server.Taking.{if_either, if_cases, clash, Found, again_state, found_for, FreshState, fresh_state}
 use Rattle.st_laws_requests.proofs.Clients.{client_same, end_client, keep_client}
 use Rattle.st_laws_requests.proofs.Rules as rules
@@ -210,13 +210,13 @@ module _ (s : ServerId) (e : Epoch) (i : ServerInput) (before : sessions.Session
   Said t x = (x.header.from ≡ server_node s) × (x.header.epoch ≡ e.0) × Tells t x.header.to x.header.life x.header.number x.body
 
   -- What stands within a step.
-  pub record Served (t : Turn) : Type 0 where
+  pub record Served (t : ServerTurn) : Type 0 where
     pub id : t.state.id ≡ s
     pub epoch : t.state.stable.epoch ≡ e
     pub goes : GoesOn before t.state.sessions
     pub sent : (x : Message) → Has (outputs.Send x) t.out → Said t.state.sessions x
 
-  abbrev O : Turn → Type 0
+  abbrev O : ServerTurn → Type 0
   O t = Served t
 
   said_on : (t u : sessions.Sessions) → GoesOn t u → (x : Message) → Said t x → Said u x
@@ -227,13 +227,13 @@ module _ (s : ServerId) (e : Epoch) (i : ServerInput) (before : sessions.Session
       go (inr h) = inr h
 
   -- other parts of the state
-  o_state : (t : Turn) (x : ServerState) → x.id ≡ t.state.id → x.stable.epoch ≡ t.state.stable.epoch → x.sessions ≡ t.state.sessions → O t → O (record t { state = x })
+  o_state : (t : ServerTurn) (x : ServerState) → x.id ≡ t.state.id → x.stable.epoch ≡ t.state.stable.epoch → x.sessions ≡ t.state.sessions → O t → O (record t { state = x })
   o_state t x a b c o = record { id = a ∙ o.id; epoch = b ∙ o.epoch; goes = subst (GoesOn before) (sym c) o.goes; sent = λ y h. subst (λ z. Said z y) (sym c) (o.sent y h) }
 
-  o_sessions : (t : Turn) (x : sessions.Sessions) → GoesOn t.state.sessions x → O t → O (with_sessions x t)
+  o_sessions : (t : ServerTurn) (x : sessions.Sessions) → GoesOn t.state.sessions x → O t → O (with_sessions x t)
   o_sessions t x g o = record { id = o.id; epoch = o.epoch; goes = λ c life n h. g c life n (o.goes c life n h); sent = λ y h. said_on t.state.sessions x g y (o.sent y h) }
 
-  o_say : (t : Turn) (o : Output) → ((x : Message) → outputs.Send x ≡ o → Said t.state.sessions x) → O t → O (say t o)
+  o_say : (t : ServerTurn) (o : Output) → ((x : Message) → outputs.Send x ≡ o → Said t.state.sessions x) → O t → O (say t o)
   o_say t o f k = record { id = k.id; epoch = k.epoch; goes = k.goes; sent = λ x h. go x (has_append t.out (o ∷ []) (outputs.Send x) h) }
     where
       go : (x : Message) → Has (outputs.Send x) t.out ⊎ Has (outputs.Send x) (o ∷ []) → Said t.state.sessions x
@@ -241,10 +241,10 @@ module _ (s : ServerId) (e : Epoch) (i : ServerInput) (before : sessions.Session
       go x (inr (inl q)) = f x q
       go x (inr (inr n)) = absurd n
 
-  o_note : (t : Turn) (x : Note) → O t → O (note t x)
+  o_note : (t : ServerTurn) (x : Note) → O t → O (note t x)
   o_note t x o = o_say t (outputs.Note x) (λ y q. cc q) o
 
-  o_reply : (t : Turn) (h : Header) (b : Body) → Tells t.state.sessions h.from h.life h.number b → O t → O (reply t h b)
+  o_reply : (t : ServerTurn) (h : Header) (b : Body) → Tells t.state.sessions h.from h.life h.number b → O t → O (reply t h b)
   unfolding reply
   o_reply t h b w o = o_say t (outputs.Send m) (λ x q. subst (Said t.state.sessions) (sym (same x q)) (ap server_node o.id, ap (λ (y : Epoch). y.0) o.epoch, w)) o
     where
@@ -254,7 +254,7 @@ module _ (s : ServerId) (e : Epoch) (i : ServerInput) (before : sessions.Session
       same : (x : Message) → outputs.Send x ≡ outputs.Send m → x ≡ m
       same x q = cc
 
-  o_tell : (t : Turn) (c : ClientId) (life : Life) (b : Body) → O t → O (tell t c life b)
+  o_tell : (t : ServerTurn) (c : ClientId) (life : Life) (b : Body) → O t → O (tell t c life b)
   unfolding tell
   o_tell t c life b o = o_say t (outputs.Send m) (λ x q. subst (Said t.state.sessions) (sym (same x q)) (ap server_node o.id, ap (λ (y : Epoch). y.0) o.epoch, λ k n. absurd (omega (arith, n)))) o
     where
@@ -264,44 +264,44 @@ module _ (s : ServerId) (e : Epoch) (i : ServerInput) (before : sessions.Session
       same : (x : Message) → outputs.Send x ≡ outputs.Send m → x ≡ m
       same x q = cc
 
-  o_suspect : (t : Turn) (now : Stamp) (c : ClientId) → O t → O (suspect_client t now c)
+  o_suspect : (t : ServerTurn) (now : Stamp) (c : ClientId) → O t → O (suspect_client t now c)
   unfolding suspect_client
   o_suspect t now c o = o_state _ _ refl refl refl (o_note t _ o)
 
-  o_steal : (t : Turn) (c : ClientId) (x : Option Session) → O t → O (steal_at t c x)
+  o_steal : (t : ServerTurn) (c : ClientId) (x : Option Session) → O t → O (steal_at t c x)
   unfolding steal_at steal_from
   o_steal t c None o = o
   o_steal t c (Some x) o = o_sessions (with_locks (locks.forget t.state.locks c) (note t (notes.Stolen c x.life))) _ (on_ended t.state.sessions c) (o_state _ _ refl refl refl (o_note t (notes.Stolen c x.life) o))
 
-  o_steals : (cs : List ClientId) (t : Turn) → O t → O (steal_each cs t)
+  o_steals : (cs : List ClientId) (t : ServerTurn) → O t → O (steal_each cs t)
   unfolding steal_each steal
   o_steals [] t o = o
   o_steals (c ∷ cs) t o = o_steals cs _ (o_steal t c (sessions.session_of t.state.sessions c) o)
 
-  o_greet_as : (t : Turn) (now : Stamp) (h : Header) (x : Hello) → O t → O (greet_as t now h x)
+  o_greet_as : (t : ServerTurn) (now : Stamp) (h : Header) (x : Hello) → O t → O (greet_as t now h x)
   unfolding greet_as
   o_greet_as t now h hellos.Welcome o = o_reply t h _ (λ q n. absurd q) o
   o_greet_as t now h hellos.Replaced o = o_reply _ h _ (λ q n. absurd q) (o_state t _ refl refl refl o)
   o_greet_as t now h hellos.Old o = o
   o_greet_as t now h hellos.Wait o = o_reply _ h _ (λ q n. absurd q) (o_suspect t now (sender h) o)
 
-  o_hello : (t : Turn) (now : Stamp) (h : Header) → O t → O (hello t now h)
+  o_hello : (t : ServerTurn) (now : Stamp) (h : Header) → O t → O (hello t now h)
   unfolding hello greet greet_by refuse_in_grace
   o_hello t now h o =
       if_either O (sv.in_grace t now) _ _ (o_reply t h _ (λ q n. absurd q) o)
       (o_greet_as _ now h _ (o_sessions t _ (on_hello t.state.sessions (sender h) (life_in h) _) o))
 
-  o_seen : (t : Turn) (h : Header) (ino : ℕ) (g : GrantNo) → O t → O (demand_seen t h ino g)
-  unfolding demand_seen see_demand
+  o_seen : (t : ServerTurn) (h : Header) (ino : ℕ) (g : GrantNo) → O t → O (demand_seen t h ino g)
+  unfolding demand_seen observe_demand
   o_seen t h ino g o = if_either O (sv.is_served t h) _ t (o_state t _ refl refl refl o) o
 
   -- what is given again: the session reached the number
-  again_behind : (t : Turn) (h : Header) (b : Body) → sv.take t h ≡ takes.Again b → IsBehind (sessions.session_of t.state.sessions (sender h)) h.life h.number
+  again_behind : (t : ServerTurn) (h : Header) (b : Body) → sv.take t h ≡ takes.Again b → IsBehind (sessions.session_of t.state.sessions (sender h)) h.life h.number
   again_behind t h b q =
       let z = found_for t.state.sessions (sender h) (life_in h) (sv.epoch_in h) h.number (takes.Again b) (λ x. x ≡ states.Live h.number (Some b)) q (λ r. cc r) (λ r. cc r) (λ r. cc r) (λ x r. again_state b h.number x r) in
       subst (λ o. IsBehind o h.life h.number) (sym z.is) (inr (sym z.of_life, subst (Reached h.number) (sym z.state) (omega arith)))
 
-  o_reassert_again : (t : Turn) (h : Header) (x : Taken Body) → sv.take t h ≡ x → O t → O (reassert_again t h x)
+  o_reassert_again : (t : ServerTurn) (h : Header) (x : Taken Body) → sv.take t h ≡ x → O t → O (reassert_again t h x)
   unfolding reassert_again
   o_reassert_again t h (takes.Again b) q o = o_reply t h b (λ f n. inl (again_behind t h b q)) o
   o_reassert_again t h x q o = o
@@ -328,15 +328,15 @@ module _ (s : ServerId) (e : Epoch) (i : ServerInput) (before : sessions.Session
       earlier on (Some r) = tt
 
   -- The rules of requests: a turn with the same sessions.
-  abbrev R : Turn → Replied → Type 0
+  abbrev R : ServerTurn → Replied → Type 0
   R t a = O a.turn × (a.turn.state.sessions ≡ t.state.sessions)
 
-  r_rule : (t : Turn) (now : Stamp) (h : Header) (m : Body) → O t → R t (rule t now h m)
+  r_rule : (t : ServerTurn) (now : Stamp) (h : Header) (m : Body) → O t → R t (rule t now h m)
   r_rule = rules.r_rule O o_state o_note
 
   module _ (m : Message) (is : i ≡ Control m) (there : m.header.to ≡ server_node s) where
     -- a life that the sessions do not know is above what its client has
-    unknown : (t : Turn) (now : Stamp) → FindsNew t now m.header m.body → (rows : List (ℕ × GrantNo × Mode)) → m.body ≡ bd.Reassert rows → grace.is_on t.state.grace now ≡ true →
+    unknown : (t : ServerTurn) (now : Stamp) → FindsNew t now m.header m.body → (rows : List (ℕ × GrantNo × Mode)) → m.body ≡ bd.Reassert rows → grace.is_on t.state.grace now ≡ true →
         sessions.knows t.state.sessions (sender m.header) (life_in m.header) ≡ false → (y : Session) → sessions.session_of t.state.sessions (sender m.header) ≡ Some y → y.life.0 < m.header.life
     unknown t now f rows body on k y h = go (or_false (nat_lt m.header.life y.life.0) _ (subst (λ o. sessions.knows_at o (life_in m.header) ≡ false) h k)) (same_or_not y.life.0 m.header.life)
       where
@@ -347,7 +347,7 @@ module _ (s : ServerId) (e : Epoch) (i : ServerInput) (before : sessions.Session
         go (p, q) (inl e) = absurd (clash (and_both _ _ (new on y h e) (eq-eqb m.header.life y.life.0 (sym e))) q)
         go (p, q) (inr n) = let z = ltb-false m.header.life y.life.0 p in omega (arith, z, n)
 
-    o_reassert_by : (t : Turn) (now : Stamp) (r : Res grace.Accepted AcceptRefusal) (rows : List (ℕ × GrantNo × Mode)) → m.body ≡ bd.Reassert rows → m.header.epoch ≡ e.0 → FindsNew t now m.header m.body →
+    o_reassert_by : (t : ServerTurn) (now : Stamp) (r : Res grace.Accepted AcceptRefusal) (rows : List (ℕ × GrantNo × Mode)) → m.body ≡ bd.Reassert rows → m.header.epoch ≡ e.0 → FindsNew t now m.header m.body →
         sessions.knows t.state.sessions (sender m.header) (life_in m.header) ≡ false → AcceptedIs t.state.grace now (sender m.header) (life_in m.header) t.state.sessions r → O t → O (reassert_by t m.header r)
     unfolding reassert_by
     o_reassert_by t now (Ok a) rows body ep f k z o =
@@ -366,14 +366,14 @@ module _ (s : ServerId) (e : Epoch) (i : ServerInput) (before : sessions.Session
         refuses (refusals.Conflict x y) = refl
         refuses (refusals.NotHolder x y) = refl
 
-    o_reassert : (t : Turn) (now : Stamp) (rows : List (ℕ × GrantNo × Mode)) → m.body ≡ bd.Reassert rows → m.header.epoch ≡ e.0 → FindsNew t now m.header m.body → O t → O (reassert t now m.header rows)
+    o_reassert : (t : ServerTurn) (now : Stamp) (rows : List (ℕ × GrantNo × Mode)) → m.body ≡ bd.Reassert rows → m.header.epoch ≡ e.0 → FindsNew t now m.header m.body → O t → O (reassert t now m.header rows)
     unfolding reassert reassert_new
     o_reassert t now rows body ep f o =
         if_cases O (sessions.knows t.state.sessions (sender m.header) (life_in m.header)) _ _
         (λ k. o_reassert_again t m.header (sv.take t m.header) refl o)
         (λ k. o_reassert_by t now _ rows body ep f k (accepts t.state.grace now (sender m.header) (life_in m.header) rows t.state.locks t.state.sessions) o)
 
-    o_serve : (t : Turn) (a : Replied) → R t a → sv.take t m.header ≡ takes.Fresh → O (serve m.header a)
+    o_serve : (t : ServerTurn) (a : Replied) → R t a → sv.take t m.header ≡ takes.Fresh → O (serve m.header a)
     unfolding serve keep keep_and_reply
     o_serve t a r q = go a.reply
       where
@@ -391,7 +391,7 @@ module _ (s : ServerId) (e : Epoch) (i : ServerInput) (before : sessions.Session
             (stored_reached a.turn.state.sessions (sender m.header) m.header.number b z.session found z.state)))
             (o_sessions a.turn _ (on_stored a.turn.state.sessions (sender m.header) m.header.number b (λ x j. subst (λ (y : Session). FreshState m.header.number y.state) (some_is (sym found ∙ j)) z.state)) r.0)
 
-    o_request_by : (t : Turn) (now : Stamp) (x : Taken Body) → sv.take t m.header ≡ x → O t → O (request_by t now m.header m.body x)
+    o_request_by : (t : ServerTurn) (now : Stamp) (x : Taken Body) → sv.take t m.header ≡ x → O t → O (request_by t now m.header m.body x)
     unfolding request_by refuse_epoch
     o_request_by t now takes.OtherEpoch q o = o_reply t m.header _ (λ f n. absurd f) o
     o_request_by t now takes.NoSession q o = o_reply t m.header _ (λ f n. absurd f) o
@@ -400,64 +400,64 @@ module _ (s : ServerId) (e : Epoch) (i : ServerInput) (before : sessions.Session
     o_request_by t now takes.OutOfOrder q o = o
     o_request_by t now takes.Fresh q o = o_serve t _ (r_rule t now m.header m.body o) q
 
-    o_request : (t : Turn) (now : Stamp) (b : Body) → m.body ≡ b → m.header.epoch ≡ e.0 → FindsNew t now m.header m.body → O t → O (request t now m.header b)
+    o_request : (t : ServerTurn) (now : Stamp) (b : Body) → m.body ≡ b → m.header.epoch ≡ e.0 → FindsNew t now m.header m.body → O t → O (request t now m.header b)
     unfolding request
     o_request t now (bd.Reassert rows) f ep w o = o_reassert t now rows f ep w o
     o_request t now b f ep w o = subst (λ y. O (request_by t now m.header y (sv.take t m.header))) f (o_request_by t now (sv.take t m.header) refl o)
 
-    o_of_epoch : (t : Turn) (now : Stamp) (b : Body) → m.body ≡ b → FindsNew t now m.header m.body → O t → O (of_epoch t now m.header b)
+    o_of_epoch : (t : ServerTurn) (now : Stamp) (b : Body) → m.body ≡ b → FindsNew t now m.header m.body → O t → O (of_epoch t now m.header b)
     unfolding of_epoch refuse_epoch
     o_of_epoch t now b f w o =
         if_cases O (m.header.epoch == t.state.stable.epoch.0) _ _ (λ q. o_request t now b f (eqb-true _ _ q ∙ ap (λ (y : Epoch). y.0) o.epoch) w o) (λ q. o_reply t m.header _ (λ f n. absurd f) o)
 
-    o_by_body : (t : Turn) (now : Stamp) (b : Body) → m.body ≡ b → FindsNew t now m.header m.body → O t → O (by_body t now m.header b)
+    o_by_body : (t : ServerTurn) (now : Stamp) (b : Body) → m.body ≡ b → FindsNew t now m.header m.body → O t → O (by_body t now m.header b)
     unfolding by_body
     o_by_body t now bd.Hello f w o = o_hello t now m.header o
     o_by_body t now (bd.DemandSeen n g) f w o = o_seen t m.header n g o
     o_by_body t now b f w o = o_of_epoch t now b f w o
 
-    o_refuse : (t : Turn) (start : Stamp) (b : Body) → O t → O (refuse_suspect t m.header start b)
+    o_refuse : (t : ServerTurn) (start : Stamp) (b : Body) → O t → O (refuse_suspect t m.header start b)
     unfolding refuse_suspect
     o_refuse t start (bd.DemandSeen n g) o = o
     o_refuse t start b o = o_reply t m.header _ (λ f n. absurd f) o
 
-    o_by_suspicion : (t : Turn) (now : Stamp) (x : Option Stamp) → FindsNew t now m.header m.body → O t → O (by_suspicion t now m.header m.body x)
+    o_by_suspicion : (t : ServerTurn) (now : Stamp) (x : Option Stamp) → FindsNew t now m.header m.body → O t → O (by_suspicion t now m.header m.body x)
     unfolding by_suspicion
     o_by_suspicion t now None w o = o_by_body t now m.body refl w o
     o_by_suspicion t now (Some start) w o = o_refuse t start m.body o
 
-  o_input : (t : Turn) (now : Stamp) (j : ServerInput) → i ≡ j → InputNew t now j → O t → O (take_input t now j)
+  o_input : (t : ServerTurn) (now : Stamp) (j : ServerInput) → i ≡ j → InputNew t now j → O t → O (take_input t now j)
   unfolding take_input receive receive_from
   o_input t now Tick q w o = o
   o_input t now (Control m) q w o =
       if_cases O (sv.is_for t.state m.header) _ _ (λ f. o_by_suspicion m q (eqb-true _ _ (and_true (m.header.to == server_node t.state.id) _ f).0 ∙ ap server_node o.id) t now _ w o) (λ f. o)
 
   -- The passes.
-  o_suspects : (now : Stamp) (cs : List ClientId) (t : Turn) → O t → O (suspect_each now cs t)
+  o_suspects : (now : Stamp) (cs : List ClientId) (t : ServerTurn) → O t → O (suspect_each now cs t)
   unfolding suspect_each suspect_unless
   o_suspects now [] t o = o
   o_suspects now (c ∷ cs) t o = o_suspects now cs _ (if_either O (authority.may_ack t.state.authority c) _ _ (o_suspect t now c o) o)
 
-  o_suspecting : (t : Turn) (now : Stamp) (j : ServerInput) → O t → O (suspecting_on t now j)
+  o_suspecting : (t : ServerTurn) (now : Stamp) (j : ServerInput) → O t → O (suspecting_on t now j)
   unfolding suspecting_on suspecting
   o_suspecting t now Tick o = o_suspects now _ t o
   o_suspecting t now (Control m) o = o
 
-  o_told : (rs : List (ClientId × Life × ℕ × GrantNo × Mode)) (t : Turn) → O t → O (tell_granted rs t)
+  o_told : (rs : List (ClientId × Life × ℕ × GrantNo × Mode)) (t : ServerTurn) → O t → O (tell_granted rs t)
   unfolding tell_granted
   o_told [] t o = o
   o_told (r ∷ rs) t o = o_told rs _ (o_tell t r.0 r.1 _ o)
 
-  o_granting : (t : Turn) (now : Stamp) → O t → O (granting t now)
+  o_granting : (t : ServerTurn) (now : Stamp) → O t → O (granting t now)
   unfolding granting grant_waiting grant_by
   o_granting t now o = if_either O (sv.in_grace t now) t _ o (o_told _ _ (o_state t _ refl refl refl o))
 
-  o_demanded : (rs : List (ClientId × Life × ℕ × GrantNo × Mode)) (t : Turn) → O t → O (tell_demanded rs t)
+  o_demanded : (rs : List (ClientId × Life × ℕ × GrantNo × Mode)) (t : ServerTurn) → O t → O (tell_demanded rs t)
   unfolding tell_demanded
   o_demanded [] t o = o
   o_demanded (r ∷ rs) t o = o_demanded rs _ (o_tell t r.0 r.1 _ o)
 
-  o_demanding : (t : Turn) (now : Stamp) (j : ServerInput) → O t → O (demanding t now j)
+  o_demanding : (t : ServerTurn) (now : Stamp) (j : ServerInput) → O t → O (demanding t now j)
   unfolding demanding demand_by
   o_demanding t now j o = o_demanded _ _ (o_state t _ refl refl refl o)
 

@@ -31,13 +31,13 @@ use Rattle.st_rules.specs.Names as names
 use Rattle.st_rules.specs.Names.{Names}
 use Rattle.st_rules.specs.Server.{ServerNode}
 use Rattle.st_rules.specs.Sessions.{session_of}
-use Rattle.st_rules.specs.World.{ClientSite, node_of, numbered, site_of}
+use Rattle.st_rules.specs.World.{WorldClient, node_of, numbered, site_of}
 use Rattle.st_rules.specs.History.{Traced}
 use Rattle.st_rules.specs.Safety.{Step, ask_in, event_of, is_after_ask, was_cut}
 use Rattle.st_promises.specs.NameAnswers.{Saying, changed, found, listed, refused, said}
 use Rattle.st_lemmas.specs.Lists.{Has}
 use Rattle.st_laws_leases.specs.Dates.Dates.{messages}
-use Rattle.st_laws_pages.specs.Disks.Owed.{FatesHold}
+use Rattle.st_laws_pages.specs.Disks.Obligations.{FatesHold}
 
 -- The messages.
 
@@ -239,7 +239,7 @@ pub record AssociationOk (past : List Step) (ms : List Message) (c : ClientId) (
   pub alone : OneWaits a.server ops
 
 -- what stands of a client
-pub record ClientOk (past : List Step) (ms : List Message) (c : ClientId) (site : ClientSite) : Type 0 where
+pub record ClientOk (past : List Step) (ms : List Message) (c : ClientId) (site : WorldClient) : Type 0 where
   pub count : length (asks_of past c) ≡ site.asks
   pub asked : (o : Operation) → Has o site.node.state.operations → numbered (asks_of past c) o.op ≡ Some o.ask
   pub lives : (a : Association) → Has a site.node.state.associations → (m : Message) → Has m ms → Between c a.server m → m.header.life ≤ a.life.0
@@ -269,6 +269,6 @@ pub record CutsHold (past : List Step) (t : Traced) : Type 0 where
   pub grown : (x : Step) → Has x past → (m : Message) → Has m (messages x.before.world) → Has m (messages t.world)
   pub acks : (m : Message) → Has m (messages t.world) → is_report m.body ≡ true → (s : ServerId) → m.header.from ≡ server_node s →
       Acked past (messages t.world) (client m.header.to) s m.header.life m.header.epoch m.header.number m.body
-  pub clients : (c : ClientId) (site : ClientSite) → site_of t.world c ≡ Some site → ClientOk past (messages t.world) c site
+  pub clients : (c : ClientId) (site : WorldClient) → site_of t.world c ≡ Some site → ClientOk past (messages t.world) c site
   pub servers : (s : ServerId) (node : ServerNode) → node_of t.world s ≡ Some node → ServerOk past (messages t.world) s node
   pub few : length t.world.clients ≤ 16

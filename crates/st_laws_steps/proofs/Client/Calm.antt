@@ -1,4 +1,4 @@
--- What a client hears, is asked and loses is made of changes that submit nothing and change no page.
+-- What a client receives, is asked and loses is made of changes that submit nothing and change no page.
 use Rattle.std.proofs.Common.{◌≡◌, ℕ, ◌<◌, Bool, true, false, List, ◌++◌, ◌∷◌, [], Option, Some, None, refl, if◌then◌else◌}
 use Rattle.std.specs.Prelude.{map}
 use Rattle.st_base.specs.declared.ids.Stamp.{Stamp}
@@ -16,60 +16,60 @@ use Rattle.st_laws_steps.specs.Client.Client as client
 use Rattle.st_laws_steps.specs.Client.Client.{Change, GoesOn, IsBegun, Plain, Unasked, Unhard, UnhardAnswer, with_greeted}
 use Rattle.st_laws_steps.proofs.Client.Only.{Only, all, joined, single, Ends}
 
--- what is said: a message or a note only where a message is heard, and no answer that a sync is hard
+-- what is said: a message or a note only where a message is received, and no answer that a sync is hard
 abbrev pub SaysCalm : Bool → Output → Type 0
-SaysCalm hears (outputs.Note n) = hears ≡ true
-SaysCalm hears (outputs.Send m) = hears ≡ true
-SaysCalm hears o = Unhard o
+SaysCalm receives (outputs.Note n) = receives ≡ true
+SaysCalm receives (outputs.Send m) = receives ≡ true
+SaysCalm receives o = Unhard o
 
 -- Neither changes a page, nor submits a command, nor forgets a file, nor answers a sync hard. The session changes and extents are learned only where a
--- message is heard, and the clean pages are others only where none is.
+-- message is received, and the clean pages are others only where none is.
 abbrev pub IsCalm : Bool → (now : Stamp) (t u : Turn) → Change now t u → Type 0
-IsCalm hears now t _ (client.Says _ o p) = SaysCalm hears o
-IsCalm hears now t _ (client.Answers _ os ops a) = UnhardAnswer a
-IsCalm hears now t _ (client.Begins _ s a b c) = hears ≡ true
-IsCalm hears now t _ (client.Follows _ s u e g) = hears ≡ true
-IsCalm hears now t _ (client.Learns _ e a b) = hears ≡ true
-IsCalm hears now t _ (client.Forgets _ ino p i) = ⊥
-IsCalm hears now t _ (client.Caches _ clean) = hears ≡ false
-IsCalm hears now t _ (client.Writes _ s f p bytes n se sv own m h) = ⊥
-IsCalm hears now t _ (client.Reads _ ino p m i clean) = ⊥
-IsCalm hears now t _ (client.Submits _ s ino p d m se e i w) = ⊥
-IsCalm hears now t u c = Unit {0}
+IsCalm receives now t _ (client.Says _ o p) = SaysCalm receives o
+IsCalm receives now t _ (client.Answers _ os ops a) = UnhardAnswer a
+IsCalm receives now t _ (client.Begins _ s a b c) = receives ≡ true
+IsCalm receives now t _ (client.Follows _ s u e g) = receives ≡ true
+IsCalm receives now t _ (client.Learns _ e a b) = receives ≡ true
+IsCalm receives now t _ (client.Forgets _ ino p i) = ⊥
+IsCalm receives now t _ (client.Caches _ clean) = receives ≡ false
+IsCalm receives now t _ (client.Writes _ s f p bytes n se sv own m h) = ⊥
+IsCalm receives now t _ (client.Reads _ ino p m i clean) = ⊥
+IsCalm receives now t _ (client.Submits _ s ino p d m se e i w) = ⊥
+IsCalm receives now t u c = Unit {0}
 
 abbrev pub Changes : Bool → Stamp → Turn → Turn → Type 0
-Changes hears now t u = Only (IsCalm hears) now t u
+Changes receives now t u = Only (IsCalm receives) now t u
 
-pub changes : {hears : Bool} {now : Stamp} {t u : Turn} → Changes hears now t u → client.Changes now t u
-changes {hears} {now} {t} {u} c = all (IsCalm hears) now t u c
+pub changes : {receives : Bool} {now : Stamp} {t u : Turn} → Changes receives now t u → client.Changes now t u
+changes {receives} {now} {t} {u} c = all (IsCalm receives) now t u c
 
-pub Still : {hears : Bool} {now : Stamp} (t : Turn) → Changes hears now t t
+pub Still : {receives : Bool} {now : Stamp} (t : Turn) → Changes receives now t t
 Still t = Ends t
 
-pub one : {hears : Bool} {now : Stamp} {t u : Turn} → Changes hears now t u → Changes hears now t u
+pub one : {receives : Bool} {now : Stamp} {t u : Turn} → Changes receives now t u → Changes receives now t u
 one c = c
 
-pub both : {hears : Bool} {now : Stamp} {t u v : Turn} → Changes hears now t u → Changes hears now u v → Changes hears now t v
-both {hears} {now} {t} {u} {v} a b = joined (IsCalm hears) now t u v a b
+pub both : {receives : Bool} {now : Stamp} {t u v : Turn} → Changes receives now t u → Changes receives now u v → Changes receives now t v
+both {receives} {now} {t} {u} {v} a b = joined (IsCalm receives) now t u v a b
 
-pub if_changes : {hears : Bool} {now : Stamp} (b : Bool) (t u v : Turn) → (b ≡ true → Changes hears now t u) → (b ≡ false → Changes hears now t v) → Changes hears now t (if b then u else v)
+pub if_changes : {receives : Bool} {now : Stamp} (b : Bool) (t u v : Turn) → (b ≡ true → Changes receives now t u) → (b ≡ false → Changes receives now t v) → Changes receives now t (if b then u else v)
 if_changes true t u v f g = f refl
 if_changes false t u v f g = g refl
 
-pub Says : {hears : Bool} {now : Stamp} (t : Turn) (o : Output) → Plain o → SaysCalm hears o → Changes hears now t (say t o)
-Says {hears} {now} t o p q = single (IsCalm hears) now t _ (client.Says t o p) q
+pub Says : {receives : Bool} {now : Stamp} (t : Turn) (o : Output) → Plain o → SaysCalm receives o → Changes receives now t (say t o)
+Says {receives} {now} t o p q = single (IsCalm receives) now t _ (client.Says t o p) q
 
-pub Operates : {hears : Bool} {now : Stamp} (t : Turn) (os : List Operation) → Changes hears now t (with_operations os t)
-Operates {hears} {now} t os = single (IsCalm hears) now t _ (client.Operates t os) tt
+pub Operates : {receives : Bool} {now : Stamp} (t : Turn) (os : List Operation) → Changes receives now t (with_operations os t)
+Operates {receives} {now} t os = single (IsCalm receives) now t _ (client.Operates t os) tt
 
-pub Answers : {hears : Bool} {now : Stamp} (t : Turn) (os ops : List Operation) (answer : AppAnswer) → UnhardAnswer answer → Changes hears now t (record t { operations = os; out = t.out ++ map (answer_to answer) ops })
-Answers {hears} {now} t os ops a q = single (IsCalm hears) now t _ (client.Answers t os ops a) q
+pub Answers : {receives : Bool} {now : Stamp} (t : Turn) (os ops : List Operation) (answer : AppAnswer) → UnhardAnswer answer → Changes receives now t (record t { operations = os; out = t.out ++ map (answer_to answer) ops })
+Answers {receives} {now} t os ops a q = single (IsCalm receives) now t _ (client.Answers t os ops a) q
 
-pub Greets : {hears : Bool} {now : Stamp} (t : Turn) (g : Option Stamp) → Changes hears now t (with_greeted g t)
-Greets {hears} {now} t g = single (IsCalm hears) now t _ (client.Greets t g) tt
+pub Greets : {receives : Bool} {now : Stamp} (t : Turn) (g : Option Stamp) → Changes receives now t (with_greeted g t)
+Greets {receives} {now} t g = single (IsCalm receives) now t _ (client.Greets t g) tt
 
-pub TellsLost : {hears : Bool} {now : Stamp} (t : Turn) (lost : List LostPage) → Changes hears now t (with_lost_rows lost t)
-TellsLost {hears} {now} t lost = single (IsCalm hears) now t _ (client.TellsLost t lost) tt
+pub TellsLost : {receives : Bool} {now : Stamp} (t : Turn) (lost : List LostPage) → Changes receives now t (with_lost_rows lost t)
+TellsLost {receives} {now} t lost = single (IsCalm receives) now t _ (client.TellsLost t lost) tt
 
 pub Begins : {now : Stamp} (t : Turn) (s : ClientSession) → t.here.session ≡ None → now.0 < (lease.end_of t.config s.lease).0 → IsBegun s →
     Changes true now t (with_session s t)
@@ -85,12 +85,12 @@ Learns {now} t e a b = single (IsCalm true) now t _ (client.Learns t e a b) refl
 pub Caches : {now : Stamp} (t : Turn) (clean : List CleanPage) → Changes false now t (with_store (record t.here.store { pages = record t.here.store.pages { clean = clean } }) t)
 Caches {now} t clean = single (IsCalm false) now t _ (client.Caches t clean) refl
 
-pub k_keep : {hears : Bool} {now : Stamp} (t : Turn) (o : Operation) → Changes hears now t (keep o t)
+pub k_keep : {receives : Bool} {now : Stamp} (t : Turn) (o : Operation) → Changes receives now t (keep o t)
 k_keep t o = Operates t (t.operations ++ o ∷ [])
 
-pub k_answer : {hears : Bool} {now : Stamp} (t : Turn) (op : ℕ) (a : AppAnswer) → UnhardAnswer a → Changes hears now t (answered t op a)
+pub k_answer : {receives : Bool} {now : Stamp} (t : Turn) (op : ℕ) (a : AppAnswer) → UnhardAnswer a → Changes receives now t (answered t op a)
 k_answer t op a q = Says t (outputs.Answer op a) tt q
 
-pub k_each : {hears : Bool} {now : Stamp} (picked : Operation → Bool) (a : AppAnswer) (t : Turn) → UnhardAnswer a → Changes hears now t (answer_each picked a t)
+pub k_each : {receives : Bool} {now : Stamp} (picked : Operation → Bool) (a : AppAnswer) (t : Turn) → UnhardAnswer a → Changes receives now t (answer_each picked a t)
 unfolding answer_each
 k_each picked a t q = Answers t _ _ a q

@@ -23,11 +23,11 @@ use Rattle.st_lemmas.specs.Lists.{Has}
 use Rattle.st_laws_steps.specs.Client.Losses.{Fit, Ends, Unknown, Passes, Hardens, Fails}
 use Rattle.st_laws_steps.specs.Lives.Lives.{Pairwise}
 use Rattle.st_laws_steps.specs.Client.Notes.{NotesAll, IsChanged, IsChangedAt}
-use Rattle.st_laws_steps.specs.Client.Taking as taking
-use Rattle.st_laws_steps.specs.Client.Taking.{Taken}
+use Rattle.st_laws_steps.specs.Client.Inputs as taking
+use Rattle.st_laws_steps.specs.Client.Inputs.{Taken}
 use Rattle.st_laws_steps.proofs.Client.Nexts.{empty_right, append_assoc}
 use Rattle.st_laws_steps.proofs.Client.Asking.{c_passes}
-use Rattle.st_laws_steps.proofs.Client.Replying.{c_hear}
+use Rattle.st_laws_steps.proofs.Client.Replying.{c_receive}
 use Rattle.st_laws_steps.proofs.Client.Losing.{c_only, Finished, finish_is, is_done, rest_of}
 use Rattle.st_laws_steps.proofs.Client.Stepping.{Phased, StaysChanged, changes_last, phased}
 use Rattle.st_laws_steps.proofs.Client.Taking.{taken}
@@ -168,7 +168,7 @@ input_noted now _ t _ (taking.Nothing i) f = quiet_all t.state.config now t t (q
 input_noted now _ t _ (taking.Full op ask e) f = quiet_all t.state.config now t (cl.answered_at_once t op answers.OpsFull) (quiet_answer t.out op answers.OpsFull)
 input_noted now _ t _ (taking.Unknown op ask e g) f = quiet_all t.state.config now t (cl.answered_at_once t op answers.NoFile) (quiet_answer t.out op answers.NoFile)
 input_noted now _ t _ (taking.Takes op ask e g) f = noted_each now (only_at (server_of ask) (cl.take_ask op ask)) t (λ u p. dirtied_more now u _ (changes_dirty now u _ (c_only now (server_of ask) op ask u))) f
-input_noted now _ t _ (taking.Hears m e) f = noted_each now (cr.receive_at now m.header m.body) t (λ u p. dirtied_more now u _ (changes_dirty now u _ (c_hear now m.header m.body u p.fresh))) f
+input_noted now _ t _ (taking.Receives m e) f = noted_each now (cr.receive_at now m.header m.body) t (λ u p. dirtied_more now u _ (changes_dirty now u _ (c_receive now m.header m.body u p.fresh))) f
 input_noted now _ t _ (taking.Finishes number result) f = noted_each now (cl.finish number result) t (λ u p. finish_more now number result u) f
 
 losses_quiet : (now : Stamp) (al : List Association) (t : ClientTurn) → More Quiet t.out (at_these (cl.lose now) al t).out
@@ -198,15 +198,15 @@ step_notes c s now input f = go (losses_quiet now s.associations (with_associati
     v = cl.work u now input
 
     go : More Quiet [] t.out → Phased c s now t u v → NotesAll (IsChangedAt s.config now v.state.associations) v.out
-    go q r = heard (input_noted now input t u (taken t now input) r.fit) (noted_each now (cp.passes now (cl.is_tick input)) u (λ x p. dirtied_more now x _ (changes_dirty now x _ (c_passes now (cl.is_tick input) x))) r.fit_too)
+    go q r = received (input_noted now input t u (taken t now input) r.fit) (noted_each now (cp.passes now (cl.is_tick input)) u (λ x p. dirtied_more now x _ (changes_dirty now x _ (c_passes now (cl.is_tick input) x))) r.fit_too)
       where
-        heard : NotedAll t.state.config now t u → NotedAll u.state.config now u v → NotesAll (IsChangedAt s.config now v.state.associations) v.out
-        heard i w =
+        received : NotedAll t.state.config now t u → NotedAll u.state.config now u v → NotesAll (IsChangedAt s.config now v.state.associations) v.out
+        received i w =
             subst (NotesAll (IsChangedAt s.config now v.state.associations)) (sym (w.out ∙ ap (λ z. z ++ w.more) (i.out ∙ ap (λ z. z ++ i.more) q.out)))
             (notes_both (IsChangedAt s.config now v.state.associations) (q.more ++ i.more) w.more
             (notes_both (IsChangedAt s.config now v.state.associations) q.more i.more (quiet_as (IsChangedAt s.config now v.state.associations) q.more q.is)
             (notes_map (IsChangedAt t.state.config now u.state.associations) (IsChangedAt s.config now v.state.associations) (λ g p z. last g p (subst (λ k. IsChangedAt k now u.state.associations g p) (sym r.lost.config) z)) i.more i.noted))
-            (subst (λ k. NotesAll (IsChangedAt k now v.state.associations) w.more) (sym (r.lost.config ∙ r.heard.config)) w.noted))
+            (subst (λ k. NotesAll (IsChangedAt k now v.state.associations) w.more) (sym (r.lost.config ∙ r.received.config)) w.noted))
           where
             last : (g : FileId) (p : PageNo) → IsChangedAt s.config now u.state.associations g p → IsChangedAt s.config now v.state.associations g p
             last g p (a, h, z) = let y = pair_has (StaysChanged s.config now) u.state.associations v.state.associations (changes_last c s now input t u r) a h in (y.0, y.1, y.2 g p z)

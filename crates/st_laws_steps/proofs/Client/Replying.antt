@@ -264,7 +264,7 @@ module _ (now : Stamp) where
   c_nack t s h w a b e fr = c_reply t s h (bodies.Nack w a b) e fr
 
   c_demand : (t : Turn) (s : ClientSession) (ino : ℕ) (g : GrantNo) (to : Mode) → t.here.session ≡ Some s → C t (cr.demand t s ino g to)
-  unfolding cr.demand cr.demand_by cr.demand_as cr.see_demand send
+  unfolding cr.demand cr.demand_by cr.demand_as cr.observe_demand send
   c_demand t s ino g to e = go (locks.demand s.locks ino g to).asked
     where
       r : ClientSession
@@ -282,13 +282,13 @@ module _ (now : Stamp) where
   c_of_epoch t s h (bodies.Demand ino g to) e fr = c_demand t s ino g to e
   c_of_epoch t s h body e fr = c_reply t s h body e fr
 
-  pub calm_hear : (h : Header) (body : Body) (t : Turn) → SessionFresh t.here.store t.here.session → C t (cr.receive_at now h body t)
+  pub calm_receive : (h : Header) (body : Body) (t : Turn) → SessionFresh t.here.store t.here.session → C t (cr.receive_at now h body t)
   unfolding cr.receive_at cr.by_session cr.with_a_session
-  calm_hear h body t fr = if_changes (cr.is_heard t now h) t _ _ (λ b. go t.here.session refl fr) (λ b. Still t)
+  calm_receive h body t fr = if_changes (cr.is_received t now h) t _ _ (λ b. go t.here.session refl fr) (λ b. Still t)
     where
       go : (x : Option ClientSession) → t.here.session ≡ x → SessionFresh t.here.store x → C t (cr.by_session t now h body x)
       go None e fr = c_without t h body e
       go (Some s) e fr = if_changes (h.epoch == s.epoch.0) t _ _ (λ b. c_of_epoch t s h body e fr) (λ b. c_other t s _ body e)
 
-pub c_hear : (now : Stamp) (h : Header) (body : Body) (t : Turn) → SessionFresh t.here.store t.here.session → client.Changes now t (cr.receive_at now h body t)
-c_hear now h body t fresh = changes (calm_hear now h body t fresh)
+pub c_receive : (now : Stamp) (h : Header) (body : Body) (t : Turn) → SessionFresh t.here.store t.here.session → client.Changes now t (cr.receive_at now h body t)
+c_receive now h body t fresh = changes (calm_receive now h body t fresh)

@@ -29,7 +29,7 @@ use Rattle.st_laws_steps.proofs.Client.Losing.{Finished, calm_only, finish_is, i
 use Rattle.st_laws_steps.proofs.Client.Only.{Only}
 use Rattle.st_laws_steps.proofs.Client.Only as only
 use Rattle.st_laws_steps.proofs.Client.Passing.{FollowsBy, IsPassing, KeepsOrAsks, OnlyAsks, OnlyKeeps}
-use Rattle.st_laws_steps.proofs.Client.Replying.{alike_condemned, alike_demanded, alike_unheld, calm_hear, granted_alike}
+use Rattle.st_laws_steps.proofs.Client.Replying.{alike_condemned, alike_demanded, alike_unheld, calm_receive, granted_alike}
 use Rattle.st_laws_steps.proofs.Client.Working.{p_greeting, p_operations, p_reductions, p_writes}
 
 no_bool : {A : Type 0} → false ≡ true → A
@@ -123,7 +123,7 @@ module _ (Q : ServerId → ℕ → Option ClientSession → Type 0) where
     k_granted t s ino g mode e = k_session t s _ e (granted_alike t.here.store.extents s ino g mode)
 
     pub k_demand : (t : Turn) (s : ClientSession) (ino : ℕ) (g : GrantNo) (to : Mode) → t.here.session ≡ Some s → K t (cr.demand t s ino g to)
-    unfolding cr.demand cr.demand_by cr.demand_as cr.see_demand send
+    unfolding cr.demand cr.demand_by cr.demand_as cr.observe_demand send
     k_demand t s ino g to e = by (locks.demand s.locks ino g to).asked
       where
         r : ClientSession
@@ -163,7 +163,7 @@ module _ (Q : ServerId → ℕ → Option ClientSession → Type 0) where
     k_passes now tick t =
         walked (IsPassing t.operations KeepsOrAsks) (λ now t s u e g q h. on t.here.server t.here.life.0 t.here.store s u g.how h) (λ now t s a b c q. absurd q) now t (cp.passes now tick t) (p_passes now tick t)
 
-    pub k_hear : (now : Stamp) (h : Header) (b : Body) (t : Turn) → SessionFresh t.here.store t.here.session → K t (cr.receive_at now h b t)
-    k_hear now h b t f =
+    pub k_receive : (now : Stamp) (h : Header) (b : Body) (t : Turn) → SessionFresh t.here.store t.here.session → K t (cr.receive_at now h b t)
+    k_receive now h b t f =
         walked (IsCalm true) (λ now t s u e g q x. on t.here.server t.here.life.0 t.here.store s u g.how x) (λ now t s a b c q. first t.here.server t.here.life.0 s c) now t (cr.receive_at now h b t)
-        (calm_hear now h b t f)
+        (calm_receive now h b t f)

@@ -23,12 +23,12 @@ use Rattle.st_laws_steps.specs.Lives.Lives.{rows_said, ended_rows, row_lost, row
 use Rattle.st_base.specs.declared.ids.FileId.{FileId}
 use Rattle.st_base.specs.declared.ids.PageNo.{PageNo}
 use Rattle.st_laws_steps.specs.Client.Notes.{IsChanged}
-use Rattle.st_laws_steps.specs.Client.Taking as taking
-use Rattle.st_laws_steps.specs.Client.Taking.{Taken}
+use Rattle.st_laws_steps.specs.Client.Inputs as taking
+use Rattle.st_laws_steps.specs.Client.Inputs.{Taken}
 use Rattle.st_laws_steps.proofs.Client.Dirtying.{Dirtied, changes_dirty, changed_lasts}
 use Rattle.st_laws_steps.proofs.Client.Nexts.{Unlost, AllUnlost, Next, next_same, next_then, changes_next, empty_right, session_same, session_then}
 use Rattle.st_laws_steps.proofs.Client.Asking.{c_passes}
-use Rattle.st_laws_steps.proofs.Client.Replying.{c_hear}
+use Rattle.st_laws_steps.proofs.Client.Replying.{c_receive}
 use Rattle.st_laws_steps.proofs.Client.Losing.{lose_is, c_only, Finished, finish_is, rest_of}
 use Rattle.st_laws_steps.proofs.Client.Taking.{taken}
 use Rattle.st_laws_steps.proofs.Clash.{clash}
@@ -249,7 +249,7 @@ input_left c s now input t f = go (cl.take_input t now input) input (taken t now
     go _ _ (taking.Full op ask e) = at_once op answers.OpsFull
     go _ _ (taking.Unknown op ask e g) = at_once op answers.NoFile
     go _ _ (taking.Takes op ask e g) = left_each c s now (only_at (server_of ask) (cl.take_ask op ask)) t (λ u p. changes_next now u _ (c_only now (server_of ask) op ask u)) f
-    go _ _ (taking.Hears m e) = left_each c s now (cr.receive_at now m.header m.body) t (λ u p. changes_next now u _ (c_hear now m.header m.body u p.fresh)) f
+    go _ _ (taking.Receives m e) = left_each c s now (cr.receive_at now m.header m.body) t (λ u p. changes_next now u _ (c_receive now m.header m.body u p.fresh)) f
     go _ _ (taking.Finishes number result) = left_each c s now (cl.finish number result) t (λ u p. finish_next now number result u) f
 
 -- an association before and after its loss, or as it was
@@ -326,14 +326,14 @@ life_next s now a b c p q =
 pub record Phased (c : ClientId) (s : ClientState) (now : Stamp) (t u v : ClientTurn) : Type 0 where
   pub lost : LossesLeft c s now (client_turn s []) t
   pub fit : (a : Association) → Has a t.state.associations → Fit a
-  pub heard : LeftAll c s t.state.config now t u
+  pub received : LeftAll c s t.state.config now t u
   pub fit_too : (a : Association) → Has a u.state.associations → Fit a
   pub worked : LeftAll c s u.state.config now u v
 
 pub phased : (c : ClientId) (s : ClientState) (now : Stamp) (input : ClientInput) → ((a : Association) → Has a s.associations → Fit a) →
     Phased c s now (cl.losses (client_turn s []) now) (cl.take_input (cl.losses (client_turn s []) now) now input) (cl.work (cl.take_input (cl.losses (client_turn s []) now) now input) now input)
 unfolding cl.work
-phased c s now input f = record { lost = lost; fit = fit; heard = heard; fit_too = fit_too; worked = left_each c s now (cp.passes now (cl.is_tick input)) u (λ x p. changes_next now x _ (c_passes now (cl.is_tick input) x)) fit_too }
+phased c s now input f = record { lost = lost; fit = fit; received = received; fit_too = fit_too; worked = left_each c s now (cp.passes now (cl.is_tick input)) u (λ x p. changes_next now x _ (c_passes now (cl.is_tick input) x)) fit_too }
   where
     t : ClientTurn
     t = cl.losses (client_turn s []) now
@@ -347,18 +347,18 @@ phased c s now input f = record { lost = lost; fit = fit; heard = heard; fit_too
     fit : (a : Association) → Has a t.state.associations → Fit a
     fit = pairs_has (LostOrNot s.config now) Fit Fit (λ a b r. r.fit) s.associations t.state.associations lost.pairs f
 
-    heard : LeftAll c s t.state.config now t u
-    heard = input_left c s now input t fit
+    received : LeftAll c s t.state.config now t u
+    received = input_left c s now input t fit
 
     fit_too : (a : Association) → Has a u.state.associations → Fit a
-    fit_too = pairs_has (Goes t.state.config now) Fit Fit (λ a b r. r.fit) t.state.associations u.state.associations heard.pairs fit
+    fit_too = pairs_has (Goes t.state.config now) Fit Fit (λ a b r. r.fit) t.state.associations u.state.associations received.pairs fit
 
 pub step_lives : (c : ClientId) (s : ClientState) (now : Stamp) (input : ClientInput) → ((a : Association) → Has a s.associations → Fit a) → Stepped now c s (cl.client_step s now input).state (cl.client_step s now input).out
 unfolding cl.client_step ended_rows
 step_lives c s now input f = go _ _ _ (phased c s now input f)
   where
     go : (t u v : ClientTurn) → Phased c s now t u v → Stepped now c s v.state v.out
-    go t u v p = joined (all_then c s s.config now t u v (subst (λ k. LeftAll c s k now t u) (sym p.lost.config) p.heard) (subst (λ k. LeftAll c s k now u v) (sym (p.lost.config ∙ p.heard.config)) p.worked))
+    go t u v p = joined (all_then c s s.config now t u v (subst (λ k. LeftAll c s k now t u) (sym p.lost.config) p.received) (subst (λ k. LeftAll c s k now u v) (sym (p.lost.config ∙ p.received.config)) p.worked))
       where
         joined : LeftAll c s s.config now t v → Stepped now c s v.state v.out
         joined r =
@@ -377,7 +377,7 @@ pub changes_last : (c : ClientId) (s : ClientState) (now : Stamp) (input : Clien
     Pairwise (StaysChanged s.config now) u.state.associations (cl.work u now input).state.associations
 unfolding cl.work no_rows
 changes_last c s now input t u r =
-    (each Fit (StaysChanged s.config now) no_rows (λ os. []) (cp.passes now (cl.is_tick input)) u (λ x q p. one u.state.config (sym (r.lost.config ∙ r.heard.config)) x _ q (changes_dirty now x _ (c_passes now (cl.is_tick input) x))) r.fit_too).pairs
+    (each Fit (StaysChanged s.config now) no_rows (λ os. []) (cp.passes now (cl.is_tick input)) u (λ x q p. one u.state.config (sym (r.lost.config ∙ r.received.config)) x _ q (changes_dirty now x _ (c_passes now (cl.is_tick input) x))) r.fit_too).pairs
   where
     one : (k : Config) → k ≡ s.config → (x y : Turn) → x.config ≡ k → Dirtied now x y → Left (StaysChanged s.config now) no_rows (λ os. []) x y
     one k e x y q d =

@@ -14,7 +14,7 @@ use Rattle.st_rules.specs.ClientReplies as cr
 use Rattle.st_rules.specs.ClientState.{Association, ClientTurn, Turn, at_each, at_these, enter, leave, only_at, server_of, with_associations}
 use Rattle.st_lemmas.specs.Lists.{Has}
 use Rattle.st_lemmas.proofs.Tables.{has_append}
-use Rattle.st_laws_steps.specs.Client.Taking.{Each, Taken, Nothing, Full, Unknown, Takes, Hears, Finishes}
+use Rattle.st_laws_steps.specs.Client.Inputs.{Each, Taken, Nothing, Full, Unknown, Takes, Receives, Finishes}
 
 pub taken : (t : ClientTurn) (now : Stamp) (input : ClientInput) → Taken t now input (cl.take_input t now input)
 unfolding cl.take_input cl.app cl.app_known cl.done cr.receive cr.receive_here
@@ -32,7 +32,7 @@ taken t now (inputs.App op ask) = full (cl.is_full t.state) refl
 taken t now (inputs.Control m) = go (m.header.to == t.state.id.0) refl
   where
     go : (b : Bool) → (m.header.to == t.state.id.0) ≡ b → Taken t now (inputs.Control m) (if b then at_each (cr.receive_at now m.header m.body) t else t)
-    go true e = Hears m e
+    go true e = Receives m e
     go false e = Nothing (inputs.Control m)
 taken t now (inputs.Done number result) = Finishes number result
 
@@ -52,16 +52,16 @@ pub each : (P Q : Association → Type 0) (rule : Turn → Turn) → ((t : Turn)
 unfolding at_each
 each P Q rule k t h = these P Q rule k t.state.associations (with_associations [] t) (λ a i. absurd i) h
 
--- a fact of each association behind an input, where a message that is heard tells what its rule needs
+-- a fact of each association behind an input, where a message that is received tells what its rule needs
 pub each_taken : (P : Association → Type 0) (T : Message → Association → Type 0) (now : Stamp) →
     ((s : ServerId) (op : ℕ) (ask : Ask) (u : Turn) → P u.here → P (only_at s (cl.take_ask op ask) u).here) →
     ((m : Message) (u : Turn) → P u.here → T m u.here → P (cr.receive_at now m.header m.body u).here) →
     ((number : ℕ) (r : Option (Option (Tag × List ℕ))) (u : Turn) → P u.here → P (cl.finish number r u).here) →
     (t u : ClientTurn) (input : ClientInput) → Taken t now input u → ((m : Message) → input ≡ inputs.Control m → (m.header.to == t.state.id.0) ≡ true → Each (T m) t.state.associations) →
     Each P t.state.associations → Each P u.state.associations
-each_taken P T now take hear finish t _ _ (Nothing i) k h = h
-each_taken P T now take hear finish t _ _ (Full op ask e) k h = h
-each_taken P T now take hear finish t _ _ (Unknown op ask e f) k h = h
-each_taken P T now take hear finish t _ _ (Takes op ask e f) k h = each P P (only_at (server_of ask) (cl.take_ask op ask)) (take (server_of ask) op ask) t h
-each_taken P T now take hear finish t _ _ (Hears m e) k h = each (λ a. P a × T m a) P (cr.receive_at now m.header m.body) (λ u p. hear m u p.0 p.1) t (λ a i. (h a i, k m refl e a i))
-each_taken P T now take hear finish t _ _ (Finishes number r) k h = each P P (cl.finish number r) (finish number r) t h
+each_taken P T now take receive finish t _ _ (Nothing i) k h = h
+each_taken P T now take receive finish t _ _ (Full op ask e) k h = h
+each_taken P T now take receive finish t _ _ (Unknown op ask e f) k h = h
+each_taken P T now take receive finish t _ _ (Takes op ask e f) k h = each P P (only_at (server_of ask) (cl.take_ask op ask)) (take (server_of ask) op ask) t h
+each_taken P T now take receive finish t _ _ (Receives m e) k h = each (λ a. P a × T m a) P (cr.receive_at now m.header m.body) (λ u p. receive m u p.0 p.1) t (λ a i. (h a i, k m refl e a i))
+each_taken P T now take receive finish t _ _ (Finishes number r) k h = each P P (cl.finish number r) (finish number r) t h

@@ -14,7 +14,7 @@ use Rattle.st_rules.specs.declared.world.IssuedCommand.{IssuedCommand}
 use Rattle.st_rules.specs.declared.world.LeaseLife.{LeaseLife}
 use Rattle.st_rules.specs.Client as cl
 use Rattle.st_rules.specs.ClientState.{Association, ClientState, is_at}
-use Rattle.st_rules.specs.World.{World, ClientSite, numbered, is_life_of, ended_of}
+use Rattle.st_rules.specs.World.{World, WorldClient, numbered, is_life_of, ended_of}
 use Rattle.st_rules.specs.Events as ev
 use Rattle.st_lemmas.specs.Lists.{Has}
 use Rattle.st_laws_steps.specs.Client.Losses.{Fit, SessionNext, is_ended}
@@ -81,7 +81,7 @@ abbrev pub clock_in : List Stamp → ClientId → Stamp
 clock_in ts c = unwrap_or (numbered ts c.0) (record { 0 = 0 })
 
 -- the life of a client at a server has ended, or it is the present one
-abbrev pub IsKnown : List ClientSite → List LeaseLife → ClientId → ServerId → Life → Type 0
+abbrev pub IsKnown : List WorldClient → List LeaseLife → ClientId → ServerId → Life → Type 0
 IsKnown cs es c s l = ((e : LeaseLife) × (find (is_life_of c s l) es ≡ Some e)) ⊎ ((ev.life_of_site s (numbered cs c.0)).0 ≡ l.0)
 
 -- the lives that ended are below the present one, or it is among them where the client does not run
@@ -108,8 +108,8 @@ pub record NodeHolds (k : Config) (ts : List Stamp) (es : List LeaseLife) (c : C
   pub below : (e : LeaseLife) → Has e es → e.client ≡ c → (a : Association) → find (is_at e.server) node.state.associations ≡ Some a → IsBelow node.running e a
 
 -- What stands of a life that ended: it is of a client that there is, it stands once, and its lease is over or a crash ended it.
-pub record EndedHolds (ts : List Stamp) (cs : List ClientSite) (es : List LeaseLife) (e : LeaseLife) : Type 0 where
-  pub site : ClientSite
+pub record EndedHolds (ts : List Stamp) (cs : List WorldClient) (es : List LeaseLife) (e : LeaseLife) : Type 0 where
+  pub site : WorldClient
   pub there : numbered cs e.client.0 ≡ Some site
   pub born : 1 ≤ e.life.0
   pub self : find (is_life_of e.client e.server e.life) es ≡ Some e
@@ -120,12 +120,12 @@ abbrev pub owner_of : LogEntry → LogOwner
 owner_of e = e.of
 
 -- What stands of the lives in a world.
-pub record LivesAreKept (k : Config) (ts : List Stamp) (cs : List ClientSite) (es : List LeaseLife) : Type 0 where
-  pub sites : (c : ClientId) (site : ClientSite) → numbered cs c.0 ≡ Some site → NodeHolds k ts es c site.node
+pub record LivesAreKept (k : Config) (ts : List Stamp) (cs : List WorldClient) (es : List LeaseLife) : Type 0 where
+  pub sites : (c : ClientId) (site : WorldClient) → numbered cs c.0 ≡ Some site → NodeHolds k ts es c site.node
   pub ends : (e : LeaseLife) → Has e es → EndedHolds ts cs es e
 
 -- the lives of all commands and entries are known
-pub record AllKnown (cs : List ClientSite) (es : List LeaseLife) (xs : List IssuedCommand) (os : List LogOwner) : Type 0 where
+pub record AllKnown (cs : List WorldClient) (es : List LeaseLife) (xs : List IssuedCommand) (os : List LogOwner) : Type 0 where
   pub commands : (x : IssuedCommand) → Has x xs → IsKnown cs es x.client x.server x.life
   pub owners : (o : LogOwner) → Has o os → IsKnown cs es o.client o.file.server o.life
 

@@ -2,7 +2,7 @@ use Rattle.std.proofs.Common.{sym, subst, ◌∙◌}
 use Rattle.st_base.specs.declared.config.Config.{Config}
 use Rattle.st_embed.specs.Clients.{MayOpen}
 use Rattle.tank_c.specs.Calls.{client_id}
-use Rattle.tank_c.proofs.Opening.{no_memory}
+use Rattle.tank_c.proofs.Unopened.{no_memory}
 use Rattle.tank_c.proofs.tank_client_open.Goals as goal
 
 pub returns-in-Ok-clause-refused : goal.returns-in-Ok-clause-refused

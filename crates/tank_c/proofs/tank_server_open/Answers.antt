@@ -3,7 +3,7 @@ use Rattle.st_base.specs.declared.config.Config.{Config}
 use Rattle.st_embed.specs.Servers.{MayOpen}
 use Rattle.tank_c.specs.Calls.{server_id, stamp}
 use Rattle.tank_c.specs.ServerCalls.{shape_of}
-use Rattle.tank_c.proofs.Opening.{no_server_memory, no_server_opened}
+use Rattle.tank_c.proofs.Unopened.{no_server_memory, no_server_opened}
 use Rattle.tank_c.proofs.tank_server_open.Goals as goal
 
 pub returns-in-Ok-clause-refused : goal.returns-in-Ok-clause-refused

@@ -1,7 +1,7 @@
 use Rattle.std.proofs.Common.{◌≡◌, take, drop}
 use Rattle.st_rules.specs.ClientPasses.{first_asking}
 use Rattle.st_client_association.specs.Turns.{session_of}
-use Rattle.st_client_passes.specs.Asking.{behind_all}
+use Rattle.st_client_passes.specs.Requests.{behind_all}
 use Rattle.st_client_passes.proofs.next_request.first_asking.Given as goal
 
 abbrev pub invariant-loop-i : goal.invariant-loop-i

@@ -1,6 +1,6 @@
 use Rattle.std.proofs.Common.{◌≡◌, ◌∙◌, sym, subst}
 use Rattle.std.specs.Prelude.{IfOk}
-use Rattle.st_client_passes.specs.Passing.{put_back}
+use Rattle.st_client_passes.specs.PassConditions.{put_back}
 use Rattle.st_client_passes.proofs.Sessions.{operate_with, operate_without}
 use Rattle.st_client_passes.proofs.operations.operate_by.Goals as goal
 

@@ -2,7 +2,7 @@ use Rattle.std.proofs.Common.{◌≡◌, ◌∙◌, sym}
 use Rattle.std.specs.Prelude.{false}
 use Rattle.std.specs.List.{list_any}
 use Rattle.st_client_association.specs.Turns.{has_session}
-use Rattle.st_operations.specs.Pending.{may_act}
+use Rattle.st_operations.specs.PendingOperations.{may_act}
 use Rattle.st_client_passes.proofs.Idle.{operations_idle}
 use Rattle.st_client_passes.proofs.operations.operations.Goals as goal
 

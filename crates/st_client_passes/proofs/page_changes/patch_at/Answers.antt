@@ -1,7 +1,7 @@
 use Rattle.std.proofs.Common.{◌≡◌, ◌∙◌, sym, subst}
 use Rattle.std.specs.Prelude.{IfOk}
 use Rattle.st_rules.specs.ClientPages.{cached}
-use Rattle.st_client_passes.specs.Passing.{put_back}
+use Rattle.st_client_passes.specs.PassConditions.{put_back}
 use Rattle.st_client_passes.proofs.Cached.{patch_missing, patch_whole}
 use Rattle.st_client_passes.proofs.page_changes.patch_at.Goals as goal
 

@@ -2,7 +2,7 @@ use Rattle.std.proofs.Common.{◌≡◌, ◌∙◌, ap, sym, subst}
 use Rattle.std.specs.Prelude.{OnOk, option_map}
 use Rattle.st_rules.specs.ClientPasses.{ask_for_or}
 use Rattle.st_client_association.specs.Turns.{session_of}
-use Rattle.st_client_passes.specs.Asking.{asking_at}
+use Rattle.st_client_passes.specs.Requests.{asking_at}
 use Rattle.st_client_passes.proofs.requests.ask_for_or.Goals as goal
 
 pub returns-in-None : goal.returns-in-None

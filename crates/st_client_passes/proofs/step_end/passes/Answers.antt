@@ -1,5 +1,5 @@
 use Rattle.std.proofs.Common.{◌≡◌, ◌∙◌, ap}
-use Rattle.st_client_passes.specs.Passing.{lease_frame}
+use Rattle.st_client_passes.specs.PassConditions.{lease_frame}
 use Rattle.st_client_passes.proofs.Frames.{operations_keep, reductions_keep, still_lasts}
 use Rattle.st_client_passes.proofs.step_end.passes.Goals as goal
 

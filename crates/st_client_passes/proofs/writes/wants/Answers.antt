@@ -1,7 +1,7 @@
 use Rattle.std.proofs.Common.{◌∙◌, sym}
 use Rattle.std.specs.List.{list_any}
 use Rattle.st_client_association.specs.Turns.{session_of}
-use Rattle.st_client_passes.specs.Passing.{wants_writes}
+use Rattle.st_client_passes.specs.PassConditions.{wants_writes}
 use Rattle.st_client_passes.proofs.Sessions.{none_demanded}
 use Rattle.st_client_passes.proofs.writes.wants.Goals as goal
 

@@ -1,7 +1,7 @@
 use Rattle.std.proofs.Common.{◌≡◌, drop}
 use Rattle.st_rules.specs.ClientPasses.{write_each}
 use Rattle.st_client_association.specs.Turns.{session_of}
-use Rattle.st_client_passes.specs.Passing.{SameSession}
+use Rattle.st_client_passes.specs.PassConditions.{SameSession}
 use Rattle.st_client_passes.proofs.writes.write_each.Given as goal
 
 abbrev pub invariant-loop-place : goal.invariant-loop-place

@@ -1,6 +1,6 @@
 use Rattle.std.proofs.Common.{sym}
 use Rattle.st_client_association.specs.Turns.{session_of}
-use Rattle.st_client_passes.specs.Passing.{MayRest}
+use Rattle.st_client_passes.specs.PassConditions.{MayRest}
 use Rattle.st_client_passes.proofs.Idle.{writes_idle}
 use Rattle.st_client_passes.proofs.Sessions.{session_is}
 use Rattle.st_client_passes.proofs.writes.write_wanted.Goals as goal

@@ -1,4 +1,4 @@
-use Rattle.st_messages.specs.Fits.{are_extents, is_extent_row, after_extent}
+use Rattle.st_messages.specs.Ranges.{are_extents, is_extent_row, after_extent}
 use Rattle.st_codec_fields.proofs.Rows.{both_true, each_fits}
 use Rattle.st_codec_fields.proofs.row.put_extents.Goals as goal
 

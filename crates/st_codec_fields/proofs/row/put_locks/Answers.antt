@@ -1,4 +1,4 @@
-use Rattle.st_messages.specs.Fits.{are_locks, is_lock_row, after_lock}
+use Rattle.st_messages.specs.Ranges.{are_locks, is_lock_row, after_lock}
 use Rattle.st_codec_fields.proofs.Rows.{both_true, each_fits}
 use Rattle.st_codec_fields.proofs.row.put_locks.Goals as goal
 

@@ -1,4 +1,4 @@
-use Rattle.st_messages.specs.Fits.{are_lost, is_lost_row, after_lost}
+use Rattle.st_messages.specs.Ranges.{are_lost, is_lost_row, after_lost}
 use Rattle.st_codec_fields.proofs.Rows.{both_true, each_fits}
 use Rattle.st_codec_fields.proofs.row.put_lost.Goals as goal
 

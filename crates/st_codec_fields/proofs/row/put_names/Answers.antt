@@ -1,4 +1,4 @@
-use Rattle.st_messages.specs.Fits.{are_names, is_name_row, after_name}
+use Rattle.st_messages.specs.Ranges.{are_names, is_name_row, after_name}
 use Rattle.st_codec_fields.proofs.Rows.{both_true, each_fits}
 use Rattle.st_codec_fields.proofs.row.put_names.Goals as goal
 

@@ -1,5 +1,5 @@
 use Rattle.std.proofs.lemmas.Result.{err_from_is_err_and}
-use Rattle.st_codec_fields.specs.Reading.{rows_at}
+use Rattle.st_codec_fields.specs.Decoder.{rows_at}
 use Rattle.st_codec_fields.proofs.Loop.{goes_on, ends, is_done}
 use Rattle.st_codec_fields.proofs.row.read_rows.Goals as goal
 

@@ -1,5 +1,5 @@
 use Rattle.std.proofs.Common.{◌≡◌, ◌-◌}
-use Rattle.st_codec_fields.specs.Reading.{rows_at}
+use Rattle.st_codec_fields.specs.Decoder.{rows_at}
 use Rattle.st_codec_fields.proofs.Loop.{with_front}
 use Rattle.st_codec_fields.proofs.row.read_rows.Given as goal
 

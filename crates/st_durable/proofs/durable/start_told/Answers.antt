@@ -1,4 +1,4 @@
-use Rattle.st_durable.proofs.Telling.{started, started_own}
+use Rattle.st_durable.proofs.ToldChanges.{started, started_own}
 use Rattle.st_durable.proofs.durable.start_told.Goals as goal
 
 pub returns-clause-told : goal.returns-clause-told

@@ -2,7 +2,7 @@ use Rattle.std.proofs.Common.{ap, ◌∙◌}
 use Rattle.std.specs.Prelude.{◌==◌}
 use Rattle.st_rules.specs.Server.{Stable}
 use Rattle.st_durable.specs.Durable.{mark}
-use Rattle.st_durable.proofs.Telling.{asks, stays_own, tells}
+use Rattle.st_durable.proofs.ToldChanges.{asks, stays_own, tells}
 use Rattle.st_durable.proofs.durable.step_asked.Goals as goal
 
 pub returns-clause-told : goal.returns-clause-told

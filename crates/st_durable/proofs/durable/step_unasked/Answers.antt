@@ -1,4 +1,4 @@
-use Rattle.st_durable.proofs.Telling.{stays_own, tells_none}
+use Rattle.st_durable.proofs.ToldChanges.{stays_own, tells_none}
 use Rattle.st_durable.proofs.durable.step_unasked.Goals as goal
 
 pub returns-clause-told : goal.returns-clause-told

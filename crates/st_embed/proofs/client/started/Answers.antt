@@ -5,7 +5,7 @@ use Rattle.std.specs.Prelude.{List}
 use Rattle.st_client.specs.Nodes.{crashed_node, is_begun}
 use Rattle.st_client.specs.Room.{HasRoom}
 use Rattle.st_embed.specs.Clients.{life}
-use Rattle.st_embed.proofs.Kept.{kept_begun, kept_room}
+use Rattle.st_embed.proofs.KeptLives.{kept_begun, kept_room}
 use Rattle.st_embed.proofs.client.started.Goals as goal
 
 pub restore-requires-clause-begun : goal.restore-requires-clause-begun

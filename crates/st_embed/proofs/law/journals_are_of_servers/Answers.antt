@@ -1,4 +1,4 @@
-use Rattle.st_embed.proofs.Restoring.{is_of_server}
+use Rattle.st_embed.proofs.StableParts.{is_of_server}
 use Rattle.st_embed.proofs.law.journals_are_of_servers.Goals as goal
 
 pub returns : goal.returns

@@ -1,10 +1,10 @@
 use Rattle.std.proofs.Common.{◌+◌, ◌<◌, ◌≤◌, ap, arith, filter, get_or, length, refl, ◌∙◌}
 use Rattle.st_base.specs.declared.ids.PageNo.{PageNo}
 use Rattle.st_extents.specs.Layout.{none_at, with_shape}
-use Rattle.st_extents.proofs.Added.{added_by}
+use Rattle.st_extents.proofs.TakenBack.{added_by}
 use Rattle.st_extents.proofs.Blocks.{pages_done, pages_step}
-use Rattle.st_extents.proofs.Fresh.{fresh_next, mapped_is, still_fresh}
-use Rattle.st_extents.proofs.Laid.{every_at}
+use Rattle.st_extents.proofs.FreshPages.{fresh_next, mapped_is, still_fresh}
+use Rattle.st_extents.proofs.LaidPages.{every_at}
 use Rattle.st_extents.proofs.extents.place_pages.Goals as goal
 
 abbrev first : PageNo

@@ -1,7 +1,7 @@
 use Rattle.std.proofs.Common.{◌≡◌, ◌+◌, ◌-◌, ◌<◌, arith, length, subst, take, ◌∙◌}
 use Rattle.st_base.specs.declared.ids.PageNo.{PageNo}
 use Rattle.st_extents.specs.Places.{AreAdded, AreLastMapped}
-use Rattle.st_extents.proofs.Added.{is_last, last_back, one_back}
+use Rattle.st_extents.proofs.TakenBack.{is_last, last_back, one_back}
 use Rattle.st_extents.proofs.extents.take_back.Goals as goal
 
 abbrev first : PageNo

@@ -1,7 +1,7 @@
 use Rattle.std.proofs.Common.{◌+◌, ◌-◌, ◌/◌, ◌<◌, ◌≤◌, get_or, arith}
 use Rattle.st_base.specs.declared.disk.BlockAt.{BlockAt}
 use Rattle.st_extents.specs.Places.{rank}
-use Rattle.st_extents.proofs.Laid.{all_below, none_below, searched}
+use Rattle.st_extents.proofs.LaidPages.{all_below, none_below, searched}
 use Rattle.st_extents.proofs.mapping.place_of.Goals as goal
 
 abbrev nowhere : BlockAt

@@ -2,7 +2,7 @@ use Rattle.std.proofs.Common.{◌≡◌, ap, false, filter, refl, subst, sym, �
 use Rattle.std.specs.Prelude.{IfNone, not}
 use Rattle.std.specs.List.{list_any}
 use Rattle.st_rules.specs.Extents.{is_at_or_behind, is_extent_of}
-use Rattle.st_extents.proofs.Laid.{behind_too, found_among, laid_drop, others_all, others_twice}
+use Rattle.st_extents.proofs.LaidPages.{behind_too, found_among, laid_drop, others_all, others_twice}
 use Rattle.st_extents.proofs.mapping.release_all.Goals as goal
 
 pub place_of-place-requires-clause-among : goal.place_of-place-requires-clause-among

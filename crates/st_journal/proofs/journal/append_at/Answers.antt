@@ -1,9 +1,9 @@
 use Rattle.std.proofs.Common.{◌≡◌, ◌≤◌, ◌+◌, ◌++◌, ◌∷◌, [], Err, List, ℕ, length, refl, sym, subst, rules}
 use Rattle.std.proofs.lemmas.Result.{err_from_is_err_and}
 use Rattle.st_journal.specs.Journal.{framed}
-use Rattle.st_journal.specs.Opened.{room_behind, room_for}
-use Rattle.st_journal.specs.Writing.{Puts}
-use Rattle.st_journal.proofs.Recording.{has_room, no_room, puts_at, room_asked}
+use Rattle.st_journal.specs.OpenedJournal.{room_behind, room_for}
+use Rattle.st_journal.specs.Appends.{Puts}
+use Rattle.st_journal.proofs.Records.{has_room, no_room, puts_at, room_asked}
 use Rattle.st_journal.proofs.journal.append_at.Goals as goal
 
 pub returns-in_err-check_room-clause-err : goal.returns-in_err-check_room-clause-err

@@ -1,5 +1,5 @@
 use Rattle.st_journal.specs.Parts.{stable_of}
-use Rattle.st_journal.proofs.Opening.{fresh_low}
+use Rattle.st_journal.proofs.OpenedJournal.{fresh_low}
 use Rattle.st_journal.proofs.journal.read_fresh.Goals as goal
 
 pub read_all-requires-clause-low : goal.read_all-requires-clause-low

@@ -1,4 +1,4 @@
-use Rattle.st_journal.proofs.Stopping.{ends_at_stop}
+use Rattle.st_journal.proofs.Stops.{ends_at_stop}
 use Rattle.st_journal.proofs.laws.a_stop_keeps_by_its_byte.Goals as goal
 
 pub returns : goal.returns

@@ -1,6 +1,6 @@
 use Rattle.std.proofs.Common.{◌++◌, ◌∷◌, [], refl}
 use Rattle.st_journal.specs.Journal.{framed}
-use Rattle.st_journal.proofs.Appending.{torn_append, done_append}
+use Rattle.st_journal.proofs.Appends.{torn_append, done_append}
 use Rattle.st_journal.proofs.laws.appends_survive_crashes.Goals as goal
 
 pub returns-clause-any_moment : goal.returns-clause-any_moment

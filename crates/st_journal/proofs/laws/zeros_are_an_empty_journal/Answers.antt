@@ -1,5 +1,5 @@
-use Rattle.st_store.proofs.Kept.{length-zeros}
-use Rattle.st_journal.proofs.Stopping.{zeros_journal}
+use Rattle.st_store.proofs.StoreBytes.{length-zeros}
+use Rattle.st_journal.proofs.Stops.{zeros_journal}
 use Rattle.st_journal.proofs.laws.zeros_are_an_empty_journal.Goals as goal
 
 pub returns-clause-journal : goal.returns-clause-journal

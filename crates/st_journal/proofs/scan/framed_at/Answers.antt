@@ -3,7 +3,7 @@ use Rattle.std.specs.Prelude.{IfNone, IfSome}
 use Rattle.st_journal.specs.Changes.{Spells}
 use Rattle.st_journal.specs.declared.change.Change.{Change}
 use Rattle.st_journal.proofs.Reached.{framed_in, unframed_in}
-use Rattle.st_journal.proofs.Scanning.{unframed_short, unframed_long, unframed_room}
+use Rattle.st_journal.proofs.ScannedBytes.{unframed_short, unframed_long, unframed_room}
 use Rattle.st_journal.proofs.scan.framed_at.Goals as goal
 use Rattle.st_journal.proofs.scan.framed_at.Goals.{then-count-gt521-via-then-count-gt521, then-count-gt521-via-else-count-gt521+then-left-count}
 

@@ -1,7 +1,7 @@
 use Rattle.std.proofs.Common.{◌≡◌, ap, ◌∙◌, rules, arith}
 use Rattle.std.specs.Int.{w32, from_be_bytes}
 use Rattle.st_journal.specs.Changes.{word32}
-use Rattle.st_journal.proofs.Scanning.{number_is}
+use Rattle.st_journal.proofs.ScannedBytes.{number_is}
 use Rattle.st_journal.proofs.scan.number_of.Goals as goal
 
 pub returns-clause-number : goal.returns-clause-number

@@ -2,7 +2,7 @@ use Rattle.std.proofs.Common.{◌∙◌, Bool, subst, arith}
 use Rattle.st_journal.specs.Parts.{stable_of}
 use Rattle.st_journal.specs.Scan.{ReadsOn, ReadsOne}
 use Rattle.st_journal.proofs.Moments.{rests_then}
-use Rattle.st_journal.proofs.Scanning.{read_more}
+use Rattle.st_journal.proofs.ScannedBytes.{read_more}
 use Rattle.st_journal.proofs.scan.read_all.Goals as goal
 
 pub changes-preserved : goal.changes-preserved

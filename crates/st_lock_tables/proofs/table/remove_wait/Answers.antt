@@ -3,7 +3,7 @@ use Rattle.std.specs.Prelude.{◌==◌}
 use Rattle.std.proofs.lemmas.Bool.{and_parts}
 use Rattle.st_rules.specs.Keys.{same_client}
 use Rattle.st_rules.specs.Locks.{is_wait_by, is_wait_of}
-use Rattle.st_lock_tables.proofs.Found.{all_stay, any_counted}
+use Rattle.st_lock_tables.proofs.FoundRows.{all_stay, any_counted}
 use Rattle.st_lock_tables.proofs.table.remove_wait.Goals as goal
 
 pub returns-else-count-gt0 : goal.returns-else-count-gt0

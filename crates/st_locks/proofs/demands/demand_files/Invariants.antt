@@ -1,8 +1,8 @@
 use Rattle.std.proofs.Common.{◌≡◌, ℕ, false, drop}
 use Rattle.st_rules.specs.Locks.{demand_files}
 use Rattle.st_lock_tables.specs.Calls.{demanding}
-use Rattle.st_lock_tables.specs.Waited.{is_one_of}
-use Rattle.st_locks.specs.Settled.{AreTimed}
+use Rattle.st_lock_tables.specs.WaitedFiles.{is_one_of}
+use Rattle.st_locks.specs.SettledFiles.{AreTimed}
 use Rattle.st_locks.proofs.demands.demand_files.Given as goal
 
 abbrev pub invariant-loop-ino : goal.invariant-loop-ino

@@ -1,7 +1,7 @@
 use Rattle.std.proofs.Common.{◌∙◌, List, OnOk, subst}
 use Rattle.st_base.specs.declared.ids.ClientId.{ClientId}
 use Rattle.st_lock_tables.specs.Calls.{demanding}
-use Rattle.st_locks.specs.Settled.{TimesRows}
+use Rattle.st_locks.specs.SettledFiles.{TimesRows}
 use Rattle.st_locks.proofs.Demanded.{on_two, times_file}
 use Rattle.st_locks.proofs.demands.demand_for.Goals as goal
 

@@ -3,7 +3,7 @@ use Rattle.std.specs.Prelude.{Some}
 use Rattle.st_base.specs.declared.ids.ClientId.{ClientId}
 use Rattle.st_rules.specs.declared.locks.LockRow.{LockRow}
 use Rattle.st_rules.specs.Locks.{is_among, row_of}
-use Rattle.st_locks.specs.Settled.{KeepsAll, is_timed}
+use Rattle.st_locks.specs.SettledFiles.{KeepsAll, is_timed}
 use Rattle.st_locks.proofs.demands.time_rows.Given as goal
 
 abbrev pub invariant-loop-client : goal.invariant-loop-client

@@ -1,5 +1,5 @@
 use Rattle.std.proofs.Common.{take}
-use Rattle.st_locks.specs.Settled.{MarksAll, is_wanted_of}
+use Rattle.st_locks.specs.SettledFiles.{MarksAll, is_wanted_of}
 use Rattle.st_locks.proofs.parts.touch_files.Given as goal
 
 abbrev pub invariant-loop-ino : goal.invariant-loop-ino

@@ -1,7 +1,7 @@
 use Rattle.std.proofs.Common.{take}
 use Rattle.std.specs.Prelude.{◌&&◌}
-use Rattle.st_lock_tables.specs.Waited.{is_waited}
-use Rattle.st_locks.specs.Settled.{MarksAll, is_file_of}
+use Rattle.st_lock_tables.specs.WaitedFiles.{is_waited}
+use Rattle.st_locks.specs.SettledFiles.{MarksAll, is_file_of}
 use Rattle.st_locks.proofs.parts.touch_rows.Given as goal
 
 abbrev pub invariant-loop-row : goal.invariant-loop-row

@@ -1,5 +1,5 @@
 use Rattle.std.proofs.Common.{◌≡◌, drop}
-use Rattle.st_messages.specs.Fits.{are_rows}
+use Rattle.st_messages.specs.Ranges.{are_rows}
 use Rattle.st_messages.proofs.row.rows_fit.Given as goal
 
 abbrev pub invariant-loop-row : goal.invariant-loop-row

@@ -1,6 +1,6 @@
 use Rattle.std.proofs.Common.{◌≡◌, ◌-◌, take}
 use Rattle.st_rules.specs.FlatLog as flat_log
-use Rattle.st_model.specs.ByPage as by_page
+use Rattle.st_model.specs.PagePlaces as by_page
 use Rattle.st_model.proofs.pages.last_among.Given as goal
 
 abbrev pub invariant-loop-i : goal.invariant-loop-i

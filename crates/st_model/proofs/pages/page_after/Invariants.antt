@@ -1,5 +1,5 @@
 use Rattle.std.proofs.Common.{◌≡◌, drop, length}
-use Rattle.st_model.specs.ByPage as by_page
+use Rattle.st_model.specs.PagePlaces as by_page
 use Rattle.st_model.proofs.pages.page_after.Given as goal
 
 abbrev pub invariant-loop-i : goal.invariant-loop-i

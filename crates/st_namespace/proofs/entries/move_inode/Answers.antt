@@ -1,6 +1,6 @@
 use Rattle.std.proofs.Common.{◌≡◌, ◌<◌, ap, arith, get_or, length, sym, ◌∙◌}
 use Rattle.st_namespace.specs.declared.entries.Inode.{Inode}
-use Rattle.st_namespace.specs.Stored.{moved_to}
+use Rattle.st_namespace.specs.StoredEntries.{moved_to}
 use Rattle.st_namespace.proofs.ByName.{any_default}
 use Rattle.st_namespace.proofs.Searches.{moves, moves_none}
 use Rattle.st_namespace.proofs.entries.move_inode.Goals as goal

@@ -1,6 +1,6 @@
 use Rattle.std.proofs.Common.{◌≡◌, ◌≤◌, ◌<◌, ◌-◌, ℕ, true, false, get_or, length}
 use Rattle.st_rules.specs.declared.names.NameEntry.{NameEntry}
-use Rattle.st_namespace.specs.Stored.{stands_before}
+use Rattle.st_namespace.specs.StoredEntries.{stands_before}
 use Rattle.st_namespace.proofs.entries.place_of.Given as goal
 
 abbrev pub invariant-halves : goal.invariant-halves

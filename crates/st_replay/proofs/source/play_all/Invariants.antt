@@ -1,6 +1,6 @@
 use Rattle.std.proofs.Common.{◌≡◌, ◌-◌, [], length}
-use Rattle.st_replay.specs.Playing.{needs}
-use Rattle.st_replay.specs.Streaming.{Streams}
+use Rattle.st_replay.specs.States.{needs}
+use Rattle.st_replay.specs.Streams.{Streams}
 use Rattle.st_replay.proofs.source.play_all.Given as goal
 
 abbrev pub invariant-pieces : goal.invariant-pieces

@@ -1,6 +1,6 @@
 use Rattle.std.proofs.lemmas.Result.{err_from_is_err_and}
 use Rattle.st_schedule_words.specs.Words.{words_behind}
-use Rattle.st_schedule.specs.Reading.{steps_at}
+use Rattle.st_schedule.specs.Parser.{steps_at}
 use Rattle.st_schedule.proofs.Increments.{goes_on, stops, is_done}
 use Rattle.st_schedule.proofs.event_line.steps_at.Goals as goal
 

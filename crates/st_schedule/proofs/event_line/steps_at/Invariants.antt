@@ -1,6 +1,6 @@
 use Rattle.std.proofs.Common.{◌≡◌, ◌-◌}
 use Rattle.st_schedule_words.specs.Words.{words_behind}
-use Rattle.st_schedule.specs.Reading.{steps_at}
+use Rattle.st_schedule.specs.Parser.{steps_at}
 use Rattle.st_schedule.proofs.Increments.{with_front}
 use Rattle.st_schedule.proofs.event_line.steps_at.Given as goal
 

@@ -1,6 +1,6 @@
 use Rattle.std.proofs.Common.{◌≡◌, ◌≤◌, length}
 use Rattle.st_schedule_words.specs.Lines.{lines_of}
-use Rattle.st_script.specs.Playing.{Goes}
+use Rattle.st_script.specs.States.{Goes}
 use Rattle.st_script.specs.Scripts.{play_from}
 use Rattle.st_script.proofs.play.play_lines.Given as goal
 

@@ -4,7 +4,7 @@ use Rattle.std.proofs.Common.{Option}
 use Rattle.std.specs.Ordering.{is_lt}
 use Rattle.st_snap.specs.Versions.{IsLastBelow, Versions, has_version, key_order, latest, same_key, version}
 use Rattle.st_snap.specs.Volumes.{IsSeen, take_of}
-use Rattle.st_snap.proofs.Kept.{there_if}
+use Rattle.st_snap.proofs.KeptViews.{there_if}
 use Rattle.st_snap.proofs.Sweeping.{IsBehind, IsThere, done_gone, done_seen, left, left_before, same_gone, smaller, there_below}
 use Rattle.st_snap.proofs.volume.sweep.Goals.{then-not-is_seen, else-not-is_seen}
 use Rattle.st_snap.proofs.volume.sweep.Goals as goal

@@ -1,6 +1,6 @@
 use Rattle.std.proofs.Common.{◌≡◌, drop, length}
 use Rattle.st_store.specs.InMemory.{filled}
-use Rattle.st_store.specs.Kept.{AreInside}
+use Rattle.st_store.specs.Invariants.{AreInside}
 use Rattle.st_store.proofs.contents.fill_spans.Given as goal
 
 abbrev pub invariant-loop-place : goal.invariant-loop-place

@@ -2,7 +2,7 @@ use Rattle.std.proofs.Common.{ap, sym, ◌∙◌, ◌+◌, ◌-◌}
 use Rattle.std.specs.Prelude.{map}
 use Rattle.st_rules.specs.Extents.{numbers}
 use Rattle.st_rules.specs.World.{server}
-use Rattle.st_world_events.specs.Flushing.{flush_each, with_end}
+use Rattle.st_world_events.specs.FlushSteps.{flush_each, with_end}
 use Rattle.st_world_events.proofs.Flushed.{numbers_on, numbers_end}
 use Rattle.st_world_events.proofs.flushes.flush_all.Goals as goal
 

@@ -2,7 +2,7 @@ use Rattle.std.proofs.Common.{◌≡◌, ◌+◌, ◌-◌}
 use Rattle.std.specs.Prelude.{map}
 use Rattle.st_rules.specs.Extents.{numbers}
 use Rattle.st_rules.specs.World.{server}
-use Rattle.st_world_events.specs.Flushing.{flush_each}
+use Rattle.st_world_events.specs.FlushSteps.{flush_each}
 use Rattle.st_world_events.proofs.flushes.flush_all.Given as goal
 
 abbrev pub invariant-loop-i : goal.invariant-loop-i

@@ -1,6 +1,6 @@
 use Rattle.std.proofs.Common.{◌≡◌, ◌++◌, ◌^◌, drop, take, length, true}
 use Rattle.std.specs.List.{list_all}
-use Rattle.st_world_parts.specs.Clocked.{is_at_most, is_step}
+use Rattle.st_world_parts.specs.Clocks.{is_at_most, is_step}
 use Rattle.st_rules.specs.Events.{advanced}
 use Rattle.st_world_parts.proofs.clocks.advance.Given as goal
 

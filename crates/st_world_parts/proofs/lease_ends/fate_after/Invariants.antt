@@ -1,5 +1,5 @@
 use Rattle.std.proofs.Common.{◌≡◌, drop}
-use Rattle.st_world_parts.specs.Overs.{ends}
+use Rattle.st_world_parts.specs.LifeEnds.{ends}
 use Rattle.st_world_parts.proofs.lease_ends.fate_after.Given as goal
 
 abbrev pub invariant-loop-life : goal.invariant-loop-life

@@ -1,6 +1,6 @@
 use Rattle.std.proofs.Common.{◌≡◌, ◌++◌, drop}
 use Rattle.std.specs.Prelude.{filter}
-use Rattle.st_world_parts.specs.Clocked.{is_reached}
+use Rattle.st_world_parts.specs.Clocks.{is_reached}
 use Rattle.st_world_parts.proofs.reached_ends.push_reached.Given as goal
 
 abbrev pub invariant-loop-life : goal.invariant-loop-life

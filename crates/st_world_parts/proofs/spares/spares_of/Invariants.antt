@@ -1,6 +1,6 @@
 use Rattle.std.proofs.Common.{◌≡◌, ◌++◌, drop, length, true}
 use Rattle.std.specs.List.{list_all}
-use Rattle.st_world_parts.specs.Open.{is_below, spares_at}
+use Rattle.st_world_parts.specs.OutstandingCommands.{is_below, spares_at}
 use Rattle.st_world_parts.proofs.spares.spares_of.Given as goal
 
 abbrev pub invariant-loop-i : goal.invariant-loop-i

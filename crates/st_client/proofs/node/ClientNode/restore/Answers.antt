@@ -1,7 +1,7 @@
 use Rattle.std.proofs.Common.{◌≡◌, refl, vec_capacity, rules}
 use Rattle.std.specs.Prelude.{Ok}
 use Rattle.st_base.specs.Config.{check}
-use Rattle.st_client.proofs.Restoring.{restored_in, restored_is}
+use Rattle.st_client.proofs.Restarts.{restored_in, restored_is}
 use Rattle.st_client.proofs.node.ClientNode.restore.Goals as goal
 
 pub invariant_of-result : goal.invariant_of-result

@@ -6,7 +6,7 @@ use Rattle.st_client.proofs.Crashing.{low_there, none_runs}
 use Rattle.st_client.proofs.Running.{started_fits, starts_in}
 use Rattle.st_client.proofs.Sends.{start_sound}
 use Rattle.st_client.specs.Nodes.{crashed_client, is_low, state_of}
-use Rattle.st_client.specs.Sound.{IsSound}
+use Rattle.st_client.specs.Invariants.{IsSound}
 use Rattle.st_client.proofs.node.ClientNode.start.Goals as goal
 
 pub started-requires-clause-low : goal.started-requires-clause-low

@@ -1,7 +1,7 @@
 use Rattle.std.proofs.Common.{ap, sym, subst, ◌∙◌}
 use Rattle.st_rules.specs.Client.{ClientNode}
 use Rattle.st_client.proofs.NodeSteps.{node_discards, node_sends, runs_steps}
-use Rattle.st_client.specs.Sound.{IsSound}
+use Rattle.st_client.specs.Invariants.{IsSound}
 use Rattle.st_client.proofs.node.ClientNode.step.Goals as goal
 
 pub returns-then-is_some-clause-sent : goal.returns-then-is_some-clause-sent

@@ -3,7 +3,7 @@ use Rattle.std.specs.Prelude.{Option, Some}
 use Rattle.st_client_session.specs.Sessions.{ServerSession}
 use Rattle.st_client_association.specs.Turns.{IsTurn}
 use Rattle.st_client_association.specs.contracts.turn.Turn.{the_view}
-use Rattle.st_client_association.proofs.Kept.{lent, turn_changed}
+use Rattle.st_client_association.proofs.TurnInvariants.{lent, turn_changed}
 use Rattle.st_client_association.proofs.Sending.{again_keeps, sends_again}
 use Rattle.st_client_association.proofs.turn.Turn.again.Goals as goal
 

@@ -3,7 +3,7 @@ use Rattle.std.specs.Prelude.{Option}
 use Rattle.st_client_session.specs.Sessions.{ServerSession}
 use Rattle.st_rules.specs.ClientState.{asking}
 use Rattle.st_client_association.specs.Turns.{IsTurn}
-use Rattle.st_client_association.proofs.Kept.{lent, turn_asked}
+use Rattle.st_client_association.proofs.TurnInvariants.{lent, turn_asked}
 use Rattle.st_client_association.proofs.turn.Turn.ask.Goals as goal
 
 pub invariant_of-self-2 : goal.invariant_of-self-2

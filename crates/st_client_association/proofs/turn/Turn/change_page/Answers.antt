@@ -3,7 +3,7 @@ use Rattle.std.specs.Prelude.{Option}
 use Rattle.st_client_session.specs.Sessions.{ServerSession}
 use Rattle.st_rules.specs.ClientPages.{forget_read}
 use Rattle.st_client_association.specs.Turns.{IsTurn}
-use Rattle.st_client_association.proofs.Kept.{below_fewer, lent, turn_written, version_written}
+use Rattle.st_client_association.proofs.TurnInvariants.{below_fewer, lent, turn_written, version_written}
 use Rattle.st_client_association.proofs.turn.Turn.change_page.Goals as goal
 
 pub invariant_of-self-in-Ok : goal.invariant_of-self-in-Ok

@@ -1,6 +1,6 @@
 use Rattle.std.proofs.Common.{refl}
 use Rattle.st_rules.specs.ClientPages.{forget_from, drop_from}
-use Rattle.st_client_association.proofs.Kept.{lent, store_changed}
+use Rattle.st_client_association.proofs.TurnInvariants.{lent, store_changed}
 use Rattle.st_client_association.proofs.turn.Turn.forget_from.Goals as goal
 
 pub invariant_of-self : goal.invariant_of-self

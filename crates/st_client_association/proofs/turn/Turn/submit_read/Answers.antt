@@ -4,7 +4,7 @@ use Rattle.st_client_session.specs.Sessions.{ServerSession}
 use Rattle.st_flush.proofs.Places.{no_number}
 use Rattle.st_rules.specs.declared.client.IoKind.TheVariants.{Read}
 use Rattle.st_client_association.specs.Turns.{IsTurn}
-use Rattle.st_client_association.proofs.Kept.{lent, turn_begun}
+use Rattle.st_client_association.proofs.TurnInvariants.{lent, turn_begun}
 use Rattle.st_client_association.proofs.turn.Turn.submit_read.Goals as goal
 
 pub begin_read-requires-clause-number : goal.begin_read-requires-clause-number

@@ -2,7 +2,7 @@ use Rattle.std.proofs.Common.{subst, refl}
 use Rattle.std.specs.Prelude.{Option}
 use Rattle.st_client_session.specs.Sessions.{ServerSession}
 use Rattle.st_client_association.specs.Turns.{IsTurn}
-use Rattle.st_client_association.proofs.Kept.{lent, turn_changed, versions_used}
+use Rattle.st_client_association.proofs.TurnInvariants.{lent, turn_changed, versions_used}
 use Rattle.st_client_association.proofs.turn.Turn.use_page.Goals as goal
 
 pub invariant_of-self : goal.invariant_of-self

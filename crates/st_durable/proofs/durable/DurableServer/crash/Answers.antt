@@ -1,4 +1,4 @@
-use Rattle.st_durable.proofs.Telling.{crashed_own}
+use Rattle.st_durable.proofs.ToldChanges.{crashed_own}
 use Rattle.st_durable.proofs.durable.DurableServer.crash.Goals as goal
 
 pub invariant_of-self : goal.invariant_of-self

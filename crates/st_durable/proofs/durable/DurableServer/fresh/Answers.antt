@@ -1,4 +1,4 @@
-use Rattle.st_durable.proofs.Telling.{first, fresh_own}
+use Rattle.st_durable.proofs.ToldChanges.{first, fresh_own}
 use Rattle.st_durable.proofs.durable.DurableServer.fresh.Goals as goal
 
 pub invariant_of-result : goal.invariant_of-result

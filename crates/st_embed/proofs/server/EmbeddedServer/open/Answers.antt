@@ -1,10 +1,10 @@
 use Rattle.std.proofs.Common.{ℕ, ◌∙◌, ap, arith, length, refl, rules, subst}
 use Rattle.st_extents.specs.Layout.{IsWithinLimits}
 use Rattle.st_journal.specs.Parts as parts
-use Rattle.st_journal.proofs.Recording.{gate_within}
+use Rattle.st_journal.proofs.Records.{gate_within}
 use Rattle.st_embed.specs.Servers.{MayStart, begun}
 use Rattle.st_embed.proofs.Opened.{epoch_placed, epoch_room}
-use Rattle.st_embed.proofs.Restoring.{is_of_server}
+use Rattle.st_embed.proofs.StableParts.{is_of_server}
 use Rattle.st_embed.proofs.server.EmbeddedServer.open.Goals as goal
 
 pub opened-requires-clause-own : goal.opened-requires-clause-own

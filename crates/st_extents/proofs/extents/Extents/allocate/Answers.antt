@@ -1,7 +1,7 @@
 use Rattle.std.proofs.Common.{arith, refl, ap, length, ◌∙◌}
 use Rattle.st_extents.specs.Layout.{Shape, with_shape}
 use Rattle.st_extents.proofs.Blocks.{allocate_gives, allocate_refuses, free_is}
-use Rattle.st_extents.proofs.Fresh.{fresh_unmapped, low_unmapped}
+use Rattle.st_extents.proofs.FreshPages.{fresh_unmapped, low_unmapped}
 use Rattle.st_extents.proofs.Owned.{allocated_sound}
 use Rattle.st_extents.proofs.extents.Extents.allocate.Goals as goal
 

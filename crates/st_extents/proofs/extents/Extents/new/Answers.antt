@@ -1,5 +1,5 @@
 use Rattle.std.proofs.Common.{◌∙◌, arith}
-use Rattle.st_extents.proofs.Apart.{own_in_order}
+use Rattle.st_extents.proofs.BlockOrder.{own_in_order}
 use Rattle.st_extents.proofs.Owned.{none_sound, none_owned}
 use Rattle.st_extents.proofs.extents.Extents.new.Goals as goal
 

@@ -1,5 +1,5 @@
 use Rattle.std.proofs.Common.{◌∙◌}
-use Rattle.st_extents.proofs.Laid.{free_counted}
+use Rattle.st_extents.proofs.LaidPages.{free_counted}
 use Rattle.st_extents.proofs.mapping.Mapping.free.Goals as goal
 
 pub returns-clause-free : goal.returns-clause-free

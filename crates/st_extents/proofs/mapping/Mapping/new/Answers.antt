@@ -1,4 +1,4 @@
-use Rattle.st_extents.proofs.Laid.{laid_new}
+use Rattle.st_extents.proofs.LaidPages.{laid_new}
 use Rattle.st_extents.proofs.mapping.Mapping.new.Goals as goal
 
 pub invariant_of-result : goal.invariant_of-result

@@ -2,7 +2,7 @@ use Rattle.std.proofs.Common.{◌+◌, ◌<◌, arith, ap, filter, length, subst
 use Rattle.std.proofs.lemmas.List.{get_or_read}
 use Rattle.st_extents.specs.Layout.{none_at}
 use Rattle.st_extents.specs.Places.{IsMapped}
-use Rattle.st_extents.proofs.Laid.{first_mapped, laid_push, room_left, some_open}
+use Rattle.st_extents.proofs.LaidPages.{first_mapped, laid_push, room_left, some_open}
 use Rattle.st_extents.proofs.mapping.Mapping.place.Goals as goal
 
 pub index-at-requires : goal.index-at-requires

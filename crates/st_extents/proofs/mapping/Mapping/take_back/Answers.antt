@@ -1,8 +1,8 @@
 use Rattle.std.proofs.Common.{◌≡◌, subst, sym, ◌∙◌}
 use Rattle.std.specs.Option.{IsSomeAnd}
 use Rattle.st_rules.specs.declared.extents.Extent.{Extent}
-use Rattle.st_extents.proofs.Added.{newest_found, same_front}
-use Rattle.st_extents.proofs.Laid.{found_among, laid_drop}
+use Rattle.st_extents.proofs.TakenBack.{newest_found, same_front}
+use Rattle.st_extents.proofs.LaidPages.{found_among, laid_drop}
 use Rattle.st_extents.proofs.mapping.Mapping.take_back.Goals as goal
 
 pub take_back-at-requires : goal.take_back-at-requires

@@ -1,9 +1,9 @@
 use Rattle.std.proofs.Common.{◌≡◌, ◌≤◌, true, length, ap, sym, ◌∙◌, subst, rules, arith}
 use Rattle.st_journal.specs.Changes.{fits, has_words}
-use Rattle.st_journal.specs.Opened.{HasPrefix, Opened, Records, room_behind, room_for, under_way_in}
+use Rattle.st_journal.specs.OpenedJournal.{HasPrefix, Opened, Records, room_behind, room_for, under_way_in}
 use Rattle.st_store.specs.Store.{LeavesOnly}
 use Rattle.st_journal.proofs.Counters.{applied_fits}
-use Rattle.st_journal.proofs.Recording.{counts_on, fails_records, put_records, put_rests, torn_moments}
+use Rattle.st_journal.proofs.Records.{counts_on, fails_records, put_records, put_rests, torn_moments}
 use Rattle.st_journal.proofs.journal.Journal.append.Goals as goal
 
 pub append_at-requires-clause-fits : goal.append_at-requires-clause-fits

@@ -1,6 +1,6 @@
-use Rattle.st_journal.specs.Opened.{fresh_of}
+use Rattle.st_journal.specs.OpenedJournal.{fresh_of}
 use Rattle.st_journal.specs.Parts.{stable_of}
-use Rattle.st_journal.proofs.Opening.{only_faults, opens, opens_records}
+use Rattle.st_journal.proofs.OpenedJournal.{only_faults, opens, opens_records}
 use Rattle.st_journal.proofs.Unique.{prefix_state}
 use Rattle.st_journal.proofs.journal.Journal.open.Goals as goal
 

@@ -6,7 +6,7 @@ use Rattle.st_rules.specs.declared.names.EntryRefusal.{EntryRefusal}
 use Rattle.st_journal.specs.Parts.{stable_of}
 use Rattle.st_journal.specs.Stable.{released, removed, with_names}
 use Rattle.st_journal.specs.declared.stable.ChangeRefusal.{ChangeRefusal}
-use Rattle.st_journal.proofs.Removed.{removed_file}
+use Rattle.st_journal.proofs.RemovedEntries.{removed_file}
 use Rattle.st_journal.proofs.stable.Stable.remove.Goals as goal
 
 abbrev told : Stable → Result Stable ChangeRefusal

@@ -1,4 +1,4 @@
-use Rattle.st_lock_cache.proofs.Kept.{empty_kept}
+use Rattle.st_lock_cache.proofs.CacheInvariants.{empty_kept}
 use Rattle.st_lock_cache.proofs.cache.LockCache.clear.Goals as goal
 
 pub invariant_of-self : goal.invariant_of-self

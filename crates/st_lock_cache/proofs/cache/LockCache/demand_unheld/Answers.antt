@@ -2,7 +2,7 @@ use Rattle.std.proofs.Common.{◌≡◌, ◌∙◌, ap, sym}
 use Rattle.st_base.specs.declared.ids.GrantNo.{GrantNo}
 use Rattle.st_rules.specs.ClientLocks.{greater_grant, seen_of}
 use Rattle.st_lock_cache.specs.Calls.{ServerLocks, tables}
-use Rattle.st_lock_cache.proofs.Kept.{greater_kept}
+use Rattle.st_lock_cache.proofs.CacheInvariants.{greater_kept}
 use Rattle.st_lock_cache.proofs.cache.LockCache.demand_unheld.Goals as goal
 
 pub invariant_of-self-2 : goal.invariant_of-self-2

@@ -1,5 +1,5 @@
 use Rattle.st_lock_cache.specs.Calls.{tables}
-use Rattle.st_lock_cache.proofs.Kept.{dropped_kept}
+use Rattle.st_lock_cache.proofs.CacheInvariants.{dropped_kept}
 use Rattle.st_lock_cache.proofs.cache.LockCache.drop_lock.Goals as goal
 
 pub invariant_of-self : goal.invariant_of-self

@@ -1,5 +1,5 @@
 use Rattle.st_lock_cache.specs.Calls.{tables}
-use Rattle.st_lock_cache.proofs.Kept.{forgotten_kept}
+use Rattle.st_lock_cache.proofs.CacheInvariants.{forgotten_kept}
 use Rattle.st_lock_cache.proofs.cache.LockCache.forget_demands.Goals as goal
 
 pub invariant_of-self : goal.invariant_of-self

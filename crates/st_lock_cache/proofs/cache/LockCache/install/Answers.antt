@@ -1,7 +1,7 @@
 use Rattle.std.proofs.Common.{◌≡◌, true, ◌∙◌, sym}
 use Rattle.st_rules.specs.ClientLocks.{is_above_seen}
 use Rattle.st_lock_cache.specs.Calls.{tables}
-use Rattle.st_lock_cache.proofs.Kept.{installed_kept}
+use Rattle.st_lock_cache.proofs.CacheInvariants.{installed_kept}
 use Rattle.st_lock_cache.proofs.cache.LockCache.install.Goals as goal
 
 pub invariant_of-self-then-is_above_seen : goal.invariant_of-self-then-is_above_seen

@@ -1,4 +1,4 @@
-use Rattle.st_lock_cache.proofs.Kept.{empty_kept}
+use Rattle.st_lock_cache.proofs.CacheInvariants.{empty_kept}
 use Rattle.st_lock_cache.proofs.cache.LockCache.new.Goals as goal
 
 pub invariant_of-result : goal.invariant_of-result

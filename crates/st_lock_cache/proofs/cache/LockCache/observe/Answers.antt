@@ -1,7 +1,7 @@
 use Rattle.std.proofs.Common.{◌≡◌, true}
 use Rattle.st_rules.specs.ClientLocks.{is_above_seen}
 use Rattle.st_lock_cache.specs.Calls.{tables}
-use Rattle.st_lock_cache.proofs.Kept.{seen_kept}
+use Rattle.st_lock_cache.proofs.CacheInvariants.{seen_kept}
 use Rattle.st_lock_cache.proofs.cache.LockCache.observe.Goals as goal
 
 pub invariant_of-self-2 : goal.invariant_of-self-2

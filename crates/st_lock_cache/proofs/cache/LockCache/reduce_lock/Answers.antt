@@ -1,7 +1,7 @@
 use Rattle.std.proofs.Common.{◌≡◌, Some}
 use Rattle.st_rules.specs.ClientLocks.{lock_of}
 use Rattle.st_lock_cache.specs.Calls.{tables}
-use Rattle.st_lock_cache.proofs.Kept.{lowered_kept}
+use Rattle.st_lock_cache.proofs.CacheInvariants.{lowered_kept}
 use Rattle.st_lock_cache.proofs.cache.LockCache.reduce_lock.Goals as goal
 
 pub invariant_of-self : goal.invariant_of-self

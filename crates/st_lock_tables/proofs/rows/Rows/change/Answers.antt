@@ -1,7 +1,7 @@
 use Rattle.std.proofs.Common.{◌≡◌, ◌∙◌, sym, ap, subst, find, map, if◌then◌else◌}
 use Rattle.std.specs.Prelude.{Some}
 use Rattle.st_rules.specs.Locks.{is_row_of}
-use Rattle.st_lock_tables.specs.Since.{AreListed, since_of}
+use Rattle.st_lock_tables.specs.DemandStarts.{AreListed, since_of}
 use Rattle.st_lock_tables.proofs.SinceRows.{listed_changed}
 use Rattle.st_lock_tables.proofs.rows.Rows.change.Goals as goal
 

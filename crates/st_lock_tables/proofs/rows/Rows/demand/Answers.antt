@@ -1,7 +1,7 @@
 use Rattle.std.proofs.Common.{◌≡◌, ◌∙◌, sym, ap, subst, find, map, if◌then◌else◌}
 use Rattle.std.specs.Prelude.{Some}
 use Rattle.st_rules.specs.Locks.{is_row_of}
-use Rattle.st_lock_tables.specs.Since.{AreListed, is_since, wait_order}
+use Rattle.st_lock_tables.specs.DemandStarts.{AreListed, is_since, wait_order}
 use Rattle.std.specs.BTreeSet.{contains}
 use Rattle.std.specs.Prelude.{◌||◌, ◌&&◌}
 use Rattle.st_lock_tables.proofs.SinceRows.{is_key, listed_demanded}

@@ -1,5 +1,5 @@
 use Rattle.std.proofs.Common.{sym, subst}
-use Rattle.st_lock_tables.specs.Since.{AreListed}
+use Rattle.st_lock_tables.specs.DemandStarts.{AreListed}
 use Rattle.st_lock_tables.proofs.SinceRows.{listed_forgotten}
 use Rattle.st_lock_tables.proofs.rows.Rows.forget.Goals as goal
 

@@ -1,6 +1,6 @@
 use Rattle.std.proofs.Common.{◌≡◌, ◌∙◌, sym, ap, subst, find}
 use Rattle.st_rules.specs.Locks.{is_row_of}
-use Rattle.st_lock_tables.specs.Since.{AreListed, since_of}
+use Rattle.st_lock_tables.specs.DemandStarts.{AreListed, since_of}
 use Rattle.st_lock_tables.proofs.SinceRows.{listed_put}
 use Rattle.st_lock_tables.proofs.rows.Rows.put.Goals as goal
 

@@ -2,7 +2,7 @@ use Rattle.std.proofs.Common.{◌≡◌, ◌∙◌, sym, ap, subst, find, filter
 use Rattle.std.specs.Prelude.{Some, not}
 use Rattle.st_rules.specs.Locks.{is_row_of}
 use Rattle.st_tables.specs.Tables.{has_key, lock_key}
-use Rattle.st_lock_tables.specs.Since.{AreListed, since_of}
+use Rattle.st_lock_tables.specs.DemandStarts.{AreListed, since_of}
 use Rattle.st_lock_tables.proofs.SinceRows.{listed_gone}
 use Rattle.st_lock_tables.proofs.rows.Rows.remove.Goals as goal
 

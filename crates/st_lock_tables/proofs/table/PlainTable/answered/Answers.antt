@@ -6,7 +6,7 @@ use Rattle.st_rules.specs.Locks.{Locks, demand_seen, answered_row, is_row_of}
 use Rattle.st_tables.proofs.Places.{at_found}
 use Rattle.st_lock_tables.specs.Calls.{IsSound}
 use Rattle.st_lock_tables.proofs.Sound.{sound_rows, weakens_answered, weakens_some}
-use Rattle.st_lock_tables.proofs.Found.{not_seen, see_map, found_moved, changed_moved}
+use Rattle.st_lock_tables.proofs.FoundRows.{not_seen, observe_map, found_moved, changed_moved}
 use Rattle.st_lock_tables.proofs.table.PlainTable.answered.Goals as goal
 
 pub returns-then-row-g : goal.returns-then-row-g
@@ -22,7 +22,7 @@ returns-then-row-g c =
     (changed_moved c.self.inside.rows c.change.new.self f c.args.client c.seen.result.client c.args.ino c.seen.result.ino p q
     (c.change.ensures f c.in-Some.row (found_moved c.self.inside.rows c.args.client c.seen.result.client c.args.ino c.seen.result.ino c.in-Some.row p q found)
     (c.seen.ensures.seen ∙ sym (ap (λ b. if b then answered_row c.in-Some.row else c.in-Some.row) (eq-eqb c.in-Some.row.g.0 c.args.g.0 c.if-row-g.true))))
-    ∙ see_map c.args.client c.args.ino c.args.g c.self.inside.rows))
+    ∙ observe_map c.args.client c.args.ino c.args.g c.self.inside.rows))
 
 pub returns-else-row-g : goal.returns-else-row-g
 unfolding demand_seen

@@ -5,10 +5,10 @@ use Rattle.st_rules.specs.declared.locks.LockRow.{LockRow}
 use Rattle.st_rules.specs.declared.locks.RowDemand.{RowDemand}
 use Rattle.st_rules.specs.declared.locks.Waiter.{Waiter}
 use Rattle.st_rules.specs.Locks.{demand_with, demanded, is_row_of}
-use Rattle.st_lock_tables.specs.Since.{KeepsSince, since_of_demand}
+use Rattle.st_lock_tables.specs.DemandStarts.{KeepsSince, since_of_demand}
 use Rattle.st_lock_tables.specs.Calls.{IsSound}
 use Rattle.st_lock_tables.proofs.Sound.{sound_rows, weakens_demanded, weakens_some}
-use Rattle.st_lock_tables.proofs.Found.{changed_moved, found_moved}
+use Rattle.st_lock_tables.proofs.FoundRows.{changed_moved, found_moved}
 use Rattle.st_lock_tables.proofs.table.PlainTable.demand_with.Goals as goal
 
 pub demand-requires-clause-since : goal.demand-requires-clause-since

@@ -2,7 +2,7 @@ use Rattle.std.proofs.Common.{◌≡◌, ◌+◌, ◌∙◌, sym, ap, arith, len
 use Rattle.std.specs.Prelude.{nat_lt}
 use Rattle.st_rules.specs.Locks.{Locks, files_of, is_row_by}
 use Rattle.st_lock_tables.specs.Calls.{has_no_row, waits_alone}
-use Rattle.st_lock_tables.proofs.Found.{lt_shift}
+use Rattle.st_lock_tables.proofs.FoundRows.{lt_shift}
 use Rattle.st_lock_tables.proofs.AloneFiles.{alone_among}
 use Rattle.st_lock_tables.proofs.Files.{files_counted, fewer_alone}
 use Rattle.st_lock_tables.proofs.table.PlainTable.has_few.Goals as goal

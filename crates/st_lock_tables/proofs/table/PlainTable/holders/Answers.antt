@@ -4,7 +4,7 @@ use Rattle.std.proofs.lemmas.List.{take_all}
 use Rattle.st_base.specs.declared.ids.ClientId.{ClientId}
 use Rattle.st_rules.specs.Keys.{client, rising}
 use Rattle.st_rules.specs.Locks.{holders, holder_in_list, row_of, is_row_on, client_of_row}
-use Rattle.st_lock_tables.proofs.Found.{filter_map_next, filter_map_map}
+use Rattle.st_lock_tables.proofs.FoundRows.{filter_map_next, filter_map_map}
 use Rattle.st_lock_tables.proofs.table.PlainTable.holders.Goals as goal
 
 pub loop-client-preserved : goal.loop-client-preserved

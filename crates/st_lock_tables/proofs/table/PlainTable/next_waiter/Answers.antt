@@ -2,7 +2,7 @@ use Rattle.std.proofs.Common.{sym}
 use Rattle.st_tables.specs.Tables.{is_of_client, wait_key}
 use Rattle.st_rules.specs.Locks.{is_wait_on}
 use Rattle.st_lock_tables.specs.Calls.{is_wanted}
-use Rattle.st_lock_tables.proofs.Found.{found_is}
+use Rattle.st_lock_tables.proofs.FoundRows.{found_is}
 use Rattle.st_lock_tables.proofs.table.PlainTable.next_waiter.Goals as goal
 
 pub returns-else-stands_against-clause-client : goal.returns-else-stands_against-clause-client

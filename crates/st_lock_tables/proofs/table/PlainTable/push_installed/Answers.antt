@@ -4,7 +4,7 @@ use Rattle.st_rules.specs.declared.locks.LockRow.{LockRow}
 use Rattle.st_rules.specs.Locks.{Locks, is_earlier_grant, is_row_of, installed, stands_against}
 use Rattle.st_lock_tables.specs.Calls.{IsSound}
 use Rattle.st_lock_tables.proofs.Sound.{earlier_given, sound_row}
-use Rattle.st_tables.proofs.Listed.{put_last}
+use Rattle.st_tables.proofs.RowLists.{put_last}
 use Rattle.st_lock_tables.proofs.table.PlainTable.push_installed.Goals as goal
 
 pub returns : goal.returns

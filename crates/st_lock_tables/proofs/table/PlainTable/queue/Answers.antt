@@ -3,9 +3,9 @@ use Rattle.std.specs.Prelude.{Some, None}
 use Rattle.st_rules.specs.declared.locks.Waiter.{Waiter}
 use Rattle.st_rules.specs.Locks.{Locks, queue, queue_at, wait_of, wait_for, is_wait_of, new_wait}
 use Rattle.st_tables.specs.Tables.{has_key, wait_key}
-use Rattle.st_tables.proofs.Listed.{put_last}
+use Rattle.st_tables.proofs.RowLists.{put_last}
 use Rattle.st_lock_tables.specs.Calls.{IsSound, is_lock, is_wanted}
-use Rattle.st_lock_tables.proofs.Found.{found_is, wait_keys}
+use Rattle.st_lock_tables.proofs.FoundRows.{found_is, wait_keys}
 use Rattle.st_lock_tables.proofs.Sound.{greater_lock, one_lock, sound_wait, sound_waits}
 use Rattle.st_lock_tables.proofs.table.PlainTable.queue.Goals as goal
 

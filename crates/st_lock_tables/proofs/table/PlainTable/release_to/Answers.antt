@@ -3,7 +3,7 @@ use Rattle.std.specs.Prelude.{Some, not}
 use Rattle.st_rules.specs.declared.locks.LockRow.{LockRow}
 use Rattle.st_rules.specs.Locks.{Locks, release_to, lowered, is_row_of}
 use Rattle.st_lock_tables.specs.Calls.{IsSound}
-use Rattle.st_lock_tables.proofs.Found.{found_moved, changed_moved}
+use Rattle.st_lock_tables.proofs.FoundRows.{found_moved, changed_moved}
 use Rattle.st_lock_tables.proofs.Sound.{sound_fewer_rows, sound_rows, weakens_lowered, weakens_some}
 use Rattle.st_lock_tables.proofs.table.PlainTable.release_to.Goals as goal
 

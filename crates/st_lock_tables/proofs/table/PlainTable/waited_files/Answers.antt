@@ -3,7 +3,7 @@ use Rattle.std.specs.Prelude.{IfOk}
 use Rattle.st_rules.specs.Keys.{rising}
 use Rattle.st_rules.specs.Locks.{Locks, ino_of_wait}
 use Rattle.st_rules.specs.declared.locks.Waiter.{Waiter}
-use Rattle.st_lock_tables.proofs.Found.{filter_true}
+use Rattle.st_lock_tables.proofs.FoundRows.{filter_true}
 use Rattle.st_lock_tables.proofs.table.PlainTable.waited_files.Goals as goal
 
 pub returns : goal.returns

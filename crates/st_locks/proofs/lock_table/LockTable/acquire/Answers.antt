@@ -1,5 +1,5 @@
-use Rattle.st_locks.proofs.Rests.{kept_waited}
-use Rattle.st_locks.proofs.Settled.{same_acquired}
+use Rattle.st_locks.proofs.UntouchedFiles.{kept_waited}
+use Rattle.st_locks.proofs.SettledFiles.{same_acquired}
 use Rattle.st_locks.proofs.lock_table.LockTable.acquire.Goals as goal
 
 pub invariant_of-self : goal.invariant_of-self

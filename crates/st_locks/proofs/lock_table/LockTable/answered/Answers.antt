@@ -1,6 +1,6 @@
 use Rattle.std.proofs.Common.{sym, subst}
-use Rattle.st_locks.proofs.Rests.{kept_waited}
-use Rattle.st_locks.proofs.Settled.{SameOn, same_seen}
+use Rattle.st_locks.proofs.UntouchedFiles.{kept_waited}
+use Rattle.st_locks.proofs.SettledFiles.{SameOn, same_seen}
 use Rattle.st_locks.proofs.lock_table.LockTable.answered.Goals as goal
 
 pub invariant_of-self : goal.invariant_of-self

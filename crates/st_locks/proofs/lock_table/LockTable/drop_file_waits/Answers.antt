@@ -1,7 +1,7 @@
 use Rattle.std.proofs.Common.{sym, subst}
 use Rattle.st_rules.specs.Locks.{Locks}
-use Rattle.st_locks.specs.Settled.{IsSettled}
-use Rattle.st_locks.proofs.Rests.{kept_dropped}
+use Rattle.st_locks.specs.SettledFiles.{IsSettled}
+use Rattle.st_locks.proofs.UntouchedFiles.{kept_dropped}
 use Rattle.st_locks.proofs.lock_table.LockTable.drop_file_waits.Goals as goal
 
 pub invariant_of-self : goal.invariant_of-self

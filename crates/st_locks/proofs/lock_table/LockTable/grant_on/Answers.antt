@@ -1,6 +1,6 @@
 use Rattle.std.proofs.Common.{length, sym, ap, subst}
 use Rattle.st_lock_tables.specs.Calls.{granting}
-use Rattle.st_locks.proofs.Settled.{SameOn, kept, same_grant_file}
+use Rattle.st_locks.proofs.SettledFiles.{SameOn, kept, same_grant_file}
 use Rattle.st_locks.proofs.lock_table.LockTable.grant_on.Goals as goal
 
 pub invariant_of-self : goal.invariant_of-self

@@ -1,4 +1,4 @@
-use Rattle.st_locks.proofs.Rests.{full_settled, kept_installed}
+use Rattle.st_locks.proofs.UntouchedFiles.{full_settled, kept_installed}
 use Rattle.st_locks.proofs.lock_table.LockTable.install.Goals as goal
 
 pub invariant_of-self : goal.invariant_of-self

@@ -1,6 +1,6 @@
 use Rattle.std.proofs.Common.{◌≡◌, None, sym, ap, subst, ◌∙◌}
 use Rattle.st_rules.specs.Locks.{Locks, next_waiter}
-use Rattle.st_locks.proofs.Settled.{all_granted}
+use Rattle.st_locks.proofs.SettledFiles.{all_granted}
 use Rattle.st_locks.proofs.lock_table.LockTable.next_grants.Goals as goal
 
 pub invariant_of-self : goal.invariant_of-self

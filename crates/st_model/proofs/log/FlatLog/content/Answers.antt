@@ -1,7 +1,7 @@
 use Rattle.std.proofs.Common.{◌∙◌, sym, ap}
 use Rattle.st_rules.specs.Keys.{page_no}
 use Rattle.st_rules.specs.FlatLog.{matters, content}
-use Rattle.st_model.specs.ByPage as by_page
+use Rattle.st_model.specs.PagePlaces as by_page
 use Rattle.st_model.proofs.Contents.{content_by_places}
 use Rattle.st_model.proofs.Placed.{places_in}
 use Rattle.st_model.proofs.log.FlatLog.content.Goals as goal

@@ -2,7 +2,7 @@ use Rattle.std.proofs.Common.{◌∙◌, ap}
 use Rattle.std.specs.Prelude.{max}
 use Rattle.st_rules.specs.Keys.{page_no}
 use Rattle.st_rules.specs.FlatLog.{matters, last}
-use Rattle.st_model.specs.ByPage as by_page
+use Rattle.st_model.specs.PagePlaces as by_page
 use Rattle.st_model.proofs.Placed.{places_in, last_by_places}
 use Rattle.st_model.proofs.Lasts.{last_tells}
 use Rattle.st_model.proofs.log.FlatLog.last.Goals as goal

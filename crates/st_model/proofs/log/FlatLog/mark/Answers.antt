@@ -2,8 +2,8 @@ use Rattle.std.proofs.Common.{subst, ◌≡◌, ◌++◌, ◌∙◌, List, ℕ, 
 use Rattle.std.proofs.Math.Seq.{take-append_seam}
 use Rattle.st_rules.specs.Events.{latest}
 use Rattle.st_model.specs.Walks.{pending_from, mark_from}
-use Rattle.st_model.specs.ByPage.{places_from, is_change_at, is_cut_at}
-use Rattle.st_model.specs.Kept.{AreInPages}
+use Rattle.st_model.specs.PagePlaces.{places_from, is_change_at, is_cut_at}
+use Rattle.st_model.specs.LogInvariants.{AreInPages}
 use Rattle.st_model.proofs.Ranged.{ranged_marked}
 use Rattle.st_model.proofs.Placed.{places_marked}
 use Rattle.st_model.proofs.Latest.{index_marked}

@@ -5,11 +5,11 @@ use Rattle.indexmap.specs.IndexMap.{get}
 use Rattle.st_rules.specs.Events.{latest}
 use Rattle.st_rules.specs.Keys.{page_no}
 use Rattle.st_rules.specs.FlatLog as flat_log
-use Rattle.st_model.specs.Latest.{same_client_page, client_page}
-use Rattle.st_model.specs.ByPage.{at, file_page, same_file_page, is_change_at, is_cut_at, places_from}
+use Rattle.st_model.specs.LogParts.{same_client_page, client_page}
+use Rattle.st_model.specs.PagePlaces.{at, file_page, same_file_page, is_change_at, is_cut_at, places_from}
 use Rattle.st_model.specs.Walks.{pending_from}
 use Rattle.st_model.proofs.Latest.{pending_more, index_more}
-use Rattle.st_model.specs.Kept.{AreInPages}
+use Rattle.st_model.specs.LogInvariants.{AreInPages}
 use Rattle.st_model.proofs.Ranged.{ranged_more}
 use Rattle.st_model.proofs.Placed.{place_push}
 use Rattle.st_model.proofs.log.FlatLog.push.Goals as goal

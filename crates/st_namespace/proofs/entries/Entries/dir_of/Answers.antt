@@ -1,7 +1,7 @@
 use Rattle.std.proofs.Common.{ap, ◌∙◌}
 use Rattle.std.specs.Prelude.{find}
 use Rattle.std.specs.Option.{option_map}
-use Rattle.st_namespace.specs.Stored.{entries_of, has_number, dir_in}
+use Rattle.st_namespace.specs.StoredEntries.{entries_of, has_number, dir_in}
 use Rattle.st_namespace.proofs.Keeps.{dir_told, stored_rising}
 use Rattle.st_namespace.proofs.entries.Entries.dir_of.Goals as goal
 

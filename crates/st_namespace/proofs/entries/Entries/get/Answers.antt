@@ -2,7 +2,7 @@ use Rattle.std.proofs.Common.{◌≡◌, ◌<◌, true, false, get_or, length, a
 use Rattle.std.specs.Prelude.{IfNone}
 use Rattle.std.specs.List.{list_any}
 use Rattle.st_rules.specs.Names.{is_entry_at}
-use Rattle.st_namespace.specs.Stored.{entries_of}
+use Rattle.st_namespace.specs.StoredEntries.{entries_of}
 use Rattle.st_namespace.proofs.ByName.{any_default}
 use Rattle.st_namespace.proofs.Keeps.{found_name, no_name}
 use Rattle.st_namespace.proofs.entries.Entries.get.Goals as goal

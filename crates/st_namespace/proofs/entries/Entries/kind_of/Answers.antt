@@ -1,7 +1,7 @@
 use Rattle.std.proofs.Common.{ap, ◌∙◌}
 use Rattle.std.specs.Prelude.{find}
 use Rattle.std.specs.Option.{option_map}
-use Rattle.st_namespace.specs.Stored.{entries_of, has_number, mark_in}
+use Rattle.st_namespace.specs.StoredEntries.{entries_of, has_number, mark_in}
 use Rattle.st_namespace.proofs.Keeps.{kind_told, stored_rising}
 use Rattle.st_namespace.proofs.entries.Entries.kind_of.Goals as goal
 

@@ -1,6 +1,6 @@
 use Rattle.std.proofs.Common.{◌++◌, ◌∷◌, [], ap, ◌∙◌}
 use Rattle.std.specs.Prelude.{insert}
-use Rattle.st_namespace.specs.Stored.{entries_of, inode_of}
+use Rattle.st_namespace.specs.StoredEntries.{entries_of, inode_of}
 use Rattle.st_namespace.proofs.Keeps.{push_stores, shows_as, stored_as}
 use Rattle.st_namespace.proofs.entries.Entries.push.Goals as goal
 

@@ -3,7 +3,7 @@ use Rattle.std.specs.Prelude.{IfNone, not}
 use Rattle.std.specs.List.{list_any}
 use Rattle.st_rules.specs.declared.names.NameEntry.{NameEntry}
 use Rattle.st_rules.specs.Names.{is_entry_at}
-use Rattle.st_namespace.specs.Stored.{entries_of, has_number}
+use Rattle.st_namespace.specs.StoredEntries.{entries_of, has_number}
 use Rattle.st_namespace.proofs.ByName.{any_default}
 use Rattle.st_namespace.proofs.Keeps.{left_is, none_goes, shows_as, stored_as, stored_rising, stores_removed}
 use Rattle.st_namespace.proofs.entries.Entries.remove.Goals as goal

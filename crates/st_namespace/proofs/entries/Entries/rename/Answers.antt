@@ -3,7 +3,7 @@ use Rattle.std.specs.Prelude.{IfNone, insert}
 use Rattle.std.specs.List.{list_any}
 use Rattle.st_rules.specs.declared.names.NameEntry.{NameEntry}
 use Rattle.st_rules.specs.Names.{is_entry_at, move_entry}
-use Rattle.st_namespace.specs.Stored.{entries_of, has_number, moved_to}
+use Rattle.st_namespace.specs.StoredEntries.{entries_of, has_number, moved_to}
 use Rattle.st_namespace.proofs.ByName.{any_default}
 use Rattle.st_namespace.proofs.Keeps.{left_by_name, move_stores, none_moves, shows_as, stored_as, stored_rising}
 use Rattle.st_namespace.proofs.entries.Entries.rename.Goals as goal

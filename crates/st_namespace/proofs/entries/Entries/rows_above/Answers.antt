@@ -1,7 +1,7 @@
 use Rattle.std.proofs.Common.{◌≡◌, ◌<◌, ap, drop, filter, get_or, length, map, subst, sym, take, ◌∙◌}
 use Rattle.std.specs.Prelude.{IfOk}
 use Rattle.st_rules.specs.Names.{by_name, is_in, is_listed, name_row}
-use Rattle.st_namespace.specs.Stored.{entries_of}
+use Rattle.st_namespace.specs.StoredEntries.{entries_of}
 use Rattle.st_namespace.proofs.Rows.{dir_ahead, rows_are, rows_behind}
 use Rattle.st_namespace.proofs.entries.Entries.rows_above.Goals as goal
 

@@ -1,5 +1,5 @@
 use Rattle.st_rules.specs.Names.{fresh_names}
-use Rattle.st_namespace.proofs.Kept.{fresh_in_order}
+use Rattle.st_namespace.proofs.NameOrder.{fresh_in_order}
 use Rattle.st_namespace.proofs.names.Names.fresh.Goals as goal
 
 pub invariant_of-result : goal.invariant_of-result

@@ -1,5 +1,5 @@
 use Rattle.st_rules.specs.Names.{added}
-use Rattle.st_namespace.proofs.Kept.{added_in_order}
+use Rattle.st_namespace.proofs.NameOrder.{added_in_order}
 use Rattle.st_namespace.proofs.names.Names.push.Goals as goal
 
 pub invariant_of-self-2 : goal.invariant_of-self-2

@@ -1,7 +1,7 @@
 use Rattle.std.proofs.Common.{sym, ◌∙◌, refl}
 use Rattle.st_rules.specs.declared.names.EntryRefusal.TheVariants.{NoEntry, NotEmpty}
 use Rattle.st_namespace.proofs.Rules.{refuses, remove_place, remove_missing, remove_full, remove_gives}
-use Rattle.st_namespace.proofs.Kept.{gone_in_order}
+use Rattle.st_namespace.proofs.NameOrder.{gone_in_order}
 use Rattle.st_namespace.proofs.names.Names.remove.Goals as goal
 
 pub returns-in-Some-clause-exact : goal.returns-in-Some-clause-exact

@@ -1,7 +1,7 @@
 use Rattle.std.proofs.Common.{sym, ◌∙◌, refl, inl}
 use Rattle.std.proofs.lemmas.Result.{err_from_is_err_and}
 use Rattle.st_namespace.proofs.Rules.{refuses, rename_first_place, rename_second_place, rename_refused, rename_gives}
-use Rattle.st_namespace.proofs.Kept.{renamed_in_order}
+use Rattle.st_namespace.proofs.NameOrder.{renamed_in_order}
 use Rattle.st_namespace.proofs.names.Names.rename.Goals as goal
 
 pub returns-in-Some-clause-exact : goal.returns-in-Some-clause-exact

@@ -1,6 +1,6 @@
 use Rattle.std.proofs.Common.{ap, sym, ◌∙◌, true≢false}
 use Rattle.std.specs.List.{list_any}
-use Rattle.st_operations.specs.Pending.{may_act}
+use Rattle.st_operations.specs.PendingOperations.{may_act}
 use Rattle.st_operations.proofs.Firsts.{none_acts}
 use Rattle.st_operations.proofs.operations.Operations.any_may_act.Goals.{then-all, else-all}
 use Rattle.st_operations.proofs.operations.Operations.any_may_act.Goals as goal

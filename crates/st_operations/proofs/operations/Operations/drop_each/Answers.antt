@@ -1,7 +1,7 @@
 use Rattle.std.proofs.Common.{◌+◌, ◌<◌, ◌∙◌, if◌then◌else◌, length, not, arith}
 use Rattle.std.specs.Prelude.{remove}
 use Rattle.st_rules.specs.declared.client.Operation.{Operation}
-use Rattle.st_tables.proofs.Passing.{passes_at, sift_list, sift_count}
+use Rattle.st_tables.proofs.PassingValues.{passes_at, sift_list, sift_count}
 use Rattle.st_operations.proofs.operations.Operations.drop_each.Goals as goal
 
 pub loop-i-preserved : goal.loop-i-preserved

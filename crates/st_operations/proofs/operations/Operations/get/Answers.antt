@@ -1,5 +1,5 @@
 use Rattle.std.proofs.Common.{sym, subst}
-use Rattle.st_operations.specs.Pending.{AreFit}
+use Rattle.st_operations.specs.PendingOperations.{AreFit}
 use Rattle.st_operations.proofs.Firsts.{fit_got}
 use Rattle.st_operations.proofs.operations.Operations.get.Goals as goal
 

@@ -1,6 +1,6 @@
 use Rattle.std.proofs.Common.{◌∙◌, ap}
 use Rattle.std.specs.List.{list_any}
-use Rattle.st_operations.specs.Pending.{asks_sync}
+use Rattle.st_operations.specs.PendingOperations.{asks_sync}
 use Rattle.st_operations.proofs.Firsts.{any_sync}
 use Rattle.st_operations.proofs.operations.Operations.has_sync.Goals as goal
 

@@ -1,5 +1,5 @@
 use Rattle.std.proofs.Common.{◌≡◌, ◌++◌, length, map}
-use Rattle.st_operations.specs.Pending.{stuck}
+use Rattle.st_operations.specs.PendingOperations.{stuck}
 use Rattle.st_operations.proofs.operations.Operations.leave_stuck.Given as goal
 
 abbrev pub invariant-loop-operation : goal.invariant-loop-operation

@@ -1,6 +1,6 @@
 use Rattle.std.proofs.Common.{◌≡◌, ◌≤◌, ◌∙◌, ap, refl, length, arith}
 use Rattle.std.specs.Map.{values_of, lookup_entry}
-use Rattle.st_page_cache.specs.Keyed.{same_key}
+use Rattle.st_page_cache.specs.KeyedPages.{same_key}
 use Rattle.st_page_cache.proofs.CleanRows.{page_put, keyed_put}
 use Rattle.st_page_cache.proofs.clean_pages.CleanPages.put.Goals as goal
 

@@ -1,6 +1,6 @@
 use Rattle.std.proofs.Common.{◌≡◌, ◌≤◌, ◌∙◌, ap, length, arith}
 use Rattle.std.specs.Map.{values_of}
-use Rattle.st_page_cache.specs.Keyed.{clean_key, same_key}
+use Rattle.st_page_cache.specs.KeyedPages.{clean_key, same_key}
 use Rattle.st_page_cache.proofs.Keyed.{keyed_remove}
 use Rattle.st_page_cache.proofs.CleanRows.{page_removed}
 use Rattle.st_page_cache.proofs.clean_pages.CleanPages.remove.Goals as goal

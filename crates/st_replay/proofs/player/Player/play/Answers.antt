@@ -1,7 +1,7 @@
 use Rattle.std.proofs.Common.{◌≡◌, ◌+◌, ℕ, List, ◌∷◌, refl, sym, ap, ◌∙◌, arith, Fits, w64}
 use Rattle.std.specs.Prelude.{Option, Some, None}
 use Rattle.st_runs.specs.Replay.{behind}
-use Rattle.st_replay.specs.Playing.{IsHere, from_here}
+use Rattle.st_replay.specs.States.{IsHere, from_here}
 use Rattle.st_replay.proofs.Begun.{first_here}
 use Rattle.st_replay.proofs.player.Player.play.Goals as goal
 

@@ -1,11 +1,11 @@
 use Rattle.std.proofs.Common.{ap, sym, subst}
-use Rattle.st_rules.specs.Server.{Turn}
-use Rattle.st_server.specs.Sound.{IsSound}
+use Rattle.st_rules.specs.Server.{ServerTurn}
+use Rattle.st_server.specs.Invariants.{IsSound}
 use Rattle.st_server.proofs.Begins.{fresh_sound}
 use Rattle.st_server.proofs.node.ServerNode.fresh.Goals as goal
 
 pub invariant_of-result : goal.invariant_of-result
 invariant_of-result c = (
-  ap (λ (t : Turn). t.out) c.in_ok-fresh.ensures,
-  subst (λ (t : Turn). IsSound t.state) (sym c.in_ok-fresh.ensures) (fresh_sound c.args.id c.args.config.now c.args.servers c.args.disks c.args.blocks c.requires.limits),
+  ap (λ (t : ServerTurn). t.out) c.in_ok-fresh.ensures,
+  subst (λ (t : ServerTurn). IsSound t.state) (sym c.in_ok-fresh.ensures) (fresh_sound c.args.id c.args.config.now c.args.servers c.args.disks c.args.blocks c.requires.limits),
 )

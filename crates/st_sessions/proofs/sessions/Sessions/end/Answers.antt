@@ -2,7 +2,7 @@ use Rattle.std.proofs.Common.{List, sym, ◌∙◌, ap}
 use Rattle.st_rules.specs.declared.sessions.Session.{Session}
 use Rattle.st_rules.specs.ServerInvariants.{are_once, same_session}
 use Rattle.st_rules.specs.Sessions.{end}
-use Rattle.st_sessions.proofs.Changed.{ends, ends_nothing, end_once}
+use Rattle.st_sessions.proofs.ChangedSessions.{ends, ends_nothing, end_once}
 use Rattle.st_sessions.proofs.sessions.Sessions.end.Goals as goal
 
 pub returns-in_default : goal.returns-in_default

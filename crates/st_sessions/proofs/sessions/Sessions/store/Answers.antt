@@ -5,7 +5,7 @@ use Rattle.st_rules.specs.declared.sessions.Session.{Session}
 use Rattle.st_rules.specs.declared.sessions.SessionState.{SessionState}
 use Rattle.st_rules.specs.ServerInvariants.{are_once, same_session}
 use Rattle.st_rules.specs.Sessions.{store, is_live, keep_of, keep_reply, kept_state}
-use Rattle.st_sessions.proofs.Changed.{keeps, keeps_nothing, keep_once}
+use Rattle.st_sessions.proofs.ChangedSessions.{keeps, keeps_nothing, keep_once}
 use Rattle.st_sessions.proofs.sessions.Sessions.store.Goals as goal
 
 pub returns-in_default-clause-ok : goal.returns-in_default-clause-ok

@@ -4,7 +4,7 @@ use Rattle.std.specs.List.{AllByRecursion, list_any}
 use Rattle.st_snap.specs.Changes.{Forgot}
 use Rattle.st_snap.specs.Volumes.{AreRising, IsAfter, IsHeld, IsSwept, IsTaken}
 use Rattle.st_snap.proofs.Invariant.{held_left}
-use Rattle.st_snap.proofs.Kept.{forgot}
+use Rattle.st_snap.proofs.KeptViews.{forgot}
 use Rattle.st_snap.proofs.Lists.{all_filter, rising_filter}
 use Rattle.st_snap.proofs.Rules.{forgets, refused_forget}
 use Rattle.st_snap.proofs.volume.Volume.forget.Goals as goal

@@ -2,7 +2,7 @@ use Rattle.std.proofs.Common.{List, ap, subst, sym}
 use Rattle.std.specs.Prelude.{is_some}
 use Rattle.st_snap.specs.Versions.{page_in, slot_under}
 use Rattle.st_snap.specs.Volumes.{IsAfter}
-use Rattle.st_snap.proofs.Kept.{started}
+use Rattle.st_snap.proofs.KeptViews.{started}
 use Rattle.st_snap.proofs.volume.Volume.new.Goals as goal
 
 pub returns : goal.returns

@@ -1,7 +1,7 @@
 use Rattle.std.proofs.Common.{◌∷◌, ◌+◌, ℕ, List, refl, arith, subst, sym}
 use Rattle.st_snap.specs.Changes.{Took}
 use Rattle.st_snap.specs.Volumes.{IsAfter, IsHeld}
-use Rattle.st_snap.proofs.Kept.{took}
+use Rattle.st_snap.proofs.KeptViews.{took}
 use Rattle.st_snap.proofs.Invariant.{held_taken}
 use Rattle.st_snap.proofs.Rules.{refused_take, taken}
 use Rattle.st_snap.proofs.volume.Volume.take.Goals as goal

@@ -1,6 +1,6 @@
 use Rattle.std.proofs.Common.{◌≡◌, ◌++◌, length, List, ℕ, take, drop, sym, ap, ◌∙◌, subst, rules}
 use Rattle.st_store.specs.InMemory.{filled}
-use Rattle.st_store.specs.Kept.{IsKept}
+use Rattle.st_store.specs.Invariants.{IsKept}
 use Rattle.st_store.specs.Laws.{length-filled}
 use Rattle.st_store.proofs.Parts.{kept_fill, whole_written}
 use Rattle.st_store.proofs.contents.Contents.fill.Goals as goal

@@ -1,6 +1,6 @@
 use Rattle.std.proofs.Common.{◌≡◌, ◌+◌, ◌≤◌, ◌++◌, ◌∷◌, [], length, List, ℕ, take, drop, sym, ap, ◌∙◌, subst, rules, arith}
 use Rattle.st_store.specs.InMemory.{Contents}
-use Rattle.st_store.specs.Kept.{IsKept}
+use Rattle.st_store.specs.Invariants.{IsKept}
 use Rattle.st_store.specs.Laws.{length-written}
 use Rattle.st_store.specs.Store.{written}
 use Rattle.st_store.specs.declared.history.Span.{Span}

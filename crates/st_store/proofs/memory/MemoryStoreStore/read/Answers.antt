@@ -1,6 +1,6 @@
 use Rattle.std.proofs.Common.{arith, refl}
 use Rattle.st_store.specs.Plans as plans
-use Rattle.st_store.proofs.Kept.{length-seen, read_seen, read_within, read_time, read_cause}
+use Rattle.st_store.proofs.StoreBytes.{length-seen, read_seen, read_within, read_time, read_cause}
 use Rattle.st_store.proofs.Quiet.{read_keeps}
 use Rattle.st_store.proofs.memory.MemoryStoreStore.read.Goals as goal
 

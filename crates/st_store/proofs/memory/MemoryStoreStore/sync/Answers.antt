@@ -1,6 +1,6 @@
 use Rattle.std.proofs.Common.{refl}
 use Rattle.st_store.specs.Plans as plans
-use Rattle.st_store.proofs.Kept.{sync_seen, sync_durable, sync_crash, sync_time, sync_cause}
+use Rattle.st_store.proofs.StoreBytes.{sync_seen, sync_durable, sync_crash, sync_time, sync_cause}
 use Rattle.st_store.proofs.Quiet.{sync_keeps}
 use Rattle.st_store.proofs.memory.MemoryStoreStore.sync.Goals as goal
 

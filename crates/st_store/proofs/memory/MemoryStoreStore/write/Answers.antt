@@ -1,7 +1,7 @@
 use Rattle.std.proofs.Common.{arith, refl}
 use Rattle.st_store.specs.InMemory.{with_write}
 use Rattle.st_store.specs.Plans as plans
-use Rattle.st_store.proofs.Kept.{length-seen, write_seen, write_crash, write_time, write_cause}
+use Rattle.st_store.proofs.StoreBytes.{length-seen, write_seen, write_crash, write_time, write_cause}
 use Rattle.st_store.proofs.Quiet.{write_keeps}
 use Rattle.st_store.proofs.memory.MemoryStoreStore.write.Goals as goal
 

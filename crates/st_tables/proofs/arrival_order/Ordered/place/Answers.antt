@@ -1,5 +1,5 @@
 use Rattle.std.proofs.Common.{◌≡◌, ◌<◌, ◌∙◌, length, sym, arith}
-use Rattle.st_tables.proofs.Passing.{first_at, first_none, none_more}
+use Rattle.st_tables.proofs.PassingValues.{first_at, first_none, none_more}
 use Rattle.st_tables.proofs.arrival_order.Ordered.place.Goals as goal
 
 pub returns-then-passes : goal.returns-then-passes

@@ -1,6 +1,6 @@
 use Rattle.std.proofs.Common.{◌+◌, ◌<◌, ◌∙◌, if◌then◌else◌, length, arith}
 use Rattle.std.specs.Prelude.{remove}
-use Rattle.st_tables.proofs.Passing.{passes_at, sift_list, sift_count}
+use Rattle.st_tables.proofs.PassingValues.{passes_at, sift_list, sift_count}
 use Rattle.st_tables.proofs.arrival_order.Ordered.retain.Goals as goal
 
 pub loop-i-preserved : goal.loop-i-preserved

@@ -3,7 +3,7 @@ use Rattle.std.specs.Prelude.{Option, Some, None, is_some, not}
 use Rattle.st_tables.specs.Indexes.{IsIndexed, numbers_in, queue_in}
 use Rattle.st_tables.specs.Tables.{has_key}
 use Rattle.st_tables.proofs.Indexes.{owned_gone, queued_gone}
-use Rattle.st_tables.proofs.Listed.{none_of}
+use Rattle.st_tables.proofs.RowLists.{none_of}
 use Rattle.st_tables.proofs.ClientRows.{counted_gone, one_at_least}
 use Rattle.st_tables.proofs.clients.ClientTable.remove.Goals as goal
 

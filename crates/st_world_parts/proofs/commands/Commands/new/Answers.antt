@@ -1,6 +1,6 @@
 use Rattle.std.proofs.Common.{ap, sym, ◌∙◌, length, refl}
 use Rattle.st_rules.specs.Events.{last_write, last_write_from}
-use Rattle.st_world_parts.specs.Open.{open_from}
+use Rattle.st_world_parts.specs.OutstandingCommands.{open_from}
 use Rattle.st_world_parts.proofs.commands.Commands.new.Goals as goal
 
 pub invariant_of-result : goal.invariant_of-result

@@ -3,7 +3,7 @@ use Rattle.std.specs.Prelude.{IfOk}
 use Rattle.std.specs.List.{list_all, list_any, zip}
 use Rattle.st_model.specs.Walks as walks
 use Rattle.st_rules.specs.Events.{spares}
-use Rattle.st_world_parts.specs.Open.{is_below, spares_at}
+use Rattle.st_world_parts.specs.OutstandingCommands.{is_below, spares_at}
 use Rattle.st_world_parts.proofs.Opens.{open_below, spared}
 use Rattle.st_world_parts.proofs.commands.Commands.spares.Goals as goal
 

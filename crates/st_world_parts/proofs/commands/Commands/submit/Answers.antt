@@ -5,7 +5,7 @@ use Rattle.std.proofs.lemmas.List.{length-append}
 use Rattle.indexmap.specs.IndexMap.{get}
 use Rattle.st_rules.specs.Disks.{new_command}
 use Rattle.st_rules.specs.Events.{last_write}
-use Rattle.st_world_parts.specs.Open.{open_from}
+use Rattle.st_world_parts.specs.OutstandingCommands.{open_from}
 use Rattle.st_world_parts.specs.Owners.{owner_key, same_key}
 use Rattle.st_world_parts.proofs.Lasts.{at_cond, last_with, last_without}
 use Rattle.st_world_parts.proofs.Opens.{open_more}

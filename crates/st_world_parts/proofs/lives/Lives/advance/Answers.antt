@@ -4,7 +4,7 @@ use Rattle.std.proofs.Math.Seq.{take-append_seam}
 use Rattle.st_base.specs.declared.ids.Stamp.{Stamp}
 use Rattle.st_rules.specs.declared.world.LeaseLife.{LeaseLife}
 use Rattle.st_rules.specs.Events.{advanced}
-use Rattle.st_world_parts.specs.Clocked.{is_ahead}
+use Rattle.st_world_parts.specs.Clocks.{is_ahead}
 use Rattle.st_world_parts.proofs.Later.{filter_twice, ahead_was_ahead}
 use Rattle.st_world_parts.proofs.lives.Lives.advance.Goals as goal
 

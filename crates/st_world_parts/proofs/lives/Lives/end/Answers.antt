@@ -2,7 +2,7 @@ use Rattle.std.proofs.Common.{ap, sym, ◌∙◌, ◌++◌, ◌∷◌, [], if◌
 use Rattle.std.specs.Prelude.{find, filter, Some, None}
 use Rattle.std.specs.Map.{lookup}
 use Rattle.indexmap.specs.IndexMap.{get}
-use Rattle.st_world_parts.specs.Clocked.{is_ahead}
+use Rattle.st_world_parts.specs.Clocks.{is_ahead}
 use Rattle.st_world_parts.specs.Firsts.{first_of, key_of, life_key, same_key}
 use Rattle.st_rules.specs.World.{is_life_of}
 use Rattle.st_world_parts.proofs.Keys.{first_more}

@@ -1,7 +1,7 @@
 use Rattle.std.proofs.Common.{◌≡◌, ap, ◌∙◌, ◌++◌, List, Result, Ok, Err}
 use Rattle.std.specs.Prelude.{filter, OnOk}
 use Rattle.st_rules.specs.declared.world.LeaseLife.{LeaseLife}
-use Rattle.st_world_parts.specs.Clocked.{is_ahead, is_reached}
+use Rattle.st_world_parts.specs.Clocks.{is_ahead, is_reached}
 use Rattle.st_world_parts.proofs.Later.{filter_twice, reached_was_ahead}
 use Rattle.st_world_parts.proofs.lives.Lives.reached.Goals as goal
 

@@ -2,7 +2,7 @@ use Rattle.std.proofs.Common.{◌≡◌, ℕ, List, ◌+◌, ◌++◌, ◌∷◌
 use Rattle.std.proofs.lemmas.List.{length-append}
 use Rattle.st_codec.specs.Spelling.{spelling}
 use Rattle.st_codec.proofs.Sized.{spelling_length}
-use Rattle.st_messages.specs.Fits.{fits}
+use Rattle.st_messages.specs.Ranges.{fits}
 use Rattle.st_messages.specs.Sizes.{size_of}
 use Rattle.st_messages.specs.declared.message.Message.{Message}
 use Rattle.st_world_parts.specs.declared.places.SentPlace.{SentPlace}

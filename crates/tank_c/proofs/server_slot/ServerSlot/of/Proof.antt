@@ -22,7 +22,7 @@ use Rattle.std_heap.specs.contracts.Global as heap
 use Rattle.std_heap.proofs.Global.TheLaws as heap_laws
 use Rattle.std_heap.specs.contracts.GlobalAllocator.TheImpl.{ghosts as g}
 use Rattle.st_embed.specs.contracts.server.EmbeddedServer as machine
-use Rattle.tank_c.proofs.Values.{both, Loose, loose_good, loose_out}
+use Rattle.tank_c.proofs.Values.{both, BoxPointer, loose_good, loose_out}
 use Rattle.tank_c.proofs.ServerSlots.{word, slot_in}
 use Rattle.tank_c.specs.contracts.server_slot.ServerSlot.of.{ended, clauses}
 use Rattle.tank_c.specs.contracts.server_slot.ServerSlot.of.Key.{name as #self}
@@ -32,8 +32,8 @@ use Rattle.tank_c.proofs.server_slot.ServerSlot.of.Code as code
 pub of_spec : {M : Type 1} → statement M
 of_spec 𝓤 𝓛 𝓜 𝓡 wired =
     let H = 𝓛.H in let 𝓣 = tables 𝓤 H 𝓜 𝓡 𝓡.env in let c = clauses 𝓛 𝓜.mem 𝓡.returns in let R : RattleType = machine.the_row in let Z : RattleType = heap.the_row in let LZ = heap_laws.the_row_laws in
-    let hs : Stays ended.signature.params ended.kept = (stay_dropped (plain (λ _. Loose R Z LZ g)) yes, tt) in
-    proved_at 𝓛 ended hs c 𝓜 𝓡 (Goes-blank 𝓛 0 (plain (λ _. Loose R Z LZ g)) yes (λ κs x f. tt), tt) #self code.function (code.unfolded 𝓤 H 𝓜 𝓡 wired) (λ z are.
+    let hs : Stays ended.signature.params ended.kept = (stay_dropped (plain (λ _. BoxPointer R Z LZ g)) yes, tt) in
+    proved_at 𝓛 ended hs c 𝓜 𝓡 (Goes-blank 𝓛 0 (plain (λ _. BoxPointer R Z LZ g)) yes (λ κs x f. tt), tt) #self code.function (code.unfolded 𝓤 H 𝓜 𝓡 wired) (λ z are.
     let κs = z.0.0 in let qs = z.0.1 in let v = z.0.3.0 in let Post : Val → SProp 𝓤 = (walk_of 𝓛 ended hs c).post z in let Run : List Val → SProp 𝓤 = λ ws. WpFn 𝓤 H 𝓣.C 𝓣.Λ code.function ws Post in
     qed 𝓛 ((raw (alive 𝓛 ended.signature κs qs) ⊛ ‵ (owns (types_at ended.signature.params κs) z.0.3 z.0.4)) ∷ raw ((c κs z.0.3).requires z.1) ∷ []) ∵ split ! $ move ! (1 ∷ []) $ fsplit ! $
     loose_out R Z LZ g ! v z.0.4.0 (λ b o h e ws fits. let w : Val = both (vptr b o) h in let p : Ptr = block_ptr b o in

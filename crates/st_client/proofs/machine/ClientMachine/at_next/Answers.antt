@@ -1,5 +1,0 @@
-use Rattle.std.proofs.Common.{sym}
-use Rattle.st_client.proofs.machine.ClientMachine.at_next.Goals as goal
-
-pub returns-else-is_touched_at : goal.returns-else-is_touched_at
-returns-else-is_touched_at g c = sym (c.is_touched_at.ensures c.if-is_touched_at.false)

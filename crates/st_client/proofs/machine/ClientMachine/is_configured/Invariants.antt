@@ -1,9 +1,0 @@
-use Rattle.std.proofs.Common.{◌≡◌, drop}
-use Rattle.std.specs.Prelude.{◌||◌, map}
-use Rattle.std.specs.List.{list_any}
-use Rattle.st_client.specs.Machines.{here_of}
-use Rattle.st_rules.specs.ClientState.{is_at}
-use Rattle.st_client.proofs.machine.ClientMachine.is_configured.Given as goal
-
-abbrev pub invariant-loop-a : goal.invariant-loop-a
-invariant-loop-a l = (l.found || list_any (is_at l.server) (map here_of (drop l.a-index l.a-items))) ≡ list_any (is_at l.server) l.self.state.associations

@@ -1,6 +1,0 @@
-use Rattle.std.proofs.Common.{true, refl}
-use Rattle.st_client.proofs.AllLast.{all_same}
-use Rattle.st_client.proofs.machine.ClientMachine.losses.Goals as goal
-
-pub at_each-requires : goal.at_each-requires
-at_each-requires c = all_same true c.args.self.state.associations refl

@@ -1,7 +1,0 @@
-use Rattle.st_client.proofs.HearGrows.{hear_grows}
-use Rattle.st_rules.specs.ClientReplies.{receive_at}
-use Rattle.st_client.proofs.Advancing.{advanced}
-use Rattle.st_client.proofs.rules.HearRule.apply.Goals as goal
-
-pub returns-clause-advances : goal.returns-clause-advances
-returns-clause-advances c = advanced (receive_at c.args.self.now.now c.args.self.now.message.now.header c.args.self.now.message.now.body) (hear_grows c.args.self.now.now c.args.self.now.message.now.header c.args.self.now.message.now.body) c.receive_at.result c.args.turn.now c.receive_at.new.turn c.receive_at.ensures

@@ -1,7 +1,0 @@
-use Rattle.std.proofs.Common.{◌≡◌, ◌++◌, map, drop}
-use Rattle.st_client.specs.Machines.{here_of}
-use Rattle.st_client.specs.Nodes.{server_at}
-use Rattle.st_client.proofs.state.State.servers.Given as goal
-
-abbrev pub invariant-loop-a : goal.invariant-loop-a
-invariant-loop-a l = l.servers.items ++ map server_at (map here_of (drop l.a-index l.a-items)) ≡ map server_at l.self.associations

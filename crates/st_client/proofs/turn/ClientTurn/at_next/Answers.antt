@@ -1,0 +1,5 @@
+use Rattle.std.proofs.Common.{sym}
+use Rattle.st_client.proofs.turn.ClientTurn.at_next.Goals as goal
+
+pub returns-else-is_touched_at : goal.returns-else-is_touched_at
+returns-else-is_touched_at g c = sym (c.is_touched_at.ensures c.if-is_touched_at.false)

@@ -1,0 +1,50 @@
+-- A server's journal while it is kept, and what a crash may leave of it.
+use Rattle.std.specs.Prelude.{◌≡◌, ◌⊎◌, ◌≤◌, ◌+◌, ℕ, List, [], ◌∷◌, ◌++◌, length, Option, Some, None}
+use Rattle.st_base.specs.declared.config.Config.{Config}
+use Rattle.st_base.specs.declared.ids.ServerId.{ServerId}
+use Rattle.st_base.specs.declared.ids.Stamp.{Stamp}
+use Rattle.st_durable.specs.Durable.{Tells}
+use Rattle.st_journal.specs.Journal.{StandsFor, all_opened, framed}
+use Rattle.st_journal.specs.Appends.{IsTornAppend, with_open_gate}
+use Rattle.st_journal.specs.declared.change.Change.{Change}
+use Rattle.st_rules.specs.Server.{Stable}
+use Rattle.st_embed.specs.Servers.{EmbeddedServer, begun, node_of, stable_now, start_of, to_keep}
+use Rattle.st_embed.specs.declared.server.Shape.{Shape}
+
+-- The bytes are the journal of a server: they stand for its stable part, before the change that is still to be kept if there is one, for
+-- which there is room.
+pub record IsKeptIn (id : ServerId) (w : Shape) (bytes : List ℕ) (e : EmbeddedServer) : Type 0 where
+  pub changes : List Change
+  pub stable : Stable
+  pub stands : StandsFor (start_of id w) bytes changes stable
+  pub told : Tells stable (stable_now e) (to_keep e)
+  pub gate : e.gate ≡ length (all_opened changes)
+  pub size : e.size ≡ length bytes
+  pub room : (x : Change) → to_keep e ≡ Some x → e.gate + 1 + length (framed x ++ 0 ∷ []) ≤ length bytes
+
+-- the bytes with the change that is to be kept
+abbrev pub written_by : Option Change → ℕ → List ℕ → List ℕ
+written_by None gate bytes = bytes
+written_by (Some x) gate bytes = with_open_gate bytes gate (framed x ++ 0 ∷ [])
+
+-- what a crash may leave: the bytes; and while a change is to be kept, at any moment of its writing
+abbrev pub MayBeLeft : Option Change → ℕ → List ℕ → List ℕ → Type 0
+MayBeLeft None gate bytes left = left ≡ bytes
+MayBeLeft (Some x) gate bytes left = (left ≡ bytes) ⊎ ((left ≡ with_open_gate bytes gate (framed x ++ 0 ∷ [])) ⊎ IsTornAppend bytes gate (framed x ++ 0 ∷ []) left)
+
+-- The stable part is the one that the bytes stand for, before the change that is to be kept, or the present one, behind it. No frame tells of
+-- a change that is to be kept.
+abbrev pub IsLeftOf : Stable → Stable → Option Change → Stable → Type 0
+IsLeftOf before now None s = s ≡ now
+IsLeftOf before now (Some x) s = (s ≡ before) ⊎ (s ≡ now)
+
+-- The server opened again on the bytes that were left is one that crashed with such a stable part, for which these bytes stand, and is started;
+-- or, where no change was ever kept, one that was never started.
+pub record GoesOn (id : ServerId) (k : Config) (w : Shape) (now : Stamp) (bytes left : List ℕ) (e again : EmbeddedServer) : Type 0 where
+  pub before : Stable
+  pub stood : (changes : List Change) × StandsFor (start_of id w) bytes changes before
+  pub changes : List Change
+  pub stable : Stable
+  pub stands : StandsFor (start_of id w) left changes stable
+  pub is : IsLeftOf before (stable_now e) (to_keep e) stable
+  pub node : node_of again ≡ begun id k w now (length changes) stable

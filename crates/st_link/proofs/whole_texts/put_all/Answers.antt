@@ -1,0 +1,15 @@
+use Rattle.std.proofs.Common.{◌∙◌, subst, sym, arith}
+use Rattle.std.specs.Io.KnownBytes.{Appends}
+use Rattle.std.proofs.KnownBytes.{Appends-trans}
+use Rattle.std.proofs.lemmas.List.{take_rest}
+use Rattle.std.proofs.Math.Seq.{take-add}
+use Rattle.st_link.proofs.whole_texts.put_all.Goals as goal
+
+-- the bytes before the piece, and then those of the piece, are the first bytes
+pub loop-done-preserved : goal.loop-done-preserved
+loop-done-preserved g c = record {
+  in_range = omega (arith, c.in_ok-n.ensures.bound);
+  written = subst (λ xs. Appends (g.S.Sink.written c.args.sink.now) (g.S.Sink.written c.put.new.self) xs) (rw take_rest (sym (take-add _ _ _)))
+      (Appends-trans _ (g.S.Sink.written c.loop-done.sink) _ _ _ c.loop-done.invariant.written c.in_ok-n.ensures.bytes);
+  still = c.in_ok-n.ensures.cause.still ∙ c.loop-done.invariant.still;
+}

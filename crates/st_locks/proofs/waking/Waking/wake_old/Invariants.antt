@@ -1,9 +1,0 @@
-use Rattle.std.proofs.Common.{length}
-use Rattle.st_locks.specs.Settled.{Wakes}
-use Rattle.st_locks.proofs.waking.Waking.wake_old.Given as goal
-
-abbrev pub invariant-loop-self : goal.invariant-loop-self
-invariant-loop-self l = Wakes l.fn.marks l.fn.self l.marks l.self
-
-abbrev pub decreases-loop-self : goal.decreases-loop-self
-decreases-loop-self l = length l.self

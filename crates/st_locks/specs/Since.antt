@@ -1,2 +1,0 @@
--- Since when a row waits for an answer.
-pub use Rattle.st_lock_tables.specs.Since.{IsClient, is_since, since_of, wait_order}

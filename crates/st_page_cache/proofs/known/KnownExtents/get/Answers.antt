@@ -1,6 +1,0 @@
-use Rattle.std.proofs.Common.{◌∙◌}
-use Rattle.st_page_cache.proofs.KnownRows.{known_found}
-use Rattle.st_page_cache.proofs.known.KnownExtents.get.Goals as goal
-
-pub returns : goal.returns
-returns c = rw (← c.self.view_is) (c.copied.ensures ∙ c.get.ensures.value ∙ known_found c.args.ino c.args.page c.key.result c.key.ensures c.self.inside.rows.entries c.self.invariant)

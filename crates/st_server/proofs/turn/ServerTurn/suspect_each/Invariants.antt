@@ -1,0 +1,10 @@
+use Rattle.std.proofs.Common.{◌≡◌, drop}
+use Rattle.st_rules.specs.Server.{suspect_each, crash}
+use Rattle.st_server.proofs.turn.ServerTurn.suspect_each.Given as goal
+
+abbrev pub invariant-loop-client : goal.invariant-loop-client
+invariant-loop-client l =
+    record {
+      done : suspect_each l.now (drop l.client-index l.clients) l.self ≡ suspect_each l.now l.clients l.fn.self;
+      kept : crash l.self.state ≡ crash l.fn.self.state;
+    }

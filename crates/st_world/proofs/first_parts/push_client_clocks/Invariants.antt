@@ -1,0 +1,10 @@
+use Rattle.std.proofs.Common.{◌≡◌, ◌+◌, ◌-◌, ◌++◌}
+use Rattle.std.specs.Prelude.{map}
+use Rattle.st_rules.specs.Extents.{numbers}
+use Rattle.st_rules.specs.World.{client_clock}
+use Rattle.st_world.proofs.first_parts.push_client_clocks.Given as goal
+
+abbrev pub invariant-loop-i : goal.invariant-loop-i
+invariant-loop-i l =
+    l.clocks.items ++ map client_clock (numbers (l.i + 1) (l.count - l.i))
+    ≡ l.initial.clocks.items ++ map client_clock (numbers 1 l.count)

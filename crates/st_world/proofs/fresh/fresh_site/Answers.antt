@@ -1,9 +1,0 @@
-use Rattle.std.proofs.Common.{ap}
-use Rattle.st_rules.specs.Client.{ClientNode}
-use Rattle.st_rules.specs.World.{ClientSite}
-use Rattle.st_world.proofs.fresh.fresh_site.Goals as goal
-
-pub returns : goal.returns
-returns c =
-    let site : ClientNode → ClientSite = λ n. record { node = n; asks = 0; starts = 0 } in
-    ap site c.in_ok-fresh.ensures
