@@ -9,7 +9,7 @@ import subprocess
 import sys
 
 HERE = pathlib.Path(__file__).resolve().parent
-sys.path[:0] = [str(HERE), str(HERE.parent)]
+sys.path[:0] = [str(HERE), str(HERE.parent / "lib")]
 import comparing  # noqa: E402
 from antt import NotUnderstood, Sources  # noqa: E402
 from reference.report import lines_of  # noqa: E402

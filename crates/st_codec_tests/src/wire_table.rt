@@ -1,4 +1,4 @@
-//! Written by tools/wire_table.py: bytes in runs, `HH` or `HH*COUNT`, a word for a header that many have, and
+//! Written by tools/rows/wire_table.py: bytes in runs, `HH` or `HH*COUNT`, a word for a header that many have, and
 //! the answers of an independent reading.
 
 /// A message of every kind, name op, ask and answer.

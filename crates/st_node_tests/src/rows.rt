@@ -1,4 +1,4 @@
-//! Written by tools/node_rows.py. A row is its name, the kind of node, the readings of the clock, the bytes that come, the bytes that
+//! Written by tools/rows/node_rows.py. A row is its name, the kind of node, the readings of the clock, the bytes that come, the bytes that
 //! are written, and why the node stops; bytes stand in runs, `HH` or `HH*COUNT`.
 
 /// Streams of frames.

@@ -1,4 +1,4 @@
-// Written by tools/client_rows.py.
+// Written by tools/rows/client_rows.py.
 ghost use Rattle.std.specs.Prelude.{◌≡◌, ◌∷◌, [], Some};
 ghost use Rattle.st_base.specs.Page.{filled};
 ghost use Rattle.st_base.specs.declared.mode.Mode.TheVariants as modes;

@@ -1,4 +1,4 @@
-// Written by tools/generate_rows.py.
+// Written by tools/rows/generate_rows.py.
 ghost use Rattle.std.specs.Prelude.{◌≡◌, None, Some, codes};
 ghost use Rattle.st_rules.specs.Generator.{candidate};
 ghost use Rattle.st_rows_world.specs.GeneratedWords.{line_of};

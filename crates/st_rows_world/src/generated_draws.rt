@@ -1,4 +1,4 @@
-// Written by tools/generate_rows.py.
+// Written by tools/rows/generate_rows.py.
 ghost use Rattle.std.specs.Prelude.{◌≡◌};
 ghost use Rattle.st_rules.specs.Generator.{draw, state_after};
 

@@ -1,4 +1,4 @@
-// Written by tools/generate_rows.py.
+// Written by tools/rows/generate_rows.py.
 ghost use Rattle.std.specs.Prelude.{◌≡◌, codes};
 ghost use Rattle.st_generate.specs.GeneratedText.{generate_text, work_text};
 

@@ -1,4 +1,4 @@
-// Written by tools/world_rows.py.
+// Written by tools/rows/world_rows.py.
 ghost use Rattle.std.specs.Prelude.{◌≡◌, ◌∷◌, [], Some};
 ghost use Rattle.st_messages.specs.declared.event.Event.TheVariants as events;
 ghost use Rattle.st_rules.specs.Run.{run};

@@ -1,4 +1,4 @@
-// Written by tools/world_rows.py.
+// Written by tools/rows/world_rows.py.
 ghost use Rattle.std.specs.Prelude.{◌≡◌, ◌∷◌, [], None};
 ghost use Rattle.st_base.specs.Page.{filled};
 ghost use Rattle.st_base.specs.declared.mode.Mode.TheVariants as modes;

@@ -1,4 +1,4 @@
-// Written by tools/world_rows.py.
+// Written by tools/rows/world_rows.py.
 ghost use Rattle.std.specs.Prelude.{◌≡◌, ◌∷◌, [], Some, false};
 ghost use Rattle.st_messages.specs.declared.ask.Ask.TheVariants as asks;
 ghost use Rattle.st_messages.specs.declared.event.Event.TheVariants as events;

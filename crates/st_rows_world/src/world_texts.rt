@@ -1,4 +1,4 @@
-// Written by tools/text_rows.py.
+// Written by tools/rows/text_rows.py.
 ghost use Rattle.std.specs.Prelude.{◌≡◌, ◌∷◌, [], codes, false, true, ◌++◌};
 ghost use Rattle.st_base.specs.declared.mode.Mode.TheVariants as modes;
 ghost use Rattle.st_base.specs.declared.names.NameAsk.TheVariants as names;

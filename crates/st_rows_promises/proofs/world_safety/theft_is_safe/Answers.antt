@@ -1,4 +1,4 @@
--- Written by tools/world_rows.py.
+-- Written by tools/rows/world_rows.py.
 use Rattle.std.proofs.Common.{[], ◌∷◌, refl}
 use Rattle.st_base.specs.Page.{filled}
 use Rattle.st_rules.specs.declared.log.Cause.TheVariants as causes
