@@ -13,7 +13,8 @@ def at(p, birth=None):
     return (p, Block(1, p), birth or p + 1)
 
 
-def leases(Row):
+def sessions(Row):
+    """Sessions: how they begin, and which messages belong to them."""
     r = Row("a_write_is_read_back", "A write asks for a session, a lock and a block, and is accepted; a read finds it.").leased()
     r.read(0, 2, 0)
     yield r
@@ -53,6 +54,9 @@ def leases(Row):
     r.hear(10, 1, 10, Ack())
     yield r
 
+
+def renewals(Row):
+    """What is sent again on a tick: keep-alives, and requests that are old."""
     r = Row("keep_alives_begin_with_renewal", "A keep-alive is sent from the age of renewal on, and no tick before; its acknowledgement renews the lease from its sending.").leased()
     r.tick(499)
     r.tick(500)
@@ -85,6 +89,9 @@ def leases(Row):
     r.hear(109, 1, 60, Granted(2, G1, S))
     yield r
 
+
+def losses(Row):
+    """Leases that are over, and the pages that are lost with them."""
     r = Row("a_lease_that_is_over_is_lost", "In quiesce nothing new is served; at the end the lease is lost, before the message is taken.").leased()
     r.read(699, 2, 0)
     r.hear(699, 3, 699, Ack())
@@ -126,6 +133,9 @@ def leases(Row):
     r.sync(1000, 2)
     yield r
 
+
+def later_losses(Row):
+    """Several losses, several servers, and the lives after a start."""
     r = Row("two_losses_are_told_together", "A page that is lost again replaces its row; the next life begins with nothing.").leased()
     r.tick(1000)
     r.write(1000, 2, 0, 5)
@@ -203,7 +213,8 @@ def epochs(Row):
     yield r
 
 
-def lock_rows(Row):
+def demands(Row):
+    """Grants, demands, and the reductions that they ask for."""
     r = Row("a_grant_below_the_greatest_seen_is_not_installed", "A lock that was given up is not held again by an older grant; its request ends, and another one is sent.").hard()
     r.hear(0, 0, 0, Demand(2, G2, NONE))
     r.hear(0, 3, 0, Ack())
@@ -251,6 +262,9 @@ def lock_rows(Row):
     r.hear(0, 3, 0, Ack())
     yield r
 
+
+def waits(Row):
+    """Reductions that wait, demands that meet, and waits."""
     r = Row("a_cut_that_is_out_holds_up_a_reduction", "A demanded file is not reduced while it is cut; of two demands that come meanwhile the lesser holds, and there is one release.").hard()
     r.cut(0, 2, 1)
     r.hear(0, 0, 0, Demand(2, G1, S))
@@ -294,7 +308,8 @@ def lock_rows(Row):
     yield r
 
 
-def page_rows(Row):
+def writes(Row):
+    """Writes of pages, and patches."""
     r = Row("a_failed_write_is_submitted_again", "A sync is told that the write failed; a later one waits until a tick submits the page again.").leased()
     r.sync(0, 2)
     r.done(0, 1, None)
@@ -340,6 +355,9 @@ def page_rows(Row):
     r.sync(0, 2)
     yield r
 
+
+def reads(Row):
+    """Patches and reads of pages, and extents."""
     r = Row("a_patch_over_a_dirty_page", "A patch of a dirty page is accepted at once, and the page is written whole.").leased()
     r.patch(0, 2, 0, 4094, bytes([5, 5]))
     r.read(0, 2, 0)
@@ -390,7 +408,8 @@ def page_rows(Row):
     yield r
 
 
-def operation_rows(Row):
+def file_asks(Row):
+    """Asks of files: cuts and removals."""
     r = Row("a_seventeenth_operation_is_one_too_many", "With 16 operations pending the next is answered at once, also one of a server that is not there.")
     for _ in range(16):
         r.read(0, 2, 0)
@@ -430,6 +449,9 @@ def operation_rows(Row):
     r.hear(0, 4, 0, Ack())
     yield r
 
+
+def refused_asks(Row):
+    """Names, and asks that are refused."""
     r = Row("names_are_answered", "Names need no lock; a directory is removed without one, with grant number 0.")
     r.name(0, Mkdir(1, b"d"))
     r.hear(0, 0, 0, Welcome())
@@ -516,10 +538,10 @@ def limit_rows(Row):
 
 def FILES(Row):
     return {
-        "client_leases": list(leases(Row)),
+        "client_leases": [*sessions(Row), *renewals(Row), *losses(Row), *later_losses(Row)],
         "client_epochs": list(epochs(Row)),
-        "client_locks": list(lock_rows(Row)),
-        "client_pages": list(page_rows(Row)),
-        "client_operations": list(operation_rows(Row)),
+        "client_locks": [*demands(Row), *waits(Row)],
+        "client_pages": [*writes(Row), *reads(Row)],
+        "client_operations": [*file_asks(Row), *refused_asks(Row)],
         "client_limits": list(limit_rows(Row)),
     }

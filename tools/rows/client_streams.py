@@ -366,46 +366,49 @@ def begun(r):
     r.hear(1, Extents(2, (at(0),)))
 
 
-def by_chance(r, rng, count):
-    """Asks, messages, ends of commands and ticks by chance."""
-    state = {"byte": 0, "block": 100}
+class Chances:
+    """What happens to a client by chance: asks, messages and ends of commands, each mostly one that fits what the client has."""
 
-    def byte():
-        state["byte"] = (state["byte"] + 1) % 256
-        return state["byte"]
+    def __init__(self, r, rng):
+        self.r, self.rng, self.last_byte, self.last_block = r, rng, 0, 100
 
-    def block():
-        state["block"] += 1
-        return Block(rng.randint(1, 2), state["block"])
+    def byte(self):
+        self.last_byte = (self.last_byte + 1) % 256
+        return self.last_byte
 
-    def ino():
-        return rng.choice((2, 2, 2, 3, 3, 4))
+    def block(self):
+        self.last_block += 1
+        return Block(self.rng.randint(1, 2), self.last_block)
 
-    def page():
-        return rng.choice((0, 0, 1, 2))
+    def ino(self):
+        return self.rng.choice((2, 2, 2, 3, 3, 4))
 
-    def grant(peer):
+    def page(self):
+        return self.rng.choice((0, 0, 1, 2))
+
+    def grant(self, peer):
         seen = max(peer.greatest.values(), default=peer.epoch * 2 ** 32)
-        return max(1, seen + rng.choice((-1, 0, 1, 1, 1, 1, 2)))
+        return max(1, seen + self.rng.choice((-1, 0, 1, 1, 1, 1, 2)))
 
-    def ask(s):
-        k = rng.random()
+    def ask(self, s):
+        r, rng, k = self.r, self.rng, self.rng.random()
         if k < 0.28:
-            r.write(s, ino(), page(), byte())
+            r.write(s, self.ino(), self.page(), self.byte())
         elif k < 0.5:
-            r.read(s, ino(), page())
+            r.read(s, self.ino(), self.page())
         elif k < 0.66:
-            r.sync(s, ino())
+            r.sync(s, self.ino())
         elif k < 0.74:
-            r.cut(s, ino(), page())
+            r.cut(s, self.ino(), self.page())
         elif k < 0.86:
-            r.patch(s, ino(), page(), rng.choice((0, 7, 4000)), bytes([byte(), byte()]))
+            r.patch(s, self.ino(), self.page(), rng.choice((0, 7, 4000)), bytes([self.byte(), self.byte()]))
         else:
             r.name(s, rng.choice((
                 Create(1, b"n"), RemoveEntry(1, b"f2", 2), RemoveEntry(1, b"f3", 3), RemoveEntry(1, b"d", 0),
                 ListDir(1, b""), Rename(1, b"a", 10, b"b"))))
 
-    def hear(s):
+    def hear(self, s):
+        r, rng = self.r, self.rng
         peer, k = r.peer(s), rng.random()
         if peer.epoch == 0:
             stamp = peer.greeting if peer.greeting is not None else max(0, r.now - 1)
@@ -413,19 +416,20 @@ def by_chance(r, rng, count):
             return r.hear(s, body, 0, stamp, rng.choice((1, 1, 2)))
         q = peer.outstanding
         if q is not None and k < 0.72:
-            return r.hear(s, fitting_reply(rng, q.body, 0.12, lambda _: grant(peer), block), q.number, rng.choice((q.sent, q.sent, r.now)))
+            return r.hear(s, fitting_reply(rng, q.body, 0.12, lambda _: self.grant(peer), self.block), q.number, rng.choice((q.sent, q.sent, r.now)))
         if k < 0.84:
-            return r.free(s, Granted(ino(), grant(peer), rng.choice((S, X, X))))
+            return r.free(s, Granted(self.ino(), self.grant(peer), rng.choice((S, X, X))))
         if k < 0.94:
-            i = ino()
-            g = peer.locks[i].grant + rng.choice((0, 0, 0, 1, -1)) if i in peer.locks else grant(peer)
+            i = self.ino()
+            g = peer.locks[i].grant + rng.choice((0, 0, 0, 1, -1)) if i in peer.locks else self.grant(peer)
             return r.free(s, Demand(i, g, rng.choice((NONE, S))))
         if k < 0.965:
             return r.hear(s, Nack(3, peer.epoch, peer.epoch + 1), rng.randint(0, 3), 0, peer.epoch + 1)
         return r.hear(s, rng.choice((Ack(), Reasserted(), Queued(2, X), Named(0, 2))), rng.randint(1, 4), r.now + rng.randint(0, 1),
                       peer.epoch + rng.randint(0, 1), peer.life + rng.choice((0, 0, 0, 1)))
 
-    def done(s):
+    def done(self, s):
+        r, rng = self.r, self.rng
         peer = r.peer(s)
         if not peer.commands or rng.random() < 0.05:
             return r.done(rng.randint(1, 9), rng.choice((None, ())))
@@ -436,19 +440,23 @@ def by_chance(r, rng, count):
         if (c.version is None) == (rng.random() < 0.95):
             extent = peer.extents.get((c.ino, c.page))
             tag = Tag(File(s, c.ino), c.page, extent[1]) if extent and rng.random() < 0.7 else FRESH_TAG
-            return r.done(number, (tag, uniform_page(byte())))
+            return r.done(number, (tag, uniform_page(self.byte())))
         return r.done(number, ())
 
+
+def by_chance(r, rng, count):
+    """Asks, messages, ends of commands and ticks by chance."""
+    chances = Chances(r, rng)
     for _ in range(count):
         r.now += rng.choice((0,) * 16 + (1, 1, 4, 5, 6, 10, 20, 35))
         s = rng.choice((1, 1, 1, 2))
         k = rng.random()
         if k < 0.3:
-            ask(s)
+            chances.ask(s)
         elif k < 0.76:
-            hear(s)
+            chances.hear(s)
         elif k < 0.91:
-            done(s)
+            chances.done(s)
         else:
             r.tick()
 

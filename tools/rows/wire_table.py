@@ -57,11 +57,8 @@ def names(count, length=6):
     return tuple(NameRow(i + 1, 1 + i % 2, b"n" * length) for i in range(count))
 
 
-def messages():
-    f = File(2, 77)
+def messages_between_nodes():
     at = Block(3, 4_095)
-    tag = Tag(f, MAX_PAGE, U64)
-    zero = Tag(File(0, 0), 0, 0)
     yield control(Hello(), 0, 0)
     yield control(KeepAlive())
     for mode in (1, 2):
@@ -92,6 +89,13 @@ def messages():
     for code in (1, 8):
         yield control(Named(2, code), to_client=True)
     yield control(Reasserted(), to_client=True)
+
+
+def messages_of_one_machine():
+    f = File(2, 77)
+    at = Block(3, 4_095)
+    tag = Tag(f, MAX_PAGE, U64)
+    zero = Tag(File(0, 0), 0, 0)
     yield local(Tick(), 0, 16)
     yield local(Tick(), 0, 32_772)
     for ask in (WriteAsk(f, 5, PAGE), ReadAsk(f, 5), SyncAsk(f), CutAsk(f, 5),
@@ -109,6 +113,11 @@ def messages():
     yield local(Submit(9, WriteBlock(at, tag, PAGE)), 3, 0)
     for result in (None, (), (tag, PAGE), (zero, PAGE)):
         yield local(Done(9, result), 0, 3)
+
+
+def messages():
+    yield from messages_between_nodes()
+    yield from messages_of_one_machine()
 
 
 def full_lists():
