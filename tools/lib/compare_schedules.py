@@ -242,59 +242,79 @@ class Driver:
         return tuple(least + rng.choice((0, spread, rng.randint(0, spread))) for _ in range(count))
 
     def candidate(self):
+        """An event by the mood's weights, or None where there is none of the kind that was drawn."""
+        kind = self.rng.choices(KINDS, self.weights)[0]
+        if kind == "app":
+            return self.an_ask()
+        if kind in ("old", "rnd", "past", "lose"):
+            return self.a_message(kind)
+        if kind in ("cut", "heal"):
+            return self.a_link(kind)
+        if kind in ("eff", "ok", "fail"):
+            return self.a_command(kind)
+        if kind == "tick":
+            return "tick", self.rng.choice(self.nodes)
+        if kind in ("jump", "adv", "drift"):
+            return self.an_advance(kind)
+        return self.a_restart(kind)
+
+    def an_ask(self):
         rng, world = self.rng, self.world
-        kind = rng.choices(KINDS, self.weights)[0]
-        if kind == "app" and self.mood == "full":
+        if self.mood == "full":
             client = 1 if rng.random() < 0.9 else rng.randint(1, len(world.clients))
             return ("app", client, self.ask()) if len(world.clients[client - 1].operations) < 4 else None
-        if kind == "app":
-            client = rng.randint(1, len(world.clients))
-            if len(world.clients[client - 1].operations) > 5 and rng.random() < 0.9:
-                return "tick", client
-            return "app", client, self.ask()
-        if kind in ("old", "rnd"):
-            if not self.undelivered:
-                return None
-            if kind == "old":
-                return "deliver", self.undelivered[min(len(self.undelivered) - 1, rng.choice((0, 0, 0, 1)))]
-            return "deliver", rng.choice(self.undelivered)
+        client = rng.randint(1, len(world.clients))
+        if len(world.clients[client - 1].operations) > 5 and rng.random() < 0.9:
+            return "tick", client
+        return "app", client, self.ask()
+
+    def a_message(self, kind):
+        rng, world = self.rng, self.world
         if kind == "past":
             if not world.messages:
                 return None
             top = len(world.messages)
             return "deliver", rng.randint(max(1, top - rng.choice((4, 12, 60, top))), top)
+        if not self.undelivered:
+            return None
         if kind == "lose":
-            return ("lose", rng.choice(self.undelivered)) if self.undelivered else None
+            return "lose", rng.choice(self.undelivered)
+        if kind == "old":
+            return "deliver", self.undelivered[min(len(self.undelivered) - 1, rng.choice((0, 0, 0, 1)))]
+        return "deliver", rng.choice(self.undelivered)
+
+    def a_link(self, kind):
+        rng, world = self.rng, self.world
         if kind == "heal" and not world.links_cut and rng.random() < 0.95:
             return None
-        if kind in ("cut", "heal"):
-            one = rng.choice(self.nodes)
-            other = rng.choice(self.nodes)
-            if kind == "heal" and world.links_cut and rng.random() < 0.9:
-                return "heal", *rng.choice(sorted(world.links_cut))
-            return kind, one, other
-        if kind in ("eff", "ok", "fail"):
-            if not self.commands:
-                return None
-            number = self.commands[0] if rng.random() < 0.5 else rng.choice(self.commands)
-            if kind == "eff":
-                return "effect", number
-            return "report", number, kind == "ok"
-        if kind == "tick":
-            return "tick", rng.choice(self.nodes)
-        if kind == "jump":
-            deltas = self.moments()
-            if not deltas:
-                return None
-            delta = min(deltas) if rng.random() < 0.5 else rng.choice(deltas)
-            delta += rng.choice((-1, 0, 0, 0, 0, 1))
-            low = 1 if self.head.form == 1 else 0
-            return ("adv", (delta,) * len(self.nodes)) if delta >= low else None
-        if kind == "adv":
-            low = 1 if self.head.form == 1 else 0
-            return "adv", (rng.choice((low, 1, rng.randint(1, max(1, self.head.settings.retry)), rng.randint(1, max(1, self.head.settings.lease // 3)))),) * len(self.nodes)
+        one, other = rng.choice(self.nodes), rng.choice(self.nodes)
+        if kind == "heal" and world.links_cut and rng.random() < 0.9:
+            return "heal", *rng.choice(sorted(world.links_cut))
+        return kind, one, other
+
+    def a_command(self, kind):
+        if not self.commands:
+            return None
+        number = self.commands[0] if self.rng.random() < 0.5 else self.rng.choice(self.commands)
+        return ("effect", number) if kind == "eff" else ("report", number, kind == "ok")
+
+    def an_advance(self, kind):
+        rng, settings = self.rng, self.head.settings
+        low = 1 if self.head.form == 1 else 0
         if kind == "drift":
             return "adv", self.drifting()
+        if kind == "adv":
+            delta = rng.choice((low, 1, rng.randint(1, max(1, settings.retry)), rng.randint(1, max(1, settings.lease // 3))))
+            return "adv", (delta,) * len(self.nodes)
+        deltas = self.moments()
+        if not deltas:
+            return None
+        delta = min(deltas) if rng.random() < 0.5 else rng.choice(deltas)
+        delta += rng.choice((-1, 0, 0, 0, 0, 1))
+        return ("adv", (delta,) * len(self.nodes)) if delta >= low else None
+
+    def a_restart(self, kind):
+        rng, world = self.rng, self.world
         if kind == "crash":
             return "crash", rng.choice(self.nodes[len(world.clients) :] if self.mood == "restart" and rng.random() < 0.8 else self.nodes)
         stopped = [node for node in self.nodes if not world.node(node).running]
