@@ -79,10 +79,10 @@ PLANTS = (
     Plant("a read is not counted", "TheCountsAreTrue", (("Events", "reads_in (answers.Read bytes) = 1", "reads_in (answers.Read bytes) = 0"),)),
     Plant("a message is sent without its line in the report", "TheCountsAreTrue LeasesAreDatedFromRequests CutsAreAcknowledged", (
         ("Events", "sends sc m = observe (with_message m sc.world) sc (seen.Sent (length sc.world.net.messages + 1) m)", "sends sc m = world_turn (with_message m sc.world) sc.seen"),)),
-    Plant("a dropped entry is told as hard", "TheReportTellsTheLog TheCountsAreTrue", (
+    Plant("a dropped entry is reported as hard", "TheReportTellsTheLog TheCountsAreTrue", (
         ("Events", "fate_seen number fates.Pending (fates.Gone cause) = seen.Dropped number cause ∷ []",
          "fate_seen number fates.Pending (fates.Gone cause) = seen.Hardened number ∷ []"),)),
-    Plant("what a crash drops is told as failed", "DropsHaveACause", (("Events", "(log.always causes.Crash)", "(log.always (causes.Failed 1))"),)),
+    Plant("what a crash drops is reported as failed", "DropsHaveACause", (("Events", "(log.always causes.Crash)", "(log.always (causes.Failed 1))"),)),
     # Answers.
     Plant("what is answered `quiesced` stays pending", "AsksAreAnsweredOnce CutsAreAsked NamesAnswerTruly NamesChangeAsAsked NamesChangeOnce RefusalsChangeNothing", (
         ("ClientPasses", "quiesce t o = if is_sent o then keep o t else answer o answers.Quiesced t",
