@@ -1,7 +1,9 @@
-"""What a run has come to, as far as its schedule and its report tell: messages, commands, leases, clocks, cuts and nodes that do not run.
+"""The state that a run has reached, as far as its schedule and its report show: messages, commands,
+leases, clocks, cuts, and nodes that don't run.
 
-`Told` follows a run event by event: `see` takes an event's words and what the report observed of it. `observations` splits a report. Nothing is
-known here but what the two texts say, so a lease's end is that of its last line `lease`, and pages are dirty as long as no line says otherwise.
+`Told` follows a run event by event: `see` takes an event's words and its observations in the
+report. `observations` splits a report. Everything comes from these two texts. So a lease's end is
+that of its last line `lease`, and a page is dirty until a line says otherwise.
 """
 import collections
 
@@ -19,7 +21,7 @@ def observations(report):
 
 
 class Told:
-    """A run so far. Events are numbered from 1; a file's server is the number in front of its colon."""
+    """A run so far. Events are numbered from 1; a file's server is the number before its colon."""
 
     def __init__(self, head):
         self.head, self.event = head, 0
@@ -36,11 +38,11 @@ class Told:
         return [node for node in self.head.nodes if node[0] == "s"]
 
     def server_of_disk(self, disk):
-        """The server to which a disk belongs: they are dealt out in turn."""
+        """The server to which a disk belongs: disks are assigned to servers in turn."""
         return f"s{(disk - 1) % self.head.servers + 1}"
 
     def see(self, words, observed):
-        """Takes an event that happened, and what was observed of it."""
+        """Takes an event that happened, and what was observed."""
         self.event += 1
         getattr(self, "do_" + words[0], self.do_nothing)(*words[1:])
         for told in observed:
@@ -137,5 +139,5 @@ class Told:
         return self.ends.get(key) if self.lives[key] == command.life else self.former.get((*key, command.life))
 
     def open_writes(self, client, server):
-        """The numbers of the write commands of a client to a server's disks that are not reported."""
+        """The numbers of a client's write commands to a server's disks that weren't reported."""
         return [at for at, it in enumerate(self.commands, 1) if it.write and (it.client, it.server) == (client, server) and at not in self.reports]

@@ -1,6 +1,8 @@
-"""The text of schedules, for the tools: its heads and events word by word, as docs/PROTOCOL.md, "Schedules", has them; and comments.
+"""The text of schedules, for the tools: heads and events word by word, as in docs/PROTOCOL.md,
+"Schedules"; and comments.
 
-`plain` takes comments and blank lines out. `fault` finds the first wrong word of a line, as the program does, and says what is expected there.
+`plain` removes comments and blank lines. `fault` finds the first wrong word of a line, as the
+program does, and says what is expected there.
 """
 import difflib
 import re
@@ -13,13 +15,15 @@ EVENTS = ("adv", "tick", "app", "deliver", "lose", "cut", "heal", "effect", "rep
 
 
 class Place:
-    """One word's place: what it is called, and how a word is tried there. A number's place has a range; others a pattern."""
+    """One word's place: its name, and how a word is checked there. A number's place has a range;
+    others a pattern.
+    """
 
     def __init__(self, name, about, pattern=None, least=0, most=0):
         self.name, self.about, self.pattern, self.least, self.most = name, about, pattern and re.compile(pattern), least, most
 
     def fault(self, word):
-        """'Syntax' or 'Number' where the word is wrong here, else nothing."""
+        """'Syntax' or 'Number' if the word is wrong here, otherwise nothing."""
         if self.pattern:
             return None if self.pattern.fullmatch(word) and self.is_in_range(word) else "Syntax"
         if not re.fullmatch("[0-9]+", word):
@@ -27,7 +31,7 @@ class Place:
         return None if (word == "0" or word[0] != "0") and self.least <= int(word) <= self.most else "Number"
 
     def is_in_range(self, word):
-        """The number inside of a file is in its range: the pattern alone says it of a node."""
+        """The numbers inside a file are in their ranges; for a node the pattern suffices."""
         if self.name != "F":
             return True
         server, inode = map(int, word.split(":"))
@@ -42,10 +46,10 @@ def words(name, choices):
     return Place(name, "one of " + ", ".join(choices) if len(choices) > 1 else f"the word {choices[0]}", "|".join(map(re.escape, choices)))
 
 
-NODE = Place("N", "a node: c or s and its number, as c1 or s1", "[cs][1-9][0-9]?")
-CLIENT = Place("C", "a client: c and its number, as c1", "c[1-9][0-9]?")
-FILE = Place("F", "a file: its server and its inode with a colon between them, as 1:2", "[1-9][0-9]{0,4}:[1-9][0-9]{0,9}")
-NAME = Place("NAME", "a name of 1 to 100 letters, digits or signs, without a space", "[!-~]{1,100}")
+NODE = Place("N", "a node: c or s and its number, such as c1 or s1", "[cs][1-9][0-9]?")
+CLIENT = Place("C", "a client: c and its number, such as c1", "c[1-9][0-9]?")
+FILE = Place("F", "a file: its server and its inode with a colon between them, such as 1:2", "[1-9][0-9]{0,4}:[1-9][0-9]{0,9}")
+NAME = Place("NAME", "a name of 1 to 100 visible ASCII characters", "[!-~]{1,100}")
 PAGE = number("P", "a page", 0, MOST_PAGE)
 BYTE = number("B", "the byte that the page is filled with", 0, 255)
 MESSAGE = number("K", "a message's number in the order of sending", 1, MOST_NUMBER)
@@ -54,7 +58,7 @@ ASKED = {
     "write": [FILE, PAGE, BYTE], "read": [FILE, PAGE], "sync": [FILE], "cut": [FILE, PAGE], "lookup": [FILE, NAME], "create": [FILE, NAME],
     "mkdir": [FILE, NAME], "remove": [FILE, NAME, number("I", "the inode that the asker means, 0 for a directory", 0, MOST_NUMBER)],
     "rename": [FILE, NAME, number("I", "the inode of the second directory", 1, MOST_NUMBER), NAME],
-    "list": [FILE, Place("AFTER", "a name that the listing begins behind, or - for the beginning", "[!-~]{1,100}")],
+    "list": [FILE, Place("AFTER", "a name after which the listing begins, or - for the beginning", "[!-~]{1,100}")],
 }
 FORMS = {
     "tick": [NODE], "deliver": [MESSAGE], "lose": [MESSAGE], "cut": [NODE, NODE], "heal": [NODE, NODE], "effect": [COMMAND],
@@ -72,14 +76,18 @@ class Head:
 
 
 class Fault:
-    """The first wrong word of a line: its refusal, its column from 1, the word (nothing where it is missing), and what is expected there."""
+    """The first wrong word of a line: its refusal, its column from 1, the word (nothing if it is
+    missing), and what is expected there.
+    """
 
     def __init__(self, kind, column, word, place, is_last=False):
         self.kind, self.column, self.word, self.place, self.is_last = kind, column, word, place, is_last
 
 
 def plain(text):
-    """The lines of a schedule (as bytes) without comments and blank lines, and the number that each had before."""
+    """The lines of a schedule (as bytes) without comments and blank lines, and the number that each
+    had before.
+    """
     lines = text.split(b"\n")
     if lines[-1] == b"":
         lines.pop()
@@ -92,13 +100,15 @@ def head_names(form):
 
 
 def head_places(form):
-    """The places of a head's words behind `tank`; those behind SERVERS depend on it, see `fault_of_head`."""
+    """The places of a head's words after the form; those after SERVERS depend on it, see
+    `fault_of_head`.
+    """
     most = {"CLIENTS": 16, "SERVERS": 4, "DISKS": 8, "BLOCKS": 4096}
     return [number(name, f"{name} of the head", 1 if name in most else 0, most.get(name, MOST_SETTING)) for name in head_names(form)]
 
 
 def walk(line_words, places):
-    """Tries words against places; returns the first fault, or nothing."""
+    """Checks words against places; returns the first fault, or nothing."""
     column = 1
     for at, word in enumerate(line_words):
         if at >= len(places):
@@ -124,7 +134,7 @@ def fault_of_head(line):
 
 
 def head_of(line):
-    """The head that a line is, where it has no fault."""
+    """The head that a line is, if it has no fault."""
     given = line.split(" ")
     form = int(given[1])
     values = dict(zip(head_names(form), map(int, given[2:])))
@@ -156,7 +166,7 @@ def fault(line, head):
 
 
 def near(word, choices):
-    """The choice that a wrong word was most likely meant to be, or nothing."""
+    """The choice that a wrong word most likely means, or nothing."""
     low = word.lower()
     if low in choices:
         return low
