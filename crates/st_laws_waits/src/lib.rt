@@ -1,6 +1,7 @@
-//! Laws of time: how long a lock can be kept from a client that waits for it, and how such a wait ends.
+//! Laws of time: how long a lock can be kept from a client that waits for it, how such a wait ends, and for which reasons a client is suspected.
 #![tactic(auto)]
 
+ghost use Rattle.st_laws_waits.specs.Causes.{SuspicionsHaveACause};
 ghost use Rattle.st_laws_waits.specs.Waits.{DemandsAreAnswered, DemandsAreRepeated, GraceEnds, InEveryRun, InTickingRuns, LocksComeBack, LocksComeBackAfterStarts, WaitsEndForAReason};
 
 /// In every run in which a server ticks in time, a demand of a client that is no suspect is answered within the demand time and a gap, a suspect
@@ -35,4 +36,10 @@ pub fn waits_end_for_a_reason()
 /// In every run a server that runs is in grace for less than the steal wait.
 pub fn graces_end()
     ensures { InEveryRun GraceEnds }
+{}
+
+/// In every run a server suspects a client only because the client greeted in a later life while it had rows, or at a tick, because a demand on one of
+/// its rows was sent the demand time ago and the server has heeded no answer since.
+pub fn suspicions_have_a_cause()
+    ensures { InEveryRun SuspicionsHaveACause }
 {}
