@@ -9,7 +9,6 @@ pub mod Raising
 pub mod Reading
 pub mod Robbing
 pub mod Servers
-pub mod Stables
 pub mod Stepping
 pub mod Tallies
 pub mod Thefts

@@ -6,5 +6,4 @@ pub mod Rule
 pub mod Serving
 pub mod Sessions
 pub mod Step
-pub mod Thefts
 pub mod Walk

@@ -16,7 +16,7 @@ use Rattle.st_protocol.specs.Assoc.{In, Msg, msg}
 use Rattle.st_lemmas.specs.Lists.{Has}
 use Rattle.st_laws_refine.specs.Views.Messages.{Shown, Shows, refusal, shown, with_date}
 use Rattle.st_laws_refine.proofs.Views.Moves.{Grows, shows_more, shown_more}
-use Rattle.st_laws_steps.proofs.Server.Taking.{if_cases, if_either}
+use Rattle.st_trace.proofs.Server.Taking.{if_cases, if_either}
 use Rattle.st_laws_grants.specs.Owners.{AllTell, Fits, Owned, Owner, Tells}
 
 -- these in the network

@@ -1,6 +1,6 @@
 -- Sessions: what is kept of a client tells numbers of it, behind each change of the table.
 use Rattle.std.proofs.Common.{◌≡◌, ℕ, Bool, true, false, ◌==◌, Option, Some, None, refl, sym, ap, ◌∙◌, subst, if◌then◌else◌}
-use Rattle.std.specs.Prelude.{nat_lt, option_map, map}
+use Rattle.std.specs.Prelude.{option_map, map}
 use Rattle.std.proofs.lemmas.Bool.{eqb-true, eq-eqb}
 use Rattle.st_base.specs.declared.ids.ClientId.{ClientId}
 use Rattle.st_base.specs.declared.ids.Life.{Life}
@@ -13,7 +13,7 @@ use Rattle.st_rules.specs.Sessions as sessions
 use Rattle.st_lemmas.proofs.Lookups.{some_is}
 use Rattle.st_lemmas.proofs.Puts.{find_put_by, find_put_other}
 use Rattle.st_lemmas.proofs.Tables.{find_map, found_at}
-use Rattle.st_laws_steps.proofs.Server.Taking.{clash, if_either}
+use Rattle.st_trace.proofs.Server.Taking.{clash}
 use Rattle.st_laws_grants.specs.Owners.{Fits, FitsState, Grows, Keeps, Owner}
 
 -- With more numbers.
@@ -45,31 +45,16 @@ module _ (o : Owner) where
 
       go : (b : Bool) → sessions.is_session_of d x ≡ b → FitsState o d.0 y.state
       go true e =
-          let i = find_put_by (sessions.is_session_of d) (sessions.is_session_of x.client) x t.rows e (λ z f. eq-eqb z.client.0 x.client.0 (eqb-true _ _ f ∙ sym (eqb-true _ _ e))) in
+          let i = find_put_by (sessions.is_session_of d) (sessions.is_session_of x.client) x t.rows e
+          (λ z f. eq-eqb z.client.0 x.client.0 (eqb-true _ _ f ∙ sym (eqb-true _ _ e))) in
           subst (λ (z : Session). FitsState o d.0 z.state) (some_is (sym i ∙ h)) (subst (λ n. FitsState o n x.state) (eqb-true x.client.0 d.0 e) k)
       go false e = all d y (sym (find_put_other (sessions.is_session_of d) (sessions.is_session_of x.client) x t.rows e (λ z f. other z e f)) ∙ h)
-
-  pub kept_hello : (t : sessions.Sessions) (c : ClientId) (life : Life) (rows : Bool) → Keeps o t → Keeps o (sessions.hello t c life rows).sessions
-  unfolding sessions.hello sessions.hello_at sessions.hello_by sessions.hello_live sessions.hello_again sessions.hello_higher sessions.hello_ended sessions.begin_session sessions.greeted
-  kept_hello t c life rows all = go (sessions.session_of t c)
-    where
-      K : sessions.Greeted → Type 0
-      K g = Keeps o g.sessions
-
-      new : Keeps o (sessions.with_new_session c life t)
-      new = kept_new t (sessions.new_session c life) tt all
-
-      go : (x : Option Session) → Keeps o (sessions.hello_at t c life rows x).sessions
-      go None = new
-      go (Some x) =
-          if_either K (sessions.is_live x) _ _
-          (if_either K (nat_lt life.0 x.life.0) _ _ all (if_either K (life.0 == x.life.0) _ _ all (if_either K rows _ _ all new)))
-          (if_either K (sessions.is_past life x) _ _ all new)
 
   -- sessions that were changed in place
   kept_map : (t : sessions.Sessions) (f : Session → Session) → ((x : Session) → (f x).client ≡ x.client) →
       ((c : ClientId) (x : Session) → sessions.session_of t c ≡ Some x → FitsState o c.0 (f x).state) → Keeps o (record t { rows = map f t.rows })
-  kept_map t f same k d y h = go (sessions.session_of t d) refl (sym (find_map (sessions.is_session_of d) f (λ x. ap (λ (z : ClientId). z.0 == d.0) (same x)) t.rows) ∙ h)
+  kept_map t f same k d y h =
+      go (sessions.session_of t d) refl (sym (find_map (sessions.is_session_of d) f (λ x. ap (λ (z : ClientId). z.0 == d.0) (same x)) t.rows) ∙ h)
     where
       go : (q : Option Session) → sessions.session_of t d ≡ q → option_map f q ≡ Some y → FitsState o d.0 y.state
       go None e q = cc
@@ -91,8 +76,10 @@ module _ (o : Owner) where
       kept (states.Live last r) = w
       kept states.Ended = tt
 
-      go : (d : ClientId) (x : Session) → sessions.session_of t d ≡ Some x → (z : Bool) → sessions.is_session_of c x ≡ z → FitsState o d.0 (if z then sessions.keep_reply number b x else x).state
-      go d x e true q = subst (λ n. FitsState o n (sessions.kept_state number b x.state)) (sym (eqb-true x.client.0 c.0 q) ∙ eqb-true x.client.0 d.0 (found_at (sessions.is_session_of d) t.rows x e).0) (kept x.state)
+      go : (d : ClientId) (x : Session) → sessions.session_of t d ≡ Some x → (z : Bool) → sessions.is_session_of c x ≡ z →
+          FitsState o d.0 (if z then sessions.keep_reply number b x else x).state
+      go d x e true q = subst (λ n. FitsState o n (sessions.kept_state number b x.state)) (sym (eqb-true x.client.0 c.0 q)
+          ∙ eqb-true x.client.0 d.0 (found_at (sessions.is_session_of d) t.rows x e).0) (kept x.state)
       go d x e false q = all d x e
 
   end_client : (c : ClientId) (x : Session) → (sessions.end_of c x).client ≡ x.client

@@ -58,7 +58,7 @@ use Rattle.st_laws_requests.proofs.Replies.EachEvent as each
 use Rattle.st_laws_requests.proofs.Replies.EachEvent.{ClientTook, NodeAfter, ServerLeft, ServerTook, SiteAfter}
 use Rattle.st_laws_grants.specs.Owners.{AllGiveOnce, AllTell, Fits, GivesOnce, Grows, Keeps, LocksOk, Owned, Owner, Pair, RiseFrom, Side, StateOk, Tells, WasSent}
 use Rattle.st_laws_grants.proofs.Moves.{Down, stays_down}
-use Rattle.st_laws_grants.proofs.Locking.{IsDue, top}
+use Rattle.st_laws_grants.proofs.Locking.{top}
 use Rattle.st_laws_grants.proofs.Nets.{add, add_grows, add_shows, add_tells, granted_owned}
 use Rattle.st_laws_grants.proofs.Server.{Gives, IsTold, RowsOwned, served}
 
@@ -365,10 +365,9 @@ module _ (k : Config) (count : ℕ) (w : World) (all : AllStand k count w) (g : 
     own_node : GivesOnce Last s (NodeAfter w s i node)
     own_node = record { owner = u.owner; state = subst (λ b. StateOk u.owner b (ServerTook w s i node).state) (sym run) (u.locked, u.kept); told = λ n y e. told n y (u.told n y e); pairs = λ d. pair d (pair_grow was.owner u.owner u.grows d s w (was.pairs d)) }
       where
-        told : (n : ℕ) (y : ℕ × ℕ) → (was.owner n ≡ Some y) ⊎ ((top node.state.locks < n) × (IsTold s (ServerTook w s i node).out n y ⊎ IsDue [] n y)) → WasSent s (messages Last) n
+        told : (n : ℕ) (y : ℕ × ℕ) → (was.owner n ≡ Some y) ⊎ ((top node.state.locks < n) × IsTold s (ServerTook w s i node).out n y) → WasSent s (messages Last) n
         told n y (inl e) = sent_more s (messages w) (messages Last) n l.old (was.told n y e)
-        told n y (inr (a, inr e)) = absurd e.among
-        told n y (inr (a, inl e)) = record { message = e.message; among = said e.message e.among; from = e.from; ino = y.1; mode = e.mode; body = e.body }
+        told n y (inr (a, e)) = record { message = e.message; among = said e.message e.among; from = e.from; ino = y.1; mode = e.mode; body = e.body }
 
         pair : (d : ℕ) → Pair u.owner d s w → Pair u.owner d s Last
         pair d q =
@@ -410,7 +409,7 @@ module _ (k : Config) (count : ℕ) (w : World) (all : AllStand k count w) (g : 
             let pair = was.pairs y.header.to in
             below_that c.0 (top node.state.locks) b.0 (before.0.low c.0 (y.header.to, j) (granted_owned was.owner y.header.to y pair.net j c by p pair.tells (pair.shows y k (r ∙ ap server_node q) refl))) up
 
-        new : x ≡ s → (y : ℕ × ℕ) → (was.owner b.0 ≡ Some y) ⊎ ((top node.state.locks < b.0) × (IsTold s (ServerTook w s i node).out b.0 y ⊎ IsDue [] b.0 y)) →
+        new : x ≡ s → (y : ℕ × ℕ) → (was.owner b.0 ≡ Some y) ⊎ ((top node.state.locks < b.0) × IsTold s (ServerTook w s i node).out b.0 y) →
             WasSent x (messages w) b.0 ⊎ ((y : Message) → Has y (messages w) → y.header.from ≡ server_node x → (j : ℕ) (c : GrantNo) (by : Mode) → y.body ≡ bd.Granted j c by → c.0 < b.0)
         new q y (inl k) = inl (subst (λ (v : ServerId). WasSent v (messages w) b.0) (sym q) (was.told b.0 y k))
         new q y (inr k) = inr (low q k.0)

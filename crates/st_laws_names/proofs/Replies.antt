@@ -44,7 +44,7 @@ use Rattle.st_lemmas.proofs.Tables.{has_append, has_map_in}
 use Rattle.st_laws_leases.specs.Dates.Dates.{message_in, messages}
 use Rattle.st_laws_leases.proofs.Dates.Known.{has_left, has_right}
 use Rattle.st_laws_leases.proofs.Dates.Leaving.{Leaves, leaves_from, server_not_client, set_cases}
-use Rattle.st_laws_steps.proofs.Server.Taking.{FreshState, Found, found_for, fresh_state}
+use Rattle.st_trace.proofs.Server.Taking.{FreshState, Found, found_for, fresh_state}
 use Rattle.st_laws_pages.proofs.Lives.Fresh.{fresh_is}
 use Rattle.st_laws_requests.specs.Cuts.Cuts.{KeptBy, Keyed, does}
 use Rattle.st_laws_requests.specs.Replies.ServedRequests.{Ends, IsBehind, Reached, Refusal}
@@ -53,7 +53,8 @@ use Rattle.st_laws_requests.proofs.Cuts.Seen.{server_sends}
 use Rattle.st_laws_requests.proofs.Replies.EachEvent.{ClientTook, Comes, NodeAfter, ServerLeft, ServerTook, SiteAfter, event_brings}
 use Rattle.st_laws_extents.specs.CutRequests.EndedLives.{IsPast}
 use Rattle.st_laws_extents.proofs.CutRequests.Law.{owed}
-use Rattle.st_laws_extents.proofs.ExtentReplies.Thefts.{From, f_thefts}
+use Rattle.st_trace.specs.Server.Edits.{Begun}
+use Rattle.st_trace.proofs.Server.Input.{thefts_begun}
 use Rattle.st_promises.specs.NameAnswers.{said}
 use Rattle.st_laws_cuts.specs.EndedRequests.{AllPast}
 use Rattle.st_laws_cuts.specs.ServedRequests.{IsServedBy, NamesBy}
@@ -284,8 +285,8 @@ module _ (k : Config) (count : ℕ) (past : List Step) (t : Traced) (e : Event) 
         z : Found (behind_thefts t.world s node.state).state.sessions (server.sender m.header) (server.life_in m.header) (FreshState m.header.number)
         z = found_for (behind_thefts t.world s node.state).state.sessions (server.sender m.header) (server.life_in m.header) (server.epoch_in m.header) m.header.number takes.Fresh (FreshState m.header.number) fresh (λ r. cc r) (λ r. cc r) (λ r. cc r) (λ y r. fresh_state m.header.number y r)
 
-        f : From node.state (behind_thefts t.world s node.state)
-        f = f_thefts node.state now
+        f : Begun node.state (behind_thefts t.world s node.state)
+        f = thefts_begun node.state now
 
         live : sessions.is_live z.session ≡ true
         live = subst (λ r. sessions.is_live_state r ≡ true) (sym z.state.is) refl

@@ -1,60 +1,28 @@
--- A request by which the names of a server change is served then: the session of its client reached its number.
-use Rattle.std.proofs.Common.{◌≡◌, ℕ, ◌⊎◌, Bool, true, false, List, [], ◌∷◌, ◌==◌, refl, sym, ap, ◌∙◌, subst, inl, inr, arith, if◌then◌else◌}
-use Rattle.std.specs.Prelude.{Option, Some, None, Result as Res, Ok, Err, option_map}
-use Rattle.st_base.specs.declared.ids.ClientId.{ClientId}
+-- A request for a name is answered, and served once: its client's session reaches its number.
+use Rattle.std.proofs.Common.{◌≡◌, ℕ, ◌⊎◌, Bool, true, false, List, ◌==◌, Some, refl, ap, ◌∙◌, subst, inl, inr, if◌then◌else◌}
+use Rattle.std.specs.Prelude.{Result as Res, Ok, Err}
 use Rattle.st_base.specs.declared.ids.GrantNo.{GrantNo}
-use Rattle.st_base.specs.declared.ids.Life.{Life}
 use Rattle.st_base.specs.declared.ids.Stamp.{Stamp}
-use Rattle.st_base.specs.declared.mode.Mode.{Mode}
 use Rattle.st_base.specs.declared.mode.Mode.TheVariants as modes
 use Rattle.st_base.specs.declared.names.NameRow.{NameRow}
-use Rattle.st_messages.specs.declared.message.Header.{Header}
-use Rattle.st_messages.specs.declared.message.Message.{Message}
 use Rattle.st_messages.specs.declared.message.Body.{Body}
 use Rattle.st_messages.specs.declared.message.Body.TheVariants as bd
+use Rattle.st_messages.specs.declared.message.Header.{Header}
+use Rattle.st_messages.specs.declared.message.Message.{Message}
 use Rattle.st_messages.specs.declared.message.NameOp.{NameOp}
 use Rattle.st_messages.specs.declared.message.NameOp.TheVariants.{Lookup, Create, Mkdir, Remove, Rename, List as ListFrom}
-use Rattle.st_rules.specs.declared.input.ServerInput.{ServerInput}
-use Rattle.st_rules.specs.declared.input.ServerInput.TheVariants.{Tick, Control}
+use Rattle.st_rules.specs.declared.input.ServerInput.TheVariants.{Control}
 use Rattle.st_rules.specs.declared.names.EntryRefusal.{EntryRefusal}
-use Rattle.st_rules.specs.declared.sessions.Session.{Session}
-use Rattle.st_rules.specs.declared.sessions.SessionState.{SessionState}
-use Rattle.st_rules.specs.declared.sessions.SessionState.TheVariants as states
-use Rattle.st_rules.specs.declared.sessions.Taken.{Taken}
-use Rattle.st_rules.specs.declared.sessions.Taken.TheVariants as takes
-use Rattle.st_rules.specs.Authority as authority
-use Rattle.st_rules.specs.Locks as locks
 use Rattle.st_rules.specs.Names as names
 use Rattle.st_rules.specs.Sessions as sessions
 use Rattle.st_rules.specs.Server as sv
-use Rattle.st_rules.specs.Server.{ServerState, ServerTurn, Replied, turn, sender, life_in, reply, say, tell, steal_at, steal_from, steal, steal_each, thefts, suspect_client, refuse_epoch, rule, keep_and_reply, keep, serve, request_by, request, of_epoch, by_body, refuse_suspect, by_suspicion, receive_from, receive, take_input, suspect_unless, suspect_each, suspecting, suspecting_on, tell_granted, grant_by, grant_waiting, granting, tell_demanded, demand_by, demanding, server_step}
-use Rattle.st_lemmas.proofs.Tables.{find_map, found_at}
-use Rattle.st_laws_requests.specs.Replies.ServedRequests.{IsBehind, Reached}
-use Rattle.st_laws_requests.proofs.Clients.{keep_client}
-use Rattle.st_laws_steps.proofs.Server.Taking.{FreshState, Found, found_for, fresh_state, if_either}
-
--- the same names
-abbrev Same : ServerTurn → ServerTurn → Type 0
-Same t u = u.state.stable.names ≡ t.state.stable.names
-
--- the same sessions
-abbrev Kept : ServerTurn → ServerTurn → Type 0
-Kept t u = u.state.sessions ≡ t.state.sessions
-
--- a session whose reply is kept reached the number
-stored_reached : (t : sessions.Sessions) (c : ClientId) (number : ℕ) (b : Body) (x : Session) → sessions.session_of t c ≡ Some x → FreshState number x.state → IsBehind (sessions.session_of (sessions.store t c number b) c) x.life.0 number
-unfolding sessions.store sessions.keep_reply
-stored_reached t c number b x e f =
-    subst (λ o. IsBehind o x.life.0 number) (sym (find_map (sessions.is_session_of c) (sessions.keep_of c number b) (λ x. ap (λ (z : ClientId). z.0 == c.0) (keep_client c number b x)) t.rows ∙ ap (option_map (sessions.keep_of c number b)) e))
-    (go (sessions.is_session_of c x) (found_at (sessions.is_session_of c) t.rows x e).0)
-  where
-    is : (y : SessionState) → FreshState number y → Reached number (sessions.kept_state number b y)
-    is (states.Live last r) f = omega arith
-    is states.Ended f = tt
-
-    go : (z : Bool) → z ≡ true → IsBehind (Some (if z then sessions.keep_reply number b x else x)) x.life.0 number
-    go true q = inr (refl, is x.state f)
-    go false q = cc
+use Rattle.st_rules.specs.Server.{ServerState, ServerTurn, Replied, sender, reply, tell, steal_from, suspect_client, rule, keep_and_reply, server_step}
+use Rattle.st_laws_requests.specs.Replies.ServedRequests.{IsBehind}
+use Rattle.st_laws_requests.proofs.Replies.Served.{stored_reached}
+use Rattle.st_laws_requests.proofs.Rules.{ruled}
+use Rattle.st_trace.specs.Server.Edits.{AtThefts, AtInput, AtSuspicion, AtGrants, AtDemands, Served, Ruled, Edit, TakesTimers, Steals, Welcomes, Begins}
+use Rattle.st_trace.specs.Server.Edits.{Replaces, PutsOff, Sees, Reasserts, Serves, Repeats, Refuses, Suspects, Grants, Demands}
+use Rattle.st_trace.proofs.Server.Walk.{walk_in_two}
 
 -- The rule of a request for a name replies, and leaves the sessions.
 pub record Replies (t : ServerTurn) (a : Replied) : Type 0 where
@@ -97,7 +65,8 @@ y_not_holder t ino g = record { body = _; is = refl; kept = refl }
 y_remove : (t : ServerTurn) (h : Header) (dir : ℕ) (x : List ℕ) (g : GrantNo) (r : Res ℕ EntryRefusal) → Replies t (sv.remove_found t h dir x g r)
 unfolding sv.remove_found sv.remove_ino sv.remove_file sv.remove_dir
 y_remove t h dir x g (Err r) = y_refused t r
-y_remove t h dir x g (Ok ino) = y_if t (sv.is_file t ino) _ _ (y_if t (sv.holds t h ino g modes.X) _ _ (y_removed t _) (y_not_holder t ino g)) (y_if t (g.0 == 0) _ _ (y_changed t _) (y_refused t _))
+y_remove t h dir x g (Ok ino) = y_if t (sv.is_file t ino) _ _ (y_if t (sv.holds t h ino g modes.X) _ _ (y_removed t _) (y_not_holder t ino g))
+    (y_if t (g.0 == 0) _ _ (y_changed t _) (y_refused t _))
 
 pub name_replies : (t : ServerTurn) (now : Stamp) (h : Header) (op : NameOp) → Replies t (rule t now h (bd.Name op))
 unfolding rule sv.name sv.remove
@@ -108,126 +77,64 @@ name_replies t now h (Remove dir x g) = y_remove t h dir x g _
 name_replies t now h (Rename dir x dir2 x2) = y_changed t _
 name_replies t now h (ListFrom dir after) = y_listed t _
 
--- The request is served, and its session reaches its number; or the names stay.
-module _ (t : ServerTurn) (h : Header) (op : NameOp) where
-  abbrev Behind : ServerTurn → Type 0
-  Behind u = IsBehind (sessions.session_of u.state.sessions (sender h)) h.life h.number
+-- The names stay, or the request that came is served, and its session reaches its number.
+module _ (x : ServerState) (now : Stamp) (m : Message) where
+  abbrev Same : ServerTurn → Type 0
+  Same t = t.state.stable.names ≡ x.stable.names
+
+  abbrev Behind : Message → ServerTurn → Type 0
+  Behind k t = IsBehind (sessions.session_of t.state.sessions (sender k.header)) k.header.life k.header.number
 
   abbrev D : ServerTurn → Type 0
-  D u = Same t u ⊎ Behind u
+  D t = Same t ⊎ Behind m t
 
-  d_serve : (now : Stamp) → sv.take t h ≡ takes.Fresh → D (serve h (rule t now h (bd.Name op)))
-  unfolding serve keep keep_and_reply reply
-  d_serve now q = inr (go (rule t now h (bd.Name op)).reply (name_replies t now h op).is)
-    where
-      a : Replied
-      a = rule t now h (bd.Name op)
+  steals : (t u : ServerTurn) → Edit x now (Control m) AtThefts t u → Same t → Same u
+  unfolding steal_from
+  steals t u (TakesTimers _ e) p = p
+  steals t u (Steals _ c y h e) p = p
 
-      z : Found t.state.sessions (sender h) (life_in h) (FreshState h.number)
-      z = found_for t.state.sessions (sender h) (life_in h) (sv.epoch_in h) h.number takes.Fresh (FreshState h.number) q (λ r. cc r) (λ r. cc r) (λ r. cc r) (λ x r. fresh_state h.number x r)
+  serves : (t u : ServerTurn) (k : Message) (b : Body) → Served x now (Control m) t k → Ruled now t k.header k.body u b → Behind k (keep_and_reply u k.header b)
+  unfolding keep_and_reply reply
+  serves t u k b s r =
+      let z = s.in_life in
+      let kept = (ruled (λ t. Unit {0}) (λ t x a b c o. tt) (λ t x o. tt) now t k.header k.body u b r tt).1 in
+      subst (λ l. IsBehind (sessions.session_of (sessions.store u.state.sessions (sender k.header) k.header.number b) (sender k.header)) l
+      k.header.number) z.of_life
+      (stored_reached u.state.sessions (sender k.header) k.header.number b z.session
+      (ap (λ (v : sessions.Sessions). sessions.session_of v (sender k.header)) kept ∙ z.is)
+      (record { last = z.last; reply = z.old; is = z.state; next = s.next }))
 
-      found : sessions.session_of (rule t now h (bd.Name op)).turn.state.sessions (sender h) ≡ Some z.session
-      found = ap (λ (u : sessions.Sessions). sessions.session_of u (sender h)) (name_replies t now h op).kept ∙ z.is
+  came : (k : Message) → Control m ≡ Control k → k ≡ m
+  came k e = cc
 
-      go : (o : Option Body) → o ≡ Some (name_replies t now h op).body → Behind (keep h (rule t now h (bd.Name op)).turn o)
-      go None e = cc e
-      go (Some b) e = subst (λ l. IsBehind (sessions.session_of (sessions.store (rule t now h (bd.Name op)).turn.state.sessions (sender h) h.number b) (sender h)) l h.number) z.of_life (stored_reached (rule t now h (bd.Name op)).turn.state.sessions (sender h) h.number b z.session found z.state)
+  takes : (t u : ServerTurn) → Edit x now (Control m) AtInput t u → Same t → D u
+  unfolding reply suspect_client
+  takes t u (Welcomes _ k y g e a f) p = inl p
+  takes t u (Begins _ k g f) p = inl p
+  takes t u (Replaces _ k y g e a f r) p = inl p
+  takes t u (PutsOff _ k y g e a f r) p = inl p
+  takes t u (Sees _ k ino g h b e) p = inl p
+  takes t u (Reasserts _ k rows r on f) p = inl p
+  takes t u (Serves _ k v b s e r) p = inr (subst (λ (z : Message). Behind z (keep_and_reply v k.header b)) (came k s.asked.heard.came.is) (serves t v k b s r))
+  takes t u (Repeats _ k y b a e f g z) p = inl p
+  takes t u (Refuses _ k b r) p = inl p
 
-  d_request_by : (now : Stamp) (x : Taken Body) → sv.take t h ≡ x → D (request_by t now h (bd.Name op) x)
-  unfolding request_by refuse_epoch reply
-  d_request_by now takes.OtherEpoch q = inl refl
-  d_request_by now takes.NoSession q = inl refl
-  d_request_by now takes.Stale q = inl refl
-  d_request_by now (takes.Again b) q = inl refl
-  d_request_by now takes.OutOfOrder q = inl refl
-  d_request_by now takes.Fresh q = d_serve now q
+  suspects : (t u : ServerTurn) → Edit x now (Control m) AtSuspicion t u → D t → D u
+  unfolding suspect_client
+  suspects t u (Suspects _ c r is q f h e o) d = d
 
-  d_by_suspicion : (now : Stamp) (x : Option Stamp) → D (by_suspicion t now h (bd.Name op) x)
-  unfolding by_suspicion by_body of_epoch request refuse_epoch reply refuse_suspect
-  d_by_suspicion now None = if_either D (h.epoch == t.state.stable.epoch.0) _ _ (d_request_by now (sv.take t h) refl) (inl refl)
-  d_by_suspicion now (Some start) = inl refl
+  grants : (t u : ServerTurn) → Edit x now (Control m) AtGrants t u → D t → D u
+  unfolding tell
+  grants t u (Grants _ w off h e f) d = d
 
--- The passes leave names and sessions.
-record Stays (t u : ServerTurn) : Type 0 where
-  pub names_ : Same t u
-  pub sessions_ : Kept t u
-
-still : (t : ServerTurn) → Stays t t
-still t = record { names_ = refl; sessions_ = refl }
-
-after_that : (t u v : ServerTurn) → Stays t u → Stays u v → Stays t v
-after_that t u v a b = record { names_ = b.names_ ∙ a.names_; sessions_ = b.sessions_ ∙ a.sessions_ }
-
-s_suspects : (now : Stamp) (cs : List ClientId) (t : ServerTurn) → Stays t (suspect_each now cs t)
-unfolding suspect_each suspect_unless suspect_client
-s_suspects now [] t = still t
-s_suspects now (c ∷ cs) t = after_that t (suspect_unless t now c) _ (if_either (Stays t) (authority.may_ack t.state.authority c) _ _ (record { names_ = refl; sessions_ = refl }) (still t)) (s_suspects now cs (suspect_unless t now c))
-
-s_suspecting : (t : ServerTurn) (now : Stamp) (i : ServerInput) → Stays t (suspecting_on t now i)
-unfolding suspecting_on suspecting
-s_suspecting t now Tick = s_suspects now _ t
-s_suspecting t now (Control m) = still t
-
-s_told : (rs : List (ClientId × Life × ℕ × GrantNo × Mode)) (t : ServerTurn) → Stays t (tell_granted rs t)
-unfolding tell_granted tell
-s_told [] t = still t
-s_told (r ∷ rs) t = after_that t (tell t r.0 r.1 (bd.Granted r.2 r.3 r.4)) _ (record { names_ = refl; sessions_ = refl }) (s_told rs (tell t r.0 r.1 (bd.Granted r.2 r.3 r.4)))
-
-s_granting : (t : ServerTurn) (now : Stamp) → Stays t (granting t now)
-unfolding granting grant_waiting grant_by
-s_granting t now = if_either (Stays t) (sv.in_grace t now) t _ (still t) (after_that t (sv.with_locks (locks.next_grants t.state.locks).locks t) _ (record { names_ = refl; sessions_ = refl }) (s_told (locks.next_grants t.state.locks).granted (sv.with_locks (locks.next_grants t.state.locks).locks t)))
-
-s_demanded : (rs : List (ClientId × Life × ℕ × GrantNo × Mode)) (t : ServerTurn) → Stays t (tell_demanded rs t)
-unfolding tell_demanded tell
-s_demanded [] t = still t
-s_demanded (r ∷ rs) t = after_that t (tell t r.0 r.1 (bd.Demand r.2 r.3 r.4)) _ (record { names_ = refl; sessions_ = refl }) (s_demanded rs (tell t r.0 r.1 (bd.Demand r.2 r.3 r.4)))
-
-s_demanding : (t : ServerTurn) (now : Stamp) (i : ServerInput) → Stays t (demanding t now i)
-unfolding demanding demand_by
-s_demanding t now i = let z = s_demanded _ _ in record { names_ = z.names_; sessions_ = z.sessions_ }
-
--- thefts leave names
-s_steal : (t : ServerTurn) (c : ClientId) (x : Option Session) → Same t (steal_at t c x)
-unfolding steal_at steal_from
-s_steal t c None = refl
-s_steal t c (Some x) = refl
-
-s_steals : (cs : List ClientId) (t : ServerTurn) → Same t (steal_each cs t)
-unfolding steal_each steal
-s_steals [] t = refl
-s_steals (c ∷ cs) t = s_steals cs (steal_at t c (sessions.session_of t.state.sessions c)) ∙ s_steal t c (sessions.session_of t.state.sessions c)
-
-received : (t : ServerTurn) (now : Stamp) (m : Message) (op : NameOp) → m.body ≡ bd.Name op → D t m.header op (take_input t now (Control m))
-unfolding take_input receive receive_from
-received t now m op e = if_either (D t m.header op) (sv.is_for t.state m.header) _ _ (subst (λ b. D t m.header op (by_suspicion t now m.header b (authority.started t.state.authority (sender m.header)))) (sym e) (d_by_suspicion t m.header op now (authority.started t.state.authority (sender m.header)))) (inl refl)
+  demands : (t u : ServerTurn) → Edit x now (Control m) AtDemands t u → D t → D u
+  unfolding tell
+  demands t u (Demands _ w r y e h f o d) q = q
 
 -- The whole step, with a request for a name.
 pub step_serves : (x : ServerState) (now : Stamp) (m : Message) (op : NameOp) → m.body ≡ bd.Name op →
-    ((server_step x now (Control m)).state.stable.names ≡ x.stable.names) ⊎ IsBehind (sessions.session_of (server_step x now (Control m)).state.sessions (sender m.header)) m.header.life m.header.number
-unfolding server_step thefts
-step_serves x now m op e = go took
-  where
-    t : ServerTurn
-    t = thefts (turn x []) now
-
-    u : ServerTurn
-    u = take_input t now (Control m)
-
-    v : ServerTurn
-    v = suspecting_on u now (Control m)
-
-    w : ServerTurn
-    w = granting v now
-
-    passes : Stays u (demanding w now (Control m))
-    passes = after_that u v (demanding w now (Control m)) (s_suspecting u now (Control m)) (after_that v w (demanding w now (Control m)) (s_granting v now) (s_demanding w now (Control m)))
-
-    theft : Same (turn x []) t
-    theft = s_steals (authority.over x.authority now) (sv.with_authority (authority.still_running x.authority now) (turn x []))
-
-    took : D t m.header op (take_input (thefts (turn x []) now) now (Control m))
-    took = received t now m op e
-
-    go : D t m.header op u → ((demanding w now (Control m)).state.stable.names ≡ x.stable.names) ⊎ IsBehind (sessions.session_of (demanding w now (Control m)).state.sessions (sender m.header)) m.header.life m.header.number
-    go (inl p) = inl (passes.names_ ∙ p ∙ theft)
-    go (inr b) = inr (subst (λ z. IsBehind (sessions.session_of z (sender m.header)) m.header.life m.header.number) (sym passes.sessions_) b)
+    ((server_step x now (Control m)).state.stable.names ≡ x.stable.names)
+    ⊎ IsBehind (sessions.session_of (server_step x now (Control m)).state.sessions (sender m.header)) m.header.life m.header.number
+step_serves x now m op e =
+    walk_in_two x now (Control m) (Same x now m) (D x now m) (steals x now m) (λ t p. inl p) (takes x now m) (suspects x now m) (grants x now m)
+    (demands x now m) refl

@@ -1,4 +1,3 @@
 pub mod Clash
 pub mod Client
 pub mod Lives
-pub mod Server

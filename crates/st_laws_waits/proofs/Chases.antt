@@ -31,7 +31,7 @@ use Rattle.st_laws_refine.proofs.Server.Changes.{suspect_other, suspect_own}
 use Rattle.st_laws_refine.proofs.Server.OneRow.{row_found}
 use Rattle.st_laws_refine.proofs.Server.Thefts.{over_has}
 use Rattle.st_laws_refine.proofs.Server.Walk.{w_demanding, w_granting, w_message, w_suspecting}
-use Rattle.st_laws_refine.proofs.Server.Walk.{thefts_quiet}
+use Rattle.st_trace.proofs.Server.Input.{thefts_begun}
 use Rattle.st_laws_waits.specs.Bounds.{DemandInTime, InTime, RowsHaveSessions, SinceInTime}
 use Rattle.st_laws_waits.specs.Chase.{ChasedBy, ChasedDemand, ChasedRow, ChasedSince, IsFirst, Others, Repeated, RepeatedRow, Silent, answers_for}
 use Rattle.st_laws_waits.proofs.Chasing.{Chasing, Kept, Waits, chase_edit, not_gone}
@@ -96,7 +96,7 @@ module _ (k : Config) (last : ℕ) (now : Stamp) (w : Waiter) (n : ServerState) 
       t = suspecting (thefts (turn n []) now) now
 
       suspected : C Tick kept x t
-      suspected = w_suspecting n now Tick (C Tick kept x) (chase_edit w R k last now Tick kept (steal_wait k) n.grace n off p q s.past (behind Tick kept x)) (thefts (turn n []) now) (thefts_quiet n now) (robbed_of Tick kept x)
+      suspected = w_suspecting n now (C Tick kept x) (chase_edit w R k last now Tick kept (steal_wait k) n.grace n off p q s.past (behind Tick kept x)) (thefts (turn n []) now) (thefts_begun n now).quiet (robbed_of Tick kept x)
 
       u : ServerTurn
       u = demanding (granting t now) now Tick

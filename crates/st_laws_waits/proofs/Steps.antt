@@ -14,7 +14,7 @@ use Rattle.st_rules.specs.Leases.{steal_wait}
 use Rattle.st_rules.specs.Server.{ServerState, ServerTurn, demanding, granting, grant_waiting, in_grace, server_step, suspecting, suspecting_on, take_input, thefts, turn}
 use Rattle.st_laws_refine.specs.Server.Edits.{WishInput}
 use Rattle.st_laws_refine.proofs.Server.Walk.{w_demanding, w_granting, w_message, w_suspecting}
-use Rattle.st_laws_refine.proofs.Server.Walk.{thefts_quiet}
+use Rattle.st_trace.proofs.Server.Input.{thefts_begun}
 use Rattle.st_laws_waits.specs.Bounds.{AllBlocked, InTime, RowsHaveSessions}
 use Rattle.st_laws_waits.specs.WithinStep.{WithinStep}
 use Rattle.st_laws_waits.proofs.Demanding.{pass_blocked, pass_demanded}
@@ -80,7 +80,7 @@ module _ (k : Config) (last : ℕ) (now : Stamp) (n : ServerState) (p : 1 ≤ k.
   pub suspected : WithinStep k (steal_wait k) now.0 now n.grace (suspecting (thefts (turn n []) now) now)
   suspected =
       ticked k (steal_wait k) last now n.grace (thefts (turn n []) now) robbed.config
-      (w_suspecting n now Tick (WithinStep k (steal_wait k) last now n.grace) (λ t u e o. edit k (steal_wait k) last now n.grace n Tick t u p q s.past e o) (thefts (turn n []) now) (thefts_quiet n now) robbed)
+      (w_suspecting n now (WithinStep k (steal_wait k) last now n.grace) (λ t u e o. edit k (steal_wait k) last now n.grace n Tick t u p q s.past e o) (thefts (turn n []) now) (thefts_begun n now).quiet robbed)
 
   -- behind a message's rule
   pub received : (m : Message) → WishInput (Control m) → WithinStep k (steal_wait k) last now n.grace (take_input (thefts (turn n []) now) now (Control m))

@@ -21,7 +21,7 @@ use Rattle.st_lemmas.proofs.Numbers.{numbered_below, numbered_has, numbered_othe
 use Rattle.st_lemmas.proofs.Tables.{and_true, has_map, same_or_not}
 use Rattle.st_laws_bounds.proofs.Counters.Events.{Cases, ClientSteps, ServerSteps}
 use Rattle.st_laws_bounds.proofs.Counters.Clients.{flush_rows, served_all}
-use Rattle.st_laws_bounds.proofs.Counters.Stables.{fewer, step_grows}
+use Rattle.st_trace.proofs.Server.Growth.{picked_are_fewer, step_grows}
 use Rattle.st_laws_bounds.proofs.Counters.Tallies.{told_all}
 use Rattle.st_laws_bounds.proofs.Counters.Reading.{length_both, same_many}
 
@@ -56,9 +56,9 @@ replaced n w v s old new there ss own h d node e = go (same_or_not d.0 s.0)
 
 stepped : (n : ℕ) (w : World) (s : ServerId) (input : ServerInput) (node : ServerNode) → NodeLow n node → NodeLow (n + 1) (ServerSteps w s node input).node
 stepped n w s input node h =
-    let g = step_grows 32768 node.state (clock_of w (nodes.Server s)) input h.blocks in
-    let x = h.epochs in let y = h.inodes in let z = h.births in let a = ap (λ (e : Rattle.st_base.specs.declared.ids.Epoch.Epoch). e.0) g.epoch in let b = g.inodes in let c = g.births in
-    record { epochs = omega (arith, x, a); inodes = omega (arith, y, b); births = omega (arith, z, c); blocks = subst (λ (bs : List BlockAt). length bs ≤ 32768) (sym g.blocks) h.blocks }
+    let g = step_grows node.state (clock_of w (nodes.Server s)) input in
+    let x = h.epochs in let y = h.inodes in let z = h.births in let a = ap (λ (e : Rattle.st_base.specs.declared.ids.Epoch.Epoch). e.0) g.epoch in let b = g.inodes in let c = g.placed in let d = h.blocks in
+    record { epochs = omega (arith, x, a); inodes = omega (arith, y, b); births = omega (arith, z, c, d); blocks = subst (λ (bs : List BlockAt). length bs ≤ 32768) (sym g.blocks) h.blocks }
 
 pub cases : (n : ℕ) → Cases (NodesLow n) (NodesLow (n + 1))
 unfolding ev.client_took ev.server_took sv.crash sv.start sv.begin_epoch
@@ -107,7 +107,7 @@ product m n k l a b = grind arith
 
 few_blocks : (id : ServerId) (servers disks blocks : ℕ) → disks ≤ 8 → blocks ≤ 4096 → length (extents.own_blocks (extents.no_extents id servers disks blocks)) ≤ 32768
 unfolding extents.own_blocks
-few_blocks id servers disks blocks d b = total (flat_many (extents.blocks_of x) blocks (λ p. one p) (filter (extents.is_own_disk x) (numbers 0 disks))) (fewer (extents.is_own_disk x) (numbers 0 disks)) (how_many 0 disks)
+few_blocks id servers disks blocks d b = total (flat_many (extents.blocks_of x) blocks (λ p. one p) (filter (extents.is_own_disk x) (numbers 0 disks))) (picked_are_fewer (extents.is_own_disk x) (numbers 0 disks)) (how_many 0 disks)
   where
     x : extents.Extents
     x = extents.no_extents id servers disks blocks

@@ -1,64 +1,48 @@
 -- The clients of which a server has locks, waits and timers are sixteen at most, and no rule but thefts notes a theft.
-use Rattle.std.proofs.Common.{◌≡◌, ◌≢◌, ◌⊎◌, ℕ, zero, suc, ◌+◌, ◌≤◌, ◌<◌, ◌==◌, Bool, true, false, List, [], ◌∷◌, ◌++◌, length, refl, sym, ap, ◌∙◌, subst, inl, inr, arith, leb-true, if◌then◌else◌, ◌&&◌, Result, Ok, Err}
-use Rattle.std.specs.Prelude.{not, filter, find, map, nat_le, nat_lt, is_some, Option, Some, None, cond}
-use Rattle.std.specs.List.{list_any}
+use Rattle.std.proofs.Common.{◌≡◌, ◌≢◌, ◌⊎◌, ℕ, ◌+◌, ◌≤◌, ◌<◌, ◌==◌, Bool, true, false, List, [], ◌∷◌, ◌++◌, length, refl, sym, ap, ◌∙◌, subst}
+use Rattle.std.proofs.Common.{inl, inr, arith, leb-true, if◌then◌else◌, ◌&&◌}
+use Rattle.std.specs.Prelude.{not, filter, find, map, nat_le, nat_lt, is_some, Option, Some, None}
 use Rattle.std.proofs.lemmas.Bool.{eq-eqb, ltb-true, ltb-false}
 use Rattle.st_base.specs.declared.config.Config.{Config}
 use Rattle.st_base.specs.declared.ids.ClientId.{ClientId}
 use Rattle.st_base.specs.declared.ids.GrantNo.{GrantNo}
 use Rattle.st_base.specs.declared.ids.Life.{Life}
-use Rattle.st_base.specs.declared.ids.PageNo.{PageNo}
 use Rattle.st_base.specs.declared.ids.Stamp.{Stamp}
 use Rattle.st_base.specs.declared.mode.Mode.{Mode}
 use Rattle.st_base.specs.declared.mode.Mode.TheVariants as modes
-use Rattle.st_base.specs.Mode.{covers}
-use Rattle.st_base.specs.declared.names.NameRow.{NameRow}
 use Rattle.st_messages.specs.declared.message.Body.{Body}
 use Rattle.st_messages.specs.declared.message.Body.TheVariants as bodies
 use Rattle.st_messages.specs.declared.message.Header.{Header}
-use Rattle.st_messages.specs.declared.message.Why.TheVariants as why
-use Rattle.st_messages.specs.declared.message.NameOp.{NameOp}
-use Rattle.st_messages.specs.declared.message.NameOp.TheVariants.{Lookup, Create, Mkdir, Remove, Rename, List as ListFrom}
 use Rattle.st_messages.specs.declared.output.Note.TheVariants as notes
 use Rattle.st_messages.specs.declared.output.Output.{Output}
 use Rattle.st_messages.specs.declared.output.Output.TheVariants as outputs
-use Rattle.st_rules.specs.declared.authority.AcceptRefusal.{AcceptRefusal}
-use Rattle.st_rules.specs.declared.authority.AcceptRefusal.TheVariants as refusals
 use Rattle.st_rules.specs.declared.authority.Suspect.{Suspect}
-use Rattle.st_rules.specs.declared.extents.AllocateRefusal.{AllocateRefusal}
 use Rattle.st_rules.specs.declared.input.ServerInput.{ServerInput}
 use Rattle.st_rules.specs.declared.input.ServerInput.TheVariants.{Tick, Control}
-use Rattle.st_rules.specs.declared.locks.AcquireRefusal.{AcquireRefusal}
-use Rattle.st_rules.specs.declared.locks.AcquireRefusal.TheVariants.{TooManyLocks}
 use Rattle.st_rules.specs.declared.locks.LockRow.{LockRow}
 use Rattle.st_rules.specs.declared.locks.RowDemand.{RowDemand}
 use Rattle.st_rules.specs.declared.locks.Waiter.{Waiter}
-use Rattle.st_rules.specs.declared.names.EntryRefusal.{EntryRefusal}
-use Rattle.st_rules.specs.declared.names.EntryRefusal.TheVariants.{IsDir}
-use Rattle.st_rules.specs.declared.sessions.Hello.{Hello}
-use Rattle.st_rules.specs.declared.sessions.Hello.TheVariants as hellos
 use Rattle.st_rules.specs.declared.sessions.Session.{Session}
-use Rattle.st_rules.specs.declared.sessions.Taken.{Taken}
-use Rattle.st_rules.specs.declared.sessions.Taken.TheVariants as takes
 use Rattle.st_rules.specs.Authority as authority
 use Rattle.st_rules.specs.Authority.{Authority}
-use Rattle.st_rules.specs.Extents.{Extents}
-use Rattle.st_rules.specs.Grace as grace
-use Rattle.st_rules.specs.Keys.{client, page_no, rising, server_node}
+use Rattle.st_rules.specs.Keys.{page_no}
 use Rattle.st_rules.specs.Locks as locks
 use Rattle.st_rules.specs.Locks.{Locks}
-use Rattle.st_rules.specs.Names as names
-use Rattle.st_rules.specs.Names.{Changed}
 use Rattle.st_rules.specs.Sessions as sessions
 use Rattle.st_rules.specs.Server as sv
 use Rattle.st_rules.specs.Server.{ServerState, ServerTurn}
 use Rattle.st_lemmas.specs.Lists.{Has}
-use Rattle.st_lemmas.proofs.Keys.{rising_has}
 use Rattle.st_lemmas.proofs.Puts.{has_put}
-use Rattle.st_lemmas.proofs.Tables.{and_true, found_at, has_append, has_filter, has_map}
+use Rattle.st_lemmas.proofs.Tables.{and_true, has_append, has_filter, has_map}
 use Rattle.st_laws_bounds.proofs.Counters.Weights.{weigh, weigh_both}
 use Rattle.st_laws_bounds.proofs.Counters.Clients.{of_theft}
 use Rattle.st_laws_bounds.proofs.Counters.Reading.{same_many}
+use Rattle.st_trace.specs.Server.Edits as edits
+use Rattle.st_trace.specs.Server.Edits.{AtInput, AtSuspicion, AtGrants, AtDemands, AtOnce, InTurn, Ruled, Edit, Welcomes, Begins, Replaces, PutsOff, Sees}
+use Rattle.st_trace.specs.Server.Edits.{Reasserts, Serves, Repeats, Refuses, Suspects, Grants, Demands}
+use Rattle.st_trace.proofs.Server.Growth.{picked_are_fewer}
+use Rattle.st_trace.proofs.Server.Input.{thefts_begun}
+use Rattle.st_trace.proofs.Server.Walk.{w_demanding, w_granting, w_input, w_suspecting}
 
 -- a client's number
 pub record InRange (n : ℕ) : Type 0 where
@@ -94,10 +78,6 @@ g_none t = record { locks = λ h. h; timers = λ g h. h; thefts = refl }
 
 g_then : (t u v : ServerTurn) → G t u → G u v → G t v
 g_then t u v x y = record { locks = λ h. y.locks (x.locks h); timers = λ g h. y.timers (x.locks g) (x.timers g h); thefts = y.thefts ∙ x.thefts }
-
-g_if : (t : ServerTurn) (b : Bool) (u v : ServerTurn) → G t u → G t v → G t (if b then u else v)
-g_if t true u v f g = f
-g_if t false u v f g = g
 
 -- more is said, and no theft
 g_says : (t : ServerTurn) (os : List Output) → weigh of_theft os ≡ 0 → G t (record t { out = t.out ++ os })
@@ -163,37 +143,13 @@ queued_few l c life ino mode n h = go (locks.wait_of l c ino)
     go (Some x) =
         record {
           rows = h.rows;
-          waits = λ w i. let z = has_map (locks.raise c ino mode) l.waiters w i in subst (λ (d : ClientId). InRange d.0) (sym (ap (λ (y : Waiter). y.client) z.2 ∙ raised z.0 (locks.is_wait_of c ino z.0))) (h.waits z.0 z.1);
+          waits = λ w i. let z = has_map (locks.raise c ino mode) l.waiters w i in
+              subst (λ (d : ClientId). InRange d.0) (sym (ap (λ (y : Waiter). y.client) z.2 ∙ raised z.0 (locks.is_wait_of c ino z.0))) (h.waits z.0 z.1);
         }
 
--- what an acquired lock leaves
-abbrev AcquiredFew : Locks → Result locks.Acquired AcquireRefusal → Type 0
-AcquiredFew l (Ok a) = FewLocks l → FewLocks a.locks
-AcquiredFew l (Err r) = Unit {0}
-
-acquired_few : (l : Locks) (c : ClientId) (life : Life) (ino : ℕ) (mode : Mode) (grants : Bool) → InRange c.0 → AcquiredFew l (locks.acquire l c life ino mode grants)
-unfolding locks.acquire locks.acquire_at locks.acquire_new locks.acquire_over locks.acquire_more locks.acquire_granted locks.acquire_queued locks.acquire_held
-acquired_few l c life ino mode grants n = go (locks.row_of l c ino)
-  where
-    more : (b : Bool) → FewLocks l → FewLocks (if b then locks.acquire_granted l c life ino mode else locks.acquire_queued l c life ino mode).locks
-    more true = granted_few l c life ino mode n
-    more false = queued_few l c life ino mode n
-
-    new : (b : Bool) → AcquiredFew l (if b then Ok (locks.acquire_more l c life ino mode grants) else Err TooManyLocks)
-    new true = more (locks.may_grant l c ino mode grants)
-    new false = tt
-
-    over : (r : LockRow) (b : Bool) → AcquiredFew l (Ok (if b then locks.acquire_held l r else locks.acquire_more l c life ino mode grants))
-    over r true = λ h. h
-    over r false = more (locks.may_grant l c ino mode grants)
-
-    go : (o : Option LockRow) → AcquiredFew l (locks.acquire_at l c life ino mode grants o)
-    go None = new (locks.has_place l c ino)
-    go (Some r) = over r (covers r.mode mode)
-
-released_few : (l : Locks) (c : ClientId) (life : Life) (ino : ℕ) (g : GrantNo) (to : Mode) → FewLocks l → FewLocks (locks.released l c life ino g to).locks
-unfolding locks.released locks.released_at locks.release locks.release_to locks.not_released locks.lowered
-released_few l c life ino g to h = go (locks.row_of l c ino)
+released_few : (l : Locks) (c : ClientId) (ino : ℕ) (to : Mode) → FewLocks l → FewLocks (locks.release_to l c ino to)
+unfolding locks.release_to locks.lowered
+released_few l c ino to h = to_mode to
   where
     shared : (r : LockRow) (b : Bool) → (if b then locks.lowered r else r).client ≡ r.client
     shared r true = refl
@@ -204,45 +160,19 @@ released_few l c life ino g to h = go (locks.row_of l c ino)
     to_mode modes.S = same_rows l (locks.lower c ino) (λ r. shared r (locks.is_row_of c ino r)) h
     to_mode modes.X = same_rows l (locks.lower c ino) (λ r. shared r (locks.is_row_of c ino r)) h
 
-    under : (b : Bool) → FewLocks (if b then locks.release l c ino to else locks.not_released l).locks
-    under true = to_mode to
-    under false = h
-
-    go : (o : Option LockRow) → FewLocks (locks.released_at l c life ino g to o).locks
-    go None = h
-    go (Some r) = under (locks.is_under life g r)
-
 -- what an accepted reassertion leaves
-abbrev AcceptedFew : Locks → Result grace.Accepted AcceptRefusal → Type 0
-AcceptedFew l (Ok a) = FewLocks l → FewLocks a.locks
-AcceptedFew l (Err r) = Unit {0}
-
-accepted_few : (g : Option grace.Grace) (now : Stamp) (c : ClientId) (life : Life) (rows : List (ℕ × GrantNo × Mode)) (l : Locks) (s : sessions.Sessions) → InRange c.0 → AcceptedFew l (grace.accept g now c life rows l s)
-unfolding grace.accept grace.accept_rows grace.accept_earlier grace.accept_own grace.accept_installed grace.accepted locks.install locks.install_at locks.with_rows
-accepted_few g now c life rows l s n = on (grace.is_on g now)
+installed_few : (l : Locks) (c : ClientId) (life : Life) (rows : List (ℕ × GrantNo × Mode)) → InRange c.0 → FewLocks l →
+    FewLocks (locks.with_rows l c life rows)
+unfolding locks.with_rows
+installed_few l c life rows n h =
+    record { rows = λ r i. both r (has_append l.rows (map (locks.installed c life) rows) r i); waits = h.waits }
   where
     one : (r : LockRow) → (x : ℕ × GrantNo × Mode) × Has x rows × (r ≡ locks.installed c life x) → InRange r.client.0
     one r (x, i, e) = subst (λ (y : LockRow). InRange y.client.0) (sym e) n
 
-    both : FewLocks l → (r : LockRow) → Has r l.rows ⊎ Has r (map (locks.installed c life) rows) → InRange r.client.0
-    both h r (inl i) = h.rows r i
-    both h r (inr i) = one r (has_map (locks.installed c life) rows r i)
-
-    installs : (o : Option (ℕ × ClientId)) → AcceptedFew l (grace.accept_installed s c life (locks.install_at l c life rows o))
-    installs None = λ h. record { rows = λ r i. both h r (has_append l.rows (map (locks.installed c life) rows) r i); waits = h.waits }
-    installs (Some x) = tt
-
-    own : (o : Option ℕ) → AcceptedFew l (grace.accept_own l s c life rows o)
-    own None = installs (locks.first_conflict l c rows)
-    own (Some ino) = tt
-
-    earlier : (o : Option (ℕ × GrantNo × Mode)) → AcceptedFew l (grace.accept_earlier l s c life rows o)
-    earlier None = own (grace.own_older l c life)
-    earlier (Some row) = tt
-
-    on : (b : Bool) → AcceptedFew l (if b then grace.accept_rows l s c life rows else Err (refusals.GraceOver (grace.grace_start g) now))
-    on true = earlier (find (grace.is_new_grant l) rows)
-    on false = tt
+    both : (r : LockRow) → Has r l.rows ⊎ Has r (map (locks.installed c life) rows) → InRange r.client.0
+    both r (inl i) = h.rows r i
+    both r (inr i) = one r (has_map (locks.installed c life) rows r i)
 
 -- Timers.
 has_suspect : (s : Suspect) (xs : List Suspect) (y : Suspect) → Has y (authority.with_suspect s xs) → (y ≡ s) ⊎ Has y xs
@@ -255,7 +185,8 @@ has_suspect s (x ∷ xs) y h = go (nat_lt s.client.0 x.client.0) h (has_suspect 
     behind (inl e) = inl e
     behind (inr i) = inr (inr i)
 
-    go : (b : Bool) → Has y (if b then s ∷ (x ∷ xs) else x ∷ authority.with_suspect s xs) → (Has y (authority.with_suspect s xs) → (y ≡ s) ⊎ Has y xs) → (y ≡ s) ⊎ Has y (x ∷ xs)
+    go : (b : Bool) → Has y (if b then s ∷ (x ∷ xs) else x ∷ authority.with_suspect s xs) →
+        (Has y (authority.with_suspect s xs) → (y ≡ s) ⊎ Has y xs) → (y ≡ s) ⊎ Has y (x ∷ xs)
     go true (inl e) f = inl e
     go true (inr i) f = inr i
     go false (inl e) f = inr (inl e)
@@ -271,10 +202,12 @@ rising_with s (x ∷ xs) d r = go (nat_lt s.client.0 x.client.0) refl (rising_wi
     low e y (inr i) = let a = ltb-true s.client.0 x.client.0 e in let b = r.first y i in omega (arith, a, b)
 
     high : nat_lt s.client.0 x.client.0 ≡ false → (y : Suspect) → (y ≡ s) ⊎ Has y xs → x.client.0 < y.client.0
-    high e y (inl q) = subst (λ (z : Suspect). x.client.0 < z.client.0) (sym q) (let a = ltb-false s.client.0 x.client.0 e in let b = d x (inl refl) in omega (arith, a, b))
+    high e y (inl q) = subst (λ (z : Suspect). x.client.0 < z.client.0) (sym q) (let a = ltb-false s.client.0 x.client.0 e in
+        let b = d x (inl refl) in omega (arith, a, b))
     high e y (inr i) = r.first y i
 
-    go : (b : Bool) → nat_lt s.client.0 x.client.0 ≡ b → Rising (authority.with_suspect s xs) → Rising (if b then s ∷ (x ∷ xs) else x ∷ authority.with_suspect s xs)
+    go : (b : Bool) → nat_lt s.client.0 x.client.0 ≡ b → Rising (authority.with_suspect s xs) →
+        Rising (if b then s ∷ (x ∷ xs) else x ∷ authority.with_suspect s xs)
     go true e f = record { first = low e; rest = r }
     go false e f = record { first = λ y i. high e y (has_suspect s xs y i); rest = f }
 
@@ -287,19 +220,22 @@ rising_filter p (x ∷ xs) r = go (p x) (rising_filter p xs r.rest)
     go false h = h
 
 -- sixteen at most
-few_rising : (n : ℕ) (xs : List Suspect) → n ≤ 16 → ((x : Suspect) → Has x xs → n < x.client.0) → ((x : Suspect) → Has x xs → x.client.0 ≤ 16) → Rising xs → length xs + n ≤ 16
+few_rising : (n : ℕ) (xs : List Suspect) → n ≤ 16 → ((x : Suspect) → Has x xs → n < x.client.0) → ((x : Suspect) → Has x xs → x.client.0 ≤ 16) →
+    Rising xs → length xs + n ≤ 16
 few_rising n [] l f g r = omega (arith, l)
 few_rising n (x ∷ xs) l f g r =
     let a = few_rising x.client.0 xs (g x (inl refl)) r.first (λ y i. g y (inr i)) r.rest in let b = f x (inl refl) in omega (arith, a, b)
 
 pub few_timers : (a : Authority) → FewTimers a → length a.suspects ≤ 16
-few_timers a h = let z = few_rising 0 a.suspects (omega arith) (λ x i. let b = (h.timers x i).least in omega (arith, b)) (λ x i. (h.timers x i).most) h.rising in omega (arith, z)
+few_timers a h = let z = few_rising 0 a.suspects (omega arith) (λ x i. let b = (h.timers x i).least in
+    omega (arith, b)) (λ x i. (h.timers x i).most) h.rising in omega (arith, z)
 
 no_other : (c : ClientId) (xs : List Suspect) → is_some (find (authority.is_suspect c) xs) ≡ false → (y : Suspect) → Has y xs → y.client.0 ≢ c.0
 no_other c [] e y i = absurd i
 no_other c (x ∷ xs) e y i = go (x.client.0 == c.0) refl e i (λ g j. no_other c xs g y j)
   where
-    go : (b : Bool) → (x.client.0 == c.0) ≡ b → is_some (if b then Some x else find (authority.is_suspect c) xs) ≡ false → Has y (x ∷ xs) → (is_some (find (authority.is_suspect c) xs) ≡ false → Has y xs → y.client.0 ≢ c.0) → y.client.0 ≢ c.0
+    go : (b : Bool) → (x.client.0 == c.0) ≡ b → is_some (if b then Some x else find (authority.is_suspect c) xs) ≡ false → Has y (x ∷ xs) →
+        (is_some (find (authority.is_suspect c) xs) ≡ false → Has y xs → y.client.0 ≢ c.0) → y.client.0 ≢ c.0
     go true f g j k = cc
     go false f g (inl q) k = λ r. clash (sym f ∙ eq-eqb x.client.0 c.0 (ap (λ (z : Suspect). z.client.0) (sym q) ∙ r))
       where
@@ -312,50 +248,33 @@ not_true true e = cc
 not_true false e = refl
 
 -- Suspicion.
-g_suspect : (t : ServerTurn) (now : Stamp) (c : ClientId) → InRange c.0 → G t (sv.suspect_client t now c)
+g_suspect : (t : ServerTurn) (now : Stamp) (c : ClientId) → (FewLocks t.state.locks → InRange c.0) → G t (sv.suspect_client t now c)
 unfolding sv.suspect_client authority.suspect authority.start_timer locks.drop_waits
 g_suspect t now c n =
     record {
       locks = λ h. fewer_waits t.state.locks (λ w. not (locks.is_wait_by c w)) h;
-      timers = λ g h. go (authority.may_ack t.state.authority c) refl h;
+      timers = λ g h. go (n g) (authority.may_ack t.state.authority c) refl h;
       thefts = let z = weigh_both of_theft t.out (outputs.Note (notes.Suspected c now) ∷ []) in omega (arith, z);
     }
   where
     s : Suspect
     s = authority.new_suspect c now
 
-    one : FewTimers t.state.authority → (x : Suspect) → (x ≡ s) ⊎ Has x t.state.authority.suspects → InRange x.client.0
-    one h x (inl e) = subst (λ (y : Suspect). InRange y.client.0) (sym e) n
-    one h x (inr i) = h.timers x i
+    one : InRange c.0 → FewTimers t.state.authority → (x : Suspect) → (x ≡ s) ⊎ Has x t.state.authority.suspects → InRange x.client.0
+    one k h x (inl e) = subst (λ (y : Suspect). InRange y.client.0) (sym e) k
+    one k h x (inr i) = h.timers x i
 
-    go : (b : Bool) → authority.may_ack t.state.authority c ≡ b → FewTimers t.state.authority → FewTimers (if b then authority.start_timer t.state.authority c now else t.state.authority)
-    go true e h =
+    go : InRange c.0 → (b : Bool) → authority.may_ack t.state.authority c ≡ b → FewTimers t.state.authority →
+        FewTimers (if b then authority.start_timer t.state.authority c now else t.state.authority)
+    go k true e h =
         record {
-          timers = λ x i. one h x (has_suspect s t.state.authority.suspects x i);
-          rising = rising_with s t.state.authority.suspects (no_other c t.state.authority.suspects (not_true (is_some (authority.suspect_of t.state.authority c)) e)) h.rising;
+          timers = λ x i. one k h x (has_suspect s t.state.authority.suspects x i);
+          rising = rising_with s t.state.authority.suspects (no_other c t.state.authority.suspects
+              (not_true (is_some (authority.suspect_of t.state.authority c)) e)) h.rising;
         }
-    go false e h = h
+    go k false e h = h
 
-g_unless : (t : ServerTurn) (now : Stamp) (c : ClientId) → InRange c.0 → G t (sv.suspect_unless t now c)
-unfolding sv.suspect_unless
-g_unless t now c n = g_if t (authority.may_ack t.state.authority c) _ _ (g_suspect t now c n) (g_none t)
-
--- Greetings, seen demands and reassertions.
-g_dropped : (t : ServerTurn) (c : ClientId) → G t (sv.with_locks (locks.drop_waits t.state.locks c) t)
-unfolding locks.drop_waits
-g_dropped t c = g_locks t _ (fewer_waits t.state.locks (λ w. not (locks.is_wait_by c w)))
-
-g_greet_as : (t : ServerTurn) (now : Stamp) (h : Header) (x : Hello) → InRange h.from → G t (sv.greet_as t now h x)
-unfolding sv.greet_as
-g_greet_as t now h hellos.Welcome n = g_reply t h bodies.Welcome
-g_greet_as t now h hellos.Replaced n = let u = sv.with_locks (locks.drop_waits t.state.locks (sv.sender h)) t in g_then t u (sv.reply u h bodies.Welcome) (g_dropped t (sv.sender h)) (g_reply u h bodies.Welcome)
-g_greet_as t now h hellos.Old n = g_none t
-g_greet_as t now h hellos.Wait n = let u = sv.suspect_client t now (sv.sender h) in let b = bodies.Nack why.Suspect now.0 0 in g_then t u (sv.reply u h b) (g_suspect t now (sv.sender h) n) (g_reply u h b)
-
-g_hello : (t : ServerTurn) (now : Stamp) (h : Header) → InRange h.from → G t (sv.hello t now h)
-unfolding sv.hello sv.greet sv.greet_by sv.refuse_in_grace
-g_hello t now h n = g_if t (sv.in_grace t now) _ _ (g_reply t h _) (g_greet_as (sv.with_sessions (sessions.hello t.state.sessions (sv.sender h) (sv.life_in h) (locks.has_rows t.state.locks (sv.sender h))).sessions t) now h _ n)
-
+-- Seen demands.
 seen_same : (c : ClientId) (ino : ℕ) (g : GrantNo) (r : LockRow) → (locks.observe c ino g r).client ≡ r.client
 unfolding locks.answered_row
 seen_same c ino g r = go (locks.is_row_of c ino r) (r.g.0 == g.0)
@@ -365,239 +284,11 @@ seen_same c ino g r = go (locks.is_row_of c ino r) (r.g.0 == g.0)
     go true false = refl
     go false b = refl
 
-g_seen : (t : ServerTurn) (h : Header) (ino : ℕ) (g : GrantNo) → G t (sv.demand_seen t h ino g)
-unfolding sv.demand_seen sv.observe_demand locks.demand_seen
-g_seen t h ino g = g_if t (sv.is_served t h) _ _ (g_locks t _ (same_rows t.state.locks (locks.observe (sv.sender h) ino g) (seen_same (sv.sender h) ino g))) (g_none t)
+g_seen : (t : ServerTurn) (c : ClientId) (ino : ℕ) (g : GrantNo) → G t (sv.with_locks (locks.demand_seen t.state.locks c ino g) t)
+unfolding locks.demand_seen
+g_seen t c ino g = g_locks t _ (same_rows t.state.locks (locks.observe c ino g) (seen_same c ino g))
 
-g_reassert_by : (t : ServerTurn) (h : Header) (r : Result grace.Accepted AcceptRefusal) → AcceptedFew t.state.locks r → G t (sv.reassert_by t h r)
-unfolding sv.reassert_by
-g_reassert_by t h (Ok a) f = let u = sv.with_sessions a.sessions (sv.with_locks a.locks t) in g_then t u (sv.reply u h bodies.Reasserted) (g_locks t a.locks f) (g_reply u h bodies.Reasserted)
-g_reassert_by t h (Err r) f = g_reply t h (sv.refused_reassertion r)
-
-g_again : (t : ServerTurn) (h : Header) (x : Taken Body) → G t (sv.reassert_again t h x)
-unfolding sv.reassert_again
-g_again t h (takes.Again body) = g_reply t h body
-g_again t h taken = g_none t
-
-g_reassert : (t : ServerTurn) (now : Stamp) (h : Header) (rows : List (ℕ × GrantNo × Mode)) → InRange h.from → G t (sv.reassert t now h rows)
-unfolding sv.reassert sv.reassert_new
-g_reassert t now h rows n =
-    g_if t (sessions.knows t.state.sessions (sv.sender h) (sv.life_in h)) _ _ (g_again t h (sv.take t h))
-    (g_reassert_by t h (grace.accept t.state.grace now (sv.sender h) (sv.life_in h) rows t.state.locks t.state.sessions) (accepted_few t.state.grace now (sv.sender h) (sv.life_in h) rows t.state.locks t.state.sessions n))
-
--- Rules of requests.
-g_acquire_by : (t : ServerTurn) (ino : ℕ) (mode : Mode) (r : Result locks.Acquired AcquireRefusal) → AcquiredFew t.state.locks r → G t (sv.acquire_by t ino mode r).turn
-unfolding sv.acquire_by
-g_acquire_by t ino mode (Ok a) f = g_locks t a.locks f
-g_acquire_by t ino mode (Err r) f = g_none t
-
-g_changed : (t : ServerTurn) (r : Result Changed EntryRefusal) → G t (sv.name_changed t r).turn
-unfolding sv.name_changed sv.name_refused
-g_changed t (Ok d) = g_none t
-g_changed t (Err r) = g_none t
-
-g_remove_by : (t : ServerTurn) (r : Result Changed EntryRefusal) → G t (sv.remove_by t r).turn
-unfolding sv.remove_by sv.name_refused sv.cut_whole sv.cut_pages locks.drop_file_waits
-g_remove_by t (Ok d) =
-    let u = sv.with_locks (record t.state.locks { waiters = filter (λ w. not (locks.is_wait_on d.ino w)) t.state.locks.waiters }) t in
-    let x : G t u = g_locks t _ (fewer_waits t.state.locks (λ w. not (locks.is_wait_on d.ino w))) in
-    record { locks = x.locks; timers = x.timers; thefts = (g_says t (outputs.Note (notes.CutDone (sv.file (sv.with_locks (locks.drop_file_waits t.state.locks d.ino) (sv.with_names d.names t)) d.ino) (page_no 0)) ∷ []) refl).thefts }
-g_remove_by t (Err r) = g_none t
-
-g_remove_found : (t : ServerTurn) (h : Header) (dir : ℕ) (name : List ℕ) (g : GrantNo) (r : Result ℕ EntryRefusal) → G t (sv.remove_found t h dir name g r).turn
-unfolding sv.remove_found sv.remove_ino sv.remove_file sv.remove_dir sv.not_holder sv.name_refused
-g_remove_found t h dir name g (Ok ino) = at (sv.is_file t ino)
-  where
-    file : (b : Bool) → G t (if b then sv.remove_by t (names.remove t.state.stable.names dir name) else sv.not_holder t ino g).turn
-    file true = g_remove_by t (names.remove t.state.stable.names dir name)
-    file false = g_none t
-
-    folder : (b : Bool) → G t (if b then sv.name_changed t (names.remove t.state.stable.names dir name) else sv.name_refused t IsDir).turn
-    folder true = g_changed t (names.remove t.state.stable.names dir name)
-    folder false = g_none t
-
-    at : (b : Bool) → G t (if b then sv.remove_file t h dir name g ino else sv.remove_dir t dir name g).turn
-    at true = file (sv.holds t h ino g modes.X)
-    at false = folder (g.0 == 0)
-g_remove_found t h dir name g (Err r) = g_none t
-
-g_found : (t : ServerTurn) (r : Result ℕ EntryRefusal) → G t (sv.name_found t r).turn
-unfolding sv.name_found sv.name_refused
-g_found t (Ok ino) = g_none t
-g_found t (Err r) = g_none t
-
-g_listed : (t : ServerTurn) (r : Result (List NameRow) EntryRefusal) → G t (sv.names_listed t r).turn
-unfolding sv.names_listed sv.name_refused
-g_listed t (Ok rows) = g_none t
-g_listed t (Err r) = g_none t
-
-g_name : (t : ServerTurn) (h : Header) (op : NameOp) → G t (sv.name t h op).turn
-unfolding sv.name sv.remove
-g_name t h (Lookup dir n) = g_found t _
-g_name t h (Create dir n) = g_changed t _
-g_name t h (Mkdir dir n) = g_changed t _
-g_name t h (Remove dir n g) = g_remove_found t h dir n g _
-g_name t h (Rename dir n dir2 n2) = g_changed t _
-g_name t h (ListFrom dir after) = g_listed t _
-
-g_allocate_by : (t : ServerTurn) (ino : ℕ) (page : PageNo) (count : ℕ) (r : Result Extents AllocateRefusal) → G t (sv.allocate_by t ino page count r).turn
-unfolding sv.allocate_by sv.with_extents_told
-g_allocate_by t ino page count (Ok x) = g_none t
-g_allocate_by t ino page count (Err r) = g_none t
-
-g_allocate : (t : ServerTurn) (h : Header) (ino : ℕ) (g : GrantNo) (page : PageNo) (count : ℕ) → G t (sv.allocate t h ino g page count).turn
-unfolding sv.allocate sv.allocate_held sv.allocate_pages sv.no_file sv.not_holder
-g_allocate t h ino g page count = at (sv.is_file t ino)
-  where
-    held : (b : Bool) → G t (if b then sv.allocate_pages t ino page count else sv.not_holder t ino g).turn
-    held true = g_allocate_by t ino page count _
-    held false = g_none t
-
-    at : (b : Bool) → G t (if b then sv.allocate_held t h ino g page count else sv.no_file t ino).turn
-    at true = held (sv.holds t h ino g modes.X)
-    at false = g_none t
-
-g_cut : (t : ServerTurn) (h : Header) (ino : ℕ) (g : GrantNo) (from : PageNo) → G t (sv.cut t h ino g from).turn
-unfolding sv.cut sv.cut_held sv.cut_from sv.cut_pages sv.no_file sv.not_holder
-g_cut t h ino g from = at (sv.is_file t ino)
-  where
-    held : (b : Bool) → G t (if b then sv.cut_from t ino from else sv.not_holder t ino g).turn
-    held true = g_says t (_ ∷ []) refl
-    held false = g_none t
-
-    at : (b : Bool) → G t (if b then sv.cut_held t h ino g from else sv.no_file t ino).turn
-    at true = held (sv.holds t h ino g modes.X)
-    at false = g_none t
-
-g_map : (t : ServerTurn) (h : Header) (ino : ℕ) (g : GrantNo) (page : PageNo) → G t (sv.map t h ino g page).turn
-unfolding sv.map sv.map_held sv.map_page sv.with_extents_told sv.no_file sv.not_holder
-g_map t h ino g page = at (sv.is_file t ino)
-  where
-    held : (b : Bool) → G t (if b then sv.map_page t ino page else sv.not_holder t ino g).turn
-    held true = g_none t
-    held false = g_none t
-
-    at : (b : Bool) → G t (if b then sv.map_held t h ino g page else sv.no_file t ino).turn
-    at true = held (sv.holds t h ino g modes.S)
-    at false = g_none t
-
-g_rule : (t : ServerTurn) (now : Stamp) (h : Header) (body : Body) → InRange h.from → G t (sv.rule t now h body).turn
-unfolding sv.rule sv.keep_alive sv.acquire sv.acquire_lock sv.no_file sv.released sv.released_by
-g_rule t now h bodies.KeepAlive n = g_none t
-g_rule t now h (bodies.Acquire ino mode) n = at (sv.is_file t ino)
-  where
-    at : (b : Bool) → G t (if b then sv.acquire_lock t now h ino mode else sv.no_file t ino).turn
-    at true = g_acquire_by t ino mode (locks.acquire t.state.locks (sv.sender h) (sv.life_in h) ino mode (sv.grants_now t now)) (acquired_few t.state.locks (sv.sender h) (sv.life_in h) ino mode (sv.grants_now t now) n)
-    at false = g_none t
-g_rule t now h (bodies.Released ino g to) n = g_locks t _ (released_few t.state.locks (sv.sender h) (sv.life_in h) ino g to)
-g_rule t now h (bodies.Map ino g page) n = g_map t h ino g page
-g_rule t now h (bodies.Allocate ino g page count) n = g_allocate t h ino g page count
-g_rule t now h (bodies.Cut ino g from) n = g_cut t h ino g from
-g_rule t now h (bodies.Name op) n = g_name t h op
-g_rule t now h body n = g_none t
-
-g_keep : (t : ServerTurn) (h : Header) (o : Option Body) → G t (sv.keep h t o)
-unfolding sv.keep sv.keep_and_reply
-g_keep t h None = g_none t
-g_keep t h (Some body) = g_reply (sv.with_sessions (sessions.store t.state.sessions (sv.sender h) h.number body) t) h body
-
-g_request_by : (t : ServerTurn) (now : Stamp) (h : Header) (body : Body) (x : Taken Body) → InRange h.from → G t (sv.request_by t now h body x)
-unfolding sv.request_by sv.refuse_epoch sv.serve
-g_request_by t now h body takes.OtherEpoch n = g_reply t h _
-g_request_by t now h body takes.NoSession n = g_reply t h _
-g_request_by t now h body takes.Stale n = g_none t
-g_request_by t now h body (takes.Again kept) n = g_reply t h kept
-g_request_by t now h body takes.OutOfOrder n = g_none t
-g_request_by t now h body takes.Fresh n = let a = sv.rule t now h body in g_then t a.turn (sv.keep h a.turn a.reply) (g_rule t now h body n) (g_keep a.turn h a.reply)
-
-g_of_epoch : (t : ServerTurn) (now : Stamp) (h : Header) (body : Body) → InRange h.from → G t (sv.of_epoch t now h body)
-unfolding sv.of_epoch sv.refuse_epoch sv.request
-g_of_epoch t now h body n = g_if t (h.epoch == t.state.stable.epoch.0) (sv.request t now h body) (sv.refuse_epoch t h) (request body) (g_reply t h _)
-  where
-    request : (b : Body) → G t (sv.request t now h b)
-    request (bodies.Reassert rows) = g_reassert t now h rows n
-    request b = g_request_by t now h b (sv.take t h) n
-
-g_by_body : (t : ServerTurn) (now : Stamp) (h : Header) (body : Body) → InRange h.from → G t (sv.by_body t now h body)
-unfolding sv.by_body
-g_by_body t now h bodies.Hello n = g_hello t now h n
-g_by_body t now h (bodies.DemandSeen ino g) n = g_seen t h ino g
-g_by_body t now h body n = g_of_epoch t now h body n
-
-g_refused : (t : ServerTurn) (h : Header) (start : Stamp) (body : Body) → G t (sv.refuse_suspect t h start body)
-unfolding sv.refuse_suspect
-g_refused t h start (bodies.DemandSeen ino g) = g_none t
-g_refused t h start body = g_reply t h _
-
-g_suspicion : (t : ServerTurn) (now : Stamp) (h : Header) (body : Body) (o : Option Stamp) → InRange h.from → G t (sv.by_suspicion t now h body o)
-unfolding sv.by_suspicion
-g_suspicion t now h body None n = g_by_body t now h body n
-g_suspicion t now h body (Some start) n = g_refused t h start body
-
-pub g_input : (t : ServerTurn) (now : Stamp) (i : ServerInput) → G t (sv.take_input t now i)
-unfolding sv.take_input sv.receive sv.receive_from
-g_input t now Tick = g_none t
-g_input t now (Control m) = go (sv.is_for t.state m.header) refl
-  where
-    range : sv.is_for t.state m.header ≡ true → InRange m.header.from
-    range e =
-        let z = and_true (nat_le 1 m.header.from) (nat_le m.header.from 16) (and_true (m.header.to == server_node t.state.id) (sv.is_client_node m.header.from) e).1 in
-        record { least = leb-true 1 m.header.from z.0; most = leb-true m.header.from 16 z.1 }
-
-    go : (b : Bool) → sv.is_for t.state m.header ≡ b → G t (if b then sv.receive_from t now m.header m.body else t)
-    go true e = g_suspicion t now m.header m.body _ (range e)
-    go false e = g_none t
-
--- Suspecting: the clients of rows.
-pub g_each : (now : Stamp) (cs : List ClientId) (t : ServerTurn) → ((c : ClientId) → Has c cs → InRange c.0) → G t (sv.suspect_each now cs t)
-unfolding sv.suspect_each
-g_each now [] t n = g_none t
-g_each now (c ∷ cs) t n = g_then t (sv.suspect_unless t now c) (sv.suspect_each now cs (sv.suspect_unless t now c)) (g_unless t now c (n c (inl refl))) (g_each now cs (sv.suspect_unless t now c) (λ d i. n d (inr i)))
-
-pub unanswered_few : (l : Locks) (now : Stamp) (k : Config) → FewLocks l → (c : ClientId) → Has c (locks.unanswered l now k) → InRange c.0
-unfolding locks.unanswered
-unanswered_few l now k h c i =
-    let a = has_map client (rising (map locks.client_of_row (filter (locks.is_overdue k now) l.rows))) c i in
-    let b = has_map locks.client_of_row (filter (locks.is_overdue k now) l.rows) a.0 (rising_has (map locks.client_of_row (filter (locks.is_overdue k now) l.rows)) a.0 a.1) in
-    subst (λ (d : ClientId). InRange d.0) (sym a.2) (subst InRange (sym b.2) (h.rows b.0 (has_filter (locks.is_overdue k now) l.rows b.0 b.1).0))
-
--- Granting and demanding.
-pub waiter_is : (l : Locks) (o : Option Waiter) (w : Waiter) → locks.grantable l o ≡ Some w → o ≡ Some w
-waiter_is l None w e = e
-waiter_is l (Some v) w e = go (list_any (locks.stands_against v.client v.ino v.mode) l.rows) e
-  where
-    go : (b : Bool) → cond b None (Some v) ≡ Some w → ◌≡◌ {A = Option Waiter} (Some v) (Some w)
-    go true e = cc
-    go false e = e
-
-file_few : (ino k : ℕ) (p : locks.Granting) → FewLocks p.locks → FewLocks (locks.grant_file ino k p).locks
-unfolding locks.grant_file locks.grant_waiter
-file_few ino zero p h = h
-file_few ino (suc k) p h = go (locks.next_waiter p.locks ino) refl (λ r s. file_few ino k r s)
-  where
-    go : (o : Option Waiter) → locks.next_waiter p.locks ino ≡ o → ((r : locks.Granting) → FewLocks r.locks → FewLocks (locks.grant_file ino k r).locks) → FewLocks (locks.grant_and (locks.grant_file ino k) p o).locks
-    go None e r = h
-    go (Some w) e r =
-        r (locks.grant_waiter p w)
-        (granted_few p.locks w.client w.life w.ino w.mode (h.waits w (found_at (locks.is_wait_on ino) p.locks.waiters w (waiter_is p.locks (find (locks.is_wait_on ino) p.locks.waiters) w e)).1) h)
-
-files_few : (inos : List ℕ) (p : locks.Granting) → FewLocks p.locks → FewLocks (locks.grant_files inos p).locks
-unfolding locks.grant_files
-files_few [] p h = h
-files_few (ino ∷ inos) p h = files_few inos (locks.grant_file ino (length p.locks.waiters) p) (file_few ino (length p.locks.waiters) p h)
-
-g_told : (rs : List (ClientId × Life × ℕ × GrantNo × Mode)) (t : ServerTurn) → G t (sv.tell_granted rs t)
-unfolding sv.tell_granted
-g_told [] t = g_none t
-g_told (r ∷ rs) t = let u = sv.tell t r.0 r.1 (bodies.Granted r.2 r.3 r.4) in g_then t u (sv.tell_granted rs u) (g_tell t r.0 r.1 (bodies.Granted r.2 r.3 r.4)) (g_told rs u)
-
-pub g_granting : (t : ServerTurn) (now : Stamp) → G t (sv.granting t now)
-unfolding sv.granting sv.grant_waiting sv.grant_by locks.next_grants
-g_granting t now = g_if t (sv.in_grace t now) t _ (g_none t) (g_then t u (sv.tell_granted (locks.next_grants t.state.locks).granted u) (g_locks t (locks.next_grants t.state.locks).locks (files_few (locks.waited_files t.state.locks) (locks.nothing_granted t.state.locks))) (g_told (locks.next_grants t.state.locks).granted u))
-  where
-    u : ServerTurn
-    u = sv.with_locks (locks.next_grants t.state.locks).locks t
-
+-- Demands.
 demand_few : (r : LockRow) (d : RowDemand) (l : Locks) → FewLocks l → FewLocks (locks.with_demand r d l)
 unfolding locks.demanded
 demand_few r d l h = same_rows l (locks.demand_of r.client r.ino d) (λ x. one x (locks.is_row_of r.client r.ino x)) h
@@ -606,7 +297,8 @@ demand_few r d l h = same_rows l (locks.demand_of r.client r.ino d) (λ x. one x
     one x true = refl
     one x false = refl
 
-demand_row_few : (k : Config) (now : Stamp) (tick : Bool) (to : Mode) (o : Option LockRow) (p : locks.Demanding) → FewLocks p.locks → FewLocks (locks.demand_row k now tick to o p).locks
+demand_row_few : (k : Config) (now : Stamp) (tick : Bool) (to : Mode) (o : Option LockRow) (p : locks.Demanding) → FewLocks p.locks →
+    FewLocks (locks.demand_row k now tick to o p).locks
 unfolding locks.demand_row locks.demand_with
 demand_row_few k now tick to None p h = h
 demand_row_few k now tick to (Some r) p h = go (locks.demand_now k now tick to r.demand)
@@ -615,35 +307,99 @@ demand_row_few k now tick to (Some r) p h = go (locks.demand_now k now tick to r
     go None = h
     go (Some d) = demand_few r d p.locks h
 
-pub demand_clients_few : (k : Config) (now : Stamp) (tick : Bool) (ino : ℕ) (to : Mode) (cs : List ClientId) (p : locks.Demanding) → FewLocks p.locks → FewLocks (locks.demand_clients k now tick ino to cs p).locks
+pub demand_clients_few : (k : Config) (now : Stamp) (tick : Bool) (ino : ℕ) (to : Mode) (cs : List ClientId) (p : locks.Demanding) →
+    FewLocks p.locks → FewLocks (locks.demand_clients k now tick ino to cs p).locks
 unfolding locks.demand_clients
 demand_clients_few k now tick ino to [] p h = h
-demand_clients_few k now tick ino to (c ∷ cs) p h = demand_clients_few k now tick ino to cs (locks.demand_row k now tick to (locks.row_of p.locks c ino) p) (demand_row_few k now tick to (locks.row_of p.locks c ino) p h)
+demand_clients_few k now tick ino to (c ∷ cs) p h = demand_clients_few k now tick ino to cs
+    (locks.demand_row k now tick to (locks.row_of p.locks c ino) p) (demand_row_few k now tick to (locks.row_of p.locks c ino) p h)
 
-pub demand_for_few : (k : Config) (now : Stamp) (tick : Bool) (ss : List ClientId) (o : Option Waiter) (p : locks.Demanding) → FewLocks p.locks → FewLocks (locks.demand_for k now tick ss o p).locks
+pub demand_for_few : (k : Config) (now : Stamp) (tick : Bool) (ss : List ClientId) (o : Option Waiter) (p : locks.Demanding) → FewLocks p.locks →
+    FewLocks (locks.demand_for k now tick ss o p).locks
 unfolding locks.demand_for
 demand_for_few k now tick ss None p h = h
 demand_for_few k now tick ss (Some w) p h = demand_clients_few k now tick w.ino (locks.wish w.mode) (locks.to_demand p.locks ss w) p h
 
-demand_files_few : (k : Config) (now : Stamp) (tick : Bool) (ss : List ClientId) (inos : List ℕ) (p : locks.Demanding) → FewLocks p.locks → FewLocks (locks.demand_files k now tick ss inos p).locks
-unfolding locks.demand_files
-demand_files_few k now tick ss [] p h = h
-demand_files_few k now tick ss (ino ∷ inos) p h = demand_files_few k now tick ss inos (locks.demand_for k now tick ss (find (locks.is_wait_on ino) p.locks.waiters) p) (demand_for_few k now tick ss (find (locks.is_wait_on ino) p.locks.waiters) p h)
+-- What each change of a step keeps, after the thefts.
+in_range : (node : ℕ) → sv.is_client_node node ≡ true → InRange node
+in_range node e = let z = and_true (nat_le 1 node) (nat_le node 16) e in record { least = leb-true 1 node z.0; most = leb-true node 16 z.1 }
 
-g_demanded : (rs : List (ClientId × Life × ℕ × GrantNo × Mode)) (t : ServerTurn) → G t (sv.tell_demanded rs t)
-unfolding sv.tell_demanded
-g_demanded [] t = g_none t
-g_demanded (r ∷ rs) t = let u = sv.tell t r.0 r.1 (bodies.Demand r.2 r.3 r.4) in g_then t u (sv.tell_demanded rs u) (g_tell t r.0 r.1 (bodies.Demand r.2 r.3 r.4)) (g_demanded rs u)
+g_ruled : (now : Stamp) (t : ServerTurn) (h : Header) (b : Body) (u : ServerTurn) (r : Body) → InRange h.from → Ruled now t h b u r → G t u
+unfolding sv.cut_pages sv.cut_whole locks.drop_file_waits
+g_ruled now t h b u r n (edits.Tells _ _ x) = g_none t
+g_ruled now t h b u r n (edits.Acquires ino mode a f k (AtOnce g x y)) = g_locks t _ (granted_few t.state.locks (sv.sender h) (sv.life_in h) ino mode n)
+g_ruled now t h b u r n (edits.Acquires ino mode a f k (InTurn g)) = g_locks t _ (queued_few t.state.locks (sv.sender h) (sv.life_in h) ino mode n)
+g_ruled now t h b u r n (edits.Releases ino g to x e f) = g_locks t _ (released_few t.state.locks (sv.sender h) ino to)
+g_ruled now t h b u r n (edits.Allocates ino g p count x f q e) = record { locks = λ h. h; timers = λ g h. h; thefts = refl }
+g_ruled now t h b u r n (edits.Cuts ino g p f q) = let z = g_says t (_ ∷ []) refl in record { locks = z.locks; timers = z.timers; thefts = z.thefts }
+g_ruled now t h b u r n (edits.Creates dir x d e) = record { locks = λ h. h; timers = λ g h. h; thefts = refl }
+g_ruled now t h b u r n (edits.MakesDir dir x d e) = record { locks = λ h. h; timers = λ g h. h; thefts = refl }
+g_ruled now t h b u r n (edits.Renames dir x dir2 x2 d e) = record { locks = λ h. h; timers = λ g h. h; thefts = refl }
+g_ruled now t h b u r n (edits.RemovesDir dir x g ino d l f z e q) = record { locks = λ h. h; timers = λ g h. h; thefts = refl }
+g_ruled now t h b u r n (edits.RemovesFile dir x g ino d l f z e q) =
+    let w = g_says t (outputs.Note (notes.CutDone (sv.file t d.ino) (page_no 0)) ∷ []) refl in
+    record { locks = λ h. fewer_waits t.state.locks (λ w. not (locks.is_wait_on d.ino w)) h; timers = λ g h. h; thefts = w.thefts }
 
-g_demanding : (t : ServerTurn) (now : Stamp) (i : ServerInput) → G t (sv.demanding t now i)
-unfolding sv.demanding sv.demand_by locks.demands_due
-g_demanding t now i = g_then t u (sv.tell_demanded d.due u) (g_locks t d.locks (demand_files_few t.state.config now (sv.is_tick i) (authority.suspects_of t.state.authority) (locks.waited_files t.state.locks) (locks.nothing_demanded t.state.locks))) (g_demanded d.due u)
-  where
-    d : locks.Demanding
-    d = locks.demands_due t.state.locks now (sv.is_tick i) (authority.suspects_of t.state.authority) t.state.config
+module _ (s : ServerState) (now : Stamp) (i : ServerInput) where
+  g_takes : (t u : ServerTurn) → Edit s now i AtInput t u → G t u
+  unfolding sv.keep_and_reply locks.drop_waits
+  g_takes t u (Welcomes _ m y g e a f) = g_reply t m.header _
+  g_takes t u (Begins _ m g f) =
+      let v = sv.with_sessions (sessions.with_new_session (sv.sender m.header) (sv.life_in m.header) t.state.sessions) t in
+      let z = g_reply v m.header bodies.Welcome in record { locks = z.locks; timers = z.timers; thefts = z.thefts }
+  g_takes t u (Replaces _ m y g e a f r) =
+      let v = sv.with_locks (locks.drop_waits t.state.locks (sv.sender m.header))
+      (sv.with_sessions (sessions.with_new_session (sv.sender m.header) (sv.life_in m.header) t.state.sessions) t) in
+      g_then t v (sv.reply v m.header bodies.Welcome)
+      (record { locks = λ h. fewer_waits t.state.locks (λ w. not (locks.is_wait_by (sv.sender m.header) w)) h; timers = λ g h. h; thefts = refl })
+      (g_reply v m.header bodies.Welcome)
+  g_takes t u (PutsOff _ m y g e a f r) =
+      let v = sv.suspect_client t now (sv.sender m.header) in
+      g_then t v u (g_suspect t now (sv.sender m.header) (λ h. in_range m.header.from g.heard.came.from)) (g_reply v m.header _)
+  g_takes t u (Sees _ m ino g h b e) = g_seen t (sv.sender m.header) ino g
+  g_takes t u (Reasserts _ m rows r on f) =
+      let v = sv.with_sessions (sessions.reasserted t.state.sessions (sv.sender m.header) (sv.life_in m.header))
+      (sv.with_locks (locks.with_rows t.state.locks (sv.sender m.header) (sv.life_in m.header) rows) t) in
+      g_then t v u
+      (record {
+        locks = λ h. installed_few t.state.locks (sv.sender m.header) (sv.life_in m.header) rows (in_range m.header.from r.asked.heard.came.from) h;
+        timers = λ g h. h;
+        thefts = refl;
+      }) (g_reply v m.header bodies.Reasserted)
+  g_takes t u (Serves _ m v b y e r) =
+      let w = sv.with_sessions (sessions.store v.state.sessions (sv.sender m.header) m.header.number b) v in
+      let z = g_reply w m.header b in
+      g_then t v u (g_ruled now t m.header m.body v b (in_range m.header.from y.asked.heard.came.from) r)
+      (record { locks = z.locks; timers = z.timers; thefts = z.thefts })
+  g_takes t u (Repeats _ m y b a e f g k) = g_reply t m.header b
+  g_takes t u (Refuses _ m b r) = g_reply t m.header b
 
-    u : ServerTurn
-    u = sv.with_locks d.locks t
+  g_suspects : (t u : ServerTurn) → Edit s now i AtSuspicion t u → G t u
+  g_suspects t u (Suspects _ c r is q f h e o) = g_suspect t now c (λ k. subst (λ (d : ClientId). InRange d.0) e (k.rows r h))
+
+  g_grants : (t u : ServerTurn) → Edit s now i AtGrants t u → G t u
+  g_grants t u (Grants _ w off h e f) =
+      let v = sv.with_locks (locks.grant t.state.locks w.client w.life w.ino w.mode) t in
+      g_then t v u (g_locks t _ (λ k. granted_few t.state.locks w.client w.life w.ino w.mode (k.waits w h) k)) (g_tell v w.client w.life _)
+
+  g_demands : (t u : ServerTurn) → Edit s now i AtDemands t u → G t u
+  g_demands t u (Demands _ w r x e h f o d) =
+      let v = sv.with_locks (locks.with_demand r x t.state.locks) t in
+      g_then t v u (g_locks t _ (demand_few r x t.state.locks)) (g_tell v r.client r.life _)
+
+-- The step, from the thefts to the demands.
+module _ (s : ServerState) (now : Stamp) where
+  abbrev begun : ServerTurn
+  begun = sv.thefts (sv.turn s []) now
+
+  pub before_demands : (i : ServerInput) → G begun (sv.granting (sv.suspecting_on (sv.take_input begun now i) now i) now)
+  unfolding sv.take_input sv.suspecting_on
+  before_demands Tick =
+      w_granting s now Tick (G begun) (λ t u e g. g_then begun t u g (g_grants s now Tick t u e)) _
+      (w_suspecting s now Tick (G begun) (λ t u e g. g_then begun t u g (g_suspects s now Tick t u e)) begun refl (thefts_begun s now).quiet (g_none begun))
+  before_demands (Control m) =
+      w_granting s now (Control m) (G begun) (λ t u e g. g_then begun t u g (g_grants s now (Control m) t u e)) _
+      (w_input s now (Control m) (G begun) (G begun) (λ t g. g) (λ t u e g. g_then begun t u g (g_takes s now (Control m) t u e)) (g_none begun))
 
 -- Thefts: one for each timer that is over.
 pub record Stolen (n : ℕ) (t u : ServerTurn) : Type 0 where
@@ -670,14 +426,6 @@ stolen_each (c ∷ cs) t =
     let a = x.thefts in let b = y.thefts in
     record { locks = λ h. y.locks (x.locks h); timers = y.timers ∙ x.timers; thefts = omega (arith, a, b) }
 
-fewer_many : (p : Suspect → Bool) (xs : List Suspect) → length (filter p xs) ≤ length xs
-fewer_many p [] = omega arith
-fewer_many p (x ∷ xs) = go (p x) (fewer_many p xs)
-  where
-    go : (b : Bool) → length (filter p xs) ≤ length xs → length (if b then x ∷ filter p xs else filter p xs) ≤ length (x ∷ xs)
-    go true h = omega (arith, h)
-    go false h = omega (arith, h)
-
 -- What stands of a server.
 pub record FewClients (s : ServerState) : Type 0 where
   pub locks : FewLocks s.locks
@@ -689,51 +437,40 @@ pub record StepsFew (s : ServerState) (u : ServerTurn) : Type 0 where
   pub thefts : weigh of_theft u.out ≤ 16
 
 pub step_few : (s : ServerState) (now : Stamp) (i : ServerInput) → FewClients s → StepsFew s (sv.server_step s now i)
-unfolding sv.server_step sv.thefts sv.suspecting_on sv.suspecting authority.over authority.still_running
+unfolding sv.server_step sv.thefts authority.over authority.still_running
 step_few s now i h =
     record {
-      clients = record { locks = passes.locks (waits.locks locks_a); timers = passes.timers (waits.locks locks_a) (waits.timers locks_a timers_a) };
+      clients = record { locks = passes.locks locks_a; timers = passes.timers locks_a timers_a };
       thefts =
-          let a = stolen.thefts in let b = waits.thefts in let d = passes.thefts in
-          let e = fewer_many (authority.is_over s.authority.wait now) s.authority.suspects in
+          let a = stolen.thefts in let d = passes.thefts in
+          let e = picked_are_fewer (authority.is_over s.authority.wait now) s.authority.suspects in
           let f = same_many authority.client_of_suspect (filter (authority.is_over s.authority.wait now) s.authority.suspects) in
           let g = few_timers s.authority h.timers in
-          omega (arith, a, b, d, e, f, g);
+          omega (arith, a, d, e, f, g);
     }
   where
-    begun : ServerTurn
-    begun = sv.with_authority (authority.still_running s.authority now) (sv.turn s [])
+    start : ServerTurn
+    start = sv.with_authority (authority.still_running s.authority now) (sv.turn s [])
 
     a : ServerTurn
     a = sv.thefts (sv.turn s []) now
 
-    stolen : Stolen (length (authority.over s.authority now)) begun a
-    stolen = stolen_each (authority.over s.authority now) begun
+    stolen : Stolen (length (authority.over s.authority now)) start a
+    stolen = stolen_each (authority.over s.authority now) start
 
     locks_a : FewLocks a.state.locks
     locks_a = stolen.locks h.locks
 
     timers_a : FewTimers a.state.authority
-    timers_a = subst FewTimers (sym stolen.timers) (record { timers = λ x j. h.timers.timers x (has_filter (λ s. not (authority.is_over h_wait now s)) s.authority.suspects x j).0; rising = rising_filter (λ s. not (authority.is_over h_wait now s)) s.authority.suspects h.timers.rising })
+    timers_a =
+        subst FewTimers (sym stolen.timers)
+        (record {
+          timers = λ x j. h.timers.timers x (has_filter (λ s. not (authority.is_over h_wait now s)) s.authority.suspects x j).0;
+          rising = rising_filter (λ s. not (authority.is_over h_wait now s)) s.authority.suspects h.timers.rising;
+        })
       where
         h_wait : ℕ
         h_wait = s.authority.wait
 
-    b : ServerTurn
-    b = sv.take_input a now i
-
-    input : G a b
-    input = g_input a now i
-
-    on : (x : ServerInput) → G b (sv.suspecting_on b now x)
-    on Tick = g_each now (locks.unanswered b.state.locks now b.state.config) b (unanswered_few b.state.locks now b.state.config (input.locks locks_a))
-    on (Control m) = g_none b
-
-    waits : G a (sv.suspecting_on b now i)
-    waits = g_then a b (sv.suspecting_on b now i) input (on i)
-
-    c : ServerTurn
-    c = sv.suspecting_on b now i
-
-    passes : G c (sv.demanding (sv.granting c now) now i)
-    passes = g_then c (sv.granting c now) (sv.demanding (sv.granting c now) now i) (g_granting c now) (g_demanding (sv.granting c now) now i)
+    passes : G a (sv.demanding (sv.granting (sv.suspecting_on (sv.take_input a now i) now i) now) now i)
+    passes = w_demanding s now i (G a) (λ t u e g. g_then a t u g (g_demands s now i t u e)) _ (before_demands s now i)

@@ -35,7 +35,7 @@ use Rattle.st_rules.specs.ClientState as state
 use Rattle.st_rules.specs.ClientState.{ClientSession, Turn, answer_each, is_open_file, keep, send}
 use Rattle.st_laws_bounds.proofs.Counters.Reading.{AsMany, first_many, length_both, same_many}
 use Rattle.st_laws_bounds.proofs.Counters.Servers.{flat_many}
-use Rattle.st_laws_bounds.proofs.Counters.Stables.{fewer}
+use Rattle.st_trace.proofs.Server.Growth.{picked_are_fewer}
 use Rattle.st_laws_bounds.proofs.Counters.Weights.{note_rises, of_message, of_rise, weigh, weigh_both}
 use Rattle.st_laws_bounds.proofs.FewMessages.Lengths.{put_few, rising_length}
 
@@ -110,7 +110,7 @@ c_answers picked a t =
     let x = weigh_both of_rise t.out (map (state.answer_to a) (filter picked t.operations)) in
     let y = weigh_both of_message t.out (map (state.answer_to a) (filter picked t.operations)) in
     let e = no_commands a (filter picked t.operations) in let f = no_messages a (filter picked t.operations) in
-    let g = fewer (λ o. not (picked o)) t.operations in
+    let g = picked_are_fewer (λ o. not (picked o)) t.operations in
     record { ops = omega (arith, g); dirty = λ h. h; commands = omega (arith, x, e); messages = omega (arith, y, f) }
 
 -- a command is submitted
@@ -298,7 +298,7 @@ few_places ps h =
         let a = same_many {B = ℕ × PageNo} (λ p. (ino, page_no p)) (rising (map pages.page_of_dirty ds)) in
         let b = rising_length (map pages.page_of_dirty ds) in
         let c = same_many pages.page_of_dirty ds in
-        let d = fewer (pages.is_dirty_on ino) ps.dirty in
+        let d = picked_are_fewer (pages.is_dirty_on ino) ps.dirty in
         omega (arith, a, b, c, d, h)
 
 c_writes : (now : Stamp) (tick : Bool) (t : Turn) → length t.here.store.pages.dirty ≤ 64 → C 0 4096 0 t (cp.writes now tick t)

@@ -41,7 +41,7 @@ use Rattle.st_rules.specs.ClientReplies as cr
 use Rattle.st_rules.specs.ClientState as state
 use Rattle.st_rules.specs.ClientState.{ClientSession, Turn, answer_each, send, with_session}
 use Rattle.st_laws_bounds.proofs.Counters.Reading.{same_many}
-use Rattle.st_laws_bounds.proofs.Counters.Stables.{fewer}
+use Rattle.st_trace.proofs.Server.Growth.{picked_are_fewer}
 use Rattle.st_laws_bounds.proofs.Counters.Weights.{of_rise, of_message, weigh, weigh_both}
 use Rattle.st_laws_bounds.proofs.FewMessages.Passing.{C, Costs, c_after, c_answers, c_answers_one, c_if, c_keep, c_none, c_says, c_sends}
 
@@ -210,7 +210,7 @@ harden_few ps ino p h = go (pages.dirty_of ps ino p)
   where
     go : (o : Option DirtyPage) → length (pages.harden_at ps o).dirty ≤ 64
     go None = h
-    go (Some d) = let z = fewer (λ e. not (pages.is_dirty_of d.ino d.page e)) ps.dirty in omega (arith, z, h)
+    go (Some d) = let z = picked_are_fewer (λ e. not (pages.is_dirty_of d.ino d.page e)) ps.dirty in omega (arith, z, h)
 
 pub c_finish : (number : ℕ) (r : Option (Option (Tag × List ℕ))) (t : Turn) → C 0 0 0 t (cl.finish number r t)
 unfolding cl.finish cl.finish_at cl.finish_by cl.done_by cl.finish_command cl.ended_by cl.finish_as cl.failed_as cl.filled_by cl.hardened cl.mark_failed pages.end_command pages.end_at pages.fill pages.fail
@@ -295,7 +295,7 @@ c_lose now t = go t.here.session
         let a = z.ops in let b = z.commands in let c = z.messages in
         let d = weigh_both of_rise t.out (outputs.Note (notes.Lost t.here.server t.here.life) ∷ []) in
         let e = weigh_both of_message t.out (outputs.Note (notes.Lost t.here.server t.here.life) ∷ []) in
-        let f = fewer (λ o. not (state.is_of t.here.server o)) t.operations in
+        let f = picked_are_fewer (λ o. not (state.is_of t.here.server o)) t.operations in
         record { ops = omega (arith, a, f); dirty = λ h. omega arith; commands = omega (arith, b, d); messages = omega (arith, c, e) }
 
     go : (o : Option ClientSession) → C 0 1 0 t (cl.lose_by t now o)

@@ -1,13 +1,11 @@
 -- Whoever has a row, a wait or a timer at a server has a session there: what the rules change of these.
-use Rattle.std.proofs.Common.{◌≡◌, ℕ, zero, suc, ◌⊎◌, Bool, true, false, not, List, [], ◌∷◌, ◌++◌, refl, sym, ap, ◌∙◌, subst, inl, inr}
-use Rattle.std.specs.Prelude.{cond, find, map, length, Option, Some, None, is_some, option_map, nat_lt}
-use Rattle.std.specs.List.{list_any}
+use Rattle.std.proofs.Common.{◌≡◌, ℕ, ◌⊎◌, Bool, true, false, not, List, [], ◌∷◌, ◌++◌, refl, sym, ap, ◌∙◌, subst, inl, inr}
+use Rattle.std.specs.Prelude.{cond, find, map, Option, Some, None, is_some, option_map, nat_lt}
 use Rattle.std.proofs.lemmas.Bool.{eqb-true, eq-eqb}
 use Rattle.st_base.specs.declared.ids.ClientId.{ClientId}
 use Rattle.st_base.specs.declared.ids.GrantNo.{GrantNo}
 use Rattle.st_base.specs.declared.ids.Life.{Life}
 use Rattle.st_base.specs.declared.ids.Stamp.{Stamp}
-use Rattle.st_base.specs.declared.config.Config as base
 use Rattle.st_base.specs.declared.mode.Mode.{Mode}
 use Rattle.st_base.specs.declared.mode.Mode.TheVariants as modes
 use Rattle.st_messages.specs.declared.message.Body.{Body}
@@ -18,7 +16,7 @@ use Rattle.st_rules.specs.declared.locks.Waiter.{Waiter}
 use Rattle.st_rules.specs.declared.sessions.Session.{Session}
 use Rattle.st_rules.specs.Keys.{same_client}
 use Rattle.st_rules.specs.Locks as locks
-use Rattle.st_rules.specs.Locks.{Locks, Granting, Demanding, grant, grantable, next_waiter, grant_waiter, grant_and, grant_file, grant_files, next_grants, demand_now, demand_with, demand_row, demand_clients, demand_for, demand_files, demands_due}
+use Rattle.st_rules.specs.Locks.{Locks, grant}
 use Rattle.st_rules.specs.Sessions as sessions
 use Rattle.st_rules.specs.Sessions.{Sessions}
 use Rattle.st_rules.specs.Authority as authority
@@ -62,7 +60,8 @@ pub client_is : (a b : ClientId) → same_client a b ≡ true → a ≡ b
 client_is a b e = ap (λ n. record { 0 = n }) (eqb-true a.0 b.0 e)
 
 -- Sessions: none goes.
-met_map : (f : Session → Session) → ((x : Session) → (f x).client ≡ x.client) → (v : Sessions) (c : ClientId) → Met v c → Met (record v { rows = map f v.rows }) c
+met_map : (f : Session → Session) → ((x : Session) → (f x).client ≡ x.client) → (v : Sessions) (c : ClientId) → Met v c →
+    Met (record v { rows = map f v.rows }) c
 met_map f k v c h = ap is_some (find_map (sessions.is_session_of c) f (λ x. ap (λ d. same_client d c) (k x)) v.rows) ∙ same (sessions.session_of v c) ∙ h
   where
     same : (o : Option Session) → is_some (option_map f o) ≡ is_some o
@@ -98,29 +97,18 @@ met_with v s c h = go (found_some (sessions.is_session_of c) v.rows h)
         at true q = subst (λ d. Met (sessions.with_session s v) d) (sym (client_is x.client s.client q) ∙ client_is x.client c e) (met_new v s)
         at false q = some_found (sessions.is_session_of c) _ x (has_put_other (sessions.is_session_of s.client) s v.rows x i q) e
 
-pub met_hello : (v : Sessions) (d : ClientId) (life : Life) (rows : Bool) (o : Option Session) (c : ClientId) → Met v c → Met (sessions.hello_at v d life rows o).sessions c
-unfolding sessions.hello_at sessions.hello_by sessions.hello_live sessions.hello_again sessions.hello_higher sessions.hello_ended sessions.begin_session sessions.greeted
-met_hello v d life rows None c h = met_with v _ c h
-met_hello v d life rows (Some s) c h =
-    cond_either Q (sessions.is_live s) (sessions.hello_live v d life rows s) (sessions.hello_ended v d life s)
-    (λ a. cond_either Q _ (sessions.greeted Rattle.st_rules.specs.declared.sessions.Hello.TheVariants.Old v) (sessions.hello_again v d life rows s) (λ b. h)
-    (λ b. cond_either Q _ (sessions.greeted Rattle.st_rules.specs.declared.sessions.Hello.TheVariants.Welcome v) (sessions.hello_higher v d life rows) (λ e. h)
-    (λ e. cond_either Q rows (sessions.greeted Rattle.st_rules.specs.declared.sessions.Hello.TheVariants.Wait v) (sessions.begin_session Rattle.st_rules.specs.declared.sessions.Hello.TheVariants.Replaced d life v) (λ f. h) (λ f. met_with v _ c h))))
-    (λ a. cond_either Q _ (sessions.greeted Rattle.st_rules.specs.declared.sessions.Hello.TheVariants.Old v) (sessions.begin_session Rattle.st_rules.specs.declared.sessions.Hello.TheVariants.Welcome d life v) (λ b. h) (λ b. met_with v _ c h))
-  where
-    Q : sessions.Greeted → Type 0
-    Q g = Met g.sessions c
-
 -- Timers: none goes by a suspicion.
 has_suspect : (s : Suspect) (xs : List Suspect) → Has s (authority.with_suspect s xs)
 unfolding authority.with_suspect authority.suspect_placed
 has_suspect s [] = inl refl
-has_suspect s (x ∷ xs) = cond_either (Has s) (nat_lt s.client.0 x.client.0) (s ∷ (x ∷ xs)) (x ∷ authority.with_suspect s xs) (λ e. inl refl) (λ e. inr (has_suspect s xs))
+has_suspect s (x ∷ xs) = cond_either (Has s) (nat_lt s.client.0 x.client.0) (s ∷ (x ∷ xs)) (x ∷ authority.with_suspect s xs) (λ e. inl refl)
+    (λ e. inr (has_suspect s xs))
 
 keeps_suspect : (s y : Suspect) (xs : List Suspect) → Has y xs → Has y (authority.with_suspect s xs)
 unfolding authority.with_suspect authority.suspect_placed
 keeps_suspect s y [] h = elim h [ ]
-keeps_suspect s y (x ∷ xs) h = cond_either (Has y) (nat_lt s.client.0 x.client.0) (s ∷ (x ∷ xs)) (x ∷ authority.with_suspect s xs) (λ e. inr h) (λ e. go h (keeps_suspect s y xs))
+keeps_suspect s y (x ∷ xs) h = cond_either (Has y) (nat_lt s.client.0 x.client.0) (s ∷ (x ∷ xs)) (x ∷ authority.with_suspect s xs) (λ e. inr h)
+    (λ e. go h (keeps_suspect s y xs))
   where
     go : (y ≡ x) ⊎ Has y xs → (Has y xs → Has y (authority.with_suspect s xs)) → Has y (x ∷ authority.with_suspect s xs)
     go (inl e) r = inl e
@@ -131,7 +119,8 @@ unfolding authority.with_suspect authority.suspect_placed
 new_suspects s y [] (inl e) = inl e
 new_suspects s y [] (inr h) = elim h [ ]
 new_suspects s y (x ∷ xs) h =
-    cond_either (λ zs. Has y zs → (y ≡ s) ⊎ Has y (x ∷ xs)) (nat_lt s.client.0 x.client.0) (s ∷ (x ∷ xs)) (x ∷ authority.with_suspect s xs) (λ e h. h) (λ e h. go h (new_suspects s y xs)) h
+    cond_either (λ zs. Has y zs → (y ≡ s) ⊎ Has y (x ∷ xs)) (nat_lt s.client.0 x.client.0) (s ∷ (x ∷ xs)) (x ∷ authority.with_suspect s xs) (λ e h. h)
+    (λ e h. go h (new_suspects s y xs)) h
   where
     more : (y ≡ s) ⊎ Has y xs → (y ≡ s) ⊎ Has y (x ∷ xs)
     more (inl e) = inl e
@@ -167,7 +156,8 @@ suspected a c now = go (authority.may_ack a c) refl
     go true e =
         record {
           own = some_found (authority.is_suspect c) _ s (has_suspect s a.suspects) (eq-eqb c.0 c.0 refl);
-          runs = λ d h. let z = found_some (authority.is_suspect d) a.suspects h in some_found (authority.is_suspect d) _ z.0 (keeps_suspect s z.0 a.suspects z.1) z.2;
+          runs = λ d h. let z = found_some (authority.is_suspect d) a.suspects h in
+              some_found (authority.is_suspect d) _ z.0 (keeps_suspect s z.0 a.suspects z.1) z.2;
           only = λ x h. old_or x (new_suspects s x a.suspects h);
           one = λ o x y h i q. alike o x y (new_suspects s x a.suspects h) (new_suspects s y a.suspects i) q;
         }
@@ -191,7 +181,8 @@ suspected a c now = go (authority.may_ack a c) refl
 
 -- The lock table.
 module _ (M : ClientId → Type 0) where
-  row_map : (f : LockRow → LockRow) → ((x : LockRow) → (f x).client ≡ x.client) → (rows : List LockRow) → ((r : LockRow) → Has r rows → M r.client) → (r : LockRow) → Has r (map f rows) → M r.client
+  row_map : (f : LockRow → LockRow) → ((x : LockRow) → (f x).client ≡ x.client) → (rows : List LockRow) → ((r : LockRow) → Has r rows → M r.client) →
+      (r : LockRow) → Has r (map f rows) → M r.client
   row_map f k rows h r i = let z = has_map f rows r i in subst M (sym (ap (λ (x : LockRow). x.client) z.2 ∙ k z.0)) (h z.0 z.1)
 
   pub k_forget : (l : Locks) (c : ClientId) → Clients M l → Clients M (locks.forget l c)
@@ -251,7 +242,11 @@ module _ (M : ClientId → Type 0) where
 
       go : (o : Option Waiter) → Clients M (locks.queue_at l c life ino mode o)
       go None = record { rows = k.rows; waits = λ x h. last x (has_append l.waiters _ x h) }
-      go (Some w) = record { rows = k.rows; waits = λ x h. let z = has_map (locks.raise c ino mode) l.waiters x h in subst M (sym (ap (λ (z : Waiter). z.client) z.2 ∙ same z.0 (locks.is_wait_of c ino z.0))) (k.waits z.0 z.1) }
+      go (Some w) = record {
+        rows = k.rows;
+        waits = λ x h. let z = has_map (locks.raise c ino mode) l.waiters x h in
+            subst M (sym (ap (λ (z : Waiter). z.client) z.2 ∙ same z.0 (locks.is_wait_of c ino z.0))) (k.waits z.0 z.1);
+      }
 
   pub k_install : (l : Locks) (c : ClientId) (life : Life) (rows : List (ℕ × GrantNo × Mode)) → M c → Clients M l → Clients M (locks.with_rows l c life rows)
   unfolding locks.with_rows
@@ -268,63 +263,6 @@ module _ (M : ClientId → Type 0) where
       go : (x : LockRow) (b : Bool) → (cond b (locks.demanded d x) x).client ≡ x.client
       go x true = refl
       go x false = refl
-
-  -- grants to waiters
-  waiter_is : (l : Locks) (o : Option Waiter) (w : Waiter) → grantable l o ≡ Some w → o ≡ Some w
-  waiter_is l None w e = e
-  waiter_is l (Some v) w e = go (list_any (locks.stands_against v.client v.ino v.mode) l.rows) e
-    where
-      go : (b : Bool) → cond b None (Some v) ≡ Some w → ◌≡◌ {A = Option Waiter} (Some v) (Some w)
-      go true e = cc
-      go false e = e
-
-  k_grant_file : (ino n : ℕ) (p : Granting) → Clients M p.locks → Clients M (grant_file ino n p).locks
-  unfolding grant_file grant_waiter
-  k_grant_file ino zero p k = k
-  k_grant_file ino (suc n) p k = go (next_waiter p.locks ino) refl (k_grant_file ino n)
-    where
-      go : (o : Option Waiter) → next_waiter p.locks ino ≡ o → ((r : Granting) → Clients M r.locks → Clients M (grant_file ino n r).locks) → Clients M (grant_and (grant_file ino n) p o).locks
-      go None e r = k
-      go (Some w) e r =
-          r (grant_waiter p w) (k_grant p.locks w.client w.life w.ino w.mode (k.waits w (found_at (locks.is_wait_on ino) p.locks.waiters w (waiter_is p.locks (find (locks.is_wait_on ino) p.locks.waiters) w e)).1) k)
-
-  k_grant_files : (inos : List ℕ) (p : Granting) → Clients M p.locks → Clients M (grant_files inos p).locks
-  unfolding grant_files
-  k_grant_files [] p k = k
-  k_grant_files (ino ∷ inos) p k = k_grant_files inos (grant_file ino (length p.locks.waiters) p) (k_grant_file ino (length p.locks.waiters) p k)
-
-  pub k_granting : (l : Locks) → Clients M l → Clients M (next_grants l).locks
-  unfolding next_grants
-  k_granting l k = k_grant_files (locks.waited_files l) (locks.nothing_granted l) k
-
-  -- demands
-  k_row : (kb : base.Config) (now : Stamp) (tick : Bool) (to : Mode) (o : Option LockRow) (p : Demanding) → Clients M p.locks → Clients M (demand_row kb now tick to o p).locks
-  unfolding demand_row demand_with
-  k_row kb now tick to None p k = k
-  k_row kb now tick to (Some r) p k = with_it (demand_now kb now tick to r.demand)
-    where
-      with_it : (x : Option RowDemand) → Clients M (demand_with p r x).locks
-      with_it None = k
-      with_it (Some x) = k_demand p.locks r x k
-
-  k_clients : (kb : base.Config) (now : Stamp) (tick : Bool) (ino : ℕ) (to : Mode) (cs : List ClientId) (p : Demanding) → Clients M p.locks → Clients M (demand_clients kb now tick ino to cs p).locks
-  unfolding demand_clients
-  k_clients kb now tick ino to [] p k = k
-  k_clients kb now tick ino to (c ∷ cs) p k = k_clients kb now tick ino to cs _ (k_row kb now tick to (locks.row_of p.locks c ino) p k)
-
-  k_for : (kb : base.Config) (now : Stamp) (tick : Bool) (ss : List ClientId) (o : Option Waiter) (p : Demanding) → Clients M p.locks → Clients M (demand_for kb now tick ss o p).locks
-  unfolding demand_for
-  k_for kb now tick ss None p k = k
-  k_for kb now tick ss (Some w) p k = k_clients kb now tick w.ino _ _ p k
-
-  k_files : (kb : base.Config) (now : Stamp) (tick : Bool) (ss : List ClientId) (inos : List ℕ) (p : Demanding) → Clients M p.locks → Clients M (demand_files kb now tick ss inos p).locks
-  unfolding demand_files
-  k_files kb now tick ss [] p k = k
-  k_files kb now tick ss (ino ∷ inos) p k = k_files kb now tick ss inos _ (k_for kb now tick ss (find (locks.is_wait_on ino) p.locks.waiters) p k)
-
-  pub k_demanding : (l : Locks) (kb : base.Config) (now : Stamp) (tick : Bool) (ss : List ClientId) → Clients M l → Clients M (demands_due l now tick ss kb).locks
-  unfolding demands_due
-  k_demanding l kb now tick ss k = k_files kb now tick ss (locks.waited_files l) (locks.nothing_demanded l) k
 
 -- the clients may become more
 pub clients_more : (M N : ClientId → Type 0) → ((c : ClientId) → M c → N c) → (l : Locks) → Clients M l → Clients N l

@@ -54,7 +54,7 @@ use Rattle.st_laws_leases.proofs.Sides.Waiting.{waits_owed}
 use Rattle.st_laws_leases.specs.Order.Paths.{Ordered, OrderedServer}
 use Rattle.st_laws_leases.proofs.Order.Everywhere.{stays_ordered}
 use Rattle.st_laws_leases.proofs.Order.Tops.{change, cut_row}
-use Rattle.st_laws_steps.proofs.Server.Taking.{clash}
+use Rattle.st_trace.proofs.Server.Taking.{clash}
 
 -- Lists.
 any_has : {A : Type 0} (p : A → Bool) (xs : List A) → list_any p xs ≡ true → (x : A) × Has x xs × (p x ≡ true)

@@ -1,28 +1,24 @@
 -- The lock table: nobody waits for a file of which it has an exclusive row, through each change of the table; and an exclusive row stays
 -- while locks are granted and demanded.
-use Rattle.std.proofs.Common.{◌≡◌, ℕ, ◌⊎◌, Bool, true, false, not, ◌&&◌, List, [], ◌∷◌, ◌++◌, ◌==◌, Option, Some, None, refl, sym, ap, ◌∙◌, subst, inl, inr, if◌then◌else◌}
-use Rattle.std.specs.Prelude.{find, filter, map, option_map, nat_le, zero, suc, Result, Ok, Err}
+use Rattle.std.proofs.Common.{◌≡◌, ℕ, ◌⊎◌, Bool, true, false, not, ◌&&◌, List, [], ◌∷◌, ◌++◌, ◌==◌, Option, Some, None, refl, sym, ap, ◌∙◌, subst, inl, inr}
+use Rattle.std.proofs.Common.{if◌then◌else◌}
+use Rattle.std.specs.Prelude.{find, filter, map, option_map}
 use Rattle.std.proofs.lemmas.Bool.{eqb-true, eq-eqb}
-use Rattle.st_base.specs.declared.config.Config.{Config}
 use Rattle.st_base.specs.declared.ids.ClientId.{ClientId}
 use Rattle.st_base.specs.declared.ids.GrantNo.{GrantNo}
 use Rattle.st_base.specs.declared.ids.Life.{Life}
-use Rattle.st_base.specs.declared.ids.Stamp.{Stamp}
 use Rattle.st_base.specs.declared.mode.Mode.{Mode}
 use Rattle.st_base.specs.declared.mode.Mode.TheVariants as modes
-use Rattle.st_base.specs.Mode.{covers, number_of}
-use Rattle.st_rules.specs.declared.locks.AcquireRefusal.{AcquireRefusal}
-use Rattle.st_rules.specs.declared.locks.InstallRefusal.{InstallRefusal}
 use Rattle.st_rules.specs.declared.locks.LockRow.{LockRow}
 use Rattle.st_rules.specs.declared.locks.RowDemand.{RowDemand}
 use Rattle.st_rules.specs.declared.locks.Waiter.{Waiter}
 use Rattle.st_rules.specs.Keys.{same_client}
 use Rattle.st_rules.specs.Locks as locks
-use Rattle.st_rules.specs.Locks.{Locks, Granting, Demanding, is_row_of, is_wait_of, row_of}
+use Rattle.st_rules.specs.Locks.{Locks, is_row_of, is_wait_of, row_of}
 use Rattle.st_lemmas.specs.Lists.{Has}
 use Rattle.st_lemmas.proofs.Lookups.{some_is}
 use Rattle.st_lemmas.proofs.Puts.{find_put_other}
-use Rattle.st_lemmas.proofs.Tables.{and_true, and_both, not_true, has_filter, has_append, has_map, find_kept, find_gone, find_map, found_at}
+use Rattle.st_lemmas.proofs.Tables.{and_true, and_both, not_true, has_filter, has_append, has_map, find_kept, find_gone, find_map}
 use Rattle.st_laws_pages.specs.LockedCuts.CutLocks.{WaitsApart, IsHeld}
 use Rattle.st_laws_steps.proofs.Clash.{clash}
 
@@ -52,7 +48,8 @@ key_turned c i d j n = go (is_key d j c i) refl
   where
     go : (b : Bool) → is_key d j c i ≡ b → b ≡ false
     go false q = refl
-    go true q = let x = key_is d j c i q in absurd (clash (is_key c i d j) (subst (λ z. is_key z i d j ≡ true) x.0 (subst (λ z. is_key d z d j ≡ true) x.1 (key_self d j))) n)
+    go true q = let x = key_is d j c i q in
+        absurd (clash (is_key c i d j) (subst (λ z. is_key z i d j ≡ true) x.0 (subst (λ z. is_key d z d j ≡ true) x.1 (key_self d j))) n)
 
 -- Fewer waits.
 waits_fewer : (l : Locks) (ws : List Waiter) → ((w : Waiter) → Has w ws → Has w l.waiters) → WaitsApart l → WaitsApart (record l { waiters = ws })
@@ -69,10 +66,13 @@ file_apart l ino h = waits_fewer l _ (λ w i. (has_filter (λ x. not (locks.is_w
 -- A client is forgotten.
 pub forget_apart : (l : Locks) (c : ClientId) → WaitsApart l → WaitsApart (locks.forget l c)
 unfolding locks.forget
-forget_apart l c h = λ w i r e x. let z = has_filter (λ y. not (locks.is_wait_by c y)) l.waiters w i in h w z.0 r (sym (kept w (not_true (same_client w.client c) z.1)) ∙ e) x
+forget_apart l c h = λ w i r e x. let z = has_filter (λ y. not (locks.is_wait_by c y)) l.waiters w i in
+    h w z.0 r (sym (kept w (not_true (same_client w.client c) z.1)) ∙ e) x
   where
-    kept : (w : Waiter) → same_client w.client c ≡ false → find (is_row_of w.client w.ino) (filter (λ y. not (locks.is_row_by c y)) l.rows) ≡ find (is_row_of w.client w.ino) l.rows
-    kept w n = find_kept (is_row_of w.client w.ino) (λ y. not (locks.is_row_by c y)) (λ y q. ap not (ap (λ d. same_client d c) (key_is y.client y.ino w.client w.ino q).0 ∙ n)) l.rows
+    kept : (w : Waiter) → same_client w.client c ≡ false →
+        find (is_row_of w.client w.ino) (filter (λ y. not (locks.is_row_by c y)) l.rows) ≡ find (is_row_of w.client w.ino) l.rows
+    kept w n = find_kept (is_row_of w.client w.ino) (λ y. not (locks.is_row_by c y)) (λ y q. ap not
+        (ap (λ d. same_client d c) (key_is y.client y.ino w.client w.ino q).0 ∙ n)) l.rows
 
 -- Rows that change, each of the same client and file, and exclusive only where it was.
 record SameKeys (f : LockRow → LockRow) : Type 0 where
@@ -80,8 +80,10 @@ record SameKeys (f : LockRow → LockRow) : Type 0 where
   pub ino : (r : LockRow) → (f r).ino ≡ r.ino
   pub exclusive : (r : LockRow) → (f r).mode ≡ modes.X → r.mode ≡ modes.X
 
-map_found : (f : LockRow → LockRow) → SameKeys f → (c : ClientId) (i : ℕ) (rows : List LockRow) → find (is_row_of c i) (map f rows) ≡ option_map f (find (is_row_of c i) rows)
-map_found f k c i rows = find_map (is_row_of c i) f (λ r. ap (λ d. same_client d c && ((f r).ino == i)) (k.client r) ∙ ap (λ n. same_client r.client c && (n == i)) (k.ino r)) rows
+map_found : (f : LockRow → LockRow) → SameKeys f → (c : ClientId) (i : ℕ) (rows : List LockRow) →
+    find (is_row_of c i) (map f rows) ≡ option_map f (find (is_row_of c i) rows)
+map_found f k c i rows =
+    find_map (is_row_of c i) f (λ r. ap (λ d. same_client d c && ((f r).ino == i)) (k.client r) ∙ ap (λ n. same_client r.client c && (n == i)) (k.ino r)) rows
 
 map_apart : (l : Locks) (f : LockRow → LockRow) → SameKeys f → WaitsApart l → WaitsApart (record l { rows = map f l.rows })
 map_apart l f k h = λ w i r e x. go w i r x (row_of l w.client w.ino) refl (sym (map_found f k w.client w.ino l.rows) ∙ e)
@@ -90,13 +92,23 @@ map_apart l f k h = λ w i r e x. go w i r x (row_of l w.client w.ino) refl (sym
     go w i r x None q e = cc
     go w i r x (Some y) q e = h w i y q (k.exclusive y (ap (λ (z : LockRow). z.mode) (some_is e) ∙ x))
 
-map_held : (ino : ℕ) (l : Locks) (f : LockRow → LockRow) → SameKeys f → ((r : LockRow) → (f r).mode ≡ r.mode) → IsHeld ino l → IsHeld ino (record l { rows = map f l.rows })
-map_held ino l f k m h = record { client = h.client; row = f h.row; is = map_found f k h.client ino l.rows ∙ ap (option_map f) h.is; exclusive = m h.row ∙ h.exclusive }
+map_held : (ino : ℕ) (l : Locks) (f : LockRow → LockRow) → SameKeys f → ((r : LockRow) → (f r).mode ≡ r.mode) → IsHeld ino l →
+    IsHeld ino (record l { rows = map f l.rows })
+map_held ino l f k m h = record {
+  client = h.client;
+  row = f h.row;
+  is = map_found f k h.client ino l.rows ∙ ap (option_map f) h.is;
+  exclusive = m h.row ∙ h.exclusive;
+}
 
 -- a demand that is seen
 observe_keys : (c : ClientId) (ino : ℕ) (g : GrantNo) → SameKeys (locks.observe c ino g)
 unfolding locks.answered_row
-observe_keys c ino g = record { client = λ r. client r (is_row_of c ino r && (r.g.0 == g.0)); ino = λ r. number r (is_row_of c ino r && (r.g.0 == g.0)); exclusive = λ r. mode r (is_row_of c ino r && (r.g.0 == g.0)) }
+observe_keys c ino g = record {
+  client = λ r. client r (is_row_of c ino r && (r.g.0 == g.0));
+  ino = λ r. number r (is_row_of c ino r && (r.g.0 == g.0));
+  exclusive = λ r. mode r (is_row_of c ino r && (r.g.0 == g.0));
+}
   where
     client : (r : LockRow) (b : Bool) → (if b then locks.answered_row r else r).client ≡ r.client
     client r true = refl
@@ -134,38 +146,30 @@ lower_keys c ino = record { client = λ r. client r (is_row_of c ino r); ino = �
 row_goes : (l : Locks) (c : ClientId) (ino : ℕ) → WaitsApart l → WaitsApart (record l { rows = locks.without_row c ino l.rows })
 row_goes l c ino h = λ w i r e x. go w i r e x (is_key w.client w.ino c ino) refl
   where
-    go : (w : Waiter) → Has w l.waiters → (r : LockRow) → find (is_row_of w.client w.ino) (locks.without_row c ino l.rows) ≡ Some r → r.mode ≡ modes.X → (b : Bool) → is_key w.client w.ino c ino ≡ b → ⊥
+    go : (w : Waiter) → Has w l.waiters → (r : LockRow) → find (is_row_of w.client w.ino) (locks.without_row c ino l.rows) ≡ Some r →
+        r.mode ≡ modes.X → (b : Bool) → is_key w.client w.ino c ino ≡ b → ⊥
     go w i r e x true q =
         let z = key_is w.client w.ino c ino q in
-        no (sym (find_gone (is_row_of w.client w.ino) (λ y. not (is_row_of c ino y)) (λ y t. ap not (subst (λ d. is_row_of d ino y ≡ true) z.0 (subst (λ n. is_row_of w.client n y ≡ true) z.1 t))) l.rows) ∙ e)
+        no (sym (find_gone (is_row_of w.client w.ino) (λ y. not (is_row_of c ino y)) (λ y t. ap not
+        (subst (λ d. is_row_of d ino y ≡ true) z.0 (subst (λ n. is_row_of w.client n y ≡ true) z.1 t))) l.rows) ∙ e)
       where
         no : ◌≡◌ {A = Option LockRow} None (Some r) → ⊥
         no y = cc
     go w i r e x false q =
         h w i r (sym (find_kept (is_row_of w.client w.ino) (λ y. not (is_row_of c ino y)) (λ y t. ap not (key_other w.client w.ino c ino q y t)) l.rows) ∙ e) x
 
-release_apart : (l : Locks) (c : ClientId) (ino : ℕ) (to : Mode) → WaitsApart l → WaitsApart (locks.release_to l c ino to)
+pub release_apart : (l : Locks) (c : ClientId) (ino : ℕ) (to : Mode) → WaitsApart l → WaitsApart (locks.release_to l c ino to)
 unfolding locks.release_to
 release_apart l c ino modes.None h = row_goes l c ino h
 release_apart l c ino modes.S h = map_apart l (locks.lower c ino) (lower_keys c ino) h
 release_apart l c ino modes.X h = map_apart l (locks.lower c ino) (lower_keys c ino) h
 
-pub released_apart : (l : Locks) (c : ClientId) (life : Life) (ino : ℕ) (g : GrantNo) (to : Mode) → WaitsApart l → WaitsApart (locks.released l c life ino g to).locks
-unfolding locks.released locks.released_at locks.release locks.not_released
-released_apart l c life ino g to h = go (row_of l c ino)
-  where
-    by : (b : Bool) → WaitsApart (if b then locks.release l c ino to else locks.not_released l).locks
-    by true = release_apart l c ino to h
-    by false = h
-
-    go : (o : Option LockRow) → WaitsApart (locks.released_at l c life ino g to o).locks
-    go None = h
-    go (Some r) = by (locks.is_under life g r)
-
 -- A grant: the client's wait goes, and nobody else's row changes.
-granted_other : (l : Locks) (c : ClientId) (life : Life) (ino : ℕ) (mode : Mode) (d : ClientId) (i : ℕ) → is_key d i c ino ≡ false → row_of (locks.grant l c life ino mode) d i ≡ row_of l d i
+granted_other : (l : Locks) (c : ClientId) (life : Life) (ino : ℕ) (mode : Mode) (d : ClientId) (i : ℕ) → is_key d i c ino ≡ false →
+    row_of (locks.grant l c life ino mode) d i ≡ row_of l d i
 unfolding locks.grant
-granted_other l c life ino mode d i n = find_put_other (is_row_of d i) (is_row_of c ino) (locks.new_row l c life ino mode) l.rows (key_turned d i c ino n) (λ y q. key_other d i c ino n y q)
+granted_other l c life ino mode d i n = find_put_other (is_row_of d i) (is_row_of c ino) (locks.new_row l c life ino mode) l.rows
+    (key_turned d i c ino n) (λ y q. key_other d i c ino n y q)
 
 pub grant_apart : (l : Locks) (c : ClientId) (life : Life) (ino : ℕ) (mode : Mode) → WaitsApart l → WaitsApart (locks.grant l c life ino mode)
 unfolding locks.grant
@@ -183,19 +187,23 @@ grant_held i l w j h g = go (is_key g.client i w.client w.ino) refl
     go false q = record { client = g.client; row = g.row; is = granted_other l w.client w.life w.ino w.mode g.client i q ∙ g.is; exclusive = g.exclusive }
 
 -- A wait: of a client that has no exclusive row of the file.
-queue_apart : (l : Locks) (c : ClientId) (life : Life) (ino : ℕ) (mode : Mode) → ((r : LockRow) → row_of l c ino ≡ Some r → r.mode ≡ modes.X → ⊥) → WaitsApart l → WaitsApart (locks.queue l c life ino mode)
+pub queue_apart : (l : Locks) (c : ClientId) (life : Life) (ino : ℕ) (mode : Mode) → ((r : LockRow) → row_of l c ino ≡ Some r → r.mode ≡ modes.X →
+    ⊥) → WaitsApart l → WaitsApart (locks.queue l c life ino mode)
 unfolding locks.queue locks.queue_at locks.wait_for
 queue_apart l c life ino mode n h = go (locks.wait_of l c ino)
   where
-    old_or_new : (w : Waiter) → Has w l.waiters ⊎ Has w (locks.new_wait c life ino mode ∷ []) → (r : LockRow) → row_of l w.client w.ino ≡ Some r → r.mode ≡ modes.X → ⊥
+    old_or_new : (w : Waiter) → Has w l.waiters ⊎ Has w (locks.new_wait c life ino mode ∷ []) → (r : LockRow) → row_of l w.client w.ino ≡ Some r →
+        r.mode ≡ modes.X → ⊥
     old_or_new w (inl i) r e x = h w i r e x
     old_or_new w (inr (inl q)) r e x = n r (subst (λ (y : Waiter). row_of l y.client y.ino ≡ Some r) q e) x
     old_or_new w (inr (inr q)) r e x = absurd q
 
-    raised : (w : Waiter) → (y : Waiter) × Has y l.waiters × (w ≡ locks.raise c ino mode y) → (r : LockRow) → row_of l w.client w.ino ≡ Some r → r.mode ≡ modes.X → ⊥
+    raised : (w : Waiter) → (y : Waiter) × Has y l.waiters × (w ≡ locks.raise c ino mode y) → (r : LockRow) → row_of l w.client w.ino ≡ Some r →
+        r.mode ≡ modes.X → ⊥
     raised w (y, i, q) r e x = h y i r (key y (is_wait_of c ino y) (subst (λ (z : Waiter). row_of l z.client z.ino ≡ Some r) q e)) x
       where
-        key : (y : Waiter) (b : Bool) → row_of l (if b then locks.wait_for mode y else y).client (if b then locks.wait_for mode y else y).ino ≡ Some r → row_of l y.client y.ino ≡ Some r
+        key : (y : Waiter) (b : Bool) →
+            row_of l (if b then locks.wait_for mode y else y).client (if b then locks.wait_for mode y else y).ino ≡ Some r → row_of l y.client y.ino ≡ Some r
         key y true z = z
         key y false z = z
 
@@ -203,121 +211,43 @@ queue_apart l c life ino mode n h = go (locks.wait_of l c ino)
     go None = λ w i r e x. old_or_new w (has_append l.waiters (locks.new_wait c life ino mode ∷ []) w i) r e x
     go (Some v) = λ w i r e x. raised w (has_map (locks.raise c ino mode) l.waiters w i) r e x
 
-pub acquire_apart : (l : Locks) (c : ClientId) (life : Life) (ino : ℕ) (mode : Mode) (grants : Bool) (a : locks.Acquired) → locks.acquire l c life ino mode grants ≡ Ok a → WaitsApart l → WaitsApart a.locks
-unfolding locks.acquire locks.acquire_at locks.acquire_new locks.acquire_over locks.acquire_more locks.acquire_held locks.acquire_granted locks.acquire_queued
-acquire_apart l c life ino mode grants a e h = go (row_of l c ino) refl e
-  where
-    inj : (x y : locks.Acquired) → ◌≡◌ {A = Result locks.Acquired AcquireRefusal} (Ok x) (Ok y) → x ≡ y
-    inj x y z = cc
-
-    more : ((r : LockRow) → row_of l c ino ≡ Some r → r.mode ≡ modes.X → ⊥) → (b : Bool) → WaitsApart (if b then locks.acquire_granted l c life ino mode else locks.acquire_queued l c life ino mode).locks
-    more n true = grant_apart l c life ino mode h
-    more n false = queue_apart l c life ino mode n h
-
-    none : row_of l c ino ≡ None → (r : LockRow) → row_of l c ino ≡ Some r → r.mode ≡ modes.X → ⊥
-    none q r z x = no (sym q ∙ z)
-      where
-        no : ◌≡◌ {A = Option LockRow} None (Some r) → ⊥
-        no y = cc
-
-    new : row_of l c ino ≡ None → (b : Bool) → ◌≡◌ {A = Result locks.Acquired AcquireRefusal} (if b then Ok (locks.acquire_more l c life ino mode grants) else Err Rattle.st_rules.specs.declared.locks.AcquireRefusal.TheVariants.TooManyLocks) (Ok a) → WaitsApart a.locks
-    new q true z = subst (λ (y : locks.Acquired). WaitsApart y.locks) (inj _ a z) (more (none q) (locks.may_grant l c ino mode grants))
-    new q false z = cc
-
-    full : (m : Mode) → nat_le (number_of m) 2 ≡ true
-    full modes.None = refl
-    full modes.S = refl
-    full modes.X = refl
-
-    over : (r : LockRow) → row_of l c ino ≡ Some r → (b : Bool) → covers r.mode mode ≡ b → WaitsApart (if b then locks.acquire_held l r else locks.acquire_more l c life ino mode grants).locks
-    over r q true t = h
-    over r q false t = more (λ y z x. clash (covers r.mode mode) (ap (λ m. covers m mode) (ap (λ (w : LockRow). w.mode) (some_is (sym q ∙ z)) ∙ x) ∙ full mode) t) (locks.may_grant l c ino mode grants)
-
-    go : (o : Option LockRow) → row_of l c ino ≡ o → locks.acquire_at l c life ino mode grants o ≡ Ok a → WaitsApart a.locks
-    go None q z = new q (locks.has_place l c ino) z
-    go (Some r) q z = subst (λ (y : locks.Acquired). WaitsApart y.locks) (inj _ a z) (over r q (covers r.mode mode) refl)
-
 -- Rows that are installed: of a client that waits for nothing.
-pub install_apart : (l : Locks) (c : ClientId) (life : Life) (rows : List (ℕ × GrantNo × Mode)) (m : Locks) → locks.install l c life rows ≡ Ok m → ((w : Waiter) → Has w l.waiters → w.client ≡ c → ⊥) → WaitsApart l → WaitsApart m
-unfolding locks.install locks.install_at locks.with_rows
-install_apart l c life rows m e n h = go (locks.first_conflict l c rows) e
+pub install_apart : (l : Locks) (c : ClientId) (life : Life) (rows : List (ℕ × GrantNo × Mode)) → ((w : Waiter) → Has w l.waiters → w.client ≡ c → ⊥) →
+    WaitsApart l → WaitsApart (locks.with_rows l c life rows)
+unfolding locks.with_rows
+install_apart l c life rows n h = λ w i r q x. by w i r x (front w.client w.ino l.rows rows r q)
   where
-    inj : (x y : Locks) → ◌≡◌ {A = Result Locks InstallRefusal} (Ok x) (Ok y) → x ≡ y
-    inj x y z = cc
-
-    front : (d : ClientId) (i : ℕ) (xs : List LockRow) (rs : List (ℕ × GrantNo × Mode)) (r : LockRow) → find (is_row_of d i) (xs ++ map (locks.installed c life) rs) ≡ Some r → (find (is_row_of d i) xs ≡ Some r) ⊎ (c ≡ d)
+    front : (d : ClientId) (i : ℕ) (xs : List LockRow) (rs : List (ℕ × GrantNo × Mode)) (r : LockRow) →
+        find (is_row_of d i) (xs ++ map (locks.installed c life) rs) ≡ Some r → (find (is_row_of d i) xs ≡ Some r) ⊎ (c ≡ d)
     front d i [] [] r z = cc
     front d i [] (y ∷ rs) r z = at (is_key c y.0 d i) refl z (front d i [] rs r)
       where
-        at : (b : Bool) → is_key c y.0 d i ≡ b → (if b then Some (locks.installed c life y) else find (is_row_of d i) (map (locks.installed c life) rs)) ≡ Some r → (find (is_row_of d i) (map (locks.installed c life) rs) ≡ Some r → (find (is_row_of d i) [] ≡ Some r) ⊎ (c ≡ d)) → (find (is_row_of d i) [] ≡ Some r) ⊎ (c ≡ d)
+        at : (b : Bool) → is_key c y.0 d i ≡ b →
+            (if b then Some (locks.installed c life y) else find (is_row_of d i) (map (locks.installed c life) rs)) ≡ Some r →
+            (find (is_row_of d i) (map (locks.installed c life) rs) ≡ Some r → (find (is_row_of d i) [] ≡ Some r) ⊎ (c ≡ d)) →
+            (find (is_row_of d i) [] ≡ Some r) ⊎ (c ≡ d)
         at true q z f = inr (key_is c y.0 d i q).0
         at false q z f = f z
     front d i (x ∷ xs) rs r z = at (is_row_of d i x) z (front d i xs rs r)
       where
-        at : (b : Bool) → (if b then Some x else find (is_row_of d i) (xs ++ map (locks.installed c life) rs)) ≡ Some r → (find (is_row_of d i) (xs ++ map (locks.installed c life) rs) ≡ Some r → (find (is_row_of d i) xs ≡ Some r) ⊎ (c ≡ d)) → ((if b then Some x else find (is_row_of d i) xs) ≡ Some r) ⊎ (c ≡ d)
+        at : (b : Bool) → (if b then Some x else find (is_row_of d i) (xs ++ map (locks.installed c life) rs)) ≡ Some r →
+            (find (is_row_of d i) (xs ++ map (locks.installed c life) rs) ≡ Some r → (find (is_row_of d i) xs ≡ Some r) ⊎ (c ≡ d)) →
+            ((if b then Some x else find (is_row_of d i) xs) ≡ Some r) ⊎ (c ≡ d)
         at true z f = inl z
         at false z f = f z
 
-    here : WaitsApart (record l { rows = l.rows ++ map (locks.installed c life) rows })
-    here = λ w i r q x. by w i r x (front w.client w.ino l.rows rows r q)
-      where
-        by : (w : Waiter) → Has w l.waiters → (r : LockRow) → r.mode ≡ modes.X → (row_of l w.client w.ino ≡ Some r) ⊎ (c ≡ w.client) → ⊥
-        by w i r x (inl q) = h w i r q x
-        by w i r x (inr q) = n w i (sym q)
-
-    go : (o : Option (ℕ × ClientId)) → locks.install_at l c life rows o ≡ Ok m → WaitsApart m
-    go None z = subst WaitsApart (inj _ m z) here
-    go (Some x) z = cc
-
--- What granting and demanding leave.
-pub record Grown (l m : Locks) : Type 0 where
-  pub waits : WaitsApart m
-  pub held : (i : ℕ) → IsHeld i l → IsHeld i m
-
-grown_none : (l : Locks) → WaitsApart l → Grown l l
-grown_none l h = record { waits = h; held = λ i g. g }
-
-grown_then : (l m n : Locks) → Grown l m → Grown m n → Grown l n
-grown_then l m n a b = record { waits = b.waits; held = λ i g. b.held i (a.held i g) }
-
-waiter_there : (l : Locks) (ino : ℕ) (w : Waiter) → locks.next_waiter l ino ≡ Some w → Has w l.waiters
-waiter_there l ino w e = go (find (locks.is_wait_on ino) l.waiters) refl e
-  where
-    go : (o : Option Waiter) → find (locks.is_wait_on ino) l.waiters ≡ o → locks.grantable l o ≡ Some w → Has w l.waiters
-    go None q z = cc
-    go (Some v) q z = at (Rattle.std.specs.List.list_any (locks.stands_against v.client v.ino v.mode) l.rows) z
-      where
-        at : (b : Bool) → (if b then None else Some v) ≡ Some w → Has w l.waiters
-        at true y = cc
-        at false y = subst (λ x. Has x l.waiters) (some_is y) (found_at (locks.is_wait_on ino) l.waiters v q).1
-
-file_grown : (ino n : ℕ) (p : Granting) → WaitsApart p.locks → Grown p.locks (locks.grant_file ino n p).locks
-unfolding locks.grant_file locks.grant_waiter
-file_grown ino zero p h = grown_none p.locks h
-file_grown ino (suc n) p h = go (locks.next_waiter p.locks ino) refl (λ q g. file_grown ino n q g)
-  where
-    go : (o : Option Waiter) → locks.next_waiter p.locks ino ≡ o → ((q : Granting) → WaitsApart q.locks → Grown q.locks (locks.grant_file ino n q).locks) → Grown p.locks (locks.grant_and (locks.grant_file ino n) p o).locks
-    go None q f = grown_none p.locks h
-    go (Some w) q f =
-        let i = waiter_there p.locks ino w q in
-        let a = grant_apart p.locks w.client w.life w.ino w.mode h in
-        grown_then p.locks (locks.grant p.locks w.client w.life w.ino w.mode) _ (record { waits = a; held = λ j g. grant_held j p.locks w i h g }) (f (locks.grant_waiter p w) a)
-
-files_grown : (inos : List ℕ) (p : Granting) → WaitsApart p.locks → Grown p.locks (locks.grant_files inos p).locks
-unfolding locks.grant_files
-files_grown [] p h = grown_none p.locks h
-files_grown (ino ∷ inos) p h =
-    let a = file_grown ino (Rattle.std.specs.Prelude.length p.locks.waiters) p h in
-    grown_then p.locks _ _ a (files_grown inos (locks.grant_file ino (Rattle.std.specs.Prelude.length p.locks.waiters) p) a.waits)
-
-pub grants_grown : (l : Locks) → WaitsApart l → Grown l (locks.next_grants l).locks
-unfolding locks.next_grants
-grants_grown l h = files_grown (locks.waited_files l) (locks.nothing_granted l) h
+    by : (w : Waiter) → Has w l.waiters → (r : LockRow) → r.mode ≡ modes.X → (row_of l w.client w.ino ≡ Some r) ⊎ (c ≡ w.client) → ⊥
+    by w i r x (inl q) = h w i r q x
+    by w i r x (inr q) = n w i (sym q)
 
 -- a row that is demanded
 demand_keys : (c : ClientId) (ino : ℕ) (d : RowDemand) → SameKeys (locks.demand_of c ino d)
 unfolding locks.demanded
-demand_keys c ino d = record { client = λ r. client r (is_row_of c ino r); ino = λ r. number r (is_row_of c ino r); exclusive = λ r x. sym (mode r (is_row_of c ino r)) ∙ x }
+demand_keys c ino d = record {
+  client = λ r. client r (is_row_of c ino r);
+  ino = λ r. number r (is_row_of c ino r);
+  exclusive = λ r x. sym (mode r (is_row_of c ino r)) ∙ x;
+}
   where
     client : (r : LockRow) (b : Bool) → (if b then locks.demanded d r else r).client ≡ r.client
     client r true = refl
@@ -339,37 +269,8 @@ demand_mode c ino d r = go (is_row_of c ino r)
     go true = refl
     go false = refl
 
-row_grown : (k : Config) (now : Stamp) (tick : Bool) (to : Mode) (o : Option LockRow) (p : Demanding) → WaitsApart p.locks → Grown p.locks (locks.demand_row k now tick to o p).locks
-unfolding locks.demand_row locks.demand_with
-row_grown k now tick to None p h = grown_none p.locks h
-row_grown k now tick to (Some r) p h = go (locks.demand_now k now tick to r.demand)
-  where
-    go : (o : Option RowDemand) → Grown p.locks (locks.demand_with p r o).locks
-    go None = grown_none p.locks h
-    go (Some d) =
-        record {
-          waits = map_apart p.locks (locks.demand_of r.client r.ino d) (demand_keys r.client r.ino d) h;
-          held = λ i g. map_held i p.locks (locks.demand_of r.client r.ino d) (demand_keys r.client r.ino d) (demand_mode r.client r.ino d) g;
-        }
+pub demand_apart : (l : Locks) (r : LockRow) (d : RowDemand) → WaitsApart l → WaitsApart (locks.with_demand r d l)
+demand_apart l r d h = map_apart l (locks.demand_of r.client r.ino d) (demand_keys r.client r.ino d) h
 
-clients_grown : (k : Config) (now : Stamp) (tick : Bool) (ino : ℕ) (to : Mode) (cs : List ClientId) (p : Demanding) → WaitsApart p.locks → Grown p.locks (locks.demand_clients k now tick ino to cs p).locks
-unfolding locks.demand_clients
-clients_grown k now tick ino to [] p h = grown_none p.locks h
-clients_grown k now tick ino to (c ∷ cs) p h =
-    let a = row_grown k now tick to (row_of p.locks c ino) p h in
-    grown_then p.locks _ _ a (clients_grown k now tick ino to cs (locks.demand_row k now tick to (row_of p.locks c ino) p) a.waits)
-
-demand_files_grown : (k : Config) (now : Stamp) (tick : Bool) (suspects : List ClientId) (inos : List ℕ) (p : Demanding) → WaitsApart p.locks → Grown p.locks (locks.demand_files k now tick suspects inos p).locks
-unfolding locks.demand_files locks.demand_for
-demand_files_grown k now tick suspects [] p h = grown_none p.locks h
-demand_files_grown k now tick suspects (ino ∷ inos) p h =
-    let a = one (find (locks.is_wait_on ino) p.locks.waiters) in
-    grown_then p.locks _ _ a (demand_files_grown k now tick suspects inos (locks.demand_for k now tick suspects (find (locks.is_wait_on ino) p.locks.waiters) p) a.waits)
-  where
-    one : (o : Option Waiter) → Grown p.locks (locks.demand_for k now tick suspects o p).locks
-    one None = grown_none p.locks h
-    one (Some w) = clients_grown k now tick w.ino (locks.wish w.mode) (locks.to_demand p.locks suspects w) p h
-
-pub demands_grown : (l : Locks) (now : Stamp) (tick : Bool) (suspects : List ClientId) (k : Config) → WaitsApart l → Grown l (locks.demands_due l now tick suspects k).locks
-unfolding locks.demands_due
-demands_grown l now tick suspects k h = demand_files_grown k now tick suspects (locks.waited_files l) (locks.nothing_demanded l) h
+pub demand_held : (i : ℕ) (l : Locks) (r : LockRow) (d : RowDemand) → IsHeld i l → IsHeld i (locks.with_demand r d l)
+demand_held i l r d g = map_held i l (locks.demand_of r.client r.ino d) (demand_keys r.client r.ino d) (demand_mode r.client r.ino d) g

@@ -29,7 +29,8 @@ use Rattle.st_rules.specs.History.{History, TimerStart, timer_start, is_timer_of
 use Rattle.st_rules.specs.Dating.{is_request, may_date, goes_back, answers_to, is_reply_to}
 use Rattle.st_lemmas.specs.Lists.{Has}
 use Rattle.st_lemmas.proofs.Tables.{same_or_not, and_both, not_true, not_false, cond_either, find_kept_in, has_append, has_filter}
-use Rattle.st_laws_refine.specs.Server.Edits.{NoSends, Edit, TakesTimers, Steals, Suspects, Begins, DropsWaits, Keeps, Reasserts, Sees, Acquires, Releases, DropsFile, Grants, Demands, NamesChange, ExtentsChange, Cuts, Replies, Repeats, Refuses, TellsGrant, TellsDemand}
+use Rattle.st_trace.specs.Server.Edits.{NoSends}
+use Rattle.st_laws_refine.specs.Server.Edits.{Edit, TakesTimers, Steals, Suspects, Begins, DropsWaits, Keeps, Reasserts, Sees, Acquires, Releases, DropsFile, Grants, Demands, NamesChange, ExtentsChange, Cuts, Replies, Repeats, Refuses, TellsGrant, TellsDemand}
 use Rattle.st_laws_refine.proofs.Server.Changes.{has_suspect, suspect_own, suspect_other}
 
 -- The timers that the history has after outputs of a server.

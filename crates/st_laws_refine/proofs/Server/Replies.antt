@@ -29,14 +29,16 @@ use Rattle.st_rules.specs.Dating.{is_request, is_reply_to}
 use Rattle.st_lemmas.specs.Lists.{Has}
 use Rattle.st_lemmas.proofs.Tables.{and_both, cond_true, cond_false, found_at, has_filter, not_true}
 use Rattle.st_lemmas.proofs.Numbers.{numbered_more, numbered_below, numbered_own}
-use Rattle.st_laws_refine.specs.Server.Edits.{WishInput, NoSends}
+use Rattle.st_laws_refine.specs.Server.Edits.{WishInput}
+use Rattle.st_trace.specs.Server.Edits.{NoSends}
 use Rattle.st_laws_refine.specs.Server.Pair.{terms_of}
 use Rattle.st_laws_refine.specs.Server.Invariants.{Known, ByTick, ByMessage}
 use Rattle.st_laws_refine.specs.Server.DatingReplies.{DatesLease, Dated, DatedAfter, RepliesStayDated}
 use Rattle.st_laws_refine.proofs.Server.Delivery.{takes_is, all_messages, all_parts, tick_is, delivery_is, taken, message_has, to_server}
 use Rattle.st_laws_refine.proofs.Server.Known.{There, there_end, known_step}
 use Rattle.st_laws_refine.proofs.Server.Thefts.{over_has, has_over}
-use Rattle.st_laws_refine.proofs.Server.Walk.{walk_on, no_sends_note}
+use Rattle.st_laws_refine.proofs.Server.Walk.{walk_on}
+use Rattle.st_trace.proofs.Server.Input.{no_sends_note}
 use Rattle.st_laws_refine.proofs.Server.Dating.{timers_by, timers_more, timers_old, all_timers, DatingTurn, dating_edit}
 
 -- what is found, and is not left out, is found in what is left

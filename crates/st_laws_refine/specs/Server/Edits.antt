@@ -38,6 +38,7 @@ use Rattle.st_rules.specs.Server.{ServerState, ServerTurn, turn, with_sessions, 
 use Rattle.st_rules.specs.Dating.{refuses_client, is_request, may_date}
 use Rattle.st_rules.specs.Safety.{is_conflict}
 use Rattle.st_lemmas.specs.Lists.{Has}
+use Rattle.st_trace.specs.Server.Edits.{NoSends}
 
 -- each row of a reassertion has a mode
 abbrev pub AllSome : List (ℕ × GrantNo × Mode) → Type 0
@@ -53,12 +54,6 @@ Wish b = Unit {0}
 abbrev pub WishInput : ServerInput → Type 0
 WishInput Tick = Unit {0}
 WishInput (Control m) = is_client_node m.header.from ≡ true → Wish m.body
-
--- no message was sent yet
-abbrev pub NoSends : List Output → Type 0
-NoSends [] = Unit {0}
-NoSends (outputs.Send m ∷ os) = ⊥
-NoSends (o ∷ os) = NoSends os
 
 -- the client has a session, or a row
 abbrev pub KnownClient : ServerState → ClientId → Type 0

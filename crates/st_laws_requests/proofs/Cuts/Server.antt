@@ -1,7 +1,7 @@
--- The rules of a server, walked once, for replies of a kind: each that it sends or keeps is of a request that it served, or refuses a
--- reassertion; a cut that it acknowledges was noted, and names did and said what a reply for a name says.
+-- Replies of a kind: each that a server sends or keeps is of a request that it served, or refuses a reassertion; a cut that it acknowledges
+-- was noted, and names did and said what a reply for a name says.
 use Rattle.std.proofs.Common.{◌≡◌, ℕ, ◌⊎◌, Bool, true, false, List, [], ◌∷◌, ◌++◌, ◌==◌, refl, sym, ap, ◌∙◌, subst, inl, inr, if◌then◌else◌}
-use Rattle.std.specs.Prelude.{Option, Some, None, Result as Res, Ok, Err, find, nat_lt, option_map}
+use Rattle.std.specs.Prelude.{Option, Some, None, Result as Res, Ok, Err, option_map}
 use Rattle.std.proofs.lemmas.Bool.{eqb-true, eq-eqb}
 use Rattle.st_base.specs.declared.ids.ClientId.{ClientId}
 use Rattle.st_base.specs.declared.ids.Epoch.{Epoch}
@@ -28,39 +28,39 @@ use Rattle.st_messages.specs.declared.output.Output.{Output}
 use Rattle.st_messages.specs.declared.output.Output.TheVariants as outputs
 use Rattle.st_rules.specs.declared.input.ServerInput.{ServerInput}
 use Rattle.st_rules.specs.declared.input.ServerInput.TheVariants.{Tick, Control}
-use Rattle.st_rules.specs.declared.authority.AcceptRefusal.{AcceptRefusal}
-use Rattle.st_rules.specs.declared.locks.InstallRefusal.{InstallRefusal}
 use Rattle.st_rules.specs.declared.names.EntryRefusal.{EntryRefusal}
 use Rattle.st_rules.specs.declared.names.EntryRefusal.TheVariants.{IsDir}
-use Rattle.st_rules.specs.declared.sessions.Hello.{Hello}
-use Rattle.st_rules.specs.declared.sessions.Hello.TheVariants as hellos
 use Rattle.st_rules.specs.declared.sessions.Session.{Session}
 use Rattle.st_rules.specs.declared.sessions.SessionState.{SessionState}
 use Rattle.st_rules.specs.declared.sessions.SessionState.TheVariants as states
-use Rattle.st_rules.specs.declared.sessions.Taken.{Taken}
 use Rattle.st_rules.specs.declared.sessions.Taken.TheVariants as takes
 use Rattle.st_rules.specs.Locks as locks
 use Rattle.st_rules.specs.Locks.{Locks}
 use Rattle.st_rules.specs.Sessions as sessions
-use Rattle.st_rules.specs.Authority as authority
 use Rattle.st_rules.specs.ClientReplies as cr
 use Rattle.st_rules.specs.ClientState.{reasserts}
-use Rattle.st_rules.specs.Grace as grace
 use Rattle.st_rules.specs.Keys.{client, server_node}
 use Rattle.st_rules.specs.Names as names
 use Rattle.st_rules.specs.Names.{Names}
 use Rattle.st_rules.specs.Server as sv
-use Rattle.st_rules.specs.Server.{ServerState, Stable, ServerTurn, Replied, turn, with_locks, with_sessions, sender, life_in, note, reply, say, tell, steal_at, steal_from, steal, steal_each, thefts, suspect_client, greet_as, greet_by, greet, refuse_in_grace, hello, demand_seen, observe_demand, refuse_epoch, reassert_by, reassert_new, reassert_again, reassert, rule, keep_and_reply, keep, serve, request_by, request, of_epoch, by_body, refuse_suspect, by_suspicion, receive_from, receive, take_input, suspect_unless, suspect_each, suspecting, suspecting_on, tell_granted, grant_by, grant_waiting, granting, tell_demanded, demand_by, demanding, server_step}
+use Rattle.st_rules.specs.Server.{ServerState, Stable, ServerTurn, Replied, turn, with_locks, with_sessions, sender, life_in, note, reply, say, tell}
+use Rattle.st_rules.specs.Server.{steal_from, thefts, suspect_client, rule, keep_and_reply, server_step}
 use Rattle.st_lemmas.specs.Lists.{Has}
 use Rattle.st_lemmas.proofs.Lookups.{some_is}
 use Rattle.st_lemmas.proofs.Puts.{find_put_by, find_put_other}
-use Rattle.st_lemmas.proofs.Tables.{and_true, find_map, found_at, has_append}
+use Rattle.st_lemmas.proofs.Tables.{find_map, found_at, has_append}
 use Rattle.st_laws_leases.proofs.Dates.Known.{has_left, has_right}
 use Rattle.st_promises.specs.NameAnswers.{Saying, changed, found, listed, refused, said}
 use Rattle.st_laws_requests.specs.Cuts.Cuts.{KeptBy, does, does_remove, does_remove_dir, is_report}
-use Rattle.st_laws_steps.proofs.Server.Taking.{if_either, if_cases, clash, again_state, found_for}
+use Rattle.st_trace.specs.Server.Edits as edits
+use Rattle.st_trace.specs.Server.Edits.{AtThefts, AtInput, AtSuspicion, AtGrants, AtDemands, Came, Served, Refused, IsSuspect, GreetsInGrace, OfOtherEpoch}
+use Rattle.st_trace.specs.Server.Edits.{HasNoSession, IsRefusedRows, Edit, TakesTimers, Steals, Welcomes, Begins, Replaces, PutsOff, Sees, Reasserts}
+use Rattle.st_trace.specs.Server.Edits.{Repeats, Refuses, Suspects, Grants, Demands}
+use Rattle.st_trace.proofs.Server.Input.{w_thefts}
+use Rattle.st_trace.proofs.Server.Taking.{if_either, clash}
+use Rattle.st_trace.proofs.Server.Walk.{walk_in_two}
 use Rattle.st_laws_requests.proofs.Clients.{client_same, end_client, keep_client}
-use Rattle.st_laws_requests.proofs.Rules as rules
+use Rattle.st_laws_requests.proofs.Rules.{ruled}
 
 -- Replies of a kind: none of them greets, tells of a lock, or refuses a client.
 pub record Kind (Q : Body → Bool) : Type 0 where
@@ -92,7 +92,7 @@ module _ (Q : Body → Bool) (A : ClientId → ℕ → ℕ → Body → Type 0) 
   abbrev pub Keeps : sessions.Sessions → Type 0
   Keeps t = (c : ClientId) (x : Session) → sessions.session_of t c ≡ Some x → KeptBy Q (A c x.life.0) x.state
 
-  kept_new : (t : sessions.Sessions) (x : Session) → ((B : ℕ → Body → Type 0) → KeptBy Q B x.state) → Keeps t → Keeps (sessions.with_session x t)
+  pub kept_new : (t : sessions.Sessions) (x : Session) → ((B : ℕ → Body → Type 0) → KeptBy Q B x.state) → Keeps t → Keeps (sessions.with_session x t)
   kept_new t x k o d y h = go (sessions.is_session_of d x) refl
     where
       other : (z : Session) → (x.client.0 == d.0) ≡ false → sessions.is_session_of d z ≡ true → sessions.is_session_of x.client z ≡ false
@@ -104,37 +104,24 @@ module _ (Q : Body → Bool) (A : ClientId → ℕ → ℕ → Body → Type 0) 
 
       go : (b : Bool) → sessions.is_session_of d x ≡ b → KeptBy Q (A d y.life.0) y.state
       go true e =
-          let i = find_put_by (sessions.is_session_of d) (sessions.is_session_of x.client) x t.rows e (λ z f. eq-eqb z.client.0 x.client.0 (eqb-true _ _ f ∙ sym (eqb-true _ _ e))) in
+          let i = find_put_by (sessions.is_session_of d) (sessions.is_session_of x.client) x t.rows e
+          (λ z f. eq-eqb z.client.0 x.client.0 (eqb-true _ _ f ∙ sym (eqb-true _ _ e))) in
           subst (λ (z : Session). KeptBy Q (A d z.life.0) z.state) (some_is (sym i ∙ h)) (k (A d x.life.0))
       go false e = o d y (sym (find_put_other (sessions.is_session_of d) (sessions.is_session_of x.client) x t.rows e (λ z f. other z e f)) ∙ h)
 
-  pub kept_hello : (t : sessions.Sessions) (c : ClientId) (life : Life) (rows : Bool) → Keeps t → Keeps (sessions.hello t c life rows).sessions
-  unfolding sessions.hello sessions.hello_at sessions.hello_by sessions.hello_live sessions.hello_again sessions.hello_higher sessions.hello_ended sessions.begin_session sessions.greeted
-  kept_hello t c life rows o = go (sessions.session_of t c)
-    where
-      K : sessions.Greeted → Type 0
-      K g = Keeps g.sessions
-
-      new : Keeps (sessions.with_new_session c life t)
-      new = kept_new t (sessions.new_session c life) (λ B. tt) o
-
-      go : (x : Option Session) → Keeps (sessions.hello_at t c life rows x).sessions
-      go None = new
-      go (Some x) =
-          if_either K (sessions.is_live x) _ _
-          (if_either K (nat_lt life.0 x.life.0) _ _ o (if_either K (life.0 == x.life.0) _ _ o (if_either K rows _ _ o new)))
-          (if_either K (sessions.is_past life x) _ _ o new)
-
   -- sessions that were changed in place
   kept_map : (t : sessions.Sessions) (f : Session → Session) → ((x : Session) → (f x).client ≡ x.client) →
-      ((c : ClientId) (x : Session) → sessions.session_of t c ≡ Some x → KeptBy Q (A c (f x).life.0) (f x).state) → Keeps (record t { rows = Rattle.std.specs.Prelude.map f t.rows })
-  kept_map t f same k d y h = go (sessions.session_of t d) refl (sym (find_map (sessions.is_session_of d) f (λ x. ap (λ (z : ClientId). z.0 == d.0) (same x)) t.rows) ∙ h)
+      ((c : ClientId) (x : Session) → sessions.session_of t c ≡ Some x → KeptBy Q (A c (f x).life.0) (f x).state) →
+      Keeps (record t { rows = Rattle.std.specs.Prelude.map f t.rows })
+  kept_map t f same k d y h =
+      go (sessions.session_of t d) refl (sym (find_map (sessions.is_session_of d) f (λ x. ap (λ (z : ClientId). z.0 == d.0) (same x)) t.rows) ∙ h)
     where
       go : (o : Option Session) → sessions.session_of t d ≡ o → option_map f o ≡ Some y → KeptBy Q (A d y.life.0) y.state
       go None e q = cc
       go (Some x) e q = subst (λ (z : Session). KeptBy Q (A d z.life.0) z.state) (some_is q) (k d x e)
 
-  pub kept_stored : (t : sessions.Sessions) (c : ClientId) (number : ℕ) (b : Body) → (Q b ≡ true → (x : Session) → sessions.session_of t c ≡ Some x → A c x.life.0 number b) → Keeps t → Keeps (sessions.store t c number b)
+  pub kept_stored : (t : sessions.Sessions) (c : ClientId) (number : ℕ) (b : Body) → (Q b ≡ true → (x : Session) → sessions.session_of t c ≡ Some x →
+      A c x.life.0 number b) → Keeps t → Keeps (sessions.store t c number b)
   unfolding sessions.store sessions.keep_reply
   kept_stored t c number b w o = kept_map t (sessions.keep_of c number b) (keep_client c number b) (λ d x e. go d x e (sessions.is_session_of c x) refl)
     where
@@ -142,9 +129,11 @@ module _ (Q : Body → Bool) (A : ClientId → ℕ → ℕ → Body → Type 0) 
       kept B (states.Live last r) f = f
       kept B states.Ended f = tt
 
-      go : (d : ClientId) (x : Session) → sessions.session_of t d ≡ Some x → (z : Bool) → sessions.is_session_of c x ≡ z → KeptBy Q (A d (if z then sessions.keep_reply number b x else x).life.0) (if z then sessions.keep_reply number b x else x).state
+      go : (d : ClientId) (x : Session) → sessions.session_of t d ≡ Some x → (z : Bool) → sessions.is_session_of c x ≡ z →
+          KeptBy Q (A d (if z then sessions.keep_reply number b x else x).life.0) (if z then sessions.keep_reply number b x else x).state
       go d x e true q =
-          let same = client_same d c (eq-eqb d.0 c.0 (sym (eqb-true x.client.0 d.0 (found_at (sessions.is_session_of d) t.rows x e).0) ∙ eqb-true x.client.0 c.0 q)) in
+          let same = client_same d c
+          (eq-eqb d.0 c.0 (sym (eqb-true x.client.0 d.0 (found_at (sessions.is_session_of d) t.rows x e).0) ∙ eqb-true x.client.0 c.0 q)) in
           kept (A d x.life.0) x.state (λ f. subst (λ y. A y x.life.0 number b) (sym same) (w f x (subst (λ y. sessions.session_of t y ≡ Some x) same e)))
       go d x e false q = o d x e
 
@@ -152,7 +141,8 @@ module _ (Q : Body → Bool) (A : ClientId → ℕ → ℕ → Body → Type 0) 
   unfolding sessions.end sessions.ended
   kept_ended t c o = kept_map t (sessions.end_of c) (end_client c) (λ d x e. go d x e (sessions.is_session_of c x))
     where
-      go : (d : ClientId) (x : Session) → sessions.session_of t d ≡ Some x → (z : Bool) → KeptBy Q (A d (if z then sessions.ended x else x).life.0) (if z then sessions.ended x else x).state
+      go : (d : ClientId) (x : Session) → sessions.session_of t d ≡ Some x → (z : Bool) →
+          KeptBy Q (A d (if z then sessions.ended x else x).life.0) (if z then sessions.ended x else x).state
       go d x e true = tt
       go d x e false = o d x e
 
@@ -179,11 +169,17 @@ module _ (Q : Body → Bool) (kind : Kind Q) (s : ServerId) (e : Epoch) (F : Lis
     pub kept : Keeps Q (F t.out) t.state.sessions
     pub sent : (x : Message) → Has (outputs.Send x) t.out → Said t.out x
 
-  pub acks_state : (t : ServerTurn) (x : ServerState) → x.id ≡ t.state.id → x.stable.epoch ≡ t.state.stable.epoch → x.sessions ≡ t.state.sessions → Acks t → Acks (record t { state = x })
+  pub acks_state : (t : ServerTurn) (x : ServerState) → x.id ≡ t.state.id → x.stable.epoch ≡ t.state.stable.epoch → x.sessions ≡ t.state.sessions →
+      Acks t → Acks (record t { state = x })
   acks_state t x a b c o = record { id = a ∙ o.id; epoch = b ∙ o.epoch; kept = subst (Keeps Q (F t.out)) (sym c) o.kept; sent = o.sent }
 
   acks_say : (t : ServerTurn) (o : Output) → ((x : Message) → outputs.Send x ≡ o → Said (t.out ++ o ∷ []) x) → Acks t → Acks (say t o)
-  acks_say t o f k = record { id = k.id; epoch = k.epoch; kept = λ c x h. state_more t.out (o ∷ []) c x.life.0 x.state (k.kept c x h); sent = λ x h. go x (has_append t.out (o ∷ []) (outputs.Send x) h) }
+  acks_say t o f k = record {
+    id = k.id;
+    epoch = k.epoch;
+    kept = λ c x h. state_more t.out (o ∷ []) c x.life.0 x.state (k.kept c x h);
+    sent = λ x h. go x (has_append t.out (o ∷ []) (outputs.Send x) h);
+  }
     where
       go : (x : Message) → Has (outputs.Send x) t.out ⊎ Has (outputs.Send x) (o ∷ []) → Said (t.out ++ o ∷ []) x
       go x (inl h) = let z = k.sent x h in (z.0, λ q. let y = z.1 q in (y.0, more t.out (o ∷ []) (client x.header.to) x.header.life x.header.number x.body y.1))
@@ -195,7 +191,11 @@ module _ (Q : Body → Bool) (kind : Kind Q) (s : ServerId) (e : Epoch) (F : Lis
 
   pub acks_reply : (t : ServerTurn) (h : Header) (b : Body) → (Q b ≡ true → F t.out (client h.from) h.life h.number b) → Acks t → Acks (reply t h b)
   unfolding reply
-  acks_reply t h b w o = acks_say t (outputs.Send m) (λ x q. subst (Said (t.out ++ outputs.Send m ∷ [])) (sym (same x q)) (ap server_node o.id, λ f. (ap (λ (y : Epoch). y.0) o.epoch, more t.out _ (client h.from) h.life h.number b (w f)))) o
+  acks_reply t h b w o =
+      acks_say t (outputs.Send m) (λ x q. subst (Said (t.out ++ outputs.Send m ∷ [])) (sym (same x q)) (
+        ap server_node o.id,
+        λ f. (ap (λ (y : Epoch). y.0) o.epoch, more t.out _ (client h.from) h.life h.number b (w f)),
+      )) o
     where
       m : Message
       m = record { header = sv.reply_header t.state h; body = b }
@@ -205,19 +205,14 @@ module _ (Q : Body → Bool) (kind : Kind Q) (s : ServerId) (e : Epoch) (F : Lis
 
   acks_tell : (t : ServerTurn) (c : ClientId) (life : Life) (b : Body) → (Q b ≡ true → ⊥) → Acks t → Acks (tell t c life b)
   unfolding tell
-  acks_tell t c life b w o = acks_say t (outputs.Send m) (λ x q. subst (Said (t.out ++ outputs.Send m ∷ [])) (sym (same x q)) (ap server_node o.id, λ f. absurd (w f))) o
+  acks_tell t c life b w o =
+      acks_say t (outputs.Send m) (λ x q. subst (Said (t.out ++ outputs.Send m ∷ [])) (sym (same x q)) (ap server_node o.id, λ f. absurd (w f))) o
     where
       m : Message
       m = record { header = sv.own_header t.state c life; body = b }
 
       same : (x : Message) → outputs.Send x ≡ outputs.Send m → x ≡ m
       same x q = cc
-
-  -- what is given again is of this key
-  pub again_good : (t : ServerTurn) (h : Header) (b : Body) → sv.take t h ≡ takes.Again b → Q b ≡ true → Acks t → F t.out (client h.from) h.life h.number b
-  again_good t h b q f o =
-      let z = found_for t.state.sessions (sender h) (life_in h) (sv.epoch_in h) h.number (takes.Again b) (λ x. x ≡ states.Live h.number (Some b)) q (λ r. cc r) (λ r. cc r) (λ r. cc r) (λ x r. again_state b h.number x r) in
-      subst (λ l. F t.out (sender h) l h.number b) z.of_life ((subst (KeptBy Q (F t.out (sender h) z.session.life.0)) z.state (o.kept (sender h) z.session z.is)) f)
 
   -- The same, where the names of the server are these.
   module _ (n : Names) where
@@ -226,7 +221,8 @@ module _ (Q : Body → Bool) (kind : Kind Q) (s : ServerId) (e : Epoch) (F : Lis
       pub names : t.state.stable.names ≡ n
 
     -- other parts of the state
-    o_state : (t : ServerTurn) (x : ServerState) → x.id ≡ t.state.id → x.stable ≡ t.state.stable → x.sessions ≡ t.state.sessions → O t → O (record t { state = x })
+    o_state : (t : ServerTurn) (x : ServerState) → x.id ≡ t.state.id → x.stable ≡ t.state.stable → x.sessions ≡ t.state.sessions → O t →
+        O (record t { state = x })
     o_state t x a b c o = record { acks = acks_state t x a (ap (λ (y : Stable). y.epoch) b) c o.acks; names = ap (λ (y : Stable). y.names) b ∙ o.names }
 
     o_sessions : (t : ServerTurn) (x : sessions.Sessions) → Keeps Q (F t.out) x → O t → O (with_sessions x t)
@@ -247,119 +243,38 @@ module _ (Q : Body → Bool) (kind : Kind Q) (s : ServerId) (e : Epoch) (F : Lis
     unfolding suspect_client
     o_suspect t now c o = o_state _ _ refl refl refl (o_note t _ o)
 
-    o_steal : (t : ServerTurn) (c : ClientId) (x : Option Session) → O t → O (steal_at t c x)
-    unfolding steal_at steal_from
-    o_steal t c None o = o
-    o_steal t c (Some x) o =
-        let v = o_note t (notes.Stolen c x.life) o in
-        o_sessions (with_locks (locks.forget t.state.locks c) (note t (notes.Stolen c x.life))) _ (kept_ended Q (F (t.out ++ outputs.Note (notes.Stolen c x.life) ∷ [])) t.state.sessions c v.acks.kept) (o_state _ _ refl refl refl v)
+    module _ (x : ServerState) (now : Stamp) (i : ServerInput) where
+      o_steals : (t u : ServerTurn) → Edit x now i AtThefts t u → O t → O u
+      unfolding steal_from
+      o_steals t u (TakesTimers _ k) o = o_state t _ refl refl refl o
+      o_steals t u (Steals _ c y h k) o =
+          let v = o_note t (notes.Stolen c y.life) o in
+          o_sessions (with_locks (locks.forget t.state.locks c) (note t (notes.Stolen c y.life))) _
+          (kept_ended Q (F (t.out ++ outputs.Note (notes.Stolen c y.life) ∷ [])) t.state.sessions c v.acks.kept) (o_state _ _ refl refl refl v)
 
-    o_steals : (cs : List ClientId) (t : ServerTurn) → O t → O (steal_each cs t)
-    unfolding steal_each steal
-    o_steals [] t o = o
-    o_steals (c ∷ cs) t o = o_steals cs _ (o_steal t c (sessions.session_of t.state.sessions c) o)
+      o_suspects : (t u : ServerTurn) → Edit x now i AtSuspicion t u → O t → O u
+      o_suspects t u (Suspects _ c r is q f h k z) o = o_suspect t now c o
+
+      o_grants : (t u : ServerTurn) → Edit x now i AtGrants t u → O t → O u
+      o_grants t u (Grants _ w off h k f) o = o_tell _ w.client w.life _ (λ q. clash q (kind.granted _ _ _)) (o_state t _ refl refl refl o)
+
+      o_demands : (t u : ServerTurn) → Edit x now i AtDemands t u → O t → O u
+      o_demands t u (Demands _ w r y k h f q d) o = o_tell _ r.client r.life _ (λ z. clash z (kind.demand _ _ _)) (o_state t _ refl refl refl o)
+
+      o_begins : (t : ServerTurn) (c : ClientId) (life : Life) → O t → O (with_sessions (sessions.with_new_session c life t.state.sessions) t)
+      o_begins t c life o = o_sessions t _ (kept_new Q (F t.out) t.state.sessions (sessions.new_session c life) (λ B. tt) o.acks.kept) o
+
+      o_reasserts : (t : ServerTurn) (l : Locks) (c : ClientId) (life : Life) → O t →
+          O (with_sessions (sessions.reasserted t.state.sessions c life) (with_locks l t))
+      o_reasserts t l c life o = o_sessions (with_locks l t) _ (kept_reasserted Q (F t.out) t.state.sessions c life kind.reasserted o.acks.kept)
+          (o_state t _ refl refl refl o)
 
     pub o_thefts : (x : ServerState) (now : Stamp) → O (turn x []) → O (thefts (turn x []) now)
-    unfolding thefts
-    o_thefts x now o = o_steals _ _ (o_state (turn x []) _ refl refl refl o)
-
-    o_greet_as : (t : ServerTurn) (now : Stamp) (h : Header) (x : Hello) → O t → O (greet_as t now h x)
-    unfolding greet_as
-    o_greet_as t now h hellos.Welcome o = o_reply t h _ (λ q. absurd (clash q kind.welcome)) o
-    o_greet_as t now h hellos.Replaced o = o_reply _ h _ (λ q. absurd (clash q kind.welcome)) (o_state t _ refl refl refl o)
-    o_greet_as t now h hellos.Old o = o
-    o_greet_as t now h hellos.Wait o = o_reply _ h _ (λ q. absurd (clash q (kind.suspect _ _))) (o_suspect t now (sender h) o)
-
-    pub o_hello : (t : ServerTurn) (now : Stamp) (h : Header) → O t → O (hello t now h)
-    unfolding hello greet greet_by refuse_in_grace
-    o_hello t now h o =
-        if_either O (sv.in_grace t now) _ _ (o_reply t h _ (λ q. absurd (clash q (kind.grace _ _))) o)
-        (o_greet_as _ now h _ (o_sessions t _ (kept_hello Q (F t.out) t.state.sessions (sender h) (life_in h) _ o.acks.kept) o))
-
-    pub o_seen : (t : ServerTurn) (h : Header) (ino : ℕ) (g : GrantNo) → O t → O (demand_seen t h ino g)
-    unfolding demand_seen observe_demand
-    o_seen t h ino g o = if_either O (sv.is_served t h) _ t (o_state t _ refl refl refl o) o
-
-    abbrev AcceptedKeeps : List Output → Res grace.Accepted AcceptRefusal → Type 0
-    AcceptedKeeps out (Ok a) = Keeps Q (F out) a.sessions
-    AcceptedKeeps out (Err r) = Unit {0}
-
-    accepts : (out : List Output) (g : Option grace.Grace) (now : Stamp) (c : ClientId) (life : Life) (rows : List (ℕ × GrantNo × Mode)) (l : Locks) (t : sessions.Sessions) → Keeps Q (F out) t → AcceptedKeeps out (grace.accept g now c life rows l t)
-    unfolding grace.accept grace.accept_rows grace.accept_earlier grace.accept_own grace.accept_installed grace.accepted
-    accepts out g now c life rows l t o = if_either (AcceptedKeeps out) (grace.is_on g now) _ _ (earlier (find (grace.is_new_grant l) rows)) tt
-      where
-        installed : (r : Res Locks InstallRefusal) → AcceptedKeeps out (grace.accept_installed t c life r)
-        installed (Ok m) = kept_reasserted Q (F out) t c life kind.reasserted o
-        installed (Err r) = tt
-
-        own : (x : Option ℕ) → AcceptedKeeps out (grace.accept_own l t c life rows x)
-        own None = installed (locks.install l c life rows)
-        own (Some ino) = tt
-
-        earlier : (x : Option (ℕ × GrantNo × Mode)) → AcceptedKeeps out (grace.accept_earlier l t c life rows x)
-        earlier None = own (grace.own_older l c life)
-        earlier (Some r) = tt
-
-    -- a refusal of a reassertion has the fact
-    abbrev pub RefusedOk : ServerTurn → Header → Type 0
-    RefusedOk t h = (r : AcceptRefusal) → Q (sv.refused_reassertion r) ≡ true → F t.out (client h.from) h.life h.number (sv.refused_reassertion r)
-
-    o_reassert_by : (t : ServerTurn) (h : Header) (r : Res grace.Accepted AcceptRefusal) → RefusedOk t h → AcceptedKeeps t.out r → O t → O (reassert_by t h r)
-    unfolding reassert_by
-    o_reassert_by t h (Ok a) w k o = o_reply _ h _ (λ q. absurd (clash q kind.reasserted)) (o_sessions (with_locks a.locks t) _ k (o_state t _ refl refl refl o))
-    o_reassert_by t h (Err r) w k o = o_reply t h _ (λ q. w r q) o
-
-    o_reassert_again : (t : ServerTurn) (h : Header) (x : Taken Body) → sv.take t h ≡ x → O t → O (reassert_again t h x)
-    unfolding reassert_again
-    o_reassert_again t h (takes.Again b) q o = o_reply t h b (λ f. again_good t h b q f o.acks) o
-    o_reassert_again t h x q o = o
-
-    pub o_reassert : (t : ServerTurn) (now : Stamp) (h : Header) (rows : List (ℕ × GrantNo × Mode)) → RefusedOk t h → O t → O (reassert t now h rows)
-    unfolding reassert reassert_new
-    o_reassert t now h rows w o =
-        if_either O (sessions.knows t.state.sessions (sender h) (life_in h)) _ _
-        (o_reassert_again t h (sv.take t h) refl o)
-        (o_reassert_by t h _ w (accepts t.out t.state.grace now (sender h) (life_in h) rows t.state.locks t.state.sessions o.acks.kept) o)
-
-    pub o_refuse : (t : ServerTurn) (h : Header) (start : Stamp) (b : Body) → O t → O (refuse_suspect t h start b)
-    unfolding refuse_suspect
-    o_refuse t h start (bd.DemandSeen n g) o = o
-    o_refuse t h start b o = o_reply t h _ (λ f. absurd (clash f (kind.suspect _ _))) o
-
-    -- The passes.
-    o_suspects : (now : Stamp) (cs : List ClientId) (t : ServerTurn) → O t → O (suspect_each now cs t)
-    unfolding suspect_each suspect_unless
-    o_suspects now [] t o = o
-    o_suspects now (c ∷ cs) t o = o_suspects now cs _ (if_either O (authority.may_ack t.state.authority c) _ _ (o_suspect t now c o) o)
-
-    o_suspecting : (t : ServerTurn) (now : Stamp) (j : ServerInput) → O t → O (suspecting_on t now j)
-    unfolding suspecting_on suspecting
-    o_suspecting t now Tick o = o_suspects now _ t o
-    o_suspecting t now (Control m) o = o
-
-    o_told : (rs : List (ClientId × Life × ℕ × GrantNo × Mode)) (t : ServerTurn) → O t → O (tell_granted rs t)
-    unfolding tell_granted
-    o_told [] t o = o
-    o_told (r ∷ rs) t o = o_told rs _ (o_tell t r.0 r.1 _ (λ f. clash f (kind.granted _ _ _)) o)
-
-    o_granting : (t : ServerTurn) (now : Stamp) → O t → O (granting t now)
-    unfolding granting grant_waiting grant_by
-    o_granting t now o = if_either O (sv.in_grace t now) t _ o (o_told _ _ (o_state t _ refl refl refl o))
-
-    o_demanded : (rs : List (ClientId × Life × ℕ × GrantNo × Mode)) (t : ServerTurn) → O t → O (tell_demanded rs t)
-    unfolding tell_demanded
-    o_demanded [] t o = o
-    o_demanded (r ∷ rs) t o = o_demanded rs _ (o_tell t r.0 r.1 _ (λ f. clash f (kind.demand _ _ _)) o)
-
-    o_demanding : (t : ServerTurn) (now : Stamp) (j : ServerInput) → O t → O (demanding t now j)
-    unfolding demanding demand_by
-    o_demanding t now j o = o_demanded _ _ (o_state t _ refl refl refl o)
-
-    pub o_passes : (t : ServerTurn) (now : Stamp) (j : ServerInput) → O t → O (demanding (granting (suspecting_on t now j) now) now j)
-    o_passes t now j o = o_demanding _ now j (o_granting _ now (o_suspecting _ now j o))
+    o_thefts x now o = w_thefts x now Tick O (o_steals x now Tick) o
 
 -- A step of a server with an input, from these names.
-module _ (Q : Body → Bool) (kind : Kind Q) (s : ServerId) (e : Epoch) (i : ServerInput) (n : Names) (Old : ClientId → ℕ → ℕ → Body → Type 0) (state : ServerState) (now : Stamp) where
+module _ (Q : Body → Bool) (kind : Kind Q) (s : ServerId) (e : Epoch) (i : ServerInput) (n : Names) (Old : ClientId → ℕ → ℕ → Body →
+    Type 0) (state : ServerState) (now : Stamp) where
   -- behind the thefts
   abbrev pub start : ServerTurn
   start = thefts (turn state []) now
@@ -405,10 +320,21 @@ module _ (Q : Body → Bool) (kind : Kind Q) (s : ServerId) (e : Epoch) (i : Ser
   noted_more m (bd.Name op) out os b h = h
   noted_more m asked out os b h = tt
 
-  pub good_more : (m : Names) (out os : List Output) (c : ClientId) (life number : ℕ) (b : Body) → Good m out c life number b → Good m (out ++ os) c life number b
+  pub good_more : (m : Names) (out os : List Output) (c : ClientId) (life number : ℕ) (b : Body) → Good m out c life number b →
+      Good m (out ++ os) c life number b
   good_more m out os c life number b (inl o) = inl o
   good_more m out os c life number b (inr k) =
-      inr (record { by = k.by; is = k.is; from = k.from; there = k.there; of_life = k.of_life; of_epoch = k.of_epoch; under = k.under; noted = noted_more m k.by.body out os b k.noted; how = k.how })
+      inr (record {
+        by = k.by;
+        is = k.is;
+        from = k.from;
+        there = k.there;
+        of_life = k.of_life;
+        of_epoch = k.of_epoch;
+        under = k.under;
+        noted = noted_more m k.by.body out os b k.noted;
+        how = k.how;
+      })
 
   pub before_more : (out os : List Output) (c : ClientId) (life number : ℕ) (b : Body) → Before out c life number b → Before (out ++ os) c life number b
   before_more out os c life number b o = o
@@ -442,17 +368,16 @@ module _ (Q : Body → Bool) (kind : Kind Q) (s : ServerId) (e : Epoch) (i : Ser
 
   acks_left : (m : Names) (t : ServerTurn) → m ≡ n → Acks Q kind s e Before before_more t → Acks Q kind s e (Good m) (good_more m) t
   acks_left m t q o = subst (λ y. Acks Q kind s e (Good y) (good_more y) t) (sym q)
-      (record { id = o.id; epoch = o.epoch; kept = λ c x h. state_left t.out c x.life.0 x.state (o.kept c x h); sent = λ x h. let z = o.sent x h in (z.0, λ f. let y = z.1 f in (y.0, inl y.1)) })
+      (record {
+        id = o.id;
+        epoch = o.epoch;
+        kept = λ c x h. state_left t.out c x.life.0 x.state (o.kept c x h);
+        sent = λ x h. let z = o.sent x h in
+            (z.0, λ f. let y = z.1 f in (y.0, inl y.1));
+      })
 
   left : (t : ServerTurn) → Ob t → Left t
   left t o = (n, (record { acks = acks_left n t refl o.acks; names = o.names }, inl refl))
-
-  -- The rules of requests: a turn with the same sessions.
-  abbrev R : ServerTurn → Replied → Type 0
-  R t a = Acks Q kind s e Before before_more a.turn × (a.turn.state.sessions ≡ t.state.sessions)
-
-  r_rule : (t : ServerTurn) (now : Stamp) (h : Header) (m : Body) → Acks Q kind s e Before before_more t → R t (rule t now h m)
-  r_rule = rules.r_rule (Acks Q kind s e Before before_more) (acks_state Q kind s e Before before_more) (acks_note Q kind s e Before before_more)
 
   -- what names say
   abbrev Telling : Saying → Names → Option Body → Type 0
@@ -492,18 +417,22 @@ module _ (Q : Body → Bool) (kind : Kind Q) (s : ServerId) (e : Epoch) (i : Ser
   t_if true x y a b p q = p
   t_if false x y a b p q = q
 
-  t_held : (c : Bool) (x : Saying) (t : ServerTurn) (ino : ℕ) (g : GrantNo) (a : Replied) → t.state.stable.names ≡ n → TellingBy x a → TellingBy x (if c then a else sv.not_holder t ino g)
+  t_held : (c : Bool) (x : Saying) (t : ServerTurn) (ino : ℕ) (g : GrantNo) (a : Replied) → t.state.stable.names ≡ n → TellingBy x a →
+      TellingBy x (if c then a else sv.not_holder t ino g)
   unfolding sv.not_holder
   t_held true x t ino g a at p = p
   t_held false x t ino g a at p = telling x t.state.stable.names (bd.Nack why.NotHolder ino g.0) at
 
-  t_remove : (t : ServerTurn) (h : Header) (dir : ℕ) (x : List ℕ) (g : GrantNo) (r : Res ℕ EntryRefusal) → t.state.stable.names ≡ n → TellingBy (does_remove t.state.stable.names dir x g r) (sv.remove_found t h dir x g r)
+  t_remove : (t : ServerTurn) (h : Header) (dir : ℕ) (x : List ℕ) (g : GrantNo) (r : Res ℕ EntryRefusal) → t.state.stable.names ≡ n →
+      TellingBy (does_remove t.state.stable.names dir x g r) (sv.remove_found t h dir x g r)
   unfolding sv.remove_found sv.remove_ino sv.remove_file sv.remove_dir
   t_remove t h dir x g (Err r) at = t_refused t r
   t_remove t h dir x g (Ok ino) at =
       t_if (sv.is_file t ino) (changed t.state.stable.names (names.remove t.state.stable.names dir x)) (does_remove_dir t.state.stable.names dir x g) _ _
-      (t_held (sv.holds t h ino g modes.X) (changed t.state.stable.names (names.remove t.state.stable.names dir x)) t ino g (sv.remove_by t (names.remove t.state.stable.names dir x)) at (t_removed t (names.remove t.state.stable.names dir x)))
-      (t_if (g.0 == 0) (changed t.state.stable.names (names.remove t.state.stable.names dir x)) (refused t.state.stable.names IsDir) _ _ (t_changed t (names.remove t.state.stable.names dir x)) (t_refused t IsDir))
+      (t_held (sv.holds t h ino g modes.X) (changed t.state.stable.names (names.remove t.state.stable.names dir x)) t ino g
+      (sv.remove_by t (names.remove t.state.stable.names dir x)) at (t_removed t (names.remove t.state.stable.names dir x)))
+      (t_if (g.0 == 0) (changed t.state.stable.names (names.remove t.state.stable.names dir x)) (refused t.state.stable.names IsDir) _ _
+      (t_changed t (names.remove t.state.stable.names dir x)) (t_refused t IsDir))
 
   pub t_name : (t : ServerTurn) (h : Header) (op : NameOp) → t.state.stable.names ≡ n → TellingBy (does t.state.stable.names op) (sv.name t h op)
   unfolding sv.name sv.remove
@@ -520,131 +449,157 @@ module _ (Q : Body → Bool) (kind : Kind Q) (s : ServerId) (e : Epoch) (i : Ser
 
   rule_notes : (t : ServerTurn) (now : Stamp) (h : Header) (m : Body) → t.state.id ≡ s → t.state.stable.names ≡ n → Noting m (rule t now h m)
   unfolding rule sv.cut sv.cut_held sv.cut_from sv.cut_pages sv.no_file sv.not_holder
-  rule_notes t now h (bd.Cut k g p) id at = if_either (Noting (bd.Cut k g p)) (sv.is_file t k) _ _ (if_either (Noting (bd.Cut k g p)) (sv.holds t h k g modes.X) _ _ cut (λ b q f. no why.NotHolder k g.0 b q)) (λ b q f. no why.NoFile k 0 b q)
+  rule_notes t now h (bd.Cut k g p) id at = if_either (Noting (bd.Cut k g p)) (sv.is_file t k) _ _
+      (if_either (Noting (bd.Cut k g p)) (sv.holds t h k g modes.X) _ _ cut (λ b q f. no why.NotHolder k g.0 b q)) (λ b q f. no why.NoFile k 0 b q)
     where
       no : (w : Why) (x y : ℕ) (b : Body) → ◌≡◌ {A = Option Body} (Some (bd.Nack w x y)) (Some b) → Noted (bd.Cut k g p) t.out t.state.stable.names b
       no w x y b q = subst (Noted (bd.Cut k g p) t.out t.state.stable.names) (some_is q) tt
 
       cut : Noting (bd.Cut k g p) (sv.cut_from t k p)
       cut b q f = subst (Noted (bd.Cut k g p) (sv.cut_from t k p).turn.out (sv.cut_from t k p).turn.state.stable.names) (some_is q)
-          (has_right t.out (outputs.Note (notes.CutDone (sv.file t k) p) ∷ []) _ (inl (ap (λ (y : ServerId). outputs.Note (notes.CutDone (record { server = y; ino = k }) p)) (sym id))))
+          (has_right t.out (outputs.Note (notes.CutDone (sv.file t k) p) ∷ []) _
+          (inl (ap (λ (y : ServerId). outputs.Note (notes.CutDone (record { server = y; ino = k }) p)) (sym id))))
   rule_notes t now h (bd.Name op) id at = λ b q f. subst (λ y. IsSaid (does y op) (sv.name t h op).turn.state.stable.names b) at (t_name t h op at b q)
   rule_notes t now h m id at = λ b q f. tt
 
-  module _ (m : Message) (is : i ≡ Control m) (there : m.header.to ≡ server_node s) (from_client : sv.is_client_node m.header.from ≡ true) where
-    o_serve : R start (rule start now m.header m.body) → Noting m.body (rule start now m.header m.body) → m.header.epoch ≡ e.0 → sv.take start m.header ≡ takes.Fresh → Left (serve m.header (rule start now m.header m.body))
-    unfolding serve keep keep_and_reply
-    o_serve r notes_it ep q = go a.reply refl
-      where
-        a : Replied
-        a = rule start now m.header m.body
+  -- the request that is served
+  module _ (t u : ServerTurn) (m : Message) (b : Body) (sent : Served state now i t m) (did : rule t now m.header m.body ≡ sv.replied u b)
+      (r : Acks Q kind s e Before before_more u × (u.state.sessions ≡ t.state.sessions)) (o : Ob t) where
+    abbrev y : Names
+    y = u.state.stable.names
 
-        y : Names
-        y = a.turn.state.stable.names
+    came : Came state now i t m
+    came = sent.asked.heard.came
 
-        good : (b : Body) → a.reply ≡ Some b → Q b ≡ true → Good y a.turn.out (sender m.header) m.header.life m.header.number b
-        good b f g =
-            inr (record { by = m; is = is; from = refl; there = there; of_life = refl; of_epoch = ep; under = refl; noted = notes_it b f g; how = inl (record { client = from_client; fresh = q; replied = f }) })
+    there : m.header.to ≡ server_node s
+    there = came.there ∙ ap server_node o.acks.id
 
-        its_life : (x : Session) → sessions.session_of a.turn.state.sessions (sender m.header) ≡ Some x → x.life.0 ≡ m.header.life
-        its_life x j =
-            let z = found_for start.state.sessions (sender m.header) (life_in m.header) (sv.epoch_in m.header) m.header.number takes.Fresh (λ y. Unit {0}) q (λ r. cc r) (λ r. cc r) (λ r. cc r) (λ y r. tt) in
-            let y = some_is (sym (ap (λ (u : sessions.Sessions). sessions.session_of u (sender m.header)) (sym r.1) ∙ j) ∙ z.is) in
-            ap (λ (u : Session). u.life.0) y ∙ z.of_life
+    of_epoch : m.header.epoch ≡ e.0
+    of_epoch = sent.asked.epoch ∙ ap (λ (z : Epoch). z.0) o.acks.epoch
 
-        -- what was kept and sent before
-        state_old : (out : List Output) (c : ClientId) (life : ℕ) (x : SessionState) → KeptBy Q (Before out c life) x → KeptBy Q (Good y out c life) x
-        state_old out c life (states.Live last (Some b)) k = λ q. inl (k q)
-        state_old out c life (states.Live last None) k = tt
-        state_old out c life states.Ended k = tt
+    fresh : sv.take start m.header ≡ takes.Fresh
+    fresh = subst (λ (z : ServerTurn). sv.take z m.header ≡ takes.Fresh) came.first sent.fresh
 
-        old : Oa y a.turn
-        old =
-            record {
-              acks = record { id = r.0.id; epoch = r.0.epoch; kept = λ c x h. state_old a.turn.out c x.life.0 x.state (r.0.kept c x h); sent = λ x h. let z = r.0.sent x h in (z.0, λ f. let k = z.1 f in (k.0, inl k.1)) };
-              names = refl;
-            }
+    its_rule : rule start now m.header m.body ≡ sv.replied u b
+    its_rule = subst (λ (z : ServerTurn). rule z now m.header m.body ≡ sv.replied u b) came.first did
 
-        serves : ServesNames y
-        serves = record { by = m; is = is; there = there; client = from_client; of_epoch = ep; fresh = q; names_ = refl }
+    notes_it : Q b ≡ true → Noted m.body u.out y b
+    notes_it f =
+        subst (λ (a : Replied). Noted m.body a.turn.out a.turn.state.stable.names b) did
+        (rule_notes t now m.header m.body o.acks.id o.names b (ap (λ (a : Replied). a.reply) did) f)
 
-        go : (b : Option Body) → a.reply ≡ b → Left (keep m.header a.turn b)
-        go None f = (y, (old, inr serves))
-        go (Some b) f = (
-          y,
-          (
-            o_reply Q kind s e (Good y) (good_more y) y _ m.header b (λ k. good b f k)
-                (record {
-                  acks = record {
-                    id = r.0.id;
-                    epoch = r.0.epoch;
-                    kept = kept_stored Q (Good y a.turn.out) a.turn.state.sessions (sender m.header) m.header.number b
-                        (λ k x j. subst (λ l. Good y a.turn.out (sender m.header) l m.header.number b) (sym (its_life x j)) (good b f k)) old.acks.kept;
-                    sent = old.acks.sent;
-                  };
-                  names = refl;
-                }),
-            inr serves,
-          ),
-        )
-
-    o_request_by : (x : Taken Body) → sv.take start m.header ≡ x → m.header.epoch ≡ e.0 → Ob start → Left (request_by start now m.header m.body x)
-    unfolding request_by refuse_epoch
-    o_request_by takes.OtherEpoch q ep o = left _ (o_reply Q kind s e Before before_more n start m.header _ (λ f. absurd (clash f (kind.other_epoch _ _))) o)
-    o_request_by takes.NoSession q ep o = left _ (o_reply Q kind s e Before before_more n start m.header _ (λ f. absurd (clash f (kind.no_session _ _))) o)
-    o_request_by takes.Stale q ep o = left _ o
-    o_request_by (takes.Again b) q ep o = left _ (o_reply Q kind s e Before before_more n start m.header b (λ f. again_good Q kind s e Before before_more start m.header b q f o.acks) o)
-    o_request_by takes.OutOfOrder q ep o = left _ o
-    o_request_by takes.Fresh q ep o = o_serve (r_rule start now m.header m.body o.acks) (rule_notes start now m.header m.body o.acks.id o.names) ep q
-
-    -- a reassertion that is refused
-    refuses : (rows : List (ℕ × GrantNo × Mode)) → m.body ≡ bd.Reassert rows → m.header.epoch ≡ e.0 → RefusedOk Q kind s e (Good n) (good_more n) n start m.header
-    refuses rows f ep r q =
+    good : Q b ≡ true → Good y u.out (sender m.header) m.header.life m.header.number b
+    good f =
         inr (record {
           by = m;
-          is = is;
+          is = came.is;
           from = refl;
           there = there;
           of_life = refl;
-          of_epoch = ep;
+          of_epoch = of_epoch;
           under = refl;
-          noted = subst (λ b. Noted b start.out n (sv.refused_reassertion r)) (sym f) tt;
-          how = inr (ap reasserts f);
+          noted = notes_it f;
+          how = inl (record { client = came.from; fresh = fresh; replied = ap (λ (a : Replied). a.reply) its_rule });
         })
 
-    o_request : (b : Body) → m.body ≡ b → m.header.epoch ≡ e.0 → Ob start → Left (request start now m.header b)
-    unfolding request
-    o_request (bd.Reassert rows) f ep o = (n, (o_reassert Q kind s e (Good n) (good_more n) n start now m.header rows (refuses rows f ep) (record { acks = acks_left n start refl o.acks; names = o.names }), inl refl))
-    o_request b f ep o = subst (λ y. Left (request_by start now m.header y (sv.take start m.header))) f (o_request_by (sv.take start m.header) refl ep o)
+    its_life : (x : Session) → sessions.session_of u.state.sessions (sender m.header) ≡ Some x → x.life.0 ≡ m.header.life
+    its_life x j =
+        let z = sent.in_life in
+        let v = some_is (sym (ap (λ (w : sessions.Sessions). sessions.session_of w (sender m.header)) (sym r.1) ∙ j) ∙ z.is) in
+        ap (λ (w : Session). w.life.0) v ∙ z.of_life
 
-    o_of_epoch : (b : Body) → m.body ≡ b → Ob start → Left (of_epoch start now m.header b)
-    unfolding of_epoch refuse_epoch
-    o_of_epoch b f o =
-        if_cases Left (m.header.epoch == start.state.stable.epoch.0) _ _ (λ q. o_request b f (eqb-true _ _ q ∙ ap (λ (y : Epoch). y.0) o.acks.epoch) o)
-        (λ q. left _ (o_reply Q kind s e Before before_more n start m.header _ (λ f. absurd (clash f (kind.other_epoch _ _))) o))
+    -- what was kept and sent before
+    state_old : (out : List Output) (c : ClientId) (life : ℕ) (x : SessionState) → KeptBy Q (Before out c life) x → KeptBy Q (Good y out c life) x
+    state_old out c life (states.Live last (Some d)) k = λ q. inl (k q)
+    state_old out c life (states.Live last None) k = tt
+    state_old out c life states.Ended k = tt
 
-    o_by_body : (b : Body) → m.body ≡ b → Ob start → Left (by_body start now m.header b)
-    unfolding by_body
-    o_by_body bd.Hello f o = left _ (o_hello Q kind s e Before before_more n start now m.header o)
-    o_by_body (bd.DemandSeen k g) f o = left _ (o_seen Q kind s e Before before_more n start m.header k g o)
-    o_by_body b f o = o_of_epoch b f o
+    serves_it : Left (keep_and_reply u m.header b)
+    unfolding keep_and_reply
+    serves_it = (
+      y,
+      (
+        o_reply Q kind s e (Good y) (good_more y) y _ m.header b good
+            (record {
+              acks = record {
+                id = r.0.id;
+                epoch = r.0.epoch;
+                kept = kept_stored Q (Good y u.out) u.state.sessions (sender m.header) m.header.number b
+                    (λ k x j. subst (λ l. Good y u.out (sender m.header) l m.header.number b) (sym (its_life x j)) (good k))
+                    (λ c x h. state_old u.out c x.life.0 x.state (r.0.kept c x h));
+                sent = λ x h. let z = r.0.sent x h in (z.0, λ f. let k = z.1 f in (k.0, inl k.1));
+              };
+              names = refl;
+            }),
+        inr (record {
+          by = m;
+          is = came.is;
+          there = there;
+          client = came.from;
+          of_epoch = of_epoch;
+          fresh = fresh;
+          names_ = ap (λ (a : Replied). a.turn.state.stable.names) its_rule;
+        }),
+      ),
+    )
 
-    o_by_suspicion : (x : Option Stamp) → Ob start → Left (by_suspicion start now m.header m.body x)
-    unfolding by_suspicion
-    o_by_suspicion None o = o_by_body m.body refl o
-    o_by_suspicion (Some since) o = left _ (o_refuse Q kind s e Before before_more n start m.header since m.body o)
+  -- a message that is refused
+  refuses : (t : ServerTurn) (m : Message) (b : Body) → Refused state now i t m b → Ob t → Left (reply t m.header b)
+  refuses t m b (IsSuspect since c r k) o = left _ (o_reply Q kind s e Before before_more n t m.header _ (λ f. absurd (clash f (kind.suspect _ _))) o)
+  refuses t m b (GreetsInGrace h k g) o = left _ (o_reply Q kind s e Before before_more n t m.header _ (λ f. absurd (clash f (kind.grace _ _))) o)
+  refuses t m b (OfOtherEpoch h r) o = left _ (o_reply Q kind s e Before before_more n t m.header _ (λ f. absurd (clash f (kind.other_epoch _ _))) o)
+  refuses t m b (HasNoSession a k) o = left _ (o_reply Q kind s e Before before_more n t m.header _ (λ f. absurd (clash f (kind.no_session _ _))) o)
+  refuses t m b (IsRefusedRows rows r a k) o = (
+    n,
+    (
+      o_reply Q kind s e (Good n) (good_more n) n t m.header b
+          (λ q. inr (record {
+            by = m;
+            is = a.asked.heard.came.is;
+            from = refl;
+            there = a.asked.heard.came.there ∙ ap server_node o.acks.id;
+            of_life = refl;
+            of_epoch = a.asked.epoch ∙ ap (λ (y : Epoch). y.0) o.acks.epoch;
+            under = refl;
+            noted = subst (λ z. Noted z t.out n b) (sym a.asks) tt;
+            how = inr (ap reasserts a.asks);
+          })) (record { acks = acks_left n t refl o.acks; names = o.names }),
+      inl refl,
+    ),
+  )
 
-  o_input : (j : ServerInput) → i ≡ j → Ob start → Left (take_input start now j)
-  unfolding take_input receive receive_from
-  o_input Tick q o = left _ o
-  o_input (Control m) q o = if_cases Left (sv.is_for start.state m.header) _ _ received (λ f. left _ o)
-    where
-      received : sv.is_for start.state m.header ≡ true → Left (by_suspicion start now m.header m.body (authority.started start.state.authority (sender m.header)))
-      received f = let z = and_true (m.header.to == server_node start.state.id) _ f in o_by_suspicion m q (eqb-true _ _ z.0 ∙ ap server_node o.acks.id) z.1 _ o
+  takes_input : (t u : ServerTurn) → Edit state now i AtInput t u → Ob t → Left u
+  takes_input t u (Welcomes _ m y g k a f) o = left _ (o_reply Q kind s e Before before_more n t m.header _ (λ q. absurd (clash q kind.welcome)) o)
+  takes_input t u (Begins _ m g f) o =
+      left _ (o_reply Q kind s e Before before_more n _ m.header _ (λ q. absurd (clash q kind.welcome))
+      (o_begins Q kind s e Before before_more n state now i t (sender m.header) (life_in m.header) o))
+  takes_input t u (Replaces _ m y g k a f r) o =
+      left _ (o_reply Q kind s e Before before_more n _ m.header _ (λ q. absurd (clash q kind.welcome))
+      (o_state Q kind s e Before before_more n (with_sessions (sessions.with_new_session (sender m.header) (life_in m.header) t.state.sessions) t) _
+      refl refl refl
+      (o_begins Q kind s e Before before_more n state now i t (sender m.header) (life_in m.header) o)))
+  takes_input t u (PutsOff _ m y g k a f r) o =
+      left _ (o_reply Q kind s e Before before_more n _ m.header _ (λ q. absurd (clash q (kind.suspect _ _)))
+      (o_suspect Q kind s e Before before_more n t now (sender m.header) o))
+  takes_input t u (Sees _ m ino g h b k) o = left _ (o_state Q kind s e Before before_more n t _ refl refl refl o)
+  takes_input t u (Reasserts _ m rows r on f) o =
+      left _ (o_reply Q kind s e Before before_more n _ m.header _ (λ q. absurd (clash q kind.reasserted))
+      (o_reasserts Q kind s e Before before_more n state now i t (locks.with_rows t.state.locks (sender m.header) (life_in m.header) rows)
+      (sender m.header) (life_in m.header) o))
+  takes_input t u (edits.Serves _ m v b y k r) o =
+      serves_it t v m b y k
+      (ruled (Acks Q kind s e Before before_more) (acks_state Q kind s e Before before_more)
+      (acks_note Q kind s e Before before_more) now t m.header m.body v b r o.acks) o
+  takes_input t u (Repeats _ m y b k a f g st) o =
+      left _ (o_reply Q kind s e Before before_more n t m.header b
+      (λ q. subst (λ l. Before t.out (sender m.header) l m.header.number b) g
+      ((subst (KeptBy Q (Before t.out (sender m.header) y.life.0)) st (o.acks.kept (sender m.header) y f)) q)) o)
+  takes_input t u (Refuses _ m b r) o = refuses t m b r o
 
   -- The whole step, and the names that it leaves.
   pub served : Ob (turn state []) → Left (server_step state now i)
-  unfolding server_step
   served o =
-      let z = o_input i refl (o_thefts Q kind s e Before before_more n state now o) in
-      (z.0, (o_passes Q kind s e (Good z.0) (good_more z.0) z.0 _ now i z.1.0, z.1.1))
+      walk_in_two state now i Ob Left (o_steals Q kind s e Before before_more n state now i) left takes_input
+      (λ t u k z. (z.0, (o_suspects Q kind s e (Good z.0) (good_more z.0) z.0 state now i t u k z.1.0, z.1.1)))
+      (λ t u k z. (z.0, (o_grants Q kind s e (Good z.0) (good_more z.0) z.0 state now i t u k z.1.0, z.1.1)))
+      (λ t u k z. (z.0, (o_demands Q kind s e (Good z.0) (good_more z.0) z.0 state now i t u k z.1.0, z.1.1))) o

@@ -1,5 +1,5 @@
 -- What a request finds of its client's session at a server, and how a number is taken there.
-use Rattle.std.proofs.Common.{◌≡◌, ℕ, ◌+◌, ◌≤◌, ◌<◌, ◌≢◌, ◌⊎◌, Bool, true, false, ◌&&◌, [], ◌∷◌, ◌==◌, refl, sym, ap, ◌∙◌, arith, if◌then◌else◌}
+use Rattle.std.proofs.Common.{◌≡◌, ℕ, ◌+◌, Bool, true, false, ◌==◌, refl, sym, ap, ◌∙◌, arith, if◌then◌else◌}
 use Rattle.std.specs.Prelude.{Option, Some, None, nat_lt}
 use Rattle.std.proofs.lemmas.Bool.{eqb-true, ltb-false}
 use Rattle.st_base.specs.declared.ids.ClientId.{ClientId}
@@ -53,7 +53,8 @@ again_state b number (states.Live last r) e = below (nat_lt number last) e
     next true q = cc
     next false q = cc
 
-    from : (z : Bool) → (number == last) ≡ z → (if z then sessions.again r else sessions.take_next last number) ≡ takes.Again b → states.Live last r ≡ states.Live number (Some b)
+    from : (z : Bool) → (number == last) ≡ z → (if z then sessions.again r else sessions.take_next last number) ≡ takes.Again b →
+        states.Live last r ≡ states.Live number (Some b)
     from true f q = ap (λ n. states.Live n r) (sym (eqb-true number last f)) ∙ ap (λ y. states.Live number y) (kept r q)
     from false f q = absurd (next (number == last + 1) q)
 
@@ -61,16 +62,20 @@ again_state b number (states.Live last r) e = below (nat_lt number last) e
     below true q = cc
     below false q = from (number == last) refl q
 
-pub found_for : (t : sessions.Sessions) (c : ClientId) (life : Life) (epoch : Epoch) (number : ℕ) (a : Taken Body) (P : SessionState → Type 0) → sessions.take t c life epoch number ≡ a →
-    (takes.OtherEpoch ≡ a → ⊥) → (takes.NoSession ≡ a → ⊥) → (takes.Stale ≡ a → ⊥) → ((x : SessionState) → sessions.take_state x number ≡ a → P x) → Found t c life P
+pub found_for : (t : sessions.Sessions) (c : ClientId) (life : Life) (epoch : Epoch) (number : ℕ) (a : Taken Body) (P : SessionState → Type 0) →
+    sessions.take t c life epoch number ≡ a →
+    (takes.OtherEpoch ≡ a → ⊥) → (takes.NoSession ≡ a → ⊥) → (takes.Stale ≡ a → ⊥) → ((x : SessionState) → sessions.take_state x number ≡ a → P x) →
+    Found t c life P
 unfolding sessions.take sessions.take_at sessions.take_life sessions.take_past
 found_for t c life epoch number a P e no1 no2 no3 f = at (epoch.0 == t.epoch.0) e
   where
-    past : (x : Session) → sessions.session_of t c ≡ Some x → nat_lt x.life.0 life.0 ≡ false → (z : Bool) → nat_lt life.0 x.life.0 ≡ z → (if z then takes.Stale else sessions.take_state x.state number) ≡ a → Found t c life P
+    past : (x : Session) → sessions.session_of t c ≡ Some x → nat_lt x.life.0 life.0 ≡ false → (z : Bool) → nat_lt life.0 x.life.0 ≡ z →
+        (if z then takes.Stale else sessions.take_state x.state number) ≡ a → Found t c life P
     past x i l true q r = absurd (no3 r)
     past x i l false q r = record { session = x; is = i; of_life = alike x.life.0 life.0 l q; state = f x.state r }
 
-    of_life : (x : Session) → sessions.session_of t c ≡ Some x → (z : Bool) → nat_lt x.life.0 life.0 ≡ z → (if z then takes.NoSession else sessions.take_past x life number) ≡ a → Found t c life P
+    of_life : (x : Session) → sessions.session_of t c ≡ Some x → (z : Bool) → nat_lt x.life.0 life.0 ≡ z →
+        (if z then takes.NoSession else sessions.take_past x life number) ≡ a → Found t c life P
     of_life x i true q r = absurd (no2 r)
     of_life x i false q r = past x i q (nat_lt life.0 x.life.0) refl r
 
@@ -102,7 +107,8 @@ fresh_state number (states.Live last r) e = below (nat_lt number last) e
     from true q = absurd (kept r q)
     from false q = at (number == last + 1) refl q
       where
-        at : (z : Bool) → (number == last + 1) ≡ z → ◌≡◌ {A = Taken Body} (if z then takes.Fresh else takes.OutOfOrder) takes.Fresh → FreshState number (states.Live last r)
+        at : (z : Bool) → (number == last + 1) ≡ z → ◌≡◌ {A = Taken Body} (if z then takes.Fresh else takes.OutOfOrder) takes.Fresh →
+            FreshState number (states.Live last r)
         at true f q = record { last = last; reply = r; is = refl; next = eqb-true number (last + 1) f }
         at false f q = cc
 
