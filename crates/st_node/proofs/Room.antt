@@ -21,8 +21,8 @@ use Rattle.st_server.specs.Invariants.{IsSound}
 use Rattle.st_server.proofs.SoundSteps.{step_turn, moment_word}
 use Rattle.st_node.specs.Room.{HasRoomFor, ServerHasRoom}
 use Rattle.st_node.specs.Runs.{MOST, server_stepped}
-use Rattle.st_node.proofs.Growing.{Grows, pages_asked, pages_in}
-use Rattle.st_node.proofs.Stables.{step_grows}
+use Rattle.st_trace.specs.Server.Growth.{GrowsLittle, pages_asked, pages_in}
+use Rattle.st_trace.proofs.Server.Growth.{step_grows}
 
 -- room for a step
 pub room_now : (k : ℕ) (n : ServerNode) → ServerHasRoom (k + 1) n → HasRoom n.state
@@ -57,7 +57,7 @@ unfolding server_step
 stepped_room k n now i sound time fit r =
     let taken : taken_locks (server_step n.state now i).state.locks ≤ taken_locks n.state.locks + 1 =
     (step_turn (turn n.state []) now refl sound (room_now k n r) (moment_word now.0 time) i fit).sound.held.few in
-    let grown : Grows (pages_in i) n.state.stable (server_step n.state now i).state.stable = step_grows n.state now i in
+    let grown : GrowsLittle (pages_in i) n.state.stable (server_step n.state now i).state.stable = step_grows n.state now i in
     let asked = input_few i fit in
     record {
       running = r.running;

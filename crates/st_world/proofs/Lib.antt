@@ -8,5 +8,4 @@ pub mod Refused
 pub mod SafeRuns
 pub mod Shaped
 pub mod Shapes
-pub mod Stables
 pub mod Stepped

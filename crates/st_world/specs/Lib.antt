@@ -1,5 +1,4 @@
 pub mod Deliveries
-pub mod Growth
 pub mod Heads
 pub mod ReachedWorlds
 pub mod Safe

@@ -7,14 +7,14 @@ mod checks;
 mod clocks;
 mod fault;
 mod first_parts;
-mod growth;
 mod missed_flushes;
 mod parts;
 mod safe;
+mod shape;
 mod steps;
 mod world;
 
 pub use fault::WorldFault;
-pub use growth::{events_keep_the_shape, server_steps_grow_little};
+pub use shape::events_keep_the_shape;
 pub use st_rules::{Observation, Summary, WorldRefusal};
 pub use world::World;
