@@ -1,2 +1,2 @@
-//! What each step of a machine does, as a list of changes with their causes, on the definitions alone.
+//! What each step of a server and of a client does, as a list of changes with their causes. It is about the definitions alone.
 #![tactic(auto)]

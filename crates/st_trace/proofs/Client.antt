@@ -1,0 +1,7 @@
+pub mod Finishing
+pub mod Lists
+pub mod Losing
+pub mod Operating
+pub mod Receiving
+pub mod Requesting
+pub mod Walk
