@@ -1,5 +1,6 @@
 -- The rules of a client, walked once: what they do to the pending operations, to the outputs and to what is known of places.
-use Rattle.std.proofs.Common.{◌≡◌, ℕ, Bool, true, false, not, ◌||◌, ◌==◌, List, [], ◌∷◌, ◌++◌, Option, Some, None, Ok, Err, refl, sym, ap, ◌∙◌, subst, inl, inr, if◌then◌else◌, append_assoc}
+use Rattle.std.proofs.Common.{◌≡◌, ℕ, Bool, true, false, not, ◌||◌, List, [], ◌∷◌, ◌++◌, Option, Some, None, refl, sym, ap, ◌∙◌, subst, inl}
+use Rattle.std.proofs.Common.{inr, if◌then◌else◌, append_assoc}
 use Rattle.std.specs.Prelude.{◌⊎◌, filter, is_some, map}
 use Rattle.std.proofs.lemmas.Bool.{eqb-true}
 use Rattle.st_base.specs.declared.config.Config.{Config}
@@ -8,9 +9,7 @@ use Rattle.st_base.specs.declared.disk.Command.{Command}
 use Rattle.st_base.specs.declared.disk.Command.TheVariants as commands
 use Rattle.st_base.specs.declared.disk.Tag.{Tag}
 use Rattle.st_base.specs.declared.ids.ClientId.{ClientId}
-use Rattle.st_base.specs.declared.ids.Epoch.{Epoch}
 use Rattle.st_base.specs.declared.ids.FileId.{FileId}
-use Rattle.st_base.specs.declared.ids.GrantNo.{GrantNo}
 use Rattle.st_base.specs.declared.ids.PageNo.{PageNo}
 use Rattle.st_base.specs.declared.ids.ServerId.{ServerId}
 use Rattle.st_base.specs.declared.ids.Stamp.{Stamp}
@@ -27,26 +26,13 @@ use Rattle.st_messages.specs.declared.message.Header.{Header}
 use Rattle.st_messages.specs.declared.message.NameReply.{NameReply}
 use Rattle.st_messages.specs.declared.message.NameReply.TheVariants as replies
 use Rattle.st_messages.specs.declared.message.Why.{Why}
-use Rattle.st_messages.specs.declared.message.Why.TheVariants as why
 use Rattle.st_messages.specs.declared.output.Note.{Note}
 use Rattle.st_messages.specs.declared.output.Note.TheVariants as notes
 use Rattle.st_messages.specs.declared.output.Output.{Output}
 use Rattle.st_messages.specs.declared.output.Output.TheVariants as outputs
-use Rattle.st_rules.specs.declared.client.Asked.{Asked}
-use Rattle.st_rules.specs.declared.client.Asked.TheVariants as demands
-use Rattle.st_rules.specs.declared.pages.DirtyPage.{DirtyPage}
-use Rattle.st_rules.specs.declared.client.Ended.{Ended}
-use Rattle.st_rules.specs.declared.client.Ended.TheVariants as ends
-use Rattle.st_rules.specs.declared.client.HeldLock.{HeldLock}
-use Rattle.st_rules.specs.declared.client.IoKind.{IoKind}
 use Rattle.st_rules.specs.declared.client.IoKind.TheVariants as io
-use Rattle.st_rules.specs.declared.client.KnownExtent.{KnownExtent}
-use Rattle.st_rules.specs.declared.client.MappedBlock.{MappedBlock}
 use Rattle.st_rules.specs.declared.client.Operation.{Operation}
 use Rattle.st_rules.specs.declared.client.PageCommand.{PageCommand}
-use Rattle.st_rules.specs.declared.client.Release.{Release}
-use Rattle.st_rules.specs.declared.client.Request.{Request}
-use Rattle.st_rules.specs.declared.client.WriteRefusal.{WriteRefusal}
 use Rattle.st_rules.specs.Client as cl
 use Rattle.st_rules.specs.ClientLease as lease
 use Rattle.st_rules.specs.ClientLocks as locks
@@ -55,13 +41,29 @@ use Rattle.st_rules.specs.ClientPages.{Store, Pages}
 use Rattle.st_rules.specs.ClientPasses as cp
 use Rattle.st_rules.specs.ClientReplies as cr
 use Rattle.st_rules.specs.ClientState as cs
-use Rattle.st_rules.specs.ClientState.{ClientSession, Association, ClientTurn, Turn, enter, leave, at_these, at_each, answer_to, server_of, say, with_session, with_store, with_operations}
+use Rattle.st_rules.specs.ClientState.{ClientSession, Association, ClientTurn, Turn, enter, leave, at_these, at_each, answer_to, server_of, say, with_session}
+use Rattle.st_rules.specs.ClientState.{with_store, with_operations}
 use Rattle.st_rules.specs.Keys.{server_node}
 use Rattle.st_rules.specs.Safety.{is_use, block_of}
 use Rattle.st_lemmas.specs.Lists.{Has}
-use Rattle.st_lemmas.proofs.Lookups.{some_is}
 use Rattle.st_lemmas.proofs.Tables.{and_true, has_append}
 use Rattle.st_laws_pages.proofs.Asks.Places.{On, Knows, OwnBody, OwnRows, none_more, knows_at, knows_fewer, knows_rows, knows_unmapped}
+use Rattle.st_trace.specs.Client.Commands as ending
+use Rattle.st_trace.specs.Client.Commands.{Finishes}
+use Rattle.st_trace.specs.Client.Each as each_of
+use Rattle.st_trace.specs.Client.Losses as losing
+use Rattle.st_trace.specs.Client.Losses.{Ended, Loses}
+use Rattle.st_trace.specs.Client.Messages as trace
+use Rattle.st_trace.specs.Client.Messages.{Effect, Receives, Refusal, Renews}
+use Rattle.st_trace.specs.Client.Operations as pass
+use Rattle.st_trace.specs.Client.Operations.{Changed, Operated, Served}
+use Rattle.st_trace.specs.Client.Passes.{Reduced, StaysHeld, IsReduced, WritesOut, StaysDirty, IsWritten, places_of}
+use Rattle.st_trace.specs.Client.Requests as asking
+use Rattle.st_trace.specs.Client.Requests.{Greets, Requests}
+use Rattle.st_trace.proofs.Client.Finishing.{finishes}
+use Rattle.st_trace.proofs.Client.Losing.{loses}
+use Rattle.st_trace.proofs.Client.Receiving.{receives}
+use Rattle.st_trace.proofs.Client.Walk.{each_lasts, passes}
 
 -- A note of no change of a page.
 abbrev pub PlainNote : Note → Type 0
@@ -101,7 +103,8 @@ pub record Lasts (n : ℕ) (Use : ServerId → Type 0) (c : ClientId) (Q : List 
   pub stages : (xs ys : List Operation) (out : List Output) → map key xs ≡ map key ys → Q xs out → Q ys out
 
 -- What stands of a turn, with a condition on the association.
-pub record Stands (n : ℕ) (c : ClientId) (k : Config) (Q : List Operation → List Output → Type 0) (C : ServerId → Option ClientSession → Option Stamp → Type 0) (t : Turn) : Type 0 where
+pub record Stands (n : ℕ) (c : ClientId) (k : Config) (Q : List Operation → List Output → Type 0) (C : ServerId → Option ClientSession → Option Stamp → Type 0)
+    (t : Turn) : Type 0 where
   pub id : t.id ≡ c
   pub config : t.config ≡ k
   pub done : Q t.operations t.out
@@ -150,10 +153,6 @@ module _ (n : ℕ) (Use : ServerId → Type 0) (c : ClientId) (k : Config) (Q : 
   abbrev G : Turn → Type 0
   G t = W (Begun Use) t
 
-  if_either : (P : Turn → Type 0) (b : Bool) (t u : Turn) → P t → P u → P (if b then t else u)
-  if_either P true t u x y = x
-  if_either P false t u x y = y
-
   -- from one condition to another
   used : (t : Turn) (s : ClientSession) → t.here.session ≡ Some s → S t → U t
   used t s e w = record { id = w.id; config = w.config; done = w.done; own = w.own; cond = w.cond (ap is_some e) }
@@ -190,8 +189,10 @@ module _ (n : ℕ) (Use : ServerId → Type 0) (c : ClientId) (k : Config) (Q : 
     each_answered picked a p kept [] out z = subst (λ x. Q (kept ++ []) x) (sym (none_more out)) z
     each_answered picked a p kept (o ∷ os) out z = go (picked o) (λ kept out z. each_answered picked a p kept os out z)
       where
-        go : (b : Bool) → ((kept : List Operation) (out : List Output) → Q (kept ++ os) out → Q (kept ++ filter (λ o. not (picked o)) os) (out ++ map (answer_to a) (filter picked os))) →
-            Q (kept ++ (if not b then o ∷ filter (λ o. not (picked o)) os else filter (λ o. not (picked o)) os)) (out ++ map (answer_to a) (if b then o ∷ filter picked os else filter picked os))
+        go : (b : Bool) → ((kept : List Operation) (out : List Output) → Q (kept ++ os) out → Q (kept ++ filter (λ o. not (picked o)) os)
+            (out ++ map (answer_to a) (filter picked os))) →
+            Q (kept ++ (if not b then o ∷ filter (λ o. not (picked o)) os else filter (λ o. not (picked o)) os))
+            (out ++ map (answer_to a) (if b then o ∷ filter picked os else filter picked os))
         go true f =
             subst (λ x. Q (kept ++ filter (λ o. not (picked o)) os) x) (append_assoc out (answer_to a o ∷ []) (map (answer_to a) (filter picked os)))
             (f kept (out ++ answer_to a o ∷ []) (q.answered kept os out o a p z))
@@ -209,96 +210,19 @@ module _ (n : ℕ) (Use : ServerId → Type 0) (c : ClientId) (k : Config) (Q : 
   abbrev D : ServerId → Option ClientSession → Option Stamp → Type 0
   D = Used Use
 
-  -- What the rule does to a session alone.
-  u_begin : (t : Turn) (epoch : Epoch) (stamp : Stamp) → U t → U (cr.begin_session t epoch stamp)
-  unfolding cr.begin_session cr.note_lease
-  u_begin t epoch stamp w = w_say D _ _ tt (record { id = w.id; config = w.config; done = w.done; own = w.own; cond = w.cond })
-
-  g_welcome : (t : Turn) (now : Stamp) (epoch : Epoch) (stamp : Stamp) → G t → S (cr.welcome t now epoch stamp)
-  unfolding cr.welcome
-  g_welcome t now epoch stamp w = go (cr.is_timely t now stamp) refl
-    where
-      go : (b : Bool) → cr.is_timely t now stamp ≡ b → S (if b then cr.begin_session t epoch stamp else t)
-      go true e = usable _ (u_begin t epoch stamp (greets_used t (and_true _ _ e).0 w))
-      go false e = begun t w
-
-  g_without : (t : Turn) (now : Stamp) (h : Header) (b : Body) → G t → S (cr.without_session t now h b)
-  unfolding cr.without_session
-  g_without t now h bodies.Welcome w = g_welcome t now _ _ w
-  g_without t now h b w = begun t w
-
-  u_newer : (t : Turn) (s : ClientSession) (epoch : Epoch) → U t → U (cr.newer_epoch t s epoch)
-  unfolding cr.newer_epoch cr.follow_epoch
-  u_newer t s epoch w = if_either U (cr.is_newer s epoch) _ t (w_answers D _ _ _ refl (u_session t _ w)) w
-
-  u_of_other : (t : Turn) (s : ClientSession) (epoch : Epoch) (b : Body) → U t → U (cr.of_other_epoch t s epoch b)
-  unfolding cr.of_other_epoch
-  u_of_other t s epoch (bodies.Nack why.OtherEpoch x y) w = u_newer t s epoch w
-  u_of_other t s epoch (bodies.Nack z x y) w = w
-  u_of_other t s epoch b w = w
-
-  u_condemn : (t : Turn) (s : ClientSession) → U t → U (cr.condemn t s)
-  unfolding cr.condemn
-  u_condemn t s w = u_session t _ w
-
-  u_granted : (t : Turn) (s : ClientSession) (ino : ℕ) (g : GrantNo) (mode : Mode) → U t → U (cr.granted t s ino g mode)
-  unfolding cr.granted
-  u_granted t s ino g mode w = u_session t _ w
-
-  u_queued : (t : Turn) (s : ClientSession) (now : Stamp) (ino : ℕ) (mode : Mode) → U t → U (cr.queued t s now ino mode)
-  unfolding cr.queued
-  u_queued t s now ino mode w = u_session t _ w
-
-  learned_knows : (s : ServerId) (ino : ℕ) (rows : List ExtentRow) (asked : Body) (st : Store) → OwnRows n s rows → Knows n s st.extents → Knows n s (cr.learned ino rows asked st).extents
+  -- What a message does.
+  learned_knows : (s : ServerId) (ino : ℕ) (rows : List ExtentRow) (asked : Body) (st : Store) → OwnRows n s rows → Knows n s st.extents → Knows n s
+      (cr.learned ino rows asked st).extents
   learned_knows s ino [] (bodies.Map i g p) st o x = knows_unmapped n s ino p st.extents x
   learned_knows s ino (r ∷ rs) (bodies.Map i g p) st o x = knows_rows n s ino (r ∷ rs) st.extents o x
   learned_knows s ino rows asked st o x = knows_rows n s ino rows st.extents o x
 
-  u_extents : (t : Turn) (s : ClientSession) (ino : ℕ) (rows : List ExtentRow) (asked : Body) → OwnRows n t.here.server rows → U t → U (cr.extents t s ino rows asked)
-  unfolding cr.extents cr.learn
-  u_extents t s ino rows asked o w = if_either U (cr.is_current s.locks asked) _ t (w_store D t _ (learned_knows t.here.server ino rows asked t.here.store o w.own) w) w
-
-  u_acknowledged : (t : Turn) → U t → U (cr.acknowledged t)
-  unfolding cr.acknowledged
-  u_acknowledged t w = w_answers D t _ _ refl w
-
-  u_removed : (t : Turn) (s : ClientSession) (file : Option ℕ) → U t → U (cr.removed t s file)
-  unfolding cr.removed cr.drop_held cr.drop_lock
-  u_removed t s None w = w
-  u_removed t s (Some ino) w = go (locks.lock_of s.locks ino)
-    where
-      go : (o : Option HeldLock) → U (cr.drop_held t s ino o)
-      go None = w
-      go (Some l) = u_session t _ w
-
-  u_named : (t : Turn) (s : ClientSession) (file : Option ℕ) (r : NameReply) → U t → U (cr.named t s file r)
-  unfolding cr.named cr.named_as
-  u_named t s file (replies.Ino ino) w = u_removed _ s file (w_answers D t _ _ refl w)
-  u_named t s file (replies.Listed rows) w = w_answers D t _ _ refl w
-  u_named t s file (replies.Refused code) w = w_answers D t _ _ refl w
-
-  u_reasserted : (t : Turn) (s : ClientSession) → U t → U (cr.reasserted t s)
-  unfolding cr.reasserted
-  u_reasserted t s w = u_session t _ w
-
-  u_refuse_file : (t : Turn) (a : AppAnswer) (file : Option ℕ) → is_use a ≡ false → U t → U (cr.refuse_file t a file)
-  unfolding cr.refuse_file
-  u_refuse_file t a None p w = w
-  u_refuse_file t a (Some ino) p w = w_answers D t _ a p w
-
-  u_refuse_page : (t : Turn) (a : AppAnswer) (file : Option ℕ) (page : Option PageNo) → is_use a ≡ false → U t → U (cr.refuse_page t a file page)
-  unfolding cr.refuse_page
-  u_refuse_page t a (Some ino) (Some p) u w = w_answers D t _ a u w
-  u_refuse_page t a (Some ino) None u w = w
-  u_refuse_page t a None page u w = w
-
-  u_refuse_as : (t : Turn) (y : Why) (a b : ℕ) (file : Option ℕ) (asked : Body) → U t → U (cr.refuse_as t y a b file asked)
-  unfolding cr.refuse_as cr.refuse_holder
-  u_refuse_as t why.NoFile a b file asked w = u_refuse_file t _ file refl w
-  u_refuse_as t why.TooManyLocks a b file asked w = u_refuse_file t _ file refl w
-  u_refuse_as t why.NoSpace a b file asked w = u_refuse_page t _ file _ refl w
-  u_refuse_as t why.NotHolder a b file asked w = if_either U (cs.asks_cut_or_remove asked) _ t (w_answers D t _ _ refl w) w
-  u_refuse_as t y a b file asked w = w
+  u_refused : (t : Turn) (file : Option ℕ) (asked : Body) (y : Why) (a b : ℕ) (u : Turn) → Refusal t file asked y a b u → U t → U u
+  u_refused t file asked _ a b _ (trace.NoFile _ _ ino e) w = w_answers D t _ _ refl w
+  u_refused t file asked _ a b _ (trace.TooManyLocks _ _ ino e) w = w_answers D t _ _ refl w
+  u_refused t file asked _ a b _ (trace.NoSpace _ _ ino p e q) w = w_answers D t _ _ refl w
+  u_refused t file asked _ a b _ (trace.NotHolder _ _ e) w = w_answers D t _ _ refl w
+  u_refused t file asked y a b _ (trace.AnswersNone _ _ _) w = w
 
   keys_stuck : (t : Turn) (os : List Operation) → map key os ≡ map key (map (cr.stuck t) os)
   keys_stuck t [] = refl
@@ -308,214 +232,110 @@ module _ (n : ℕ) (Use : ServerId → Type 0) (c : ClientId) (k : Config) (Q : 
       one true = refl
       one false = refl
 
-  u_refused : (t : Turn) (y : Why) (a b : ℕ) (file : Option ℕ) (asked : Body) → U t → U (cr.refused t y a b file asked)
-  unfolding cr.refused cr.leave_stuck
-  u_refused t y a b file asked w = let u = cr.refuse_as t y a b file asked in w_stages D u _ (keys_stuck u u.operations) (u_refuse_as t y a b file asked w)
-
-  u_effect : (t : Turn) (s : ClientSession) (now : Stamp) (b : Body) (file : Option ℕ) (asked : Body) → OwnBody n t.here.server b → U t → U (cr.effect t s now b file asked)
-  unfolding cr.effect
-  u_effect t s now (bodies.Granted ino g mode) file asked o w = u_granted t s ino g mode w
-  u_effect t s now (bodies.Queued ino mode) file asked o w = u_queued t s now ino mode w
-  u_effect t s now (bodies.Extents ino rows) file asked o w = u_extents t s ino rows asked o w
-  u_effect t s now bodies.Ack file asked o w = u_acknowledged t w
-  u_effect t s now (bodies.Named reply) file asked o w = u_named t s file reply w
-  u_effect t s now bodies.Reasserted file asked o w = u_reasserted t s w
-  u_effect t s now (bodies.Nack y a b) file asked o w = u_refused t y a b file asked w
-  u_effect t s now b file asked o w = w
-
-  renewal_here : (t : Turn) (s : ClientSession) (stamp : Stamp) → (cr.note_renewal t s stamp).here ≡ t.here
-  unfolding cr.note_renewal cr.note_lease
-  renewal_here t s stamp = go (lease.is_renewal stamp s.lease)
+  u_effect : (now : Stamp) (t : Turn) (s : ClientSession) (file : Option ℕ) (asked b : Body) (u : Turn) → OwnBody n t.here.server b →
+      Effect now t s file asked b u → U t → U u
+  u_effect now t s file asked _ _ o (trace.IsGranted ino g mode v k) w = u_session t v w
+  u_effect now t s file asked _ _ o (trace.IsQueued ino mode e) w = u_session t _ w
+  u_effect now t s file asked _ _ o (trace.HoldsAlready ino mode e) w = u_session t s w
+  u_effect now t s file asked _ _ o (trace.IsToldExtents ino rows e) w = w_store D t _ (learned_knows t.here.server ino rows asked t.here.store o w.own) w
+  u_effect now t s file asked _ _ o (trace.IsToldLate ino rows e) w = w
+  u_effect now t s file asked _ _ o trace.IsAcknowledged w = w_answers D t _ _ refl w
+  u_effect now t s file asked _ _ o (trace.IsNamed r k) w = w_answers D t _ (cr.name_answer r) (no_use r) w
     where
-      go : (b : Bool) → (if b then cr.note_lease (lease.renewed stamp s.lease) t else t).here ≡ t.here
-      go true = refl
-      go false = refl
+      no_use : (r : NameReply) → is_use (cr.name_answer r) ≡ false
+      no_use (replies.Ino ino) = refl
+      no_use (replies.Listed rows) = refl
+      no_use (replies.Refused code) = refl
+  u_effect now t s file asked _ _ o (trace.IsRemoved ino removed l e q) w = u_session (cs.answer_each (cs.is_asked t.here.server) (answers.Named ino) t) _
+      (w_answers D t _ _ refl w)
+  u_effect now t s file asked _ _ o trace.IsReasserted w = u_session t _ w
+  u_effect now t s file asked _ _ o (trace.Effect.IsRefused y a b u r) w = w_stages D u _ (keys_stuck u u.operations) (u_refused t file asked y a b u r w)
 
-  u_renewal : (t : Turn) (s : ClientSession) (stamp : Stamp) → U t → U (cr.note_renewal t s stamp)
-  unfolding cr.note_renewal cr.note_lease
-  u_renewal t s stamp w = if_either U (lease.is_renewal stamp s.lease) _ t (w_say D t _ tt w) w
+  -- a lease that is renewed, and a message's own places
+  u_renewed : (t : Turn) (s : ClientSession) (stamp : Stamp) (b : Body) (u : Turn) → Renews t s stamp u → OwnBody n t.here.server b → U t →
+      U u × OwnBody n u.here.server b
+  u_renewed t s stamp b _ (trace.IsLater e) o w = (w_say D t _ tt w, o)
+  u_renewed t s stamp b _ (trace.IsNoLater e) o w = (w, o)
 
-  u_reply_to : (t : Turn) (s : ClientSession) (now stamp : Stamp) (b asked : Body) → OwnBody n t.here.server b → U t → U (cr.reply_to t s now stamp b asked)
-  unfolding cr.reply_to cr.end_request
-  u_reply_to t s now stamp b asked o w =
-      u_effect _ _ now b _ asked (subst (λ (a : Association). OwnBody n a.server b) (sym (renewal_here t s stamp)) o) (u_session _ _ (u_renewal t s stamp w))
+  g_heard : (now : Stamp) (h : Header) (t : Turn) (b : Body) (u : Turn) → ((s : ServerId) → h.from ≡ server_node s → OwnBody n s b) → Receives now h t b u →
+      G t → S u
+  g_heard now h t _ _ o (trace.PassesOver b) w = begun t w
+  g_heard now h t _ _ o (trace.Begins r e i) w =
+      let v = greets_used t (and_true _ _ i).0 w in
+      usable _ (w_say D (cr.begin_here (cr.new_session (trace.epoch_of h) (trace.stamp_of h)) t) _ tt
+      (record { id = v.id; config = v.config; done = v.done; own = v.own; cond = v.cond }))
+  g_heard now h t _ _ o (trace.FollowsEpoch s x y m e) w =
+      usable _ (w_answers D (with_session (cr.in_epoch (trace.epoch_of h) s) t) _ _ refl
+      (u_session t (cr.in_epoch (trace.epoch_of h) s) (begun_used t s m.session w)))
+  g_heard now h t _ _ o (trace.IsCondemned b s m c) w = usable _ (u_session t _ (begun_used t s m.session w))
+  g_heard now h t _ _ o (trace.IsGrantedLater ino g mode s v m e k) w = usable _ (u_session t v (begun_used t s m.session w))
+  g_heard now h t _ _ o (trace.SeesDemand ino g to s m e) w = usable _ (w_send D _ _ _ _ _
+      (u_session t (cs.with_cache (locks.demand s.locks ino g to).locks s) (begun_used t s m.session w)))
+  g_heard now h t _ _ o (trace.GivesUp ino g to s m e k) w = usable _ (u_session t _ (begun_used t s m.session w))
+  g_heard now h t _ _ o (trace.HasGivenUp ino g to s m e k) w = usable _ (u_session t _ (begun_used t s m.session w))
+  g_heard now h t _ u o (trace.IsAnswered b s q v _ r x f) w =
+      let m = r.heard in let y = cr.ended_by (trace.stamp_of h) s in
+      let z = u_renewed t s (trace.stamp_of h) b v x (o t.here.server m.received.from) (begun_used t s m.session w) in
+      usable u (u_effect now (with_session y v) y (cs.file_asked s.cutting q.body) q.body b u z.1 f (u_session v y z.0))
 
-  u_reply : (t : Turn) (s : ClientSession) (now : Stamp) (h : Header) (b : Body) → OwnBody n t.here.server b → U t → U (cr.reply_of t s now h b)
-  unfolding cr.reply_of cr.counted cr.by_request cr.count_reply
-  u_reply t s now h b o w = go s.requests.asked
-    where
-      stamp : Stamp
-      stamp = record { 0 = h.stamp }
-
-      go : (r : Option Request) → U (cr.counted t s now h.number stamp b r)
-      go None = w
-      go (Some r) =
-          if_either U (cr.is_counting h.number b r) (cr.count_reply t s now stamp b r.body) t
-          (if_either U (cr.refuses_reassertion b r.body) (cr.condemn t s) (cr.reply_to t s now stamp b r.body) (u_condemn t s w) (u_reply_to t s now stamp b r.body o w)) w
-
-  u_nack : (t : Turn) (s : ClientSession) (now : Stamp) (h : Header) (y : Why) (a b : ℕ) → U t → U (cr.nack t s now h y a b)
-  u_nack t s now h why.Suspect a b w = u_condemn t s w
-  u_nack t s now h why.NoSession a b w = u_condemn t s w
-  u_nack t s now h why.OtherEpoch a b w = w
-  u_nack t s now h why.Grace a b w = w
-  u_nack t s now h why.GraceOver a b w = u_condemn t s w
-  u_nack t s now h why.Conflict a b w = u_condemn t s w
-  u_nack t s now h y a b w = u_reply t s now h (bodies.Nack y a b) tt w
-
-  u_demand : (t : Turn) (s : ClientSession) (ino : ℕ) (g : GrantNo) (to : Mode) → U t → U (cr.demand t s ino g to)
-  unfolding cr.demand cr.demand_by cr.demand_as cr.observe_demand
-  u_demand t s ino g to w = go (locks.demand s.locks ino g to)
-    where
-      by : (l : ClientSession) (a : Asked) → U (cr.demand_as t l ino g a)
-      by l demands.Reduce = w_send D _ _ _ _ _ (u_session t l w)
-      by l demands.NotHeld = u_session t _ w
-      by l demands.Stale = w
-
-      go : (d : locks.Demanding) → U (cr.demand_by t s ino g d)
-      go d = by (cs.with_cache d.locks s) d.asked
-
-  u_of_epoch : (t : Turn) (s : ClientSession) (now : Stamp) (h : Header) (b : Body) → OwnBody n t.here.server b → U t → U (cr.of_epoch t s now h b)
-  unfolding cr.of_epoch cr.grant_or_reply
-  u_of_epoch t s now h (bodies.Nack y a b) o w = u_nack t s now h y a b w
-  u_of_epoch t s now h (bodies.Granted ino g mode) o w = if_either U (h.number == 0) _ _ (u_granted t s ino g mode w) (u_reply t s now h (bodies.Granted ino g mode) tt w)
-  u_of_epoch t s now h (bodies.Demand ino g to) o w = u_demand t s ino g to w
-  u_of_epoch t s now h b o w = u_reply t s now h b o w
-
-  u_with : (t : Turn) (s : ClientSession) (now : Stamp) (h : Header) (b : Body) → OwnBody n t.here.server b → U t → U (cr.with_a_session t s now h b)
-  unfolding cr.with_a_session
-  u_with t s now h b o w = if_either U (h.epoch == s.epoch.0) _ _ (u_of_epoch t s now h b o w) (u_of_other t s _ b w)
-
-  pub g_receive : (now : Stamp) (h : Header) (b : Body) (t : Turn) → ((s : ServerId) → h.from ≡ server_node s → OwnBody n s b) → G t → S (cr.receive_at now h b t)
-  unfolding cr.receive_at cr.by_session
-  g_receive now h b t o w = go (cr.is_received t now h) refl
-    where
-      by : OwnBody n t.here.server b → (x : Option ClientSession) → t.here.session ≡ x → S (cr.by_session t now h b x)
-      by p None e = g_without t now h b w
-      by p (Some s) e = usable _ (u_with t s now h b p (begun_used t s e w))
-
-      go : (z : Bool) → cr.is_received t now h ≡ z → S (if z then cr.by_session t now h b t.here.session else t)
-      go true e = by (o t.here.server (eqb-true h.from (server_node t.here.server) (and_true (h.from == server_node t.here.server) _ e).0)) t.here.session refl
-      go false e = begun t w
+  pub g_receive : (now : Stamp) (h : Header) (b : Body) (t : Turn) → ((s : ServerId) → h.from ≡ server_node s → OwnBody n s b) → G t → S
+      (cr.receive_at now h b t)
+  g_receive now h b t o w = g_heard now h t b (cr.receive_at now h b t) o (receives now h t b) w
 
   -- Losses.
-  record EndedAs (t u : Turn) (o : Operation) : Type 0 where
-    pub answer : AppAnswer
-    pub plain : is_use answer ≡ false
-    pub out : u.out ≡ t.out ++ outputs.Answer o.op answer ∷ []
-    pub id : u.id ≡ t.id
-    pub config : u.config ≡ t.config
-    pub operations : u.operations ≡ t.operations
+  record Ending (os : List Operation) (t : Turn) : Type 0 where
+    pub id : t.id ≡ c
+    pub config : t.config ≡ k
+    pub done : Q (t.operations ++ os) t.out
 
-  ended_if : (b : Bool) (t u v : Turn) (o : Operation) → EndedAs t u o → EndedAs t v o → EndedAs t (if b then u else v) o
-  ended_if true t u v o x y = x
-  ended_if false t u v o x y = y
-
-  end_one : (t : Turn) (s : ClientSession) (o : Operation) → EndedAs t (cl.end_operation t s o) o
-  unfolding cl.end_operation cl.end_unsent cl.end_sync cl.tell_lost
-  end_one t s o = ended_if (cs.is_sent o) t _ _ o (record { answer = _; plain = refl; out = refl; id = refl; config = refl; operations = refl }) (by o.ask)
-    where
-      quiesced : EndedAs t (cs.answered t o.op answers.Quiesced) o
-      quiesced = record { answer = _; plain = refl; out = refl; id = refl; config = refl; operations = refl }
-
-      by : (a : Ask) → EndedAs t (cl.end_unsent t o a) o
-      by (asks.Sync f) = ended_if (pages.has_lost t.here.lost f.ino) t _ _ o (record { answer = _; plain = refl; out = refl; id = refl; config = refl; operations = refl }) quiesced
-      by a = quiesced
-
-  record AllEnded (t u : Turn) (ops : List Operation) : Type 0 where
-    pub done : Q ops u.out
-    pub id : u.id ≡ t.id
-    pub config : u.config ≡ t.config
-    pub operations : u.operations ≡ t.operations
-
-  end_all : (s : ClientSession) (picked : Operation → Bool) (kept os : List Operation) (t : Turn) → Q (kept ++ os) t.out →
-      AllEnded t (cl.end_each s (filter picked os) t) (kept ++ filter (λ o. not (picked o)) os)
-  unfolding cl.end_each
-  end_all s picked kept [] t z = record { done = z; id = refl; config = refl; operations = refl }
-  end_all s picked kept (o ∷ os) t z = go (picked o) (λ kept t z. end_all s picked kept os t z)
-    where
-      go : (b : Bool) → ((kept : List Operation) (t : Turn) → Q (kept ++ os) t.out → AllEnded t (cl.end_each s (filter picked os) t) (kept ++ filter (λ o. not (picked o)) os)) →
-          AllEnded t (cl.end_each s (if b then o ∷ filter picked os else filter picked os) t) (kept ++ (if not b then o ∷ filter (λ o. not (picked o)) os else filter (λ o. not (picked o)) os))
-      go true f =
-          let e = end_one t s o in
-          let r = f kept (cl.end_operation t s o) (subst (Q (kept ++ os)) (sym e.out) (q.answered kept os t.out o e.answer e.plain z)) in
-          record { done = r.done; id = r.id ∙ e.id; config = r.config ∙ e.config; operations = r.operations ∙ e.operations }
-      go false f =
-          let r = f (kept ++ o ∷ []) t (subst (λ x. Q x t.out) (sym (append_assoc kept (o ∷ []) os)) z) in
-          record { done = subst (λ x. Q x (cl.end_each s (filter picked os) t).out) (append_assoc kept (o ∷ []) (filter (λ o. not (picked o)) os)) r.done; id = r.id; config = r.config; operations = r.operations }
-
-  lost_all : (t : Turn) (s : ClientSession) → Q t.operations t.out → t.id ≡ c → t.config ≡ k → G (cl.lose_session t s)
-  unfolding cl.lose_session cl.end_operations
-  lost_all t s z i x =
-      record {
-        id = r.id ∙ i;
-        config = r.config ∙ x;
-        done = subst (λ y. Q y u.out) (sym r.operations) r.done;
-        own = λ e h. absurd h;
-        cond = λ e. cc e;
-      }
-    where
-      v : Turn
-      v = cl.with_lost_pages t.here.store (cs.note t (notes.Lost t.here.server t.here.life))
-
-      v2 : Turn
-      v2 = with_operations (filter (λ o. not (cs.is_of t.here.server o)) t.operations) v
-
-      u : Turn
-      u = cl.end_each s (filter (cs.is_of t.here.server) t.operations) v2
-
-      r : AllEnded v2 u (filter (λ o. not (cs.is_of t.here.server o)) t.operations)
-      r = end_all s (cs.is_of t.here.server) [] t.operations v2 (q.says t.operations t.out (outputs.Note (notes.Lost t.here.server t.here.life)) tt z)
+  ended : (s : ClientSession) (o : Operation) (os : List Operation) (t u : Turn) → Ended s o t u → Ending (o ∷ os) t → Ending os u
+  ended s o os t _ (losing.IsElsewhere e) w = record {
+    id = w.id;
+    config = w.config;
+    done = subst (λ x. Q x t.out)
+        (sym (append_assoc t.operations (o ∷ []) os)) w.done;
+  }
+  ended s o os t _ (losing.IsUncertain e q_) w = record { id = w.id; config = w.config; done = q.answered t.operations os t.out o _ refl w.done }
+  ended s o os t _ (losing.IsToldLost f e q_ a l) w = record { id = w.id; config = w.config; done = q.answered t.operations os t.out o _ refl w.done }
+  ended s o os t _ (losing.LostNothing f e q_ a l) w = record { id = w.id; config = w.config; done = q.answered t.operations os t.out o _ refl w.done }
+  ended s o os t _ (losing.IsQuiesced e q_ a) w = record { id = w.id; config = w.config; done = q.answered t.operations os t.out o _ refl w.done }
 
   pub w_lose : (now : Stamp) (t : Turn) → W (Lasting k now Use) t → G (cl.lose now t)
-  unfolding cl.lose cl.lose_by cl.lose_over
-  w_lose now t w = go t.here.session refl
+  w_lose now t w = go (cl.lose now t) (loses now t)
     where
       lasting : is_lost k now t.here.session ≡ false → G t
       lasting e = record { id = w.id; config = w.config; done = w.done; own = w.own; cond = λ z. w.cond e }
 
-      over : (s : ClientSession) → t.here.session ≡ Some s → (b : Bool) → cl.is_over t s now ≡ b → G (if b then cl.lose_session t s else t)
-      over s e true o = lost_all t s w.done w.id w.config
-      over s e false o = lasting (ap (is_lost k now) e ∙ ap (λ z. lease.must_discard (lease.standing_of z s.lease now)) (sym w.config) ∙ o)
-
-      go : (x : Option ClientSession) → t.here.session ≡ x → G (cl.lose_by t now x)
-      go None e = lasting (ap (is_lost k now) e)
-      go (Some s) e = over s e (cl.is_over t s now) refl
+      go : (u : Turn) → Loses now t u → G u
+      go _ (losing.HasNoSession e) = lasting (ap (is_lost k now) e)
+      go _ (losing.Lasts s e o) = lasting (ap (is_lost k now) e ∙ ap (λ z. lease.must_discard (lease.standing_of z s.lease now)) (sym w.config) ∙ o)
+      go _ (losing.IsLost s u e o p) =
+          let r = each_lasts (Ended s) (λ os v. Ending os v) (λ o os v x step z. ended s o os v x step z) t.operations
+          (with_operations [] (losing.loss_noted t)) u p
+          (record { id = w.id; config = w.config; done = q.says t.operations t.out (outputs.Note (notes.Lost t.here.server t.here.life)) tt w.done }) in
+          record { id = r.id; config = r.config; done = subst (λ x. Q x u.out) (none_more u.operations) r.done; own = λ e h. absurd h; cond = λ e. cc e }
 
   -- Ends of commands.
   module _ (C : ServerId → Option ClientSession → Option Stamp → Type 0) where
+    w_commands : (t : Turn) (x : PageCommand) → W C t → W C (ending.without x t)
+    w_commands t x w = w_store C t _ w.own w
+
     w_pages : (t : Turn) (ps : Pages) → W C t → W C (with_store (record t.here.store { pages = ps }) t)
     w_pages t ps w = w_store C t _ w.own w
 
-    w_failed : (t : Turn) (x : PageCommand) (kind : IoKind) → W C t → W C (cl.failed_as t x kind)
-    unfolding cl.failed_as cl.mark_failed
-    w_failed t x io.Read w = w_answers C t _ _ refl w
-    w_failed t x (io.Write v) w = w_answers C _ _ _ refl (if_either (W C) (cl.is_present t x v) _ t (w_pages t _ w) w)
-
-    w_finish_as : (t : Turn) (x : PageCommand) (block : Option (Tag × List ℕ)) (e : Ended) → W C t → W C (cl.finish_as t x block e)
-    unfolding cl.finish_as cl.filled_by cl.hardened
-    w_finish_as t x block ends.Unknown w = w
-    w_finish_as t x None ends.Filled w = w
-    w_finish_as t x (Some b) ends.Filled w = w_pages t _ w
-    w_finish_as t x block ends.Hard w = w_pages t _ w
-    w_finish_as t x block ends.Redirty w = w
-    w_finish_as t x block ends.Failed w = w_failed t x x.kind w
-
-    w_finish_command : (t : Turn) (x : PageCommand) (ok : Bool) (block : Option (Tag × List ℕ)) → W C t → W C (cl.finish_command t x ok block)
-    unfolding cl.finish_command cl.ended_by
-    w_finish_command t x ok block w = w_finish_as _ x block _ (w_store C t _ w.own w)
-
-    w_finish_by : (t : Turn) (x : PageCommand) (r : Option (Option (Tag × List ℕ))) → W C t → W C (cl.finish_by t x r)
-    unfolding cl.finish_by cl.done_by
-    w_finish_by t x None w = w_finish_command t x false None w
-    w_finish_by t x (Some b) w = if_either (W C) (cl.is_result_of x.kind b) _ t (w_finish_command t x true b w) w
-
     pub w_finish : (number : ℕ) (r : Option (Option (Tag × List ℕ))) (t : Turn) → W C t → W C (cl.finish number r t)
-    unfolding cl.finish cl.finish_at
-    w_finish number r t w = go (pages.command_of t.here.store.commands number)
+    w_finish number r t w = go (cl.finish number r t) (finishes number r t)
       where
-        go : (o : Option PageCommand) → W C (cl.finish_at t o r)
-        go None = w
-        go (Some x) = w_finish_by t x r w
+        go : (u : Turn) → Finishes number r t u → W C u
+        go _ (ending.IsUnknown e) = w
+        go _ (ending.IsOfOtherKind x block o e i) = w
+        go _ (ending.Fills x block o i e) = w_pages (ending.without x t) _ (w_commands t x w)
+        go _ (ending.Hardens x v o i e j) = w_pages (ending.without x t) _ (w_commands t x w)
+        go _ (ending.WroteOlder x v o i e j) = w_commands t x w
+        go _ (ending.FailsToRead x o i e) = w_answers C _ _ _ refl (w_commands t x w)
+        go _ (ending.FailsToWrite x v o i e j) = w_answers C _ _ _ refl
+            (w_pages (ending.without x t) (pages.fail t.here.store.pages x.ino x.page x.number) (w_commands t x w))
+        go _ (ending.FailsToWriteOlder x v o i e j) = w_answers C _ _ _ refl (w_commands t x w)
 
   -- The pass over the operations: those that were not yet looked at stand behind those that stay.
   record Rest (os : List Operation) (t : Turn) : Type 0 where
@@ -525,249 +345,136 @@ module _ (n : ℕ) (Use : ServerId → Type 0) (c : ClientId) (k : Config) (Q : 
     pub own : Knows n t.here.server t.here.store.extents
     pub cond : is_some t.here.session ≡ true → Use t.here.server
 
-  rest_if : (os : List Operation) (b : Bool) (t u : Turn) → Rest os t → Rest os u → Rest os (if b then t else u)
-  rest_if os true t u x y = x
-  rest_if os false t u x y = y
-
   r_keep : (os : List Operation) (o : Operation) (t : Turn) → Rest (o ∷ os) t → Rest os (cs.keep o t)
-  r_keep os o t r = record { id = r.id; config = r.config; done = subst (λ x. Q x t.out) (sym (append_assoc t.operations (o ∷ []) os)) r.done; own = r.own; cond = r.cond }
+  r_keep os o t r = record {
+    id = r.id;
+    config = r.config;
+    done = subst (λ x. Q x t.out) (sym (append_assoc t.operations (o ∷ []) os)) r.done;
+    own = r.own;
+    cond = r.cond;
+  }
 
   r_answer : (os : List Operation) (o : Operation) (a : AppAnswer) (t : Turn) → is_use a ≡ false → Rest (o ∷ os) t → Rest os (cp.answer o a t)
   r_answer os o a t p r = record { id = r.id; config = r.config; done = q.answered t.operations os t.out o a p r.done; own = r.own; cond = r.cond }
 
-  r_read : (os : List Operation) (o : Operation) (bytes : List ℕ) (t : Turn) → Use (server_of o.ask) → Rest (o ∷ os) t → Rest os (cp.answer o (answers.Read bytes) t)
+  r_read : (os : List Operation) (o : Operation) (bytes : List ℕ) (t : Turn) → Use (server_of o.ask) → Rest (o ∷ os) t → Rest os
+      (cp.answer o (answers.Read bytes) t)
   r_read os o bytes t u r = record { id = r.id; config = r.config; done = q.reads t.operations os t.out o bytes u r.done; own = r.own; cond = r.cond }
 
   r_store : (os : List Operation) (t : Turn) (st : Store) → Knows n t.here.server st.extents → Rest os t → Rest os (with_store st t)
   r_store os t st x r = record { id = r.id; config = r.config; done = r.done; own = x; cond = r.cond }
 
-  r_change : (os : List Operation) (o : Operation) (f : FileId) (p : PageNo) (bytes : List ℕ) (x : Note) (t : Turn) → NotesChange x o.ask → Use (server_of o.ask) → Rest (o ∷ os) t →
-      Rest os (cp.change_page t o f p bytes x)
-  unfolding cp.change_page cp.change_by cp.change pages.write
-  r_change os o f p bytes x t m u r = go (pages.is_full_for t.here.store.pages f.ino p)
+  -- the server that serves an operation may be used
+  r_used : (now : Stamp) (all os : List Operation) (o : Operation) (t : Turn) (s : ClientSession) → Served now all o t s → Rest os t → Use t.here.server × Use
+      (server_of o.ask)
+  r_used now all os o t s v r =
+      let u = r.cond (ap is_some v.session) in (u, subst Use (ap (λ m. record { 0 = m }) (sym (eqb-true (server_of o.ask).0 t.here.server.0 v.own))) u)
+
+  notes_change : (o : Operation) (t : Turn) (f : FileId) (p : PageNo) (bytes : List ℕ) (x : Note) → Changed o.ask t f p bytes x → NotesChange x o.ask
+  notes_change o t _ _ _ _ (pass.IsWritten f p bytes e) = e
+  notes_change o t _ _ _ _ (pass.IsPatched f p at bytes old e i) = e
+
+  r_operated : (now : Stamp) (all os : List Operation) (o : Operation) (t u : Turn) → Operated now all o t u → Rest (o ∷ os) t → Rest os u
+  r_operated now all os o t _ pass.Waits r = r_keep os o t r
+  r_operated now all os o t _ (pass.IsHard f e i h) r = r_answer os o _ t refl r
+  r_operated now all os o t _ (pass.IsQuiesced s e i a b d) r = r_answer os o _ t refl r
+  r_operated now all os o t _ (pass.ChangesPage s f p bytes x v i m e) r =
+      record {
+        id = r.id;
+        config = r.config;
+        done = q.changes t.operations os t.out o x (notes_change o t f p bytes x i)
+            (r_used now all (o ∷ os) o t s v r).1 r.done;
+        own = r.own;
+        cond = r.cond;
+      }
+  r_operated now all os o t _ (pass.IsDirtyFull s f p bytes x v i m e) r = r_answer os o _ t refl r
+  r_operated now all os o t _ (pass.Fetches s f p m v i e j b) r =
+      r_keep os o (say (cp.with_command f.ino p io.Read t) (outputs.Submit t.next_command m.at (commands.Read m.at)))
+      (record {
+        id = r.id;
+        config = r.config;
+        done = q.submits (t.operations ++ o ∷ os) t.out t.here.server t.next_command m.at (commands.Read m.at)
+            (r_used now all (o ∷ os) o t s v r).0 (knows_at n t.here.server f.ino p t.here.store.extents m r.own j) r.done;
+        own = r.own;
+        cond = r.cond;
+      })
+  r_operated now all os o t _ (pass.ReadsCached s f p bytes v e h i) r = r_read os o bytes _ (r_used now all (o ∷ os) o t s v r).1
+      (r_store (o ∷ os) t _ r.own r)
+  r_operated now all os o t _ (pass.ReadsZeros s f p e v a h i j m) r = r_read os o _ t (r_used now all (o ∷ os) o t s v r).1 r
+
+  s_operated : (now : Stamp) (t u : Turn) → each_of.Each (Operated now t.operations) t.operations (with_operations [] t) u → S t → S u
+  s_operated now t u x w = go (each_lasts (Operated now t.operations) (λ os v. Rest os v)
+      (λ o os v y step z. r_operated now t.operations os o v y step z) t.operations (with_operations [] t) u x
+      (record { id = w.id; config = w.config; done = w.done; own = w.own; cond = w.cond }))
     where
-      go : (b : Bool) → Rest os (cp.change_by t o f p x (if b then Err Rattle.st_rules.specs.declared.client.WriteRefusal.TheVariants.DirtyFull else Ok (pages.written t.here.store.pages f.ino p bytes)))
-      go true = r_answer os o answers.DirtyFull t refl r
-      go false = record { id = r.id; config = r.config; done = q.changes t.operations os t.out o x m u r.done; own = r.own; cond = r.cond }
-
-  r_write : (os : List Operation) (t : Turn) (s : ClientSession) (o : Operation) (f : FileId) (p : PageNo) (bytes : List ℕ) → o.ask ≡ asks.Write f p bytes → Use (server_of o.ask) → Rest (o ∷ os) t →
-      Rest os (cp.write t s o f p bytes)
-  unfolding cp.write
-  r_write os t s o f p bytes e u r = rest_if os (cp.may_write t s f p) _ _ (r_change os o f p bytes (notes.Accepted f p bytes) t e u r) (r_keep os o t r)
-
-  r_submit : (os : List Operation) (t : Turn) (ino : ℕ) (p : PageNo) (m : MappedBlock) → pages.mapping_of t.here.store.extents ino p ≡ Some m → Use t.here.server → Rest os t → Rest os (cp.submit_read t ino p m)
-  unfolding cp.submit_read cp.submit_command
-  r_submit os t ino p m e u r =
-      record { id = r.id; config = r.config; done = q.submits (t.operations ++ os) t.out t.here.server t.next_command m.at (commands.Read m.at) u (knows_at n t.here.server ino p t.here.store.extents m r.own e) r.done; own = r.own; cond = r.cond }
-
-  r_fetch : (os : List Operation) (t : Turn) (o : Operation) (f : FileId) (p : PageNo) → Use t.here.server → Rest (o ∷ os) t → Rest os (cp.fetch t o f p)
-  unfolding cp.fetch cp.fetch_at cp.fetch_mapped
-  r_fetch os t o f p u r = r_keep os o _ (go (pages.mapping_of t.here.store.extents f.ino p) refl)
-    where
-      go : (m : Option MappedBlock) → pages.mapping_of t.here.store.extents f.ino p ≡ m → Rest (o ∷ os) (cp.fetch_at t f p m)
-      go None e = r
-      go (Some m) e = rest_if (o ∷ os) (pages.is_being_read t.here.store.commands f.ino p) t _ r (r_submit (o ∷ os) t f.ino p m e u r)
-
-  r_patch : (os : List Operation) (t : Turn) (s : ClientSession) (o : Operation) (f : FileId) (p : PageNo) (at : ℕ) (bytes : List ℕ) → o.ask ≡ asks.Patch f p at bytes → Use (server_of o.ask) → Use t.here.server → Rest (o ∷ os) t →
-      Rest os (cp.patch t s o f p at bytes)
-  unfolding cp.patch cp.patch_at cp.patch_bytes
-  r_patch os t s o f p at bytes e u v r = rest_if os (cp.may_write t s f p) _ _ (go (pages.cached t.here.store.pages f.ino p)) (r_keep os o t r)
-    where
-      go : (x : Option (List ℕ)) → Rest os (cp.patch_at t o f p at bytes x)
-      go None = r_fetch os t o f p v r
-      go (Some old) = r_change os o f p _ (notes.Patched f p at bytes) t e u r
-
-  r_reading : (os : List Operation) (t : Turn) (s : ClientSession) (o : Operation) (f : FileId) (p : PageNo) → Use (server_of o.ask) → Use t.here.server → Rest (o ∷ os) t → Rest os (cp.read t s o f p)
-  unfolding cp.read cp.read_at cp.read_uncached cp.read_known cp.read_cached
-  r_reading os t s o f p u v r = rest_if os (cp.holds s modes.S f) _ _ (cached (pages.cached t.here.store.pages f.ino p)) (r_keep os o t r)
-    where
-      known : (x : Option KnownExtent) → Rest os (cp.read_uncached t o f p x)
-      known None = r_keep os o t r
-      known (Some e) = mapped e.mapping
-        where
-          mapped : (m : Option MappedBlock) → Rest os (cp.read_known t o f p e m)
-          mapped None = r_read os o _ t u r
-          mapped (Some m) = r_fetch os t o f p v r
-
-      cached : (x : Option (List ℕ)) → Rest os (cp.read_at t o f p x)
-      cached None = known (pages.known_of t.here.store.extents f.ino p)
-      cached (Some bytes) = r_read os o bytes _ u (r_store (o ∷ os) t _ r.own r)
-
-  r_serve : (all os : List Operation) (t : Turn) (s : ClientSession) (o : Operation) → Use (server_of o.ask) → Use t.here.server → Rest (o ∷ os) t → Rest os (cp.serve all t s o)
-  unfolding cp.serve cp.serve_open
-  r_serve all os t s o u v r = rest_if os _ _ _ (go o.ask refl) (r_keep os o t r)
-    where
-      go : (a : Ask) → o.ask ≡ a → Rest os (cp.serve_open t s o a)
-      go (asks.Write f p bytes) e = r_write os t s o f p bytes e u r
-      go (asks.Patch f p at bytes) e = r_patch os t s o f p at bytes e u v r
-      go (asks.Read f p) e = r_reading os t s o f p u v r
-      go a e = r_keep os o t r
-
-  r_operate : (all os : List Operation) (t : Turn) (now : Stamp) (o : Operation) → Rest (o ∷ os) t → Rest os (cp.operate all t now o)
-  unfolding cp.operate cp.operate_on cp.operate_by cp.operate_under cp.quiesce cp.sync
-  r_operate all os t now o r = go (cs.is_of t.here.server o) refl
-    where
-      kept : Rest os (cs.keep o t)
-      kept = r_keep os o t r
-
-      under : Use t.here.server → Use (server_of o.ask) → (s : ClientSession) → Rest os (cp.operate_under all t s now o)
-      under v u s = rest_if os (cs.is_serving t.config s now) _ _ (r_serve all os t s o u v r) (rest_if os (cs.is_sent o) _ _ kept (r_answer os o answers.Quiesced t refl r))
-
-      by : cs.is_of t.here.server o ≡ true → (x : Option ClientSession) → t.here.session ≡ x → Rest os (cp.operate_by all t now o x)
-      by i None e = kept
-      by i (Some s) e =
-          let v = r.cond (ap is_some e) in
-          under v (subst Use (ap (λ m. record { 0 = m }) (sym (eqb-true (server_of o.ask).0 t.here.server.0 i))) v) s
-
-      on : cs.is_of t.here.server o ≡ true → (a : Ask) → Rest os (cp.operate_on all t now o a)
-      on i (asks.Sync f) = rest_if os (pages.is_hard t.here.store f.ino) _ _ (r_answer os o answers.Hard t refl r) kept
-      on i a = by i t.here.session refl
-
-      go : (b : Bool) → cs.is_of t.here.server o ≡ b → Rest os (if b then cp.operate_on all t now o o.ask else cs.keep o t)
-      go true i = on i o.ask
-      go false i = kept
-
-  r_each : (all : List Operation) (now : Stamp) (os : List Operation) (t : Turn) → Rest os t → Rest [] (cp.operate_each all now os t)
-  unfolding cp.operate_each
-  r_each all now [] t r = r
-  r_each all now (o ∷ os) t r = r_each all now os (cp.operate all t now o) (r_operate all os t now o r)
-
-  s_operations : (now : Stamp) (t : Turn) → S t → S (cp.operations now t)
-  unfolding cp.operations
-  s_operations now t w = go (r_each t.operations now t.operations (with_operations [] t) (record { id = w.id; config = w.config; done = w.done; own = w.own; cond = w.cond }))
-    where
-      u : Turn
-      u = cp.operate_each t.operations now t.operations (with_operations [] t)
-
       go : Rest [] u → S u
       go r = record { id = r.id; config = r.config; done = subst (λ x. Q x u.out) (none_more u.operations) r.done; own = r.own; cond = r.cond }
 
-  -- Reductions.
-  u_reduce_to : (t : Turn) (s : ClientSession) (ino : ℕ) (g : GrantNo) (to : Mode) → U t → U (cp.reduce_to t s ino g to)
-  unfolding cp.reduce_to pages.forget_from
-  u_reduce_to t s ino g modes.None w = w_store D _ _ (knows_fewer n t.here.server _ t.here.store.extents w.own) (u_session t _ w)
-  u_reduce_to t s ino g modes.S w = w_store D _ _ w.own (u_session t _ w)
-  u_reduce_to t s ino g modes.X w = w_store D _ _ w.own (u_session t _ w)
-
-  u_reduce_idle : (t : Turn) (s : ClientSession) (ino : ℕ) → U t → U (cp.reduce_idle t s ino)
-  unfolding cp.reduce_idle cp.reduce_by cp.reduce_given
-  u_reduce_idle t s ino w = if_either U (cp.may_reduce t s ino) _ t (go (locks.reduce s.locks ino)) w
+  -- Reductions, writes and greeting.
+  s_reduced : (ino : ℕ) (t u : Turn) → Reduced ino t u → S t → S u
+  unfolding pages.forget_from
+  s_reduced ino t _ StaysHeld w = w
+  s_reduced ino t _ (IsReduced s g to e m i) w = usable _ (go to (used t s e w))
     where
-      given : (x : ClientSession) (o : Option (GrantNo × Mode)) → U (cp.reduce_given t x ino o)
-      given x None = w
-      given x (Some (g, m)) = u_reduce_to t x ino g m w
+      r : ClientSession
+      r = cs.with_cache (locks.reduce s.locks ino).locks s
 
-      go : (r : locks.Reduced) → U (cp.reduce_by t s ino r)
-      go r = given (cs.with_cache r.locks s) r.given
+      go : (to : Mode) → U t → U (with_store (cp.forgotten_at ino to t.here.store) (with_session (cp.released r ino g to) t))
+      go modes.None v = w_store D _ _ (knows_fewer n t.here.server _ t.here.store.extents v.own) (u_session t _ v)
+      go modes.S v = w_store D _ _ v.own (u_session t _ v)
+      go modes.X v = w_store D _ _ v.own (u_session t _ v)
 
-  s_reduce : (t : Turn) (ino : ℕ) (o : Option ClientSession) → t.here.session ≡ o → S t → S (cp.reduce t ino o)
-  unfolding cp.reduce
-  s_reduce t ino None e w = w
-  s_reduce t ino (Some s) e w = usable _ (u_reduce_idle t s ino (used t s e w))
+  s_written : (now : Stamp) (tick : Bool) (x : ℕ × PageNo) (t u : Turn) → WritesOut now tick x t u → S t → S u
+  s_written now tick x t _ StaysDirty w = w
+  s_written now tick x t _ (IsWritten s d m e i j l) w =
+      let v = used t s e w in
+      usable _ (record {
+        id = v.id;
+        config = v.config;
+        done = q.submits t.operations t.out t.here.server t.next_command m.at _ v.cond
+            (knows_at n t.here.server d.ino d.page t.here.store.extents m v.own l) v.done;
+        own = v.own;
+        cond = v.cond;
+      })
 
-  s_reduces : (inos : List ℕ) (t : Turn) → S t → S (cp.reduce_each inos t)
-  unfolding cp.reduce_each
-  s_reduces [] t w = w
-  s_reduces (ino ∷ inos) t w = s_reduces inos _ (s_reduce t ino t.here.session refl w)
-
-  s_reductions : (t : Turn) → S t → S (cp.reductions t)
-  unfolding cp.reductions
-  s_reductions t w = s_reduces _ t w
-
-  -- Writes.
-  u_submit : (t : Turn) (d : DirtyPage) (m : MappedBlock) → pages.mapping_of t.here.store.extents d.ino d.page ≡ Some m → U t → U (cp.submit_write t d m)
-  unfolding cp.submit_write cp.submit_command
-  u_submit t d m e w =
-      record { id = w.id; config = w.config; done = q.submits t.operations t.out t.here.server t.next_command m.at _ w.cond (knows_at n t.here.server d.ino d.page t.here.store.extents m w.own e) w.done; own = w.own; cond = w.cond }
-
-  u_write_page : (t : Turn) (s : ClientSession) (now : Stamp) (tick : Bool) (o : Option DirtyPage) → U t → U (cp.write_page t s now tick o)
-  unfolding cp.write_page cp.write_due cp.write_out cp.write_out_at
-  u_write_page t s now tick None w = w
-  u_write_page t s now tick (Some d) w = if_either U (cp.is_writable t s now tick d) _ t (go (pages.mapping_of t.here.store.extents d.ino d.page) refl) w
-    where
-      go : (m : Option MappedBlock) → pages.mapping_of t.here.store.extents d.ino d.page ≡ m → U (cp.write_out_at t d m)
-      go None e = w
-      go (Some m) e = u_submit t d m e w
-
-  u_writes : (s : ClientSession) (now : Stamp) (tick : Bool) (xs : List (ℕ × PageNo)) (t : Turn) → U t → U (cp.write_each s now tick xs t)
-  unfolding cp.write_each
-  u_writes s now tick [] t w = w
-  u_writes s now tick (x ∷ xs) t w = u_writes s now tick xs _ (u_write_page t s now tick _ w)
-
-  s_writes : (now : Stamp) (tick : Bool) (t : Turn) → S t → S (cp.writes now tick t)
-  unfolding cp.writes cp.writes_by
-  s_writes now tick t w = go t.here.session refl
-    where
-      go : (o : Option ClientSession) → t.here.session ≡ o → S (cp.writes_by t now tick o)
-      go None e = w
-      go (Some s) e = usable _ (u_writes s now tick _ t (used t s e w))
-
-  -- Greeting.
-  s_greeting : (now : Stamp) (tick : Bool) (t : Turn) → S t → S (cp.greeting now tick t)
-  unfolding cp.greeting cp.greeting_by cp.greet cp.hello
-  s_greeting now tick t w = go t.here.session
-    where
-      go : (o : Option ClientSession) → S (cp.greeting_by t now tick o)
-      go None = if_either S (cp.must_greet t now tick) _ t (w_send (Usable Use) _ _ _ _ _ (record { id = w.id; config = w.config; done = w.done; own = w.own; cond = w.cond })) w
-      go (Some s) = w
+  s_greeted : (now : Stamp) (tick : Bool) (t u : Turn) → Greets now tick t u → S t → S u
+  s_greeted now tick t _ asking.IsSilent w = w
+  s_greeted now tick t _ (asking.SaysHello e m) w = w_send (Usable Use) _ _ _ _ _
+      (record { id = w.id; config = w.config; done = w.done; own = w.own; cond = w.cond })
 
   -- Requests.
-  u_ask : (t : Turn) (s : ClientSession) (now : Stamp) (b : Body) (cutting : Option ℕ) → U t → U (cp.ask t s now b cutting)
-  unfolding cp.ask
+  u_ask : (t : Turn) (s : ClientSession) (now : Stamp) (b : Body) (cutting : Option ℕ) → U t → U (asking.asked t s now b cutting)
   u_ask t s now b cutting w = w_send D _ _ _ _ _ (u_session t _ w)
 
-  keys_asking : (t : Turn) (s : ClientSession) (now : Stamp) (os : List Operation) (a : cp.Asking) → cp.first_asking t s now os ≡ Some a → map key os ≡ map key a.operations
-  unfolding cp.first_asking cp.asks_or
-  keys_asking t s now [] a e = cc
-  keys_asking t s now (o ∷ os) a e = go (cp.asked_by t s now o) (cp.first_asking t s now os) refl e (λ b f. keys_asking t s now os b f)
-    where
-      sent : (b : Bool) → key o ≡ key (cp.sent_if b o)
-      sent true = refl
-      sent false = refl
+  keys_sent : (o : Operation) (b : Bool) (xs ys : List Operation) → map key (xs ++ o ∷ ys) ≡ map key (xs ++ cp.sent_if b o ∷ ys)
+  keys_sent o true [] ys = refl
+  keys_sent o false [] ys = refl
+  keys_sent o b (x ∷ xs) ys = keys_both (xs ++ o ∷ ys) (xs ++ cp.sent_if b o ∷ ys) x x refl (keys_sent o b xs ys)
 
-      go : (x : Option cp.Wanted) (l : Option cp.Asking) → cp.first_asking t s now os ≡ l → cp.asks_or o os l x ≡ Some a → ((b : cp.Asking) → cp.first_asking t s now os ≡ Some b → map key os ≡ map key b.operations) →
-          map key (o ∷ os) ≡ map key a.operations
-      go None None f e r = cc
-      go None (Some b) f e r = keys_both os b.operations o o refl (r b f) ∙ ap (λ (z : cp.Asking). map key z.operations) (some_is e)
-      go (Some x) l f e r = keys_both os os o (cp.sent_if x.own o) (sent x.own) refl ∙ ap (λ (z : cp.Asking). map key z.operations) (some_is e)
-
-  u_keep_alive : (t : Turn) (s : ClientSession) (now : Stamp) → U t → U (cp.keep_alive t s now)
-  unfolding cp.keep_alive
-  u_keep_alive t s now w = if_either U _ _ t (u_ask t s now _ _ w) w
-
-  u_ask_next : (t : Turn) (s : ClientSession) (now : Stamp) → U t → U (cp.ask_next t s now)
-  unfolding cp.ask_next cp.ask_for_or cp.ask_for pages.forget_from
-  u_ask_next t s now w = if_either U (cs.is_serving t.config s now) _ _ (go (cp.first_asking t s now t.operations) refl) (u_keep_alive t s now w)
+  s_requested : (now : Stamp) (tick : Bool) (t u : Turn) → Requests now tick t u → S t → S u
+  unfolding pages.forget_from
+  s_requested now tick t _ asking.AsksNothing w = w
+  s_requested now tick t _ (asking.AsksAgain s x e i j l) w = usable _ (w_send D _ _ _ _ _ (u_session t _ (used t s e w)))
+  s_requested now tick t _ (asking.Reasserts s m d) w = usable _ (u_ask t s now _ _ (used t s m.session w))
+  s_requested now tick t _ (asking.Releases s r rs m d e) w = usable _ (u_ask t (record s { releases = rs }) now _ _ (used t s m.session w))
+  s_requested now tick t _ (asking.AsksFor s xs o ys x f e i) w =
+      let v = used t s f.may.session w in
+      usable _ (u_ask _ s now _ _ (w_store D _ _ (cut x.cut t.here.store v.own) (w_stages D t _ (ap (λ z. map key z) i.there ∙ keys_sent o x.own xs ys) v)))
     where
       cut : (o : Option (ℕ × PageNo)) (st : Store) → Knows n t.here.server st.extents → Knows n t.here.server (cp.cut_store o st).extents
       cut None st x = x
       cut (Some (ino, p)) st x = knows_fewer n t.here.server _ st.extents x
-
-      go : (o : Option cp.Asking) → cp.first_asking t s now t.operations ≡ o → U (cp.ask_for_or t s now o)
-      go None e = u_keep_alive t s now w
-      go (Some a) e = u_ask _ s now _ _ (w_store D _ _ (cut a.wanted.cut t.here.store w.own) (w_stages D t _ (keys_asking t s now t.operations a e) w))
-
-  u_ask_by : (t : Turn) (s : ClientSession) (now : Stamp) (rs : List Release) → U t → U (cp.ask_by t s now rs)
-  unfolding cp.ask_by cp.ask_release
-  u_ask_by t s now [] w = u_ask_next t s now w
-  u_ask_by t s now (r ∷ rs) w = u_ask t _ now _ _ w
-
-  u_requests_at : (t : Turn) (s : ClientSession) (now : Stamp) (tick : Bool) (o : Option Request) → U t → U (cp.requests_at t s now tick o)
-  unfolding cp.requests_at cp.ask_new cp.reassert cp.repeat cp.ask_again
-  u_requests_at t s now tick None w = if_either U s.due _ _ (u_ask t s now _ _ w) (u_ask_by t s now s.releases w)
-  u_requests_at t s now tick (Some r) w = if_either U _ _ t (w_send D _ _ _ _ _ (u_session t _ w)) w
-
-  s_requests : (now : Stamp) (tick : Bool) (t : Turn) → S t → S (cp.requests now tick t)
-  unfolding cp.requests cp.requests_by cp.requests_under
-  s_requests now tick t w = go t.here.session refl
-    where
-      go : (o : Option ClientSession) → t.here.session ≡ o → S (cp.requests_by t now tick o)
-      go None e = w
-      go (Some s) e = if_either S s.lease.condemned t _ w (usable _ (u_requests_at t s now tick s.requests.asked (used t s e w)))
+  s_requested now tick t _ (asking.KeepsAlive s f e) w = usable _ (u_ask t s now _ _ (used t s f.may.session w))
 
   pub s_passes : (now : Stamp) (tick : Bool) (t : Turn) → S t → S (cp.passes now tick t)
-  unfolding cp.passes
-  s_passes now tick t w = s_requests now tick _ (s_greeting now tick _ (s_writes now tick _ (s_reductions _ (s_operations now t w))))
+  s_passes now tick t w =
+      let r = passes now tick t in
+      s_requested now tick r.greeted (cp.passes now tick t) r.requests
+      (s_greeted now tick r.written r.greeted r.greeting
+      (each_lasts (WritesOut now tick) (λ xs v. S v) (λ x xs v u step z. s_written now tick x v u step z)
+      (places_of r.reduced.here.session r.reduced.here.store.pages) r.reduced r.written r.writes
+      (each_lasts Reduced (λ inos v. S v) (λ ino inos v u step z. s_reduced ino v u step z)
+      (cp.files_demanded r.operated.here.session) r.operated r.reduced r.reductions (s_operated now t r.operated r.operations w))))
 
   -- A rule at each server in turn.
   pub record Each (C : ServerId → Option ClientSession → Option Stamp → Type 0) (t : ClientTurn) : Type 0 where
@@ -778,10 +485,19 @@ module _ (n : ℕ) (Use : ServerId → Type 0) (c : ClientId) (k : Config) (Q : 
     pub cond : (a : Association) → Has a t.state.associations → C a.server a.session a.greeting
 
   module _ (C E : ServerId → Option ClientSession → Option Stamp → Type 0) (rule : Turn → Turn) (one : (t : Turn) → W C t → W E (rule t)) where
-    pub these : (al : List Association) (t : ClientTurn) → ((a : Association) → Has a al → Knows n a.server a.store.extents) → ((a : Association) → Has a al → C a.server a.session a.greeting) → Each E t → Each E (at_these rule al t)
+    pub these : (al : List Association) (t : ClientTurn) → ((a : Association) → Has a al → Knows n a.server a.store.extents) →
+        ((a : Association) → Has a al → C a.server a.session a.greeting) → Each E t → Each E (at_these rule al t)
     unfolding at_these
     these [] t x y e = e
-    these (a ∷ al) t x y e = these al (leave t u) (λ b h. x b (inr h)) (λ b h. y b (inr h)) (record { id = e.id; config = e.config; done = w.done; own = λ b h. owns b (has_append t.state.associations (u.here ∷ []) b h); cond = λ b h. conds b (has_append t.state.associations (u.here ∷ []) b h) })
+    these (a ∷ al) t x y e = these al (leave t u) (λ b h. x b (inr h)) (λ b h. y b (inr h))
+        (record {
+          id = e.id;
+          config = e.config;
+          done = w.done;
+          own = λ b h. owns b (has_append t.state.associations (u.here ∷ []) b h);
+          cond = λ b h. conds b
+              (has_append t.state.associations (u.here ∷ []) b h);
+        })
       where
         u : Turn
         u = rule (enter t a)
