@@ -1,48 +1,47 @@
 -- Where a client answers `diskfault`, `opsfull` and what a server refused: only at the end of a command that failed, only where 16 operations are
--- pending, and only where a refusal comes. The rules of
--- a client, walked for their outputs alone.
-use Rattle.std.proofs.Common.{◌≡◌, ℕ, ◌⊎◌, Bool, true, false, ◌==◌, ◌≤◌, List, [], ◌∷◌, ◌++◌, Option, Some, None, Ok, Err, refl, sym, ◌∙◌, subst, arith, inl, inr, if◌then◌else◌}
-use Rattle.std.specs.Prelude.{Result, filter, length, map, not}
-use Rattle.std.proofs.lemmas.Bool.{eqb-true, le-leb, leb-true}
+-- pending, and only where a refusal comes.
+use Rattle.std.proofs.Common.{◌≡◌, ℕ, ◌+◌, ◌⊎◌, Bool, true, false, ◌≤◌, List, [], ◌∷◌, ◌++◌, Option, None, refl, sym, subst, arith, inl, inr}
+use Rattle.std.proofs.Common.{if◌then◌else◌}
+use Rattle.std.specs.Prelude.{filter, length, map}
+use Rattle.std.proofs.lemmas.Bool.{le-leb, leb-true}
 use Rattle.st_base.specs.declared.disk.Tag.{Tag}
-use Rattle.st_base.specs.declared.ids.FileId.{FileId}
-use Rattle.st_base.specs.declared.ids.PageNo.{PageNo}
 use Rattle.st_base.specs.declared.ids.Stamp.{Stamp}
-use Rattle.st_base.specs.declared.mode.Mode.TheVariants as modes
 use Rattle.st_messages.specs.declared.answer.AppAnswer.{AppAnswer}
 use Rattle.st_messages.specs.declared.answer.AppAnswer.TheVariants as answers
 use Rattle.st_messages.specs.declared.ask.Ask.{Ask}
-use Rattle.st_messages.specs.declared.ask.Ask.TheVariants as asks
 use Rattle.st_messages.specs.declared.message.Body.{Body}
 use Rattle.st_messages.specs.declared.message.Header.{Header}
-use Rattle.st_messages.specs.declared.output.Note.{Note}
-use Rattle.st_messages.specs.declared.output.Note.TheVariants as notes
 use Rattle.st_messages.specs.declared.output.Output.{Output}
 use Rattle.st_messages.specs.declared.output.Output.TheVariants as outputs
 use Rattle.st_rules.specs.declared.client.ClientInput.{ClientInput}
 use Rattle.st_rules.specs.declared.client.ClientInput.TheVariants as inputs
-use Rattle.st_rules.specs.declared.client.Ended.{Ended}
-use Rattle.st_rules.specs.declared.client.Ended.TheVariants as ends
-use Rattle.st_rules.specs.declared.client.IoKind.{IoKind}
-use Rattle.st_rules.specs.declared.client.IoKind.TheVariants as io
-use Rattle.st_rules.specs.declared.client.KnownExtent.{KnownExtent}
-use Rattle.st_rules.specs.declared.client.MappedBlock.{MappedBlock}
 use Rattle.st_rules.specs.declared.client.Operation.{Operation}
 use Rattle.st_rules.specs.declared.client.PageCommand.{PageCommand}
-use Rattle.st_rules.specs.declared.client.Release.{Release}
-use Rattle.st_rules.specs.declared.client.Request.{Request}
-use Rattle.st_rules.specs.declared.client.WriteRefusal.{WriteRefusal}
 use Rattle.st_rules.specs.Client as cl
 use Rattle.st_rules.specs.ClientPages as pages
-use Rattle.st_rules.specs.ClientPages.{Pages}
 use Rattle.st_rules.specs.ClientPasses as cp
 use Rattle.st_rules.specs.ClientReplies as cr
 use Rattle.st_rules.specs.ClientState as cs
-use Rattle.st_rules.specs.ClientState.{Association, ClientSession, ClientState, ClientTurn, Turn, answer_to, at_each, at_these, client_turn, enter, leave, only_at, say, with_associations, with_operations}
+use Rattle.st_rules.specs.ClientState.{Association, ClientSession, ClientState, ClientTurn, Turn, answer_to, at_each, at_these, client_turn, enter, leave}
+use Rattle.st_rules.specs.ClientState.{only_at, say, with_associations, with_operations}
 use Rattle.st_lemmas.specs.Lists.{Has}
+use Rattle.st_lemmas.proofs.Tables.{has_append, has_map}
 use Rattle.st_promises.specs.Faults.{refuses}
 use Rattle.st_laws_lines.proofs.Walking as walk
-use Rattle.st_lemmas.proofs.Tables.{found_at, has_append, has_map}
+use Rattle.st_trace.specs.Client.Commands as ends
+use Rattle.st_trace.specs.Client.Commands.{Takes, Finishes}
+use Rattle.st_trace.specs.Client.Losses as losing
+use Rattle.st_trace.specs.Client.Losses.{Ended, Loses}
+use Rattle.st_trace.specs.Client.Operations as pass
+use Rattle.st_trace.specs.Client.Operations.{Operated}
+use Rattle.st_trace.specs.Client.Requests as asking
+use Rattle.st_trace.specs.Client.Requests.{Requests}
+use Rattle.st_trace.proofs.Client.Finishing.{at_server, finishes, takes}
+use Rattle.st_trace.proofs.Client.Lists.{length_both}
+use Rattle.st_trace.proofs.Client.Losing.{loses}
+use Rattle.st_trace.proofs.Client.Operating.{operations}
+use Rattle.st_trace.proofs.Client.Requesting.{requests}
+use Rattle.st_trace.proofs.Client.Walk.{each_lasts}
 
 -- an output that answers no fault, but of a command that failed, or of a client with so many operations
 abbrev pub Fault_free : (ℕ → Type 0) → Type 0 → Type 0 → AppAnswer → Type 0
@@ -64,49 +63,26 @@ abbrev pub All_free : (ℕ → Type 0) → Type 0 → Type 0 → List Output →
 All_free Failed Full Told os = (o : Output) → Has o os → Free Failed Full Told o
 
 -- Losses end operations, and begin none.
-fewer_pass : {A : Type 0} (p : A → Bool) (xs : List A) → length (filter p xs) ≤ length xs
-fewer_pass p [] = omega arith
-fewer_pass p (x ∷ xs) = go (p x) (fewer_pass p xs)
-  where
-    go : (b : Bool) → length (filter p xs) ≤ length xs → length (if b then x ∷ filter p xs else filter p xs) ≤ length (x ∷ xs)
-    go true h = omega (arith, h)
-    go false h = omega (arith, h)
-
--- a turn with the operations of another one
-abbrev Same : Turn → Turn → Type 0
-Same t u = u.operations ≡ t.operations
-
-ended_same : (t : Turn) (s : ClientSession) (o : Operation) → Same t (cl.end_operation t s o)
-unfolding cl.end_operation cl.end_unsent cl.end_sync cl.tell_lost
-ended_same t s o = either (cs.is_sent o) _ _ refl (by o.ask)
-  where
-    either : (b : Bool) (u v : Turn) → Same t u → Same t v → Same t (if b then u else v)
-    either true u v x y = x
-    either false u v x y = y
-
-    by : (a : Ask) → Same t (cl.end_unsent t o a)
-    by (asks.Sync f) = either (pages.has_lost t.here.lost f.ino) _ _ refl refl
-    by a = refl
-
-each_same : (s : ClientSession) (os : List Operation) (t : Turn) → Same t (cl.end_each s os t)
-unfolding cl.end_each
-each_same s [] t = refl
-each_same s (o ∷ os) t = each_same s os (cl.end_operation t s o) ∙ ended_same t s o
+-- what ends is pending no more, and nothing else joins it
+fewer_ended : (s : ClientSession) (n : ℕ) (o : Operation) (os : List Operation) (t u : Turn) → Ended s o t u → length t.operations + length (o ∷ os) ≤ n →
+    length u.operations + length os ≤ n
+fewer_ended s n o os t _ (losing.IsElsewhere e) h = let z = length_both t.operations (o ∷ []) in omega (arith, h, z)
+fewer_ended s n o os t _ (losing.IsUncertain e q) h = omega (arith, h)
+fewer_ended s n o os t _ (losing.IsToldLost f e q a l) h = omega (arith, h)
+fewer_ended s n o os t _ (losing.LostNothing f e q a l) h = omega (arith, h)
+fewer_ended s n o os t _ (losing.IsQuiesced e q a) h = omega (arith, h)
 
 fewer_lost : (now : Stamp) (t : Turn) → length (cl.lose now t).operations ≤ length t.operations
-unfolding cl.lose cl.lose_by cl.lose_over cl.lose_session cl.end_operations
-fewer_lost now t = go t.here.session
+fewer_lost now t = go (cl.lose now t) (loses now t)
   where
-    begun : Turn
-    begun = with_operations (filter (λ o. not (cs.is_of t.here.server o)) t.operations) (cl.with_lost_pages t.here.store (cs.note t (notes.Lost t.here.server t.here.life)))
-
-    over : (s : ClientSession) (b : Bool) → length (if b then cl.lose_session t s else t).operations ≤ length t.operations
-    over s true = subst (λ (os : List Operation). length os ≤ length t.operations) (sym (each_same s (filter (cs.is_of t.here.server) t.operations) begun)) (fewer_pass (λ o. not (cs.is_of t.here.server o)) t.operations)
-    over s false = omega arith
-
-    go : (o : Option ClientSession) → length (cl.lose_by t now o).operations ≤ length t.operations
-    go None = omega arith
-    go (Some s) = over s (cl.is_over t s now)
+    go : (u : Turn) → Loses now t u → length u.operations ≤ length t.operations
+    go _ (losing.HasNoSession e) = omega arith
+    go _ (losing.Lasts s e o) = omega arith
+    go _ (losing.IsLost s u e o p) =
+        let x = each_lasts (Ended s) (λ os v. length v.operations + length os ≤ length t.operations)
+        (λ o os v w k h. fewer_ended s (length t.operations) o os v w k h) t.operations
+        (with_operations [] (losing.loss_noted t)) u p (omega arith) in
+        omega (arith, x)
 
 fewer_these : (now : Stamp) (al : List Association) (t : ClientTurn) → length (at_these (cl.lose now) al t).state.operations ≤ length t.state.operations
 unfolding at_these
@@ -117,7 +93,8 @@ fewer_these now (a ∷ al) t =
 still_full : (s : ClientState) (now : Stamp) → cl.is_full (cl.losses (client_turn s []) now).state ≡ true → cl.is_full s ≡ true
 unfolding cl.losses at_each
 still_full s now e =
-    let x = leb-true 16 (length (cl.losses (client_turn s []) now).state.operations) e in let y = fewer_these now s.associations (with_associations [] (client_turn s [])) in
+    let x = leb-true 16 (length (cl.losses (client_turn s []) now).state.operations) e in let y = fewer_these now s.associations
+    (with_associations [] (client_turn s [])) in
     le-leb 16 (length s.operations) (omega (arith, x, y))
 
 module _ (Failed : ℕ → Type 0) (Full : Type 0) (Told : Type 0) where
@@ -141,17 +118,10 @@ module _ (Failed : ℕ → Type 0) (Full : Type 0) (Told : Type 0) where
   said : (t : Turn) (o : Output) → Free Failed Full Told o → F t → F (say t o)
   said t o f w = last t.out o f w
 
-  either : (b : Bool) (t u : Turn) → F t → F u → F (if b then t else u)
-  either true t u x y = x
-  either false t u x y = y
-
-  sent : (t : Turn) (epoch number stamp : ℕ) (b : Body) → F t → F (cs.send t epoch number stamp b)
-  unfolding cs.send
-  sent t epoch number stamp b w = said t _ tt w
-
   each_answered : (t : Turn) (picked : Operation → Bool) (a : AppAnswer) → Fault_free Failed Full Told a → F t → F (cs.answer_each picked a t)
   unfolding cs.answer_each
-  each_answered t picked a f w = more t.out (map (answer_to a) (filter picked t.operations)) w (λ o h. let x = has_map (answer_to a) (filter picked t.operations) o h in subst (Free Failed Full Told) (sym x.2) f)
+  each_answered t picked a f w = more t.out (map (answer_to a) (filter picked t.operations)) w
+      (λ o h. let x = has_map (answer_to a) (filter picked t.operations) o h in subst (Free Failed Full Told) (sym x.2) f)
 
   -- A message: no reply answers a fault, or that there are too many operations.
   calm_free : (o : Output) → walk.Calm o → Free Failed Full Told o
@@ -169,217 +139,98 @@ module _ (Failed : ℕ → Type 0) (Full : Type 0) (Told : Type 0) where
 
   received : (now : Stamp) (h : Header) (b : Body) → (refuses b ≡ true → Told) → (t : Turn) → F t → F (cr.receive_at now h b t)
   unfolding cr.leave_stuck
-  received = walk.received Told (λ v lost out ops. All_free Failed Full Told out) (λ v lost out ops o c w. last out o (calm_free o c) w) (λ t picked a m w. each_answered t picked a (mild_free a m) w) (λ t w. w)
+  received = walk.received Told (λ v lost out ops. All_free Failed Full Told out) (λ v lost out ops o c w. last out o (calm_free o c) w)
+      (λ t picked a m w. each_answered t picked a (mild_free a m) w) (λ t w. w)
 
   rested : (now : Stamp) (tick : Bool) (t : Turn) → F t → F (cp.greeting now tick (cp.writes now tick (cp.reductions t)))
   unfolding cr.leave_stuck
-  rested = walk.rested Told (λ v lost out ops. All_free Failed Full Told out) (λ v lost out ops o c w. last out o (calm_free o c) w) (λ t picked a m w. each_answered t picked a (mild_free a m) w) (λ t w. w)
+  rested = walk.rested Told (λ v lost out ops. All_free Failed Full Told out) (λ v lost out ops o c w. last out o (calm_free o c) w)
+      (λ t picked a m w. each_answered t picked a (mild_free a m) w) (λ t w. w)
 
   -- Losses.
-  ended : (t : Turn) (s : ClientSession) (o : Operation) → F t → F (cl.end_operation t s o)
-  unfolding cl.end_operation cl.end_unsent cl.end_sync cl.tell_lost
-  ended t s o w = either (cs.is_sent o) _ _ (said t _ tt w) (by o.ask)
-    where
-      by : (a : Ask) → F (cl.end_unsent t o a)
-      by (asks.Sync f) = either (pages.has_lost t.here.lost f.ino) _ _ (last t.out _ tt w) (said t _ tt w)
-      by a = said t _ tt w
-
-  all_ended : (s : ClientSession) (os : List Operation) (t : Turn) → F t → F (cl.end_each s os t)
-  unfolding cl.end_each
-  all_ended s [] t w = w
-  all_ended s (o ∷ os) t w = all_ended s os (cl.end_operation t s o) (ended t s o w)
+  ended : (s : ClientSession) (o : Operation) (t u : Turn) → Ended s o t u → F t → F u
+  ended s o t _ (losing.IsElsewhere e) w = w
+  ended s o t _ (losing.IsUncertain e q) w = said t _ tt w
+  ended s o t _ (losing.IsToldLost f e q a l) w = last t.out _ tt w
+  ended s o t _ (losing.LostNothing f e q a l) w = said t _ tt w
+  ended s o t _ (losing.IsQuiesced e q a) w = said t _ tt w
 
   lost : (now : Stamp) (t : Turn) → F t → F (cl.lose now t)
-  unfolding cl.lose cl.lose_by cl.lose_over cl.lose_session cl.end_operations
-  lost now t w = go t.here.session
+  lost now t w = go (cl.lose now t) (loses now t)
     where
-      go : (o : Option ClientSession) → F (cl.lose_by t now o)
-      go None = w
-      go (Some s) = either (cl.is_over t s now) _ t (all_ended s _ _ (said t _ tt w)) w
+      go : (u : Turn) → Loses now t u → F u
+      go _ (losing.HasNoSession e) = w
+      go _ (losing.Lasts s e o) = w
+      go _ (losing.IsLost s u e o p) = each_lasts (Ended s) (λ os v. F v) (λ o os v x k z. ended s o v x k z) t.operations
+          (with_operations [] (losing.loss_noted t)) u p (last t.out _ tt w)
 
   -- Asks.
-  taken : (op : ℕ) (ask : Ask) (t : Turn) → F t → F (cl.take_ask op ask t)
-  unfolding cl.take_ask cl.take_by cl.take_sync cl.enqueue cl.tell_lost
-  taken op ask t w = by ask
+  taken : (op : ℕ) (ask : Ask) (t : Turn) → F t → F (only_at (cs.server_of ask) (cl.take_ask op ask) t)
+  taken op ask t w = at_server (λ u. F u) (cs.server_of ask) (cl.take_ask op ask) t (λ e. go (cl.take_ask op ask t) (takes op ask t)) (λ e. w)
     where
-      by : (a : Ask) → F (cl.take_by t op ask a)
-      by (asks.Sync f) = either (pages.has_lost t.here.lost f.ino) _ _ (last t.out _ tt w) w
-      by a = w
+      go : (u : Turn) → Takes op ask t u → F u
+      go _ (ends.TellsLost f q l) = last t.out _ tt w
+      go _ (ends.WaitsForSync f q l) = w
+      go _ (ends.Waits n) = w
 
   -- Ends of commands: only where the command failed a fault is answered.
-  faulted : (t : Turn) (x : PageCommand) (kind : IoKind) → Failed x.number → F t → F (cl.failed_as t x kind)
-  unfolding cl.failed_as cl.mark_failed
-  faulted t x io.Read f w = each_answered t _ _ f w
-  faulted t x (io.Write v) f w = each_answered _ _ _ f (either (cl.is_present t x v) _ t w w)
-
-  finished_as : (t : Turn) (x : PageCommand) (block : Option (Tag × List ℕ)) (e : Ended) → (e ≡ ends.Failed → Failed x.number) → F t → F (cl.finish_as t x block e)
-  unfolding cl.finish_as cl.filled_by cl.hardened
-  finished_as t x block ends.Unknown f w = w
-  finished_as t x None ends.Filled f w = w
-  finished_as t x (Some b) ends.Filled f w = w
-  finished_as t x block ends.Hard f w = w
-  finished_as t x block ends.Redirty f w = w
-  finished_as t x block ends.Failed f w = faulted t x x.kind (f refl) w
-
-  -- a command that is done has not failed
-  done_fine : (k : IoKind) (version : ℕ) → pages.done_as k version ≡ ends.Failed → ⊥
-  done_fine io.Read version e = cc
-  done_fine (io.Write v) version e = go (v == version) e
-    where
-      go : (b : Bool) → (if b then ends.Hard else ends.Redirty) ≡ ends.Failed → ⊥
-      go true e = cc
-      go false e = cc
-
-  ended_fine : (x : PageCommand) (ok : Bool) (version : ℕ) → pages.ended_as x ok version ≡ ends.Failed → ok ≡ false
-  ended_fine x true version e = absurd (done_fine x.kind version e)
-  ended_fine x false version e = refl
-
-  end_fine : (xs : List PageCommand) (number : ℕ) (ok : Bool) (version : ℕ) → (pages.end_command xs number ok version).ended ≡ ends.Failed → ok ≡ false
-  unfolding pages.end_command pages.end_at
-  end_fine xs number ok version e = go (pages.command_of xs number) e
-    where
-      go : (o : Option PageCommand) → (pages.end_at xs number ok version o).ended ≡ ends.Failed → ok ≡ false
-      go None e = cc
-      go (Some x) e = ended_fine x ok version e
-
-  finished_command : (t : Turn) (x : PageCommand) (ok : Bool) (block : Option (Tag × List ℕ)) → (ok ≡ false → Failed x.number) → F t → F (cl.finish_command t x ok block)
-  unfolding cl.finish_command cl.ended_by
-  finished_command t x ok block f w = finished_as _ x block _ (λ e. f (end_fine t.here.store.commands x.number ok _ e)) w
-
-  finished_by : (t : Turn) (x : PageCommand) (r : Option (Option (Tag × List ℕ))) → (r ≡ None → Failed x.number) → F t → F (cl.finish_by t x r)
-  unfolding cl.finish_by cl.done_by
-  finished_by t x None f w = finished_command t x false None (λ e. f refl) w
-  finished_by t x (Some b) f w = either (cl.is_result_of x.kind b) _ t (finished_command t x true b (λ e. cc) w) w
-
   finished : (number : ℕ) (r : Option (Option (Tag × List ℕ))) → (r ≡ None → Failed number) → (t : Turn) → F t → F (cl.finish number r t)
-  unfolding cl.finish cl.finish_at
-  finished number r f t w = go (pages.command_of t.here.store.commands number) refl
+  finished number r f t w = go (cl.finish number r t) (finishes number r t)
     where
-      go : (o : Option PageCommand) → pages.command_of t.here.store.commands number ≡ o → F (cl.finish_at t o r)
-      go None e = w
-      go (Some x) e = finished_by t x r (λ q. subst Failed (sym (eqb-true x.number number (found_at (pages.is_numbered number) t.here.store.commands x e).0)) (f q)) w
+      faulted : (x : PageCommand) → ends.IsOutstanding number t x → r ≡ None → Failed x.number
+      faulted x o e = subst Failed (sym o.numbered) (f e)
+
+      go : (u : Turn) → Finishes number r t u → F u
+      go _ (ends.IsUnknown e) = w
+      go _ (ends.IsOfOtherKind x block o e k) = w
+      go _ (ends.Fills x block o k e) = w
+      go _ (ends.Hardens x v o k e i) = w
+      go _ (ends.WroteOlder x v o k e i) = w
+      go _ (ends.FailsToRead x o k e) = each_answered (ends.without x t) _ _ (faulted x o e) w
+      go _ (ends.FailsToWrite x v o k e i) = each_answered (ends.with_pages (pages.fail t.here.store.pages x.ino x.page x.number) (ends.without x t)) _ _
+          (faulted x o e) w
+      go _ (ends.FailsToWriteOlder x v o k e i) = each_answered (ends.without x t) _ _ (faulted x o e) w
 
   -- Operations.
-  changed : (t : Turn) (o : Operation) (f : FileId) (p : PageNo) (bytes : List ℕ) (n : Note) → F t → F (cp.change_page t o f p bytes n)
-  unfolding cp.change_page cp.change_by cp.change
-  changed t o f p bytes n w = go (pages.write t.here.store.pages f.ino p bytes)
-    where
-      go : (r : Result Pages WriteRefusal) → F (cp.change_by t o f p n r)
-      go (Ok ps) = last (t.out ++ outputs.Note n ∷ []) (outputs.Answer o.op answers.Written) tt (last t.out (outputs.Note n) tt w)
-      go (Err r) = said t _ tt w
-
-  submitted : (t : Turn) (ino : ℕ) (p : PageNo) (m : MappedBlock) → F t → F (cp.submit_read t ino p m)
-  unfolding cp.submit_read cp.submit_command
-  submitted t ino p m w = last t.out _ tt w
-
-  fetched : (t : Turn) (o : Operation) (f : FileId) (p : PageNo) → F t → F (cp.fetch t o f p)
-  unfolding cp.fetch cp.fetch_at cp.fetch_mapped
-  fetched t o f p w = go (pages.mapping_of t.here.store.extents f.ino p)
-    where
-      go : (m : Option MappedBlock) → F (cp.fetch_at t f p m)
-      go None = w
-      go (Some m) = either (pages.is_being_read t.here.store.commands f.ino p) t _ w (submitted t f.ino p m w)
-
-  written : (t : Turn) (s : ClientSession) (o : Operation) (f : FileId) (p : PageNo) (bytes : List ℕ) → F t → F (cp.write t s o f p bytes)
-  unfolding cp.write
-  written t s o f p bytes w = either (cp.may_write t s f p) _ _ (changed t o f p bytes _ w) w
-
-  patched : (t : Turn) (s : ClientSession) (o : Operation) (f : FileId) (p : PageNo) (at : ℕ) (bytes : List ℕ) → F t → F (cp.patch t s o f p at bytes)
-  unfolding cp.patch cp.patch_at cp.patch_bytes
-  patched t s o f p at bytes w = either (cp.may_write t s f p) _ _ (go (pages.cached t.here.store.pages f.ino p)) w
-    where
-      go : (x : Option (List ℕ)) → F (cp.patch_at t o f p at bytes x)
-      go None = fetched t o f p w
-      go (Some old) = changed t o f p _ _ w
-
-  reading : (t : Turn) (s : ClientSession) (o : Operation) (f : FileId) (p : PageNo) → F t → F (cp.read t s o f p)
-  unfolding cp.read cp.read_at cp.read_uncached cp.read_known cp.read_cached
-  reading t s o f p w = either (cp.holds s modes.S f) _ _ (cached (pages.cached t.here.store.pages f.ino p)) w
-    where
-      known : (x : Option KnownExtent) → F (cp.read_uncached t o f p x)
-      known None = w
-      known (Some e) = mapped e.mapping
-        where
-          mapped : (m : Option MappedBlock) → F (cp.read_known t o f p e m)
-          mapped None = said t _ tt w
-          mapped (Some m) = fetched t o f p w
-
-      cached : (x : Option (List ℕ)) → F (cp.read_at t o f p x)
-      cached None = known (pages.known_of t.here.store.extents f.ino p)
-      cached (Some bytes) = last t.out _ tt w
-
-  served : (all : List Operation) (t : Turn) (s : ClientSession) (o : Operation) → F t → F (cp.serve all t s o)
-  unfolding cp.serve cp.serve_open
-  served all t s o w = either _ _ _ (go o.ask) w
-    where
-      go : (a : Ask) → F (cp.serve_open t s o a)
-      go (asks.Write f p bytes) = written t s o f p bytes w
-      go (asks.Patch f p at bytes) = patched t s o f p at bytes w
-      go (asks.Read f p) = reading t s o f p w
-      go a = w
-
-  operated : (all : List Operation) (t : Turn) (now : Stamp) (o : Operation) → F t → F (cp.operate all t now o)
-  unfolding cp.operate cp.operate_on cp.operate_by cp.operate_under cp.quiesce cp.sync
-  operated all t now o w = either (cs.is_of t.here.server o) _ _ (on o.ask) w
-    where
-      by : (x : Option ClientSession) → F (cp.operate_by all t now o x)
-      by None = w
-      by (Some s) = either (cs.is_serving t.config s now) _ _ (served all t s o w) (either (cs.is_sent o) _ _ w (said t _ tt w))
-
-      on : (a : Ask) → F (cp.operate_on all t now o a)
-      on (asks.Sync f) = either (pages.is_hard t.here.store f.ino) _ _ (said t _ tt w) w
-      on a = by t.here.session
-
-  operated_each : (all : List Operation) (now : Stamp) (os : List Operation) (t : Turn) → F t → F (cp.operate_each all now os t)
-  unfolding cp.operate_each
-  operated_each all now [] t w = w
-  operated_each all now (o ∷ os) t w = operated_each all now os _ (operated all t now o w)
+  operated : (now : Stamp) (all : List Operation) (o : Operation) (t u : Turn) → Operated now all o t u → F t → F u
+  operated now all o t _ pass.Waits w = w
+  operated now all o t _ (pass.IsHard f e q h) w = said t _ tt w
+  operated now all o t _ (pass.IsQuiesced s e n a b c) w = said t _ tt w
+  operated now all o t _ (pass.ChangesPage s f p bytes n v c m e) w = last (t.out ++ outputs.Note n ∷ []) (outputs.Answer o.op answers.Written) tt
+      (last t.out (outputs.Note n) tt w)
+  operated now all o t _ (pass.IsDirtyFull s f p bytes n v c m e) w = said t _ tt w
+  operated now all o t _ (pass.Fetches s f p m v n c e r) w = last t.out _ tt w
+  operated now all o t _ (pass.ReadsCached s f p bytes v e h q) w = last t.out _ tt w
+  operated now all o t _ (pass.ReadsZeros s f p e v a h q k m) w = said t _ tt w
 
   -- Requests.
-  asked : (t : Turn) (s : ClientSession) (now : Stamp) (b : Body) (cutting : Option ℕ) → F t → F (cp.ask t s now b cutting)
-  unfolding cp.ask
-  asked t s now b cutting w = sent _ _ _ _ _ w
-
-  kept_alive : (t : Turn) (s : ClientSession) (now : Stamp) → F t → F (cp.keep_alive t s now)
-  unfolding cp.keep_alive
-  kept_alive t s now w = either _ _ t (asked t s now _ _ w) w
-
-  asked_next : (t : Turn) (s : ClientSession) (now : Stamp) → F t → F (cp.ask_next t s now)
-  unfolding cp.ask_next cp.ask_for_or cp.ask_for
-  asked_next t s now w = either (cs.is_serving t.config s now) _ _ (go (cp.first_asking t s now t.operations)) (kept_alive t s now w)
-    where
-      go : (o : Option cp.Asking) → F (cp.ask_for_or t s now o)
-      go None = kept_alive t s now w
-      go (Some a) = asked _ s now _ _ w
-
-  asked_by : (t : Turn) (s : ClientSession) (now : Stamp) (rs : List Release) → F t → F (cp.ask_by t s now rs)
-  unfolding cp.ask_by cp.ask_release
-  asked_by t s now [] w = asked_next t s now w
-  asked_by t s now (r ∷ rs) w = asked t _ now _ _ w
-
-  requested : (now : Stamp) (tick : Bool) (t : Turn) → F t → F (cp.requests now tick t)
-  unfolding cp.requests cp.requests_by cp.requests_under cp.requests_at cp.ask_new cp.reassert cp.repeat cp.ask_again
-  requested now tick t w = go t.here.session
-    where
-      at : (s : ClientSession) (o : Option Request) → F (cp.requests_at t s now tick o)
-      at s None = either s.due _ _ (asked t s now _ _ w) (asked_by t s now s.releases w)
-      at s (Some r) = either _ _ t (sent _ _ _ _ _ w) w
-
-      go : (o : Option ClientSession) → F (cp.requests_by t now tick o)
-      go None = w
-      go (Some s) = either s.lease.condemned t _ w (at s s.requests.asked)
+  requested : (now : Stamp) (tick : Bool) (t u : Turn) → Requests now tick t u → F t → F u
+  unfolding cs.send
+  requested now tick t _ asking.AsksNothing w = w
+  requested now tick t _ (asking.AsksAgain s q e c n o) w = last t.out _ tt w
+  requested now tick t _ (asking.Reasserts s m d) w = last t.out _ tt w
+  requested now tick t _ (asking.Releases s r rs m d e) w = last t.out _ tt w
+  requested now tick t _ (asking.AsksFor s xs o ys x f e k) w = last t.out _ tt w
+  requested now tick t _ (asking.KeepsAlive s f e) w = last t.out _ tt w
 
   passed : (now : Stamp) (tick : Bool) (t : Turn) → F t → F (cp.passes now tick t)
-  unfolding cp.passes cp.operations
-  passed now tick t w = requested now tick _ (rested now tick _ (operated_each t.operations now t.operations _ w))
+  unfolding cp.passes
+  passed now tick t w =
+      let a = cp.operations now t in
+      let b = cp.greeting now tick (cp.writes now tick (cp.reductions a)) in
+      requested now tick b (cp.requests now tick b) (requests now tick b)
+      (rested now tick a (each_lasts (Operated now t.operations) (λ os v. F v) (λ o os v x k z. operated now t.operations o v x k z) t.operations
+      (with_operations [] t) a (operations now t) w))
 
   -- A rule at each server in turn.
-  these : (rule : Turn → Turn) → ((t : Turn) → F t → F (rule t)) → (al : List Association) (t : ClientTurn) → All_free Failed Full Told t.out → All_free Failed Full Told (at_these rule al t).out
+  these : (rule : Turn → Turn) → ((t : Turn) → F t → F (rule t)) → (al : List Association) (t : ClientTurn) → All_free Failed Full Told t.out →
+      All_free Failed Full Told (at_these rule al t).out
   unfolding at_these
   these rule one [] t w = w
   these rule one (a ∷ al) t w = these rule one al (leave t (rule (enter t a))) (one (enter t a) w)
 
-  each : (rule : Turn → Turn) → ((t : Turn) → F t → F (rule t)) → (t : ClientTurn) → All_free Failed Full Told t.out → All_free Failed Full Told (at_each rule t).out
+  each : (rule : Turn → Turn) → ((t : Turn) → F t → F (rule t)) → (t : ClientTurn) → All_free Failed Full Told t.out → All_free Failed Full Told
+      (at_each rule t).out
   unfolding at_each
   each rule one t w = these rule one t.state.associations _ w
 
@@ -390,24 +241,23 @@ module _ (Failed : ℕ → Type 0) (Full : Type 0) (Told : Type 0) where
   Fails_as s (inputs.Done number r) = r ≡ None → Failed number
   Fails_as s i = Unit {0}
 
-  any_either : (b : Bool) (t u : ClientTurn) → All_free Failed Full Told t.out → All_free Failed Full Told u.out → All_free Failed Full Told (if b then t else u).out
+  any_either : (b : Bool) (t u : ClientTurn) → All_free Failed Full Told t.out → All_free Failed Full Told u.out → All_free Failed Full Told
+      (if b then t else u).out
   any_either true t u x y = x
   any_either false t u x y = y
 
-  where_full : (b : Bool) (t u : ClientTurn) → (b ≡ true → All_free Failed Full Told t.out) → All_free Failed Full Told u.out → All_free Failed Full Told (if b then t else u).out
+  where_full : (b : Bool) (t u : ClientTurn) → (b ≡ true → All_free Failed Full Told t.out) → All_free Failed Full Told u.out → All_free Failed Full Told
+      (if b then t else u).out
   where_full true t u x y = x refl
   where_full false t u x y = y
 
-  only : (s : _) (op : ℕ) (ask : Ask) (t : Turn) → F t → F (only_at s (cl.take_ask op ask) t)
-  unfolding only_at
-  only s op ask t w = either (cs.is_at s t.here) _ t (taken op ask t w) w
-
-  input_taken : (t : ClientTurn) (now : Stamp) (i : ClientInput) → Fails_as t.state i → All_free Failed Full Told t.out → All_free Failed Full Told (cl.take_input t now i).out
+  input_taken : (t : ClientTurn) (now : Stamp) (i : ClientInput) → Fails_as t.state i → All_free Failed Full Told t.out → All_free Failed Full Told
+      (cl.take_input t now i).out
   unfolding cl.take_input cl.app cl.app_known cl.done cr.receive cr.receive_here
   input_taken t now inputs.Tick f w = w
   input_taken t now (inputs.App op ask) f w =
       where_full (cl.is_full t.state) _ _ (λ e. more t.out _ w (single _ (f e)))
-      (any_either (cl.is_configured t.state (cs.server_of ask)) _ _ (each _ (only (cs.server_of ask) op ask) t w) (more t.out _ w (single _ tt)))
+      (any_either (cl.is_configured t.state (cs.server_of ask)) _ _ (each _ (taken op ask) t w) (more t.out _ w (single _ tt)))
   input_taken t now (inputs.Control m) f w = any_either _ _ t (each _ (received now m.header m.body f) t w) w
   input_taken t now (inputs.Done number r) f w = each _ (finished number r f) t w
 
@@ -421,4 +271,5 @@ module _ (Failed : ℕ → Type 0) (Full : Type 0) (Told : Type 0) where
   -- the whole step
   pub stepped : (s : ClientState) (now : Stamp) (i : ClientInput) → Fails_as s i → All_free Failed Full Told (cl.client_step s now i).out
   unfolding cl.client_step cl.work cl.losses
-  stepped s now i f = each _ (passed now (cl.is_tick i)) _ (input_taken _ now i (after_losses s now i f) (each _ (lost now) (client_turn s []) (λ o h. absurd h)))
+  stepped s now i f = each _ (passed now (cl.is_tick i)) _ (input_taken _ now i (after_losses s now i f)
+      (each _ (lost now) (client_turn s []) (λ o h. absurd h)))
