@@ -1,7 +1,8 @@
--- The rules of a client, walked once: the lease of each session was noted with its end.
-use Rattle.std.proofs.Common.{◌≡◌, ℕ, Bool, true, false, not, ◌==◌, List, [], ◌∷◌, ◌++◌, Option, Some, None, refl, sym, ap, ◌∙◌, subst, inl, inr, if◌then◌else◌, append_assoc}
-use Rattle.std.specs.Prelude.{◌⊎◌, filter, map}
-use Rattle.std.proofs.lemmas.Bool.{eqb-true, eq-eqb}
+-- What a client's rules note of leases: that of each session was noted with its end.
+use Rattle.std.proofs.Common.{◌≡◌, ℕ, Bool, true, false, List, [], ◌∷◌, ◌++◌, Option, Some, None, refl, sym, ap, ◌∙◌, subst, inl, inr}
+use Rattle.std.proofs.Common.{if◌then◌else◌, append_assoc}
+use Rattle.std.specs.Prelude.{◌⊎◌, map}
+use Rattle.std.proofs.lemmas.Bool.{eq-eqb}
 use Rattle.st_base.specs.declared.config.Config.{Config}
 use Rattle.st_base.specs.declared.disk.Tag.{Tag}
 use Rattle.st_base.specs.declared.ids.Epoch.{Epoch}
@@ -12,27 +13,17 @@ use Rattle.st_base.specs.declared.ids.PageNo.{PageNo}
 use Rattle.st_base.specs.declared.ids.ServerId.{ServerId}
 use Rattle.st_base.specs.declared.ids.Stamp.{Stamp}
 use Rattle.st_base.specs.declared.mode.Mode.{Mode}
-use Rattle.st_base.specs.declared.mode.Mode.TheVariants as modes
-use Rattle.st_base.specs.declared.rows.ExtentRow.{ExtentRow}
 use Rattle.st_messages.specs.declared.answer.AppAnswer.{AppAnswer}
 use Rattle.st_messages.specs.declared.ask.Ask.{Ask}
 use Rattle.st_messages.specs.declared.message.Body.{Body}
 use Rattle.st_messages.specs.declared.message.Body.TheVariants as bodies
 use Rattle.st_messages.specs.declared.message.Header.{Header}
-use Rattle.st_messages.specs.declared.message.NameReply.{NameReply}
-use Rattle.st_messages.specs.declared.message.NameReply.TheVariants as replies
 use Rattle.st_messages.specs.declared.message.Why.{Why}
-use Rattle.st_messages.specs.declared.message.Why.TheVariants as why
 use Rattle.st_messages.specs.declared.output.Note.{Note}
 use Rattle.st_messages.specs.declared.output.Note.TheVariants as notes
 use Rattle.st_messages.specs.declared.output.Output.{Output}
 use Rattle.st_messages.specs.declared.output.Output.TheVariants as outputs
-use Rattle.st_rules.specs.declared.client.Asked.{Asked}
-use Rattle.st_rules.specs.declared.client.Asked.TheVariants as demands
-use Rattle.st_rules.specs.declared.client.Ended.TheVariants as ends
-use Rattle.st_rules.specs.declared.client.HeldLock.{HeldLock}
 use Rattle.st_rules.specs.declared.client.Operation.{Operation}
-use Rattle.st_rules.specs.declared.client.Request.{Request}
 use Rattle.st_rules.specs.Client as cl
 use Rattle.st_rules.specs.ClientLease as lease
 use Rattle.st_rules.specs.ClientLocks as locks
@@ -47,19 +38,29 @@ use Rattle.st_rules.specs.Keys.{same_server, server_node}
 use Rattle.st_rules.specs.Leases as leases
 use Rattle.st_lemmas.specs.Lists.{Has}
 use Rattle.st_lemmas.proofs.Lookups.{some_is}
-use Rattle.st_lemmas.proofs.Tables.{has_map, and_true, has_append}
+use Rattle.st_lemmas.proofs.Tables.{has_map, has_append}
 use Rattle.st_laws_steps.specs.Client.Client as client
 use Rattle.st_laws_steps.specs.Client.Client.{Change, ChangesPage}
 use Rattle.st_laws_steps.specs.Client.Losses.{Ends, Unknown, Passes, Hardens, Fails}
 use Rattle.st_laws_steps.specs.Client.Session.{SessionChange, Keeps, DropsLock, IsReasserted, EndsRequest, NewEpoch, AsksNew, AsksAgain}
 use Rattle.st_laws_steps.proofs.Client.Asking.{p_passes}
 use Rattle.st_laws_steps.proofs.Client.Calm.{IsCalm, SaysCalm}
-use Rattle.st_laws_steps.proofs.Client.Losing.{Finished, c_end_each, calm_only, finish_is, is_done}
+use Rattle.st_laws_steps.proofs.Client.Losing.{Finished, calm_only, finish_is, is_done}
 use Rattle.st_laws_steps.proofs.Client.Only.{Only, Goes}
 use Rattle.st_laws_steps.proofs.Client.Only as only
 use Rattle.st_laws_steps.proofs.Client.Passing.{FollowsBy, IsPassing, KeepsOrAsks, SaysRight}
 use Rattle.st_laws_leases.specs.History.Replies.{renews_lease}
 use Rattle.st_laws_leases.specs.History.Notes.{noted_one, noted}
+use Rattle.st_rules.specs.declared.client.LostPage.{LostPage}
+use Rattle.st_messages.specs.declared.answer.AppAnswer.TheVariants as answers
+use Rattle.st_rules.specs.ClientPages as pages
+use Rattle.st_trace.specs.Client.Losses as losing
+use Rattle.st_trace.specs.Client.Losses.{Ended, Loses}
+use Rattle.st_trace.specs.Client.Messages as trace
+use Rattle.st_trace.specs.Client.Messages.{Effect, Grants, Receives, Refusal, Renews}
+use Rattle.st_trace.proofs.Client.Losing.{loses}
+use Rattle.st_trace.proofs.Client.Receiving.{receives}
+use Rattle.st_trace.proofs.Client.Walk.{each_lasts}
 
 pub none_more : {A : Type 0} (xs : List A) → xs ++ [] ≡ xs
 none_more [] = refl
@@ -71,7 +72,8 @@ abbrev pub leased : ServerId → Stamp → Output
 leased s end = outputs.Note (notes.Leased s end)
 
 -- What stands of a turn, and what is told of the lease ends that it noted: T of its own server's, B of others'.
-pub record Noted (k : Config) (init base : ServerId → Option Stamp) (sv : ServerId) (T : Life → Epoch → Stamp → Type 0) (B : ServerId → Stamp → Type 0) (t : Turn) : Type 0 where
+pub record Noted (k : Config) (init base : ServerId → Option Stamp) (sv : ServerId) (T : Life → Epoch → Stamp → Type 0) (B : ServerId → Stamp → Type 0)
+    (t : Turn) : Type 0 where
   pub config : t.config ≡ k
   pub server : t.here.server ≡ sv
   pub own : (x : ClientSession) → t.here.session ≡ Some x → noted t.here.server t.out (init t.here.server) ≡ Some (lease.end_of k x.lease)
@@ -97,9 +99,11 @@ quiet_one s x o q = refl
 pub noted_quiet : (s : ServerId) (xs : List Output) (x : Output) (o : Option Stamp) → Quiet x → noted s (xs ++ x ∷ []) o ≡ noted s xs o
 noted_quiet s xs x o q = noted_more s xs x o ∙ quiet_one s x (noted s xs o) q
 
-noted_answers : (s : ServerId) (a : AppAnswer) (os : List Operation) (xs : List Output) (o : Option Stamp) → noted s (xs ++ map (answer_to a) os) o ≡ noted s xs o
+noted_answers : (s : ServerId) (a : AppAnswer) (os : List Operation) (xs : List Output) (o : Option Stamp) → noted s
+    (xs ++ map (answer_to a) os) o ≡ noted s xs o
 noted_answers s a [] xs o = ap (λ z. noted s z o) (none_more xs)
-noted_answers s a (y ∷ os) xs o = ap (λ z. noted s z o) (sym (append_assoc xs (answer_to a y ∷ []) (map (answer_to a) os))) ∙ noted_answers s a os (xs ++ answer_to a y ∷ []) o ∙ noted_quiet s xs (answer_to a y) o tt
+noted_answers s a (y ∷ os) xs o = ap (λ z. noted s z o) (sym (append_assoc xs (answer_to a y ∷ []) (map (answer_to a) os))) ∙ noted_answers s a os
+    (xs ++ answer_to a y ∷ []) o ∙ noted_quiet s xs (answer_to a y) o tt
 
 -- a note of a lease end is no other output
 pub unsaid : (s : ServerId) (end : Stamp) (xs : List Output) (o : Output) → Quiet o → Has (leased s end) (xs ++ o ∷ []) → Has (leased s end) xs
@@ -110,7 +114,8 @@ unsaid s end xs o q h = go (has_append xs (o ∷ []) (leased s end) h)
     go (inr (inl e)) = absurd (subst Quiet (sym e) q)
     go (inr (inr i)) = absurd i
 
-unanswered : (s : ServerId) (end : Stamp) (a : AppAnswer) (os : List Operation) (xs : List Output) → Has (leased s end) (xs ++ map (answer_to a) os) → Has (leased s end) xs
+unanswered : (s : ServerId) (end : Stamp) (a : AppAnswer) (os : List Operation) (xs : List Output) → Has (leased s end) (xs ++ map (answer_to a) os) → Has
+    (leased s end) xs
 unanswered s end a os xs h = go (has_append xs (map (answer_to a) os) (leased s end) h)
   where
     none : (y : Operation) × Has y os × (leased s end ≡ answer_to a y) → Has (leased s end) xs
@@ -139,10 +144,6 @@ module _ (k : Config) (init base : ServerId → Option Stamp) (sv : ServerId) (T
   abbrev pub N : Turn → Type 0
   N t = Noted k init base sv T B t
 
-  if_either : (P : Turn → Type 0) (b : Bool) (t u : Turn) → P t → P u → P (if b then t else u)
-  if_either P true t u x y = x
-  if_either P false t u x y = y
-
   -- the lease of this session was noted
   record HasNoted (s : ClientSession) (t : Turn) : Type 0 where
     pub config : t.config ≡ k
@@ -153,14 +154,36 @@ module _ (k : Config) (init base : ServerId → Option Stamp) (sv : ServerId) (T
     pub untold : (r : ServerId) → same_server t.here.server r ≡ false → (end : Stamp) → Has (leased r end) t.out → B r end
 
   v_of : (t : Turn) (s : ClientSession) → t.here.session ≡ Some s → N t → HasNoted s t
-  v_of t s e n = record { config = n.config; server = n.server; own = n.own s e; others = n.others; told = λ end h. subst (λ o. T t.here.life (epoch_at_session o) end) e (n.told end h); untold = n.untold }
+  v_of t s e n = record {
+    config = n.config;
+    server = n.server;
+    own = n.own s e;
+    others = n.others;
+    told = λ end h. subst
+        (λ o. T t.here.life (epoch_at_session o) end) e (n.told end h);
+    untold = n.untold;
+  }
 
   -- a session of the same date
   v_same : (t : Turn) (s x : ClientSession) → x.lease.date ≡ s.lease.date → x.epoch ≡ s.epoch → HasNoted s t → HasNoted x t
-  v_same t s x e f v = record { config = v.config; server = v.server; own = v.own ∙ ap (λ d. Some (leases.lease_end k d)) (sym e); others = v.others; told = λ end h. subst (λ p. T t.here.life p end) (sym f) (v.told end h); untold = v.untold }
+  v_same t s x e f v = record {
+    config = v.config;
+    server = v.server;
+    own = v.own ∙ ap (λ d. Some (leases.lease_end k d)) (sym e);
+    others = v.others;
+    told = λ end h. subst (λ p. T t.here.life p end) (sym f) (v.told end h);
+    untold = v.untold;
+  }
 
   n_session : (t : Turn) (x : ClientSession) → HasNoted x t → N (with_session x t)
-  n_session t x v = record { config = v.config; server = v.server; own = λ y e. v.own ∙ ap (λ (z : ClientSession). Some (lease.end_of k z.lease)) (some_is e); others = v.others; told = v.told; untold = v.untold }
+  n_session t x v = record {
+    config = v.config;
+    server = v.server;
+    own = λ y e. v.own ∙ ap (λ (z : ClientSession). Some (lease.end_of k z.lease)) (some_is e);
+    others = v.others;
+    told = v.told;
+    untold = v.untold;
+  }
 
   n_with : (t : Turn) (s x : ClientSession) → x.lease.date ≡ s.lease.date → x.epoch ≡ s.epoch → HasNoted s t → N (with_session x t)
   n_with t s x e f v = n_session t x (v_same t s x e f v)
@@ -206,8 +229,10 @@ module _ (k : Config) (init base : ServerId → Option Stamp) (sv : ServerId) (T
   abbrev pub Unnoted : Turn → Type 0
   Unnoted t = (end : Stamp) → Has (leased t.here.server end) t.out → ⊥
 
-  v_lease : (t : Turn) (l : lease.ClientLease) (x : ClientSession) → x.lease ≡ l → t.config ≡ k → Unnoted t → T t.here.life x.epoch (lease.end_of k l) → t.here.server ≡ sv →
-      ((r : ServerId) → same_server t.here.server r ≡ false → noted r t.out (init r) ≡ base r) → ((r : ServerId) → same_server t.here.server r ≡ false → (end : Stamp) → Has (leased r end) t.out → B r end) → HasNoted x (cr.note_lease l t)
+  v_lease : (t : Turn) (l : lease.ClientLease) (x : ClientSession) → x.lease ≡ l → t.config ≡ k → Unnoted t → T t.here.life x.epoch (lease.end_of k l) →
+      t.here.server ≡ sv →
+      ((r : ServerId) → same_server t.here.server r ≡ false → noted r t.out (init r) ≡ base r) →
+      ((r : ServerId) → same_server t.here.server r ≡ false → (end : Stamp) → Has (leased r end) t.out → B r end) → HasNoted x (cr.note_lease l t)
   unfolding cr.note_lease server_in end_in
   v_lease t l x e c q g d f u =
       record {
@@ -222,7 +247,8 @@ module _ (k : Config) (init base : ServerId → Option Stamp) (sv : ServerId) (T
         untold = λ r p end h. other r p end (has_append t.out (leased t.here.server (lease.end_of t.config l) ∷ []) (leased r end) h);
       }
     where
-      mine : (end : Stamp) → Has (leased t.here.server end) t.out ⊎ Has (leased t.here.server end) (leased t.here.server (lease.end_of t.config l) ∷ []) → T t.here.life x.epoch end
+      mine : (end : Stamp) → Has (leased t.here.server end) t.out ⊎ Has (leased t.here.server end) (leased t.here.server (lease.end_of t.config l) ∷ []) →
+          T t.here.life x.epoch end
       mine end (inl h) = absurd (q end h)
       mine end (inr (inl z)) = subst (T t.here.life x.epoch) (ap (λ y. lease.end_of y l) (sym c) ∙ sym (some_is (ap end_in z))) g
       mine end (inr (inr h)) = absurd h
@@ -230,150 +256,54 @@ module _ (k : Config) (init base : ServerId → Option Stamp) (sv : ServerId) (T
       no : (r : ServerId) → same_server t.here.server r ≡ false → r ≡ t.here.server → ⊥
       no r p z = cc (p, self_server r, z)
 
-      other : (r : ServerId) → same_server t.here.server r ≡ false → (end : Stamp) → Has (leased r end) t.out ⊎ Has (leased r end) (leased t.here.server (lease.end_of t.config l) ∷ []) → B r end
+      other : (r : ServerId) → same_server t.here.server r ≡ false → (end : Stamp) → Has (leased r end) t.out ⊎ Has (leased r end)
+          (leased t.here.server (lease.end_of t.config l) ∷ []) → B r end
       other r p end (inl h) = u r p end h
       other r p end (inr (inl z)) = absurd (no r p (some_is (ap server_in z)))
       other r p end (inr (inr h)) = absurd h
 
-  -- Replies.
-  n_begin : (t : Turn) (epoch : Epoch) (stamp : Stamp) → Unnoted t → T t.here.life epoch (leases.lease_end k stamp) → N t → N (cr.begin_session t epoch stamp)
-  unfolding cr.begin_session cr.note_lease
-  n_begin t epoch stamp q g n = record { config = v.config; server = v.server; own = λ x e. v.own ∙ ap (λ (z : ClientSession). Some (lease.end_of k z.lease)) (some_is e); others = v.others; told = v.told; untold = v.untold }
-    where
-      u : Turn
-      u = cr.begin_here (cr.new_session epoch stamp) t
+  -- Messages.
+  granted_same : (s : ClientSession) (ino : ℕ) (g : GrantNo) (mode : Mode) (v : ClientSession) → Grants s ino g mode v →
+      (v.lease.date ≡ s.lease.date) × (v.epoch ≡ s.epoch)
+  granted_same s ino g mode _ (trace.Installs a p) = (refl, refl)
+  granted_same s ino g mode _ (trace.Declines a p) = (refl, refl)
+  granted_same s ino g mode _ (trace.IsOld a) = (refl, refl)
 
-      v : HasNoted (cr.new_session epoch stamp) (cr.note_lease (lease.new_lease stamp) u)
-      v = v_lease u (lease.new_lease stamp) (cr.new_session epoch stamp) refl n.config q g n.server n.others n.untold
+  n_granted : (t : Turn) (s v : ClientSession) (ino : ℕ) (g : GrantNo) (mode : Mode) → Grants (cs.forget_wait ino s) ino g mode v → HasNoted s t →
+      N (with_session v t)
+  n_granted t s v ino g mode x n = let z = granted_same (cs.forget_wait ino s) ino g mode v x in n_with t s v z.0 z.1 n
 
-  n_without : (t : Turn) (now : Stamp) (h : Header) (b : Body) → Unnoted t → ((epoch : Epoch) → h.epoch ≡ epoch.0 → renews_lease h.number b ≡ true → T t.here.life epoch (leases.lease_end k (record { 0 = h.stamp }))) → N t → N (cr.without_session t now h b)
-  unfolding cr.without_session cr.welcome
-  n_without t now h bodies.Welcome q g n = if_either N (cr.is_timely t now (record { 0 = h.stamp })) _ t (n_begin t (record { 0 = h.epoch }) (record { 0 = h.stamp }) q (g (record { 0 = h.epoch }) refl refl) n) n
-  n_without t now h b q g n = n
+  n_refused : (t : Turn) (file : Option ℕ) (asked : Body) (y : Why) (a b : ℕ) (u : Turn) → Refusal t file asked y a b u → N t → N u
+  n_refused t file asked _ a b _ (trace.NoFile _ _ ino e) n = n_answers t _ _ n
+  n_refused t file asked _ a b _ (trace.TooManyLocks _ _ ino e) n = n_answers t _ _ n
+  n_refused t file asked _ a b _ (trace.NoSpace _ _ ino p e q) n = n_answers t _ _ n
+  n_refused t file asked _ a b _ (trace.NotHolder _ _ e) n = n_answers t _ _ n
+  n_refused t file asked y a b _ (trace.AnswersNone _ _ _) n = n
 
-  n_newer : (t : Turn) (s : ClientSession) (epoch : Epoch) → t.here.session ≡ Some s → Unnoted t → N t → N (cr.newer_epoch t s epoch)
-  unfolding cr.newer_epoch cr.follow_epoch
-  n_newer t s epoch e q n = if_either N (cr.is_newer s epoch) _ t (n_answers _ _ _ (n_session t (cr.in_epoch epoch s) (follows (v_of t s e n)))) n
-    where
-      follows : HasNoted s t → HasNoted (cr.in_epoch epoch s) t
-      follows v = record { config = v.config; server = v.server; own = v.own; others = v.others; told = λ end h. absurd (q end h); untold = v.untold }
+  n_effect : (now : Stamp) (t : Turn) (s : ClientSession) (file : Option ℕ) (asked b : Body) (u : Turn) → t.here.session ≡ Some s →
+      Effect now t s file asked b u → N t → N u
+  unfolding cs.answer_each
+  n_effect now t s file asked _ _ e (trace.IsGranted ino g mode v x) n = n_granted t s v ino g mode x (v_of t s e n)
+  n_effect now t s file asked _ _ e (trace.IsQueued ino mode c) n = n_with t s _ refl refl (v_of t s e n)
+  n_effect now t s file asked _ _ e (trace.HoldsAlready ino mode c) n = n_with t s s refl refl (v_of t s e n)
+  n_effect now t s file asked _ _ e (trace.IsToldExtents ino rows c) n = n_store t _ n
+  n_effect now t s file asked _ _ e (trace.IsToldLate ino rows c) n = n
+  n_effect now t s file asked _ _ e trace.IsAcknowledged n = n_answers t _ _ n
+  n_effect now t s file asked _ _ e (trace.IsNamed r c) n = n_answers t _ _ n
+  n_effect now t s file asked _ _ e (trace.IsRemoved ino removed l f c) n =
+      let u = cs.answer_each (cs.is_asked t.here.server) (answers.Named ino) t in n_with u s _ refl refl (v_of u s e (n_answers t _ _ n))
+  n_effect now t s file asked _ _ e trace.IsReasserted n = n_with t s _ refl refl (v_of t s e n)
+  n_effect now t s file asked _ _ e (trace.Effect.IsRefused y a b u r) n = n_operations u _ (n_refused t file asked y a b u r n)
 
-  n_of_other : (t : Turn) (s : ClientSession) (epoch : Epoch) (b : Body) → t.here.session ≡ Some s → Unnoted t → N t → N (cr.of_other_epoch t s epoch b)
-  unfolding cr.of_other_epoch
-  n_of_other t s epoch (bodies.Nack why.OtherEpoch x y) e q n = n_newer t s epoch e q n
-  n_of_other t s epoch (bodies.Nack z x y) e q n = n
-  n_of_other t s epoch b e q n = n
-
-  n_condemn : (t : Turn) (s : ClientSession) → HasNoted s t → N (cr.condemn t s)
-  unfolding cr.condemn lease.condemned
-  n_condemn t s v = n_with t s _ refl refl v
-
-  grant_date : (s : ClientSession) (ino : ℕ) (g : GrantNo) (mode : Mode) → (cr.grant s ino g mode).lease ≡ s.lease
-  unfolding cr.grant cr.grant_new cr.accept_grant cr.decline
-  grant_date s ino g mode = go (locks.is_above_seen s.locks ino g)
-    where
-      new : (b : Bool) → (if b then cr.accept_grant s ino g mode else cr.decline s ino g).lease ≡ s.lease
-      new true = refl
-      new false = refl
-
-      go : (b : Bool) → (if b then cr.grant_new s ino g mode else s).lease ≡ s.lease
-      go true = new (locks.has_place s.locks ino)
-      go false = refl
-
-  grant_epoch : (s : ClientSession) (ino : ℕ) (g : GrantNo) (mode : Mode) → (cr.grant s ino g mode).epoch ≡ s.epoch
-  unfolding cr.grant cr.grant_new cr.accept_grant cr.decline
-  grant_epoch s ino g mode = go (locks.is_above_seen s.locks ino g)
-    where
-      new : (b : Bool) → (if b then cr.accept_grant s ino g mode else cr.decline s ino g).epoch ≡ s.epoch
-      new true = refl
-      new false = refl
-
-      go : (b : Bool) → (if b then cr.grant_new s ino g mode else s).epoch ≡ s.epoch
-      go true = new (locks.has_place s.locks ino)
-      go false = refl
-
-  n_granted : (t : Turn) (s : ClientSession) (ino : ℕ) (g : GrantNo) (mode : Mode) → HasNoted s t → N (cr.granted t s ino g mode)
-  unfolding cr.granted
-  n_granted t s ino g mode v = n_with t s _ (ap (λ (l : lease.ClientLease). l.date) (grant_date (cs.forget_wait ino s) ino g mode)) (grant_epoch (cs.forget_wait ino s) ino g mode) v
-
-  n_queued : (t : Turn) (s : ClientSession) (now : Stamp) (ino : ℕ) (mode : Mode) → HasNoted s t → N (cr.queued t s now ino mode)
-  unfolding cr.queued cr.wait_unless_held cr.wait_told
-  n_queued t s now ino mode v = n_with t s _ (go _) (same _) v
-    where
-      same : (b : Bool) → (if b then s else cr.wait_told s ino mode now).epoch ≡ s.epoch
-      same true = refl
-      same false = refl
-
-      go : (b : Bool) → (if b then s else cr.wait_told s ino mode now).lease.date ≡ s.lease.date
-      go true = refl
-      go false = refl
-
-  n_extents : (t : Turn) (s : ClientSession) (ino : ℕ) (rows : List ExtentRow) (asked : Body) → N t → N (cr.extents t s ino rows asked)
-  unfolding cr.extents cr.learn
-  n_extents t s ino rows asked n = if_either N (cr.is_current s.locks asked) _ t (n_store t _ n) n
-
-  n_removed : (t : Turn) (s : ClientSession) (file : Option ℕ) → t.here.session ≡ Some s → N t → N (cr.removed t s file)
-  unfolding cr.removed cr.drop_held cr.drop_lock
-  n_removed t s None e n = n
-  n_removed t s (Some ino) e n = go (locks.lock_of s.locks ino)
-    where
-      go : (o : Option HeldLock) → N (cr.drop_held t s ino o)
-      go None = n
-      go (Some l) = n_with t s _ refl refl (v_of t s e n)
-
-  n_named : (t : Turn) (s : ClientSession) (file : Option ℕ) (r : NameReply) → t.here.session ≡ Some s → N t → N (cr.named t s file r)
-  unfolding cr.named cr.named_as cs.answer_each
-  n_named t s file (replies.Ino ino) e n = n_removed _ s file e (n_answers t _ _ n)
-  n_named t s file (replies.Listed rows) e n = n_answers t _ _ n
-  n_named t s file (replies.Refused code) e n = n_answers t _ _ n
-
-  n_refuse_file : (t : Turn) (a : AppAnswer) (file : Option ℕ) → N t → N (cr.refuse_file t a file)
-  unfolding cr.refuse_file
-  n_refuse_file t a None n = n
-  n_refuse_file t a (Some ino) n = n_answers t _ a n
-
-  n_refuse_page : (t : Turn) (a : AppAnswer) (file : Option ℕ) (page : Option PageNo) → N t → N (cr.refuse_page t a file page)
-  unfolding cr.refuse_page
-  n_refuse_page t a (Some ino) (Some p) n = n_answers t _ a n
-  n_refuse_page t a (Some ino) None n = n
-  n_refuse_page t a None page n = n
-
-  n_refuse_as : (t : Turn) (y : Why) (a b : ℕ) (file : Option ℕ) (asked : Body) → N t → N (cr.refuse_as t y a b file asked)
-  unfolding cr.refuse_as cr.refuse_holder
-  n_refuse_as t why.NoFile a b file asked n = n_refuse_file t _ file n
-  n_refuse_as t why.TooManyLocks a b file asked n = n_refuse_file t _ file n
-  n_refuse_as t why.NoSpace a b file asked n = n_refuse_page t _ file _ n
-  n_refuse_as t why.NotHolder a b file asked n = if_either N (cs.asks_cut_or_remove asked) _ t (n_answers t _ _ n) n
-  n_refuse_as t y a b file asked n = n
-
-  n_refused : (t : Turn) (y : Why) (a b : ℕ) (file : Option ℕ) (asked : Body) → N t → N (cr.refused t y a b file asked)
-  unfolding cr.refused cr.leave_stuck
-  n_refused t y a b file asked n = n_operations _ _ (n_refuse_as t y a b file asked n)
-
-  n_effect : (t : Turn) (s : ClientSession) (now : Stamp) (b : Body) (file : Option ℕ) (asked : Body) → t.here.session ≡ Some s → N t → N (cr.effect t s now b file asked)
-  unfolding cr.effect cr.acknowledged cr.reasserted
-  n_effect t s now (bodies.Granted ino g mode) file asked e n = n_granted t s ino g mode (v_of t s e n)
-  n_effect t s now (bodies.Queued ino mode) file asked e n = n_queued t s now ino mode (v_of t s e n)
-  n_effect t s now (bodies.Extents ino rows) file asked e n = n_extents t s ino rows asked n
-  n_effect t s now bodies.Ack file asked e n = n_answers t _ _ n
-  n_effect t s now (bodies.Named reply) file asked e n = n_named t s file reply e n
-  n_effect t s now bodies.Reasserted file asked e n = n_with t s _ refl refl (v_of t s e n)
-  n_effect t s now (bodies.Nack y a b) file asked e n = n_refused t y a b file asked n
-  n_effect t s now b file asked e n = n
-
-  v_renewal : (t : Turn) (s : ClientSession) (stamp : Stamp) → Unnoted t → T t.here.life s.epoch (leases.lease_end k stamp) → HasNoted s t → HasNoted (cr.ended_by stamp s) (cr.note_renewal t s stamp)
-  unfolding cr.note_renewal lease.renewed lease.dated
-  v_renewal t s stamp q g v = go (lease.is_renewal stamp s.lease) refl
-    where
-      go : (b : Bool) → lease.is_renewal stamp s.lease ≡ b → HasNoted (cr.ended_by stamp s) (if b then cr.note_lease (lease.renewed stamp s.lease) t else t)
-      go true e =
-          v_lease t (lease.renewed stamp s.lease) (cr.ended_by stamp s) refl v.config q
-          (subst (λ (b : Bool). T t.here.life s.epoch (leases.lease_end k (if b then lease.dated stamp s.lease else s.lease).date)) (sym e) g) v.server v.others v.untold
-      go false e = v_same t s (cr.ended_by stamp s) (ap (λ (b : Bool). (if b then lease.dated stamp s.lease else s.lease).date) e) refl v
-
-  n_reply_to : (t : Turn) (s : ClientSession) (now stamp : Stamp) (b asked : Body) → Unnoted t → T t.here.life s.epoch (leases.lease_end k stamp) → HasNoted s t → N (cr.reply_to t s now stamp b asked)
-  unfolding cr.reply_to cr.end_request
-  n_reply_to t s now stamp b asked q g v = n_effect _ _ now b _ asked refl (n_session _ (cr.ended_by stamp s) (v_renewal t s stamp q g v))
+  v_renewed : (t : Turn) (s : ClientSession) (stamp : Stamp) (u : Turn) → Renews t s stamp u → Unnoted t → T t.here.life s.epoch (leases.lease_end k stamp) →
+      HasNoted s t → HasNoted (cr.ended_by stamp s) u
+  unfolding cr.note_lease lease.renewed lease.dated
+  v_renewed t s stamp _ (trace.IsLater e) q g v =
+      v_lease t (lease.renewed stamp s.lease) (cr.ended_by stamp s) refl v.config q
+      (subst (λ (b : Bool). T t.here.life s.epoch (leases.lease_end k (if b then lease.dated stamp s.lease else s.lease).date)) (sym e) g)
+      v.server v.others v.untold
+  v_renewed t s stamp _ (trace.IsNoLater e) q g v =
+      v_same t s (cr.ended_by stamp s) (ap (λ (b : Bool). (if b then lease.dated stamp s.lease else s.lease).date) e) refl v
 
   -- a reply that fits a request, and may date a lease, renews
   fits_renews : (number : ℕ) (b asked : Body) → cs.fits b asked ≡ true → may_date number b ≡ true → renews_lease number b ≡ true
@@ -387,89 +317,56 @@ module _ (k : Config) (init base : ServerId → Option Stamp) (sv : ServerId) (T
   fits_renews number bodies.Welcome asked f m = refl
   fits_renews number b asked f m = cc f
 
-  n_reply : (t : Turn) (s : ClientSession) (now : Stamp) (h : Header) (b : Body) → t.here.session ≡ Some s → Unnoted t → may_date h.number b ≡ true →
-      (renews_lease h.number b ≡ true → T t.here.life s.epoch (leases.lease_end k (record { 0 = h.stamp }))) → N t → N (cr.reply_of t s now h b)
-  unfolding cr.reply_of cr.counted cr.by_request cr.count_reply
-  n_reply t s now h b e q m g n = go s.requests.asked
+  -- what is owed of a message: that its stamp may date a lease
+  abbrev Dates : Header → Body → Turn → Type 0
+  Dates h b t =
+      (life : Life) (epoch : Epoch) → h.from ≡ server_node t.here.server → h.life ≡ life.0 → h.epoch ≡ epoch.0 → renews_lease h.number b ≡ true →
+      T life epoch (leases.lease_end k (record { 0 = h.stamp }))
+
+  n_heard : (now : Stamp) (h : Header) (t : Turn) (b : Body) (u : Turn) → Unnoted t → Dates h b t → Receives now h t b u → N t → N u
+  unfolding cr.note_lease lease.condemned
+  n_heard now h t _ _ q src (trace.PassesOver b) n = n
+  n_heard now h t _ _ q src (trace.Begins r e i) n =
+      record {
+        config = v.config;
+        server = v.server;
+        own = λ x e. v.own ∙ ap (λ (z : ClientSession). Some (lease.end_of k z.lease)) (some_is e);
+        others = v.others;
+        told = v.told;
+        untold = v.untold;
+      }
     where
-      stamp : Stamp
-      stamp = record { 0 = h.stamp }
+      x : ClientSession
+      x = cr.new_session (trace.epoch_of h) (trace.stamp_of h)
 
-      go : (r : Option Request) → N (cr.counted t s now h.number stamp b r)
-      go None = n
-      go (Some r) = counts (cr.is_counting h.number b r) refl
-        where
-          counts : (x : Bool) → cr.is_counting h.number b r ≡ x → N (if x then cr.count_reply t s now stamp b r.body else t)
-          counts true i =
-              if_either N (cr.refuses_reassertion b r.body) (cr.condemn t s) (cr.reply_to t s now stamp b r.body) (n_condemn t s (v_of t s e n))
-              (n_reply_to t s now stamp b r.body q (g (fits_renews h.number b r.body (and_true (cs.is_request_of h.number r) (cs.fits b r.body) i).1 m)) (v_of t s e n))
-          counts false i = n
+      w : Turn
+      w = cr.begin_here x t
 
-  n_nack : (t : Turn) (s : ClientSession) (now : Stamp) (h : Header) (y : Why) (a b : ℕ) → t.here.session ≡ Some s → Unnoted t →
-      (renews_lease h.number (bodies.Nack y a b) ≡ true → T t.here.life s.epoch (leases.lease_end k (record { 0 = h.stamp }))) → N t → N (cr.nack t s now h y a b)
-  n_nack t s now h why.Suspect a b e q g n = n_condemn t s (v_of t s e n)
-  n_nack t s now h why.NoSession a b e q g n = n_condemn t s (v_of t s e n)
-  n_nack t s now h why.OtherEpoch a b e q g n = n
-  n_nack t s now h why.Grace a b e q g n = n
-  n_nack t s now h why.GraceOver a b e q g n = n_condemn t s (v_of t s e n)
-  n_nack t s now h why.Conflict a b e q g n = n_condemn t s (v_of t s e n)
-  n_nack t s now h y a b e q g n = n_reply t s now h (bodies.Nack y a b) e q refl g n
-
-  n_demand : (t : Turn) (s : ClientSession) (ino : ℕ) (g : GrantNo) (to : Mode) → t.here.session ≡ Some s → N t → N (cr.demand t s ino g to)
-  unfolding cr.demand cr.demand_by cr.demand_as cr.observe_demand cr.release_unheld
-  n_demand t s ino g to e n = go (locks.demand s.locks ino g to)
+      v : HasNoted x (cr.note_lease (lease.new_lease (trace.stamp_of h)) w)
+      v = v_lease w (lease.new_lease (trace.stamp_of h)) x refl n.config q
+          (src t.here.life (trace.epoch_of h) r.from r.life refl refl) n.server n.others n.untold
+  n_heard now h t _ _ q src (trace.FollowsEpoch s a b m e) n =
+      n_answers _ _ _ (n_session t (cr.in_epoch (trace.epoch_of h) s)
+      (record { config = v.config; server = v.server; own = v.own; others = v.others; told = λ end h. absurd (q end h); untold = v.untold }))
     where
-      by : (l : locks.LockCache) (a : Asked) → N (cr.demand_as t (cs.with_cache l s) ino g a)
-      by l demands.Reduce = n_send _ _ _ _ _ (n_with t s (cs.with_cache l s) refl refl (v_of t s e n))
-      by l demands.NotHeld = n_with t s _ (unheld (cr.has_release (cs.with_cache l s) ino g)) (same (cr.has_release (cs.with_cache l s) ino g)) (v_of t s e n)
-        where
-          same : (b : Bool) → (if b then cs.with_cache l s else cs.with_release ino g modes.None (cs.with_cache l s)).epoch ≡ s.epoch
-          same true = refl
-          same false = refl
-
-          unheld : (b : Bool) → (if b then cs.with_cache l s else cs.with_release ino g modes.None (cs.with_cache l s)).lease.date ≡ s.lease.date
-          unheld true = refl
-          unheld false = refl
-      by l demands.Stale = n
-
-      go : (d : locks.Demanding) → N (cr.demand_by t s ino g d)
-      go d = by d.locks d.asked
-
-  n_of_epoch : (t : Turn) (s : ClientSession) (now : Stamp) (h : Header) (b : Body) → t.here.session ≡ Some s → Unnoted t →
-      (renews_lease h.number b ≡ true → T t.here.life s.epoch (leases.lease_end k (record { 0 = h.stamp }))) → N t → N (cr.of_epoch t s now h b)
-  unfolding cr.of_epoch cr.grant_or_reply
-  n_of_epoch t s now h (bodies.Nack y a b) e q g n = n_nack t s now h y a b e q g n
-  n_of_epoch t s now h (bodies.Granted ino x mode) e q g n = go (h.number == 0) refl
-    where
-      go : (z : Bool) → (h.number == 0) ≡ z → N (if z then cr.granted t s ino x mode else cr.reply_of t s now h (bodies.Granted ino x mode))
-      go true i = n_granted t s ino x mode (v_of t s e n)
-      go false i = n_reply t s now h (bodies.Granted ino x mode) e q (ap not i) g n
-  n_of_epoch t s now h (bodies.Demand ino x to) e q g n = n_demand t s ino x to e n
-  n_of_epoch t s now h b e q g n = n_reply t s now h b e q refl g n
+      v : HasNoted s t
+      v = v_of t s m.session n
+  n_heard now h t _ _ q src (trace.IsCondemned b s m c) n = n_with t s _ refl refl (v_of t s m.session n)
+  n_heard now h t _ _ q src (trace.IsGrantedLater ino g mode s v m e x) n = n_granted t s v ino g mode x (v_of t s m.session n)
+  n_heard now h t _ _ q src (trace.SeesDemand ino g to s m e) n =
+      n_send _ _ _ _ _ (n_with t s (cs.with_cache (locks.demand s.locks ino g to).locks s) refl refl (v_of t s m.session n))
+  n_heard now h t _ _ q src (trace.GivesUp ino g to s m e x) n = n_with t s _ refl refl (v_of t s m.session n)
+  n_heard now h t _ _ q src (trace.HasGivenUp ino g to s m e x) n = n_with t s _ refl refl (v_of t s m.session n)
+  n_heard now h t _ u q src (trace.IsAnswered b s r v _ x y f) n =
+      let z = cr.ended_by (trace.stamp_of h) s in let m = x.heard in
+      let d = src t.here.life s.epoch m.received.from m.received.life m.epoch (fits_renews h.number b r.body x.fits x.dates) in
+      n_effect now (with_session z v) z (cs.file_asked s.cutting r.body) r.body b u refl f
+      (n_session v z (v_renewed t s (trace.stamp_of h) v y q d (v_of t s m.session n)))
 
   pub n_receive : (now : Stamp) (h : Header) (b : Body) (t : Turn) → Unnoted t →
-      ((life : Life) (epoch : Epoch) → h.from ≡ server_node t.here.server → h.life ≡ life.0 → h.epoch ≡ epoch.0 → renews_lease h.number b ≡ true → T life epoch (leases.lease_end k (record { 0 = h.stamp }))) →
-      N t → N (cr.receive_at now h b t)
-  unfolding cr.receive_at cr.by_session cr.with_a_session
-  n_receive now h b t q src n = go (cr.is_received t now h) refl
-    where
-      from : cr.is_received t now h ≡ true → h.from ≡ server_node t.here.server
-      from e = eqb-true h.from (server_node t.here.server) (and_true (h.from == server_node t.here.server) _ e).0
-
-      life : cr.is_received t now h ≡ true → h.life ≡ t.here.life.0
-      life e = eqb-true h.life t.here.life.0 (and_true (h.life == t.here.life.0) _ (and_true (h.from == server_node t.here.server) _ e).1).0
-
-      by : cr.is_received t now h ≡ true → (o : Option ClientSession) → t.here.session ≡ o → N (cr.by_session t now h b o)
-      by z None e = n_without t now h b q (λ epoch i m. src t.here.life epoch (from z) (life z) i m) n
-      by z (Some s) e = epoch (h.epoch == s.epoch.0) refl
-        where
-          epoch : (x : Bool) → (h.epoch == s.epoch.0) ≡ x → N (if x then cr.of_epoch t s now h b else cr.of_other_epoch t s (record { 0 = h.epoch }) b)
-          epoch true i = n_of_epoch t s now h b e q (λ m. src t.here.life s.epoch (from z) (life z) (eqb-true h.epoch s.epoch.0 i) m) n
-          epoch false i = n_of_other t s _ b e q n
-
-      go : (z : Bool) → cr.is_received t now h ≡ z → N (if z then cr.by_session t now h b t.here.session else t)
-      go true z = by z t.here.session refl
-      go false z = n
+      ((life : Life) (epoch : Epoch) → h.from ≡ server_node t.here.server → h.life ≡ life.0 → h.epoch ≡ epoch.0 → renews_lease h.number b ≡ true →
+      T life epoch (leases.lease_end k (record { 0 = h.stamp }))) → N t → N (cr.receive_at now h b t)
+  n_receive now h b t q src n = n_heard now h t b (cr.receive_at now h b t) q src (receives now h t b) n
 
   -- Where no message is received: no lease end is noted, and the session stays.
   quiet_calm : (o : Output) → SaysCalm false o → Quiet o
@@ -482,8 +379,22 @@ module _ (k : Config) (init base : ServerId → Option Stamp) (sv : ServerId) (T
   change_idle now t _ (client.Says _ o p) q n = n_say t o (quiet_calm o q) n
   change_idle now t _ (client.Operates _ os) q n = n_operations t os n
   change_idle now t _ (client.Answers _ os ops a) q n = n_told t os ops a n
-  change_idle now t _ (client.Greets _ g) q n = record { config = n.config; server = n.server; own = n.own; others = n.others; told = n.told; untold = n.untold }
-  change_idle now t _ (client.TellsLost _ lost) q n = record { config = n.config; server = n.server; own = n.own; others = n.others; told = n.told; untold = n.untold }
+  change_idle now t _ (client.Greets _ g) q n = record {
+    config = n.config;
+    server = n.server;
+    own = n.own;
+    others = n.others;
+    told = n.told;
+    untold = n.untold;
+  }
+  change_idle now t _ (client.TellsLost _ lost) q n = record {
+    config = n.config;
+    server = n.server;
+    own = n.own;
+    others = n.others;
+    told = n.told;
+    untold = n.untold;
+  }
   change_idle now t _ (client.Begins _ s a b c) q n = no_bool q
   change_idle now t _ (client.Follows _ s u e g) q n = no_bool q
   change_idle now t _ (client.Learns _ e a b) q n = no_bool q
@@ -497,24 +408,36 @@ module _ (k : Config) (init base : ServerId → Option Stamp) (sv : ServerId) (T
   idle now t _ (only.Ends _) n = n
   idle now t v (Goes _ u _ c q r) n = idle now u v r (change_idle now t u c q n)
 
-  pub n_lose : ((l : Life) (p : Epoch) (end : Stamp) → T l p end → ⊥) → (now : Stamp) (t : Turn) → N t → N (cl.lose now t)
-  unfolding cl.lose cl.lose_by cl.lose_over cl.lose_session cl.end_operations
-  n_lose z now t n = go t.here.session
-    where
-      over : (s : ClientSession) → N (cl.lose_session t s)
-      over s =
-          let begun : Turn = cs.with_operations (filter (λ o. not (cs.is_of t.here.server o)) t.operations) (cl.with_lost_pages t.here.store (cs.note t (notes.Lost t.here.server t.here.life))) in
-          let os = filter (cs.is_of t.here.server) t.operations in
-          let y = n_say t (outputs.Note (notes.Lost t.here.server t.here.life)) tt n in
-          let e = idle now begun (cl.end_each s os begun) (c_end_each now s os begun) (record { config = y.config; server = y.server; own = y.own; others = y.others; told = y.told; untold = y.untold }) in
-          record { config = e.config; server = e.server; own = λ x q. absurd (none x q); others = e.others; told = λ end h. absurd (z _ _ end (e.told end h)); untold = e.untold }
-        where
-          none : (x : ClientSession) → ◌≡◌ {A = Option ClientSession} None (Some x) → ⊥
-          none x q = cc
+  n_lost_rows : (t : Turn) (l : List LostPage) → N t → N (cs.with_lost_rows l t)
+  n_lost_rows t l n = record { config = n.config; server = n.server; own = n.own; others = n.others; told = n.told; untold = n.untold }
 
-      go : (o : Option ClientSession) → N (cl.lose_by t now o)
-      go None = n
-      go (Some s) = if_either N (cl.is_over t s now) _ t (over s) n
+  n_ended : (s : ClientSession) (o : Operation) (t u : Turn) → Ended s o t u → N t → N u
+  n_ended s o t _ (losing.IsElsewhere e) n = n_operations t _ n
+  n_ended s o t _ (losing.IsUncertain e q) n = n_say t _ tt n
+  n_ended s o t _ (losing.IsToldLost f e q a l) n = n_say (cs.with_lost_rows (pages.untold t.here.lost f.ino) t) _ tt (n_lost_rows t _ n)
+  n_ended s o t _ (losing.LostNothing f e q a l) n = n_say t _ tt n
+  n_ended s o t _ (losing.IsQuiesced e q a) n = n_say t _ tt n
+
+  pub n_lose : ((l : Life) (p : Epoch) (end : Stamp) → T l p end → ⊥) → (now : Stamp) (t : Turn) → N t → N (cl.lose now t)
+  n_lose z now t n = go (cl.lose now t) (loses now t)
+    where
+      none : (x : ClientSession) → ◌≡◌ {A = Option ClientSession} None (Some x) → ⊥
+      none x q = cc
+
+      go : (u : Turn) → Loses now t u → N u
+      go _ (losing.HasNoSession e) = n
+      go _ (losing.Lasts s e o) = n
+      go _ (losing.IsLost s u e o p) =
+          let y = each_lasts (Ended s) (λ os v. N v) (λ o os v w step m. n_ended s o v w step m) t.operations (with_operations [] (losing.loss_noted t)) u p
+          (n_operations _ _ (n_lost_rows _ _ (n_say t (outputs.Note (notes.Lost t.here.server t.here.life)) tt n))) in
+          record {
+            config = y.config;
+            server = y.server;
+            own = λ x q. absurd (none x q);
+            others = y.others;
+            told = λ end h. absurd (z _ _ end (y.told end h));
+            untold = y.untold;
+          }
 
   pub n_only : (s : ServerId) (op : ℕ) (ask : Ask) (t : Turn) → N t → N (cs.only_at s (cl.take_ask op ask) t)
   n_only s op ask t = idle (record { 0 = 0 }) t (cs.only_at s (cl.take_ask op ask) t) (calm_only (record { 0 = 0 }) s op ask t)
@@ -560,7 +483,14 @@ module _ (k : Config) (init base : ServerId → Option Stamp) (sv : ServerId) (T
   change_passing syncs now t _ (client.Says _ o p) q n = n_say t o (quiet_right syncs now t o q) n
   change_passing syncs now t _ (client.Operates _ os) q n = n_operations t os n
   change_passing syncs now t _ (client.Answers _ os ops a) q n = absurd q
-  change_passing syncs now t _ (client.Greets _ g) q n = record { config = n.config; server = n.server; own = n.own; others = n.others; told = n.told; untold = n.untold }
+  change_passing syncs now t _ (client.Greets _ g) q n = record {
+    config = n.config;
+    server = n.server;
+    own = n.own;
+    others = n.others;
+    told = n.told;
+    untold = n.untold;
+  }
   change_passing syncs now t _ (client.TellsLost _ lost) q n = absurd q
   change_passing syncs now t _ (client.Begins _ s a b c) q n = absurd q
   change_passing syncs now t _ (client.Follows _ s u e g) q n = follows t s u g.how q (v_of t s e n)
@@ -569,9 +499,23 @@ module _ (k : Config) (init base : ServerId → Option Stamp) (sv : ServerId) (T
   change_passing syncs now t _ (client.Caches _ clean) q n = n_store t _ n
   change_passing syncs now t _ (client.Writes _ s f p bytes x se sv own m h) q n = n_store (cs.note t x) _ (n_say t (outputs.Note x) (quiet_change f p x h) n)
   change_passing syncs now t _ (client.Reads _ ino p m i clean) q n =
-      let e = n_say t (outputs.Submit t.next_command m.at _) tt n in record { config = e.config; server = e.server; own = e.own; others = e.others; told = e.told; untold = e.untold }
+      let e = n_say t (outputs.Submit t.next_command m.at _) tt n in record {
+        config = e.config;
+        server = e.server;
+        own = e.own;
+        others = e.others;
+        told = e.told;
+        untold = e.untold;
+      }
   change_passing syncs now t _ (client.Submits _ s ino p d m se e i w) q n =
-      let e = n_say t (outputs.Submit t.next_command m.at _) tt n in record { config = e.config; server = e.server; own = e.own; others = e.others; told = e.told; untold = e.untold }
+      let e = n_say t (outputs.Submit t.next_command m.at _) tt n in record {
+        config = e.config;
+        server = e.server;
+        own = e.own;
+        others = e.others;
+        told = e.told;
+        untold = e.untold;
+      }
 
   passing : (syncs : List Operation) (now : Stamp) (t u : Turn) → Only (IsPassing syncs KeepsOrAsks) now t u → N t → N u
   passing syncs now t _ (only.Ends _) n = n
