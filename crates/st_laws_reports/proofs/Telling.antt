@@ -1,7 +1,7 @@
--- What a client tells of lost pages: the rules of a client, walked for what they answer and what they leave of the lost pages.
-use Rattle.std.proofs.Common.{◌≡◌, ℕ, ◌⊎◌, Bool, true, false, ◌||◌, List, [], ◌∷◌, ◌++◌, Option, Some, None, Ok, Err, refl, sym, ap, ◌∙◌, subst, inl, inr, if◌then◌else◌}
+-- What a client tells of lost pages: what its rules answer, and what they leave of the lost pages.
+use Rattle.std.proofs.Common.{◌≡◌, ℕ, ◌⊎◌, Bool, true, false, ◌||◌, List, [], ◌∷◌, ◌++◌, Option, Some, None, refl, sym, ap, ◌∙◌, subst, inl, inr, if◌then◌else◌}
 use Rattle.std.specs.List.{cons_option, list_any}
-use Rattle.std.specs.Prelude.{Result, drop, filter, filter_map, map, not, suc, zero}
+use Rattle.std.specs.Prelude.{drop, filter, filter_map, map, not, suc, zero}
 use Rattle.std.proofs.lemmas.Bool.{eqb-true, eq-eqb}
 use Rattle.st_base.specs.declared.disk.Tag.{Tag}
 use Rattle.st_base.specs.declared.ids.FileId.{FileId}
@@ -9,7 +9,6 @@ use Rattle.st_base.specs.declared.ids.PageNo.{PageNo}
 use Rattle.st_base.specs.declared.ids.ServerId.{ServerId}
 use Rattle.st_base.specs.declared.ids.Stamp.{Stamp}
 use Rattle.st_base.specs.declared.rows.LostRow.{LostRow}
-use Rattle.st_base.specs.declared.mode.Mode.TheVariants as modes
 use Rattle.st_messages.specs.declared.answer.AppAnswer.{AppAnswer}
 use Rattle.st_messages.specs.declared.answer.AppAnswer.TheVariants as answers
 use Rattle.st_messages.specs.declared.ask.Ask.{Ask}
@@ -20,35 +19,40 @@ use Rattle.st_messages.specs.declared.output.Note.{Note}
 use Rattle.st_messages.specs.declared.output.Note.TheVariants as notes
 use Rattle.st_messages.specs.declared.output.Output.{Output}
 use Rattle.st_messages.specs.declared.output.Output.TheVariants as outputs
-use Rattle.st_rules.specs.declared.client.Ended.{Ended}
-use Rattle.st_rules.specs.declared.client.Ended.TheVariants as ends
-use Rattle.st_rules.specs.declared.client.IoKind.{IoKind}
-use Rattle.st_rules.specs.declared.client.IoKind.TheVariants as io
-use Rattle.st_rules.specs.declared.client.KnownExtent.{KnownExtent}
 use Rattle.st_rules.specs.declared.client.LostPage.{LostPage}
-use Rattle.st_rules.specs.declared.client.MappedBlock.{MappedBlock}
 use Rattle.st_rules.specs.declared.client.Operation.{Operation}
-use Rattle.st_rules.specs.declared.client.PageCommand.{PageCommand}
-use Rattle.st_rules.specs.declared.client.Release.{Release}
-use Rattle.st_rules.specs.declared.client.Request.{Request}
 use Rattle.st_rules.specs.declared.client.Stage.{Stage}
 use Rattle.st_rules.specs.declared.client.Stage.TheVariants as stages
-use Rattle.st_rules.specs.declared.client.WriteRefusal.{WriteRefusal}
 use Rattle.st_rules.specs.Client as cl
-use Rattle.st_rules.specs.ClientLease as lease
 use Rattle.st_rules.specs.ClientPages as pages
-use Rattle.st_rules.specs.ClientPages.{Pages}
 use Rattle.st_rules.specs.ClientPasses as cp
 use Rattle.st_rules.specs.ClientReplies as cr
 use Rattle.st_rules.specs.ClientState as cs
-use Rattle.st_rules.specs.ClientState.{Association, ClientSession, Turn, answer_to, leave, only_at, say}
+use Rattle.st_rules.specs.ClientState.{Association, ClientSession, Turn, answer_to, only_at, say, with_operations}
 use Rattle.st_lemmas.specs.Lists.{Has}
 use Rattle.st_rules.specs.Keys.{page_no, rising, same_server}
 use Rattle.st_promises.specs.Losses.{IsToldBy, IsToldTo, owed_of_file, still_owed, told_by, with_dirty}
-use Rattle.st_lemmas.proofs.Lookups.{some_is}
 use Rattle.st_laws_lines.proofs.Walking as walk
 use Rattle.st_laws_reports.proofs.Words.{owing_all_is, owed_of_file_is, still_owed_is}
-use Rattle.st_lemmas.proofs.Tables.{and_true, found_at, has_append, has_filter, has_map, none_passes, not_true}
+use Rattle.st_lemmas.proofs.Tables.{and_true, found_at, has_append, has_filter, has_filter_in, has_map, none_passes, not_true}
+use Rattle.st_trace.specs.Client.Commands as ending
+use Rattle.st_trace.specs.Client.Commands.{Finishes, Takes}
+use Rattle.st_trace.specs.Client.Losses as losing
+use Rattle.st_trace.specs.Client.Losses.{Ended, Loses}
+use Rattle.st_trace.specs.Client.Operations as pass
+use Rattle.st_trace.specs.Client.Operations.{Changed, Operated}
+use Rattle.st_trace.specs.Client.Requests as asking
+use Rattle.st_trace.specs.Client.Requests.{AsksFirst, Requests}
+use Rattle.st_trace.specs.Client.Each.{Each, Ends, Next}
+use Rattle.st_trace.proofs.Client.Finishing.{finishes, takes}
+use Rattle.st_trace.proofs.Client.Losing.{loses}
+use Rattle.st_trace.proofs.Client.Operating.{operations}
+use Rattle.st_trace.proofs.Client.Requesting.{asks_no_sync, requests}
+use Rattle.st_trace.proofs.Client.Walk.{each_lasts}
+use Rattle.st_base.specs.declared.disk.Command.TheVariants as commands
+use Rattle.st_base.specs.Page.{filled}
+use Rattle.st_rules.specs.declared.client.IoKind.TheVariants as io
+use Rattle.st_trace.proofs.Client.Lists.{has_left, has_right}
 
 -- What is owed of each server.
 abbrev pub Rows : Type 0
@@ -97,7 +101,8 @@ has_told : (lost : List LostPage) (ino : ℕ) (ks : List ℕ) (x : LostPage) →
 has_told lost ino [] x h = absurd h
 has_told lost ino (k ∷ ks) x h = go (pages.lost_at lost ino k) refl h (λ i. has_told lost ino ks x i)
   where
-    go : (o : Option LostPage) → pages.lost_at lost ino k ≡ o → Has x (cons_option o (filter_map (pages.lost_at lost ino) ks)) → (Has x (filter_map (pages.lost_at lost ino) ks) → Has x lost) → Has x lost
+    go : (o : Option LostPage) → pages.lost_at lost ino k ≡ o → Has x (cons_option o (filter_map (pages.lost_at lost ino) ks)) →
+        (Has x (filter_map (pages.lost_at lost ino) ks) → Has x lost) → Has x lost
     go None e h rest = rest h
     go (Some y) e (inl q) rest = subst (λ z. Has z lost) (sym q) (found_at (pages.is_lost_of ino (page_no k)) lost y e).1
     go (Some y) e (inr h) rest = rest h
@@ -125,7 +130,8 @@ told_false rows a p = tt
 
 -- an answer that tells of none, to a pending operation
 pub answer_told : (R : Rows) (ask : Ask) (o : Operation) (a : AppAnswer) → NotLost a → SyncOk R ask o → IsToldTo (Some ask) R a
-answer_told R (asks.Sync f) o a p k = subst (λ b. IsToldBy b (owed_of_file (R f.server) f.ino) a) (sym k.none) (told_false (owed_of_file (R f.server) f.ino) a p)
+answer_told R (asks.Sync f) o a p k = subst (λ b. IsToldBy b (owed_of_file (R f.server) f.ino) a) (sym k.none)
+    (told_false (owed_of_file (R f.server) f.ino) a p)
 answer_told R ask o (answers.Lost xs) p k = absurd p
 answer_told R ask o a p k = tt
 
@@ -211,7 +217,8 @@ module _ (asked : ℕ → Option Ask) (had : ServerId → Option Association) wh
     stays R u k = record { now = R; keeps = k; away = λ r n. refl }
 
     -- one more output
-    adds : (R : Rows) (server : ServerId) (lost : List LostPage) (out : List Output) (ops : List Operation) (o : Output) → PlainOut o → FineAt R o → Keeps R server lost out ops → Keeps R server lost (out ++ o ∷ []) ops
+    adds : (R : Rows) (server : ServerId) (lost : List LostPage) (out : List Output) (ops : List Operation) (o : Output) → PlainOut o → FineAt R o →
+        Keeps R server lost out ops → Keeps R server lost (out ++ o ∷ []) ops
     adds R server lost out ops o p f k =
         record {
           at = k.at;
@@ -225,7 +232,8 @@ module _ (asked : ℕ → Option Ask) (had : ServerId → Option Association) wh
     fine_answer R o a p k = subst (λ z. IsToldTo z R a) (sym k.known) (answer_told R o.ask o a p k.sync)
 
     -- the operations are answered
-    fine_answers : (R S : Rows) (a : AppAnswer) → NotLost a → (xs : List Operation) → ((o : Operation) → Has o xs → OpOk R o) → ((r : ServerId) → S r ≡ R r) → Fine S (map (answer_to a) xs)
+    fine_answers : (R S : Rows) (a : AppAnswer) → NotLost a → (xs : List Operation) → ((o : Operation) → Has o xs → OpOk R o) → ((r : ServerId) → S r ≡ R r) →
+        Fine S (map (answer_to a) xs)
     fine_answers R S a p [] k e = tt
     fine_answers R S a p (o ∷ xs) k e =
         record {
@@ -270,17 +278,6 @@ module _ (asked : ℕ → Option Ask) (had : ServerId → Option Association) wh
       last : (t : Turn) (o : Output) → PlainOut o → FineAt R o → F t → Keeps R t.here.server t.here.lost (t.out ++ o ∷ []) t.operations
       last t o p f w = adds R t.here.server t.here.lost t.out t.operations o p f w
 
-      said : (t : Turn) (o : Output) → PlainOut o → FineAt R o → F t → F (say t o)
-      said t o p f w = last t o p f w
-
-      either : (b : Bool) (t u : Turn) → F t → F u → F (if b then t else u)
-      either true t u x y = x
-      either false t u x y = y
-
-      sent : (t : Turn) (epoch number stamp : ℕ) (b : Body) → F t → F (cs.send t epoch number stamp b)
-      unfolding cs.send
-      sent t epoch number stamp b w = said t _ tt tt w
-
       each_answered : (t : Turn) (picked : Operation → Bool) (a : AppAnswer) → NotLost a → F t → F (cs.answer_each picked a t)
       unfolding cs.answer_each
       each_answered t picked a p w =
@@ -288,13 +285,21 @@ module _ (asked : ℕ → Option Ask) (had : ServerId → Option Association) wh
             at = w.at;
             rows = λ r. along_more r (rows0 r) t.out _ ∙ along_answers a p (filter picked t.operations) r _ ∙ w.rows r;
             here = w.here;
-            fine = fine_more rows0 t.out _ w.fine (fine_answers R _ a p (filter picked t.operations) (λ o h. w.ops o (has_filter picked t.operations o h).0) w.rows);
+            fine = fine_more rows0 t.out _ w.fine (fine_answers R _ a p (filter picked t.operations)
+                (λ o h. w.ops o (has_filter picked t.operations o h).0) w.rows);
             ops = λ o h. w.ops o (has_filter (λ o. not (picked o)) t.operations o h).0;
           }
 
       stuck : (t : Turn) → F t → F (cr.leave_stuck t)
       unfolding cr.leave_stuck
-      stuck t w = record { at = w.at; rows = w.rows; here = w.here; fine = w.fine; ops = λ o h. let z = has_map (cr.stuck t) t.operations o h in subst (OpOk R) (sym z.2) (one z.0 (w.ops z.0 z.1)) }
+      stuck t w = record {
+        at = w.at;
+        rows = w.rows;
+        here = w.here;
+        fine = w.fine;
+        ops = λ o h. let z = has_map (cr.stuck t) t.operations o h in subst (OpOk R)
+            (sym z.2) (one z.0 (w.ops z.0 z.1));
+      }
         where
           one : (o : Operation) → OpOk R o → OpOk R (cr.stuck t o)
           one o k = go (cs.is_asked t.here.server o) refl
@@ -310,42 +315,27 @@ module _ (asked : ℕ → Option Ask) (had : ServerId → Option Association) wh
 
       -- A message: its replies tell of no lost pages.
       pub received : (now : Stamp) (h : Header) (b : Body) (t : Turn) → F t → F (cr.receive_at now h b t)
-      received now h b = walk.received (Unit {0}) (Keeps R) (λ v lost out ops o c w. adds R v lost out ops o (calm_plain o c) (calm_fine R o c) w) (λ t picked a m w. each_answered t picked a (mild_told a m) w) stuck now h b (λ e. tt)
+      received now h b = walk.received (Unit {0}) (Keeps R) (λ v lost out ops o c w. adds R v lost out ops o (calm_plain o c) (calm_fine R o c) w)
+          (λ t picked a m w. each_answered t picked a (mild_told a m) w) stuck now h b (λ e. tt)
 
       rested : (now : Stamp) (tick : Bool) (t : Turn) → F t → F (cp.greeting now tick (cp.writes now tick (cp.reductions t)))
-      rested = walk.rested (Unit {0}) (Keeps R) (λ v lost out ops o c w. adds R v lost out ops o (calm_plain o c) (calm_fine R o c) w) (λ t picked a m w. each_answered t picked a (mild_told a m) w) stuck
+      rested = walk.rested (Unit {0}) (Keeps R) (λ v lost out ops o c w. adds R v lost out ops o (calm_plain o c) (calm_fine R o c) w)
+          (λ t picked a m w. each_answered t picked a (mild_told a m) w) stuck
 
       -- Ends of commands.
-      faulted : (t : Turn) (x : PageCommand) (kind : IoKind) → F t → F (cl.failed_as t x kind)
-      unfolding cl.failed_as cl.mark_failed
-      faulted t x io.Read w = each_answered t _ _ tt w
-      faulted t x (io.Write v) w = each_answered _ _ _ tt (either (cl.is_present t x v) _ t w w)
-
-      finished_as : (t : Turn) (x : PageCommand) (block : Option (Tag × List ℕ)) (e : Ended) → F t → F (cl.finish_as t x block e)
-      unfolding cl.finish_as cl.filled_by cl.hardened
-      finished_as t x block ends.Unknown w = w
-      finished_as t x None ends.Filled w = w
-      finished_as t x (Some b) ends.Filled w = w
-      finished_as t x block ends.Hard w = w
-      finished_as t x block ends.Redirty w = w
-      finished_as t x block ends.Failed w = faulted t x x.kind w
-
-      finished_command : (t : Turn) (x : PageCommand) (ok : Bool) (block : Option (Tag × List ℕ)) → F t → F (cl.finish_command t x ok block)
-      unfolding cl.finish_command cl.ended_by
-      finished_command t x ok block w = finished_as _ x block _ w
-
-      finished_by : (t : Turn) (x : PageCommand) (r : Option (Option (Tag × List ℕ))) → F t → F (cl.finish_by t x r)
-      unfolding cl.finish_by cl.done_by
-      finished_by t x None w = finished_command t x false None w
-      finished_by t x (Some b) w = either (cl.is_result_of x.kind b) _ t (finished_command t x true b w) w
-
       pub finished : (number : ℕ) (r : Option (Option (Tag × List ℕ))) (t : Turn) → F t → F (cl.finish number r t)
-      unfolding cl.finish cl.finish_at
-      finished number r t w = go (pages.command_of t.here.store.commands number)
+      finished number r t w = go (cl.finish number r t) (finishes number r t)
         where
-          go : (o : Option PageCommand) → F (cl.finish_at t o r)
-          go None = w
-          go (Some x) = finished_by t x r w
+          go : (u : Turn) → Finishes number r t u → F u
+          go _ (ending.IsUnknown e) = w
+          go _ (ending.IsOfOtherKind c block o e k) = w
+          go _ (ending.Fills c block o k e) = w
+          go _ (ending.Hardens c v o k e i) = w
+          go _ (ending.WroteOlder c v o k e i) = w
+          go _ (ending.FailsToRead c o k e) = each_answered (ending.without c t) _ _ tt w
+          go _ (ending.FailsToWrite c v o k e i) = each_answered (ending.with_pages (pages.fail t.here.store.pages c.ino c.page c.number)
+              (ending.without c t)) _ _ tt w
+          go _ (ending.FailsToWriteOlder c v o k e i) = each_answered (ending.without c t) _ _ tt w
 
       -- Operations.
       kept : (t : Turn) (o : Operation) → OpOk R o → F t → F (cs.keep o t)
@@ -356,155 +346,70 @@ module _ (asked : ℕ → Option Ask) (had : ServerId → Option Association) wh
           go x (inr (inl e)) = subst (OpOk R) (sym e) k
           go x (inr (inr h)) = absurd h
 
-      replies_to : (t : Turn) (o : Operation) (a : AppAnswer) → NotLost a → OpOk R o → F t → Keeps R t.here.server t.here.lost (t.out ++ outputs.Answer o.op a ∷ []) t.operations
+      replies_to : (t : Turn) (o : Operation) (a : AppAnswer) → NotLost a → OpOk R o → F t → Keeps R t.here.server t.here.lost
+          (t.out ++ outputs.Answer o.op a ∷ []) t.operations
       replies_to t o a p k w = last t (outputs.Answer o.op a) p (fine_answer R o a p k) w
 
-      changed : (t : Turn) (o : Operation) (f : FileId) (p : PageNo) (bytes : List ℕ) (n : Note) → PlainNote n → OpOk R o → F t → F (cp.change_page t o f p bytes n)
-      unfolding cp.change_page cp.change_by cp.change
-      changed t o f p bytes n u k w = go (pages.write t.here.store.pages f.ino p bytes)
-        where
-          go : (r : Result Pages WriteRefusal) → F (cp.change_by t o f p n r)
-          go (Ok ps) = replies_to (cs.note t n) o answers.Written tt k (last t (outputs.Note n) u tt w)
-          go (Err r) = replies_to t o answers.DirtyFull tt k w
+      plain_change : (ask : Ask) (t : Turn) (f : FileId) (p : PageNo) (bytes : List ℕ) (n : Note) → Changed ask t f p bytes n → PlainNote n
+      plain_change ask t _ _ _ _ (pass.IsWritten f p bytes e) = tt
+      plain_change ask t _ _ _ _ (pass.IsPatched f p at bytes old e q) = tt
 
-      submitted : (t : Turn) (ino : ℕ) (p : PageNo) (m : MappedBlock) → F t → F (cp.submit_read t ino p m)
-      unfolding cp.submit_read cp.submit_command
-      submitted t ino p m w = last t _ tt tt w
-
-      fetched : (t : Turn) (o : Operation) (f : FileId) (p : PageNo) → OpOk R o → F t → F (cp.fetch t o f p)
-      unfolding cp.fetch cp.fetch_at cp.fetch_mapped
-      fetched t o f p k w = kept (cp.fetch_at t f p (pages.mapping_of t.here.store.extents f.ino p)) o k (go (pages.mapping_of t.here.store.extents f.ino p))
-        where
-          go : (m : Option MappedBlock) → F (cp.fetch_at t f p m)
-          go None = w
-          go (Some m) = either (pages.is_being_read t.here.store.commands f.ino p) t _ w (submitted t f.ino p m w)
-
-      written : (t : Turn) (x : ClientSession) (o : Operation) (f : FileId) (p : PageNo) (bytes : List ℕ) → OpOk R o → F t → F (cp.write t x o f p bytes)
-      unfolding cp.write
-      written t x o f p bytes k w = either (cp.may_write t x f p) _ _ (changed t o f p bytes _ tt k w) (kept t o k w)
-
-      patched : (t : Turn) (x : ClientSession) (o : Operation) (f : FileId) (p : PageNo) (at : ℕ) (bytes : List ℕ) → OpOk R o → F t → F (cp.patch t x o f p at bytes)
-      unfolding cp.patch cp.patch_at cp.patch_bytes
-      patched t x o f p at bytes k w = either (cp.may_write t x f p) _ _ (go (pages.cached t.here.store.pages f.ino p)) (kept t o k w)
-        where
-          go : (c : Option (List ℕ)) → F (cp.patch_at t o f p at bytes c)
-          go None = fetched t o f p k w
-          go (Some old) = changed t o f p _ _ tt k w
-
-      reading : (t : Turn) (x : ClientSession) (o : Operation) (f : FileId) (p : PageNo) → OpOk R o → F t → F (cp.read t x o f p)
-      unfolding cp.read cp.read_at cp.read_uncached cp.read_known cp.read_cached
-      reading t x o f p k w = either (cp.holds x modes.S f) _ _ (cached (pages.cached t.here.store.pages f.ino p)) (kept t o k w)
-        where
-          known : (y : Option KnownExtent) → F (cp.read_uncached t o f p y)
-          known None = kept t o k w
-          known (Some e) = mapped e.mapping
-            where
-              mapped : (m : Option MappedBlock) → F (cp.read_known t o f p e m)
-              mapped None = replies_to t o _ tt k w
-              mapped (Some m) = fetched t o f p k w
-
-          cached : (y : Option (List ℕ)) → F (cp.read_at t o f p y)
-          cached None = known (pages.known_of t.here.store.extents f.ino p)
-          cached (Some bytes) = replies_to t o _ tt k w
-
-      served : (all : List Operation) (t : Turn) (x : ClientSession) (o : Operation) → OpOk R o → F t → F (cp.serve all t x o)
-      unfolding cp.serve cp.serve_open
-      served all t x o k w = either _ _ _ (go o.ask) (kept t o k w)
-        where
-          go : (a : Ask) → F (cp.serve_open t x o a)
-          go (asks.Write f p bytes) = written t x o f p bytes k w
-          go (asks.Patch f p at bytes) = patched t x o f p at bytes k w
-          go (asks.Read f p) = reading t x o f p k w
-          go a = kept t o k w
-
-      operated : (all : List Operation) (t : Turn) (now : Stamp) (o : Operation) → OpOk R o → F t → F (cp.operate all t now o)
-      unfolding cp.operate cp.operate_on cp.operate_by cp.operate_under cp.quiesce cp.sync
-      operated all t now o k w = either (cs.is_of t.here.server o) _ _ (on o.ask) (kept t o k w)
-        where
-          by : (x : Option ClientSession) → F (cp.operate_by all t now o x)
-          by None = kept t o k w
-          by (Some x) = either (cs.is_serving t.config x now) _ _ (served all t x o k w) (either (cs.is_sent o) _ _ (kept t o k w) (replies_to t o answers.Quiesced tt k w))
-
-          on : (a : Ask) → F (cp.operate_on all t now o a)
-          on (asks.Sync f) = either (pages.is_hard t.here.store f.ino) _ _ (replies_to t o answers.Hard tt k w) (kept t o k w)
-          on a = by t.here.session
-
-      operated_each : (all : List Operation) (now : Stamp) (os : List Operation) → ((o : Operation) → Has o os → OpOk R o) → (t : Turn) → F t → F (cp.operate_each all now os t)
-      unfolding cp.operate_each
-      operated_each all now [] k t w = w
-      operated_each all now (o ∷ os) k t w = operated_each all now os (λ x h. k x (inr h)) _ (operated all t now o (k o (inl refl)) w)
+      operated : (now : Stamp) (all : List Operation) (o : Operation) (t u : Turn) → Operated now all o t u → OpOk R o → F t → F u
+      operated now all o t _ pass.Waits k w = kept t o k w
+      operated now all o t _ (pass.IsHard f e q h) k w = replies_to t o answers.Hard tt k w
+      operated now all o t _ (pass.IsQuiesced s e n a b c) k w = replies_to t o answers.Quiesced tt k w
+      operated now all o t _ (pass.ChangesPage s f p bytes n v c m e) k w = let z = plain_change o.ask t f p bytes n c in replies_to
+          (cs.note t n) o answers.Written tt k (last t (outputs.Note n) z tt w)
+      operated now all o t _ (pass.IsDirtyFull s f p bytes n v c m e) k w = replies_to t o answers.DirtyFull tt k w
+      operated now all o t _ (pass.Fetches s f p m v n c e r) k w = kept
+          (say (cp.with_command f.ino p io.Read t) (outputs.Submit t.next_command m.at (commands.Read m.at))) o k (last t _ tt tt w)
+      operated now all o t _ (pass.ReadsCached s f p bytes v e h q) k w = replies_to t o (answers.Read bytes) tt k w
+      operated now all o t _ (pass.ReadsZeros s f p e v a h q i m) k w = replies_to t o (answers.Read (filled 0)) tt k w
 
       -- Requests.
-      requests_it : (t : Turn) (v : ClientSession) (now : Stamp) (b : Body) (cutting : Option ℕ) → F t → F (cp.ask t v now b cutting)
-      unfolding cp.ask
-      requests_it t v now b cutting w = sent _ _ _ _ _ w
-
-      kept_alive : (t : Turn) (v : ClientSession) (now : Stamp) → F t → F (cp.keep_alive t v now)
-      unfolding cp.keep_alive
-      kept_alive t v now w = either _ _ t (requests_it t v now _ _ w) w
-
       -- the operations, once the first of them asks, which is no sync
-      asking_ok : (t : Turn) (x : ClientSession) (now : Stamp) (os : List Operation) (a : cp.Asking) → cp.first_asking t x now os ≡ Some a → ((o : Operation) → Has o os → OpOk R o) → (o : Operation) → Has o a.operations → OpOk R o
-      unfolding cp.first_asking cp.asks_or cp.asked_by cp.want
-      asking_ok t x now [] a e k = cc
-      asking_ok t x now (o ∷ os) a e k = go (cp.asked_by t x now o) refl (cp.first_asking t x now os) refl e (λ b f. asking_ok t x now os b f (λ z i. k z (inr i)))
+      no_sync : (a : Ask) → cs.is_sync a ≡ false → IsNoSync a
+      no_sync (asks.Sync f) e = cc
+      no_sync a e = tt
+
+      asking_ok : (t : Turn) (x : ClientSession) (now : Stamp) (xs : List Operation) (o : Operation) (ys os : List Operation) (w : cp.Wanted) →
+          AsksFirst t x now xs o ys w os → ((y : Operation) → Has y os → OpOk R y) →
+          (y : Operation) → Has y (xs ++ cp.sent_if w.own o ∷ ys) → OpOk R y
+      asking_ok t x now xs o ys os w f k y h = go (has_append xs (cp.sent_if w.own o ∷ ys) y h)
         where
-          Behind : Type 0
-          Behind = (b : cp.Asking) → cp.first_asking t x now os ≡ Some b → (y : Operation) → Has y b.operations → OpOk R y
+          there : (z : Operation) → Has z (xs ++ o ∷ ys) → OpOk R z
+          there z i = k z (subst (Has z) (sym f.there) i)
 
-          no_sync : (b : Bool) (w : cp.Wanted) (q : Ask) → (if b then cp.want t x now q else None) ≡ Some w → IsNoSync q
-          no_sync false w q f = cc
-          no_sync true w (asks.Sync g) f = cc
-          no_sync true w q f = tt
+          sent : (b : Bool) → OpOk R (cp.sent_if b o)
+          sent true = staged R o stages.Sent (inr (no_sync o.ask (asks_no_sync t x now o.ask w f.wants))) (there o (has_right xs (o ∷ ys) o (inl refl)))
+          sent false = there o (has_right xs (o ∷ ys) o (inl refl))
 
-          sent : (w : cp.Wanted) (b : Bool) → cp.asked_by t x now o ≡ Some w → OpOk R (cp.sent_if b o)
-          sent w true f = staged R o stages.Sent (inr (no_sync (cp.may_ask t x o) w o.ask f)) (k o (inl refl))
-          sent w false f = k o (inl refl)
+          go : Has y xs ⊎ Has y (cp.sent_if w.own o ∷ ys) → OpOk R y
+          go (inl i) = there y (has_left xs (o ∷ ys) y i)
+          go (inr (inl q)) = subst (OpOk R) (sym q) (sent w.own)
+          go (inr (inr i)) = there y (has_right xs (o ∷ ys) y (inr i))
 
-          mine : (w : cp.Wanted) → cp.asked_by t x now o ≡ Some w → (y : Operation) → Has y (cp.sent_if w.own o ∷ os) → OpOk R y
-          mine w f y (inl q) = subst (OpOk R) (sym q) (sent w w.own f)
-          mine w f y (inr h) = k y (inr h)
-
-          later : Behind → (b : cp.Asking) → cp.first_asking t x now os ≡ Some b → (y : Operation) → Has y (o ∷ b.operations) → OpOk R y
-          later rest b f y (inl q) = subst (OpOk R) (sym q) (k o (inl refl))
-          later rest b f y (inr h) = rest b f y h
-
-          ops_of : (b : cp.Asking) → Some b ≡ Some a → b.operations ≡ a.operations
-          ops_of b q = ap (λ (z : cp.Asking). z.operations) (some_is q)
-
-          go : (w : Option cp.Wanted) → cp.asked_by t x now o ≡ w → (b : Option cp.Asking) → cp.first_asking t x now os ≡ b → cp.asks_or o os b w ≡ Some a → Behind → (y : Operation) → Has y a.operations → OpOk R y
-          go None f None g q rest = cc
-          go None f (Some b) g q rest = λ y h. later rest b g y (subst (Has y) (sym (ops_of (record b { operations = o ∷ b.operations }) q)) h)
-          go (Some w) f b g q rest = λ y h. mine w f y (subst (Has y) (sym (ops_of (record { wanted = w; operations = cp.sent_if w.own o ∷ os }) q)) h)
-
-      asked_next : (t : Turn) (v : ClientSession) (now : Stamp) → F t → F (cp.ask_next t v now)
-      unfolding cp.ask_next cp.ask_for_or cp.ask_for
-      asked_next t v now w = either (cs.is_serving t.config v now) _ _ (go (cp.first_asking t v now t.operations) refl) (kept_alive t v now w)
-        where
-          go : (o : Option cp.Asking) → cp.first_asking t v now t.operations ≡ o → F (cp.ask_for_or t v now o)
-          go None e = kept_alive t v now w
-          go (Some a) e = requests_it _ v now _ _ (record { at = w.at; rows = w.rows; here = w.here; fine = w.fine; ops = asking_ok t v now t.operations a e w.ops })
-
-      asked_by : (t : Turn) (v : ClientSession) (now : Stamp) (rs : List Release) → F t → F (cp.ask_by t v now rs)
-      unfolding cp.ask_by cp.ask_release
-      asked_by t v now [] w = asked_next t v now w
-      asked_by t v now (r ∷ rs) w = requests_it t _ now _ _ w
-
-      requested : (now : Stamp) (tick : Bool) (t : Turn) → F t → F (cp.requests now tick t)
-      unfolding cp.requests cp.requests_by cp.requests_under cp.requests_at cp.ask_new cp.reassert cp.repeat cp.ask_again
-      requested now tick t w = go t.here.session
-        where
-          at : (v : ClientSession) (o : Option Request) → F (cp.requests_at t v now tick o)
-          at v None = either v.due _ _ (requests_it t v now _ _ w) (asked_by t v now v.releases w)
-          at v (Some r) = either _ _ t (sent _ _ _ _ _ w) w
-
-          go : (o : Option ClientSession) → F (cp.requests_by t now tick o)
-          go None = w
-          go (Some v) = either v.lease.condemned t _ w (at v v.requests.asked)
+      requested : (now : Stamp) (tick : Bool) (t u : Turn) → Requests now tick t u → F t → F u
+      unfolding cs.send
+      requested now tick t _ asking.AsksNothing w = w
+      requested now tick t _ (asking.AsksAgain s q e c n o) w = last t _ tt tt w
+      requested now tick t _ (asking.Reasserts s m d) w = last t _ tt tt w
+      requested now tick t _ (asking.Releases s r rs m d e) w = last t _ tt tt w
+      requested now tick t _ (asking.AsksFor s xs o ys x f e k) w =
+          last (with_operations (xs ++ cp.sent_if x.own o ∷ ys) t) _ tt tt
+          (record { at = w.at; rows = w.rows; here = w.here; fine = w.fine; ops = asking_ok t s now xs o ys t.operations x k w.ops })
+      requested now tick t _ (asking.KeepsAlive s f e) w = last t _ tt tt w
 
       pub passed : (now : Stamp) (tick : Bool) (t : Turn) → F t → F (cp.passes now tick t)
-      unfolding cp.passes cp.operations
-      passed now tick t w = requested now tick _ (rested now tick _ (operated_each t.operations now t.operations w.ops _ (record { at = w.at; rows = w.rows; here = w.here; fine = w.fine; ops = λ o h. absurd h })))
+      unfolding cp.passes
+      passed now tick t w =
+          let a = cp.operations now t in
+          let b = cp.greeting now tick (cp.writes now tick (cp.reductions a)) in
+          let z = each_lasts (Operated now t.operations) (λ os u. ((o : Operation) → Has o os → OpOk R o) × F u)
+          (λ o os u v x p. (λ y h. p.0 y (inr h), operated now t.operations o u v x (p.0 o (inl refl)) p.1)) t.operations (with_operations [] t) a
+          (operations now t)
+          (w.ops, record { at = w.at; rows = w.rows; here = w.here; fine = w.fine; ops = λ o h. absurd h }) in
+          requested now tick b (cp.requests now tick b) (requests now tick b) (rested now tick a z.1)
 
     -- What is told is owed no more.
     told_here : (f : FileId) (rows : List LostPage) → f.server ≡ s → told_by (Some (asks.Sync f)) s rows ≡ pages.untold rows f.ino
@@ -517,8 +422,8 @@ module _ (asked : ℕ → Option Ask) (had : ServerId → Option Association) wh
         go true q = absurd (n (sym (eqb-true f.server.0 r.0 q) ∙ ap (λ (z : ServerId). z.0) e))
         go false q = refl
 
-    tells : (R : Rows) (t : Turn) (op : ℕ) (f : FileId) → f.server ≡ s → asked op ≡ Some (asks.Sync f) → pages.has_lost t.here.lost f.ino ≡ true → K R t → Moved R (cl.tell_lost t op f.ino)
-    unfolding cl.tell_lost
+    tells : (R : Rows) (t : Turn) (op : ℕ) (f : FileId) → f.server ≡ s → asked op ≡ Some (asks.Sync f) → pages.has_lost t.here.lost f.ino ≡ true → K R t →
+        Moved R (losing.tells_lost t op f.ino)
     tells R t op f own known has k =
         record {
           now = λ r. told_by (Some (asks.Sync f)) r (R r);
@@ -541,15 +446,13 @@ module _ (asked : ℕ → Option Ask) (had : ServerId → Option Association) wh
         right : IsToldTo (asked op) S (answers.Lost rows)
         right =
             subst (λ z. IsToldTo z S (answers.Lost rows)) (sym known)
-            (subst (λ (z : List LostPage). IsToldBy (pages.has_lost z f.ino) (owed_of_file z f.ino) (answers.Lost rows)) (sym (k.rows f.server ∙ ap R own ∙ k.here))
+            (subst (λ (z : List LostPage). IsToldBy (pages.has_lost z f.ino) (owed_of_file z f.ino) (answers.Lost rows))
+            (sym (k.rows f.server ∙ ap R own ∙ k.here))
             (subst (λ b. IsToldBy b (owed_of_file t.here.lost f.ino) (answers.Lost rows)) (sym has) (sym (owed_of_file_is t.here.lost f.ino))))
 
         less : (a : Ask) (o : Operation) → SyncOk R a o → SyncOk (λ r. told_by (Some (asks.Sync f)) r (R r)) a o
         less (asks.Sync g) o z = record { unsent = z.unsent; none = told_less (Some (asks.Sync f)) g.server (R g.server) g.ino z.none }
         less a o z = tt
-
-    then_moved : (R : Rows) (t u : Turn) → Moved R t → ((S : Rows) → K S t → Moved S u) → Moved R u
-    then_moved R t u m f = let n = f m.now m.keeps in record { now = n.now; keeps = n.keeps; away = λ r d. n.away r d ∙ m.away r d }
 
     -- Losses.
     abbrev EndOk : Operation → Type 0
@@ -558,40 +461,88 @@ module _ (asked : ℕ → Option Ask) (had : ServerId → Option Association) wh
     one_more : (R : Rows) (t : Turn) (op : ℕ) (a : AppAnswer) → NotLost a → IsToldTo (asked op) R a → K R t → K R (cs.answered t op a)
     one_more R t op a p f k = adds R t.here.server t.here.lost t.out t.operations (outputs.Answer op a) p f k
 
-    ended : (R : Rows) (t : Turn) (x : ClientSession) (o : Operation) → EndOk o → K R t → Moved R (cl.end_operation t x o)
-    unfolding cl.end_operation cl.end_unsent cl.end_sync
-    ended R t x o e k = sent (cs.is_sent o) refl
+    -- an operation that is quiesced
+    quiet : (others : List Operation) (R : Rows) (t : Turn) (o : Operation) (a : Ask) → asked o.op ≡ Some a → IsToldTo (Some a) R answers.Quiesced → K R
+        (with_operations others t) →
+        Moved R (with_operations others (cs.answered t o.op answers.Quiesced))
+    quiet others R t o a q h k = stays R _ (one_more R (with_operations others t) o.op answers.Quiesced tt
+        (subst (λ z. IsToldTo z R answers.Quiesced) (sym q) h) k)
+
+    -- with the operations that stay, whichever of them were looked at
+    abbrev MovedWith : List Operation → Rows → Turn → Type 0
+    MovedWith others R u = Moved R (with_operations others u)
+
+    ended : (others : List Operation) (R : Rows) (x : ClientSession) (o : Operation) (t u : Turn) → Ended x o t u →
+        (cs.is_of t.here.server o ≡ true → EndOk o) → K R (with_operations others t) → MovedWith others R u
+    ended others R x o t _ (losing.IsElsewhere e) f k = stays R _ k
+    ended others R x o t _ (losing.IsUncertain own e) f k =
+        let z = f own in
+        stays R _ (one_more R (with_operations others t) o.op (answers.Uncertain x.epoch.0 0) tt
+        (subst (λ y. IsToldTo y R (answers.Uncertain x.epoch.0 0)) (sym z.known) (unsure o.ask z.sync)) k)
       where
-        quiet : (a : Ask) → asked o.op ≡ Some a → IsToldTo (Some a) R answers.Quiesced → Moved R (cs.answered t o.op answers.Quiesced)
-        quiet a q h = stays R _ (one_more R t o.op answers.Quiesced tt (subst (λ z. IsToldTo z R answers.Quiesced) (sym q) h) k)
-
-        by : (a : Ask) → asked o.op ≡ Some a → SyncEnds s a o → Moved R (cl.end_unsent t o a)
-        by (asks.Sync f) q z = go (pages.has_lost t.here.lost f.ino) refl
-          where
-            go : (b : Bool) → pages.has_lost t.here.lost f.ino ≡ b → Moved R (if b then cl.tell_lost t o.op f.ino else cs.answered t o.op answers.Quiesced)
-            go true h = tells R t o.op f z.of q h k
-            go false h = quiet (asks.Sync f) q (subst (λ b. IsToldBy b (owed_of_file (R f.server) f.ino) answers.Quiesced) (sym (ap (λ (y : List LostPage). pages.has_lost y f.ino) (ap R z.of ∙ k.here) ∙ h)) tt)
-        by a q z = quiet a q tt
-
-        unsure : (a : Ask) (u v : ℕ) → cs.is_sent o ≡ true → SyncEnds s a o → IsToldTo (Some a) R (answers.Uncertain u v)
-        unsure (asks.Sync f) u v h z = absurd (clash h z.unsent)
+        unsure : (a : Ask) → SyncEnds s a o → IsToldTo (Some a) R (answers.Uncertain x.epoch.0 0)
+        unsure (asks.Sync f) z = absurd (clash e z.unsent)
           where
             clash : {b : Bool} → b ≡ true → b ≡ false → ⊥
             clash x y = cc
-        unsure a u v h z = tt
+        unsure a z = tt
+    ended others R x o t _ (losing.IsToldLost f own e q h) g k =
+        let z = g own in tells R (with_operations others t) o.op f (of_server z.sync) (z.known ∙ ap Some q) h k
+      where
+        of_server : SyncEnds s o.ask o → f.server ≡ s
+        of_server y = let v : SyncEnds s (asks.Sync f) o = subst (λ a. SyncEnds s a o) q y in v.of
+    ended others R x o t _ (losing.LostNothing f own e q h) g k =
+        let z = g own in quiet others R t o (asks.Sync f) (z.known ∙ ap Some q) (none (of_server z.sync)) k
+      where
+        of_server : SyncEnds s o.ask o → f.server ≡ s
+        of_server y = let v : SyncEnds s (asks.Sync f) o = subst (λ a. SyncEnds s a o) q y in v.of
 
-        sent : (b : Bool) → cs.is_sent o ≡ b → Moved R (if b then cs.answered t o.op (answers.Uncertain x.epoch.0 0) else cl.end_unsent t o o.ask)
-        sent true h = stays R _ (one_more R t o.op (answers.Uncertain x.epoch.0 0) tt (subst (λ z. IsToldTo z R (answers.Uncertain x.epoch.0 0)) (sym e.known) (unsure o.ask x.epoch.0 0 h e.sync)) k)
-        sent false h = by o.ask e.known e.sync
+        none : f.server ≡ s → IsToldTo (Some (asks.Sync f)) R answers.Quiesced
+        none at = subst (λ b. IsToldBy b (owed_of_file (R f.server) f.ino) answers.Quiesced)
+            (sym (ap (λ (y : List LostPage). pages.has_lost y f.ino) (ap R at ∙ k.here) ∙ h)) tt
+    ended others R x o t _ (losing.IsQuiesced own e n) g k = let z = g own in quiet others R t o o.ask z.known (calm o.ask n) k
+      where
+        calm : (a : Ask) → cs.is_sync a ≡ false → IsToldTo (Some a) R answers.Quiesced
+        calm (asks.Sync f) e = cc
+        calm a e = tt
 
-    all_ended : (x : ClientSession) (os : List Operation) → ((o : Operation) → Has o os → EndOk o) → (R : Rows) (t : Turn) → K R t → Moved R (cl.end_each x os t)
-    unfolding cl.end_each
-    all_ended x [] e R t k = stays R t k
-    all_ended x (o ∷ os) e R t k = then_moved R (cl.end_operation t x o) _ (ended R t x o (e o (inl refl)) k) (λ S j. all_ended x os (λ y h. e y (inr h)) S (cl.end_operation t x o) j)
+    -- the server stays
+    same_server_after : (x : ClientSession) (o : Operation) (t u : Turn) → Ended x o t u → u.here.server ≡ t.here.server
+    same_server_after x o t _ (losing.IsElsewhere e) = refl
+    same_server_after x o t _ (losing.IsUncertain own e) = refl
+    same_server_after x o t _ (losing.IsToldLost f own e q h) = refl
+    same_server_after x o t _ (losing.LostNothing f own e q h) = refl
+    same_server_after x o t _ (losing.IsQuiesced own e n) = refl
+
+    -- those that are pending after one more are among those that stay
+    kept_among : (others : List Operation) (x : ClientSession) (o : Operation) (t u : Turn) → Ended x o t u →
+        (cs.is_of t.here.server o ≡ false → Has o others) → ((y : Operation) → Has y t.operations → Has y others) →
+        (y : Operation) → Has y u.operations → Has y others
+    kept_among others x o t _ (losing.IsElsewhere e) f k y h = go (has_append t.operations (o ∷ []) y h)
+      where
+        go : Has y t.operations ⊎ Has y (o ∷ []) → Has y others
+        go (inl i) = k y i
+        go (inr (inl q)) = subst (λ z. Has z others) (sym q) (f e)
+        go (inr (inr i)) = absurd i
+    kept_among others x o t _ (losing.IsUncertain own e) f k y i = k y i
+    kept_among others x o t _ (losing.IsToldLost g own e q h) f k y i = k y i
+    kept_among others x o t _ (losing.LostNothing g own e q h) f k y i = k y i
+    kept_among others x o t _ (losing.IsQuiesced own e n) f k y i = k y i
+
+    all_ended : (x : ClientSession) (others : List Operation) (v : ServerId) (os : List Operation) →
+        ((o : Operation) → Has o os → cs.is_of v o ≡ true → EndOk o) → ((o : Operation) → Has o os → cs.is_of v o ≡ false → Has o others) →
+        (t u : Turn) → Each (Ended x) os t u → t.here.server ≡ v → (R : Rows) → K R (with_operations others t) →
+        ((y : Operation) → Has y t.operations → Has y others) → (MovedWith others R u) × ((y : Operation) → Has y u.operations → Has y others)
+    all_ended x others v _ e f _ _ (Ends t) at R k among = (stays R (with_operations others t) k, among)
+    all_ended x others v _ e f t u (Next o os _ w _ step rest) at R k among =
+        let own : (b : Bool) → cs.is_of t.here.server o ≡ b → cs.is_of v o ≡ b = λ b q. ap (λ z. cs.is_of z o) (sym at) ∙ q in
+        let m = ended others R x o t w step (λ q. e o (inl refl) (own true q)) k in
+        let j = all_ended x others v os (λ y h. e y (inr h)) (λ y h. f y (inr h)) w u rest (same_server_after x o t w step ∙ at) m.now m.keeps
+        (kept_among others x o t w step (λ q. f o (inl refl) (own false q)) among) in
+        (record { now = j.0.now; keeps = j.0.keeps; away = λ r d. j.0.away r d ∙ m.away r d }, j.1)
 
     pub lost : (now : Stamp) (R : Rows) (t : Turn) → had s ≡ Some t.here → K R t → Moved R (cl.lose now t)
-    unfolding cl.lose cl.lose_by cl.lose_over cl.lose_session cl.end_operations
-    lost now R t own k = go t.here.session
+    lost now R t own k = go (cl.lose now t) (loses now t)
       where
         note : Output
         note = outputs.Note (notes.Lost t.here.server t.here.life)
@@ -616,7 +567,7 @@ module _ (asked : ℕ → Option Ask) (had : ServerId → Option Association) wh
         others = filter (λ o. not (cs.is_of t.here.server o)) t.operations
 
         begun : Turn
-        begun = cs.with_operations others (cl.with_lost_pages t.here.store (cs.note t (notes.Lost t.here.server t.here.life)))
+        begun = with_operations others (losing.loss_noted t)
 
         stand : (o : Operation) → OpOk R o → cs.is_of t.here.server o ≡ false → OpOk S o
         stand o z f = record { known = z.known; sync = by o.ask z.sync f }
@@ -641,44 +592,63 @@ module _ (asked : ℕ → Option Ask) (had : ServerId → Option Association) wh
               ops = λ o h. let z = has_filter (λ o. not (cs.is_of t.here.server o)) t.operations o h in stand o (k.ops o z.0) (not_true _ z.1);
             }
 
-        ends : (o : Operation) → Has o (filter (cs.is_of t.here.server) t.operations) → EndOk o
-        ends o h = let z = has_filter (cs.is_of t.here.server) t.operations o h in let y = k.ops o z.0 in record { known = y.known; sync = by o.ask y.sync z.1 }
+        -- an operation of this server may be told what is lost, and one of another is among those that stay
+        ends : (o : Operation) → Has o t.operations → cs.is_of t.here.server o ≡ true → EndOk o
+        ends o h own = let y = k.ops o h in record { known = y.known; sync = by o.ask y.sync own }
           where
             by : (a : Ask) → SyncOk R a o → same_server (cs.server_of a) t.here.server ≡ true → SyncEnds s a o
-            by (asks.Sync g) y q = record { unsent = y.unsent; of = same_number g.server s (eqb-true g.server.0 t.here.server.0 q ∙ ap (λ (z : ServerId). z.0) k.at) }
+            by (asks.Sync g) y q = record {
+              unsent = y.unsent;
+              of = same_number g.server s
+                  (eqb-true g.server.0 t.here.server.0 q ∙ ap (λ (z : ServerId). z.0) k.at);
+            }
             by a y q = tt
 
-        over : (x : ClientSession) (b : Bool) → Moved R (if b then cl.lose_session t x else t)
-        over x true = let m = all_ended x (filter (cs.is_of t.here.server) t.operations) ends S begun begins_so in record { now = m.now; keeps = m.keeps; away = λ r d. m.away r d ∙ S_away r d }
-        over x false = stays R t k
+        stays_so : (o : Operation) → Has o t.operations → cs.is_of t.here.server o ≡ false → Has o others
+        stays_so o h e = has_filter_in (λ o. not (cs.is_of t.here.server o)) t.operations o h (ap not e)
 
-        go : (o : Option ClientSession) → Moved R (cl.lose_by t now o)
-        go None = stays R t k
-        go (Some x) = over x (cl.is_over t x now)
+        go : (u : Turn) → Loses now t u → Moved R u
+        go _ (losing.HasNoSession e) = stays R t k
+        go _ (losing.Lasts x e o) = stays R t k
+        go _ (losing.IsLost x u e o p) =
+            let m = all_ended x others t.here.server t.operations (λ o h own. ends o h own) stays_so
+            (with_operations [] (losing.loss_noted t)) u p refl S begins_so (λ o h. absurd h) in
+            record {
+              now = m.0.now;
+              keeps = record {
+                at = m.0.keeps.at;
+                rows = m.0.keeps.rows;
+                here = m.0.keeps.here;
+                fine = m.0.keeps.fine;
+                ops = λ o h. m.0.keeps.ops o (m.1 o h);
+              };
+              away = λ r d. m.0.away r d ∙ S_away r d;
+            }
 
     -- Asks.
     entered : (R : Rows) (t : Turn) (op : ℕ) (ask : Ask) → OpOk R (cs.new_operation op ask) → K R t → K R (cs.keep (cs.new_operation op ask) t)
     entered R t op ask z k = kept R t (cs.new_operation op ask) z k
 
-    taken : (op : ℕ) (ask : Ask) → asked op ≡ Some ask → (R : Rows) (t : Turn) → cs.server_of ask ≡ s → K R t → Moved R (cl.take_ask op ask t)
-    unfolding cl.take_ask cl.take_by cl.take_sync cl.enqueue
-    taken op ask known R t own k = by ask refl
+    taken : (op : ℕ) (ask : Ask) → asked op ≡ Some ask → (R : Rows) (t u : Turn) → Takes op ask t u → cs.server_of ask ≡ s → K R t → Moved R u
+    taken op ask known R t _ (ending.TellsLost f q h) own k = tells R t op f (sym (ap cs.server_of q) ∙ own) (known ∙ ap Some q) h k
+    taken op ask known R t _ (ending.WaitsForSync f q h) own k =
+        stays R _ (entered R t op ask
+        (record {
+          known = known;
+          sync = subst (λ a. SyncOk R a (cs.new_operation op ask)) (sym q)
+              (record { unsent = refl; none = ap (λ (y : List LostPage). pages.has_lost y f.ino) (ap R (sym (ap cs.server_of q) ∙ own) ∙ k.here) ∙ h });
+        }) k)
+    taken op ask known R t _ (ending.Waits n) own k = stays R _ (entered R t op ask (record { known = known; sync = calm ask n }) k)
       where
-        by : (a : Ask) → ask ≡ a → Moved R (cl.take_by t op ask a)
-        by (asks.Sync f) q = go (pages.has_lost t.here.lost f.ino) refl
-          where
-            at : f.server ≡ s
-            at = sym (ap cs.server_of q) ∙ own
-
-            go : (b : Bool) → pages.has_lost t.here.lost f.ino ≡ b → Moved R (if b then cl.tell_lost t op f.ino else cl.enqueue t op ask)
-            go true h = tells R t op f at (known ∙ ap Some q) h k
-            go false h = stays R _ (entered R t op ask (record { known = known; sync = subst (λ a. SyncOk R a (cs.new_operation op ask)) (sym q) (record { unsent = refl; none = ap (λ (y : List LostPage). pages.has_lost y f.ino) (ap R at ∙ k.here) ∙ h }) }) k)
-        by a q = stays R _ (entered R t op ask (record { known = known; sync = subst (λ a. SyncOk R a (cs.new_operation op ask)) (sym q) tt }) k)
+        calm : (a : Ask) → cs.is_sync a ≡ false → SyncOk R a (cs.new_operation op ask)
+        calm (asks.Sync f) e = cc
+        calm a e = tt
 
     pub only : (op : ℕ) (ask : Ask) → asked op ≡ Some ask → (R : Rows) (t : Turn) → K R t → Moved R (only_at (cs.server_of ask) (cl.take_ask op ask) t)
     unfolding only_at
     only op ask known R t k = go (cs.is_at (cs.server_of ask) t.here) refl
       where
         go : (b : Bool) → cs.is_at (cs.server_of ask) t.here ≡ b → Moved R (if b then cl.take_ask op ask t else t)
-        go true q = taken op ask known R t (same_number _ s (sym (eqb-true t.here.server.0 (cs.server_of ask).0 q) ∙ ap (λ (z : ServerId). z.0) k.at)) k
+        go true q = taken op ask known R t (cl.take_ask op ask t) (takes op ask t)
+            (same_number _ s (sym (eqb-true t.here.server.0 (cs.server_of ask).0 q) ∙ ap (λ (z : ServerId). z.0) k.at)) k
         go false q = stays R t k
