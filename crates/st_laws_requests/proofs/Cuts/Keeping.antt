@@ -1,32 +1,26 @@
 -- What stands within a client's rule at a server, of its requests, of who waits for one and of what is sent and answered; and what small
 -- changes, refusals and new sessions leave of it.
-use Rattle.std.proofs.Common.{◌≡◌, ℕ, ◌≤◌, ◌<◌, ◌⊎◌, Bool, true, false, not, ◌&&◌, ◌==◌, List, [], ◌∷◌, ◌++◌, Option, Some, None, refl, sym, ap, ◌∙◌, subst, inl, inr, arith, if◌then◌else◌}
+use Rattle.std.proofs.Common.{◌≡◌, ℕ, ◌≤◌, ◌<◌, ◌⊎◌, Bool, true, false, not, ◌&&◌, ◌==◌, List, [], ◌∷◌, ◌++◌, Option, Some, None, refl, sym, ap, ◌∙◌, subst}
+use Rattle.std.proofs.Common.{inl, inr, arith, if◌then◌else◌}
 use Rattle.std.specs.Prelude.{map}
 use Rattle.st_base.specs.declared.ids.ClientId.{ClientId}
 use Rattle.st_base.specs.declared.ids.Epoch.{Epoch}
 use Rattle.st_base.specs.declared.ids.GrantNo.{GrantNo}
-use Rattle.st_base.specs.declared.ids.PageNo.{PageNo}
 use Rattle.st_base.specs.declared.ids.ServerId.{ServerId}
-use Rattle.st_base.specs.declared.ids.Stamp.{Stamp}
 use Rattle.st_base.specs.declared.mode.Mode.{Mode}
-use Rattle.st_base.specs.declared.rows.ExtentRow.{ExtentRow}
 use Rattle.st_messages.specs.declared.answer.AppAnswer.{AppAnswer}
 use Rattle.st_messages.specs.declared.answer.AppAnswer.TheVariants as answers
 use Rattle.st_messages.specs.declared.ask.Ask.{Ask}
 use Rattle.st_messages.specs.declared.ask.Ask.TheVariants as asks
 use Rattle.st_messages.specs.declared.message.Body.{Body}
 use Rattle.st_messages.specs.declared.message.Body.TheVariants as bodies
-use Rattle.st_messages.specs.declared.message.Header.{Header}
 use Rattle.st_messages.specs.declared.message.Message.{Message}
 use Rattle.st_messages.specs.declared.message.Why.{Why}
-use Rattle.st_messages.specs.declared.message.Why.TheVariants as why
 use Rattle.st_messages.specs.declared.output.Output.{Output}
 use Rattle.st_messages.specs.declared.output.Output.TheVariants as outputs
-use Rattle.st_rules.specs.declared.client.HeldLock.{HeldLock}
 use Rattle.st_rules.specs.declared.client.Operation.{Operation}
 use Rattle.st_rules.specs.declared.client.Request.{Request}
 use Rattle.st_rules.specs.declared.client.Stage.TheVariants as stages
-use Rattle.st_rules.specs.ClientLocks as locks
 use Rattle.st_rules.specs.ClientReplies as cr
 use Rattle.st_rules.specs.ClientState as cs
 use Rattle.st_rules.specs.ClientState.{ClientSession, Turn, Requests, answer_to, server_of, say, with_session}
@@ -34,6 +28,8 @@ use Rattle.st_lemmas.specs.Lists.{Has}
 use Rattle.st_lemmas.proofs.Tables.{and_true, has_append, has_filter, has_map, not_true}
 use Rattle.st_laws_leases.proofs.Dates.Known.{has_left}
 use Rattle.st_laws_requests.specs.Cuts.Cuts.{AllWait, AsksFor, Between, Counts, IsSent, Numbers, OneWaits, Placed, SentIn, WaitsAt, view}
+use Rattle.st_trace.specs.Client.Messages as trace
+use Rattle.st_trace.specs.Client.Messages.{Grants, Refusal}
 
 -- an operation's server and stage
 pub asked_of : (s : ServerId) (o : Operation) → cs.is_asked s o ≡ true → (cs.is_of s o ≡ true) × (cs.is_asked_at o.stage ≡ true)
@@ -72,7 +68,8 @@ has_middle k p (x ∷ xs) ys (inl e) = inl e
 has_middle k p (x ∷ xs) ys (inr h) = inr (has_middle k p xs ys h)
 
 -- an outstanding request that was sent is among more messages
-pub sent_more : (S T : Message → Type 0) (c : ClientId) (s : ServerId) (life : ℕ) (v : Option (ℕ × Requests)) → ((m : Message) → S m → T m) → SentIn S c s life v → SentIn T c s life v
+pub sent_more : (S T : Message → Type 0) (c : ClientId) (s : ServerId) (life : ℕ) (v : Option (ℕ × Requests)) → ((m : Message) → S m → T m) →
+    SentIn S c s life v → SentIn T c s life v
 sent_more S T c s life None f k = tt
 sent_more S T c s life (Some v) f k = go v.1.asked k
   where
@@ -117,7 +114,8 @@ module _ (M : List Message) (c : ClientId) (Known : ℕ → Ask → Type 0) (Bef
   Okay s life o = Unit {0}
 
   -- What stands within a rule at a server, with the operations and outputs that it began with: but for who waits.
-  pub record Base (s : ServerId) (B : List Operation) (out0 : List Output) (id : ClientId) (sv : ServerId) (life : ℕ) (v : Option (ℕ × Requests)) (ops : List Operation) (out : List Output) : Type 0 where
+  pub record Base (s : ServerId) (B : List Operation) (out0 : List Output) (id : ClientId) (sv : ServerId) (life : ℕ) (v : Option (ℕ × Requests))
+      (ops : List Operation) (out : List Output) : Type 0 where
     pub id_ : id ≡ c
     pub server : sv ≡ s
     pub asked : (o : Operation) → Has o ops → Known o.op o.ask
@@ -128,7 +126,8 @@ module _ (M : List Message) (c : ClientId) (Known : ℕ → Ask → Type 0) (Bef
     pub said : (op : ℕ) (a : AppAnswer) → Has (outputs.Answer op a) out → SaidOf op a
 
   -- and who waits
-  pub record Whole (s : ServerId) (B : List Operation) (out0 : List Output) (id : ClientId) (sv : ServerId) (life : ℕ) (v : Option (ℕ × Requests)) (ops : List Operation) (out : List Output) : Type 0 where
+  pub record Whole (s : ServerId) (B : List Operation) (out0 : List Output) (id : ClientId) (sv : ServerId) (life : ℕ) (v : Option (ℕ × Requests))
+      (ops : List Operation) (out : List Output) : Type 0 where
     pub base : Base s B out0 id sv life v ops out
     pub waits : AllWait Before sv life v ops
     pub alone : OneWaits sv ops
@@ -158,16 +157,19 @@ module _ (M : List Message) (c : ClientId) (Known : ℕ → Ask → Type 0) (Bef
     pub into : (t : Turn) (x : ClientSession) → t.here.session ≡ Some x → W t → WIn t x
     into t x e w = subst (λ o. Whole s B out0 t.id t.here.server t.here.life.0 (view o) t.operations t.out) e w
 
-    pub free_all : (id : ClientId) (sv : ServerId) (life : ℕ) (v : Option (ℕ × Requests)) (ops : List Operation) (out : List Output) → Free sv ops → K id sv life v ops out → Whole s B out0 id sv life v ops out
+    pub free_all : (id : ClientId) (sv : ServerId) (life : ℕ) (v : Option (ℕ × Requests)) (ops : List Operation) (out : List Output) → Free sv ops →
+        K id sv life v ops out → Whole s B out0 id sv life v ops out
     free_all id sv life v ops out f b = record { base = b; waits = λ o h e. absurd (f o h e); alone = λ o p h i e g. absurd (f o h e) }
 
     -- with no outstanding request nobody waits
-    pub is_free : (sv : ServerId) (life epoch : ℕ) (q : Option Request) (ops : List Operation) → q ≡ None → ((o : Operation) → Has o ops → cs.is_asked sv o ≡ true → WaitsAt Before sv life epoch q o) → Free sv ops
+    pub is_free : (sv : ServerId) (life epoch : ℕ) (q : Option Request) (ops : List Operation) → q ≡ None →
+        ((o : Operation) → Has o ops → cs.is_asked sv o ≡ true → WaitsAt Before sv life epoch q o) → Free sv ops
     is_free sv life epoch q ops e f o h a = subst (λ q. WaitsAt Before sv life epoch q o) e (f o h a)
 
     -- Small changes.
     -- more outputs, none of them a request
-    pub b_more : (id : ClientId) (sv : ServerId) (life : ℕ) (v : Option (ℕ × Requests)) (ops : List Operation) (out os : List Output) → ((o : Output) → Has o os → Okay sv life o) → K id sv life v ops out → K id sv life v ops (out ++ os)
+    pub b_more : (id : ClientId) (sv : ServerId) (life : ℕ) (v : Option (ℕ × Requests)) (ops : List Operation) (out os : List Output) →
+        ((o : Output) → Has o os → Okay sv life o) → K id sv life v ops out → K id sv life v ops (out ++ os)
     b_more id sv life v ops out os k b =
         record {
           id_ = b.id_;
@@ -202,13 +204,15 @@ module _ (M : List Message) (c : ClientId) (Known : ℕ → Ask → Type 0) (Bef
         lives m (inl h) t = b.numbers.lives m h t
         lives m (inr h) t = let z = (k (outputs.Send m) h).1 in omega (arith, z)
 
-        one : (m p : Message) → Sent out m ⊎ Has (outputs.Send m) os → Sent out p ⊎ Has (outputs.Send p) os → Between c sv m → Between c sv p → m.header.life ≡ p.header.life → m.header.epoch ≡ p.header.epoch → m.header.number ≡ p.header.number → 1 ≤ m.header.number →
+        one : (m p : Message) → Sent out m ⊎ Has (outputs.Send m) os → Sent out p ⊎ Has (outputs.Send p) os → Between c sv m → Between c sv p →
+            m.header.life ≡ p.header.life → m.header.epoch ≡ p.header.epoch → m.header.number ≡ p.header.number → 1 ≤ m.header.number →
             m.body ≡ p.body
         one m p (inl h) (inl i) t u l e n z = b.numbers.one m p h i t u l e n z
         one m p (inl h) (inr i) t u l e n z = let q = (k (outputs.Send p) i).2 in absurd (omega (arith, q, n, z))
         one m p (inr h) i t u l e n z = let q = (k (outputs.Send m) h).2 in absurd (omega (arith, q, z))
 
-        placed : (m : Message) (v : Option (ℕ × Requests)) → Sent out m ⊎ Has (outputs.Send m) os → Between c sv m → (Sent out m → Between c sv m → Placed life v m) → Placed life v m
+        placed : (m : Message) (v : Option (ℕ × Requests)) → Sent out m ⊎ Has (outputs.Send m) os → Between c sv m →
+            (Sent out m → Between c sv m → Placed life v m) → Placed life v m
         placed m v (inl h) t f = f h t
         placed m None (inr h) t f = λ l. (k (outputs.Send m) h).2
         placed m (Some x) (inr h) t f = λ l n. let z = (k (outputs.Send m) h).2 in absurd (omega (arith, z, n))
@@ -225,19 +229,39 @@ module _ (M : List Message) (c : ClientId) (Known : ℕ → Ask → Type 0) (Bef
     one_okay sv life o k x (inl e) = subst (Okay sv life) (sym e) k
     one_okay sv life o k x (inr i) = absurd i
 
-    pub b_say : (id : ClientId) (sv : ServerId) (life : ℕ) (v : Option (ℕ × Requests)) (ops : List Operation) (out : List Output) (o : Output) → Okay sv life o → K id sv life v ops out → K id sv life v ops (out ++ o ∷ [])
+    pub b_say : (id : ClientId) (sv : ServerId) (life : ℕ) (v : Option (ℕ × Requests)) (ops : List Operation) (out : List Output) (o : Output) →
+        Okay sv life o → K id sv life v ops out → K id sv life v ops (out ++ o ∷ [])
     b_say id sv life v ops out o k b = b_more id sv life v ops out (o ∷ []) (one_okay sv life o k) b
 
     pub w_say : (t : Turn) (o : Output) → Okay t.here.server t.here.life.0 o → W t → W (say t o)
-    w_say t o k w = record { base = b_say t.id t.here.server t.here.life.0 (view t.here.session) t.operations t.out o k w.base; waits = w.waits; alone = w.alone }
+    w_say t o k w = record {
+      base = b_say t.id t.here.server t.here.life.0 (view t.here.session) t.operations t.out o k w.base;
+      waits = w.waits;
+      alone = w.alone;
+    }
 
     -- fewer operations
-    pub b_fewer : (id : ClientId) (sv : ServerId) (life : ℕ) (v : Option (ℕ × Requests)) (ops qs : List Operation) (out : List Output) → ((o : Operation) → Has o qs → Has o ops) → K id sv life v ops out → K id sv life v qs out
+    pub b_fewer : (id : ClientId) (sv : ServerId) (life : ℕ) (v : Option (ℕ × Requests)) (ops qs : List Operation) (out : List Output) →
+        ((o : Operation) → Has o qs → Has o ops) → K id sv life v ops out → K id sv life v qs out
     b_fewer id sv life v ops qs out f b =
-        record { id_ = b.id_; server = b.server; asked = λ o h. b.asked o (f o h); others = λ o h e. b.others o (f o h) e; numbers = b.numbers; sent = b.sent; kept = b.kept; said = b.said }
+        record {
+          id_ = b.id_;
+          server = b.server;
+          asked = λ o h. b.asked o (f o h);
+          others = λ o h e. b.others o (f o h) e;
+          numbers = b.numbers;
+          sent = b.sent;
+          kept = b.kept;
+          said = b.said;
+        }
 
-    pub w_fewer : (id : ClientId) (sv : ServerId) (life : ℕ) (v : Option (ℕ × Requests)) (ops qs : List Operation) (out : List Output) → ((o : Operation) → Has o qs → Has o ops) → Whole s B out0 id sv life v ops out → Whole s B out0 id sv life v qs out
-    w_fewer id sv life v ops qs out f w = record { base = b_fewer id sv life v ops qs out f w.base; waits = λ o h e. w.waits o (f o h) e; alone = λ o p h i. w.alone o p (f o h) (f p i) }
+    pub w_fewer : (id : ClientId) (sv : ServerId) (life : ℕ) (v : Option (ℕ × Requests)) (ops qs : List Operation) (out : List Output) →
+        ((o : Operation) → Has o qs → Has o ops) → Whole s B out0 id sv life v ops out → Whole s B out0 id sv life v qs out
+    w_fewer id sv life v ops qs out f w = record {
+      base = b_fewer id sv life v ops qs out f w.base;
+      waits = λ o h e. w.waits o (f o h) e;
+      alone = λ o p h i. w.alone o p (f o h) (f p i);
+    }
 
     -- operations are answered
     abbrev pub Plain : AppAnswer → Type 0
@@ -255,7 +279,12 @@ module _ (M : List Message) (c : ClientId) (Known : ℕ → Ask → Type 0) (Bef
     pub w_answers : (t : Turn) (picked : Operation → Bool) (a : AppAnswer) → Plain a → W t → W (cs.answer_each picked a t)
     unfolding cs.answer_each
     w_answers t picked a p w =
-        record { base = b_answers t picked a p w.base; waits = λ o h e. w.waits o (has_filter _ t.operations o h).0 e; alone = λ o q h i. w.alone o q (has_filter _ t.operations o h).0 (has_filter _ t.operations q i).0 }
+        record {
+          base = b_answers t picked a p w.base;
+          waits = λ o h e. w.waits o (has_filter _ t.operations o h).0 e;
+          alone = λ o q h i. w.alone o q
+              (has_filter _ t.operations o h).0 (has_filter _ t.operations q i).0;
+        }
 
     -- the operations that wait are answered, and nobody waits
     pub freed : (t : Turn) (a : AppAnswer) → Free t.here.server (cs.answer_each (cs.is_asked t.here.server) a t).operations
@@ -266,76 +295,22 @@ module _ (M : List Message) (c : ClientId) (Known : ℕ → Ask → Type 0) (Bef
         clash x y = cc
 
     -- Sessions that go on.
-    pub w_condemn : (t : Turn) (x : ClientSession) → WIn t x → W (cr.condemn t x)
-    unfolding cr.condemn
-    w_condemn t x w = w
-
-    pub grant_view : (x : ClientSession) (ino : ℕ) (g : GrantNo) (mode : Mode) → view (Some (cr.grant (cs.forget_wait ino x) ino g mode)) ≡ view (Some x)
-    unfolding cr.grant cr.grant_new cr.accept_grant cr.decline
-    grant_view x ino g mode = go (locks.is_above_seen x.locks ino g)
-      where
-        y : ClientSession
-        y = cs.forget_wait ino x
-
-        new : (b : Bool) → view (Some (if b then cr.accept_grant y ino g mode else cr.decline y ino g)) ≡ view (Some x)
-        new true = refl
-        new false = refl
-
-        go : (b : Bool) → view (Some (if b then cr.grant_new y ino g mode else y)) ≡ view (Some x)
-        go true = new (locks.has_place y.locks ino)
-        go false = refl
+    pub granted_view : (x : ClientSession) (ino : ℕ) (g : GrantNo) (mode : Mode) (v : ClientSession) → Grants (cs.forget_wait ino x) ino g mode v → view
+        (Some v) ≡ view (Some x)
+    granted_view x ino g mode _ (trace.Installs a p) = refl
+    granted_view x ino g mode _ (trace.Declines a p) = refl
+    granted_view x ino g mode _ (trace.IsOld a) = refl
 
     pub w_view : (t : Turn) (x y : ClientSession) → view (Some y) ≡ view (Some x) → WIn t x → WIn t y
     w_view t x y e w = subst (λ v. Whole s B out0 t.id t.here.server t.here.life.0 v t.operations t.out) (sym e) w
 
-    pub w_granted : (t : Turn) (x : ClientSession) (ino : ℕ) (g : GrantNo) (mode : Mode) → WIn t x → W (cr.granted t x ino g mode)
-    unfolding cr.granted
-    w_granted t x ino g mode w = w_view t x (cr.grant (cs.forget_wait ino x) ino g mode) (grant_view x ino g mode) w
-
-    pub w_queued : (t : Turn) (x : ClientSession) (now : Stamp) (ino : ℕ) (mode : Mode) → WIn t x → W (cr.queued t x now ino mode)
-    unfolding cr.queued cr.wait_told cr.wait_unless_held
-    w_queued t x now ino mode w = w_view t x (cr.wait_unless_held x ino mode now) (go (Rattle.st_base.specs.Mode.covers (locks.mode_of x.locks ino) mode)) w
-      where
-        go : (b : Bool) → view (Some (if b then x else cr.wait_told x ino mode now)) ≡ view (Some x)
-        go true = refl
-        go false = refl
-
-    pub w_extents : (t : Turn) (x : ClientSession) (ino : ℕ) (rows : List ExtentRow) (asked : Body) → W t → W (cr.extents t x ino rows asked)
-    unfolding cr.extents cr.learn
-    w_extents t x ino rows asked w = if_both W (cr.is_current x.locks asked) _ t w w
-
-    pub w_reasserted : (t : Turn) (x : ClientSession) → WIn t x → W (cr.reasserted t x)
-    unfolding cr.reasserted
-    w_reasserted t x w = w
-
-    pub w_removed : (t : Turn) (x : ClientSession) (file : Option ℕ) → W t → WIn t x → W (cr.removed t x file)
-    unfolding cr.removed cr.drop_held cr.drop_lock
-    w_removed t x None w y = w
-    w_removed t x (Some ino) w y = go (locks.lock_of x.locks ino)
-      where
-        go : (o : Option HeldLock) → W (cr.drop_held t x ino o)
-        go None = w
-        go (Some l) = y
-
     -- Refusals.
-    pub w_refuse_file : (t : Turn) (a : AppAnswer) (file : Option ℕ) → Plain a → C t → C (cr.refuse_file t a file)
-    unfolding cr.refuse_file
-    w_refuse_file t a None p w = w
-    w_refuse_file t a (Some ino) p w = b_answers t _ a p w
-
-    pub w_refuse_page : (t : Turn) (a : AppAnswer) (file : Option ℕ) (page : Option PageNo) → Plain a → C t → C (cr.refuse_page t a file page)
-    unfolding cr.refuse_page
-    w_refuse_page t a (Some ino) (Some p) k w = b_answers t _ a k w
-    w_refuse_page t a (Some ino) None k w = w
-    w_refuse_page t a None page k w = w
-
-    pub w_refuse_as : (t : Turn) (y : Why) (a b : ℕ) (file : Option ℕ) (asked : Body) → C t → C (cr.refuse_as t y a b file asked)
-    unfolding cr.refuse_as cr.refuse_holder
-    w_refuse_as t why.NoFile a b file asked w = w_refuse_file t _ file (λ op. tt) w
-    w_refuse_as t why.TooManyLocks a b file asked w = w_refuse_file t _ file (λ op. tt) w
-    w_refuse_as t why.NoSpace a b file asked w = w_refuse_page t _ file _ (λ op. tt) w
-    w_refuse_as t why.NotHolder a b file asked w = if_both C (cs.asks_cut_or_remove asked) _ t (b_answers t _ _ (λ op. tt) w) w
-    w_refuse_as t y a b file asked w = w
+    pub b_refused : (t : Turn) (y : Why) (a b : ℕ) (file : Option ℕ) (asked : Body) (u : Turn) → Refusal t file asked y a b u → C t → C u
+    b_refused t _ a b file asked _ (trace.NoFile _ _ ino e) w = b_answers t _ _ (λ op. tt) w
+    b_refused t _ a b file asked _ (trace.TooManyLocks _ _ ino e) w = b_answers t _ _ (λ op. tt) w
+    b_refused t _ a b file asked _ (trace.NoSpace _ _ ino p e q) w = b_answers t _ _ (λ op. tt) w
+    b_refused t _ a b file asked _ (trace.NotHolder _ _ e) w = b_answers t _ _ (λ op. tt) w
+    b_refused t y a b file asked _ (trace.AnswersNone _ _ _) w = w
 
     -- an operation that is stuck waits no more
     pub record StuckOf (t : Turn) (o p : Operation) : Type 0 where
@@ -355,14 +330,19 @@ module _ (M : List Message) (c : ClientId) (Known : ℕ → Ask → Type 0) (Bef
         stays false e = cc
 
         go : (b : Bool) → cs.is_asked t.here.server o ≡ b → StuckOf t o (if b then cs.at_stage stages.Stuck o else o)
-        go true e = record { op = refl; ask = refl; free = λ h. stays (cs.is_of t.here.server o) h; same = λ f. absurd (clash (asked_of t.here.server o e).0 f) }
+        go true e = record {
+          op = refl;
+          ask = refl;
+          free = λ h. stays (cs.is_of t.here.server o) h;
+          same = λ f. absurd
+              (clash (asked_of t.here.server o e).0 f);
+        }
         go false e = record { op = refl; ask = refl; free = λ h. clash h e; same = λ f. refl }
 
     abbrev pub From : Turn → Operation → Type 0
     From t o = (p : Operation) × Has p t.operations × (o ≡ cr.stuck t p)
 
-    pub w_stuck : (t : Turn) → C t → W (cr.leave_stuck t)
-    unfolding cr.leave_stuck
+    pub w_stuck : (t : Turn) → C t → W (trace.left_stuck t)
     w_stuck t b =
         record {
           base = record {
@@ -382,7 +362,8 @@ module _ (M : List Message) (c : ClientId) (Known : ℕ → Ask → Type 0) (Bef
         asked : (o : Operation) → From t o → Known o.op o.ask
         asked o (p, h, e) =
             let z = stuck_is t p in
-            subst (λ (q : Operation). Known q.op q.ask) (sym e) (subst (λ n. Known n (cr.stuck t p).ask) (sym z.op) (subst (λ a. Known p.op a) (sym z.ask) (b.asked p h)))
+            subst (λ (q : Operation). Known q.op q.ask) (sym e) (subst (λ n. Known n (cr.stuck t p).ask) (sym z.op)
+            (subst (λ a. Known p.op a) (sym z.ask) (b.asked p h)))
 
         of_same : (o p : Operation) → server_of p.ask ≡ server_of o.ask → cs.is_of t.here.server o ≡ false → cs.is_of t.here.server p ≡ false
         of_same o p e f = ap (λ (x : ServerId). x.0 == t.here.server.0) e ∙ f
@@ -395,10 +376,6 @@ module _ (M : List Message) (c : ClientId) (Known : ℕ → Ask → Type 0) (Bef
 
         free : (o : Operation) → From t o → cs.is_asked t.here.server o ≡ true → ⊥
         free o (p, h, e) f = (stuck_is t p).free (subst (λ q. cs.is_asked t.here.server q ≡ true) e f)
-
-    pub w_refused : (t : Turn) (y : Why) (a b : ℕ) (file : Option ℕ) (asked : Body) → C t → W (cr.refused t y a b file asked)
-    unfolding cr.refused
-    w_refused t y a b file asked w = w_stuck _ (w_refuse_as t y a b file asked w)
 
     -- A session that begins: nothing is known of its numbers, and nobody waits.
     pub b_begins : (t : Turn) (x : ClientSession) → t.here.session ≡ None → x.requests ≡ cs.no_requests → W t → WIn t x
@@ -420,26 +397,29 @@ module _ (M : List Message) (c : ClientId) (Known : ℕ → Ask → Type 0) (Bef
               server = none.base.server;
               asked = none.base.asked;
               others = none.base.others;
-              numbers = record { lives = none.base.numbers.lives; placed = λ m h b l k. let z = none.base.numbers.placed m h b l in absurd (omega (arith, z, k)); one = none.base.numbers.one; sent = tt; counts = counts };
+              numbers = record {
+                lives = none.base.numbers.lives;
+                placed = λ m h b l k. let z = none.base.numbers.placed m h b l in absurd
+                    (omega (arith, z, k));
+                one = none.base.numbers.one;
+                sent = tt;
+                counts = counts;
+              };
               sent = none.base.sent;
               kept = none.base.kept;
               said = none.base.said;
             })
 
-    pub w_welcome : (t : Turn) (now : Stamp) (epoch : Epoch) (stamp : Stamp) → t.here.session ≡ None → W t → W (cr.welcome t now epoch stamp)
-    unfolding cr.welcome cr.begin_session cr.note_lease
-    w_welcome t now epoch stamp e w =
-        if_both W (cr.is_timely t now stamp) _ t (w_say (cr.begin_here (cr.new_session epoch stamp) t) _ tt (b_begins t (cr.new_session epoch stamp) e refl w)) w
-
-    pub w_without : (t : Turn) (now : Stamp) (h : Header) (b : Body) → t.here.session ≡ None → W t → W (cr.without_session t now h b)
-    unfolding cr.without_session
-    w_without t now h bodies.Welcome e w = w_welcome t now _ _ e w
-    w_without t now h b e w = w
-
     -- A newer epoch: its numbers begin anew, and who waited is answered.
-    pub w_newer : (t : Turn) (x : ClientSession) (epoch : Epoch) → t.here.session ≡ Some x → W t → W (cr.newer_epoch t x epoch)
-    unfolding cr.newer_epoch cr.follow_epoch cs.answer_each
-    w_newer t x epoch e w = if_case W (cr.is_newer x epoch) _ t (λ f. follows (Rattle.std.proofs.lemmas.Bool.ltb-true _ _ (and_true (Rattle.std.specs.Prelude.nat_lt x.epoch.0 epoch.0) _ f).0)) (λ f. w)
+    pub w_follows : (t : Turn) (x : ClientSession) (epoch : Epoch) → t.here.session ≡ Some x → x.epoch.0 < epoch.0 → W t →
+        W (cs.answer_each (cs.is_asked t.here.server) (answers.Uncertain x.epoch.0 epoch.0) (with_session (cr.in_epoch epoch x) t))
+    unfolding cs.answer_each
+    w_follows t x epoch e l w =
+        record {
+          base = b_answers (with_session y t) (cs.is_asked t.here.server) (answers.Uncertain x.epoch.0 epoch.0) (λ op. tt) moved;
+          waits = λ o h a. absurd (freed (with_session y t) (answers.Uncertain x.epoch.0 epoch.0) o h a);
+          alone = λ o p h i a f. absurd (freed (with_session y t) (answers.Uncertain x.epoch.0 epoch.0) o h a);
+        }
       where
         y : ClientSession
         y = cr.in_epoch epoch x
@@ -447,8 +427,8 @@ module _ (M : List Message) (c : ClientId) (Known : ℕ → Ask → Type 0) (Bef
         z : WIn t x
         z = into t x e w
 
-        moved : x.epoch.0 < epoch.0 → CIn t y
-        moved l =
+        moved : CIn t y
+        moved =
             record {
               id_ = z.base.id_;
               server = z.base.server;
@@ -456,7 +436,12 @@ module _ (M : List Message) (c : ClientId) (Known : ℕ → Ask → Type 0) (Bef
               others = z.base.others;
               numbers = record {
                 lives = z.base.numbers.lives;
-                placed = λ m h b k n. let u = (z.base.numbers.placed m h b k n).up_to in record { up_to = omega (arith, u, l); below = λ q. absurd (omega (arith, u, l, q)); same = λ q. absurd (omega (arith, u, l, q)) };
+                placed = λ m h b k n. let u = (z.base.numbers.placed m h b k n).up_to in record {
+                  up_to = omega (arith, u, l);
+                  below = λ q. absurd
+                      (omega (arith, u, l, q));
+                  same = λ q. absurd (omega (arith, u, l, q));
+                };
                 one = z.base.numbers.one;
                 sent = tt;
                 counts = (omega arith, tt);
@@ -465,17 +450,3 @@ module _ (M : List Message) (c : ClientId) (Known : ℕ → Ask → Type 0) (Bef
               kept = z.base.kept;
               said = z.base.said;
             }
-
-        follows : x.epoch.0 < epoch.0 → W (cs.answer_each (cs.is_asked t.here.server) (answers.Uncertain x.epoch.0 epoch.0) (with_session y t))
-        follows l =
-            record {
-              base = b_answers (with_session y t) (cs.is_asked t.here.server) (answers.Uncertain x.epoch.0 epoch.0) (λ op. tt) (moved l);
-              waits = λ o h a. absurd (freed (with_session y t) (answers.Uncertain x.epoch.0 epoch.0) o h a);
-              alone = λ o p h i a f. absurd (freed (with_session y t) (answers.Uncertain x.epoch.0 epoch.0) o h a);
-            }
-
-    pub w_of_other : (t : Turn) (x : ClientSession) (epoch : Epoch) (b : Body) → t.here.session ≡ Some x → W t → W (cr.of_other_epoch t x epoch b)
-    unfolding cr.of_other_epoch
-    w_of_other t x epoch (bodies.Nack why.OtherEpoch u v) e w = w_newer t x epoch e w
-    w_of_other t x epoch (bodies.Nack z u v) e w = w
-    w_of_other t x epoch b e w = w
