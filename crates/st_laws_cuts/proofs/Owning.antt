@@ -1,32 +1,22 @@
 -- What stands within a client's rule at a server: its pending operations and the answers are of known asks, what it sends is of its life,
 -- and the operation of the outstanding request is pending. What small changes and replies leave of it.
-use Rattle.std.proofs.Common.{◌≡◌, ℕ, ◌+◌, ◌≤◌, ◌⊎◌, Bool, true, false, not, List, [], ◌∷◌, ◌++◌, Option, Some, None, refl, sym, ap, ◌∙◌, subst, inl, inr, arith, if◌then◌else◌}
+use Rattle.std.proofs.Common.{◌≡◌, ℕ, ◌+◌, ◌≤◌, ◌⊎◌, Bool, true, false, not, List, [], ◌∷◌, ◌++◌, Option, Some, None, refl, sym, ap, ◌∙◌, subst, inl, inr}
+use Rattle.std.proofs.Common.{arith, if◌then◌else◌}
 use Rattle.std.specs.Prelude.{filter, map}
 use Rattle.st_base.specs.declared.ids.ClientId.{ClientId}
-use Rattle.st_base.specs.declared.ids.Epoch.{Epoch}
-use Rattle.st_base.specs.declared.ids.GrantNo.{GrantNo}
 use Rattle.st_base.specs.declared.ids.PageNo.{PageNo}
 use Rattle.st_base.specs.declared.ids.ServerId.{ServerId}
-use Rattle.st_base.specs.declared.ids.Stamp.{Stamp}
-use Rattle.st_base.specs.declared.mode.Mode.{Mode}
-use Rattle.st_base.specs.declared.rows.ExtentRow.{ExtentRow}
 use Rattle.st_messages.specs.declared.answer.AppAnswer.{AppAnswer}
 use Rattle.st_messages.specs.declared.ask.Ask.{Ask}
 use Rattle.st_messages.specs.declared.ask.Ask.TheVariants as asks
 use Rattle.st_messages.specs.declared.message.Body.{Body}
-use Rattle.st_messages.specs.declared.message.Body.TheVariants as bodies
 use Rattle.st_messages.specs.declared.message.Message.{Message}
-use Rattle.st_messages.specs.declared.message.NameReply.{NameReply}
-use Rattle.st_messages.specs.declared.message.NameReply.TheVariants as replies
 use Rattle.st_messages.specs.declared.message.Why.{Why}
-use Rattle.st_messages.specs.declared.message.Why.TheVariants as why
 use Rattle.st_messages.specs.declared.output.Output.{Output}
 use Rattle.st_messages.specs.declared.output.Output.TheVariants as outputs
-use Rattle.st_rules.specs.declared.client.HeldLock.{HeldLock}
 use Rattle.st_rules.specs.declared.client.Operation.{Operation}
 use Rattle.st_rules.specs.declared.client.Request.{Request}
 use Rattle.st_rules.specs.declared.client.Stage.TheVariants as stages
-use Rattle.st_rules.specs.ClientLocks as locks
 use Rattle.st_rules.specs.ClientReplies as cr
 use Rattle.st_rules.specs.ClientState as cs
 use Rattle.st_rules.specs.ClientState.{ClientSession, Turn, answer_to, server_of, say, with_session}
@@ -36,6 +26,8 @@ use Rattle.st_laws_leases.proofs.Dates.Known.{has_left}
 use Rattle.st_laws_requests.specs.Cuts.Cuts.{Between}
 use Rattle.st_laws_cuts.proofs.Counts.{pending, pending_map, pending_split, told, told_answers, told_more}
 use Rattle.st_laws_cuts.specs.Owners.{Means, Owned, OwnedBy, view}
+use Rattle.st_trace.specs.Client.Messages as trace
+use Rattle.st_trace.specs.Client.Messages.{Refusal}
 
 pub clash : {A : Type 0} {b : Bool} → b ≡ true → b ≡ false → A
 clash x y = cc
@@ -50,7 +42,8 @@ if_case P false t u x y = y refl
 
 -- a test that passes over cuts and names passes over the ask of such a request
 pub means_other : (P : Ask → Bool) → ((f : Rattle.st_base.specs.declared.ids.FileId.FileId) (p : PageNo) → P (asks.Cut f p) ≡ false) →
-    ((s : ServerId) (n : Rattle.st_base.specs.declared.names.NameAsk.NameAsk) → P (asks.Name s n) ≡ false) → (a : Ask) (cutting : Option ℕ) (b : Body) → Means a cutting b → P a ≡ false
+    ((s : ServerId) (n : Rattle.st_base.specs.declared.names.NameAsk.NameAsk) → P (asks.Name s n) ≡ false) → (a : Ask) (cutting : Option ℕ) (b : Body) →
+    Means a cutting b → P a ≡ false
 means_other P f g (asks.Cut h p) cutting b m = f h p
 means_other P f g (asks.Name s n) cutting b m = g s n
 means_other P f g (asks.Write h p bytes) cutting b m = absurd m
@@ -70,7 +63,8 @@ module _ (c : ClientId) (K : ℕ → Type 0) (G : List Output) where
   Few ops out = (k : ℕ) → pending k ops + told k out ≤ 1
 
   -- What stands within a rule at a server, with the operations and the outputs that it began with: but for the outstanding request.
-  pub record Base (s : ServerId) (B : List Operation) (out0 : List Output) (id : ClientId) (sv : ServerId) (life : ℕ) (ops : List Operation) (out : List Output) : Type 0 where
+  pub record Base (s : ServerId) (B : List Operation) (out0 : List Output) (id : ClientId) (sv : ServerId) (life : ℕ) (ops : List Operation)
+      (out : List Output) : Type 0 where
     pub id_ : id ≡ c
     pub server : sv ≡ s
     pub known : (o : Operation) → Has o ops → K o.op
@@ -114,7 +108,8 @@ module _ (c : ClientId) (K : ℕ → Type 0) (G : List Output) where
     fine_good sv life (outputs.Submit n at what) f = tt
     fine_good sv life (outputs.Note n) f = tt
 
-    pub b_more : (id : ClientId) (sv : ServerId) (life : ℕ) (ops qs : List Operation) (out os : List Output) → ((o : Output) → Has o os → Good sv life o) → ((o : Operation) → Has o qs → K o.op) → ((o : Operation) → Has o ops → cs.is_of sv o ≡ false → Has o qs) →
+    pub b_more : (id : ClientId) (sv : ServerId) (life : ℕ) (ops qs : List Operation) (out os : List Output) → ((o : Output) → Has o os → Good sv life o) →
+        ((o : Operation) → Has o qs → K o.op) → ((o : Operation) → Has o ops → cs.is_of sv o ≡ false → Has o qs) →
         Few qs (out ++ os) → Base s B out0 id sv life ops out → Base s B out0 id sv life qs (out ++ os)
     b_more id sv life ops qs out os f g h few b =
         record {
@@ -145,7 +140,8 @@ module _ (c : ClientId) (K : ℕ → Type 0) (G : List Output) where
     one_good sv life o k x (inl e) = subst (Good sv life) (sym e) k
     one_good sv life o k x (inr i) = absurd i
 
-    pub b_say : (id : ClientId) (sv : ServerId) (life : ℕ) (ops : List Operation) (out : List Output) (o : Output) → Fine sv life o → Base s B out0 id sv life ops out → Base s B out0 id sv life ops (out ++ o ∷ [])
+    pub b_say : (id : ClientId) (sv : ServerId) (life : ℕ) (ops : List Operation) (out : List Output) (o : Output) → Fine sv life o →
+        Base s B out0 id sv life ops out → Base s B out0 id sv life ops (out ++ o ∷ [])
     b_say id sv life ops out o k b =
         b_more id sv life ops ops out (o ∷ []) (one_good sv life o (fine_good sv life o k)) b.known (λ p h e. h)
         (λ n. let z = told_more n out (o ∷ []) in let y = fine_told n sv life o k in let x = b.few n in omega (arith, z, y, x)) b
@@ -157,10 +153,21 @@ module _ (c : ClientId) (K : ℕ → Type 0) (G : List Output) where
     w_say t o k w = (c_say t o k w.0, w.1)
 
     -- other operations
-    pub b_operations : (id : ClientId) (sv : ServerId) (life : ℕ) (ops qs : List Operation) (out : List Output) → ((o : Operation) → Has o qs → K o.op) → ((o : Operation) → Has o ops → cs.is_of sv o ≡ false → Has o qs) → ((k : ℕ) → pending k qs ≤ pending k ops) →
+    pub b_operations : (id : ClientId) (sv : ServerId) (life : ℕ) (ops qs : List Operation) (out : List Output) → ((o : Operation) → Has o qs → K o.op) →
+        ((o : Operation) → Has o ops → cs.is_of sv o ≡ false → Has o qs) → ((k : ℕ) → pending k qs ≤ pending k ops) →
         Base s B out0 id sv life ops out → Base s B out0 id sv life qs out
     b_operations id sv life ops qs out f g l b =
-        record { id_ = b.id_; server = b.server; known = f; others = λ o h e. g o (b.others o h e) e; said = b.said; from = b.from; sent = b.sent; kept = b.kept; few = λ k. let y = l k in let z = b.few k in omega (arith, y, z) }
+        record {
+          id_ = b.id_;
+          server = b.server;
+          known = f;
+          others = λ o h e. g o (b.others o h e) e;
+          said = b.said;
+          from = b.from;
+          sent = b.sent;
+          kept = b.kept;
+          few = λ k. let y = l k in let z = b.few k in omega (arith, y, z);
+        }
 
     -- Answers.
     -- a test that picks operations of this server alone
@@ -170,11 +177,13 @@ module _ (c : ClientId) (K : ℕ → Type 0) (G : List Output) where
     pub c_answers : (t : Turn) (picked : Operation → Bool) (a : AppAnswer) → Own t.here.server picked → C t → C (cs.answer_each picked a t)
     unfolding cs.answer_each
     c_answers t picked a own b =
-        b_more t.id t.here.server t.here.life.0 t.operations (filter (λ o. not (picked o)) t.operations) t.out (map (answer_to a) (filter picked t.operations)) good (λ o h. b.known o (has_filter (λ o. not (picked o)) t.operations o h).0)
+        b_more t.id t.here.server t.here.life.0 t.operations (filter (λ o. not (picked o)) t.operations) t.out
+        (map (answer_to a) (filter picked t.operations)) good (λ o h. b.known o (has_filter (λ o. not (picked o)) t.operations o h).0)
         (λ o h e. has_filter_in (λ o. not (picked o)) t.operations o h (ap not (own o e))) few b
       where
         good : (x : Output) → Has x (map (answer_to a) (filter picked t.operations)) → Good t.here.server t.here.life.0 x
-        good x h = let z = has_map (answer_to a) _ x h in subst (Good t.here.server t.here.life.0) (sym z.2) (b.known z.0 (has_filter picked t.operations z.0 z.1).0)
+        good x h = let z = has_map (answer_to a) _ x h in subst (Good t.here.server t.here.life.0) (sym z.2)
+            (b.known z.0 (has_filter picked t.operations z.0 z.1).0)
 
         few : Few (filter (λ o. not (picked o)) t.operations) (t.out ++ map (answer_to a) (filter picked t.operations))
         few k =
@@ -185,14 +194,22 @@ module _ (c : ClientId) (K : ℕ → Type 0) (G : List Output) where
             omega (arith, x, y, z, w)
 
     -- the owner is not picked
-    pub o_answers : (t : Turn) (picked : Operation → Bool) (a : AppAnswer) → ((o : Operation) (cutting : Option ℕ) (body : Body) → Means o.ask cutting body → picked o ≡ false) → O t → O (cs.answer_each picked a t)
+    pub o_answers : (t : Turn) (picked : Operation → Bool) (a : AppAnswer) →
+        ((o : Operation) (cutting : Option ℕ) (body : Body) → Means o.ask cutting body → picked o ≡ false) → O t → O (cs.answer_each picked a t)
     unfolding cs.answer_each
     o_answers t picked a f w = go (view t.here.session) w
       where
-        by : (cutting : Option ℕ) (q : Option Request) → OwnedBy t.here.server cutting t.operations q → OwnedBy t.here.server cutting (filter (λ o. not (picked o)) t.operations) q
+        by : (cutting : Option ℕ) (q : Option Request) → OwnedBy t.here.server cutting t.operations q → OwnedBy t.here.server cutting
+            (filter (λ o. not (picked o)) t.operations) q
         by cutting None w = tt
         by cutting (Some q) w = λ e. let z = w e in
-            record { operation = z.operation; there = has_filter_in (λ o. not (picked o)) t.operations z.operation z.there (ap not (f z.operation cutting q.body z.means)); asked = z.asked; means = z.means }
+            record {
+              operation = z.operation;
+              there = has_filter_in (λ o. not (picked o)) t.operations z.operation z.there
+                  (ap not (f z.operation cutting q.body z.means));
+              asked = z.asked;
+              means = z.means;
+            }
 
         go : (v : Option (Option Request × Option ℕ)) → Owned t.here.server v t.operations → Owned t.here.server v (filter (λ o. not (picked o)) t.operations)
         go None w = tt
@@ -203,66 +220,13 @@ module _ (c : ClientId) (K : ℕ → Type 0) (G : List Output) where
     o_free t x e n = subst (λ o. Owned t.here.server (view o) t.operations) (sym e) (subst (OwnedBy t.here.server x.cutting t.operations) (sym n) tt)
 
     -- Sessions that go on.
-    pub w_condemn : (t : Turn) (x : ClientSession) → t.here.session ≡ Some x → W t → W (cr.condemn t x)
-    unfolding cr.condemn
-    w_condemn t x e w = (w.0, into t x e w.1)
-
-    pub grant_view : (x : ClientSession) (ino : ℕ) (g : GrantNo) (mode : Mode) → view (Some (cr.grant (cs.forget_wait ino x) ino g mode)) ≡ view (Some x)
-    unfolding cr.grant cr.grant_new cr.accept_grant cr.decline
-    grant_view x ino g mode = go (locks.is_above_seen x.locks ino g)
-      where
-        y : ClientSession
-        y = cs.forget_wait ino x
-
-        new : (b : Bool) → view (Some (if b then cr.accept_grant y ino g mode else cr.decline y ino g)) ≡ view (Some x)
-        new true = refl
-        new false = refl
-
-        go : (b : Bool) → view (Some (if b then cr.grant_new y ino g mode else y)) ≡ view (Some x)
-        go true = new (locks.has_place y.locks ino)
-        go false = refl
-
     -- another session with the same view
     pub w_view : (t : Turn) (x y : ClientSession) → t.here.session ≡ Some x → view (Some y) ≡ view (Some x) → W t → W (with_session y t)
     w_view t x y e v w = (w.0, subst (λ z. Owned t.here.server z t.operations) (sym v) (into t x e w.1))
 
-    pub w_granted : (t : Turn) (x : ClientSession) (ino : ℕ) (g : GrantNo) (mode : Mode) → t.here.session ≡ Some x → W t → W (cr.granted t x ino g mode)
-    unfolding cr.granted
-    w_granted t x ino g mode e w = w_view t x (cr.grant (cs.forget_wait ino x) ino g mode) e (grant_view x ino g mode) w
-
-    pub w_queued : (t : Turn) (x : ClientSession) (now : Stamp) (ino : ℕ) (mode : Mode) → t.here.session ≡ Some x → W t → W (cr.queued t x now ino mode)
-    unfolding cr.queued cr.wait_told cr.wait_unless_held
-    w_queued t x now ino mode e w = w_view t x (cr.wait_unless_held x ino mode now) e (go (Rattle.st_base.specs.Mode.covers (locks.mode_of x.locks ino) mode)) w
-      where
-        go : (b : Bool) → view (Some (if b then x else cr.wait_told x ino mode now)) ≡ view (Some x)
-        go true = refl
-        go false = refl
-
-    pub w_extents : (t : Turn) (x : ClientSession) (ino : ℕ) (rows : List ExtentRow) (asked : Body) → W t → W (cr.extents t x ino rows asked)
-    unfolding cr.extents cr.learn
-    w_extents t x ino rows asked w = if_both W (cr.is_current x.locks asked) _ t w w
-
-    pub w_reasserted : (t : Turn) (x : ClientSession) → t.here.session ≡ Some x → W t → W (cr.reasserted t x)
-    unfolding cr.reasserted
-    w_reasserted t x e w = (w.0, into t x e w.1)
-
-    pub w_removed : (t : Turn) (x : ClientSession) (file : Option ℕ) → t.here.session ≡ Some x → W t → W (cr.removed t x file)
-    unfolding cr.removed cr.drop_held cr.drop_lock
-    w_removed t x None e w = w
-    w_removed t x (Some ino) e w = go (locks.lock_of x.locks ino)
-      where
-        go : (o : Option HeldLock) → W (cr.drop_held t x ino o)
-        go None = w
-        go (Some l) = (w.0, into t x e w.1)
-
     -- Refusals.
     own_asked : (sv : ServerId) → Own sv (cs.is_asked sv)
     own_asked sv o e = and_left (cs.is_of sv o) _ e
-
-    c_refuse_file : (t : Turn) (a : AppAnswer) (file : Option ℕ) → C t → C (cr.refuse_file t a file)
-    unfolding cr.refuse_file
-    c_refuse_file t a None w = w
-    c_refuse_file t a (Some ino) w = c_answers t (cr.works_on t ino) a (λ o e. and_left _ _ (and_left (cs.is_of t.here.server o) _ e)) w
 
     own_changes : (sv : ServerId) (ino : ℕ) (p : PageNo) (o : Operation) → cs.is_of sv o ≡ false → cs.changes_page sv ino p o.ask ≡ false
     own_changes sv ino p o e = go o.ask e
@@ -272,23 +236,27 @@ module _ (c : ClientId) (K : ℕ → Type 0) (G : List Output) where
         go (asks.Patch f q at bytes) e = and_left _ _ e
         go a e = refl
 
-    c_refuse_page : (t : Turn) (a : AppAnswer) (file : Option ℕ) (page : Option PageNo) → C t → C (cr.refuse_page t a file page)
-    unfolding cr.refuse_page
-    c_refuse_page t a (Some ino) (Some p) w = c_answers t (cr.writes_on t ino p) a (λ o e. own_changes t.here.server ino p o e) w
-    c_refuse_page t a (Some ino) None w = w
-    c_refuse_page t a None page w = w
+    c_refused : (t : Turn) (y : Why) (a b : ℕ) (file : Option ℕ) (asked : Body) (u : Turn) → Refusal t file asked y a b u → C t → C u ×
+        (u.here.session ≡ t.here.session)
+    unfolding cs.answer_each
+    c_refused t _ a b file asked _ (trace.NoFile _ _ ino e) w = (
+      c_answers t (cr.works_on t ino) _
+          (λ o e. and_left _ _ (and_left (cs.is_of t.here.server o) _ e)) w,
+      refl,
+    )
+    c_refused t _ a b file asked _ (trace.TooManyLocks _ _ ino e) w = (
+      c_answers t (cr.works_on t ino) _
+          (λ o e. and_left _ _ (and_left (cs.is_of t.here.server o) _ e)) w,
+      refl,
+    )
+    c_refused t _ a b file asked _ (trace.NoSpace _ _ ino p e q) w = (c_answers t (cr.writes_on t ino p) _ (λ o e. own_changes t.here.server ino p o e) w, refl)
+    c_refused t _ a b file asked _ (trace.NotHolder _ _ e) w = (c_answers t (cs.is_asked t.here.server) _ (own_asked t.here.server) w, refl)
+    c_refused t y a b file asked _ (trace.AnswersNone _ _ _) w = (w, refl)
 
-    c_refuse_as : (t : Turn) (y : Why) (a b : ℕ) (file : Option ℕ) (asked : Body) → C t → C (cr.refuse_as t y a b file asked)
-    unfolding cr.refuse_as cr.refuse_holder
-    c_refuse_as t why.NoFile a b file asked w = c_refuse_file t _ file w
-    c_refuse_as t why.TooManyLocks a b file asked w = c_refuse_file t _ file w
-    c_refuse_as t why.NoSpace a b file asked w = c_refuse_page t _ file _ w
-    c_refuse_as t why.NotHolder a b file asked w = if_both C (cs.asks_cut_or_remove asked) _ t (c_answers t _ _ (own_asked t.here.server) w) w
-    c_refuse_as t y a b file asked w = w
-
-    c_stuck : (t : Turn) → C t → C (cr.leave_stuck t)
-    unfolding cr.leave_stuck
-    c_stuck t b = b_operations t.id t.here.server t.here.life.0 t.operations _ t.out (λ o h. known o (has_map (cr.stuck t) t.operations o h)) (λ o h e. subst (λ y. Has y (map (cr.stuck t) t.operations)) (same o e) (has_map_in (cr.stuck t) t.operations o h)) (λ k. let z = pending_map k (cr.stuck t) (λ o. op_of o (cs.is_asked t.here.server o)) t.operations in omega (arith, z)) b
+    c_stuck : (t : Turn) → C t → C (trace.left_stuck t)
+    c_stuck t b = b_operations t.id t.here.server t.here.life.0 t.operations _ t.out (λ o h. known o (has_map (cr.stuck t) t.operations o h))
+        (λ o h e. subst (λ y. Has y (map (cr.stuck t) t.operations)) (same o e) (has_map_in (cr.stuck t) t.operations o h))
+        (λ k. let z = pending_map k (cr.stuck t) (λ o. op_of o (cs.is_asked t.here.server o)) t.operations in omega (arith, z)) b
       where
         op_of : (o : Operation) (x : Bool) → (if x then cs.at_stage stages.Stuck o else o).op ≡ o.op
         op_of o true = refl
@@ -304,75 +272,19 @@ module _ (c : ClientId) (K : ℕ → Type 0) (G : List Output) where
             go true q = cc q
             go false q = refl
 
-    -- a turn whose session is this one
-    record SameHere (t u : Turn) : Type 0 where
-      pub session : u.here.session ≡ t.here.session
-
     answers_here : (t : Turn) (picked : Operation → Bool) (a : AppAnswer) → (cs.answer_each picked a t).here.session ≡ t.here.session
     unfolding cs.answer_each
     answers_here t picked a = refl
 
-    refuse_here : (t : Turn) (y : Why) (a b : ℕ) (file : Option ℕ) (asked : Body) → (cr.refuse_as t y a b file asked).here.session ≡ t.here.session
-    unfolding cr.refuse_as cr.refuse_holder cr.refuse_file cr.refuse_page
-    refuse_here t y a b file asked = by y
-      where
-        file_ : (answer : AppAnswer) (f : Option ℕ) → (cr.refuse_file t answer f).here.session ≡ t.here.session
-        file_ answer None = refl
-        file_ answer (Some ino) = answers_here t _ answer
-
-        page_ : (answer : AppAnswer) (f : Option ℕ) (p : Option PageNo) → (cr.refuse_page t answer f p).here.session ≡ t.here.session
-        page_ answer (Some ino) (Some p) = answers_here t _ answer
-        page_ answer (Some ino) None = refl
-        page_ answer None p = refl
-
-        by : (y : Why) → (cr.refuse_as t y a b file asked).here.session ≡ t.here.session
-        by why.NoFile = file_ _ file
-        by why.TooManyLocks = file_ _ file
-        by why.NoSpace = page_ _ file _
-        by why.NotHolder = if_both (λ u. u.here.session ≡ t.here.session) (cs.asks_cut_or_remove asked) _ t (answers_here t _ _) refl
-        by y = refl
-
-    pub w_refused : (t : Turn) (x : ClientSession) (y : Why) (a b : ℕ) (file : Option ℕ) (asked : Body) → t.here.session ≡ Some x → x.requests.asked ≡ None → C t → W (cr.refused t y a b file asked)
-    unfolding cr.refused cr.leave_stuck
-    w_refused t x y a b file asked e n w =
-        (c_stuck (cr.refuse_as t y a b file asked) (c_refuse_as t y a b file asked w), o_free (cr.leave_stuck (cr.refuse_as t y a b file asked)) x (refuse_here t y a b file asked ∙ e) n)
+    pub w_refused : (t u : Turn) (x : ClientSession) (y : Why) (a b : ℕ) (file : Option ℕ) (asked : Body) → t.here.session ≡ Some x → x.requests.asked ≡ None →
+        Refusal t file asked y a b u → C t → W (trace.left_stuck u)
+    w_refused t u x y a b file asked e n r w = let z = c_refused t y a b file asked u r w in (c_stuck u z.0, o_free (trace.left_stuck u) x (z.1 ∙ e) n)
 
     -- Answers to who waits.
-    pub w_asked : (t : Turn) (x : ClientSession) (a : AppAnswer) → t.here.session ≡ Some x → x.requests.asked ≡ None → C t → W (cs.answer_each (cs.is_asked t.here.server) a t)
-    w_asked t x a e n w = (c_answers t (cs.is_asked t.here.server) a (own_asked t.here.server) w, o_free (cs.answer_each (cs.is_asked t.here.server) a t) x (answers_here t _ a ∙ e) n)
-
-    pub w_named : (t : Turn) (x : ClientSession) (file : Option ℕ) (r : NameReply) → t.here.session ≡ Some x → x.requests.asked ≡ None → C t → W (cr.named t x file r)
-    unfolding cr.named cr.named_as
-    w_named t x file r e n w = by r
-      where
-        v : Turn
-        v = cs.answer_each (cs.is_asked t.here.server) (cr.name_answer r) t
-
-        all : W v
-        all = w_asked t x (cr.name_answer r) e n w
-
-        by : (r2 : NameReply) → W (cr.named_as v x file r2)
-        by (replies.Ino ino) = w_removed v x file (answers_here t _ (cr.name_answer r) ∙ e) all
-        by (replies.Listed rows) = all
-        by (replies.Refused code) = all
-
-    -- A session that begins.
-    pub w_welcome : (t : Turn) (now : Stamp) (epoch : Epoch) (stamp : Stamp) → W t → W (cr.welcome t now epoch stamp)
-    unfolding cr.welcome cr.begin_session cr.note_lease
-    w_welcome t now epoch stamp w = if_both W (cr.is_timely t now stamp) _ t (c_say (cr.begin_here (cr.new_session epoch stamp) t) _ tt w.0, tt) w
-
-    pub w_without : (t : Turn) (now : Stamp) (h : Rattle.st_messages.specs.declared.message.Header.Header) (b : Body) → W t → W (cr.without_session t now h b)
-    unfolding cr.without_session
-    w_without t now h bodies.Welcome w = w_welcome t now _ _ w
-    w_without t now h b w = w
-
-    -- A newer epoch.
-    pub w_newer : (t : Turn) (x : ClientSession) (epoch : Epoch) → W t → W (cr.newer_epoch t x epoch)
-    unfolding cr.newer_epoch cr.follow_epoch
-    w_newer t x epoch w = if_both W (cr.is_newer x epoch) _ t (w_asked (with_session (cr.in_epoch epoch x) t) (cr.in_epoch epoch x) _ refl refl w.0) w
-
-    pub w_of_other : (t : Turn) (x : ClientSession) (epoch : Epoch) (b : Body) → W t → W (cr.of_other_epoch t x epoch b)
-    unfolding cr.of_other_epoch
-    w_of_other t x epoch (bodies.Nack why.OtherEpoch u v) w = w_newer t x epoch w
-    w_of_other t x epoch (bodies.Nack z u v) w = w
-    w_of_other t x epoch b w = w
+    pub w_asked : (t : Turn) (x : ClientSession) (a : AppAnswer) → t.here.session ≡ Some x → x.requests.asked ≡ None → C t → W
+        (cs.answer_each (cs.is_asked t.here.server) a t)
+    w_asked t x a e n w = (
+      c_answers t (cs.is_asked t.here.server) a (own_asked t.here.server) w,
+      o_free (cs.answer_each (cs.is_asked t.here.server) a t) x
+          (answers_here t _ a ∙ e) n,
+    )
