@@ -1,61 +1,70 @@
--- The rules of a client, walked for the operations that asked before: none asks again, and each that is answered was told so under its own key.
-use Rattle.std.proofs.Common.{◌≡◌, ℕ, ◌⊎◌, Bool, true, false, not, ◌&&◌, ◌==◌, List, [], ◌∷◌, ◌++◌, Option, Some, None, Ok, Err, refl, sym, ap, ◌∙◌, subst, inl, inr, if◌then◌else◌, append_assoc}
+-- The operations of a client that asked before: none asks again, and each that is answered was told so under its own key.
+use Rattle.std.proofs.Common.{◌≡◌, ℕ, ◌⊎◌, Bool, true, false, not, ◌&&◌, List, [], ◌∷◌, ◌++◌, Option, Some, None, refl, sym, ap, ◌∙◌, subst}
+use Rattle.std.proofs.Common.{inl, inr, if◌then◌else◌, append_assoc}
 use Rattle.std.specs.Prelude.{filter, map}
 use Rattle.std.proofs.lemmas.Bool.{eqb-true, eq-eqb}
 use Rattle.st_base.specs.declared.disk.Tag.{Tag}
+use Rattle.st_base.specs.declared.disk.Command.TheVariants as commands
 use Rattle.st_base.specs.declared.ids.FileId.{FileId}
 use Rattle.st_base.specs.declared.ids.GrantNo.{GrantNo}
 use Rattle.st_base.specs.declared.ids.PageNo.{PageNo}
 use Rattle.st_base.specs.declared.ids.ServerId.{ServerId}
 use Rattle.st_base.specs.declared.ids.Stamp.{Stamp}
 use Rattle.st_base.specs.declared.mode.Mode.{Mode}
-use Rattle.st_base.specs.declared.mode.Mode.TheVariants as modes
 use Rattle.st_messages.specs.declared.answer.AppAnswer.{AppAnswer}
 use Rattle.st_messages.specs.declared.answer.AppAnswer.TheVariants as answers
 use Rattle.st_messages.specs.declared.ask.Ask.{Ask}
-use Rattle.st_messages.specs.declared.ask.Ask.TheVariants as asks
 use Rattle.st_messages.specs.declared.message.Body.{Body}
-use Rattle.st_messages.specs.declared.message.Body.TheVariants as bodies
 use Rattle.st_messages.specs.declared.message.Header.{Header}
-use Rattle.st_messages.specs.declared.message.NameReply.{NameReply}
-use Rattle.st_messages.specs.declared.message.NameReply.TheVariants as replies
 use Rattle.st_messages.specs.declared.message.Why.{Why}
 use Rattle.st_messages.specs.declared.message.Why.TheVariants as why
 use Rattle.st_messages.specs.declared.output.Note.{Note}
 use Rattle.st_messages.specs.declared.output.Output.{Output}
 use Rattle.st_messages.specs.declared.output.Output.TheVariants as outputs
-use Rattle.st_rules.specs.declared.client.Asked.{Asked}
-use Rattle.st_rules.specs.declared.client.Asked.TheVariants as demands
-use Rattle.st_rules.specs.declared.client.Ended.TheVariants as ends
-use Rattle.st_rules.specs.declared.client.HeldLock.{HeldLock}
-use Rattle.st_rules.specs.declared.client.IoKind.{IoKind}
 use Rattle.st_rules.specs.declared.client.IoKind.TheVariants as io
-use Rattle.st_rules.specs.declared.client.KnownExtent.{KnownExtent}
-use Rattle.st_rules.specs.declared.client.MappedBlock.{MappedBlock}
 use Rattle.st_rules.specs.declared.client.Operation.{Operation}
 use Rattle.st_rules.specs.declared.client.PageCommand.{PageCommand}
-use Rattle.st_rules.specs.declared.client.Release.{Release}
 use Rattle.st_rules.specs.declared.client.Request.{Request}
-use Rattle.st_rules.specs.declared.client.WriteRefusal.TheVariants.{DirtyFull}
-use Rattle.st_rules.specs.declared.pages.DirtyPage.{DirtyPage}
+use Rattle.st_rules.specs.Dating.{may_date, refuses_client}
 use Rattle.st_rules.specs.Client as cl
-use Rattle.st_rules.specs.ClientLease as lease
 use Rattle.st_rules.specs.ClientLocks as locks
 use Rattle.st_rules.specs.ClientPages as pages
 use Rattle.st_rules.specs.ClientPasses as cp
 use Rattle.st_rules.specs.ClientReplies as cr
 use Rattle.st_rules.specs.ClientState as cs
-use Rattle.st_rules.specs.ClientState.{ClientSession, Turn, Requests, answer_to, server_of, say, with_session, with_store, with_operations}
+use Rattle.st_rules.specs.ClientState.{ClientSession, Turn, answer_to, server_of, say, with_session, with_store, with_operations}
 use Rattle.st_lemmas.specs.Lists.{Has}
-use Rattle.st_lemmas.proofs.Lookups.{some_is}
 use Rattle.st_lemmas.proofs.Tables.{and_both, and_true, has_append, has_filter, has_map, not_true}
-use Rattle.st_base.specs.declared.ids.Epoch.{Epoch}
 use Rattle.st_rules.specs.declared.client.Stage.{Stage}
 use Rattle.st_rules.specs.declared.client.Stage.TheVariants as stages
 use Rattle.st_rules.specs.Keys.{server_node}
-use Rattle.st_laws_leases.proofs.Dates.Known.{has_right}
-use Rattle.st_laws_requests.proofs.Cuts.Keeping.{Answers, asked_of, has_middle, if_both, if_case, no_acquire, no_map, no_reassert}
-use Rattle.st_laws_names.proofs.Frames.{Counts, IsKeptRefusal, Own, clash, grant_view, has_none, note_server, other, server_kept, view}
+use Rattle.st_laws_requests.proofs.Cuts.Keeping.{Answers, asked_of, no_acquire, no_map, no_reassert}
+use Rattle.st_laws_names.proofs.Frames.{IsKeptRefusal, Own, clash, has_none, other, view}
+use Rattle.st_trace.specs.Client.Commands as ending
+use Rattle.st_trace.specs.Client.Commands.{Finishes, Takes}
+use Rattle.st_trace.specs.Client.Losses as losing
+use Rattle.st_trace.specs.Client.Losses.{Loses}
+use Rattle.st_trace.specs.Client.Messages as trace
+use Rattle.st_trace.specs.Client.Messages.{Effect, Grants, Receives, Refusal, Renews, Replied}
+use Rattle.st_trace.specs.Client.Operations as pass
+use Rattle.st_trace.specs.Client.Operations.{Changed, Operated}
+use Rattle.st_trace.specs.Client.Passes.{Reduced, StaysHeld, IsReduced, WritesOut, StaysDirty, IsWritten, places_of}
+use Rattle.st_trace.specs.Client.Requests as asking
+use Rattle.st_trace.specs.Client.Requests.{AsksFirst, Greets}
+use Rattle.st_trace.proofs.Client.Finishing.{at_server, finishes, takes}
+use Rattle.st_trace.proofs.Client.Lists.{has_left, has_middle, has_right}
+use Rattle.st_trace.proofs.Client.Losing.{loses}
+use Rattle.st_trace.proofs.Client.Receiving.{receives}
+use Rattle.st_trace.proofs.Client.Walk.{each_lasts, passes}
+use Rattle.st_laws_requests.specs.Replies.ServedRequests.{KeptWhy}
+
+-- a refusal by which a lease may be dated is kept
+kept_why : (w : Why) → not (refuses_client w) ≡ true → KeptWhy w
+kept_why why.NoFile k = tt
+kept_why why.TooManyLocks k = tt
+kept_why why.NoSpace k = tt
+kept_why why.NotHolder k = tt
+kept_why w k = cc
 
 module _ (S : ℕ → Type 0) (Key : ServerId → ℕ → ℕ → ℕ → ℕ → Type 0) (Ended : ℕ → AppAnswer → Type 0) (Refused : ℕ → Type 0)
     (open_ : (op n m : ℕ) → Ended op (answers.Uncertain n m)) (gone_ : (op : ℕ) (a : AppAnswer) → Refused op → Ended op a) where
@@ -115,17 +124,16 @@ module _ (S : ℕ → Type 0) (Key : ServerId → ℕ → ℕ → ℕ → ℕ �
     into : (t : Turn) (x : ClientSession) → t.here.session ≡ Some x → W t → WIn t x
     into t x e w = subst (λ o. Whole t.here.server t.here.life.0 (view o) t.operations t.out) e w
 
-    free_all : (sv : ServerId) (life : ℕ) (v : Option (ℕ × Option Request)) (ops : List Operation) (out : List Output) → Free sv ops → Base sv ops out → Whole sv life v ops out
+    free_all : (sv : ServerId) (life : ℕ) (v : Option (ℕ × Option Request)) (ops : List Operation) (out : List Output) → Free sv ops → Base sv ops out →
+        Whole sv life v ops out
     free_all sv life v ops out f b = record { base = b; asked = λ o h z e. absurd (f o h z e) }
-
-    if_w : (b : Bool) (t u : Turn) → W t → W u → W (if b then t else u)
-    if_w b t u x y = if_both W b t u x y
 
     -- fewer operations
     b_fewer : (sv : ServerId) (ops qs : List Operation) (out : List Output) → ((o : Operation) → Has o qs → Has o ops) → Base sv ops out → Base sv qs out
     b_fewer sv ops qs out f b = record { server = b.server; fine = λ o h. b.fine o (f o h); said = b.said }
 
-    w_fewer : (sv : ServerId) (life : ℕ) (v : Option (ℕ × Option Request)) (ops qs : List Operation) (out : List Output) → ((o : Operation) → Has o qs → Has o ops) → Whole sv life v ops out → Whole sv life v qs out
+    w_fewer : (sv : ServerId) (life : ℕ) (v : Option (ℕ × Option Request)) (ops qs : List Operation) (out : List Output) →
+        ((o : Operation) → Has o qs → Has o ops) → Whole sv life v ops out → Whole sv life v qs out
     w_fewer sv life v ops qs out f w = record { base = b_fewer sv ops qs out f w.base; asked = λ o h. w.asked o (f o h) }
 
     -- more outputs
@@ -150,11 +158,9 @@ module _ (S : ℕ → Type 0) (Key : ServerId → ℕ → ℕ → ℕ → ℕ �
     w_say : (t : Turn) (o : Output) → Okay o → W t → W (say t o)
     w_say t o k w = record { base = b_say t.here.server t.operations t.out o k w.base; asked = w.asked }
 
-    w_say_in : (t : Turn) (x : ClientSession) (o : Output) → Okay o → WIn t x → WIn (say t o) x
-    w_say_in t x o k w = record { base = b_say t.here.server t.operations t.out o k w.base; asked = w.asked }
-
     -- operations are answered
-    b_answers : (t : Turn) (picked : Operation → Bool) (a : AppAnswer) → ((o : Operation) → Has o t.operations → S o.op → picked o ≡ true → Ended o.op a) → C t → C (cs.answer_each picked a t)
+    b_answers : (t : Turn) (picked : Operation → Bool) (a : AppAnswer) → ((o : Operation) → Has o t.operations → S o.op → picked o ≡ true → Ended o.op a) →
+        C t → C (cs.answer_each picked a t)
     unfolding cs.answer_each
     b_answers t picked a k b = b_more t.here.server _ t.out _ okay (b_fewer t.here.server t.operations _ t.out (λ o h. (has_filter _ t.operations o h).0) b)
       where
@@ -164,7 +170,8 @@ module _ (S : ℕ → Type 0) (Key : ServerId → ℕ → ℕ → ℕ → ℕ �
             let y = has_filter picked t.operations z.0 z.1 in
             subst Okay (sym z.2) (λ q. k z.0 y.0 q y.1)
 
-    w_answers : (t : Turn) (picked : Operation → Bool) (a : AppAnswer) → ((o : Operation) → Has o t.operations → S o.op → picked o ≡ true → Ended o.op a) → W t → W (cs.answer_each picked a t)
+    w_answers : (t : Turn) (picked : Operation → Bool) (a : AppAnswer) → ((o : Operation) → Has o t.operations → S o.op → picked o ≡ true → Ended o.op a) →
+        W t → W (cs.answer_each picked a t)
     unfolding cs.answer_each
     w_answers t picked a k w = record { base = b_answers t picked a k w.base; asked = λ o h. w.asked o (has_filter _ t.operations o h).0 }
 
@@ -177,52 +184,17 @@ module _ (S : ℕ → Type 0) (Key : ServerId → ℕ → ℕ → ℕ → ℕ �
     w_view : (t : Turn) (x y : ClientSession) → view (Some y) ≡ view (Some x) → WIn t x → WIn t y
     w_view t x y e w = subst (λ v. Whole t.here.server t.here.life.0 v t.operations t.out) (sym e) w
 
-    w_granted : (t : Turn) (x : ClientSession) (ino : ℕ) (g : GrantNo) (mode : Mode) → WIn t x → W (cr.granted t x ino g mode)
-    unfolding cr.granted
-    w_granted t x ino g mode w = w_view t x (cr.grant (cs.forget_wait ino x) ino g mode) (grant_view x ino g mode) w
-
-    w_condemn : (t : Turn) (x : ClientSession) → WIn t x → W (cr.condemn t x)
-    unfolding cr.condemn
-    w_condemn t x w = w
-
-    -- A session that begins.
-    w_welcome : (t : Turn) (now : Stamp) (epoch : Epoch) (stamp : Stamp) → t.here.session ≡ None → W t → W (cr.welcome t now epoch stamp)
-    unfolding cr.welcome cr.begin_session cr.note_lease
-    w_welcome t now epoch stamp e w = if_w (cr.is_timely t now stamp) _ t (w_say (cr.begin_here (cr.new_session epoch stamp) t) _ tt (free_all _ _ _ t.operations t.out free w.base)) w
-      where
-        free : Free t.here.server t.operations
-        free o h z a = (subst (λ o. Whole t.here.server t.here.life.0 (view o) t.operations t.out) e w).asked o h z a
-
-    w_without : (t : Turn) (now : Stamp) (h : Header) (b : Body) → t.here.session ≡ None → W t → W (cr.without_session t now h b)
-    unfolding cr.without_session
-    w_without t now h bodies.Welcome e w = w_welcome t now _ _ e w
-    w_without t now h b e w = w
-
-    -- A newer epoch: who waited is answered.
-    w_newer : (t : Turn) (x : ClientSession) (epoch : Epoch) → W t → W (cr.newer_epoch t x epoch)
-    unfolding cr.newer_epoch cr.follow_epoch cs.answer_each
-    w_newer t x epoch w = if_w (cr.is_newer x epoch) _ t follows w
-      where
-        y : Turn
-        y = with_session (cr.in_epoch epoch x) t
-
-        follows : W (cs.answer_each (cs.is_asked t.here.server) (answers.Uncertain x.epoch.0 epoch.0) y)
-        follows = free_all _ _ _ _ _ (freed y (answers.Uncertain x.epoch.0 epoch.0)) (b_answers y (cs.is_asked t.here.server) (answers.Uncertain x.epoch.0 epoch.0) (λ o h z p. open_ o.op x.epoch.0 epoch.0) w.base)
-
-    w_of_other : (t : Turn) (x : ClientSession) (epoch : Epoch) (b : Body) → W t → W (cr.of_other_epoch t x epoch b)
-    unfolding cr.of_other_epoch
-    w_of_other t x epoch (bodies.Nack why.OtherEpoch u v) w = w_newer t x epoch w
-    w_of_other t x epoch (bodies.Nack z u v) w = w
-    w_of_other t x epoch b w = w
+    granted_view : (x : ClientSession) (ino : ℕ) (g : GrantNo) (mode : Mode) (v : ClientSession) → Grants (cs.forget_wait ino x) ino g mode v → view
+        (Some v) ≡ view (Some x)
+    granted_view x ino g mode _ (trace.Installs a p) = refl
+    granted_view x ino g mode _ (trace.Declines a p) = refl
+    granted_view x ino g mode _ (trace.IsOld a) = refl
 
     -- Requests.
-    w_ask : (t : Turn) (x : ClientSession) (now : Stamp) (body : Body) (cutting : Option ℕ) → Free t.here.server t.operations → C t → W (cp.ask t x now body cutting)
-    unfolding cp.ask cs.send cs.asking
+    w_ask : (t : Turn) (x : ClientSession) (now : Stamp) (body : Body) (cutting : Option ℕ) → Free t.here.server t.operations → C t → W
+        (asking.asked t x now body cutting)
+    unfolding cs.send cs.asking
     w_ask t x now body cutting f b = w_say (with_session (cp.asking_session x now body cutting) t) _ tt (free_all _ _ _ t.operations t.out f b)
-
-    w_again : (t : Turn) (x : ClientSession) (now : Stamp) (q : Request) → x.requests.asked ≡ Some q → WIn t x → W (cp.ask_again t x now q)
-    unfolding cp.ask_again cs.send
-    w_again t x now q e w = w_say (with_session (cp.again_session x now q) t) _ tt (record { base = w.base; asked = λ o h z a. subst (λ r. AtRequest t.here.server t.here.life.0 x.epoch.0 r o.op) e (w.asked o h z a) })
 
     none_waits : (t : Turn) (x : ClientSession) → x.requests.asked ≡ None → WIn t x → Free t.here.server t.operations
     none_waits t x e w o h z a = subst (λ q. AtRequest t.here.server t.here.life.0 x.epoch.0 q o.op) e (w.asked o h z a)
@@ -232,107 +204,69 @@ module _ (S : ℕ → Type 0) (Key : ServerId → ℕ → ℕ → ℕ → ℕ �
       pub fine : (o : Operation) → Has o qs → Fine sv B o
       pub free : Free sv qs
 
-    asking_is : (t : Turn) (x : ClientSession) (now : Stamp) (os : List Operation) (a : cp.Asking) → cp.first_asking t x now os ≡ Some a → ((o : Operation) → Has o os → Fine t.here.server B o) → Free t.here.server os → AskingOk t.here.server a.operations
-    unfolding cp.first_asking cp.asks_or cp.asked_by
-    asking_is t x now [] a e f g = cc
-    asking_is t x now (o ∷ os) a e f g = go (cp.asked_by t x now o) refl (cp.first_asking t x now os) refl e (λ b q. asking_is t x now os b q (λ p h. f p (inr h)) (λ p h. g p (inr h)))
+    asking_is : (t : Turn) (x : ClientSession) (now : Stamp) (xs : List Operation) (o : Operation) (ys os : List Operation) (w : cp.Wanted) →
+        AsksFirst t x now xs o ys w os →
+        ((p : Operation) → Has p os → Fine t.here.server B p) → Free t.here.server os → AskingOk t.here.server (xs ++ cp.sent_if w.own o ∷ ys)
+    asking_is t x now xs o ys os w k f g = record {
+      fine = λ p h. fine p (has_append xs (cp.sent_if w.own o ∷ ys) p h);
+      free = λ p h. free p
+          (has_append xs (cp.sent_if w.own o ∷ ys) p h);
+    }
       where
         sv : ServerId
         sv = t.here.server
 
-        later : (b : cp.Asking) → a ≡ record b { operations = o ∷ b.operations } → AskingOk sv b.operations → AskingOk sv a.operations
-        later b e k = subst (λ (z : cp.Asking). AskingOk sv z.operations) (sym e) (record { fine = fine; free = free })
-          where
-            fine : (p : Operation) → Has p (o ∷ b.operations) → Fine sv B p
-            fine p (inl q) = subst (Fine sv B) (sym q) (f o (inl refl))
-            fine p (inr h) = k.fine p h
+        there : (p : Operation) → Has p (xs ++ o ∷ ys) → Has p os
+        there p h = subst (Has p) (sym k.there) h
 
-            free : Free sv (o ∷ b.operations)
-            free p (inl q) z w = g o (inl refl) (subst (λ (r : Operation). S r.op) q z) (subst (λ r. cs.is_asked sv r ≡ true) q w)
-            free p (inr h) z w = k.free p h z w
+        own : cs.is_of sv o ≡ true
+        own = (and_true (cs.is_of sv o) _ k.may).0
 
-        here : (w : cp.Wanted) → cp.asked_by t x now o ≡ Some w → a ≡ record { wanted = w; operations = cp.sent_if w.own o ∷ os } → AskingOk sv a.operations
-        here w e1 e2 = subst (λ (z : cp.Asking). AskingOk sv z.operations) (sym e2) (record { fine = fine; free = free })
-          where
-            may : cp.may_ask t x o ≡ true
-            may = pick (cp.may_ask t x o) e1
-              where
-                pick : (b : Bool) → (if b then cp.want t x now o.ask else None) ≡ Some w → b ≡ true
-                pick true r = refl
-                pick false r = cc r
+        unsent : cs.is_sent o ≡ false
+        unsent = not_true _ (and_true (not (cs.is_sent o)) _ (and_true (cs.is_of sv o) _ k.may).1).0
 
-            own : cs.is_of sv o ≡ true
-            own = (and_true (cs.is_of sv o) _ may).0
+        new : S o.op → ⊥
+        new z = clash (sent_of o.stage o.op ((f o (there o (has_right xs (o ∷ ys) o (inl refl)))).state z own)) unsent
 
-            unsent : cs.is_sent o ≡ false
-            unsent = not_true _ (and_true (not (cs.is_sent o)) _ (and_true (cs.is_of sv o) _ may).1).0
+        new_it : (b : Bool) → S (cp.sent_if b o).op → ⊥
+        new_it true z = new z
+        new_it false z = new z
 
-            new : S o.op → ⊥
-            new z = clash (sent_of o.stage o.op ((f o (inl refl)).state z own)) unsent
+        of_it : (b : Bool) → cs.is_of sv (cp.sent_if b o) ≡ true
+        of_it true = own
+        of_it false = own
 
-            new_it : (b : Bool) → S (cp.sent_if b o).op → ⊥
-            new_it true z = new z
-            new_it false z = new z
+        it : (b : Bool) → Fine sv B (cp.sent_if b o)
+        it b = record { others = λ q. clash (of_it b) q; kind = λ z. absurd (new_it b z); state = λ z q. absurd (new_it b z) }
 
-            of_it : (b : Bool) → cs.is_of sv (cp.sent_if b o) ≡ true
-            of_it true = own
-            of_it false = own
+        fine : (p : Operation) → Has p xs ⊎ Has p (cp.sent_if w.own o ∷ ys) → Fine sv B p
+        fine p (inl h) = f p (there p (has_left xs (o ∷ ys) p h))
+        fine p (inr (inl q)) = subst (Fine sv B) (sym q) (it w.own)
+        fine p (inr (inr h)) = f p (there p (has_right xs (o ∷ ys) p (inr h)))
 
-            it : (b : Bool) → Fine sv B (cp.sent_if b o)
-            it b = record { others = λ q. clash (of_it b) q; kind = λ z. absurd (new_it b z); state = λ z q. absurd (new_it b z) }
+        free : (p : Operation) → Has p xs ⊎ Has p (cp.sent_if w.own o ∷ ys) → S p.op → cs.is_asked sv p ≡ true → ⊥
+        free p (inl h) z r = g p (there p (has_left xs (o ∷ ys) p h)) z r
+        free p (inr (inl q)) z r = new_it w.own (subst (λ (r : Operation). S r.op) q z)
+        free p (inr (inr h)) z r = g p (there p (has_right xs (o ∷ ys) p (inr h))) z r
 
-            fine : (p : Operation) → Has p (cp.sent_if w.own o ∷ os) → Fine sv B p
-            fine p (inl q) = subst (Fine sv B) (sym q) (it w.own)
-            fine p (inr h) = f p (inr h)
-
-            free : Free sv (cp.sent_if w.own o ∷ os)
-            free p (inl q) z r = new_it w.own (subst (λ (r : Operation). S r.op) q z)
-            free p (inr h) z r = g p (inr h) z r
-
-        go : (r : Option cp.Wanted) → cp.asked_by t x now o ≡ r → (l : Option cp.Asking) → cp.first_asking t x now os ≡ l → cp.asks_or o os l r ≡ Some a → ((b : cp.Asking) → cp.first_asking t x now os ≡ Some b → AskingOk sv b.operations) → AskingOk sv a.operations
-        go None e1 None e2 q k = cc q
-        go None e1 (Some b) e2 q k = later b (sym (some_is q)) (k b e2)
-        go (Some w) e1 l e2 q k = here w e1 (sym (some_is q))
-
-    w_plain_ask : (t : Turn) (x : ClientSession) (now : Stamp) (body : Body) → x.requests.asked ≡ None → WIn t x → W (cp.ask t x now body None)
+    w_plain_ask : (t : Turn) (x : ClientSession) (now : Stamp) (body : Body) → x.requests.asked ≡ None → WIn t x → W (asking.asked t x now body None)
     w_plain_ask t x now body e w = w_ask t x now body None (none_waits t x e w) w.base
 
-    w_keep_alive : (t : Turn) (x : ClientSession) (now : Stamp) → x.requests.asked ≡ None → WIn t x → W t → W (cp.keep_alive t x now)
-    unfolding cp.keep_alive
-    w_keep_alive t x now e w y = if_w _ _ t (w_plain_ask t x now _ e w) y
-
-    w_ask_for : (t : Turn) (x : ClientSession) (now : Stamp) (a : cp.Asking) → cp.first_asking t x now t.operations ≡ Some a → x.requests.asked ≡ None → WIn t x → W (cp.ask_for t x now a)
-    unfolding cp.ask_for
-    w_ask_for t x now a f e w = w_ask (with_store (cp.cut_store a.wanted.cut t.here.store) (with_operations a.operations t)) x now a.wanted.body (cp.file_cut a.wanted.cut) k.free (record { server = w.base.server; fine = k.fine; said = w.base.said })
-      where
-        k : AskingOk t.here.server a.operations
-        k = asking_is t x now t.operations a f w.base.fine (none_waits t x e w)
-
-    w_ask_next : (t : Turn) (x : ClientSession) (now : Stamp) → x.requests.asked ≡ None → WIn t x → W t → W (cp.ask_next t x now)
-    unfolding cp.ask_next cp.ask_for_or
-    w_ask_next t x now e w y = if_w (cs.is_serving t.config x now) _ _ (go (cp.first_asking t x now t.operations) refl) (w_keep_alive t x now e w y)
-      where
-        go : (o : Option cp.Asking) → cp.first_asking t x now t.operations ≡ o → W (cp.ask_for_or t x now o)
-        go None f = w_keep_alive t x now e w y
-        go (Some a) f = w_ask_for t x now a f e w
-
-    w_ask_by : (t : Turn) (x : ClientSession) (now : Stamp) (rs : List Release) → x.requests.asked ≡ None → WIn t x → W t → W (cp.ask_by t x now rs)
-    unfolding cp.ask_by cp.ask_release
-    w_ask_by t x now [] e w y = w_ask_next t x now e w y
-    w_ask_by t x now (r ∷ rs) e w y = w_plain_ask t (record x { releases = rs }) now _ e w
-
-    w_requests_at : (t : Turn) (x : ClientSession) (now : Stamp) (tick : Bool) (o : Option Request) → x.requests.asked ≡ o → WIn t x → W t → W (cp.requests_at t x now tick o)
-    unfolding cp.requests_at cp.ask_new cp.reassert cp.repeat
-    w_requests_at t x now tick None e w y = if_w x.due _ _ (w_plain_ask t x now _ e w) (w_ask_by t x now x.releases e w y)
-    w_requests_at t x now tick (Some q) e w y = if_w _ _ t (w_again t x now q e w) y
-
-    w_requests : (now : Stamp) (tick : Bool) (t : Turn) → W t → W (cp.requests now tick t)
-    unfolding cp.requests cp.requests_by cp.requests_under
-    w_requests now tick t w = go t.here.session refl
-      where
-        go : (o : Option ClientSession) → t.here.session ≡ o → W (cp.requests_by t now tick o)
-        go None e = w
-        go (Some x) e = if_w x.lease.condemned t _ w (w_requests_at t x now tick x.requests.asked refl (into t x e w) w)
+    w_requested : (now : Stamp) (tick : Bool) (t u : Turn) → asking.Requests now tick t u → W t → W u
+    unfolding cs.send
+    w_requested now tick t _ asking.AsksNothing w = w
+    w_requested now tick t _ (asking.AsksAgain x q e c n o) w =
+        let v = into t x e w in
+        w_say (with_session (cp.again_session x now q) t) _ tt
+        (record { base = v.base; asked = λ o h z a. subst (λ r. AtRequest t.here.server t.here.life.0 x.epoch.0 r o.op) n (v.asked o h z a) })
+    w_requested now tick t _ (asking.Reasserts x m d) w = w_plain_ask t x now _ m.none (into t x m.session w)
+    w_requested now tick t _ (asking.Releases x r rs m d e) w = w_plain_ask t (record x { releases = rs }) now _ m.none (into t x m.session w)
+    w_requested now tick t _ (asking.AsksFor x xs o ys a f e i) w =
+        let v = into t x f.may.session w in
+        let k = asking_is t x now xs o ys t.operations a i v.base.fine (none_waits t x f.may.none v) in
+        w_ask (with_store (cp.cut_store a.cut t.here.store) (with_operations (xs ++ cp.sent_if a.own o ∷ ys) t)) x now a.body (cp.file_cut a.cut) k.free
+        (record { server = v.base.server; fine = k.fine; said = v.base.said })
+    w_requested now tick t _ (asking.KeepsAlive x f e) w = w_plain_ask t x now _ f.may.none (into t x f.may.session w)
 
     -- Replies.
     module _ (now : Stamp) (h : Header) (m : Body)
@@ -347,7 +281,8 @@ module _ (S : ℕ → Type 0) (Key : ServerId → ℕ → ℕ → ℕ → ℕ �
       MM t = Mid t.here.server t.operations t.out
 
       -- an operation of this server that asked was refused
-      refused_all : (t : Turn) → h.from ≡ server_node t.here.server → IsKeptRefusal m → MM t → (o : Operation) → Has o t.operations → S o.op → cs.is_of t.here.server o ≡ true → Refused o.op
+      refused_all : (t : Turn) → h.from ≡ server_node t.here.server → IsKeptRefusal m → MM t → (o : Operation) → Has o t.operations → S o.op →
+          cs.is_of t.here.server o ≡ true → Refused o.op
       refused_all t from n w o i z of = go o.stage refl ((w.base.fine o i).state z of)
         where
           go : (g : Stage) → o.stage ≡ g → AtStage g o.op → Refused o.op
@@ -357,42 +292,42 @@ module _ (S : ℕ → Type 0) (Key : ServerId → ℕ → ℕ → ℕ → ℕ �
 
       w_told : (t : Turn) (a : AppAnswer) → h.from ≡ server_node t.here.server → Answers m a → MM t → W (cs.answer_each (cs.is_asked t.here.server) a t)
       unfolding cs.answer_each
-      w_told t a from its w = free_all _ _ _ _ _ (freed t a) (b_answers t (cs.is_asked t.here.server) a (λ o i z p. told t.here.server o.op a from (w.meant o i z p) its) w.base)
+      w_told t a from its w = free_all _ _ _ _ _ (freed t a) (b_answers t (cs.is_asked t.here.server) a
+          (λ o i z p. told t.here.server o.op a from (w.meant o i z p) its) w.base)
 
       -- refusals
-      m_answers : (t : Turn) (picked : Operation → Bool) (a : AppAnswer) → ((o : Operation) → Has o t.operations → S o.op → picked o ≡ true → Ended o.op a) → MM t → MM (cs.answer_each picked a t)
+      m_answers : (t : Turn) (picked : Operation → Bool) (a : AppAnswer) → ((o : Operation) → Has o t.operations → S o.op → picked o ≡ true → Ended o.op a) →
+          MM t → MM (cs.answer_each picked a t)
       unfolding cs.answer_each
       m_answers t picked a k w = record { base = b_answers t picked a k w.base; meant = λ o i. w.meant o (has_filter _ t.operations o i).0 }
 
-      if_m : (b : Bool) (t u : Turn) → MM t → MM u → MM (if b then t else u)
-      if_m b t u x y = if_both MM b t u x y
+      m_refused : (t : Turn) (y : Why) (a b : ℕ) (file : Option ℕ) (asked : Body) (u : Turn) → h.from ≡ server_node t.here.server → IsKeptRefusal m →
+          Refusal t file asked y a b u → MM t → MM u × (u.here.server ≡ t.here.server)
+      unfolding cs.answer_each
+      m_refused t _ a b file asked _ from n (trace.NoFile _ _ ino e) w = (
+        m_answers t _ answers.NoFile (λ o i z p. gone_ o.op answers.NoFile
+            (refused_all t from n w o i z (and_true (cs.is_of t.here.server o) _ (and_true (cs.is_on t.here.server ino o) _ p).0).0)) w,
+        refl,
+      )
+      m_refused t _ a b file asked _ from n (trace.TooManyLocks _ _ ino e) w = (
+        m_answers t _ answers.TooManyLocks (λ o i z p. gone_ o.op answers.TooManyLocks
+            (refused_all t from n w o i z (and_true (cs.is_of t.here.server o) _ (and_true (cs.is_on t.here.server ino o) _ p).0).0)) w,
+        refl,
+      )
+      m_refused t _ a b file asked _ from n (trace.NoSpace _ _ ino p e q) w = (
+        m_answers t _ (answers.NoSpace a b) (λ o i z q. other (cs.changes_page t.here.server ino p) (λ f r. refl) (λ sv k. refl) o.ask
+            ((w.base.fine o i).kind z) q) w,
+        refl,
+      )
+      m_refused t _ a b file asked _ from n (trace.NotHolder _ _ e) w =
+          (m_answers t _ answers.NotHolder (λ o i z q. gone_ o.op answers.NotHolder (refused_all t from n w o i z (asked_of t.here.server o q).0)) w, refl)
+      m_refused t y a b file asked _ from n (trace.AnswersNone _ _ _) w = (w, refl)
 
-      m_refused : (t : Turn) (y : Why) (a b : ℕ) (file : Option ℕ) (asked : Body) → h.from ≡ server_node t.here.server → IsKeptRefusal m → MM t → MM (cr.refuse_as t y a b file asked)
-      unfolding cr.refuse_as cr.refuse_holder cr.refuse_file cr.refuse_page
-      m_refused t y a b file asked from n w = go y
-        where
-          ended : (o : Operation) → Has o t.operations → S o.op → cs.is_of t.here.server o ≡ true → (x : AppAnswer) → Ended o.op x
-          ended o i z of x = gone_ o.op x (refused_all t from n w o i z of)
-
-          on_file : (x : AppAnswer) (f : Option ℕ) → MM (cr.refuse_file t x f)
-          on_file x None = w
-          on_file x (Some ino) = m_answers t _ x (λ o i z p. ended o i z (and_true (cs.is_of t.here.server o) _ (and_true (cs.is_on t.here.server ino o) _ p).0).0 x) w
-
-          on_page : (x : AppAnswer) (f : Option ℕ) (p : Option PageNo) → MM (cr.refuse_page t x f p)
-          on_page x (Some ino) (Some p) = m_answers t _ x (λ o i z q. other (cs.changes_page t.here.server ino p) (λ f r. refl) (λ sv k. refl) o.ask ((w.base.fine o i).kind z) q) w
-          on_page x (Some ino) None = w
-          on_page x None p = w
-
-          go : (y : Why) → MM (cr.refuse_as t y a b file asked)
-          go why.NoFile = on_file answers.NoFile file
-          go why.TooManyLocks = on_file answers.TooManyLocks file
-          go why.NoSpace = on_page (answers.NoSpace a b) file (cs.page_asked asked)
-          go why.NotHolder = if_m (cs.asks_cut_or_remove asked) _ t (m_answers t _ answers.NotHolder (λ o i z q. ended o i z (asked_of t.here.server o q).0 answers.NotHolder) w) w
-          go z = w
-
-      w_stuck : (t : Turn) → h.from ≡ server_node t.here.server → IsKeptRefusal m → MM t → W (cr.leave_stuck t)
-      unfolding cr.leave_stuck
-      w_stuck t from n w = record { base = record { server = w.base.server; fine = λ o i. fine o (has_map (cr.stuck t) t.operations o i); said = w.base.said }; asked = λ o i z e. absurd (free o (has_map (cr.stuck t) t.operations o i) e) }
+      w_stuck : (t : Turn) → h.from ≡ server_node t.here.server → IsKeptRefusal m → MM t → W (trace.left_stuck t)
+      w_stuck t from n w = record {
+        base = record { server = w.base.server; fine = λ o i. fine o (has_map (cr.stuck t) t.operations o i); said = w.base.said };
+        asked = λ o i z e. absurd (free o (has_map (cr.stuck t) t.operations o i) e);
+      }
         where
           stays : (a : Bool) → (a && false) ≡ true → ⊥
           stays true e = cc
@@ -401,174 +336,99 @@ module _ (S : ℕ → Type 0) (Key : ServerId → ℕ → ℕ → ℕ → ℕ �
           From : Operation → Type 0
           From o = (p : Operation) × Has p t.operations × (o ≡ cr.stuck t p)
 
-          fine_of : (p : Operation) → Has p t.operations → (b : Bool) → cs.is_asked t.here.server p ≡ b → Fine t.here.server B (if b then cs.at_stage stages.Stuck p else p)
-          fine_of p i true e = record { others = λ f. clash (asked_of t.here.server p e).0 f; kind = (w.base.fine p i).kind; state = λ z of. refused_all t from n w p i z of }
+          fine_of : (p : Operation) → Has p t.operations → (b : Bool) → cs.is_asked t.here.server p ≡ b → Fine t.here.server B
+              (if b then cs.at_stage stages.Stuck p else p)
+          fine_of p i true e = record {
+            others = λ f. clash (asked_of t.here.server p e).0 f;
+            kind = (w.base.fine p i).kind;
+            state = λ z of. refused_all t from n w p i z of;
+          }
           fine_of p i false e = w.base.fine p i
 
           fine : (o : Operation) → From o → Fine t.here.server B o
           fine o (p, i, e) = subst (Fine t.here.server B) (sym e) (fine_of p i (cs.is_asked t.here.server p) refl)
 
-          free_of : (p : Operation) (b : Bool) → cs.is_asked t.here.server p ≡ b → cs.is_asked t.here.server (if b then cs.at_stage stages.Stuck p else p) ≡ true → ⊥
+          free_of : (p : Operation) (b : Bool) → cs.is_asked t.here.server p ≡ b → cs.is_asked t.here.server
+              (if b then cs.at_stage stages.Stuck p else p) ≡ true → ⊥
           free_of p true e q = stays (cs.is_of t.here.server p) q
           free_of p false e q = clash q e
 
           free : (o : Operation) → From o → cs.is_asked t.here.server o ≡ true → ⊥
           free o (p, i, e) q = free_of p (cs.is_asked t.here.server p) refl (subst (λ r. cs.is_asked t.here.server r ≡ true) e q)
 
-      w_refused : (t : Turn) (y : Why) (a b : ℕ) (file : Option ℕ) (asked : Body) → h.from ≡ server_node t.here.server → IsKeptRefusal m → MM t → W (cr.refused t y a b file asked)
-      unfolding cr.refused
-      w_refused t y a b file asked from n w = w_stuck (cr.refuse_as t y a b file asked) (subst (λ z. h.from ≡ server_node z) (sym (server_kept t y a b file asked)) from) n (m_refused t y a b file asked from n w)
-
-      -- a removed file's lock goes
-      w_removed : (t : Turn) (x : ClientSession) (file : Option ℕ) → Free t.here.server t.operations → W t → W (cr.removed t x file)
-      unfolding cr.removed cr.drop_held cr.drop_lock
-      w_removed t x None f w = w
-      w_removed t x (Some ino) f w = go (locks.lock_of x.locks ino)
-        where
-          go : (o : Option HeldLock) → W (cr.drop_held t x ino o)
-          go None = w
-          go (Some l) = free_all _ _ _ t.operations t.out f w.base
-
       -- what a reply does, besides ending the request
-      w_effect : (u : Turn) (y : ClientSession) (q : Request) (file : Option ℕ) (b : Body) → m ≡ b → h.from ≡ server_node u.here.server → MM u → ((cs.asks_cut_or_name q.body ≡ true → ⊥) → Free u.here.server u.operations) → cs.fits b q.body ≡ true → Counts m → W (cr.effect u y now b file q.body)
-      unfolding cr.effect cr.granted cr.queued cr.reasserted cr.acknowledged cr.named cr.named_as cr.extents cr.learn cs.answer_each
-      w_effect u y q file b e from w f fit kept = go b e fit
+      w_effect : (t : Turn) (y : ClientSession) (q : Request) (file : Option ℕ) (b : Body) (u : Turn) → m ≡ b → h.from ≡ server_node t.here.server → MM t →
+          ((cs.asks_cut_or_name q.body ≡ true → ⊥) → Free t.here.server t.operations) → cs.fits b q.body ≡ true → may_date h.number b ≡ true →
+          Effect now t y file q.body b u → W u
+      unfolding cs.answer_each
+      w_effect t y q file _ _ e from w f fit kept (trace.IsGranted ino g mode v k) = free_all _ _ _ t.operations t.out (f (no_acquire ino q.body fit)) w.base
+      w_effect t y q file _ _ e from w f fit kept (trace.IsQueued ino mode c) = free_all _ _ _ t.operations t.out (f (no_acquire ino q.body fit)) w.base
+      w_effect t y q file _ _ e from w f fit kept (trace.HoldsAlready ino mode c) = free_all _ _ _ t.operations t.out (f (no_acquire ino q.body fit)) w.base
+      w_effect t y q file _ _ e from w f fit kept (trace.IsToldExtents ino rows c) = free_all _ _ _ t.operations t.out (f (no_map ino q.body fit)) w.base
+      w_effect t y q file _ _ e from w f fit kept (trace.IsToldLate ino rows c) = free_all _ _ _ t.operations t.out (f (no_map ino q.body fit)) w.base
+      w_effect t y q file _ _ e from w f fit kept trace.IsAcknowledged = w_told t answers.Cut from (subst (λ b. Answers b answers.Cut) (sym e) refl) w
+      w_effect t y q file _ _ e from w f fit kept (trace.IsNamed r k) = w_told t (cr.name_answer r) from
+          (subst (λ b. Answers b (cr.name_answer r)) (sym e) refl) w
+      w_effect t y q file _ _ e from w f fit kept (trace.IsRemoved ino removed l i k) =
+          let v = w_told t (answers.Named ino) from (subst (λ b. Answers b (answers.Named ino)) (sym e) refl) w in
+          free_all _ _ _ _ _ (freed t (answers.Named ino)) v.base
+      w_effect t y q file _ _ e from w f fit kept trace.IsReasserted = free_all _ _ _ t.operations t.out (f (no_reassert q.body fit)) w.base
+      w_effect t y q file _ _ e from w f fit kept (trace.Effect.IsRefused z a b u r) =
+          let n = subst IsKeptRefusal (sym e) (kept_why z kept) in
+          let v = m_refused t z a b file q.body u from n r w in w_stuck u (subst (λ s. h.from ≡ server_node s) (sym v.1) from) n v.0
+
+      -- a note of a lease that was renewed
+      noted : (t : Turn) (x : ClientSession) (stamp : Stamp) (u : Turn) → Renews t x stamp u → MM t → MM u × (u.here.server ≡ t.here.server) ×
+          (u.operations ≡ t.operations)
+      noted t x stamp _ (trace.IsLater e) w = (record { base = b_say t.here.server t.operations t.out _ tt w.base; meant = w.meant }, refl, refl)
+      noted t x stamp _ (trace.IsNoLater e) w = (w, refl, refl)
+
+      w_answered : (t v u : Turn) (x : ClientSession) (q : Request) → Replied now h m t x q → Renews t x (trace.stamp_of h) v →
+          Effect now (with_session (cr.ended_by (trace.stamp_of h) x) v) (cr.ended_by (trace.stamp_of h) x) (cs.file_asked x.cutting q.body) q.body m u → W t →
+          W u
+      w_answered t v u x q r n f w =
+          let k = noted t x (trace.stamp_of h) v n (record { base = w.base; meant = meant }) in
+          w_effect (with_session (cr.ended_by (trace.stamp_of h) x) v) (cr.ended_by (trace.stamp_of h) x) q (cs.file_asked x.cutting q.body) m u refl
+          (subst (λ z. h.from ≡ server_node z) (sym k.1) r.heard.received.from) k.0
+          (λ no. subst (λ z. Free z v.operations) (sym k.1) (subst (Free t.here.server) (sym k.2) (λ o i z a. no (at o i z a).0))) r.fits r.dates f
         where
-          free : ((cs.asks_cut_or_name q.body ≡ true → ⊥)) → W u
-          free n = free_all _ _ _ u.operations u.out (f n) w.base
-
-          named : (r : NameReply) → m ≡ bodies.Named r → W (cr.named u y file r)
-          named r e = by r
-            where
-              v : Turn
-              v = cs.answer_each (cs.is_asked u.here.server) (cr.name_answer r) u
-
-              all : W v
-              all = w_told u (cr.name_answer r) from (subst (λ b. Answers b (cr.name_answer r)) (sym e) refl) w
-
-              v_free : Free v.here.server v.operations
-              v_free = freed u (cr.name_answer r)
-
-              by : (r2 : NameReply) → W (cr.named_as v y file r2)
-              by (replies.Ino ino) = w_removed v y file v_free all
-              by (replies.Listed rows) = all
-              by (replies.Refused code) = all
-
-          go : (b : Body) → m ≡ b → cs.fits b q.body ≡ true → W (cr.effect u y now b file q.body)
-          go (bodies.Granted ino g mode) e k = free_all _ _ _ u.operations u.out (f (no_acquire ino q.body k)) w.base
-          go (bodies.Queued ino mode) e k = free_all _ _ _ u.operations u.out (f (no_acquire ino q.body k)) w.base
-          go (bodies.Extents ino rows) e k = if_w (cr.is_current y.locks q.body) _ u (free (no_map ino q.body k)) (free (no_map ino q.body k))
-          go bodies.Ack e k = w_told u answers.Cut from (subst (λ b. Answers b answers.Cut) (sym e) refl) w
-          go (bodies.Named r) e k = named r e
-          go bodies.Reasserted e k = free_all _ _ _ u.operations u.out (f (no_reassert q.body k)) w.base
-          go (bodies.Nack z a b) e k = w_refused u z a b file q.body from (subst IsKeptRefusal (sym e) (subst Counts e kept)) w
-          go b e k = cc k
-
-      note_keeps : (P : ServerId → List Operation → List Output → Type 0) → ((o : Output) → Okay o → (sv : ServerId) (ops : List Operation) (out : List Output) → P sv ops out → P sv ops (out ++ o ∷ [])) → (t : Turn) (x : ClientSession) (stamp : Stamp) → P t.here.server t.operations t.out →
-          P (cr.note_renewal t x stamp).here.server (cr.note_renewal t x stamp).operations (cr.note_renewal t x stamp).out
-      unfolding cr.note_renewal cr.note_lease
-      note_keeps P k t x stamp p = go (lease.is_renewal stamp x.lease)
-        where
-          go : (b : Bool) → (λ (u : Turn). P u.here.server u.operations u.out) (if b then cr.note_lease (lease.renewed stamp x.lease) t else t)
-          go true = k _ tt t.here.server t.operations t.out p
-          go false = p
-
-      w_reply_to : (t : Turn) (x : ClientSession) (q : Request) (stamp : Stamp) → x.requests.asked ≡ Some q → h.from ≡ server_node t.here.server → WIn t x → cs.fits m q.body ≡ true → Counts m → h.life ≡ t.here.life.0 → h.epoch ≡ x.epoch.0 → h.number ≡ q.number →
-          W (cr.reply_to t x now stamp m q.body)
-      unfolding cr.reply_to cr.end_request
-      w_reply_to t x q stamp e from w fit kept lf ep nm =
-          w_effect (with_session (cr.ended_by stamp x) (cr.note_renewal t x stamp)) (cr.ended_by stamp x) q (cs.file_asked x.cutting q.body) m refl (subst (λ z. h.from ≡ server_node z) (sym (note_server t x stamp)) from) mid free fit kept
-        where
-          at : (o : Operation) → Has o t.operations → S o.op → cs.is_asked t.here.server o ≡ true → AtRequest t.here.server t.here.life.0 x.epoch.0 (Some q) o.op
-          at o i z a = subst (λ r. AtRequest t.here.server t.here.life.0 x.epoch.0 r o.op) e (w.asked o i z a)
+          at : (o : Operation) → Has o t.operations → S o.op → cs.is_asked t.here.server o ≡ true → AtRequest t.here.server t.here.life.0 x.epoch.0
+              (Some q) o.op
+          at o i z a = subst (λ p. AtRequest t.here.server t.here.life.0 x.epoch.0 p o.op) r.asked ((into t x r.heard.session w).asked o i z a)
 
           meant : (o : Operation) → Has o t.operations → S o.op → cs.is_asked t.here.server o ≡ true → Key t.here.server h.life h.epoch h.number o.op
-          meant o i z a = subst (λ n. Key t.here.server n h.epoch h.number o.op) (sym lf) (subst (λ n. Key t.here.server t.here.life.0 n h.number o.op) (sym ep) (subst (λ n. Key t.here.server t.here.life.0 x.epoch.0 n o.op) (sym nm) (at o i z a).1))
+          meant o i z a =
+              subst (λ n. Key t.here.server n h.epoch h.number o.op) (sym r.heard.received.life)
+              (subst (λ n. Key t.here.server t.here.life.0 n h.number o.op) (sym r.heard.epoch)
+              (subst (λ n. Key t.here.server t.here.life.0 x.epoch.0 n o.op) r.number (at o i z a).1))
 
-          mid : Mid (cr.note_renewal t x stamp).here.server (cr.note_renewal t x stamp).operations (cr.note_renewal t x stamp).out
-          mid = note_keeps Mid (λ o k sv ops out p. record { base = b_say sv ops out o k p.base; meant = p.meant }) t x stamp (record { base = w.base; meant = meant })
-
-          free : (cs.asks_cut_or_name q.body ≡ true → ⊥) → Free (cr.note_renewal t x stamp).here.server (cr.note_renewal t x stamp).operations
-          free n = note_keeps (λ sv ops out. Free sv ops) (λ o k sv ops out p. p) t x stamp (λ o i z a. n (at o i z a).0)
-
-      w_reply : (t : Turn) (x : ClientSession) → t.here.session ≡ Some x → h.from ≡ server_node t.here.server → W t → Counts m → h.life ≡ t.here.life.0 → h.epoch ≡ x.epoch.0 → W (cr.reply_of t x now h m)
-      unfolding cr.reply_of cr.counted cr.by_request cr.count_reply
-      w_reply t x e from w kept lf ep = go x.requests.asked refl
+      w_heard : (t : Turn) (b : Body) (u : Turn) → m ≡ b → Receives now h t b u → W t → W u
+      unfolding cs.send cs.answer_each
+      w_heard t _ _ e (trace.PassesOver b) w = w
+      w_heard t _ _ e (trace.Begins r n i) w = w_say (cr.begin_here (cr.new_session (trace.epoch_of h) (trace.stamp_of h)) t) _ tt
+          (free_all _ _ _ t.operations t.out free w.base)
         where
-          stamp : Stamp
-          stamp = record { 0 = h.stamp }
-
-          go : (r : Option Request) → x.requests.asked ≡ r → W (cr.counted t x now h.number stamp m r)
-          go None f = w
-          go (Some q) f = if_case W (cr.is_counting h.number m q) (cr.count_reply t x now stamp m q.body) t counts (λ g. w)
-            where
-              counts : cr.is_counting h.number m q ≡ true → W (cr.count_reply t x now stamp m q.body)
-              counts g =
-                  let z = and_true (cs.is_request_of h.number q) (cs.fits m q.body) g in
-                  if_w (cr.refuses_reassertion m q.body) (cr.condemn t x) (cr.reply_to t x now stamp m q.body) (w_condemn t x (into t x e w))
-                  (w_reply_to t x q stamp f from (into t x e w) z.1 kept lf ep (sym (eqb-true q.number h.number z.0)))
-
-      w_nack : (t : Turn) (x : ClientSession) (y : Why) (a b : ℕ) → m ≡ bodies.Nack y a b → t.here.session ≡ Some x → h.from ≡ server_node t.here.server → W t → h.life ≡ t.here.life.0 → h.epoch ≡ x.epoch.0 → W (cr.nack t x now h y a b)
-      w_nack t x why.Suspect a b f e from w lf ep = w_condemn t x (into t x e w)
-      w_nack t x why.NoSession a b f e from w lf ep = w_condemn t x (into t x e w)
-      w_nack t x why.OtherEpoch a b f e from w lf ep = w
-      w_nack t x why.Grace a b f e from w lf ep = w
-      w_nack t x why.GraceOver a b f e from w lf ep = w_condemn t x (into t x e w)
-      w_nack t x why.Conflict a b f e from w lf ep = w_condemn t x (into t x e w)
-      w_nack t x y a b f e from w lf ep = subst (λ b. W (cr.reply_of t x now h b)) f (w_reply t x e from w (subst Counts (sym f) tt) lf ep)
-
-      w_demand : (t : Turn) (x : ClientSession) (ino : ℕ) (g : GrantNo) (to : Mode) → t.here.session ≡ Some x → W t → W (cr.demand t x ino g to)
-      unfolding cr.demand cr.demand_by cr.demand_as cr.observe_demand cr.release_unheld cs.send
-      w_demand t x ino g to e w = by (locks.demand x.locks ino g to).asked
-        where
-          l : ClientSession
-          l = cs.with_cache (locks.demand x.locks ino g to).locks x
-
-          both : (b : Bool) → view (Some (if b then l else cs.with_release ino g modes.None l)) ≡ view (Some x)
-          both true = refl
-          both false = refl
-
-          by : (a : Asked) → W (cr.demand_as t l ino g a)
-          by demands.Reduce = w_say (with_session l t) _ tt (into t x e w)
-          by demands.NotHeld = w_view t x (cr.release_unheld l ino g) (both (cr.has_release l ino g)) (into t x e w)
-          by demands.Stale = w
-
-      w_of_epoch : (t : Turn) (x : ClientSession) (b : Body) → m ≡ b → t.here.session ≡ Some x → h.from ≡ server_node t.here.server → W t → h.life ≡ t.here.life.0 → h.epoch ≡ x.epoch.0 → W (cr.of_epoch t x now h b)
-      unfolding cr.of_epoch cr.grant_or_reply
-      w_of_epoch t x b f e from w lf ep = go b f
-        where
-          replied : (b : Body) → m ≡ b → Counts b → W (cr.reply_of t x now h b)
-          replied b f k = subst (λ b. W (cr.reply_of t x now h b)) f (w_reply t x e from w (subst Counts (sym f) k) lf ep)
-
-          go : (b : Body) → m ≡ b → W (cr.of_epoch t x now h b)
-          go (bodies.Nack y a b) f = w_nack t x y a b f e from w lf ep
-          go (bodies.Granted ino g mode) f = if_w (h.number == 0) _ _ (w_granted t x ino g mode (into t x e w)) (replied (bodies.Granted ino g mode) f tt)
-          go (bodies.Demand ino g to) f = w_demand t x ino g to e w
-          go b f = replied b f tt
+          free : Free t.here.server t.operations
+          free o i z a = (subst (λ o. Whole t.here.server t.here.life.0 (view o) t.operations t.out) n w).asked o i z a
+      w_heard t _ _ e (trace.FollowsEpoch x a b k i) w =
+          let y = with_session (cr.in_epoch (trace.epoch_of h) x) t in
+          free_all _ _ _ _ _ (freed y (answers.Uncertain x.epoch.0 h.epoch))
+          (b_answers y (cs.is_asked t.here.server) (answers.Uncertain x.epoch.0 h.epoch) (λ o h2 z p. open_ o.op x.epoch.0 h.epoch) w.base)
+      w_heard t _ _ e (trace.IsCondemned b x k c) w = into t x k.session w
+      w_heard t _ _ e (trace.IsGrantedLater ino g mode x v k i j) w = w_view t x v (granted_view x ino g mode v j) (into t x k.session w)
+      w_heard t _ _ e (trace.SeesDemand ino g to x k i) w = w_say (with_session (cs.with_cache (locks.demand x.locks ino g to).locks x) t) _ tt
+          (into t x k.session w)
+      w_heard t _ _ e (trace.GivesUp ino g to x k i j) w = into t x k.session w
+      w_heard t _ _ e (trace.HasGivenUp ino g to x k i j) w = into t x k.session w
+      w_heard t _ u e (trace.IsAnswered b x q v _ r n f) w =
+          w_answered t v u x q (subst (λ b. Replied now h b t x q) (sym e) r) n
+          (subst (λ b. Effect now (with_session (cr.ended_by (trace.stamp_of h) x) v) (cr.ended_by (trace.stamp_of h) x)
+          (cs.file_asked x.cutting q.body) q.body b u) (sym e) f) w
 
       pub w_receive : (t : Turn) → W t → W (cr.receive_at now h m t)
-      unfolding cr.receive_at cr.by_session cr.with_a_session
-      w_receive t w = if_case W (cr.is_received t now h) (cr.by_session t now h m t.here.session) t received (λ f. w)
-        where
-          by : h.from ≡ server_node t.here.server → h.life ≡ t.here.life.0 → (o : Option ClientSession) → t.here.session ≡ o → W (cr.by_session t now h m o)
-          by from lf None e = w_without t now h m e w
-          by from lf (Some x) e = if_case W (h.epoch == x.epoch.0) _ _ (λ f. w_of_epoch t x m refl e from w lf (eqb-true h.epoch x.epoch.0 f)) (λ f. w_of_other t x _ m w)
-
-          received : cr.is_received t now h ≡ true → W (cr.by_session t now h m t.here.session)
-          received f =
-              let z = and_true (h.from == server_node t.here.server) _ f in
-              by (eqb-true _ _ z.0) (eqb-true _ _ (and_true (h.life == t.here.life.0) _ z.1).0) t.here.session refl
+      w_receive t w = w_heard t m (cr.receive_at now h m t) refl (receives now h t m) w
 
     -- Losses: the operations of the server are answered, and the next life begins.
-    record EndedOne (t u : Turn) : Type 0 where
-      pub said : (op : ℕ) (a : AppAnswer) → Has (outputs.Answer op a) u.out → S op → Ended op a
-      pub server_ : u.here.server ≡ t.here.server
-      pub operations : u.operations ≡ t.operations
-
-    if_ended : (b : Bool) (t u v : Turn) → (b ≡ true → EndedOne t u) → (b ≡ false → EndedOne t v) → EndedOne t (if b then u else v)
-    if_ended true t u v x y = x refl
-    if_ended false t u v x y = y refl
-
     abbrev Said : List Output → Type 0
     Said out = (op : ℕ) (a : AppAnswer) → Has (outputs.Answer op a) out → S op → Ended op a
 
@@ -583,276 +443,191 @@ module _ (S : ℕ → Type 0) (Key : ServerId → ℕ → ℕ → ℕ → ℕ �
         go (inr (inl e)) z = let q = same e in subst (λ x. Ended n x) (sym q.1) (subst (λ x. Ended x a) (sym q.0) (k (subst S q.0 z)))
         go (inr (inr i)) z = absurd i
 
-    end_one : (t : Turn) (x : ClientSession) (o : Operation) → (S o.op → cs.is_sent o ≡ true) → Said t.out → EndedOne t (cl.end_operation t x o)
-    unfolding cl.end_operation cl.end_unsent cl.end_sync cl.tell_lost
-    end_one t x o k f = if_ended (cs.is_sent o) t _ _ (λ e. record { said = says_more t.out o.op (answers.Uncertain x.epoch.0 0) (λ z. open_ o.op x.epoch.0 0) f; server_ = refl; operations = refl }) (λ e. by e o.ask)
+    -- what stays pending is of other servers
+    record Losing (sv : ServerId) (all : List Operation) (t : Turn) : Type 0 where
+      pub server_ : t.here.server ≡ sv
+      pub said : Said t.out
+      pub away : (o : Operation) → Has o t.operations → Has o all × (cs.is_of sv o ≡ false)
+
+    ended : (sv : ServerId) (all : List Operation) (x : ClientSession) (o : Operation) (t u : Turn) → losing.Ended x o t u → Has o all →
+        (S o.op → cs.is_of sv o ≡ true → cs.is_sent o ≡ true) → Losing sv all t → Losing sv all u
+    ended sv all x o t _ (losing.IsElsewhere e) h k w = record {
+      server_ = w.server_;
+      said = w.said;
+      away = λ p i. away p
+          (has_append t.operations (o ∷ []) p i);
+    }
       where
-        new : cs.is_sent o ≡ false → {A : Type 0} → S o.op → A
-        new e z = clash (k z) e
-
-        by : cs.is_sent o ≡ false → (a : Ask) → EndedOne t (cl.end_unsent t o a)
-        by e (asks.Sync f2) = if_ended (pages.has_lost t.here.lost f2.ino) t _ _ (λ q. record { said = says_more t.out o.op _ (λ z. new e z) f; server_ = refl; operations = refl }) (λ q. record { said = says_more t.out o.op _ (λ z. new e z) f; server_ = refl; operations = refl })
-        by e a = record { said = says_more t.out o.op _ (λ z. new e z) f; server_ = refl; operations = refl }
-
-    end_all : (x : ClientSession) (os : List Operation) (t : Turn) → ((o : Operation) → Has o os → S o.op → cs.is_sent o ≡ true) → Said t.out → EndedOne t (cl.end_each x os t)
-    unfolding cl.end_each
-    end_all x [] t k f = record { said = f; server_ = refl; operations = refl }
-    end_all x (o ∷ os) t k f =
-        let e = end_one t x o (k o (inl refl)) f in
-        let r = end_all x os (cl.end_operation t x o) (λ p h. k p (inr h)) e.said in
-        record { said = r.said; server_ = r.server_ ∙ e.server_; operations = r.operations ∙ e.operations }
-
-    w_lost : (t : Turn) (x : ClientSession) → W t → W (cl.lose_session t x)
-    unfolding cl.lose_session cl.end_operations
-    w_lost t x w = record { base = record { server = r.server_ ∙ w.base.server; fine = λ o h. fine o (subst (Has o) r.operations h); said = r.said }; asked = λ o h z a. absurd (gone o (subst (Has o) r.operations h) (asked_of u.here.server o a).0) }
-      where
-        v : Turn
-        v = cl.with_lost_pages t.here.store (cs.note t (Rattle.st_messages.specs.declared.output.Note.TheVariants.Lost t.here.server t.here.life))
-
-        v2 : Turn
-        v2 = with_operations (filter (λ o. not (cs.is_of t.here.server o)) t.operations) v
-
-        u : Turn
-        u = cl.end_each x (filter (cs.is_of t.here.server) t.operations) v2
-
-        sent : (o : Operation) → Has o (filter (cs.is_of t.here.server) t.operations) → S o.op → cs.is_sent o ≡ true
-        sent o h z = let y = has_filter (cs.is_of t.here.server) t.operations o h in sent_of o.stage o.op ((w.base.fine o y.0).state z y.1)
-
-        r : EndedOne v2 u
-        r = end_all x (filter (cs.is_of t.here.server) t.operations) v2 sent (b_say t.here.server t.operations t.out _ tt w.base).said
-
-        rest : (o : Operation) → Has o (filter (λ o. not (cs.is_of t.here.server o)) t.operations) → Has o t.operations × (cs.is_of t.here.server o ≡ false)
-        rest o h = let y = has_filter (λ o. not (cs.is_of t.here.server o)) t.operations o h in (y.0, not_true _ y.1)
-
-        gone : (o : Operation) → Has o (filter (λ o. not (cs.is_of t.here.server o)) t.operations) → cs.is_of u.here.server o ≡ true → ⊥
-        gone o h e = clash (subst (λ z. cs.is_of z o ≡ true) r.server_ e) (rest o h).1
-
-        fine : (o : Operation) → Has o (filter (λ o. not (cs.is_of t.here.server o)) t.operations) → Fine u.here.server B o
-        fine o h = let y = w.base.fine o (rest o h).0 in record { others = λ e. y.others (rest o h).1; kind = y.kind; state = λ z of. absurd (gone o h of) }
+        away : (p : Operation) → Has p t.operations ⊎ Has p (o ∷ []) → Has p all × (cs.is_of sv p ≡ false)
+        away p (inl i) = w.away p i
+        away p (inr (inl q)) = (subst (λ z. Has z all) (sym q) h, subst (λ z. cs.is_of sv z ≡ false) (sym q) (subst (λ z. cs.is_of z o ≡ false) w.server_ e))
+        away p (inr (inr i)) = absurd i
+    ended sv all x o t _ (losing.IsUncertain own e) h k w = record {
+      server_ = w.server_;
+      said = says_more t.out o.op (answers.Uncertain x.epoch.0 0)
+          (λ z. open_ o.op x.epoch.0 0) w.said;
+      away = w.away;
+    }
+    ended sv all x o t _ (losing.IsToldLost f own e q l) h k w = record {
+      server_ = w.server_;
+      said = says_more t.out o.op _
+          (λ z. clash (k z (subst (λ y. cs.is_of y o ≡ true) w.server_ own)) e) w.said;
+      away = w.away;
+    }
+    ended sv all x o t _ (losing.LostNothing f own e q l) h k w = record {
+      server_ = w.server_;
+      said = says_more t.out o.op _
+          (λ z. clash (k z (subst (λ y. cs.is_of y o ≡ true) w.server_ own)) e) w.said;
+      away = w.away;
+    }
+    ended sv all x o t _ (losing.IsQuiesced own e n) h k w = record {
+      server_ = w.server_;
+      said = says_more t.out o.op _
+          (λ z. clash (k z (subst (λ y. cs.is_of y o ≡ true) w.server_ own)) e) w.said;
+      away = w.away;
+    }
 
     pub w_lose : (now : Stamp) (t : Turn) → W t → W (cl.lose now t)
-    unfolding cl.lose cl.lose_by cl.lose_over
-    w_lose now t w = go t.here.session
+    w_lose now t w = go (cl.lose now t) (loses now t)
       where
-        go : (o : Option ClientSession) → W (cl.lose_by t now o)
-        go None = w
-        go (Some x) = if_w (cl.is_over t x now) _ t (w_lost t x w) w
+        sent : (o : Operation) → Has o t.operations → S o.op → cs.is_of t.here.server o ≡ true → cs.is_sent o ≡ true
+        sent o h z own = sent_of o.stage o.op ((w.base.fine o h).state z own)
+
+        lost : (u : Turn) → Losing t.here.server t.operations u → W (cl.empty_here u)
+        lost u r = record {
+          base = record { server = r.server_ ∙ w.base.server; fine = fine; said = r.said };
+          asked = λ o h z a. absurd
+              (gone o h (asked_of u.here.server o a).0);
+        }
+          where
+            gone : (o : Operation) → Has o u.operations → cs.is_of u.here.server o ≡ true → ⊥
+            gone o h e = clash (subst (λ z. cs.is_of z o ≡ true) r.server_ e) (r.away o h).1
+
+            fine : (o : Operation) → Has o u.operations → Fine u.here.server B o
+            fine o h = let y = w.base.fine o (r.away o h).0 in record {
+              others = λ e. y.others (r.away o h).1;
+              kind = y.kind;
+              state = λ z of. absurd
+                  (gone o h of);
+            }
+
+        go : (u : Turn) → Loses now t u → W u
+        go _ (losing.HasNoSession e) = w
+        go _ (losing.Lasts x e o) = w
+        go _ (losing.IsLost x u e o p) =
+            let z = each_lasts (losing.Ended x) (λ os v. ((o : Operation) → Has o os → Has o t.operations) × Losing t.here.server t.operations v)
+            (λ o os v u step y. (
+              λ p h. y.0 p (inr h),
+              ended t.here.server t.operations x o v u step (y.0 o (inl refl))
+                  (sent o (y.0 o (inl refl))) y.1,
+            )) t.operations (with_operations [] (losing.loss_noted t)) u p
+            (λ o h. h, record { server_ = refl; said = (b_say t.here.server t.operations t.out _ tt w.base).said; away = λ o h. absurd h }) in
+            lost u z.1
 
     -- Ends of commands.
-    w_failed : (t : Turn) (x : PageCommand) (kind : IoKind) → W t → W (cl.failed_as t x kind)
-    unfolding cl.failed_as cl.mark_failed
-    w_failed t x io.Read w = w_answers t _ _ (λ o i z p. other (cs.reads_page t.here.server x.ino x.page) (λ f q. refl) (λ sv n. refl) o.ask ((w.base.fine o i).kind z) p) w
-    w_failed t x (io.Write v) w = go _ (if_w (cl.is_present t x v) _ t w w)
-      where
-        go : (u : Turn) → W u → W (cs.answer_each (cl.waits_for_write t x) (answers.DiskFault x.number) u)
-        go u k = w_answers u _ _ (λ o i z p. other cs.is_sync (λ f q. refl) (λ sv n. refl) o.ask ((k.base.fine o i).kind z) (and_true (cs.is_on t.here.server x.ino o) _ p).1) k
-
-    w_finish_as : (t : Turn) (x : PageCommand) (block : Option (Tag × List ℕ)) (e : Rattle.st_rules.specs.declared.client.Ended.Ended) → W t → W (cl.finish_as t x block e)
-    unfolding cl.finish_as cl.filled_by cl.hardened
-    w_finish_as t x block ends.Unknown w = w
-    w_finish_as t x None ends.Filled w = w
-    w_finish_as t x (Some b) ends.Filled w = w
-    w_finish_as t x block ends.Hard w = w
-    w_finish_as t x block ends.Redirty w = w
-    w_finish_as t x block ends.Failed w = w_failed t x x.kind w
-
-    w_finish_command : (t : Turn) (x : PageCommand) (ok : Bool) (block : Option (Tag × List ℕ)) → W t → W (cl.finish_command t x ok block)
-    unfolding cl.finish_command cl.ended_by
-    w_finish_command t x ok block w = w_finish_as (cl.with_commands (pages.end_command t.here.store.commands x.number ok (pages.version_of t.here.store.pages x.ino x.page)).commands t) x block _ w
-
-    w_finish_by : (t : Turn) (x : PageCommand) (r : Option (Option (Tag × List ℕ))) → W t → W (cl.finish_by t x r)
-    unfolding cl.finish_by cl.done_by
-    w_finish_by t x None w = w_finish_command t x false None w
-    w_finish_by t x (Some b) w = if_w (cl.is_result_of x.kind b) _ t (w_finish_command t x true b w) w
-
     pub w_finish : (number : ℕ) (r : Option (Option (Tag × List ℕ))) (t : Turn) → W t → W (cl.finish number r t)
-    unfolding cl.finish cl.finish_at
-    w_finish number r t w = go (pages.command_of t.here.store.commands number)
+    w_finish number r t w = go (cl.finish number r t) (finishes number r t)
       where
-        go : (o : Option PageCommand) → W (cl.finish_at t o r)
-        go None = w
-        go (Some x) = w_finish_by t x r w
+        syncs : (x : PageCommand) (u : Turn) → W u → W (cs.answer_each (cl.waits_for_write t x) (answers.DiskFault x.number) u)
+        syncs x u k = w_answers u _ _ (λ o i z p. other cs.is_sync (λ f q. refl) (λ sv n. refl) o.ask ((k.base.fine o i).kind z)
+            (and_true (cs.is_on t.here.server x.ino o) _ p).1) k
+
+        go : (u : Turn) → Finishes number r t u → W u
+        go _ (ending.IsUnknown e) = w
+        go _ (ending.IsOfOtherKind x block o e k) = w
+        go _ (ending.Fills x block o k e) = w
+        go _ (ending.Hardens x v o k e i) = w
+        go _ (ending.WroteOlder x v o k e i) = w
+        go _ (ending.FailsToRead x o k e) = w_answers (ending.without x t) _ _
+            (λ o i z p. other (cs.reads_page t.here.server x.ino x.page) (λ f q. refl) (λ sv n. refl) o.ask ((w.base.fine o i).kind z) p) w
+        go _ (ending.FailsToWrite x v o k e i) = syncs x (ending.with_pages (pages.fail t.here.store.pages x.ino x.page x.number) (ending.without x t)) w
+        go _ (ending.FailsToWriteOlder x v o k e i) = syncs x (ending.without x t) w
 
     -- The pass over the operations: those that were not yet looked at stand behind those that stay.
     abbrev R : List Operation → Turn → Type 0
     R os t = Whole t.here.server t.here.life.0 (view t.here.session) (t.operations ++ os) t.out
-
-    if_rest : (os : List Operation) (b : Bool) (t u : Turn) → R os t → R os u → R os (if b then t else u)
-    if_rest os true t u x y = x
-    if_rest os false t u x y = y
 
     r_keep : (os : List Operation) (o : Operation) (t : Turn) → R (o ∷ os) t → R os (cs.keep o t)
     r_keep os o t r = subst (λ x. Whole t.here.server t.here.life.0 (view t.here.session) x t.out) (sym (append_assoc t.operations (o ∷ []) os)) r
 
     r_answer : (os : List Operation) (o : Operation) (a : AppAnswer) (t : Turn) → (S o.op → ⊥) → R (o ∷ os) t → R os (cp.answer o a t)
     r_answer os o a t n r =
-        let z = w_fewer t.here.server t.here.life.0 (view t.here.session) (t.operations ++ o ∷ os) (t.operations ++ os) t.out (λ x h. has_middle o x t.operations os h) r in
+        let z = w_fewer t.here.server t.here.life.0 (view t.here.session) (t.operations ++ o ∷ os) (t.operations ++ os) t.out
+        (λ x h. has_middle o x t.operations os h) r in
         record { base = b_say t.here.server (t.operations ++ os) t.out (outputs.Answer o.op a) (λ q. absurd (n q)) z.base; asked = z.asked }
 
     r_say : (os : List Operation) (t : Turn) (o : Output) → Okay o → R os t → R os (say t o)
     r_say os t o k r = record { base = b_say t.here.server (t.operations ++ os) t.out o k r.base; asked = r.asked }
 
-    r_change : (os : List Operation) (o : Operation) (f : FileId) (p : PageNo) (bytes : List ℕ) (x : Note) (t : Turn) → (S o.op → ⊥) → R (o ∷ os) t → R os (cp.change_page t o f p bytes x)
-    unfolding cp.change_page cp.change_by cp.change pages.write
-    r_change os o f p bytes x t n r = go (pages.is_full_for t.here.store.pages f.ino p)
-      where
-        go : (b : Bool) → R os (cp.change_by t o f p x (if b then Err DirtyFull else Ok (pages.written t.here.store.pages f.ino p bytes)))
-        go true = r_answer os o answers.DirtyFull t n r
-        go false = r_answer os o answers.Written (cp.with_pages_changed (pages.written t.here.store.pages f.ino p bytes) f.ino p (cs.note t x)) n (r_say (o ∷ os) t (outputs.Note x) tt r)
-
-    r_fetch : (os : List Operation) (t : Turn) (o : Operation) (f : FileId) (p : PageNo) → R (o ∷ os) t → R os (cp.fetch t o f p)
-    unfolding cp.fetch cp.fetch_at cp.fetch_mapped cp.submit_read cp.submit_command
-    r_fetch os t o f p r = r_keep os o (cp.fetch_at t f p (pages.mapping_of t.here.store.extents f.ino p)) (go (pages.mapping_of t.here.store.extents f.ino p))
-      where
-        go : (m : Option MappedBlock) → R (o ∷ os) (cp.fetch_at t f p m)
-        go None = r
-        go (Some m) = if_rest (o ∷ os) (pages.is_being_read t.here.store.commands f.ino p) t _ r (r_say (o ∷ os) (cp.with_command f.ino p io.Read t) _ tt r)
-
-    r_write : (os : List Operation) (t : Turn) (x : ClientSession) (o : Operation) (f : FileId) (p : PageNo) (bytes : List ℕ) → (S o.op → ⊥) → R (o ∷ os) t → R os (cp.write t x o f p bytes)
-    unfolding cp.write
-    r_write os t x o f p bytes n r = if_rest os (cp.may_write t x f p) _ _ (r_change os o f p bytes _ t n r) (r_keep os o t r)
-
-    r_patch : (os : List Operation) (t : Turn) (x : ClientSession) (o : Operation) (f : FileId) (p : PageNo) (at : ℕ) (bytes : List ℕ) → (S o.op → ⊥) → R (o ∷ os) t → R os (cp.patch t x o f p at bytes)
-    unfolding cp.patch cp.patch_at cp.patch_bytes
-    r_patch os t x o f p at bytes n r = if_rest os (cp.may_write t x f p) _ _ (go (pages.cached t.here.store.pages f.ino p)) (r_keep os o t r)
-      where
-        go : (y : Option (List ℕ)) → R os (cp.patch_at t o f p at bytes y)
-        go None = r_fetch os t o f p r
-        go (Some old) = r_change os o f p _ _ t n r
-
-    r_reading : (os : List Operation) (t : Turn) (x : ClientSession) (o : Operation) (f : FileId) (p : PageNo) → (S o.op → ⊥) → R (o ∷ os) t → R os (cp.read t x o f p)
-    unfolding cp.read cp.read_at cp.read_uncached cp.read_known cp.read_cached
-    r_reading os t x o f p n r = if_rest os (cp.holds x modes.S f) _ _ (cached (pages.cached t.here.store.pages f.ino p)) (r_keep os o t r)
-      where
-        known : (y : Option KnownExtent) → R os (cp.read_uncached t o f p y)
-        known None = r_keep os o t r
-        known (Some e) = mapped e.mapping
-          where
-            mapped : (m : Option MappedBlock) → R os (cp.read_known t o f p e m)
-            mapped None = r_answer os o _ t n r
-            mapped (Some m) = r_fetch os t o f p r
-
-        cached : (y : Option (List ℕ)) → R os (cp.read_at t o f p y)
-        cached None = known (pages.known_of t.here.store.extents f.ino p)
-        cached (Some bytes) = r_answer os o _ (with_store (record t.here.store { pages = pages.use_page t.here.store.pages f.ino p }) t) n r
-
     r_fine : (os : List Operation) (t : Turn) (o : Operation) → R (o ∷ os) t → Fine t.here.server B o
     r_fine os t o r = r.base.fine o (has_right t.operations (o ∷ os) o (inl refl))
 
-    r_serve : (all os : List Operation) (t : Turn) (x : ClientSession) (o : Operation) → R (o ∷ os) t → R os (cp.serve all t x o)
-    unfolding cp.serve cp.serve_open
-    r_serve all os t x o r = if_rest os _ _ _ (go o.ask refl) (r_keep os o t r)
+    -- an operation that is served is no cut and is for no name
+    r_none : (os : List Operation) (t : Turn) (o : Operation) (a : Ask) → o.ask ≡ a → cs.is_cut_or_name a ≡ false → R (o ∷ os) t → S o.op → ⊥
+    r_none os t o a e f r z = clash (subst Own e ((r_fine os t o r).kind z)) f
+
+    r_changed : (os : List Operation) (t : Turn) (o : Operation) (f : FileId) (p : PageNo) (bytes : List ℕ) (n : Note) → Changed o.ask t f p bytes n → R
+        (o ∷ os) t → S o.op → ⊥
+    r_changed os t o _ _ _ _ (pass.IsWritten f p bytes e) r = r_none os t o _ e refl r
+    r_changed os t o _ _ _ _ (pass.IsPatched f p at bytes old e q) r = r_none os t o _ e refl r
+
+    r_operated : (now : Stamp) (all os : List Operation) (o : Operation) (t u : Turn) → Operated now all o t u → R (o ∷ os) t → R os u
+    r_operated now all os o t _ pass.Waits r = r_keep os o t r
+    r_operated now all os o t _ (pass.IsHard f e q h) r = r_answer os o _ t (r_none os t o _ q refl r) r
+    r_operated now all os o t _ (pass.IsQuiesced s e n a b c) r = r_answer os o _ t (λ z. clash (sent_of o.stage o.op ((r_fine os t o r).state z e)) c) r
+    r_operated now all os o t _ (pass.ChangesPage s f p bytes n v c m e) r =
+        r_answer os o answers.Written (cp.with_pages_changed (pages.written t.here.store.pages f.ino p bytes) f.ino p (cs.note t n))
+        (r_changed os t o f p bytes n c r) (r_say (o ∷ os) t (outputs.Note n) (okay n) r)
       where
-        none : (a : Ask) → o.ask ≡ a → cs.is_cut_or_name a ≡ false → S o.op → ⊥
-        none a e f z = clash (subst Own e ((r_fine os t o r).kind z)) f
+        okay : (n : Note) → Okay (outputs.Note n)
+        okay n = tt
+    r_operated now all os o t _ (pass.IsDirtyFull s f p bytes n v c m e) r = r_answer os o _ t (r_changed os t o f p bytes n c r) r
+    r_operated now all os o t _ (pass.Fetches s f p m v n c e b) r = r_keep os o
+        (say (cp.with_command f.ino p io.Read t) (outputs.Submit t.next_command m.at (commands.Read m.at)))
+        (r_say (o ∷ os) (cp.with_command f.ino p io.Read t) _ tt r)
+    r_operated now all os o t _ (pass.ReadsCached s f p bytes v e h q) r = r_answer os o _
+        (with_store (record t.here.store { pages = pages.use_page t.here.store.pages f.ino p }) t) (r_none os t o _ e refl r) r
+    r_operated now all os o t _ (pass.ReadsZeros s f p e v a h q k m) r = r_answer os o _ t (r_none os t o _ a refl r) r
 
-        go : (a : Ask) → o.ask ≡ a → R os (cp.serve_open t x o a)
-        go (asks.Write f p bytes) e = r_write os t x o f p bytes (none _ e refl) r
-        go (asks.Patch f p at bytes) e = r_patch os t x o f p at bytes (none _ e refl) r
-        go (asks.Read f p) e = r_reading os t x o f p (none _ e refl) r
-        go a e = r_keep os o t r
+    -- Reductions, writes and greeting.
+    w_reduced : (ino : ℕ) (t u : Turn) → Reduced ino t u → W t → W u
+    w_reduced ino t _ StaysHeld w = w
+    w_reduced ino t _ (IsReduced x g to e m q) w = into t x e w
 
-    r_operate : (all os : List Operation) (t : Turn) (now : Stamp) (o : Operation) → R (o ∷ os) t → R os (cp.operate all t now o)
-    unfolding cp.operate cp.operate_on cp.operate_by cp.operate_under cp.quiesce cp.sync
-    r_operate all os t now o r = here (cs.is_of t.here.server o) refl
-      where
-        kept : R os (cs.keep o t)
-        kept = r_keep os o t r
+    w_written : (now : Stamp) (tick : Bool) (y : ℕ × PageNo) (t u : Turn) → WritesOut now tick y t u → W t → W u
+    w_written now tick y t _ StaysDirty w = w
+    w_written now tick y t _ (IsWritten x d m e q k i) w = w_say (cp.with_command d.ino d.page (io.Write d.version) t) _ tt w
 
-        quiesce : cs.is_of t.here.server o ≡ true → (b : Bool) → cs.is_sent o ≡ b → R os (if b then cs.keep o t else cp.answer o answers.Quiesced t)
-        quiesce h true e = kept
-        quiesce h false e = r_answer os o answers.Quiesced t (λ z. clash (sent_of o.stage o.op ((r_fine os t o r).state z h)) e) r
-
-        by : cs.is_of t.here.server o ≡ true → (x : Option ClientSession) → R os (cp.operate_by all t now o x)
-        by h None = kept
-        by h (Some x) = if_rest os (cs.is_serving t.config x now) _ _ (r_serve all os t x o r) (quiesce h (cs.is_sent o) refl)
-
-        on : cs.is_of t.here.server o ≡ true → (a : Ask) → o.ask ≡ a → R os (cp.operate_on all t now o a)
-        on h (asks.Sync f) e = if_rest os (pages.is_hard t.here.store f.ino) _ _ (r_answer os o answers.Hard t (λ z. clash (subst Own e ((r_fine os t o r).kind z)) refl) r) kept
-        on h a e = by h t.here.session
-
-        here : (b : Bool) → cs.is_of t.here.server o ≡ b → R os (if b then cp.operate_on all t now o o.ask else cs.keep o t)
-        here true e = on e o.ask refl
-        here false e = kept
-
-    r_each : (all : List Operation) (now : Stamp) (os : List Operation) (t : Turn) → R os t → R [] (cp.operate_each all now os t)
-    unfolding cp.operate_each
-    r_each all now [] t r = r
-    r_each all now (o ∷ os) t r = r_each all now os (cp.operate all t now o) (r_operate all os t now o r)
-
-    w_operations : (now : Stamp) (t : Turn) → W t → W (cp.operations now t)
-    unfolding cp.operations
-    w_operations now t w =
-        let u = cp.operate_each t.operations now t.operations (with_operations [] t) in
-        w_fewer u.here.server u.here.life.0 (view u.here.session) (u.operations ++ []) u.operations u.out (λ o h. has_none u.operations o h) (r_each t.operations now t.operations (with_operations [] t) w)
-
-    -- Reductions.
-    w_reduce_idle : (t : Turn) (x : ClientSession) (ino : ℕ) → W t → WIn t x → W (cp.reduce_idle t x ino)
-    unfolding cp.reduce_idle cp.reduce_by cp.reduce_given cp.reduce_to
-    w_reduce_idle t x ino w y = if_w (cp.may_reduce t x ino) _ t (go (locks.reduce x.locks ino)) w
-      where
-        given : (z : locks.Reduced) (o : Option (GrantNo × Mode)) → W (cp.reduce_given t (cs.with_cache z.locks x) ino o)
-        given z None = w
-        given z (Some (g, m)) = y
-
-        go : (r : locks.Reduced) → W (cp.reduce_by t x ino r)
-        go r = given r r.given
-
-    w_reduces : (inos : List ℕ) (t : Turn) → W t → W (cp.reduce_each inos t)
-    unfolding cp.reduce_each cp.reduce
-    w_reduces [] t w = w
-    w_reduces (ino ∷ inos) t w = w_reduces inos _ (go t.here.session refl)
-      where
-        go : (o : Option ClientSession) → t.here.session ≡ o → W (cp.reduce t ino o)
-        go None e = w
-        go (Some x) e = w_reduce_idle t x ino w (into t x e w)
-
-    -- Writes.
-    w_write_page : (t : Turn) (x : ClientSession) (now : Stamp) (tick : Bool) (o : Option DirtyPage) → W t → W (cp.write_page t x now tick o)
-    unfolding cp.write_page cp.write_due cp.write_out cp.write_out_at cp.submit_write cp.submit_command
-    w_write_page t x now tick None w = w
-    w_write_page t x now tick (Some d) w = if_w (cp.is_writable t x now tick d) _ t (go (pages.mapping_of t.here.store.extents d.ino d.page)) w
-      where
-        go : (m : Option MappedBlock) → W (cp.write_out_at t d m)
-        go None = w
-        go (Some m) = w_say (cp.with_command d.ino d.page (io.Write d.version) t) _ tt w
-
-    w_writes : (x : ClientSession) (now : Stamp) (tick : Bool) (xs : List (ℕ × PageNo)) (t : Turn) → W t → W (cp.write_each x now tick xs t)
-    unfolding cp.write_each
-    w_writes x now tick [] t w = w
-    w_writes x now tick (y ∷ ys) t w = w_writes x now tick ys _ (w_write_page t x now tick _ w)
-
-    w_writing : (now : Stamp) (tick : Bool) (t : Turn) → W t → W (cp.writes now tick t)
-    unfolding cp.writes cp.writes_by
-    w_writing now tick t w = go t.here.session
-      where
-        go : (o : Option ClientSession) → W (cp.writes_by t now tick o)
-        go None = w
-        go (Some x) = w_writes x now tick _ t w
-
-    -- Greeting.
-    w_greeting : (now : Stamp) (tick : Bool) (t : Turn) → W t → W (cp.greeting now tick t)
-    unfolding cp.greeting cp.greeting_by cp.greet cp.hello cs.send
-    w_greeting now tick t w = go t.here.session
-      where
-        go : (o : Option ClientSession) → W (cp.greeting_by t now tick o)
-        go None = if_w (cp.must_greet t now tick) _ t (w_say (cp.with_greeting now t) _ tt w) w
-        go (Some x) = w
+    w_greeted : (now : Stamp) (tick : Bool) (t u : Turn) → Greets now tick t u → W t → W u
+    unfolding cs.send
+    w_greeted now tick t _ asking.IsSilent w = w
+    w_greeted now tick t _ (asking.SaysHello e m) w = w_say (cp.with_greeting now t) _ tt w
 
     pub w_passes : (now : Stamp) (tick : Bool) (t : Turn) → W t → W (cp.passes now tick t)
-    unfolding cp.passes cp.reductions
-    w_passes now tick t w = w_requests now tick _ (w_greeting now tick _ (w_writing now tick _ (w_reduces _ _ (w_operations now t w))))
+    w_passes now tick t w =
+        let r = passes now tick t in
+        let z = each_lasts (Operated now t.operations) (λ os v. R os v) (λ o os v u step y. r_operated now t.operations os o v u step y) t.operations
+        (with_operations [] t) r.operated r.operations w in
+        let o = r.operated in
+        w_requested now tick r.greeted (cp.passes now tick t) r.requests
+        (w_greeted now tick r.written r.greeted r.greeting
+        (each_lasts (WritesOut now tick) (λ xs v. W v) (λ x xs v u step y. w_written now tick x v u step y)
+        (places_of r.reduced.here.session r.reduced.here.store.pages) r.reduced r.written r.writes
+        (each_lasts Reduced (λ inos v. W v) (λ ino inos v u step y. w_reduced ino v u step y) (cp.files_demanded o.here.session) o r.reduced r.reductions
+        (w_fewer o.here.server o.here.life.0 (view o.here.session) (o.operations ++ []) o.operations o.out (λ p h. has_none o.operations p h) z))))
 
     -- Asks of applications, under a number that is new.
     pub w_take : (op : ℕ) (ask : Ask) → (S op → ⊥) → (t : Turn) → W t → W (cs.only_at (server_of ask) (cl.take_ask op ask) t)
-    unfolding cs.only_at cl.take_ask cl.take_by cl.take_sync cl.tell_lost cl.enqueue
-    w_take op ask n t w = if_case W (cs.is_at (server_of ask) t.here) (cl.take_ask op ask t) t (λ e. by e ask) (λ e. w)
+    w_take op ask n t w = at_server (λ u. W u) (server_of ask) (cl.take_ask op ask) t (λ e. by e (cl.take_ask op ask t) (takes op ask t)) (λ e. w)
       where
         new : Operation
         new = cs.new_operation op ask
 
         enqueued : cs.is_at (server_of ask) t.here ≡ true → W (cs.keep new t)
-        enqueued at = record { base = record { server = w.base.server; fine = λ o h. fine o (has_append t.operations (new ∷ []) o h); said = w.base.said }; asked = λ o h z e. asked o (has_append t.operations (new ∷ []) o h) z e }
+        enqueued at = record {
+          base = record { server = w.base.server; fine = λ o h. fine o (has_append t.operations (new ∷ []) o h); said = w.base.said };
+          asked = λ o h z e. asked o (has_append t.operations (new ∷ []) o h) z e;
+        }
           where
             own : cs.is_of t.here.server new ≡ true
             own = eq-eqb (server_of ask).0 t.here.server.0 (sym (eqb-true t.here.server.0 (server_of ask).0 at))
@@ -865,7 +640,8 @@ module _ (S : ℕ → Type 0) (Key : ServerId → ℕ → ℕ → ℕ → ℕ �
             fine o (inr (inl e)) = subst (Fine t.here.server B) (sym e) new_fine
             fine o (inr (inr i)) = absurd i
 
-            asked : (o : Operation) → Has o t.operations ⊎ Has o (new ∷ []) → S o.op → cs.is_asked t.here.server o ≡ true → Under t.here.server t.here.life.0 (view t.here.session) o.op
+            asked : (o : Operation) → Has o t.operations ⊎ Has o (new ∷ []) → S o.op → cs.is_asked t.here.server o ≡ true → Under t.here.server t.here.life.0
+                (view t.here.session) o.op
             asked o (inl h) z e = w.asked o h z e
             asked o (inr (inl q)) z e = absurd (n (subst (λ (r : Operation). S r.op) q z))
             asked o (inr (inr i)) z e = absurd i
@@ -873,6 +649,7 @@ module _ (S : ℕ → Type 0) (Key : ServerId → ℕ → ℕ → ℕ → ℕ �
         told_lost : (f : FileId) → W (cs.answered (cs.with_lost_rows (pages.untold t.here.lost f.ino) t) op (answers.Lost (pages.told_rows t.here.lost f.ino)))
         told_lost f = w_say (cs.with_lost_rows (pages.untold t.here.lost f.ino) t) _ (λ z. absurd (n z)) w
 
-        by : cs.is_at (server_of ask) t.here ≡ true → (a : Ask) → W (cl.take_by t op ask a)
-        by at (asks.Sync f) = if_w (pages.has_lost t.here.lost f.ino) _ _ (told_lost f) (enqueued at)
-        by at a = enqueued at
+        by : cs.is_at (server_of ask) t.here ≡ true → (u : Turn) → Takes op ask t u → W u
+        by at _ (ending.TellsLost f q h) = told_lost f
+        by at _ (ending.WaitsForSync f q h) = enqueued at
+        by at _ (ending.Waits k) = enqueued at
