@@ -1,3 +1,4 @@
 pub mod Scripts
 pub mod Ends
 pub mod States
+pub mod Ahead

@@ -1,8 +1,6 @@
 -- A script on its way.
 use Rattle.std.specs.Prelude.{◌≡◌, ℕ, ◌+◌, List, Option, Some, None, Result, Ok, Err}
 use Rattle.std.specs.Io.KnownBytes.{Appends}
-use Rattle.st_script.specs.declared.fault.ScriptFault.{ScriptFault}
-use Rattle.st_script.specs.declared.fault.ScriptFault.TheVariants as faults
 use Rattle.st_script.specs.declared.fault.Stop.{Stop}
 use Rattle.st_script.specs.declared.fault.Stop.TheVariants as stops
 use Rattle.st_script.specs.Scripts.{Outcome, Rules, behind, play_from}
@@ -11,6 +9,7 @@ use Rattle.st_script.specs.Scripts.{Outcome, Rules, behind, play_from}
 abbrev pub IsRead : {Event : Type 0} → Result (Option Event) Stop → Option (Option Event) → Type 0
 IsRead (Ok e) read = read ≡ Some e
 IsRead (Err stops.Malformed) read = read ≡ None
+IsRead (Err stops.Read) read = ⊥
 IsRead (Err stops.Memory) read = Unit {0}
 
 -- The text that was written behind so many events, and what comes of the lines that are left, are the outcome; a state stands
@@ -27,10 +26,5 @@ pub record Goes {State Event : Type 0} (holds : State → Type 0) (r : Rules Sta
 abbrev pub IsBegun : {State Y : Type 0} → (State → Y → Type 0) → Result Y Stop → Option State → Type 0
 IsBegun {State} stands (Ok y) first = (s : State) × ((first ≡ Some s) × stands s y)
 IsBegun stands (Err stops.Malformed) first = first ≡ None
+IsBegun stands (Err stops.Read) first = ⊥
 IsBegun stands (Err stops.Memory) first = Unit {0}
-
--- a fault of a call that reads and does not write
-abbrev pub IsOfReading : ScriptFault → Type 0
-IsOfReading faults.Read = Unit {0}
-IsOfReading faults.Memory = Unit {0}
-IsOfReading e = ⊥

@@ -27,10 +27,11 @@ impl From<AllocError> for ScriptFault {
     }
 }
 
-/// Why a line was not read.
+/// Why a line was not read: it is malformed or missing, the source failed, or memory ran out.
 #[derive(Clone, Copy, Debug, PartialEq, Eq)]
 pub(crate) enum Stop {
     Malformed,
+    Read,
     Memory,
 }
 

@@ -5,6 +5,7 @@
 mod answers;
 mod fault;
 mod lines;
+mod pieces;
 mod play;
 mod runner;
 mod script;

@@ -1,18 +1,18 @@
 // The lines of a script: each is played, and its answer written, up to the end or to the line that stops it.
-ghost use Rattle.std.specs.Prelude.{ℕ, ◌≡◌, ◌≤◌, ◌<◌, ◌+◌, ◌++◌, OnOk, OnErr, IfErr, Err};
-ghost use Rattle.std.specs.Io.KnownBytes.{Appends};
+ghost use Rattle.std.specs.Prelude.{ℕ, List, ◌≡◌, ◌≤◌, ◌<◌, ◌+◌, ◌++◌, OnOk, OnErr, IfErr, Err, Some};
+ghost use Rattle.std.specs.Io.KnownBytes.{Appends, IsAtEnd, prepend_known};
 ghost use Rattle.st_link.specs.Prefixes.{AppendsPrefix};
 ghost use Rattle.st_schedule_words.specs.Lines.{lines_of};
-ghost use Rattle.st_script.specs.Ends.{Refuses, Reports, WriteCauses, Writes};
+ghost use Rattle.st_script.specs.Ends.{HasCauses, Refuses, Reports, WriteCauses, Writes};
 ghost use Rattle.st_script.specs.Scripts as scripts;
 ghost use Rattle.st_script.specs.Scripts.{answer_lines, stopped_text};
 
 use crate::fault::{ScriptFault, Stop};
-use crate::lines::read_line;
+use crate::lines::next_event;
+use crate::pieces::next_line;
 use crate::script::Script;
-use st_link::{Sink, put_all};
+use st_link::{Sink, Source, put_all};
 use st_report::{put_refused, put_text};
-use st_schedule::take_line;
 use std::alloc::{AllocError, Global};
 
 /// Writes a text.
@@ -85,52 +85,58 @@ fn write_last<S: Script, O: Sink>(
 }
 
 /// Ends a script at the line `end`, which has this number, with the bytes behind it.
-fn conclude<S: Script, O: Sink>(
+fn conclude<S: Script, I: Source, O: Sink>(
     alloc: Global,
     script: &S,
     done: u64,
     line: u64,
-    after: &[u8],
+    held: &mut Vec<u8>,
+    input: &mut I,
     out: &mut O,
 ) -> Result<(), ScriptFault>
     requires { line ≤ 10002 }
-    ensures exact { (s : S.State) → S.stands done s script.now → Reports (λ t. S.stands done t script.now) result (O.written out.old) (O.written out.new)
-        (scripts.ended S.rules done line s (lines_of after.now)) }
-    ensures cause { WriteCauses result (O.faults out.old) (O.faults out.new) }
+    ensures exact { (s : S.State) → S.stands done s script.now → (bytes : List ℕ) → prepend_known held.old.items (I.left input.old) ≡ Some bytes →
+        Reports (λ t. S.stands done t script.now) result (O.written out.old) (O.written out.new) (scripts.ended S.rules done line s (lines_of bytes)) }
+    ensures through { OnOk result (IsAtEnd (I.left input.new)) }
+    ensures causes { HasCauses result (I.faults input.old) (I.faults input.new) (O.faults out.old) (O.faults out.new) }
 {
-    match take_line(after) {
-        None => write_last(alloc, script, done, out),
-        Some(_) => Err(refuse(alloc, line + 1, out)),
+    match next_line(held, input) {
+        Ok(None) => write_last(alloc, script, done, out),
+        Ok(Some(_)) => Err(refuse(alloc, line + 1, out)),
+        Err(Stop::Malformed) => Err(refuse(alloc, line + 1, out)),
+        Err(Stop::Read) => Err(ScriptFault::Read),
+        Err(Stop::Memory) => Err(ScriptFault::Memory),
     }
 }
 
-/// Plays lines, the first of which has this number.
-pub(crate) fn play_lines<S: Script, O: Sink>(
+/// Plays the lines of a source, the first of which has this number, up to the end, and writes the answers of each before it takes
+/// more.
+pub(crate) fn play_lines<S: Script, I: Source, O: Sink>(
     alloc: Global,
     script: &mut S,
     first: u64,
-    bytes: &[u8],
+    held: &mut Vec<u8>,
+    input: &mut I,
     out: &mut O,
 ) -> Result<(), ScriptFault>
     requires { first ≤ 2 }
-    ensures exact { (s : S.State) → S.stands 0 s script.old → Reports (λ t. (n : ℕ) × S.stands n t script.new) result (O.written out.old) (O.written out.new)
-        (scripts.play_from S.rules 0 first s (lines_of bytes.now)) }
-    ensures cause { WriteCauses result (O.faults out.old) (O.faults out.new) }
+    ensures exact { (s : S.State) → S.stands 0 s script.old → (bytes : List ℕ) → prepend_known held.old.items (I.left input.old) ≡ Some bytes →
+        Reports (λ t. (n : ℕ) × S.stands n t script.new) result (O.written out.old) (O.written out.new) (scripts.play_from S.rules 0 first s (lines_of bytes)) }
+    ensures through { OnOk result (IsAtEnd (I.left input.new)) }
+    ensures causes { HasCauses result (I.faults input.old) (I.faults input.new) (O.faults out.old) (O.faults out.new) }
 {
     let mut done = 0u64;
-    let mut rest = bytes;
-    'lines: while let Some((line, after)) = take_line(rest) {
-        match read_line::<S>(alloc, done, line) {
+    'lines: loop {
+        match next_event::<S, I>(alloc, done, held, input) {
             Ok(Some(event)) => match play_event(alloc, script, done, event, out) {
                 Ok(()) => {}
                 Err(fault) => return Err(fault),
             },
-            Ok(None) => return conclude(alloc, script, done, first + done, after, out),
+            Ok(None) => return conclude(alloc, script, done, first + done, held, input, out),
             Err(Stop::Malformed) => return Err(refuse(alloc, first + done, out)),
+            Err(Stop::Read) => return Err(ScriptFault::Read),
             Err(Stop::Memory) => return Err(ScriptFault::Memory),
         }
-        rest = after;
         done += 1;
     }
-    Err(refuse(alloc, first + done, out))
 }
