@@ -1,0 +1,4 @@
+mod JournalHistories
+mod ImageHistories
+mod MoveHistories
+mod SharedHistories

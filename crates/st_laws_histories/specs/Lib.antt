@@ -1,0 +1,4 @@
+pub mod JournalHistories
+pub mod ImageHistories
+pub mod MoveHistories
+pub mod SharedHistories
