@@ -1,5 +1,5 @@
-// What the page of tools/picture does in the browser: it shows the lines of what is pointed at, hides rows and columns, and goes from theft to theft.
-// The SVG is drawn whole; a layout maps the heights and widths of what is hidden to nothing, and moves every element accordingly.
+// What the page of tools/picture does in the browser: it shows the lines of whatever is pointed at, hides rows and columns, and jumps from
+// theft to theft. The SVG is drawn as a whole; a layout gives what is hidden neither height nor width, and moves every element accordingly.
 const told = JSON.parse(document.getElementById('told').textContent), run = document.getElementById('run'), byId = it => document.getElementById(it);
 const about = byId('about'), seek = byId('seek'), fold = byId('fold'), file = byId('file'), found = byId('found'), strip = byId('strip');
 const header = document.querySelector('#lanes svg'), main = document.querySelector('main');
@@ -102,9 +102,23 @@ function layout() {
   const w = mx(width), h = my(height);
   run.setAttribute('width', w); run.setAttribute('height', h); run.setAttribute('viewBox', `0 0 ${w} ${h}`);
   header.setAttribute('width', w); header.setAttribute('viewBox', `0 0 ${w} 32`);
-  found.textContent = words.length ? (hits.length ? rows.length - hidden.size + ' of ' + rows.length + ' rows' : 'nothing has these words') : '';
-  layoutDone = {my, hidden};
+  found.textContent = words.length ? (hits.length ? rows.length - hidden.size + ' of ' + rows.length + ' rows' : 'no matches') : '';
+  layoutDone = {my, hidden, notes: mx(told.notes), width: w};
   overview();
+}
+
+// The column that says what happened stays in sight: if the page is wider than the window, the column moves over the lanes, as far as the
+// middle of the window.
+const said = [...run.querySelectorAll('text.note'), header.querySelector('text.observed')].filter(Boolean), behind = run.querySelector('rect.behind');
+let moved = 0;
+function keepNotes() {
+  const wide = document.documentElement.clientWidth, left = Math.max(wide * 0.55, wide - told.strip - (layoutDone.width - layoutDone.notes));
+  const by = Math.min(0, Math.round(scrollX + left - layoutDone.notes));
+  behind.classList.toggle('off', by == 0);
+  document.body.dataset.notes = layoutDone.notes + by - scrollX;
+  if (by == moved) return;
+  moved = by;
+  for (const it of [...said, behind, ...run.querySelectorAll('text.folded')]) it.style.transform = by ? `translateX(${by}px)` : '';
 }
 
 function place(one, mx, my, off) {
@@ -145,12 +159,15 @@ function overview() {
   }
   strip.append(document.createElement('b'));
   viewport();
+  moved = null;
+  keepNotes();
 }
 function viewport() {
   const box = strip.querySelector('b'), total = layoutDone.my(height), start = -main.getBoundingClientRect().top;
   if (box) { box.style.top = Math.max(0, 100 * start / total) + '%'; box.style.height = 100 * Math.min(1, innerHeight / total) + '%'; }
 }
-addEventListener('scroll', viewport);
+addEventListener('scroll', () => { viewport(); keepNotes(); });
+addEventListener('resize', () => { viewport(); keepNotes(); });
 strip.addEventListener('click', it => scrollTo(scrollX, main.offsetTop + layoutDone.my(height) * it.clientY / innerHeight - innerHeight / 2));
 
 // Going to events.
@@ -168,7 +185,7 @@ function go(e) {
 function next(kind, back) {
   const shown = kinds[kind].filter(e => !layoutDone.my.hides(rows.find(row => row.e == e).top));
   const to = back ? shown.filter(e => e < at).pop() : shown.find(e => e > at);
-  found.textContent = to === undefined ? `no ${names[kind]} ${back ? 'before' : 'behind'} here: there are ${shown.length}` : `${names[kind]} ${shown.indexOf(to) + 1} of ${shown.length}, event ${to}`;
+  found.textContent = to === undefined ? `no ${back ? 'earlier' : 'later'} ${names[kind]} (${shown.length} in total)` : `${names[kind]} ${shown.indexOf(to) + 1} of ${shown.length}, event ${to}`;
   if (to !== undefined) go(to);
 }
 document.addEventListener('keydown', it => {
