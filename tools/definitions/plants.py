@@ -43,9 +43,9 @@ PLANTS = (
         ("ClientReplies", "answer_each (is_asked t.here.server) answers.Cut t", "answer_each (is_asked t.here.server) answers.NotHolder t"),), "cuts"),
     Plant("a cut is acknowledged and not done", "AnswersAreLogged", (("Server", CUT_FROM, "cut_from t ino from = replied t bodies.Ack"),), "cuts"),
     # Refusals.
-    Plant("where a cut is acknowledged, `notholder` is kept as its reply", "RefusalsChangeNothing", (
+    Plant("when a cut is acknowledged, `notholder` is kept as its reply", "RefusalsChangeNothing", (
         ("Server", KEPT, KEPT_OTHER + "kept_for bodies.Ack = bodies.Nack why.NotHolder 0 0\nkept_for body = body"),), "cuts"),
-    Plant("where an inode is told, a refusal is kept as the reply", "RefusalsChangeNothing NamesAnswerTruly NamesChangeOnce", (
+    Plant("when an inode is returned, a refusal is kept as the reply", "RefusalsChangeNothing NamesAnswerTruly NamesChangeOnce", (
         ("Server", KEPT, KEPT_OTHER + "kept_for (bodies.Named (Ino ino)) = bodies.Named (Refused 2)\nkept_for body = body"),), "cuts"),
     Plant("operations that were sent are answered `quiesced`", "RefusalsChangeNothing NamesAnswerTruly NamesChangeOnce CutsAreAsked NamesChangeAsAsked", (
         ("ClientPasses", "quiesce t o = if is_sent o then keep o t else answer o answers.Quiesced t", "quiesce t o = answer o answers.Quiesced t"),), "cuts"),
@@ -57,11 +57,11 @@ PLANTS = (
         ("Client", "answered t o.op (answers.Uncertain s.epoch.0 0)", "answered t o.op answers.Quiesced"),), "cuts"),
     Plant("a cut is sent again in a new epoch", "RefusalsChangeNothing NamesChangeOnce", (SENT_ANEW,), "cuts"),
     # Losses.
-    Plant("lost pages are never told: a sync always answers `hard`", "LossesAreTold", (
+    Plant("lost pages are never reported: a sync always answers `hard`", "LossesAreTold", (
         ("Client", "if pages.has_lost t.here.lost f.ino then tell_lost t op f.ino else enqueue t op ask", "enqueue t op ask"),
         ("Client", "end_sync t o f = if pages.has_lost t.here.lost f.ino then tell_lost t o.op f.ino else answered t o.op answers.Quiesced",
          "end_sync t o f = answered t o.op answers.Quiesced"))),
-    Plant("lost pages are not told to a new sync", "LossesAreTold", (
+    Plant("lost pages are not reported to a new sync", "LossesAreTold", (
         ("Client", "if pages.has_lost t.here.lost f.ino then tell_lost t op f.ino else enqueue t op ask", "enqueue t op ask"),)),
     Plant("`hard` for ever: every sync is answered so at once", "HardIsHard", (
         ("ClientPasses", "sync t o f = if pages.is_hard t.here.store f.ino then answer o answers.Hard t else keep o t", "sync t o f = answer o answers.Hard t"),)),
@@ -151,7 +151,7 @@ PLANTS = (
         ("ClientReplies", "counted t s now h.number (record { 0 = h.stamp }) reply s.requests.asked", "counted t s now h.number now reply s.requests.asked"),)),
     Plant("a timer runs on after the theft", "TheHistoryIsTheWorlds", (
         ("Authority", "still_running a now = record a { suspects = filter (λ s. not (is_over a.wait now s)) a.suspects }", "still_running a now = a"),)),
-    Plant("shared locks conflict where they are reasserted", "NoConflictIsSent", (("Locks", "(holder_against l c row.0 row.2)", "(holder_against l c row.0 modes.X)"),)),
+    Plant("shared locks conflict when they are reasserted", "NoConflictIsSent", (("Locks", "(holder_against l c row.0 row.2)", "(holder_against l c row.0 modes.X)"),)),
     # Locks and pages.
     Plant("a server grants over a conflict", "DirtyPagesStandAlone ReadsReturnLastWrites ChangesAreLocked ChangesGoInTheOrderOfLocks NoConflictIsSent", (
         ("Locks", "if list_any (stands_against w.client w.ino w.mode) l.rows then None else Some w", "Some w"),)),
