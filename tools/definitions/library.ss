@@ -56,6 +56,7 @@
 (define (|std.is_none| o) (not (some? o)))
 (define (|std.unwrap_or| o x) (if (some? o) (vector-ref o 1) x))
 (define (|std.option_map| f o) (if (some? o) (some (f (vector-ref o 1))) none))
+(define (|std.option_and_then| f o) (if (some? o) (f (vector-ref o 1)) none))
 (define (|std.option_or| o p) (if (some? o) o p))
 (define (|std.decimal| n) (map char->integer (string->list (number->string n))))
 (define (|std.bytes_eq| a b) (equal? a b))

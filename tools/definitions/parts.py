@@ -2,9 +2,13 @@
 import argparse
 import collections
 import multiprocessing
+import os
 import time
 
 import comparing
+import running
+
+ACCEPTED = "st_laws_volume:Witness.Accepted"
 
 done = None  # what all parts did so far
 
@@ -69,4 +73,23 @@ def add_words(parser, lengths):
                         help=f"how many events a run may have: one of these is drawn ({','.join(map(str, lengths))})")
     parser.add_argument("--until", type=int, default=20, metavar="N", help="a processor ends where it found so many (20)")
     parser.add_argument("--crates", default=str(comparing.ROOT / "crates"), metavar="FOLDER", help="the definitions are of this folder")
-    parser.add_argument("--more", action="append", default=[], metavar="MODULE.NAME", help="a promise of st_promises/specs besides")
+    add_promises(parser)
+
+
+def add_promises(parser):
+    """The words that say which promises are judged."""
+    parser.add_argument("--more", action="append", default=[], metavar="MODULE.NAME", help="a promise of st_promises/specs, or of a CRATE:MODULE, besides")
+    parser.add_argument("--only", action="store_true", help="only the promises that --more names")
+    parser.add_argument("--volume", action="store_true", help="only that the volume accepts each step; for plants, those of volume_plants.py")
+
+
+def parsed(parser):
+    """The words that were given, with what --volume stands for."""
+    words = parser.parse_args()
+    if words.volume:
+        words.only, words.more = True, [*words.more, ACCEPTED]
+        if "plants" in words:
+            words.plants = "volume_plants"
+    if words.only:
+        os.environ[running.ONLY_MORE] = "1"
+    return words

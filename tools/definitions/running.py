@@ -26,14 +26,22 @@ RECORDS = (("0",), ("server", "ino"), ("lease", "renew", "quiesce", "flush", "de
 # What a run's asks are like: of all kinds; six of ten for names; half of them cuts and removals, whose replies are often lost.
 ASKS = ("all", "names", "cuts")
 MOST_MEMORY = 4 << 30
+# Where this variable is set, only the promises that are named besides are judged; the compiled program reads it too.
+ONLY_MORE = "TANK_ONLY_MORE"
+
+
+def module_path(file, folder):
+    """The path of a module: CRATE:MODULE, or a MODULE of this folder."""
+    return "Rattle." + file.replace(":", ".specs.") if ":" in file else folder + file
 
 
 def promises_of(translator, more):
-    """The promises by name, each as its symbol: the fields of IsSafe, and these more, each a module of st_promises/specs and a name in it."""
+    """The promises by name, each as its symbol: the fields of IsSafe, unless only more are judged, and these more, each a module and a name in it."""
     module = translator.sources.module(PROMISES + "Safe")
-    names = [text.split()[1] for _, text in module.records["IsSafe"][1]]
+    names = [] if os.environ.get(ONLY_MORE) else [text.split()[1] for _, text in module.records["IsSafe"][1]]
     places = [place.rsplit(".", 1) for place in more]
-    found = [translator.root(module.path, name) for name in names] + [translator.root(PROMISES + file, name) for file, name in places if name not in names]
+    found = [translator.root(module.path, name) for name in names]
+    found += [translator.root(module_path(file, PROMISES), name) for file, name in places if name not in names]
     return {one[1].name: symbol(one[1].module.path, one[1].name) for one in found}
 
 
@@ -68,9 +76,9 @@ def program_text(crates, more):
 
 
 def changed_text(crates, more, texts):
-    """What a program of these crates is to evaluate so that some modules of st_rules have these texts."""
+    """What a program of these crates is to evaluate so that some modules, of st_rules or as CRATE:MODULE, have these texts."""
     sources, before, _ = base(str(crates), tuple(more))
-    return translated(sources.with_texts({RULES + file: text for file, text in texts.items()}), more, before)[0].changes(before)
+    return translated(sources.with_texts({module_path(file, RULES): text for file, text in texts.items()}), more, before)[0].changes(before)
 
 
 def built(crates, more=()):
