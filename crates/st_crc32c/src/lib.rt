@@ -1,0 +1,8 @@
+//! CRC-32C, the checksum of storage protocols (Castagnoli's polynomial), and what it is good for: one byte that is another one is always told.
+#![tactic(auto)]
+
+mod crc;
+mod law;
+
+pub use crc::{after, crc32c};
+pub use law::{another_byte_is_told, known_sums};
