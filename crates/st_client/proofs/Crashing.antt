@@ -126,11 +126,6 @@ no_phase id config ss ls server now = ap (λ (l : Option ClientLease). phase_at 
 pub room_there : (id : ClientId) (config : Config) (ss : List ServerId) (ls : List Life) → length ls ≡ length ss → has_room (crashed_client id config ss ls) ≡ list_all is_low ls
 room_there id config ss ls e = low_there ss ls e
 
--- what follows where there is a result
-pub on_ok : {A E : Type 0} (r : Result A E) (P Q : Type 0) → (P → Q) → OnOk r P → OnOk r Q
-on_ok (Ok x) P Q f h = f h
-on_ok (Err e) P Q f h = h
-
 -- a node that does not run has no state
 pub none_runs : {A : Type 0} (o : Option A) → is_some o ≡ false → o ≡ None
 none_runs None e = refl

@@ -84,31 +84,6 @@ module _ (id : ClientId) (config : Config) (n : ℕ) (items : List ClientAssocia
       λ s. put s ∙ ap (λ t. cond (same_server t s) end (end_in before s)) f ∙ ap (λ x. cond (same_server a.here.server s) x (end_in before s)) (g ∙ ap (λ k. end_at k (lease_at (Some a.here))) c) in
       subst (λ ys. AreEnds config ys after) (sym told) (more_ends config (drop (i + 1) xs) a.here before after p h)
 
--- the end at a server is put in its place
-put_at : (xs : List (Option Stamp)) (n m : ℕ) (end : Option Stamp) → 1 ≤ n → n ≤ length xs → unwrap_or (numbered (set xs (n - 1) end) m) None ≡ cond (n == m) end (unwrap_or (numbered xs m) None)
-put_at xs n m end f l = by (eqb_tells n m)
-  where
-    same : (j : ℕ) → n ≡ j → unwrap_or (numbered (set xs (n - 1) end) j) None ≡ end
-    same zero e = absurd (omega (arith, f, e))
-    same (suc j) e =
-        let k : n - 1 ≡ j = omega (arith, e) in
-        let b : j < length xs = omega (arith, e, l) in
-        unwrap_or-slice_get (set xs (n - 1) end) j None ∙ ap (λ i. get_or (set xs i end) j None) k ∙ get_or-set_same xs j end None b
-
-    other : (j : ℕ) → n ≢ j → unwrap_or (numbered (set xs (n - 1) end) j) None ≡ unwrap_or (numbered xs j) None
-    other zero d = refl
-    other (suc j) d =
-        let k : j ≢ n - 1 = λ e. d (omega (arith, e, f)) in
-        unwrap_or-slice_get (set xs (n - 1) end) j None ∙ get_or-set_other xs (n - 1) j end None k ∙ sym (unwrap_or-slice_get xs j None)
-
-    by : ((eqb n m ≡ true) × (n ≡ m)) ⊎ ((eqb n m ≡ false) × (n ≢ m)) → unwrap_or (numbered (set xs (n - 1) end) m) None ≡ cond (n == m) end (unwrap_or (numbered xs m) None)
-    by (inl e) = same m e.1 ∙ sym (cond_true (n == m) end (unwrap_or (numbered xs m) None) e.0)
-    by (inr e) = other m e.1 ∙ sym (cond_false (n == m) end (unwrap_or (numbered xs m) None) e.0)
-
-pub put_end : (before : LeaseEnds) (server s : ServerId) (end : Option Stamp) → 1 ≤ server.0 → server.0 ≤ length before.ends →
-    end_in (record { ends = set before.ends (server.0 - 1) end }) s ≡ cond (same_server server s) end (end_in before s)
-put_end before server s end f l = put_at before.ends server.0 s.0 end f l
-
 -- the place of a step of the loop
 pub place_in : (items : List ClientAssociation) (xs : List Association) (i : ℕ) → map here_of items ≡ xs → 0 < i → i ≤ length xs → i - 1 < length items
 place_in items xs i v f l = let n = sym (length-map items here_of) ∙ ap length v in omega (arith, f, l, n)

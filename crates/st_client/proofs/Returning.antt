@@ -21,10 +21,6 @@ back_before x [] i z b l e = absurd (omega (arith, l))
 back_before x (y ∷ ys) zero z b l e = ap (λ r. b ∷ r) (ap (λ w. take (length ys) (y ∷ ys) ++ w ∷ []) e ∙ all_but_last y ys z)
 back_before x (y ∷ ys) (suc i) z b l e = ap (λ r. x ∷ r) (back_before y ys i z b (omega (arith, l)) e)
 
-back_last : {A : Type 0} (x : A) (xs : List A) (z b : A) → take (length xs) (slice_set (x ∷ xs) (length xs) z) ++ b ∷ [] ≡ insert (remove (x ∷ xs) (length xs)) (length xs) b
-back_last x [] z b = refl
-back_last x (y ∷ ys) z b = ap (λ r. x ∷ r) (back_last y ys z b)
-
 one_less : (n : ℕ) → suc n - 1 ≡ n
 one_less n = omega arith
 
@@ -41,13 +37,3 @@ returned_before (x ∷ xs) i d b last old new l n e m g k =
     let f : i < length xs = omega (arith, n, m) in
     let w : last ≡ z = g ∙ ap (λ os. get_or os i last) o ∙ came_there x xs i z last f in
     k ∙ (λ j. slice_set (o j) i b ++ w j ∷ []) ∙ back_before x xs i z b f (last_is x xs d z)
-
--- it was the last one itself
-pub returned_last : {A : Type 0} (xs : List A) (i : ℕ) (d b : A) (old new : List A) → i < length xs → length old + 1 ≡ length xs → old ≡ swap_remove xs i d → length old ≤ i → new ≡ old ++ b ∷ [] →
-    new ≡ insert (remove xs i) i b
-returned_last [] i d b old new l n e m k = absurd (omega (arith, l))
-returned_last (x ∷ xs) i d b old new l n e m k =
-    let z = get_or (x ∷ xs) (length xs) d in
-    let q : i ≡ length xs = omega (arith, l, n, m) in
-    k ∙ ap (λ os. os ++ b ∷ []) (e ∙ taken_out x xs i d) ∙ (λ j. take (length xs) (slice_set (x ∷ xs) (q j) z) ++ b ∷ []) ∙ back_last x xs z b
-    ∙ (λ j. insert (remove (x ∷ xs) (sym q j)) (sym q j) b)

@@ -13,14 +13,6 @@ use Rattle.st_rules.specs.declared.client.PageCommand.{PageCommand}
 use Rattle.st_rules.specs.declared.pages.DirtyPage.{DirtyPage}
 use Rattle.st_client_association.proofs.TurnInvariants.{below_fewer}
 
--- no command is told
-pub none_told : (cs : List PageCommand) (n : ℕ) → None ≡ option_map told (command_of cs n) → None ≡ command_of cs n
-none_told cs n e = by (command_of cs n) e
-  where
-    by : (o : Option PageCommand) → None ≡ option_map told o → None ≡ o
-    by None e = refl
-    by (Some c) e = cc
-
 -- the command that is told
 pub some_told : (cs : List PageCommand) (n ino : ℕ) (p : PageNo) (kind : IoKind) → Some (ino, p, kind) ≡ option_map told (command_of cs n) → Some (record { number = n; ino = ino; page = p; kind = kind }) ≡ command_of cs n
 some_told cs n ino p kind e = by (command_of cs n) refl e

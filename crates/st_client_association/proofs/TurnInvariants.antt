@@ -172,21 +172,3 @@ module _ (client : ClientId) (config : Config) (server : ServerId) (life : Life)
         lives = omega (arith, m, b);
         requests = omega (arith, m, r);
       }
-
--- a command ends, or is unknown
-pub below_ended : (n number : ℕ) (ok : Bool) (version : ℕ) (cs : List PageCommand) → list_all (is_below n) cs ≡ true → list_all (is_below n) (end_command cs number ok version).commands ≡ true
-unfolding end_command end_at
-below_ended n number ok version cs h = by (command_of cs number)
-  where
-    by : (o : Option PageCommand) → list_all (is_below n) (end_at cs number ok version o).commands ≡ true
-    by None = h
-    by (Some c) = below_fewer n (λ c. not (is_numbered number c)) cs h
-
--- versions stay where a page is hardened
-pub versions_hardened : (ps : Pages) (ino : ℕ) (p : PageNo) → (harden ps ino p).next_version ≡ ps.next_version
-unfolding harden harden_at harden_page
-versions_hardened ps ino p = by (dirty_of ps ino p)
-  where
-    by : (o : Option DirtyPage) → (harden_at ps o).next_version ≡ ps.next_version
-    by None = refl
-    by (Some d) = refl

@@ -13,14 +13,6 @@ use Rattle.st_rules.specs.ClientPasses.{change_page, fetch, patch_at, patch_byte
 use Rattle.st_rules.specs.ClientState.{Turn}
 use Rattle.st_rules.specs.FlatLog.{overlay}
 
--- a page that is not at hand is not dirty
-pub not_dirty : (ps : Pages) (ino : ℕ) (p : PageNo) → pages.cached ps ino p ≡ None → pages.dirty_of ps ino p ≡ None
-not_dirty ps ino p e = by (pages.dirty_of ps ino p) (pages.clean_of ps ino p) e
-  where
-    by : (d : Option DirtyPage) (c : Option CleanPage) → pages.cached_at d c ≡ None → d ≡ None
-    by None c e = refl
-    by (Some d) c e = cc
-
 -- a page that is not at hand is fetched for a patch
 pub patch_missing : (t : Turn) (o : Operation) (f : FileId) (p : PageNo) (at : ℕ) (bytes : List ℕ) (c : Option (List ℕ)) → None ≡ option_map (overlay at bytes) c → patch_at t o f p at bytes c ≡ fetch t o f p
 unfolding patch_at

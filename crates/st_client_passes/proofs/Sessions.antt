@@ -97,14 +97,3 @@ unfolding requests requests_by
 requests_without now tick t h = ap (requests_by t now tick) (no_session t h)
 
 -- Leases.
-
--- a lease under which pages are used is not over
-used_lasts : (k : StandingKind) → may_use k ≡ true → not (must_discard k) ≡ true
-used_lasts kinds.Serve h = refl
-used_lasts kinds.Idle h = absurd (true≢false (sym h))
-used_lasts kinds.Hold h = absurd (true≢false (sym h))
-used_lasts kinds.Drain h = absurd (true≢false (sym h))
-used_lasts kinds.Lost h = absurd (true≢false (sym h))
-
-pub serving_lasts : (now : Stamp) (t : Turn) → has_session t ≡ true → is_serving t.config (session_of t) now ≡ true → lasts_here t.config now t.here ≡ true
-serving_lasts now t h u = ap (lasts_in t.config now) (session_is t h) ∙ used_lasts (standing_of t.config (session_of t).lease now) u

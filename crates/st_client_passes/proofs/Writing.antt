@@ -87,12 +87,6 @@ module _ (t : Turn) (s : ClientSession) (now : Stamp) (tick : Bool) where
 pub session_stays : (t u : Turn) → SameSession t u → session_of u ≡ session_of t
 session_stays t u k = λ i. session_of (record u { here = record u.here { session = k.session i } })
 
-pub has_stays : (t u : Turn) → SameSession t u → has_session t ≡ true → has_session u ≡ true
-has_stays t u k h = ap is_some k.session ∙ h
-
-pub lasts_stays : (now : Stamp) (t u : Turn) → SameSession t u → lasts_here t.config now t.here ≡ true → lasts_here u.config now u.here ≡ true
-lasts_stays now t u k h = (λ i. lasts_in (k.config i) now (k.session i)) ∙ h
-
 pub stays_on : (t u v : Turn) → SameSession t u → SameSession u v → SameSession t v
 stays_on t u v k l = record { config = l.config ∙ k.config; session = l.session ∙ k.session }
 

@@ -106,11 +106,6 @@ reply_is t ended new now stamp reply asked file a d n f =
     by None e = cc
     by (Some q) e = ap (replies.reply_to t (session_of t) now stamp reply) (some_is e)
 
--- nothing was outstanding
-pub reply_none : (t : Turn) (now stamp : Stamp) (reply : Body) (o : Option Request) → is_some o ≡ false → t ≡ replied t now stamp reply o
-reply_none t now stamp reply None e = refl
-reply_none t now stamp reply (Some q) e = cc
-
 -- a refused reassertion
 pub count_refused : (t : Turn) (now stamp : Stamp) (reply : Body) (o : Option Request) → refuses reply o ≡ true →
     with_session (with_lease (condemned (session_of t).lease) (session_of t)) t ≡ count_reply t now stamp reply o

@@ -45,16 +45,3 @@ pub no_other : (r new : ServerRequests) (number : ℕ) (body : Body) → Some (n
 no_other r new number body e l =
     let m : leaves_reply Other new ≡ matched r body = l ∙ reply_own r number body e in
     let c : Other ≡ Match body = ap (λ x. x.reply) m in cc
-
--- nothing is outstanding
-pub none_asked : (r : ServerRequests) → None ≡ option_map shown r.requests.asked → (r.requests.asked ≡ None → r.under ≡ None) → (None ≡ option_map body_of r.requests.asked) × (r ≡ ended r)
-none_asked r e u = by r.requests.asked refl e
-  where
-    by : (o : Option Request) → r.requests.asked ≡ o → None ≡ option_map shown o → (None ≡ option_map body_of r.requests.asked) × (r ≡ ended r)
-    by None a e =
-        (ap (option_map body_of) (sym a), λ i. record { client = r.client; server = r.server; retry = r.retry; under = u a i; requests = record { next = r.requests.next; asked = a i } })
-    by (Some q) a e = cc
-
--- nothing is outstanding under no life and epoch
-pub under_none : (life : Life) (epoch : Epoch) (o : Option Request) → o ≡ None → under_of life epoch o ≡ None
-under_none life epoch o e = ap (under_of life epoch) e

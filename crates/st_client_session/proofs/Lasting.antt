@@ -20,13 +20,6 @@ kind_settled Hold at = refl
 kind_settled Drain at = refl
 kind_settled Lost at = refl
 
-pub at_settled : (k : StandingKind) (at : SettledAt) → at_of (standing_as k at) ≡ at
-at_settled Idle at = refl
-at_settled Serve at = refl
-at_settled Hold at = refl
-at_settled Drain at = refl
-at_settled Lost at = refl
-
 -- a lease that is not expired is not lost
 living_lives : (k : Config) (date : Stamp) (c : Bool) (now : Stamp) → must_discard (standing_by (phase_living k date c now)) ≡ false
 unfolding phase_living phase_serving phase_young
@@ -71,14 +64,3 @@ renewed_lasts k l stamp now h = over_is k (renewed stamp l) now ∙ by l.condemn
 pub condemned_lasts : (k : Config) (l : ClientLease) (now : Stamp) → must_discard (standing_of k l now) ≡ false → must_discard (standing_of k (condemned l) now) ≡ false
 unfolding condemned
 condemned_lasts k l now h = over_is k (condemned l) now ∙ sym (over_is k l now) ∙ h
-
--- a lease that lasts may be renewed
-pub may_renew_lasting : (k : Config) (l : ClientLease) (now : Stamp) → must_discard (standing_of k l now) ≡ false → may_renew (standing_of k l now) ≡ true
-may_renew_lasting k l now h = by (phase_of k l now) h
-  where
-    by : (p : Phase) → must_discard (standing_by p) ≡ false → may_renew (standing_by p) ≡ true
-    by Valid e = refl
-    by Renewal e = refl
-    by Quiesce e = refl
-    by Flush e = refl
-    by Expired e = cc

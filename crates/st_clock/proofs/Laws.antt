@@ -135,6 +135,3 @@ kept_ok k d after s advances full ha h = rw (step_same k d after s h) (accepted_
 pub keeps : (num den grain : ℕ) (d after : List (List ℕ)) (s : List ℕ) (result : Result Unit Excess) → length s ≡ length d → after_step result after ≡ drift_step d s num den grain → (k : Config) (advances : List (List ℕ)) → HasRate k num den grain → HasAccepted k (length d) advances d → IfOk result (λ _. HasAccepted k (length d) (advances ++ (s ∷ [])) after)
 keeps num den grain d after s (Ok u) full h k advances r ha = kept_ok k d after s advances full ha (rated_step k num den grain d after s (Ok u) r h)
 keeps num den grain d after s (Err x) full h k advances r ha = tt
-
-pub first_accepted : (k : Config) (nodes : ℕ) → HasAccepted k nodes [] (no_drift nodes)
-first_accepted k nodes = record { full = tt; accepted = tt; numbers = refl }

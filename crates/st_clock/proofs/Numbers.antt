@@ -60,10 +60,6 @@ rows_wide num den steps (s ∷ ss) (row ∷ rows) w = (row_length num den s step
 wide_of : (m n : ℕ) (rows : List (List ℕ)) → m ≡ n → IsWide m rows → IsWide n rows
 wide_of m n rows e w = rw (← e) w
 
-pub length_after : (drift : List (List ℕ)) (steps : List ℕ) (num den : ℕ) → length steps ≡ length drift → length (drift_after drift steps num den) ≡ length drift
-unfolding drift_after
-length_after drift steps num den e = let r = rows_length num den steps steps drift (omega (arith, e)) in omega (arith, r, e)
-
 pub wide_after : (drift : List (List ℕ)) (steps : List ℕ) (num den : ℕ) → length steps ≡ length drift → IsWide (length drift) drift → IsWide (length (drift_after drift steps num den)) (drift_after drift steps num den)
 unfolding drift_after
 wide_after drift steps num den e w = wide_of (length steps) _ _ (let r = rows_length num den steps steps drift (omega (arith, e)) in omega (arith, r)) (rows_wide num den steps steps drift (wide_of (length drift) (length steps) drift (omega (arith, e)) w))

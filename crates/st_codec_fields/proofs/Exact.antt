@@ -285,9 +285,6 @@ module _ {R : Type 0} (row : ℕ → Reader R) (s : R → List ℕ) (is_row : �
 pub record After {A : Type 0} (k : ℕ) (r : Reader A) (S : A → List ℕ) (P : A → Type 0) : Type 0 where
   pub takes : (bytes : List ℕ) (x : A × List ℕ) → IsBytes bytes → r bytes ≡ Ok x → (k ∷ bytes ≡ S x.0 ++ x.1) × IsBytes x.1 × P x.0
 
-pub sound_after : {A : Type 0} (k : ℕ) (r : Reader A) (s S : A → List ℕ) (P : A → Type 0) → Sound r s (λ a. (S a ≡ k ∷ s a) × P a) → After k r S P
-sound_after k r s S P h = record { takes = λ bytes x fits e. let t = h.takes bytes x fits e in (rw (t.1.0) (ap (λ (w : List ℕ). k ∷ w) t.0.parts), t.0.rest_fits, t.1.1) }
-
 pub made_after : {A B : Type 0} (k : ℕ) (r : Reader A) (s : A → List ℕ) (F : A → Bool) (f : A → B) (S : B → List ℕ) (P : B → Type 0) → Exact r s F
     → ((a : A) → S (f a) ≡ k ∷ s a) → ((a : A) → F a ≡ true → P (f a)) → After k (made f r) S P
 made_after {A} {B} k r s F f S P h e p = record {

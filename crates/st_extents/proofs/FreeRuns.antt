@@ -11,11 +11,6 @@ use Rattle.st_extents.proofs.TakenPlaces.{few_free, one_given, one_taken}
 
 -- Tests as facts on numbers.
 
-same_test : (a b : Bool) → (a ≡ true → b ≡ true) → (b ≡ true → a ≡ true) → a ≡ b
-same_test true b f g = sym (f refl)
-same_test false true f g = g refl
-same_test false false f g = refl
-
 holds_from : (j : ℕ) (r : FreeRun) → r.start ≤ j → j < r.end → holds j r ≡ true
 holds_from j r l m = and_from (nat_le r.start j) (nat_lt j r.end) (le-leb r.start j l) (lt-ltb j r.end m)
 

@@ -57,25 +57,11 @@ or_false : (a b : Bool) → (a || b) ≡ false → (a ≡ false) × (b ≡ false
 or_false true b e = cc
 or_false false b e = (refl, e)
 
-not_some : (o : Option PageCommand) → is_some o ≡ false → o ≡ None
-not_some None e = refl
-not_some (Some c) e = cc
-
 -- the parts of the condition
 pub record MayBegin (cs : List PageCommand) (ws : List (ℕ × PageNo × ℕ)) (first : ℕ) : Type 0 where
   pub differ : are_once same_page_write ws ≡ true
   pub free : list_any (is_taken_in cs) ws ≡ false
   pub numbers : list_any (is_in_range first (length ws)) cs ≡ false
-
-pub may_parts : (cs : List PageCommand) (ws : List (ℕ × PageNo × ℕ)) (first : ℕ) → may_begin cs ws first ≡ true → MayBegin cs ws first
-may_parts cs ws first h =
-    let a = and_parts (are_once same_page_write ws) (not (list_any (is_taken_in cs) ws) && not (list_any (is_in_range first (length ws)) cs)) h in
-    let b = and_parts (not (list_any (is_taken_in cs) ws)) (not (list_any (is_in_range first (length ws)) cs)) a.1 in
-    record { differ = a.0; free = not-true _ b.0; numbers = not-true _ b.1 }
-
--- the first page has no outstanding command
-pub first_free : (cs : List PageCommand) (w : ℕ × PageNo × ℕ) (ws : List (ℕ × PageNo × ℕ)) (first : ℕ) → MayBegin cs (w ∷ ws) first → command_on cs w.0 w.1 ≡ None
-first_free cs w ws first m = not_some (command_on cs w.0 w.1) (or_false (is_taken_in cs w) (list_any (is_taken_in cs) ws) m.free).0
 
 no_number : (first many : ℕ) (cs : List PageCommand) → list_any (is_in_range first (suc many)) cs ≡ false → command_of cs first ≡ None
 no_number first many [] h = refl
@@ -176,10 +162,6 @@ step_may cs new ws first i d l e m =
 
 pub here_new : (cs : List PageCommand) (ws : List (ℕ × PageNo × ℕ)) (first i : ℕ) (d : ℕ × PageNo × ℕ) → i < length ws → MayBegin cs (drop i ws) (first + i) → command_of cs (first + i) ≡ None
 here_new cs ws first i d l m = first_new cs (get_or ws i d) (drop (i + 1) ws) (first + i) (subst (λ l. MayBegin cs l (first + i)) (first_of_rest ws i d l) m)
-
-pub here_free : (cs : List PageCommand) (ws : List (ℕ × PageNo × ℕ)) (first i : ℕ) (d : ℕ × PageNo × ℕ) → i < length ws → MayBegin cs (drop i ws) (first + i) →
-    command_on cs (get_or ws i d).0 (get_or ws i d).1 ≡ None
-here_free cs ws first i d l m = first_free cs (get_or ws i d) (drop (i + 1) ws) (first + i) (subst (λ l. MayBegin cs l (first + i)) (first_of_rest ws i d l) m)
 
 -- whether the pages differ, by the first of the rest
 pub once_step : (ws : List (ℕ × PageNo × ℕ)) (i : ℕ) (d : ℕ × PageNo × ℕ) → i < length ws →

@@ -37,17 +37,6 @@ no_command (c ∷ cs) ino p r w =
     let b = or_false (is_write_of ino p c) (list_any (is_write_of ino p) cs) w in
     ap (λ (v : Bool). cond v (Some c) (find (is_command_of ino p) cs)) (read_or_write c ino p a.0 b.0) ∙ no_command cs ino p a.1 b.1
 
--- the next number is that of no command, and neither are those behind it
-pub none_in_range : (cs : List PageCommand) (next many : ℕ) → list_all (is_below next) cs ≡ true → list_any (is_in_range next many) cs ≡ false
-none_in_range [] next many h = refl
-none_in_range (c ∷ cs) next many h =
-    let q = and_parts (is_below next c) (list_all (is_below next) cs) h in
-    λ i. (ap (λ (b : Bool). b && nat_lt c.number (next + many)) (below (nat_le next c.number) refl (ltb-true _ _ q.0))) i || none_in_range cs next many q.1 i
-  where
-    below : (b : Bool) → nat_le next c.number ≡ b → c.number < next → b ≡ false
-    below true e l = let m : next ≤ c.number = leb-true _ _ e in absurd (omega arith)
-    below false e l = refl
-
 pub no_number : (cs : List PageCommand) (next : ℕ) → list_all (is_below next) cs ≡ true → command_of cs next ≡ None
 no_number [] next h = refl
 no_number (c ∷ cs) next h =
@@ -91,41 +80,5 @@ module _ (st : Store) (unread : (d : DirtyPage) → Has d st.pages.dirty → pag
       by None e i = i
       by (Some w) e i = λ k. taken_at x w e k || i k
 
--- what goes out of places that differ
-places_of : (st : Store) (x : ℕ × PageNo) (xs : List (ℕ × PageNo)) → AllByRecursion (λ y. same_place x y ≡ false) xs →
-    (v : ℕ × PageNo × ℕ) → Has v (map version_of (filter_map (drained_at st) xs)) → same_place x (v.0, v.1) ≡ false
-places_of st x [] a v m = elim m [ ]
-places_of st x (y ∷ ys) a v m = by (drained_at st y) refl m (places_of st x ys a.1 v)
-  where
-    by : (o : Option Draining) → drained_at st y ≡ o → Has v (map version_of (cons_option o (filter_map (drained_at st) ys))) →
-        (Has v (map version_of (filter_map (drained_at st) ys)) → same_place x (v.0, v.1) ≡ false) → same_place x (v.0, v.1) ≡ false
-    by None e m r = r m
-    by (Some w) e (inl q) r = ap (λ (u : ℕ × PageNo × ℕ). same_place x (u.0, u.1)) q ∙ ap (same_place x) (draining_place st y w e) ∙ a.0
-    by (Some w) e (inr i) r = r i
-
 turned : (a b : ℕ) → (a == b) ≡ (b == a)
 turned a b = grind arith
-
-all_differ : (st : Store) (xs : List (ℕ × PageNo)) → Apart xs → are_once same_page_write (map version_of (filter_map (drained_at st) xs)) ≡ true
-unfolding Apart
-all_differ st [] a = once_none same_page_write
-all_differ st (x ∷ xs) a = by (drained_at st x) refl (all_differ st xs a.1)
-  where
-    by : (o : Option Draining) → drained_at st x ≡ o → are_once same_page_write (map version_of (filter_map (drained_at st) xs)) ≡ true →
-        are_once same_page_write (map version_of (cons_option o (filter_map (drained_at st) xs))) ≡ true
-    by None e i = i
-    by (Some w) e i =
-        once_both same_page_write (version_of w) (map version_of (filter_map (drained_at st) xs))
-        (λ v m.
-        (λ k. turned v.0 w.page.ino k && turned v.1.0 w.page.page.0 k)
-        ∙ ap (λ z. same_place z (v.0, v.1)) (draining_place st x w e) ∙ places_of st x xs a.0 v m)
-        i
-
--- what goes out in the flush phase may begin, where no dirty page is being read and each number was given
-pub drained_may : (st : Store) (next : ℕ) → ((d : DirtyPage) → Has d st.pages.dirty → pages.is_being_read st.commands d.ino d.page ≡ false) → list_all (is_below next) st.commands ≡ true →
-    may_begin st.commands (map version_of (drained st)) next ≡ true
-unfolding drained
-drained_may st next unread given =
-    let ws : List (ℕ × PageNo × ℕ) = map version_of (filter_map (drained_at st) (pages.dirty_places st.pages)) in
-    and_from _ _ (all_differ st (pages.dirty_places st.pages) (places_apart st.pages))
-    (and_from _ _ (ap not (none_of st unread (pages.dirty_places st.pages))) (ap not (none_in_range st.commands next (length ws) given)))

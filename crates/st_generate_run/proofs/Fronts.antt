@@ -20,14 +20,6 @@ longer a b text more h =
     prefix_of a b (text ++ more) (take h.0 text) (drop h.0 text ++ more) h.1
     (ap (λ t. t ++ more) (sym (take-append-drop h.0 text)) ∙ append_assoc (take h.0 text) (drop h.0 text) more)
 
--- nothing more is written of what is left
-pub writes_none : (a : Option (List ℕ)) (text : List ℕ) → Writes a a text text
-writes_none a text = record { written = []; wrote = Appends-nil a; whole = refl }
-
--- all of the text is written
-pub writes_all : (a b : Option (List ℕ)) (text : List ℕ) → Appends a b text → Writes a b text []
-writes_all a b text h = record { written = text; wrote = h; whole = append-nil text }
-
 -- a next piece
 pub writes_next : (a b c : Option (List ℕ)) (whole text rest more : List ℕ) → Writes a b whole (text ++ more) → Writes b c text rest → Writes a c whole (rest ++ more)
 writes_next a b c whole text rest more x y =
@@ -78,11 +70,6 @@ line_cut a b c whole text line more rest e x h = writes_cut a b c whole (text ++
 
 pub no_line : (a b : Option (List ℕ)) (whole text rest : List ℕ) → rest ≡ [] → Writes a b whole (text ++ rest) → Writes a b whole text
 no_line a b whole text rest e x = subst (Writes a b whole) (ap (λ t. text ++ t) e ∙ append-nil text) x
-
--- Facts of a result.
-pub on_ok : {T E : Type 0} (r : Result T E) (P Q : Type 0) → (P → Q) → OnOk r P → OnOk r Q
-on_ok (Ok x) P Q f h = f h
-on_ok (Err e) P Q f h = tt
 
 pub on_both : {T E : Type 0} (r : Result T E) (P Q R : Type 0) → (P → Q → R) → OnOk r P → OnOk r Q → OnOk r R
 on_both (Ok x) P Q R f h k = f h k

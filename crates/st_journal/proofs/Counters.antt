@@ -34,9 +34,6 @@ ok_is E x y e = cc
 
 -- Names: a rule that is not refused found a good name.
 
-abbrev Found : Type 0
-Found = Result names.Changed EntryRefusal
-
 good_is_short : (n : List ℕ) → names.is_good n ≡ true → is_short n ≡ true
 unfolding names.is_good
 good_is_short n e =

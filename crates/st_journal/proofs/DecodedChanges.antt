@@ -149,10 +149,6 @@ unfolding change_of
 only bytes x s =
     ap (λ (b : List ℕ). change_at b >>= λ c. ended c) (s.text ∙ sym (append-nil (bytes_of x))) ∙ ap (λ (o : Option (Change × List ℕ)). o >>= λ c. ended c) (change_again x [] s.ranges)
 
--- bytes are those of one change
-pub one_change : (x y : Change) → Fits x → Fits y → bytes_of x ≡ bytes_of y → x ≡ y
-one_change x y e f same = some_is x y (sym (only (bytes_of x) x (record { text = refl; ranges = e })) ∙ only (bytes_of x) y (record { text = same; ranges = f }))
-
 -- what a call that read them answers
 pub told_found : {E : Type 0} (r : Result (Option Change) E) (bytes : List ℕ) → IsBytes bytes → IfOk r (λ o. o ≡ change_of bytes) → IfOk r (λ o. IfSome o (λ x. Spells bytes x))
 told_found (Ok (Some x)) bytes b e = found bytes x b (sym e)

@@ -15,56 +15,17 @@ use Rattle.st_journal.specs.declared.stable.ChangeRefusal.{ChangeRefusal}
 use Rattle.st_journal.specs.declared.stable.ChangeRefusal.TheVariants as refusals
 use Rattle.st_journal.specs.declared.fault.JournalFault.{JournalFault}
 use Rattle.st_journal.specs.declared.fault.JournalFault.TheVariants.{Damaged, Full, Store, Broken, Memory}
-use Rattle.st_journal.proofs.ScannedBytes.{gate_open, gate_shut, framed_at, unframed_text, open_at, bare_at, dead_bare, read_damaged}
+use Rattle.st_journal.proofs.ScannedBytes.{framed_at, unframed_text, open_at, bare_at}
 use Rattle.st_journal.proofs.Unique.{framed_once}
 
--- A gate, by its byte.
-pub gate_is : (bytes : List ℕ) (at : ℕ) (room : List ℕ) → at < length bytes → room ≡ take 1 (drop at bytes) → IsGateAt bytes at (eqb (get_or room 0 0) 1)
-gate_is bytes at room l is = elim (cases_Bool (eqb (get_or room 0 0) 1)) [
-  | inl one ↦ subst (λ (b : Bool). IsGateAt bytes at b) (sym one) (gate_open bytes at room l is (eqb-true (get_or room 0 0) 1 one))
-  | inr other ↦ subst (λ (b : Bool). IsGateAt bytes at b) (sym other) (gate_shut bytes at room l is (eqb-false (get_or room 0 0) 1 other))
 ]
 
 -- A count that rose since a later moment rose since an earlier one.
-
-rose_since : (a b c : ℕ) → a ≤ b → Rose b c → Rose a c
-rose_since a b c le rose = omega (arith, le, rose)
-
-pub reached_since : (a b c : ℕ) (f : JournalFault) → a ≤ b → NotReached b c f → NotReached a c f
-reached_since a b c Store le h = rose_since a b c le h
-reached_since a b c Memory le h = h
-reached_since a b c (Damaged place) le h = h
-reached_since a b c Broken le h = h
-reached_since a b c (Full free asked) le h = h
-
-pub read_since : (bytes : List ℕ) (at a b c : ℕ) (f : JournalFault) → a ≤ b → NotReached b c f → NotRead bytes at a c f
-read_since bytes at a b c Store le h = rose_since a b c le h
-read_since bytes at a b c Memory le h = h
-read_since bytes at a b c (Damaged place) le h = absurd h
-read_since bytes at a b c Broken le h = h
-read_since bytes at a b c (Full free asked) le h = h
-
-pub taken_bare : (bytes : List ℕ) (state : Stable) (at a c : ℕ) (f : JournalFault) → NotRead bytes at a c f → NotTaken bytes state at a c f
-taken_bare bytes state at a c Store h = h
-taken_bare bytes state at a c Memory h = h
-taken_bare bytes state at a c (Damaged place) h = (h.0, dead_bare bytes state at h.1)
-taken_bare bytes state at a c Broken h = h
-taken_bare bytes state at a c (Full free asked) h = h
 
 -- A change that is refused is not applied.
 
 abbrev Told : Type 0
 Told = Result Stable ChangeRefusal
-
-err_not : (r : ChangeRefusal) (rule : Told) → rule ≡ Err r → IsOk rule → ⊥
-err_not r (Ok t) e ok = cc
-err_not r (Err q) e ok = cc
-
-pub refused_not : (old new : Stable) (rule : Told) (r : ChangeRefusal) → r ≢ refusals.Memory → Applies old new (Err r) rule → IsOk rule → ⊥
-refused_not old new rule refusals.Memory other h = absurd (other refl)
-refused_not old new rule (refusals.Names n) other h = err_not (refusals.Names n) rule h.0
-refused_not old new rule (refusals.NoFile ino) other h = err_not (refusals.NoFile ino) rule h.0
-refused_not old new rule (refusals.NoSpace free asked) other h = err_not (refusals.NoSpace free asked) rule h.0
 
 -- The gate in front of it is then one that no change follows which applies.
 dead_refused : (bytes : List ℕ) (state : Stable) (at : ℕ) (x : Change) (count : ℕ) → IsOpenAt bytes at x count → (IsOk (apply state x) → ⊥) → IsDeadAt bytes state at
@@ -82,14 +43,6 @@ taken_refused bytes state at a c x count Memory found h = h
 taken_refused bytes state at a c x count (Damaged place) found h = (h.0, dead_refused bytes state at x count found h.1)
 taken_refused bytes state at a c x count Broken found h = absurd h
 taken_refused bytes state at a c x count (Full free asked) found h = absurd h
-
--- Why a whole journal was not read, by the change that was not taken.
-pub all_since : (bytes : List ℕ) (start state : Stable) (s : Scanned) (a b c : ℕ) (f : JournalFault) → IsReadTo bytes start state s → a ≤ b → NotTaken bytes state s.gate b c f → NotAllRead bytes start a c f
-all_since bytes start state s a b c Store r le h = rose_since a b c le h
-all_since bytes start state s a b c Memory r le h = h
-all_since bytes start state s a b c (Damaged place) r le h = read_damaged bytes start state s place r h.0 h.1
-all_since bytes start state s a b c Broken r le h = h
-all_since bytes start state s a b c (Full free asked) r le h = h
 
 -- The store reads as before behind a call that reads.
 module _ (bytes mid : List ℕ) (same : mid ≡ bytes) (at : ℕ) where

@@ -143,17 +143,3 @@ module _ {D : Type 0} (seen : D → List ℕ) (may_leave : D → List ℕ → Ty
         let crash : (c : List ℕ) → may_leave new c → HasPrefix acked (Some x) c = λ c left. torn room acked None r c (h.each c (counts new (moment store) c h.later left)) in
         record { gate = r.gate; count = r.count; broken = refl; reads = crash (seen new) (stands new); crash = crash }
     fails_records stands counts room h acked (Some y) r = let e : false ≡ is_some (Some y) = sym whole ∙ r.broken in absurd cc
-
--- Where nothing is written, a crash leaves what it might have left before.
-pub same_moments : {D : Type 0} (seen : D → List ℕ) (may_leave : D → List ℕ → Type 0) (moment : D → ℕ) (left_since : D → ℕ → List ℕ → Type 0) → ((s : D) (c : List ℕ) → left_since s (moment s) c → may_leave s c)
-    → (j : Opened D) (x : Change) (acked : List Change) (under_way : Option Change) → Records seen may_leave j acked under_way
-    → LeavesOnly moment left_since j.store j.store (HasPrefix acked (under_way_in x under_way))
-same_moments seen may_leave moment left_since now j x acked None r = started moment left_since j.store (HasPrefix acked (Some x)) (λ c left. inl (r.crash c (now j.store c left)))
-same_moments seen may_leave moment left_since now j x acked (Some y) r = started moment left_since j.store (HasPrefix acked (Some y)) (λ c left. r.crash c (now j.store c left))
-
--- and in an append that writes nothing it leaves the bytes
-pub untorn_moments : {D : Type 0} (seen : D → List ℕ) (may_leave : D → List ℕ → Type 0) (moment : D → ℕ) (left_since : D → ℕ → List ℕ → Type 0) (store : D) (gate : ℕ) (new : List ℕ)
-    → ((c : List ℕ) → left_since store (moment store) c → may_leave store c) → Only (seen store) (may_leave store) → LeavesOnly moment left_since store store (IsTornAppend (seen store) gate new)
-untorn_moments seen may_leave moment left_since store gate new now only =
-    started moment left_since store (IsTornAppend (seen store) gate new)
-    (λ c left. inl (subst (λ (b : List ℕ). Torn (gate + 1) (length new) (seen store) b) (sym (only c (now c left))) (not_torn (gate + 1) (length new) (seen store))))

@@ -64,22 +64,6 @@ word_once a b l m e = sym (wide32.again a l) ∙ ap (λ (w : List ℕ). from_be_
 
 -- A gate.
 
-pub gate_open : (bytes : List ℕ) (at : ℕ) (room : List ℕ) → at < length bytes → room ≡ take 1 (drop at bytes) → get_or room 0 0 ≡ 1 → drop at bytes ≡ 1 ∷ drop (at + 1) bytes
-gate_open bytes at room l is one =
-    let split = drop_more bytes at 0 l in
-    let head : get_or bytes at 0 ≡ 1 = sym (ap (λ (r : List ℕ). get_or r 0 0) (is ∙ ap (λ (b : List ℕ). take 1 b) split)) ∙ one in
-    split ∙ ap (λ (g : ℕ). g ∷ drop (at + 1) bytes) head
-
-pub gate_shut : (bytes : List ℕ) (at : ℕ) (room : List ℕ) → at < length bytes → room ≡ take 1 (drop at bytes) → get_or room 0 0 ≢ 1 → IsClosedAt bytes at
-gate_shut bytes at room l is other =
-    let split = drop_more bytes at 0 l in
-    record {
-      gate = get_or bytes at 0;
-      rest = drop (at + 1) bytes;
-      parts = split;
-      closed = λ one. other (ap (λ (r : List ℕ). get_or r 0 0) (is ∙ ap (λ (b : List ℕ). take 1 b) split) ∙ one);
-    }
-
 -- A number of bytes.
 
 pub number_is : (room : List ℕ) → length room ≡ 4 → IsBytes room → word32 (from_be_bytes w32 room) ≡ room
@@ -149,22 +133,8 @@ open_at bytes at x count gate f = record {
 pub bare_at : (bytes : List ℕ) (at : ℕ) → drop at bytes ≡ 1 ∷ drop (at + 1) bytes → IsUnframedAt bytes (at + 1) → IsBareAt bytes at
 bare_at bytes at gate none = record { rest = drop (at + 1) bytes; parts = gate; none = none }
 
-pub dead_bare : (bytes : List ℕ) (state : Stable) (at : ℕ) → IsBareAt bytes at → IsDeadAt bytes state at
-dead_bare bytes state at b = record { rest = b.rest; parts = b.parts; none = λ x gate more f e ok. b.none x gate more f e }
-
 -- A journal that was read so far, and one change more.
 
-pub read_none : (bytes : List ℕ) (start : Stable) → 1 ≤ length bytes → AreLow 0 start → IsReadTo bytes start start (record { gate = 0; changes = 0 })
-read_none bytes start some low = record {
-  changes = [];
-  parts = refl;
-  gate = refl;
-  within = omega arith;
-  count = refl;
-  ranges = refl;
-  applied = refl;
-  few = omega arith;
-  low = low;
 }
 
 -- what stands at the end of what was read
@@ -196,31 +166,6 @@ read_more bytes start old new before now r on =
       low = subst (λ (n : ℕ). AreLow n new) (sym on.changes) (applied_low before.changes old x new f.ranges on.applied r.low);
     }
 
-pub read_out : (bytes : List ℕ) (start old new : Stable) (before now : Scanned) → IsReadTo bytes start old before → ReadsOut bytes old new before now → ReadsAll bytes start new now
-read_out bytes start old new before now r out = record {
-  changes = r.changes;
-  stands = record {
-    journal = record {
-      gate = out.closed.gate;
-      rest = out.closed.rest;
-      parts = behind_read bytes r.changes before.gate (out.closed.gate ∷ out.closed.rest) r.parts out.closed.parts;
-      closed = out.closed.closed;
-      ranges = r.ranges;
-    };
-    leads = r.applied ∙ ap (λ (s : Stable). Some s) (sym out.same);
-  };
-  gate = ap (λ (s : Scanned). s.gate) out.gate ∙ r.gate;
-  count = ap (λ (s : Scanned). s.changes) out.gate ∙ r.count;
 }
 
-pub read_damaged : (bytes : List ℕ) (start state : Stable) (s : Scanned) (at : ℕ) → IsReadTo bytes start state s → at ≡ s.gate → IsDeadAt bytes state s.gate → IsDamaged start bytes at
-read_damaged bytes start state s at r e dead = record {
-  changes = r.changes;
-  state = state;
-  rest = dead.rest;
-  parts = behind_read bytes r.changes s.gate (1 ∷ dead.rest) r.parts dead.parts;
-  place = e ∙ r.gate;
-  ranges = r.ranges;
-  applied = r.applied;
-  none = dead.none;
 }

@@ -83,8 +83,3 @@ has_words (Mkdir dir n) = is_word32 dir
 has_words (Remove dir n) = is_word32 dir
 has_words (Rename dir n dir2 n2) = is_word32 dir && is_word32 dir2
 has_words x = true
-
--- opens all of this file
-unfoldable pub changes_open : ⊤
-unfolding word16 word32 name bytes_of fits is_ranged has_words
-changes_open = tt

@@ -112,8 +112,3 @@ unfoldable pub change_of : List ℕ → Option Change
 change_of bytes = do
   change ← change_at bytes
   ended change
-
--- opens all of this file
-unfoldable pub reading_open : ⊤
-unfolding word16_at word32_at ino_at page_at count_at name_at entry_at allocate_at cut_at named_at rename_at change_numbered change_at change_of
-reading_open = tt

@@ -95,8 +95,3 @@ HasRoom t (kinds.Allocate ino page count) = t.extents.births < 2 ^ 62
 HasRoom t (kinds.Create dir n) = t.names.next < 2 ^ 32 - 1
 HasRoom t (kinds.Mkdir dir n) = t.names.next < 2 ^ 32 - 1
 HasRoom t x = ⊤
-
--- opens all of this file
-unfoldable pub stable_open : ⊤
-unfolding allocate cut named removed apply
-stable_open = tt

@@ -32,14 +32,6 @@ use Rattle.st_trace.specs.Client.Messages.{Refusal}
 pub clash : {A : Type 0} {b : Bool} → b ≡ true → b ≡ false → A
 clash x y = cc
 
-pub if_both : (P : Turn → Type 0) (b : Bool) (t u : Turn) → P t → P u → P (if b then t else u)
-if_both P true t u x y = x
-if_both P false t u x y = y
-
-pub if_case : (P : Turn → Type 0) (b : Bool) (t u : Turn) → (b ≡ true → P t) → (b ≡ false → P u) → P (if b then t else u)
-if_case P true t u x y = x refl
-if_case P false t u x y = y refl
-
 -- a test that passes over cuts and names passes over the ask of such a request
 pub means_other : (P : Ask → Bool) → ((f : Rattle.st_base.specs.declared.ids.FileId.FileId) (p : PageNo) → P (asks.Cut f p) ≡ false) →
     ((s : ServerId) (n : Rattle.st_base.specs.declared.names.NameAsk.NameAsk) → P (asks.Name s n) ≡ false) → (a : Ask) (cutting : Option ℕ) (b : Body) →

@@ -192,32 +192,3 @@ named_changes s n m (Remove dir x i) g ino f e = go (names.lookup n dir x) e
     go (Err r) e = refused_none n m ino r e
 named_changes s n m (Lookup dir x) g ino f e = cc f
 named_changes s n m (ListFrom dir after) g ino f e = cc f
-
--- what names say is an answer of names
-found_of : (n : Names) (r : Res ℕ EntryRefusal) → is_of_names (found n r).answer ≡ true
-found_of n (Ok ino) = refl
-found_of n (Err r) = refl
-
-changed_of : (n : Names) (r : Res Changed EntryRefusal) → is_of_names (changed n r).answer ≡ true
-changed_of n (Ok d) = refl
-changed_of n (Err r) = refl
-
-listed_of : (n : Names) (r : Res (List NameRow) EntryRefusal) → is_of_names (listed n r).answer ≡ true
-listed_of n (Ok rows) = refl
-listed_of n (Err r) = refl
-
-pub does_of_names : (n : Names) (op : NameOp) → is_of_names (does n op).answer ≡ true
-does_of_names n (ops.Lookup dir x) = found_of n (names.lookup n dir x)
-does_of_names n (ops.Create dir x) = changed_of n (names.create n dir x)
-does_of_names n (ops.Mkdir dir x) = changed_of n (names.mkdir n dir x)
-does_of_names n (ops.Rename dir x dir2 x2) = changed_of n (names.rename n dir x dir2 x2)
-does_of_names n (ops.List dir after) = listed_of n (names.list n dir after)
-does_of_names n (ops.Remove dir x g) = go (names.lookup n dir x)
-  where
-    either : (c : Bool) (a b : Saying) → is_of_names a.answer ≡ true → is_of_names b.answer ≡ true → is_of_names (if c then a else b).answer ≡ true
-    either true a b p q = p
-    either false a b p q = q
-
-    go : (r : Res ℕ EntryRefusal) → is_of_names (does_remove n dir x g r).answer ≡ true
-    go (Err r) = refl
-    go (Ok j) = either (names.is_file n j) _ _ (changed_of n (names.remove n dir x)) (either (g.0 == 0) _ _ (changed_of n (names.remove n dir x)) refl)

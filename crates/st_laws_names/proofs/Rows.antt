@@ -98,10 +98,6 @@ past_stays c n p m g (inr e) = go (same_or_not n.state.stable.epoch.0 p.state.st
     go (inl q) = inr (e.0 ∙ q, λ run. let z = g.on run q in z.1 c m.header.life m.header.number (e.1 z.0))
     go (inr ne) = inl (let y = g.up in let z = e.0 in omega (arith, y, z, ne))
 
--- a client's node is no server's
-not_server : (m : Message) → is_client_node m.header.from ≡ true → (s : ServerId) → m.header.from ≡ server_node s → ⊥
-not_server m e s q = let z = leb-true m.header.from 16 (and_true (nat_le 1 m.header.from) (nat_le m.header.from 16) e).1 in omega (arith, z, q)
-
 module _ (k : Config) (count : ℕ) (past : List Step) (t : Traced) (e : Event) (sc : WorldTurn) (ranges : is_event count e ≡ true) (h : AllHold k count past t) (n : AllHold k count (past ++ step t e sc ∷ []) (traced_after e t sc)) (taken : world_step t.world e ≡ Ok sc)
     (d : RowsHold past (gifts k count t.world h.base.all) t.world) where
   abbrev x : Step

@@ -82,43 +82,6 @@ unfolding rising
 rising_rises [] = tt
 rising_rises (k ∷ ks) = rises_with k (rising ks) (rising_rises ks)
 
--- two rising lists with the same members are one
-pub rises_same : (xs ys : List ℕ) → Rises xs → Rises ys → ((z : ℕ) → Has z xs → Has z ys) → ((z : ℕ) → Has z ys → Has z xs) → xs ≡ ys
-rises_same [] [] r s f g = refl
-rises_same [] (y ∷ ys) r s f g = elim (g y (inl refl)) [ ]
-rises_same (x ∷ xs) [] r s f g = elim (f x (inl refl)) [ ]
-rises_same (x ∷ xs) (y ∷ ys) r s f g = go (f x (inl refl)) (g y (inl refl)) (rises_same xs ys r.rest s.rest)
-  where
-    right : x ≡ y → (z : ℕ) → Has z xs → (z ≡ y) ⊎ Has z ys → Has z ys
-    right e z m (inl q) = let n = r.first z m in absurd (omega arith)
-    right e z m (inr k) = k
-
-    left : x ≡ y → (z : ℕ) → Has z ys → (z ≡ x) ⊎ Has z xs → Has z xs
-    left e z m (inl q) = let n = s.first z m in absurd (omega arith)
-    left e z m (inr k) = k
-
-    equal : x ≡ y → (((z : ℕ) → Has z xs → Has z ys) → ((z : ℕ) → Has z ys → Has z xs) → xs ≡ ys) → x ∷ xs ≡ y ∷ ys
-    equal e i = ap (λ z. z ∷ xs) e ∙ ap (λ zs. y ∷ zs) (i (λ z m. right e z m (f z (inr m))) (λ z m. left e z m (g z (inr m))))
-
-    go : (x ≡ y) ⊎ Has x ys → (y ≡ x) ⊎ Has y xs → (((z : ℕ) → Has z xs → Has z ys) → ((z : ℕ) → Has z ys → Has z xs) → xs ≡ ys) → x ∷ xs ≡ y ∷ ys
-    go (inl e) q i = equal e i
-    go (inr m) (inl e) i = equal (sym e) i
-    go (inr m) (inr n) i = let a = s.first x m in let b = r.first y n in absurd (omega arith)
-
--- so what is told in rising order goes by the members alone
-pub rising_same : (xs ys : List ℕ) → ((z : ℕ) → Has z xs → Has z ys) → ((z : ℕ) → Has z ys → Has z xs) → rising xs ≡ rising ys
-rising_same xs ys f g = rises_same (rising xs) (rising ys) (rising_rises xs) (rising_rises ys)
-    (λ z m. rising_has_in ys z (f z (rising_has xs z m))) (λ z m. rising_has_in xs z (g z (rising_has ys z m)))
-
--- the least key
-first_none : (xs : List ℕ) → slice_get xs 0 ≡ None → (y : ℕ) → Has y xs → ⊥
-first_none [] e y h = h
-first_none (x ∷ xs) e y h = cc
-
-pub least_none : (ks : List ℕ) → least ks ≡ None → (k : ℕ) → Has k ks → ⊥
-unfolding least
-least_none ks e k h = first_none (rising ks) e k (rising_has_in ks k h)
-
 pub least_some : (ks : List ℕ) (k : ℕ) → least ks ≡ Some k → Has k ks
 unfolding least
 least_some ks k e = rising_has ks k (go (rising ks) e)
@@ -129,54 +92,3 @@ least_some ks k e = rising_has ks k (go (rising ks) e)
       where
         flip : ◌≡◌ {A = Option ℕ} (Some x) (Some k) → k ≡ x
         flip e = cc
-
-pub least_below : (ks : List ℕ) (k : ℕ) → least ks ≡ Some k → (y : ℕ) → Has y ks → k ≤ y
-unfolding least
-least_below ks k e y h = go (rising ks) (rising_rises ks) e (rising_has_in ks y h)
-  where
-    go : (xs : List ℕ) → Rises xs → slice_get xs 0 ≡ Some k → Has y xs → k ≤ y
-    go [] r e m = cc
-    go (x ∷ xs) r e (inl q) = let z : x ≡ k = cc in omega arith
-    go (x ∷ xs) r e (inr m) = let z : x ≡ k = cc in let l = r.first y m in omega arith
-
-pub least_same : (xs ys : List ℕ) → ((z : ℕ) → Has z xs → Has z ys) → ((z : ℕ) → Has z ys → Has z xs) → least xs ≡ least ys
-unfolding least
-least_same xs ys f g = ap (λ zs. slice_get zs 0) (rising_same xs ys f g)
-
--- whether a key is there, as a test
-abbrev pub is_key : ℕ → ℕ → Bool
-is_key i k = k == i
-
-key_past : (i k x : ℕ) (xs rest : List ℕ) → list_any (is_key i) rest ≡ ((k == i) || list_any (is_key i) xs) → list_any (is_key i) (placed k x xs rest) ≡ ((k == i) || ((x == i) || list_any (is_key i) xs))
-unfolding placed past
-key_past i k x xs rest h = go (nat_lt k x) (k == x) refl (k == i) (x == i) refl refl h
-  where
-    one : (k == x) ≡ true → (b c : Bool) → (k == i) ≡ b → (x == i) ≡ c → b ≡ c
-    one e b c f g = sym f ∙ ap (λ n. n == i) (eqb-true _ _ e) ∙ g
-
-    swap : (b c d : Bool) → (c || (b || d)) ≡ (b || (c || d))
-    swap true true d = refl
-    swap true false d = refl
-    swap false true d = refl
-    swap false false d = refl
-
-    same : (b c d : Bool) → b ≡ c → (c || d) ≡ (b || (c || d))
-    same true true d e = refl
-    same true false d e = cc
-    same false c d e = refl
-
-    go : (a e : Bool) → (k == x) ≡ e → (b c : Bool) → (k == i) ≡ b → (x == i) ≡ c → list_any (is_key i) rest ≡ (b || list_any (is_key i) xs) →
-        list_any (is_key i) (if a then k ∷ (x ∷ xs) else if e then x ∷ xs else x ∷ rest) ≡ (b || (c || list_any (is_key i) xs))
-    go true e q b c f g h = ap (λ v. v || ((x == i) || list_any (is_key i) xs)) f ∙ ap (λ v. b || (v || list_any (is_key i) xs)) g
-    go false true q b c f g h = ap (λ v. v || list_any (is_key i) xs) g ∙ same b c _ (one q b c f g)
-    go false false q b c f g h = ap (λ v. v || list_any (is_key i) rest) g ∙ ap (λ v. c || v) h ∙ swap b c _
-
-key_with : (i k : ℕ) (xs : List ℕ) → list_any (is_key i) (with_key k xs) ≡ ((k == i) || list_any (is_key i) xs)
-unfolding with_key
-key_with i k [] = refl
-key_with i k (x ∷ xs) = key_past i k x xs (with_key k xs) (key_with i k xs)
-
-pub key_rising : (i : ℕ) (ks : List ℕ) → list_any (is_key i) (rising ks) ≡ list_any (is_key i) ks
-unfolding rising
-key_rising i [] = refl
-key_rising i (k ∷ ks) = key_with i k (rising ks) ∙ ap (λ v. (k == i) || v) (key_rising i ks)

@@ -49,19 +49,6 @@ find_without {A} ino i d (x ∷ xs) =
     go false false true e h k q = if_false _ _ _ e ∙ q
     go false false false e h k q = if_false _ _ _ e ∙ q
 
--- a row in place of its number's rows
-pub find_with : {A : Type 0} (ino : A → ℕ) (v : A) (d : ℕ) (rows : List A) →
-    find (λ r. ino r == d) (filter (λ r. not (ino r == ino v)) rows ++ v ∷ []) ≡ (if d == ino v then Some v else find (λ r. ino r == d) rows)
-find_with {A} ino v d rows = go (same_or_not d (ino v))
-  where
-    go : (d ≡ ino v) ⊎ (d ≢ ino v) → find (λ r. ino r == d) (filter (λ r. not (ino r == ino v)) rows ++ v ∷ []) ≡ (if d == ino v then Some v else find (λ r. ino r == d) rows)
-    go (inl e) =
-        find_last (λ r. ino r == d) v _ (find_without ino (ino v) d rows ∙ if_true (d == ino v) None (find (λ r. ino r == d) rows) (eq-eqb _ _ e)) (eq-eqb _ _ (sym e))
-        ∙ sym (if_true (d == ino v) (Some v) (find (λ r. ino r == d) rows) (eq-eqb _ _ e))
-    go (inr n) =
-        find_before (λ r. ino r == d) v _ (ne_eqb _ _ (λ q. n (sym q))) ∙ find_without ino (ino v) d rows
-        ∙ if_false (d == ino v) None (find (λ r. ino r == d) rows) (ne_eqb _ _ n) ∙ sym (if_false (d == ino v) (Some v) (find (λ r. ino r == d) rows) (ne_eqb _ _ n))
-
 pub some_is : {A : Type 0} {u w : A} → Some u ≡ Some w → u ≡ w
 some_is e = cc
 

@@ -19,9 +19,6 @@ use Rattle.st_lemmas.proofs.Tables.{and_true, and_both}
 abbrev pub of_entry : LogEntry → LogOwner
 of_entry e = e.of
 
-abbrev pub change_of : LogEntry → Change
-change_of e = e.change
-
 pub owners_harden : (n i : ℕ) (o : LogOwner) (es : List LogEntry) → map of_entry (log.harden_from n i o es) ≡ map of_entry es
 unfolding log.harden_from log.hardened log.harder_entry
 owners_harden n i o [] = refl
@@ -37,24 +34,6 @@ owners_drop n picked cause [] = refl
 owners_drop n picked cause (x ∷ xs) = go (picked n x.of) ∙ ap (λ z. x.of ∷ z) (owners_drop (n + 1) picked cause xs)
   where
     go : (b : Bool) → of_entry (if b then record x { fate = log.lost (cause x.of.file x.of.page) x.fate } else x) ∷ map of_entry (log.drop_from (n + 1) picked cause xs) ≡ x.of ∷ map of_entry (log.drop_from (n + 1) picked cause xs)
-    go true = refl
-    go false = refl
-
-pub changes_harden : (n i : ℕ) (o : LogOwner) (es : List LogEntry) → map change_of (log.harden_from n i o es) ≡ map change_of es
-unfolding log.harden_from log.hardened log.harder_entry
-changes_harden n i o [] = refl
-changes_harden n i o (x ∷ xs) = go (nat_le n i && log.same_owner x.of o) ∙ ap (λ z. x.change ∷ z) (changes_harden (n + 1) i o xs)
-  where
-    go : (b : Bool) → change_of (if b then record x { fate = log.harder x.fate } else x) ∷ map change_of (log.harden_from (n + 1) i o xs) ≡ x.change ∷ map change_of (log.harden_from (n + 1) i o xs)
-    go true = refl
-    go false = refl
-
-pub changes_drop : (n : ℕ) (picked : ℕ → LogOwner → Bool) (cause : FileId → PageNo → Cause) (es : List LogEntry) → map change_of (log.drop_from n picked cause es) ≡ map change_of es
-unfolding log.drop_from log.dropped log.lost_entry
-changes_drop n picked cause [] = refl
-changes_drop n picked cause (x ∷ xs) = go (picked n x.of) ∙ ap (λ z. x.change ∷ z) (changes_drop (n + 1) picked cause xs)
-  where
-    go : (b : Bool) → change_of (if b then record x { fate = log.lost (cause x.of.file x.of.page) x.fate } else x) ∷ map change_of (log.drop_from (n + 1) picked cause xs) ≡ x.change ∷ map change_of (log.drop_from (n + 1) picked cause xs)
     go true = refl
     go false = refl
 

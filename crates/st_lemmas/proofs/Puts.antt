@@ -127,25 +127,3 @@ length_put {A} p x (y ∷ ys) = go (p y) (length_put p x ys)
     go : (b : Bool) → length (put p x ys) ≤ 1 + length ys → length (if b then x ∷ ys else y ∷ put p x ys) ≤ 1 + length (y ∷ ys)
     go true i = omega arith
     go false i = omega arith
-
--- without the row's key the table is as it was
-pub filter_put : {A : Type 0} (q p : A → Bool) (x : A) (xs : List A) → q x ≡ false → ((y : A) → p y ≡ true → q y ≡ false) → filter q (put p x xs) ≡ filter q xs
-unfolding put
-filter_put q p x [] e h = if_false (q x) (x ∷ []) [] e
-filter_put {A} q p x (y ∷ ys) e h = go (p y) (q y) refl refl (filter_put q p x ys e h)
-  where
-    go : (b c : Bool) → p y ≡ b → q y ≡ c → filter q (put p x ys) ≡ filter q ys → filter q (if b then x ∷ ys else y ∷ put p x ys) ≡ (if c then y ∷ filter q ys else filter q ys)
-    go true true f g i = cc (h y f)
-    go true false f g i = if_false (q x) _ _ e
-    go false true f g i = if_true (q y) _ _ g ∙ ap (λ v. y ∷ v) i
-    go false false f g i = if_false (q y) _ _ g ∙ i
-
--- what a table says of each row by a number, as the row's number is put
-pub map_put : {A B : Type 0} (f : A → B) (p : A → Bool) (q : B → Bool) (x : A) (xs : List A) → ((y : A) → q (f y) ≡ p y) → map f (put p x xs) ≡ put q (f x) (map f xs)
-unfolding put
-map_put f p q x [] h = refl
-map_put {A} {B} f p q x (y ∷ ys) h = go (p y) refl (map_put f p q x ys h)
-  where
-    go : (b : Bool) → p y ≡ b → map f (put p x ys) ≡ put q (f x) (map f ys) → map f (if b then x ∷ ys else y ∷ put p x ys) ≡ (if q (f y) then f x ∷ map f ys else f y ∷ put q (f x) (map f ys))
-    go true e i = sym (if_true (q (f y)) _ _ (h y ∙ e))
-    go false e i = ap (λ v. f y ∷ v) i ∙ sym (if_false (q (f y)) _ _ (h y ∙ e))

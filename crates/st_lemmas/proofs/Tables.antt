@@ -111,17 +111,6 @@ pub found_at : {A : Type 0} (p : A → Bool) (xs : List A) (x : A) → find p xs
 unfolding Found
 found_at p xs x e = subst (Found p xs) e (found p xs)
 
--- where nothing passes, nothing is found
-pub none_found : {A : Type 0} (p q : A → Bool) → ((x : A) → p x ≡ true → q x ≡ true) → (xs : List A) → list_any q xs ≡ false → find p xs ≡ None
-none_found p q h [] e = refl
-none_found {A} p q h (x ∷ xs) e = go (p x) (q x) refl refl e (none_found p q h xs)
-  where
-    go : (a b : Bool) → p x ≡ a → q x ≡ b → (b || list_any q xs) ≡ false → (list_any q xs ≡ false → find p xs ≡ None) → cond a (Some x) (find p xs) ≡ None
-    go true true f g e i = cc
-    go true false f g e i = cc (h x f)
-    go false true f g e i = cc
-    go false false f g e i = i e
-
 -- what no row passes, no member passes
 pub none_passes : {A : Type 0} (q : A → Bool) (xs : List A) → list_any q xs ≡ false → (x : A) → Has x xs → q x ≡ false
 none_passes q [] e x h = elim h [ ]

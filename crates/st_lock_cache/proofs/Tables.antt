@@ -51,15 +51,6 @@ last_out p x (y ∷ ys) e = ap (λ l. cond (not (p y)) (y ∷ l) l) (last_out p 
 pub put_out : {A : Type 0} (p : A → Bool) (x : A) (xs : List A) → find p xs ≡ None → p x ≡ true → filter (λ y. not (p y)) (put p x xs) ≡ xs
 put_out p x xs e f = ap (filter (λ y. not (p y))) (put_last p x xs e) ∙ last_out p x xs f ∙ none_out p xs e
 
--- a row passes where one is found
-pub some_found : {A : Type 0} (p : A → Bool) (xs : List A) → is_some (find p xs) ≡ list_any p xs
-some_found p [] = refl
-some_found {A} p (x ∷ xs) = go (p x) (some_found p xs)
-  where
-    go : (b : Bool) → is_some (find p xs) ≡ list_any p xs → is_some (cond b (Some x) (find p xs)) ≡ (b || list_any p xs)
-    go true i = refl
-    go false i = i
-
 pub filter_true : {A : Type 0} (xs : List A) → filter (λ x. true) xs ≡ xs
 filter_true [] = refl
 filter_true (x ∷ xs) = ap (λ l. x ∷ l) (filter_true xs)

@@ -66,11 +66,6 @@ next_absent c life rows old xs i d e h s l =
     ap (find (is_row_of c (get_or xs i d).0)) e
     ∙ find_append (is_row_of c (get_or xs i d).0) old (map (installed c life) (take i xs)) (none_of_client c (get_or xs i d).0 old h) (installed_absent c life xs i d s l)
 
-pub next_installed : (c : ClientId) (life : Life) (old : List LockRow) (xs : List Row) (i : ℕ) (d : Row) → i < length xs → (old ++ map (installed c life) (take i xs)) ++ installed c life (get_or xs i d) ∷ [] ≡ old ++ map (installed c life) (take (i + 1) xs)
-next_installed c life old xs i d l =
-    append_assoc old (map (installed c life) (take i xs)) (installed c life (get_or xs i d) ∷ [])
-    ∙ ap (λ l. old ++ l) (sym (map-append (installed c life) (take i xs) (get_or xs i d ∷ [])) ∙ ap (map (installed c life)) (sym (take_more xs i d l)))
-
 -- No row is in the way of those that are installed.
 
 some_or_none : (xs : List ℕ) → option_map client (slice_get xs 0) ≡ None → some_in xs ≡ false

@@ -63,10 +63,6 @@ taken k q d = taken_by (is_eq (wait_order k q)) d ∙ ap (λ b. d && not b) (sam
 pub put : (k q : Stamp × ℕ × ClientId) (d : Bool) → cond (is_eq (wait_order k q)) true d ≡ d || same_wait q k
 put k q d = put_by (is_eq (wait_order k q)) d ∙ ap (λ b. d || b) (same_key k q)
 
-pub none_taken : (d : Bool) → d ≡ d && true
-none_taken true = refl
-none_taken false = refl
-
 pub none_put : (d k : Bool) → d ≡ d || (false && k)
 none_put true k = refl
 none_put false k = refl

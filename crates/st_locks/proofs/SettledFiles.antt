@@ -234,13 +234,6 @@ each_same P j l m cs s d w f c t r e =
 
 -- Marks.
 
-pub marked_itself : (ino : ℕ) (g : TouchedFiles) → is_marked g ino ≡ true → Marks ino g g
-marked_itself ino g t j e = (e, by (ino == j) (λ s. true≢false (sym t ∙ ap (is_marked g) (eqb-true ino j s) ∙ e)))
-  where
-    by : (b : Bool) → (b ≡ true → ⊥) → b ≡ false
-    by true h = absurd (h refl)
-    by false h = refl
-
 -- a change of one file that was marked leaves a table settled
 pub kept : (l m : Locks) (ino : ℕ) (g d h k : TouchedFiles) (ms : Moments) (cs : List ClientId) → IsSettled l g d ms cs → ((j : ℕ) → (ino == j) ≡ false → SameOn j l m) → Marks ino g h → Marks ino d k → IsSettled m h k ms cs
 kept l m ino g d h k ms cs s f a b = record {

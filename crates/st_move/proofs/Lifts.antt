@@ -83,13 +83,6 @@ pub order_nowhere : (m : Containers) (c : ℕ) (to : ServerId) → numbered m.re
 unfolding found found_at changeable ordered changed
 order_nowhere m c to e = ap (λ o. changed m c (ordered m.server to (changeable (found_at c o)))) e
 
--- a message
-pub take_at : (m : Containers) (message : MoveMessage) (p : ℕ) (old new : Option ContainerRecord) → container_of message ≡ p + 1 → slice_get m.records p ≡ Some old → new ≡ taken_in message old
-    → with_records m (set m.records p new) ≡ after_take m message
-unfolding taken_at
-take_at m message p old new e f h = ap (with_records m)
-    (sym (ap (λ o. taken_at message o m.records) (at_place m.records (container_of message) p old e f) ∙ set_place m.records (container_of message) p (taken_in message old) e ∙ ap (set m.records p) (sym h)))
-
 -- where a put or an order may come, the container is served
 pub may_serve : (rs : List (Option ContainerRecord)) (c : ℕ) (r : ContainerRecord) (result : Result Unit MoveRefusal) → found rs c ≡ Ok r → allowed r result ≡ unless_leaving r r.state → OnOk result (serves_by (found rs c) ≡ true)
 unfolding unless_leaving unless_sent

@@ -44,12 +44,6 @@ not_before dir name e h = ⊎_elim
     (λ f. f)
     (cases_Bool (is_entry_at dir name e))
 
-pub not_behind : (dir : ℕ) (name : List ℕ) (e : NameEntry) → name_below (dir ∷ name) (key_of e) ≡ true → is_entry_at dir name e ≡ false
-not_behind dir name e h = ⊎_elim
-    (λ t. absurd (true≢false (sym h ∙ ap (name_below (dir ∷ name)) (key_is dir name e t) ∙ below_itself (dir ∷ name))))
-    (λ f. f)
-    (cases_Bool (is_entry_at dir name e))
-
 -- A search by halves.
 module _ (es : List NameEntry) (o : AreByName es) (dir : ℕ) (name : List ℕ) (m : ℕ) (a : NameEntry) (l : m < length es) (is : a ≡ get_or es m a) where
   same_at : (d : NameEntry) → get_or es m d ≡ a

@@ -92,10 +92,6 @@ or_turn true false c = refl
 or_turn false true c = refl
 or_turn false false c = refl
 
-no_end : (b : Bool) → (b || false) ≡ b
-no_end true = refl
-no_end false = refl
-
 or_swap : (a b : Bool) → (a || b) ≡ (b || (a || false))
 or_swap true true = refl
 or_swap true false = refl
@@ -130,10 +126,6 @@ any_weaker p q (x ∷ xs) f h =
 none_every : {K : Type 0} (p : K → Bool) (xs : List K) → AllByRecursion (λ x. p x ≡ false) xs → list_any p xs ≡ false
 none_every p [] a = refl
 none_every p (x ∷ xs) a = (λ i. a.0 i || none_every p xs a.1 i)
-
--- one that passes among others
-insert_by : {K : Type 0} (r : K → Bool) (x y : K) (xs ys : List K) (b : Bool) → find r xs ≡ find r ys → cond b (Some x) (find r xs) ≡ cond b (Some x) (find r ys)
-insert_by r x y xs ys b h = ap (cond b (Some x)) h
 
 find_insert_other : {K : Type 0} (r : K → Bool) (xs : List K) (i : ℕ) (y : K) → r y ≡ false → find r (insert xs i y) ≡ find r xs
 find_insert_other r [] zero y f = rw f refl
@@ -216,9 +208,6 @@ stored_is es inodes sorted s = ap (λ n. entries_of n sorted) s.inodes ∙ from 
 
 pub stored : (es : List NameEntry) (inodes : List Inode) (sorted : List NameEntry) → Stores es inodes sorted → Stores (entries_of inodes sorted) inodes sorted
 stored es inodes sorted s = subst (λ l. Stores l inodes sorted) (sym (stored_is es inodes sorted s)) s
-
-pub none_stored : Stores [] [] []
-none_stored = record { inodes = refl; found = tt; same = λ p. refl; order = tt; rising = tt }
 
 pub found_inode : (ino : ℕ) (es : List NameEntry) → find (has_number ino) (map inode_of es) ≡ option_map inode_of (find (names.is_of_ino ino) es)
 found_inode ino [] = refl

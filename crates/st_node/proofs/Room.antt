@@ -28,12 +28,6 @@ use Rattle.st_trace.proofs.Server.Growth.{step_grows}
 pub room_now : (k : ℕ) (n : ServerNode) → ServerHasRoom (k + 1) n → HasRoom n.state
 room_now k n r = record { locks = omega (arith, r.locks); inodes = omega (arith, r.inodes); births = omega (arith, r.births) }
 
-pub room_less : (k : ℕ) (n : ServerNode) → ServerHasRoom (k + 1) n → ServerHasRoom k n
-room_less k n r = record { running = r.running; locks = omega (arith, r.locks); inodes = omega (arith, r.inodes); births = omega (arith, r.births) }
-
-pub room_any : (k j : ℕ) (n : ServerNode) → j ≤ k → ServerHasRoom k n → ServerHasRoom j n
-room_any k j n less r = record { running = r.running; locks = omega (arith, less, r.locks); inodes = omega (arith, less, r.inodes); births = omega (arith, less, r.births) }
-
 -- a request asks for at most 64 pages
 count_few : (page n : ℕ) → is_count page n ≡ true → n ≤ 64
 count_few page n e = let most : n ≤ min 64 (1048576 - page) = leb-true n (min 64 (1048576 - page)) (and_parts (nat_le 1 n) (nat_le n (min 64 (1048576 - page))) e).1 in omega (arith, most)

@@ -108,28 +108,12 @@ handled_goes k n p f g m old new now (Some rs) later some e told node out = reco
   };
 }
 
--- one after the other
-pub carries_both : (a b c : Option (List Stamp)) (k j i : ℕ) (n p q : Node) (f g h : Frames) (old mid new : List ℕ) →
-    Carries a b (GoesOn k n f old j p g mid) → Carries b c (GoesOn j p g mid i q h new) → Carries a c (GoesOn k n f old i q h new)
-carries_both a b c k j i n p q f g h old mid new one two = record {
-  each = λ last are.
-      let t = two.each last are in
-      let o = one.each t.readings t.are in
-      record { readings = o.readings; are = o.are; holds = λ more. t.holds more ∙ o.holds more };
 }
 
 -- nothing was done
 pub carries_nothing : (a : Option (List Stamp)) (k : ℕ) (n : Node) (f : Frames) (old : List ℕ) → Carries a a (GoesOn k n f old k n f old)
 carries_nothing a k n f old = record { each = λ last are. record { readings = last; are = are; holds = λ more. refl } }
 
--- a stop behind what was done
-pub stops_behind : (a b c : Option (List Stamp)) (k j : ℕ) (n p q : Node) (f g : Frames) (old mid new : List ℕ) (stop : NodeFault) →
-    Carries a b (GoesOn k n f old j p g mid) → Carries b c (StopsAt j p g mid q new stop) → Carries a c (StopsAt k n f old q new stop)
-stops_behind a b c k j n p q f g old mid new stop one two = record {
-  each = λ last are.
-      let t = two.each last are in
-      let o = one.each t.readings t.are in
-      record { readings = o.readings; are = o.are; holds = λ more. t.holds more ∙ o.holds more };
 }
 
 -- ---- some readings

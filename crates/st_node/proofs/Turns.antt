@@ -77,19 +77,6 @@ frame_few k f g m some e = let few = next_few f g m (sym e) in omega (arith, few
 
 -- a piece
 
--- what was handled was written
-pub piece_written : (r : Result Unit NodeFault) (k : ℕ) (n : Node) (f : Frames) (before now : Option (List Stamp)) (w wn : Option (List ℕ)) (j : ℕ) (p : Node)
-    (g : Frames) (text : List ℕ) →
-    OnOk r (Carries before now (GoesOn k n f [] j p g text)) → OnStop r (λ stop. Carries before now (StopsAt k n f [] p text stop)) → OnOk r (IsIdle j g) →
-    Appends w wn text → (r ≡ Err faults.Memory → ⊥) → Pieces r k n f before now w wn j p g
-piece_written (Ok u) k n f before now w wn j p g text goes stops idle wrote isnt = record { out = text; wrote = wrote; goes = goes; idle = idle }
-piece_written (Err faults.Memory) k n f before now w wn j p g text goes stops idle wrote isnt = absurd (isnt refl)
-piece_written (Err faults.Read) k n f before now w wn j p g text goes stops idle wrote isnt = absurd stops
-piece_written (Err faults.Write) k n f before now w wn j p g text goes stops idle wrote isnt = absurd stops
-piece_written (Err (faults.Cut at)) k n f before now w wn j p g text goes stops idle wrote isnt = absurd stops
-piece_written (Err (faults.Frame at r)) k n f before now w wn j p g text goes stops idle wrote isnt = record { out = text; wrote = wrote; stops = stops }
-piece_written (Err faults.TooManyFrames) k n f before now w wn j p g text goes stops idle wrote isnt = record { out = text; wrote = wrote; stops = stops }
-
 -- a front of what was handled was written
 torn_here : (r : Result Unit NodeFault) (k : ℕ) (n : Node) (f : Frames) (before now : Option (List Stamp)) (w wn : Option (List ℕ)) (j : ℕ) (p : Node)
     (g : Frames) (text : List ℕ) →
@@ -119,13 +106,3 @@ piece_torn r k n f h old before now w wn j p g text fed empty goes stops idle wr
     let was : Promised r k n before now j p g text f [] =
     subst (λ t. Promised r k n before now j p g text f t) empty (subst (λ x. Promised r k n before now j p g text x old) fed (goes, stops)) in
     torn_here r k n f before now w wn j p g text was.0 was.1 idle wrote isnt
-
--- the count stayed
-pub causes_stayed : (r : Result Unit NodeFault) (fact : NodeFault → Type 0) (before now : ℕ) → OnStop r fact → now ≡ before → HasCauses r before now
-causes_stayed (Ok u) fact before now stops e = e
-causes_stayed (Err faults.Memory) fact before now stops e = omega (arith, e)
-causes_stayed (Err faults.Read) fact before now stops e = absurd stops
-causes_stayed (Err faults.Write) fact before now stops e = absurd stops
-causes_stayed (Err (faults.Cut at)) fact before now stops e = absurd stops
-causes_stayed (Err (faults.Frame at r)) fact before now stops e = e
-causes_stayed (Err faults.TooManyFrames) fact before now stops e = e

@@ -55,9 +55,6 @@ sound_from clean dirty next a l v =
       versions = all_pass (has_version (pages_of clean dirty next)) dirty (λ d m. lt-ltb d.version next (v d m));
     }
 
-pub sound_none : IsSound (pages_of [] [] 1)
-sound_none = record { apart = refl; few_dirty = omega arith; versions = refl }
-
 -- A list of clean pages and a list of dirty ones.
 module _ (clean : List CleanPage) (dirty : List DirtyPage) (next : ℕ) (s : IsSound (pages_of clean dirty next)) where
   apart_each : (d : DirtyPage) → Has d dirty → NoneOf clean d

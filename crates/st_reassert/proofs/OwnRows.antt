@@ -158,16 +158,3 @@ none_below c life (r ∷ rows) e = go (same_client r.client c) e (none_below c l
 pub no_own : (l : Locks) (c : ClientId) (life : Life) → has_rows l c ≡ false → own_older l c life ≡ None
 unfolding least rising
 no_own l c life none = ap (λ (rows : List LockRow). slice_get (rising (map ino_of_row rows)) 0) (none_below c life l.rows none)
-
-none_from : (c : ClientId) (life : Life) (rows : List LockRow) → list_any (is_row_by c) rows ≡ false → list_any (is_row_from c life) rows ≡ false
-none_from c life [] e = refl
-none_from c life (r ∷ rows) e = go (same_client r.client c) e (none_from c life rows)
-  where
-    go : (a : Bool) → (a || list_any (is_row_by c) rows) ≡ false → (list_any (is_row_by c) rows ≡ false → list_any (is_row_from c life) rows ≡ false) →
-        ((a && nat_le life.0 r.life.0) || list_any (is_row_from c life) rows) ≡ false
-    go true h i = cc
-    go false h i = i h
-
--- a client without rows has none of this life or a higher one
-pub older_without_rows : (l : Locks) (c : ClientId) (life : Life) → has_rows l c ≡ false → is_older l c life ≡ true
-older_without_rows l c life e = ap not (none_from c life l.rows e)

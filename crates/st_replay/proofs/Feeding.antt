@@ -73,25 +73,6 @@ one_played old w p line held piece mid u r n holds rest new v q next part after 
       room = omega (arith, whole, line_length, has, room);
     })
 
--- the rest is held
-pub fed : (old : List ℕ) (w : Option World) (p : Progress) (line : ℕ) (held piece : List ℕ) (new : List ℕ) (v : Option World) (q : Progress) (next : ℕ)
-    (holds rest all : List ℕ) →
-    Going old w p line held piece new v q next holds rest → HasNone rest → all ≡ holds ++ rest → length all ≤ 256 →
-    Feeds old w p line held new v q next all piece
-fed old w p line held piece new v q next holds rest all g none e few =
-    let both : length all ≡ length holds + length rest = ap length e ∙ length-append holds rest in
-    let has = g.room in
-    record {
-      handled = g.handled;
-      are = subst (λ z. Handled (held ++ piece) z g.handled) (sym e) g.are;
-      goes = g.goes;
-      number = g.number;
-      here = g.here;
-      none = subst HasNone (sym e) (none_both holds rest g.none none);
-      few = few;
-      room = omega (arith, both, has);
-    }
-
 -- a refusal of what follows is one of the whole
 pub whole_stops : (old : List ℕ) (w : Option World) (p : Progress) (line : ℕ) (held piece : List ℕ) (mid : List ℕ) (u : Option World) (r : Progress)
     (m : ℕ) (holds rest : List ℕ)

@@ -39,38 +39,6 @@ refused_line faults.Write n f before now txt p h e = subst (AppendsPrefix before
 refused_line faults.Memory n f before now txt p h e = unwritten before now (text p) h
 refused_line faults.Read n f before now txt p h e = absurd h
 
-pub refused_reports : (r : ReplayFault) (s : Stop) (before now : Option (List ℕ)) (txt : List ℕ) (p : Replay) → Refuses r s before now txt →
-    AtStop s (λ n f. EndsAt txt n f p) → Reports (Err r) before now p
-refused_reports r (stops.Line n f) before now txt p h e = refused_line r n f before now txt p h e
-refused_reports r stops.Memory before now txt p h e = subst (λ x. Reports (Err x) before now p) (sym h.0) (unwritten before now (text p) h.1)
-
-pub refusal_causes : (r : ReplayFault) (a b c d : ℕ) → b ≡ a → RefusalCauses r c d → HasCauses {T = Summary × World} (Err r) a b c d
-refusal_causes (faults.Line n f) a b c d e h = (e, h)
-refusal_causes faults.Write a b c d e h = (omega (arith, e), h)
-refusal_causes faults.Memory a b c d e h = (omega (arith, e), h)
-refusal_causes faults.Read a b c d e h = absurd h
-
-pub no_read : {T : Type 0} (r : Result T ReplayFault) (c d : ℕ) (fact : Type 0) → HasCauses r 0 0 c d → OnRead r fact
-no_read (Ok x) c d fact h = tt
-no_read (Err (faults.Line n f)) c d fact h = tt
-no_read (Err faults.Read) c d fact h = absurd (let z = h.0 in omega (arith, z))
-no_read (Err faults.Write) c d fact h = tt
-no_read (Err faults.Memory) c d fact h = tt
-
-pub refused_no_read : (r : ReplayFault) (c d : ℕ) (fact : Type 0) → RefusalCauses r c d → OnRead {T = Summary × World} (Err r) fact
-refused_no_read (faults.Line n f) c d fact h = tt
-refused_no_read faults.Read c d fact h = absurd h
-refused_no_read faults.Write c d fact h = tt
-refused_no_read faults.Memory c d fact h = tt
-
--- the counts of the whole replay
-pub all_causes : {T : Type 0} (r : Result T ReplayFault) (a b e c d : ℕ) → b ≡ a → c ≡ e → HasCauses r 0 0 c d → HasCauses r a b e d
-all_causes (Ok x) a b e c d p q h = (p, h.1 ∙ q)
-all_causes (Err (faults.Line n f)) a b e c d p q h = (p, h.1 ∙ q)
-all_causes (Err faults.Read) a b e c d p q h = absurd (let z = h.0 in omega (arith, z))
-all_causes (Err faults.Write) a b e c d p q h = (omega (arith, p), subst (λ x. Rose x d) q h.1)
-all_causes (Err faults.Memory) a b e c d p q h = (omega (arith, p), subst (λ x. x ≤ d) q h.1)
-
 -- A report behind a text that was written.
 
 more_prefix : (first before now : Option (List ℕ)) (t whole : List ℕ) → Appends first before t → AppendsPrefix before now whole →

@@ -46,11 +46,6 @@ use Rattle.st_replay.specs.States.{needs}
 cond_true : {X : Type 0} (b : Bool) (x y : X) → b ≡ true → cond b x y ≡ x
 cond_true b x y e = ap (λ c. cond c x y) e
 
-pub needs_some : (p : Progress) → 257 ≤ needs p
-needs_some progress.Nothing = omega arith
-needs_some (progress.Reading form counts done) = omega arith
-needs_some progress.Ended = omega arith
-
 pub long_refused : (p : Progress) (l : List ℕ) → 256 < length l → read_line p l ≡ Err LineTooLong
 long_refused p l h = cond_true (is_long l) (Err LineTooLong) (short_line p l) (lt-ltb 256 (length l) h)
 

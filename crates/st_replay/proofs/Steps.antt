@@ -171,18 +171,6 @@ has_nodes w progress.Nothing line s = absurd s
 has_nodes w (progress.Reading form counts done) line s = s.0
 has_nodes w progress.Ended line s = tt
 
-pub some_room : (w : World) (p : Progress) (line : ℕ) → IsPlaying w p line → (w.tally.events ≤ 100000) × (line ≤ 100003)
-some_room w progress.Nothing line s = absurd s
-some_room w (progress.Reading form counts done) line s =
-    let was : w.tally.events ≡ done = s.2 in
-    let few : done ≤ 100000 = s.3 in
-    let place : line ≡ done + 2 = s.4 in
-    (omega arith, omega arith)
-some_room w progress.Ended line s =
-    let few : w.tally.events ≤ 100000 = s.0 in
-    let place : line ≡ w.tally.events + 3 = s.1 in
-    (few, omega arith)
-
 end_next : (p q : Progress) (l : List ℕ) → HasNodes p → HasRoom p said.End → read_line p l ≡ Ok (said.End, q) → q ≡ after_line p said.End
 end_next p q l some has h =
     let s = line_is_spelled p l (said.End, q) some h in

@@ -25,32 +25,6 @@ use Rattle.st_replay.proofs.Newlines.{none_handled, no_wholes, more_handled}
 use Rattle.st_replay.proofs.Steps.{behind_both, end_goes}
 use Rattle.st_replay.proofs.LastLines.{here_ends}
 
--- nothing was taken
-pub nothing_taken : (left written : Option (List ℕ)) (pending : List ℕ) (v : Option World) (q : Progress) (next : ℕ) (holds : List ℕ) →
-    v ≡ None → q ≡ progress.Nothing → next ≡ 1 → pending ≡ [] → holds ≡ [] → Streams left left written written pending v q next holds
-nothing_taken left written pending v q next holds a b c d e =
-    subst (λ v. Streams left left written written pending v q next holds) (sym a)
-    (subst (λ q. Streams left left written written pending None q next holds) (sym b)
-    (subst (λ t. Streams left left written written t None progress.Nothing next holds) (sym d)
-    (subst (λ h. Streams left left written written [] None progress.Nothing next h) (sym e)
-    (record {
-      taken = [];
-      written = [];
-      handled = [];
-      took = Consumes-nothing left;
-      wrote = Appends-nil written;
-      are = none_handled [];
-      goes = λ ls. refl;
-      number = c;
-      here = c;
-      none = refl;
-      few = omega arith;
-    }))))
-  where
-    Consumes-nothing : (a : Option (List ℕ)) → Consumes a a []
-    Consumes-nothing None = tt
-    Consumes-nothing (Some x) = refl
-
 -- all that was held is known
 known_replay : (taken t pending : List ℕ) (handled : List (List ℕ)) (v : Option World) (q : Progress) (next : ℕ) (holds more : List ℕ) →
     Handled taken holds handled →
@@ -197,25 +171,6 @@ text_written left now before written after pending text_now v q next holds s wro
       wrote = Appends-trans before written after s.written pending s.wrote wrote;
       are = s.are;
       goes = λ ls. ap (λ t. behind t (from_here v q next ls)) (ap (λ t. (s.written ++ pending) ++ t) empty ∙ append-nil (s.written ++ pending)) ∙ s.goes ls;
-      number = s.number;
-      here = s.here;
-      none = s.none;
-      few = s.few;
-    }
-
--- nothing was left to take
-pub none_left : (left now later before written : Option (List ℕ)) (pending piece : List ℕ) (v : Option World) (q : Progress) (next : ℕ) (holds : List ℕ) →
-    Streams left now before written pending v q next holds →
-    Consumes now later piece → piece ≡ [] → Streams left later before written pending v q next holds
-none_left left now later before written pending piece v q next holds s took empty =
-    record {
-      taken = s.taken;
-      written = s.written;
-      handled = s.handled;
-      took = subst (Consumes left later) (ap (λ t. s.taken ++ t) empty ∙ append-nil s.taken) (Consumes-trans left now later s.taken piece s.took took);
-      wrote = s.wrote;
-      are = s.are;
-      goes = s.goes;
       number = s.number;
       here = s.here;
       none = s.none;

@@ -14,11 +14,3 @@ through z p q = rw p q
 -- a write: client, life, server, inode and page
 abbrev pub written : ℕ → ℕ → ℕ → ℕ → ℕ → List ℕ → Fate → LogEntry
 written n l s ino p bytes fate = record { of = owner (c n) (life l) (on s ino) (page p); change = changes.Write bytes; fate = fate }
-
--- a patch, and its place in the page
-abbrev pub patched : ℕ → ℕ → ℕ → ℕ → ℕ → ℕ → List ℕ → Fate → LogEntry
-patched n l s ino p place bytes fate = record { of = owner (c n) (life l) (on s ino) (page p); change = changes.Patch place bytes; fate = fate }
-
--- a cut: server, inode and page
-abbrev pub was_cut : ℕ → ℕ → ℕ → LogEntry
-was_cut s ino p = hard_cut (on s ino) (page p)

@@ -110,8 +110,3 @@ pub record IsServer (n : ServerState) : Type 0 where
   pub waits_served : list_all (is_wait_served n.sessions) n.locks.waiters ≡ true
   pub known : list_all (has_session n.sessions) n.authority.suspects ≡ true
   pub quiet : list_all (waits_not n.locks) n.authority.suspects ≡ true
-
--- opens all of this file
-unfoldable pub server_invariants_open : ⊤
-unfolding are_once are_rising
-server_invariants_open = tt

@@ -237,10 +237,6 @@ is_life_of c s life e = same_client e.client c && (same_server e.server s && (e.
 abbrev pub ended_of : World → ClientId → ServerId → Life → Option LeaseLife
 ended_of w c s life = find (is_life_of c s life) w.ended
 
--- the end of a life's lease
-abbrev pub end_of_life : LeaseLife → Option Stamp
-end_of_life e = e.end
-
 -- the present lease end of a client at a server
 abbrev pub present_end : World → ServerId → Option WorldClient → Option Stamp
 present_end w s None = None

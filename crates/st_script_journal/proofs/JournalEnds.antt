@@ -10,11 +10,6 @@ use Rattle.st_script_journal.specs.JournalScripts.{JournalState}
 use Rattle.st_script.specs.Scripts.{Ending, Outcome, Stopped, Whole}
 use Rattle.st_script.proofs.Outcomes.{unwritten, weaker}
 
--- nothing was written
-pub unwritten_leaves : (left before : Option (List ℕ)) (o : List ℕ → Outcome JournalState) → IfSome left (λ bytes. Leaves (Err faults.Memory) before before (o bytes))
-unwritten_leaves None before o = tt
-unwritten_leaves (Some bytes) before o = unwritten before (o bytes).text
-
 -- the state of a script that went through its end
 record EndsIn {State : Type 0} (holds : State → Type 0) (e : Ending State) : Type 0 where
   state : State
@@ -49,21 +44,7 @@ module _ (running : Option Running) (before now : Option (List ℕ)) where
   fault_leaves f None o h = tt
   fault_leaves f (Some bytes) o h = weaker (Stood running) (λ s. Unit {0}) (Err f) before now (o bytes) (λ s k. tt) h
 
--- a fact that stands anyway
-pub where_ok : {A E : Type 0} (r : Result A E) (P : Type 0) → P → OnOk r P
-where_ok (Ok x) P p = p
-where_ok (Err f) P p = tt
-
 -- no count of faults rose
 pub store_causes : (r : Result InMemory ScriptFault) (a b c d : ℕ) → IfErr r (λ f. f ≡ faults.Memory) → (b ≡ a) × (d ≡ c) → HasCauses r a b c d
 store_causes (Ok store) a b c d f h = h
 store_causes (Err f) a b c d is h = subst (λ (k : ScriptFault). HasCauses {T = InMemory} (Err k) a b c d) (sym is) (omega (arith, h.0), omega (arith, h.1))
-
-pub fault_causes : (f : ScriptFault) (a b c d : ℕ) → HasCauses {T = Unit} (Err f) a b c d → HasCauses {T = InMemory} (Err f) a b c d
-fault_causes (faults.Line n) a b c d h = h
-fault_causes faults.Read a b c d h = h
-fault_causes faults.Write a b c d h = h
-fault_causes faults.Memory a b c d h = h
-
-pub no_causes : (a c : ℕ) → HasCauses {T = InMemory} (Err faults.Memory) a a c c
-no_causes a c = (omega arith, omega arith)

@@ -62,9 +62,6 @@ own_epoch n s k =
 three : (a b c d e f : Bool) → a ≡ true → b ≡ true → c ≡ true → d ≡ true → e ≡ true → f ≡ true → ((a && b) && ((c && d) && (e && f))) ≡ true
 three a b c d e f p q r s u v = and_from (a && b) _ (and_from a b p q) (and_from (c && d) (e && f) (and_from c d r s) (and_from e f u v))
 
-pub positive_any : (n : ℕ) → allows Positive n ≡ true → is_word64 n ≡ true
-positive_any n e = (and_parts (nat_le 1 n) (is_word64 n) e).1
-
 -- A kept reply fits.
 kept_fits : (n : ℕ) (s : ServerState) (h : Header) (b : Body) → IsSoundTo n s → IsAsked h → allows Positive h.number ≡ true → is_reply b ≡ true →
     fits (record { header = reply_header s h; body = b }) ≡ true

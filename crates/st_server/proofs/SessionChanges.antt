@@ -73,10 +73,6 @@ store_good t c number b e h =
     every_map is_good_session is_good_session (sessions.keep_of c number b)
     (λ s f. cond_either (λ (x : Session). is_good_session x ≡ true) (is_session_of c s) (sessions.keep_reply number b s) s (λ q. kept_good number b s.state e f) (λ q. f)) t.rows h
 
--- A session in place of its client's.
-own_session : (s : Session) → is_session_of s.client s ≡ true
-own_session s = eq-eqb s.client.0 s.client.0 refl
-
 pub put_lives : (t : Sessions) (s : Session) → ((life : Life) → is_lived life (session_of t s.client) ≡ true → is_lived life (Some s) ≡ true) → Lives_on t (sessions.with_session s t)
 put_lives t s more life d e = go (s.client.0 == d.0) refl
   where

@@ -39,6 +39,3 @@ numbers_led old new call (Err r) d k = stays old new d.1 k
 -- what the law of every history says of a state and of a call
 pub led_rightly : EveryHistoryIsRight → (s : Shared) → IsLedTo s → IsLedRightly s
 led_rightly law s k = record { led = k; right = λ blocks calls e. law blocks calls }
-
-pub goes_on : EveryHistoryIsRight → (s : Shared) (call : Call) → GoesOnRightly s call
-goes_on law s call blocks calls e = law blocks (call ∷ calls)

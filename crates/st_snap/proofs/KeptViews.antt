@@ -18,22 +18,12 @@ among_cases kept view h = ⊎_elim (λ t. inl (eqb-true view 0 t)) (λ t. inr t)
 pub among_image : (kept : List ℕ) (view : ℕ) → list_any (λ v. view == v) kept ≡ true → is_among kept view ≡ true
 among_image kept view h = or_right (view == 0) (list_any (λ v. view == v) kept) h
 
-pub among_live : (kept : List ℕ) → is_among kept 0 ≡ true
-among_live kept = refl
-
 pub taken_image : (h : Volume) → IsHeld h → (view : ℕ) → list_any (λ v. view == v) h.kept ≡ true → IsTaken h.next view
 taken_image h k view m = member_all (IsTaken h.next) view h.kept k.taken m
 
 pub take_image : (next view : ℕ) → 1 ≤ view → take_of next view ≡ view
 take_image next zero l = let no : ⊥ = omega (arith, l) in absurd no
 take_image next (suc i) l = refl
-
--- a view is before a take that is no later than the next one
-pub take_low : (h : Volume) → IsHeld h → (view : ℕ) → is_among h.kept view ≡ true → take_of h.next view ≤ h.next
-take_low h k view m = ⊎_elim
-    (λ e. let z : take_of h.next view ≡ h.next = ap (take_of h.next) e in omega (arith, z))
-    (λ t. let g = taken_image h k view t in let z = take_image h.next view g.some in omega (arith, z, g.below))
-    (among_cases h.kept view m)
 
 has_not : (v : Versions) (next : ℕ) → ((k : VersionKey) → has_version v k ≡ true → k.takes < next) → (f p u : ℕ) → next ≤ u → has_version v (key_of f p u) ≡ false
 has_not v next b f p u l = false_from_ne_true (has_version v (key_of f p u)) (λ t. let r : u < next = b (key_of f p u) t in omega (arith, r, l))

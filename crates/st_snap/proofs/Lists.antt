@@ -6,11 +6,6 @@ use Rattle.std.proofs.lemmas.Bool.{cases_Bool, eqb-true, eq-eqb, ltb-true, ltb-f
 use Rattle.std.proofs.lemmas.Option.{same_Some}
 use Rattle.st_snap.specs.Volumes.{AreRising}
 
--- what all have, the one that passes has
-pub any_all : {K : Type 0} (P : K → Type 0) (q : K → Bool) (xs : List K) → AllByRecursion P xs → list_any q xs ≡ true → (x : K) × (P x × (q x ≡ true))
-any_all P q [] a h = absurd (true≢false (sym h))
-any_all P q (x ∷ xs) a h = ⊎_elim (λ t. (x, (a.0, t))) (λ t. any_all P q xs a.1 t) (or_cases (q x) (list_any q xs) h)
-
 -- a number that is there has what all have
 pub member_all : (P : ℕ → Type 0) (n : ℕ) (xs : List ℕ) → AllByRecursion P xs → list_any (λ x. n == x) xs ≡ true → P n
 member_all P n [] a h = absurd (true≢false (sym h))

@@ -271,10 +271,6 @@ put_slots rows last slot old new e b a d f z w q = slot_found new last rows a q 
         true≢false (sym (eq-eqb slot q (m ∙ o ∙ sym n)) ∙ c) in
         ap (λ (k : Block). Some k.bytes) (block_there old new b y.at w apart)
 
-pub same_slots : (rows : List Extent) (old new : Disks) → new.written ≡ old.written → slots_of new rows ≡ slots_of old rows
-same_slots [] old new w = refl
-same_slots (e ∷ rows) old new w = (λ i. (e.file.ino, (unwrap_or (find (is_block_at e.at) (w i)) (fresh_block e.at)).bytes) ∷ same_slots rows old new w i)
-
 pub slots_long : (d : Disks) (rows : List Extent) → length (slots_of d rows) ≡ length rows
 slots_long d rows = length-map rows (slot_of d)
 
@@ -470,10 +466,6 @@ found_last slot q bytes (e ∷ pages) n = by (found_last slot q bytes pages) (sl
         (λ c. ap (λ z. cond z (Some e.1) (cond (slot == q) (Some bytes) (slot_at pages q))) c ∙ ap (λ z. cond (slot == q) (Some bytes) (cond z (Some e.1) (slot_at pages q))) (sym c))
         (cases_Bool (q == e.0))
 
-pub push_long : (pages : List (ℕ × List ℕ)) (y : ℕ × List ℕ) → length (pages ++ y ∷ []) ≡ length pages + 1
-push_long [] y = refl
-push_long (x ∷ pages) y = let n = push_long pages y in omega (arith, n)
-
 -- What calls answer.
 
 pub ok_of : {T E : Type 0} (r : Result T E) (P : Type 0) → OnOk r P → is_err r ≡ false → P
@@ -507,19 +499,6 @@ pub cond_twice : {A : Type 0} (b : Bool) (x y z : A) → cond b x (cond b y z) �
 cond_twice true x y z = refl
 cond_twice false x y z = refl
 
-pub no_slots : (x : Extents) (d : Disks) (s : ServerId) (blocks : ℕ) → s.0 ≡ 1 → 1 ≤ blocks → blocks ≤ 4096 → x ≡ extents.no_extents s 1 1 blocks → IsOwned x → d ≡ fresh_disks 1 blocks → AreSlots x d 0
-no_slots x d s blocks a b c e o f = record {
-  server = ap (λ (y : Extents). y.server.0) e ∙ a;
-  servers = ap (λ (y : Extents). y.servers) e;
-  disks = ap (λ (y : Extents). y.disks) e;
-  some = let n : x.blocks ≡ blocks = ap (λ (y : Extents). y.blocks) e in omega (arith, n, b);
-  few = let n : x.blocks ≡ blocks = ap (λ (y : Extents). y.blocks) e in omega (arith, n, c);
-  disk = ap (λ (y : Disks). y.disks) f;
-  blocks = ap (λ (y : Disks). y.blocks) f ∙ sym (ap (λ (y : Extents). y.blocks) e);
-  owned = o;
-  slots = subst (λ (y : Extents). AllByRecursion (IsSlot 0) y.rows) (sym e) tt;
-  births = ap (λ (y : Extents). y.births) e;
-  fits = omega arith;
 }
 
 pub next_slot : (x new : Extents) (d : Disks) (last : ℕ) (f : FileId) (r : Result Unit ExtentRefusal) → AreSlots x d last → f ≡ slot_file (last + 1) → Allocates x new r (extents.allocate x f (page_no 0) 1) → is_err r ≡ false → HasSlot x new (last + 1)

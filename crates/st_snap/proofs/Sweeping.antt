@@ -187,10 +187,6 @@ pub there_below : (now : Versions) (k : VersionKey) (o : Option VersionKey) → 
 there_below now k None b = tt
 there_below now k (Some j) b = b.0.there
 
-pub there_last : (v : Versions) (o : Option VersionKey) → IsLast v o → IsThere v o
-there_last v None b = tt
-there_last v (Some j) b = b.0
-
 -- what the cursor has passed
 passed_by : (now : Versions) (k : VersionKey) (o : Option VersionKey) → IsLastBelow now k o → (q : VersionKey) → has_version now q ≡ true → IsBehind o q → (k ≡ q) ⊎ (is_lt (key_order k q) ≡ true)
 passed_by now k None b q h z = ⊎_elim (λ l. inr (is_before k q l)) (λ c. ⊎_elim (λ e. inl e) (λ l. absurd (b q h (is_before q k l))) c) (before_cases k q)

@@ -93,10 +93,6 @@ write_follows s at new within c left =
     let moved = subst (λ (h : Held). MayLeave h c) (after_push s.history (Write s.fill at new) (fresh_held s.size)) left in
     call_follows s.fill at new (recorded s) (recorded_agrees s) (omega (arith, within, length-held s)) c moved
 
--- what a crash may leave stays as it was where nothing was written
-same_follows : (at count : ℕ) (P : List ℕ → Type 0) → Follows (Torn at count) P P
-same_follows at count P c left = (c, left, record { size = refl; others = λ i e. refl })
-
 -- equal contents everywhere
 pub same_bytes : (a b : List ℕ) → length a ≡ length b → ((i : ℕ) → get_or a i 0 ≡ get_or b i 0) → a ≡ b
 same_bytes a b size each = ext_get_or 0 a b size (λ i l. each i)

@@ -17,9 +17,6 @@ same_bools : (a b : Bool) → (a ≡ true → b ≡ true) → (b ≡ true → a 
 same_bools true b f g = sym (f refl)
 same_bools false b f g = ⊎_elim (λ t. g t ∙ sym t) (λ e. sym e) (cases_Bool b)
 
-eq_symm : (a b : ℕ) → (a == b) ≡ (b == a)
-eq_symm a b = grind arith
-
 module _ {V : Type 0} where
   -- a key that no entry has
   none_at : (x : ℕ) (es : List (ℕ × V)) → AllByRecursion (λ y. nat_eq x y ≡ false) (keys_of es) → row_at es x ≡ None

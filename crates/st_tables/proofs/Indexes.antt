@@ -404,15 +404,3 @@ module _ {V : Type 0} (key : V → Key) where
   rising_owned f rows ss o =
       rising_same ss (map (second_of key) (filter (is_first key f) rows))
       (λ s. any_same (λ k. k == s) (λ k. s == k) ss (λ k. eq_turn k s) ∙ o s ∙ sym (any_map_filter (second_of key) (is_first key f) s rows))
-
--- who is in no queue leaves none
-pub none_leaves : (es : List (ℕ × Vec ℕ)) (under number : ℕ) → is_some (row_under es under) ≡ false → Leaves under number (queue_in es) (queue_in es)
-none_leaves es under number h n = by (under == n) refl
-  where
-    empty : (o : Option (Vec ℕ)) → is_some o ≡ false → waiting o ≡ filter (λ k. not (k == number)) (waiting o)
-    empty None e = refl
-    empty (Some q) e = absurd (true≢false e)
-
-    by : (b : Bool) → (under == n) ≡ b → queue_in es n ≡ (if b then filter (λ k. not (k == number)) (queue_in es n) else queue_in es n)
-    by true e = subst (λ m. queue_in es m ≡ filter (λ k. not (k == number)) (queue_in es m)) (eqb-true under n e) (empty (row_under es under) h)
-    by false e = refl

@@ -109,10 +109,6 @@ met w (events.Crash n) l i h = tt
 met w (events.Start n) l i h =
     same_running w n ∙ falls (is_running w n) (refusals.Running n) (neither (no_node w n) (still_running w n) h).1
 
--- a world that is laid is ready, where its counts are
-pub ready : (w : World) → IsLaid w → MayCount w → IsReady w
-ready w l c = record { some = l.some; few = l.few; clients = l.clients; clocks = l.clocks; reads = c.0; stolen = c.1 }
-
 -- what is ready stays so, one event later in the count
 pub still_ready : (w : World) → IsReady w → IsReady (counted w)
 still_ready w r = record { some = r.some; few = r.few; clients = r.clients; clocks = r.clocks; reads = r.reads; stolen = r.stolen }

@@ -77,7 +77,3 @@ quiet_fresh k clients servers disks blocks form m h e =
 -- what an event leaves is quiet, where its observations are taken away
 pub quiet_after : RunsInParts → (old new : WorldTurn) (e : Event) (seen : List Observation) → IsQuiet old → is_event (length old.world.clocks) e ≡ true → world_step old.world e ≡ Ok (world_turn new.world seen) → new.seen ≡ [] → IsQuiet new
 quiet_after in_parts old new e seen q i h n = record { none = n; reached = reached_step in_parts old.world e (world_turn new.world seen) q.reached i h }
-
--- and where it is refused
-pub quiet_refused : (old new : WorldTurn) → IsQuiet old → new.world ≡ old.world → new.seen ≡ [] → IsQuiet new
-quiet_refused old new q h n = record { none = n; reached = subst IsReached (sym h) q.reached }

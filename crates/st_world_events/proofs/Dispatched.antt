@@ -29,13 +29,6 @@ unfolding at_server
 server_none w s input None h = refl
 server_none w s input (Some node) h = absurd (cc)
 
--- the client at a place takes an input
-pub client_some : {E : Type 0} (w : World) (c : ClientId) (i : ℕ) (input : ClientInput) (o : Option WorldClient) (r : Result Unit E) (new : WorldTurn) → i < length w.clients → slice_get w.clients i ≡ o →
-    ((site : WorldClient) → slice_get w.clients i ≡ Some site → OnOk r (new ≡ client_takes w c input site)) → OnOk r (new ≡ at_client w c input o)
-unfolding at_client
-client_some w c i input None r new low e h = absurd (within w.clients i low e)
-client_some w c i input (Some site) r new low e h = h site e
-
 -- the server at a place takes an input
 pub server_some : {E : Type 0} (w : World) (s : ServerId) (i : ℕ) (input : ServerInput) (o : Option ServerNode) (r : Result Unit E) (new : WorldTurn) → i < length w.servers → slice_get w.servers i ≡ o →
     ((node : ServerNode) → slice_get w.servers i ≡ Some node → OnOk r (new ≡ server_takes w s input node)) → OnOk r (new ≡ at_server w s input o)

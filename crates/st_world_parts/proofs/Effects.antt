@@ -19,11 +19,6 @@ use Rattle.st_world_parts.specs.OutstandingCommands.{open_from}
 use Rattle.st_world_parts.specs.Commands.{SameOpen, IsClosed}
 use Rattle.st_world_parts.proofs.Opens.{open_stays, open_closed}
 
--- a refused call leaves the disks
-pub after_refused : (old : Disks) (rule : Result Disks CommandRefusal) (f : DiskRefusal) → told rule ≡ Err f → disks_after old rule ≡ old
-after_refused old (Ok d) f h = absurd (cc)
-after_refused old (Err r) f h = refl
-
 -- a call that was made leaves what the rule says
 pub told_ok : (new : Disks) (rule : Result Disks CommandRefusal) → Ok new ≡ told rule → rule ≡ Ok new
 told_ok new (Ok d) h = let e : new ≡ d = cc in ap (λ x. Ok x) (sym e)

@@ -26,13 +26,3 @@ find_more p (x ∷ xs) e = by_head (p x) (find_more p xs e)
 pub first_more : (c : ClientId) (s : ServerId) (life : Life) (xs : List LeaseLife) (e : LeaseLife) (old : Option LeaseLife) → old ≡ find (is_life_of c s life) xs →
     first_of old (if same_key (key_of e) (life_key c s life) then Some e else None) ≡ find (is_life_of c s life) (xs ++ e ∷ [])
 first_more c s life xs e old h = ap (λ o. first_of o (if is_life_of c s life e then Some e else None)) h ∙ sym (find_more (is_life_of c s life) xs e)
-
--- equal keys are one
-pub same_is : (a b : LifeKey) → same_key a b ≡ true → a ≡ b
-same_is a b h =
-    let p = and_parts (a.client == b.client) ((a.server == b.server) && (a.life == b.life)) h in
-    let q = and_parts (a.server == b.server) (a.life == b.life) p.1 in
-    let client : a.client ≡ b.client = eqb-true _ _ p.0 in
-    let server : a.server ≡ b.server = eqb-true _ _ q.0 in
-    let life : a.life ≡ b.life = eqb-true _ _ q.1 in
-    λ i. record { client = client i; server = server i; life = life i }

@@ -50,10 +50,6 @@ r_next n t u v x y = let a = x.low in let b = y.low in record { server = y.serve
 pub r_more : (m n : ℕ) (t u : Turn) → m ≤ n → R m t u → R n t u
 r_more m n t u l x = let a = x.low in record { server = x.server; low = omega (arith, a, l) }
 
-pub r_if : (n : ℕ) (t : Turn) (b : Bool) (u v : Turn) → R n t u → R n t v → R n t (if b then u else v)
-r_if n t true u v f g = f
-r_if n t false u v f g = g
-
 pub length_both : {A : Type 0} (xs ys : List A) → length (xs ++ ys) ≡ length xs + length ys
 length_both [] ys = omega arith
 length_both (x ∷ xs) ys = let z = length_both xs ys in omega (arith, z)

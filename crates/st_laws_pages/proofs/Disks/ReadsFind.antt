@@ -47,11 +47,6 @@ pub unmapped_finds : (w : World) (f : FileId) (p : PageNo) → PagesHold w → m
 unfolding content
 unmapped_finds w f p h m s = settled_is f p (filled 0) w.log s ∙ sym (h.pages.stands f p) ∙ ap (Rattle.st_laws_pages.specs.Disks.Pages.standing f p (block_in w)) m
 
--- What a read that is waited for found stays the content, as long as nothing that touches the page joins the log.
-pub record Sampled (f : FileId) (p : PageNo) (m : MappedBlock) (b : Block) (es : List LogEntry) : Type 0 where
-  pub found : found_under f p b.tag b.bytes m ≡ content es f p
-  pub settled : SettledOn f p es
-
 -- A client's latest entry of a page is its last.
 latest_from_up : (n before : ℕ) (c : ClientId) (f : FileId) (p : PageNo) (es : List LogEntry) → before < n → before ≤ latest_from n before c f p es
 unfolding latest_from latest_at

@@ -59,11 +59,4 @@ moved_flush past more w v k ts cs xs fl ns up same fewer h =
 pub same_clocks : (w : World) (c : ClientId) → (clock_in w.clocks c).0 ≤ (clock_in w.clocks c).0
 same_clocks w c = omega arith
 
--- What a client says leaves all but the network, the disks, the commands, the log and the lives that ended.
-record SaysLess (v u : World) : Type 0 where
-  pub config : u.config ≡ v.config
-  pub clocks : u.clocks ≡ v.clocks
-  pub servers : u.servers ≡ v.servers
-  pub flushed : u.flushed ≡ v.flushed
-
 -- Flush steps.

@@ -58,10 +58,6 @@ pub if_both : (P : Turn → Type 0) (b : Bool) (t u : Turn) → P t → P u → 
 if_both P true t u x y = x
 if_both P false t u x y = y
 
-pub if_case : (P : Turn → Type 0) (b : Bool) (t u : Turn) → (b ≡ true → P t) → (b ≡ false → P u) → P (if b then t else u)
-if_case P true t u x y = x refl
-if_case P false t u x y = y refl
-
 pub has_middle : {A : Type 0} (k p : A) (xs ys : List A) → Has p (xs ++ ys) → Has p (xs ++ k ∷ ys)
 has_middle k p [] ys h = inr h
 has_middle k p (x ∷ xs) ys (inl e) = inl e

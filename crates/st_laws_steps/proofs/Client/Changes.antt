@@ -32,9 +32,3 @@ keeps_asks st s u a = λ x e. inl (ap (λ (r : Requests). map_asked r.asked) (sy
 
 abbrev pub goes_keeps : (st : Store) (s u : ClientSession) → AsksNothing st.extents s u → GoesOn st s u
 goes_keeps st s u a = record { how = Keeps s u a; date = keeps_date st.extents s u a; asks = keeps_asks st s u a }
-
-pub k_keep : {now : Stamp} (t : Turn) (o : Operation) → Changes now t (keep o t)
-k_keep t o = one (Operates t (t.operations ++ o ∷ []))
-
-pub k_answer : {now : Stamp} (t : Turn) (op : ℕ) (a : AppAnswer) → Changes now t (answered t op a)
-k_answer t op a = one (Says t _ tt)

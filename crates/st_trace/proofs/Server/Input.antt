@@ -600,11 +600,3 @@ input_once n now (Control m) =
       from = z.1;
       there = eqb-true _ _ z.0;
     }) _ refl) (λ e. inl refl)
-
--- where a message is refused, it came
-pub refused_came : (n : ServerState) (now : Stamp) (i : ServerInput) (t : ServerTurn) (m : Message) (b : Body) → Refused n now i t m b → Came n now i t m
-refused_came n now i t m b (IsSuspect start c r e) = c
-refused_came n now i t m b (GreetsInGrace h e g) = h.came
-refused_came n now i t m b (OfOtherEpoch h e) = h.came
-refused_came n now i t m b (HasNoSession a e) = a.heard.came
-refused_came n now i t m b (IsRefusedRows rows x r e) = r.asked.heard.came
