@@ -18,10 +18,6 @@ use Rattle.st_journal.specs.declared.fault.JournalFault.TheVariants.{Damaged, Fu
 use Rattle.st_journal.proofs.ScannedBytes.{framed_at, unframed_text, open_at, bare_at}
 use Rattle.st_journal.proofs.Unique.{framed_once}
 
-]
-
--- A count that rose since a later moment rose since an earlier one.
-
 -- A change that is refused is not applied.
 
 abbrev Told : Type 0

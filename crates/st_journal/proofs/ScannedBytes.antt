@@ -135,8 +135,6 @@ bare_at bytes at gate none = record { rest = drop (at + 1) bytes; parts = gate; 
 
 -- A journal that was read so far, and one change more.
 
-}
-
 -- what stands at the end of what was read
 behind_read : (bytes : List ℕ) (xs : List Change) (gate : ℕ) (tail : List ℕ) → bytes ≡ all_opened xs ++ drop gate bytes → drop gate bytes ≡ tail → bytes ≡ all_opened xs ++ tail
 behind_read bytes xs gate tail e f = e ∙ ap (λ (t : List ℕ). all_opened xs ++ t) f
@@ -165,7 +163,3 @@ read_more bytes start old new before now r on =
       few = omega (arith, on.gate, on.changes, f.counted, length-opened x, bytes_some x, r.few);
       low = subst (λ (n : ℕ). AreLow n new) (sym on.changes) (applied_low before.changes old x new f.ranges on.applied r.low);
     }
-
-}
-
-}

@@ -108,13 +108,9 @@ handled_goes k n p f g m old new now (Some rs) later some e told node out = reco
   };
 }
 
-}
-
 -- nothing was done
 pub carries_nothing : (a : Option (List Stamp)) (k : ℕ) (n : Node) (f : Frames) (old : List ℕ) → Carries a a (GoesOn k n f old k n f old)
 carries_nothing a k n f old = record { each = λ last are. record { readings = last; are = are; holds = λ more. refl } }
-
-}
 
 -- ---- some readings
 

@@ -499,8 +499,6 @@ pub cond_twice : {A : Type 0} (b : Bool) (x y z : A) → cond b x (cond b y z) �
 cond_twice true x y z = refl
 cond_twice false x y z = refl
 
-}
-
 pub next_slot : (x new : Extents) (d : Disks) (last : ℕ) (f : FileId) (r : Result Unit ExtentRefusal) → AreSlots x d last → f ≡ slot_file (last + 1) → Allocates x new r (extents.allocate x f (page_no 0) 1) → is_err r ≡ false → HasSlot x new (last + 1)
 next_slot x new d last f r s e a o =
     has_slot x new d last (last + 1) s (omega arith) (ap (λ g. extents.allocate x g (page_no 0) 1) (sym e) ∙ allocated x new r (extents.allocate x f (page_no 0) 1) a o)
