@@ -132,6 +132,35 @@ change_last c now t _ (Writes _ s f p bytes n e sv own m x) es gs z h =
 change_last c now t _ (Reads _ ino p m i clean) es gs z h = subst (λ x. LatestLast c x t.here) (sym z) h
 change_last c now t _ (Submits _ s ino p d m e i k w) es gs z h = subst (λ x. LatestLast c x t.here) (sym z) h
 
+-- a change at another server
+entry_apart : (c : ClientId) (t : Turn) (f : FileId) (p : PageNo) (es gs : List LogEntry) (b : Association) → f.server ≡ t.here.server → (b.server.0 ≡ t.here.server.0 → ⊥) → AddsOne c t f p es gs → LatestLast c es b → LatestLast c gs b
+entry_apart c t f p es gs b own n z h =
+    subst (λ x. LatestLast c x b) (sym z.log)
+    (λ ino q d i. last_joined c t.here.life f p z.change (file_at b ino) q es z.kind false (none ino q) (λ y. h ino q d i))
+  where
+    none : (ino : ℕ) (q : PageNo) → ev.is_entry_of c (file_at b ino) q (log.pending (owner c t.here.life f p) z.change) ≡ false
+    none ino q = go (same_client c c) (same_server f.server b.server) (f.ino == ino) (same_page p q) (ne_eqb f.server.0 b.server.0 (λ e. n (sym e ∙ ap (λ (s : ServerId). s.0) own)))
+      where
+        go : (x y u v : Bool) → y ≡ false → (x && ((y && u) && v)) ≡ false
+        go true false u v e = refl
+        go true true u v e = cc
+        go false y u v e = refl
+
+pub change_apart : (c : ClientId) (now : Stamp) (t u : Turn) (ch : Change now t u) (es gs : List LogEntry) (b : Association) → (b.server.0 ≡ t.here.server.0 → ⊥) → Logs c now t u ch es gs → LatestLast c es b → LatestLast c gs b
+change_apart c now t _ (Says _ o p) es gs b n z h = moved c b es gs z h
+change_apart c now t _ (Operates _ os) es gs b n z h = moved c b es gs z h
+change_apart c now t _ (Answers _ os ops a) es gs b n z h = moved c b es gs z h
+change_apart c now t _ (Greets _ g) es gs b n z h = moved c b es gs z h
+change_apart c now t _ (TellsLost _ lost) es gs b n z h = moved c b es gs z h
+change_apart c now t _ (Begins _ s e y m) es gs b n z h = moved c b es gs z h
+change_apart c now t _ (Follows _ s v e g) es gs b n z h = moved c b es gs z h
+change_apart c now t _ (Learns _ e v m) es gs b n z h = moved c b es gs z h
+change_apart c now t _ (Forgets _ ino p i) es gs b n z h = moved c b es gs z h
+change_apart c now t _ (Caches _ clean) es gs b n z h = moved c b es gs z h
+change_apart c now t _ (Writes _ s f p bytes m e sv own k x) es gs b n z h = entry_apart c t f p es gs b own n z h
+change_apart c now t _ (Reads _ ino p m i clean) es gs b n z h = moved c b es gs z h
+change_apart c now t _ (Submits _ s ino p d m e i k w) es gs b n z h = moved c b es gs z h
+
 -- The end of a command: what is dirty was dirty.
 pub ends_last : (c : ClientId) (number : ℕ) (ok : Bool) (t u : Turn) → Ends number ok t u → (es : List LogEntry) → LatestLast c es t.here → LatestLast c es u.here
 unfolding cl.hardened pages.harden pages.harden_at pages.harden_page pages.fail pages.failed_by

@@ -39,14 +39,14 @@ use Rattle.st_laws_pages.proofs.Flush.Keeping.{OfOthers}
 use Rattle.st_laws_steps.proofs.Client.Losing.{Finished, rest_of}
 use Rattle.st_laws_steps.proofs.Client.Nexts.{Next, change_next, changes_next, dirty_on}
 use Rattle.st_laws_pages.specs.Causes.Invariants.{LatestOwn}
-use Rattle.st_laws_pages.proofs.Causes.Latest.{change_latest, ends_latest}
+use Rattle.st_laws_pages.proofs.Causes.Latest.{change_apart as latest_elsewhere, change_latest, ends_latest}
 use Rattle.st_laws_pages.proofs.Causes.Placed.{Placed}
 use Rattle.st_laws_pages.proofs.Causes.Saying.{change_adds, placed_grown, site_there}
 use Rattle.st_laws_pages.proofs.Writes.Joining.{placed_at}
 use Rattle.st_laws_pages.proofs.Writes.Listing.{write_said}
 use Rattle.st_laws_reads.proofs.OpenWrites.Growing.{grows_all}
 use Rattle.st_laws_extents.specs.Submits.Submits.{EachFine, FineOne, FineSubmit, LatestLast}
-use Rattle.st_laws_extents.proofs.Submits.Last.{Logs, change_last, ends_last}
+use Rattle.st_laws_extents.proofs.Submits.Last.{Logs, change_apart as last_elsewhere, change_last, ends_last}
 use Rattle.st_laws_pages.proofs.Lives.Among.{has_mid, has_others, has_split, numbers_kept, others_apart}
 
 -- More outputs.

@@ -31,7 +31,7 @@ use Rattle.st_laws_steps.proofs.Client.Losing.{Finished, rest_of}
 use Rattle.st_laws_pages.proofs.Flush.Keeping.{Around, OfOthers, Told, change_around}
 use Rattle.st_laws_pages.specs.Causes.Invariants.{CommandsStand, LatestOwn}
 use Rattle.st_laws_pages.proofs.Causes.Commands.{says_stand}
-use Rattle.st_laws_pages.proofs.Causes.Latest.{change_latest, ends_latest, success_own}
+use Rattle.st_laws_pages.proofs.Causes.Latest.{change_apart as change_elsewhere, change_latest, ends_latest, success_own}
 use Rattle.st_laws_pages.proofs.Causes.Placed.{Placed}
 use Rattle.st_laws_pages.proofs.Causes.Saying.{change_adds, placed_grown}
 use Rattle.st_laws_pages.proofs.Lives.Among.{has_mid, has_others, has_split, numbers_kept, others_apart}

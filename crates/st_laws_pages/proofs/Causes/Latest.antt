@@ -124,6 +124,34 @@ change_latest c now t _ (Writes _ s f p bytes n e sv own m x) cs ds es gs z h =
 change_latest c now t _ (Reads _ ino p m i clean) cs ds es gs z h = subst (λ x. LatestOwn c x t.here) (sym z.log) h
 change_latest c now t _ (Submits _ s ino p d m e i k w) cs ds es gs z h = subst (λ x. LatestOwn c x t.here) (sym z.log) h
 
+-- a change at another server
+pub entry_apart : (c : ClientId) (t : Turn) (f : FileId) (p : PageNo) (cs ds : List IssuedCommand) (es gs : List LogEntry) (b : Association) → f.server ≡ t.here.server → (b.server.0 ≡ t.here.server.0 → ⊥) → AddsEntry c t f p cs ds es gs →
+    LatestOwn c es b → LatestOwn c gs b
+entry_apart c t f p cs ds es gs b own n z h = moved c b _ gs z.log (latest_elsewhere c b es (log.pending (owner c t.here.life f p) z.change) none h)
+  where
+    none : (ino : ℕ) (q : PageNo) → ev.is_entry_of c (file_at b ino) q (log.pending (owner c t.here.life f p) z.change) ≡ false
+    none ino q = go (same_client c c) (same_server f.server b.server) (f.ino == ino) (same_page p q) (ne_eqb f.server.0 b.server.0 (λ e. n (sym e ∙ ap (λ (s : ServerId). s.0) own)))
+      where
+        go : (x y u v : Bool) → y ≡ false → (x && ((y && u) && v)) ≡ false
+        go true false u v e = refl
+        go true true u v e = cc
+        go false y u v e = refl
+
+pub change_apart : (c : ClientId) (now : Stamp) (t u : Turn) (ch : Change now t u) (cs ds : List IssuedCommand) (es gs : List LogEntry) (b : Association) → (b.server.0 ≡ t.here.server.0 → ⊥) → Adds c now t u ch cs ds es gs → LatestOwn c es b → LatestOwn c gs b
+change_apart c now t _ (Says _ o p) cs ds es gs b n z h = moved c b es gs z.log h
+change_apart c now t _ (Operates _ os) cs ds es gs b n z h = moved c b es gs z.log h
+change_apart c now t _ (Answers _ os ops a) cs ds es gs b n z h = moved c b es gs z.log h
+change_apart c now t _ (Greets _ g) cs ds es gs b n z h = moved c b es gs z.log h
+change_apart c now t _ (TellsLost _ lost) cs ds es gs b n z h = moved c b es gs z.log h
+change_apart c now t _ (Begins _ s e y m) cs ds es gs b n z h = moved c b es gs z.log h
+change_apart c now t _ (Follows _ s v e g) cs ds es gs b n z h = moved c b es gs z.log h
+change_apart c now t _ (Learns _ e v m) cs ds es gs b n z h = moved c b es gs z.log h
+change_apart c now t _ (Forgets _ ino p i) cs ds es gs b n z h = moved c b es gs z.log h
+change_apart c now t _ (Caches _ clean) cs ds es gs b n z h = moved c b es gs z.log h
+change_apart c now t _ (Writes _ s f p bytes m e sv own k x) cs ds es gs b n z h = entry_apart c t f p cs ds es gs b own n z h
+change_apart c now t _ (Reads _ ino p m i clean) cs ds es gs b n z h = moved c b es gs z.log h
+change_apart c now t _ (Submits _ s ino p d m e i k w) cs ds es gs b n z h = moved c b es gs z.log h
+
 -- The end of a command: what is dirty was dirty.
 pub ends_latest : (c : ClientId) (number : ℕ) (ok : Bool) (t u : Turn) → Ends number ok t u → (es : List LogEntry) → LatestOwn c es t.here → LatestOwn c es u.here
 unfolding cl.hardened pages.harden pages.harden_at pages.harden_page pages.fail pages.failed_by
