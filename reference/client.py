@@ -5,20 +5,22 @@ from .client_inputs import Inputs
 from .client_parts import Association
 from .client_passes import Passes
 from .clocks import FLUSH, lease_end
+from .modes import NONE
+from .settings import Limits
 from .wire import Message
 
 
 class Client(Inputs, Passes):
     """A client node: its machine and whether it runs. Chapter "The client"."""
 
-    def __init__(self, number, settings, servers):
-        self.number, self.settings = number, settings
+    def __init__(self, number, settings, servers, limits=Limits()):
+        self.number, self.settings, self.limits = number, settings, limits
         self.running = True
         self.begin([1] * servers)
 
     def begin(self, lives):
         """A client with these lives and nothing else. Chapter "The client"."""
-        self.associations = [Association(server, life) for server, life in enumerate(lives, 1)]
+        self.associations = [Association(server, life, self.limits) for server, life in enumerate(lives, 1)]
         self.operations = []
         self.next_command = 1
 
@@ -57,13 +59,42 @@ class Client(Inputs, Passes):
         """The pending operations of a server, in order. Chapter "The client"."""
         return [operation for operation in self.operations if operation.server == association.server]
 
+    def active(self, association):
+        """The pending operations of a server before which no leave stands, in order. Rule "Leaving"."""
+        operations = self.operations_of(association)
+        leaves = [place for place, operation in enumerate(operations) if operation.kind == "leave"]
+        return operations[: leaves[0]] if leaves else operations
+
+    def is_leaving(self, association):
+        """Whether the first pending operation of a server is a leave. Rule "Leaving"."""
+        operations = self.operations_of(association)
+        return bool(operations) and operations[0].kind == "leave"
+
+    def owe(self, association, ino):
+        """Rule "Used once": of a lock that is installed now, the first active operation that it covers is owed a use. Chapter "The client"."""
+        session = association.session
+        session.owed.pop(ino, None)
+        if self.limits.cooperate:
+            for operation in self.active(association):
+                if operation.ino == ino and not operation.sent and NONE < operation.needs() <= session.mode(ino):
+                    session.owed[ino] = operation
+                    return
+
+    def owed(self, association, ino):
+        """The operation that is owed a use of the file's lock, until it was sent or answered; or None. Rule "Used once"."""
+        operation = association.session.owed.get(ino)
+        return None if operation is None or operation.sent or operation not in self.operations else operation
+
     def is_busy(self, association, ino):
         """A file is busy while a cut or a remove of it was sent and not answered. Chapter "The client"."""
         return any(operation.sent and operation.ino == ino and operation.is_cut() for operation in self.operations_of(association))
 
-    def is_open(self, association, ino):
-        """A file is open where it is neither demanded nor busy. Chapter "The client"."""
-        return ino not in association.session.demands and not self.is_busy(association, ino)
+    def is_open(self, association, operation):
+        """A file is open to an operation where it is not busy, and is not demanded or owes this operation a use. Chapter "The client"."""
+        ino = operation.ino
+        if self.is_busy(association, ino):
+            return False
+        return ino not in association.session.demands or self.owed(association, ino) is operation
 
     def answer(self, operation, answer):
         """Every answer ends its operation. Chapter "The client"."""

@@ -1,12 +1,10 @@
 """The rule for the input, and the losses. Sections "Losses" and "The rule for the input" of "The client"."""
 
 from . import wire
-from .client_parts import LOCKS, UNMAPPED, Operation, Session
+from .client_parts import RUN, UNMAPPED, Operation, Session
 from .clocks import EXPIRED, lease_end, phase
 from .modes import NONE
 from .wire import CAUSES, LIST, NAME
-
-OPERATIONS = 16
 
 CONDEMNING = ("suspect", "nosession", "graceover", "conflict")
 PASSED_OVER = ("grace", "otherepoch")
@@ -35,26 +33,33 @@ class Inputs:
             if operation.sent:
                 self.answer(operation, ("uncertain", association.session.epoch, 0))
                 continue
-            lost = association.lost_of(operation.ino) if operation.kind == "sync" else None
-            self.answer(operation, ("quiesced",) if lost is None else ("lost", lost))
+            self.answer(operation, self.told_lost(association, operation) or ("quiesced",))
         association.empty()
         association.life += 1
+
+    @staticmethod
+    def told_lost(association, operation):
+        """What a sync and a leave are told of lost rows, or None. Rules "Loss", "Asks" and "Leaving". Chapter "The client"."""
+        if operation.kind == "leave":
+            return ("unsynced", min(association.lost)) if association.lost else None
+        lost = association.lost_of(operation.ino) if operation.kind == "sync" else None
+        return None if lost is None else ("lost", lost)
 
     # Asks
 
     def asked(self, number, ask):
         """Rule "Asks": the first case that stands. Chapter "The client"."""
         operation = Operation(number, ask)
-        if len(self.operations) >= OPERATIONS:
+        if len(self.operations) >= self.limits.operations:
             self.say(number, ("opsfull",))
             return
         association = self.association(operation.server)
         if association is None:
             self.say(number, ("nofile",))
             return
-        lost = association.lost_of(operation.ino) if operation.kind == "sync" else None
-        if lost is not None:
-            self.say(number, ("lost", lost))
+        told = self.told_lost(association, operation)
+        if told is not None:
+            self.say(number, told)
             return
         self.operations.append(operation)
 
@@ -82,10 +87,12 @@ class Inputs:
             self.counting(association, message)
 
     def welcome(self, association, message):
-        """Rule "Welcome"; without a session every other message is passed over. Chapter "The client"."""
+        """Rules "Welcome" and "Take a fresh welcome only"; without a session every other message is passed over."""
         if message.kind != wire.WELCOME or association.greeted is None:
             return
         if phase(self.settings, message.stamp, False, self.now) == EXPIRED:
+            return
+        if self.limits.cooperate and self.now >= message.stamp + self.settings.renew:
             return
         association.session = Session(message.epoch, message.stamp)
         self.dated(association)
@@ -155,7 +162,7 @@ class Inputs:
             if request.kind == wire.CUT:
                 self.answer(request.operation, ("cut",))
         elif message.kind == wire.NAMED:
-            self.named(session, request, *message.body)
+            self.named(association, request, *message.body)
         elif message.kind == wire.REASSERTED:
             session.must_reassert = False
         else:
@@ -168,8 +175,9 @@ class Inputs:
         if not session.is_above_seen(ino, grant):
             return
         session.seen[ino] = grant
-        if ino in session.locks or len(session.locks) < LOCKS:
+        if ino in session.locks or len(session.locks) < self.limits.locks:
             session.install(ino, grant, mode)
+            self.owe(association, ino)
         else:
             session.releases.append((ino, grant, NONE))
 
@@ -187,9 +195,12 @@ class Inputs:
             association.store.know(ino, page, tuple(extent))
         if request.kind == wire.MAP and not rows:
             association.store.know(ino, request.body[2], UNMAPPED)
+        if request.kind == wire.ALLOCATE:
+            association.session.run = RUN
 
-    def named(self, session, request, tag, told):
+    def named(self, association, request, tag, told):
         """Rule "Named". Chapter "The client"."""
+        session = association.session
         self.answer(request.operation, (("named", "listed", "refused")[tag], told))
         removed = request.operation.ino
         if removed is not None and tag == 0:
@@ -202,10 +213,12 @@ class Inputs:
         """Rule "Refused". Chapter "The client"."""
         cause = CAUSES[number - 1]
         ino = request.operation.ino if request.kind == NAME else self.file_of(request)
-        if cause in ("nofile", "toomanylocks"):
-            for operation in self.operations_of(association):
-                if ino is not None and operation.ino == ino and operation.kind != "sync":
-                    self.answer(operation, (cause,))
+        if cause == "toomanylocks" and self.limits.cooperate and request.kind == wire.ACQUIRE:
+            self.full(association, ino)
+        elif cause in ("nofile", "toomanylocks"):
+            self.answer_all(association, ino, cause)
+        elif cause == "nospace" and self.limits.cooperate and request.kind == wire.ALLOCATE and 0 < a < request.body[3]:
+            association.session.run = a
         elif cause == "nospace":
             if request.kind in (wire.MAP, wire.ALLOCATE):
                 for operation in self.operations_of(association):
@@ -213,6 +226,20 @@ class Inputs:
                         self.answer(operation, ("nospace", a, b))
         elif cause == "notholder" and request.operation is not None and request.operation.kind in ("cut", "remove"):
             self.answer(request.operation, ("notholder",))
+
+    def answer_all(self, association, ino, cause):
+        """All reads, writes, patches, cuts and removes of a file are refused. Rules "Refused" and "Giving back". Chapter "The client"."""
+        for operation in self.operations_of(association):
+            if ino is not None and operation.ino == ino and operation.kind != "sync":
+                self.answer(operation, (cause,))
+
+    def full(self, association, ino):
+        """The server has too many locks and waits of this client: a lock is given back, and locks of more files are asked for `retry` later."""
+        association.session.full = self.now
+        for operation in self.active(association):
+            if operation.ino == ino and operation.needs() > NONE:
+                self.give_back(association, operation)
+                return
 
     @staticmethod
     def file_of(request):
@@ -228,7 +255,7 @@ class Inputs:
             outstanding = session.request is not None and session.request.kind == wire.RELEASED and session.request.body == release
             if release not in session.releases and not outstanding:
                 session.releases.append(release)
-        elif case == "taken":
+        if case == "taken" or (case == "unheld" and self.limits.cooperate):
             self.send_from(association, wire.DEMANDSEEN, session.epoch, 0, 0, (ino, grant))
 
     # Ends of commands
@@ -259,7 +286,7 @@ class Inputs:
             if dirty is not None and dirty.version == command.version:
                 dirty.failed = own
             for operation in self.operations_of(association):
-                if operation.kind == "sync" and operation.ino == ino:
+                if operation.kind == "leave" or (operation.kind == "sync" and operation.ino == ino):
                     self.answer(operation, ("diskfault", own))
         else:
             for operation in self.operations_of(association):

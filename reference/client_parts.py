@@ -3,12 +3,10 @@
 from collections import OrderedDict
 
 from .disks import ZEROS
-from .modes import NONE, covers
+from .modes import EXCLUSIVE, NONE, SHARED
 
-CLEAN_PAGES = 256
-DIRTY_PAGES = 64
-LOCKS = 1024
 LOST_TOLD = 1024
+RUN = 64
 UNMAPPED = "unmapped"
 
 
@@ -59,6 +57,9 @@ class Session:
         self.locks = {}
         self.seen = {}
         self.demands = {}
+        self.owed = {}
+        self.full = None
+        self.run = RUN
         self.waits = {}
         self.releases = []
 
@@ -109,11 +110,13 @@ class Session:
 class Store:
     """The pages of a server's files and the outstanding commands. Chapter "The client"."""
 
-    def __init__(self):
+    def __init__(self, limits):
+        self.limits = limits
         self.known = {}
         self.clean = OrderedDict()
         self.dirty = {}
         self.versions = 0
+        self.standing = 0
         self.commands = {}
 
     def known_at(self, ino, page):
@@ -134,21 +137,36 @@ class Store:
         return (ino, page) in self.dirty or (ino, page) in self.clean
 
     def make_clean(self, ino, page, data):
-        """Rule "Clean pages": the page becomes the newest, and the oldest of more than 256 goes. Chapter "The client"."""
+        """Rule "Clean pages": the page becomes the newest, and the oldest of too many goes. Chapter "The client"."""
         self.clean[ino, page] = data
         self.clean.move_to_end((ino, page))
-        if len(self.clean) > CLEAN_PAGES:
+        if len(self.clean) > self.limits.clean:
             self.clean.popitem(last=False)
 
     def is_dirty_full(self, ino, page):
-        """Whether 64 other pages are dirty. Rule "Dirty pages". Chapter "The client"."""
-        return len(self.dirty) - ((ino, page) in self.dirty) >= DIRTY_PAGES
+        """Whether as many other pages are dirty as may be. Rule "Dirty pages". Chapter "The client"."""
+        return len(self.dirty) - ((ino, page) in self.dirty) >= self.limits.dirty
 
     def make_dirty(self, ino, page, data):
         """Rule "Dirty pages": new bytes, the next version, no failed command; a page is not both. Chapter "The client"."""
         self.clean.pop((ino, page), None)
         self.versions += 1
         self.dirty[ino, page] = Dirty(data, self.versions)
+
+    def oldest(self, count):
+        """The first so many dirty pages by version that are being written or were not tried in vain. Rule "Making room"."""
+        written = self.written()
+        hopeful = [(dirty.version, place) for place, dirty in self.dirty.items() if dirty.failed is None or place in written]
+        return {place for _, place in sorted(hopeful)[:count]}
+
+    def written(self):
+        """The pages with an outstanding write. Chapter "The client"."""
+        return {(command.ino, command.page) for command in self.commands.values() if command.version is not None}
+
+    def is_stuck(self, ino):
+        """Whether a dirty page of the file was tried in vain, and is not being written. Rule "Giving back"."""
+        written = self.written()
+        return any(place[0] == ino and dirty.failed is not None and place not in written for place, dirty in self.dirty.items())
 
     def is_idle(self, ino):
         """A file is idle where it has no dirty page and no outstanding command. Chapter "The client"."""
@@ -187,8 +205,8 @@ class Store:
 class Association:
     """What a client has of one server. Chapter "The client"."""
 
-    def __init__(self, server, life):
-        self.server, self.life = server, life
+    def __init__(self, server, life, limits):
+        self.server, self.life, self.limits = server, life, limits
         self.lost = {}
         self.empty()
 
@@ -196,7 +214,7 @@ class Association:
         """All but the life and the lost rows goes. Chapter "The client"."""
         self.greeted = None
         self.session = None
-        self.store = Store()
+        self.store = Store(self.limits)
 
     def lost_of(self, ino):
         """The lost rows of a file: at most 1,024 (page, command), rising; they are forgotten. None where there are none. Chapter "The client"."""
@@ -225,6 +243,8 @@ class Operation:
             if ask[2][0] == 4:
                 self.kind = "remove"
                 self.ino, self.page = (ask[2][3] or None), 0
+        elif self.kind == "leave":
+            self.server = ask[1]
         else:
             (self.server, self.ino) = ask[1]
             if self.kind != "sync":
@@ -233,6 +253,12 @@ class Operation:
     def is_cut(self):
         """A cut, or a remove of a file. Chapter "The client"."""
         return self.kind == "cut" or (self.kind == "remove" and self.ino is not None)
+
+    def needs(self):
+        """Rule "Needs": the mode of lock that it needs; none for a sync, a leave and a name without a file. Chapter "The client"."""
+        if self.ino is None or self.kind == "sync":
+            return NONE
+        return SHARED if self.kind == "read" else EXCLUSIVE
 
     def is_change(self):
         """A write or a patch. Chapter "The client"."""

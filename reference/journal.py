@@ -143,7 +143,7 @@ class Stable:
         """The last line of a script. Chapter "Scripts", "journal"."""
         mapped = sum(len(pages) for pages in self.extents.pages.values())
         return (
-            f"state epoch {self.epoch} entries {len(self.names.by_ino)} mapped {mapped} free {len(self.extents.free)} "
+            f"state epoch {self.epoch} entries {len(self.names.by_ino)} mapped {mapped} free {self.extents.free()} "
             f"next {self.extents.births + 1}"
         )
 

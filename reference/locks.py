@@ -2,8 +2,6 @@
 
 from .modes import EXCLUSIVE, NONE, SHARED, conflicts, covers
 
-FILES_OF_A_CLIENT = 1024
-
 
 class Demand:
     """What is demanded of a row: the mode to go to, since when it waits for an answer (None: answered), when it was sent."""
@@ -35,8 +33,8 @@ class Wait:
 class LockTable:
     """Rows by file and client, and waits by file and client in order of arrival. Chapter "Locks"."""
 
-    def __init__(self, epoch):
-        self.epoch = epoch
+    def __init__(self, epoch, limit=1024):
+        self.epoch, self.limit = epoch, limit
         self.grants = 0
         self.rows = {}
         self.waits = {}
@@ -90,7 +88,7 @@ class LockTable:
         if row is not None and covers(row.mode, mode):
             return "granted", row
         waits = self.waits.get(ino, {})
-        if row is None and client not in waits and self.files_of(client) >= FILES_OF_A_CLIENT:
+        if row is None and client not in waits and self.files_of(client) >= self.limit:
             return ("toomany",)
         if may_grant and not any(other != client for other in waits) and not self.others_conflict(ino, client, mode):
             return "granted", self.grant(ino, client, life, mode)

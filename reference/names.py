@@ -1,7 +1,6 @@
 """The names of a server. Chapter "Names"."""
 
 ROOT = 1
-LIVE_INODES = 4096
 LISTED = 256
 GOOD = frozenset(b"abcdefghijklmnopqrstuvwxyzABCDEFGHIJKLMNOPQRSTUVWXYZ0123456789._-")
 
@@ -25,7 +24,8 @@ def is_good_name(name):
 class Names:
     """The entries of a server, found by place and by inode. Chapter "Names"."""
 
-    def __init__(self):
+    def __init__(self, limit=4096):
+        self.limit = limit
         self.by_place = {}
         self.by_ino = {}
         self.next_ino = 10
@@ -77,7 +77,7 @@ class Names:
             return refusal, None
         if self.entry_at(directory, name) is not None:
             return PRESENT, None
-        if len(self.by_ino) + 1 >= LIVE_INODES:
+        if len(self.by_ino) + 1 >= self.limit:
             return TOO_MANY, None
         ino = self.next_ino
         self.next_ino += 1

@@ -79,6 +79,8 @@ def observation_text(seen):
         return f"lease c{seen[1]} s{seen[2]} {seen[3]}"
     if kind == "lost":
         return f"lost c{seen[1]} s{seen[2]} {seen[3]}"
+    if kind == "ended":
+        return f"end c{seen[1]} s{seen[2]} {seen[3]}"
     if kind == "suspected":
         return f"suspect s{seen[1]} c{seen[2]} {seen[3]}"
     return f"steal s{seen[1]} c{seen[2]} {seen[3]}"
@@ -109,9 +111,9 @@ def lines_of(pieces):
 class Replay:
     """The run of a schedule, line by line, with its report's lines. Chapters "Schedules", "The report"."""
 
-    def __init__(self, write):
+    def __init__(self, write, forms=(1, 2)):
         self.write = write
-        self.reader = ScheduleReader()
+        self.reader = ScheduleReader(forms)
         self.world = None
         self.refused = None
 
@@ -154,17 +156,17 @@ class Replay:
         return True
 
 
-def replay(pieces, write):
+def replay(pieces, write, forms=(1, 2)):
     """The report of the schedule that the pieces spell. Whether it ran through its end. Chapter "The report"."""
-    run = Replay(write)
+    run = Replay(write, forms)
     for line in lines_of(pieces):
         if not run.line(line):
             return False
     return run.finish()
 
 
-def report_of(schedule):
+def report_of(schedule, forms=(1, 2)):
     """The report of a schedule, as text. Chapter "The report"."""
     parts = []
-    replay([schedule], parts.append)
+    replay([schedule], parts.append, forms)
     return "".join(parts)

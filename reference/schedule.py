@@ -3,15 +3,17 @@
 from typing import NamedTuple
 
 from . import wire
-from .settings import Settings, settings_refusal
+from .settings import Limits, Settings, settings_refusal
 
 LINE = 256
-EVENTS = 100000
+LINES = {1: LINE, 2: LINE, 3: 1024}
+EVENTS = {1: 100000, 2: 100000, 3: 2**24}
 TOP = 4294967295
+LIMITS = ((10, 2**24), (1, 4096), (1, 65536), (2, 2**20), (1, 4096))
 
 
 class Head(NamedTuple):
-    """A head: its form, settings, clients, servers, disks and blocks. Chapter "Schedules"."""
+    """A head: its form, settings, clients, servers, disks, blocks and limits. Chapter "Schedules"."""
 
     form: int
     settings: Settings
@@ -19,6 +21,7 @@ class Head(NamedTuple):
     servers: int
     disks: int
     blocks: int
+    limits: Limits = Limits()
 
 
 class LineRefused(Exception):
@@ -125,21 +128,25 @@ class Words:
             raise LineRefused("Syntax", self.take()[1])
 
 
-def read_head(line):
-    """A head. Paragraph "Heads". Chapter "Schedules"."""
+def read_head(line, forms=(1, 2)):
+    """A head of one of these forms. Paragraph "Heads". Chapter "Schedules"; of the third form, chapter "The third form"."""
     words = Words(line)
     if words.take()[0] != b"tank":
         raise LineRefused("NoHead")
-    form = int(words.choice("1", "2"))
-    numbers = [words.number(0, 2**63 - 1) for _ in range(7 + form)]
+    form = int(words.choice(*map(str, forms)))
+    numbers = [words.number(0, 2**63 - 1) for _ in range(8 if form == 1 else 9)]
     settings = Settings(*numbers, *([0] if form == 1 else []))
-    clients, servers = words.number(1, 16), words.number(1, 4)
-    disks, blocks = words.number(servers, 8), words.number(1, 4096)
+    wide = form == 3
+    clients, servers = words.number(1, 64 if wide else 16), words.number(1, 8 if wide else 4)
+    disks, blocks = words.number(servers, 16 if wide else 8), words.number(1, 2**28 if wide else 4096)
+    limits = Limits()
+    if wide:
+        limits = Limits(*(words.number(*bounds) for bounds in LIMITS), True)
     words.finish()
     why = settings_refusal(settings)
     if why is not None:
         raise LineRefused("Config", why)
-    return Head(form, settings, clients, servers, disks, blocks)
+    return Head(form, settings, clients, servers, disks, blocks, limits)
 
 
 def read_event(line, head):
@@ -182,8 +189,10 @@ def read_increments(words, head):
 
 def read_ask(words, head):
     """The ask of an `app` line. Chapter "Schedules"."""
-    verbs = ("write", "read", "sync", "cut", "lookup", "create", "mkdir", "remove", "rename", "list")
-    verb = words.choice(*verbs, *(("patch",) if head.form == 2 else ()))
+    verbs = ("write", "read", "sync", "cut", "lookup", "create", "mkdir", "remove", "rename", "list", "patch", "leave")
+    verb = words.choice(*verbs[: 9 + head.form])
+    if verb == "leave":
+        return "leave", words.number(1, 65535)
     file = words.file()
     if verb == "sync":
         return "sync", file
@@ -211,7 +220,8 @@ def read_ask(words, head):
 class ScheduleReader:
     """Reads line after line: a head, events, the end. Chapter "Schedules"."""
 
-    def __init__(self):
+    def __init__(self, forms=(1, 2)):
+        self.forms = forms
         self.lines = 0
         self.head = None
         self.events = 0
@@ -219,19 +229,20 @@ class ScheduleReader:
 
     def line(self, line):
         """What a line spells: a Head, an event or ("end",). Else LineRefused; the first refusal stands. Chapter "Schedules"."""
-        if len(line) > LINE:
-            raise LineRefused("LineTooLong", LINE)
+        most = LINE if self.head is None else LINES[self.head.form]
+        if len(line) > most:
+            raise LineRefused("LineTooLong", most)
         if self.ended:
             raise LineRefused("AfterEnd")
         if self.lines == 0:
-            self.head = read_head(line)
+            self.head = read_head(line, self.forms)
             self.lines = 1
             return self.head
         event = read_event(line, self.head)
         if event == ("end",):
             self.ended = True
-        elif self.events >= EVENTS:
-            raise LineRefused("TooMany", EVENTS)
+        elif self.events >= EVENTS[self.head.form]:
+            raise LineRefused("TooMany", EVENTS[self.head.form])
         else:
             self.events += 1
         self.lines += 1
@@ -278,6 +289,8 @@ def event_line(event):
 def ask_words(ask):
     """The words of an ask. Chapter "Schedules"."""
     kind = ask[0]
+    if kind == "leave":
+        return f"leave {ask[1]}"
     if kind != "name":
         words = f"{kind} {ask[1][0]}:{ask[1][1]}"
         if kind == "sync":

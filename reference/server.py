@@ -4,10 +4,11 @@ from . import wire
 from .clocks import steal_wait
 from .extents import Extents
 from .grace import Grace, reassertion_refusal
-from .locks import FILES_OF_A_CLIENT, LockTable
+from .locks import LockTable
 from .modes import EXCLUSIVE
 from .names import Names
 from .sessions import Sessions
+from .settings import Limits
 from .suspicion import Timers
 from .wire import Message, is_client
 
@@ -15,19 +16,19 @@ from .wire import Message, is_client
 class Server:
     """A server node: its machine and whether it runs. Chapter "The server"."""
 
-    def __init__(self, number, settings, servers, disks, blocks):
-        self.number, self.settings = number, settings
+    def __init__(self, number, settings, servers, disks, blocks, limits=Limits()):
+        self.number, self.settings, self.limits = number, settings, limits
         self.node = wire.SERVER_BASE + number
         self.wait = steal_wait(settings)
         self.epoch = 1
-        self.names = Names()
+        self.names = Names(limits.inodes)
         self.extents = Extents(number, servers, disks, blocks)
         self.running = True
         self.empty(Grace())
 
     def empty(self, grace):
         """All but the stable part as in a new epoch. Chapter "The server"."""
-        self.grace, self.sessions, self.locks, self.timers = grace, Sessions(), LockTable(self.epoch), Timers()
+        self.grace, self.sessions, self.locks, self.timers = grace, Sessions(), LockTable(self.epoch, self.limits.locks), Timers()
 
     def crash(self):
         """A crash keeps the stable part. Rule "Crash". Chapter "The server"."""
@@ -185,7 +186,7 @@ class Server:
         if result[0] == "granted":
             return wire.GRANTED, (ino, result[1].grant, result[1].mode)
         if result[0] == "toomany":
-            return self.refusal("toomanylocks", FILES_OF_A_CLIENT)
+            return self.refusal("toomanylocks", self.limits.locks)
         return wire.QUEUED, (ino, mode)
 
     def map(self, client, ino, grant, page):

@@ -17,6 +17,17 @@ class Settings(NamedTuple):
     grain: int
 
 
+class Limits(NamedTuple):
+    """The limits of a world, and whether its clients cooperate: those of the first two forms, where nothing is told. Chapter "Settings"."""
+
+    inodes: int = 4096
+    locks: int = 1024
+    dirty: int = 64
+    clean: int = 256
+    operations: int = 16
+    cooperate: bool = False
+
+
 def settings_refusal(settings):
     """The first fault of settings, or None. Chapter "Settings"."""
     if not 0 < settings.renew < settings.quiesce < settings.flush < settings.lease:

@@ -10,6 +10,7 @@ from .clocks import Drift, steal_wait
 from .generator import generate, work_text
 from .report import report_of
 from .settings import Settings, settings_refusal
+from .third import FORMS
 
 ROOT = os.path.join(os.path.dirname(os.path.abspath(__file__)), "..")
 FOLDERS = ("schedules", os.path.join("docs", "pictures"), os.path.join("tools", "rows"))
@@ -26,8 +27,9 @@ class Tables(unittest.TestCase):
         self.assertGreater(len(paths), 100)
         for path in paths:
             report = path[: -len("schedule")] + "report"
+            forms = FORMS if os.path.basename(os.path.dirname(path)) == "third" else (1, 2)
             with self.subTest(path), open(path, "rb") as schedule, open(report, "rb") as expected:
-                self.assertEqual(report_of(schedule.read()).encode("latin-1"), expected.read())
+                self.assertEqual(report_of(schedule.read(), forms).encode("latin-1"), expected.read())
 
     def test_example_of_the_book(self):
         with open(os.path.join(ROOT, "docs", "PROTOCOL.md"), encoding="utf-8") as book:
@@ -45,6 +47,33 @@ class Tables(unittest.TestCase):
                 generate(2000, int(seed), parts.append)
                 self.assertEqual(hashlib.sha256("".join(parts).encode()).hexdigest(), digest)
                 self.assertEqual(work_text(2000, int(seed)), work)
+
+    def test_third_form_is_asked_for(self):
+        head = b"tank 3 1000 500 700 850 100 50 101 100 5 1 1 1 64 4096 1024 64 256 16\nend\n"
+        self.assertEqual(report_of(head), "line 1 Syntax 6\n")
+        self.assertEqual(report_of(head, FORMS).split("\n")[0], "tank report 1")
+
+    def test_third_form_has_its_ranges(self):
+        words = "tank 3 1000 500 700 850 100 50 101 100 5 64 8 16 268435456 16777216 4096 65536 1048576 4096".split()
+        for place in range(11, 20):
+            for change, is_good in ((0, True), (1, False)):
+                changed = [*words]
+                changed[place] = str(int(words[place]) + change)
+                said = report_of((" ".join(changed) + "\nend\n").encode(), FORMS)
+                self.assertEqual(said.startswith("tank report 1"), is_good, changed)
+
+    def test_versions(self):
+        keep = wire.Message(wire.KEEPALIVE, 1, wire.SERVER_BASE + 1, 1, 1, 1, 1, ())
+        for form, good in ((1, True), (3, False)):
+            reader = wire.FrameReader(form)
+            reader.feed(wire.frame(keep) + wire.frame(keep._replace(number=2), form))
+            self.assertEqual(reader.next(), keep if good else keep._replace(number=2))
+        with self.assertRaises(wire.Refusal):
+            wire.decode(wire.encode(keep, 3))
+        far = keep._replace(sender=64, receiver=wire.SERVER_BASE + 8)
+        self.assertEqual(wire.decode(wire.encode(far, 3), 3), far)
+        with self.assertRaises(wire.Refusal):
+            wire.decode(wire.encode(far))
 
     def test_settings(self):
         good = [1000, 500, 700, 850, 100, 50, 101, 100, 0]

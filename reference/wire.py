@@ -39,14 +39,14 @@ class Message(NamedTuple):
     body: tuple
 
 
-def is_client(node):
-    """A client is the node of its own number, 1 to 16. Chapter "Wire"."""
-    return 1 <= node <= 16
+def is_client(node, version=3):
+    """A client is the node of its own number, 1 to 16, in version 3 to 64. Chapter "Wire"."""
+    return 1 <= node <= (64 if version == 3 else 16)
 
 
-def is_server(node):
-    """A server is the node 32,768 and its number, 1 to 4. Chapter "Wire"."""
-    return SERVER_BASE + 1 <= node <= SERVER_BASE + 4
+def is_server(node, version=3):
+    """A server is the node 32,768 and its number, 1 to 4, in version 3 to 8. Chapter "Wire"."""
+    return SERVER_BASE + 1 <= node <= SERVER_BASE + (8 if version == 3 else 4)
 
 
 class Refusal(Exception):
@@ -125,9 +125,12 @@ FROM_CLIENT = range(HELLO, DEMANDSEEN + 1)
 FROM_SERVER = range(WELCOME, REASSERTED + 1)
 LOCAL = range(TICK, DONE + 1)
 
+VERSIONS = {1: (1, 2), 2: (1, 2), 3: (3,)}
 
-def header_ranges(kind):
+
+def header_ranges(kind, version):
     """What fits from, to, life, epoch, number and stamp of a kind. Section "The header". Chapter "Wire"."""
+    client, server = lambda node: is_client(node, version), lambda node: is_server(node, version)
     anything = lambda value: True
     nothing = lambda value: value == 0
     positive = lambda value: value >= 1
@@ -135,28 +138,28 @@ def header_ranges(kind):
         epoch = nothing if kind == HELLO else positive
         number = nothing if kind in (HELLO, DEMANDSEEN) else positive
         stamp = nothing if kind == DEMANDSEEN else anything
-        return is_client, is_server, positive, epoch, number, stamp
+        return client, server, positive, epoch, number, stamp
     if kind in FROM_SERVER:
         number = nothing if kind in (WELCOME, DEMAND) else anything if kind in (NACK, GRANTED) else positive
         stamp = nothing if kind == DEMAND else anything
-        return is_server, is_client, positive, positive, number, stamp
+        return server, client, positive, positive, number, stamp
     if kind == TICK:
-        return nothing, lambda value: is_client(value) or is_server(value), nothing, nothing, nothing, nothing
+        return nothing, lambda value: client(value) or server(value), nothing, nothing, nothing, nothing
     if kind in (APP, DONE):
-        return nothing, is_client, nothing, nothing, nothing, nothing
-    return is_client, nothing, nothing, nothing, nothing, nothing
+        return nothing, client, nothing, nothing, nothing, nothing
+    return client, nothing, nothing, nothing, nothing, nothing
 
 
-def decode(data):
-    """The message that the bytes spell; else Refusal. Chapter "Wire"."""
+def decode(data, form=1):
+    """The message that the bytes spell, in a version of the form; else Refusal. Chapter "Wire"."""
     reader = Reader(bytes(data))
     version = reader.number(1)
-    if version not in (1, 2):
+    if version not in VERSIONS[form]:
         raise Refusal("Version")
     kind = reader.number(1)
     if kind not in KIND_NAMES or (version == 2 and kind != APP):
         raise Refusal("Kind")
-    ranges = header_ranges(kind)
+    ranges = header_ranges(kind, version)
     head = [reader.number(width, fits) for width, fits in zip((2, 2, 8, 8, 8, 8), ranges)]
     body = read_body(reader, kind, version)
     if reader.place < len(reader.data):
@@ -180,7 +183,7 @@ def read_body(reader, kind, version):
     if kind == NAME:
         return read_name_op(reader, False)
     if kind == REASSERT:
-        return (read_locks(reader),)
+        return (read_locks(reader, version),)
     if kind == DEMANDSEEN:
         return reader.ino(), reader.grant()
     if kind == NACK:
@@ -188,7 +191,7 @@ def read_body(reader, kind, version):
     if kind == GRANTED:
         return reader.ino(), reader.grant(), reader.mode()
     if kind == EXTENTS:
-        return reader.ino(), read_extents(reader)
+        return reader.ino(), read_extents(reader, version)
     if kind == NAMED:
         tag = reader.between(1, 0, 2)
         if tag == 0:
@@ -199,7 +202,7 @@ def read_body(reader, kind, version):
     if kind == APP:
         return reader.number(4), read_ask(reader, version)
     if kind == APPDONE:
-        return reader.number(4), read_answer(reader)
+        return reader.number(4), read_answer(reader, version)
     if kind == SUBMIT:
         own, disk, block = reader.number(8), reader.number(2), reader.number(4)
         if reader.between(1, 0, 1) == 0:
@@ -240,17 +243,18 @@ def read_rising(reader, count, first, rest):
     return tuple(rows)
 
 
-def read_locks(reader):
+def read_locks(reader, version):
     """The rows of a reassertion: inode, grant, mode. Chapter "Wire"."""
-    count = reader.between(2, 0, 1024)
+    count = reader.between(2, 0, 4096 if version == 3 else 1024)
     return read_rising(reader, count, reader.ino, lambda: (reader.grant(), reader.mode()))
 
 
-def read_extents(reader):
+def read_extents(reader, version):
     """The rows of extents: page, disk, block, birth. Chapter "Wire"."""
     count = reader.between(2, 0, 64)
+    disks, blocks = (16, 2**28) if version == 3 else (8, 4096)
     return read_rising(
-        reader, count, reader.page, lambda: (reader.between(2, 1, 8), reader.between(4, 0, 4095), reader.number(8))
+        reader, count, reader.page, lambda: (reader.between(2, 1, disks), reader.between(4, 0, blocks - 1), reader.number(8))
     )
 
 
@@ -262,7 +266,7 @@ def read_entries(reader):
 
 def read_ask(reader, version):
     """An ask and its fields. Section "Local bodies". Chapter "Wire"."""
-    ask = reader.number(1, lambda value: value == 6 if version == 2 else 1 <= value <= 5)
+    ask = reader.number(1, lambda value: 1 <= value <= (5, 6, 7)[version - 1] and (version != 2 or value == 6))
     if ask == 1:
         return "write", reader.file(), reader.page(), reader.whole_page()
     if ask == 2:
@@ -274,6 +278,8 @@ def read_ask(reader, version):
     if ask == 5:
         server = reader.above(2, 1)
         return "name", server, read_name_op(reader, True)
+    if ask == 7:
+        return "leave", reader.above(2, 1)
     file, page = reader.file(), reader.page()
     at = reader.between(2, 0, WHOLE_PAGE - 1)
     length = reader.between(2, 1, WHOLE_PAGE - at)
@@ -285,15 +291,17 @@ ANSWER_TAGS = {
     19: "nospace", 20: "diskfault", 21: "opsfull", 22: "uncertain", 23: "lost", 24: "dirtyfull", 25: "notholder",
     26: "toomanylocks",
 }
-TAGS_OF_ANSWERS = {name: tag for tag, name in ANSWER_TAGS.items()}
+TAGS_OF_FORM_3 = {7: "left", 27: "unsynced"}
+TAGS_OF_ANSWERS = {name: tag for tag, name in (ANSWER_TAGS | TAGS_OF_FORM_3).items()}
 
 
-def read_answer(reader):
+def read_answer(reader, version):
     """An answer and its fields. Section "Local bodies". Chapter "Wire"."""
-    answer = ANSWER_TAGS[reader.number(1, ANSWER_TAGS.__contains__)]
+    tags = ANSWER_TAGS | TAGS_OF_FORM_3 if version == 3 else ANSWER_TAGS
+    answer = tags[reader.number(1, tags.__contains__)]
     if answer == "read":
         return answer, reader.whole_page()
-    if answer == "named":
+    if answer in ("named", "unsynced"):
         return answer, reader.ino()
     if answer == "listed":
         return answer, read_entries(reader)
@@ -314,9 +322,9 @@ def number(value, width):
     return value.to_bytes(width, "big")
 
 
-def encode(message):
+def encode(message, form=1):
     """The one spelling of a message that fits. Chapter "Wire"."""
-    version = 2 if message.kind == APP and message.body[1][0] == "patch" else 1
+    version = 3 if form == 3 else 2 if message.kind == APP and message.body[1][0] == "patch" else 1
     head = bytes((version, message.kind))
     for value, width in zip(message[1:7], (2, 2, 8, 8, 8, 8)):
         head += number(value, width)
@@ -399,6 +407,8 @@ def spell_ask(ask):
     kind = ask[0]
     if kind == "name":
         return b"\5" + number(ask[1], 2) + spell_name_op(ask[2], 4)
+    if kind == "leave":
+        return b"\7" + number(ask[1], 2)
     spelled = spell_file(ask[1])
     if kind == "sync":
         return b"\3" + spelled
@@ -416,7 +426,7 @@ def spell_answer(answer):
     tag = number(TAGS_OF_ANSWERS[kind], 1)
     if kind == "read":
         return tag + answer[1]
-    if kind == "named":
+    if kind in ("named", "unsynced"):
         return tag + number(answer[1], 4)
     if kind == "listed":
         return tag + spell_entries(answer[1])
@@ -448,7 +458,8 @@ def size_of(message):
 class FrameReader:
     """Frames from a stream in any pieces. Section "Frames"."""
 
-    def __init__(self):
+    def __init__(self, form=1):
+        self.form = form
         self.held = b""
         self.offset = 0
         self.refusal = None
@@ -461,24 +472,30 @@ class FrameReader:
         """The next message, None, or the refusal raised (then again and again). Chapter "Wire"."""
         if self.refusal is not None:
             raise self.refusal
-        if len(self.held) < 4:
-            return None
-        length = int.from_bytes(self.held[:4], "big")
-        try:
-            if length > FRAME_LIMIT:
-                raise Refusal("FrameTooLong", length)
-            if len(self.held) < 4 + length:
-                return None
-            message = decode(self.held[4 : 4 + length])
-        except Refusal as refusal:
-            self.refusal = refusal
-            raise
-        self.held = self.held[4 + length :]
-        self.offset += 4 + length
-        return message
+        while len(self.held) >= 4:
+            length = int.from_bytes(self.held[:4], "big")
+            try:
+                if length > FRAME_LIMIT:
+                    raise Refusal("FrameTooLong", length)
+                if len(self.held) < 4 + length:
+                    return None
+                data = self.held[4 : 4 + length]
+                message = None if self.passes_over(data) else decode(data, self.form)
+            except Refusal as refusal:
+                self.refusal = refusal
+                raise
+            self.held = self.held[4 + length :]
+            self.offset += 4 + length
+            if message is not None:
+                return message
+        return None
+
+    def passes_over(self, data):
+        """A node of the third form ignores versions 1 and 2. Chapter "The third form"."""
+        return self.form == 3 and data[:1] in (b"\1", b"\2")
 
 
-def frame(message):
+def frame(message, form=1):
     """The frame of a message. Section "Frames". Chapter "Wire"."""
-    spelled = encode(message)
+    spelled = encode(message, form)
     return number(len(spelled), 4) + spelled

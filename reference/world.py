@@ -9,7 +9,7 @@ from .flat_log import PENDING, FlatLog
 from .schedule import node_word
 from .server import Server
 
-NETWORK = 536870912
+NETWORK = {1: 2**29, 2: 2**29, 3: 2**32}
 
 
 class Origin:
@@ -26,12 +26,12 @@ class World:
 
     def __init__(self, head):
         self.head, self.settings = head, head.settings
-        self.clients = [Client(number, head.settings, head.servers) for number in range(1, head.clients + 1)]
+        self.clients = [Client(number, head.settings, head.servers, head.limits) for number in range(1, head.clients + 1)]
         self.servers = [
-            Server(number, head.settings, head.servers, head.disks, head.blocks) for number in range(1, head.servers + 1)
+            Server(number, head.settings, head.servers, head.disks, head.blocks, head.limits) for number in range(1, head.servers + 1)
         ]
         self.clocks = [0] * head.clients + [1000 * number for number in range(1, head.servers + 1)]
-        self.drift = Drift(len(self.clocks)) if head.form == 2 else None
+        self.drift = Drift(len(self.clocks)) if head.form >= 2 else None
         self.asks = [0] * head.clients
         self.starts = [0] * head.clients
         self.messages = []
@@ -89,7 +89,7 @@ class World:
 
     def net_full(self):
         """Refusal `NetFull`. Chapter "The world"."""
-        return ("NetFull", self.bytes) if self.bytes >= NETWORK else None
+        return ("NetFull", self.bytes) if self.bytes >= NETWORK[self.head.form] else None
 
     def no_message(self, number):
         """Refusal `NoMessage`. Chapter "The world"."""
@@ -383,7 +383,7 @@ class World:
         else:
             _, server, life = output
             self.ended[number, server, life] = (ends[server - 1], False)
-            self.seen.append(("lost", number, server, life))
+            self.seen.append((kind, number, server, life))
 
     def submitted(self, client, own, disk, block, write):
         """A command is submitted; a write carries its page's latest entry of this client. Chapter "The world"."""

@@ -73,9 +73,9 @@ def random_head(rng):
 class Driver:
     """Draws events for a world, with some knowledge of what may come next."""
 
-    def __init__(self, rng, head_line, weird=0.02, profile=None):
+    def __init__(self, rng, head_line, weird=0.02, profile=None, forms=(1, 2)):
         self.rng, self.head_line = rng, head_line
-        self.head = read_head(head_line.encode())
+        self.head = read_head(head_line.encode(), forms)
         self.world = World(self.head)
         self.lines = [head_line]
         self.parts = ["tank report 1\n"]
