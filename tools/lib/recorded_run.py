@@ -69,12 +69,13 @@ class Item:
         self.low = self.high = self.reading = None
 
     def read_at(self, low, high):
-        """Sets the reading of the node's clock. Where it lies between two, and the step sent a request, that has it as its stamp."""
+        """Sets the reading of the node's clock. If it lies between two, and the step sent a request, the request's stamp is the reading, unless it lies outside:
+        then the least reading stays, and the check finds that the stamp is another one.
+        """
         self.low, self.high, self.reading = low, high, low
-        if low < high:
-            stamps = [stamp for stamp in map(stamp_of, self.told.outputs or ()) if stamp is not None]
-            if stamps:
-                self.settle(stamps[0])
+        stamps = [stamp for stamp in map(stamp_of, self.told.outputs or ()) if stamp is not None and low <= stamp <= high]
+        if low < high and stamps:
+            self.settle(stamps[0])
 
     def settle(self, reading):
         """The reading is this one."""
@@ -115,8 +116,12 @@ class Node:
 
     def __init__(self, name, words):
         self.name, self.words, self.steps, self.effects, self.life, self.machine = name, words, [], [], 0, Machine()
+        self.stopped = None  # the line of a step without outputs, in which the node was killed
 
     def take(self, told, line):
+        if self.stopped is not None and not isinstance(told, text.Head):
+            raise text.Wrong(f"{self.name}: line {line}: forged: the node goes on after line {self.stopped}, in which it was killed, without being started again")
+        self.stopped = line if isinstance(told, text.Step) and told.outputs is None else None
         if isinstance(told, text.Head):
             if (told.node, told.words) != (self.name, self.words):
                 raise text.Wrong(f"{self.name}: line {line}: another node or other settings than before")
@@ -356,6 +361,10 @@ class Contents:
         byte = names.setdefault(data, len(names) % 255 + 1)
         return bytes((byte,)) * len(data)
 
+    def are_several(self, page, data):
+        """Whether this name of a page's content is that of several contents of the page."""
+        return list(self.names[page].values()).count(data[0]) > 1 if self.is_used and any(data) else False
+
 
 def is_mixed(it):
     """Whether a step was an ask to write a page of different bytes."""
@@ -395,6 +404,7 @@ class Join:
         self.senders = []
         self.commands, self.numbers, self.blocks = [], {}, {}
         self.asks, self.ops, self.read = collections.Counter(), {}, {}
+        self.found = []  # the page and the content of each read that was answered
         self.contents = Contents(any(is_mixed(it) for node in nodes.values() for it in node.steps))
         self.unsure = None
         self.ever = {data for node in nodes.values() for it in node.steps if it.what == "step" for data in it.told.outputs or ()}
@@ -617,12 +627,18 @@ class Join:
         if message.kind == wire.APPDONE:
             op, answer = message.body
             if answer[0] == "read":
-                answer = "read", self.contents.of(self.read.get((it.node, it.life, op)), answer[1])
+                page = self.read.get((it.node, it.life, op))
+                answer = "read", self.contents.of(page, answer[1])
+                self.found.append((page, answer[1]))
             return observation_text(("answer", message.sender, self.ops.get((it.node, it.life, op), 0), answer))
         self.messages += 1
         self.sent[data].append(self.messages)
         self.senders.append(len(self.entries))
         return observation_text(("sent", self.messages, self.worldly(message)))
+
+    def unsure_reads(self):
+        """How many reads were answered with a content whose name is that of several."""
+        return sum(self.contents.are_several(page, data) for page, data in self.found)
 
     def offset(self, node):
         name = node_word(node)
