@@ -22,7 +22,7 @@ demands_fit c = nat_lt 0 c.retry && (nat_le c.retry c.demand && nat_le c.demand 
 abbrev pub grain_fits : Config → Bool
 grain_fits c = nat_le c.grain c.lease
 
--- the first refusal that stands, in this order
+-- the first refusal that applies, in this order
 abbrev pub check_grain : Config → Result Unit ConfigRefusal
 check_grain c = if grain_fits c then Ok tt else Err Grain
 

@@ -3,7 +3,8 @@ ghost use Rattle.st_base.specs.Config as config;
 
 use thiserror::Error;
 
-/// The settings of a world. `num / den` bounds the ratio of the rates of two clocks. All other fields are in ticks.
+/// The settings of a world. `num / den` bounds the ratio of the rates of two clocks. All other
+/// fields are in ticks.
 #[derive(Clone, Copy, Debug, PartialEq, Eq)]
 pub struct Config {
     /// The age at which a lease expires.
@@ -22,7 +23,8 @@ pub struct Config {
     pub num: u64,
     /// The denominator of the rate bound.
     pub den: u64,
-    /// How far the readings of two clocks over one interval may differ in addition to the rate bound.
+    /// How far the readings of two clocks over one interval may differ in addition to the rate
+    /// bound.
     pub grain: u64,
 }
 
@@ -42,7 +44,8 @@ pub enum ConfigRefusal {
 }
 
 impl Config {
-    /// Returns the first fault of the settings, in the order of `docs/PROTOCOL.md`, "Settings". It does not allocate.
+    /// Returns the first fault of the settings, in the order of `docs/PROTOCOL.md`, "Settings". It
+    /// does not allocate.
     pub fn check(&self) -> Result<(), ConfigRefusal>
         ensures { result ≡ config.check self.now }
     {

@@ -4,8 +4,8 @@ use crate::ids::{DiskId, FileId, PageNo};
 use crate::page::PageBytes;
 use std::alloc::AllocError;
 
-/// The tag that is stored with a block: the page whose bytes it holds, and the birth of the mapping under which it was
-/// written.
+/// The tag that is stored with a block: the page whose bytes it holds, and the birth of the mapping
+/// under which it was written.
 #[derive(Clone, Copy, Debug, PartialEq, Eq)]
 pub struct Tag {
     pub file: FileId,

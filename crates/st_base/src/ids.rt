@@ -10,7 +10,8 @@ pub struct ClientId(pub u16);
 pub struct ServerId(pub u16);
 
 impl ServerId {
-    /// What is added to a server's own number to make its number as a node. Numbers below it are of clients.
+    /// What is added to a server's own number to make its number as a node. Numbers below it are of
+    /// clients.
     pub const BASE: u16 = 32_768;
 
     /// The number of the server as a node, as messages have it.
@@ -21,7 +22,8 @@ impl ServerId {
         ServerId::BASE + self.0
     }
 
-    /// The number of the server as a node, whatever the server's own number is. It has sixteen bits where that is below 32,768.
+    /// The number of the server as a node, whatever the server's own number is. It has sixteen bits
+    /// where that is below 32,768.
     pub fn node_as_u32(self) -> u32
         ensures { result ≡ server_node self }
     {
@@ -44,7 +46,8 @@ pub struct FileId {
 #[derive(Clone, Copy, Debug, PartialEq, Eq, PartialOrd, Ord)]
 pub struct PageNo(pub u32);
 
-/// The number of a client's life at one server, from 1. A life ends when the lease expires or the client crashes.
+/// The number of a client's life at one server, from 1. A life ends when the lease expires or the
+/// client crashes.
 #[derive(Clone, Copy, Debug, PartialEq, Eq)]
 pub struct Life(pub u64);
 

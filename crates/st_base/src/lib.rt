@@ -1,5 +1,5 @@
-//! The types that every part of the protocol uses: identifiers, lock modes, pages, names, rows and the settings of a
-//! world. `docs/PROTOCOL.md`, "The cast", describes each.
+//! The types that every part of the protocol uses: identifiers, lock modes, pages, names, rows and
+//! the settings of a world. `docs/PROTOCOL.md`, "The cast", describes each.
 #![tactic(auto)]
 
 mod config;

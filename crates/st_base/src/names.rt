@@ -5,7 +5,8 @@ use std::alloc::{AllocError, Global};
 use std::marker::Model;
 use thiserror::Error;
 
-/// A name in a directory. Contracts see it as the list of its bytes; its length is not limited here.
+/// A name in a directory. Contracts see it as the list of its bytes; its length is not limited
+/// here.
 #[derive(Drop)]
 pub struct Name {
     bytes: Vec<u8>,
@@ -103,7 +104,8 @@ pub enum NameAsk {
         dir2: u32,
         name2: Name,
     },
-    /// Lists the entries whose names are greater than `after`. An empty `after` lists from the beginning.
+    /// Lists the entries whose names are greater than `after`. An empty `after` lists from the
+    /// beginning.
     List {
         dir: u32,
         after: Name,

@@ -6,15 +6,17 @@ use std::alloc::{AllocError, Global};
 use std::marker::Model;
 use std::rc::Rc;
 
-/// The bytes of a page: one byte where all 4,096 are equal, and otherwise all of them, shared by the copies of the page.
+/// The bytes of a page: one byte where all 4,096 are equal, and otherwise all of them, shared by
+/// the copies of the page.
 #[derive(Drop)]
 enum Content {
     Filled(u8),
     Mixed(Rc<Vec<u8>>),
 }
 
-/// The 4,096 bytes of a page. Contracts see it as the list of these bytes. A page never changes. A page whose bytes are
-/// all equal keeps one byte; the copies of any other page share one allocation.
+/// The 4,096 bytes of a page. Contracts see it as the list of these bytes. A page never changes. A
+/// page whose bytes are all equal keeps one byte; the copies of any other page share one
+/// allocation.
 #[derive(Drop)]
 pub struct PageBytes {
     content: Content,
@@ -153,7 +155,8 @@ impl PageBytes {
         }
     }
 
-    /// Returns the bytes of a page whose bytes are not all equal. A page of equal bytes has no slice to lend.
+    /// Returns the bytes of a page whose bytes are not all equal. A page of equal bytes has no
+    /// slice to lend.
     pub fn as_slice(&self) -> &[u8]
         requires { pages.repeated_of self.now ≡ None }
         ensures { result.now ≡ self.now }
@@ -176,7 +179,7 @@ impl PageBytes {
         }
     }
 
-    /// Appends the 4,096 bytes to `out`. Where memory runs out `out` has the bytes that it had.
+    /// Appends the 4,096 bytes to `out`. If memory runs out `out` has the bytes that it had.
     pub fn put(&self, out: &mut Vec<u8>) -> Result<(), AllocError>
         ensures added { OnOk result (out.new.items ≡ out.old.items ++ self.now) }
         ensures kept { OnErr result (out.new.items ≡ out.old.items) }

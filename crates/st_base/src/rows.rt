@@ -90,7 +90,8 @@ pub struct ExtentRow {
     pub birth: u64,
 }
 
-/// A page whose bytes were lost, and the number of the command that should have written it, or 0 if there was none.
+/// A page whose bytes were lost, and the number of the command that should have written it, or 0 if
+/// there was none.
 #[derive(Clone, Copy, Debug, PartialEq, Eq)]
 pub struct LostRow {
     pub page: PageNo,

@@ -1,4 +1,4 @@
--- The steps of a rule: nothing is done, an output is said, one after the other, one of two.
+-- The steps of a rule: nothing is done, an output is added, one step after another, one of two steps.
 use Rattle.std.proofs.Common.{◌≡◌, ℕ, ◌+◌, ◌≤◌, Bool, true, false, List, [], ◌∷◌, ◌++◌, length, refl, ◌∙◌, arith}
 use Rattle.std.specs.Prelude.{if◌then◌else◌, map, filter, Result, Ok, Err, IfOk, OnOk}
 use Rattle.std.proofs.lemmas.List.{length-append}
@@ -57,7 +57,7 @@ pub advanced : {A B : Type 0} (f : Turn → Turn) (g : (t : Turn) → Advances t
 advanced f g (Ok x) t u h = rw h (g t)
 advanced f g (Err e) t u h = h
 
--- what stands of a result that is one
+-- what holds of a result that is one
 pub ok_by : {A B : Type 0} (r : Result A B) (P Q : A → Type 0) → ((a : A) → P a → Q a) → IfOk r P → IfOk r Q
 ok_by (Ok x) P Q f h = f x h
 ok_by (Err e) P Q f h = h

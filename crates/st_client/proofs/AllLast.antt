@@ -42,7 +42,7 @@ all_last_one p (x ∷ xs) a h e =
 pub leb-is : (a b : ℕ) → a ≤ b → nat_le a b ≡ true
 leb-is a b h = grind arith
 
--- the same stands of each
+-- the same holds of each
 pub all_same : (b : Bool) (xs : List Association) → b ≡ true → list_all (λ a. b) xs ≡ true
 all_same b [] h = refl
 all_same b (x ∷ xs) h = both_true b (list_all (λ a. b) xs) h (all_same b xs h)

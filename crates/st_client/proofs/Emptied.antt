@@ -83,7 +83,7 @@ module _ (v : ServerId) (f : Turn → Turn) where
     unfolding at_each
     found_each t c p = found_these t.state.associations (with_associations [] t) c refl p
 
--- What is left of an association: nothing but the next life, and behind the input maybe a greeting.
+-- What is left of an association: nothing but the next life, and after the input perhaps a greeting.
 
 record Bare (a b : Association) : Type 0 where
   pub life : b.life ≡ next_life a.life

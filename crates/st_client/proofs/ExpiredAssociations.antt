@@ -85,7 +85,7 @@ module _ (v : ServerId) (known : BlockAt → Bool) (os : List Operation) where
   abbrev pub is_fine : Operation → Bool
   is_fine o = cs.is_of v o || list_any (is_other_operation v o.op) os
 
-  -- What stands of a step at a server, with a condition on its session and its greeting.
+  -- What holds of a step at a server, with a condition on its session and its greeting.
   abbrev pub Stands : (ServerId → Option ClientSession → Option Stamp → Type 0) → Turn → Type 0
   Stands C t =
       record {
@@ -95,7 +95,7 @@ module _ (v : ServerId) (known : BlockAt → Bool) (os : List Operation) where
         cond : C t.here.server t.here.session t.here.greeting;
       }
 
-  -- The conditions: it is another server; it is one where there is a session; and where there is one or a greeting.
+  -- The conditions: it is another server; it is one where there is a session; and if there is one or a greeting.
   abbrev pub Used : ServerId → Option ClientSession → Option Stamp → Type 0
   Used s o g = same_server s v ≡ false
 

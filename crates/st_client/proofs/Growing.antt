@@ -1,4 +1,4 @@
--- What always stands of associations stands where numbers of commands and outputs grow.
+-- The invariant of associations still holds when numbers of commands and outputs grow.
 use Rattle.std.proofs.Common.{◌≡◌, ℕ, suc, zero, ◌+◌, ◌<◌, ◌≤◌, List, [], ◌∷◌, ◌++◌, get_or, length, map, sym, ap, subst, ◌∙◌, arith}
 use Rattle.std.specs.Prelude.{Option, Some, None, insert, remove}
 use Rattle.st_client_association.proofs.TurnInvariants.{below_more}

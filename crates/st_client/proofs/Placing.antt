@@ -1,4 +1,4 @@
--- A rule at each association in turn, each in its place: those in front are done, and those behind are left.
+-- A rule at each association in turn, each in its place: those before it are done, and those after it are left.
 use Rattle.std.proofs.Common.{◌≡◌, ℕ, zero, suc, ◌+◌, ◌<◌, ◌≤◌, Bool, true, List, [], ◌∷◌, ◌++◌, Some, get_or, length, map, refl, sym, ap, ◌∙◌, append_assoc, append-nil, arith}
 use Rattle.std.specs.Prelude.{insert, remove, slice_get}
 use Rattle.std.specs.List.{list_all}

@@ -51,7 +51,7 @@ unfolding fresh_client
 fresh_in id config ss ls capacity servers c k e s l r one most few =
     runs_in id config ss ls capacity c k (ap (λ (d : ClientState). d.id) e) (ap (λ (d : ClientState). d.config) e) s l r (subst IsSound (sym e) (fresh_sound id config servers one most few))
 
--- what a step leaves fits where the lives stood before it
+-- what a step leaves fits the lives as they were before it
 pub kept_fits : (id : ClientId) (config : Config) (ss : List ServerId) (ls : List Life) (capacity : ℕ) (c s : ClientState) → IsNode id config ss ls capacity (Some c) → IsKept c s → length s.associations ≤ capacity
 kept_fits id config ss ls capacity c s n k =
     let e = sym (length-map s.associations server_at) ∙ ap length (k.servers ∙ n.runs.servers) in
@@ -120,7 +120,7 @@ pub crashed_is : (id : ClientId) (config : Config) (ss : List ServerId) (ls : Li
 crashed_is id config ss ls capacity o p n e i f =
     ap (node_of id config ss ls) e ∙ ap (λ (s : ClientState). record { state = s; running = false }) (crashes id config ss ls o i.runs) ∙ ap crash_node f
 
--- what stands after a step of a node that runs
+-- what holds after a step of a node that runs
 pub record IsStepped (id : ClientId) (config : Config) (ss : List ServerId) (ls : List Life) (capacity : ℕ) (c s : ClientState) : Type 0 where
   pub node : IsNode id config ss ls capacity (Some c)
   pub kept : IsKept c s

@@ -1,4 +1,4 @@
--- What always stands of a client stands after each of its steps, and all that it sends has every field in its range.
+-- The invariant of a client holds after each of its steps, and all that it sends has every field in its range.
 use Rattle.std.proofs.Common.{◌≡◌, ℕ, suc, zero, ◌+◌, ◌^◌, ◌<◌, ◌≤◌, Bool, true, ◌==◌, List, [], ◌∷◌, ◌++◌, refl, arith}
 use Rattle.std.specs.Prelude.{◌&&◌, map, nat_lt, Option, Some, None, ⊤}
 use Rattle.std.specs.List.{list_all}
@@ -96,7 +96,7 @@ step_fit most low high c now input time e h =
     let b = input_fit (most + 1) (omega (arith, low)) (omega (arith, high)) t now input e a in
     each_fit (most + 1) (most + 1 + 1) (passes.passes now (is_tick input)) (passes_fit (most + 1) high now time (is_tick input)) (take_input t now input) b
 
--- What always stands, with room for a step, and without.
+-- The invariant, with room for a step, and without.
 
 fit_in : (o : Option ClientSession) → IsSoundIn o → may_ask o ≡ true → FitIn (2 ^ 62) o
 fit_in None h r = tt
@@ -125,7 +125,7 @@ step_from c now input h r time e =
     step_fit (2 ^ 62) (omega arith) (omega arith) c now input (omega (arith, l)) e
     (record { id = h.client; associations = fit_all c.associations h.associations r.each; operations = h.operations; out = refl })
 
--- What always stands of a client stands after a step.
+-- The invariant of a client holds after a step.
 pub step_sound : (c : ClientState) (now : Stamp) (input : ClientInput) → IsSound c → HasRoom c → now.0 ≤ 2 ^ 62 → comes_fit input ≡ true → IsSound (client_step c now input).state
 step_sound c now input h r time e =
     let s = step_from c now input h r time e in
@@ -135,7 +135,7 @@ step_sound c now input h r time e =
 pub step_sends : (c : ClientState) (now : Stamp) (input : ClientInput) → IsSound c → HasRoom c → now.0 ≤ 2 ^ 62 → comes_fit input ≡ true → list_all is_sent (client_step c now input).out ≡ true
 step_sends c now input h r time e = (step_from c now input h r time e).out
 
--- It stands of a fresh client, and after a crash and a start.
+-- It holds of a fresh client, and after a crash and a start.
 
 fresh_all : (n first : ℕ) → 1 ≤ first → first + n ≤ 5 → AreSound (map fresh_association (numbers first n))
 unfolding numbers

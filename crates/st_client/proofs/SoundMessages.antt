@@ -26,7 +26,7 @@ use Rattle.st_rules.specs.ClientLocks.{LockCache, all_locks, ino_of_lock, is_loc
 use Rattle.st_rules.specs.ClientState.{Association, ClientSession, Turn, answer_each, answer_to, header_of, say, send, with_session}
 use Rattle.st_rules.specs.Keys.{rising, server_node}
 
--- What stands of a step at one server: the life and the number of the next request are at most this.
+-- What holds of a step at one server: the life and the number of the next request are at most this.
 
 abbrev pub FitSession : ℕ → ClientSession → Type 0
 FitSession most s = record { sound : IsSoundSession s; room : s.requests.next ≤ most }

@@ -85,7 +85,7 @@ module _ (v : ServerId) (known : BlockAt → Bool) (os : List Operation) where
         out : list_all (is_elsewhere v known os) t.out ≡ true;
       }
 
-  -- what stands of a rule's step, but for its association
+  -- what holds of a rule's step, except for its association
   abbrev Fine : Turn → Type 0
   Fine t = (list_all (is_fine v known os) t.operations ≡ true) × (list_all (is_elsewhere v known os) t.out ≡ true)
 

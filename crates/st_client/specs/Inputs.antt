@@ -37,8 +37,8 @@ Runs old new (Ok out) rule = rule ≡ record { node = new; out = out }
 Runs old new (Err Crashed) rule = ⊥
 Runs old new (Err Memory) rule = new ≡ crash_node old
 
--- What a node's step returns and leaves: the outputs and the node of the definition; a node that does not run stays as it is;
--- and where memory runs out the node is crashed, in the lives from before the step.
+-- What a node's step returns and leaves: the outputs and the node of the definition; a node that does not run stays as it is; and if memory runs out the node
+-- is crashed, in the lives from before the step.
 abbrev pub Steps : ClientNode → ClientNode → Result (List Output) StepFault → Result NodeTurn StepRefusal → Type 0
 Steps old new (Ok out) rule = rule ≡ Ok (record { node = new; out = out })
 Steps old new (Err Crashed) rule = (rule ≡ Err refusals.Crashed) × (new ≡ old)

@@ -1,4 +1,4 @@
--- What always stands of a client: all that it keeps and may send later is in the ranges of messages.
+-- What always holds of a client: all that it keeps and may send later is in the ranges of messages.
 use Rattle.std.specs.Prelude.{◌≡◌, ℕ, ◌≤◌, Bool, true, false, ◌&&◌, nat_le, nat_lt, List, [], ◌∷◌, length, Option, Some, None, ⊤}
 use Rattle.std.specs.List.{list_all}
 use Rattle.st_messages.specs.declared.kind.Need.TheVariants.{Positive}
@@ -30,7 +30,7 @@ is_asking body = false
 abbrev pub is_sound_request : ℕ → Request → Bool
 is_sound_request next q = (nat_le 1 q.number && nat_lt q.number next) && (is_asking q.body && is_body q.body)
 
--- where there is one
+-- if there is one
 abbrev pub is_sound_asked : ℕ → Option Request → Bool
 is_sound_asked next None = true
 is_sound_asked next (Some q) = is_sound_request next q
@@ -66,7 +66,7 @@ IsSoundSession s =
       releases : list_all is_sound_release s.releases ≡ true;
     }
 
--- where there is one
+-- if there is one
 abbrev pub IsSoundIn : Option ClientSession → Type 0
 IsSoundIn None = ⊤
 IsSoundIn (Some s) = IsSoundSession s

@@ -1,4 +1,4 @@
--- A client's machine: what it has of each server, and what always stands of it.
+-- A client's machine: what it has of each server, and what always holds of it.
 use Rattle.std.specs.Prelude.{◌≡◌, ℕ, ◌<◌, Bool, true, List, [], ◌∷◌, insert, length, map, remove, slice_get, swap_remove, ◌+◌, ⊤}
 use Rattle.std.specs.Option.{option_map_or}
 use Rattle.st_client_association.specs.Associations.{ClientAssociation, Grows, IsCounted}
@@ -24,7 +24,7 @@ abbrev pub AreIn : ClientId → Config → ℕ → List Output → List ClientAs
 AreIn id config next out [] = ⊤
 AreIn id config next out (a ∷ more) = IsIn id config next out a × AreIn id config next out more
 
--- What always stands of a machine.
+-- What always holds of a machine.
 pub record IsMachine (id : ClientId) (config : Config) (next : ℕ) (out : List Output) (associations : List ClientAssociation) : Type 0 where
   pub commands : next < most_of out
   pub each : AreIn id config next out associations
@@ -61,7 +61,7 @@ at_place rule i t = option_map_or (λ a. leave_at i (without_at i t) (rule (ente
 abbrev pub is_ready_at : (Association → Bool) → ℕ → List Association → Bool
 is_ready_at test i associations = option_map_or test (slice_get associations i) true
 
--- Of each list from which the one at this place was taken out, the last one coming there: the new list is that one, with this association at the place.
+-- For each list from which the one at this place was taken out and the last one moved there: the new list is that one, with this association at the place.
 abbrev pub IsBack : ℕ → List ClientAssociation → List ClientAssociation → ClientAssociation → Type 0
 IsBack i old new a =
     (xs : List ClientAssociation) (b : ClientAssociation) → i < length xs → length old + 1 ≡ length xs → old ≡ swap_remove xs i b → new ≡ insert (remove xs i) i a

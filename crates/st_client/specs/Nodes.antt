@@ -1,4 +1,4 @@
--- A node between steps: what always stands of it, and what a crash leaves.
+-- A node between steps: what always holds of it, and what a crash leaves.
 use Rattle.std.specs.Prelude.{◌≡◌, ℕ, ◌≤◌, Bool, true, false, if◌then◌else◌, nat_lt, nat_le, ◌^◌, List, [], ◌∷◌, ◌++◌, length, map, Option, Some, None, is_some, Ok, ⊤}
 use Rattle.std.specs.List.{list_all}
 use Rattle.st_client_association.specs.Associations.{ClientAssociation}
@@ -28,7 +28,7 @@ abbrev pub AreGiven : ClientId → Config → ℕ → List ClientAssociation →
 AreGiven id config next [] = ⊤
 AreGiven id config next (a ∷ more) = IsGiven id config next a × AreGiven id config next more
 
--- What always stands of a client between its steps: it has no output.
+-- What always holds of a client between its steps: it has no output.
 pub record IsResting (p : ClientParts) : Type 0 where
   pub given : AreGiven p.id p.config p.next_command p.associations.items
   pub empty : p.out.items ≡ []
@@ -114,7 +114,7 @@ abbrev pub RunsAs : ClientId → Config → List ServerId → List Life → Opti
 RunsAs id config servers lives None = ⊤
 RunsAs id config servers lives (Some c) = IsRunning id config servers lives c
 
--- What always stands of a node.
+-- What always holds of a node.
 pub record IsNode (id : ClientId) (config : Config) (servers : List ServerId) (lives : List Life) (capacity : ℕ) (state : Option ClientState) : Type 0 where
   pub checked : check config ≡ Ok tt
   pub known : list_all is_server servers ≡ true

@@ -1,5 +1,5 @@
-//! The client of a world: its rules at each server, and the node that runs or is crashed. `docs/PROTOCOL.md`, "The client", has the
-//! rules.
+//! The client of a world: its rules at each server, and the node that runs or is crashed.
+//! `docs/PROTOCOL.md`, "The client", has the rules.
 #![tactic(auto)]
 
 mod ends;

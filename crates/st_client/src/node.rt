@@ -44,8 +44,8 @@ impl Model for ClientNode {
 }
 
 impl ClientNode {
-    /// A client that was never started before: it runs, in life 1 at each server. `id` is from 1 to 16, and there are at most four
-    /// servers.
+    /// A client that was never started before: it runs, in life 1 at each server. `id` is from 1 to
+    /// 16, and there are at most four servers.
     pub fn fresh(
         alloc: Global,
         id: ClientId,
@@ -72,8 +72,9 @@ impl ClientNode {
         })
     }
 
-    /// A client that crashed in these lives, one at each server, the first at server 1. Each is at least 1. It does not run, and `start`
-    /// begins its next lives. `id` is from 1 to 16, and there are at most four servers.
+    /// A client that crashed in these lives, one at each server, the first at server 1. Each is at
+    /// least 1. It does not run, and `start` begins its next lives. `id` is from 1 to 16, and there
+    /// are at most four servers.
     pub fn restore(
         alloc: Global,
         id: ClientId,
@@ -180,7 +181,8 @@ impl ClientNode {
         }
     }
 
-    /// Adds its present lives, with the ends of their leases. Where memory runs out the list stays as it was.
+    /// Adds its present lives, with the ends of their leases. If memory runs out the list stays as
+    /// it was.
     pub fn push_lives(&self, found: &mut Vec<LeaseLife>) -> Result<(), AllocError>
         ensures added { OnOk result (found.new.items ≡ found.old.items ++ world.lives_of self.now.state) }
         ensures kept { OnErr result (found.new.items ≡ found.old.items) }
@@ -220,7 +222,8 @@ impl ClientNode {
         self.state = None;
     }
 
-    /// A node that does not run is started, in its next life at every server. Where memory runs out the node stays as it was.
+    /// A node that does not run is started, in its next life at every server. If memory runs out
+    /// the node stays as it was.
     pub fn start(&mut self) -> Result<(), AllocError>
         requires crashed { self.old.running ≡ false }
         requires room { HasRoom self.old.state }
@@ -264,10 +267,11 @@ impl ClientNode {
     /// Takes a step at this moment, and returns its outputs in order. Moments never fall.
     ///
     /// # Errors
-    /// `Crashed` where the node does not run; then nothing changes. `Memory` where memory runs out: then the node is crashed, in
-    /// the lives from before the step.
+    /// `Crashed` where the node does not run; then nothing changes. `Memory` if memory runs out:
+    /// then the node is crashed, in the lives from before the step.
     ///
-    /// Where the lease of a server is over at this moment, nothing of that server is left, and nothing of it goes out.
+    /// Where the lease of a server is over at this moment, nothing of that server is left, and
+    /// nothing of it goes out.
     #[tactic(auto, unfolding(st_rules::specs::Client::node_step))]
     pub fn step(&mut self, now: Stamp, input: ClientInput) -> Result<Outputs, StepFault>
         requires time { now.0 ≤ 2 ^ 62 }

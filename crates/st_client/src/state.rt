@@ -79,7 +79,7 @@ impl ClientState {
         Ok(servers)
     }
 
-    /// Writes the lives anew, in place of those that stood there.
+    /// Writes the lives anew, in place of those that were there.
     pub(crate) fn tell_lives(&self, lives: &mut Vec<Life>)
         requires { length self.now.associations ≤ vec_capacity lives.old }
         ensures told { lives.new.items ≡ client.lives self.now }

@@ -28,7 +28,8 @@ impl Model for ClientTurn {
     ghost invariant = { λ m. IsMachineOf m.parts.value };
 }
 
-/// Puts an association in the place from which one was taken out: the last one, which came there, goes last again.
+/// Puts an association in the place from which one was taken out: the last one, which came there,
+/// goes last again.
 fn put_back(
     associations: &mut Vec<Association>,
     place: usize,

@@ -1,4 +1,4 @@
--- What always stands of a step at a server stands after its changes.
+-- The invariant of a step at a server holds after its changes.
 use Rattle.std.proofs.Common.{◌≡◌, ℕ, ◌⊎◌, ◌+◌, ◌<◌, ◌≤◌, Bool, true, false, List, [], ◌∷◌, ◌++◌, refl, sym, ap, ◌∙◌, subst, inl, inr, arith}
 use Rattle.std.specs.Prelude.{Option, Some, None, filter, Result, Ok, Err, if◌then◌else◌, not}
 use Rattle.std.specs.List.{list_all}

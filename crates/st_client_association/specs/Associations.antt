@@ -1,4 +1,4 @@
--- What a client has of a server between steps; what always stands of it, and what a step needs of its counters.
+-- What a client has of a server between steps; what always holds of it, and what a step needs of its counters.
 use Rattle.std.specs.Prelude.{◌≡◌, ℕ, ◌<◌, ◌≤◌, ◌^◌, Bool, true, ◌&&◌, nat_lt, List, length, Option, Some, None, Ok, ⊤}
 use Rattle.std.specs.List.{list_all}
 use Rattle.st_base.specs.Config.{check}
@@ -21,7 +21,7 @@ pub record ClientAssociation : Type 0 where
   pub config : Config
   pub here : Association
 
--- What always stands: the settings are checked, and the parts are of one server.
+-- What always holds: the settings are checked, and the parts are of one server.
 pub record IsAssociation (client : ClientId) (config : Config) (server : ServerId) (life : Life) (session : Option ServerSession) (store : ServerStore) : Type 0 where
   pub checked : check config ≡ Ok tt
   pub node : HasNode server

@@ -1,4 +1,4 @@
--- A step at one server: its parts, what always stands of them, and the session in it.
+-- A step at one server: its parts, what always holds of them, and the session in it.
 use Rattle.std.specs.Prelude.{◌≡◌, ℕ, ◌+◌, ◌<◌, ◌^◌, Bool, true, false, if◌then◌else◌, List, [], ◌∷◌, length, Option, Some, None, is_some, unwrap_or, Ok, Err, ⊤}
 use Rattle.std.specs.List.{list_all}
 use Rattle.st_base.specs.Config.{check}
@@ -28,7 +28,7 @@ use Rattle.st_rules.specs.ClientReplies.{new_session}
 use Rattle.st_rules.specs.ClientState.{ClientSession, Turn, is_again_due, note, say, with_cache, with_session, with_store}
 use Rattle.st_client_store.specs.Stores.{ServerStore}
 
--- The session in a step; where there is none, one that nothing speaks of.
+-- The session in a step; if there is none, one that nothing speaks of.
 abbrev pub session_of : Turn → ClientSession
 session_of t = unwrap_or t.here.session (new_session (record { 0 = 0 }) (record { 0 = 0 }))
 
@@ -58,8 +58,7 @@ AsksBelow most (Some s) = s.session.requests.next < most
 abbrev pub most_of : List Output → ℕ
 most_of out = 2 ^ 62 + length out
 
--- What always stands: the settings are checked; the parts are of one server; the numbers of commands were given; and no counter
--- is at its end.
+-- What always holds: the settings are checked; the parts are of one server; the numbers of commands were given; and no counter is at its end.
 pub record IsTurn (client : ClientId) (config : Config) (server : ServerId) (life : Life) (session : Option ServerSession) (store : ServerStore) (next : ℕ) (out : List Output) : Type 0 where
   pub checked : check config ≡ Ok tt
   pub node : HasNode server

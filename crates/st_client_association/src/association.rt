@@ -13,7 +13,8 @@ use st_operations::Operations;
 use std::alloc::{AllocError, Global};
 use std::marker::Model;
 
-/// What an association is made of. It stays where it is while a step takes the association and gives it back.
+/// What an association is made of. It stays where it is while a step takes the association and
+/// gives it back.
 #[derive(Drop)]
 pub(crate) struct AssociationParts {
     pub(crate) id: ClientId,
@@ -26,7 +27,8 @@ pub(crate) struct AssociationParts {
     pub(crate) lost: LostPages,
 }
 
-/// What a client has of one server. Contracts see the client, the settings, and the definitions' association.
+/// What a client has of one server. Contracts see the client, the settings, and the definitions'
+/// association.
 #[derive(Drop)]
 pub struct Association {
     pub(crate) here: Box<AssociationParts>,
@@ -56,7 +58,8 @@ impl Model for Association {
 }
 
 impl Association {
-    /// A client in this life at the server, without anything of it. The server's number is below 32,768.
+    /// A client in this life at the server, without anything of it. The server's number is below
+    /// 32,768.
     pub fn new(
         alloc: Global,
         id: ClientId,
@@ -90,7 +93,8 @@ impl Association {
         self.here.server
     }
 
-    /// A step at this association begins, with the pending operations, the next command's number and the outputs so far.
+    /// A step at this association begins, with the pending operations, the next command's number
+    /// and the outputs so far.
     pub fn enter(
         self,
         alloc: Global,
@@ -113,7 +117,8 @@ impl Association {
 }
 
 impl Turn {
-    /// The step leaves the association: it returns this, the pending operations, the next command's number and the outputs.
+    /// The step leaves the association: it returns this, the pending operations, the next command's
+    /// number and the outputs.
     pub fn leave(self) -> (Association, Operations, u64, Vec<Output>)
         ensures left { left_as result.0 result.1 result.2 result.3.items ≡ self }
         ensures counted { IsCounted result.0.here result.2 result.3.items }

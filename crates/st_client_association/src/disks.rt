@@ -82,7 +82,8 @@ impl Turn {
         self.submit_dirty(now, dirty, mapping)
     }
 
-    /// Changes a page, with this note. `false` where 64 others are dirty; then nothing changes. The bytes are shared.
+    /// Changes a page, with this note. `false` where 64 others are dirty; then nothing changes. The
+    /// bytes are shared.
     pub fn change_page(
         &mut self,
         now: Stamp,

@@ -58,7 +58,7 @@ impl Turn {
         self.here.lost.has(ino)
     }
 
-    /// The lost pages of a file are told, and forgotten.
+    /// The lost pages of a file are reported, and forgotten.
     #[tactic(auto, unfolding(st_rules::specs::Client::tell_lost))]
     pub fn tell_lost(&mut self, op: u32, ino: u32) -> Result<(), AllocError>
         ensures { OnOk result (self.new ≡ node.tell_lost self.old op ino) }
@@ -92,8 +92,8 @@ impl Turn {
         self.here.life = Life(self.here.life.0 + 1);
     }
 
-    /// A lease that is over is noted as lost; each dirty page joins the lost ones; all else but the pending operations is emptied, and
-    /// the next life begins.
+    /// A lease that is over is noted as lost; each dirty page joins the lost ones; all else but the
+    /// pending operations is emptied, and the next life begins.
     pub fn discard(&mut self, now: Stamp) -> Result<(), AllocError>
         requires session { has_session self.old ≡ true }
         requires over { lasts_here self.old.config now self.old.here ≡ false }

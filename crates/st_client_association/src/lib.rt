@@ -1,4 +1,5 @@
-//! A client's association with one server, and a step at it. `docs/PROTOCOL.md`, "The client", has the rules.
+//! A client's association with one server, and a step at it. `docs/PROTOCOL.md`, "The client", has
+//! the rules.
 #![tactic(auto)]
 
 mod association;

@@ -36,7 +36,7 @@ impl Turn {
         self.say(Output::Answer { op, answer })
     }
 
-    /// What stands in front of a message to the server.
+    /// What precedes a message to the server.
     fn header(&self, epoch: u64, number: u64, stamp: u64) -> Header
         ensures { result ≡ client.header_of self.now epoch number stamp }
     {

@@ -44,7 +44,7 @@ impl Turn {
         self.operations.split(test)
     }
 
-    /// An operation that just came is pending, behind the others.
+    /// An operation that just came is pending, after the others.
     pub fn enqueue(&mut self, op: u32, ask: Ask) -> Result<(), AllocError>
         requires { is_ask ask ≡ true }
         ensures { OnOk result (self.new ≡ client.keep (client.new_operation op ask) self.old) }
@@ -52,7 +52,7 @@ impl Turn {
         self.operations.push(op, ask)
     }
 
-    /// An operation stays pending, behind the others.
+    /// An operation stays pending, after the others.
     pub fn keep(&mut self, operation: Operation) -> Result<(), AllocError>
         requires { is_fit operation ≡ true }
         ensures { OnOk result (self.new ≡ client.keep operation self.old) }

@@ -113,7 +113,8 @@ impl Association {
         }
     }
 
-    /// Whether each pending operation of the server may do something there: with a session, or where a greeting is due.
+    /// Whether each pending operation of the server may do something there: with a session, or
+    /// where a greeting is due.
     pub fn takes_all(&self, now: Stamp, tick: bool) -> bool
         ensures { result ≡ takes_all self.now.config now tick self.now.here }
     {
@@ -138,7 +139,7 @@ fn is_renewing(phase: Phase) -> bool
     }
 }
 
-/// Whether a release is to be sent.
+/// Whether a release must be sent.
 #[tactic(auto, using(crate::proofs::Emptiness::any_first))]
 fn has_release(session: &Session) -> bool
     ensures { result ≡ client.is_any session.now.session.releases }

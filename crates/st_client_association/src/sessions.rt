@@ -51,7 +51,7 @@ impl Turn {
         self.session().is_condemned()
     }
 
-    /// Whether the locks are to be reasserted.
+    /// Whether the locks must be reasserted.
     pub fn is_due(&self) -> bool
         requires { has_session self.now ≡ true }
         ensures { result ≡ (session_of self.now).due }
@@ -83,7 +83,7 @@ impl Turn {
         self.session().is_demanded(ino)
     }
 
-    /// The wait for the file, if one was told.
+    /// The wait for the file, if one was reported.
     pub fn wait_of(&self, ino: u32) -> Option<LockWait>
         requires { has_session self.now ≡ true }
         ensures { result ≡ client.wait_of (session_of self.now).waits ino }
@@ -91,7 +91,8 @@ impl Turn {
         self.session().wait_of(ino)
     }
 
-    /// Whether a cut or a remove of the file was sent and not answered, by the outstanding request and these operations.
+    /// Whether a cut or a remove of the file was sent and not answered, by the outstanding request
+    /// and these operations.
     pub fn is_busy(&self, operations: &Operations, ino: u32) -> bool
         requires { has_session self.now ≡ true }
         ensures { result ≡ client.is_busy operations.now self.now.here.server (session_of self.now) ino }
@@ -163,7 +164,8 @@ impl Turn {
         self.queue_release(ino, g, to)
     }
 
-    /// A grant: above the greatest seen it is installed where there is a place for it, and else declined.
+    /// A grant: above the greatest seen it is installed where there is a place for it, and
+    /// otherwise declined.
     pub fn grant(&mut self, ino: u32, g: GrantNo, mode: Mode) -> Result<(), AllocError>
         requires { has_session self.old ≡ true }
         ensures { OnOk result (self.new ≡ client.with_session (replies.grant (session_of self.old) ino g mode) self.old) }
@@ -174,7 +176,7 @@ impl Turn {
         }
     }
 
-    /// A wait was told now, where the held mode is lower.
+    /// A wait was reported now, if the held mode is lower.
     pub fn queued(&mut self, ino: u32, mode: Mode, now: Stamp) -> Result<(), AllocError>
         requires { has_session self.old ≡ true }
         ensures { OnOk result (self.new ≡ client.with_session (replies.wait_unless_held (session_of self.old) ino mode now) self.old) }
@@ -208,7 +210,8 @@ impl Turn {
         }
     }
 
-    /// The lock of a demanded file is reduced to what is demanded. It returns the lock's grant and that mode. It does not allocate.
+    /// The lock of a demanded file is reduced to what is demanded. It returns the lock's grant and
+    /// that mode. It does not allocate.
     pub fn reduce_lock(&mut self, ino: u32) -> Option<(GrantNo, Mode)>
         requires { has_session self.old ≡ true }
         ensures { Reduces self.old self.new result ino }

@@ -12,8 +12,8 @@ use st_operations::Operations;
 use std::alloc::Global;
 use std::marker::Model;
 
-/// A step so far, at one server: what the client has of the server, its pending operations, and the outputs. Contracts see it as
-/// the definitions' turn.
+/// A step so far, at one server: what the client has of the server, its pending operations, and the
+/// outputs. Contracts see it as the definitions' turn.
 #[derive(Drop)]
 pub struct Turn {
     pub(crate) alloc: Global,

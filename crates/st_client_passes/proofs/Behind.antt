@@ -1,4 +1,4 @@
--- Operations that stayed pending so far stand in front of those that a pass keeps, and change nothing of it.
+-- Operations that stayed pending so far come before those that a pass keeps, and change nothing in it.
 use Rattle.std.proofs.Common.{◌≡◌, ℕ, Bool, true, false, if◌then◌else◌, List, [], ◌∷◌, ◌++◌, Option, Some, None, Ok, Err, refl, ap, ◌∙◌, append_assoc}
 use Rattle.std.specs.Prelude.{Result}
 use Rattle.st_base.specs.declared.ids.FileId.{FileId}
@@ -20,7 +20,7 @@ use Rattle.st_rules.specs.ClientPasses as passes
 use Rattle.st_rules.specs.ClientPasses.{submit_command, submit_read, sync, quiesce, change, change_by, change_page, write, fetch_mapped, fetch_at, fetch, patch_bytes, patch_at, patch, read_cached, read_known, read_uncached, read_at, read, serve_open, serve, operate_under, operate_by, operate_on, operate}
 use Rattle.st_rules.specs.ClientState.{ClientSession, Turn, is_of, is_open_file, is_sent, is_serving, file_of, keep, with_operations}
 
--- these operations stand in front of the pending ones
+-- these operations come before the pending ones
 abbrev pub behind : List Operation → Turn → Turn
 behind ks t = with_operations (ks ++ t.operations) t
 
@@ -129,7 +129,7 @@ module _ (ks : List Operation) where
   behind_on all t now o (asks.Cut f p) = behind_by all t now o t.here.session
   behind_on all t now o (asks.Name server ask) = behind_by all t now o t.here.session
 
-  -- an operation goes through the pass behind those that stayed as it does without them
+  -- an operation goes through the pass after those that stayed as it does without them
   pub behind_operate : (all : List Operation) (t : Turn) (now : Stamp) (o : Operation) → operate all (behind ks t) now o ≡ behind ks (operate all t now o)
   unfolding operate
   behind_operate all t now o = behind_either (is_of t.here.server o) _ _ _ _ (behind_on all t now o o.ask) (behind_keep o t)

@@ -1,4 +1,4 @@
--- Pages that are at hand, or not.
+-- Pages that are cached, or not.
 use Rattle.std.proofs.Common.{◌≡◌, ℕ, List, Option, Some, None, refl, sym, ap}
 use Rattle.std.specs.Prelude.{option_map}
 use Rattle.st_base.specs.declared.ids.FileId.{FileId}
@@ -13,7 +13,7 @@ use Rattle.st_rules.specs.ClientPasses.{change_page, fetch, patch_at, patch_byte
 use Rattle.st_rules.specs.ClientState.{Turn}
 use Rattle.st_rules.specs.FlatLog.{overlay}
 
--- a page that is not at hand is fetched for a patch
+-- a page that isn't cached is fetched for a patch
 pub patch_missing : (t : Turn) (o : Operation) (f : FileId) (p : PageNo) (at : ℕ) (bytes : List ℕ) (c : Option (List ℕ)) → None ≡ option_map (overlay at bytes) c → patch_at t o f p at bytes c ≡ fetch t o f p
 unfolding patch_at
 patch_missing t o f p at bytes None e = refl
@@ -23,7 +23,7 @@ pub missing : (at : ℕ) (bytes : List ℕ) (c : Option (List ℕ)) → None ≡
 missing at bytes None e = refl
 missing at bytes (Some old) e = cc
 
--- a page that is at hand is patched
+-- a page that is cached is patched
 pub patch_whole : (t : Turn) (o : Operation) (f : FileId) (p : PageNo) (at : ℕ) (bytes whole : List ℕ) (c : Option (List ℕ)) → Some whole ≡ option_map (overlay at bytes) c →
     patch_at t o f p at bytes c ≡ change_page t o f p whole (notes.Patched f p at bytes)
 unfolding patch_at patch_bytes

@@ -34,7 +34,7 @@ and_true false = refl
 
 -- Operations.
 
--- an operation that is no sync stays where there is no session
+-- an operation that isn't a sync stays if there is no session
 without_session : (all : List Operation) (now : Stamp) (t : Turn) (o : Operation) (ask : Ask) → has_session t ≡ false → is_sync ask ≡ false → operate_on all t now o ask ≡ keep o t
 unfolding operate_on
 without_session all now t o (asks.Sync f) h e = absurd (true≢false e)

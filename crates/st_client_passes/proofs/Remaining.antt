@@ -8,7 +8,7 @@ use Rattle.st_rules.specs.ClientState.{Turn, with_operations}
 use Rattle.st_client_passes.specs.PassConditions.{put_back}
 use Rattle.st_client_passes.proofs.Behind.{behind, behind_operate}
 
--- the operations before the place stayed pending, and those from it on are to go through the pass
+-- the operations before the place stayed pending, and those from it on still go through the pass
 abbrev pub remaining : List Operation → Stamp → ℕ → List Operation → Turn → Turn
 remaining sent now place all t = operate_each sent now (drop place all) (with_operations (take place all) t)
 
@@ -51,7 +51,7 @@ take_whole (x ∷ xs) (suc i) l = ap (λ zs. x ∷ zs) (take_whole xs i (omega a
 
 -- The pass.
 
--- a turn without pending operations, behind some
+-- a turn without pending operations, after some
 behind_none : (ks : List Operation) (t : Turn) → t.operations ≡ [] → behind ks t ≡ with_operations ks t
 behind_none ks t e = (λ i. with_operations (ks ++ e i) t) ∙ (λ i. with_operations (append-nil ks i) t)
 

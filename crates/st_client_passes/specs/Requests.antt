@@ -24,7 +24,7 @@ abbrev pub asked_at : Turn → Stamp → Option Operation → Option Wanted
 asked_at t now None = None
 asked_at t now (Some o) = asked_by t (session_of t) now o
 
--- what later ones ask, behind these
+-- what later ones ask, after these
 abbrev pub behind_all : List Operation → Option Asking → Option Asking
 behind_all [] a = a
 behind_all (o ∷ os) a = behind o (behind_all os a)

@@ -1,5 +1,5 @@
-//! What a client does at a server at the end of each step: its pending operations, reductions, writes, greeting and requests.
-//! `docs/PROTOCOL.md`, "The client", has the rules.
+//! What a client does at a server at the end of each step: its pending operations, reductions,
+//! writes, greeting and requests. `docs/PROTOCOL.md`, "The client", has the rules.
 #![tactic(auto)]
 
 mod greetings;

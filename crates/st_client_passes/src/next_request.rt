@@ -27,7 +27,8 @@ fn need(ask: &Ask) -> Mode
     }
 }
 
-/// Whether a lock is to be asked for: no wait is known, or its mode is lower, or it was told long ago.
+/// Whether a lock must be asked for: no wait is known, or its mode is lower, or it was reported
+/// long ago.
 fn is_wait_old(t: &Turn, now: Stamp, mode: Mode, wait: Option<LockWait>) -> bool
     ensures { result ≡ passes.is_wait_old t.now.config now mode wait }
 {
@@ -187,7 +188,7 @@ fn want_on(t: &Turn, now: Stamp, ask: &Ask, ino: u32) -> Result<Option<Wanted>, 
     }
 }
 
-/// An ask for a name that is no remove of a file.
+/// An ask for a name that doesn't remove a file.
 #[tactic(auto, unfolding(st_rules::specs::ClientPasses::want_name))]
 fn want_name(ask: &Ask) -> Result<Option<Wanted>, AllocError>
     ensures { IfOk result (λ w. w ≡ passes.want_name ask.now) }
@@ -220,7 +221,8 @@ fn want(t: &Turn, now: Stamp, ask: &Ask) -> Result<Option<Wanted>, AllocError>
     }
 }
 
-/// Whether the operation is of this server, was not sent, and is on a file that is neither demanded nor busy, or on none.
+/// Whether the operation is of this server, was not sent, and is on a file that is neither demanded
+/// nor busy, or on none.
 fn may_ask(t: &Turn, o: &Operation) -> bool
     requires { has_session t.now ≡ true }
     ensures { result ≡ passes.may_ask t.now (session_of t.now) o.now }

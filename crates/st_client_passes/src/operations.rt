@@ -210,7 +210,8 @@ fn operate_all(t: &mut Turn, now: Stamp) -> Result<(), AllocError>
     Ok(())
 }
 
-/// Operations. Where none of this server is pending, or only others than syncs without a session, all stay.
+/// Operations. Where none of this server is pending, or only others than syncs without a session,
+/// all stay.
 pub fn operations(t: &mut Turn, now: Stamp) -> Result<(), AllocError>
     ensures { OnOk result (t.new ≡ passes.operations now t.old) }
 {

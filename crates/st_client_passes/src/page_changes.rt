@@ -154,7 +154,7 @@ fn patch_bytes(
     change_page(t, now, o, file, page, whole, note)
 }
 
-/// The page's bytes are at hand, or are fetched.
+/// The page's bytes are cached, or are fetched.
 fn patch_at(
     t: &mut Turn,
     now: Stamp,

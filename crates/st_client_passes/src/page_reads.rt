@@ -46,7 +46,8 @@ fn fetch_at(t: &mut Turn, now: Stamp, file: FileId, page: PageNo) -> Result<(), 
     }
 }
 
-/// A page that is mapped and not at hand is read from its disk, unless that is under way. The operation stays pending.
+/// A page that is mapped and not cached is read from its disk, unless that is under way. The
+/// operation stays pending.
 #[tactic(auto, unfolding(st_rules::specs::ClientPasses::fetch))]
 pub fn fetch(
     t: &mut Turn,

@@ -12,8 +12,9 @@ use st_base::Stamp;
 use st_client_association::Turn;
 use std::alloc::AllocError;
 
-/// What is done at a server at the end of a step: operations, reductions, writes, greeting, requests. `tick` says whether the
-/// input of the step was one. The lease at the server is not over.
+/// What is done at a server at the end of a step: operations, reductions, writes, greeting,
+/// requests. `tick` says whether the input of the step was one. The lease at the server is not
+/// over.
 #[tactic(auto, unfolding(st_rules::specs::ClientPasses::passes))]
 pub fn passes(t: &mut Turn, now: Stamp, tick: bool) -> Result<(), AllocError>
     requires lasting { lasts_here t.old.config now t.old.here ≡ true }

@@ -6,7 +6,8 @@ use st_base::PageNo;
 use st_messages::Body;
 use std::marker::Model;
 
-/// The body of a request, whether the operation itself is sent with it, and the file and page from which on it cuts.
+/// The body of a request, whether the operation itself is sent with it, and the file and page from
+/// which on it cuts.
 #[derive(Drop)]
 pub struct Wanted {
     pub body: Body,

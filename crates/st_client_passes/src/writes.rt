@@ -43,7 +43,8 @@ fn is_cut_wanted(t: &Turn, ino: u32) -> bool
     t.mode(ino).covers(Mode::X) && t.operations().any(&cut)
 }
 
-/// Whether the file is demanded, has a pending sync, or has a pending unsent cut or remove and an exclusive lock.
+/// Whether the file is demanded, has a pending sync, or has a pending unsent cut or remove and an
+/// exclusive lock.
 fn is_wanted(t: &Turn, ino: u32) -> bool
     requires { has_session t.now ≡ true }
     ensures { result ≡ passes.is_wanted t.now (session_of t.now) ino }
@@ -91,7 +92,7 @@ fn is_due(t: &Turn, now: Stamp, tick: bool, page: &DirtyPage) -> bool
     }
 }
 
-/// Whether the page is to be written now.
+/// Whether the page must be written now.
 fn is_writable(t: &Turn, now: Stamp, tick: bool, page: &DirtyPage) -> bool
     requires { has_session t.now ≡ true }
     ensures { result ≡ passes.is_writable t.now (session_of t.now) now tick page.now }
@@ -116,7 +117,8 @@ fn write_out(t: &mut Turn, now: Stamp, ino: u32, page: PageNo) -> Result<(), All
     }
 }
 
-/// Whether the dirty page at a place is to be written now. It is not where no page of the place is dirty.
+/// Whether the dirty page at a place must be written now. It isn't if no page of the place is
+/// dirty.
 fn is_place_due(t: &Turn, now: Stamp, tick: bool, ino: u32, page: PageNo) -> bool
     requires { has_session t.now ≡ true }
     ensures { result ≡ option_map_or (passes.is_writable t.now (session_of t.now) now tick) (pages.dirty_of t.now.here.store.pages ino page) false }

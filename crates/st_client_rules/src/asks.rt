@@ -17,7 +17,7 @@ fn enqueue(turn: &mut Turn, op: u32, ask: Ask) -> Result<(), AllocError>
     turn.enqueue(op, ask)
 }
 
-/// A sync is told lost pages at once.
+/// A sync is answered with lost pages at once.
 #[tactic(auto, unfolding(st_rules::specs::Client::take_sync))]
 fn take_sync(turn: &mut Turn, op: u32, ask: Ask, file: FileId) -> Result<(), AllocError>
     requires { is_ask ask ≡ true }

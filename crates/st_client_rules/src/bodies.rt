@@ -1,4 +1,5 @@
-// Bodies of messages: which replies are replies to a request, and the file and the page of a request.
+// Bodies of messages: which replies are replies to a request, and the file and the page of a
+// request.
 ghost use Rattle.std.specs.Prelude.{◌≡◌};
 ghost use Rattle.st_rules.specs.ClientReplies as replies;
 ghost use Rattle.st_rules.specs.ClientState as client;
@@ -69,7 +70,7 @@ pub fn is_refusal(body: &Body) -> bool
     }
 }
 
-/// Whether a file or a directory is to be removed.
+/// Whether a file or a directory must be removed.
 fn removes(op: &NameOp) -> bool
     ensures { result ≡ client.removes op.now }
 {

@@ -39,7 +39,8 @@ fn found_under(
     }
 }
 
-/// What a read found: the block's bytes where its tag is that of the known mapping, and else zeros. The bytes are shared.
+/// What a read found: the block's bytes where its tag is that of the known mapping, and otherwise
+/// zeros. The bytes are shared.
 #[tactic(auto, unfolding(st_rules::specs::ClientPages::found, st_rules::specs::ClientPages::found_at))]
 fn found(
     t: &Turn,
@@ -173,7 +174,8 @@ fn finish_command(
     requires outstanding { pages.command_of t.old.here.store.commands c.number ≡ Some c }
     ensures { OnOk result (t.new ≡ rules.finish_command t.old c ok block.now) }
 {
-    // For its clauses `matched` and `apart`: no other outstanding command writes the page, unless it is not dirty.
+    // For its clauses `matched` and `apart`: no other outstanding command writes the page, unless
+    // it is not dirty.
     let _c = t.command(c.number);
     let version = t.version(c.ino, c.page);
     let ended = t.end_command(c.number, ok, version);
@@ -217,8 +219,8 @@ fn finish_by(
     }
 }
 
-/// A command of this number ended, where it is outstanding at this server: it failed (`None`), it wrote its block
-/// (`Some(None)`), or it read this tag and these bytes.
+/// A command of this number ended, where it is outstanding at this server: it failed (`None`), it
+/// wrote its block (`Some(None)`), or it read this tag and these bytes.
 #[tactic(auto, unfolding(st_rules::specs::Client::finish, st_rules::specs::Client::finish_at))]
 pub fn finish(
     t: &mut Turn,

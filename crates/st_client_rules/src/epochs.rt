@@ -52,7 +52,7 @@ fn welcome(turn: &mut Turn, now: Stamp, epoch: Epoch, stamp: Stamp) -> Result<()
     }
 }
 
-/// Without a session every message but a welcome is passed over.
+/// Without a session every message but a welcome is ignored.
 #[tactic(auto, unfolding(st_rules::specs::ClientReplies::without_session))]
 pub fn without_session(
     turn: &mut Turn,

@@ -1,5 +1,5 @@
-//! What a client does with a server's messages, with asks of applications, at the ends of disk commands, and when a lease is over.
-//! `docs/PROTOCOL.md`, "The client", has the rules.
+//! What a client does with a server's messages, with asks of applications, at the ends of disk
+//! commands, and when a lease is over. `docs/PROTOCOL.md`, "The client", has the rules.
 #![tactic(auto)]
 
 mod asks;

@@ -11,7 +11,7 @@ use st_operations::{OfServer, is_sent};
 use st_rules::Operation;
 use std::alloc::AllocError;
 
-/// A sync whose file has lost pages is told them, and another one is quiesced.
+/// A sync whose file has lost pages is answered with them, and another one is quiesced.
 #[tactic(auto, unfolding(st_rules::specs::Client::end_sync))]
 fn end_sync(turn: &mut Turn, o: &Operation, file: FileId) -> Result<(), AllocError>
     ensures { OnOk result (turn.new ≡ client.end_sync turn.old o.now file) }
@@ -84,7 +84,8 @@ fn lose_over(turn: &mut Turn, now: Stamp) -> Result<(), AllocError>
     }
 }
 
-/// The loss at a server: where a session's lease is over, everything that rested on it is discarded.
+/// The loss at a server: where a session's lease is over, everything that rested on it is
+/// discarded.
 #[tactic(auto, unfolding(st_rules::specs::Client::lose, st_rules::specs::Client::lose_by))]
 pub fn lose(turn: &mut Turn, now: Stamp) -> Result<(), AllocError>
     ensures { OnOk result (turn.new ≡ client.lose now turn.old) }

@@ -34,7 +34,8 @@ fn condemned(turn: &mut Turn, now: Stamp) -> Result<(), AllocError>
     Ok(())
 }
 
-/// A refusal of the session's epoch: some condemn the lease, two are passed over, and the others are replies.
+/// A refusal of the session's epoch: some condemn the lease, two are ignored, and the others are
+/// replies.
 fn nack(
     turn: &mut Turn,
     now: Stamp,
@@ -171,7 +172,8 @@ fn is_received(turn: &Turn, now: Stamp, h: Header) -> bool
     h.from == turn.node() && (h.life == turn.life().0 && h.stamp <= now.0)
 }
 
-/// A message, at a server: whether it is from there, and what it does. The lease is not over at this moment, which is at most 2^62.
+/// A message, at a server: whether it is from there, and what it does. The lease is not over at
+/// this moment, which is at most 2^62.
 #[tactic(auto, unfolding(st_rules::specs::ClientReplies::receive_at))]
 pub fn receive_at(turn: &mut Turn, now: Stamp, h: Header, body: &Body) -> Result<(), AllocError>
     requires lasting { lasts_here turn.old.config now turn.old.here ≡ true }

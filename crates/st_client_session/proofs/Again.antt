@@ -46,7 +46,7 @@ asks_again life epoch r new m now u e = by r.requests.asked (e ∙ ap (λ o. aga
     by None e = none m e
     by (Some q) e = due q (is_again_due r.retry now q) refl m e
 
--- what always stands of a session stands after that
+-- the invariant of a session holds after that
 pub session_again : (life : Life) (epoch : Epoch) (date : Stamp) (condemned : Bool) (lease : ServerLease) (r new : ServerRequests) (locks : ServerLocks) (m : Option Message) (now : Stamp) →
     Asks life epoch r new m now r.requests.asked → IsSession life epoch date condemned lease r locks → IsSession life epoch date condemned lease new locks
 session_again life epoch date condemned lease r new locks m now a i = by m r.requests.asked i.under a
@@ -59,7 +59,7 @@ session_again life epoch date condemned lease r new locks m now a i = by m r.req
         subst (λ (z : ServerRequests). IsSession life epoch date condemned lease z locks) (sym e.2)
         (record { held = i.held; asked_there = i.asked_there; locked_there = i.locked_there; retries = i.retries; under = u })
 
--- and what is told is what the session's parties say
+-- and what is returned is what the session's parties say
 pub told_again : (of : Parties) (s : ClientSession) (r new : ServerRequests) (m : Option Message) (now : Stamp) (o : Option Request) →
     r.client ≡ of.client → r.server ≡ of.server → r.retry ≡ of.config.retry → r.requests ≡ s.requests → Asks of.life s.epoch r new m now o →
     Again (record { of = of; session = s }) (record { of = record of { client = new.client }; session = record s { requests = new.requests } }) m now o

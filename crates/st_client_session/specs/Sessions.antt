@@ -1,4 +1,4 @@
--- A client's session with a server, as its parties see it; what always stands of it, and the messages of its requests.
+-- A client's session with a server, as its parties see it; what always holds of it, and the messages of its requests.
 use Rattle.std.specs.Prelude.{◌≡◌, ℕ, Bool, true, false, not, [], ◌∷◌, Option, Some, None}
 use Rattle.st_base.specs.declared.config.Config.{Config}
 use Rattle.st_base.specs.declared.ids.ClientId.{ClientId}
@@ -44,8 +44,7 @@ abbrev pub under_of : Life → Epoch → Option Request → Option Under
 under_of life epoch None = None
 under_of life epoch (Some q) = Some (record { life = life; epoch = epoch })
 
--- What always stands: the lease is held, the parts are of one server and one client, and the outstanding request was asked in
--- this life and epoch.
+-- What always holds: the lease is held, the parts are of one server and one client, and the outstanding request was asked in this life and epoch.
 pub record IsSession (life : Life) (epoch : Epoch) (date : Stamp) (condemned : Bool) (lease : ServerLease) (requests : ServerRequests) (locks : ServerLocks) : Type 0 where
   pub held : lease.lease ≡ Some (lease_of date condemned)
   pub asked_there : requests.server ≡ lease.server
@@ -57,7 +56,7 @@ pub record IsSession (life : Life) (epoch : Epoch) (date : Stamp) (condemned : B
 abbrev pub lasts : ServerSession → Stamp → Bool
 lasts x now = not (leases.must_discard (leases.standing_of x.of.config x.session.lease now))
 
--- what stands in front of a request of the session
+-- what precedes a request of the session
 abbrev pub header : ServerSession → ℕ → Stamp → Header
 header x number now = record { from = x.of.client.0; to = server_node x.of.server; life = x.of.life.0; epoch = x.session.epoch.0; number = number; stamp = now.0 }
 
@@ -69,7 +68,7 @@ message x number body now = record { header = header x number now; body = body }
 abbrev pub again : Request → Stamp → ServerSession → ServerSession
 again q now x = with_session (record x.session { requests = asked_again q now x.session.requests }) x
 
--- Asking again: the message of the outstanding request where it was last sent long ago, and else none.
+-- Asking again: the message of the outstanding request where it was last sent long ago, and otherwise none.
 abbrev pub Again : ServerSession → ServerSession → Option Message → Stamp → Option Request → Type 0
 Again old new None now None = new ≡ old
 Again old new (Some m) now None = ⊥

@@ -1,4 +1,4 @@
-// The waits that a client was told, and the releases that it is to send.
+// The waits that were reported to a client, and the releases that it is to send.
 ghost use Rattle.std.specs.Prelude.{◌≡◌, ◌<◌, ◌≤◌, ◌++◌, ◌∷◌, [], find, vec_capacity, vec_len};
 ghost use Rattle.std.specs.List.{list_any};
 ghost use Rattle.st_rules.specs.ClientState as client;
@@ -6,7 +6,7 @@ ghost use Rattle.st_rules.specs.ClientState as client;
 use st_base::{GrantNo, Mode};
 use st_rules::{LockWait, Release};
 
-/// The wait for the file, if one was told.
+/// The wait for the file, if one was reported.
 pub fn wait_of(waits: &[LockWait], ino: u32) -> Option<LockWait>
     ensures { result ≡ client.wait_of waits.now ino }
 {
@@ -31,7 +31,7 @@ pub fn put_wait(waits: &mut Vec<LockWait>, wait: LockWait)
     waits.push_reserved(wait);
 }
 
-/// Whether the release of the file under this grant, to this mode, is to be sent.
+/// Whether the release of the file under this grant, to this mode, must be sent.
 pub fn has_release(releases: &[Release], ino: u32, g: GrantNo, to: Mode) -> bool
     ensures { result ≡ list_any (client.is_release ino g to) releases.now }
 {

@@ -56,14 +56,14 @@ impl Session {
         self.locks.all()
     }
 
-    /// The wait for the file, if one was told.
+    /// The wait for the file, if one was reported.
     pub fn wait_of(&self, ino: u32) -> Option<LockWait>
         ensures { result ≡ client.wait_of self.now.session.waits ino }
     {
         wait_of(&self.waits, ino)
     }
 
-    /// The first release that is to be sent.
+    /// The first release that must be sent.
     pub fn first_release(&self) -> Option<Release>
         ensures { result ≡ slice_get self.now.session.releases 0 }
     {
@@ -132,8 +132,8 @@ impl Session {
         }
     }
 
-    /// A grant: above the greatest seen it is installed where there is a place for it, and else declined. If the call runs out
-    /// of memory, nothing changes.
+    /// A grant: above the greatest seen it is installed where there is a place for it, and
+    /// otherwise declined. If the call runs out of memory, nothing changes.
     #[tactic(auto, unfolding(st_rules::specs::ClientReplies::grant))]
     pub fn grant(&mut self, ino: u32, g: GrantNo, mode: Mode) -> Result<(), AllocError>
         ensures ok { OnOk result (self.new ≡ with_session (replies.grant self.old.session ino g mode) self.old) }
@@ -147,7 +147,8 @@ impl Session {
         }
     }
 
-    /// A wait is known, in place of an earlier one for the file. If the call runs out of memory, nothing changes.
+    /// A wait is known, in place of an earlier one for the file. If the call runs out of memory,
+    /// nothing changes.
     #[tactic(auto, unfolding(st_rules::specs::ClientReplies::wait_told))]
     fn wait_told(&mut self, ino: u32, mode: Mode, now: Stamp) -> Result<(), AllocError>
         ensures ok { OnOk result (self.new ≡ with_session (replies.wait_told self.old.session ino mode now) self.old) }
@@ -159,7 +160,8 @@ impl Session {
         Ok(())
     }
 
-    /// A wait was told now, where the held mode is lower. If the call runs out of memory, nothing changes.
+    /// A wait was reported now, if the held mode is lower. If the call runs out of memory, nothing
+    /// changes.
     #[tactic(auto, unfolding(st_rules::specs::ClientReplies::wait_unless_held))]
     pub fn queued(&mut self, ino: u32, mode: Mode, now: Stamp) -> Result<(), AllocError>
         ensures ok { OnOk result (self.new ≡ with_session (replies.wait_unless_held self.old.session ino mode now) self.old) }
@@ -183,15 +185,15 @@ impl Session {
         Ok(asked)
     }
 
-    /// Whether a release of the file under this grant is to be sent or outstanding.
+    /// Whether a release of the file under this grant must be sent or outstanding.
     fn has_release(&self, ino: u32, g: GrantNo) -> bool
         ensures { result ≡ replies.has_release self.now.session ino g }
     {
         has_release(&self.releases, ino, g, Mode::None) || self.is_releasing(ino, g, Mode::None)
     }
 
-    /// The release of a file without a lock goes last, unless it is there or outstanding. If the call runs out of memory, nothing
-    /// changes.
+    /// The release of a file without a lock goes last, unless it is there or outstanding. If the
+    /// call runs out of memory, nothing changes.
     #[tactic(auto, unfolding(st_rules::specs::ClientReplies::release_unheld))]
     pub fn release_unheld(&mut self, ino: u32, g: GrantNo) -> Result<(), AllocError>
         ensures ok { OnOk result (self.new ≡ with_session (replies.release_unheld self.old.session ino g) self.old) }
@@ -205,7 +207,8 @@ impl Session {
         }
     }
 
-    /// The lock of a demanded file is reduced to what is demanded. It returns the lock's grant and that mode. It does not allocate.
+    /// The lock of a demanded file is reduced to what is demanded. It returns the lock's grant and
+    /// that mode. It does not allocate.
     pub fn reduce(&mut self, ino: u32) -> Option<(GrantNo, Mode)>
         ensures given { result ≡ (locks.reduce self.old.session.locks ino).given }
         ensures left { self.new ≡ with_session (client.with_cache (locks.reduce self.old.session.locks ino).locks self.old.session) self.old }

@@ -1,4 +1,5 @@
-// The lease of a session: it begins, is renewed, condemned and lost; and what its permits are spent for.
+// The lease of a session: it begins, is renewed, condemned and lost; and what its permits are spent
+// for.
 ghost use Rattle.std.specs.Prelude.{◌≡◌, ◌+◌, ◌<◌, ◌≤◌, ◌^◌, true, false, Some, None, IsOk, OnOk, OnErr, is_some};
 ghost use Rattle.st_base.specs.Config as settings;
 ghost use Rattle.st_base.specs.Nodes.{HasNode};
@@ -102,7 +103,7 @@ impl Session {
         }
     }
 
-    /// Where the lease stands, with what that permits.
+    /// The lease's phase, with what that permits.
     fn settle(&mut self, now: Stamp) -> Standing
         ensures kind { kind_of result ≡ leases.standing_of self.old.of.config self.old.session.lease now }
         ensures server { server_of result ≡ self.old.of.server }

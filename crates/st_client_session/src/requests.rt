@@ -43,7 +43,7 @@ fn end_asked(requests: &mut Requests) -> Option<Body>
 }
 
 impl Session {
-    /// The number and the body of the outstanding request, or `None` where there is none.
+    /// The number and the body of the outstanding request, or `None` if there is none.
     pub fn asked(&self) -> Option<(u64, &Body)>
         ensures { option_map copied result ≡ option_map shown self.now.session.requests.asked }
     {
@@ -74,8 +74,8 @@ impl Session {
         }
     }
 
-    /// Asks with the next number; the file that is cut or removed is busy. It returns the message to send. If the call runs out of
-    /// memory, nothing changes.
+    /// Asks with the next number; the file that is cut or removed is busy. It returns the message
+    /// to send. If the call runs out of memory, nothing changes.
     #[tactic(auto, unfolding(st_rules::specs::ClientState::asking))]
     pub fn ask(
         &mut self,
@@ -104,8 +104,8 @@ impl Session {
         body
     }
 
-    /// A newer epoch begins: requests, waits, releases and demands are forgotten, and the locks are to be reasserted. It does not
-    /// allocate.
+    /// A newer epoch begins: requests, waits, releases and demands are forgotten, and the locks
+    /// must be reasserted. It does not allocate.
     pub fn begin_epoch(&mut self, epoch: Epoch)
         ensures { self.new ≡ with_session (replies.in_epoch epoch self.old.session) self.old }
     {
@@ -119,8 +119,9 @@ impl Session {
         self.releases.clear();
     }
 
-    /// Asks again: the message of the outstanding request, sent now, or `None` where none is outstanding or it was last sent a
-    /// short time ago. If the call runs out of memory, nothing changes.
+    /// Asks again: the message of the outstanding request, sent now, or `None` where none is
+    /// outstanding or it was last sent a short time ago. If the call runs out of memory, nothing
+    /// changes.
     pub fn again(&mut self, now: Stamp) -> Result<Option<Message>, AllocError>
         ensures ok { IfOk result (λ m. Again self.old self.new m now self.old.session.requests.asked) }
         ensures err { OnErr result (self.new ≡ self.old) }

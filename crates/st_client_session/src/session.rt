@@ -118,7 +118,7 @@ impl Session {
         self.epoch
     }
 
-    /// Whether the locks are to be reasserted.
+    /// Whether the locks must be reasserted.
     pub fn is_due(&self) -> bool
         ensures { result ≡ self.now.session.due }
     {

@@ -18,7 +18,7 @@ use Rattle.st_rules.specs.declared.client.WriteRefusal.TheVariants as writing
 use Rattle.st_rules.specs.declared.pages.DirtyPage.{DirtyPage}
 use Rattle.st_client_store.specs.Stores.{AreMatched, agree, is_matched}
 
--- where a command of a page is no read of it
+-- where a command of a page isn't a read of it
 write_there : (b x : Bool) → x ≡ true → not (not b && x) ≡ true → b ≡ true
 write_there true x e f = refl
 write_there false x e f = cc

@@ -1,4 +1,4 @@
--- All that a client has of a server's disks, as its server sees it; what always stands of it, and what each call leaves.
+-- All that a client has of a server's disks, as its server sees it; what always holds of it, and what each call leaves.
 use Rattle.std.specs.Prelude.{◌≡◌, ℕ, Bool, true, false, not, List, find, is_some, Result, Ok, Err}
 use Rattle.std.specs.List.{list_all}
 use Rattle.st_base.specs.declared.ids.PageNo.{PageNo}
@@ -35,7 +35,7 @@ agree false b = not b
 abbrev pub is_matched : List DirtyPage → PageCommand → Bool
 is_matched dirty c = agree (is_write c.kind) (is_some (find (is_dirty_of c.ino c.page) dirty))
 
--- What always stands: a page with an outstanding write is dirty, and one with an outstanding read is not.
+-- What always holds: a page with an outstanding write is dirty, and one with an outstanding read is not.
 abbrev pub AreMatched : List DirtyPage → List PageCommand → Type 0
 AreMatched dirty cs = list_all (is_matched dirty) cs ≡ true
 
@@ -43,7 +43,7 @@ AreMatched dirty cs = list_all (is_matched dirty) cs ≡ true
 abbrev pub changed : ℕ → PageNo → Pages → ServerStore → ServerStore
 changed ino p ps s = record s { store = record s.store { pages = ps; commands = pages.forget_read s.store.commands ino p } }
 
--- a change answers as its definition; where it refuses and where memory runs out nothing changes
+-- a change answers as its definition; where it refuses and if memory runs out nothing changes
 abbrev pub Changes : ServerStore → ServerStore → Result (Unit {0}) CacheRefusal → ℕ → PageNo → Result Pages WriteRefusal → Type 0
 Changes old new (Ok v) ino p machine = record { written : machine ≡ Ok new.store.pages; left : new ≡ changed ino p new.store.pages old }
 Changes old new (Err DirtyFull) ino p machine = record { full : machine ≡ Err writing.DirtyFull; same : new ≡ old }

@@ -1,6 +1,7 @@
-//! All that a client has of a server's disks: what it knows of the places of pages, the clean and the dirty pages, the outstanding
-//! disk commands, and the pages that a lease loss lost and of which no application was told yet. `docs/PROTOCOL.md`, "Leases, locks,
-//! pages and commands", has the rules.
+//! All that a client has of a server's disks: what it knows of the places of pages, the clean and
+//! the dirty pages, the outstanding disk commands, and the pages that a lease loss lost and that no
+//! application was told about yet. `docs/PROTOCOL.md`, "Leases, locks, pages and commands", has the
+//! rules.
 #![tactic(auto)]
 
 mod lost_pages;

@@ -14,7 +14,8 @@ use st_rules::{CleanPage, DirtyPage, Ended, IoKind, KnownExtent, MappedBlock};
 use std::alloc::{AllocError, Global};
 use std::marker::Model;
 
-/// All that a client has of one server's disks. Contracts see the server and the definitions' store.
+/// All that a client has of one server's disks. Contracts see the server and the definitions'
+/// store.
 #[derive(Drop)]
 pub struct Store {
     extents: KnownExtents,
@@ -115,21 +116,22 @@ impl Store {
         self.pages.version(ino, page)
     }
 
-    /// The number of the page's outstanding write, or `None` where it has none.
+    /// The number of the page's outstanding write, or `None` if it has none.
     pub fn write_on(&self, ino: u32, page: PageNo) -> Option<u64>
         ensures { result ≡ option_map pages.number_of_command (pages.write_on self.now.store.commands ino page) }
     {
         self.commands.write_on(ino, page)
     }
 
-    /// The file, the page and the kind of the command of this number, or `None` where it is not outstanding.
+    /// The file, the page and the kind of the command of this number, or `None` where it is not
+    /// outstanding.
     pub fn command(&self, number: u64) -> Option<(u32, PageNo, IoKind)>
         ensures { result ≡ option_map told (pages.command_of self.now.store.commands number) }
     {
         self.commands.of(number)
     }
 
-    /// The number and the kind of the page's command, or `None` where it has none.
+    /// The number and the kind of the page's command, or `None` if it has none.
     pub fn command_on(&self, ino: u32, page: PageNo) -> Option<(u64, IoKind)>
         ensures command { result ≡ option_map told_on (pages.command_on self.now.store.commands ino page) }
         ensures apart { AreApart self.now.store.commands }
@@ -195,7 +197,8 @@ impl Store {
         self.extents.know_rows(ino, rows)
     }
 
-    /// The file is forgotten from this page on: its clean pages, and what is known of them. It does not allocate.
+    /// The file is forgotten from this page on: its clean pages, and what is known of them. It does
+    /// not allocate.
     #[tactic(auto, unfolding(st_rules::specs::ClientPages::forget_from, st_rules::specs::ClientPages::drop_from))]
     pub fn forget_from(&mut self, ino: u32, page: PageNo)
         ensures { self.new ≡ with_store (pages.forget_from self.old.store ino page) self.old }
@@ -204,7 +207,8 @@ impl Store {
         self.pages.drop_from(ino, page);
     }
 
-    /// A page that is read becomes the newest clean one, where it is clean and not dirty. It does not allocate.
+    /// A page that is read becomes the newest clean one, where it is clean and not dirty. It does
+    /// not allocate.
     pub fn use_page(&mut self, permit: &UsePermit, ino: u32, page: PageNo)
         requires { permit.now.server ≡ self.old.server }
         ensures { self.new ≡ with_pages (pages.use_page self.old.store.pages ino page) self.old }
@@ -212,8 +216,8 @@ impl Store {
         self.pages.use_page(permit, ino, page);
     }
 
-    /// Changes a page: it is dirty with these bytes, and an outstanding read of it is forgotten. It is refused exactly where 64
-    /// other pages are dirty. The bytes are shared.
+    /// Changes a page: it is dirty with these bytes, and an outstanding read of it is forgotten. It
+    /// is refused exactly where 64 other pages are dirty. The bytes are shared.
     pub fn change(
         &mut self,
         permit: &UsePermit,
@@ -234,8 +238,9 @@ impl Store {
         }
     }
 
-    /// A read of a page becomes outstanding under this number, which no outstanding command has. The page is not dirty, and is
-    /// not being read. The permit is spent also where memory runs out; then nothing changes.
+    /// A read of a page becomes outstanding under this number, which no outstanding command has.
+    /// The page is not dirty, and is not being read. The permit is spent also if memory runs out;
+    /// then nothing changes.
     pub fn begin_read(
         &mut self,
         permit: SubmitPermit<'_>,
@@ -255,8 +260,9 @@ impl Store {
         Ok(())
     }
 
-    /// A write of this version of a dirty page becomes outstanding under this number, which no outstanding command has. The page
-    /// is not being written. The permit is spent also where memory runs out; then nothing changes.
+    /// A write of this version of a dirty page becomes outstanding under this number, which no
+    /// outstanding command has. The page is not being written. The permit is spent also if memory
+    /// runs out; then nothing changes.
     pub fn begin_write(
         &mut self,
         permit: SubmitPermit<'_>,
@@ -277,14 +283,16 @@ impl Store {
         Ok(())
     }
 
-    /// A command ended, as done or as failed; `version` is that of its page now. It is outstanding no more. It does not allocate.
+    /// A command ended, as done or as failed; `version` is that of its page now. It is outstanding
+    /// no more. It does not allocate.
     pub fn done(&mut self, number: u64, ok: bool, version: u64) -> Ended
         ensures { Ends self.old self.new result (pages.end_command self.old.store.commands number ok version) }
     {
         self.commands.done(number, ok, version)
     }
 
-    /// A page that is not dirty becomes the newest clean one with these bytes. The bytes are shared.
+    /// A page that is not dirty becomes the newest clean one with these bytes. The bytes are
+    /// shared.
     #[tactic(auto, unfolding(st_rules::specs::ClientPages::fill))]
     pub fn fill(&mut self, ino: u32, page: PageNo, bytes: &PageBytes) -> Result<(), AllocError>
         requires { pages.dirty_of self.old.store.pages ino page ≡ None }
@@ -295,7 +303,8 @@ impl Store {
         Ok(())
     }
 
-    /// The dirty page becomes the newest clean one, where it is dirty. No command for it is outstanding. The bytes are shared.
+    /// The dirty page becomes the newest clean one, where it is dirty. No command for it is
+    /// outstanding. The bytes are shared.
     pub fn harden(&mut self, ino: u32, page: PageNo) -> Result<(), AllocError>
         requires { pages.command_on self.old.store.commands ino page ≡ None }
         ensures ok { OnOk result (self.new ≡ with_pages (pages.harden self.old.store.pages ino page) self.old) }
@@ -305,7 +314,8 @@ impl Store {
         Ok(())
     }
 
-    /// The command is the last one that failed for the page, where it is dirty. It does not allocate.
+    /// The command is the last one that failed for the page, where it is dirty. It does not
+    /// allocate.
     pub fn fail(&mut self, ino: u32, page: PageNo, command: u64)
         ensures { self.new ≡ with_pages (pages.fail self.old.store.pages ino page command) self.old }
     {

@@ -8,7 +8,7 @@ use Rattle.st_rules.specs.declared.lease.Excess.{Excess}
 use Rattle.st_rules.specs.Leases.{drift_after, excess_at, excess_from, excess_in_row, excess_of, excess_or, first_excess, raise_row, raise_rows}
 use Rattle.st_clock.specs.Drifts.{AllLow, IsLow, IsWide}
 
--- no number above a limit is none in the first place and none behind it
+-- if no number is above a limit, then neither is the first one nor any after it
 split_at : (b : Bool) (m n e : ℕ) (rest : Option Excess) → (if b then excess_of m n e else rest) ≡ None → (b ≡ false) × (rest ≡ None)
 unfolding excess_of
 split_at true m n e rest h = absurd (cc)

@@ -34,7 +34,7 @@ abbrev pub after_step : Result Unit Excess → List (List ℕ) → Result (List 
 after_step (Ok u) drift = Ok drift
 after_step (Err x) drift = Err x
 
--- the numbers after these advances, one after the other
+-- the numbers after these advances, one after another
 abbrev pub drift_over : Config → List (List ℕ) → List (List ℕ) → List (List ℕ)
 drift_over k drift [] = drift
 drift_over k drift (steps ∷ rest) = drift_over k (drift_after drift steps k.num k.den) rest
@@ -54,7 +54,7 @@ pub record IsExcess (k : Config) (advances : List (List ℕ)) (m n e : ℕ) : Ty
   pub split : advances ≡ before ++ during
   pub reached : e + k.num * gain n during ≡ k.den * gain m during
 
--- one pair stands before another: by the first node, and then by the second
+-- one pair comes before another: by the first node, and then by the second
 abbrev pub Before : ℕ → ℕ → ℕ → ℕ → Type 0
 Before m n p q = (m < p) ⊎ ((m ≡ p) × (n < q))
 

@@ -1,4 +1,4 @@
--- Clocks: the readings that are to come, where a clock tells them.
+-- Clocks: the future readings, if a clock knows them.
 use Rattle.std.specs.Prelude.{◌≡◌, ◌≤◌, ◌^◌, ℕ, List, [], ◌∷◌, slice_get, Some, None}
 use Rattle.std.specs.declared.option.Option.{Option}
 use Rattle.st_base.specs.declared.ids.Stamp.{Stamp}

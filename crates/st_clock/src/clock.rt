@@ -21,8 +21,8 @@ pub trait Clock {
         ensures told { Tells (readings self.old) (readings self.new) result };
 }
 
-/// A clock in memory, which returns the readings of a list one after another and then repeats the last one. Contracts see it
-/// as its last reading and those to come.
+/// A clock in memory, which returns the readings of a list one after another and then repeats the
+/// last one. Contracts see it as its last reading and those to come.
 #[derive(Drop)]
 pub struct MemoryClock {
     readings: Vec<Stamp>,
@@ -43,7 +43,8 @@ impl Model for MemoryClock {
 }
 
 impl MemoryClock {
-    /// A clock that returns these readings, in ticks, and then repeats the last one. They never fall, and none is above 2^62.
+    /// A clock that returns these readings, in ticks, and then repeats the last one. They never
+    /// fall, and none is above 2^62.
     pub fn new(readings: Vec<Stamp>) -> MemoryClock
         requires some { 0 < length readings.items }
         requires rising { Rise 0 readings.items }

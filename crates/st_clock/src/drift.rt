@@ -10,8 +10,8 @@ use st_rules::{Excess, accepted_advances_are_in_bound, advances_in_bound_are_acc
 use std::alloc::{AllocError, Global};
 use std::marker::Model;
 
-/// How far clocks ran apart: one number for each ordered pair of nodes. Contracts see it as a list of rows, one row for each
-/// node, with one number for each node.
+/// How far clocks ran apart: one number for each ordered pair of nodes. Contracts see it as a list
+/// of rows, one row for each node, with one number for each node.
 #[derive(Drop)]
 pub struct Drift {
     rows: Vec<Leads>,
@@ -78,7 +78,8 @@ impl Drift {
         Ok(Drift { rows })
     }
 
-    /// Whether one more advance keeps every number within the limit, else the first pair that is above it.
+    /// Whether one more advance keeps every number within the limit, else the first pair that is
+    /// above it.
     #[tactic(auto, unfolding(st_rules::specs::Leases::leases_open))]
     fn judge(&self, steps: &[u64], num: u64, den: u64, grain: u64) -> Result<(), Excess>
         requires nodes { length steps.now ≡ length self.now }
@@ -115,7 +116,8 @@ impl Drift {
         requires rate { den ≤ 1048576 }
         requires grain { grain ≤ 2 ^ 40 }
         ensures exact { after_step result (leases.drift_after self.now steps.now num den) ≡ leases.drift_step self.now steps.now num den grain }
-        // The answer judges the advances that were accepted under these settings, and this one after them.
+        // The answer judges the advances that were accepted under these settings, and this one
+        // after them.
         ensures law { Judges num den grain self.now steps.now result }
     {
         accepted_advances_are_in_bound();
@@ -123,17 +125,19 @@ impl Drift {
         self.judge(steps, num, den, grain)
     }
 
-    /// Takes one more advance of all clocks: `steps[n]` is what clock `n` gains, in ticks. At Ok the clocks are in bound over
-    /// every interval of the accepted advances. An error changes nothing; it names the first pair of nodes, ordered by the one
-    /// ahead and then the one behind, that ran apart by more than `den * grain`, and by how much. Every call on one drift must
-    /// pass the same `num`, `den` and `grain`. It takes no memory.
+    /// Takes one more advance of all clocks: `steps[n]` is what clock `n` gains, in ticks. At Ok
+    /// the clocks are in bound over every interval of the accepted advances. An error changes
+    /// nothing; it names the first pair of nodes that ran apart by more than `den * grain`, and by
+    /// how much. Pairs are ordered by the node that gained more and then by the other one. Every
+    /// call on one drift must pass the same `num`, `den` and `grain`. It takes no memory.
     pub fn step(&mut self, steps: &[u64], num: u64, den: u64, grain: u64) -> Result<(), Excess>
         requires nodes { length steps.now ≡ length self.old }
         requires rate { den ≤ 1048576 }
         requires grain { grain ≤ 2 ^ 40 }
         ensures exact { after_step result self.new ≡ leases.drift_step self.old steps.now num den grain }
         ensures nodes { length self.new ≡ length self.old }
-        // The answer judges the advances that were accepted under these settings, and this one after them.
+        // The answer judges the advances that were accepted under these settings, and this one
+        // after them.
         ensures law { Judges num den grain self.old steps.now result }
         // At Ok this advance is one of those that were accepted.
         ensures kept { Accepts num den grain self.old steps.now result self.new }

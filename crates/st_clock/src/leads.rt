@@ -7,8 +7,8 @@ use st_rules::Excess;
 use std::alloc::{AllocError, Global};
 use std::marker::Model;
 
-/// How far the clock of one node ran ahead of each clock: number `n` is the lead over node `n`, at most 2^60. Contracts see
-/// it as the list of its numbers.
+/// How far the clock of one node ran ahead of each clock: number `n` is the lead over node `n`, at
+/// most 2^60. Contracts see it as the list of its numbers.
 #[derive(Drop)]
 pub struct Leads {
     numbers: Vec<u128>,
@@ -79,8 +79,8 @@ impl Leads {
         })
     }
 
-    /// The first lead that is above the limit after one more advance, in which this node `m` gains `sm` and node `n` gains
-    /// `steps[n]`. It changes nothing and takes no memory.
+    /// The first lead that is above the limit after one more advance, in which this node `m` gains
+    /// `sm` and node `n` gains `steps[n]`. It changes nothing and takes no memory.
     pub fn excess(
         &self,
         limit: u128,
@@ -96,7 +96,8 @@ impl Leads {
         first_above(&self.numbers, limit, m, sm, steps, num, den)
     }
 
-    /// Takes one more advance, in which this node gains `sm` and node `n` gains `steps[n]`. It takes no memory.
+    /// Takes one more advance, in which this node gains `sm` and node `n` gains `steps[n]`. It
+    /// takes no memory.
     pub fn raise(&mut self, sm: u64, steps: &[u64], num: u64, den: u64)
         requires whole { length steps.now ≡ length self.old }
         requires low { IsLow (leases.raise_row num den sm steps.now self.old) }

@@ -1,5 +1,6 @@
-//! Clocks: the steal wait, the bound on their rates without a grain and with one, and the clocks that a node reads.
-//! `docs/PROTOCOL.md`, "Clocks and leases" and "Clocks of a node", has the rules.
+//! Clocks: the steal wait, the bound on their rates without a grain and with one, and the clocks
+//! that a node reads. `docs/PROTOCOL.md`, "Clocks and leases" and "Clocks of a node", has the
+//! rules.
 #![tactic(auto)]
 
 mod clock;

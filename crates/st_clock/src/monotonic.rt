@@ -8,9 +8,10 @@ use std::time::Clock as SystemClock;
 /// The highest reading that a clock gives.
 const LAST: u64 = 1 << 62;
 
-/// A clock that counts the milliseconds of the machine's monotonic clock. It keeps its greatest reading and returns it again
-/// where the machine's clock fails or went back, so it never fails and never goes back. It does not say which readings come
-/// next: that the machine's clock runs in time is not proved.
+/// A clock that counts the milliseconds of the machine's monotonic clock. It keeps its greatest
+/// reading and returns it again where the machine's clock fails or went back, so it never fails and
+/// never goes back. It does not say which readings come next: that the machine's clock runs in time
+/// is not proved.
 #[derive(Drop)]
 pub struct MonotonicClock<S: SystemClock + Drop> {
     system: S,
@@ -18,7 +19,8 @@ pub struct MonotonicClock<S: SystemClock + Drop> {
     ghost most: { greatest ≤ 2 ^ 62 },
 }
 
-/// The reading after `greatest` when the machine's clock shows `millis`: it is not below `greatest`, and at most 2^62.
+/// The reading after `greatest` when the machine's clock shows `millis`: it is not below
+/// `greatest`, and at most 2^62.
 fn later(greatest: u64, millis: u128) -> u64
     requires { greatest ≤ 2 ^ 62 }
     ensures { result ≡ max greatest (min millis (2 ^ 62)) }

@@ -9,8 +9,8 @@ ghost use Rattle.st_clock.specs.Drifts.{InBoundWhereRated};
 use st_base::{Config, Stamp};
 use st_rules::{advances_in_bound_are_rated, rated_advances_are_in_bound, steal_wait_is_least};
 
-/// How many ticks of its own clock a server waits before it steals a client's locks: the least `w` with
-/// `w * den >= lease * num + den * grain`. It takes no memory.
+/// How many ticks of its own clock a server waits before it steals a client's locks: the least `w`
+/// with `w * den >= lease * num + den * grain`. It takes no memory.
 #[tactic(auto, unfolding(st_rules::specs::Leases::steal_wait))]
 pub fn steal_wait(config: &Config) -> u64
     requires checked { IsOk (settings.check config.now) }
@@ -55,7 +55,8 @@ fn all_moving(steps: &[u64]) -> bool
 pub fn rate_ok(steps: &[u64], num: u64, den: u64) -> bool
     requires some { 0 < length steps.now }
     ensures exact { result ≡ leases.rate_ok steps.now num den }
-    // Without a grain, a run in which every clock moves at each advance is in bound exactly where each advance is.
+    // Without a grain, a run in which every clock moves at each advance is in bound exactly where
+    // each advance is.
     ensures law { InBoundWhereRated }
 {
     rated_advances_are_in_bound();

@@ -40,7 +40,8 @@ fn readings_are_milliseconds_and_never_fall(rt: HostRuntime) {
     assert_eq!(rt; clock.now(), Stamp(2_000));
 }
 
-/// A fifth of a second is at least 200 readings, and on a busy machine less than 100,000: microseconds would be more.
+/// A fifth of a second is at least 200 readings, and on a busy machine less than 100,000:
+/// microseconds would be more.
 #[test]
 fn readings_advance_by_about_a_thousand_a_second(rt: HostRuntime) {
     let mut clock = MonotonicClock::new(rt);

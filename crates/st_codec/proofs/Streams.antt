@@ -79,7 +79,7 @@ front_cases rest f e P p q r =
       ])
     ])
 
--- the length that stands in front, spelled again
+-- the length that comes first, spelled again
 length_spelled : (rest : List ℕ) → AreBytes rest → 4 ≤ length rest → word32 (from_be_bytes w32 (take 4 rest)) ++ drop 4 rest ≡ rest
 unfolding word32
 length_spelled rest ok long = ap (λ (w : List ℕ). w ++ drop 4 rest) (wide32.back (take 4 rest) (omega (arith, length-take 4 rest)) (take_bytes 4 rest ok)) ∙ take-append-drop 4 rest

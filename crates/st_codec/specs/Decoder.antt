@@ -272,7 +272,7 @@ message_at bytes = do
   b ← body_at k.0 h.1
   if length b.1 == 0 then Ok (record { header = h.0; body = b.0 }) else Err faults.Long
 
--- A fault as it is told: the place of a field is counted from the message's beginning.
+-- A fault as it is reported: the place of a field is counted from the message's beginning.
 abbrev pub refusal_of : ℕ → Fault → CodecRefusal
 refusal_of whole faults.Short = refusals.Short
 refusal_of whole faults.Long = refusals.Long

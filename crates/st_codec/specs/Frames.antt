@@ -36,7 +36,7 @@ fed s piece = record { offset = s.offset; rest = s.rest ++ piece; refusal = s.re
 abbrev pub refused : Frames → CodecRefusal → Frames
 refused s r = record { offset = s.offset; rest = s.rest; refusal = Some r }
 
--- behind a frame of this number of bytes; the offset stays at 2^64 - 1 once it is there
+-- after a frame of this number of bytes; the offset stays at 2^64 - 1 once it is there
 abbrev pub behind : Frames → ℕ → Frames
 behind s n = record { offset = min (s.offset + (4 + n)) (2 ^ 64 - 1); rest = drop (4 + n) s.rest; refusal = None }
 

@@ -1,4 +1,4 @@
--- The spelling of each message: the fields of a kind one after the other.
+-- The spelling of each message: the fields of a kind in order.
 use Rattle.std.specs.Prelude.{ℕ, List, [], ◌∷◌, ◌++◌, length}
 use Rattle.st_base.specs.declared.disk.BlockAt.{BlockAt}
 use Rattle.st_base.specs.declared.disk.Command.{Command}
@@ -71,7 +71,7 @@ abbrev pub command_at : Command → BlockAt
 command_at (commands.Read at) = at
 command_at (commands.Write at t bytes) = at
 
--- The block of a command stands in front of its kind.
+-- The block of a command comes before its kind.
 unfoldable pub command : Command → List ℕ
 command (commands.Read at) = byte 0
 command (commands.Write at t bytes) = 1 ∷ (tag t ++ bytes)

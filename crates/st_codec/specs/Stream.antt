@@ -19,7 +19,7 @@ pub record IsFramed (m : Message) : Type 0 where
   pub ranges : fits m ≡ true
   pub short : length (spelling m) ≤ 65536
 
--- the stream is the frames of these messages, one behind the other, and then this rest
+-- the stream is the frames of these messages, one after another, and then this rest
 pub record IsStream (stream : List ℕ) (messages : List Message) (rest : List ℕ) : Type 0 where
   pub whole : stream ≡ flat_map message_frame messages ++ rest
   pub each : AllByRecursion IsFramed messages

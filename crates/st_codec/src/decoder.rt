@@ -376,8 +376,8 @@ pub(crate) fn read_message(alloc: Global, bytes: &[u8]) -> Result<Message, ReadE
     Ok(Message { header, body })
 }
 
-/// Returns the message that the bytes spell (`docs/PROTOCOL.md`, "Wire"), or the first fault from the left. It allocates
-/// only for the lists of the message.
+/// Returns the message that the bytes spell (`docs/PROTOCOL.md`, "Wire"), or the first fault from
+/// the left. It allocates only for the lists of the message.
 #[tactic(auto, unfolding(crate::specs::Decoder::decoded))]
 pub fn decode(alloc: Global, bytes: &[u8]) -> Result<Message, CodecRefusal>
     // What is decoded is spelled so, each byte of it, and fits.

@@ -1,4 +1,4 @@
-// The bytes of a message: the fields of its kind, one after the other.
+// The bytes of a message: the fields of its kind, in order.
 ghost use Rattle.std.specs.Prelude.{◌≡◌, ◌++◌, true, IfOk, OnOk};
 ghost use Rattle.st_messages.specs.Ranges as fits;
 ghost use Rattle.st_codec.specs.Spelling as spells;

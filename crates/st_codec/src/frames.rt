@@ -1,4 +1,4 @@
-// Frames in a stream of bytes: which one stands in front, and what is left behind it.
+// Frames in a stream of bytes: which one comes first, and what is left after it.
 ghost use Rattle.std.specs.Prelude.{◌≡◌, ◌≤◌, ◌+◌, ℕ, true, IfOk, IfSome, OnOk, OnErr, None, length};
 ghost use Rattle.st_messages.specs.Ranges as fits;
 ghost use Rattle.st_codec.specs.Frames as frames;
@@ -16,7 +16,7 @@ pub enum Front {
     Partial,
     /// A length above 65,536.
     TooLong(u32),
-    /// A frame with this number of bytes behind its length.
+    /// A frame with this number of bytes after its length.
     Whole(usize),
 }
 
@@ -39,8 +39,9 @@ fn front_of(rest: &[u8]) -> Front
     Front::Whole(number as usize)
 }
 
-/// Reads messages from a stream of frames that arrives in pieces of any size. Contracts see it as the offset of the next
-/// frame, the bytes that are held, and the refusal, once one was returned. `docs/PROTOCOL.md`, "Wire", describes frames.
+/// Reads messages from a stream of frames that arrives in pieces of any size. Contracts see it as
+/// the offset of the next frame, the bytes that are held, and the refusal, once one was returned.
+/// `docs/PROTOCOL.md`, "Wire", describes frames.
 #[derive(Drop)]
 pub struct FrameReader {
     alloc: Global,
@@ -95,7 +96,8 @@ impl FrameReader {
         rest
     }
 
-    /// Drops the bytes that were read once they are at least half of all bytes, so that each byte is moved only a few times.
+    /// Drops the bytes that were read once they are at least half of all bytes, so that each byte
+    /// is moved only a few times.
     fn compact(&mut self) -> Result<(), AllocError>
         ensures { self.new ≡ self.old }
     {
@@ -144,8 +146,9 @@ impl FrameReader {
         }
     }
 
-    /// Returns the next message, which fits; or the refusal of its frame, which it returns from then on; or none if less than a
-    /// whole frame is held. If it runs out of memory, nothing changes.
+    /// Returns the next message, which fits; or the refusal of its frame, which it returns from
+    /// then on; or none if less than a whole frame is held. If it runs out of memory, nothing
+    /// changes.
     #[tactic(auto, unfolding(crate::specs::Frames::next))]
     pub fn next(&mut self) -> Result<Option<Result<Message, CodecRefusal>>, AllocError>
         ensures answer { IfOk result (λ answer. (self.new, answer) ≡ frames.next self.old) }

@@ -33,9 +33,11 @@ pub fn fits_a_frame()
 
 /// What a reader of frames returns does not depend on how the stream was cut into pieces.
 pub fn frames_in_any_pieces()
-    // After any pieces and calls of `next` the stream so far is the frames of the messages given, and what is held.
+    // After any pieces and calls of `next` the stream so far is the frames of the messages given,
+    // and what is held.
     ensures reads { (moves : List streams.Move) → streams.ReadsAfter moves }
-    // No other messages are: where no frame of a message begins the rests, they and the messages are the same.
+    // No other messages are: where no frame of a message begins the rests, they and the messages
+    // are the same.
     ensures once { (stream : List ℕ) (ms ns : List Message) (r q : List ℕ) → streams.ReadsOnce stream ms ns r q }
     // Where `next` gives no message, no frame of a message begins what is held.
     ensures ends { (s : frames.Frames) → streams.EndsWhereNoneIs s }

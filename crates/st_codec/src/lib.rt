@@ -1,4 +1,5 @@
-//! The bytes that spell the messages of `st_messages`, both ways, and frames. `docs/PROTOCOL.md`, "Wire", has the tables.
+//! The bytes that spell the messages of `st_messages`, both ways, and frames. `docs/PROTOCOL.md`,
+//! "Wire", has the tables.
 #![tactic(auto)]
 
 mod decoder;

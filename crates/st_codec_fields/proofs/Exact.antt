@@ -64,7 +64,7 @@ Takes-then a x b y c p q = record { parts = p.parts ∙ ap (λ (t : List ℕ). x
 pub record Sound {A : Type 0} (r : Reader A) (s : A → List ℕ) (P : A → Type 0) : Type 0 where
   pub takes : (bytes : List ℕ) (x : A × List ℕ) → IsBytes bytes → r bytes ≡ Ok x → Takes bytes (s x.0) x.1 × P x.0
 
--- besides, what fits and is spelled so is read
+-- moreover, what fits and is spelled so is read
 pub record Exact {A : Type 0} (r : Reader A) (s : A → List ℕ) (F : A → Bool) : Type 0 where
   pub sound : Sound r s (λ a. F a ≡ true)
   pub again : (a : A) (rest : List ℕ) → F a ≡ true → r (s a ++ rest) ≡ Ok (a, rest)
@@ -281,7 +281,7 @@ module _ {R : Type 0} (row : ℕ → Reader R) (s : R → List ℕ) (is_row : �
 
 -- ---- a byte that says what comes
 
--- what is read behind the byte k is spelled so, with that byte in front
+-- what is read after the byte k is spelled so, with that byte in front
 pub record After {A : Type 0} (k : ℕ) (r : Reader A) (S : A → List ℕ) (P : A → Type 0) : Type 0 where
   pub takes : (bytes : List ℕ) (x : A × List ℕ) → IsBytes bytes → r bytes ≡ Ok x → (k ∷ bytes ≡ S x.0 ++ x.1) × IsBytes x.1 × P x.0
 

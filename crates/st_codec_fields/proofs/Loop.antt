@@ -1,4 +1,4 @@
--- Reading rows one after the other, as a loop does.
+-- Reading rows one after another, as a loop does.
 use Rattle.std.proofs.Common.{◌≡◌, ℕ, suc, ◌-◌, ◌+◌, ◌≤◌, ◌<◌, List, [], ◌∷◌, ◌++◌, Ok, Err, refl, sym, ap, ◌∙◌, append_assoc, arith}
 use Rattle.std.proofs.lemmas.List.{append-nil}
 use Rattle.st_codec_fields.specs.declared.fault.ReadError.{ReadError}

@@ -1,4 +1,4 @@
--- Rows that fit one behind the other: each of them fits.
+-- Rows that fit one after another: each of them fits.
 use Rattle.std.proofs.Common.{◌≡◌, ℕ, Bool, true, false, List, [], ◌∷◌, All, refl}
 use Rattle.std.specs.Prelude.{◌&&◌}
 use Rattle.std.proofs.lemmas.List.Elements.{All-nil, All-cons}

@@ -50,14 +50,14 @@ Gives view (Err e) read = Fails e read
 abbrev pub out_of_range : List ℕ → ReadError
 out_of_range bytes = errors.Fault (faults.Value (length bytes))
 
--- one field behind the other
+-- one field after another
 abbrev pub seq : {A B : Type 0} → Reader A → (A → Reader B) → Reader (A × B)
 seq first second bytes = do
   a ← first bytes
   b ← second a.0 a.1
   Ok ((a.0, b.0), b.1)
 
--- what is made of the fields
+-- what the fields make
 abbrev pub made : {A B : Type 0} → (A → B) → Reader A → Reader B
 made make fields bytes = do
   a ← fields bytes
@@ -191,7 +191,7 @@ lost_at bytes = counted 1 1024 lost_row_at after_lost 0 bytes
 unfoldable pub names_at : Reader (List NameRow)
 names_at bytes = counted 0 256 name_row_at after_name 1 bytes
 
--- a byte that says what comes, and what it says; left is how many bytes stand from that byte on
+-- a byte that says what comes, and what it says; left is how many bytes there are from that byte on
 abbrev pub chosen : {A : Type 0} → (ℕ → ℕ → Reader A) → Reader A
 chosen choice bytes = do
   n ← byte_at bytes

@@ -15,7 +15,7 @@ pub fn out_of_range(bytes: &[u8]) -> ReadError
     ReadError::Fault(Fault::Value(bytes.len()))
 }
 
-/// Reads a byte from the front of the bytes. Returns it and the bytes behind it, or the first fault.
+/// Reads a byte from the front of the bytes. Returns it and the bytes after it, or the first fault.
 pub fn read_byte(bytes: &[u8]) -> Result<(u8, &[u8]), ReadError>
     ensures { reading.Gives (λ x. (x.0, x.1.now)) result (reading.byte_at bytes.now) }
 {
@@ -25,7 +25,8 @@ pub fn read_byte(bytes: &[u8]) -> Result<(u8, &[u8]), ReadError>
     }
 }
 
-/// Reads a number of two bytes from the front of the bytes. Returns it and the bytes behind it, or the first fault.
+/// Reads a number of two bytes from the front of the bytes. Returns it and the bytes after it, or
+/// the first fault.
 #[tactic(auto, unfolding(crate::specs::Decoder::word16_at))]
 pub fn read_word16(bytes: &[u8]) -> Result<(u16, &[u8]), ReadError>
     ensures { reading.Gives (λ x. (x.0, x.1.now)) result (reading.word16_at bytes.now) }
@@ -38,7 +39,8 @@ pub fn read_word16(bytes: &[u8]) -> Result<(u16, &[u8]), ReadError>
     Ok((number, rest))
 }
 
-/// Reads a number of four bytes from the front of the bytes. Returns it and the bytes behind it, or the first fault.
+/// Reads a number of four bytes from the front of the bytes. Returns it and the bytes after it, or
+/// the first fault.
 #[tactic(auto, unfolding(crate::specs::Decoder::word32_at))]
 pub fn read_word32(bytes: &[u8]) -> Result<(u32, &[u8]), ReadError>
     ensures { reading.Gives (λ x. (x.0, x.1.now)) result (reading.word32_at bytes.now) }
@@ -51,7 +53,8 @@ pub fn read_word32(bytes: &[u8]) -> Result<(u32, &[u8]), ReadError>
     Ok((number, rest))
 }
 
-/// Reads a number of eight bytes from the front of the bytes. Returns it and the bytes behind it, or the first fault.
+/// Reads a number of eight bytes from the front of the bytes. Returns it and the bytes after it, or
+/// the first fault.
 #[tactic(auto, unfolding(crate::specs::Decoder::word64_at))]
 pub fn read_word64(bytes: &[u8]) -> Result<(u64, &[u8]), ReadError>
     ensures { reading.Gives (λ x. (x.0, x.1.now)) result (reading.word64_at bytes.now) }
@@ -78,7 +81,8 @@ pub(crate) fn read_byte_in(least: u64, most: u64, bytes: &[u8]) -> Result<(u8, &
     Ok((number, rest))
 }
 
-/// Reads a number of two bytes in this range from the front of the bytes. Returns it and the bytes behind it, or the first fault.
+/// Reads a number of two bytes in this range from the front of the bytes. Returns it and the bytes
+/// after it, or the first fault.
 #[tactic(auto, unfolding(crate::specs::Decoder::word16_in))]
 pub fn read_word16_in(least: u64, most: u64, bytes: &[u8]) -> Result<(u16, &[u8]), ReadError>
     ensures number { reading.Gives (λ x. (x.0, x.1.now)) result (reading.word16_in least most bytes.now) }
@@ -103,14 +107,16 @@ pub(crate) fn read_word32_in(least: u64, most: u64, bytes: &[u8]) -> Result<(u32
     Ok((number, rest))
 }
 
-/// Reads an inode above 0 from the front of the bytes. Returns it and the bytes behind it, or the first fault.
+/// Reads an inode above 0 from the front of the bytes. Returns it and the bytes after it, or the
+/// first fault.
 pub fn read_ino(bytes: &[u8]) -> Result<(u32, &[u8]), ReadError>
     ensures { reading.Gives (λ x. (x.0, x.1.now)) result (reading.ino_at bytes.now) }
 {
     read_word32_in(1, 4_294_967_295, bytes)
 }
 
-/// Reads a grant's number from the front of the bytes. Returns it and the bytes behind it, or the first fault.
+/// Reads a grant's number from the front of the bytes. Returns it and the bytes after it, or the
+/// first fault.
 #[tactic(auto, unfolding(crate::specs::Decoder::grant_at))]
 pub fn read_grant(bytes: &[u8]) -> Result<(GrantNo, &[u8]), ReadError>
     ensures { reading.Gives (λ x. (x.0, x.1.now)) result (reading.grant_at bytes.now) }
@@ -138,7 +144,8 @@ fn mode_numbered(number: u8) -> Mode
     }
 }
 
-/// Reads a mode in this range from the front of the bytes. Returns it and the bytes behind it, or the first fault.
+/// Reads a mode in this range from the front of the bytes. Returns it and the bytes after it, or
+/// the first fault.
 #[tactic(auto, unfolding(crate::specs::Decoder::mode_at))]
 pub fn read_mode(least: u64, most: u64, bytes: &[u8]) -> Result<(Mode, &[u8]), ReadError>
     ensures { reading.Gives (λ x. (x.0, x.1.now)) result (reading.mode_at least most bytes.now) }
@@ -171,7 +178,8 @@ pub(crate) fn read_name(
     Ok((Name::from_slice(alloc, text)?, rest))
 }
 
-/// Reads the bytes of a page from the front of the bytes. Returns it and the bytes behind it, or the first fault.
+/// Reads the bytes of a page from the front of the bytes. Returns it and the bytes after it, or the
+/// first fault.
 #[tactic(auto, unfolding(crate::specs::Decoder::whole_page_at))]
 pub fn read_whole_page(alloc: Global, bytes: &[u8]) -> Result<(PageBytes, &[u8]), ReadError>
     ensures { reading.Gives (λ x. (x.0, x.1.now)) result (reading.whole_page_at bytes.now) }
@@ -181,7 +189,8 @@ pub fn read_whole_page(alloc: Global, bytes: &[u8]) -> Result<(PageBytes, &[u8])
     Ok((page, rest))
 }
 
-/// Reads the bytes of a patch that begins at this byte of its page from the front of the bytes. Returns it and the bytes behind it, or the first fault.
+/// Reads the bytes of a patch that begins at this byte of its page from the front of the bytes.
+/// Returns it and the bytes after it, or the first fault.
 #[tactic(auto, unfolding(crate::specs::Decoder::patch_bytes_at))]
 pub fn read_patch_bytes(
     alloc: Global,
@@ -196,7 +205,7 @@ pub fn read_patch_bytes(
     Ok((PatchBytes::from_vec(Vec::from_slice(alloc, text)?), rest))
 }
 
-/// Reads a file from the front of the bytes. Returns it and the bytes behind it, or the first fault.
+/// Reads a file from the front of the bytes. Returns it and the bytes after it, or the first fault.
 #[tactic(auto, unfolding(crate::specs::Decoder::file_at))]
 pub fn read_file(least: u64, bytes: &[u8]) -> Result<(FileId, &[u8]), ReadError>
     ensures { reading.Gives (λ x. (x.0, x.1.now)) result (reading.file_at least bytes.now) }
@@ -217,7 +226,8 @@ pub(crate) fn read_block(bytes: &[u8]) -> Result<(BlockAt, &[u8]), ReadError>
     Ok((BlockAt { disk, block }, rest))
 }
 
-/// Reads a block of any numbers from the front of the bytes. Returns it and the bytes behind it, or the first fault.
+/// Reads a block of any numbers from the front of the bytes. Returns it and the bytes after it, or
+/// the first fault.
 #[tactic(auto, unfolding(crate::specs::Decoder::any_block_at))]
 pub fn read_any_block(bytes: &[u8]) -> Result<(BlockAt, &[u8]), ReadError>
     ensures { reading.Gives (λ x. (x.0, x.1.now)) result (reading.any_block_at bytes.now) }
@@ -228,7 +238,7 @@ pub fn read_any_block(bytes: &[u8]) -> Result<(BlockAt, &[u8]), ReadError>
     Ok((BlockAt { disk, block }, rest))
 }
 
-/// Reads a tag from the front of the bytes. Returns it and the bytes behind it, or the first fault.
+/// Reads a tag from the front of the bytes. Returns it and the bytes after it, or the first fault.
 #[tactic(auto, unfolding(crate::specs::Decoder::tag_at))]
 pub fn read_tag(least: u64, bytes: &[u8]) -> Result<(Tag, &[u8]), ReadError>
     ensures { reading.Gives (λ x. (x.0, x.1.now)) result (reading.tag_at least bytes.now) }

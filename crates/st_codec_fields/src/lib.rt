@@ -1,4 +1,5 @@
-//! The fields of messages as bytes, both ways: numbers, places, names, rows, and what is asked of names. `docs/PROTOCOL.md`, "Wire".
+//! The fields of messages as bytes, both ways: numbers, places, names, rows, and what is asked of
+//! names. `docs/PROTOCOL.md`, "Wire".
 #![tactic(auto)]
 
 mod fault;

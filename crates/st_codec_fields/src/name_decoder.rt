@@ -76,7 +76,8 @@ fn read_op_numbered(
     }
 }
 
-/// Reads an operation on names from the front of the bytes. Returns it and the bytes behind it, or the first fault.
+/// Reads an operation on names from the front of the bytes. Returns it and the bytes after it, or
+/// the first fault.
 #[tactic(auto, unfolding(crate::specs::Decoder::name_op_at))]
 pub fn read_name_op(alloc: Global, bytes: &[u8]) -> Result<(NameOp, &[u8]), ReadError>
     ensures { reading.Gives (λ x. (x.0, x.1.now)) result (reading.name_op_at bytes.now) }
@@ -142,7 +143,8 @@ fn read_ask_numbered(
     }
 }
 
-/// Reads an ask on names from the front of the bytes. Returns it and the bytes behind it, or the first fault.
+/// Reads an ask on names from the front of the bytes. Returns it and the bytes after it, or the
+/// first fault.
 #[tactic(auto, unfolding(crate::specs::Decoder::name_ask_at))]
 pub fn read_name_ask(alloc: Global, bytes: &[u8]) -> Result<(NameAsk, &[u8]), ReadError>
     ensures { reading.Gives (λ x. (x.0, x.1.now)) result (reading.name_ask_at bytes.now) }
@@ -177,7 +179,8 @@ fn read_reply_numbered(
     }
 }
 
-/// Reads the reply to an operation on names from the front of the bytes. Returns it and the bytes behind it, or the first fault.
+/// Reads the reply to an operation on names from the front of the bytes. Returns it and the bytes
+/// after it, or the first fault.
 #[tactic(auto, unfolding(crate::specs::Decoder::name_reply_at))]
 pub fn read_name_reply(alloc: Global, bytes: &[u8]) -> Result<(NameReply, &[u8]), ReadError>
     ensures { reading.Gives (λ x. (x.0, x.1.now)) result (reading.name_reply_at bytes.now) }

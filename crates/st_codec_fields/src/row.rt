@@ -27,7 +27,7 @@ pub(crate) trait RowBytes: Row {
         requires { (least : ℕ) × (Self.is_row least self.now ≡ true) }
         ensures { OnOk result (out.new.items ≡ out.old.items ++ spell self.now) };
 
-    /// Reads a row, whose key is at least this number, and returns it with the bytes behind it.
+    /// Reads a row, whose key is at least this number, and returns it with the bytes after it.
     ghost row_at: { ℕ → List ℕ → Result (Self × List ℕ) Fault };
 
     fn read(alloc: Global, least: u64, bytes: &[u8]) -> Result<(Self, &[u8]), ReadError>
@@ -208,7 +208,8 @@ fn read_rows<T: RowBytes + Drop>(
     Ok((Rows::from_vec(rows), rest))
 }
 
-/// Reads the rows of locks, at most 1,024 from the front of the bytes. Returns it and the bytes behind it, or the first fault.
+/// Reads the rows of locks, at most 1,024 from the front of the bytes. Returns it and the bytes
+/// after it, or the first fault.
 #[tactic(auto, unfolding(crate::specs::Decoder::locks_at))]
 pub fn read_locks(alloc: Global, bytes: &[u8]) -> Result<(LockRows, &[u8]), ReadError>
     ensures { reading.Gives (λ x. (x.0, x.1.now)) result (reading.locks_at bytes.now) }
@@ -217,7 +218,8 @@ pub fn read_locks(alloc: Global, bytes: &[u8]) -> Result<(LockRows, &[u8]), Read
     read_rows(alloc, count, 1, rest)
 }
 
-/// Reads the rows of extents, at most 64 from the front of the bytes. Returns it and the bytes behind it, or the first fault.
+/// Reads the rows of extents, at most 64 from the front of the bytes. Returns it and the bytes
+/// after it, or the first fault.
 #[tactic(auto, unfolding(crate::specs::Decoder::extents_at))]
 pub fn read_extents(alloc: Global, bytes: &[u8]) -> Result<(ExtentRows, &[u8]), ReadError>
     ensures { reading.Gives (λ x. (x.0, x.1.now)) result (reading.extents_at bytes.now) }
@@ -226,7 +228,8 @@ pub fn read_extents(alloc: Global, bytes: &[u8]) -> Result<(ExtentRows, &[u8]), 
     read_rows(alloc, count, 0, rest)
 }
 
-/// Reads the rows of lost pages, 1 to 1,024 from the front of the bytes. Returns it and the bytes behind it, or the first fault.
+/// Reads the rows of lost pages, 1 to 1,024 from the front of the bytes. Returns it and the bytes
+/// after it, or the first fault.
 #[tactic(auto, unfolding(crate::specs::Decoder::lost_at))]
 pub fn read_lost(alloc: Global, bytes: &[u8]) -> Result<(LostRows, &[u8]), ReadError>
     ensures { reading.Gives (λ x. (x.0, x.1.now)) result (reading.lost_at bytes.now) }
@@ -235,7 +238,8 @@ pub fn read_lost(alloc: Global, bytes: &[u8]) -> Result<(LostRows, &[u8]), ReadE
     read_rows(alloc, count, 0, rest)
 }
 
-/// Reads the rows of names, at most 256 from the front of the bytes. Returns it and the bytes behind it, or the first fault.
+/// Reads the rows of names, at most 256 from the front of the bytes. Returns it and the bytes after
+/// it, or the first fault.
 #[tactic(auto, unfolding(crate::specs::Decoder::names_at))]
 pub fn read_names(alloc: Global, bytes: &[u8]) -> Result<(NameRows, &[u8]), ReadError>
     ensures { reading.Gives (λ x. (x.0, x.1.now)) result (reading.names_at bytes.now) }

@@ -89,7 +89,8 @@ fn each_fault_is_the_first(rt: HostRuntime) -> io::Result<()> {
     Ok(())
 }
 
-/// A message whose list has this many rows: the front, and a number that rises and these runs for each.
+/// A message whose list has this many rows: the front, and a number that rises and these runs for
+/// each.
 fn full(
     alloc: Global,
     front: &str,
@@ -191,7 +192,8 @@ fn framed(alloc: Global, message: &[u8]) -> Result<Vec<u8>, AllocError> {
     Ok(frame)
 }
 
-/// Whether the reader holds all of the first piece of a frame and gives nothing, and then the message.
+/// Whether the reader holds all of the first piece of a frame and gives nothing, and then the
+/// message.
 fn comes_in_two(
     alloc: Global,
     first: &[u8],

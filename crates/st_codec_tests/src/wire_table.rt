@@ -1,5 +1,5 @@
-//! Written by tools/rows/wire_table.py: bytes in runs, `HH` or `HH*COUNT`, a word for a header that many have, and
-//! the answers of an independent reading.
+//! Written by tools/rows/wire_table.py: bytes in runs, `HH` or `HH*COUNT`, a word for a header that
+//! many have, and the answers of an independent reading.
 
 /// A message of every kind, name op, ask and answer.
 pub const MESSAGES: &str = "01*2 00 03 80 02 00*7 02 00*23 09\n\

@@ -1,4 +1,4 @@
--- CRC-32C: what is left of some bytes, as a polynomial, divided by Castagnoli's. Bits stand in reverse order, the highest power lowest.
+-- CRC-32C: the remainder of some bytes, as a polynomial, divided by Castagnoli's. Bits are in reverse order, the highest power lowest.
 use Rattle.std.specs.Prelude.{ℕ, ◌*◌, ◌/◌, ◌%◌, ◌<◌, List, [], ◌∷◌, bit_xor}
 
 abbrev pub POLYNOMIAL : ℕ

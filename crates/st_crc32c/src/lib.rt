@@ -1,4 +1,5 @@
-//! CRC-32C, the checksum of storage protocols (Castagnoli's polynomial), and what it is good for: one byte that is another one is always told.
+//! CRC-32C, the checksum of storage protocols (Castagnoli's polynomial), and what it is good for:
+//! one byte that is another one is always told.
 #![tactic(auto)]
 
 mod crc;

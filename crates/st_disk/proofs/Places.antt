@@ -1,4 +1,4 @@
--- Where the block of a place stands, when one more block is written, or another one at the same place.
+-- Where the block of a place is, when one more block is written, or another one at the same place.
 use Rattle.std.proofs.Common.{◌≡◌, ℕ, ◌+◌, ◌<◌, ◌≤◌, Bool, true, false, cond, if◌then◌else◌, List, [], ◌∷◌, ◌++◌, length, set, Option, Some, None, arith, refl, sym, ap, ◌∙◌}
 use Rattle.std.specs.Prelude.{◌&&◌, ◌==◌, find, not, nat_lt, get_or, slice_get, unwrap_or}
 use Rattle.std.specs.List.{position, position_or_len}
@@ -56,7 +56,7 @@ index_kept bs b index at e =
     let first = position_or_len-set (is_block_at at) bs index b b (ap (λ a. same_block a at) (sym one)) in
     λ i. cond (nat_lt (first i) (length-set bs index b i)) (Some (first i)) None
 
--- what is found is what stands at the first place
+-- what is found is what is at the first place
 some_is : (b : Bool) (n i : ℕ) → cond b (Some n) None ≡ Some i → n ≡ i
 some_is true n i e = grind arith
 some_is false n i e = absurd (cc)

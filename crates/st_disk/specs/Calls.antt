@@ -34,7 +34,7 @@ pub record SameSize (old new : Disks) : Type 0 where
   pub disks : new.disks ≡ old.disks
   pub blocks : new.blocks ≡ old.blocks
 
--- the calls have the rules' refusals, and run out of memory besides
+-- the calls have the rules' refusals, and may also run out of memory
 abbrev pub as_told : CommandRefusal → DiskRefusal
 as_told (command_refusals.NoCommand n) = refusals.NoCommand n
 as_told (command_refusals.Twice n) = refusals.Twice n

@@ -1,4 +1,4 @@
--- How a command stands.
+-- The state of a command.
 use Rattle.st_disk.specs.declared.commands.CommandState.{CommandState}
 use Rattle.st_rules.specs.declared.disks.DiskCommand.{DiskCommand}
 

@@ -44,7 +44,7 @@ fn keep(indexes: &mut IndexMap<PlaceKey, usize>, key: PlaceKey, index: usize)
     requires { 0 < spare indexes.old }
     ensures { (q : PlaceKey) → get same_place indexes.new q ≡ (if same_place key q then Some index else get same_place indexes.old q) }
 {
-    // The index that stood there is dropped; there is room, so no memory is taken.
+    // The index that was there is dropped; there is room, so no memory is taken.
     let _old = indexes.insert(key, index).unwrap();
 }
 
@@ -62,8 +62,8 @@ fn block_at(written: &[Block], index: usize) -> Option<&Block>
     written.get(index)
 }
 
-/// The blocks that were written, in the order in which they were first written, each found by its place in constant time.
-/// Contracts see their list.
+/// The blocks that were written, in the order in which they were first written, each found by its
+/// place in constant time. Contracts see their list.
 #[derive(Drop)]
 pub struct Blocks {
     written: Vec<Block>,

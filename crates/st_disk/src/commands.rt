@@ -10,14 +10,14 @@ ghost use Rattle.st_disk.specs.Calls.{IsIndex, IsWrite};
 use crate::kept::KeptCommand;
 use st_rules::{Block, Report};
 
-/// How a command stands: whether it had its effect, and how it was reported.
+/// The state of a command: whether it had its effect, and how it was reported.
 #[derive(Clone, Copy, Debug, PartialEq, Eq)]
 pub struct CommandState {
     pub effected: bool,
     pub report: Report,
 }
 
-/// How a command stands, if there is one.
+/// The state of a command, if there is one.
 pub fn standing_of(command: Option<&KeptCommand>) -> Option<CommandState>
     ensures { result ≡ option_map standing_of (option_copied command.entry) }
 {

@@ -42,8 +42,8 @@ impl Model for Disks {
 }
 
 impl Disks {
-    /// Makes this number of disks with this number of blocks each. No block was written, and there are no commands. It does
-    /// not allocate.
+    /// Makes this number of disks with this number of blocks each. No block was written, and there
+    /// are no commands. It does not allocate.
     pub fn new(alloc: Global, disks: u16, blocks: u32) -> Disks
         ensures { result ≡ fresh_disks disks blocks }
     {
@@ -67,14 +67,15 @@ impl Disks {
         Ok(self.commands.len() as u64)
     }
 
-    /// Returns how the command of this number stands, if there is one. It does not allocate.
+    /// Returns the state of the command of this number, if there is one. It does not allocate.
     pub fn standing(&self, n: u64) -> Option<CommandState>
         ensures { result ≡ option_map standing_of (disks.command self.now n) }
     {
         standing_of(command_at(&self.commands, n))
     }
 
-    /// Returns the tag and the bytes of a block: birth 0 and zeros if it was never written. It does not allocate.
+    /// Returns the tag and the bytes of a block: birth 0 and zeros if it was never written. It does
+    /// not allocate.
     pub fn block(&self, at: BlockAt) -> (Tag, &PageBytes)
         requires exists { HasBlock self.now at }
         ensures tag { result.0 ≡ (disks.block self.now at).tag }
@@ -86,15 +87,15 @@ impl Disks {
         }
     }
 
-    /// Returns the tag and the bytes that a read found at its effect, or `None` if the command is not a read with an effect.
-    /// It does not allocate.
+    /// Returns the tag and the bytes that a read found at its effect, or `None` if the command is
+    /// not a read with an effect. It does not allocate.
     pub fn sample(&self, n: u64) -> Option<(Tag, &PageBytes)>
         ensures exact { option_map (λ s. (s.0, s.1.now)) result ≡ option_map shown (disks.sample self.now n) }
     {
         command_at(&self.commands, n)?.sample()
     }
 
-    /// A copy of a block as it stands.
+    /// A copy of a block as it is.
     fn found(&self, at: BlockAt) -> Result<Block, AllocError>
         ensures { IfOk result (λ b. b ≡ disks.block self.now at) }
     {
@@ -149,9 +150,10 @@ impl Disks {
         }
     }
 
-    /// Gives a command its effect: a write replaces the block's tag and bytes, and a read samples the block. It is refused,
-    /// in this order, if there is no such command (`NoCommand`), if it was reported (`Reported`), or if it had its effect
-    /// (`Twice`). A refusal changes nothing. If the call runs out of memory, nothing changes either.
+    /// Gives a command its effect: a write replaces the block's tag and bytes, and a read samples
+    /// the block. It is refused, in this order, if there is no such command (`NoCommand`), if it
+    /// was reported (`Reported`), or if it had its effect (`Twice`). A refusal changes nothing. If
+    /// the call runs out of memory, nothing changes either.
     #[tactic(auto, unfolding(st_rules::specs::Disks::disks_open))]
     pub fn effect(&mut self, n: u64) -> Result<(), DiskRefusal>
         ensures exact { Answers self.old self.new result (disks.effect self.old n) }
@@ -172,9 +174,9 @@ impl Disks {
         Ok(self.act(index, what)?)
     }
 
-    /// Reports a command, which ends it. It is refused, in this order, if there is no such command (`NoCommand`), if it was
-    /// reported (`Twice`), or if success is reported without an effect (`NotEffected`). A refusal changes nothing. It does
-    /// not allocate.
+    /// Reports a command, which ends it. It is refused, in this order, if there is no such command
+    /// (`NoCommand`), if it was reported (`Twice`), or if success is reported without an effect
+    /// (`NotEffected`). A refusal changes nothing. It does not allocate.
     #[tactic(auto, unfolding(st_rules::specs::Disks::disks_open))]
     pub fn done(&mut self, n: u64, ok: bool) -> Result<(), DiskRefusal>
         ensures exact { ended result self.new ≡ told (disks.done self.old n ok) }

@@ -44,8 +44,9 @@ fn is_effected(stage: Stage) -> bool
     }
 }
 
-/// A command, with the tag and the bytes that it writes, or those that it found at its effect. Before its effect the tag and the
-/// bytes of a read say nothing. Contracts see the definitions' command.
+/// A command, with the tag and the bytes that it writes, or those that it found at its effect.
+/// Before its effect the tag and the bytes of a read say nothing. Contracts see the definitions'
+/// command.
 #[derive(Drop)]
 pub struct KeptCommand {
     at: BlockAt,
@@ -87,7 +88,7 @@ impl KeptCommand {
         }
     }
 
-    /// How the command stands.
+    /// The state of the command.
     pub fn state(&self) -> CommandState
         ensures { result ≡ standing_of self.now }
     {
@@ -97,7 +98,7 @@ impl KeptCommand {
         }
     }
 
-    /// What is to be read or written. The page is shared.
+    /// What must be read or written. The page is shared.
     pub fn what(&self) -> Result<Command, AllocError>
         ensures { IfOk result (λ what. what ≡ self.now.what) }
     {

@@ -1,5 +1,5 @@
-//! Shared disks: blocks with their tags, and the commands that read and write them. `docs/PROTOCOL.md`, "Disks", has the
-//! rules.
+//! Shared disks: blocks with their tags, and the commands that read and write them.
+//! `docs/PROTOCOL.md`, "Disks", has the rules.
 #![tactic(auto)]
 
 mod blocks;

@@ -240,7 +240,7 @@ module _ (t : Stable) where
   renamed dir name dir2 name2 (Ok d) k = record { same = λ m. absurd (omega (arith, m, k.0, k.1)); server = refl }
   renamed dir name dir2 name2 (Err r) k = tt
 
-  -- the names and the server of what is left behind a removed entry
+  -- the names and the server of what is left after an entry is removed
   without_names : (d : Changed) → (journal.without t d).names ≡ d.names
   unfolding extents.release_from
   without_names d =

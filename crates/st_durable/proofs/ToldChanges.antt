@@ -1,4 +1,4 @@
--- What is told after a step: the change that was made, or none where there was none.
+-- What is reported after a step: the change that was made, or none if there was none.
 use Rattle.std.proofs.Common.{◌≡◌, ◌≢◌, ℕ, ◌+◌, ◌-◌, ◌^◌, ◌<◌, ◌≤◌, ◌⊎◌, Bool, true, false, ◌==◌, List, Option, Some, None, refl, sym, ap, subst, ◌∙◌, arith, inl, inr}
 use Rattle.std.specs.Prelude.{◌&&◌, length, min, nat_lt, nat_le, if◌then◌else◌, Result, Ok, Err}
 use Rattle.std.proofs.lemmas.Bool.{and_parts, and_from, eqb-true, eq-eqb, le-leb, leb-true, lt-ltb}
@@ -195,7 +195,7 @@ module _ (old new : ServerNode) (r : Result (List Output) StepFault) (now : Stam
       (applied_or_not old.state new.state x (subst (λ (o : Option Change). Follows o old.state new.state) e (left_follows old now i new.state own (left old now i new r f))))
       (subst AllFit e (input_fits i fit)) (subst (AllRoom old.state.stable) e (input_room old.state room i))
 
-  -- what is told by the marks before and after
+  -- what the marks before and after report
   pub tells : (before after : ℕ) (changed : Option Change) → Steps old new r (server.node_step old now i) → before ≡ mark old.state.stable x → after ≡ mark new.state.stable x →
       changed ≡ (if after == before then None else Some x) → Tells old.state.stable new.state.stable changed
   tells before after changed f b a c =

@@ -42,12 +42,12 @@ pub record IsMade (old new : Stable) (x : Change) : Type 0 where
   pub ranges : fits x ≡ true
   pub room : HasRoom old x
 
--- What is told of a stable part before and after: the one change that was made, or none, where it is as it was.
+-- What is reported about a stable part before and after: the one change that was made, or none if it is as it was.
 abbrev pub Tells : Stable → Stable → Option Change → Type 0
 Tells old new None = new ≡ old
 Tells old new (Some x) = IsMade old new x
 
--- what is told is what the input asked for
+-- what is reported is what the input asked for
 abbrev pub IsAsked : ServerInput → Option Change → Type 0
 IsAsked input None = Unit {0}
 IsAsked input (Some x) = asked input ≡ Some x

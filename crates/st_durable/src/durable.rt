@@ -26,8 +26,8 @@ use st_server::{ServerNode, ServerStable};
 use std::alloc::{AllocError, Global};
 use std::marker::Model;
 
-/// A server whose stable part is to outlive a crash of the machine: each step and each start tells the one change that it
-/// made to it. Contracts see it as its node, and that change.
+/// A server whose stable part is to outlive a crash of the machine: each step and each start tells
+/// the one change that it made to it. Contracts see it as its node, and that change.
 #[derive(Drop)]
 pub struct DurableServer {
     node: ServerNode,
@@ -266,8 +266,8 @@ fn start_told(node: &mut ServerNode, now: Stamp) -> Result<Change, AllocError>
 }
 
 impl DurableServer {
-    /// A server that was never started before: it runs, in epoch 1 and without grace. Its change is the one that begins
-    /// this epoch. `id` is from 1 to `servers`, which is at most 4.
+    /// A server that was never started before: it runs, in epoch 1 and without grace. Its change is
+    /// the one that begins this epoch. `id` is from 1 to `servers`, which is at most 4.
     pub fn fresh(
         alloc: Global,
         id: ServerId,
@@ -288,8 +288,8 @@ impl DurableServer {
         })
     }
 
-    /// A server of which a crash left this stable part. It does not run, and no change is told; `start` begins its next epoch. `id` is from
-    /// 1 to 4.
+    /// A server of which a crash left this stable part. It does not run, and no change is reported;
+    /// `start` begins its next epoch. `id` is from 1 to 4.
     pub fn restore(
         alloc: Global,
         id: ServerId,
@@ -318,22 +318,24 @@ impl DurableServer {
         &self.node
     }
 
-    /// The one change that the last step or start made to the stable part; `None` exactly where it left that part as it was.
+    /// The one change that the last step or start made to the stable part; `None` exactly where it
+    /// left that part as it was.
     pub fn changed(&self) -> Option<&Change>
         ensures { option_copied result ≡ self.now.changed }
     {
         self.changed.as_ref()
     }
 
-    /// The node crashes: only its stable part is left, and it does not run. The change is still told.
+    /// The node crashes: only its stable part is left, and it does not run. The change is still
+    /// told.
     pub fn crash(&mut self)
         ensures { self.new ≡ record self.old { node = server.crash_node self.old.node } }
     {
         self.node.crash();
     }
 
-    /// A node that does not run is started: its epoch rises, which is the change, and grace begins. Where memory runs out the
-    /// node stays as it was.
+    /// A node that does not run is started: its epoch rises, which is the change, and grace begins.
+    /// If memory runs out the node stays as it was.
     pub fn start(&mut self, now: Stamp) -> Result<(), AllocError>
         requires crashed { self.old.node.running ≡ false }
         requires epochs { self.old.node.state.stable.epoch.0 < 2 ^ 32 - 1 }
@@ -355,12 +357,14 @@ impl DurableServer {
         }
     }
 
-    /// Takes a step at this moment, and returns its outputs in order. Moments never fall. The change that it made is told
-    /// whatever it returns; it is to be kept before any of the outputs is sent.
+    /// Takes a step at this moment, and returns its outputs in order. Moments never fall. The
+    /// change that it made is reported whatever it returns; it must be kept before any of the
+    /// outputs is sent.
     ///
     /// # Errors
-    /// `Crashed` where the node does not run; then nothing changes. `Memory` where memory runs out: then the node is crashed, and
-    /// its stable part is that from before the step or that which the step leaves.
+    /// `Crashed` where the node does not run; then nothing changes. `Memory` if memory runs out:
+    /// then the node is crashed, and its stable part is that from before the step or that which the
+    /// step leaves.
     pub fn step(&mut self, now: Stamp, input: ServerInput) -> Result<Outputs, StepFault>
         requires time { now.0 ≤ 2 ^ 62 }
         requires fits { comes_fit input ≡ true }

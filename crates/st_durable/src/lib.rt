@@ -1,5 +1,6 @@
-//! A server that tells what each step changes in its stable part, so that the change can be kept in a journal before the
-//! step's messages are sent. `docs/PROTOCOL.md`, "A metadata journal", has the rules.
+//! A server that tells what each step changes in its stable part, so that the change can be kept in
+//! a journal before the step's messages are sent. `docs/PROTOCOL.md`, "A metadata journal", has the
+//! rules.
 #![tactic(auto)]
 
 mod durable;

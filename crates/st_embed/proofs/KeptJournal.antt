@@ -25,7 +25,7 @@ use Rattle.st_embed.specs.declared.server.Shape.{Shape}
 some_is : {A : Type 0} (x y : A) → Some x ≡ Some y → x ≡ y
 some_is x y e = cc
 
--- what is to be kept, by whether it is kept
+-- what must be kept, by whether it is kept
 keeps_some : (e : EmbeddedServer) → e.unkept ≡ true → to_keep e ≡ e.server.changed
 keeps_some e u = ap (λ (b : Bool). if b then e.server.changed else None) u
 
@@ -118,7 +118,7 @@ goes_on id k w now bytes left e again i may o =
     start : Stable
     start = start_of id w
 
-    -- where the changes are those of before, and where there is one more
+    -- where the changes are those of before, and if there is one more
     before : IsJournal left i.changes → o.stable ≡ i.stable
     before j = led start o.stable i.stable o.changes i.changes o.stands.leads i.stands.leads (one_journal left o.changes i.changes o.stands.journal j)
 

@@ -1,4 +1,4 @@
--- Lives that were kept are lives that began, and others may begin behind them.
+-- Lives that were kept are lives that began, and others may begin after them.
 use Rattle.std.proofs.Common.{◌≡◌, ℕ, true, ◌&&◌, List, [], ◌∷◌, map, refl, arith}
 use Rattle.std.specs.List.{list_all}
 use Rattle.std.proofs.lemmas.Bool.{and_from, and_parts}

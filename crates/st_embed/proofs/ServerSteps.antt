@@ -29,12 +29,12 @@ pub has_placed : (old new : Stable) (body : Body) (o : Option Change) (size gate
 has_placed old new body None size gate room told asked = tt
 has_placed old new body (Some x) size gate room made asked = (made.ranges, omega (arith, room (ap is_some asked), bytes_few x made.ranges, record_long x))
 
--- what is to be kept, where that is told
+-- what must be kept, where that is reported
 kept_is : (o : Option Change) (b : Bool) → b ≡ is_some o → (if b then o else None) ≡ o
 kept_is None b e = ap (λ (c : Bool). if c then None else None) e
 kept_is (Some x) b e = ap (λ (c : Bool). if c then Some x else None) e
 
--- the room for what is to be kept
+-- the room for what must be kept
 room_of : (o : Option Change) (size gate : ℕ) (x : Change) → IfSome o (λ y. (fits y ≡ true) × (room_for y ≤ room_behind size gate)) → o ≡ Some x → room_for x ≤ room_behind size gate
 room_of None size gate x room e = absurd cc
 room_of (Some y) size gate x room e = subst (λ (z : Change). room_for z ≤ room_behind size gate) (some_is y x e) room.1

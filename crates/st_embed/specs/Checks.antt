@@ -15,7 +15,7 @@ IsMisread frame (refusals.Frame f) = received frame ≡ Err f
 IsMisread frame refusals.Memory = Unit {0}
 IsMisread frame r = ⊥
 
--- why bytes may still have to be taken out
+-- why some bytes may still be left to take out
 abbrev pub IsUntaken : List ℕ → StepRefusal → Type 0
 IsUntaken left refusals.Untaken = left ≢ []
 IsUntaken left refusals.Memory = Unit {0}

@@ -21,7 +21,7 @@ use Rattle.st_embed.specs.declared.fault.OpenFault.TheVariants as opening
 use Rattle.st_embed.specs.declared.fault.StepRefusal.{StepRefusal}
 use Rattle.st_embed.specs.declared.fault.StepRefusal.TheVariants as refusals
 
--- a client, the bytes of its frames that are still to be taken out, and the moment of its last step
+-- a client, the bytes of its frames that must still be taken out, and the moment of its last step
 pub record EmbeddedClient : Type 0 where
   pub node : ClientNode
   pub left : List ℕ
@@ -36,7 +36,7 @@ is_none life = life == 0
 abbrev pub life : ℕ → Life
 life n = record { 0 = n }
 
--- A client that runs: in life 1 at each server where it was never started, and else in the lives behind these.
+-- A client that runs: in life 1 at each server if it was never started, and otherwise in the lives after these.
 abbrev pub begun : ClientId → Config → List ℕ → ClientNode
 begun id k lives = if list_all is_none lives then fresh_node id k (length lives) else start_node (crashed_node id k (map life lives))
 
@@ -44,7 +44,7 @@ begun id k lives = if list_all is_none lives then fresh_node id k (length lives)
 abbrev pub opened : ClientId → Config → List ℕ → EmbeddedClient
 opened id k lives = record { node = begun id k lives; left = []; last = record { 0 = 0 } }
 
--- a life that may be kept: one that began, and behind which another may begin
+-- a life that may be kept: one that began, and after which another may begin
 abbrev pub is_kept : ℕ → Bool
 is_kept n = is_begun (life n) && is_low (life n)
 
@@ -81,8 +81,8 @@ pub record MayStep (old : EmbeddedClient) (now : Stamp) (frame : List ℕ) (mess
   pub in_time : is_in_time old.last now ≡ true
   pub room : HasRoom old.node.state
 
--- A step: the node that runs handles the message of the frame as a node over a stream does, and the bytes that it writes then are
--- to be taken out. None were left before.
+-- A step: the node that runs handles the message of the frame as a node over a stream does, and the bytes that it writes then must be taken out. None were left
+-- before.
 pub record Steps (old new : EmbeddedClient) (now : Stamp) (frame : List ℕ) : Type 0 where
   pub message : Message
   pub received_so : received frame ≡ Ok message

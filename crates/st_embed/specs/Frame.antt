@@ -1,4 +1,4 @@
--- Bytes that are to be one frame.
+-- Bytes that should be one frame.
 use Rattle.std.specs.Prelude.{ℕ, ◌+◌, nat_lt, if◌then◌else◌, List, length, drop, Result, Ok, Err}
 use Rattle.st_codec.specs.declared.frames.Front.{Front}
 use Rattle.st_codec.specs.declared.frames.Front.TheVariants.{Partial, TooLong, Whole}
@@ -10,7 +10,7 @@ use Rattle.st_messages.specs.declared.message.Message.{Message}
 use Rattle.st_embed.specs.declared.fault.FrameFault.{FrameFault}
 use Rattle.st_embed.specs.declared.fault.FrameFault.TheVariants.{Cut, Extra, Refused}
 
--- the number of bytes behind the length of a frame that is whole
+-- the number of bytes after the length of a frame that is whole
 abbrev pub whole_by : Front → Result ℕ FrameFault
 whole_by Partial = Err Cut
 whole_by (TooLong n) = Err (Refused (FrameTooLong n))
@@ -30,6 +30,6 @@ abbrev pub received_by : List ℕ → Result ℕ FrameFault → Result Message F
 received_by bytes (Ok n) = received_whole bytes n
 received_by bytes (Err f) = Err f
 
--- The message of bytes that are to be one frame, or why they are none.
+-- The message of bytes that should be one frame, or why they aren't one.
 unfoldable pub received : List ℕ → Result Message FrameFault
 received bytes = received_by bytes (whole_by (front bytes))

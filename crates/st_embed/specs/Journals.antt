@@ -8,7 +8,7 @@ use Rattle.st_embed.specs.declared.journal_image.Read.{Read}
 use Rattle.st_embed.specs.declared.journal_image.ReadFault.{ReadFault}
 use Rattle.st_embed.specs.declared.journal_image.ReadFault.TheVariants.{Damaged, Memory}
 
--- The bytes stand for the stable part that was read, and its changes and the gate behind them are told.
+-- The bytes stand for the stable part that was read, and its changes and the gate after them are reported.
 pub record Reads (start : Stable) (bytes : List ℕ) (r : Read) : Type 0 where
   pub changes : List Change
   pub stands : StandsFor start bytes changes (stable_of r.stable)

@@ -11,8 +11,7 @@ use Rattle.st_rules.specs.Server.{Stable}
 use Rattle.st_embed.specs.Servers.{EmbeddedServer, begun, node_of, stable_now, start_of, to_keep}
 use Rattle.st_embed.specs.declared.server.Shape.{Shape}
 
--- The bytes are the journal of a server: they stand for its stable part, before the change that is still to be kept if there is one, for
--- which there is room.
+-- The bytes are the journal of a server: they stand for its stable part, before the change that must still be kept if there is one, for which there is room.
 pub record IsKeptIn (id : ServerId) (w : Shape) (bytes : List ℕ) (e : EmbeddedServer) : Type 0 where
   pub changes : List Change
   pub stable : Stable
@@ -22,24 +21,24 @@ pub record IsKeptIn (id : ServerId) (w : Shape) (bytes : List ℕ) (e : Embedded
   pub size : e.size ≡ length bytes
   pub room : (x : Change) → to_keep e ≡ Some x → e.gate + 1 + length (framed x ++ 0 ∷ []) ≤ length bytes
 
--- the bytes with the change that is to be kept
+-- the bytes with the change that must still be kept
 abbrev pub written_by : Option Change → ℕ → List ℕ → List ℕ
 written_by None gate bytes = bytes
 written_by (Some x) gate bytes = with_open_gate bytes gate (framed x ++ 0 ∷ [])
 
--- what a crash may leave: the bytes; and while a change is to be kept, at any moment of its writing
+-- what a crash may leave: the bytes; and while a change must still be kept, at any moment of its writing
 abbrev pub MayBeLeft : Option Change → ℕ → List ℕ → List ℕ → Type 0
 MayBeLeft None gate bytes left = left ≡ bytes
 MayBeLeft (Some x) gate bytes left = (left ≡ bytes) ⊎ ((left ≡ with_open_gate bytes gate (framed x ++ 0 ∷ [])) ⊎ IsTornAppend bytes gate (framed x ++ 0 ∷ []) left)
 
--- The stable part is the one that the bytes stand for, before the change that is to be kept, or the present one, behind it. No frame tells of
--- a change that is to be kept.
+-- The stable part is the one that the bytes stand for, before the change that must be kept, or the present one, after it. No frame mentions a change that must
+-- still be kept.
 abbrev pub IsLeftOf : Stable → Stable → Option Change → Stable → Type 0
 IsLeftOf before now None s = s ≡ now
 IsLeftOf before now (Some x) s = (s ≡ before) ⊎ (s ≡ now)
 
--- The server opened again on the bytes that were left is one that crashed with such a stable part, for which these bytes stand, and is started;
--- or, where no change was ever kept, one that was never started.
+-- The server opened again on the bytes that were left is one that crashed with such a stable part, for which these bytes hold, and is started; or, if no change
+-- was ever kept, one that was never started.
 pub record GoesOn (id : ServerId) (k : Config) (w : Shape) (now : Stamp) (bytes left : List ℕ) (e again : EmbeddedServer) : Type 0 where
   pub before : Stable
   pub stood : (changes : List Change) × StandsFor (start_of id w) bytes changes before

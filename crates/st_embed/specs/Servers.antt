@@ -29,9 +29,8 @@ use Rattle.st_embed.specs.declared.fault.StepRefusal.{StepRefusal}
 use Rattle.st_embed.specs.declared.fault.StepRefusal.TheVariants as refusals
 use Rattle.st_embed.specs.declared.server.Shape.{Shape}
 
--- A server with the change of its last step or start; where the gate stands behind the changes that are kept in its journal, and how many
--- bytes the journal has; whether the change is still to be kept; the bytes of its frames that are to be taken out; and the moment of
--- its last step.
+-- A server with the change of its last step or start; where the gate is after the changes that are kept in its journal, and how many bytes the journal has;
+-- whether the change must still be kept; the bytes of its frames that must be taken out; and the moment of its last step.
 pub record EmbeddedServer : Type 0 where
   pub server : DurableServer
   pub gate : ℕ
@@ -40,7 +39,7 @@ pub record EmbeddedServer : Type 0 where
   pub left : List ℕ
   pub last : Stamp
 
--- The gate lies in the journal, and a change that is to be kept has room behind it.
+-- The gate lies in the journal, and a change that must be kept has room after it.
 pub record IsPlaced (gate size : ℕ) (unkept : Bool) (changed : Option Change) : Type 0 where
   pub within : gate < size
   pub small : size < 4294967296
@@ -53,7 +52,7 @@ node_of e = e.server.node
 abbrev pub stable_now : EmbeddedServer → Stable
 stable_now e = e.server.node.state.stable
 
--- the change that is to be kept
+-- the change that must be kept
 abbrev pub to_keep : EmbeddedServer → Option Change
 to_keep e = if e.unkept then e.server.changed else None
 
@@ -69,12 +68,12 @@ pub record IsOfServer (id : ServerId) (t : Stable) : Type 0 where
   pub mapped : AreMapped t.extents
   pub own : t.extents.server ≡ id
 
--- the server that so many changes lead to: a fresh one where there is none, and else the one that crashed with this stable part and is started
+-- the server that so many changes lead to: a fresh one if there is none, and otherwise the one that crashed with this stable part and is started
 abbrev pub begun : ServerId → Config → Shape → Stamp → ℕ → Stable → ServerNode
 begun id k w now zero stable = fresh_node id k w.servers w.disks w.blocks
 begun id k w now (suc n) stable = start_node (crashed_node id k stable) now
 
--- a server that may be opened on so many bytes, as far as the bytes themselves are not looked at
+-- a server that may be opened on that many bytes, as far as the bytes themselves are not looked at
 pub record MayOpen (id : ServerId) (k : Config) (w : Shape) (now : Stamp) (size : ℕ) : Type 0 where
   pub checked : IsOk (check k)
   pub limits : IsWithinLimits id.0 w.servers w.disks w.blocks
@@ -86,7 +85,7 @@ pub record MayOpen (id : ServerId) (k : Config) (w : Shape) (now : Stamp) (size 
 abbrev pub MayStart : ℕ → Stable → Type 0
 MayStart n s = (n ≡ 0) ⊎ ((1 ≤ s.epoch.0) × (s.epoch.0 < 4294967295))
 
--- An opened server: the journal stands for its stable part before the change that begins the epoch, which is to be kept.
+-- An opened server: the journal stands for its stable part before the change that begins the epoch, which must be kept.
 pub record Opens (id : ServerId) (k : Config) (w : Shape) (now : Stamp) (bytes : List ℕ) (e : EmbeddedServer) : Type 0 where
   pub changes : List Change
   pub stable : Stable
@@ -109,7 +108,7 @@ NotStarted s opening.Epochs = 4294967295 ≤ s.epoch.0
 NotStarted s opening.Memory = Unit {0}
 NotStarted s f = ⊥
 
--- the number of changes of a journal leaves too little room behind its gate for a record
+-- the number of changes of a journal leaves too little room after its gate for a record
 pub record IsFull (start : Stable) (bytes : List ℕ) : Type 0 where
   pub changes : List Change
   pub stable : Stable
@@ -150,7 +149,7 @@ abbrev pub IsAskedBy : Body → Option Change → Type 0
 IsAskedBy body None = Unit {0}
 IsAskedBy body (Some x) = asked_of body ≡ Some x
 
--- a step: as of a client; besides, where the stable part changed, the change is to be kept, and the journal has room for it
+-- a step: as of a client; also, if the stable part changed, the change must be kept, and the journal has room for it
 pub record Steps (old new : EmbeddedServer) (now : Stamp) (frame : List ℕ) : Type 0 where
   pub message : Message
   pub received_so : received frame ≡ Ok message
@@ -170,7 +169,7 @@ pub record Steps (old new : EmbeddedServer) (now : Stamp) (frame : List ℕ) : T
 abbrev pub IsStarved : ServerNode → ServerNode → Stamp → Message → Type 0
 IsStarved old new now m = (new ≡ crash_node old) ⊎ ((n : ServerNode) × (Server n ≡ (handle (Server old) now m).node) × (new ≡ crash_node n))
 
--- Memory ran out in a step that may be taken: the node is crashed, and nothing is to be kept or taken out.
+-- Memory ran out in a step that may be taken: the node is crashed, and nothing must be kept or taken out.
 pub record Starves (old new : EmbeddedServer) (now : Stamp) (frame : List ℕ) : Type 0 where
   pub message : Message
   pub may : MayStep old now frame message
@@ -202,18 +201,18 @@ Refuses old new now frame journal.Unkept = (old.unkept ≡ true) × (new ≡ old
 Refuses old new now frame (journal.Step r) = (old.unkept ≡ false) × RefusesStep old new now frame r
 Refuses old new now frame journal.JournalFull = (old.unkept ≡ false) × IsJournalFull old now frame × (new ≡ old)
 
--- why no bytes are taken out: a change is to be kept, or memory
+-- why no bytes are taken out: a change must still be kept, or lack of memory
 abbrev pub NotTaken : EmbeddedServer → ServerRefusal → Type 0
 NotTaken e journal.Unkept = e.unkept ≡ true
 NotTaken e (journal.Step refusals.Memory) = e.unkept ≡ false
 NotTaken e r = ⊥
 
--- Keeping a change: its record is the bytes that stand behind the gate, with the next gate, which is not open.
+-- Keeping a change: its record is the bytes after the gate, with the next gate, which isn't open.
 abbrev pub record_by : Option Change → List ℕ
 record_by None = []
 record_by (Some x) = framed x ++ 0 ∷ []
 
--- how many bytes the gate moves behind it, and where it stands then
+-- how many bytes the gate moves past it, and where it is then
 abbrev pub len_by : Option Change → ℕ
 len_by None = 0
 len_by (Some x) = room_for x
@@ -221,6 +220,6 @@ len_by (Some x) = room_for x
 abbrev pub gate_by : Option Change → ℕ → ℕ
 gate_by o gate = gate + len_by o
 
--- nothing is to be kept any more
+-- nothing must be kept any more
 abbrev pub kept : EmbeddedServer → EmbeddedServer
 kept e = record e { gate = gate_by (to_keep e) e.gate; unkept = false }

@@ -26,8 +26,8 @@ use st_node::client_input_of;
 use std::alloc::{AllocError, Global};
 use std::marker::Model;
 
-/// A client inside another program. Contracts see its node, the bytes of its frames that are still to be taken out, and the moment of
-/// its last step.
+/// A client inside another program. Contracts see its node, the bytes of its frames that must still
+/// be taken out, and the moment of its last step.
 #[derive(Drop)]
 pub struct EmbeddedClient {
     alloc: Global,
@@ -51,7 +51,7 @@ fn is_client(id: ClientId) -> bool
     1 <= id.0 && id.0 <= 16
 }
 
-/// A client in the lives behind these.
+/// A client in the lives after these.
 fn started(
     alloc: Global,
     id: ClientId,
@@ -71,7 +71,7 @@ fn started(
     Ok(node)
 }
 
-/// A client that runs: in life 1 where it was never started, and else in the lives behind these.
+/// A client that runs: in life 1 if it was never started, and otherwise in the lives after these.
 fn begin(
     alloc: Global,
     id: ClientId,
@@ -100,7 +100,8 @@ fn begin(
     Err(OpenFault::Lives)
 }
 
-/// The outputs of a node's step for a message; none where the message is no input of the node. An error is for memory: then the node is crashed.
+/// The outputs of a node's step for a message; none if the message isn't an input of the node. An
+/// error means that memory ran out: then the node is crashed.
 #[tactic(auto, unfolding(st_node::specs::Runs::handle))]
 fn outputs_for(
     alloc: Global,
@@ -130,9 +131,9 @@ fn outputs_for(
 }
 
 impl EmbeddedClient {
-    /// Opens a client that runs. `lives` has one for each of its servers, of which there are at most four: all 0 where the client was never
-    /// started, which is then in life 1 at each; and else those that were kept last, behind which its next lives begin. `id` is from
-    /// 1 to 16.
+    /// Opens a client that runs. `lives` has one for each of its servers, of which there are at
+    /// most four: all 0 if the client was never started, which is then in life 1 at each; otherwise
+    /// those that were kept last, after which its next lives begin. `id` is from 1 to 16.
     pub fn open(
         alloc: Global,
         id: ClientId,
@@ -203,7 +204,8 @@ impl EmbeddedClient {
         self.node.has_dirty(server)
     }
 
-    /// How many bytes are still to be taken out. An error is for memory; it changes nothing, and the call may be tried again.
+    /// How many bytes must still be taken out. An error means that memory ran out; it changes
+    /// nothing, and the call may be tried again.
     pub fn left(&mut self) -> Result<usize, AllocError>
         ensures same { self.new ≡ self.old }
         ensures count { IfOk result (λ n. n ≡ length self.old.left) }
@@ -211,8 +213,9 @@ impl EmbeddedClient {
         self.pending.len()
     }
 
-    /// Takes the first bytes out that are still to be taken, as many as there is room for, and returns how many. An error is for memory; it
-    /// changes nothing, and the call may be tried again.
+    /// Takes the first bytes out that must still be taken, as many as there is room for, and
+    /// returns how many. An error means that memory ran out; it changes nothing, and the call may
+    /// be tried again.
     pub fn take(&mut self, out: &mut [u8]) -> Result<usize, AllocError>
         ensures ok { IfOk result (Takes self.old.left self.new.left out.old out.new) }
         ensures node { self.new.node ≡ self.old.node }
@@ -244,13 +247,14 @@ impl EmbeddedClient {
         Ok(message)
     }
 
-    /// Takes a step for the message of one frame, with its length, at this moment. Moments never fall, and are at most 2^62. A message that is
-    /// no input of the client is passed over. Returns whether a life at one of the servers is another one than before: then the lives
-    /// are to be kept before any byte of this step is sent.
+    /// Takes a step for the message of one frame, with its length, at this moment. Moments never
+    /// fall, and are at most 2^62. A message that isn't an input of the client is ignored. Returns
+    /// whether a life at one of the servers is another one than before: then the lives must be kept
+    /// before any byte of this step is sent.
     ///
     /// # Errors
-    /// All but `Starved` change nothing. `Starved` leaves a client that is crashed, in the lives from before the step, and nothing to be taken
-    /// out.
+    /// All but `Starved` change nothing. `Starved` leaves a client that is crashed, in the lives
+    /// from before the step, and nothing to be taken out.
     pub fn step(&mut self, now: Stamp, frame: &[u8]) -> Result<bool, StepRefusal>
         ensures ok { OnOk result (Steps self.old self.new now frame.now) }
         ensures lives { IfOk result (λ another. another ≡ has_new_life self.old.node.state self.new.node.state) }

@@ -19,10 +19,10 @@ pub enum FrameFault {
 /// Why a step is refused, in the order of the checks. All but `Starved` change nothing.
 #[derive(Clone, Copy, Debug, PartialEq, Eq, Error)]
 pub enum StepRefusal {
-    /// The node crashed, as it does where memory runs out in a step.
+    /// The node crashed, as it does if memory runs out in a step.
     #[error("the node does not run")]
     Crashed,
-    /// Frames of the step before are still to be taken.
+    /// Frames of the step before must still be taken.
     #[error("frames of an earlier step were not taken")]
     Untaken,
     /// The moment is before that of an earlier step, or above 2^62.
@@ -61,7 +61,7 @@ pub enum OpenFault {
 /// Why a step of a server is refused. All but `Starved` change nothing.
 #[derive(Clone, Copy, Debug, PartialEq, Eq, Error)]
 pub enum ServerRefusal {
-    /// The change of an earlier step, or the beginning of the epoch, is still to be kept.
+    /// The change of an earlier step, or the beginning of the epoch, must still be kept.
     #[error("a change was not kept")]
     Unkept,
     /// As of any node.

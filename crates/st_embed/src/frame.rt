@@ -10,7 +10,7 @@ use st_codec::{CodecRefusal, decode};
 use st_messages::Message;
 use std::alloc::{AllocError, Global};
 
-/// The number of bytes behind the length of the frame that the bytes begin with.
+/// The number of bytes after the length of the frame that the bytes begin with.
 #[tactic(auto, unfolding(st_codec::specs::Frames::front))]
 fn whole_len(bytes: &[u8]) -> Result<usize, FrameFault>
     ensures exact { result ≡ whole_by (front bytes.now) }
@@ -42,7 +42,7 @@ fn read_message(alloc: Global, bytes: &[u8]) -> Result<Result<Message, FrameFaul
     }
 }
 
-/// Reads the frame of so many bytes behind its length, with which the bytes begin.
+/// Reads the frame of that many bytes after its length, with which the bytes begin.
 fn read_whole(
     alloc: Global,
     bytes: &[u8],
@@ -59,7 +59,7 @@ fn read_whole(
     read_message(alloc, body)
 }
 
-/// Reads bytes that are to be one frame: its message, which fits, or why they are none.
+/// Reads bytes that should be one frame: its message, which fits, or why they aren't one.
 #[tactic(auto, unfolding(crate::specs::Frame::received))]
 pub(crate) fn read_frame(
     alloc: Global,

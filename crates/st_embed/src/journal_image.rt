@@ -9,7 +9,8 @@ use st_base::ServerId;
 use st_journal::{Journal, JournalFault, MemoryStore, Stable, Store};
 use std::alloc::Global;
 
-/// What was read of a journal: its stable part, where the gate behind its changes stands, and how many changes there are.
+/// What was read of a journal: its stable part, where the gate after its changes is, and how many
+/// changes there are.
 #[derive(Drop)]
 pub struct Read {
     pub(crate) stable: Stable,
@@ -20,7 +21,7 @@ pub struct Read {
 /// Why a journal was not read.
 #[derive(Clone, Copy)]
 pub enum ReadFault {
-    /// The open gate at this place has no change behind it that applies.
+    /// The open gate at this place has no change after it that applies.
     Damaged(u64),
     Memory,
 }

@@ -11,11 +11,12 @@ ghost use Rattle.st_journal.specs.declared.change.Change.{Change};
 ghost use Rattle.st_rules.specs.Server.{ServerNode, Stable, crash_node};
 ghost use Rattle.st_server.specs.Restart.{crashed_node};
 
-/// A journal that is kept as told outlives a crash at any moment, and opening what is left of it gives the server that crashed and was
-/// started, with every change whose frames could be taken.
+/// A journal that is kept as told outlives a crash at any moment, and opening what is left of it
+/// gives the server that crashed and was started, with every change whose frames could be taken.
 #[tactic(auto, using(crate::proofs::KeptJournal::opened_is_kept, crate::proofs::KeptJournal::step_keeps, crate::proofs::KeptJournal::taken_keeps, crate::proofs::KeptJournal::written_keeps, crate::proofs::KeptJournal::goes_on, crate::proofs::KeptJournal::is_a_crash))]
 pub fn a_journal_outlives_crashes()
-    // An opened server's journal stands for it, with the change that begins its epoch still to be kept.
+    // An opened server's journal stands for it, with the change that begins its epoch still to be
+    // kept.
     ensures opened { (id : ServerId) (k : Config) (w : Shape) (now : Stamp) (bytes : List ℕ) (e : EmbeddedServer) → Opens id k w now bytes e → IsKeptIn id w bytes e }
     // A step changes nothing of that,
     ensures stepped { (id : ServerId) (w : Shape) (bytes : List ℕ) (old new : EmbeddedServer) (now : Stamp) (frame : List ℕ) → IsKeptIn id w bytes old → Steps old new now frame → IsKeptIn id w bytes new }
@@ -23,8 +24,8 @@ pub fn a_journal_outlives_crashes()
     ensures taken { (id : ServerId) (w : Shape) (bytes left : List ℕ) (e : EmbeddedServer) → IsKeptIn id w bytes e → IsKeptIn id w bytes (record e { left = left }) }
     // and it stands for the server with a change that was written.
     ensures written { (id : ServerId) (w : Shape) (bytes : List ℕ) (e : EmbeddedServer) → IsKeptIn id w bytes e → IsKeptIn id w (written_by (to_keep e) e.gate bytes) (kept e) }
-    // What a crash leaves, also while a change is written, is opened as the server that crashed and was started: with the change that was to be kept, or
-    // as before it.
+    // What a crash leaves, also while a change is written, is opened as the server that crashed and
+    // was started: with the change that had to be kept, or as before it.
     ensures crashed { (id : ServerId) (k : Config) (w : Shape) (now : Stamp) (bytes left : List ℕ) (e again : EmbeddedServer) → IsKeptIn id w bytes e → MayBeLeft (to_keep e) e.gate bytes left
         → Opens id k w now left again → GoesOn id k w now bytes left e again }
     // That is what a crash leaves of a node.

@@ -1,5 +1,6 @@
-//! The nodes inside another program: each call takes a moment and one frame, and the frames that come of it are taken out in any pieces.
-//! No clock, no thread and no socket is in it. `docs/PROTOCOL.md`, "Building on it", has the rules for the program around it.
+//! The nodes inside another program: each call takes a moment and one frame, and the frames that
+//! come of it are taken out in any pieces. No clock, no thread and no socket is in it.
+//! `docs/PROTOCOL.md`, "Building on it", has the rules for the program around it.
 #![tactic(auto)]
 
 mod checks;

@@ -44,7 +44,7 @@ pub(crate) fn are_none(lives: &[u64]) -> bool
     lives.iter().all(|life| *life == 0)
 }
 
-/// Whether each is a life that began, behind which another may begin.
+/// Whether each is a life that began, after which another may begin.
 pub(crate) fn are_kept(lives: &[u64]) -> bool
     ensures { result ≡ list_all is_kept lives.now }
 {

@@ -1,4 +1,4 @@
-// Bytes that are to be taken out.
+// Bytes that must be taken out.
 ghost use Rattle.std.specs.Prelude.{◌≡◌, ◌++◌, [], true, OnOk, OnErr, length};
 ghost use Rattle.st_embed.specs.FramePieces.{Takes, are_sent, frames_of};
 
@@ -15,7 +15,7 @@ pub enum Sender {
     Server,
 }
 
-/// Bytes that are to be taken out, the first ones first. Contracts see those that are left.
+/// Bytes that must be taken out, the first ones first. Contracts see those that are left.
 #[derive(Drop)]
 pub(crate) struct Outbox {
     bytes: Vec<u8>,

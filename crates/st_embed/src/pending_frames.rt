@@ -14,8 +14,8 @@ pub struct Unspelled {
     pub(crate) outputs: Outputs,
 }
 
-/// The frames of a step's outputs, until they are taken out. Contracts see the bytes that are left. Where memory runs out as they are
-/// spelled, nothing is lost, and the call may be tried again.
+/// The frames of a step's outputs, until they are taken out. Contracts see the bytes that are left.
+/// If memory runs out as they are spelled, nothing is lost, and the call may be tried again.
 #[derive(Drop)]
 pub(crate) struct PendingFrames {
     ready: Outbox,

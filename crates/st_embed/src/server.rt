@@ -34,7 +34,8 @@ use st_node::server_input_of;
 use std::alloc::{AllocError, Global};
 use std::marker::Model;
 
-/// The most bytes of a record: the length of a change in four bytes, its 521 bytes at most, and a gate.
+/// The most bytes of a record: the length of a change in four bytes, its 521 bytes at most, and a
+/// gate.
 const MOST_RECORD: u64 = 526;
 
 /// How many servers there are, how many disks, and how many blocks each has.
@@ -45,9 +46,10 @@ pub struct Shape {
     pub blocks: u32,
 }
 
-/// A server inside another program. Contracts see the server with the change of its last step or start; where the gate stands behind the changes
-/// that are kept in its journal, and how many bytes the journal has; whether the change is still to be kept; the bytes of its frames that are still
-/// to be taken out; and the moment of its last step.
+/// A server inside another program. Contracts see the server with the change of its last step or
+/// start; where the gate is after the changes that are kept in its journal, and how many bytes the
+/// journal has; whether the change must still be kept; the bytes of its frames that must still be
+/// taken out; and the moment of its last step.
 #[derive(Drop)]
 pub struct EmbeddedServer {
     alloc: Global,
@@ -70,7 +72,7 @@ impl Model for EmbeddedServer {
     ghost invariant = { λ e. IsPlaced e.gate e.size e.unkept e.server.changed };
 }
 
-/// Whether a server of this number stands in such a world.
+/// Whether there is a server of this number in such a world.
 fn is_within(id: ServerId, shape: Shape) -> bool
     ensures yes { result ≡ true → IsWithinLimits id.0 shape.servers shape.disks shape.blocks }
     ensures no { result ≡ false → IsWithinLimits id.0 shape.servers shape.disks shape.blocks → ⊥ }
@@ -174,7 +176,7 @@ fn opened(
     restarted(alloc, id, config, now, stable)
 }
 
-/// How many bytes the gate moves behind this change.
+/// How many bytes the gate moves past this change.
 #[tactic(auto, using(crate::proofs::StableParts::record_long))]
 fn record_len(change: Option<&Change>) -> u64
     requires { IfSome (option_copied change) (λ x. spelling.fits x ≡ true) }
@@ -200,7 +202,7 @@ fn may_change(body: &Body) -> bool
     }
 }
 
-/// The outputs of a node's step for a message; `None` where the message is no input of the node.
+/// The outputs of a node's step for a message; `None` if the message isn't an input of the node.
 #[tactic(auto, unfolding(st_node::specs::Runs::handle))]
 fn outputs_for(
     server: &mut DurableServer,
@@ -233,9 +235,10 @@ fn outputs_for(
 }
 
 impl EmbeddedServer {
-    /// Opens a server on the bytes of its journal: zeros where it was never started. It runs, in its next epoch; the change that begins the
-    /// epoch is to be kept before the first step. `id` is from 1 to the number of servers, which is at most 4; there are as many disks
-    /// as servers at least, and at most 8, of 1 to 4,096 blocks each; the journal has 1 to 2^32 - 1 bytes.
+    /// Opens a server on the bytes of its journal: zeros if it was never started. It runs, in its
+    /// next epoch; the change that begins the epoch must be kept before the first step. `id` is
+    /// from 1 to the number of servers, which is at most 4. There are at least as many disks as
+    /// servers, and at most 8, of 1 to 4,096 blocks each. The journal has 1 to 2^32 - 1 bytes.
     pub fn open(
         alloc: Global,
         id: ServerId,
@@ -310,14 +313,14 @@ impl EmbeddedServer {
         self.server.node().stable().epoch
     }
 
-    /// The place of the gate behind the changes that are kept.
+    /// The place of the gate after the changes that are kept.
     pub fn gate(&self) -> u64
         ensures { result ≡ self.now.gate }
     {
         self.gate
     }
 
-    /// The change that is to be kept before any frame is taken.
+    /// The change that must be kept before any frame is taken.
     fn unkept(&self) -> Option<&Change>
         ensures { option_copied result ≡ to_keep self.now }
     {
@@ -371,11 +374,13 @@ impl EmbeddedServer {
         Ok(message)
     }
 
-    /// Takes a step for the message of one frame, with its length, at this moment. Moments never fall, and are at most 2^62. A message that is
-    /// no input of the server is passed over. Returns whether the step made a change that is to be kept before any frame is taken out.
+    /// Takes a step for the message of one frame, with its length, at this moment. Moments never
+    /// fall, and are at most 2^62. A message that isn't an input of the server is ignored. Returns
+    /// whether the step made a change that must be kept before any frame is taken out.
     ///
     /// # Errors
-    /// All but `Starved` change nothing. `Starved` leaves a server that is crashed, and nothing to be kept or taken out.
+    /// All but `Starved` change nothing. `Starved` leaves a server that is crashed, and nothing to
+    /// be kept or taken out.
     pub fn step(&mut self, now: Stamp, frame: &[u8]) -> Result<bool, ServerRefusal>
         ensures ok { OnOk result (Steps self.old self.new now frame.now) }
         ensures unkept { IfOk result (λ b. b ≡ is_some (to_keep self.new)) }
@@ -394,8 +399,9 @@ impl EmbeddedServer {
         }
     }
 
-    /// The record of the change that is to be kept: its length, its bytes and a gate that is not open. It is written behind the gate and synced;
-    /// then the gate becomes 1, and is synced. An empty record where there is none.
+    /// The record of the change that must be kept: its length, its bytes and a gate that is not
+    /// open. It is written after the gate and synced; then the gate becomes 1, and is synced. An
+    /// empty record if there is none.
     pub fn record(&self) -> Result<Vec<u8>, AllocError>
         ensures { IfOk result (λ b. b.items ≡ record_by (to_keep self.now)) }
     {
@@ -405,7 +411,8 @@ impl EmbeddedServer {
         }
     }
 
-    /// The record was written and synced, and then its gate. It changes nothing where nothing is to be kept.
+    /// The record was written and synced, and then its gate. It changes nothing if nothing must be
+    /// kept.
     pub fn kept(&mut self)
         ensures { self.new ≡ kept self.old }
     {
@@ -414,7 +421,7 @@ impl EmbeddedServer {
         self.unkept = false;
     }
 
-    /// How many bytes are still to be taken out.
+    /// How many bytes must still be taken out.
     pub fn left(&mut self) -> Result<usize, AllocError>
         ensures same { self.new ≡ self.old }
         ensures count { IfOk result (λ n. n ≡ length self.old.left) }
@@ -422,10 +429,11 @@ impl EmbeddedServer {
         self.pending.len()
     }
 
-    /// Takes the first bytes out that are still to be taken, as many as there is room for, and returns how many.
+    /// Takes the first bytes out that must still be taken, as many as there is room for, and
+    /// returns how many.
     ///
     /// # Errors
-    /// `Unkept` while a change is to be kept, and `Memory`; both change nothing.
+    /// `Unkept` while a change must still be kept, and `Memory`; both change nothing.
     pub fn take(&mut self, out: &mut [u8]) -> Result<usize, ServerRefusal>
         ensures ok { IfOk result (Takes self.old.left self.new.left out.old out.new) }
         ensures kept { OnOk result (self.old.unkept ≡ false) }

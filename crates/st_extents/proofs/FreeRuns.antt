@@ -1,4 +1,4 @@
--- Runs of free places: the first place, and what stands after one is taken or given back.
+-- Runs of free places: the first place, and what holds after one is taken or given back.
 use Rattle.std.proofs.Common.{◌≡◌, ℕ, zero, suc, ◌+◌, ◌-◌, ◌*◌, ◌<◌, ◌≤◌, Bool, true, false, if◌then◌else◌, List, [], ◌∷◌, ◌++◌, length, filter, set, get_or, take, drop, append_assoc, add-zero, zero-add, arith, refl, sym, ap, subst, ◌∙◌, ⊎_elim, inl, inr, true≢false}
 use Rattle.std.specs.Prelude.{not, replicate, nat_le, nat_lt, ◌&&◌, ◌||◌, ◌==◌, ◌⊎◌}
 use Rattle.std.specs.List.{insert, remove}
@@ -357,7 +357,7 @@ given_alone rs i p g a o = λ n l b.
     (λ j h. absurd (true≢false (sym h)))
     (λ j s e q. absurd (q (omega (arith, s, e)))))
 
--- the run above begins behind the place
+-- the run above begins after the place
 given_down : (rs : List FreeRun) (k p m : ℕ) (d : FreeRun) → k < length rs → (get_or rs k d).end ≡ m → IsGap p (take (k + 1) rs) (drop (k + 1) rs) → begins_at (p + 1) (take (k + 1) rs) ≡ true → ends_at p (drop (k + 1) rs) ≡ false → IsGivenTo p rs (set rs k (record { start = p; end = m }))
 given_down rs k p m d w t g a o = λ n l b.
     let split = rest_split rs k d w in
@@ -399,7 +399,7 @@ joined_is rs k d m w =
     ap (λ xs. xs ++ drop (suc (k + 1)) rs) (take_more rs k d first) ∙ append_assoc (take k rs) (get_or rs k d ∷ []) (drop (suc (k + 1)) rs) ∙ ap (λ i. take k rs ++ (get_or rs k d ∷ drop i rs)) e in
     ap (λ xs. set xs k m) whole ∙ set_at (take k rs) (get_or rs k d) (drop (k + 1 + 1) rs) m k (length-take-le k rs (omega (arith, w)))
 
--- the place stands between two runs
+-- the place lies between two runs
 given_join : (rs : List FreeRun) (k p u v : ℕ) (d : FreeRun) → k + 1 < length rs → (get_or rs (k + 1) d).start ≡ u → (get_or rs k d).end ≡ v → begins_at (p + 1) (take (k + 1) rs) ≡ true → ends_at p (drop (k + 1) rs) ≡ true → IsGivenTo p rs (set (remove rs (k + 1)) k (record { start = u; end = v }))
 given_join rs k p u v d w f g a o = λ n l b.
     let x = get_or rs k d in

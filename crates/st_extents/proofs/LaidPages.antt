@@ -1,4 +1,4 @@
--- Blocks in order, and the pages that lie on them: what is free, and what stands after a change.
+-- Blocks in order, and the pages that lie on them: what is free, and what holds after a change.
 use Rattle.std.proofs.Common.{◌≡◌, ℕ, zero, suc, ◌+◌, ◌<◌, ◌≤◌, Bool, true, false, cond, List, [], ◌∷◌, ◌++◌, filter, length, set, get_or, arith, refl, sym, ap, subst, ◌∙◌, ⊎_elim, true≢false}
 use Rattle.std.specs.Prelude.{find, nat_le, not, is_some, Some, ◌&&◌, ◌||◌, ◌==◌, replicate, slice_get}
 use Rattle.std.specs.List.{IsDistinct, AllByRecursion, list_any}
@@ -332,7 +332,7 @@ laid_new own o = record {
   told = λ i d b l. get_or-replicate (length own) i false d l;
 }
 
--- a page that is at or behind another one, and so is each of its extents
+-- a page that is at or after another one, and so is each of its extents
 pub behind_too : (f : FileId) (p q : PageNo) (e x : Extent) → is_at_or_behind f p e ≡ true → e.page ≡ q → is_extent_of f q x ≡ true → is_at_or_behind f p x ≡ true
 behind_too f p q e x t at h =
     let a = and_parts (same_file e.file f) (nat_le p.0 e.page.0) t in

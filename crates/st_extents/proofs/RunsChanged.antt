@@ -114,7 +114,7 @@ module _ (es fs : List (RunKey × Run)) (k : RunKey) (o : Option Run) (change : 
             (from l r h))
             (from j q g)
 
-  -- What stands under a birth.
+  -- What is under a birth.
   module _ (sorted : IsStrictlySortedBy run_order (keys_of es)) (after : IsStrictlySortedBy run_order (keys_of fs)) (n m : ℕ) (T : AreKept n (run_at es)) (U : AreKept m (run_at fs)) (b : ℕ) where
     gone : ((w : Run) → o ≡ Some w → has_birth b (k, w) ≡ true → (r : Run) × ((run_at es k ≡ Some r) × (has_birth b (k, r) ≡ true))) → extent_under es b ≡ None → (j : RunKey) (q : Run) → run_at fs j ≡ Some q → has_birth b (j, q) ≡ true → ⊥
     gone only e j q g t = ⊎_elim

@@ -225,7 +225,7 @@ module _ (es : List (RunKey × Run)) (sorted : IsStrictlySortedBy run_order (key
         (λ m. omega (arith, m, l))
         (cases_lt k.1.0 (j.1.0 + q.length))
 
-    -- no run of the file: none ends behind the page
+    -- no run of the file: none ends after the page
     pub ends_never : (f : FileId) (p : ℕ) → ((j : RunKey) → file_of j ≡ f → j.1.0 ≤ 4294967295 → IsSome (run_at es j) → ⊥) → (j : RunKey) (q : Run) → run_at es j ≡ Some q → file_of j ≡ f → j.1.0 + q.length ≤ p
     ends_never f p last j q g e = let a = (kept.fits j q g).0 in absurd (last j e (omega (arith, a)) (ap is_some g))
 

@@ -82,7 +82,7 @@ module _ (f : FileId) (ps : List PageNo) (i : ℕ) (d : PageNo) (l : i < length 
   length_more : length (take (i + 1) ps) ≡ length (take i ps) + 1
   length_more = ap length (take_more ps i d l) ∙ length-append (take i ps) (get_or ps i d ∷ [])
 
-  -- the last of these pages stands last
+  -- the last of these pages is last
   pub is_last : AreLastMapped f (take (i + 1) ps) given after → IsLastMapped f (get_or ps i d) given after
   is_last h =
       let t = taken_last f ps i d h.0 after h.1.0 l h.1.1.1 in
@@ -104,7 +104,7 @@ module _ (f : FileId) (ps : List PageNo) (i : ℕ) (d : PageNo) (l : i < length 
         let g = h.1.1.0 in
         (h.0, (h.1.0, (omega (arith, m, g, e), one_back h.0 h.1.0 h.1.1.1)))
 
--- the page that stands last is found
+-- the page that is last is found
 pub newest_found : (f : FileId) (p : PageNo) (births : ℕ) (rows : List Extent) → IsDistinct of_one_page rows → IsLastMapped f p births rows → (e : Extent) × ((find (is_extent_of f p) rows ≡ Some e) × (e.birth ≡ births))
 newest_found f p births rows d h =
     let e : Extent = record { file = f; page = p; at = h.1.0; birth = births } in

@@ -16,8 +16,8 @@ unfoldable pub taken_from : List FreeRun → ℕ → ℕ → List Bool
 taken_from rs i zero = []
 taken_from rs i (suc n) = not (is_free rs i) ∷ taken_from rs (i + 1) n
 
--- each run has a place; the first one ends below the number, and each other one below the start of the run before it, so that
--- a place which is in no run stands between two
+-- each run has a place; the first one ends below the number, and each other one below the start of the run before it, so that a place which is in no run lies
+-- between two
 abbrev pub AreBelow : ℕ → List FreeRun → Type 0
 AreBelow n [] = ⊤
 AreBelow n (r ∷ rs) = (r.start < r.end) × ((r.end < n) × AreBelow r.start rs)
@@ -46,7 +46,7 @@ ends_at p (r ∷ rs) = r.end == p
 abbrev pub begins_at : ℕ → List FreeRun → Bool
 begins_at p rs = first_of 0 rs == p
 
--- the place stands between the last of the first runs and the first of the others
+-- the place lies between the last of the first runs and the first of the others
 pub record IsGap (p : ℕ) (above below : List FreeRun) : Type 0 where
   pub behind : (n : ℕ) → p < n → p < first_of n above
   pub begun : BeginsUpTo p below

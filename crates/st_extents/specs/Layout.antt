@@ -54,7 +54,7 @@ pub record IsKept (s : Shape) (g : Mapping) : Type 0 where
 abbrev pub unmapped_of : List Extent → FileId → PageNo → ℕ → List PageNo
 unmapped_of rows f p count = filter (λ q. not (is_some (find (is_extent_of f q) rows))) (pages_from p count)
 
--- after these pages were mapped one after another, what stands is what the definition gives
+-- after these pages were mapped one after another, what results is what the definition gives
 abbrev pub PlacesAll : Mapping → Mapping → FileId → List PageNo → Type 0
 PlacesAll old new f ps =
     (s : Shape) → old.own ≡ own_blocks (no_extents s.server s.servers s.disks s.blocks)

@@ -50,7 +50,7 @@ IsMapped rows f p birth (b ∷ bs) after = after ≡ rows ++ mapped_to f p b bir
 abbrev pub HasOneMore : List Extent → ℕ → FileId → PageNo → List Extent → Type 0
 HasOneMore rows birth f p after = (b : BlockAt) × (after ≡ rows ++ mapped_to f p b birth ∷ [])
 
--- the page stands last, under this birth
+-- the page is last, under this birth
 abbrev pub IsLastMapped : FileId → PageNo → ℕ → List Extent → Type 0
 IsLastMapped f p birth after = (rows : List Extent) × HasOneMore rows birth f p after
 
@@ -59,11 +59,11 @@ abbrev pub AreAdded : List Extent → ℕ → FileId → List PageNo → List Ex
 AreAdded rows births f [] after = after ≡ rows
 AreAdded rows births f (p ∷ ps) after = (b : BlockAt) × AreAdded (rows ++ mapped_to f p b (births + 1) ∷ []) (births + 1) f ps after
 
--- these pages stand last, in this order, under the last births
+-- these pages are last, in this order, under the last births
 abbrev pub AreLastMapped : FileId → List PageNo → ℕ → List Extent → Type 0
 AreLastMapped f ps given after = (rows : List Extent) × ((births : ℕ) × ((given ≡ births + length ps) × AreAdded rows births f ps after))
 
--- these pages, which stood last in this order, are gone, and their births taken back
+-- these pages, which were last in this order, are gone, and their births are taken back
 abbrev pub TakesBack : Mapping → Mapping → FileId → List PageNo → Type 0
 TakesBack old new f ps =
     (rows : List Extent) (births : ℕ) → old.births ≡ births + length ps → AreAdded rows births f ps old.rows

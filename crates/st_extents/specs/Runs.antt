@@ -31,7 +31,7 @@ same_start a b = is_eq (run_order a b)
 abbrev pub run_at : List (RunKey × Run) → RunKey → Option Run
 run_at es k = lookup (same_start k) es
 
--- where a run of this file that begins at this page stands
+-- where a run of this file that begins at this page is
 abbrev pub key_of : FileId → PageNo → RunKey
 key_of f p = (f, p)
 
@@ -59,7 +59,7 @@ has_page f p e = same_file (file_of e.0) f && (nat_le e.0.1.0 p.0 && nat_lt p.0 
 abbrev pub has_birth : ℕ → RunKey × Run → Bool
 has_birth b e = nat_le e.1.birth b && nat_lt b (e.1.birth + e.1.length)
 
--- the page behind a run's last one
+-- the page after a run's last one
 abbrev pub end_of : RunKey × Run → ℕ
 end_of e = e.0.1.0 + e.1.length
 
@@ -75,8 +75,8 @@ reaches a n b = (a.disk.0 == b.disk.0) && (a.block + n == b.block)
 abbrev pub goes_on : RunKey × Run → RunKey × Run → Bool
 goes_on a b = same_file (file_of a.0) (file_of b.0) && ((end_of a == b.0.1.0) && (reaches a.1.at a.1.length b.1.at && (a.1.birth + a.1.length == b.1.birth)))
 
--- Runs, by where they begin, are those of the mapped pages: each page of a run is mapped to its block under its birth; each
--- mapped page is in a run; a run has a page; no page is in two runs; and no run goes on where another one ends.
+-- Runs, by where they begin, are those of the mapped pages: each page of a run is mapped to its block under its birth; each mapped page is in a run; a run has
+-- a page; no page is in two runs; and no run continues where another one ends.
 pub record AreRunsOf (rows : List Extent) (at : RunKey → Option Run) : Type 0 where
   pub told : (k : RunKey) (r : Run) (i : ℕ) → at k ≡ Some r → i < r.length
       → find (is_extent_of (file_of k) (page_no (k.1.0 + i))) rows ≡ Some (extent_in i (k, r))
@@ -142,10 +142,10 @@ grown (Some e) new = grown_by e new
 abbrev pub IsRunUpTo : List (RunKey × Run) → FileId → PageNo → RunKey × Run → Type 0
 IsRunUpTo es f p e = (run_at es e.0 ≡ Some e.1) × (file_of e.0 ≡ f) × (e.0.1.0 ≤ p.0)
 
--- the extent stood last and is gone, and this is its block
+-- the extent was last and is gone, and this is its block
 abbrev pub Unmaps : List Extent → List Extent → BlockAt → Extent → Type 0
 Unmaps old new at e = (old ≡ new ++ e ∷ []) × (at ≡ e.at)
 
--- no run of the file that begins at the page or before it begins behind this one
+-- no run of the file that begins at the page or before it begins after this one
 abbrev pub IsLastUpTo : List (RunKey × Run) → FileId → PageNo → Option (RunKey × Run) → Type 0
 IsLastUpTo es f p o = (k : RunKey) → file_of k ≡ f → k.1.0 ≤ p.0 → IsSome (run_at es k) → IsSomeAnd o (λ e. k.1.0 ≤ e.0.1.0)

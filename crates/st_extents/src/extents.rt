@@ -15,8 +15,8 @@ use std::alloc::{AllocError, Global};
 use std::collections::BTreeMap;
 use std::marker::Model;
 
-/// The extents of one server. Contracts see them as the counts of the world, the list of its mapped pages, and how many births
-/// were given.
+/// The extents of one server. Contracts see them as the counts of the world, the list of its mapped
+/// pages, and how many births were given.
 #[derive(Drop)]
 pub struct Extents {
     server: ServerId,
@@ -37,7 +37,8 @@ impl Model for Extents {
     ghost invariant = { λ x. IsKept (record { server = x.server; servers = x.servers; disks = x.disks; blocks = x.blocks }) x.mapping };
 }
 
-/// Unmaps these pages, which were mapped last and in this order, and takes their births back. It takes no memory.
+/// Unmaps these pages, which were mapped last and in this order, and takes their births back. It
+/// takes no memory.
 fn take_back(mapping: &mut Mapping, file: FileId, pages: &[PageNo])
     requires { AreLastMapped file pages.now mapping.old.births mapping.old.rows }
     ensures own { mapping.new.own ≡ mapping.old.own }
@@ -50,7 +51,7 @@ fn take_back(mapping: &mut Mapping, file: FileId, pages: &[PageNo])
     }
 }
 
-/// Maps these pages one after another, or none of them where it runs out of memory.
+/// Maps these pages one after another, or none of them if it runs out of memory.
 fn place_pages(mapping: &mut Mapping, file: FileId, pages: &[PageNo]) -> Result<(), AllocError>
     requires room { length pages.now ≤ length (filter (none_at mapping.old.rows) mapping.old.own) }
     requires counted { mapping.old.births + length pages.now < 2 ^ 63 }
@@ -72,8 +73,8 @@ fn place_pages(mapping: &mut Mapping, file: FileId, pages: &[PageNo]) -> Result<
 }
 
 impl Extents {
-    /// The extents of a server with nothing mapped. `server` is from 1 to `servers`; disk d belongs to server
-    /// `1 + (d - 1) mod servers`; each disk has `blocks` blocks.
+    /// The extents of a server with nothing mapped. `server` is from 1 to `servers`; disk d belongs
+    /// to server `1 + (d - 1) mod servers`; each disk has `blocks` blocks.
     pub fn new(
         alloc: Global,
         server: ServerId,
@@ -109,8 +110,9 @@ impl Extents {
         self.mapping.get(file, page).map(|e| (e.at, e.birth))
     }
 
-    /// Maps each page of the range that has no block, in rising order, to the free block with the least disk and then the
-    /// least number, under the next birth; or maps none, where the free blocks are too few or it runs out of memory.
+    /// Maps each page of the range that has no block, in rising order, to the free block with the
+    /// least disk and then the least number, under the next birth; or maps none, if the free blocks
+    /// are too few or it runs out of memory.
     pub fn allocate(&mut self, file: FileId, page: PageNo, count: u32) -> Result<(), ExtentRefusal>
         requires range { page.0 + count ≤ 1048576 }
         requires births { self.old.births < 2 ^ 62 }
@@ -130,7 +132,8 @@ impl Extents {
         Ok(())
     }
 
-    /// Unmaps every page of the file from this page on, and frees their blocks. It does not allocate.
+    /// Unmaps every page of the file from this page on, and frees their blocks. It does not
+    /// allocate.
     pub fn release_from(&mut self, file: FileId, page: PageNo)
         ensures released { self.new ≡ extents.release_from self.old file page }
         ensures owned { IsOwned self.new }
@@ -160,8 +163,9 @@ impl Extents {
         self.mapping.births() + 1
     }
 
-    /// The mapped pages as runs, by where they begin: pages of one file one after another, on blocks of one disk one after
-    /// another, under births one after another. No two runs could be joined.
+    /// The mapped pages as runs, by where they begin: pages of one file one after another, on
+    /// blocks of one disk one after another, under births one after another. No two runs could be
+    /// joined.
     pub fn runs(&self) -> &BTreeMap<RunKey, Run>
         ensures { AreRunsOf self.now.rows (run_at result.now.entries) }
     {

@@ -7,7 +7,7 @@ ghost use Rattle.st_extents.specs.FreeRuns as free;
 use std::alloc::{AllocError, Global};
 use std::collections::VecDeque;
 
-/// Free places one after another: the first one, and the one behind the last.
+/// Free places one after another: the first one, and the one after the last.
 #[derive(Clone, Copy, Debug, PartialEq, Eq)]
 pub struct FreeRun {
     pub start: u32,
@@ -30,7 +30,7 @@ pub fn all_free(alloc: Global, places: u32) -> Result<VecDeque<FreeRun>, AllocEr
     Ok(runs)
 }
 
-/// The first free place, or this number where there is none.
+/// The first free place, or this number if there is none.
 pub fn first_free(runs: &VecDeque<FreeRun>, places: u32) -> u32
     ensures { result ≡ free.first_of places runs.now.items }
 {
@@ -129,7 +129,7 @@ pub fn take_first(runs: &mut VecDeque<FreeRun>, place: u32)
     }
 }
 
-/// Puts the place in by joining the run there and the one before it, between which it stands.
+/// Puts the place in by joining the run there and the one before it, between which it lies.
 fn join(runs: &mut VecDeque<FreeRun>, index: usize, place: u32)
     requires some { 1 ≤ index }
     requires within { index < length runs.old.items }
@@ -152,7 +152,7 @@ fn join(runs: &mut VecDeque<FreeRun>, index: usize, place: u32)
     );
 }
 
-/// Puts the place in front of the run before this index.
+/// Puts the place before the run before this index.
 fn extend_down(runs: &mut VecDeque<FreeRun>, index: usize, place: u32)
     requires some { 1 ≤ index }
     requires within { index ≤ length runs.old.items }
@@ -166,7 +166,7 @@ fn extend_down(runs: &mut VecDeque<FreeRun>, index: usize, place: u32)
     write(runs, index - 1, FreeRun { start: place, end });
 }
 
-/// Puts the place behind the run there.
+/// Puts the place after the run there.
 fn extend_up(runs: &mut VecDeque<FreeRun>, index: usize, place: u32)
     requires within { index < length runs.old.items }
     requires fits { place + 1 < 2 ^ 32 }
@@ -208,7 +208,8 @@ fn insert(runs: &mut VecDeque<FreeRun>, index: usize, place: u32)
     done.unwrap();
 }
 
-/// Puts a place in that stands between the runs before this index and those from it on. It takes no memory.
+/// Puts in a place that lies between the runs before this index and those from it on. It takes no
+/// memory.
 pub fn give(runs: &mut VecDeque<FreeRun>, index: usize, place: u32)
     requires within { index ≤ length runs.old.items }
     requires fits { place + 1 < 2 ^ 32 }

@@ -1,4 +1,5 @@
-//! On which block of its server's disks each page of a file lies, and under which birth. `docs/PROTOCOL.md`, "Extents".
+//! On which block of its server's disks each page of a file lies, and under which birth.
+//! `docs/PROTOCOL.md`, "Extents".
 #![tactic(auto)]
 
 mod extents;

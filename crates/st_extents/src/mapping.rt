@@ -42,8 +42,8 @@ fn place_of(own: &[BlockAt], at: BlockAt) -> usize
     low
 }
 
-/// Unmaps the pages of a file from `page` on, the last one first, and gives back the places of their blocks. It takes no
-/// memory.
+/// Unmaps the pages of a file from `page` on, the last one first, and gives back the places of
+/// their blocks. It takes no memory.
 fn release_all(
     runs: &mut Runs,
     taken: &mut TakenBlocks,
@@ -156,7 +156,8 @@ impl Mapping {
         self.runs.runs()
     }
 
-    /// Maps a page to the first free block under the next birth. There is a free block. An error changes nothing.
+    /// Maps a page to the first free block under the next birth. There is a free block. An error
+    /// changes nothing.
     pub fn place(&mut self, file: FileId, page: PageNo) -> Result<(), AllocError>
         requires births { self.old.births < 2 ^ 63 - 1 }
         requires page { page.0 < 1048576 }

@@ -10,8 +10,8 @@ use std::collections::BTreeMap;
 /// Where a run begins: its file and its first page.
 pub type RunKey = (FileId, PageNo);
 
-/// Pages of one file one after another, on blocks of one disk one after another, under births one after another: how many
-/// there are, and the block and the birth of the first one.
+/// Pages of one file one after another, on blocks of one disk one after another, under births one
+/// after another: how many there are, and the block and the birth of the first one.
 #[derive(Clone, Copy, Debug, PartialEq, Eq)]
 pub struct Run {
     pub length: u32,
@@ -33,8 +33,8 @@ pub fn last_up_to(map: &RunMap, file: FileId, page: PageNo) -> Option<(RunKey, R
     }
 }
 
-/// Puts a run in the place of the one that begins there, or beside the others. An error changes nothing, and comes only where
-/// none begins there.
+/// Puts a run in the place of the one that begins there, or beside the others. An error changes
+/// nothing, and comes only where none begins there.
 pub fn put(map: &mut RunMap, key: RunKey, run: Run) -> Result<(), AllocError>
     ensures ok { OnOk result ((q : RunKey) → run_at map.new.entries q ≡ cond (same_start key q) (Some run) (run_at map.old.entries q)) }
     ensures err { OnErr result (map.new.entries ≡ map.old.entries) }
@@ -52,7 +52,7 @@ fn write(map: &mut RunMap, key: RunKey, run: Run)
     ensures ordered { IsOrdered run_order map.new }
 {
     let done: Result<_, _> = map.insert(key, run);
-    // The run that stood there is dropped; its key is there, so no memory is taken.
+    // The run that was there is dropped; its key is there, so no memory is taken.
     let _old = done.unwrap();
 }
 

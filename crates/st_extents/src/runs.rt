@@ -69,8 +69,8 @@ fn grown(before: Option<(RunKey, Run)>, new_key: RunKey, new: Run) -> (RunKey, R
     }
 }
 
-/// The mapped pages as runs, and how many births were given. Contracts see the list of the pages in the order of their births,
-/// too.
+/// The mapped pages as runs, and how many births were given. Contracts see the list of the pages in
+/// the order of their births, too.
 #[derive(Drop)]
 pub struct Runs {
     map: RunMap,
@@ -159,7 +159,8 @@ impl Runs {
         Ok(())
     }
 
-    /// Unmaps the last page of the file, where it is `page` or a later one, and returns what it was mapped to. It takes no memory.
+    /// Unmaps the last page of the file, where it is `page` or a later one, and returns what it was
+    /// mapped to. It takes no memory.
     pub fn pop_from(&mut self, file: FileId, page: PageNo) -> Option<Extent>
         ensures some { IfSome result (λ e. extents.is_at_or_behind file page e ≡ true) }
         ensures found { IfSome result (λ e. find (extents.is_extent_of file e.page) self.old.rows ≡ Some e) }
@@ -181,7 +182,8 @@ impl Runs {
         Some(extent_in(key, run, last))
     }
 
-    /// Unmaps the page that was mapped last, takes its birth back, and returns the block. It takes no memory.
+    /// Unmaps the page that was mapped last, takes its birth back, and returns the block. It takes
+    /// no memory.
     pub fn take_back(&mut self, file: FileId, page: PageNo) -> BlockAt
         requires { IsSomeAnd (find (extents.is_extent_of file page) self.old.rows) (λ e. e.birth ≡ self.old.births) }
         ensures last { (e : Extent) → find (extents.is_extent_of file page) self.old.rows ≡ Some e → runs.Unmaps self.old.rows self.new.rows result e }

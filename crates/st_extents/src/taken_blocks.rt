@@ -5,8 +5,9 @@ use std::alloc::{AllocError, Global};
 use std::collections::VecDeque;
 use std::marker::Model;
 
-/// Which of some places are taken. Contracts see one truth value for each place. The free places stand as runs, so the first one
-/// is at hand, and giving one back looks at as many runs as it takes to halve their number until one is left.
+/// Which of some places are taken. Contracts see one truth value for each place. The free places
+/// are kept as runs, so the first one is found at once, and giving one back is a binary search in
+/// the runs.
 #[derive(Drop)]
 pub struct TakenBlocks {
     places: u32,
@@ -27,7 +28,8 @@ impl Model for TakenBlocks {
 }
 
 impl TakenBlocks {
-    /// This number of places, of which none is taken. It takes the memory that any of them may need to be given back.
+    /// This number of places, of which none is taken. It takes the memory that any of them may need
+    /// to be given back.
     pub fn new(alloc: Global, places: usize) -> Result<TakenBlocks, AllocError>
         requires { places < 2 ^ 32 }
         ensures { IfOk result (λ t. t ≡ replicate places false) }

@@ -178,7 +178,7 @@ and_no : (a b : Bool) → b ≡ false → (a && b) ≡ false
 and_no true b e = e
 and_no false b e = refl
 
--- one page, the pages behind it, and those of later files
+-- one page, the pages after it, and those of later files
 apart_one : (ino k : ℕ) (ks : List ℕ) (ys : List (ℕ × PageNo)) → AllByRecursion (λ j. k < j) ks → AllByRecursion (λ y. ino < y.0) ys →
     AllByRecursion (λ y. same_place (ino, page_no k) y ≡ false) (pages_on ino ks ++ ys)
 apart_one ino k [] ys a b = later ys b

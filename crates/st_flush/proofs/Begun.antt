@@ -88,7 +88,7 @@ none_before : (p : PageCommand → Bool) (x : PageCommand) (cs : List PageComman
 none_before p x [] e = ap (λ b. cond b (Some x) None) e
 none_before p x (c ∷ cs) e = ap (cond (p c) (Some c)) (none_before p x cs e)
 
--- the pages behind the first are free as before
+-- the pages after the first are free as before
 free_behind : (cs : List PageCommand) (n ino : ℕ) (p : PageNo) (kind : IoKind) (ws : List (ℕ × PageNo × ℕ)) → list_any (λ v. (v.0 == ino) && same_page v.1 p) ws ≡ false →
     list_any (is_taken_in cs) ws ≡ false → list_any (is_taken_in (cs ++ page_command n ino p kind ∷ [])) ws ≡ false
 free_behind cs n ino p kind [] d h = refl
@@ -127,7 +127,7 @@ outside_last : (first many n ino : ℕ) (p : PageNo) (kind : IoKind) (cs : List 
 outside_last first many n ino p kind cs l h =
     any_last (is_in_range first many) (page_command n ino p kind) cs (ap (λ (b : Bool). b && nat_lt n (first + many)) (below first n l)) ∙ h
 
--- the writes behind the first may begin after it
+-- the writes after the first may begin after it
 pub rest_may : (cs : List PageCommand) (w : ℕ × PageNo × ℕ) (ws : List (ℕ × PageNo × ℕ)) (first : ℕ) → MayBegin cs (w ∷ ws) first →
     MayBegin (begin_command cs first w.0 w.1 (Write w.2)) ws (first + 1)
 unfolding begin_command are_once

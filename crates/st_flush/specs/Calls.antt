@@ -1,4 +1,4 @@
--- The outstanding disk commands of a client for one server's files: what always stands of them, and what their calls answer.
+-- The outstanding disk commands of a client for one server's files: what always holds of them, and what their calls answer.
 use Rattle.std.specs.Prelude.{◌≡◌, ℕ, ◌+◌, ◌==◌, ◌&&◌, not, nat_le, nat_lt, Bool, true, List, [], is_some, length}
 use Rattle.std.specs.List.{list_any}
 use Rattle.st_base.specs.declared.ids.PageNo.{PageNo}
@@ -28,7 +28,7 @@ with_commands cs s = record s { commands = cs }
 abbrev pub with_begun : ℕ → ℕ → PageNo → IoKind → ServerCommands → ServerCommands
 with_begun number ino page kind s = with_commands (begin_command s.commands number ino page kind) s
 
--- What always stands: a page has at most one command, and each number is that of one command.
+-- What always holds: a page has at most one command, and each number is that of one command.
 pub record AreApart (cs : List PageCommand) : Type 0 where
   pub one_command : are_once same_page_command cs ≡ true
   pub numbers_once : are_once same_command_number cs ≡ true

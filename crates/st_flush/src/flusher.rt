@@ -16,8 +16,8 @@ use st_tables::Ordered;
 use std::alloc::{AllocError, Global};
 use std::marker::Model;
 
-/// The outstanding disk commands of a client for one server's files. Contracts see them as the server and the list of the
-/// commands in the order in which they were submitted.
+/// The outstanding disk commands of a client for one server's files. Contracts see them as the
+/// server and the list of the commands in the order in which they were submitted.
 #[derive(Drop)]
 pub struct Flusher {
     server: ServerId,
@@ -111,8 +111,8 @@ impl Flusher {
         })
     }
 
-    /// The file, the page and the kind of the command of this number, or `None` where it is not outstanding. It does not
-    /// allocate.
+    /// The file, the page and the kind of the command of this number, or `None` where it is not
+    /// outstanding. It does not allocate.
     pub fn of(&self, number: u64) -> Option<(u32, PageNo, IoKind)>
         ensures { result ≡ option_map told (pages.command_of self.now.commands number) }
     {
@@ -120,7 +120,8 @@ impl Flusher {
         Some((command.ino, command.page, command.kind))
     }
 
-    /// The number and the kind of the page's command, or `None` where it has none. It does not allocate.
+    /// The number and the kind of the page's command, or `None` if it has none. It does not
+    /// allocate.
     pub fn on(&self, ino: u32, page: PageNo) -> Option<(u64, IoKind)>
         ensures command { result ≡ option_map told_on (pages.command_on self.now.commands ino page) }
         ensures apart { AreApart self.now.commands }
@@ -129,7 +130,7 @@ impl Flusher {
         Some((command.number, command.kind))
     }
 
-    /// The number of the page's outstanding write, or `None` where it has none.
+    /// The number of the page's outstanding write, or `None` if it has none.
     pub fn write_on(&self, ino: u32, page: PageNo) -> Option<u64>
         ensures { result ≡ option_map pages.number_of_command (pages.write_on self.now.commands ino page) }
     {
@@ -172,9 +173,10 @@ impl Flusher {
         any_command(&self.commands, &AnyWrite)
     }
 
-    /// A command ended, as done or as failed; `version` is that of its page now. It returns what became of it: `Unknown` where
-    /// no outstanding command has the number; `Failed` where it failed; `Filled` of a read; and of a write `Hard` where it wrote
-    /// this version, and else `Redirty`. It is outstanding no more. It does not allocate.
+    /// A command ended, as done or as failed; `version` is that of its page now. It returns what
+    /// became of it: `Unknown` where no outstanding command has the number; `Failed` where it
+    /// failed; `Filled` of a read; and of a write `Hard` where it wrote this version, and otherwise
+    /// `Redirty`. It is outstanding no more. It does not allocate.
     #[tactic(auto, unfolding(st_rules::specs::ClientPages::end_command, st_rules::specs::ClientPages::end_at))]
     pub fn done(&mut self, number: u64, ok: bool, version: u64) -> Ended
         ensures { Ends self.old self.new result (pages.end_command self.old.commands number ok version) }
@@ -208,8 +210,8 @@ impl Flusher {
         Ok(())
     }
 
-    /// A command of this number becomes outstanding. Its page has none, and no outstanding command has the number. The permit
-    /// is spent also where memory runs out; then nothing changes.
+    /// A command of this number becomes outstanding. Its page has none, and no outstanding command
+    /// has the number. The permit is spent also if memory runs out; then nothing changes.
     pub fn submit(
         &mut self,
         permit: SubmitPermit<'_>,
@@ -250,8 +252,9 @@ impl Flusher {
         writes.iter().any(|write| self.is_taken(*write))
     }
 
-    /// Whether writes of these files, pages and versions may begin, numbered from `first` on: their pages differ and have no
-    /// outstanding command, and no outstanding command has one of the numbers.
+    /// Whether writes of these files, pages and versions may begin, numbered from `first` on: their
+    /// pages differ and have no outstanding command, and no outstanding command has one of the
+    /// numbers.
     pub fn may_begin(&self, writes: &[(u32, PageNo, u64)], first: u64) -> bool
         ensures { result ≡ may_begin self.now.commands writes.now first }
     {
@@ -280,9 +283,10 @@ impl Flusher {
         Ok(())
     }
 
-    /// Writes of these files, pages and versions become outstanding, numbered from `first` on in the list's order. The pages
-    /// differ and have no outstanding command, and no outstanding command has one of the numbers. The permit is spent and its
-    /// receipt is handed back also where memory runs out; then nothing is said of the commands.
+    /// Writes of these files, pages and versions become outstanding, numbered from `first` on in
+    /// the list's order. The pages differ and have no outstanding command, and no outstanding
+    /// command has one of the numbers. The permit is spent and its receipt is handed back even if
+    /// memory runs out; then nothing is promised about the commands.
     pub fn submit_all(
         &mut self,
         permit: DrainPermit,

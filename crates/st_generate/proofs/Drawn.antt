@@ -41,12 +41,12 @@ file_drawn k x = let s = draw_lt k 2 x (omega arith) in let i = draw_lt (k + 1) 
 page_drawn : (k x : ℕ) → (g.page k x).0 ≤ 1048575
 page_drawn k x = let p = draw_lt k 4 x (omega arith) in omega (arith, p)
 
--- What is wanted of an event, with so many messages sent and commands submitted.
+-- What is wanted of an event, with that many messages sent and commands submitted.
 pub record Good (sent commands : ℕ) (e : Event) : Type 0 where
   pub range : is_event 5 e ≡ true
   pub line : sent ≤ MOST_NUMBER → commands ≤ MOST_NUMBER → Fits 1 5 e
 
--- of a candidate, where there is one
+-- of a candidate, if there is one
 abbrev pub GoodDrawn : ℕ → ℕ → Option Event → Type 0
 GoodDrawn sent commands None = Unit {0}
 GoodDrawn sent commands (Some e) = Good sent commands e

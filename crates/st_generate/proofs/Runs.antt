@@ -1,4 +1,4 @@
--- The run of the chosen events comes to its end, and each event is in its ranges.
+-- The run of the chosen events reaches its end, and each event is in its ranges.
 use Rattle.std.proofs.Common.{◌≡◌, ℕ, zero, suc, ◌+◌, ◌≤◌, true, List, [], ◌∷◌, ◌++◌, length, Option, Some, None, Ok, Err, refl, sym, ap, ◌∙◌, subst, arith}
 use Rattle.std.specs.List.{list_all, AllByRecursion}
 use Rattle.st_messages.specs.declared.event.Event.{Event}
@@ -41,12 +41,12 @@ left_sized : (w : World) (x : ℕ) → IsOurs w → Sized w (left w x)
 unfolding left
 left_sized w x o = step_sized w (g.chosen w x).0 _ (taken w x o)
 
--- the events from a world and a state on, behind the first one
+-- the events from a world and a state on, after the first one
 more : (n : ℕ) (w : World) (x : ℕ) → IsOurs w → g.generated (suc n) w x ≡ (g.chosen w x).0 ∷ g.generated n (left w x) (g.chosen w x).1
 unfolding g.generated g.world_left left
 more n w x o = ap (λ r. (g.chosen w x).0 ∷ g.generated n (g.world_left w r) (g.chosen w x).1) (taken w x o)
 
--- the run of these events, behind the first one
+-- the run of these events, after the first one
 run_more : (n : ℕ) (w : World) (x : ℕ) → IsOurs w →
     run (g.generated (suc n) w x) w ≡ Rattle.st_rules.specs.Run.behind ((happens (counted w) (g.chosen w x).0).seen ∷ []) (run (g.generated n (left w x) (g.chosen w x).1) (left w x))
 unfolding run go_on left
@@ -54,7 +54,7 @@ run_more n w x o =
     ap (λ es. run es w) (more n w x o)
     ∙ ap (go_on (run (g.generated n (left w x) (g.chosen w x).1)) w) (taken w x o)
 
--- The run comes to its end.
+-- The run reaches its end.
 ends : (n : ℕ) (w : World) (x : ℕ) → IsOurs w → (run (g.generated n w x) w).refused ≡ None
 unfolding run g.generated
 ends zero w x o = refl
@@ -64,7 +64,7 @@ pub runs_to_the_end : Runs_to_the_end
 unfolding g.generate
 runs_to_the_end n seed = ends n g.generator_world seed fresh_ours
 
--- an event of a run that is not refused is admissible where it stands
+-- an event of a run that isn't refused is admissible at its place
 admissible_in : (es rest : List Event) (e : Event) (w : World) → (run (es ++ e ∷ rest) w).refused ≡ None → refusal (run es w).world e ≡ None
 unfolding run go_on world_step world_by
 admissible_in [] rest e w h = go (refusal w e) h

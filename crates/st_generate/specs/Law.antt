@@ -34,7 +34,7 @@ Each_is_admissible = (n seed : ℕ) (es rest : List Event) (e : Event) → gener
 abbrev pub Each_is_in_range : Type 0
 Each_is_in_range = (n seed : ℕ) → list_all (is_event 5) (generate n seed) ≡ true
 
--- The run comes to its end.
+-- The run reaches its end.
 abbrev pub Runs_to_the_end : Type 0
 Runs_to_the_end = (n seed : ℕ) → (run_of n seed).refused ≡ None
 
@@ -42,7 +42,7 @@ Runs_to_the_end = (n seed : ℕ) → (run_of n seed).refused ≡ None
 abbrev pub Is_reported_whole : Type 0
 Is_reported_whole = (n seed : ℕ) → report (run_of n seed) ≡ opening ++ lines_from 1 (run_of n seed).seen ++ ended (work n seed)
 
--- Each event of a run sends at most this number of messages, the events behind the first one too.
+-- Each event of a run sends at most this number of messages, the events after the first one too.
 abbrev pub SendsFewOn : ℕ → (World → Type 0) → World → Result WorldTurn WorldRefusal → Type 0
 SendsFewOn most rest w (Ok sc) = (length sc.world.net.messages ≤ length w.net.messages + most) × rest sc.world
 SendsFewOn most rest w (Err f) = ⊤

@@ -6,7 +6,7 @@ use Rattle.std.specs.Io.KnownBytes.{Appends}
 use Rattle.st_link.specs.Prefixes.{AppendsPrefix}
 use Rattle.st_generate_run.specs.Pieces.{Writes}
 
--- a front of a text was written
+-- a prefix of a text was written
 prefix_of : (a b : Option (List ℕ)) (text front rest : List ℕ) → Appends a b front → text ≡ front ++ rest → AppendsPrefix a b text
 prefix_of a b text front rest h e = (length front, subst (Appends a b) (sym (ap (take (length front)) e ∙ take-append_seam front rest)) h)
 
@@ -14,7 +14,7 @@ prefix_of a b text front rest h e = (length front, subst (Appends a b) (sym (ap 
 pub nothing : (a : Option (List ℕ)) (text : List ℕ) → AppendsPrefix a a text
 nothing a text = (0, Appends-nil a)
 
--- a front of a text is one of a longer text
+-- a prefix of a text is one of a longer text
 pub longer : (a b : Option (List ℕ)) (text more : List ℕ) → AppendsPrefix a b text → AppendsPrefix a b (text ++ more)
 longer a b text more h =
     prefix_of a b (text ++ more) (take h.0 text) (drop h.0 text ++ more) h.1
@@ -58,7 +58,7 @@ writes_end_cut a b c whole rest more x h =
     (record { written = x.written; wrote = x.wrote; whole = ap (λ t. x.written ++ t) (append-nil (rest ++ more)) ∙ sym (append_assoc x.written rest more) ∙ ap (λ t. t ++ more) x.whole })
     h
 
--- A line, and what is left behind it.
+-- A line, and what is left after it.
 behind_line : (text line more rest : List ℕ) → rest ≡ line ++ more → text ++ rest ≡ (text ++ line) ++ more
 behind_line text line more rest e = ap (λ t. text ++ t) e ∙ sym (append_assoc text line more)
 

@@ -10,7 +10,7 @@ use Rattle.st_rules.specs.Safety.{is_event}
 use Rattle.st_generate.proofs.Drawn.{GoodDrawn, candidate_good}
 use Rattle.st_generate_run.specs.Choice.{IsTry, found}
 
--- a candidate, where there is one and it is admissible
+-- a candidate, if there is one and it is admissible
 abbrev pub admitted_of : World → Option Event → Option Event
 admitted_of w None = None
 admitted_of w (Some e) = found (is_none (refusal w e)) e

@@ -1,4 +1,4 @@
--- What is chosen is admissible and in its ranges; a turn, and the turns behind it.
+-- What is chosen is admissible and in its ranges; a turn, and the turns after it.
 use Rattle.std.proofs.Common.{◌≡◌, ℕ, suc, ◌+◌, ◌-◌, ◌<◌, ◌≤◌, true, ◌++◌, List, [], ◌∷◌, None, Err, refl, sym, ap, ◌∙◌, subst, arith}
 use Rattle.std.specs.Prelude.{codes, length}
 use Rattle.std.specs.List.{flat_map}
@@ -15,7 +15,7 @@ use Rattle.st_generate.proofs.Choices.{chosen_good, chosen_stands}
 use Rattle.st_generate.proofs.Sizes.{step_sized}
 use Rattle.st_generate_run.specs.Turns.{IsReady, IsTurn, Leads, lines}
 
--- the event and the state behind it
+-- the event and the state after it
 pub event_is : (e : Event) (y : ℕ) (c : Event × ℕ) → (e, y) ≡ c → e ≡ c.0
 event_is e y c h = ap (λ (p : Event × ℕ). p.0) h
 
@@ -50,7 +50,7 @@ ready_first w e = subst IsReady (sym e) (record { clocks = refl; clients = refl;
 left_by_one : (i n : ℕ) → i < n → n - i ≡ suc (n - (i + 1))
 left_by_one i n l = omega (arith, l)
 
--- behind a turn, the events that are left
+-- after a turn, the events that are left
 generated_next : (k : ℕ) (w : World) (x : ℕ) (v : World) (y : ℕ) → IsTurn w x v y → g.generated (suc k) w x ≡ (g.chosen w x).0 ∷ g.generated k v y
 unfolding g.generated g.world_left
 generated_next k w x v y t =
@@ -84,7 +84,7 @@ pub run_last : (i n : ℕ) (w : World) (x : ℕ) → n ≤ i → (run (g.generat
 unfolding run g.generated
 run_last i n w x l = ap (λ k. (run (g.generated k w x) w).world) (none_left i n l)
 
--- The whole text, behind the line of the head.
+-- The whole text, after the line of the head.
 pub text_is : (t : List ℕ) (n : ℕ) (w : World) (x : ℕ) → t ≡ head_line → (t ++ lines n w x) ++ codes "end\n" ≡ schedule_text (g.generated n w x)
 unfolding schedule_text
 text_is t n w x e = ap (λ h. (h ++ lines n w x) ++ codes "end\n") e

@@ -19,7 +19,7 @@ pub record Leads (w : World) (e : Event) (v : World) : Type 0 where
   pub seen : List Observation
   pub step : world_step w e ≡ Ok (world_turn v seen)
 
--- the event that is chosen in a world and a state leads to this world, and this state is behind it
+-- the event that is chosen in a world and a state leads to this world, and to this state
 pub record IsTurn (w : World) (x : ℕ) (v : World) (y : ℕ) : Type 0 where
   pub state : y ≡ (chosen w x).1
   pub leads : Leads w (chosen w x).0 v

@@ -175,7 +175,7 @@ fn heal(draws: &mut Draws, event: &mut Event)
     *event = Event::Heal(from, to);
 }
 
-/// A loss, a cut or a heal. It returns false where a message is to be lost and none was sent.
+/// A loss, a cut or a heal. It returns false if a message should be lost and none was sent.
 #[tactic(auto, unfolding(st_rules::specs::Generator::network))]
 fn network(draws: &mut Draws, event: &mut Event, sent: u64) -> bool
     ensures { (found result event.new, draws.new) ≡ generator.network sent draws.old }
@@ -219,7 +219,7 @@ fn crash_or_start(draws: &mut Draws, event: &mut Event)
     }
 }
 
-/// The candidate of a kind below 16. It returns false where there is none.
+/// The candidate of a kind below 16. It returns false if there is none.
 #[tactic(auto, unfolding(st_rules::specs::Generator::candidate_of))]
 fn candidate_of(
     draws: &mut Draws,
@@ -268,8 +268,9 @@ fn candidate_of(
     }
 }
 
-/// Draws a candidate for an event, where `sent` messages were sent and `submitted` commands submitted, and writes it into `event`. It
-/// returns false where there is none; nothing is said of `event` then. Only an advance takes memory.
+/// Draws a candidate for an event, where `sent` messages were sent and `submitted` commands
+/// submitted, and writes it into `event`. It returns false if there is none; nothing is promised
+/// about `event` then. Only an advance takes memory.
 #[tactic(auto, unfolding(st_rules::specs::Generator::candidate))]
 pub fn candidate(
     draws: &mut Draws,

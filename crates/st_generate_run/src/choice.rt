@@ -31,7 +31,8 @@ pub trait Judge {
         ensures { result ≡ is_none (refusal (world self.now) event.now) };
 }
 
-/// A try. It returns true where there is a candidate and it is admissible; the candidate is in `event` then.
+/// A try. It returns true where there is a candidate and it is admissible; the candidate is in
+/// `event` then.
 fn try_one<J: Judge>(
     draws: &mut Draws,
     event: &mut Event,
@@ -76,7 +77,8 @@ pub(crate) fn choose_into<J: Judge>(
     Ok(())
 }
 
-/// Chooses the next event, in a world of five nodes: the first admissible one of 16 candidates, or else the heal of c1's messages to s1.
+/// Chooses the next event, in a world of five nodes: the first admissible one of 16 candidates, or
+/// else the heal of c1's messages to s1.
 pub fn choose<J: Judge>(draws: &mut Draws, judge: &J, alloc: Global) -> Result<Event, AllocError>
     requires nodes { length (J.world judge.now).clocks ≡ 5 }
     requires room { (J.world judge.now).tally.events < 2 ^ 29 }

@@ -122,7 +122,8 @@ impl Draws {
         100 + self.draw(2)
     }
 
-    /// The number of one of the `last` last ones of `count`, from 1. Where there is none, nothing is drawn.
+    /// The number of one of the `last` last ones of `count`, from 1. Where there is none, nothing
+    /// is drawn.
     #[tactic(auto, unfolding(st_rules::specs::Generator::recent))]
     pub fn recent(&mut self, count: u64, last: u64) -> Option<u64>
         requires { 0 < last }

@@ -1,5 +1,6 @@
-//! Generated schedules: candidates for events, the choice of one, the text of a schedule of a length and a seed, and the counts of
-//! its run, for which no text is made. `docs/PROTOCOL.md`, "Generated schedules".
+//! Generated schedules: candidates for events, the choice of one, the text of a schedule of a
+//! length and a seed, and the counts of its run, for which no text is made. `docs/PROTOCOL.md`,
+//! "Generated schedules".
 #![tactic(auto)]
 
 mod candidates;

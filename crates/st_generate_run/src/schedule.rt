@@ -106,13 +106,14 @@ fn write_schedule<O: Sink>(
     Ok(())
 }
 
-/// Writes the schedule of `n` events that this seed gives. It is written in pieces of some kilobytes as it is made, and not kept.
+/// Writes the schedule of `n` events that this seed gives. It is written in pieces of some
+/// kilobytes as it is made, and not kept.
 ///
-/// It returns `Write` where a write failed, and `Memory` where memory ran out.
+/// It returns `Write` where a write failed, and `Memory` if memory ran out.
 pub fn generate<O: Sink>(alloc: Global, seed: u64, n: u32, out: &mut O) -> Result<(), WorkFault>
     requires { n ≤ 2 ^ 29 }
     ensures text { OnOk result (Appends (O.written out.old) (O.written out.new) (generate_text n seed)) }
-    // After an error a front of the text was written, maybe nothing.
+    // After an error a prefix of the text was written, maybe nothing.
     ensures front { OnErr result (AppendsPrefix (O.written out.old) (O.written out.new) (generate_text n seed)) }
     // `Write` comes only where the count of faults rose; it stays at `Ok` and at `Memory`.
     ensures causes { HasCauses result (O.faults out.old) (O.faults out.new) }

@@ -31,7 +31,8 @@ fn run_events(alloc: Global, world: &mut World, draws: &mut Draws, n: u32) -> Re
     Ok(())
 }
 
-/// Runs the schedule of `n` events that this seed gives, and returns what its run counts. No text is made.
+/// Runs the schedule of `n` events that this seed gives, and returns what its run counts. No text
+/// is made.
 #[tactic(auto, unfolding(st_rules::specs::Generator::work, st_rules::specs::Generator::generate))]
 pub fn work(alloc: Global, seed: u64, n: u32) -> Result<Summary, AllocError>
     requires { n ≤ 2 ^ 29 }
@@ -55,9 +56,10 @@ fn put_summary<O: Sink>(alloc: Global, summary: Summary, out: &mut O) -> Result<
     Ok(())
 }
 
-/// Runs the schedule of `n` events that this seed gives, writes the last line of its report, and returns what the line tells.
+/// Runs the schedule of `n` events that this seed gives, writes the last line of its report, and
+/// returns what the line tells.
 ///
-/// It returns `Write` where a write failed, and `Memory` where memory ran out.
+/// It returns `Write` where a write failed, and `Memory` if memory ran out.
 #[tactic(auto, unfolding(st_generate::specs::GeneratedText::work_text))]
 pub fn put_work<O: Sink>(
     alloc: Global,
@@ -68,7 +70,7 @@ pub fn put_work<O: Sink>(
     requires { n ≤ 2 ^ 29 }
     ensures counts { IfOk result (λ s. s ≡ generator.work n seed) }
     ensures text { OnOk result (Appends (O.written out.old) (O.written out.new) (work_text n seed)) }
-    // After an error a front of the line was written, maybe nothing.
+    // After an error a prefix of the line was written, maybe nothing.
     ensures front { OnErr result (AppendsPrefix (O.written out.old) (O.written out.new) (work_text n seed)) }
     // `Write` comes only where the count of faults rose; it stays at `Ok` and at `Memory`.
     ensures causes { HasCauses result (O.faults out.old) (O.faults out.new) }

@@ -61,7 +61,8 @@ pub(crate) fn fresh(alloc: Global) -> Result<World, AllocError>
     )
 }
 
-/// Runs an event that is admissible. What was observed of the one before makes room for what is observed of this one.
+/// Runs an event that is admissible. What was observed of the one before makes room for what is
+/// observed of this one.
 pub(crate) fn run_event(
     alloc: Global,
     world: &mut World,

@@ -1,4 +1,4 @@
--- What a crash leaves while a change is appended, and what stands when it is.
+-- What a crash leaves while a change is appended, and what holds once it is.
 use Rattle.std.proofs.Common.{◌≡◌, ◌≢◌, ◌⊎◌, ℕ, ◌+◌, ◌≤◌, ◌<◌, true, false, List, [], ◌∷◌, ◌++◌, length, get_or, take, drop, refl, sym, ap, ◌∙◌, inl, inr, arith, append_assoc, length-append, length-drop, take-append-drop}
 use Rattle.std.specs.Prelude.{nat_le, nat_lt}
 use Rattle.std.specs.List.{list_all}
@@ -20,7 +20,7 @@ before_range at count i l = and_left (nat_le at i) (nat_lt i (at + count)) (lt-l
 behind_range : (at count i : ℕ) → at + count ≤ i → is_within at count i ≡ false
 behind_range at count i l = and_right (nat_le at i) (nat_lt i (at + count)) (le-ltb i (at + count) l)
 
--- a torn range leaves what stands before it and behind it
+-- a torn range leaves what is before it and after it
 torn_front : (at count : ℕ) (old c : List ℕ) → at ≤ length old → Torn at count old c → take at c ≡ take at old
 torn_front at count old c l torn =
     ext_get_or 0 (take at c) (take at old) (omega (arith, length-take at c, length-take at old, torn.size))
@@ -33,7 +33,7 @@ torn_back at count old c torn =
     ext_get_or 0 (drop (at + count) c) (drop (at + count) old) (omega (arith, length-drop (at + count) c, length-drop (at + count) old, torn.size))
     (λ i few. get_or-drop (at + count) c i 0 ∙ torn.others (at + count + i) (behind_range at count (at + count + i) (omega arith)) ∙ sym (get_or-drop (at + count) old i 0))
 
--- changes behind their open gates, one more
+-- changes after their open gates, one more
 pub opened_push : (xs : List Change) (x : Change) (rest : List ℕ) → all_opened (xs ++ x ∷ []) ++ rest ≡ all_opened xs ++ (opened x ++ rest)
 opened_push [] x rest = ap (λ (t : List ℕ). t ++ rest) (append-nil (opened x))
 opened_push (y ∷ xs) x rest =
@@ -57,7 +57,7 @@ module _ (bytes : List ℕ) (xs : List Change) (x : Change) (record_bytes : List
   fronted : take (gate + 1) bytes ≡ front
   fronted = ap (λ (b : List ℕ). take (gate + 1) b) split ∙ take_at front j.rest (gate + 1) long
 
-  -- a closed gate ends the journal, whatever stands behind it
+  -- a closed gate ends the journal, whatever follows it
   closed : (g : ℕ) (rest c : List ℕ) → g ≢ 1 → c ≡ all_opened xs ++ g ∷ rest → IsJournal c xs
   closed g rest c shut e = record { gate = g; rest = rest; parts = e; closed = shut; ranges = j.ranges }
 
@@ -67,7 +67,7 @@ module _ (bytes : List ℕ) (xs : List Change) (x : Change) (record_bytes : List
       closed j.gate (drop (gate + 1) c) c j.closed
       (sym (take-append-drop (gate + 1) c) ∙ ap (λ (t : List ℕ). t ++ drop (gate + 1) c) kept_front ∙ append_assoc (all_opened xs) (j.gate ∷ []) (drop (gate + 1) c))
 
-  -- with the record behind the gate
+  -- with the record after the gate
   abbrev tail : List ℕ
   tail = drop (gate + 1 + length record_bytes) bytes
 
@@ -87,7 +87,7 @@ module _ (bytes : List ℕ) (xs : List Change) (x : Change) (record_bytes : List
   staged_back : drop (gate + 1) staged ≡ record_bytes ++ tail
   staged_back = ap (λ (b : List ℕ). drop (gate + 1) b) staged_is ∙ drop_at front (record_bytes ++ tail) (gate + 1) long
 
-  -- an open gate in front of the record makes it one of the journal
+  -- an open gate before the record makes it one of the journal
   opened_is : (c : List ℕ) → c ≡ all_opened xs ++ 1 ∷ (record_bytes ++ tail) → IsJournal c (xs ++ x ∷ [])
   opened_is c e = record {
     gate = 0;

@@ -43,7 +43,7 @@ module _ {D : Type 0} (moment : D → ℕ) (left_since : D → ℕ → List ℕ 
         → IsWithin (may_leave old) (may_leave new) → keeps old new → Rests keeps may_leave moment left_since old new
     rested old new now time within kept = record { any_moment = goes_on old old new (may_leave old) (may_leave new) (started old (may_leave old) now) time within; crash = within; kept = kept }
 
-    -- and others behind it
+    -- and others after it
     pub rests_then : ((a b c : D) → keeps a b → keeps b c → keeps a c) → (old mid new : D) → Rests keeps may_leave moment left_since old mid → Rests keeps may_leave moment left_since mid new → Rests keeps may_leave moment left_since old new
     rests_then on old mid new p q = record {
       any_moment = goes_through old mid new (may_leave old) (may_leave mid) p.any_moment q.any_moment p.crash;

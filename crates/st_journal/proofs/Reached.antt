@@ -23,7 +23,7 @@ use Rattle.st_journal.proofs.Unique.{framed_once}
 abbrev Told : Type 0
 Told = Result Stable ChangeRefusal
 
--- The gate in front of it is then one that no change follows which applies.
+-- The gate before it is then one that no change follows which applies.
 dead_refused : (bytes : List ℕ) (state : Stable) (at : ℕ) (x : Change) (count : ℕ) → IsOpenAt bytes at x count → (IsOk (apply state x) → ⊥) → IsDeadAt bytes state at
 dead_refused bytes state at x count f refused = record {
   rest = framed x ++ f.gate ∷ f.rest;
@@ -40,7 +40,7 @@ taken_refused bytes state at a c x count (Damaged place) found h = (h.0, dead_re
 taken_refused bytes state at a c x count Broken found h = absurd h
 taken_refused bytes state at a c x count (Full free asked) found h = absurd h
 
--- The store reads as before behind a call that reads.
+-- After a call that reads, the store reads as before.
 module _ (bytes mid : List ℕ) (same : mid ≡ bytes) (at : ℕ) where
   module _ (count : ℕ) (number : take 4 (drop at bytes) ≡ word32 count) (small : count < 2 ^ 32) where
     pub framed_in : (x : Change) → at + count + 5 ≤ length bytes → Spells (take count (drop (at + 4) mid)) x → IsFramedAt bytes at x (count + 4)

@@ -16,7 +16,7 @@ use Rattle.st_journal.proofs.Moments.{started, weaker}
 use Rattle.st_journal.proofs.ScannedBytes.{length-framed}
 use Rattle.st_journal.proofs.TornWrites.{not_torn}
 
--- The gate of a journal stands in its bytes, and not before as many bytes as it has changes.
+-- The gate of a journal lies in its bytes, and not before as many bytes as it has changes.
 
 pub gate_within : (bytes : List ℕ) (xs : List Change) (gate : ℕ) → IsJournal bytes xs → gate ≡ length (all_opened xs) → gate < length bytes
 gate_within bytes xs gate j at = omega (arith, at, ap length j.parts, length-append (all_opened xs) (j.gate ∷ j.rest))
@@ -130,7 +130,7 @@ module _ {D : Type 0} (seen : D → List ℕ) (may_leave : D → List ℕ → Ty
   torn room acked (Some y) r c t = let e : false ≡ is_some (Some y) = sym whole ∙ r.broken in absurd cc
 
   module _ (moment : D → ℕ) (left_since : D → ℕ → List ℕ → Type 0) where
-    -- a crash at any moment leaves the acknowledged changes, and at most this one besides
+    -- a crash at any moment leaves the acknowledged changes, and at most this one more
     pub torn_moments : room_for x ≤ room_behind (length (seen store)) gate → (acked : List Change) (under_way : Option Change) → Records seen may_leave before acked under_way
         → LeavesOnly moment left_since store new (IsTornAppend (seen store) gate record_bytes) → LeavesOnly moment left_since store new (HasPrefix acked (under_way_in x under_way))
     torn_moments room acked under_way r h = weaker moment left_since store new (IsTornAppend (seen store) gate record_bytes) (HasPrefix acked (under_way_in x under_way)) h (torn room acked under_way r)

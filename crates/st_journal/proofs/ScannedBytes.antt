@@ -1,4 +1,4 @@
--- What is read behind a gate, over plain byte lists.
+-- What is read after a gate, over plain byte lists.
 use Rattle.std.proofs.Common.{◌≡◌, ◌≢◌, ℕ, ◌+◌, ◌^◌, ◌≤◌, ◌<◌, true, List, [], ◌∷◌, ◌++◌, length, get_or, take, drop, Option, Some, refl, sym, ap, ◌∙◌, subst, arith, append_assoc, length-append, length-drop, take-append-drop}
 use Rattle.std.specs.Int.{w32, from_be_bytes}
 use Rattle.std.proofs.lemmas.Bool.{and_parts, leb-true}
@@ -70,7 +70,7 @@ pub number_is : (room : List ℕ) → length room ≡ 4 → IsBytes room → wor
 unfolding word32
 number_is room l b = wide32.back room l b
 
--- A change behind its number of bytes.
+-- A change after its number of bytes.
 
 module _ (bytes : List ℕ) (at count : ℕ) (number : take 4 (drop at bytes) ≡ word32 count) (small : count < 2 ^ 32) where
   pub framed_at : (x : Change) → at + count + 5 ≤ length bytes → Spells (take count (drop (at + 4) bytes)) x → IsFramedAt bytes at x (count + 4)
@@ -119,7 +119,7 @@ module _ (bytes : List ℕ) (at count : ℕ) (number : take 4 (drop at bytes) �
 pub unframed_short : (bytes : List ℕ) (at : ℕ) → length bytes < at + 4 → at ≤ length bytes → IsUnframedAt bytes at
 unframed_short bytes at l within x gate more f e = omega (arith, l, ap length e, length-drop at bytes, length-append (framed x) (gate ∷ more), length-framed x)
 
--- A gate with what stands behind it.
+-- A gate with what follows it.
 
 pub open_at : (bytes : List ℕ) (at : ℕ) (x : Change) (count : ℕ) → drop at bytes ≡ 1 ∷ drop (at + 1) bytes → IsFramedAt bytes (at + 1) x count → IsOpenAt bytes at x (count + 1)
 open_at bytes at x count gate f = record {
@@ -135,7 +135,7 @@ bare_at bytes at gate none = record { rest = drop (at + 1) bytes; parts = gate; 
 
 -- A journal that was read so far, and one change more.
 
--- what stands at the end of what was read
+-- what is at the end of what was read
 behind_read : (bytes : List ℕ) (xs : List Change) (gate : ℕ) (tail : List ℕ) → bytes ≡ all_opened xs ++ drop gate bytes → drop gate bytes ≡ tail → bytes ≡ all_opened xs ++ tail
 behind_read bytes xs gate tail e f = e ∙ ap (λ (t : List ℕ). all_opened xs ++ t) f
 

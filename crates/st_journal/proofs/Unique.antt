@@ -19,7 +19,7 @@ pub length-word32 : (n : ℕ) → length (word32 n) ≡ 4
 unfolding word32
 length-word32 n = wide32.len n
 
--- what stands behind a gate is one change, and what follows it
+-- what follows a gate is one change, and what comes after it
 pub framed_once : (x y : Change) (ys zs : List ℕ) → fits x ≡ true → fits y ≡ true → framed x ++ ys ≡ framed y ++ zs → (x ≡ y) × (ys ≡ zs)
 unfolding framed
 framed_once x y ys zs e f same =
@@ -38,7 +38,7 @@ head_is a b xs ys e = cc
 tail_is : (a b : ℕ) (xs ys : List ℕ) → a ∷ xs ≡ b ∷ ys → xs ≡ ys
 tail_is a b xs ys e = cc
 
--- one change behind its gate, and the rest
+-- one change after its gate, and the rest
 opened_first : (x : Change) (xs : List Change) (rest : List ℕ) → all_opened (x ∷ xs) ++ rest ≡ 1 ∷ (framed x ++ (all_opened xs ++ rest))
 opened_first x xs rest = append_assoc (opened x) (all_opened xs) rest
 
@@ -63,7 +63,7 @@ one_list (x ∷ xs) (y ∷ ys) g h r q e f shut closed same =
 pub one_journal : (bytes : List ℕ) (xs ys : List Change) → IsJournal bytes xs → IsJournal bytes ys → xs ≡ ys
 one_journal bytes xs ys j k = one_list xs ys j.gate k.gate j.rest k.rest j.ranges k.ranges j.closed k.closed (sym j.parts ∙ k.parts)
 
--- where an open gate stands in a journal, one of its changes follows
+-- where a journal has an open gate, one of its changes follows
 record Follows (xs ys : List Change) (rest : List ℕ) : Type 0 where
   next : Change
   later : List Change

@@ -3,7 +3,7 @@ use Rattle.std.specs.Prelude.{◌⊎◌, ℕ, ◌+◌, List, [], ◌∷◌, leng
 use Rattle.st_link.specs.declared.link.Failed.{Failed}
 use Rattle.st_store.specs.Store.{Step, Then, Torn, written}
 
--- the bytes with a record behind the gate at this place, and with the gate open
+-- the bytes with a record after the gate at this place, and with the gate open
 abbrev pub with_record : List ℕ → ℕ → List ℕ → List ℕ
 with_record bytes gate new = written bytes (gate + 1) new
 
@@ -18,6 +18,6 @@ IsTornAppend bytes gate new c = Torn (gate + 1) (length new) bytes c ⊎ Torn ga
 abbrev pub WritesSynced : {D : Type 0} → (D → ℕ → List ℕ → Result Unit Failed → D → Type 0) → Step D → ℕ → List ℕ → Step D
 WritesSynced writes syncs at new = Then (λ old result mid. writes old at new result mid) syncs
 
--- a record behind the gate, and then the open gate
+-- a record after the gate, and then the open gate
 abbrev pub Puts : {D : Type 0} → (D → ℕ → List ℕ → Result Unit Failed → D → Type 0) → Step D → ℕ → List ℕ → Step D
 Puts writes syncs gate new = Then (WritesSynced writes syncs (gate + 1) new) (WritesSynced writes syncs gate (1 ∷ []))

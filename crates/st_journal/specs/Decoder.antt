@@ -15,14 +15,14 @@ abbrev pub ◌>>=◌ : {A B : Type 0} → Option A → (A → Option B) → Opti
 (Some x) >>= f = f x
 None >>= f = None
 
--- one field behind the other
+-- one field after another
 abbrev pub seq : {A B : Type 0} → Reader A → (A → Reader B) → Reader (A × B)
 seq first second bytes = do
   a ← first bytes
   b ← second a.0 a.1
   Some ((a.0, b.0), b.1)
 
--- what is made of the fields
+-- what the fields make
 abbrev pub made : {A B : Type 0} → (A → B) → Reader A → Reader B
 made make fields bytes = do
   a ← fields bytes

@@ -1,4 +1,4 @@
--- The journal in a store's bytes: a gate, and behind each open gate a change and the next gate.
+-- The journal in a store's bytes: a gate, and after each open gate a change and the next gate.
 use Rattle.std.specs.Prelude.{◌≡◌, ◌≢◌, ℕ, true, List, ◌∷◌, ◌++◌, length, Some, Ok, IsOk}
 use Rattle.std.specs.List.{flat_map, list_all}
 use Rattle.st_rules.specs.Server.{Stable}
@@ -6,19 +6,19 @@ use Rattle.st_journal.specs.Changes.{bytes_of, fits, word32}
 use Rattle.st_journal.specs.Stable.{after_changes, apply}
 use Rattle.st_journal.specs.declared.change.Change.{Change}
 
--- what stands behind a gate: the number of a change's bytes in four bytes, and its bytes
+-- what follows a gate: the number of a change's bytes in four bytes, and its bytes
 unfoldable pub framed : Change → List ℕ
 framed x = word32 (length (bytes_of x)) ++ bytes_of x
 
--- a change behind its open gate
+-- a change after its open gate
 abbrev pub opened : Change → List ℕ
 opened x = 1 ∷ framed x
 
--- changes behind their open gates, one after another
+-- changes after their open gates, one after another
 abbrev pub all_opened : List Change → List ℕ
 all_opened xs = flat_map opened xs
 
--- The journal of a list of bytes: these changes from 0 on, behind open gates, and then a gate that is not open.
+-- The journal of a list of bytes: these changes from 0 on, after open gates, and then a gate that is not open.
 pub record IsJournal (bytes : List ℕ) (xs : List Change) : Type 0 where
   pub gate : ℕ
   pub rest : List ℕ

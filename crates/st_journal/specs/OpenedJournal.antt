@@ -18,14 +18,14 @@ use Rattle.st_journal.specs.declared.stable.Stable.{Stable}
 abbrev pub fresh_of : ServerId → ℕ → ℕ → ℕ → server.Stable
 fresh_of server servers disks blocks = fresh (record { server = server; servers = servers; disks = disks; blocks = blocks })
 
--- an opened journal: its store, where its gate stands, how many changes it has, and whether an append failed at the store
+-- an opened journal: its store, where its gate is, how many changes it has, and whether an append failed at the store
 pub record Opened (D : Type 0) : Type 0 where
   pub store : D
   pub gate : ℕ
   pub changes : ℕ
   pub broken : Bool
 
--- The journal of the bytes is all of these changes that are acknowledged, and at most the one under way besides.
+-- The journal of the bytes is all of these changes that are acknowledged, and at most the one under way.
 abbrev pub HasPrefix : List Change → Option Change → List ℕ → Type 0
 HasPrefix acked None bytes = IsJournal bytes acked
 HasPrefix acked (Some x) bytes = IsJournal bytes acked ⊎ IsJournal bytes (acked ++ x ∷ [])
@@ -59,13 +59,12 @@ abbrev pub all_of : List Change → Option Change → List Change
 all_of acked None = acked
 all_of acked (Some x) = acked ++ x ∷ []
 
--- the stable part after the acknowledged changes, and at most the one under way besides
+-- the stable part after the acknowledged changes, and at most the one under way
 abbrev pub IsPrefixState : server.Stable → List Change → Option Change → server.Stable → Type 0
 IsPrefixState start acked None state = after_changes (Some start) acked ≡ Some state
 IsPrefixState start acked (Some x) state = (after_changes (Some start) acked ≡ Some state) ⊎ (after_changes (Some start) (acked ++ x ∷ []) ≡ Some state)
 
--- Until an append fails at the store: the store reads as a journal, all of it on the disk. Its gate stands behind the changes,
--- which are counted.
+-- Until an append fails at the store: the store reads as a journal, all of it on the disk. Its gate is after the changes, which are counted.
 pub record IsAtRest {D : Type 0} (seen : D → List ℕ) (may_leave : D → List ℕ → Type 0) (j : Opened D) : Type 0 where
   pub changes : List Change
   pub journal : IsJournal (seen j.store) changes
@@ -74,7 +73,7 @@ pub record IsAtRest {D : Type 0} (seen : D → List ℕ) (may_leave : D → List
   pub durable : Only (seen j.store) (may_leave j.store)
   pub small : length (seen j.store) < 4294967296
 
--- the bytes behind the gate, and the bytes that a change takes: its length, its own and the next gate
+-- the bytes after the gate, and the bytes that a change takes: its length, its own and the next gate
 abbrev pub room_behind : ℕ → ℕ → ℕ
 room_behind size gate = size - gate - 1
 
@@ -110,7 +109,7 @@ PutCalls writes syncs old new gate x (Ok count) = Puts writes syncs gate (framed
 PutCalls writes syncs old new gate x (Err Store) = (f : Failed) × Puts writes syncs gate (framed x ++ 0 ∷ []) old (Err f) new
 PutCalls writes syncs old new gate x (Err f) = Unit {0}
 
--- A record is put into a store behind the gate, and the gate is opened: of so many bytes, for which there was room.
+-- A record is put into a store after the gate, and the gate is opened: of that many bytes, for which there was room.
 pub record PutsAt {D : Type 0} (seen : D → List ℕ) (may_leave : D → List ℕ → Type 0) (old new : D) (gate : ℕ) (x : Change) (count : ℕ) : Type 0 where
   pub counted : count ≡ room_for x
   pub room : room_for x ≤ room_behind (length (seen old)) gate
@@ -150,7 +149,7 @@ abbrev pub store_of : {D : Type 0} → Answer D → D
 store_of (Ok x) = x.0.store
 store_of (Err e) = e.0
 
--- It reads the stable part after the acknowledged changes, and at most the one under way besides; or the store fails, or no memory.
+-- It reads the stable part after the acknowledged changes, and at most the one under way; or the store fails, or memory runs out.
 abbrev pub ReadsPrefix : {D : Type 0} → server.Stable → List Change → Option Change → Answer D → Type 0
 ReadsPrefix start acked under_way (Ok x) = IsPrefixState start acked under_way (stable_of x.1)
 ReadsPrefix start acked under_way (Err e) = (e.1 ≡ Store) ⊎ (e.1 ≡ Memory)

@@ -1,4 +1,4 @@
--- What is read behind a gate.
+-- What is read after a gate.
 use Rattle.std.specs.Prelude.{◌≡◌, ◌≢◌, ◌≤◌, ◌<◌, ◌+◌, ◌*◌, ℕ, Bool, true, false, List, ◌∷◌, ◌++◌, length, drop, Option, Some, None, Result, Ok, IsOk}
 use Rattle.std.specs.List.{list_all}
 use Rattle.st_link.specs.Causes.{Rose}
@@ -24,7 +24,7 @@ abbrev pub IsGateAt : List ℕ → ℕ → Bool → Type 0
 IsGateAt bytes at true = drop at bytes ≡ 1 ∷ drop (at + 1) bytes
 IsGateAt bytes at false = IsClosedAt bytes at
 
--- from this place on the number of a change's bytes, its bytes, and a gate; so many bytes stand before the gate
+-- from this place on the number of a change's bytes, its bytes, and a gate; that many bytes come before the gate
 pub record IsFramedAt (bytes : List ℕ) (at : ℕ) (x : Change) (count : ℕ) : Type 0 where
   pub gate : ℕ
   pub rest : List ℕ
@@ -32,11 +32,11 @@ pub record IsFramedAt (bytes : List ℕ) (at : ℕ) (x : Change) (count : ℕ) :
   pub ranges : fits x ≡ true
   pub counted : count ≡ length (framed x)
 
--- no change stands from this place on with a gate behind it
+-- no change begins at this place with a gate after it
 abbrev pub IsUnframedAt : List ℕ → ℕ → Type 0
 IsUnframedAt bytes at = (x : Change) (gate : ℕ) (more : List ℕ) → fits x ≡ true → drop at bytes ≡ framed x ++ gate ∷ more → ⊥
 
--- an open gate, and behind it this change, of so many bytes with the gate, and the next gate
+-- an open gate, and after it this change, of that many bytes with the gate, and the next gate
 pub record IsOpenAt (bytes : List ℕ) (at : ℕ) (x : Change) (count : ℕ) : Type 0 where
   pub gate : ℕ
   pub rest : List ℕ
@@ -50,7 +50,7 @@ pub record IsBareAt (bytes : List ℕ) (at : ℕ) : Type 0 where
   pub parts : drop at bytes ≡ 1 ∷ rest
   pub none : (x : Change) (gate : ℕ) (more : List ℕ) → fits x ≡ true → rest ≡ framed x ++ gate ∷ more → ⊥
 
--- what stands at a gate
+-- what is at a gate
 abbrev pub StandsAt : List ℕ → ℕ → Option (Change × ℕ) → Type 0
 StandsAt bytes at None = IsClosedAt bytes at
 StandsAt bytes at (Some found) = IsOpenAt bytes at found.0 found.1

@@ -33,7 +33,7 @@ abbrev pub mapped : Stable → Result extents.Extents AllocateRefusal → Result
 mapped t (Ok x) = Ok (record t { extents = x })
 mapped t (Err (space.NoSpace free asked)) = Err (NoSpace free asked)
 
--- an inode that is no file is refused
+-- an inode that isn't a file is refused
 unfoldable pub allocate : Stable → ℕ → PageNo → ℕ → Result Stable ChangeRefusal
 allocate t ino page count = if names.is_file t.names ino then mapped t (extents.allocate t.extents (file t ino) page count) else Err (NoFile ino)
 
@@ -41,7 +41,7 @@ allocate t ino page count = if names.is_file t.names ino then mapped t (extents.
 abbrev pub released : Stable → ℕ → PageNo → Stable
 released t ino from = record t { extents = extents.release_from t.extents (file t ino) from }
 
--- an inode that is no file is refused
+-- an inode that isn't a file is refused
 unfoldable pub cut : Stable → ℕ → PageNo → Result Stable ChangeRefusal
 cut t ino from = if names.is_file t.names ino then Ok (released t ino from) else Err (NoFile ino)
 

@@ -5,7 +5,8 @@ ghost use Rattle.st_journal.specs.Changes as changes;
 use st_base::{Name, PageNo};
 use std::alloc::{AllocError, Global};
 
-/// A change to a server's stable part. `ino` is the inode number of a file, `dir` and `dir2` are those of directories.
+/// A change to a server's stable part. `ino` is the inode number of a file, `dir` and `dir2` are
+/// those of directories.
 #[derive(Drop)]
 pub enum Change {
     Epoch,
@@ -185,7 +186,8 @@ impl Change {
         }
     }
 
-    /// The bytes of the change. Names have at most 255 bytes, and the numbers of an `Allocate` or a `Cut` are in their ranges.
+    /// The bytes of the change. Names have at most 255 bytes, and the numbers of an `Allocate` or a
+    /// `Cut` are in their ranges.
     pub fn encode(&self, alloc: Global) -> Result<Vec<u8>, AllocError>
         requires { changes.fits self.now ≡ true }
         ensures { IfOk result (λ b. b.items ≡ changes.bytes_of self.now) }

@@ -233,7 +233,8 @@ fn read_whole(alloc: Global, bytes: &[u8]) -> Result<Option<Change>, AllocError>
     }
 }
 
-/// The change whose bytes these are, all of them, or `None` where there is none. It allocates only for names.
+/// The change whose bytes these are, all of them, or `None` if there is none. It allocates only for
+/// names.
 pub fn decode(alloc: Global, bytes: &[u8]) -> Result<Option<Change>, AllocError>
     // What is read has these bytes and fits; and each change that fits and has these bytes is read.
     ensures found { IfOk result (λ o. IfSome o (λ x. Spells bytes.now x)) }

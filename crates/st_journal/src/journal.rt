@@ -27,8 +27,8 @@ use st_store::{MemoryStore, Store};
 use std::alloc::Global;
 use std::marker::Model;
 
-/// The changes to a server's stable part, in a store. Contracts see the store, where the gate behind the changes stands, how many
-/// changes there are, and whether an append failed at the store.
+/// The changes to a server's stable part, in a store. Contracts see the store, where the gate after
+/// the changes is, how many changes there are, and whether an append failed at the store.
 #[derive(Drop)]
 pub struct Journal<D: Store + Drop> {
     alloc: Global,
@@ -108,7 +108,7 @@ fn read_synced<D: Store>(
     read_fresh(alloc, store, server, servers, disks, blocks)
 }
 
-/// Whether the bytes behind a gate are enough.
+/// Whether the bytes after a gate are enough.
 fn check_room(size: u64, gate: u64, asked: u64) -> Result<(), JournalFault>
     requires { gate < size }
     ensures ok { OnOk result (asked ≤ opened.room_behind size gate) }
@@ -121,7 +121,8 @@ fn check_room(size: u64, gate: u64, asked: u64) -> Result<(), JournalFault>
     Ok(())
 }
 
-/// Appends a change behind the gate at this place, and says how many bytes it takes with the next gate.
+/// Appends a change after the gate at this place, and says how many bytes it takes with the next
+/// gate.
 fn append_at<D: Store>(
     alloc: Global,
     store: &mut D,
@@ -150,10 +151,12 @@ fn append_at<D: Store>(
 }
 
 impl<D: Store + Drop> Journal<D> {
-    /// Opens a store: syncs it, reads its changes, and applies them to a fresh stable part. `server` is from 1 to `servers`, which
-    /// is at most 4; there are `servers` to 8 disks of 1 to 4,096 `blocks` each. The store has 1 to 2^32 - 1 bytes. A store of
-    /// zeros has no change. It writes nothing. The store comes back with a fault: `Damaged`, where no change that applies lies
-    /// behind an open gate with its next gate; `Store`, where the store failed in this call; or `Memory`.
+    /// Opens a store: syncs it, reads its changes, and applies them to a fresh stable part.
+    /// `server` is from 1 to `servers`, which is at most 4; there are `servers` to 8 disks of 1 to
+    /// 4,096 `blocks` each. The store has 1 to 2^32 - 1 bytes. A store of zeros has no change. It
+    /// writes nothing. The store comes back with a fault: `Damaged`, if no change that applies lies
+    /// after an open gate with its next gate; `Store`, if the store failed in this call; or
+    /// `Memory`.
     pub fn open(
         alloc: Global,
         store: D,
@@ -167,7 +170,8 @@ impl<D: Store + Drop> Journal<D> {
         requires small { length (D.seen store) < 4294967296 }
         ensures ok { IfOk result (λ x. Opens D.seen D.may_leave (opened.fresh_of server servers disks blocks) store x.0 (parts.stable_of x.1)) }
         ensures err { IfErr result (λ e. NotOpened (opened.fresh_of server servers disks blocks) (D.seen store) (D.faults store) (D.faults e.0) e.1) }
-        // Of bytes whose journal is the acknowledged changes, and at most the one under way besides, it reads what these make.
+        // Of bytes whose journal is the acknowledged changes, and at most the one under way, it
+        // reads what these make.
         ensures prefix { (acked : List Change) (under_way : Option Change) (last : machine.Stable) → stable.after_changes (Some (opened.fresh_of server servers disks blocks)) (opened.all_of acked under_way) ≡ Some last
             → HasPrefix acked under_way (D.seen store) → ReadsPrefix (opened.fresh_of server servers disks blocks) acked under_way result }
         // A crash at any moment leaves what it might have left before.
@@ -191,11 +195,13 @@ impl<D: Store + Drop> Journal<D> {
         }
     }
 
-    /// Appends a change, which is acknowledged by `Ok`: its record is written behind the gate and synced, then the gate is opened
-    /// and synced. The numbers of an `Allocate` or a `Cut` are in their ranges, and the change is not refused on the state that
-    /// the journal stands for. It fails, in this order, as `Broken`, where an earlier append answered `Store`; as `Full`, where the
-    /// bytes behind the gate are too few for the change with its length and the next gate; as `Memory`, before anything is written;
-    /// or as `Store`, where the store failed in this call. All but `Store` leave the journal as it was.
+    /// Appends a change, which is acknowledged by `Ok`: its record is written after the gate and
+    /// synced, then the gate is opened and synced. The numbers of an `Allocate` or a `Cut` are in
+    /// their ranges, and the change is not refused on the state that the journal stands for. It
+    /// fails, in this order, as `Broken`, if an earlier append answered `Store`; as `Full`, if the
+    /// bytes after the gate are too few for the change with its length and the next gate; as
+    /// `Memory`, before anything is written; or as `Store`, if the store failed in this call. All
+    /// but `Store` leave the journal as it was.
     pub fn append(&mut self, change: &Change) -> Result<(), JournalFault>
         requires ranges { is_ranged change.now ≡ true }
         requires applies { self.old.broken ≡ false → (start : machine.Stable) × Applies start (D.seen self.old.store) change.now }
@@ -203,10 +209,11 @@ impl<D: Store + Drop> Journal<D> {
         ensures err { IfErr result (NotAppended D.seen D.faults self.old self.new change.now) }
         ensures calls { opened.Calls D.writes D.syncs self.old self.new change.now result }
         ensures kept { D.keeps self.old.store self.new.store }
-        // It records the change where it is acknowledged, and has it under way where the store failed.
+        // It records the change where it is acknowledged, and has it under way where the store
+        // failed.
         ensures records { (acked : List Change) (under_way : Option Change) → Records D.seen D.may_leave self.old acked under_way
             → Records D.seen D.may_leave self.new (opened.acked_after result change.now acked) (opened.under_way_after result change.now under_way) }
-        // A crash at any moment leaves the acknowledged changes, and at most the one under way besides.
+        // A crash at any moment leaves the acknowledged changes, and at most the one under way.
         ensures any_moment { (acked : List Change) (under_way : Option Change) → Records D.seen D.may_leave self.old acked under_way
             → LeavesOnly D.moment D.left_since self.old.store self.new.store (HasPrefix acked (opened.under_way_in change.now under_way)) }
     {
@@ -236,7 +243,7 @@ impl<D: Store + Drop> Journal<D> {
         self.changes
     }
 
-    /// The place of the gate behind the changes.
+    /// The place of the gate after the changes.
     pub fn gate(&self) -> u64
         ensures { result ≡ self.now.gate }
     {

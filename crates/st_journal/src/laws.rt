@@ -16,7 +16,8 @@ pub fn bytes_have_one_journal()
     ensures whole { (start : Stable) (bytes : List ℕ) (at : ℕ) (xs : List Change) (state : Stable) → StandsFor start bytes xs state → IsDamaged start bytes at → ⊥ }
 {}
 
-/// A crash at any moment of an append leaves the journal as it was, or with the change; and when the append is done it has the change.
+/// A crash at any moment of an append leaves the journal as it was, or with the change; and when
+/// the append is done it has the change.
 pub fn appends_survive_crashes()
     ensures any_moment { (bytes : List ℕ) (xs : List Change) (x : Change) (gate : ℕ) (c : List ℕ) → IsJournal bytes xs → gate ≡ length (all_opened xs) → fits x ≡ true
         → gate + 1 + length (framed x ++ 0 ∷ []) ≤ length bytes → IsTornAppend bytes gate (framed x ++ 0 ∷ []) c → IsJournal c xs ⊎ IsJournal c (xs ++ x ∷ []) }
@@ -30,8 +31,9 @@ pub fn zeros_are_an_empty_journal()
     ensures length { (size : ℕ) → length (zeros size) ≡ size }
 {}
 
-/// An append in which a store in memory stops in one of the four calls keeps its change exactly where the stop comes in the third or
-/// the fourth and leaves an open gate; or the store found no memory for its record.
+/// An append in which a store in memory stops in one of the four calls keeps its change exactly if
+/// the stop comes in the third or the fourth and leaves an open gate; or the store had no memory
+/// for its record.
 pub fn a_stop_keeps_by_its_byte()
     ensures { (old new : Opened InMemory) (acked : List Change) (x : Change) (call byte : ℕ) (result : Result Unit JournalFault)
         → Records (λ s. (held s.contents).seen) (λ s c. MayLeave (recorded s.contents) c) old acked None → IsArmed old.store.plan call byte → 1 ≤ call → call ≤ 4

@@ -1,5 +1,5 @@
-//! A journal of the changes to a server's stable part, over a store that may crash. `docs/PROTOCOL.md`, "A metadata journal",
-//! has the rules.
+//! A journal of the changes to a server's stable part, over a store that may crash.
+//! `docs/PROTOCOL.md`, "A metadata journal", has the rules.
 #![tactic(auto)]
 
 mod change;

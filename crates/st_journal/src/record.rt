@@ -11,7 +11,8 @@ use st_link::Failed;
 use st_store::Store;
 use std::alloc::{AllocError, Global};
 
-/// The bytes that are written behind a gate: the number of the change's bytes, those bytes, and a gate that is not open.
+/// The bytes that are written after a gate: the number of the change's bytes, those bytes, and a
+/// gate that is not open.
 #[tactic(auto, unfolding(crate::specs::Journal::framed))]
 pub fn record_of(alloc: Global, change: &Change) -> Result<Vec<u8>, AllocError>
     requires { fits change.now ≡ true }
@@ -39,7 +40,7 @@ fn write_synced<D: Store>(store: &mut D, at: u64, bytes: &[u8]) -> Result<(), Fa
     store.sync()
 }
 
-/// Writes a record behind the gate, and syncs; then opens the gate, and syncs.
+/// Writes a record after the gate, and syncs; then opens the gate, and syncs.
 pub(crate) fn put_record<D: Store>(store: &mut D, gate: u64, bytes: &[u8]) -> Result<(), Failed>
     requires within { gate + 1 + length bytes.now ≤ length (D.seen store.old) }
     requires small { length (D.seen store.old) < 4294967296 }

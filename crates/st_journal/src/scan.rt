@@ -17,7 +17,7 @@ use st_link::Failed;
 use st_store::Store;
 use std::alloc::Global;
 
-/// Where reading stands: the place of the next gate, and how many changes were read.
+/// How far reading is: the place of the next gate, and how many changes were read.
 #[derive(Clone, Copy, Debug, PartialEq, Eq)]
 pub struct Scanned {
     pub gate: u64,
@@ -71,7 +71,7 @@ fn length_at<D: Store>(store: &mut D, at: u64) -> Result<u64, Failed>
     Ok(number_of(&room))
 }
 
-/// The change whose bytes stand from a place on, so many of them.
+/// The change whose bytes begin at a place, that many of them.
 fn change_at<D: Store>(
     alloc: Global,
     store: &mut D,
@@ -98,7 +98,8 @@ fn change_at<D: Store>(
     }
 }
 
-/// The change that stands from a place on, behind its number of bytes and before a gate, and how many bytes it has with its number.
+/// The change that begins at a place, after its number of bytes and before a gate, and how many
+/// bytes it has with its number.
 fn framed_at<D: Store>(
     alloc: Global,
     store: &mut D,
@@ -130,7 +131,8 @@ fn framed_at<D: Store>(
     }
 }
 
-/// What stands at a gate: `None` where it is not open, and else the change behind it, with how many bytes it has with its gate.
+/// What is at a gate: `None` if it isn't open, and otherwise the change after it, with how many
+/// bytes it has with its gate.
 fn read_at<D: Store>(
     alloc: Global,
     store: &mut D,
@@ -158,7 +160,7 @@ fn read_at<D: Store>(
     }
 }
 
-/// Applies a change that was read behind the gate at this place.
+/// Applies a change that was read after the gate at this place.
 fn apply_read(stable: &mut Stable, change: &Change, gate: u64) -> Result<(), JournalFault>
     requires fits { changes.fits change.now ≡ true }
     requires room { stables.HasRoom (parts.stable_of stable.old) change.now }

@@ -55,8 +55,9 @@ fn unmapped(refusal: ExtentRefusal) -> ChangeRefusal
 }
 
 impl Stable {
-    /// The stable part of a server that never began an epoch: epoch 0, the names of a fresh server, and no page mapped.
-    /// `server` is from 1 to `servers`, which is at most 4; there are `servers` to 8 disks of 1 to 4,096 `blocks` each.
+    /// The stable part of a server that never began an epoch: epoch 0, the names of a fresh server,
+    /// and no page mapped. `server` is from 1 to `servers`, which is at most 4; there are `servers`
+    /// to 8 disks of 1 to 4,096 `blocks` each.
     pub fn fresh(
         alloc: Global,
         server: ServerId,
@@ -193,9 +194,10 @@ impl Stable {
         self.epoch = Epoch(self.epoch.0 + 1);
     }
 
-    /// Applies a change, whose numbers are in their ranges: an inode from 1, pages up to 1,048,575, and 1 to 64 of them. The
-    /// counter that it raises is not at its end. Removing a file releases its extents. A refusal but `Memory` changes nothing;
-    /// after `Memory` nothing is promised but that the value can be dropped.
+    /// Applies a change, whose numbers are in their ranges: an inode from 1, pages up to 1,048,575,
+    /// and 1 to 64 of them. The counter that it raises is not at its end. Removing a file releases
+    /// its extents. A refusal but `Memory` changes nothing; after `Memory` nothing is promised but
+    /// that the value can be dropped.
     #[tactic(auto, unfolding(crate::specs::Stable::apply, crate::specs::Changes::is_ranged))]
     pub fn apply(&mut self, change: &Change) -> Result<(), ChangeRefusal>
         requires ranges { is_ranged change.now ≡ true }

@@ -23,7 +23,7 @@ pub record GoesOn (front r q c : List ℕ) : Type 0 where
   pub parts : c ≡ front ++ rest
   pub either : AreEither r q rest
 
--- what stands in front of all that was written stays
+-- what is before all that was written stays
 pub front_stays : (front r q c : List ℕ) → AreEither (front ++ r) (front ++ q) c → GoesOn front r q c
 front_stays [] r q c u = record { rest = c; parts = refl; either = u }
 front_stays (x ∷ xs) r q [] u = absurd u

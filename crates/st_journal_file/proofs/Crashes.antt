@@ -73,7 +73,7 @@ module _ {S C : Type 0} (f : Format S C) (start : S) (header : List ℕ) where
       (at_area (area_of k.current left) (area_of k.current k.seen) k.kept
       (are_of (area_of k.current k.synced) (area_of k.current k.seen) (area_of k.current k.seen) (area_of k.current left) h.same refl (area_left k.current k.synced k.seen left l)) h.stands))
 
-  -- behind a closed gate anything may stand
+  -- after a closed gate anything may follow
   writing_left : (k : Keeper S C) (left : File) (g : Gate S C) (r q : List ℕ) → IsMarked header k.current k.synced → IsMarked header k.current k.seen →
       after_changes f (Some g.snapshot) g.records ≡ after_changes f (Some start) k.kept →
       area_of k.current k.synced ≡ front f g.snapshot g.records ++ CLOSED ∷ r → area_of k.current k.seen ≡ front f g.snapshot g.records ++ CLOSED ∷ q →

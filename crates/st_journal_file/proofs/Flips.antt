@@ -25,7 +25,7 @@ split_same (x ∷ xs) (y ∷ ys) r q n e =
     let tail : xs ≡ ys = both.0 in
     (cc, both.1)
 
--- where a bit flips: in the first part or behind it
+-- where a bit flips: in the first part or after it
 pub data Splits (xs ys r q : List ℕ) : Type 0 where
   First : IsFlipped xs ys → r ≡ q → Splits xs ys r q
   Second : xs ≡ ys → IsFlipped r q → Splits xs ys r q
@@ -168,7 +168,7 @@ module _ {S C : Type 0} (f : Format S C) (proper : IsProper f) where
   unfolding part
   part_is a r = simp append_assoc
 
-  -- where two parts begin bytes of which one bit flipped, they are the same, and the bit is behind them
+  -- where two parts begin bytes of which one bit flipped, they are the same, and the bit is after them
   body_flips : (a b r q : List ℕ) → are_bytes a → are_bytes b → length a ≡ length b → Splits a b (word32 (f.sum a) ++ r) (word32 (f.sum b) ++ q) → (a ≡ b) × IsFlipped r q
   body_flips a b r q bytes others n (First flip same) =
       absurd (no_flip a b bytes others flip (split_same (word32 (f.sum a)) (word32 (f.sum b)) r q (words_same (f.sum a) (f.sum b)) same).0)

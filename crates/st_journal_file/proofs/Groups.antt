@@ -1,4 +1,4 @@
--- A group behind an open gate is a part of its area's records.
+-- A group after an open gate is a part of its area's records.
 use Rattle.std.proofs.Common.{◌≡◌, ℕ, List, [], ◌∷◌, ◌++◌, refl, sym, ap, ◌∙◌, append_assoc}
 use Rattle.std.specs.Prelude.{Option, Some}
 use Rattle.st_journal_file.specs.Histories.{Gate, behind, closed_at, group_of, opened_at}

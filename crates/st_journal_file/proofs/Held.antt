@@ -40,7 +40,7 @@ module _ {S C : Type 0} (f : Format S C) (start : S) (header : List ℕ) where
     pub same : area_of k.current k.synced ≡ area_of k.current k.seen
     pub stands : StandsFor f start (area_of k.current k.seen) k.kept
 
-  -- a group was written behind the gate of what is kept: the area that was synced is the same in front of it
+  -- a group was written after the gate of what is kept: the area that was synced is the same before it
   pub record IsWriting (g : Gate S C) (k : Keeper S C) : Type 0 where
     pub old : IsMarked header k.current k.synced
     pub new : IsMarked header k.current k.seen

@@ -3,7 +3,7 @@ use Rattle.std.specs.Prelude.{◌≡◌, ◌<◌, ◌^◌, ℕ, List, [], ◌∷
 use Rattle.st_crc32c.specs.Crc.{are_bytes, crc32c}
 use Rattle.st_journal_file.specs.Layout.{Format}
 
--- the bytes are the same but for one bit
+-- the bytes are the same except for one bit
 pub data IsFlipped : List ℕ → List ℕ → Type 0 where
   Here : (b k : ℕ) (bs : List ℕ) → k < 8 → IsFlipped (b ∷ bs) (bit_xor b (2 ^ k) ∷ bs)
   Later : (b : ℕ) (bs cs : List ℕ) → IsFlipped bs cs → IsFlipped (b ∷ bs) (b ∷ cs)

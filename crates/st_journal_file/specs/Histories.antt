@@ -3,7 +3,8 @@ use Rattle.std.specs.Prelude.{◌≡◌, ◌≢◌, ◌⊎◌, ℕ, Bool, true, 
 use Rattle.std.specs.Prelude.{Some}
 use Rattle.st_journal_file.specs.Layout.{CLOSED, OPEN, Format, File, IsBlank, IsMade, StandsFor, after_changes, all_opened, area_of, front, part, switch_of}
 
--- The store. Of what was written and not synced a crash leaves each byte as it was or as it is to be, and nothing else changes. A sync that is told as done was done.
+-- The store. A crash leaves each byte that was written and not synced as it was or as it was written, and nothing else changes. A sync that is reported as done
+-- was done.
 
 abbrev pub IsEither : ℕ → ℕ → ℕ → Type 0
 IsEither old new n = (n ≡ old) ⊎ (n ≡ new)
@@ -21,7 +22,7 @@ pub record IsLeft (synced seen left : File) : Type 0 where
   pub first : AreEither synced.first seen.first left.first
   pub second : AreEither synced.second seen.second left.second
 
--- A gate, and a group behind it: the snapshot and the records in front of the gate, the group's first record and its others, and the bytes behind the next gate.
+-- A gate, and a group after it: the snapshot and the records before the gate, the group's first record and its others, and the bytes after the next gate.
 pub record Gate (S C : Type 0) : Type 0 where
   pub snapshot : S
   pub records : List C
@@ -36,7 +37,7 @@ group_of g = g.first ∷ g.others
 abbrev pub behind : {S C : Type 0} → Format S C → Gate S C → List ℕ
 behind f g = part f (f.spelled g.first) ++ (all_opened f g.others ++ CLOSED ∷ g.more)
 
--- the area with the group behind its closed gate, and with that gate open
+-- the area with the group after its closed gate, and with that gate open
 
 abbrev pub closed_at : {S C : Type 0} → Format S C → Gate S C → List ℕ
 closed_at f g = front f g.snapshot g.records ++ CLOSED ∷ behind f g
@@ -53,7 +54,7 @@ pub data Phase (S C : Type 0) : Type 0 where
   Marking : Phase S C
   -- nothing is written but in the other area
   Idle : Phase S C
-  -- a group was written behind its gate; it was synced; and the gate was opened
+  -- a group was written after its gate; it was synced; and the gate was opened
   Writing : (g : Gate S C) → Phase S C
   Written : (g : Gate S C) → Phase S C
   Opening : (g : Gate S C) → Phase S C
@@ -76,7 +77,7 @@ abbrev pub with_area : Bool → List ℕ → File → File
 with_area false bytes b = record b { first = bytes }
 with_area true bytes b = record b { second = bytes }
 
--- The gate is the one behind the changes that are kept, and is closed; with the group behind it the area has as many bytes.
+-- The gate is the one after the changes that are kept, and is closed; with the group after it the area has as many bytes.
 pub record IsBehindKept {S C : Type 0} (f : Format S C) (start : S) (area : List ℕ) (kept : List C) (g : Gate S C) : Type 0 where
   pub rest : List ℕ
   pub parts : area ≡ front f g.snapshot g.records ++ CLOSED ∷ rest
@@ -112,7 +113,7 @@ pub data Moves {S C : Type 0} (f : Format S C) (start : S) (header : List ℕ) (
   Prepares : (group : List C) → old.phase ≡ Idle → IsFirst group old.waiting → old.synced ≡ old.seen → StandsFor f start (area_of (not old.current) old.seen) (old.kept ++ group) →
       Moves f start header old (record old { phase = Prepared group })
   Switches : (group : List C) → old.phase ≡ Prepared group → Moves f start header old (record old { phase = Switching group; seen = record old.seen { switch = switch_of (not old.current) } })
-  -- a sync: what was written stands
+  -- a sync: what was written stays
   SyncsForm : old.phase ≡ Forming → Moves f start header old (record old { phase = Formed; synced = old.seen })
   SyncsMark : old.phase ≡ Marking → Moves f start header old (record old { phase = Idle; current = false; synced = old.seen })
   SyncsOther : old.phase ≡ Idle → Moves f start header old (record old { synced = old.seen })

@@ -1,9 +1,10 @@
--- A journal's file: a header, two marks, and two areas of which one counts. An area is a snapshot, and records behind open gates.
+-- A journal's file: a header, two marks, and two areas of which one counts. An area is a snapshot, and records after open gates.
 use Rattle.std.specs.Prelude.{◌≡◌, ℕ, Bool, true, false, List, [], ◌∷◌, ◌++◌, length, Option, Some, None}
 use Rattle.std.specs.List.{flat_map}
 use Rattle.std.specs.Int.{w32, to_be_bytes}
 
--- How a file spells states and changes, what a change makes of a state where it is not refused, and the sum of some bytes. Which sum it is matters to damage alone.
+-- How a file spells states and changes, what a change makes of a state where it is not refused, and the sum of some bytes. Which sum it is matters to damage
+-- alone.
 pub record Format (S C : Type 0) : Type 0 where
   pub snapshot : S → List ℕ
   pub spelled : C → List ℕ
@@ -24,7 +25,7 @@ word32 n = to_be_bytes w32 n
 unfoldable pub part : {S C : Type 0} → Format S C → List ℕ → List ℕ
 part f body = word32 (length body) ++ (word32 (f.sum (word32 (length body))) ++ (body ++ word32 (f.sum body)))
 
--- a record behind its open gate
+-- a record after its open gate
 abbrev pub opened : {S C : Type 0} → Format S C → C → List ℕ
 opened f x = OPEN ∷ part f (f.spelled x)
 
@@ -32,7 +33,7 @@ abbrev pub all_opened : {S C : Type 0} → Format S C → List C → List ℕ
 all_opened f [] = []
 all_opened f (x ∷ xs) = opened f x ++ all_opened f xs
 
--- the bytes in front of an area's closed gate: a snapshot, and records behind open gates
+-- the bytes before an area's closed gate: a snapshot, and records after open gates
 abbrev pub front : {S C : Type 0} → Format S C → S → List C → List ℕ
 front f t xs = part f (f.snapshot t) ++ all_opened f xs
 
@@ -45,7 +46,7 @@ abbrev pub after_changes : {S C : Type 0} → Format S C → Option S → List C
 after_changes f o [] = o
 after_changes f o (x ∷ xs) = after_changes f (after_change f o x) xs
 
--- An area: a snapshot, records, and a closed gate. What lies behind that gate is not read.
+-- An area: a snapshot, records, and a closed gate. What lies after that gate is not read.
 pub record IsArea {S C : Type 0} (f : Format S C) (bytes : List ℕ) (snapshot : S) (records : List C) : Type 0 where
   pub rest : List ℕ
   pub parts : bytes ≡ front f snapshot records ++ CLOSED ∷ rest

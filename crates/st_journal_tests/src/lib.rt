@@ -1,4 +1,5 @@
-//! The calls of a journal that the program does not make, with enough memory: a change is appended, and read again.
+//! The calls of a journal that the program does not make, with enough memory: a change is appended,
+//! and read again.
 #![tactic(auto)]
 
 #[cfg(test)]

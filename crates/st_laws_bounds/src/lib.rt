@@ -12,19 +12,21 @@ use st_generate::{
 };
 use st_runs::reports_are_those_of_runs;
 
-/// In every reached world no client has more asks or starts than there were events, and its counters of commands, versions, lives
-/// and requests are no further than the world's commands, log entries, ended lives and messages.
+/// In every reached world no client has more asks or starts than there were events, and its
+/// counters of commands, versions, lives and requests are no further than the world's commands, log
+/// entries, ended lives and messages.
 pub fn clients_count_few()
     ensures { InEveryReached ClientsFew }
 {}
 
-/// In every reached world a server has at most one epoch and one inode more than at the start for each event, and for each event at
-/// most as many births as eight disks have blocks.
+/// In every reached world a server has at most one epoch and one inode more than at the start for
+/// each event, and for each event at most as many births as eight disks have blocks.
 pub fn servers_count_few()
     ensures { InEveryReached ServersFew }
 {}
 
-/// In every reached world the grants of a server's epoch, and the waits that may still become grants, are at most 2^29.
+/// In every reached world the grants of a server's epoch, and the waits that may still become
+/// grants, are at most 2^29.
 pub fn locks_are_few()
     ensures { InEveryReached LocksFew }
 {}
@@ -39,8 +41,9 @@ pub fn thefts_are_few()
     ensures { InEveryReached TheftsFew }
 {}
 
-/// A step raises no counter of a client by more than 2^15, whatever its input is: those of its commands, and of its page versions,
-/// lives and requests at each server (`steps`). The counters of a fresh client are 1 (`fresh`).
+/// A step raises no counter of a client by more than 2^15, whatever its input is: those of its
+/// commands, and of its page versions, lives and requests at each server (`steps`). The counters of
+/// a fresh client are 1 (`fresh`).
 pub fn client_steps_raise_little()
     ensures steps { StepsRaiseLittle }
     ensures fresh { FreshClientsBegin }
@@ -51,7 +54,8 @@ pub fn clients_stay_within()
     ensures { InEveryReached ClientsWithin }
 {}
 
-/// The run of a generated schedule of at most 100,000 events sends at most 4,294,967,295 messages and submits at most as many commands.
+/// The run of a generated schedule of at most 100,000 events sends at most 4,294,967,295 messages
+/// and submits at most as many commands.
 pub fn runs_are_few()
     ensures { RunsAreFew }
 {
@@ -67,8 +71,8 @@ pub fn generated_events_have_lines()
     runs_are_few();
 }
 
-/// The reader reads the first line of a generated schedule as its head (`head`), and the whole text as the events, to the end, where
-/// at most 100,000 events were asked for (`text`).
+/// The reader reads the first line of a generated schedule as its head (`head`), and the whole text
+/// as the events, to the end, where at most 100,000 events were asked for (`text`).
 pub fn texts_are_read_back()
     ensures head { HeadIsRead }
     ensures text { TextIsRead }
@@ -78,8 +82,8 @@ pub fn texts_are_read_back()
     schedules_are_long_enough();
 }
 
-/// Where at most 100,000 events were asked for, the replay of a generated text refuses no line and goes through the end (`end`), and its
-/// report is that of the run of the events (`report`).
+/// Where at most 100,000 events were asked for, the replay of a generated text refuses no line and
+/// goes through the end (`end`), and its report is that of the run of the events (`report`).
 pub fn texts_are_replayed()
     ensures end { TextIsReplayed }
     ensures report { TextIsReported }

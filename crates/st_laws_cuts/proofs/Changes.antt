@@ -1,4 +1,4 @@
--- Names change as asked: behind every event, and over whole runs.
+-- Names change as asked: after every event, and over whole runs.
 use Rattle.std.proofs.Common.{◌≡◌, ◌≢◌, ◌⊎◌, ℕ, ◌+◌, Bool, true, false, not, ◌||◌, List, [], ◌∷◌, ◌++◌, Option, Some, None, Ok, refl, sym, ap, ◌∙◌, subst, inl, inr}
 use Rattle.std.specs.List.{list_any}
 use Rattle.std.proofs.lemmas.Bool.{eq-eqb}
@@ -116,7 +116,7 @@ came t e sc owes taken =
     started s node at = one_other t (ev.starts_server (ev.counted t) s (Some node)) s node (server.start_node node (clock_of (ev.counted t) (nodes.Server s))) at refl (inl (started_names node (clock_of (ev.counted t) (nodes.Server s))))
 
 module _ (k : Config) (count : ℕ) (past : List Step) (t : Traced) (e : Event) (sc : WorldTurn) (h : Hold k count past t) (d : OwnersHold past (gifts k count t.world h.all) t.world) where
-  -- the ask behind a request by which names changed
+  -- the ask that led to a request by which names changed
   module _ (s : ServerId) (old new : ServerNode) (was : node_of t.world s ≡ Some old) (became : node_of sc.world s ≡ Some new) (r : ByRequest t.world old new) where
     served : IsServedAt t.world s
     served = record { node = old; there = was; running = r.running; message = r.message; among = r.among; server = sym (h.cuts.servers s old was).id; by = r.by.served }

@@ -333,7 +333,7 @@ module _ (c : ClientId) (K : ℕ → Type 0) (G : List Output) (s : ServerId) (B
       go _ (ending.FailsToWrite x v o k e i) = syncs x (ending.with_pages (pages.fail t.here.store.pages x.ino x.page x.number) (ending.without x t)) w refl
       go _ (ending.FailsToWriteOlder x v o k e i) = syncs x (ending.without x t) w refl
 
-  -- The pass over the operations: those that were not yet looked at stand behind those that stay. An operation that waits for a reply stays.
+  -- The pass over the operations: those that were not yet looked at come after those that stay. An operation that waits for a reply stays.
   abbrev R : List Operation → Turn → Type 0
   R os t = Base c K G s B out0 t.id t.here.server t.here.life.0 (t.operations ++ os) t.out × Owned t.here.server (view t.here.session) (t.operations ++ os)
 
@@ -368,7 +368,7 @@ module _ (c : ClientId) (K : ℕ → Type 0) (G : List Output) (s : ServerId) (B
   r_say : (os : List Operation) (t : Turn) (o : Output) → Fine c K G t.here.server t.here.life.0 o → R os t → R os (say t o)
   r_say os t o k r = (b_say c K G s B out0 t.id t.here.server t.here.life.0 (t.operations ++ os) t.out o k r.0, r.1)
 
-  -- an operation that is no cut and no name
+  -- an operation that is neither a cut nor a name
   works : (sv : ServerId) (o : Operation) (a : Ask) → o.ask ≡ a → ((cutting : Option ℕ) (body : Body) → Means a cutting body → ⊥) → cs.is_of sv o ≡ true →
       Drops sv o
   works sv o a e n h = record { here = h; idle = λ cutting body q m. n cutting body (subst (λ y. Means y cutting body) e m) }

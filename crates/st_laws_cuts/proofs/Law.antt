@@ -1,4 +1,4 @@
--- Cuts are asked: at the start, behind every event, and over whole runs.
+-- Cuts are asked: at the start, after every event, and over whole runs.
 use Rattle.std.proofs.Common.{◌≡◌, ℕ, ◌+◌, ◌≤◌, true, not, List, [], ◌∷◌, ◌++◌, Some, None, Ok, refl, sym, ap, ◌∙◌, subst, arith}
 use Rattle.std.specs.List.{list_any}
 use Rattle.std.proofs.lemmas.Bool.{eq-eqb}
@@ -129,12 +129,12 @@ module _ (k : Config) (count : ℕ) (past : List Step) (t : Traced) (h : Hold k 
   unfolding served
   is_asked = some_passes (cuts_by past t.world f p) (all_clients t.world) (client z.message.header.from) (opened.among k count past t h d f.server served own) (and_both _ _ alone is_open)
 
--- What stands behind every event.
+-- What holds after every event.
 pub record AllHold (k : Config) (count : ℕ) (past : List Step) (t : Traced) : Type 0 where
   pub base : Hold k count past t
   pub owners : OwnersHold past (gifts k count t.world base.all) t.world
 
--- what stands behind an event; what is known of messages there is what followed from before it
+-- what holds after an event; what is known of messages there is what followed from what held before it
 pub holds_on : (k : Config) (count : ℕ) (past : List Step) (t : Traced) (e : Event) (sc : WorldTurn) (r : is_event count e ≡ true) (h : AllHold k count past t) (taken : world_step t.world e ≡ Ok sc) →
     (n : AllHold k count (past ++ step t e sc ∷ []) (traced_after e t sc)) × (n.base.all ≡ (followed k count past t e sc r h.base taken).after)
 holds_on k count past t e sc r h taken = (record { base = next.0; owners = subst (λ a. OwnersHold (past ++ step t e sc ∷ []) (gifts k count sc.world a) sc.world) (sym next.1) (owners_on k count past t e sc r h.base taken h.owners) }, next.1)

@@ -61,7 +61,7 @@ rule_names now t h b u r (RemovesFile dir x g ino d l f q e s) =
       ),
     )
 
--- what is served behind the thefts was served before them
+-- what is served after the thefts was served before them
 served_by : (n : ServerState) (now : Stamp) (i : ServerInput) (t : ServerTurn) (m : Message) → Served n now i t m → IsServedBy n m
 served_by n now i t m s =
     let c = s.asked.heard.came in

@@ -1,4 +1,4 @@
--- A message that a server serves, to cut a file or for a name: an ask stands behind it that was not settled.
+-- A message that a server serves, to cut a file or for a name: it comes from an ask that was not settled.
 use Rattle.std.proofs.Common.{◌≡◌, ◌≢◌, ◌⊎◌, ℕ, ◌+◌, ◌≤◌, ◌<◌, zero, suc, Bool, true, false, List, ◌∷◌, Some, refl, sym, ap, ◌∙◌, subst, inl, inr, arith}
 use Rattle.std.specs.Prelude.{length, nat_le}
 use Rattle.std.specs.List.{list_any}
@@ -58,7 +58,7 @@ association_there k s c site es N z = (z.association, subst (Has z.association) 
     p : Place (server s) site.node.state.associations z.association
     p = z.sim.place
 
--- an ask behind a message that was not settled
+-- the ask that led to a message and was not settled
 pub record OpenAsk (past : List Step) (G : ℕ → GrantNo → Type 0) (c : ClientId) (s : ServerId) (body : Body) : Type 0 where
   pub op : ℕ
   pub ask : Ask

@@ -1,5 +1,5 @@
--- What stands within a client's rule at a server: its pending operations and the answers are of known asks, what it sends is of its life,
--- and the operation of the outstanding request is pending. What small changes and replies leave of it.
+-- What holds within a client's rule at a server: its pending operations and the answers are of known asks, what it sends is of its life, and the operation of
+-- the outstanding request is pending. What small changes and replies leave of it.
 use Rattle.std.proofs.Common.{◌≡◌, ℕ, ◌+◌, ◌≤◌, ◌⊎◌, Bool, true, false, not, List, [], ◌∷◌, ◌++◌, Option, Some, None, refl, sym, ap, ◌∙◌, subst, inl, inr}
 use Rattle.std.proofs.Common.{arith, if◌then◌else◌}
 use Rattle.std.specs.Prelude.{filter, map}
@@ -32,7 +32,7 @@ use Rattle.st_trace.specs.Client.Messages.{Refusal}
 pub clash : {A : Type 0} {b : Bool} → b ≡ true → b ≡ false → A
 clash x y = cc
 
--- a test that passes over cuts and names passes over the ask of such a request
+-- a test that skips cuts and names skips the ask of such a request
 pub means_other : (P : Ask → Bool) → ((f : Rattle.st_base.specs.declared.ids.FileId.FileId) (p : PageNo) → P (asks.Cut f p) ≡ false) →
     ((s : ServerId) (n : Rattle.st_base.specs.declared.names.NameAsk.NameAsk) → P (asks.Name s n) ≡ false) → (a : Ask) (cutting : Option ℕ) (b : Body) →
     Means a cutting b → P a ≡ false
@@ -54,7 +54,7 @@ module _ (c : ClientId) (K : ℕ → Type 0) (G : List Output) where
   abbrev pub Few : List Operation → List Output → Type 0
   Few ops out = (k : ℕ) → pending k ops + told k out ≤ 1
 
-  -- What stands within a rule at a server, with the operations and the outputs that it began with: but for the outstanding request.
+  -- What holds within a rule at a server, with the operations and the outputs that it began with: except for the outstanding request.
   pub record Base (s : ServerId) (B : List Operation) (out0 : List Output) (id : ClientId) (sv : ServerId) (life : ℕ) (ops : List Operation)
       (out : List Output) : Type 0 where
     pub id_ : id ≡ c

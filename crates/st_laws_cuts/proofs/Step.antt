@@ -59,12 +59,12 @@ apart_from (x ∷ al) o a (inr h) b (inr k) = apart_from al o.rest a h b k
 apart_from [] o a h b k = absurd h
 
 module _ (c : ClientId) (K : ℕ → Type 0) (G : List Output) where
-  -- what stands at an association, within a step
+  -- what holds of an association, within a step
   pub record At (ops : List Operation) (out : List Output) (a : Association) : Type 0 where
     pub owned : Owned a.server (view a.session) ops
     pub sent : (m : Message) → Has (outputs.Send m) out → Between c a.server m → m.header.life ≡ a.life.0
 
-  -- what stands of a step so far, with associations that are yet to come
+  -- what holds of a step so far, with associations that are still to come
   pub record Held (rest : List Association) (t : ClientTurn) : Type 0 where
     pub id_ : t.state.id ≡ c
     pub known : (o : Operation) → Has o t.state.operations → K o.op
@@ -174,7 +174,7 @@ module _ (c : ClientId) (K : ℕ → Type 0) (G : List Output) where
 
   -- An ask is taken at its server alone.
   module _ (op : ℕ) (ask : Ask) (known_ask : K op) where
-    -- at the servers behind it
+    -- at the servers after it
     passes_over : (rest : List Association) → ((a : Association) → Has a rest → cs.is_at (server_of ask) a ≡ false) → (t : ClientTurn) → Held rest t → Held [] (at_these (cs.only_at (server_of ask) (cl.take_ask op ask)) rest t)
     unfolding at_these cs.only_at
     passes_over [] f t k = k
@@ -268,7 +268,7 @@ module _ (c : ClientId) (K : ℕ → Type 0) (G : List Output) where
       if_held (m.header.to == t.state.id.0) _ _ (any (cr.receive_at now m.header m.body) (λ s B out0 u w. w_receive c K G s B out0 now m.header m.body u w) t k) k
   taken t now (inputs.Done number result) g k = any (cl.finish number result) (λ s B out0 u w. w_finish c K G s B out0 number result u w) t k
 
-  -- behind the losses
+  -- after the losses
   worked : (t : ClientTurn) (now : Stamp) (i : ClientInput) → InputOk t i → Held [] t → Held [] (cl.work (cl.take_input t now i) now i)
   unfolding cl.work
   worked t now i g k = any (cp.passes now (cl.is_tick i)) (λ s B out0 u w. w_passes c K G s B out0 now (cl.is_tick i) u w) _ (taken t now i g k)

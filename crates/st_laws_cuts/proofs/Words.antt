@@ -126,7 +126,7 @@ asks_longer past x c = let z = ap length (asks_more past x c) in let y = go (ask
     go : (o : Option Ask) → length (asks_of past c) ≤ length (asks_of past c ++ cons_option o [])
     go o = longer (asks_of past c) (cons_option o [])
 
--- an ask stands under its number
+-- an ask is under its number
 pub under_has : {A : Type 0} (n : ℕ) (xs : List A) (k : ℕ) (v : A) → slice_get xs k ≡ Some v → Has (n + k, v) (under_numbers n xs)
 unfolding under_numbers
 under_has n [] k v e = cc e

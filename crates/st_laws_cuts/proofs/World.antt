@@ -1,4 +1,4 @@
--- Every event keeps what stands of the requests to cut and to remove files, and of their asks.
+-- Every event keeps what holds of the requests to cut and to remove files, and of their asks.
 use Rattle.std.proofs.Common.{◌≡◌, ◌≢◌, ◌⊎◌, ℕ, ◌≤◌, ◌<◌, Bool, true, false, List, [], ◌∷◌, ◌++◌, Option, Some, None, Ok, refl, sym, ap, ◌∙◌, subst, inl, inr, arith}
 use Rattle.std.specs.Prelude.{length, nat_le, pred}
 use Rattle.std.specs.List.{list_any}
@@ -61,7 +61,7 @@ use Rattle.st_laws_cuts.proofs.Words.{any_last, asked_more, asks_longer, clash, 
 abbrev pub AllFew : World → Type 0
 AllFew w = (c : ClientId) (site : WorldClient) → site_of w c ≡ Some site → (k : ℕ) → pending k site.node.state.operations ≤ 1
 
--- What stands behind every event, beside what stands of the requests.
+-- What holds after every event, in addition to what holds of the requests.
 pub record OwnersHold (past : List Step) (G : Gifts) (w : World) : Type 0 where
   pub owned : AllOwned w
   pub over : AllOver past G w
@@ -79,7 +79,7 @@ past_stays c n p m g (inr e) = go (same_or_not n.state.stable.epoch.0 p.state.st
     go (inl q) = inr (e.0 ∙ q, λ run. let z = g.on run q in z.1 c m.header.life m.header.number (e.1 z.0))
     go (inr ne) = inl (let y = g.up in let z = e.0 in omega (arith, y, z, ne))
 
--- a client's node is no server's
+-- a client's node isn't a server's
 not_server : (m : Message) → is_client_node m.header.from ≡ true → (s : ServerId) → m.header.from ≡ server_node s → ⊥
 not_server m e s q = let z = leb-true m.header.from 16 (and_true (nat_le 1 m.header.from) (nat_le m.header.from 16) e).1 in omega (arith, z, q)
 
@@ -127,7 +127,7 @@ module _ (k : Config) (count : ℕ) (past : List Step) (t : Traced) (e : Event) 
         unsettled = any_last (settles_in c z.operation.op) past x (unsettled_past c z.operation.op past (d.unsaid c site at z.operation z.there)) (unsettled_in c z.operation.op sc.seen open_);
       }
 
-  -- what stood of an old message
+  -- what held of an old message
   abbrev Stood : ClientId → WorldClient → Association → Message → Type 0
   Stood c site a m = Over past (gifts k count t.world h.all c a.server) t.world c a.server site.node.state.operations m ⊎ ((site.node.running ≡ true) × (m.header.life ≡ a.life.0) × IsPending (gifts k count t.world h.all c a.server) a.server site.node.state.operations m)
 
@@ -311,7 +311,7 @@ module _ (k : Config) (count : ℕ) (past : List Step) (t : Traced) (e : Event) 
             high : Was op → ⊥
             high w = let y = was_below op w in let z = g.0 in omega (arith, y, z)
 
-    -- the client behind the step
+    -- the client after the step
     abbrev left_site : WorldClient
     left_site = SiteAfter v c i site
 
@@ -332,7 +332,7 @@ module _ (k : Config) (count : ℕ) (past : List Step) (t : Traced) (e : Event) 
     not_others : (y : ClientId) → (y.0 ≢ c.0) → (op : ℕ) (a : AppAnswer) → Has (seen.Answered y op a) sc.seen → ⊥
     not_others y n op a j = n (ap (λ (w : ClientId). w.0) (answered y op a j).0)
 
-    -- the asks behind the step
+    -- the asks after the step
     count_after : length (asks_of (past ++ step t e sc ∷ []) c) ≡ site.asks
     count_after = (next.cuts.clients c (SiteAfter v c i site) here).count
       where
@@ -388,7 +388,7 @@ module _ (k : Config) (count : ℕ) (past : List Step) (t : Traced) (e : Event) 
         by (inl p) = d.senders m p q
         by (inr p) = let z = ends.from m p in let y = (numbered_below t.world.clients c.0 old at).1 in omega (arith, z, y)
 
-    -- the life before and behind the step
+    -- the life before and after the step
     pair : (b : Association) → Has b u.state.associations → (a : Association) × Has a st.associations × LifeNext now st a b
     pair b j = pair_of (LifeNext now st) st.associations u.state.associations (step_lives c st now i node.fit).pairs b j
 

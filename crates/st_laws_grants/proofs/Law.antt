@@ -1,4 +1,4 @@
--- Grant numbers are given once: at the start, behind every event, and over whole runs.
+-- Grant numbers are given once: at the start, after every event, and over whole runs.
 use Rattle.std.proofs.Common.{◌≡◌, ℕ, ◌+◌, ◌<◌, ◌⊎◌, Bool, true, false, not, ◌==◌, ◌&&◌, ◌||◌, List, [], ◌∷◌, ◌++◌, Option, Some, None, Ok, refl, sym, ap, ◌∙◌, subst, inl, inr, arith, lt-ltb}
 use Rattle.std.specs.List.{list_all, list_any}
 use Rattle.std.proofs.lemmas.Bool.{eq-eqb, eqb-true}
@@ -39,7 +39,7 @@ use Rattle.st_laws_grants.specs.Owners.{AllGiveOnce, GivesOnce, RiseFrom, Side, 
 use Rattle.st_laws_grants.proofs.Nets.{granted_owned}
 use Rattle.st_laws_grants.proofs.World.{goes_on}
 
--- What stands behind every event.
+-- What holds after every event.
 pub record AllOnce (k : Config) (count : ℕ) (past : List Step) (t : Traced) : Type 0 where
   pub base : Hold k count past t
   pub gives : AllGiveOnce t.world

@@ -44,7 +44,7 @@ use Rattle.st_trace.proofs.Server.Walk.{walk}
 abbrev pub RowsOwned : Owner → ℕ → List (ℕ × GrantNo × Mode) → Type 0
 RowsOwned o c rows = (r : ℕ × GrantNo × Mode) → Has r rows → o r.1.0 ≡ Some (c, r.0)
 
--- a grant was told in these outputs
+-- a grant was sent in these outputs
 pub record IsTold (s : ServerId) (out : List Output) (g : ℕ) (y : ℕ × ℕ) : Type 0 where
   pub message : Message
   pub among : Has (outputs.Send message) out
@@ -63,7 +63,7 @@ under a b c x y = omega (arith, x, y)
 module _ (s : ServerId) (o : Owner) (n : ℕ) (i : ServerInput)
     (asserted : (m : Message) → i ≡ Control m → m.header.to ≡ server_node s → is_client_node m.header.from ≡ true →
     (rows : List (ℕ × GrantNo × Mode)) → m.body ≡ bd.Reassert rows → RowsOwned o m.header.from rows) where
-  -- What stands within a step.
+  -- What holds within a step.
   pub record Gives (t : ServerTurn) : Type 0 where
     pub owner : Owner
     pub grows : Grows o owner

@@ -1,4 +1,4 @@
--- Sessions: what is kept of a client tells numbers of it, behind each change of the table.
+-- Sessions: what is kept of a client has numbers of it, after each change of the table.
 use Rattle.std.proofs.Common.{◌≡◌, ℕ, Bool, true, false, ◌==◌, Option, Some, None, refl, sym, ap, ◌∙◌, subst, if◌then◌else◌}
 use Rattle.std.specs.Prelude.{option_map, map}
 use Rattle.std.proofs.lemmas.Bool.{eqb-true, eq-eqb}

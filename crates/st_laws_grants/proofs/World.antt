@@ -121,7 +121,7 @@ pair_grow o p f c s w q =
 abbrev pub Foreign : ℕ → ServerId → Message → Type 0
 Foreign c s m = (m.header.from ≡ server_node s → ⊥) × (is_client_node m.header.from ≡ true → m.header.from ≡ c → ⊥)
 
--- a pair whose client stands as before, and who sent nothing to one another
+-- a pair whose client is as before, and that sent nothing to each other
 pair_on : (o : Owner) (c : ℕ) (s : ServerId) (w v : World) → ((m : Message) → Has m (messages v) → Has m (messages w) ⊎ Foreign c s m) → ((site : WorldClient) → site_of v (client c) ≡ Some site → site_of w (client c) ≡ Some site) → Pair o c s w → Pair o c s v
 pair_on o c s w v f at q =
     record {

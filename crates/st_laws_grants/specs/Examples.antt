@@ -1,4 +1,4 @@
--- A number that is given twice, a grant that is told again, and numbers that fall.
+-- A number that is given twice, a grant that is sent again, and numbers that fall.
 use Rattle.std.specs.Prelude.{◌≡◌, ℕ, ◌+◌, true, false, [], ◌∷◌}
 use Rattle.st_base.specs.declared.ids.ServerId.{ServerId}
 use Rattle.st_base.specs.declared.mode.Mode.TheVariants as modes
@@ -15,8 +15,8 @@ one_server = record { 0 = 1 }
 abbrev pub granted : ℕ → ℕ → ℕ → Message
 granted to ino n = record { header = record { from = server_node one_server; to = to; life = 1; epoch = 1; number = 0; stamp = 0 }; body = bodies.Granted ino (record { 0 = 4294967296 + n }) modes.S }
 
--- Grants under one number to two clients, or of two files, are refused, and a new grant under a lower number; a grant that is told again is
--- not, nor one under a greater number.
+-- Grants under one number to two clients, or of two files, are refused, and so is a new grant under a lower number; a grant that is sent again isn't, nor one
+-- under a greater number.
 pub record WrongGrantsAreRefused : Type 0 where
   pub clients : gives_once (granted 1 2 1 ∷ granted 2 2 1 ∷ []) one_server ≡ false
   pub files : gives_once (granted 1 2 1 ∷ granted 1 3 1 ∷ []) one_server ≡ false

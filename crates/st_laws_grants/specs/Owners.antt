@@ -114,7 +114,7 @@ pub record GivesOnce (w : World) (s : ServerId) (node : ServerNode) : Type 0 whe
 abbrev pub AllGiveOnce : World → Type 0
 AllGiveOnce w = (s : ServerId) (node : ServerNode) → node_of w s ≡ Some node → GivesOnce w s node
 
--- Each grant of a server that is there behind an event was there before, or is under a number that was sent before, or is above all that were.
+-- Each grant of a server that is there after an event was there before, or is under a number that was sent before, or is above all that were.
 abbrev pub RiseFrom : World → World → Type 0
 RiseFrom w v =
     (s : ServerId) (node : ServerNode) → node_of w s ≡ Some node → (m : Message) → Has m (messages v) → m.header.from ≡ server_node s → (ino : ℕ) (g : GrantNo) (mode : Mode) → m.body ≡ bodies.Granted ino g mode →

@@ -21,7 +21,7 @@ after_call blocks changes (Read image file page) = changes
 after_call blocks changes Take = left_by changes (take changes)
 after_call blocks changes (Forget image) = left_by changes (forget changes image)
 
--- these calls, the latest first, on a fresh volume of so many blocks
+-- these calls, the latest first, on a fresh volume of that many blocks
 abbrev pub after_calls : ℕ → List Call → List Change
 after_calls blocks [] = []
 after_calls blocks (call ∷ earlier) = after_call blocks (after_calls blocks earlier) call

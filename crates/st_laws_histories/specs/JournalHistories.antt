@@ -23,15 +23,15 @@ pub record Moment : Type 0 where
 abbrev pub first_moment : ℕ → Moment
 first_moment size = record { bytes = zeros size; loose = None; running = false; counted = []; begun = None }
 
--- the bytes that are written behind a gate
+-- the bytes that are written after a gate
 abbrev pub record_of : Change → List ℕ
 record_of x = framed x ++ 0 ∷ []
 
--- the place of the gate behind the changes that count
+-- the place of the gate after the changes that count
 abbrev pub gate_of : Moment → ℕ
 gate_of m = length (all_opened m.counted)
 
--- what may be found of synced bytes while an append writes behind the gate at this place
+-- what may be found of synced bytes while an append writes after the gate at this place
 abbrev pub MayBeFoundBy : Option Change → List ℕ → ℕ → List ℕ → Type 0
 MayBeFoundBy None bytes gate c = c ≡ bytes
 MayBeFoundBy (Some x) bytes gate c = IsTornAppend bytes gate (record_of x) c
@@ -83,7 +83,7 @@ abbrev pub Leads : Stable → Moment → List Event → Moment → Type 0
 Leads start m [] n = n ≡ m
 Leads start m (e ∷ es) n = (k : Moment) × (Happens start m e k × Leads start k es n)
 
--- the changes that count, and at most the one under way besides
+-- the changes that count, and at most the one under way
 abbrev pub IsPrefix : Moment → List Change → Type 0
 IsPrefix m found = (found ≡ m.counted) ⊎ ((x : Change) × ((m.begun ≡ Some x) × (found ≡ m.counted ++ x ∷ [])))
 

@@ -23,8 +23,8 @@ abbrev pub submissions : List Step → ℕ
 submissions [] = 0
 submissions (step ∷ past) = if is_numbered step.answer then submissions past + 1 else submissions past
 
--- A command is numbered by how many came before it; a report is told a success or a failure as it was reported, where the client of the
--- command did not crash since, and nothing where it did.
+-- A command is numbered by how many came before it; a report gets a success or a failure as it was reported, if the client of the command has not crashed
+-- since, and nothing if it has.
 abbrev pub HasCause : List Step → Call → Answer → Type 0
 HasCause past call (Number n) = n ≡ submissions past + 1
 HasCause past (Report n ok) Hard = (ok ≡ true) × (has_stopped n past ≡ false)

@@ -1,6 +1,7 @@
-//! Laws over all histories of what stands beside the protocol: a journal whose store may crash, images of a container, containers that
-//! move between servers which crash and start, and a file that is shared without caches. `docs/PROTOCOL.md`, "A metadata journal",
-//! "Images of a container", "A container moves by order" and "Shared writing without caches".
+//! Laws over all histories of the protocol's additions: a journal whose store may crash, images of
+//! a container, containers that move between servers which crash and start, and a file that is
+//! shared without caches. `docs/PROTOCOL.md`, "A metadata journal", "Images of a container", "A
+//! container moves by order" and "Shared writing without caches".
 #![tactic(auto)]
 
 mod laws;

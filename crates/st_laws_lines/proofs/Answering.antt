@@ -261,7 +261,7 @@ module _ (Failed : ℕ → Type 0) (Full : Type 0) (Told : Type 0) where
   input_taken t now (inputs.Control m) f w = any_either _ _ t (each _ (received now m.header m.body f) t w) w
   input_taken t now (inputs.Done number r) f w = each _ (finished number r f) t w
 
-  -- the same behind the losses
+  -- the same after the losses
   after_losses : (s : ClientState) (now : Stamp) (i : ClientInput) → Fails_as s i → Fails_as (cl.losses (client_turn s []) now).state i
   after_losses s now inputs.Tick f = tt
   after_losses s now (inputs.App op ask) f = λ e. f (still_full s now e)

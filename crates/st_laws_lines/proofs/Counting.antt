@@ -121,7 +121,7 @@ one_grows line f xs x o e =
       is = map_last f xs x;
     }
 
--- Outputs: with what was told before them.
+-- Outputs: with what was reported before them.
 abbrev pub Told : World → WorldTurn → Type 0
 Told w sc = Tells w sc.seen sc.world
 

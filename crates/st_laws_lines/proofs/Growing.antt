@@ -52,7 +52,7 @@ adds_then line xs ys zs os ps g h =
 pub count_more : (p : Observation → Bool) (os ps : List Observation) → count_lines p (os ++ ps) ≡ count_lines p os + count_lines p ps
 count_more p os ps = ap length (filter-append p os ps) ∙ length-append (filter p os) (filter p ps)
 
--- What stands at a number is replaced by what a function does not tell apart.
+-- What is at a number is replaced by something that a function can't tell apart from it.
 pub map_set : {A B : Type 0} (f : A → B) (xs : List A) (n : ℕ) (x y : A) → slice_get xs n ≡ Some y → f x ≡ f y → map f (set xs n x) ≡ map f xs
 map_set f [] n x y e q = refl
 map_set f (z ∷ xs) zero x y e q = ap (λ v. v ∷ map f xs) (q ∙ ap f (sym (some e)))

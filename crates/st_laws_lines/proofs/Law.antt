@@ -21,7 +21,7 @@ use Rattle.st_laws_lines.proofs.Growing.{Grows}
 use Rattle.st_laws_lines.proofs.Counting.{Tells, tells_event}
 use Rattle.st_laws_lines.proofs.Log.{Counts, Open_changes, log_counts}
 
--- what stands in front of a list, and behind it
+-- what comes before a list, and after it
 drop_front : {A : Type 0} (xs ys : List A) → drop (length xs) (xs ++ ys) ≡ ys
 drop_front [] ys = refl
 drop_front (x ∷ xs) ys = drop_front xs ys
@@ -103,7 +103,7 @@ counted w v os a b =
           (longer command_told is_command_line is_command command_in w.commands v.commands os a.commands) b.writes a.reads b.hard b.gone a.stolen;
     }
 
--- What stands behind every step: pending entries are writes and patches.
+-- What holds after every step: pending entries are writes and patches.
 Stands : List Step → Traced → Type 0
 Stands past t = Open_changes t.world.log
 

@@ -1,6 +1,5 @@
 -- What a client makes of a message, and its passes that neither serve operations nor send requests, walked for facts of what it says and of the operations that
--- it
--- leaves: such a fact stands again, where it does so behind a message, a command or a note, behind operations that are answered, and where operations are
+-- it leaves: such a fact holds again, where it does so after a message, a command or a note, after operations that are answered, and where operations are
 -- stuck.
 use Rattle.std.proofs.Common.{◌≡◌, ℕ, Bool, true, List, [], ◌∷◌, ◌++◌, Option, refl}
 use Rattle.st_base.specs.declared.ids.PageNo.{PageNo}

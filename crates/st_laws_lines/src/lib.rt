@@ -1,4 +1,5 @@
-//! Laws of the lines of a report, over the definitions alone: what they count, what stands on the disks, and why a fault is answered.
+//! Laws of the lines of a report, over the definitions alone: what they count, what is on the
+//! disks, and why a fault is answered.
 #![tactic(auto)]
 
 ghost use Rattle.std.specs.Prelude.{List};
@@ -9,18 +10,20 @@ ghost use Rattle.st_promises.specs.Counts.{TheCountsAreTrue};
 ghost use Rattle.st_promises.specs.Held.{DisksHoldWhatIsHard};
 ghost use Rattle.st_promises.specs.Faults.{FaultsHaveACause};
 
-/// In every run the counts are true: each message and each command has its line, and the last line counts what the lines before it have.
+/// In every run the counts are true: each message and each command has its line, and the last line
+/// counts what the lines before it have.
 pub fn counts_are_true()
     ensures { InEveryRun TheCountsAreTrue }
 {}
 
-/// In every run a fault has its cause: `diskfault` is answered where the command that it names is reported failed, and nowhere else; and
-/// `opsfull` only to a client of which 16 operations are pending. What a server refused is answered only where its refusal is delivered.
+/// In every run a fault has its cause: `diskfault` is answered where the command that it names is
+/// reported failed, and nowhere else; and `opsfull` only to a client of which 16 operations are
+/// pending. What a server refused is answered only where its refusal is delivered.
 pub fn faults_have_a_cause()
     ensures { InEveryRun FaultsHaveACause }
 {}
 
-/// Where the pages hold behind every step, the disks hold what is hard.
+/// If the pages hold after every step, the disks hold what is hard.
 pub fn disks_hold_what_is_hard()
     ensures { (past xs : List Step) → Throughout PagesAfter past xs → Throughout DisksHoldWhatIsHard past xs }
 {}

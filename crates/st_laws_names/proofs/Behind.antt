@@ -1,4 +1,4 @@
--- The operation behind a request to cut a file or for a name that a server serves next: it waited under the key of the request.
+-- The operation that led to a request to cut a file or for a name that a server serves next: it waited under the key of the request.
 use Rattle.std.proofs.Common.{◌≡◌, ◌≢◌, ◌⊎◌, ℕ, ◌≤◌, zero, suc, arith, Bool, true, false, List, ◌∷◌, Some, refl, sym, ap, ◌∙◌, subst, inl, inr}
 use Rattle.std.specs.Prelude.{length, nat_le}
 use Rattle.std.specs.List.{list_any}

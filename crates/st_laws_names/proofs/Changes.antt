@@ -1,4 +1,4 @@
--- Asks change names once: behind every event, and over whole runs.
+-- Asks change names once: after every event, and over whole runs.
 use Rattle.std.proofs.Common.{◌≡◌, ◌≢◌, ◌⊎◌, ℕ, ◌+◌, ◌≤◌, arith, true, not, List, [], ◌∷◌, ◌++◌, Option, Some, None, Ok, refl, sym, ap, ◌∙◌, subst, inl, inr}
 use Rattle.std.specs.List.{list_any}
 use Rattle.st_base.specs.declared.ids.ClientId.{ClientId}
@@ -134,7 +134,7 @@ came t e sc owes taken =
     started : (s : ServerId) (node : ServerNode) → node_of t s ≡ Some node → AllCame t (ev.starts_server (ev.counted t) s (Some node))
     started s node at = one_other t (ev.starts_server (ev.counted t) s (Some node)) s node (server.start_node node (clock_of (ev.counted t) (nodes.Server s))) at refl (inl (started_names node (clock_of (ev.counted t) (nodes.Server s))))
 
--- What stands behind every event.
+-- What holds after every event.
 pub record PairsHold (past : List Step) (w : World) : Type 0 where
   pub pairs : (c : ClientId) (op : ℕ) (a b : Asked past w c op) → SameKey a.server b.server a.life_ a.epoch_ a.number_ b.life_ b.epoch_ b.number_
   pub pasts : (y : Step) → Has y past → (c : ClientId) (s : ServerId) (m : Message) → AllPast y.after.world c s m → AllPast w c s m
@@ -177,7 +177,7 @@ module _ (k : Config) (count : ℕ) (past : List Step) (t : Traced) (e : Event) 
   goes : Goes t.world sc.world
   goes = event_goes past t h.all.base.replies e sc (owed k count past t e sc ranges h.all.base taken) taken
 
-  -- what stands behind the event
+  -- what holds after the event
   which : (v : World) → Worlds past2 sc.world v → Worlds past t.world v ⊎ (v ≡ sc.world)
   which v (inr q) = inr q
   which v (inl z) = go (has_append past _ z.0 z.1)
@@ -236,7 +236,7 @@ module _ (k : Config) (count : ℕ) (past : List Step) (t : Traced) (e : Event) 
       gone : AllPast t.world c s a.message
       gone = p.pasts y i c s a.message a.gone
 
-  -- The ask behind a change.
+  -- The ask that made a change.
   module _ (s : ServerId) (old new : ServerNode) (was : node_of t.world s ≡ Some old) (became : node_of sc.world s ≡ Some new) (r : ByRequest t.world old new) where
     abbrev m : Message
     m = r.message

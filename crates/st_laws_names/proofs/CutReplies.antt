@@ -77,7 +77,7 @@ pub record CutKept (h : Header) (asked : Body) (t : ServerTurn) : Type 0 where
 abbrev Fine : Header → Body → ServerTurn → Type 0
 Fine h asked t = Uncut t.out ⊎ CutKept h asked t
 
--- one more output, that is no cut
+-- one more output that isn't a cut
 note_back : (out : List Output) (o : Output) → ((f : FileId) (p : PageNo) → outputs.Note (notes.CutDone f p) ≡ o → ⊥) → (f : FileId) (p : PageNo) →
     Has (outputs.Note (notes.CutDone f p)) (out ++ o ∷ []) → Has (outputs.Note (notes.CutDone f p)) out
 note_back out o n f p i = go (has_append out (o ∷ []) (outputs.Note (notes.CutDone f p)) i)
@@ -87,7 +87,7 @@ note_back out o n f p i = go (has_append out (o ∷ []) (outputs.Note (notes.Cut
     go (inr (inl e)) = absurd (n f p e)
     go (inr (inr j)) = absurd j
 
--- what leaves the sessions, and says something that is no cut
+-- what leaves the sessions, and says something that isn't a cut
 fine_more : (h : Header) (asked : Body) (t : ServerTurn) (y : ServerState) (o : Output) → y.sessions ≡ t.state.sessions →
     ((f : FileId) (p : PageNo) → outputs.Note (notes.CutDone f p) ≡ o → ⊥) → Fine h asked t → Fine h asked (record { state = y; out = t.out ++ o ∷ [] })
 fine_more h asked t y o e n (inl u) = inl (uncut_more t.out o n u)

@@ -1,4 +1,4 @@
--- What stands of keys and of replies, with what stands of changes of names: behind every event, and over whole runs.
+-- What holds of keys and of replies, with what holds of changes of names: after every event, and over whole runs.
 use Rattle.std.proofs.Common.{◌≡◌, ℕ, ◌+◌, true, List, [], ◌∷◌, ◌++◌, Ok, refl, inl}
 use Rattle.st_base.specs.declared.config.Config as base
 use Rattle.st_messages.specs.declared.event.Event.{Event}
@@ -17,7 +17,7 @@ use Rattle.st_laws_names.proofs.Changes as changes
 use Rattle.st_laws_names.proofs.Keys.{KeysHold, keys_begin, keys_on}
 use Rattle.st_laws_names.proofs.Replies.{RepliesHold, replies_begin, replies_on}
 
--- All that stands behind every event.
+-- All that holds after every event.
 pub record FactsHold (k : Config) (count : ℕ) (past : List Step) (t : Traced) : Type 0 where
   pub changes_ : ChangesHold k count past t
   pub keys : KeysHold past t.world

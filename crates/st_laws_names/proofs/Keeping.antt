@@ -84,7 +84,7 @@ module _ (S : ℕ → Type 0) (Key : ServerId → ℕ → ℕ → ℕ → ℕ �
   AtStage stages.Sent op = Unit {0}
   AtStage stages.Stuck op = Refused op
 
-  -- what stands of an operation, within a rule at a server
+  -- what holds of an operation, within a rule at a server
   pub record Fine (sv : ServerId) (B : List Operation) (o : Operation) : Type 0 where
     pub others : cs.is_of sv o ≡ false → Has o B
     pub kind : S o.op → Own o.ask
@@ -543,7 +543,7 @@ module _ (S : ℕ → Type 0) (Key : ServerId → ℕ → ℕ → ℕ → ℕ �
         go _ (ending.FailsToWrite x v o k e i) = syncs x (ending.with_pages (pages.fail t.here.store.pages x.ino x.page x.number) (ending.without x t)) w
         go _ (ending.FailsToWriteOlder x v o k e i) = syncs x (ending.without x t) w
 
-    -- The pass over the operations: those that were not yet looked at stand behind those that stay.
+    -- The pass over the operations: those that were not yet looked at come after those that stay.
     abbrev R : List Operation → Turn → Type 0
     R os t = Whole t.here.server t.here.life.0 (view t.here.session) (t.operations ++ os) t.out
 
@@ -562,7 +562,7 @@ module _ (S : ℕ → Type 0) (Key : ServerId → ℕ → ℕ → ℕ → ℕ �
     r_fine : (os : List Operation) (t : Turn) (o : Operation) → R (o ∷ os) t → Fine t.here.server B o
     r_fine os t o r = r.base.fine o (has_right t.operations (o ∷ os) o (inl refl))
 
-    -- an operation that is served is no cut and is for no name
+    -- an operation that is served is neither a cut nor for a name
     r_none : (os : List Operation) (t : Turn) (o : Operation) (a : Ask) → o.ask ≡ a → cs.is_cut_or_name a ≡ false → R (o ∷ os) t → S o.op → ⊥
     r_none os t o a e f r z = clash (subst Own e ((r_fine os t o r).kind z)) f
 

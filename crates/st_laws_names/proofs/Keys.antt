@@ -1,4 +1,5 @@
--- One operation and one body under a key: behind every event. The request of each operation that waited was sent, and is what was asked under its number.
+-- One operation and one body under a key: after every event. The request of each operation that waited was sent, and is what was asked under the operation's
+-- number.
 use Rattle.std.proofs.Common.{◌≡◌, ◌≢◌, ◌⊎◌, ℕ, ◌≤◌, ◌<◌, Bool, true, List, [], ◌∷◌, ◌++◌, Option, Some, None, Ok, refl, sym, ap, ◌∙◌, subst, inl, inr, arith}
 use Rattle.st_base.specs.declared.config.Config as base
 use Rattle.st_base.specs.declared.ids.ClientId.{ClientId}
@@ -87,13 +88,13 @@ pub record Place (w : World) (c : ClientId) (s : ServerId) : Type 0 where
   pub among : Has association site.node.state.associations
   pub server : association.server ≡ s
 
--- What stands behind every event.
+-- What holds after every event.
 pub record KeysHold (past : List Step) (w : World) : Type 0 where
   pub places : (c : ClientId) (op : ℕ) (k : Asked past w c op) → Place w c k.server
   pub one : OneOperations past w
   pub requested : (c : ClientId) (op : ℕ) (k : Asked past w c op) → IsRequested past w c op k.server k.life_ k.epoch_ k.number_
 
--- the association behind a step
+-- the association after a step
 pair_from : (R : Association → Association → Type 0) (al bl : List Association) → Pairwise R al bl → (a : Association) → Has a al → (b : Association) × Has b bl × R a b
 pair_from R [] bl p a h = absurd h
 pair_from R (x ∷ al) [] p a h = absurd p
@@ -297,7 +298,7 @@ module _ (k : Config) (count : ℕ) (past : List Step) (t : Traced) (e : Event) 
           go (inl q) = inr (inr (ap (λ (u : WorldClient). u.node.state.operations) q.1 ∙ z.operations))
           go (inr q) = inl q.1
 
-  -- An association that a client had it has behind the event.
+  -- An association that a client had it has after the event.
   place_on : (c : ClientId) (s : ServerId) → Place t.world c s → Place sc.world c s
   place_on =
       event_does t.world (λ s m at. (h.base.cuts.servers s m at).id) Result
@@ -345,7 +346,7 @@ module _ (k : Config) (count : ℕ) (past : List Step) (t : Traced) (e : Event) 
       left : (c : ClientId) (old new : WorldClient) → site_of t.world c ≡ Some old → IsEmptied old new → sc.world.clients ≡ with_numbered c.0 new t.world.clients → (y : ClientId) (s : ServerId) → Place t.world y s → Place sc.world y s
       left c old new was g clients = placed c old new was clients g.kept
 
-  -- An operation that waits behind the event waited before it, or its client took a step.
+  -- An operation that waits after the event waited before it, or its client took a step.
   module _ (c : ClientId) (s : ServerId) (life epoch number op : ℕ) (w : WaitsUnder sc.world c s life epoch number op) where
     abbrev Now : Type 0
     Now = WaitsUnder t.world c s life epoch number op ⊎ Took c w.site
@@ -437,7 +438,7 @@ module _ (k : Config) (count : ℕ) (past : List Step) (t : Traced) (e : Event) 
               subst (λ o. cuts.SameBody o sent.0) w.outstanding
               ((of_session (λ o. cuts.Placed w.association.life.0 o sent.0) (good.numbers.placed sent.0 sent.1 sent.2.between) sent.2.of_life (omega (arith, y, q))).same sent.2.of_epoch) sent.2.under
 
-  -- Two operations that wait under one key behind the event.
+  -- Two operations that wait under one key after the event.
   now_one : (c : ClientId) (s u : ServerId) (life epoch number life2 epoch2 number2 op p : ℕ) (x : WaitsUnder sc.world c s life epoch number op) (y : WaitsUnder sc.world c u life2 epoch2 number2 p) → SameKey s u life epoch number life2 epoch2 number2 → Took c x.site → op ≡ p
   now_one c s u life epoch number life2 epoch2 number2 op p x y key z = sym x.is ∙ good.alone x.operation y.operation x.there there asked1 asked2 ∙ y.is
     where
@@ -529,7 +530,7 @@ module _ (k : Config) (count : ℕ) (past : List Step) (t : Traced) (e : Event) 
             means = z.means;
           }
 
-  -- What is answered so is told by a reply under the key of what waited.
+  -- What is answered so comes from a reply under the key of what waited.
   pub told_on : (c : ClientId) (op : ℕ) (a : AppAnswer) → Has (seen.Answered c op a) sc.seen → is_told a ≡ true → IsTold past t.world c op a
   told_on =
       event_does t.world (λ s m at. (h.base.cuts.servers s m at).id) Result

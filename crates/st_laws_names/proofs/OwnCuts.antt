@@ -119,14 +119,14 @@ all_more all w x before (y ∷ ys) a f = (a.0, all_more all w x (before ++ y ∷
     assoc [] = refl
     assoc (z ∷ xs) = ap (λ ys. z ∷ ys) (assoc xs)
 
--- What stands of keys, and of what was answered.
+-- What holds of keys, and of what was answered.
 pub record Known (past : List Step) (w : World) : Type 0 where
   pub bodies_ : (c : ClientId) (op : ℕ) (k : Asked past w c op) (m p : Message) → Has m (messages w) → Has p (messages w) → Keyed c k.server k.life_ k.epoch_ k.number_ m → Keyed c k.server k.life_ k.epoch_ k.number_ p → m.body ≡ p.body
   pub events_ : RepliesHaveEvents past w
   pub once : ServedOnce past
   pub answered : (c : ClientId) (op : ℕ) (k : Asked past w c op) (z : Step) → Has z past → (a : AppAnswer) → Has (seen.Answered c op a) z.seen → (is_uncertain a ≡ true) ⊎ Received (TellsOrRefuses a) past w c op k
 
--- a request to cut or for a name is no reassertion
+-- a request to cut or for a name isn't a reassertion
 pub no_reassertion : (b : Body) → asks_cut_or_name b ≡ true → reasserts b ≡ true → ⊥
 no_reassertion (bodies.Cut ino g p) e f = cc f
 no_reassertion (bodies.Name op) e f = cc f

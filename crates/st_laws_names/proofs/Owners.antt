@@ -1,4 +1,4 @@
--- Asks own changes: from what stands of keys, of requests and of replies at a step.
+-- Asks own changes: from what holds of keys, of requests and of replies at a step.
 use Rattle.std.proofs.Common.{◌≡◌, ◌⊎◌, ℕ, Bool, true, false, not, ◌||◌, List, [], ◌∷◌, ◌++◌, Some, refl, sym, ap, ◌∙◌, subst, inl, inr}
 use Rattle.std.specs.List.{list_any}
 use Rattle.std.proofs.lemmas.Bool.{eq-eqb}
@@ -80,7 +80,7 @@ pub record Received (past : List Step) (w : World) (c : ClientId) (op : ℕ) (a 
   pub replies : RepliesTo c k.server k.life_ k.epoch_ k.number_ message
   pub says : Answers message.body a ⊎ (is_kept_refusal message.body ≡ true)
 
--- What stands at a step.
+-- What holds at a step.
 pub record Facts (past : List Step) (x : Step) : Type 0 where
   pub change : (s : ServerId) → changes_in s x ≡ true → Changed past x s
   pub one : OneOperations (past ++ x ∷ []) x.after.world
@@ -239,7 +239,7 @@ module _ (past : List Step) (x : Step) (f : Facts past x) where
   abbrev past2 : List Step
   past2 = past ++ x ∷ []
 
-  -- An operation that waited behind a step.
+  -- An operation that waited after a step.
   record Waited (c : ClientId) (op : ℕ) (s : ServerId) (life epoch number : ℕ) : Type 0 where
     pub at : Step
     pub among : Has at past

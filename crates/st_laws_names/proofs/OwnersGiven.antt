@@ -1,4 +1,4 @@
--- Each event that changed the names of a server is given the ask that owns it: from what stands of owners at each step of a run, names change once.
+-- Each event that changed the names of a server is given the ask that owns it: from what holds of owners at each step of a run, names change once.
 use Rattle.std.proofs.Common.{◌≡◌, ◌⊎◌, ℕ, ◌+◌, zero, suc, arith, Bool, true, false, not, ◌&&◌, ◌||◌, ◌==◌, List, [], ◌∷◌, ◌++◌, Option, Some, None, refl, sym, ap, ◌∙◌, subst, inl, inr, if◌then◌else◌}
 use Rattle.std.specs.Prelude.{slice_get}
 use Rattle.std.specs.List.{cons_option, list_all, list_any}
@@ -62,7 +62,7 @@ has_right (y ∷ zs) ys x h = inr (has_right zs ys x h)
 behind : {A : Type 0} (xs : List A) (y : A) (ys : List A) → (xs ++ y ∷ []) ++ ys ≡ xs ++ y ∷ ys
 behind xs y ys = append_assoc xs (y ∷ []) ys
 
--- an ask that stands under its number is that of the number
+-- an ask that is under its number is that of the number
 under_is : {A : Type 0} (n : ℕ) (xs : List A) (k : ℕ × A) → Has k (under_numbers n xs) → (j : ℕ) × (k.0 ≡ n + j) × (slice_get xs j ≡ Some k.1)
 unfolding under_numbers
 under_is {A} n (x ∷ xs) k (inl e) = (0, ap (λ (v : ℕ × A). v.0) e ∙ zero_more, ap (λ (v : ℕ × A). Some v.1) (sym e))

@@ -1,4 +1,4 @@
--- Asks own changes, and names change once: behind every event, and over whole runs.
+-- Asks own changes, and names change once: after every event, and over whole runs.
 use Rattle.std.proofs.Common.{◌≡◌, ◌⊎◌, ℕ, ◌+◌, Bool, true, false, not, List, [], ◌∷◌, ◌++◌, Option, Some, None, Ok, refl, sym, ap, ◌∙◌, subst, inl, inr, arith}
 use Rattle.std.specs.Prelude.{length}
 use Rattle.std.specs.List.{list_any}
@@ -80,7 +80,7 @@ kept_refusal : (b : Body) → IsKeptRefusal b → is_kept_refusal b ≡ true
 kept_refusal (bodies.Nack w x y) k = kept_why w k
 kept_refusal b k = absurd k
 
--- the ask of a request for a name, as it stands behind a served message
+-- the ask of a request for a name that led to a served message
 record AskOf (past : List Step) (w : World) (s : ServerId) (m : Message) (c : ClientId) : Type 0 where
   pub op : ℕ
   pub ask : NameAsk
@@ -111,7 +111,7 @@ module _ (k : Config) (count : ℕ) (past : List Step) (t : Traced) (e : Event) 
       go (inl f) (inr (inr g)) = absurd g
       go (inr (inl f)) (inr (inr g)) = absurd g
 
-  -- A change, and the ask behind it.
+  -- A change, and the ask that made it.
   module _ (s : ServerId) (old new : ServerNode) (was : node_of t.world s ≡ Some old) (became : node_of sc.world s ≡ Some new) (differ : new.state.stable.names ≡ old.state.stable.names → ⊥) where
     z : ServedThere k count past t e sc ranges h.changes_.names_.all n.changes_.names_.all taken h.keys h.changes_.pairs.pasts h.replies s
     z = changed_served k count past t e sc ranges h.changes_.names_.all n.changes_.names_.all taken h.keys h.changes_.pairs.pasts h.replies s old new was became differ
@@ -194,7 +194,7 @@ module _ (k : Config) (count : ℕ) (past : List Step) (t : Traced) (e : Event) 
           differ : new.state.stable.names ≡ old.state.stable.names → ⊥
           differ q = clash g (ap not (subst (λ v. same_names old.state.stable.names v ≡ true) (sym q) (names_same old.state.stable.names)))
 
-  -- what waits behind the event was not answered
+  -- what waits after the event was not answered
   unsaid : (c : ClientId) (op : ℕ) (s : ServerId) (life epoch number : ℕ) → WaitsUnder sc.world c s life epoch number op → list_any (answers_in c op) past2 ≡ false
   unsaid c op s life epoch number w = subst (λ i. list_any (answers_in c i) past2 ≡ false) w.is (n.changes_.names_.all.owners.unsaid c w.site w.at w.operation w.there)
 
@@ -242,7 +242,7 @@ module _ (k : Config) (count : ℕ) (past : List Step) (t : Traced) (e : Event) 
   pub owned : AsksOwnChanges past (step t e sc)
   owned = own_changes past (step t e sc) facts
 
--- What stands behind every event.
+-- What holds after every event.
 record OwnersHold (k : Config) (count : ℕ) (past : List Step) (t : Traced) : Type 0 where
   pub facts : FactsHold k count past t
   pub one_event : OneEvent past

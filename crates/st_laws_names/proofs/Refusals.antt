@@ -1,4 +1,4 @@
--- Refusals change nothing: behind every event, and over whole runs.
+-- Refusals change nothing: after every event, and over whole runs.
 use Rattle.std.proofs.Common.{◌≡◌, ◌⊎◌, ℕ, ◌+◌, ◌≤◌, zero, suc, Bool, true, false, not, ◌||◌, List, [], ◌∷◌, ◌++◌, Some, Ok, refl, sym, ap, ◌∙◌, subst, inl, inr, arith}
 use Rattle.std.specs.Prelude.{length, nat_le, ◌<◌}
 use Rattle.std.specs.List.{list_any}

@@ -1,4 +1,4 @@
--- Each final reply of a server has its event, in which the request of its key was served, and a key is served once: behind every event.
+-- Each final reply of a server has its event, in which the request of its key was served, and a key is served once: after every event.
 use Rattle.std.proofs.Common.{◌≡◌, ◌≢◌, ◌⊎◌, ℕ, ◌+◌, ◌≤◌, Bool, true, List, [], ◌∷◌, ◌++◌, Option, Some, None, Ok, refl, sym, ap, ◌∙◌, subst, inl, inr, arith}
 use Rattle.st_base.specs.declared.config.Config as base
 use Rattle.st_base.specs.declared.ids.ClientId.{ClientId}
@@ -112,7 +112,7 @@ kept_map Q A B (states.Live last (Some b)) f k = λ q. f last b refl q (k q)
 kept_map Q A B (states.Live last None) f k = tt
 kept_map Q A B states.Ended f k = tt
 
--- What stands behind every event.
+-- What holds after every event.
 pub record RepliesHold (past : List Step) (w : World) : Type 0 where
   pub replies : RepliesHaveEvents past w
   pub kept : (s : ServerId) (n : ServerNode) → node_of w s ≡ Some n → (c : ClientId) (x : Session) → sessions.session_of n.state.sessions c ≡ Some x →

@@ -1,4 +1,4 @@
--- Every request to cut a file or for a name is that of an operation, which waited under its own key: behind every event.
+-- Every request to cut a file or for a name is that of an operation, which waited under its own key: after every event.
 use Rattle.std.proofs.Common.{◌≡◌, ◌≢◌, ◌⊎◌, ℕ, ◌≤◌, ◌<◌, Bool, true, false, List, [], ◌∷◌, ◌++◌, Option, Some, None, Ok, refl, sym, ap, ◌∙◌, subst, inl, inr, arith}
 use Rattle.std.specs.Prelude.{length, nat_le}
 use Rattle.std.specs.List.{list_any}
@@ -78,11 +78,11 @@ pub record Left (past : List Step) (G : ℕ → GrantNo → Type 0) (w : World) 
 abbrev pub Over : List Step → (ℕ → GrantNo → Type 0) → World → ClientId → ServerId → List Operation → Message → Type 0
 Over past G w c s os m = AllPast w c s m ⊎ Left past G w c s os m
 
--- a world behind one of these steps, or one in which no operation waits
+-- a world after one of these steps, or one in which no operation waits
 abbrev pub Known : List Step → World → Type 0
 Known past v = ((z : Step) × Has z past × (v ≡ z.after.world)) ⊎ ((c : ClientId) (s : ServerId) (life epoch number op : ℕ) → WaitsUnder v c s life epoch number op → ⊥)
 
--- What stands behind every event.
+-- What holds after every event.
 pub record RowsHold (past : List Step) (G : Gifts) (w : World) : Type 0 where
   pub over : (c : ClientId) (site : WorldClient) → site_of w c ≡ Some site → (a : Association) → Has a site.node.state.associations → (m : Message) → Has m (messages w) → Between c a.server m → 1 ≤ m.header.number → asks_cut_or_name m.body ≡ true →
       (m.header.life < a.life.0) ⊎ (site.node.running ≡ false) → Over past (G c a.server) w c a.server site.node.state.operations m
@@ -186,7 +186,7 @@ module _ (k : Config) (count : ℕ) (past : List Step) (t : Traced) (e : Event) 
         unsettled = any_last (settles_in c z.operation.op) past x (unsettled_past c z.operation.op past (h.owners.unsaid c site at z.operation z.there)) (unsettled_in c z.operation.op sc.seen open_);
       }
 
-  -- what stood of an old message
+  -- what held of an old message
   abbrev Stood : ClientId → WorldClient → Association → Message → Type 0
   Stood c site a m = Over past (gifts k count t.world h.base.all c a.server) t.world c a.server site.node.state.operations m ⊎ ((site.node.running ≡ true) × (m.header.life ≡ a.life.0) × Pending past (gifts k count t.world h.base.all c a.server) t.world c a.server site.node.state.operations m)
 
@@ -332,7 +332,7 @@ module _ (k : Config) (count : ℕ) (past : List Step) (t : Traced) (e : Event) 
             high : Was op → ⊥
             high w = let y = was_below op w in let z = g.0 in omega (arith, y, z)
 
-    -- the client behind the step
+    -- the client after the step
     abbrev left_site : WorldClient
     left_site = SiteAfter v c i site
 
@@ -357,7 +357,7 @@ module _ (k : Config) (count : ℕ) (past : List Step) (t : Traced) (e : Event) 
     mine : (m : Message) → Has m (messages sc.world) → Has m (messages t.world) ⊎ Has (outputs.Send m) u.out
     mine m j = leaves_from (messages t.world) (ev.with_site c (SiteAfter v c i site) v) sc.world u.out l m j
 
-    -- the life before and behind the step
+    -- the life before and after the step
     pair : (b : Association) → Has b u.state.associations → (a : Association) × Has a st.associations × LifeNext now st a b
     pair b j = pair_of (LifeNext now st) st.associations u.state.associations (step_lives c st now i node.fit).pairs b j
 

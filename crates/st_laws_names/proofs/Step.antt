@@ -1,4 +1,4 @@
--- A whole step of a client keeps what stands of the operations that asked before, at all its servers.
+-- A whole step of a client keeps what holds of the operations that asked before, at all its servers.
 use Rattle.std.proofs.Common.{◌≡◌, ℕ, ◌⊎◌, Bool, true, false, ◌==◌, List, [], ◌∷◌, ◌++◌, refl, sym, ap, ◌∙◌, subst, inl, inr, if◌then◌else◌}
 use Rattle.std.proofs.lemmas.Bool.{eqb-true}
 use Rattle.st_base.specs.declared.ids.ClientId.{ClientId}
@@ -35,12 +35,12 @@ onces_last (x ∷ xs) a o f = record { first = λ b h e. first b (has_append xs 
 
 module _ (c : ClientId) (S : ℕ → Type 0) (Key : ServerId → ℕ → ℕ → ℕ → ℕ → Type 0) (Ended : ℕ → AppAnswer → Type 0) (Refused : ℕ → Type 0)
     (open_ : (op n m : ℕ) → Ended op (answers.Uncertain n m)) (gone_ : (op : ℕ) (a : AppAnswer) → Refused op → Ended op a) where
-  -- what stands at an association, within a step
+  -- what holds of an association, within a step
   pub record At (ops : List Operation) (a : Association) : Type 0 where
     pub state : (o : Operation) → Has o ops → S o.op → cs.is_of a.server o ≡ true → AtStage S Key Ended Refused open_ gone_ o.stage o.op
     pub asked : (o : Operation) → Has o ops → S o.op → cs.is_asked a.server o ≡ true → Under S Key Ended Refused open_ gone_ a.server a.life.0 (view a.session) o.op
 
-  -- what stands of a step so far, with associations that are yet to come
+  -- what holds of a step so far, with associations that are still to come
   pub record Held (rest : List Association) (t : ClientTurn) : Type 0 where
     pub id_ : t.state.id ≡ c
     pub kind : (o : Operation) → Has o t.state.operations → S o.op → Own o.ask

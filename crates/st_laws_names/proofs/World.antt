@@ -1,4 +1,4 @@
--- Operations ask once: behind every event, and over whole runs.
+-- Operations ask once: after every event, and over whole runs.
 use Rattle.std.proofs.Common.{◌≡◌, ◌≢◌, ◌⊎◌, ℕ, ◌+◌, ◌≤◌, true, List, [], ◌∷◌, ◌++◌, Option, Some, None, Ok, refl, sym, ap, ◌∙◌, subst, inl, inr, arith}
 use Rattle.std.specs.Prelude.{length}
 use Rattle.std.proofs.lemmas.Bool.{eqb-true, eq-eqb}
@@ -62,7 +62,7 @@ use Rattle.st_laws_names.proofs.Keeping.{AtRequest, AtStage, Under}
 use Rattle.st_laws_names.proofs.Step.{At, Held, stepped}
 use Rattle.st_laws_names.proofs.Step as steps
 
--- a world behind one of these steps, or this one
+-- a world after one of these steps, or this one
 abbrev pub Worlds : List Step → World → World → Type 0
 Worlds past w v = ((y : Step) × Has y past × (v ≡ y.after.world)) ⊎ (v ≡ w)
 
@@ -122,14 +122,14 @@ open_ended past w c op n m k = inl refl
 refused_ended : (past : List Step) (w : World) (c : ClientId) (op : ℕ) (a : AppAnswer) → Refused past w c op → Ended past w c op a
 refused_ended past w c op a r k = let z = r k in inr (record { message = z.message; among = z.among; replies = z.replies; says = inr z.says })
 
--- What stands of a client.
+-- What holds of a client.
 pub record SiteOnce (past : List Step) (w : World) (c : ClientId) (site : WorldClient) : Type 0 where
   pub kind : (o : Operation) → Has o site.node.state.operations → Asked past w c o.op → Own o.ask
   pub sent : (a : Association) → Has a site.node.state.associations → (o : Operation) → Has o site.node.state.operations → Asked past w c o.op → cs.is_of a.server o ≡ true → cs.is_sent o ≡ true
   pub asked : (a : Association) → Has a site.node.state.associations → (o : Operation) → Has o site.node.state.operations → Asked past w c o.op → cs.is_asked a.server o ≡ true → KeyOf past w c a.server a.life.0 (view a.session) o.op
   pub stuck : (a : Association) → Has a site.node.state.associations → (o : Operation) → Has o site.node.state.operations → cs.is_of a.server o ≡ true → o.stage ≡ stages.Stuck → Refused past w c o.op
 
--- What stands behind every event.
+-- What holds after every event.
 pub record OnceHold (past : List Step) (w : World) : Type 0 where
   pub sites : (c : ClientId) (site : WorldClient) → site_of w c ≡ Some site → SiteOnce past w c site
   pub known : (c : ClientId) (op : ℕ) → Asked past w c op → op ≤ length (asks_of past c)
@@ -224,7 +224,7 @@ module _ (k : Config) (count : ℕ) (past : List Step) (t : Traced) (e : Event) 
   moment : Moment sc.world
   moment = record { few = n.owners.few; once = λ c site at. onces site.node.state.associations (n.base.cuts.fates.lives.lives.sites c site at).once }
 
-  -- a world behind this step, or one before
+  -- a world after this step, or one before
   which : (v : World) → Worlds past2 sc.world v → Worlds past t.world v ⊎ (v ≡ sc.world)
   which v (inr q) = inr q
   which v (inl z) = go (has_append past _ z.0 z.1)
@@ -234,7 +234,7 @@ module _ (k : Config) (count : ℕ) (past : List Step) (t : Traced) (e : Event) 
       go (inr (inl q)) = inr (z.2 ∙ ap (λ (y : Step). y.after.world) q)
       go (inr (inr i)) = absurd i
 
-  -- where an operation waits behind the step, it is pending
+  -- where an operation waits after the step, it is pending
   waits_below : (c : ClientId) (op : ℕ) (s : ServerId) (life epoch number : ℕ) → WaitsUnder sc.world c s life epoch number op → op ≤ length (asks_of past2 c)
   waits_below c op s life epoch number w = subst (λ m. m ≤ length (asks_of past2 c)) w.is (numbered_below (asks_of past2 c) w.operation.op w.operation.ask ((n.base.cuts.clients c w.site w.at).asked w.operation w.there)).1
 
@@ -385,7 +385,7 @@ module _ (k : Config) (count : ℕ) (past : List Step) (t : Traced) (e : Event) 
     waits_of : (a : Association) → Has a (SiteAfter v c i site).node.state.associations → (o : Operation) → Has o (SiteAfter v c i site).node.state.operations → cs.is_asked a.server o ≡ true → Waits (cuts.Early past2 c) a.server a.life.0 (cuts.view a.session) o
     waits_of a j o l q = ((n.base.cuts.clients c (SiteAfter v c i site) at).all run a j).waits o l q
 
-    -- where it waits behind the step, it is this operation
+    -- where it waits after the step, it is this operation
     this_one : (o : Operation) → Has o (SiteAfter v c i site).node.state.operations → (s : ServerId) (life epoch number : ℕ) → (w : WaitsUnder sc.world c s life epoch number o.op) → (w.operation ≡ o) × (w.site ≡ SiteAfter v c i site)
     this_one o l s life epoch number w = (one_pending w.site.node.state.operations w.operation o w.there (subst (λ (z : WorldClient). Has o z.node.state.operations) (sym site_is) l) w.is (moment.few c w.site w.at w.operation.op), site_is)
       where
@@ -545,7 +545,7 @@ ask_once : (past : List Step) (x : Step) → OnceHold (past ++ x ∷ []) x.after
 ask_once past x d y i c s u life epoch number life2 epoch2 number2 op a b =
     now_key (past ++ x ∷ []) x.after.world d c op u life2 epoch2 number2 b (record { at = y.after.world; among = inl (y, i, refl); server = s; life_ = life; epoch_ = epoch; number_ = number; waits = a })
 
--- What stands behind every event, with what stands of cuts and of names.
+-- What holds after every event, with what holds of cuts and of names.
 pub record NamesHold (k : Config) (count : ℕ) (past : List Step) (t : Traced) : Type 0 where
   pub all : AllHold k count past t
   pub once : OnceHold past t.world
@@ -559,7 +559,7 @@ one k count past t e sc r h taken = (ask_once past (step t e sc) next, record { 
     next : OnceHold (past ++ step t e sc ∷ []) sc.world
     next = once_on k count past t e sc h.all n taken h.once
 
--- what is known of messages behind an event is what followed from before it
+-- what is known of messages after an event is what followed from what held before it
 pub same_ghosts : (k : Config) (count : ℕ) (past : List Step) (t : Traced) (e : Event) (sc : WorldTurn) (r : is_event count e ≡ true) (h : NamesHold k count past t) (taken : world_step t.world e ≡ Ok sc) →
     (one k count past t e sc r h taken).1.all.base.all ≡ (followed k count past t e sc r h.all.base taken).after
 unfolding one

@@ -19,12 +19,12 @@ use Rattle.st_laws_cuts.specs.EndedRequests.{AllPast}
 use Rattle.st_laws_cuts.specs.ServedRequests.{NamesBy}
 use Rattle.st_laws_names.specs.OutstandingKeys.{WaitsUnder}
 
--- a world behind one of these steps, or before this one
+-- a world after one of these steps, or before this one
 abbrev pub IsBefore : List Step → Step → World → Type 0
 IsBefore past y v = ((z : Step) × Has z past × (v ≡ z.after.world)) ⊎ (v ≡ y.before.world)
 
--- In the event of a step, the names of a server became what a request of a client asks: the server would serve it next before the event, and
--- serves it no more behind it; and the operation of this number waited under the key of the request, which is a life, an epoch and a number.
+-- In the event of a step, the names of a server became what a request of a client asks: the server would serve it next before the event, and no longer serves
+-- it after it; and the operation of this number waited under the key of the request, which is a life, an epoch and a number.
 pub record ChangedBy (past : List Step) (y : Step) (s : ServerId) (c : ClientId) (op : ℕ) : Type 0 where
   pub old : ServerNode
   pub was : node_of y.before.world s ≡ Some old

@@ -1,5 +1,5 @@
--- Replies under a key, which is a client, a server, a life, an epoch and a number from 1 on: each has its event, in which the request of the key was served, and a key
--- is served once.
+-- Replies under a key, which is a client, a server, a life, an epoch and a number from 1 on: each has its event, in which the request of the key was served,
+-- and a key is served once.
 use Rattle.std.specs.Prelude.{◌≡◌, ℕ, Bool, true, false, List, [], ◌∷◌, ◌++◌, Some}
 use Rattle.std.proofs.Common.{◌⊎◌}
 use Rattle.st_base.specs.declared.ids.ClientId.{ClientId}
@@ -67,7 +67,7 @@ NamesDid n m asked reply = Unit {0}
 abbrev pub now_at : World → ServerId → Stamp
 now_at w s = clock_of (ev.counted w) (nodes.Server s)
 
--- a server's step, behind its thefts
+-- a server's step, after its thefts
 abbrev pub behind_thefts : World → ServerId → ServerState → sv.ServerTurn
 behind_thefts w s x = sv.thefts (sv.turn x []) (now_at w s)
 
@@ -116,6 +116,6 @@ ServedOnce past =
     (y z : Step) → Has y past → Has z past → (c : ClientId) (s : ServerId) (life epoch number : ℕ) (r q : Body) →
     ServedAt y c s life epoch number r → ServedAt z c s life epoch number q → r ≡ q
 
--- Both, behind each step.
+-- Both, after each step.
 abbrev pub RepliesAreOfTheirEvents : Promise
 RepliesAreOfTheirEvents past x = RepliesHaveEvents (past ++ x ∷ []) x.after.world × ServedOnce (past ++ x ∷ [])

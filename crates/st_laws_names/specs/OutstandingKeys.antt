@@ -35,13 +35,13 @@ pub record SameKey (s t : ServerId) (life epoch number life2 epoch2 number2 : �
   pub epoch_ : epoch ≡ epoch2
   pub number_ : number ≡ number2
 
--- Operations ask once: where an operation waits behind an event, it never waited under another key, behind this event or an earlier one.
+-- Operations ask once: if an operation waits after an event, it never waited under another key, after this event or an earlier one.
 abbrev pub OperationsAskOnce : Promise
 OperationsAskOnce past x =
     (y : Step) → Has y (past ++ x ∷ []) → (c : ClientId) (s t : ServerId) (life epoch number life2 epoch2 number2 op : ℕ) →
     WaitsUnder y.after.world c s life epoch number op → WaitsUnder x.after.world c t life2 epoch2 number2 op → SameKey s t life epoch number life2 epoch2 number2
 
--- Keys have one operation: of two operations that waited under one key, behind these events, both are one.
+-- Keys have one operation: two operations that waited under one key, after these events, are the same one.
 abbrev pub KeysHaveOneOperation : Promise
 KeysHaveOneOperation past x =
     (y z : Step) → Has y (past ++ x ∷ []) → Has z (past ++ x ∷ []) → (c : ClientId) (s : ServerId) (life epoch number op n : ℕ) →

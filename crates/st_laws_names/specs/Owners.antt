@@ -20,7 +20,7 @@ use Rattle.st_laws_requests.specs.Cuts.Cuts.{asks_of}
 use Rattle.st_laws_names.specs.Keys.{ServedAt}
 use Rattle.st_laws_names.specs.OutstandingKeys.{WaitsUnder}
 
--- In the event of a step a server served a request of a client, and an operation waited under its key behind one of these steps.
+-- In the event of a step a server served a request of a client, and an operation waited under its key after one of these steps.
 pub record Owns (past : List Step) (y : Step) (s : ServerId) (c : ClientId) (op : ℕ) : Type 0 where
   pub life_ : ℕ
   pub epoch_ : ℕ
@@ -42,14 +42,9 @@ pub record Owner (past : List Step) (x : Step) (s : ServerId) : Type 0 where
   pub unsettled : list_any (settles_in c op) past ≡ false
   pub owns : Owns past x s c op
 
--- Asks own changes, at each step.
--- each: a change has an owner
--- alone: no event has two owners
--- once: no two changes have one owner
--- told: an answer to the owner of a change is `uncertain` or what names said at that event
--- did: an ask to change names that is answered with an inode owns a change
--- made: such an answer is to an ask that was made
--- there: who owns an event is a client of the world
+-- Asks own changes, at each step. each: a change has only one owner: no event has two once: no two changes have one owner told: an answer to the owner of a
+-- change is `uncertain` or what names said at that event did: an ask to change names that is answered with an inode owns a change made: such an answer is to an
+-- ask that was made there: who owns an event is a client of the world
 pub record AsksOwnChanges (past : List Step) (x : Step) : Type 0 where
   pub each : (s : ServerId) → changes_in s x ≡ true → Owner past x s
   pub alone : (y : Step) → Has y (past ++ x ∷ []) → (s : ServerId) (c d : ClientId) (op n : ℕ) → Owns (past ++ x ∷ []) y s c op → Owns (past ++ x ∷ []) y s d n → (c ≡ d) × (op ≡ n)

@@ -1,4 +1,5 @@
-//! A client's and a server's states as the two halves of the association machine: every rule of either side is a list of its moves.
+//! A client's and a server's states as the two halves of the association machine: every rule of
+//! either side is a list of its moves.
 #![tactic(auto)]
 
 ghost use Rattle.st_laws_refine.specs.Client.Law.{ClientStepsAreMoves, RunsKeepHard, LostLeasesAreOver};
@@ -23,8 +24,8 @@ pub fn rows_stay_compatible()
     ensures { RowsStayCompatible }
 {}
 
-/// What stands at a server stands after its steps, where its thefts are late for every lease that was dated and it sends no
-/// conflict; when time passes; and when it crashes and starts.
+/// The invariant of a server holds after its steps, in which its thefts are late for every lease
+/// that was dated and it sends no conflict; when time passes; and when it crashes and starts.
 pub fn events_keep_servers()
     ensures steps { StepsKeepServers }
     ensures advances { AdvancesKeepServers }
@@ -34,7 +35,7 @@ pub fn events_keep_servers()
     ensures few { FewStay }
 {}
 
-/// Outside grace every lease of an earlier epoch has come to its end.
+/// Outside grace every lease of an earlier epoch has ended.
 pub fn servers_wait()
     ensures { ServersWait }
 {}
@@ -44,8 +45,8 @@ pub fn old_messages_change_no_server()
     ensures { OldMessagesChangeNoServer }
 {}
 
-/// Each reply that may date a lease answers a request that was sent, and was sent before every timer that runs for its
-/// client: through every step of its server.
+/// Each reply that may date a lease answers a request that was sent, and was sent before every
+/// timer that runs for its client: through every step of its server.
 pub fn replies_stay_dated()
     ensures { RepliesStayDated }
 {}
@@ -55,7 +56,8 @@ pub fn client_steps_are_moves()
     ensures { ClientStepsAreMoves }
 {}
 
-/// In the world a client's step is moves of its association with each server, and what stood of it stands again.
+/// In the world a client's step is moves of its association with each server, and what held of it
+/// holds again.
 pub fn own_associations_move()
     ensures { OwnAssociationsMove }
 {}

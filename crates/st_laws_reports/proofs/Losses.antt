@@ -1,4 +1,4 @@
--- Losses are told, in every run.
+-- Losses are reported, in every run.
 use Rattle.std.proofs.Common.{◌≡◌, ℕ, ◌+◌, ◌⊎◌, Bool, true, false, ◌&&◌, ◌==◌, List, [], ◌∷◌, ◌++◌, Option, Some, None, Ok, Err, refl, sym, ap, ◌∙◌, subst, inl, inr, arith, append_assoc, length-append, if◌then◌else◌}
 use Rattle.std.specs.List.{cons_option}
 use Rattle.std.specs.Option.{option_or}
@@ -140,7 +140,7 @@ more_of P os o f w x h = go (has_append os (o ∷ []) x h)
     go (inr (inl e)) = subst (LineOf P) (sym e) f
     go (inr (inr i)) = absurd i
 
--- The lines of a server, and of fates, are no client's.
+-- The lines of a server, and of fates, aren't a client's.
 server_one : (s : ServerId) (o : Output) (sc : WorldTurn) → LinesOf NoClient sc.seen → LinesOf NoClient (ev.server_says sc s o).seen
 unfolding ev.server_says ev.server_notes ev.cuts ev.sends
 server_one s (outputs.Send m) sc h = more_of NoClient sc.seen _ tt h
@@ -233,8 +233,8 @@ module _ (past : List Step) (x : Step) (c : ClientId) where
   client_all before [] now sc f k = k
   client_all before (o ∷ os) now sc f k = client_all before os (λ r. behind asked had r (now r) o) (ev.client_says sc c before o) f.rest (client_one before now o sc f.one k)
 
--- What stands of a client: what is owed of each server is what it has of its lost pages, a pending sync has none, and each pending
--- operation is what it was asked under its number.
+-- What holds of a client: what is owed of each server is what it has of its lost pages, a pending sync has none, and each pending operation is what it was
+-- asked under its number.
 record SiteOk (owes : Rows) (asks : List Ask) (site : WorldClient) : Type 0 where
   pub at : (a : Association) → Has a site.node.state.associations → owes a.server ≡ a.lost
   pub none : (r : ServerId) → NoneOf r site.node.state.associations → owes r ≡ []
@@ -515,7 +515,7 @@ happens_done : (past : List Step) (t : Traced) (e : Event) → adm.refusal t.wor
 unfolding ev.happens ev.ticks ev.at_client ev.at_server ev.server_takes ev.server_took ev.asks_at ev.delivers ev.delivers_to ev.loses_message ev.marks ev.effects ev.reports_of ev.tells ev.tells_client ev.tells_site ev.advances ev.crashes ev.crashes_client ev.crashes_server ev.starts ev.starts_client ev.starts_server adm.refusal
 happens_done past t e q once ok = event e q
   where
-    -- a client takes an input that is no ask
+    -- a client takes an input that isn't an ask
     client : (e : Event) → ((d : ClientId) → is_crash_of d e ≡ false) → ((d : ClientId) → ask_in d e ≡ None) → (w : World) → w.clients ≡ t.world.clients → w.clocks ≡ t.world.clocks → (c : ClientId) (input : ClientInput) →
         ((asked : ℕ → Option Ask) (had : ServerId → Option Association) (rows : Rows) → Rattle.st_laws_reports.proofs.Owing.InputOk asked had rows input) → (o : Option WorldClient) → site_of t.world c ≡ o → Done past (step t e (ev.at_client w c input o))
     client e crash na w cs ts c input g None i = silent past t e (ev.quiet w) (none_of NoClient) crash (λ d y k. na d) cs ok

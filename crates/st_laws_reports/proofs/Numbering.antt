@@ -25,7 +25,7 @@ use Rattle.st_laws_lines.proofs.Growing.{Grows}
 use Rattle.st_laws_lines.proofs.Law.{counts_law}
 use Rattle.st_laws_pages.specs.Asks.Law.{InEveryRun}
 
--- the number of what is told
+-- the number of what is reported
 abbrev first_of : {A : Type 0} → ℕ × A → ℕ
 first_of x = x.0
 
@@ -53,7 +53,7 @@ get_front [] ys n v e = cc
 get_front (x ∷ xs) ys zero v e = e
 get_front (x ∷ xs) ys (suc n) v e = get_front xs ys n v e
 
--- what is given a number stands there
+-- what is given a number is there
 stands_there : {A : Type 0} (xs ys : List A) (k : ℕ) (v : A) → Has (k, v) (under_numbers (length xs + 1) ys) → numbered (xs ++ ys) k ≡ Some v
 unfolding under_numbers
 stands_there xs [] k v h = absurd h
@@ -66,7 +66,7 @@ stands_there xs (y ∷ ys) k v (inr h) =
     let z : length xs + 1 + 1 ≡ length (xs ++ y ∷ []) + 1 = ap (λ n. n + 1) (sym (length-append xs (y ∷ []))) in
     ap (λ zs. numbered zs k) (sym (append_assoc xs (y ∷ []) ys)) ∙ stands_there (xs ++ y ∷ []) ys k v (subst (λ n. Has (k, v) (under_numbers n ys)) z h)
 
--- a line that tells something is among what is told
+-- a line that tells something is among what is reported
 told_has : {A : Type 0} (line : Observation → Option A) (os : List Observation) (o : Observation) (x : A) → Has o os → line o ≡ Some x → Has x (filter_map line os)
 told_has line [] o x h e = absurd h
 told_has line (p ∷ os) o x (inl q) e = subst (λ z. Has x (cons_option z (filter_map line os))) (sym (ap line (sym q) ∙ e)) (inl refl)
@@ -76,7 +76,7 @@ told_has line (p ∷ os) o x (inr h) e = go (line p) (told_has line os o x h e)
     go None i = i
     go (Some y) i = inr i
 
--- what a line tells stands under its number
+-- what a line tells is under its number
 is_there : {A B : Type 0} (line : Observation → Option (ℕ × A)) (f : B → A) (xs : List A) (os : List Observation) (zs : List B) → Grows line xs os (map f zs) → (o : Observation) (k : ℕ) (v : A) → Has o os → line o ≡ Some (k, v) → option_map f (numbered zs k) ≡ Some v
 is_there line f xs os zs g o k v h e =
     mapped k ∙ ap (λ ys. numbered ys k) g.is ∙ stands_there xs g.new k v (subst (Has (k, v)) g.lines (told_has line os o (k, v) h e))
@@ -111,7 +111,7 @@ issued_right c number (Some k) e = ap (λ (z : Option (ℕ × ℕ)). pair_is z) 
     pair_is None = true
     pair_is (Some p) = (p.0 == c.0) && (p.1 == number)
 
--- what lines add stands behind what was there
+-- what lines add comes after what was there
 map_length : {A B : Type 0} (f : A → B) (xs : List A) → length (map f xs) ≡ length xs
 map_length f [] = refl
 map_length f (x ∷ xs) = ap suc (map_length f xs)

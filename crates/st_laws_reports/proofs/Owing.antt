@@ -47,7 +47,7 @@ abbrev pub NoneOf : ServerId → List Association → Type 0
 NoneOf r al = (a : Association) → Has a al → a.server.0 ≡ r.0 → ⊥
 
 module _ (asked : ℕ → Option Ask) (had : ServerId → Option Association) (rows0 : Rows) where
-  -- what stands of a step so far, with associations that are yet to come
+  -- what holds of a step so far, with associations that are still to come
   pub record Held (R : Rows) (rest : List Association) (t : ClientTurn) : Type 0 where
     pub rows : (r : ServerId) → along asked had r (rows0 r) t.out ≡ R r
     pub fine : Fine asked had rows0 t.out

@@ -144,7 +144,7 @@ told_same ask R S a e h = h
 same_number : (s t : ServerId) → s.0 ≡ t.0 → s ≡ t
 same_number s t e = ap (λ n. record { 0 = n }) e
 
--- an ask that is no sync
+-- an ask that isn't a sync
 abbrev pub IsNoSync : Ask → Type 0
 IsNoSync (asks.Sync f) = ⊥
 IsNoSync ask = Unit {0}
@@ -196,7 +196,7 @@ module _ (asked : ℕ → Option Ask) (had : ServerId → Option Association) wh
   fine_more R (x ∷ xs) ys a b = record { one = a.one; rest = fine_more (λ s. behind s (R s) x) xs ys a.rest b }
 
   module _ (s : ServerId) (rows0 : Rows) where
-    -- what stands in a rule at this server
+    -- what holds in a rule at this server
     pub record Keeps (R : Rows) (server : ServerId) (lost : List LostPage) (out : List Output) (pending : List Operation) : Type 0 where
       pub at : server ≡ s
       pub rows : (r : ServerId) → along r (rows0 r) out ≡ R r
@@ -366,8 +366,7 @@ module _ (asked : ℕ → Option Ask) (had : ServerId → Option Association) wh
       operated now all o t _ (pass.ReadsCached s f p bytes v e h q) k w = replies_to t o (answers.Read bytes) tt k w
       operated now all o t _ (pass.ReadsZeros s f p e v a h q i m) k w = replies_to t o (answers.Read (filled 0)) tt k w
 
-      -- Requests.
-      -- the operations, once the first of them asks, which is no sync
+      -- Requests. the operations, once the first of them asks, which isn't a sync
       no_sync : (a : Ask) → cs.is_sync a ≡ false → IsNoSync a
       no_sync (asks.Sync f) e = cc
       no_sync a e = tt
@@ -411,7 +410,7 @@ module _ (asked : ℕ → Option Ask) (had : ServerId → Option Association) wh
           (w.ops, record { at = w.at; rows = w.rows; here = w.here; fine = w.fine; ops = λ o h. absurd h }) in
           requested now tick b (cp.requests now tick b) (requests now tick b) (rested now tick a z.1)
 
-    -- What is told is owed no more.
+    -- What is reported is owed no more.
     told_here : (f : FileId) (rows : List LostPage) → f.server ≡ s → told_by (Some (asks.Sync f)) s rows ≡ pages.untold rows f.ino
     told_here f rows e = ap (λ b. if b then still_owed rows f.ino else rows) (eq-eqb f.server.0 s.0 (ap (λ (z : ServerId). z.0) e)) ∙ still_owed_is rows f.ino
 

@@ -50,7 +50,7 @@ unfolding owed.in_order keys.rising
 in_order_is [] = refl
 in_order_is (k ∷ ns) = among_is k (owed.in_order ns) ∙ ap (keys.with_key k) (in_order_is ns)
 
--- The rows of a file, what is told of them, and what is left.
+-- The rows of a file, what is reported about them, and what is left.
 rows_is : (rows : List LostPage) (ino : ℕ) → owed.rows_of_file rows ino ≡ pages.lost_on rows ino
 unfolding owed.rows_of_file pages.lost_on
 rows_is rows ino = ap (filter_map (pages.lost_at rows ino)) (in_order_is (map pages.page_of_lost (filter (pages.is_lost_on ino) rows)))

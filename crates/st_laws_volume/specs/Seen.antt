@@ -40,8 +40,8 @@ of_event w (events.Start (nodes.Server s)) = steps.Restarted s ∷ []
 of_event w (events.Report k false) = failure_of w (issued_of w k)
 of_event w e = []
 
--- The lines of its report: entries that join the log, fates and answers. A line of a drop names a
--- command by the world's number of it; the client's own number is told.
+-- The lines of its report: entries that join the log, fates and answers. A line of a drop names a command by the world's number of it; the client's own number
+-- is given.
 abbrev pub number_of : IssuedCommand → ℕ
 number_of k = k.number
 

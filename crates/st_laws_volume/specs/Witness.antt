@@ -40,7 +40,7 @@ use Rattle.st_volume.specs.Pages.{Entry, same_place}
 use Rattle.st_volume.specs.Trees.{Tree, DirEntry}
 use Rattle.st_volume.specs.Volume.{Volume, Pending, is_ask, fresh_volume, run}
 
--- Requests: the ask behind each request for a cut or a name, by the request's header.
+-- Requests: the ask that led to each request for a cut or a name, by the request's header.
 pub record Behind : Type 0 where
   pub header : Header
   pub op : ℕ
@@ -110,7 +110,7 @@ with_lines w (o ∷ os) bs = with_lines w os bs
 
 -- The steps of an event.
 
--- the ask behind a request that a server serves, where it has not taken effect
+-- the ask that led to a request that a server serves, if it has not taken effect
 abbrev pub is_untaken : ℕ → ℕ → Pending → Bool
 is_untaken c op a = is_ask (record { 0 = c }) op a && not (is_some a.result)
 

@@ -1,5 +1,5 @@
-//! Every run of the world is a run of the volume: what is seen of an event as steps of the volume, and
-//! the steps that it is. Of the law itself only the first parts are proved.
+//! Every run of the world is a run of the volume: what is seen of an event as steps of the volume,
+//! and the steps that it is. Only the first parts of the law itself are proved.
 #![tactic(auto)]
 
 ghost use Rattle.st_laws_volume.specs.Laws.{RunsInParts, StepsShowTheEvent, TheStartAgrees};

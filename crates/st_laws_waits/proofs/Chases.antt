@@ -52,7 +52,7 @@ module _ (k : Config) (last : ℕ) (now : Stamp) (w : Waiter) (n : ServerState) 
     x.client.0 ≡ w.client.0 → ⊥)
     (R : Authority → LockRow → Type 0) where
   module _ (i : ServerInput) (kept : Kept w R k last now i) (waits : Waits w R n.authority n.locks) where
-    -- behind the thefts
+    -- after the thefts
     behind : Waits w R (thefts (turn n []) now).state.authority (thefts (turn n []) now).state.locks
     behind =
         let l = left k (steal_wait k) last now n known in

@@ -74,7 +74,7 @@ module _ (w : Waiter) where
   on_file c ino mode v = cond_either (λ (y : Waiter). is_wait_on w.ino y ≡ is_wait_on w.ino v) (is_wait_of c ino v) (wait_for mode v) v (λ e. refl) (λ e. refl)
 
 module _ (w : Waiter) (R : Authority → LockRow → Type 0) where
-  -- What stands of a table and the timers while the wait is the first of its file: of each row of another client on the file.
+  -- What holds of a table and the timers while the wait is the first of its file: of each row of another client on the file.
   pub record Waits (a : Authority) (l : Locks) : Type 0 where
     pub once : are_once same_row l.rows ≡ true
     pub first : IsFirst w l
@@ -87,7 +87,7 @@ module _ (w : Waiter) (R : Authority → LockRow → Type 0) where
   abbrev pub Either : Authority → Locks → Type 0
   Either a l = Gone l ⊎ Waits a l
 
-  -- the wait is gone, or all stands
+  -- the wait is gone, or everything holds
   pub not_gone : (a : Authority) (l : Locks) → Either a l → IsFirst w l → Waits a l
   not_gone a l (inl g) f = absurd (g (found_at (is_wait_on w.ino) l.waiters w f).1)
   not_gone a l (inr x) f = x
@@ -111,7 +111,7 @@ module _ (w : Waiter) (R : Authority → LockRow → Type 0) where
   timed a b l h (inl g) = inl g
   timed a b l h (inr x) = inr (record { once = x.once; first = x.first; rows = λ r j f o. h r j (x.rows r j f o) })
 
-  -- one row more, which is no row of another client on the file
+  -- one row more, which isn't a row of another client on the file
   put_row : (a : Authority) (l : Locks) (c : ClientId) (life : Life) (ino : ℕ) (mode : Mode) → (ino ≡ w.ino → c.0 ≢ w.client.0 → ⊥) → Waits a l →
       Either a (grant l c life ino mode)
   unfolding grant

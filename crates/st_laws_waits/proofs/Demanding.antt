@@ -1,5 +1,5 @@
--- After a demanding pass each row in the way of a first waiter, of a client that is no suspect, is demanded, and on a tick none of these demands is
--- old: the pass comes to each such row, and what it sends changes no client, file or mode.
+-- After a demanding pass each row in the way of a first waiter, of a client that isn't a suspect, is demanded, and on a tick none of these demands is old: the
+-- pass comes to each such row, and what it sends changes no client, file or mode.
 use Rattle.std.proofs.Common.{◌≡◌, ℕ, ◌+◌, ◌≤◌, ◌<◌, ◌⊎◌, Bool, true, false, not, ◌&&◌, ◌||◌, List, [], ◌∷◌, ◌==◌, refl, sym, ap, ◌∙◌, subst, inl, inr, arith}
 use Rattle.std.specs.Prelude.{cond, find, filter, map, nat_le, Option, Some, None, is_some, option_map}
 use Rattle.std.specs.List.{list_any}
@@ -34,7 +34,7 @@ abbrev pub SentNow : Stamp → Option RowDemand → Type 0
 SentNow now None = ⊥
 SentNow now (Some d) = d.sent ≡ now
 
--- a row that was demanded once more is the same but for its demand
+-- a row that was demanded once more is the same except for its demand
 pub record SameRow (now : Stamp) (r q : LockRow) : Type 0 where
   pub client : q.client ≡ r.client
   pub ino : q.ino ≡ r.ino
@@ -47,7 +47,7 @@ FoundSame now None o = o ≡ None
 FoundSame now (Some r) None = ⊥
 FoundSame now (Some r) (Some q) = SameRow now r q
 
--- the table but for demands
+-- the table except for demands
 pub record SameTable (now : Stamp) (l v : Locks) : Type 0 where
   pub waits : v.waiters ≡ l.waiters
   pub found : (c : ClientId) (ino : ℕ) → FoundSame now (row_of l c ino) (row_of v c ino)
@@ -269,7 +269,7 @@ module _ (k : Config) (now : Stamp) (tick : Bool) (rp : 1 ≤ k.retry) where
           (subst (λ x. Has_demand q.locks x ino) (sym e) (row_has to d ino (row_of p.locks d ino) p refl))
       go (inr i) r = r i
 
-  -- a client with a row in the way, that is no suspect, is among those that are demanded of
+  -- a client with a row in the way, that isn't a suspect, is among those that are demanded of
   module _ (a : Authority) where
     not_among : (c : ClientId) → may_ack a c ≡ true → not (is_among (suspects_of a) c) ≡ true
     not_among c f = go (is_among (suspects_of a) c) refl
@@ -367,7 +367,7 @@ module _ (k : Config) (now : Stamp) (tick : Bool) (rp : 1 ≤ k.retry) where
     unfolding demands_due
     due_table l = files_table (suspects_of a) (waited_files l) (locks.nothing_demanded l)
 
--- what is told of demands changes no state
+-- what is reported about demands changes no state
 demanded_told : (rs : List (ClientId × Life × ℕ × GrantNo × Mode)) (t : ServerTurn) → (tell_demanded rs t).state ≡ t.state
 unfolding tell_demanded tell
 demanded_told [] t = refl
@@ -391,7 +391,7 @@ pass_blocked t now i rp b =
     z : SameTable now t.state.locks (demands_due t.state.locks now (is_tick i) (suspects_of t.state.authority) t.state.config).locks
     z = due_table t.state.config now (is_tick i) rp t.state.authority t.state.locks
 
--- on a tick no demand on a row in the way of a first waiter, of a client that is no suspect, is old
+-- on a tick no demand on a row in the way of a first waiter, of a client that isn't a suspect, is old
 pub pass_due : (t : ServerTurn) (now : Stamp) (i : ServerInput) → 1 ≤ t.state.config.retry → (ino : ℕ) (w : Waiter) (c : ClientId) (r : LockRow) →
     find (is_wait_on ino) (demanding t now i).state.locks.waiters ≡ Some w →
     row_of (demanding t now i).state.locks c ino ≡ Some r → stands_against w.client w.ino w.mode r ≡ true → may_ack (demanding t now i).state.authority c ≡ true → IsDue t.state.config now (is_tick i) r.demand

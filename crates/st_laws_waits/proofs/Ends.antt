@@ -1,5 +1,5 @@
--- A wait that is the first of its file goes on through each change of a step, but for a grant to it, a suspicion of its client, and the three
--- messages that end it; and what ended it stands at the end of the step, since a step grants no client twice and no timer of it ends.
+-- A wait that is the first of its file goes on through each change of a step, except for a grant to it, a suspicion of its client, and the three messages that
+-- end it; and what ended it is still there at the end of the step, since a step grants no client twice and no timer of it ends.
 use Rattle.std.proofs.Common.{◌≡◌, ◌≢◌, ℕ, ◌<◌, ◌⊎◌, Bool, true, false, not, List, [], ◌∷◌, refl, sym, ap, ◌∙◌, subst, inl, inr, arith}
 use Rattle.std.specs.Prelude.{cond, find, filter, map, Option, Some, None, Ok, is_some, option_map}
 use Rattle.std.proofs.lemmas.Bool.{eq-eqb, le-leb, ne_eqb}
@@ -218,7 +218,7 @@ module _ (w : Waiter) (n : ServerState) (now : Stamp) (i : ServerInput) (known :
   abbrev EndsAt : Authority → Locks → Type 0
   EndsAt a l = GoesOnOrEnds w (received_of i) n.stable.names a l
 
-  -- by what stood before
+  -- by what held before
   carried : (a b : Authority) (l v : Locks) → (IsFirst w l → EndsAt b v) → (IsGranted w l → IsGranted w v) →
       (is_some (suspect_of a w.client) ≡ true → is_some (suspect_of b w.client) ≡ true) → EndsAt a l → EndsAt b v
   carried a b l v f g s (inl x) = f x
@@ -250,7 +250,7 @@ module _ (w : Waiter) (n : ServerState) (now : Stamp) (i : ServerInput) (known :
       kept : IsFirst w l → IsFirst w (locks.forget l c)
       kept f = first_among w l (λ v. not (is_wait_by c v)) (other_client w c ne) f
 
-  -- behind the thefts its client's session is of its life
+  -- after the thefts its client's session is of its life
   lives_there : (s : Session) → sessions.session_of (thefts (turn n []) now).state.sessions w.client ≡ Some s → s.life.0 ≡ w.life.0
   lives_there s e = lives s (sym ((left n.config n.authority.wait 0 now n known).sessions w.client not_robbed) ∙ e)
 

@@ -142,7 +142,7 @@ grants_blocked l = files_blocked (waited_files l) (locks.nothing_granted l) (λ 
         let z = found_at (is_wait_on j) l.waiters w e in
         rising_has_in _ j (subst (λ f. Has f (map locks.ino_of_wait l.waiters)) (eqb-true w.ino j z.0) (has_map_in locks.ino_of_wait l.waiters w z.1))
 
--- what is told of grants changes no state
+-- what is reported about grants changes no state
 pub granted_told : (rs : List (ClientId × Life × ℕ × GrantNo × Mode)) (t : ServerTurn) → (tell_granted rs t).state ≡ t.state
 unfolding tell_granted tell
 granted_told [] t = refl

@@ -1,5 +1,5 @@
--- A whole step of a server that ticks in time keeps what stands of it since its last tick, and a tick makes it stand since now: the thefts and the
--- suspicions look at every timer and every demand.
+-- A whole step of a server that ticks in time keeps what holds of it since its last tick, and a tick makes it hold since now: the thefts and the suspicions
+-- look at every timer and every demand.
 use Rattle.std.proofs.Common.{◌≡◌, ℕ, ◌+◌, ◌≤◌, ◌⊎◌, Bool, true, false, [], refl, sym, ap, ◌∙◌, subst, inl, inr, arith}
 use Rattle.std.specs.Prelude.{cond, Option, Some, None}
 use Rattle.std.proofs.lemmas.Bool.{ltb-true, lt-ltb}
@@ -37,7 +37,7 @@ granting_blocked t now = go (in_grace t now) refl
     go false e = inr (waiting_blocked t)
 
 module _ (k : Config) (now : Stamp) (n : ServerState) (i : ServerInput) (p : 1 ≤ k.demand) (q : 1 ≤ steal_wait k) (rp : 1 ≤ k.retry) where
-  -- the passes behind the suspicions
+  -- the passes after the suspicions
   passes : (last : ℕ) (t : ServerTurn) → last ≤ now.0 → WithinStep k (steal_wait k) last now n.grace t →
       WithinStep k (steal_wait k) last now n.grace (demanding (granting t now) now i)
   passes last t l o =
@@ -47,7 +47,7 @@ module _ (k : Config) (now : Stamp) (n : ServerState) (i : ServerInput) (p : 1 �
   granted : (last : ℕ) (t : ServerTurn) → last ≤ now.0 → WithinStep k (steal_wait k) last now n.grace t → WithinStep k (steal_wait k) last now n.grace (granting t now)
   granted last t l o = w_granting n now i (WithinStep k (steal_wait k) last now n.grace) (λ t u e o. edit k (steal_wait k) last now n.grace n i t u p q l e o) t o
 
-  -- what stands behind the passes
+  -- what holds after the passes
   behind : (last : ℕ) (t : ServerTurn) → last ≤ now.0 → WithinStep k (steal_wait k) last now n.grace t → InTime k last now.0 (demanding (granting t now) now i).state
   behind last t l o =
       record {
@@ -72,17 +72,17 @@ module _ (k : Config) (now : Stamp) (n : ServerState) (i : ServerInput) (p : 1 �
       by (inr b) = inr (pass_blocked (granting t now) now i retries b)
 
 module _ (k : Config) (last : ℕ) (now : Stamp) (n : ServerState) (p : 1 ≤ k.demand) (q : 1 ≤ steal_wait k) (rp : 1 ≤ k.retry) (known : RowsHaveSessions n) (s : InTime k last now.0 n) where
-  -- behind the thefts
+  -- after the thefts
   pub robbed : WithinStep k (steal_wait k) last now n.grace (thefts (turn n []) now)
   robbed = stolen k (steal_wait k) last now n known s.config s.wait s.rows s.timers
 
-  -- behind a tick's suspicions
+  -- after a tick's suspicions
   pub suspected : WithinStep k (steal_wait k) now.0 now n.grace (suspecting (thefts (turn n []) now) now)
   suspected =
       ticked k (steal_wait k) last now n.grace (thefts (turn n []) now) robbed.config
       (w_suspecting n now (WithinStep k (steal_wait k) last now n.grace) (λ t u e o. edit k (steal_wait k) last now n.grace n Tick t u p q s.past e o) (thefts (turn n []) now) (thefts_begun n now).quiet robbed)
 
-  -- behind a message's rule
+  -- after a message's rule
   pub received : (m : Message) → WishInput (Control m) → WithinStep k (steal_wait k) last now n.grace (take_input (thefts (turn n []) now) now (Control m))
   received m w = w_message n now m (WithinStep k (steal_wait k) last now n.grace) (λ t u e o. edit k (steal_wait k) last now n.grace n (Control m) t u p q s.past e o) w robbed
 

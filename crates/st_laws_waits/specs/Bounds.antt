@@ -1,4 +1,4 @@
--- What stands of the demands and the timers of a server that ticks in time.
+-- What holds of the demands and the timers of a server that ticks in time.
 use Rattle.std.specs.Prelude.{◌≡◌, ◌≤◌, ◌<◌, ◌+◌, ◌⊎◌, ℕ, Bool, true, find, Option, Some, None, is_some}
 use Rattle.std.specs.List.{list_any}
 use Rattle.st_base.specs.declared.config.Config.{Config}
@@ -16,12 +16,12 @@ use Rattle.st_rules.specs.Server.{ServerState}
 use Rattle.st_rules.specs.Sessions.{session_of}
 use Rattle.st_lemmas.specs.Lists.{Has}
 
--- A demand that waits for an answer was sent before now; of a client that is no suspect the last tick was before it is overdue.
+-- A demand that waits for an answer was sent before now; of a client that isn't a suspect the last tick was before it is overdue.
 abbrev pub SinceInTime : ℕ → ℕ → ℕ → Bool → Option Stamp → Type 0
 SinceInTime last now demand free None = Unit {0}
 SinceInTime last now demand free (Some t) = (t.0 ≤ now) × (free ≡ true → last < t.0 + demand)
 
--- of the demand on a row, where there is one
+-- of the demand on a row, if there is one
 abbrev pub DemandInTime : ℕ → ℕ → ℕ → Bool → Option RowDemand → Type 0
 DemandInTime last now demand free None = Unit {0}
 DemandInTime last now demand free (Some d) = (d.sent.0 ≤ now) × SinceInTime last now demand free d.since
@@ -34,7 +34,7 @@ RowsInTime last now demand a l = (r : LockRow) → Has r l.rows → DemandInTime
 abbrev pub TimersInTime : ℕ → ℕ → Authority → Type 0
 TimersInTime last now a = (x : Suspect) → Has x a.suspects → (x.start.0 ≤ now) × (last < x.start.0 + a.wait)
 
--- Each row in the way of a first waiter, of a client that is no suspect, is demanded.
+-- Each row in the way of a first waiter, of a client that isn't a suspect, is demanded.
 abbrev pub AllDemanded : Authority → Locks → Type 0
 AllDemanded a l =
     (ino : ℕ) (w : Waiter) (c : ClientId) (r : LockRow) → find (is_wait_on ino) l.waiters ≡ Some w → row_of l c ino ≡ Some r →
@@ -48,7 +48,7 @@ AllBlocked l = (ino : ℕ) (w : Waiter) → find (is_wait_on ino) l.waiters ≡ 
 abbrev pub RowsHaveSessions : ServerState → Type 0
 RowsHaveSessions n = (r : LockRow) → Has r n.locks.rows → is_some (session_of n.sessions r.client) ≡ true
 
--- What stands of a server that runs, whose last tick or start was at one moment, at another.
+-- What holds of a server that runs, whose last tick or start was at one moment, at another.
 pub record InTime (k : Config) (last now : ℕ) (n : ServerState) : Type 0 where
   pub config : n.config ≡ k
   pub wait : n.authority.wait ≡ steal_wait k

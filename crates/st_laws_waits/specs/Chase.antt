@@ -1,4 +1,4 @@
--- What stands of a server while one wait is the first of its file, from one moment on, and no client answers for the file.
+-- What holds of a server while one wait is the first of its file, from one moment on, and no client answers for the file.
 use Rattle.std.specs.Prelude.{◌≡◌, ◌≢◌, ◌≤◌, ◌<◌, ◌+◌, ◌*◌, ◌⊎◌, ◌&&◌, ◌==◌, ℕ, Bool, true, false, find, Option, Some, None}
 use Rattle.st_base.specs.declared.config.Config.{Config}
 use Rattle.st_base.specs.declared.ids.ClientId.{ClientId}
@@ -23,7 +23,7 @@ answers_for ino g (bodies.DemandSeen i h) = (i == ino) && (h.0 == g.0)
 answers_for ino g (bodies.Released i h to) = (i == ino) && (h.0 == g.0)
 answers_for ino g b = false
 
--- the input is no answer of this client for this file, under this grant number
+-- the input isn't an answer of this client for this file, under this grant number
 abbrev pub Silent : ServerInput → ℕ → GrantNo → ClientId → Type 0
 Silent Tick ino g c = Unit {0}
 Silent (Control m) ino g c = m.header.from ≡ c.0 → answers_for ino g m.body ≡ true → ⊥
@@ -52,7 +52,7 @@ Repeated from k last (Some d) = (last < d.sent.0 + k.retry) ⊎ (last ≤ from)
 abbrev pub ChasedRow : ℕ → Config → ℕ → ℕ → Waiter → Authority → LockRow → Type 0
 ChasedRow from k gap last w a r = conflicts r.mode w.mode ≡ true → ChasedBy from k gap last r.demand (suspect_of a r.client)
 
--- a row that is in the way of the wait, of a client that is no suspect
+-- a row that is in the way of the wait, of a client that isn't a suspect
 abbrev pub RepeatedRow : ℕ → Config → ℕ → Waiter → Authority → LockRow → Type 0
 RepeatedRow from k last w a r = conflicts r.mode w.mode ≡ true → may_ack a r.client ≡ true → Repeated from k last r.demand
 

@@ -70,9 +70,9 @@ abbrev pub GraceNear : ℕ → ℕ → Option Grace → Type 0
 GraceNear gap clock None = ⊥
 GraceNear gap clock (Some g) = clock < g.start.0 + g.wait + gap
 
--- Of a server that runs, at this clock: a demand of a client that is no suspect waits for its answer less than the demand time and a gap;
--- a suspect is one for less than the steal wait and a gap; each row in the way of a first waiter, of a client that is no suspect, is
--- demanded; and each first waiter has such a row in its way, but for grace.
+-- For a server that runs, at this clock: a demand of a client that isn't a suspect waits for its answer less than the demand time and a gap; a suspect is one
+-- for less than the steal wait and a gap; each row in the way of a first waiter, of a client that isn't a suspect, is demanded; and each first waiter has such
+-- a row in its way, except for grace.
 pub record InBounds (k : Config) (gap clock : ℕ) (n : ServerState) : Type 0 where
   pub answered : (r : LockRow) (d : RowDemand) (t : Stamp) → Has r n.locks.rows → r.demand ≡ Some d → d.since ≡ Some t →
       may_ack n.authority r.client ≡ true → clock < t.0 + k.demand + gap
@@ -98,7 +98,7 @@ pub record WaitsFirst (s : ServerId) (w : Waiter) (v : World) : Type 0 where
 abbrev pub OutOfGrace : ServerId → World → Type 0
 OutOfGrace s v = (node : ServerNode) → node_of v s ≡ Some node → grace.is_on node.state.grace (clock_of v (nodes.Server s)) ≡ false
 
--- a body that answers a demand on this row of the file, where there is one
+-- a body that answers a demand on this row of the file, if there is one
 abbrev pub answers_row : ℕ → Body → Option LockRow → Bool
 answers_row ino body None = false
 answers_row ino body (Some r) = answers_for ino r.g body
@@ -137,8 +137,8 @@ pub record FirstSince (s : ServerId) (w : Waiter) (i : Step) (during : List Step
 abbrev pub NoneAnswers : ServerId → Waiter → List Step → Type 0
 NoneAnswers s w during = (y : Step) → Has y during → brings_answer s w y.before.world y.event ≡ false
 
--- Demands are sent again: while a wait is the first of its file, the demand on each row in its way, of a client that is no suspect, was
--- sent less than a retry and a gap ago; or the wait is the first since no more than a gap.
+-- Demands are sent again: while a wait is the first of its file, the demand on each row in its way, of a client that isn't a suspect, was sent less than a
+-- retry and a gap ago; or the wait is the first since no more than a gap.
 abbrev pub DemandsAreRepeated : Config → ServerId → ℕ → Promise
 DemandsAreRepeated k s gap past x =
     (before : List Step) (i : Step) (during : List Step) (w : Waiter) → past ++ x ∷ [] ≡ before ++ i ∷ during → FirstSince s w i during →
@@ -175,8 +175,8 @@ abbrev pub received : ServerId → World → Event → Option Message
 received s v (events.Deliver n) = received_in s (message_of v n)
 received s v e = None
 
--- A wait ends for a reason: where it is the first of its file before a step of a server that runs before and after it, it is so after the step, or it
--- was granted, or its client is suspected, greeted in a later life or asked for the file again, or the file was removed.
+-- A wait ends for a reason. If it is the first of its file before a step of a server that runs before and after it, then one of these holds: it is so after the
+-- step; it was granted; its client is suspected, greeted in a later life or asked for the file again; or the file was removed.
 abbrev pub WaitsEndForAReason : Config → ServerId → Promise
 WaitsEndForAReason k s past x =
     (w : Waiter) (old new : ServerNode) → node_of x.before.world s ≡ Some old → old.running ≡ true → IsFirst w old.state.locks →

@@ -1,23 +1,26 @@
-//! Laws of time: how long a lock can be kept from a client that waits for it, how such a wait ends, and for which reasons a client is suspected.
+//! Laws of time: how long a lock can be kept from a client that waits for it, how such a wait ends,
+//! and for which reasons a client is suspected.
 #![tactic(auto)]
 
 ghost use Rattle.st_laws_waits.specs.Causes.{SuspicionsHaveACause};
 ghost use Rattle.st_laws_waits.specs.Waits.{DemandsAreAnswered, DemandsAreRepeated, GraceEnds, InEveryRun, InTickingRuns, LocksComeBack, LocksComeBackAfterStarts, WaitsEndForAReason};
 
-/// In every run in which a server ticks in time, a demand of a client that is no suspect is answered within the demand time and a gap, a suspect
-/// is robbed within the steal wait and a gap, and the rows in the way of each first wait are demanded.
+/// In every run in which a server ticks in time: a demand of a client that isn't a suspect is
+/// answered within the demand time and a gap; a suspect is robbed within the steal wait and a gap;
+/// and the rows in the way of each first wait are demanded.
 pub fn demands_are_answered()
     ensures { InTickingRuns DemandsAreAnswered }
 {}
 
-/// In every run in which a server ticks in time, while a wait is the first of its file out of grace, the demands on the rows in its way are sent
-/// again within the retry time and a gap.
+/// In every run in which a server ticks in time, while a wait is the first of its file out of
+/// grace, the demands on the rows in its way are sent again within the retry time and a gap.
 pub fn demands_are_repeated()
     ensures { InTickingRuns DemandsAreRepeated }
 {}
 
-/// In every run in which a server ticks in time, a wait is the first of its file, out of grace and with no answer of another client for the file,
-/// for at most the retry time, the demand time, the steal wait and three gaps, less three ticks.
+/// In every run in which a server ticks in time, there is a bound on how long a wait is the first
+/// of its file, out of grace and with no answer of another client for the file: the retry time, the
+/// demand time, the steal wait and three gaps, less three ticks.
 pub fn locks_come_back()
     ensures { InTickingRuns LocksComeBack }
 {}
@@ -27,8 +30,9 @@ pub fn locks_come_back_after_starts()
     ensures { InTickingRuns LocksComeBackAfterStarts }
 {}
 
-/// In every run a wait that is the first of its file ends with a grant, or because its client is suspected, greeted in a later life or asked for the
-/// file again, or because the file was removed, or the server crashed.
+/// In every run a wait that is the first of its file ends for one of these reasons: a grant; its
+/// client is suspected, greeted in a later life or asked for the file again; the file was removed;
+/// or the server crashed.
 pub fn waits_end_for_a_reason()
     ensures { InEveryRun WaitsEndForAReason }
 {}
@@ -38,8 +42,9 @@ pub fn graces_end()
     ensures { InEveryRun GraceEnds }
 {}
 
-/// In every run a server suspects a client only because the client greeted in a later life while it had rows, or at a tick, because a demand on one of
-/// its rows was sent the demand time ago and the server has heeded no answer since.
+/// In every run a server suspects a client only for one of two reasons: the client greeted in a
+/// later life while it had rows; or, at a tick, a demand on one of its rows was sent the demand
+/// time ago and the server has heeded no answer since.
 pub fn suspicions_have_a_cause()
     ensures { InEveryRun SuspicionsHaveACause }
 {}

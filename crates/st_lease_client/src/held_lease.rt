@@ -1,4 +1,4 @@
-// A lease that is held, and where it stands at a moment.
+// A lease that is held, and its phase at a moment.
 ghost use Rattle.std.specs.Prelude.{◌≡◌, ◌+◌, ◌≤◌, ◌^◌, nat_le};
 ghost use Rattle.st_rules.specs.ClientLease as leases;
 ghost use Rattle.st_rules.specs.Leases.{phase_living, phase_serving, phase_young};

@@ -12,8 +12,8 @@ use st_base::{Config, ServerId, Stamp};
 use st_rules::{Phase, StandingKind};
 use std::marker::Model;
 
-/// A client's lease at one server. Contracts see it as the server, the settings, and the lease that is held, if one is. No
-/// call allocates.
+/// A client's lease at one server. Contracts see it as the server, the settings, and the lease that
+/// is held, if one is. No call allocates.
 #[derive(Drop)]
 pub struct Lease {
     server: ServerId,
@@ -81,7 +81,7 @@ impl Lease {
         Standing::new(self.kind(now), at)
     }
 
-    /// Where the lease stands at a moment, with what that permits. The lease stays as it is.
+    /// The lease's phase at a moment, with what that permits. The lease stays as it is.
     pub fn settle(&mut self, now: Stamp) -> Standing
         ensures stays { self.new ≡ self.old }
         ensures standing { result ≡ leases.settled self.old now }
@@ -105,8 +105,8 @@ impl Lease {
         self.standing(now)
     }
 
-    /// Renews the lease: its date becomes the stamp, where the lease is not condemned and the stamp is later. The standing is
-    /// given back as it is then, at its own moment.
+    /// Renews the lease: its date becomes the stamp, where the lease is not condemned and the stamp
+    /// is later. The standing is given back as it is then, at its own moment.
     pub fn renew(&mut self, standing: Standing, stamp: Stamp, now: Stamp) -> Standing
         requires server { server_of standing ≡ self.old.server }
         requires permitted { may_renew (kind_of standing) ≡ true }
@@ -122,8 +122,8 @@ impl Lease {
         self.standing(now)
     }
 
-    /// Condemns the lease: it is not renewed any more, and is at least in quiesce. The standing is given back as it is then,
-    /// at its own moment.
+    /// Condemns the lease: it is not renewed any more, and is at least in quiesce. The standing is
+    /// given back as it is then, at its own moment.
     pub fn condemn(&mut self, standing: Standing) -> Standing
         requires server { server_of standing ≡ self.old.server }
         requires permitted { may_renew (kind_of standing) ≡ true }

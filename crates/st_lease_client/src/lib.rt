@@ -1,5 +1,6 @@
-//! A client's lease at a server, and the permits of its phases. A permit is spent exactly once: code that lets one go does
-//! not compile. `docs/PROTOCOL.md`, "Permits", says what each phase allows.
+//! A client's lease at a server, and the permits of its phases. A permit is spent exactly once:
+//! code that lets one go does not compile. `docs/PROTOCOL.md`, "Permits", says what each phase
+//! allows.
 #![tactic(auto)]
 
 mod held_lease;

@@ -30,7 +30,8 @@ impl LossPermit {
         at
     }
 
-    /// Returns what is to be spent where the pages, the locks and the commands of the server are discarded.
+    /// Returns what must be spent where the pages, the locks and the commands of the server are
+    /// discarded.
     pub fn split(self) -> (PageLoss, LockLoss, CommandLoss)
         ensures pages { result.0 ≡ self }
         ensures locks { result.1 ≡ self }

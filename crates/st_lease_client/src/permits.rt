@@ -5,7 +5,8 @@ ghost use Rattle.st_lease_client.specs.declared.permits.SettledAt.{SettledAt};
 use st_base::{ServerId, Stamp};
 use std::marker::Model;
 
-/// The server of a lease, and the moment at which the lease was settled. Contracts see every permit, loss and receipt as this.
+/// The server of a lease, and the moment at which the lease was settled. Contracts see every
+/// permit, loss and receipt as this.
 #[derive(Clone, Copy, Debug, PartialEq, Eq)]
 pub struct SettledAt {
     pub server: ServerId,

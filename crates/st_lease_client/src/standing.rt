@@ -1,4 +1,4 @@
-// Where a lease stands, and what that permits.
+// The phase of a lease, and what that permits.
 ghost use Rattle.std.specs.Prelude.{◌≡◌};
 ghost use Rattle.st_lease_client.specs.Standings.{at_of, standing_as};
 
@@ -6,7 +6,7 @@ use crate::losses::LossPermit;
 use crate::permits::{DrainPermit, HoldPermit, Receipt, SettledAt, UsePermit};
 use st_rules::StandingKind;
 
-/// Where a client's lease at a server stood at a moment, with what that permits.
+/// The phase of a client's lease at a server at a moment, with what that permits.
 pub enum Standing {
     /// There is no lease.
     Idle(Receipt),

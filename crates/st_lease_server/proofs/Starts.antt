@@ -160,7 +160,7 @@ first_young wait now timers starts x h a f = no_timer wait now timers starts h (
 pub no_starts : (wait : ℕ) (now : Stamp) (timers : List Suspect) (starts : BTreeSet (Stamp × ClientId)) → AreStarts timers starts → starts.keys ≡ [] → list_any (is_over wait now) timers ≡ false
 no_starts wait now timers starts h e = no_timer wait now timers starts h (ap (list_any (is_past wait now)) e)
 
--- Where no timer is over, none goes and none is told.
+-- Where no timer is over, none goes and none is reported.
 
 keep_by : (p : Suspect → Bool) (t : Suspect) (ts : List Suspect) (b : Bool) → (list_any p ts ≡ false → (filter p ts ≡ []) × (filter (λ s. not (p s)) ts ≡ ts)) → b || list_any p ts ≡ false
     → (cond b (t ∷ filter p ts) (filter p ts) ≡ []) × (cond (not b) (t ∷ filter (λ s. not (p s)) ts) (filter (λ s. not (p s)) ts) ≡ t ∷ ts)

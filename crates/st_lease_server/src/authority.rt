@@ -14,8 +14,9 @@ use std::alloc::{AllocError, Global};
 use std::collections::BTreeSet;
 use std::marker::Model;
 
-/// The suspects of one server. Contracts see them as the steal wait and the list of the timers that run, by rising client.
-/// Beside these stands an ordered set of their starts, so that whether a timer is over is seen at the earliest one.
+/// The suspects of one server. Contracts see them as the steal wait and the list of the timers that
+/// run, by rising client. It also keeps an ordered set of their starts, so that the earliest one
+/// shows whether a timer is over.
 #[derive(Drop)]
 pub struct Authority {
     wait: u64,
@@ -53,8 +54,8 @@ impl Authority {
         }
     }
 
-    /// Makes the client suspect: its timer starts now. A timer that runs keeps its start. If the call runs out of memory,
-    /// nothing changes.
+    /// Makes the client suspect: its timer starts now. A timer that runs keeps its start. If the
+    /// call runs out of memory, nothing changes.
     #[tactic(auto, unfolding(st_rules::specs::Authority::suspect))]
     pub fn suspect(&mut self, client: ClientId, now: Stamp) -> Result<(), AllocError>
         ensures ok { OnOk result (self.new ≡ authority.suspect self.old client now) }
@@ -82,7 +83,8 @@ impl Authority {
         Ok(())
     }
 
-    /// Whether the server may acknowledge messages of the client: exactly while no timer of it runs. It does not allocate.
+    /// Whether the server may acknowledge messages of the client: exactly while no timer of it
+    /// runs. It does not allocate.
     pub fn may_ack(&self, client: ClientId) -> bool
         ensures { result ≡ authority.may_ack self.now client }
     {
@@ -107,8 +109,9 @@ impl Authority {
         }
     }
 
-    /// Takes out the clients whose timers are over, which are those that started the steal wait ago or earlier, and returns
-    /// them in rising order. If the call runs out of memory, nothing changes.
+    /// Takes out the clients whose timers are over, which are those that started the steal wait ago
+    /// or earlier, and returns them in rising order. If the call runs out of memory, nothing
+    /// changes.
     #[tactic(auto, unfolding(st_rules::specs::Authority::over, st_rules::specs::Authority::still_running))]
     pub fn over(&mut self, now: Stamp) -> Result<Vec<ClientId>, AllocError>
         ensures told { IfOk result (λ v. v.items ≡ authority.over self.old now) }

@@ -1,5 +1,5 @@
-//! Suspicion: which clients left a server's demand unanswered, and since when, until their locks are stolen.
-//! `docs/PROTOCOL.md`, "Suspicion and theft", has the rules.
+//! Suspicion: which clients left a server's demand unanswered, and since when, until their locks
+//! are stolen. `docs/PROTOCOL.md`, "Suspicion and theft", has the rules.
 #![tactic(auto)]
 
 mod authority;

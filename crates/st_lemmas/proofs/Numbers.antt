@@ -1,4 +1,4 @@
--- What stands at a place, and what goes by a number from 1: after a change of one and with one more.
+-- What is at a place, and what goes by a number from 1: after a change of one and with one more.
 use Rattle.std.proofs.Common.{◌≡◌, ◌≢◌, ℕ, ◌<◌, ◌≤◌, ◌⊎◌, List, [], ◌∷◌, ◌++◌, Some, refl, sym, ap, inl, inr, arith}
 use Rattle.std.specs.Prelude.{zero, suc, length, set, slice_get, map, option_map}
 use Rattle.st_rules.specs.World.{numbered, with_numbered}
@@ -56,7 +56,7 @@ get_there [] n h = absurd (omega arith)
 get_there (x ∷ xs) zero h = (x, refl)
 get_there (x ∷ xs) (suc n) h = get_there xs n (omega arith)
 
--- what stands at a place is a member, and each member stands at one
+-- what is at a place is a member, and each member is at one
 pub get_has : {A : Type 0} (xs : List A) (n : ℕ) (v : A) → slice_get xs n ≡ Some v → Has v xs
 get_has [] n v e = cc
 get_has (x ∷ xs) zero v e = inl (sym (some_is e))

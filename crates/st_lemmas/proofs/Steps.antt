@@ -19,7 +19,7 @@ step_happens w e sc h = go (admissible.refusal w e) refl h
     go (Some r) f h = cc
     go None f h = (f, cc)
 
--- a promise holds throughout, if a fact of the past and the state gives it at each step and stands again after it
+-- a promise holds throughout, if a fact of the past and the state gives it at each step and holds again after it
 pub throughout : (promise : Promise) (Stands : List Step → Traced → Type 0) →
     ((past : List Step) (t : Traced) (e : Event) (sc : WorldTurn) → Stands past t → world_step t.world e ≡ Ok sc → promise past (step t e sc) × Stands (past ++ step t e sc ∷ []) (traced_after e t sc)) →
     (es : List Event) (past : List Step) (t : Traced) → Stands past t → Throughout promise past (steps es t)
@@ -36,7 +36,7 @@ pub throughout_all : (promise : Promise) → ((past : List Step) (t : Traced) (e
     (es : List Event) (past : List Step) (t : Traced) → Throughout promise past (steps es t)
 throughout_all promise one es past t = throughout promise (λ past t. Unit {0}) (λ past t e sc s f. (one past t e sc f, tt)) es past t tt
 
--- a fact of the world stands at the end of a run, if each event keeps it
+-- a fact of the world holds at the end of a run, if each event keeps it
 pub run_keeps : (Stands : World → Type 0) → ((w : World) (e : Event) (sc : WorldTurn) → Stands w → world_step w e ≡ Ok sc → Stands sc.world) →
     (es : List Event) (w : World) → Stands w → Stands (run es w).world
 unfolding run go_on

@@ -40,7 +40,7 @@ cond_true b x y e = ap (λ (v : Bool). cond v x y) e
 pub cond_false : {A : Type 0} (b : Bool) (x y : A) → b ≡ false → cond b x y ≡ y
 cond_false b x y e = ap (λ (v : Bool). cond v x y) e
 
--- what holds of either branch where its test stands
+-- what holds of either branch where its test holds
 pub cond_either : {A : Type 0} (P : A → Type 0) (b : Bool) (x y : A) → (b ≡ true → P x) → (b ≡ false → P y) → P (cond b x y)
 cond_either P true x y p q = p refl
 cond_either P false x y p q = q refl

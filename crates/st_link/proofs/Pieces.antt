@@ -1,4 +1,4 @@
--- Pieces that are read one behind the other.
+-- Pieces that are read one after another.
 use Rattle.std.proofs.Common.{◌≢◌, ℕ, ◌≤◌, ◌<◌, List, ◌++◌, length, take, arith}
 use Rattle.std.proofs.lemmas.List.{length-append, length-take-le}
 

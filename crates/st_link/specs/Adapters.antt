@@ -1,4 +1,4 @@
--- A reader or a writer behind an adapter, as contracts see it.
+-- A reader or a writer inside an adapter, as contracts see it.
 use Rattle.std.specs.Prelude.{ℕ}
 
 -- the reader or writer, and how many of its calls failed, up to 2^64 - 1

@@ -1,7 +1,7 @@
 -- A count of faults, which rises at each failed call and at no other.
 use Rattle.std.specs.Prelude.{◌≡◌, ℕ, ◌+◌, ◌-◌, ◌^◌, ◌≤◌, min, Result, OnOk, OnErr}
 
--- the count is higher now than before, or it stands at the end of its range, where it stays
+-- the count is higher now than before, or it is at the end of its range, where it stays
 abbrev pub Rose : ℕ → ℕ → Type 0
 Rose before now = min (before + 1) (2 ^ 64 - 1) ≤ now
 

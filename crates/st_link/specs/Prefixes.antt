@@ -1,4 +1,4 @@
--- What a call over a whole text did if it stopped before the end. Nothing is said of bytes that are not known.
+-- What a call over a whole text did if it stopped before the end. Nothing is promised about bytes that aren't known.
 use Rattle.std.specs.Prelude.{ℕ, ◌<◌, List, length, take}
 use Rattle.std.specs.declared.option.Option.{Option}
 use Rattle.std.specs.Io.KnownBytes.{Appends, Consumes}

@@ -1,4 +1,5 @@
-// One call of a reader or a writer of the standard library, and a ghost relation that a failed call gives.
+// One call of a reader or a writer of the standard library, and a ghost relation that a failed call
+// gives.
 ghost use Rattle.std.specs.Prelude.{ℕ, List, OnErr};
 ghost use Rattle.std.specs.declared.option.Option.{Option};
 ghost use Rattle.std.specs.Io.{ReadsAtMost, WritesAtMost};
@@ -7,7 +8,8 @@ ghost use Rattle.st_link.specs.Refusals.{OnRefusal};
 
 use std::io::{Read, Result, Write};
 
-/// A reader of the standard library. Code that is generic over it can prove `failed` only from a failed call.
+/// A reader of the standard library. Code that is generic over it can prove `failed` only from a
+/// failed call.
 pub trait ReadCall {
     /// The bytes that are still left, if the reader knows them.
     ghost left: { Self → Option (List ℕ) };
@@ -22,12 +24,14 @@ pub trait ReadCall {
         ensures failed { OnErr result (failed self.old self.new) };
 }
 
-/// A writer of the standard library. Code that is generic over it can prove `failed` only from a failed call.
+/// A writer of the standard library. Code that is generic over it can prove `failed` only from a
+/// failed call.
 pub trait WriteCall {
     /// The bytes that were written, if the writer knows them.
     ghost written: { Self → Option (List ℕ) };
 
-    /// A call that found the first state and left the second returned an error, or wrote no byte of a piece that has some.
+    /// A call that found the first state and left the second returned an error, or wrote no byte of
+    /// a piece that has some.
     ghost failed: { Self → Self → Type 0 };
 
     /// Calls the writer once.

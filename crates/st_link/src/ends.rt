@@ -8,8 +8,9 @@ use crate::calls::{ReadCall, WriteCall};
 use crate::link::{Failed, Sink, Source};
 use std::marker::Model;
 
-/// A source over a reader. Each error of the reader is a failure, and is counted; nothing else is a failure. It knows the
-/// bytes that the reader knows: a standard stream, a file and a socket know none. Contracts see the reader and the count.
+/// A source over a reader. Each error of the reader is a failure, and is counted; nothing else is a
+/// failure. It knows the bytes that the reader knows: a standard stream, a file and a socket know
+/// none. Contracts see the reader and the count.
 #[derive(Drop)]
 pub struct ReaderSource<R: ReadCall + Drop> {
     reader: R,
@@ -24,9 +25,10 @@ impl<R: ReadCall + Drop> Model for ReaderSource<R> {
     ghost view = { λ s. record { stream = s.reader; faults = s.faults } };
 }
 
-/// A sink over a writer. Each error of the writer is a failure, and so is a write that takes no byte of a piece that
-/// has some; both are counted, and nothing else is a failure. It knows the bytes that the writer knows. It never flushes,
-/// so the writer should have no buffer of its own. Contracts see the writer and the count.
+/// A sink over a writer. Each error of the writer is a failure, and so is a write that takes no
+/// byte of a piece that has some; both are counted, and nothing else is a failure. It knows the
+/// bytes that the writer knows. It never flushes, so the writer should have no buffer of its own.
+/// Contracts see the writer and the count.
 #[derive(Drop)]
 pub struct WriterSink<W: WriteCall + Drop> {
     writer: W,
@@ -86,7 +88,8 @@ impl<W: WriteCall + Drop> Sink for WriterSink<W> {
 
     ghost faults = { λ s. s.faults };
 
-    /// Calls the writer once. It fails only if that call returned an error, or took no byte of a piece that has some.
+    /// Calls the writer once. It fails only if that call returned an error, or took no byte of a
+    /// piece that has some.
     fn put(&mut self, piece: &[u8]) -> Result<usize, Failed>
         ensures bound { WritesAtMost result piece.now }
         ensures some { IfOk result (λ n. 0 < length piece.now → 0 < n) }

@@ -1,5 +1,6 @@
-//! Sources and sinks of bytes that count their faults, the calls that read and write a whole text, and sources and sinks
-//! over memory and over the standard library's readers and writers. docs/PROTOCOL.md, "Sources and sinks", has the rules.
+//! Sources and sinks of bytes that count their faults, the calls that read and write a whole text,
+//! and sources and sinks over memory and over the standard library's readers and writers.
+//! docs/PROTOCOL.md, "Sources and sinks", has the rules.
 #![tactic(auto)]
 
 mod calls;

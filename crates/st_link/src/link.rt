@@ -21,9 +21,10 @@ pub trait Source {
     /// The number of calls that failed, or 2^64 - 1 if there were more.
     ghost faults: { Self → ℕ };
 
-    /// Moves the first bytes that are left to the front of `room`, and returns their number. If `room` is not empty, it
-    /// returns 0 exactly if no byte is left. A failed call moves none. The contents of `room` behind the moved bytes, and all
-    /// of `room` after a failure, are unspecified.
+    /// Moves the first bytes that are left to the front of `room`, and returns their number. If
+    /// `room` is not empty, it returns 0 exactly if no byte is left. A failed call moves none. The
+    /// contents of `room` after the moved bytes, and all of `room` after a failure, are
+    /// unspecified.
     fn take(&mut self, room: &mut [u8]) -> Result<usize, Failed>
         ensures bound { ReadsAtMost result room.new }
         ensures bytes { ReadConsumes (left self.old) (left self.new) result room.new }
@@ -38,8 +39,8 @@ pub trait Sink {
     /// The number of calls that failed, or 2^64 - 1 if there were more.
     ghost faults: { Self → ℕ };
 
-    /// Writes the first bytes of `piece`, and returns their number: at least one if `piece` is not empty. A failed call
-    /// writes none.
+    /// Writes the first bytes of `piece`, and returns their number: at least one if `piece` is not
+    /// empty. A failed call writes none.
     fn put(&mut self, piece: &[u8]) -> Result<usize, Failed>
         ensures bound { WritesAtMost result piece.now }
         ensures some { IfOk result (λ n. 0 < length piece.now → 0 < n) }
@@ -47,7 +48,8 @@ pub trait Sink {
         ensures cause { HasCause (faults self.old) (faults self.new) result };
 }
 
-/// A source and a sink in one: the end of a stream that goes both ways. docs/PROTOCOL.md, "Sources and sinks", has the rules.
+/// A source and a sink in one: the end of a stream that goes both ways. docs/PROTOCOL.md, "Sources
+/// and sinks", has the rules.
 pub trait Link: Source + Sink {
     /// The names that `attach` was called with, if the link knows them.
     ghost attached: { Self → Option (List (List ℕ)) };

@@ -52,7 +52,8 @@ impl Plan {
     }
 }
 
-/// A source over bytes in memory. The calls of `take` are numbered from 1, and those whose numbers are in a list fail.
+/// A source over bytes in memory. The calls of `take` are numbered from 1, and those whose numbers
+/// are in a list fail.
 #[derive(Drop)]
 pub struct MemorySource {
     rest: SafeSource,
@@ -67,8 +68,8 @@ impl Model for MemorySource {
     ghost view = { λ s. record { bytes = s.rest; calls = s.plan.calls; failing = s.plan.failing.items; faults = s.plan.faults } };
 }
 
-/// A sink that keeps what is written in memory. The calls of `put` are numbered from 1, and those whose numbers are in a list
-/// fail. A call also fails if it runs out of memory.
+/// A sink that keeps what is written in memory. The calls of `put` are numbered from 1, and those
+/// whose numbers are in a list fail. A call also fails if it runs out of memory.
 #[derive(Drop)]
 pub struct MemorySink {
     bytes: Vec<u8>,
@@ -100,8 +101,8 @@ impl Source for MemorySource {
 
     ghost faults = { λ s. s.faults };
 
-    /// It fails exactly if the number of the call is in the list. Otherwise it takes all bytes that are left, or as many of
-    /// them as `room` can hold.
+    /// It fails exactly if the number of the call is in the list. Otherwise it takes all bytes that
+    /// are left, or as many of them as `room` can hold.
     fn take(&mut self, room: &mut [u8]) -> Result<usize, Failed>
         ensures bound { ReadsAtMost result room.new }
         ensures bytes { ReadConsumes (Some self.old.bytes) (Some self.new.bytes) result room.new }
@@ -144,7 +145,8 @@ impl Sink for MemorySink {
 
     ghost faults = { λ s. s.faults };
 
-    /// It fails if the number of the call is in the list, or if it runs out of memory. Otherwise it takes the whole piece.
+    /// It fails if the number of the call is in the list, or if it runs out of memory. Otherwise it
+    /// takes the whole piece.
     fn put(&mut self, piece: &[u8]) -> Result<usize, Failed>
         ensures bound { WritesAtMost result piece.now }
         ensures some { IfOk result (λ n. 0 < length piece.now → 0 < n) }

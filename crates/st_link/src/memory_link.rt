@@ -12,8 +12,9 @@ use crate::safe::SafeSource;
 use std::alloc::{AllocError, Global};
 use std::marker::Model;
 
-/// A link over bytes in memory, which keeps what is written. The calls of `attach`, `take` and `put` are numbered from 1, all
-/// together, and those whose numbers are in a list fail. A call that keeps something also fails if it runs out of memory.
+/// A link over bytes in memory, which keeps what is written. The calls of `attach`, `take` and
+/// `put` are numbered from 1, all together, and those whose numbers are in a list fail. A call that
+/// keeps something also fails if it runs out of memory.
 #[derive(Drop)]
 pub struct MemoryLink {
     alloc: Global,
@@ -83,8 +84,8 @@ impl Source for MemoryLink {
 
     ghost faults = { λ l. l.faults };
 
-    /// It fails exactly if the number of the call is in the list. Otherwise it takes all bytes that are left, or as many of
-    /// them as `room` can hold.
+    /// It fails exactly if the number of the call is in the list. Otherwise it takes all bytes that
+    /// are left, or as many of them as `room` can hold.
     fn take(&mut self, room: &mut [u8]) -> Result<usize, Failed>
         ensures bound { ReadsAtMost result room.new }
         ensures bytes { ReadConsumes (Some self.old.left) (Some self.new.left) result room.new }
@@ -110,7 +111,8 @@ impl Sink for MemoryLink {
 
     ghost faults = { λ l. l.faults };
 
-    /// It fails if the number of the call is in the list, or if it runs out of memory. Otherwise it takes the whole piece.
+    /// It fails if the number of the call is in the list, or if it runs out of memory. Otherwise it
+    /// takes the whole piece.
     fn put(&mut self, piece: &[u8]) -> Result<usize, Failed>
         ensures bound { WritesAtMost result piece.now }
         ensures some { IfOk result (λ n. 0 < length piece.now → 0 < n) }
@@ -139,7 +141,8 @@ impl Link for MemoryLink {
 
     ghost one_count = { λ x. refl };
 
-    /// It fails if the number of the call is in the list, or if it runs out of memory, where it does not tell the name.
+    /// It fails if the number of the call is in the list, or if it runs out of memory, where it
+    /// does not tell the name.
     fn attach(&mut self, name: &str) -> Result<(), Failed>
         ensures called { OnOk result (Attaches (Some self.old.names) (Some self.new.names) name.now) }
         ensures told { OnErr result (MayAttach (Some self.old.names) (Some self.new.names) name.now) }

@@ -7,8 +7,8 @@ ghost use Rattle.st_link.specs.Causes.{HasCause};
 use crate::link::{Failed, Sink, Source};
 use std::marker::Model;
 
-/// A source over bytes in memory that never fails: its count of faults is always 0. Contracts see it as the list of the bytes
-/// that are left.
+/// A source over bytes in memory that never fails: its count of faults is always 0. Contracts see
+/// it as the list of the bytes that are left.
 #[derive(Drop)]
 pub struct SafeSource {
     bytes: Vec<u8>,
@@ -25,8 +25,9 @@ impl Model for SafeSource {
     ghost invariant = { λ s. s.at ≤ length s.bytes.items };
 }
 
-/// A sink that never fails, since it drops each piece. It does not know its bytes, and its count of faults is always 0. A sink
-/// that keeps what is written can run out of memory, as `MemorySink` can.
+/// A sink that never fails, since it drops each piece. It does not know its bytes, and its count of
+/// faults is always 0. A sink that keeps what is written can run out of memory, as `MemorySink`
+/// can.
 #[derive(Clone, Copy, Debug)]
 pub struct SafeSink;
 

@@ -14,9 +14,10 @@ use std::marker::Model;
 use std::net::Net;
 use std::os::unix::net::{UnixListener, UnixStream};
 
-/// A link over one stream, which is accepted once at a path. It knows no bytes and no names: what a socket gives and takes is not
-/// proved. A call without a stream fails, and each error of the system is a failure; each failure is counted. Contracts see whether it
-/// has a stream, and the count.
+/// A link over one stream, which is accepted once at a path. It knows no bytes and no names: what a
+/// socket gives and takes is not proved. A call without a stream fails, and each error of the
+/// system is a failure; each failure is counted. Contracts see whether it has a stream, and the
+/// count.
 #[derive(Drop)]
 pub struct UnixLink<R: Files + Net + Drop> {
     runtime: R,
@@ -54,7 +55,8 @@ impl<R: Files + Net + Drop> UnixLink<R> {
         Failed
     }
 
-    /// Accepts one stream of the listener: the link reads and writes it from now on. Where it fails, the link keeps the stream that it had.
+    /// Accepts one stream of the listener: the link reads and writes it from now on. Where it
+    /// fails, the link keeps the stream that it had.
     pub fn adopt(&mut self, listener: UnixListener) -> Result<(), Failed>
         ensures cause { HasCause self.old.faults self.new.faults result }
         ensures adopted { OnOk result (IsTrue self.new.has_stream) }
@@ -126,7 +128,8 @@ impl<R: Files + Net + Drop> Link for UnixLink<R> {
 
     ghost one_count = { λ x. refl };
 
-    /// Binds a listener at this path, and adopts the first stream that comes. Where it fails, the link keeps the stream that it had.
+    /// Binds a listener at this path, and adopts the first stream that comes. Where it fails, the
+    /// link keeps the stream that it had.
     fn attach(&mut self, name: &str) -> Result<(), Failed>
         ensures called { OnOk result (Attaches None None name.now) }
         ensures told { OnErr result (MayAttach None None name.now) }

@@ -36,7 +36,8 @@ impl From<Failed> for ReadFault {
     }
 }
 
-/// Writes all of the bytes. If the sink fails, it returns `Failed`, and some of the first bytes were written, maybe none.
+/// Writes all of the bytes. If the sink fails, it returns `Failed`, and some of the first bytes
+/// were written, maybe none.
 pub fn put_all<S: Sink>(sink: &mut S, bytes: &[u8]) -> Result<(), Failed>
     ensures ok { OnOk result (Appends (S.written sink.old) (S.written sink.new) bytes.now) }
     ensures failed { OnErr result (AppendsPrefix (S.written sink.old) (S.written sink.new) bytes.now) }
@@ -50,7 +51,8 @@ pub fn put_all<S: Sink>(sink: &mut S, bytes: &[u8]) -> Result<(), Failed>
     Ok(())
 }
 
-/// Writes all of the bytes to a link. If the link fails, it returns `Failed`, and some of the first bytes were written, maybe none.
+/// Writes all of the bytes to a link. If the link fails, it returns `Failed`, and some of the first
+/// bytes were written, maybe none.
 pub fn send_all<L: Link>(link: &mut L, bytes: &[u8]) -> Result<(), Failed>
     ensures ok { OnOk result (Appends (L.written link.old) (L.written link.new) bytes.now) }
     ensures failed { OnErr result (AppendsPrefix (L.written link.old) (L.written link.new) bytes.now) }
@@ -66,8 +68,9 @@ pub fn send_all<L: Link>(link: &mut L, bytes: &[u8]) -> Result<(), Failed>
     Ok(())
 }
 
-/// Reads to the end of the source, or until it has read `limit` bytes. It returns `Fault` if a read failed, and `Memory` if
-/// it ran out of memory for bytes that it had read. After an error the bytes that were read are lost.
+/// Reads to the end of the source, or until it has read `limit` bytes. It returns `Fault` if a read
+/// failed, and `Memory` if it ran out of memory for bytes that it had read. After an error the
+/// bytes that were read are lost.
 pub fn read_up_to<S: Source>(
     alloc: Global,
     source: &mut S,

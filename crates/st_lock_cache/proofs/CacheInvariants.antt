@@ -1,4 +1,4 @@
--- What always stands of a lock cache stands after each of its changes.
+-- The invariant of a lock cache holds after each of its changes.
 use Rattle.std.proofs.Common.{◌≡◌, ℕ, ◌<◌, ◌≤◌, ◌⊎◌, Bool, true, false, ◌==◌, not, if◌then◌else◌, List, [], ◌∷◌, Option, Some, None, refl, sym, ap, ◌∙◌, inl, inr, arith, le-leb}
 use Rattle.std.specs.Prelude.{find, is_some, nat_le, unwrap_or, option_map}
 use Rattle.std.specs.List.{list_all}

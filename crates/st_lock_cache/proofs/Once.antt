@@ -17,7 +17,7 @@ has_key key n x = key x == n
 abbrev pub same_key : {A : Type 0} → (A → ℕ) → A → A → Bool
 same_key key x y = key y == key x
 
--- the rows but for those of a key
+-- the rows except for those of a key
 abbrev pub without_key : {A : Type 0} → (A → ℕ) → ℕ → List A → List A
 without_key key n xs = filter (λ x. not (has_key key n x)) xs
 

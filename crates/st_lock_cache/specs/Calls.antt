@@ -1,4 +1,4 @@
--- The locks that a client has cached of one server: what stands of them, and what their calls answer.
+-- The locks that a client has cached of one server: what holds of them, and what their calls answer.
 use Rattle.std.specs.Prelude.{◌≡◌, ℕ, Bool, true, List, Option}
 use Rattle.std.specs.List.{list_all}
 use Rattle.st_base.specs.declared.ids.GrantNo.{GrantNo}
@@ -29,8 +29,8 @@ no_locks_of s = record { server = s; locks = no_cached_locks }
 abbrev pub with_locks : LockCache → ServerLocks → ServerLocks
 with_locks c s = record s { locks = c }
 
--- What always stands: a file has one lock, one greatest grant and one demand; a lock is demanded only where it is held; no
--- lock's grant is above the greatest seen of its file.
+-- What always holds: a file has one lock, one greatest grant and one demand; a lock is demanded only where it is held; no lock's grant is above the greatest
+-- seen of its file.
 pub record IsCached (c : LockCache) : Type 0 where
   pub rows_once : are_once same_lock c.rows ≡ true
   pub seen_once : are_once same_seen c.seen ≡ true

@@ -15,8 +15,8 @@ use st_tables::{Every, Table};
 use std::alloc::{AllocError, Global};
 use std::marker::Model;
 
-/// The locks that a client has cached of one server. Contracts see them as the server and the lists of the held locks, of the
-/// greatest grants seen and of the demands.
+/// The locks that a client has cached of one server. Contracts see them as the server and the lists
+/// of the held locks, of the greatest grants seen and of the demands.
 #[derive(Drop)]
 pub struct LockCache {
     alloc: Global,
@@ -149,7 +149,8 @@ impl LockCache {
         self.seen(ino).0 < g.0
     }
 
-    /// Whether there is a place for a lock of the file: it has one already, or fewer than 1,024 files do.
+    /// Whether there is a place for a lock of the file: it has one already, or fewer than 1,024
+    /// files do.
     pub fn has_place(&self, ino: u32) -> bool
         ensures { result ≡ locks.has_place self.now.locks ino }
     {
@@ -169,8 +170,8 @@ impl LockCache {
         Ok(found)
     }
 
-    /// A grant above the greatest seen of the file, which is not taken, becomes the greatest seen. If the call runs out of
-    /// memory, nothing changes.
+    /// A grant above the greatest seen of the file, which is not taken, becomes the greatest seen.
+    /// If the call runs out of memory, nothing changes.
     #[tactic(auto, unfolding(st_rules::specs::ClientLocks::observe))]
     pub fn observe(&mut self, ino: u32, g: GrantNo) -> Result<(), AllocError>
         requires { locks.is_above_seen self.old.locks ino g ≡ true }
@@ -181,9 +182,9 @@ impl LockCache {
         Ok(())
     }
 
-    /// A grant of the file in this mode. It is taken, and `true` is returned, exactly where its number is above the greatest
-    /// seen of the file: then it is the file's lock and the greatest seen, and the file's demand is forgotten. If the call runs
-    /// out of memory, nothing changes.
+    /// A grant of the file in this mode. It is taken, and `true` is returned, exactly where its
+    /// number is above the greatest seen of the file: then it is the file's lock and the greatest
+    /// seen, and the file's demand is forgotten. If the call runs out of memory, nothing changes.
     #[tactic(auto, unfolding(st_rules::specs::ClientLocks::install_grant, st_rules::specs::ClientLocks::installed))]
     pub fn install(&mut self, ino: u32, g: GrantNo, mode: Mode) -> Result<bool, AllocError>
         ensures ok { IfOk result (λ taken. Installs self.old self.new taken ino g mode) }
@@ -198,7 +199,8 @@ impl LockCache {
         }
     }
 
-    /// A demand of a grant of which no lock is held: the greatest grant seen of the file is at least this one.
+    /// A demand of a grant of which no lock is held: the greatest grant seen of the file is at
+    /// least this one.
     #[tactic(auto, unfolding(st_rules::specs::ClientLocks::demand_unheld, st_rules::specs::ClientLocks::observe))]
     fn demand_unheld(&mut self, ino: u32, g: GrantNo) -> Result<Asked, AllocError>
         requires { locks.lock_of self.old.locks ino ≡ None }
@@ -251,10 +253,10 @@ impl LockCache {
         }
     }
 
-    /// A demand of the file under this grant: its lock is to be lowered to this mode, `None` or S. Without a lock the grant
-    /// was seen. A lock of a later grant makes the demand stale. Else the lock and the greatest seen have this grant, and the
-    /// file is demanded, with the lesser of this mode and that of an earlier demand. If the call runs out of memory, nothing
-    /// changes.
+    /// A demand of the file under this grant: its lock must be lowered to this mode, `None` or S.
+    /// Without a lock the grant was seen. A lock of a later grant makes the demand stale. Otherwise
+    /// the lock and the greatest seen have this grant, and the file is demanded, with the lesser of
+    /// this mode and that of an earlier demand. If the call runs out of memory, nothing changes.
     #[tactic(auto, unfolding(st_rules::specs::ClientLocks::demand, st_rules::specs::ClientLocks::demand_at))]
     pub fn demand(&mut self, ino: u32, g: GrantNo, to: Mode) -> Result<Asked, AllocError>
         ensures ok { IfOk result (λ asked. Demands self.old self.new asked (locks.demand self.old.locks ino g to)) }
@@ -277,8 +279,9 @@ impl LockCache {
         Some((lock.g, demand.to))
     }
 
-    /// Reduces the lock of a demanded file: demanded to `None` it goes, else it is shared. The demand is forgotten. It returns
-    /// the lock's grant and the mode that was demanded, or `None` where the file is not demanded. It does not allocate.
+    /// Reduces the lock of a demanded file: demanded to `None` it goes, else it is shared. The
+    /// demand is forgotten. It returns the lock's grant and the mode that was demanded, or `None`
+    /// where the file is not demanded. It does not allocate.
     #[tactic(auto, unfolding(st_rules::specs::ClientLocks::reduce, st_rules::specs::ClientLocks::reduce_at))]
     pub fn reduce(&mut self, ino: u32) -> Option<(GrantNo, Mode)>
         ensures { Reduces self.old self.new result (locks.reduce self.old.locks ino) }

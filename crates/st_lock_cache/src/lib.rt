@@ -1,5 +1,6 @@
-//! The locks that a client has cached of one server: the held ones, the greatest grant seen of each file, and what is demanded.
-//! `docs/PROTOCOL.md`, "Leases, locks, pages and commands", has the rules.
+//! The locks that a client has cached of one server: the held ones, the greatest grant seen of each
+//! file, and what is demanded. `docs/PROTOCOL.md`, "Leases, locks, pages and commands", has the
+//! rules.
 #![tactic(auto)]
 
 mod cache;

@@ -104,7 +104,7 @@ pub wait_keys : (c : ClientId) (i : ℕ) (xs : List Waiter) (r : Waiter) → fin
 wait_keys c i [] r e = cc
 wait_keys c i (x ∷ xs) r e = wait_by c i x r xs (is_wait_of c i x) refl (wait_keys c i xs r) e
 
--- A row is named by its client and file, whichever way these are told.
+-- A row is named by its client and file, whichever way these are given.
 
 pub found_moved : (rows : List LockRow) (c d : ClientId) (i j : ℕ) (v : LockRow) → d ≡ c → j ≡ i → find (is_row_of c i) rows ≡ Some v → find (is_row_of d j) rows ≡ Some v
 found_moved rows c d i j v p q e = ap (λ z. find (is_row_of z j) rows) p ∙ ap (λ k. find (is_row_of c k) rows) q ∙ e

@@ -97,7 +97,7 @@ module _ (rows : List LockRow) (set : BTreeSet (Stamp × ℕ × ClientId)) (list
   pub late_rows : list_any (is_late_of k.demand now c) set.keys ≡ list_any (λ r. is_overdue k now r && (r.client.0 == c)) rows
   late_rows = both (list_any (is_late_of k.demand now c) set.keys) (list_any (λ r. is_overdue k now r && (r.client.0 == c)) rows) to_row to_wait
 
--- Behind a demand that is not late none is.
+-- After a demand that isn't late, none is.
 
 later_stamp : (a b x y c d : ℕ) (e f : Bool) → nat_lt a b ≡ e → (a == b) ≡ f → ordering_then (ordering_then (cond e Less (cond f Equal Greater)) (nat_cmp x y)) (nat_cmp c d) ≡ Less → a ≤ b
 later_stamp a b x y c d true f p q h = let l = ltb-true a b p in omega (arith, l)

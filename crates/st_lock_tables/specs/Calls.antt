@@ -40,8 +40,8 @@ is_wanted w = is_lock w.mode
 abbrev pub is_given : Epoch → ℕ → LockRow → Bool
 is_given epoch grants r = nat_le r.g.0 (first_after epoch + grants)
 
--- what is always so of a lock table: of its counters; no row conflicts with another client's; no row has a grant number that is
--- still to be given; each row is of a lock, and each wait is for one
+-- what is always so of a lock table: of its counters; no row conflicts with another client's; no row has a grant number that will still be given; each row is
+-- of a lock, and each wait is for one
 pub record IsSound (epoch : Epoch) (grants : ℕ) (rows : List LockRow) (waits : List Waiter) : Type 0 where
   pub epochs : epoch.0 < 2 ^ 32
   pub counted : grants < 2 ^ 32
@@ -67,7 +67,7 @@ told (Some r) = Some (r.g, r.mode)
 abbrev pub acquired : Locks → Verdict → Acquired
 acquired l v = record { locks = l; verdict = v }
 
--- an acquire answers as its definition; where it refuses and where memory runs out nothing changes
+-- an acquire answers as its definition; where it refuses and if memory runs out nothing changes
 abbrev pub Answers : Locks → Locks → Result Verdict LockRefusal → Result Acquired AcquireRefusal → Type 0
 Answers old new (Ok v) machine = machine ≡ Ok (acquired new v)
 Answers old new (Err Memory) machine = new ≡ old
@@ -95,7 +95,7 @@ same_file a b = a.0 == b.0
 abbrev pub with_one : Locks → LockRow → Locks
 with_one l r = record l { rows = l.rows ++ r ∷ [] }
 
--- an install answers as its definition; where it refuses nothing changes, and where memory runs out nothing is said
+-- an install answers as its definition; where it refuses nothing changes, and if memory runs out nothing is said
 abbrev pub Installs : Locks → Locks → Result (Unit {0}) LockRefusal → Result Locks InstallRefusal → Type 0
 Installs old new (Ok v) machine = machine ≡ Ok new
 Installs old new (Err Memory) machine = Unit {0}
@@ -134,10 +134,10 @@ wait_demanded pass suspects w d = demand_for pass.config pass.now pass.tick susp
 abbrev pub files_demanded : Pass → List ClientId → List ℕ → Demanding → Demanding
 files_demanded pass suspects files d = demand_files pass.config pass.now pass.tick suspects files d
 
--- a row that is to be installed is of a lock
+-- a row that must be installed is of a lock
 abbrev pub is_lock_row : ℕ × GrantNo × Mode → Bool
 is_lock_row r = is_lock r.2
 
--- an earlier epoch gave the grant number of a row that is to be installed
+-- an earlier epoch gave the grant number of a row that must be installed
 abbrev pub is_old_row : Epoch → ℕ × GrantNo × Mode → Bool
 is_old_row epoch r = is_earlier_grant epoch r.1

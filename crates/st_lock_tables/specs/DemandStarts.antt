@@ -70,10 +70,10 @@ abbrev pub Forgets : ClientId → Waits → Waits → Type 0
 Forgets client old new =
     (s : Stamp) (i : ℕ) (c : ClientId) → contains wait_order new (s, i, c) ≡ contains wait_order old (s, i, c) && not (same_client c client)
 
--- a demand waits so long and longer
+-- a demand waits for that long or longer
 abbrev pub is_late : ℕ → Stamp → Stamp × ℕ × ClientId → Bool
 is_late wait now k = nat_le (k.0.0 + wait) now.0
 
--- a demand on the client waits so long and longer
+-- a demand on the client waits for that long or longer
 abbrev pub is_late_of : ℕ → Stamp → ℕ → Stamp × ℕ × ClientId → Bool
 is_late_of wait now c k = is_late wait now k && (k.2.0 == c)

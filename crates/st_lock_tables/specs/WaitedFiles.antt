@@ -17,11 +17,11 @@ is_waited l ino = list_any (is_wait_on ino) l.waiters
 abbrev pub is_waited_besides : Locks → ClientId → ℕ → Bool
 is_waited_besides l c ino = list_any (waits_besides c ino) l.waiters
 
--- the clients whose rows are in the way of a wait, if there is one, but for these clients
+-- the clients whose rows are in the way of a wait, if there is one, except for these clients
 abbrev pub to_demand_for : Locks → List ClientId → Option Waiter → List ClientId
 to_demand_for l besides None = []
 to_demand_for l besides (Some w) = to_demand l besides w
 
--- the clients whose rows are in the way of the file's first waiter, but for these clients
+-- the clients whose rows are in the way of the file's first waiter, except for these clients
 abbrev pub to_demand_on : Locks → List ClientId → ℕ → List ClientId
 to_demand_on l besides ino = to_demand_for l besides (find (is_wait_on ino) l.waiters)

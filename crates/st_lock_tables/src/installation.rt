@@ -102,7 +102,8 @@ impl PlainTable {
         Ok(())
     }
 
-    /// All rows of a client are installed, or none, at the first row that conflicts with another client's.
+    /// All rows of a client are installed, or none, at the first row that conflicts with another
+    /// client's.
     #[tactic(auto, unfolding(st_rules::specs::Locks::install, st_rules::specs::Locks::install_at))]
     pub fn install(
         &mut self,

@@ -1,5 +1,6 @@
-//! The lock table of a server as the rules say it: rows, waits, and the demands that wait for an answer. `docs/PROTOCOL.md`,
-//! "Locks", has the rules. Each call leaves the table that the definition of its rule gives.
+//! The lock table of a server as the rules say it: rows, waits, and the demands that wait for an
+//! answer. `docs/PROTOCOL.md`, "Locks", has the rules. Each call leaves the table that the
+//! definition of its rule gives.
 #![tactic(auto)]
 
 mod installation;

@@ -1,4 +1,5 @@
-// The passes of a server's step: grants to those who wait, demands, and demands that went unanswered.
+// The passes of a server's step: grants to those who wait, demands, and demands that went
+// unanswered.
 ghost use Rattle.std.specs.Prelude.{◌≡◌, ◌≤◌, ◌<◌, ◌+◌, ◌-◌, ◌^◌, ◌++◌, ◌∷◌, ◌&&◌, [], IfOk, IfSome, OnOk, OnErr, Some, find, filter, map, not, length, slice_get, None, false, true, nat_lt, nat_le, ◌==◌, if◌then◌else◌};
 ghost use Rattle.std.specs.List.{IsDistinct, list_any};
 ghost use Rattle.std.specs.Option.{option_copied, option_map, option_to_list};
@@ -156,7 +157,8 @@ impl PlainTable {
         Ok(())
     }
 
-    /// Grants to the waiters of the file, the first one first, as long as no other client's row conflicts.
+    /// Grants to the waiters of the file, the first one first, as long as no other client's row
+    /// conflicts.
     #[tactic(auto, unfolding(st_rules::specs::Locks::grant_file))]
     pub fn grant_file(&mut self, granted: &mut Vec<Sent>, ino: u32) -> Result<(), AllocError>
         requires { self.old.grants + length self.old.waiters < 2 ^ 32 }
@@ -238,7 +240,7 @@ impl PlainTable {
         Ok(clients)
     }
 
-    /// The rows in the way of a wait are demanded, but for those of the suspects.
+    /// The rows in the way of a wait are demanded, except for those of the suspects.
     #[tactic(auto, unfolding(st_rules::specs::Locks::demand_for))]
     fn demand_wait(
         &mut self,
@@ -255,8 +257,8 @@ impl PlainTable {
         Ok(clients)
     }
 
-    /// The rows in the way of the file's first waiter are demanded, but for those of the suspects. Returns the clients of these
-    /// rows, in rising order.
+    /// The rows in the way of the file's first waiter are demanded, except for those of the
+    /// suspects. Returns the clients of these rows, in rising order.
     #[tactic(auto, unfolding(st_rules::specs::Locks::demand_for))]
     pub fn demand_for(
         &mut self,
@@ -281,8 +283,8 @@ impl PlainTable {
         self.grants + (self.waits.len() as u64) < 4294967295
     }
 
-    /// The clients that left a demand unanswered for the time that the settings give, in rising order. It looks at the rows of
-    /// those demands and at one more, however many there are.
+    /// The clients that left a demand unanswered for the time that the settings give, in rising
+    /// order. It looks at the rows of those demands and at one more, however many there are.
     #[tactic(auto, unfolding(st_rules::specs::Locks::unanswered))]
     pub fn unanswered(
         &self,

@@ -120,7 +120,8 @@ impl PlainTable {
         }
     }
 
-    /// The client lowers its lock of the file to this mode; false exactly where it has none of this life and grant number.
+    /// The client lowers its lock of the file to this mode; false exactly if it has none of this
+    /// life and grant number.
     #[tactic(auto, unfolding(st_rules::specs::Locks::released, st_rules::specs::Locks::released_at, st_rules::specs::Locks::release, st_rules::specs::Locks::not_released))]
     pub fn released(&mut self, client: ClientId, life: Life, ino: u32, g: GrantNo, to: Mode) -> bool
         ensures { locks.released self.old client life ino g to ≡ record { locks = self.new; found = result } }

@@ -1,4 +1,5 @@
-// The lock rows: by client and file, counted by client, and those that wait for an answer by the moment.
+// The lock rows: by client and file, counted by client, and those that wait for an answer by the
+// moment.
 ghost use Rattle.std.specs.Prelude.{◌≡◌, ◌<◌, ◌^◌, ◌&&◌, ◌==◌, ℕ, [], IfOk, IfSome, OnOk, OnErr, None, Some, find, filter, is_some, map, not, length, if◌then◌else◌, true, false, slice_index_or};
 ghost use Rattle.std.specs.List.{IsDistinct, list_all, list_any};
 ghost use Rattle.std.specs.BTreeSet.{contains};
@@ -101,7 +102,8 @@ impl Test<LockRow> for FromLife {
     }
 }
 
-/// The lock rows, in the order in which they were first granted or installed. Contracts see the list.
+/// The lock rows, in the order in which they were first granted or installed. Contracts see the
+/// list.
 #[derive(Drop)]
 pub struct Rows {
     table: ClientTable<LockRow>,
@@ -202,7 +204,8 @@ impl Rows {
         take_out(&mut self.since, since_of(Some(old)), row.ino, row.client);
     }
 
-    /// Writes a row over its client's row of the file, which has waited for an answer since the same moment or does not wait.
+    /// Writes a row over its client's row of the file, which has waited for an answer since the
+    /// same moment or does not wait.
     pub fn demand(&mut self, old: LockRow, row: LockRow) -> Result<(), AllocError>
         requires found { find (locks.is_row_of row.client row.ino) self.old ≡ Some old }
         requires since { KeepsSince (since_of_demand old.demand) (since_of_demand row.demand) }
@@ -248,8 +251,8 @@ impl Rows {
         self.table.numbers(client)
     }
 
-    /// Whether this holder's row of the file, if it has one, conflicts with another client's mode. The holders are those of the
-    /// file.
+    /// Whether this holder's row of the file, if it has one, conflicts with another client's mode.
+    /// The holders are those of the file.
     pub fn is_against(
         &self,
         holders: &[u32],
@@ -278,11 +281,13 @@ impl Rows {
         self.table.clients_on(alloc, ino, &Against { client, mode })
     }
 
-    /// Marks the clients with a row whose demand waits too long for its answer. It looks at those rows and one more.
+    /// Marks the clients with a row whose demand waits too long for its answer. It looks at those
+    /// rows and one more.
     pub fn overdue(&self, now: Stamp, config: Config) -> [bool; 17]
         ensures { (c : ℕ) → c < 17 → slice_index_or result c false ≡ list_any (λ r. locks.is_overdue config now r && (r.client.0 == c)) self.now }
     {
-        // For its clauses `distinct` and `clients`: a demand that `since` lists is of one row, of a client from 1 to 16.
+        // For its clauses `distinct` and `clients`: a demand that `since` lists is of one row, of a
+        // client from 1 to 16.
         let _len = self.table.len();
         overdue(&self.since, config.demand, now)
     }

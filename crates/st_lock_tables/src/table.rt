@@ -22,8 +22,8 @@ use std::alloc::{AllocError, Global};
 use std::collections::BTreeSet;
 use std::marker::Model;
 
-/// The locks of one server in one epoch, without a note of which files calls touched. Contracts see them as the epoch, the
-/// number of grants, the list of rows and the list of waiters.
+/// The locks of one server in one epoch, without a note of which files calls touched. Contracts see
+/// them as the epoch, the number of grants, the list of rows and the list of waiters.
 #[derive(Drop)]
 pub struct PlainTable {
     pub(crate) alloc: Global,
@@ -178,8 +178,8 @@ impl PlainTable {
         }
     }
 
-    /// The epoch of the table. A client has one row and one wait a file, the rows of a file are compatible, and no row has a
-    /// grant number that is still to be given.
+    /// The epoch of the table. A client has one row and one wait a file, the rows of a file are
+    /// compatible, and no row has a grant number that will still be given.
     pub fn epoch(&self) -> Epoch
         ensures epoch { result ≡ self.now.epoch }
         ensures valid { IsLockTable self.now }
@@ -220,8 +220,8 @@ impl PlainTable {
         self.rows.any_from(client, life)
     }
 
-    /// The demands that wait for an answer: since when, of which file, of which client; a row is there exactly where its
-    /// demand waits.
+    /// The demands that wait for an answer: since when, of which file, of which client; a row is
+    /// there exactly where its demand waits.
     pub fn by_since(&self) -> &BTreeSet<Unanswered>
         ensures { (s : Stamp) (i : ℕ) (c : ClientId) → contains wait_order result.now (s, i, c) ≡ is_since s (since_of (locks.row_of self.now c i)) }
     {
@@ -403,8 +403,8 @@ impl PlainTable {
         }
     }
 
-    /// The client has rows or waits on fewer than 1,024 files. Its waits are looked at only where it has fewer rows, and waits
-    /// that could make up the number.
+    /// The client has rows or waits on fewer than 1,024 files. Its waits are looked at only where
+    /// it has fewer rows, and waits that could make up the number.
     fn has_few(&self, client: ClientId) -> Result<bool, AllocError>
         ensures { IfOk result (λ few. few ≡ nat_lt (length (locks.files_of self.now client)) 1024) }
     {
@@ -477,11 +477,12 @@ impl PlainTable {
         }
     }
 
-    /// The client asks for the file in this mode, S or X; `grants` tells whether new locks may be granted at all.
+    /// The client asks for the file in this mode, S or X; `grants` tells whether new locks may be
+    /// granted at all.
     ///
     /// # Errors
-    /// `TooManyLocks` where the client has neither row nor wait on the file and has 1,024 files with one of them; `Memory`
-    /// where memory runs out. Then nothing changed.
+    /// `TooManyLocks` where the client has neither row nor wait on the file and has 1,024 files
+    /// with one of them; `Memory` if memory runs out. Then nothing changed.
     #[tactic(auto, unfolding(st_rules::specs::Locks::acquire, st_rules::specs::Locks::acquire_at))]
     pub fn acquire(
         &mut self,

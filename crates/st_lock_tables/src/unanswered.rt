@@ -61,7 +61,8 @@ fn mark(late: &mut [bool; 17], client: ClientId)
     }
 }
 
-/// Marks the clients of which a demand waits too long for its answer. It looks at those demands and one more.
+/// Marks the clients of which a demand waits too long for its answer. It looks at those demands and
+/// one more.
 pub fn overdue(set: &BTreeSet<Unanswered>, wait: u64, now: Stamp) -> [bool; 17]
     ensures { (c : ℕ) → c < 17 → slice_index_or result c false ≡ list_any (is_late_of wait now c) set.now.keys }
 {

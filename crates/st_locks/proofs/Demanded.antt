@@ -281,7 +281,7 @@ among_step c x xs ys false n h e = e ∙ by (same_client c x) (is_among xs c) n 
         no false = refl
     by false a n h = refl
 
--- the clients of a list but for some
+-- the clients of a list except for some
 among_without : (cs xs : List ClientId) (c : ClientId) → is_among (filter (λ x. not (is_among cs x)) xs) c ≡ is_among xs c && not (is_among cs c)
 among_without cs [] c = refl
 among_without cs (x ∷ xs) c =
@@ -465,7 +465,7 @@ module _ (k : Config) (now : Stamp) (tick : Bool) (cs : List ClientId) (ino : �
       (λ e. timed_same j m (same_by k now tick cs ino j p e (Some v) q) (a e))
       (cases_Bool (ino == j))
 
--- where nobody waits for the file, nothing is to be timed
+-- where nobody waits for the file, nothing must be timed
 times_none : (cs : List ClientId) (ino : ℕ) (l : Locks) (ms : Moments) → find (is_wait_on ino) l.waiters ≡ None → Times cs (λ j. ino == j) l ms l ms
 times_none cs ino l ms q j a =
     ⊎_elim

@@ -100,7 +100,7 @@ dropped_rests l ino j =
     (λ q. inl (same_dropped l ino j q))
     (cases_Bool (ino == j))
 
--- where all waits for a file go, no file is to be marked
+-- where all waits for a file go, no file must be marked
 pub kept_dropped : (l : Locks) (ino : ℕ) (g d : TouchedFiles) (ms : Moments) (cs : List ClientId) → IsSettled l g d ms cs → IsSettled (drop_file_waits l ino) g d ms cs
 kept_dropped l ino g d ms cs s = kept_rests l (drop_file_waits l ino) g d g d ms cs s (λ j e. (e, dropped_rests l ino j)) (λ j e. (e, dropped_rests l ino j))
 

@@ -31,7 +31,7 @@ common fs ws =
     ∙ and_turn (has k fs) (has k ws)
     ∙ sym (has_filter (λ k. has k ws) k (rising fs) ∙ ap (λ z. has k ws && z) (has_rising k fs)))
 
--- Passes over fewer files.
+-- Passes through fewer files.
 
 apart : (t : ℕ → Bool) (x j : ℕ) → t x ≡ true → t j ≡ false → (x == j) ≡ false
 apart t x j a b = by (x == j) (λ s. true≢false (sym a ∙ ap t (eqb-true x j s) ∙ b))

@@ -53,7 +53,7 @@ is_low to (Some d) = not (is_below to d.to)
 abbrev pub is_in_way : Waiter → ClientId → LockRow → Bool
 is_in_way w c r = stands_against w.client w.ino w.mode r && same_client r.client c
 
--- the moments at which files are to be looked at again, each with its file
+-- the moments at which files must be looked at again, each with its file
 abbrev pub Moments : Type 0
 Moments = List (Stamp × ℕ)
 
@@ -82,7 +82,7 @@ is_timed ms ino (Some d) = is_kept ms ino d.sent
 abbrev pub KeepsAll : Moments → Moments → Type 0
 KeepsAll old new = (j : ℕ) (s : Stamp) → is_kept old j s ≡ true → is_kept new j s ≡ true
 
--- what was kept still is, but for one file
+-- what was kept still is, except for one file
 abbrev pub KeepsOthers : ℕ → Moments → Moments → Type 0
 KeepsOthers ino old new = (j : ℕ) (s : Stamp) → (ino == j) ≡ false → is_kept old j s ≡ true → is_kept new j s ≡ true
 
@@ -98,7 +98,7 @@ Wakes old was new ms = (j : ℕ) → is_marked new j ≡ false → (is_marked ol
 abbrev pub NotesSuspects : TouchedFiles → List ClientId → TouchedFiles → List ClientId → Type 0
 NotesSuspects old was new cs = (j : ℕ) → is_marked new j ≡ false → (is_marked old j ≡ false) × (cs ≡ was)
 
--- the demand on the row of each client in the way of the file's first waiter, but for these clients, passes
+-- the demand on the row of each client in the way of the file's first waiter, except for these clients, passes
 abbrev pub EachInWay : Locks → List ClientId → ℕ → (Waiter → Option RowDemand → Bool) → Type 0
 EachInWay l besides ino passes =
     (w : Waiter) → find (is_wait_on ino) l.waiters ≡ Some w → (c : ClientId) → list_any (is_in_way w c) l.rows && not (is_among besides c) ≡ true
@@ -140,8 +140,8 @@ Times besides walked l was m ms = (j : ℕ) → (walked j ≡ false → AreTimed
 abbrev pub TimesRows : Locks → List ClientId → ℕ → Moments → Type 0
 TimesRows l cs ino ms = (c : ClientId) → is_among cs c ≡ true → (r : LockRow) → row_of l c ino ≡ Some r → is_timed ms ino r.demand ≡ true
 
--- an untouched file has no first waiter that may be granted; what is in its way is demanded, but for these clients; and it
--- is looked at again as soon as one of these demands is old
+-- an untouched file has no first waiter that may be granted; what is in its way is demanded, except for these clients; and it is looked at again as soon as one
+-- of these demands is old
 pub record IsSettled (l : Locks) (granting demanding : TouchedFiles) (moments : Moments) (besides : List ClientId) : Type 0 where
   pub granted : (ino : ℕ) → is_marked granting ino ≡ false → next_waiter l ino ≡ None
   pub demanded : (ino : ℕ) → is_marked demanding ino ≡ false → AreDemanded l besides ino

@@ -1,5 +1,6 @@
-//! The lock table of a server: who has a lock of which file, who waits, and what is demanded of whom, with a note of the files
-//! that its passes have to look at. `docs/PROTOCOL.md`, "Locks", has the rules.
+//! The lock table of a server: who has a lock of which file, who waits, and what is demanded of
+//! whom, with a note of the files that its passes have to look at. `docs/PROTOCOL.md`, "Locks", has
+//! the rules.
 #![tactic(auto)]
 
 mod demands;

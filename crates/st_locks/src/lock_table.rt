@@ -21,8 +21,8 @@ use std::collections::BTreeSet;
 use std::marker::Model;
 use std::mem;
 
-/// The locks of one server in one epoch. Contracts see them as the epoch, the number of grants, the list of rows and the
-/// list of waiters.
+/// The locks of one server in one epoch. Contracts see them as the epoch, the number of grants, the
+/// list of rows and the list of waiters.
 #[derive(Drop)]
 pub struct LockTable {
     parts: LockTableParts,
@@ -59,8 +59,8 @@ impl LockTable {
         }
     }
 
-    /// The epoch of the table. A client has one row and one wait a file, the rows of a file are compatible, and no row has a
-    /// grant number that is still to be given.
+    /// The epoch of the table. A client has one row and one wait a file, the rows of a file are
+    /// compatible, and no row has a grant number that will still be given.
     pub fn epoch(&self) -> Epoch
         ensures epoch { result ≡ self.now.epoch }
         ensures valid { IsLockTable self.now }
@@ -89,8 +89,8 @@ impl LockTable {
         self.parts.table.has_rows_from(client, life)
     }
 
-    /// The demands that wait for an answer: since when, of which file, of which client; a row is there exactly where its
-    /// demand waits.
+    /// The demands that wait for an answer: since when, of which file, of which client; a row is
+    /// there exactly where its demand waits.
     pub fn by_since(&self) -> &BTreeSet<Unanswered>
         ensures { (s : Stamp) (i : ℕ) (c : ClientId) → contains wait_order result.now (s, i, c) ≡ is_since s (since_of (locks.row_of self.now c i)) }
     {
@@ -106,11 +106,12 @@ impl LockTable {
         Ok(())
     }
 
-    /// The client asks for the file in this mode, S or X; `grants` tells whether new locks may be granted at all.
+    /// The client asks for the file in this mode, S or X; `grants` tells whether new locks may be
+    /// granted at all.
     ///
     /// # Errors
-    /// `TooManyLocks` where the client has neither row nor wait on the file and has 1,024 files with one of them; `Memory`
-    /// where memory runs out. Then nothing changed.
+    /// `TooManyLocks` where the client has neither row nor wait on the file and has 1,024 files
+    /// with one of them; `Memory` if memory runs out. Then nothing changed.
     pub fn acquire(
         &mut self,
         client: ClientId,
@@ -156,7 +157,8 @@ impl LockTable {
         self.parts.table.of(self.parts.alloc, client)
     }
 
-    /// All rows of a client are installed, or none, at the first row that conflicts with another client's.
+    /// All rows of a client are installed, or none, at the first row that conflicts with another
+    /// client's.
     pub fn install(
         &mut self,
         client: ClientId,
@@ -211,7 +213,8 @@ impl LockTable {
         self.parts.table.drop_file_waits(ino);
     }
 
-    /// The client lowers its lock of the file to this mode; false exactly where it has none of this life and grant number.
+    /// The client lowers its lock of the file to this mode; false exactly if it has none of this
+    /// life and grant number.
     pub fn released(&mut self, client: ClientId, life: Life, ino: u32, g: GrantNo, to: Mode) -> bool
         ensures { locks.released self.old client life ino g to ≡ record { locks = self.new; found = result } }
     {
@@ -296,8 +299,9 @@ impl LockTable {
         Ok(granted)
     }
 
-    /// All demands that are due now; `tick` tells whether the old ones are sent once more. It looks at the rows of the files that
-    /// a call touched, and on a tick of those of which a demand is old; where the suspects changed, of all that are waited for.
+    /// All demands that are due now; `tick` tells whether the old ones are sent once more. It looks
+    /// at the rows of the files that a call touched, and on a tick of those of which a demand is
+    /// old; where the suspects changed, of all that are waited for.
     pub fn demands_due(
         &mut self,
         now: Stamp,
@@ -322,8 +326,8 @@ impl LockTable {
         self.parts.table.has_room_for_waiters()
     }
 
-    /// The clients that left a demand unanswered for the time that the settings give, in rising order. It looks at the rows of
-    /// those demands and at one more, however many there are.
+    /// The clients that left a demand unanswered for the time that the settings give, in rising
+    /// order. It looks at the rows of those demands and at one more, however many there are.
     pub fn unanswered(&self, now: Stamp, config: &Config) -> Result<Vec<ClientId>, AllocError>
         ensures { IfOk result (λ v. v.items ≡ locks.unanswered self.now now config.now) }
     {

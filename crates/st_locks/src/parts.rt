@@ -1,4 +1,5 @@
-// A lock table with what its passes keep: which files were touched, and when they look at files again.
+// A lock table with what its passes keep: which files were touched, and when they look at files
+// again.
 ghost use Rattle.std.specs.Prelude.{◌≡◌, ◌&&◌, IfOk, OnOk};
 ghost use Rattle.std.specs.Bool.{OnTrue};
 ghost use Rattle.st_rules.specs.Locks as locks;
@@ -14,8 +15,8 @@ use st_lock_tables::{Pass, PlainTable, Sent};
 use std::alloc::{AllocError, Global};
 use std::mem;
 
-/// A lock table; the files that calls touched since each pass; when the demanding pass looks at files again; and the clients of
-/// which it demanded nothing when it last ran.
+/// A lock table; the files that calls touched since each pass; when the demanding pass looks at
+/// files again; and the clients of which it demanded nothing when it last ran.
 #[derive(Drop)]
 pub(crate) struct LockTableParts {
     pub(crate) alloc: Global,
@@ -28,8 +29,8 @@ pub(crate) struct LockTableParts {
     pub(crate) spare: Vec<u32>,
 }
 
-/// The files that a pass walks, in rising order: all that are waited for, or those that were touched. The room of the spare list
-/// is used for them.
+/// The files that a pass walks, in rising order: all that are waited for, or those that were
+/// touched. The room of the spare list is used for them.
 pub(crate) fn walked(
     alloc: Global,
     table: &PlainTable,
@@ -52,7 +53,8 @@ fn are_same(a: &[ClientId], b: &[ClientId]) -> bool
     a == b
 }
 
-/// The clients of which the next pass demands nothing; where they are not those of the last pass, all files are touched.
+/// The clients of which the next pass demands nothing; where they are not those of the last pass,
+/// all files are touched.
 fn note_suspects(
     besides: &mut Vec<ClientId>,
     marks: &mut TouchedFiles,

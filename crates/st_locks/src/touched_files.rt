@@ -8,10 +8,12 @@ use st_tables::rising;
 use std::alloc::{AllocError, Global};
 use std::marker::Model;
 
-/// How many files calls note one by one. Where they touch more, all files count as touched, until a pass has walked them.
+/// How many files calls note one by one. Where they touch more, all files count as touched, until a
+/// pass has walked them.
 const MOST: usize = 64;
 
-/// The files that were touched: those of a list, or all. Contracts see the list and whether it is all.
+/// The files that were touched: those of a list, or all. Contracts see the list and whether it is
+/// all.
 #[derive(Drop)]
 pub(crate) struct TouchedFiles {
     all: bool,
@@ -65,7 +67,8 @@ impl TouchedFiles {
         self.all
     }
 
-    /// The files of the list, in rising order. Where there is at most one, the room of the spare list is used.
+    /// The files of the list, in rising order. Where there is at most one, the room of the spare
+    /// list is used.
     pub fn rising(&self, alloc: Global, spare: Vec<u32>) -> Result<Vec<u32>, AllocError>
         ensures { IfOk result (λ v. v.items ≡ keys.rising self.now.files) }
     {
@@ -76,7 +79,7 @@ impl TouchedFiles {
         }
     }
 
-    /// Reserves room for one more file. Where a file finds no room, all files count as touched.
+    /// Reserves room for one more file. If there is no room for a file, all files count as touched.
     pub fn reserve_one(&mut self) -> Result<(), AllocError>
         ensures { self.new ≡ self.old }
     {
@@ -96,7 +99,8 @@ impl TouchedFiles {
         }
     }
 
-    /// Puts a file last in the list. It takes no memory: where the list is full, all files are touched.
+    /// Puts a file last in the list. It takes no memory: where the list is full, all files are
+    /// touched.
     pub fn keep(&mut self, ino: u32)
         ensures { Marks ino self.old self.new }
     {
@@ -120,7 +124,8 @@ impl TouchedFiles {
         }
     }
 
-    /// The file was touched. Where the list has 64 files already, all files are touched: a call never looks through more.
+    /// The file was touched. Where the list has 64 files already, all files are touched: a call
+    /// never looks through more.
     pub fn touch(&mut self, ino: u32)
         ensures { Marks ino self.old self.new }
     {

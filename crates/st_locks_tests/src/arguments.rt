@@ -74,7 +74,8 @@ pub fn old_row(epoch: Epoch, row: Row) -> Option<(u32, GrantNo, Mode)>
     }
 }
 
-/// Installs three rows, if they are of locks on rising files and an earlier epoch gave their grant numbers.
+/// Installs three rows, if they are of locks on rising files and an earlier epoch gave their grant
+/// numbers.
 #[tactic(auto, using(crate::proofs::Files::three_files))]
 pub fn install_three(
     locks: &mut LockTable,

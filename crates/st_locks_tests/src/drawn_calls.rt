@@ -16,7 +16,8 @@ struct Ask {
     now: u64,
 }
 
-/// Whether a table's answer is what the plain rows say: a grant, the others in the way, or a refusal.
+/// Whether a table's answer is what the plain rows say: a grant, the others in the way, or a
+/// refusal.
 fn is_answer(given: &Result<Verdict, LockRefusal>, wanted: Answer, others: &[ClientId]) -> bool {
     match (given, wanted) {
         (Ok(Verdict::Granted(g, m)), Answer::Granted(number, lock)) => {

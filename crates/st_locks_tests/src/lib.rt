@@ -1,4 +1,5 @@
-//! The lock table of a server beside plain lists: 10,000 drawn calls, among them those that are refused for too many locks.
+//! The lock table of a server beside plain lists: 10,000 drawn calls, among them those that are
+//! refused for too many locks.
 #![tactic(auto)]
 
 #[cfg(test)]

@@ -33,7 +33,8 @@ pub struct Wait {
 /// A grant or a demand, as the lock table tells it.
 pub type Sent = (ClientId, Life, u32, GrantNo, Mode);
 
-/// What a request for a lock is answered: its grant number and mode, a wait, or that the client has too many.
+/// What a request for a lock is answered: its grant number and mode, a wait, or that the client has
+/// too many.
 #[derive(Clone, Copy, PartialEq, Eq)]
 pub enum Answer {
     Granted(u64, u8),

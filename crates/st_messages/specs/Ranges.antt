@@ -101,7 +101,7 @@ after_lost r = r.page.0 + 1
 abbrev pub after_name : NameRow → ℕ
 after_name r = 1
 
--- each row fits behind the one before it
+-- each row fits after the one before it
 abbrev pub are_rows : {R : Type 0} → (ℕ → R → Bool) → (R → ℕ) → ℕ → List R → Bool
 are_rows is_row after least [] = true
 are_rows is_row after least (r ∷ rs) = is_row least r && are_rows is_row after (after r) rs

@@ -1,7 +1,8 @@
 use crate::ask::Ask;
 use st_base::{ClientId, NodeId, Rows};
 
-/// The increments of an advance of the clocks, one per node: first the clients in order, then the servers in order.
+/// The increments of an advance of the clocks, one per node: first the clients in order, then the
+/// servers in order.
 pub type Steps = Rows<u64>;
 
 /// The numbers of clients, servers and disks of a world, and the number of blocks of each disk.

@@ -248,8 +248,8 @@ impl Ask {
 }
 
 impl Message {
-    /// Returns whether every field is in its range (`docs/PROTOCOL.md`, "Wire"), so that the message has a spelling. It does
-    /// not allocate.
+    /// Returns whether every field is in its range (`docs/PROTOCOL.md`, "Wire"), so that the
+    /// message has a spelling. It does not allocate.
     #[tactic(auto, unfolding(crate::specs::Ranges::fits))]
     pub fn fits(&self) -> bool
         ensures { result ≡ fits.fits self.now }

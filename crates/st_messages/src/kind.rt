@@ -2,7 +2,8 @@
 ghost use Rattle.std.specs.Prelude.{◌≡◌};
 ghost use Rattle.st_messages.specs.Kinds as kinds;
 
-/// The kinds of messages. `Patch` is the application's request in version 2; all other kinds are in version 1.
+/// The kinds of messages. `Patch` is the application's request in version 2; all other kinds are in
+/// version 1.
 #[derive(Clone, Copy, Debug, PartialEq, Eq)]
 pub enum Kind {
     Hello,

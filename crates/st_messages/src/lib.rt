@@ -1,6 +1,6 @@
-//! The messages of the protocol, with the ranges of their fields and their sizes, and the events of a world.
-//! `docs/PROTOCOL.md`, "Wire" and "Schedules", says what each stands for. The bytes that spell a message are
-//! `st_codec`'s.
+//! The messages of the protocol, with the ranges of their fields and their sizes, and the events of
+//! a world. `docs/PROTOCOL.md`, "Wire" and "Schedules", says what each stands for. The bytes that
+//! spell a message are `st_codec`'s.
 #![tactic(auto)]
 
 mod answer;

@@ -8,8 +8,8 @@ use st_base::{
 };
 use std::alloc::AllocError;
 
-/// The header of a message. The node number of a client is its own number, that of a server is its number plus 32,768,
-/// and 0 is the node's own surroundings.
+/// The header of a message. The node number of a client is its own number, that of a server is its
+/// number plus 32,768, and 0 is the node's own surroundings.
 #[derive(Clone, Copy, Debug, PartialEq, Eq)]
 pub struct Header {
     pub from: u16,

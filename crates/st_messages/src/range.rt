@@ -110,8 +110,8 @@ pub(crate) fn is_any_block(at: BlockAt) -> bool
     is_number(at.block)
 }
 
-/// Returns whether a message may name `count` pages from this one: at most 64 and at least one, and none behind the last
-/// page of a file.
+/// Returns whether a message may name `count` pages from this one: at most 64 and at least one, and
+/// none after the last page of a file.
 pub fn is_count(page: u32, count: u16) -> bool
     ensures { result ≡ fits.is_count page count }
 {

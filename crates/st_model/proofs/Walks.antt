@@ -61,7 +61,7 @@ put_pending Hard n ks = refl
 put_pending (Gone c) n ks = refl
 
 module _ (next : ℕ → LogOwner → Fate) where
-  -- the entry behind a prefix
+  -- the entry after a prefix
   seam : (pre es : List LogEntry) (e : LogEntry) (n : ℕ) → length pre ≡ n → nth (pre ++ e ∷ es) n ≡ e
   seam pre es e n l = subst (λ m. nth (pre ++ e ∷ es) m ≡ e) l (get_or-append_seam pre e es _)
 
@@ -81,7 +81,7 @@ module _ (next : ℕ → LogOwner → Fate) where
   marked_closed : (e : LogEntry) (n : ℕ) → is_pending e.fate ≡ false → marked next n e ≡ e
   marked_closed e n h = ap (λ f. with_fate f e) (closed_same e.fate (next n e.of) h)
 
-  -- all entries behind a prefix
+  -- all entries after a prefix
   pub walk_all : (pre es : List LogEntry) (n : ℕ) → length pre ≡ n → walk next (pending_from n es) (pre ++ es) ≡ pre ++ mark_from next (n + 1) es
   walk_all pre [] n l = refl
   walk_all pre (e ∷ es) n l =

@@ -48,7 +48,7 @@ abbrev pub last_place : (LogEntry → Bool) → List LogEntry → ℕ → List �
 last_place m es before [] = before
 last_place m es before (k ∷ ks) = last_place m es (if m (nth es k) then k + 1 else before) ks
 
--- a cut of this page's file; cuts stand under page 0 of their file
+-- a cut of this page's file; cuts are under page 0 of their file
 abbrev pub is_cut_at : FilePage → LogOwner → Change → Bool
 is_cut_at q of change = not (is_bytes change) && same_file_page (file_page of.file (page_no 0)) q
 
@@ -70,7 +70,7 @@ abbrev pub option_of : ℕ → Option ℕ
 option_of zero = None
 option_of (suc n) = Some (suc n)
 
--- a page after the entries of these places, but for those before a number
+-- a page after the entries of these places, except for those before a number
 abbrev pub page_after : ℕ → FileId → PageNo → List LogEntry → List ℕ → List ℕ → List ℕ
 page_after c f p es page [] = page
 page_after c f p es page (k ∷ ks) = page_after c f p es (if nat_le c k then after f p (nth es k) page else page) ks

@@ -55,7 +55,7 @@ put_fate k fate es = set es k (with_fate fate (nth es k))
 abbrev pub step : (ℕ → LogOwner → Fate) → ℕ → List LogEntry → List LogEntry
 step next k es = put_fate k (next_at next k es) es
 
--- the entries of these places get their next fates, one after the other
+-- the entries of these places get their next fates, one after another
 abbrev pub walk : (ℕ → LogOwner → Fate) → List ℕ → List LogEntry → List LogEntry
 walk next [] es = es
 walk next (k ∷ ks) es = walk next ks (step next k es)

@@ -52,7 +52,7 @@ impl Places {
         }
     }
 
-    /// Adds a place behind all others. If it runs out of memory, the list is unchanged.
+    /// Adds a place after all others. If it runs out of memory, the list is unchanged.
     pub fn push(&mut self, place: usize) -> Result<(), AllocError>
         ensures { self.new ≡ (if is_ok result then self.old ++ place ∷ [] else self.old) }
     {
@@ -86,7 +86,7 @@ fn put(rows: &mut IndexMap<FilePage, Places>, page: FilePage, places: Places)
     requires { 0 < spare rows.old }
     ensures { (q : FilePage) → by_page.at rows.new q ≡ (if by_page.same_file_page page q then places else by_page.at rows.old q) }
 {
-    // The places that stood there are dropped; there is room, so no memory is taken.
+    // The places that were there are dropped; there is room, so no memory is taken.
     let _old = rows.insert(page, places).unwrap();
 }
 

@@ -1,5 +1,5 @@
-//! The flat log: every write, patch and cut that was accepted, with its fate. Every read is measured against it.
-//! `docs/PROTOCOL.md`, "The flat log".
+//! The flat log: every write, patch and cut that was accepted, with its fate. Every read is
+//! measured against it. `docs/PROTOCOL.md`, "The flat log".
 #![tactic(auto)]
 
 mod client_pages;

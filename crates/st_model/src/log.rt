@@ -20,9 +20,10 @@ use st_rules::{Cause, Change, EntryHead, Fate, LogEntry, LogOwner, Observation};
 use std::alloc::{AllocError, Global};
 use std::marker::Model;
 
-/// All changes of pages that were accepted, in the order of acceptance, numbered from 1. Contracts see it as the list of
-/// its entries. Beside the entries it keeps the places of the pending ones, the number of each client's latest entry to each
-/// page, the places of each page's writes and patches, and the places of each file's cuts. No call passes over all entries.
+/// All changes of pages that were accepted, in the order of acceptance, numbered from 1. Contracts
+/// see it as the list of its entries. In addition to the entries it keeps the places of the pending
+/// ones, the number of each client's latest entry to each page, the places of each page's writes
+/// and patches, and the places of each file's cuts. No call looks at all entries.
 #[derive(Drop)]
 pub struct FlatLog {
     entries: Vec<LogEntry>,
@@ -98,7 +99,8 @@ impl FlatLog {
         }
     }
 
-    /// Adds a pending entry, and returns its number. If it runs out of memory, the log is unchanged.
+    /// Adds a pending entry, and returns its number. If it runs out of memory, the log is
+    /// unchanged.
     fn push(&mut self, of: LogOwner, change: Change) -> Result<u64, AllocError>
         requires bytes { by_page.is_bytes change ≡ true }
         requires range { IsInPage change }
@@ -124,7 +126,7 @@ impl FlatLog {
         self.entries.push(entry).unwrap();
         let number = self.entries.len() as u64;
         self.pending.push(self.entries.len() - 1).unwrap();
-        // The number that stood there is dropped; room was reserved.
+        // The number that was there is dropped; room was reserved.
         let _old = self
             .latest
             .insert(client_page(of.client, of.file, of.page), number)
@@ -132,8 +134,8 @@ impl FlatLog {
         Ok(number)
     }
 
-    /// Adds a pending write of a whole page, and returns its number. The log shares the page's bytes. If it runs out of
-    /// memory, the log is unchanged.
+    /// Adds a pending write of a whole page, and returns its number. The log shares the page's
+    /// bytes. If it runs out of memory, the log is unchanged.
     #[tactic(auto, unfolding(st_rules::specs::FlatLog::accept))]
     pub fn accept(
         &mut self,
@@ -157,9 +159,9 @@ impl FlatLog {
         self.push(of, change)
     }
 
-    /// Adds a pending patch, which replaces the bytes of the page from index `at`, and returns its number. A patch has at
-    /// least one byte: no message and no line of a schedule has a patch of none, and `PatchBytes` cannot hold it. If it runs
-    /// out of memory, the log is unchanged.
+    /// Adds a pending patch, which replaces the bytes of the page from index `at`, and returns its
+    /// number. A patch has at least one byte: no message and no line of a schedule has a patch of
+    /// none, and `PatchBytes` cannot hold it. If it runs out of memory, the log is unchanged.
     #[tactic(auto, unfolding(st_rules::specs::FlatLog::patch))]
     pub fn patch(
         &mut self,
@@ -186,8 +188,8 @@ impl FlatLog {
         self.push(of, Change::Patch(at, bytes))
     }
 
-    /// Adds a cut of a file's pages from page `from`, which is hard at once, and returns its number. If it runs out of
-    /// memory, the log is unchanged.
+    /// Adds a cut of a file's pages from page `from`, which is hard at once, and returns its
+    /// number. If it runs out of memory, the log is unchanged.
     #[tactic(auto, unfolding(st_rules::specs::FlatLog::cut))]
     pub fn cut(&mut self, file: FileId, from: PageNo) -> Result<u64, AllocError>
         ensures entry { OnOk result (self.new ≡ flat_log.cut self.old file from) }
@@ -215,7 +217,7 @@ impl FlatLog {
         };
         self.entries.push(entry).unwrap();
         let number = self.entries.len() as u64;
-        // The number that stood there is dropped; room was reserved.
+        // The number that was there is dropped; room was reserved.
         let _old = self
             .latest
             .insert(client_page(ClientId(0), file, from), number)
@@ -231,8 +233,8 @@ impl FlatLog {
         self.pending.truncate(kept);
     }
 
-    /// Adds what is observed when the pending entries are marked so, by rising number. If it runs out of memory, `seen` may
-    /// hold a part of it.
+    /// Adds what is observed when the pending entries are marked so, by rising number. If it runs
+    /// out of memory, `seen` may hold a part of it.
     pub fn observe<M: Marking>(
         &self,
         marking: &M,
@@ -243,8 +245,8 @@ impl FlatLog {
         seen_of(&self.entries, &self.pending, marking, seen)
     }
 
-    /// Makes the entry hard if it is pending, and so each earlier pending write and patch of the same client, life, file and
-    /// page. It reads the pending entries alone, and does not allocate.
+    /// Makes the entry hard if it is pending, and so each earlier pending write and patch of the
+    /// same client, life, file and page. It reads the pending entries alone, and does not allocate.
     pub fn harden(&mut self, index: u64)
         requires some { 1 ≤ index }
         requires known { index ≤ length self.old }
@@ -254,7 +256,8 @@ impl FlatLog {
         self.mark(&Hardening { index, of });
     }
 
-    /// Adds what is observed when this entry hardens. If it runs out of memory, `seen` may hold a part of it.
+    /// Adds what is observed when this entry hardens. If it runs out of memory, `seen` may hold a
+    /// part of it.
     pub fn observe_harden(&self, index: u64, seen: &mut Vec<Observation>) -> Result<(), AllocError>
         requires some { 1 ≤ index }
         requires known { index ≤ length self.now }
@@ -264,7 +267,8 @@ impl FlatLog {
         self.observe(&Hardening { index, of }, seen)
     }
 
-    /// Makes the entry gone with this cause if it is pending. It reads the pending entries alone, and does not allocate.
+    /// Makes the entry gone with this cause if it is pending. It reads the pending entries alone,
+    /// and does not allocate.
     #[tactic(auto, using(crate::proofs::Markings::gone_is))]
     pub fn gone(&mut self, index: u64, cause: Cause)
         requires some { 1 ≤ index }
@@ -274,8 +278,8 @@ impl FlatLog {
         self.mark(&Losing { index, cause });
     }
 
-    /// Makes the pending entries of a client that crashed gone, except those that a spare names. It reads the pending entries
-    /// alone, and does not allocate.
+    /// Makes the pending entries of a client that crashed gone, except those that a spare names. It
+    /// reads the pending entries alone, and does not allocate.
     #[tactic(auto, using(crate::proofs::Markings::drop_picked_is))]
     pub fn crash(&mut self, client: ClientId, spared: &[Spare])
         ensures { self.new ≡ walks.without_crashed client spared.now self.old }
@@ -283,7 +287,8 @@ impl FlatLog {
         self.mark(&Crashing { client, spared });
     }
 
-    /// Adds what is observed when this client crashes. If it runs out of memory, `seen` may hold a part of it.
+    /// Adds what is observed when this client crashes. If it runs out of memory, `seen` may hold a
+    /// part of it.
     #[tactic(auto, using(crate::proofs::Markings::drop_picked_is))]
     pub fn observe_crash(
         &self,
@@ -296,7 +301,8 @@ impl FlatLog {
         self.observe(&Crashing { client, spared }, seen)
     }
 
-    /// Returns the number of the client's latest entry to a page, or 0. It is one look-up, and does not allocate.
+    /// Returns the number of the client's latest entry to a page, or 0. It is one look-up, and does
+    /// not allocate.
     pub fn latest(&self, client: ClientId, file: FileId, page: PageNo) -> u64
         ensures { result ≡ events.latest self.now client file page }
     {
@@ -306,8 +312,9 @@ impl FlatLog {
         }
     }
 
-    /// Returns the number of the last entry that touches the page and is not gone, if there is one. It reads the page's writes
-    /// and patches and the file's cuts alone, the last ones first, and does not allocate.
+    /// Returns the number of the last entry that touches the page and is not gone, if there is one.
+    /// It reads the page's writes and patches and the file's cuts alone, the last ones first, and
+    /// does not allocate.
     pub fn last(&self, file: FileId, page: PageNo) -> Option<u64>
         ensures last { result ≡ flat_log.last self.now file page }
         ensures content { LastTells self.now file page result }
@@ -319,7 +326,8 @@ impl FlatLog {
         option_of(later(of_page, of_cuts))
     }
 
-    /// Returns the bytes of a write, or zeros for a cut. The entry must not be a patch; `entry` tells which it is.
+    /// Returns the bytes of a write, or zeros for a cut. The entry must not be a patch; `entry`
+    /// tells which it is.
     pub fn bytes(&self, index: u64) -> &PageBytes
         requires whole { IfSome (option_map flat_log.head_of (flat_log.entry_at self.now index)) IsWhole }
         requires some { 1 ≤ index }
@@ -329,8 +337,9 @@ impl FlatLog {
         page_of(&self.entries[(index - 1) as usize], &self.zeros)
     }
 
-    /// Writes the bytes of a page into a slice of 4,096 bytes: zeros, changed by the entries that touch the page and are not
-    /// gone, in order. It reads the page's writes and patches and the file's cuts alone, and does not allocate.
+    /// Writes the bytes of a page into a slice of 4,096 bytes: zeros, changed by the entries that
+    /// touch the page and are not gone, in order. It reads the page's writes and patches and the
+    /// file's cuts alone, and does not allocate.
     pub fn content(&self, file: FileId, page: PageNo, into: &mut [u8])
         requires { length into.old ≡ 4096 }
         ensures { into.new ≡ flat_log.content self.now file page }

@@ -14,7 +14,8 @@ pub trait Marking {
 
     ghost becomes: { Self → ℕ → LogOwner → Fate };
 
-    /// Returns the fate that a pending entry gets, by its number, counted from 1, and its owner. `Pending` leaves it pending.
+    /// Returns the fate that a pending entry gets, by its number, counted from 1, and its owner.
+    /// `Pending` leaves it pending.
     fn fate_of(&self, number: u64, of: LogOwner) -> Fate
         ensures { result ≡ becomes self.now number of };
 }
@@ -27,7 +28,8 @@ fn same_owner(a: LogOwner, b: LogOwner) -> bool
             && a.page.0 == b.page.0)
 }
 
-/// The entry of number `index`, whose owner is `of`, becomes hard, and so each earlier entry of this owner.
+/// The entry of number `index`, whose owner is `of`, becomes hard, and so each earlier entry of
+/// this owner.
 #[derive(Clone, Copy, Debug)]
 pub struct Hardening {
     pub index: u64,
@@ -70,8 +72,8 @@ impl Marking for Losing {
     }
 }
 
-/// A command that was not reported carries the entry of number `index`. A crash spares this entry and the earlier ones of
-/// its owner.
+/// A command that was not reported carries the entry of number `index`. A crash spares this entry
+/// and the earlier ones of its owner.
 #[derive(Clone, Copy, Debug)]
 pub struct Spare {
     pub index: u64,

@@ -34,7 +34,7 @@ fn put_fate(entries: &mut [LogEntry], k: usize, fate: Fate)
     entries[k].fate = fate;
 }
 
-/// Writes a place behind the kept ones if the fate is pending, and returns the count of kept places.
+/// Writes a place after the kept ones if the fate is pending, and returns the count of kept places.
 fn keep(places: &mut [usize], kept: usize, k: usize, fate: Fate) -> usize
     requires { kept < length places.old }
     ensures kept { take result places.new ≡ take kept places.old ++ walks.if_pending fate k }
@@ -49,8 +49,8 @@ fn keep(places: &mut [usize], kept: usize, k: usize, fate: Fate) -> usize
     kept
 }
 
-/// Marks the pending entries, whose places these are. The places that stay pending come first afterwards; it returns their
-/// count.
+/// Marks the pending entries, whose places these are. The places that stay pending come first
+/// afterwards; it returns their count.
 pub(crate) fn mark_places<M: Marking>(
     entries: &mut [LogEntry],
     places: &mut [usize],

@@ -1,4 +1,5 @@
-// What the entries of a log say of one page: the last one that counts, and the bytes that they give.
+// What the entries of a log say of one page: the last one that counts, and the bytes that they
+// give.
 ghost use Rattle.std.specs.Prelude.{◌≡◌, ◌+◌, ◌<◌, ◌≤◌, ◌&&◌, if◌then◌else◌, nat_le, ℕ, length, get_or, max};
 ghost use Rattle.st_base.specs.Page.{filled};
 ghost use Rattle.st_model.specs.PagePlaces as by_page;
@@ -42,8 +43,8 @@ fn matters(entry: &LogEntry, file: FileId, page: PageNo) -> bool
     touches(entry, file, page) && counts(entry.fate)
 }
 
-/// Returns the number of the last entry at these places that touches the page and is not gone, or 0. It stops at the first
-/// such place from the back.
+/// Returns the number of the last entry at these places that touches the page and is not gone, or
+/// 0. It stops at the first such place from the back.
 pub(crate) fn last_among(entries: &[LogEntry], places: &[usize], file: FileId, page: PageNo) -> u64
     requires { (i : ℕ) → i < length places.now → get_or places.now i 0 < length entries.now }
     ensures { result ≡ by_page.last_place (flat_log.matters file page) entries.now 0 places.now }
@@ -124,15 +125,16 @@ fn is_write(change: &Change) -> bool
     }
 }
 
-/// Tells whether nothing of the page is left from before the entry at place `k`: a write that is not gone.
+/// Tells whether nothing of the page is left from before the entry at place `k`: a write that is
+/// not gone.
 fn covers(entry: &LogEntry, k: u64, from: u64, file: FileId, page: PageNo) -> bool
     ensures { result ≡ nat_le from k && (flat_log.matters file page entry.now && by_page.is_write entry.now.change) }
 {
     from <= k && (matters(entry, file, page) && is_write(&entry.change))
 }
 
-/// Returns the index, among the places, of the last write of the page that is not gone, or 0. The page does not depend on the
-/// entries at the places in front of it.
+/// Returns the index, among the places, of the last write of the page that is not gone, or 0. The
+/// page does not depend on the entries at the places before it.
 fn last_write(
     entries: &[LogEntry],
     places: &[usize],
@@ -154,8 +156,8 @@ fn last_write(
     0
 }
 
-/// Changes a page by the entries at these places, except the places below `from`. It reads the entries from the last write
-/// that is not gone on.
+/// Changes a page by the entries at these places, except the places below `from`. It reads the
+/// entries from the last write that is not gone on.
 pub(crate) fn page_after(
     entries: &[LogEntry],
     places: &[usize],

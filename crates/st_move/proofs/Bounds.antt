@@ -1,4 +1,4 @@
--- What the calls of a server need stands after every list of events.
+-- What the calls of a server need holds after every list of events.
 use Rattle.std.proofs.Common.{◌≡◌, ◌≢◌, ℕ, suc, ◌+◌, ◌≤◌, ◌<◌, ◌⊎◌, Bool, true, false, List, [], ◌∷◌, ◌++◌, length, map, Option, Some, None, refl, sym, ap, ◌∙◌, subst, inl, inr, arith, lt-ltb}
 use Rattle.std.specs.Prelude.{zero, pred, if◌then◌else◌, ◌==◌, Result, Ok, Err}
 use Rattle.std.specs.List.{list_all}

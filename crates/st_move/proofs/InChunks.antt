@@ -1,4 +1,4 @@
--- Where an update stands in chunks.
+-- Where an update is in chunks.
 use Rattle.std.proofs.Common.{◌≡◌, ℕ, zero, suc, ◌+◌, ◌-◌, ◌*◌, ◌/◌, ◌%◌, ◌<◌, ◌≤◌, true, List, [], ◌∷◌, ◌++◌, length, Some, slice_get, refl, sym, ap, ◌∙◌, subst, arith, append_assoc, length-append}
 use Rattle.std.specs.List.{list_all}
 use Rattle.std.proofs.lemmas.Bool.{eqb-true}
@@ -63,7 +63,7 @@ pub get_in_chunk : (cs : List (List (List ℕ))) (us : List (List ℕ)) (i : ℕ
 get_in_chunk cs us i c u all at there =
     ap (slice_get (in_chunks cs ++ us)) (sym (div-add-mod' i 32)) ∙ in_chunk cs us (i / 32) (i % 32) c u all at there
 
--- a place behind them is one of the updates there
+-- a place after them is one of the updates there
 pub behind_place : (cs : List (List (List ℕ))) (us vs : List (List ℕ)) (n i : ℕ) → list_all is_chunk cs ≡ true → in_chunks cs ++ us ≡ vs → n ≡ length cs → n * 32 ≤ i → i < length vs
     → i - n * 32 < length us
 behind_place cs us vs n i all is e past h =
@@ -71,7 +71,7 @@ behind_place cs us vs n i all is e past h =
     let v = ap length is in
     omega (arith, k, v, e, past, h)
 
--- and what stands there
+-- and what is there
 pub get_behind : (cs : List (List (List ℕ))) (us : List (List ℕ)) (i : ℕ) (u : List ℕ) → list_all is_chunk cs ≡ true → length cs * 32 ≤ i
     → slice_get us (i - length cs * 32) ≡ Some u → slice_get (in_chunks cs ++ us) i ≡ Some u
 get_behind cs us i u all past there =

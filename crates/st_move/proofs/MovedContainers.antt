@@ -1,4 +1,4 @@
--- What stands of one container through ticks and messages.
+-- What holds of one container through ticks and messages.
 use Rattle.std.proofs.Common.{◌≡◌, ◌≢◌, ℕ, ◌+◌, ◌≤◌, ◌<◌, ◌⊎◌, Bool, true, false, List, Option, Some, None, refl, sym, ap, ◌∙◌, subst, inl, inr, arith, eqb, lt-ltb, le-ltb}
 use Rattle.std.specs.Prelude.{if◌then◌else◌, ◌&&◌, not, ◌==◌, nat_lt}
 use Rattle.std.proofs.lemmas.Bool.Decides.{eqb_tells}

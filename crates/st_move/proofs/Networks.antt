@@ -54,7 +54,7 @@ with_numbered_at xs n p x e = let g : n ≡ suc p = e ∙ omega arith in ap (λ 
 told_same : (w : MoveWorld) (s : ServerId) (x : MoveSite) (a : MoveAnswer) → numbered w.sites s.0 ≡ Some x → told w a ≡ told (with_site s x w) a
 told_same w s x a e = ap (λ xs. told (record { sites = xs; sent = w.sent }) a) (sym (numbered_same w.sites s.0 x e))
 
--- refusals other than want of memory
+-- refusals other than lack of memory
 counts_refused : {S : Type 0} (count : S → ℕ) (old new : S) (e : MoveRefusal) (rule : Result S MoveRefusal) → e ≢ refusals.Memory → Counts count old new (Err e) rule → (rule ≡ Err e) × (new ≡ old)
 counts_refused count old new refusals.Memory rule n h = absurd (n refl)
 counts_refused count old new (refusals.NoContainer c) rule n h = h
@@ -267,7 +267,7 @@ unfolding lose_at
 lose_sent w k p m e f l =
     ap (lose_at w k) (numbered_at w.sent k p m e f) ∙ if_false m.lost _ _ l ∙ ap (λ ms. turned (record { sites = w.sites; sent = ms }) []) (with_numbered_at w.sent k p (lost_move m) e)
 
--- One more message is told.
+-- One more message is reported.
 pub sends_more : (k : ℕ) (ms : List SentMove) (m : SentMove) → sends_behind k (ms ++ m ∷ []) ≡ sends_behind k ms ++ Sends (k + length ms + 1) m ∷ []
 unfolding sends_behind
 sends_more k [] m = let e : k + 1 ≡ k + 0 + 1 = omega arith in ap (λ n. Sends n m ∷ []) e

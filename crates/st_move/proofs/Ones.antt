@@ -118,7 +118,7 @@ few_files containers n l a =
         let e : x ≡ h.0.ino = h.2 in
         (omega arith, omega arith)
 
--- no row of client 1 stands against it
+-- no row of client 1 conflicts with it
 none_against : (c : ℕ) (rows : List LockRow) → ((r : LockRow) → Has r rows → r.client ≡ one) → list_any (stands_against one c modes.X) rows ≡ false
 none_against c [] f = refl
 none_against c (r ∷ rows) f = ap (λ b. b || list_any (stands_against one c modes.X) rows) (alone (r.ino == c)) ∙ none_against c rows (λ q i. f q (inr i))

@@ -1,4 +1,4 @@
--- Every list of events keeps what stands, and from that the law.
+-- Every list of events keeps the invariant, and from that follows the law.
 use Rattle.std.proofs.Common.{◌≡◌, ◌≢◌, ℕ, suc, ◌+◌, ◌%◌, ◌≤◌, ◌<◌, ◌⊎◌, Bool, true, false, List, [], ◌∷◌, ◌++◌, length, Option, Some, None, refl, sym, ap, ◌∙◌, subst, inl, inr, arith, eqb, true≢false}
 use Rattle.std.specs.Prelude.{zero, if◌then◌else◌, slice_get, Result, Ok, Err}
 use Rattle.std.proofs.lemmas.Bool.Decides.{eqb_tells}
@@ -234,7 +234,7 @@ module _ (servers containers : ℕ) (some : 1 ≤ servers) where
       tokens zero i = let l : 1 ≤ zero = i.some in absurd (omega arith)
       tokens (suc n) i = let l : suc n ≤ containers = i.known in fresh_token n (omega arith)
 
--- From what stands the law follows.
+-- The law follows from the invariant.
 module _ (containers : ℕ) (h : MoveHistory) (st : Stands containers h) where
   record_known : (c s : ℕ) (r : ContainerRecord) → record_at h.world c s ≡ Some r → IsContainer containers c
   record_known c s r e = go (numbered h.world.sites s) refl e

@@ -1,4 +1,4 @@
--- What stands of every container in every run, event by event.
+-- What holds of every container in every run, event by event.
 use Rattle.std.proofs.Common.{◌≡◌, ◌≢◌, ℕ, suc, ◌≤◌, ◌⊎◌, Bool, true, false, List, [], ◌∷◌, ◌++◌, length, map, Option, Some, None, refl, sym, ap, ◌∙◌, subst, inl, inr, arith, eqb}
 use Rattle.std.specs.Prelude.{zero, ◌==◌}
 use Rattle.std.proofs.lemmas.Bool.Decides.{eqb_tells}

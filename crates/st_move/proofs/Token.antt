@@ -1,5 +1,5 @@
--- What stands of one container in every run, by its records at the servers: one server has the accepted updates, and every other has an older
--- record, or none. What each thing that happens to a record does to that.
+-- What holds of one container in every run, by its records at the servers: one server has the accepted updates, and every other has an older record, or none.
+-- What each change of a record does to that.
 use Rattle.std.proofs.Common.{◌≡◌, ◌≢◌, ℕ, ◌+◌, ◌≤◌, ◌⊎◌, Bool, true, false, List, Option, Some, None, refl, sym, ap, ◌∙◌, subst, inl, inr, arith}
 use Rattle.st_base.specs.declared.ids.ServerId.{ServerId}
 use Rattle.st_lemmas.specs.Lists.{Has}
@@ -103,7 +103,7 @@ received_grows c rec new top accepted after kept next to (Image d v us) g way h 
     go (inl p) = inl (g to.0 v p.0, p.1)
     go (inr q) = let w : (next ≡ Sent to) × (after ≡ accepted) = way to q.0 in inr (w.0, q.1, q.2 ∙ sym w.1)
 
--- what has to hold of a change after which the same server has the container, in the same greatest version
+-- what must hold of a change after which the same server has the container, in the same greatest version
 pub record Keeps {c : ℕ} {rec : Records} {row : ℕ → Bool} {accepted : List (List ℕ)} {ms : List SentMove} (t : Token c rec row accepted ms) (new : Records) (lock : ℕ → Bool) (after : List (List ℕ)) (sent : List SentMove) : Type 0 where
   pub kept : ContainerRecord
   pub here : new t.holder ≡ Some kept

@@ -1,4 +1,4 @@
--- How a list of updates is kept: in chunks, and behind them the rest.
+-- How a list of updates is kept: in chunks, and after them the rest.
 use Rattle.std.specs.Prelude.{ℕ, Bool, List, [], ◌==◌, length, flat_map}
 use Rattle.st_move.specs.declared.chunks.Chunks.{Chunks}
 use Rattle.st_move.specs.declared.chunks.Chunks.TheVariants.{Empty, Shared}

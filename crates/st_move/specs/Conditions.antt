@@ -1,4 +1,4 @@
--- What the calls of a server need stands after every list of events.
+-- What the calls of a server need holds after every list of events.
 use Rattle.std.specs.Prelude.{◌≡◌, ◌≤◌, ◌<◌, ◌+◌, ◌^◌, ℕ, true, List, length, Some, Ok}
 use Rattle.std.specs.List.{list_all}
 use Rattle.st_base.specs.declared.mode.Mode.TheVariants as modes
@@ -21,7 +21,7 @@ pub record CanLock (l : Locks) : Type 0 where
   pub acquires : (c : ℕ) → (v : Verdict) × (acquire l one first c modes.X true ≡ Ok (acquired (locked l c) v))
   pub releases : (c : ℕ) (r : LockRow) → row_of l one c ≡ Some r → r.life ≡ first
 
--- After so many events.
+-- After that many events.
 pub record CanGoOn (servers containers events : ℕ) (w : MoveWorld) : Type 0 where
   -- there are these servers, and each knows these containers
   pub servers_are : length w.sites ≡ servers

@@ -134,7 +134,7 @@ after_put m c u = changed m c (updated u (held m c))
 abbrev pub with_state : ContainerRecord → ContainerState → ContainerRecord
 with_state r s = record { version = r.version; state = s; updates = r.updates }
 
--- the record that leaves, unless it is to stay where it is
+-- the record that leaves, unless it should stay where it is
 unfoldable pub ordered : ServerId → ServerId → Result ContainerRecord MoveRefusal → Result ContainerRecord MoveRefusal
 ordered server to (Ok r) = if same_server to server then Err refusals.Same else Ok (with_state r (Leaving to))
 ordered server to (Err e) = Err e

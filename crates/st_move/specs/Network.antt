@@ -22,7 +22,7 @@ use Rattle.st_move.specs.World.{MoveTurn, MoveWorld, told, with_site}
 abbrev pub DoesAt : MoveSite → MoveSite → MoveAnswer → (MoveWorld → ServerId → MoveTurn) → Type 0
 DoesAt old new answer rule = (w : MoveWorld) (s : ServerId) → numbered w.sites s.0 ≡ Some old → rule w s ≡ told (with_site s new w) answer
 
--- the answer to a refusal, which is not want of memory
+-- the answer to a refusal, which isn't lack of memory
 abbrev pub Refuses : MoveRefusal → MoveAnswer → Type 0
 Refuses why answer = (answer ≡ Refused why) × (why ≢ refusals.Memory)
 

@@ -21,6 +21,6 @@ pub record AreUpdates (us : List (List ℕ)) : Type 0 where
   pub each : list_all is_update us ≡ true
   pub few : bytes_of us ≤ most_bytes
 
--- One more update goes last, unless there would be too many bytes: then their number is told.
+-- One more update goes last, unless there would be too many bytes: then their number is reported.
 unfoldable pub added : List (List ℕ) → List ℕ → Result (List (List ℕ)) MoveRefusal
 added us u = if nat_le (bytes_of us + length u) most_bytes then Ok (us ++ u ∷ []) else Err (refusals.Full (bytes_of us + length u))

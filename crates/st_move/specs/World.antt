@@ -41,12 +41,12 @@ server n = record { 0 = n }
 abbrev pub fresh_site : ℕ → ℕ → ℕ → MoveSite
 fresh_site servers containers s = record { containers = fresh_containers (server s) servers containers; locks = no_locks (record { 0 = 1 }) }
 
--- so many servers behind this one, as they begin
+-- that many servers after this one, as they begin
 unfoldable pub sites_behind : ℕ → ℕ → ℕ → ℕ → List MoveSite
 sites_behind servers containers s zero = []
 sites_behind servers containers s (suc n) = fresh_site servers containers (s + 1) ∷ sites_behind servers containers (s + 1) n
 
--- so many servers with so many containers
+-- that many servers with so many containers
 abbrev pub fresh_world : ℕ → ℕ → MoveWorld
 fresh_world servers containers = record { sites = sites_behind servers containers 0 servers; sent = [] }
 
@@ -133,11 +133,11 @@ unfoldable pub order_at : MoveWorld → ServerId → ℕ → ServerId → Option
 order_at w s c to None = told w (NoServer s)
 order_at w s c to (Some x) = order_for w s x c to (numbered w.sites to.0)
 
--- Sending: a message goes last, and its number is told.
+-- Sending: a message goes last, and its number is returned.
 abbrev pub sent_move : ServerId → ServerId × MoveMessage → SentMove
 sent_move from p = record { from = from; to = p.0; message = p.1; lost = false }
 
--- the messages that are told, numbered behind this one
+-- the messages that are reported, numbered after this one
 unfoldable pub sends_behind : ℕ → List SentMove → List MoveAnswer
 sends_behind k [] = []
 sends_behind k (m ∷ ms) = Sends (k + 1) m ∷ sends_behind (k + 1) ms

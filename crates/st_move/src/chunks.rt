@@ -31,8 +31,8 @@ enum Chunks {
     Shared(Rc<Vec<Chunk>>),
 }
 
-/// A list of updates: chunks of 32, which its copies share, and behind them those that it has alone. Contracts see it as a list of
-/// lists of bytes.
+/// A list of updates: chunks of 32, which its copies share, and after them those that only it has.
+/// Contracts see it as a list of lists of bytes.
 #[derive(Drop)]
 pub(crate) struct UpdateList {
     chunks: Chunks,
@@ -219,8 +219,8 @@ impl UpdateList {
         Ok(())
     }
 
-    /// One more update goes last. Each 32nd one takes a copy of a pointer for each chunk. Where memory runs out the list stays as it
-    /// is.
+    /// One more update goes last. Each 32nd one takes a copy of a pointer for each chunk. If memory
+    /// runs out the list stays as it is.
     pub(crate) fn push(&mut self, update: Update) -> Result<(), AllocError>
         ensures ok { OnOk result (self.new ≡ self.old ++ update ∷ []) }
         ensures err { OnErr result (self.new ≡ self.old) }
@@ -230,8 +230,8 @@ impl UpdateList {
         Ok(())
     }
 
-    /// A copy. It shares the chunks, and takes a copy of a pointer for each update that the list has alone: at most 32, but for a list
-    /// that was made by `from_vec`.
+    /// A copy. It shares the chunks, and takes a copy of a pointer for each update that the list
+    /// has alone: at most 32, except for a list that was made by `from_vec`.
     pub(crate) fn copy(&self) -> Result<UpdateList, AllocError>
         ensures { IfOk result (λ us. us ≡ self.now) }
     {

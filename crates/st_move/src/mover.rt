@@ -16,8 +16,8 @@ use st_locks::LockTable;
 use std::alloc::{AllocError, Global};
 use std::marker::Model;
 
-/// The containers of one server. Contracts see its number and, by the number of each container from 1, the record that it
-/// has of the container, if it has one.
+/// The containers of one server. Contracts see its number and, by the number of each container from
+/// 1, the record that it has of the container, if it has one.
 #[derive(Drop)]
 pub struct Mover {
     server: ServerId,
@@ -70,8 +70,9 @@ fn beginnings(
 }
 
 impl Mover {
-    /// The containers 1 to `count` as they begin: container c is held by server `1 + (c - 1) mod servers`, in version 1
-    /// and without updates. There is a server at least. It takes memory for a record of each container.
+    /// The containers 1 to `count` as they begin: container c is held by server
+    /// `1 + (c - 1) mod servers`, in version 1 and without updates. There is a server at least. It
+    /// takes memory for a record of each container.
     pub fn new(
         alloc: Global,
         server: ServerId,
@@ -108,7 +109,8 @@ impl Mover {
         }
     }
 
-    /// Whether the server serves the container: it holds it, and is not about to send it. It takes constant time.
+    /// Whether the server serves the container: it holds it, and is not about to send it. It takes
+    /// constant time.
     pub fn serves(&self, c: u32) -> bool
         ensures { result ≡ containers.serves self.now c }
     {
@@ -132,7 +134,7 @@ impl Mover {
         Ok(&record.updates)
     }
 
-    /// Whether a put or an order on the container may come now, and else why it is refused.
+    /// Whether a put or an order on the container may come now, and otherwise why it is refused.
     ///
     /// # Errors
     /// `NoContainer`, `Absent`, `Leaving` and `Redirect`.
@@ -145,12 +147,12 @@ impl Mover {
         record.may_change()
     }
 
-    /// Adds an update of 1 to 139 bytes, and returns the number of updates. It takes the time of a copy of the update, and each
-    /// 32nd time that of a pointer for each 32 updates.
+    /// Adds an update of 1 to 139 bytes, and returns the number of updates. It takes the time of a
+    /// copy of the update, and each 32nd time that of a pointer for each 32 updates.
     ///
     /// # Errors
-    /// `NoContainer`, `Absent`, `Leaving` and `Redirect`; `Full` where the updates would have more than 60,000 bytes; `Memory`
-    /// where memory runs out. Then nothing changed.
+    /// `NoContainer`, `Absent`, `Leaving` and `Redirect`; `Full` where the updates would have more
+    /// than 60,000 bytes; `Memory` if memory runs out. Then nothing changed.
     pub fn put(&mut self, c: u32, update: &[u8]) -> Result<u32, MoveRefusal>
         requires { is_update update.now ≡ true }
         ensures { Counts (count_at c) self.old self.new result (containers.after_put self.old c update.now) }
@@ -162,8 +164,8 @@ impl Mover {
     /// The container is to move to another server, as soon as nobody has a lock row of it.
     ///
     /// # Errors
-    /// `NoContainer`, `Absent`, `Leaving` and `Redirect`; `Same` where the order is to move it to this server. Then nothing
-    /// changed.
+    /// `NoContainer`, `Absent`, `Leaving` and `Redirect`; `Same` where the order is to move it to
+    /// this server. Then nothing changed.
     pub fn order(&mut self, c: u32, to: ServerId) -> Result<(), MoveRefusal>
         ensures { Answers self.old self.new result (containers.after_order self.old c to) }
     {
@@ -172,10 +174,11 @@ impl Mover {
         order_in(&mut self.records[place], server, to)
     }
 
-    /// Sends the containers that are to leave and of which nobody has a lock row, and sends again those that were sent and are
-    /// not known to be taken, by rising container: each image with the server that it is for. It looks at every container. An
-    /// image shares the container's updates, and takes constant time. No version is the last that a `u64` holds. Where memory runs
-    /// out nothing changed.
+    /// Sends the containers that must leave and of which nobody has a lock row, and sends again
+    /// those that were sent and aren't known to be taken, by rising container: each image with the
+    /// server that it is for. It looks at every container. An image shares the container's updates,
+    /// and takes constant time. No version is the last that a `u64` holds. If memory runs out,
+    /// nothing changed.
     pub fn tick(&mut self, locks: &LockTable) -> Result<Vec<(ServerId, MoveMessage)>, AllocError>
         requires { list_all containers.has_next self.old.records ≡ true }
         ensures ok { OnOk result (self.new ≡ containers.after_tick self.old locks.now) }
@@ -189,8 +192,9 @@ impl Mover {
         Ok(images)
     }
 
-    /// Takes a message on a container from 1 to the number of containers, and returns the answer to an image. It shares the
-    /// updates of an image that it keeps. Where memory runs out nothing changed.
+    /// Takes a message on a container from 1 to the number of containers, and returns the answer to
+    /// an image. It shares the updates of an image that it keeps. If memory runs out, nothing
+    /// changed.
     #[tactic(auto, unfolding(crate::specs::Containers::taken_at))]
     pub fn take(&mut self, message: &MoveMessage) -> Result<Option<MoveMessage>, AllocError>
         requires some { 1 ≤ containers.container_of message.now }

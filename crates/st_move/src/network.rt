@@ -8,8 +8,8 @@ use crate::world::{MoveAnswer, MoveEvent};
 use std::alloc::{AllocError, Global};
 use std::marker::Model;
 
-/// Servers with containers, their lock tables, and every message that was sent between them. Contracts see it as the world of the
-/// definitions and the number of events that led to it.
+/// Servers with containers, their lock tables, and every message that was sent between them.
+/// Contracts see it as the world of the definitions and the number of events that led to it.
 #[derive(Drop)]
 pub struct MoveNetwork {
     parts: MoveWorld,
@@ -30,7 +30,8 @@ impl Model for MoveNetwork {
 }
 
 impl MoveNetwork {
-    /// Servers 1 to `servers`, of which there is one at least, with containers 1 to `containers`, fewer than 1,024, as they begin.
+    /// Servers 1 to `servers`, of which there is one at least, with containers 1 to `containers`,
+    /// fewer than 1,024, as they begin.
     pub fn new(alloc: Global, servers: u16, containers: u32) -> Result<MoveNetwork, AllocError>
         requires some { 1 ≤ servers }
         requires few { containers < 1024 }
@@ -47,12 +48,13 @@ impl MoveNetwork {
         })
     }
 
-    /// One event happens. The result is what is answered to it, in order. Where memory runs out nothing is known of the network, and
-    /// every later event runs out of memory too: discard it.
+    /// One event happens. The result is what is answered to it, in order. If memory runs out
+    /// nothing is known of the network, and every later event runs out of memory too: discard it.
     ///
-    /// A put takes the time of a copy of its update, and each 32nd one of a container that of a pointer for each 32 of its updates.
-    /// An order, a list and a delivered message take constant time, since updates are shared; a lock and an unlock that of the lock
-    /// table; a tick looks at every container, and takes constant time for an image.
+    /// A put takes the time of a copy of its update, and each 32nd one of a container that of a
+    /// pointer for each 32 of its updates. An order, a list and a delivered message take constant
+    /// time, since updates are shared; a lock and an unlock that of the lock table; a tick looks at
+    /// every container, and takes constant time for an image.
     pub fn happens(&mut self, event: &MoveEvent) -> Result<Vec<MoveAnswer>, AllocError>
         requires { self.old.events < 2 ^ 31 }
         ensures exact { IfOk result (λ v. worlds.happens self.old.world event.now ≡ turned self.new.world v.items) }

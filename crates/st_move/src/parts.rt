@@ -68,7 +68,7 @@ fn addressed(
     }
 }
 
-/// A message goes last, and its number is told.
+/// A message goes last, and its number is returned.
 fn send_one(
     sent: &mut Vec<SentMove>,
     answers: &mut Vec<MoveAnswer>,
@@ -83,7 +83,7 @@ fn send_one(
     Ok(())
 }
 
-/// Messages of one server go last, and their numbers are told.
+/// Messages of one server go last, and their numbers are returned.
 fn send_all(
     alloc: Global,
     sent: &mut Vec<SentMove>,
@@ -290,7 +290,7 @@ impl MoveWorld {
         }
     }
 
-    /// One event happens, and is answered. Where memory runs out nothing is known of the world.
+    /// One event happens, and is answered. If memory runs out nothing is known of the world.
     #[tactic(auto, unfolding(crate::specs::World::happens))]
     pub(crate) fn happens(&mut self, event: &MoveEvent) -> Result<Vec<MoveAnswer>, AllocError>
         requires { CanHappen self.old }

@@ -9,7 +9,7 @@ use crate::updates::Updates;
 use st_base::ServerId;
 use std::alloc::{AllocError, Global};
 
-/// How a container stands at a server that has a record of it.
+/// The state of a container at a server that has a record of it.
 #[derive(Clone, Copy, Debug, PartialEq, Eq)]
 pub enum ContainerState {
     /// The server holds it.
@@ -22,8 +22,8 @@ pub enum ContainerState {
     Gone(ServerId),
 }
 
-/// What a server has of a container: the container's version, how it stands, and its updates, of which there are none once
-/// it is gone. The version is 1 at first, and one more after each move.
+/// What a server has of a container: the container's version, its state, and its updates, of which
+/// there are none once it is gone. The version is 1 at first, and one more after each move.
 #[derive(Drop)]
 pub struct ContainerRecord {
     pub version: u64,
@@ -136,7 +136,7 @@ impl ContainerRecord {
         self.add(update)
     }
 
-    /// The container is to leave, if it may and is to go to another server.
+    /// The container must leave, if it may and should go to another server.
     #[tactic(auto, unfolding(crate::specs::Containers::ordered, crate::specs::Containers::changeable))]
     fn order(&mut self, server: ServerId, to: ServerId) -> Result<(), MoveRefusal>
         ensures { calls.Answers self.old self.new result (containers.ordered server to (containers.changeable (Ok self.old))) }

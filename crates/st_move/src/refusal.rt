@@ -5,8 +5,8 @@ use st_base::ServerId;
 use std::alloc::{AllocError, AllocFailed};
 use thiserror::Error;
 
-/// Why a server refuses a call on a container. Where several hold, the first of this list is answered, but for `Same`,
-/// which comes before `Full`.
+/// Why a server refuses a call on a container. Where several hold, the first of this list is
+/// answered, except for `Same`, which comes before `Full`.
 #[derive(Clone, Copy, Debug, PartialEq, Eq, Error)]
 pub enum MoveRefusal {
     /// There is no container of this number.
@@ -21,7 +21,7 @@ pub enum MoveRefusal {
     /// The container was sent to this server, under this version.
     #[error("the container was sent to another server")]
     Redirect(ServerId, u64),
-    /// The updates would have so many bytes, more than 60,000.
+    /// The updates would have that many bytes, more than 60,000.
     #[error("the updates would have {0} bytes")]
     Full(u64),
     /// The order is to move the container to where it is.

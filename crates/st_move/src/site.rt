@@ -43,7 +43,8 @@ fn refused(refusal: MoveRefusal) -> Result<MoveAnswer, AllocError>
     }
 }
 
-/// What is left of a lock that is refused: want of memory, since what a lock needs rules out the other refusals.
+/// What is left of a lock that is refused: lack of memory, since what a lock needs rules out the
+/// other refusals.
 fn lock_refused(refusal: LockRefusal) -> Result<(), AllocError>
     ensures { OnOk result (refusal ≢ lock_refusals.Memory) }
 {

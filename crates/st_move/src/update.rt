@@ -6,7 +6,8 @@ use std::alloc::{AllocError, Global};
 use std::marker::Model;
 use std::rc::Rc;
 
-/// An update of a container: 1 to 139 bytes, which its copies share. Contracts see it as the list of these bytes.
+/// An update of a container: 1 to 139 bytes, which its copies share. Contracts see it as the list
+/// of these bytes.
 #[derive(Drop)]
 pub struct Update {
     bytes: Rc<Vec<u8>>,

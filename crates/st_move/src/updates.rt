@@ -10,8 +10,8 @@ use crate::update::Update;
 use std::alloc::{AllocError, Global};
 use std::marker::Model;
 
-/// The updates of a container, in the order in which they were accepted: at most 60,000 bytes together. Copies share almost all
-/// of them. Contracts see them as a list of lists of bytes.
+/// The updates of a container, in the order in which they were accepted: at most 60,000 bytes
+/// together. Copies share almost all of them. Contracts see them as a list of lists of bytes.
 #[derive(Drop)]
 pub struct Updates {
     items: UpdateList,
@@ -40,8 +40,9 @@ impl Updates {
         }
     }
 
-    /// Makes updates of these, which have at most 60,000 bytes together. It takes no memory, and time for a look at each. What it
-    /// makes is not shared: a copy of it copies a pointer for each update. Copies of that copy share it.
+    /// Makes updates of these, which have at most 60,000 bytes together. It takes no memory, and
+    /// time for a look at each. What it makes is not shared: a copy of it copies a pointer for each
+    /// update. Copies of that copy share it.
     pub fn from_vec(items: Vec<Update>) -> Updates
         requires { updates.bytes_of items.items ≤ updates.most_bytes }
         ensures { result ≡ items.items }
@@ -83,7 +84,8 @@ impl Updates {
     /// Adds a copy of an update of 1 to 139 bytes, and returns the number of updates.
     ///
     /// # Errors
-    /// `Full` where the updates would have more than 60,000 bytes; `Memory` where memory runs out. Then nothing changed.
+    /// `Full` where the updates would have more than 60,000 bytes; `Memory` if memory runs out.
+    /// Then nothing changed.
     #[tactic(auto, unfolding(crate::specs::Updates::added))]
     pub fn push(&mut self, update: &[u8]) -> Result<u32, MoveRefusal>
         requires { updates.is_update update.now ≡ true }
@@ -99,7 +101,8 @@ impl Updates {
         Ok(self.len() as u32)
     }
 
-    /// Returns a copy of the updates. It takes constant time: a copy of at most 32 pointers, and more only of what `from_vec` made.
+    /// Returns a copy of the updates. It takes constant time: a copy of at most 32 pointers, and
+    /// more only of what `from_vec` made.
     pub fn copy(&self) -> Result<Updates, AllocError>
         ensures { IfOk result (λ us. us ≡ self.now) }
     {

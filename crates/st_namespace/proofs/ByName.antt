@@ -21,7 +21,7 @@ every_at P [] i d l a = let no : ⊥ = omega arith in absurd no
 every_at P (e ∷ es) zero d l a = a.0
 every_at P (e ∷ es) (suc i) d l a = every_at P es i d (omega arith) a.1
 
--- a later entry stands behind
+-- a later entry comes after
 pub behind_at : (es : List NameEntry) (i j : ℕ) (d : NameEntry) → AreByName es → i < j → j < length es → name_below (key_of (get_or es i d)) (key_of (get_or es j d)) ≡ true
 behind_at [] i j d o l m = let no : ⊥ = omega (arith, m) in absurd no
 behind_at (e ∷ es) zero zero d o l m = let no : ⊥ = omega (arith, l) in absurd no
@@ -76,11 +76,11 @@ tail_of (x ∷ xs) = xs
 
 -- The place that a search found.
 module _ (es : List NameEntry) (o : AreByName es) (dir : ℕ) (name : List ℕ) (place : ℕ) (before : (j : ℕ) (d : NameEntry) → j < place → stands_before dir name (get_or es j d) ≡ true) (behind : (j : ℕ) (d : NameEntry) → place ≤ j → j < length es → stands_before dir name (get_or es j d) ≡ false) where
-  -- all entries stand before the name
+  -- all entries come before the name
   pub all_before : length es ≤ place → list_any (is_entry_at dir name) es ≡ false
   all_before l = none_any (is_entry_at dir name) es (λ j d k. not_before dir name (get_or es j d) (before j d (omega (arith, k, l))))
 
-  -- where no entry has the name, the others stand behind it
+  -- where no entry has the name, the others come after it
   pub behind_fresh : list_any (is_entry_at dir name) es ≡ false → (j : ℕ) (d : NameEntry) → place ≤ j → j < length es → name_below (dir ∷ name) (key_of (get_or es j d)) ≡ true
   behind_fresh f j d k s = ⊎_elim
       (λ t. t)
@@ -91,7 +91,7 @@ module _ (es : List NameEntry) (o : AreByName es) (dir : ℕ) (name : List ℕ) 
       (cases_Bool (name_below (dir ∷ name) (key_of (get_or es j d))))
 
   module _ (a : NameEntry) (l : place < length es) (is : a ≡ get_or es place a) where
-    -- the first that does not stand before it has another name
+    -- the first that doesn't come before it has another name
     pub no_entry : is_entry_at dir name a ≡ false → list_any (is_entry_at dir name) es ≡ false
     no_entry f = none_any (is_entry_at dir name) es (λ j d k. ⊎_elim
         (λ (e : j ≡ place). ap (is_entry_at dir name) (ap (λ n. get_or es n d) e ∙ any_default es place d a l ∙ sym is) ∙ f)
@@ -103,7 +103,7 @@ module _ (es : List NameEntry) (o : AreByName es) (dir : ℕ) (name : List ℕ) 
         (cases_Bool (is_entry_at dir name (get_or es j d)))) c)
         (cases_order j place))
 
-    -- what stands behind the name, where the first that does not stand before it has it
+    -- what comes after the name, where the first that doesn't come before it has it
     pub behind_entry : is_entry_at dir name a ≡ true → (j : ℕ) (d : NameEntry) → place + 1 ≤ j → j < length es → name_below (dir ∷ name) (key_of (get_or es j d)) ≡ true
     behind_entry t j d k s = ap (λ x. name_below x (key_of (get_or es j d))) (sym (key_is dir name (get_or es place d) (ap (is_entry_at dir name) (any_default es place d a l ∙ sym is) ∙ t))) ∙ behind_at es place j d o (omega (arith, k)) s
 
@@ -137,7 +137,7 @@ pub dir_from : (dir : ℕ) (name : List ℕ) (e : NameEntry) → stands_before d
 unfolding name_below
 dir_from dir name e h = ⊎_elim (λ p. omega (arith, p.0)) (λ p. omega (arith, p)) (byte_not e.dir dir (name_below e.name name) h)
 
--- Whether a directory has entries: whether the first that does not stand before all its names is one.
+-- Whether a directory has entries: whether the first that doesn't come before all its names is one.
 module _ (es : List NameEntry) (o : AreByName es) (dir : ℕ) (place : ℕ) (before : (j : ℕ) (d : NameEntry) → j < place → stands_before dir [] (get_or es j d) ≡ true) where
   pub none_in : length es ≤ place → list_any (is_in dir) es ≡ false
   none_in l = none_any (is_in dir) es (λ j d k. dir_below dir (get_or es j d) (before j d (omega (arith, k, l))))

@@ -1,4 +1,4 @@
--- What is stored of entries: what is found, and what stands after a change.
+-- What is stored of entries: what is found, and what holds after a change.
 use Rattle.std.proofs.Common.{◌≡◌, ℕ, zero, suc, ◌<◌, ◌≤◌, Bool, true, false, cond, if◌then◌else◌, List, [], ◌∷◌, ◌++◌, length, get_or, map, filter, arith, refl, sym, ap, subst, ◌∙◌, ⊎_elim, true≢false}
 use Rattle.std.specs.Prelude.{◌&&◌, ◌||◌, ◌==◌, find, filter_map, insert, is_some, not, Option, Some, None, All}
 use Rattle.std.specs.Option.{option_map}
@@ -391,7 +391,7 @@ module _ (es : List NameEntry) (inodes : List Inode) (sorted : List NameEntry) (
         rising = rising_push es x s.rising low;
       }
 
--- The same, by what stands in the code.
+-- The same, by what is in the code.
 
 stored_with : (es : List NameEntry) (ns ns2 : List Inode) (so so2 : List NameEntry) → Stores es ns so → ns2 ≡ ns → so2 ≡ so → Stores es ns2 so2
 stored_with es ns ns2 so so2 s p q = subst (λ n. Stores es n so2) (sym p) (subst (λ l. Stores es ns l) (sym q) s)

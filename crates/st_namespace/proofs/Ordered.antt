@@ -7,7 +7,7 @@ use Rattle.std.proofs.lemmas.Bool.{cases_Bool, cases_eq, eq-eqb, eqb-true, or_pa
 use Rattle.st_base.specs.declared.names.NameRow.{NameRow}
 use Rattle.st_rules.specs.Names.{by_name, name_below, byte_below, with_name_row, row_placed}
 
--- Two bytes and what is behind them.
+-- Two bytes and what comes after them.
 pub byte_cases : (x y : ℕ) (r : Bool) → byte_below x y r ≡ true → ((x ≡ y) × (r ≡ true)) ⊎ (x < y)
 unfolding byte_below
 byte_cases x y r h = ⊎_elim

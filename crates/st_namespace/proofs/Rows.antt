@@ -28,7 +28,7 @@ any_row p q (e ∷ es) = ⊎_elim
 in_dir : (dir : ℕ) (after : List ℕ) (e : NameEntry) → is_listed dir after e ≡ true → e.dir ≡ dir
 in_dir dir after e h = eqb-true e.dir dir (and_parts (is_in dir e) (name_below after e.name) h).0
 
--- in one directory entries stand by their names
+-- in one directory entries are in the order of their names
 below_in : (a b : NameEntry) → a.dir ≡ b.dir → name_below (key_of a) (key_of b) ≡ true → name_below a.name b.name ≡ true
 unfolding name_below
 below_in a b e h = sym (byte_same a.dir b.dir (name_below a.name b.name) e) ∙ h
@@ -122,12 +122,12 @@ listed_in dir after e h = ⊎_elim
     always true = refl
     always false = refl
 
--- the rows above a name are those of the directory from the place behind it on
+-- the rows above a name are those of the directory from the place after it on
 pub rows_behind : (dir : ℕ) (after : List ℕ) (sorted : List NameEntry) (i : ℕ) → ((j : ℕ) (d : NameEntry) → j < i → name_below (dir ∷ after) (key_of (get_or sorted j d)) ≡ false) → ((j : ℕ) (d : NameEntry) → i ≤ j → j < length sorted → name_below (dir ∷ after) (key_of (get_or sorted j d)) ≡ true) → rows_of dir after sorted ≡ map name_row (filter (is_in dir) (drop i sorted))
 rows_behind dir after sorted i before behind =
     ap (map name_row) (filter_split (is_listed dir after) (is_in dir) sorted i (λ j d k l. listed_none dir after (get_or sorted j d) (before j d k)) (λ j d k l. listed_in dir after (get_or sorted j d) (behind j d k l)))
 
--- what stands behind a name of a directory is in no lower one
+-- what comes after a name of a directory is in no lower one
 pub dir_ahead : (dir : ℕ) (after : List ℕ) (e : NameEntry) → name_below (dir ∷ after) (key_of e) ≡ true → dir ≤ e.dir
 dir_ahead dir after e h = dir_up (record { dir = dir; name = after; ino = 0; directory = false }) e h
 

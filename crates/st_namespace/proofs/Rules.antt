@@ -85,7 +85,7 @@ module _ (n : Names) (d : ℕ) (m : List ℕ) where
     err_to (Ok k) = Err told.NoEntry
     err_to (Err r) = Err r
 
-    -- a refusal that is told is the rule's
+    -- a refusal that is reported is the rule's
     err_in : (t : Result Changed EntryRefusal) (r : NameRefusal) → Err r ≡ ino_told t → answer t ≡ Err r
     unfolding err_to
     err_in (Ok c) r h = absurd (true≢false (sym (ap is_ok h)))

@@ -35,7 +35,7 @@ module _ (es : List Inode) (ino : ℕ) (rising : AreRising es) (m : ℕ) (a : In
       (λ n. omega (arith, rising_at es j m d rising (omega (arith, k, n)) l, number_at d, h))
       (cases_eq j m)
 
-  -- it is not: neither is any behind it
+  -- it isn't: neither is any after it
   pub more_above : ino ≤ a.ino → (j : ℕ) (d : Inode) → m ≤ j → j < length es → ino ≤ (get_or es j d).ino
   more_above h j d k s = ⊎_elim
       (λ (e : j ≡ m). let q : (get_or es j d).ino ≡ a.ino = (λ i. (get_or es (e i) d).ino) ∙ sym (number_at d) in omega (arith, q, h))

@@ -7,7 +7,7 @@ use Rattle.st_rules.specs.declared.names.EntryRefusal.{EntryRefusal}
 use Rattle.st_rules.specs.declared.names.EntryRefusal.TheVariants as refusals
 use Rattle.st_rules.specs.Names.{Names, Changed}
 
--- the calls have the rules' refusals, and run out of memory besides
+-- the calls have the rules' refusals, and may also run out of memory
 abbrev pub as_told : EntryRefusal → NameRefusal
 as_told refusals.NoEntry = told.NoEntry
 as_told refusals.Exists = told.Exists

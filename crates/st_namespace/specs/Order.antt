@@ -17,8 +17,8 @@ abbrev pub IsRising : List NameEntry → Type 0
 IsRising [] = ⊤
 IsRising (e ∷ es) = AllByRecursion (λ d. e.ino < d.ino) es × IsRising es
 
--- No name stands twice in a directory, no inode has two entries, entries stand in the order of their inodes, the numbers of
--- inodes are below the next one, and there are fewer than 4,096 entries.
+-- No name occurs twice in a directory, no inode has two entries, entries are in the order of their inodes, the numbers of inodes are below the next one, and
+-- there are fewer than 4,096 entries.
 pub record IsInOrder (n : Names) : Type 0 where
   pub names : IsDistinct of_one_name n.entries
   pub inodes : IsDistinct of_one_inode n.entries

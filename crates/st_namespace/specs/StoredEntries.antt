@@ -18,15 +18,15 @@ has_number ino n = n.ino == ino
 abbrev pub moved_to : ℕ → Inode → Inode
 moved_to dir n = record n { dir = dir }
 
--- where an entry stands: its directory, and its name
+-- where an entry is: its directory, and its name
 abbrev pub key_of : NameEntry → List ℕ
 key_of e = e.dir ∷ e.name
 
--- the entry stands before a name in a directory
+-- the entry comes before a name in a directory
 abbrev pub stands_before : ℕ → List ℕ → NameEntry → Bool
 stands_before dir name e = name_below (key_of e) (dir ∷ name)
 
--- the entry stands behind a name in a directory
+-- the entry comes after a name in a directory
 abbrev pub stands_behind : ℕ → List ℕ → NameEntry → Bool
 stands_behind dir name e = name_below (dir ∷ name) (key_of e)
 

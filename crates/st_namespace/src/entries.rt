@@ -13,7 +13,8 @@ use st_rules::NameEntry;
 use std::alloc::{AllocError, Global};
 use std::marker::Model;
 
-/// What is kept of an inode beside its entry: its number, the directory of its entry, and whether it is a directory.
+/// What is kept of an inode beside its entry: its number, the directory of its entry, and whether
+/// it is a directory.
 #[derive(Clone, Copy, Debug, PartialEq, Eq)]
 pub struct Inode {
     pub ino: u32,
@@ -21,7 +22,8 @@ pub struct Inode {
     pub directory: bool,
 }
 
-/// The place of the first inode whose number is not below this one, or how many there are. The numbers rise.
+/// The place of the first inode whose number is not below this one, or how many there are. The
+/// numbers rise.
 fn place_of_ino(inodes: &[Inode], ino: u32) -> usize
     requires { AreRising inodes.now }
     ensures within { result ≤ length inodes.now }
@@ -121,7 +123,8 @@ fn is_entry_at(dir: u32, name: &[u8], entry: &NameEntry) -> bool
     entry.dir == dir && entry.name.as_slice() == name
 }
 
-/// The place of the first entry that does not stand before this name in this directory, or how many there are.
+/// The place of the first entry that doesn't come before this name in this directory, or how many
+/// there are.
 fn place_of(sorted: &[NameEntry], dir: u32, name: &[u8]) -> usize
     requires { AreByName sorted.now }
     ensures within { result ≤ length sorted.now }
@@ -171,7 +174,8 @@ fn has_entries(sorted: &[NameEntry], dir: u32) -> bool
     sorted[place].dir == dir
 }
 
-/// The place of the first entry that stands behind this name in this directory, or how many there are.
+/// The place of the first entry that comes after this name in this directory, or how many there
+/// are.
 fn place_behind(sorted: &[NameEntry], dir: u32, name: &[u8]) -> usize
     requires { AreByName sorted.now }
     ensures within { result ≤ length sorted.now }
@@ -189,8 +193,8 @@ fn place_behind(sorted: &[NameEntry], dir: u32, name: &[u8]) -> usize
     }
 }
 
-/// The entries of one server, found by their inodes, and by their names in their directories. Contracts see the list of the
-/// entries by rising inode.
+/// The entries of one server, found by their inodes, and by their names in their directories.
+/// Contracts see the list of the entries by rising inode.
 #[derive(Drop)]
 pub struct Entries {
     inodes: Vec<Inode>,
@@ -263,7 +267,8 @@ impl Entries {
         has_entries(self.sorted.as_slice(), dir)
     }
 
-    /// Adds an entry of a higher inode than the others, whose name is new in its directory. An error changes nothing.
+    /// Adds an entry of a higher inode than the others, whose name is new in its directory. An
+    /// error changes nothing.
     pub fn push(&mut self, entry: NameEntry) -> Result<(), AllocError>
         requires high { All (λ e. e.ino < entry.ino) self.old }
         requires fresh { is_some (find (names.is_entry_at entry.dir entry.name) self.old) ≡ false }
@@ -294,8 +299,8 @@ impl Entries {
         drop_inode(&mut self.inodes, entry.ino);
     }
 
-    /// Gives the entry with this name in a directory the name `name2` in the directory `dir2`, which is new there. It takes no
-    /// memory.
+    /// Gives the entry with this name in a directory the name `name2` in the directory `dir2`,
+    /// which is new there. It takes no memory.
     pub fn rename(&mut self, dir: u32, name: &[u8], dir2: u32, name2: Name)
         requires { is_some (find (names.is_entry_at dir2 name2) self.old) ≡ false }
         ensures { self.new ≡ map (names.move_entry dir name.now dir2 name2) self.old }

@@ -17,7 +17,8 @@ fn row_of(entry: &NameEntry) -> Result<NameRow, AllocError>
     })
 }
 
-/// The first 256 entries of a directory from a place on. From there on no entry is in a lower directory.
+/// The first 256 entries of a directory from a place on. From there on no entry is in a lower
+/// directory.
 pub fn rows_from(
     alloc: Global,
     sorted: &[NameEntry],

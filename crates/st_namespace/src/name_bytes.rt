@@ -19,7 +19,8 @@ fn are_name_bytes(name: &[u8]) -> bool
     name.iter().all(|&byte| is_name_byte(byte))
 }
 
-/// Whether an entry may have this name: 1 to 64 bytes of letters, digits, `.`, `_` and `-`, and neither `.` nor `..`.
+/// Whether an entry may have this name: 1 to 64 bytes of letters, digits, `.`, `_` and `-`, and
+/// neither `.` nor `..`.
 #[tactic(auto, unfolding(st_rules::specs::Names::is_good))]
 pub fn is_good(name: &[u8]) -> bool
     ensures { result ≡ names.is_good name.now }

@@ -15,7 +15,8 @@ use std::marker::Model;
 
 const ROOT: u32 = 1;
 
-/// The names of one server. Contracts see them as the list of their entries and the next inode number.
+/// The names of one server. Contracts see them as the list of their entries and the next inode
+/// number.
 #[derive(Drop)]
 pub struct Names {
     entries: Entries,
@@ -164,7 +165,8 @@ impl Names {
         }
     }
 
-    /// Whether a directory is `top` or lies under it. It climbs at most as many steps as there are entries.
+    /// Whether a directory is `top` or lies under it. It climbs at most as many steps as there are
+    /// entries.
     fn is_under(&self, top: u32, dir: u32) -> bool
         ensures { result ≡ names.is_under self.now top dir }
     {
@@ -288,7 +290,8 @@ impl Names {
         directory && self.is_under(ino, dir2)
     }
 
-    /// The inode of an entry that may move, else the refusal, where both directories and both names are good.
+    /// The inode of an entry that may move, else the refusal, where both directories and both names
+    /// are good.
     fn moved(&self, dir: u32, name: &[u8], dir2: u32, name2: &[u8]) -> Result<u32, NameRefusal>
         ensures told { result ≡ ino_told (names.rename_found self.now dir name.now dir2 name2.now (names.entry_at self.now dir name.now)) }
         ensures free { OnOk result (is_some (names.entry_at self.now dir2 name2.now) ≡ false) }
@@ -331,8 +334,8 @@ impl Names {
         Ok(ino)
     }
 
-    /// The entries of a directory whose names are above `after`, compared byte by byte, in rising order; at most the first
-    /// 256.
+    /// The entries of a directory whose names are above `after`, compared byte by byte, in rising
+    /// order; at most the first 256.
     #[tactic(auto, unfolding(st_rules::specs::Names::list, st_rules::specs::Names::list_at))]
     pub fn list(&self, dir: u32, after: &[u8]) -> Result<Vec<NameRow>, NameRefusal>
         ensures rows { IfOk result (λ rows. names.list self.now dir after.now ≡ Ok rows.items) }

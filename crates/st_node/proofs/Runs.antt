@@ -135,7 +135,7 @@ from_first a b fact goal goes so =
     let o = goes.each some.readings some.are in
     record { readings = o.readings; are = o.are; holds = so o.readings some.readings some.are o.holds }
 
--- the same of two facts, one behind the other
+-- the same of two facts, one after another
 pub from_both : (a b c : Option (List Stamp)) (fact end : List Stamp → List Stamp → Type 0) (goal : List Stamp → Type 0) →
     Carries a b fact → Carries b c end → ((rs later last : List Stamp) → AreReadings c last → fact rs later → end later last → goal rs) → OfReadings a goal
 from_both a b c fact end goal goes ends so =

@@ -1,4 +1,4 @@
--- Why a run stops is told by its bytes.
+-- Why a run stops follows from its bytes.
 use Rattle.std.proofs.Common.{◌≡◌, ℕ, zero, suc, List, Some, None, Ok, Err, refl}
 use Rattle.st_base.specs.declared.ids.Stamp.{Stamp}
 use Rattle.st_clock.specs.Readings.{after}

@@ -1,4 +1,4 @@
--- What stands while a link is taken piece by piece, and what is known where that stops.
+-- What holds while a link is taken piece by piece, and what is known when that stops.
 use Rattle.std.proofs.Common.{◌≡◌, ℕ, zero, suc, ◌+◌, ◌-◌, ◌<◌, ◌≤◌, List, [], ◌∷◌, ◌++◌, length, take, drop, refl, sym, ◌∙◌, ap, subst, arith, append-nil, take-append-drop, append_assoc}
 use Rattle.std.specs.Prelude.{Option, Some, None, IfSome, Result, Ok, Err}
 use Rattle.std.specs.Io.KnownBytes.{Appends, Consumes, IsAtEnd, Keeps}
@@ -15,7 +15,7 @@ use Rattle.st_node.specs.Service.{AreReadings, Breaks, Carries, GoesOn, IsCutOff
 use Rattle.st_node.proofs.Reading.{part_few}
 use Rattle.st_node.proofs.Runs.{behind_both, fed_nothing, fed_twice, from_both, from_first, idle_ends, some_readings}
 
--- the run goes on from here, behind what was written
+-- the run goes on from here, after what was written
 abbrev pub Follows : Node → List ℕ → List ℕ → ℕ → Node → Frames → List Stamp → List Stamp → Type 0
 Follows old taken written k n f before now = (more : List ℕ) → behind written (run k n now (fed f more)) ≡ node_run old before (taken ++ more)
 
@@ -108,11 +108,11 @@ front_run : (old : Node) (taken written more : List ℕ) (k : ℕ) (n : Node) (f
     (node_run old before (taken ++ more)).out ≡ written ++ (run k n now (fed f more)).out
 front_run old taken written more k n f before now goes = ap (λ (r : Run). r.out) (sym (goes more))
 
--- a front of a text was written
+-- a prefix of a text was written
 prefix_of : (before now : Option (List ℕ)) (whole t rest : List ℕ) → Appends before now t → whole ≡ t ++ rest → AppendsPrefix before now whole
 prefix_of before now whole t rest h e = (length t, subst (Appends before now) (sym (ap (take (length t)) e ∙ take-append_seam t rest)) h)
 
--- a front of what comes behind a text was written
+-- a prefix of what comes after a text was written
 prefix_more : (w wn wl : Option (List ℕ)) (whole written out rest : List ℕ) → Appends w wn written → AppendsPrefix wn wl out → whole ≡ written ++ (out ++ rest) →
     AppendsPrefix w wl whole
 prefix_more w wn wl whole written out rest one two e =
@@ -146,7 +146,7 @@ at_end result (Some bytes) (Some xs) (Some ys) w wn before mid old k n f piece s
     serves result offset (b ∷ bs) last r is e wrote are =
         subst (λ x. Serves x w wn n mid r) (sym is) (subst (Serves (Err (faults.Cut offset)) w wn n mid) (sym e) (refl, refl, wrote, are))
 
--- no more is said of an end
+-- no more is promised about an end
 pub end_breaks : (result : Result Unit NodeFault) (left later w wn : Option (List ℕ)) (before now : Option (List Stamp)) (old new : Node) (offset : ℕ) (rest : List ℕ) →
     result ≡ end_at offset rest → OfReadings before (λ readings. Breaks result old new readings now left later w wn)
 end_breaks result left later w wn before now old new offset [] is =
@@ -245,7 +245,7 @@ cut_short left now later w wn wl before mid after old piece k n p f s took h =
 
 -- ---- a piece
 
--- what a call that went on leaves of a piece is a front of its run
+-- what a call that went on leaves of a piece is a prefix of its run
 pub front_of_going : (before now : Option (List Stamp)) (k j : ℕ) (n p : Node) (f g : Frames) (out : List ℕ) → Carries before now (GoesOn k n f [] j p g out) → IsIdle j g →
     Carries before now (IsFront k n f p out)
 front_of_going before now k j n p f g out goes idle = record {

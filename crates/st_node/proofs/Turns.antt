@@ -31,7 +31,7 @@ given_err g r a b x e h is = sym (ap (λ (y : Answer). (g, y)) (e ∙ ap (λ (z 
 pub given_none : (g : Frames) (a : Answer) (x : Frames × Answer) → a ≡ None → (g, a) ≡ x → (g, None) ≡ x
 given_none g a x e is = sym (ap (λ (y : Answer). (g, y)) e) ∙ is
 
--- a run that stops at once, behind the bytes so far
+-- a run that stops at once, after the bytes so far
 stops_here : (k : ℕ) (n : Node) (rs : List Stamp) (f : Frames) (text : List ℕ) (stop : NodeFault) → run k n rs f ≡ ended n rs (Err stop) →
     record { node = n; out = text; readings = rs; stop = Err stop } ≡ behind text (run k n rs f)
 stops_here k n rs f text stop e =
@@ -77,7 +77,7 @@ frame_few k f g m some e = let few = next_few f g m (sym e) in omega (arith, few
 
 -- a piece
 
--- a front of what was handled was written
+-- a prefix of what was handled was written
 torn_here : (r : Result Unit NodeFault) (k : ℕ) (n : Node) (f : Frames) (before now : Option (List Stamp)) (w wn : Option (List ℕ)) (j : ℕ) (p : Node)
     (g : Frames) (text : List ℕ) →
     OnOk r (Carries before now (GoesOn k n f [] j p g text)) → OnStop r (λ stop. Carries before now (StopsAt k n f [] p text stop)) → OnOk r (IsIdle j g) →

@@ -66,7 +66,7 @@ abbrev pub server_stepped : server.ServerNode → Result server.NodeTurn StepRef
 server_stepped n (Ok t) = record { node = Server t.node; out = flat_map server_frame t.out }
 server_stepped n (Err r) = passed (Server n)
 
--- one step for an input, and none for a message that is no input
+-- one step for an input, and none for a message that isn't an input
 abbrev pub server_handle : server.ServerNode → Stamp → Option ServerInput → Handled
 server_handle n now None = passed (Server n)
 server_handle n now (Some i) = server_stepped n (server.node_step n now i)
@@ -135,7 +135,7 @@ pub record Run : Type 0 where
 abbrev pub ended : Node → List Stamp → Result Unit NodeFault → Run
 ended n readings stop = record { node = n; out = []; readings = readings; stop = stop }
 
--- a run behind these bytes
+-- a run after these bytes
 abbrev pub behind : List ℕ → Run → Run
 behind out r = record { node = r.node; out = out ++ r.out; readings = r.readings; stop = r.stop }
 

@@ -1,4 +1,4 @@
--- A node that is served over a link: what stands of the link, the clock and the node when a call returns.
+-- A node that is served over a link: what holds of the link, the clock and the node when a call returns.
 use Rattle.std.specs.Prelude.{◌≡◌, ◌≤◌, ℕ, zero, suc, ◌*◌, List, [], ◌++◌, length, Option, Some, None, Result, Ok, Err}
 use Rattle.std.specs.Io.KnownBytes.{Appends, Consumes}
 use Rattle.st_base.specs.declared.ids.Stamp.{Stamp}
@@ -10,26 +10,26 @@ use Rattle.st_node.specs.declared.fault.NodeFault.{NodeFault}
 use Rattle.st_node.specs.declared.fault.NodeFault.TheVariants as faults
 use Rattle.st_node.specs.Runs.{Run, behind, run, node_run}
 
--- Readings as a clock has them: those to come where it tells them, and else any, at least one.
+-- Readings as a clock has them: those to come where it tells them, and otherwise any, at least one.
 abbrev pub AreReadings : Option (List Stamp) → List Stamp → Type 0
 AreReadings None readings = 1 ≤ length readings
 AreReadings (Some told) readings = readings ≡ told
 
--- A fact of a clock's readings: of those to come where it tells them, and else of some.
+-- A fact of a clock's readings: of those to come where it tells them, and otherwise of some.
 pub record OfReadings (told : Option (List Stamp)) (fact : List Stamp → Type 0) : Type 0 where
   pub readings : List Stamp
   pub are : AreReadings told readings
   pub holds : fact readings
 
--- What was written, where the node stands, and which readings the clock has left, next to the run over all bytes: all of it where the
--- stream ended or the run stopped, and otherwise a front of what is written in it.
+-- What was written, which state the node is in, and which readings the clock has left, next to the run over all bytes: all of it if the stream ended or the run
+-- stopped, and otherwise a prefix of what is written in it.
 abbrev pub Serves : Result Unit NodeFault → Option (List ℕ) → Option (List ℕ) → Node → Option (List Stamp) → Run → Type 0
 Serves (Err faults.Read) before now n told r = AppendsPrefix before now r.out
 Serves (Err faults.Write) before now n told r = AppendsPrefix before now r.out
 Serves (Err faults.Memory) before now n told r = AppendsPrefix before now r.out
 Serves result before now n told r = (r.stop ≡ result) × (r.node ≡ n) × Appends before now r.out × AreReadings told r.readings
 
--- After a failed read the node and the clock stand, and all was written, as after the run over the bytes that were taken.
+-- After a failed read the node and the clock are as after the run over the bytes that were taken, and all of its output was written.
 pub record IsCutOff (old new : Node) (readings : List Stamp) (told : Option (List Stamp)) (left_before left_now written_before written_now : Option (List ℕ)) : Type 0 where
   pub taken : List ℕ
   pub took : Consumes left_before left_now taken
@@ -37,7 +37,7 @@ pub record IsCutOff (old new : Node) (readings : List Stamp) (told : Option (Lis
   pub wrote : Appends written_before written_now (node_run old readings taken).out
   pub read : AreReadings told (node_run old readings taken).readings
 
--- After a failed write the node and the clock stand so, and a front of it was written.
+-- After a failed write the node and the clock are so, too, and a prefix of its output was written.
 pub record IsCutShort (old new : Node) (readings : List Stamp) (told : Option (List Stamp)) (left_before left_now written_before written_now : Option (List ℕ)) : Type 0 where
   pub taken : List ℕ
   pub took : Consumes left_before left_now taken
@@ -45,7 +45,7 @@ pub record IsCutShort (old new : Node) (readings : List Stamp) (told : Option (L
   pub wrote : AppendsPrefix written_before written_now (node_run old readings taken).out
   pub read : AreReadings told (node_run old readings taken).readings
 
--- what stands after a failed read or write
+-- what holds after a failed read or write
 abbrev pub Breaks : Result Unit NodeFault → Node → Node → List Stamp → Option (List Stamp) → Option (List ℕ) → Option (List ℕ) → Option (List ℕ) → Option (List ℕ) → Type 0
 Breaks (Err faults.Read) old new readings told left_before left_now written_before written_now =
     IsCutOff old new readings told left_before left_now written_before written_now
@@ -66,7 +66,7 @@ HasCauses result before now = now ≡ before
 pub record Carries (before now : Option (List Stamp)) (fact : List Stamp → List Stamp → Type 0) : Type 0 where
   pub each : (later : List Stamp) → AreReadings now later → OfReadings before (λ readings. fact readings later)
 
--- the fact holds of why a run stopped inside of the stream; nothing is said where memory ran out
+-- the fact holds of why a run stopped inside of the stream; nothing is said if memory ran out
 abbrev pub OnStop : {T : Type 0} → Result T NodeFault → (NodeFault → Type 0) → Type 0
 OnStop (Ok x) fact = Unit {0}
 OnStop (Err faults.Memory) fact = Unit {0}
@@ -109,7 +109,7 @@ pub record IsFront (k : ℕ) (n : Node) (f : Frames) (p : Node) (out : List ℕ)
   pub is : (run k n before f).out ≡ out
   pub first : (more : List ℕ) → (rest : List ℕ) × ((run k n before (fed f more)).out ≡ out ++ rest)
 
--- a piece was handled, and a front of what came of it was written
+-- a piece was handled, and a prefix of what came of it was written
 pub record IsTorn (k : ℕ) (n : Node) (f : Frames) (before now : Option (List Stamp)) (old new : Option (List ℕ)) (p : Node) : Type 0 where
   pub out : List ℕ
   pub wrote : AppendsPrefix old new out

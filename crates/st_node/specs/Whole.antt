@@ -17,7 +17,7 @@ unfoldable pub handle_all : List Message → Node → List Stamp → Handled
 handle_all [] n readings = passed n
 handle_all (m ∷ ms) n readings = then_others (handle n (reading readings) m) (λ p. handle_all ms p (after readings))
 
--- the readings that are left behind these messages, each of which takes one
+-- the readings that are left after these messages, each of which takes one
 unfoldable pub after_all : List Message → List Stamp → List Stamp
 after_all [] readings = readings
 after_all (m ∷ ms) readings = after_all ms (after readings)

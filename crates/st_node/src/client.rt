@@ -79,7 +79,8 @@ fn local(id: ClientId, body: Body) -> Message
     }
 }
 
-/// Appends the frame of a message to a client's own surroundings. A message without a spelling returns the error for memory.
+/// Appends the frame of a message to a client's own surroundings. A message without a spelling
+/// returns the error for memory.
 fn put_local(out: &mut Vec<u8>, id: ClientId, body: Body) -> Result<(), AllocError>
     ensures { OnOk result (out.new.items ≡ out.old.items ++ message_frame (runs.local id body)) }
 {
@@ -117,7 +118,8 @@ fn put_output(out: &mut Vec<u8>, id: ClientId, output: &Output) -> Result<(), Al
     }
 }
 
-/// Appends the frames of a client's outputs, in order. After an error nothing is known of the bytes.
+/// Appends the frames of a client's outputs, in order. After an error nothing is known of the
+/// bytes.
 pub fn put_outputs(out: &mut Vec<u8>, id: ClientId, outputs: &[Output]) -> Result<(), AllocError>
     requires { list_all is_sent outputs.now ≡ true }
     ensures { OnOk result (out.new.items ≡ out.old.items ++ flat_map (runs.client_frame id) outputs.now) }
@@ -153,7 +155,8 @@ fn step(
     }
 }
 
-/// Takes a message at this moment: one step where it is an input of the client, and nothing else. Appends the frames of what goes out.
+/// Takes a message at this moment: one step where it is an input of the client, and nothing else.
+/// Appends the frames of what goes out.
 #[tactic(auto, unfolding(crate::specs::Runs::handle))]
 pub(crate) fn handle_client(
     client: &mut ClientNode,

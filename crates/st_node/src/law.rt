@@ -4,14 +4,15 @@ ghost use Rattle.st_messages.specs.declared.message.Message.{Message};
 ghost use Rattle.st_node.specs.Whole.{RunsThrough, StopsByBytes};
 ghost use Rattle.st_node.specs.declared.node.Node.{Node};
 
-/// A stream of whole frames, at most as many as a node takes, is run through: each message is handled once, in order.
+/// A stream of whole frames, at most as many as a node takes, is run through: each message is
+/// handled once, in order.
 #[tactic(auto, using(crate::proofs::Whole::runs_through))]
 pub fn whole_frames_run_through()
     ensures { (n : Node) (readings : List Stamp) (ms : List Message) → RunsThrough n readings ms }
 {}
 
-/// Why a run over a stream stops, and at which offset, is told by the stream's bytes alone: every node and every clock's readings have
-/// the same stop.
+/// Why a run over a stream stops, and at which offset, follows from the stream's bytes alone: every
+/// node and every clock's readings have the same stop.
 #[tactic(auto, using(crate::proofs::Stops::stops_by_bytes))]
 pub fn bytes_tell_why_a_run_stops()
     ensures { (bytes : List ℕ) → StopsByBytes bytes }

@@ -1,4 +1,5 @@
-//! One node served over a link: frames in, frames out. `docs/PROTOCOL.md`, "A node over a stream", has the rules.
+//! One node served over a link: frames in, frames out. `docs/PROTOCOL.md`, "A node over a stream",
+//! has the rules.
 #![tactic(auto)]
 
 mod client;

@@ -45,8 +45,8 @@ impl Node {
         Ok(Node::Server(server))
     }
 
-    /// A client that was never started before: it has room for all the steps that a node takes. `id` is from 1 to 16, and there are
-    /// at most four servers.
+    /// A client that was never started before: it has room for all the steps that a node takes.
+    /// `id` is from 1 to 16, and there are at most four servers.
     pub fn client(
         alloc: Global,
         id: ClientId,
@@ -65,8 +65,8 @@ impl Node {
         Ok(Node::Client(client))
     }
 
-    /// Takes a message at this moment: one step where it is an input of the node, and nothing else. Appends the frames of
-    /// what goes out. Where memory runs out, the node may be crashed.
+    /// Takes a message at this moment: one step where it is an input of the node, and nothing else.
+    /// Appends the frames of what goes out. If memory runs out, the node may be crashed.
     pub(crate) fn handle(
         &mut self,
         now: Stamp,

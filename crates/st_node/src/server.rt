@@ -40,7 +40,8 @@ fn put_output(out: &mut Vec<u8>, output: &Output) -> Result<(), AllocError>
     }
 }
 
-/// Appends the frames of a server's outputs, in order. After an error nothing is known of the bytes.
+/// Appends the frames of a server's outputs, in order. After an error nothing is known of the
+/// bytes.
 pub fn put_outputs(out: &mut Vec<u8>, outputs: &[Output]) -> Result<(), AllocError>
     requires { list_all is_sent outputs.now ≡ true }
     ensures { OnOk result (out.new.items ≡ out.old.items ++ flat_map runs.server_frame outputs.now) }
@@ -67,7 +68,8 @@ fn step(
     ensures node { OnOk result (nodes.Server server.new ≡ (runs.server_stepped server.old (machine.node_step server.old now input)).node) }
     ensures out { OnOk result (out.new.items ≡ out.old.items ++ (runs.server_stepped server.old (machine.node_step server.old now input)).out) }
 {
-    // For its clause `sound`: that a step grows the counters little holds of a server whose parts are sound.
+    // For its clause `sound`: that a step grows the counters little holds of a server whose parts
+    // are sound.
     let _running = server.running();
     match server.step(now, input) {
         Ok(outputs) => put_outputs(out, outputs.as_slice()),
@@ -76,8 +78,8 @@ fn step(
     }
 }
 
-/// Takes a message at this moment: one step where it is an input of the server, and nothing else. Appends the frames of what the
-/// server sends.
+/// Takes a message at this moment: one step where it is an input of the server, and nothing else.
+/// Appends the frames of what the server sends.
 #[tactic(auto, unfolding(crate::specs::Runs::handle))]
 pub(crate) fn handle_server(
     server: &mut ServerNode,

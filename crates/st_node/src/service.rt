@@ -17,7 +17,8 @@ use std::alloc::Global;
 /// The most frames that a node takes.
 const MOST_FRAMES: u32 = 1_048_576;
 
-/// Handles the next frame, if it is whole and one more may come, with one reading of the clock, and returns whether it did.
+/// Handles the next frame, if it is whole and one more may come, with one reading of the clock, and
+/// returns whether it did.
 fn handle_next<C: Clock>(
     reader: &mut FrameReader,
     left: &mut u32,
@@ -55,7 +56,8 @@ fn handle_next<C: Clock>(
     }
 }
 
-/// Handles the frames that are whole, each with one reading of the clock, until none is or no more may come.
+/// Handles the frames that are whole, each with one reading of the clock, until none is or no more
+/// may come.
 fn handle_frames<C: Clock>(
     reader: &mut FrameReader,
     left: &mut u32,
@@ -139,13 +141,15 @@ fn finish(reader: &FrameReader) -> Result<(), NodeFault>
     }
 }
 
-/// Serves a node over a link: takes frames from it in any pieces, handles each message with one reading of the clock, and writes a
-/// frame for each message that the node sends. A frame that is no input of the node is passed over without a step. What comes of a
-/// piece is written before more is taken.
+/// Serves a node over a link: takes frames from it in any pieces, handles each message with one
+/// reading of the clock, and writes a frame for each message that the node sends. A frame that
+/// isn't an input of the node is ignored without a step. What comes of a piece is written before
+/// more is taken.
 ///
 /// # Errors
-/// `Frame` at the first frame that spells no message or is too long, `Cut` where the stream ends inside a frame, and `TooManyFrames`
-/// where frame 1,048,577 begins; `Read` and `Write` where the link failed, and `Memory` where memory ran out.
+/// `Frame` at the first frame that spells no message or is too long, `Cut` if the stream ends
+/// inside a frame, and `TooManyFrames` if frame 1,048,577 begins; `Read` and `Write` if the link
+/// failed, and `Memory` if memory ran out.
 #[tactic(auto, unfolding(crate::specs::Runs::MOST))]
 pub fn serve<L: Link, C: Clock>(
     alloc: Global,
@@ -154,17 +158,19 @@ pub fn serve<L: Link, C: Clock>(
     node: &mut Node,
 ) -> Result<(), NodeFault>
     requires room { HasRoomFor MOST node.old }
-    // The run over all the bytes that the link held, where it tells them, at the clock's readings: those to come where the clock tells
-    // them, and else some readings. All of it where the stream ended or the run stopped, and then the clock has the readings that the run
-    // left; otherwise a front of what is written in it.
+    // The run over all the bytes that the link held, where it tells them, at the clock's readings:
+    // those to come where the clock tells them, and otherwise some readings. All of it where the
+    // stream ended or the run stopped, and then the clock has the readings that the run left;
+    // otherwise a prefix of what is written in it.
     ensures run { IfSome (L.left link.old) (λ bytes. OfReadings (C.readings clock.old) (λ readings.
         Serves result (L.written link.old) (L.written link.new) node.new (C.readings clock.new) (node_run node.old readings bytes))) }
     ensures through { OnOk result (IsAtEnd (L.left link.new)) }
-    // After `Read` and `Write` the node and the clock stand as after the run over the bytes that were taken; of what it writes a front was
-    // written, and after `Read` all.
+    // After `Read` and `Write` the node and the clock are as after the run over the bytes that were
+    // taken; of what it writes a front was written, and after `Read` all.
     ensures breaks { OfReadings (C.readings clock.old) (λ readings.
         Breaks result node.old node.new readings (C.readings clock.new) (L.left link.old) (L.left link.new) (L.written link.old) (L.written link.new)) }
-    // `Read` and `Write` come only where the count of faults rose; elsewhere but at `Memory` it stayed.
+    // `Read` and `Write` come only where the count of faults rose; elsewhere but at `Memory` it
+    // stayed.
     ensures causes { HasCauses result (L.Source.faults link.old) (L.Source.faults link.new) }
     // The link is attached at no name.
     ensures names { L.attached link.new ≡ L.attached link.old }

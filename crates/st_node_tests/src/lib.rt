@@ -1,4 +1,5 @@
-//! A node over streams beside those of an independent reading, a server that was restarted, and a socket.
+//! A node over streams beside those of an independent reading, a server that was restarted, and a
+//! socket.
 #![tactic(auto)]
 
 #[cfg(test)]

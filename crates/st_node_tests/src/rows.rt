@@ -1,5 +1,6 @@
-//! Written by tools/rows/node_rows.py. A row is its name, the kind of node, the readings of the clock, the bytes that come, the bytes that
-//! are written, and why the node stops; bytes stand in runs, `HH` or `HH*COUNT`.
+//! Written by tools/rows/node_rows.py. A row is its name, the kind of node, the readings of the
+//! clock, the bytes that come, the bytes that are written, and why the node stops; bytes are
+//! written in runs, `HH` or `HH*COUNT`.
 
 /// Streams of frames.
 pub const ROWS: &str =

@@ -230,7 +230,8 @@ fn serve_fresh<L: Link>(
     Ok(serve(alloc, link, &mut clock, &mut node))
 }
 
-/// Whether a node that gets these bytes, in large pieces and byte by byte, writes what is wanted and stops as is wanted.
+/// Whether a node that gets these bytes, in large pieces and byte by byte, writes what is wanted
+/// and stops as is wanted.
 fn is_served(
     alloc: Global,
     kind: &str,
@@ -284,7 +285,8 @@ fn is_right(alloc: Global, text: &str) -> Result<bool, AllocError> {
     )
 }
 
-/// Hostile frames, frames that are no input, one reading for each frame, drawn frames, some with a flipped bit, and a client of two servers.
+/// Hostile frames, frames that aren't an input, one reading for each frame, drawn frames, some with
+/// a flipped bit, and a client of two servers.
 #[test]
 fn streams_are_served_as_an_independent_reading_serves_them(rt: HostRuntime) -> Result<(), Fail> {
     for row in ROWS.lines() {
@@ -324,7 +326,8 @@ fn a_client_releases_what_it_cannot_hold(rt: HostRuntime) -> Result<(), Fail> {
     Ok(())
 }
 
-/// A reassertion of file 2's exclusive lock, which client 1 held before the crash, and its answer, from an independent reading.
+/// A reassertion of file 2's exclusive lock, which client 1 held before the crash, and its answer,
+/// from an independent reading.
 const REASSERTION: &str =
     "01 09 00 01 80 01 00*7 01 00*7 02 00*7 01 00*9 01 00*3 02 00*3 01 00*3 01 02";
 

@@ -65,7 +65,7 @@ map_both : {A B : Type 0} (f : A → B) (xs ys : List A) → map f (xs ++ ys) �
 map_both f [] ys = refl
 map_both f (x ∷ xs) ys = ap (λ l. f x ∷ l) (map_both f xs ys)
 
--- what is told of the first ones that a test picks, and of one more
+-- what is reported about the first ones that a test picks, and of one more
 pub answered_more : {A B : Type 0} (f : A → B) (p : A → Bool) (xs : List A) (i : ℕ) (x : A) (first now next : List B) → i < length xs → x ≡ get_or xs i x →
     now ≡ first ++ map f (filter p (take i xs)) → next ≡ now ++ map f (filter p (x ∷ [])) → next ≡ first ++ map f (filter p (take (i + 1) xs))
 answered_more f p xs i x first now next l e h k =
@@ -92,7 +92,7 @@ pub fit_got : (os : List Operation) (i : ℕ) (r : Option (Bor Operation)) → A
 fit_got os i None h l e = tt
 fit_got os i (Some b) h l e = fit_in os i b.now h (ltb-true i (length os) (sym l)) e
 
--- the operations but for the one at a place are fit
+-- the operations except for the one at a place are fit
 pub fit_removed : (os : List Operation) (i : ℕ) → AreFit os → AreFit (remove os i)
 fit_removed [] zero h = h
 fit_removed [] (suc i) h = h
@@ -104,7 +104,7 @@ fit_removed (x ∷ xs) (suc i) h =
 
 -- How many operations are syncs.
 
--- one more, behind the others
+-- one more, after the others
 pub count_more : (os : List Operation) (o : Operation) → count_syncs (os ++ o ∷ []) ≡ count_syncs os + count_syncs (o ∷ [])
 count_more [] o = omega arith
 count_more (x ∷ xs) o = let e = count_more xs o in omega (arith, e)

@@ -1,5 +1,5 @@
-//! The operations of a client: what its applications asked and haven't been answered yet, in the order in which they
-//! asked. `docs/PROTOCOL.md`, "The client", has the rules.
+//! The operations of a client: what its applications asked and haven't been answered yet, in the
+//! order in which they asked. `docs/PROTOCOL.md`, "The client", has the rules.
 #![tactic(auto)]
 
 mod asks;

@@ -15,8 +15,9 @@ use std::alloc::{AllocError, Global};
 use std::marker::Model;
 use std::mem;
 
-/// The pending operations of a client. Contracts see the list of them, in the order in which they came. A place is that of an
-/// operation in the list, from 0 on. The fields of each ask are in their ranges.
+/// The pending operations of a client. Contracts see the list of them, in the order in which they
+/// came. A place is that of an operation in the list, from 0 on. The fields of each ask are in
+/// their ranges.
 #[derive(Drop)]
 pub struct Operations {
     alloc: Global,
@@ -52,7 +53,7 @@ fn any_row<T: Test<Operation>>(rows: &[Operation], test: &T) -> bool
     rows.iter().any(|row| test.test(row))
 }
 
-/// The request of the one at a place was sent, where there is one.
+/// The request of the one at a place was sent, if there is one.
 fn mark_row(rows: &mut Vec<Operation>, place: usize)
     ensures { rows.new.items ≡ marked place rows.old.items }
 {
@@ -163,7 +164,7 @@ impl Operations {
         self.rows.get(place)
     }
 
-    /// The operation stays pending, behind the others.
+    /// The operation stays pending, after the others.
     pub fn keep(&mut self, operation: Operation) -> Result<(), AllocError>
         requires { is_fit operation ≡ true }
         ensures { OnOk result (self.new ≡ self.old ++ operation ∷ []) }
@@ -175,7 +176,7 @@ impl Operations {
         Ok(())
     }
 
-    /// An operation that just came is pending, behind the others.
+    /// An operation that just came is pending, after the others.
     pub fn push(&mut self, op: u32, ask: Ask) -> Result<(), AllocError>
         requires { is_ask ask ≡ true }
         ensures { OnOk result (self.new ≡ self.old ++ client_state.new_operation op ask ∷ []) }
@@ -194,8 +195,8 @@ impl Operations {
         any_row(&self.rows, test)
     }
 
-    /// Whether a pending operation may do something at a server: each of its own, or its syncs alone. Where only syncs may, and
-    /// none is pending, it looks at no operation.
+    /// Whether a pending operation may do something at a server: each of its own, or its syncs
+    /// alone. Where only syncs may, and none is pending, it looks at no operation.
     pub fn any_may_act(&self, server: ServerId, all: bool) -> bool
         ensures { result ≡ list_any (may_act server all) self.now }
     {
@@ -223,7 +224,7 @@ impl Operations {
         operation
     }
 
-    /// Takes out the first operation. `None` exactly where there is none. It does not allocate.
+    /// Takes out the first operation. `None` exactly if there is none. It does not allocate.
     pub fn take_first(&mut self) -> Option<Operation>
         ensures taken { TakesFirst self.old result self.new }
         ensures fit { IfSome result (λ o. is_fit o ≡ true) }
@@ -243,7 +244,8 @@ impl Operations {
         let _operation = self.take(place);
     }
 
-    /// The operation goes behind the picked ones where it passes the test, and else behind those that stay.
+    /// The operation goes after the picked ones if it passes the test, and otherwise after those
+    /// that stay.
     fn sort<T: Test<Operation>>(
         &mut self,
         test: &T,
@@ -284,7 +286,8 @@ impl Operations {
         }
     }
 
-    /// The operation at a place stays where it fails the test, and else is pending no more. Returns the place of the next one.
+    /// The operation at a place stays where it fails the test, and otherwise is pending no more.
+    /// Returns the place of the next one.
     fn sift<T: Test<Operation>>(&mut self, place: usize, test: &T) -> usize
         requires { place < length self.old }
         ensures left { self.new ≡ (if option_map_or (λ o. not (T.passes test.now o)) (slice_get self.old place) false then self.old else remove self.old place) }
@@ -310,7 +313,8 @@ impl Operations {
         }
     }
 
-    /// Answers the operations that pass the test, in order, behind the outputs so far; they are pending no more.
+    /// Answers the operations that pass the test, in order, after the outputs so far; they are no
+    /// longer pending.
     pub fn answer_each<T: Test<Operation>>(
         &mut self,
         test: &T,

@@ -1,4 +1,4 @@
--- What the operations of a map do to the list of its values, where each key is told by its value and keys differ.
+-- What the operations of a map do to the list of its values, where each key follows from its value and keys differ.
 use Rattle.std.proofs.Common.{◌≡◌, Bool, true, false, cond, if◌then◌else◌, List, [], ◌∷◌, ◌++◌, map, refl, sym, ap, ◌∙◌, ⊎_elim}
 use Rattle.std.specs.Prelude.{find, filter, not, ◌&&◌, Some, None}
 use Rattle.std.specs.List.{IsDistinct, AllByRecursion, list_any}

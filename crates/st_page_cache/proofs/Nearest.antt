@@ -1,4 +1,4 @@
--- The nearest place behind another is the first one behind it in rising order.
+-- The nearest place after another is the first one after it in rising order.
 use Rattle.std.proofs.Common.{◌≡◌, ℕ, ◌⊎◌, Bool, true, false, cond, List, [], ◌∷◌, refl, sym, ap, ◌∙◌, subst, inl, inr, ⊎_elim, true≢false}
 use Rattle.std.specs.Prelude.{find, ◌&&◌, ◌==◌, Option, Some, None}
 use Rattle.std.proofs.lemmas.Bool.{cases_Bool, eqb-true, and_parts}
@@ -14,7 +14,7 @@ not_before x y n = ⊎_elim (λ t. absurd (n t)) (λ t. t) (cases_Bool (is_befor
 not_itself : (x y : ℕ × PageNo) → y ≡ x → is_before y x ≡ false
 not_itself x y e = not_before y x (λ t. let s : is_before x x ≡ true = subst (λ z. is_before z x ≡ true) e t in one_way x x s s)
 
--- the nearest of some places behind another: none behind it lies before this one
+-- the nearest of some places after another: none after it lies before this one
 abbrev IsNearest : Option (ℕ × PageNo) → (ℕ × PageNo → Type 0) → Option (ℕ × PageNo) → Type 0
 IsNearest after P None = (y : ℕ × PageNo) → P y → is_place_after after y ≡ false
 IsNearest after P (Some x) = record { there : P x; behind : is_place_after after x ≡ true; least : (y : ℕ × PageNo) → P y → is_place_after after y ≡ true → is_before y x ≡ false }
@@ -103,7 +103,7 @@ module _ (after : Option (ℕ × PageNo)) where
       back y (inl (inr m)) = inl m
       back y (inr m) = inr (inr m)
 
-  -- The first one behind it in rising order.
+  -- The first one after it in rising order.
   first_behind : (xs : List (ℕ × PageNo)) → AreRising xs → IsNearest after (λ y. Has y xs) (find (is_place_after after) xs)
   first_behind [] r = λ y m. elim m [ ]
   first_behind (x ∷ xs) r = go (is_place_after after x) refl (first_behind xs r.rest)
@@ -119,7 +119,7 @@ module _ (after : Option (ℕ × PageNo)) where
       go true q n = record { there = inl refl; behind = q; least = skip }
       go false q n = turned (find (is_place_after after) xs) (passed_by (λ y. Has y xs) x (find (is_place_after after) xs) q n)
 
-  -- so the nearest of places is the first behind it of the same places in rising order
+  -- so the nearest of places is the first after it of the same places in rising order
   pub nearest_is : (xs ys : List (ℕ × PageNo)) → AreRising ys → ((x : ℕ × PageNo) → Has x xs → Has x ys) → ((x : ℕ × PageNo) → Has x ys → Has x xs) → nearest after None xs ≡ find (is_place_after after) ys
   nearest_is xs ys r f g =
       one_nearest (λ y. Has y ys) (nearest after None xs) (find (is_place_after after) ys)

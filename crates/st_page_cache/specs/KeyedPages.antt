@@ -1,4 +1,4 @@
--- Pages found by their keys: each key is told by its page.
+-- Pages found by their keys: each key follows from its page.
 use Rattle.std.specs.Prelude.{◌≡◌, ◌≤◌, ◌&&◌, ◌==◌, ℕ, Bool, List, Option, Some, None, length, map}
 use Rattle.std.specs.List.{IsDistinct}
 use Rattle.std.specs.Map.{keys_of, lookup, set_value, values_of}

@@ -14,8 +14,9 @@ use st_rules::{CleanPage, DirtyPage};
 use std::alloc::{AllocError, Global};
 use std::marker::Model;
 
-/// The pages that a client has of one server. Contracts see the server, the list of the clean pages, the most recently used
-/// first, the list of the dirty pages, and the version that the next change of a page gets.
+/// The pages that a client has of one server. Contracts see the server, the list of the clean
+/// pages, the most recently used first, the list of the dirty pages, and the version that the next
+/// change of a page gets.
 #[derive(Drop)]
 pub struct PageCache {
     alloc: Global,
@@ -83,7 +84,8 @@ impl PageCache {
         self.clean.get(ino, page)
     }
 
-    /// The bytes of the dirty page, its version and its failed command. `None` exactly where the page is not dirty.
+    /// The bytes of the dirty page, its version and its failed command. `None` exactly where the
+    /// page is not dirty.
     pub fn dirty(&self, ino: u32, page: PageNo) -> Option<Dirty<'_>>
         ensures { option_map shown result ≡ option_map facts_of (pages.dirty_of self.now.pages ino page) }
     {
@@ -142,14 +144,16 @@ impl PageCache {
         Ok(places)
     }
 
-    /// The least dirty page above a place, or the least of all. `None` exactly where there is none. It does not allocate.
+    /// The least dirty page above a place, or the least of all. `None` exactly if there is none. It
+    /// does not allocate.
     pub fn next_dirty(&self, after: Option<(u32, PageNo)>) -> Option<(u32, PageNo)>
         ensures { result ≡ pages.next_dirty self.now.pages after }
     {
         self.dirty.next(after)
     }
 
-    /// A page that is read becomes the newest clean one, where it is clean and not dirty. It does not allocate.
+    /// A page that is read becomes the newest clean one, where it is clean and not dirty. It does
+    /// not allocate.
     #[tactic(auto, unfolding(st_rules::specs::ClientPages::use_page, st_rules::specs::ClientPages::use_clean, st_rules::specs::ClientPages::use_at))]
     pub fn use_page(&mut self, permit: &UsePermit, ino: u32, page: PageNo)
         requires { permit.now.server ≡ self.old.server }
@@ -160,8 +164,8 @@ impl PageCache {
         }
     }
 
-    /// Changes a page, where fewer than 64 others are dirty: it is dirty with these bytes, the next version and no failed
-    /// command, and its clean copy goes. The bytes are shared.
+    /// Changes a page, where fewer than 64 others are dirty: it is dirty with these bytes, the next
+    /// version and no failed command, and its clean copy goes. The bytes are shared.
     #[tactic(auto, unfolding(st_rules::specs::ClientPages::written))]
     fn change(&mut self, ino: u32, page: PageNo, bytes: &PageBytes) -> Result<(), AllocError>
         requires room { self.old.pages.next_version + 1 < 2 ^ 64 }
@@ -182,8 +186,9 @@ impl PageCache {
         Ok(())
     }
 
-    /// Changes a page: it is dirty with these bytes, the next version and no failed command, and its clean copy goes. It is
-    /// refused exactly where 64 other pages are dirty. The bytes are shared.
+    /// Changes a page: it is dirty with these bytes, the next version and no failed command, and
+    /// its clean copy goes. It is refused exactly where 64 other pages are dirty. The bytes are
+    /// shared.
     #[tactic(auto, unfolding(st_rules::specs::ClientPages::write))]
     pub fn write(
         &mut self,
@@ -204,7 +209,8 @@ impl PageCache {
         }
     }
 
-    /// The command is the last one that failed for the page, where it is dirty. It does not allocate.
+    /// The command is the last one that failed for the page, where it is dirty. It does not
+    /// allocate.
     #[tactic(auto, unfolding(st_rules::specs::ClientPages::fail))]
     pub fn fail(&mut self, ino: u32, page: PageNo, command: u64)
         ensures { self.new ≡ with_pages (pages.fail self.old.pages ino page command) self.old }
@@ -212,7 +218,8 @@ impl PageCache {
         self.dirty.fail(ino, page, command);
     }
 
-    /// A page that is not dirty becomes the newest clean one with these bytes. The bytes are shared.
+    /// A page that is not dirty becomes the newest clean one with these bytes. The bytes are
+    /// shared.
     #[tactic(auto, unfolding(st_rules::specs::ClientPages::fill))]
     pub fn fill(&mut self, ino: u32, page: PageNo, bytes: &PageBytes) -> Result<(), AllocError>
         requires { pages.dirty_of self.old.pages ino page ≡ None }
@@ -249,7 +256,8 @@ impl PageCache {
         self.clean.drop_from(ino, page);
     }
 
-    /// The lease is lost: no page is dirty or clean, and versions begin at 1 again. It does not allocate.
+    /// The lease is lost: no page is dirty or clean, and versions begin at 1 again. It does not
+    /// allocate.
     pub fn clear(&mut self, loss: PageLoss) -> PagesGone
         requires { loss.server ≡ self.old.server }
         ensures pages { self.new ≡ with_pages pages.no_pages self.old }

@@ -38,7 +38,8 @@ fn told(ino: u32, row: &ExtentRow) -> KnownExtent
     }
 }
 
-/// What a client knows of the places of a server's pages. Contracts see the list of what is known, of each page once.
+/// What a client knows of the places of a server's pages. Contracts see the list of what is known,
+/// of each page once.
 #[derive(Drop)]
 pub struct KnownExtents {
     rows: IndexMap<PageKey, KnownExtent>,

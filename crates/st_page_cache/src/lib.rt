@@ -1,5 +1,6 @@
-//! The pages that a client has of one server: at most 64 dirty ones and at most 256 clean ones, the most recently used
-//! first; and what it knows of the places of pages. `docs/PROTOCOL.md`, "Leases, locks, pages and commands", has the rules.
+//! The pages that a client has of one server: at most 64 dirty ones and at most 256 clean ones, the
+//! most recently used first; and what it knows of the places of pages. `docs/PROTOCOL.md`, "Leases,
+//! locks, pages and commands", has the rules.
 #![tactic(auto)]
 
 mod cache;

@@ -11,8 +11,8 @@ use st_base::PageNo;
 use st_lease_client::UsePermit;
 
 impl PageCache {
-    /// Reads a page: `Miss` exactly where it is neither dirty nor clean. A clean page becomes the newest one. It does not
-    /// allocate.
+    /// Reads a page: `Miss` exactly where it is neither dirty nor clean. A clean page becomes the
+    /// newest one. It does not allocate.
     pub fn read(&mut self, permit: &UsePermit, ino: u32, page: PageNo) -> Page<'_>
         requires { permit.now.server ≡ self.old.server }
         ensures* used { sem 𝓛 (EndsUsed self.entry ino page) }

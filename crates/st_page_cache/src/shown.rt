@@ -8,7 +8,8 @@ pub enum Page<'a> {
     Miss,
 }
 
-/// A dirty page: its bytes, the version of its last change, and the last command for these bytes that failed.
+/// A dirty page: its bytes, the version of its last change, and the last command for these bytes
+/// that failed.
 #[derive(Clone, Copy)]
 pub struct Dirty<'a> {
     pub bytes: &'a PageBytes,

@@ -1,4 +1,4 @@
--- Cuts are asked: which ask of which client stands behind the line of a cut.
+-- Cuts are asked: which ask of which client led to the line of a cut.
 use Rattle.std.specs.Prelude.{◌≡◌, ℕ, Bool, true, false, ◌&&◌, not, ◌==◌, List, filter_map, map, Option, Some, None}
 use Rattle.std.specs.List.{list_all, list_any}
 use Rattle.st_base.specs.declared.ids.ClientId.{ClientId}
@@ -69,7 +69,7 @@ has_alone_at c ino (Some node) = node.running && is_exclusive (row_of node.state
 abbrev pub cuts_by : List Step → World → FileId → PageNo → ClientId → Bool
 cuts_by past w f p c = has_alone_at c f.ino (node_of w f.server) && list_any (is_open_cut past c f p) (numbered_asks past c)
 
--- an observation that is no cut owes nothing
+-- an observation that isn't a cut owes nothing
 abbrev pub is_cut_asked : List Step → World → Observation → Bool
 is_cut_asked past w (seen.CutAt index f p) = list_any (cuts_by past w f p) (all_clients w)
 is_cut_asked past w o = true

@@ -1,4 +1,4 @@
--- Faults have a cause: the failed report behind each `diskfault`, the pending operations behind each `opsfull`, and what a server refused.
+-- Faults have a cause: the failed report that led to each `diskfault`, the pending operations that led to each `opsfull`, and what a server refused.
 use Rattle.std.specs.Prelude.{◌≡◌, ℕ, Bool, true, false, ◌&&◌, not, ◌==◌, length, nat_le, Option, Some, None}
 use Rattle.std.specs.List.{list_all}
 use Rattle.st_base.specs.declared.ids.ClientId.{ClientId}

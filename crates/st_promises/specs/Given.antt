@@ -23,7 +23,7 @@ given_for fits past given rest y c = list_any (given_by fits past given rest y c
 abbrev pub given_at : (Step → Bool) → (List Step → Step → ClientId → ℕ × Ask → Bool) → List ClientId → List Step → List (ClientId × ℕ) → (List (ClientId × ℕ) → Bool) → Step → Bool
 given_at did fits cs past given rest y = if did y then list_any (given_for fits past given rest y) cs else rest given
 
--- to each of these steps of the kind an ask that fits can be given that is not given yet, and what is said of all given asks holds then
+-- to each of these steps of the kind an ask that fits can be given that is not given yet, and what is claimed about all given asks holds then
 unfoldable pub are_given : (Step → Bool) → (List Step → Step → ClientId → ℕ × Ask → Bool) → (List (ClientId × ℕ) → Bool) → List ClientId → List Step → List Step → List (ClientId × ℕ) → Bool
 are_given did fits last cs past [] given = last given
 are_given did fits last cs past (y ∷ ys) given = given_at did fits cs past given (are_given did fits last cs (past ++ y ∷ []) ys) y

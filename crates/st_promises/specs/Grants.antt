@@ -68,8 +68,8 @@ is_risen s before m = not (m.header.from == server_node s) || rises s before m.b
 abbrev pub gives_rising : List Message → List Message → ServerId → Bool
 gives_rising before after s = list_all (is_risen s before) after
 
--- Grant numbers rise: of all messages that are there behind an event, each grant of a server is under a number that it had sent before the
--- event, or under one above all that it had sent.
+-- Grant numbers rise: of all messages that are there after an event, each grant of a server is under a number that it had sent before the event, or under one
+-- above all that it had sent.
 abbrev pub GrantNumbersRise : Promise
 GrantNumbersRise past x =
     list_all (gives_rising (map message_in x.before.world.net.messages) (map message_in x.after.world.net.messages)) (all_servers x.after.world) ≡ true

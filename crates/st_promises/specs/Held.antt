@@ -77,9 +77,9 @@ extents_of_node node = node.state.stable.extents.rows
 abbrev pub all_pages : World → List (FileId × PageNo)
 all_pages w = map page_of_extent (flat_map extents_of_node w.servers) ++ map page_of_entry w.log
 
--- Disks hold what is hard: after every event, for each page that a server maps or an entry names, its block holds of it what the hard
--- entries of the log make of a page of zeros. A block holds of a page the bytes that lie there under the tag of the page's extent, and
--- else zeros; and so does a page without a block.
+-- Disks hold what is hard: after every event, for each page that a server maps or an entry names, its block holds of it what the hard entries of the log make
+-- of a page of zeros. A block holds of a page the bytes that lie there under the tag of the page's extent, and otherwise zeros; and so does a page without a
+-- block.
 abbrev pub DisksHoldWhatIsHard : Promise
 DisksHoldWhatIsHard past x = AreHeld x.after.world (all_pages x.after.world)
 

@@ -1,4 +1,4 @@
--- Losses: the pages that were dirty when a lease was lost, of which a client's applications are still to be told.
+-- Losses: the pages that were dirty when a lease was lost, of which a client's applications must still be told.
 use Rattle.std.specs.Prelude.{ℕ, Bool, true, false, ◌&&◌, ◌==◌, nat_lt, not, if◌then◌else◌, List, [], ◌∷◌, ◌++◌, drop, filter, filter_map, find, map, take, Option, Some, None, ◌≡◌, ⊤}
 use Rattle.std.specs.List.{list_any}
 use Rattle.st_base.specs.declared.ids.ClientId.{ClientId}
@@ -38,7 +38,7 @@ writer None None = 0
 writer None (Some k) = k.number
 writer (Some failed) k = failed
 
--- a page that was dirty, with the command that was to write it
+-- a page that was dirty, with the command that should have written it
 abbrev pub owed_page : List PageCommand → DirtyPage → LostPage
 owed_page ks d = record { ino = d.ino; page = d.page; command = writer d.failed (find (writes_page d) ks) }
 
@@ -98,7 +98,7 @@ rows_of_file rows ino = filter_map (row_of_page rows ino) (in_order (map page_nu
 abbrev pub as_told : LostPage → LostRow
 as_told r = record { page = r.page; command = r.command }
 
--- what a sync of the file is told: at most 1,024 rows
+-- what a sync of the file reports: at most 1,024 rows
 unfoldable pub owed_of_file : List LostPage → ℕ → List LostRow
 owed_of_file rows ino = map as_told (take 1024 (rows_of_file rows ino))
 
@@ -111,8 +111,8 @@ abbrev pub told_by : Option Ask → ServerId → List LostPage → List LostPage
 told_by (Some (asks.Sync f)) s rows = if same_server f.server s then still_owed rows f.ino else rows
 told_by ask s rows = rows
 
--- What a client is still to tell of a server after one more line of an event, by what it was asked and the world before the event: where
--- its lease is lost, the pages that were dirty join; and what a sync is told is owed no more.
+-- What a client must still report of a server after one more line of an event, by what it was asked and the world before the event: if its lease is lost, the
+-- pages that were dirty join; and what a sync is told is no longer owed.
 abbrev pub owed_behind : (ℕ → Option Ask) → World → ClientId → ServerId → List LostPage → Observation → List LostPage
 owed_behind asked w c s rows (seen.Lost d t life) = if same_client d c && same_server t s then with_dirty (association_of w c s) rows else rows
 owed_behind asked w c s rows (seen.Answered d op (answers.Lost told)) = if same_client d c then told_by (asked op) s rows else rows
@@ -123,8 +123,8 @@ unfoldable pub owed_along : (ℕ → Option Ask) → World → ClientId → Serv
 owed_along asked w c s rows [] = rows
 owed_along asked w c s rows (o ∷ os) = owed_along asked w c s (owed_behind asked w c s rows o) os
 
--- an answer to a sync: where pages of its file are owed it tells exactly these, by rising page, at most 1,024 at once, or it is refused
--- since 16 operations are pending; and where none are owed it tells of none
+-- an answer to a sync: where pages of its file are owed it tells exactly these, by rising page, at most 1,024 at once, or it is refused since 16 operations are
+-- pending; and if none are owed it reports none
 abbrev pub IsToldBy : Bool → List LostRow → AppAnswer → Type 0
 IsToldBy true rows (answers.Lost told) = told ≡ rows
 IsToldBy true rows answers.OpsFull = ⊤
@@ -138,10 +138,10 @@ IsToldTo (Some (asks.Sync f)) rows answer = IsToldBy (owes (rows f.server) f.ino
 IsToldTo ask rows (answers.Lost told) = ⊥
 IsToldTo ask rows answer = ⊤
 
--- Losses are told: the pages that were dirty when a client's lease at a server was lost are owed to its applications. While pages of a
--- file are owed, a sync of the file is answered `lost` with exactly these and the command that was to write each, at most 1,024 at once
--- by rising page, which are then owed no more; or it is refused with `opsfull`, of which "Faults have a cause" says when that may be. While
--- none are owed, no sync is answered so, and nothing else ever is. A client that crashes owes nothing.
+-- Losses are reported: the pages that were dirty when a client's lease at a server was lost are owed to its applications. While pages of a file are owed, a
+-- sync of the file is answered `lost` with exactly these and the command that should have written each, at most 1,024 at once by rising page. Those are then no
+-- longer owed. Or it is refused with `opsfull`; "Faults have a cause" says when that may be. While none are owed, no sync is answered so, and nothing else ever
+-- is. A client that crashes owes nothing.
 abbrev pub owed_after : List Step → Step → ClientId → ServerId → List LostPage → List LostPage
 owed_after past x c s rows = if is_crash_of c x.event then [] else owed_along (ask_of past x c) x.before.world c s rows x.seen
 
@@ -158,7 +158,7 @@ owed past c s = owed_from c s [] [] past
 abbrev pub owed_at : List Step → Step → List Observation → ClientId → ServerId → List LostPage
 owed_at past x os c s = owed_along (ask_of past x c) x.before.world c s (owed past c s) os
 
--- an observation that is no answer owes nothing
+-- an observation that isn't an answer owes nothing
 abbrev pub IsLossTold : List Step → Step → List Observation → Observation → Type 0
 IsLossTold past x os (seen.Answered c op answer) = IsToldTo (ask_of past x c op) (owed_at past x os c) answer
 IsLossTold past x os o = ⊤

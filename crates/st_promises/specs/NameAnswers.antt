@@ -161,13 +161,13 @@ was_said past c op answer asked = false
 abbrev pub is_true_answer : List Step → Step → ClientId → ℕ → AppAnswer → Bool
 is_true_answer past x c op answer = not (is_of_names answer) || was_said past c op answer (ask_of past x c op)
 
--- an observation that is no answer owes nothing
+-- an observation that isn't an answer owes nothing
 abbrev pub is_told_truly : List Step → Step → Observation → Bool
 is_told_truly past x (seen.Answered c op answer) = is_true_answer past x c op answer
 is_told_truly past x o = true
 
--- Names answer truly: an inode, entries or a refusal of names is answered to an ask for a name alone, and it is what the names of the
--- asked server said at one event between the ask and the answer, at which they also became what the ask makes of them.
+-- Names answer truly: an inode, entries or a refusal of names is only answered to an ask for a name; and it is what the names of the asked server said at one
+-- event between the ask and the answer, at which they also became what the ask makes of them.
 abbrev pub NamesAnswerTruly : Promise
 NamesAnswerTruly past x = list_all (is_told_truly past x) x.seen ≡ true
 

@@ -1,4 +1,4 @@
--- Names change as asked: which ask of which client stands behind a change of the names of a server.
+-- Names change as asked: which ask of which client led to a change of the names of a server.
 use Rattle.std.specs.Prelude.{◌≡◌, ℕ, Bool, true, false, ◌&&◌, ◌||◌, not, List}
 use Rattle.std.specs.List.{list_all, list_any}
 use Rattle.st_base.specs.declared.ids.ClientId.{ClientId}

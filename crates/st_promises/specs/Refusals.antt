@@ -52,7 +52,7 @@ abbrev pub is_of_cut : List Step → List Step → Step → ClientId → ℕ × 
 is_of_cut all past y c k =
     list_all (is_own_line y.before.world c k.1) y.seen && (not (list_any (settles_in c k.0) past) && list_all (is_not_refused_in k.1 c k.0) all)
 
--- nothing more is said of what was given
+-- nothing more is promised about what was given
 abbrev pub is_all : List (ClientId × ℕ) → Bool
 is_all given = true
 

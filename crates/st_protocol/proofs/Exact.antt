@@ -21,7 +21,7 @@ pub record Exact (k : Config) (a : Assoc) : Type 0 where
   pub said : a.s.up ≡ true → Alive k a.c → a.s.session < a.c.life → (stamp : ℕ) (locks : ℕ → Lock) → In (msg a.c.life a.s.epoch stamp (Reassert locks)) a.net → (i : ℕ) → 2 ≤ (a.c.held i).mode → (locks i).g ≤ a.c.seen i
   pub busy : (i : ℕ) → a.c.busy i ≡ true → 2 ≤ (a.c.held i).mode
 
--- a grant of the present life and epoch was sent before, or now: by a new row, or by one that stood
+-- a grant of the present life and epoch was sent before, or now: by a new row, or by one that was there
 pub data From (k : Config) (a b : Assoc) (i g mode : ℕ) : Type 0 where
   Old : (stamp : ℕ) → In (msg a.c.life a.c.epoch stamp (Granted i g mode)) a.net → Alive k a.c → From k a b i g mode
   New : SameSession a → a.s.grace ≡ false → Alive k a.c → (a.s.row i).mode < 2 → a.s.top < g → g ≡ b.s.top → (b.s.row i).g ≡ g → From k a b i g mode
@@ -122,7 +122,7 @@ module _ (k : Config) where
       go (inr (inl z)) = absurd (omega arith)
       go (inr (inr z)) = absurd (not_lost k a t al z)
 
-  -- a grant on its way is not above the row that stands, where it is above what was seen
+  -- a grant on its way isn't above the row that is there, where it is above what was seen
   under_row : (a : Assoc) → Timing k a → Locks k a → SameSession a → Alive k a.c → (st i g mode x : ℕ) → In (msg a.c.life a.c.epoch st (Granted i g mode)) a.net → a.c.seen i < x → x ≡ (a.s.row i).g → g ≤ x
   under_row a t l s al st i g mode x y lt e = go (l.msgs s.up _ y refl s.epoch).cases
     where

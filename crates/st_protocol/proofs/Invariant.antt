@@ -1,4 +1,4 @@
--- All that stands of one association, and that lists of moves keep it.
+-- All that holds of one association, and that lists of moves keep it.
 use Rattle.std.proofs.Common.{arith}
 use Rattle.st_protocol.specs.Assoc.{Config, ConfigOk, Msg, Fits, Assoc, In, Move, Moves, Stays, GoesOn, Greets, Asks, AskedOfNone, Declines, Repeats, Again, Reduces, Reasserts, Welcomes, WelcomesAgain, Acks, Refuses, Accepts, Grants, GrantsAgain, Demands, Releases}
 use Rattle.st_protocol.proofs.Lists.{in_cons}

@@ -225,7 +225,7 @@ Fits OfOtherEpoch = Unit {0}
 abbrev pub Serves : Server → Type 0
 Serves s = record { up : s.up ≡ true; free : s.timed ≡ false }
 
--- a row of this life stands, or stood: the client settled, or a message of the session has come
+-- a row of this life is there, or was: the client settled, or a message of the session has come
 pub data Joined (c : Client) (net : List Msg) : Type 0 where
   Settled : c.due ≡ false → Joined c net
   Demanded : (stamp i g to : ℕ) → In (msg c.life c.epoch stamp (Demand i g to)) net → Joined c net
@@ -302,7 +302,7 @@ pub data Move (k : Config) : Assoc → Assoc → Type 0 where
       (a.s.row i).g ≡ g → 1 ≤ (a.s.row i).mode → to ≤ (a.s.row i).mode →
       Move k a (send (msg (a.s.row i).life a.s.epoch stamp Ack)
       (server (record a.s { row = upd a.s.row i (record { life = (a.s.row i).life; g = g; mode = to }) }) a))
-  -- rows of mode 0 are no rows
+  -- rows of mode 0 aren't rows
   Sweeps : (a : Assoc) (row : ℕ → Row) → ((i : ℕ) → (row i ≡ a.s.row i) ⊎ (((a.s.row i).mode ≡ 0) × (row i ≡ no_row))) →
       Move k a (server (record a.s { row = row }) a)
   Rises : (a : Assoc) (g : ℕ) → a.s.top < g → Move k a (server (record a.s { top = g }) a)

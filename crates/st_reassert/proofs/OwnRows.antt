@@ -114,7 +114,7 @@ some_row c (r ∷ rows) e = go (same_client r.client c) e (some_row c rows)
     go true h i = record { r = r; rest = filter (is_row_by c) rows; is = refl }
     go false h i = i h
 
--- the first of the client's rows, as they are told: its file refuses a reassertion of a life above all of them
+-- the first of the client's rows, as they are reported: its file refuses a reassertion of a life above all of them
 pub record FirstOwn (l : Locks) (c : ClientId) : Type 0 where
   pub row : ℕ × GrantNo × Mode
   pub rest : List (ℕ × GrantNo × Mode)

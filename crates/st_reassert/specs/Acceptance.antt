@@ -32,8 +32,8 @@ pub record Parts : Type 0 where
   pub locks : Locks
   pub sessions : Sessions
 
--- Accepting leaves what the rule says, or returns its refusal; then nothing changed. Where it runs out of memory, nothing is
--- said of the locks and the sessions.
+-- Accepting leaves what the rule says, or returns its refusal; then nothing changed. If it runs out of memory, nothing is promised about the locks and the
+-- sessions.
 abbrev pub Accepts : Parts → Parts → Result Unit ReassertRefusal → Result Accepted AcceptRefusal → Type 0
 Accepts old new (Ok done) rule = rule ≡ Ok (record { locks = new.locks; sessions = new.sessions })
 Accepts old new (Err refusals.Memory) rule = Unit {0}

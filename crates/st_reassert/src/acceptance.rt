@@ -28,7 +28,8 @@ fn first_new_grant(rows: &[(u32, GrantNo, Mode)], epoch: Epoch) -> Option<(u32, 
     rows.iter().copied().find(|row| !is_earlier(epoch, row.1))
 }
 
-/// The least file of a client that has rows. A reassertion of a life above all of them is refused at it.
+/// The least file of a client that has rows. A reassertion of a life above all of them is refused
+/// at it.
 fn own_file(locks: &LockTable, client: ClientId) -> Result<u32, AllocError>
     requires { has_rows locks.now client ≡ true }
     ensures { (life : Life) → is_older locks.now client life ≡ true → IfOk result (λ ino. grace.own_older locks.now client life ≡ Some ino) }

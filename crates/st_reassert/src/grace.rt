@@ -21,7 +21,8 @@ struct Period {
     wait: u64,
 }
 
-/// The grace of one epoch of a server, or that it has none. Contracts see it as an option of the grace's start and length.
+/// The grace of one epoch of a server, or that it has none. Contracts see it as an option of the
+/// grace's start and length.
 #[derive(Drop)]
 pub struct Grace {
     period: Option<Period>,
@@ -68,7 +69,7 @@ impl Grace {
         }
     }
 
-    /// When the grace of this epoch began, or 0 where it has none. It does not allocate.
+    /// When the grace of this epoch began, or 0 if it has none. It does not allocate.
     pub fn start(&self) -> Stamp
         ensures { result ≡ grace.grace_start self.now }
     {
@@ -78,11 +79,12 @@ impl Grace {
         }
     }
 
-    /// Accepts the rows that a client reasserts in this life: they are installed, and its session is made. It is refused, in this
-    /// order, if grace is not on (`GraceOver`), at the first row with a grant number that no earlier epoch gave (`NotHolder`),
-    /// if the client itself has rows, at the least file of them (`Conflict`), and at the first row that conflicts with another
-    /// client's (`Conflict`). A refusal changes nothing. If the call runs out of memory, nothing is said of the locks and the
-    /// sessions.
+    /// Accepts the rows that a client reasserts in this life: they are installed, and its session
+    /// is made. It is refused, in this order: if grace isn't on (`GraceOver`); at the first row
+    /// with a grant number that no earlier epoch gave (`NotHolder`); if the client itself has rows,
+    /// at the least file of them (`Conflict`); and at the first row that conflicts with another
+    /// client's (`Conflict`). A refusal changes nothing. If the call runs out of memory, nothing is
+    /// promised about the locks and the sessions.
     #[tactic(auto, unfolding(st_rules::specs::Grace::accept))]
     pub fn accept(
         &self,

@@ -14,7 +14,7 @@ use Rattle.st_runs.proofs.Events.{events_within}
 use Rattle.st_runs.proofs.Heads.{after_head, head_fits, head_nodes}
 use Rattle.st_laws_safe.proofs.Gathered.{every_run}
 
--- the events of a schedule behind a head are in their ranges
+-- the events of a schedule after a head are in their ranges
 events_fit : (n : Counts) (form : ℕ) (others : List (List ℕ)) (reader : Progress) (s : Schedule) → reader ≡ progress.Reading form n 0 →
     s ≡ schedule_of others 2 reader →
     list_all (is_event (nodes_of n)) (schedule_of others 2 (progress.Reading form n 0)).events ≡ true →

@@ -39,7 +39,7 @@ refused_line faults.Write n f before now txt p h e = subst (AppendsPrefix before
 refused_line faults.Memory n f before now txt p h e = unwritten before now (text p) h
 refused_line faults.Read n f before now txt p h e = absurd h
 
--- A report behind a text that was written.
+-- A report after a text that was written.
 
 more_prefix : (first before now : Option (List ℕ)) (t whole : List ℕ) → Appends first before t → AppendsPrefix before now whole →
     AppendsPrefix first now (t ++ whole)

@@ -37,7 +37,7 @@ use Rattle.st_runs.proofs.Ranges.{event_within}
 
 -- An event.
 
--- a run behind the observations of one event
+-- a run after the observations of one event
 run_one : (n : ℕ) (ending : Ending) (os : List Observation) (r : Run) →
     run_from n ending (run_behind (os ∷ []) r) ≡ behind (lines n os) (run_from (n + 1) ending r)
 unfolding lines_from

@@ -1,4 +1,4 @@
--- What stands while a source is taken piece by piece, and what is known where that stops.
+-- What holds while a source is taken piece by piece, and what is known when that stops.
 use Rattle.std.proofs.Common.{◌≡◌, ℕ, ◌+◌, ◌<◌, List, [], ◌++◌, length, take, drop, refl, sym, ◌∙◌, ap, subst, arith, append-nil, take-append-drop}
 use Rattle.std.specs.Prelude.{Option, Some, None, IfSome}
 use Rattle.std.specs.Io.KnownBytes.{Appends, Consumes, Keeps}
@@ -32,7 +32,7 @@ known_replay : (taken t pending : List ℕ) (handled : List (List ℕ)) (v : Opt
     behind (t ++ pending) (from_here v q next (lines_of (holds ++ more))) ≡ replay_of (taken ++ more)
 known_replay taken t pending handled v q next holds more are goes = goes (lines_of (holds ++ more)) ∙ ap replay_lines (sym (are.lines more))
 
--- the text of a replay behind a text begins with it
+-- the text of a replay after a text begins with it
 front_first : (t : List ℕ) (r p : Replay) → behind t r ≡ p → text p ≡ t ++ (r.front ++ last_line r.last)
 front_first t r p e = sym (ap (λ (x : Replay). text x) e) ∙ append_assoc t r.front (last_line r.last)
 
@@ -48,7 +48,7 @@ written_first (Some bytes) (Some more) before written pending v q next holds s =
           ∙ ap replay_of (sym s.took)),
     )
 
--- a front of a text was written
+-- a prefix of a text was written
 pub prefix_of : (before now : Option (List ℕ)) (whole t rest : List ℕ) → Appends before now t → whole ≡ t ++ rest → AppendsPrefix before now whole
 prefix_of before now whole t rest h e = (length t, subst (Appends before now) (sym (ap (take (length t)) e ∙ take-append_seam t rest)) h)
 

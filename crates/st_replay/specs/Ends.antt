@@ -1,4 +1,4 @@
--- How a replay ended, and what stands then: of the source, of the sink, and of the counts of their faults.
+-- How a replay ended, and what holds then: of the source, of the sink, and of the counts of their faults.
 use Rattle.std.specs.Prelude.{◌≡◌, ◌≤◌, ℕ, List, length, Option, Result, Ok, Err}
 use Rattle.std.specs.Io.KnownBytes.{Appends, Consumes}
 use Rattle.st_link.specs.Causes.{Rose}
@@ -11,8 +11,7 @@ use Rattle.st_runs.specs.Replay.{Replay, Last, Whole, Stopped, text, replay_line
 use Rattle.st_runs.specs.Safe.{RunsSafely}
 use Rattle.st_replay.specs.Pieces.{Passes, whole_lines}
 
--- What was written, next to the replay of all bytes: the whole report where it went through the end or stopped at a line, and
--- otherwise a front of it.
+-- What was written, next to the replay of all bytes: the whole report where it went through the end or stopped at a line, and otherwise a prefix of it.
 abbrev pub Reports : Result (Summary × World) ReplayFault → Option (List ℕ) → Option (List ℕ) → Replay → Type 0
 Reports (Ok r) before now p = (p.last ≡ Whole r.1) × Appends before now (text p)
 Reports (Err (faults.Line n f)) before now p = (p.last ≡ Stopped n f) × Appends before now (text p)

@@ -86,7 +86,7 @@ needs progress.Nothing = 25700515
 needs (progress.Reading form counts done) = 257 * (100000 - done) + 261
 needs progress.Ended = 257
 
--- a player took a piece: it handled the lines that are whole now, and holds the bytes behind them
+-- a player took a piece: it handled the lines that are whole now, and holds the bytes after them
 pub record Feeds (old : List ℕ) (w : Option World) (p : Progress) (line : ℕ) (held : List ℕ)
     (new : List ℕ) (v : Option World) (q : Progress) (next : ℕ) (holds piece : List ℕ) : Type 0 where
   pub handled : List (List ℕ)

@@ -34,15 +34,15 @@ pub record Streams (left_before left_now written_before written_now : Option (Li
   pub none : HasNone holds
   pub few : length holds ≤ 256
 
--- A text was written; it is a front of the report, and where a line stopped the replay, it is the report up to this line, but for
--- the text that was not written yet.
+-- A text was written; it is a prefix of the report, and where a line stopped the replay, it is the report up to this line, except for the text that was not
+-- written yet.
 pub record Halts (left_before written_before written_now : Option (List ℕ)) (pending : List ℕ) (s : Stop) : Type 0 where
   pub written : List ℕ
   pub wrote : Appends written_before written_now written
   pub front : IfSome left_before (λ bytes. (rest : List ℕ) × (report_of bytes ≡ written ++ rest))
   pub stops : AtStop s (λ n f. IfSome left_before (λ bytes. EndsAt (written ++ pending) n f (replay_of bytes)))
 
--- what stands where all was taken, or where the replay halted
+-- what holds if all was taken, or if the replay halted
 abbrev pub Plays : Result Unit Halt → Option (List ℕ) → Option (List ℕ) → Option (List ℕ) → Option (List ℕ) → List ℕ → Option World → Progress → ℕ →
     List ℕ → Type 0
 Plays (Ok u) left left_now written written_now pending v q next holds = Streams left left_now written written_now pending v q next holds × IsAtEnd left_now
@@ -70,7 +70,7 @@ EndsWhole old new s None p line = ⊥
 EndsWhole old new s (Some w) p line =
     (record { front = old; last = Whole w } ≡ behind old (from_line w p line [])) × (s ≡ summary w) × (new ≡ old ++ last_line (Whole w))
 
--- the same of a call that went on to the end: the world after it, and this replay behind the text before it
+-- the same of a call that went on to the end: the world after it, and this replay after the text before it
 abbrev pub Concludes : List ℕ → List ℕ → Summary → Option World → Replay → Type 0
 Concludes old new s None p = ⊥
 Concludes old new s (Some w) p = ((behind old p).last ≡ Whole w) × (s ≡ summary w) × (new ≡ text (behind old p))
@@ -82,7 +82,7 @@ RefusesLine faults.Write line why before now old = AppendsPrefix before now (old
 RefusesLine faults.Memory line why before now old = now ≡ before
 RefusesLine faults.Read line why before now old = ⊥
 
--- the same of where a replay was stopped; where memory ran out nothing was written
+-- the same of where a replay was stopped; if memory ran out nothing was written
 abbrev pub Refuses : ReplayFault → Stop → Option (List ℕ) → Option (List ℕ) → List ℕ → Type 0
 Refuses r (stops.Line line why) before now old = RefusesLine r line why before now old
 Refuses r stops.Memory before now old = (r ≡ faults.Memory) × (now ≡ before)

@@ -1,5 +1,6 @@
-//! Replaying: a schedule is read from a source in pieces, its events are run in a world, and the report is written to a sink as the
-//! run goes on. `docs/PROTOCOL.md`, "Schedules" and "The report".
+//! Replaying: a schedule is read from a source in pieces, its events are run in a world, and the
+//! report is written to a sink as the run goes on. `docs/PROTOCOL.md`, "Schedules" and "The
+//! report".
 #![tactic(auto)]
 
 ghost use Rattle.st_runs.specs.Safe.{EveryScheduleRunsSafely};
@@ -21,9 +22,10 @@ pub use st_rules::Summary;
 pub use st_runs::LineRefusal;
 pub use st_world::World;
 
-/// Every schedule runs safely: where its first line is read as a head, its replay is that of the run of the events behind that head,
-/// from the head's world, and each step of this run keeps every promise. Nothing is owed: the reader lets no other head and no other
-/// event through than those of which the promises speak.
+/// Every schedule runs safely: where its first line is read as a head, its replay is that of the
+/// run of the events after that head, from the head's world, and each step of this run keeps every
+/// promise. Nothing is owed: the reader lets no other head and no other event through than those of
+/// which the promises speak.
 pub fn schedules_run_safely()
     ensures { EveryScheduleRunsSafely }
 {}

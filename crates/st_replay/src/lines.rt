@@ -18,7 +18,7 @@ pub(crate) fn before(bytes: &[u8], at: usize) -> &[u8]
     &bytes[..at]
 }
 
-/// The bytes behind this place.
+/// The bytes after this place.
 pub(crate) fn after(bytes: &[u8], at: usize) -> &[u8]
     requires { at < length bytes.now }
     ensures exact { result.now ≡ drop (at + 1) bytes.now }

@@ -1,4 +1,5 @@
-// A piece of the source: the lines that are whole with it are played, and the bytes behind them held.
+// A piece of the source: the lines that are whole with it are played, and the bytes after them
+// held.
 ghost use Rattle.std.specs.Prelude.{◌≡◌, ◌+◌, ◌≤◌, ◌<◌, ◌∷◌, ◌++◌, [], ℕ, List, OnOk, length};
 ghost use Rattle.st_schedule.specs.declared.fault.ScheduleRefusal.TheVariants.{LineTooLong};
 ghost use Rattle.st_runs.specs.declared.fault.LineRefusal.TheVariants as why;
@@ -36,7 +37,7 @@ fn play_whole(player: &mut Player, held: &mut Vec<u8>, part: &[u8]) -> Result<()
     Ok(())
 }
 
-/// Holds these bytes, which belong to the line of this number, behind those that are held.
+/// Holds these bytes, which belong to the line of this number, after those that are held.
 fn hold(line: u64, held: &mut Vec<u8>, rest: &[u8]) -> Result<(), Stop>
     requires few { length held.old.items ≤ 256 }
     ensures held { OnOk result (held.new.items ≡ held.old.items ++ rest.now) }
@@ -50,7 +51,7 @@ fn hold(line: u64, held: &mut Vec<u8>, rest: &[u8]) -> Result<(), Stop>
     Ok(())
 }
 
-/// Plays the lines that are whole with this piece, and holds the bytes behind them: at most 256.
+/// Plays the lines that are whole with this piece, and holds the bytes after them: at most 256.
 pub(crate) fn feed(player: &mut Player, held: &mut Vec<u8>, piece: &[u8]) -> Result<(), Stop>
     requires here { IsHere player.old.world player.old.reader player.old.line }
     requires none { HasNone held.old.items }

@@ -20,8 +20,8 @@ use st_world::{World, WorldFault};
 use std::alloc::Global;
 use std::mem;
 
-/// Runs the admissible event in the line of this number, and appends what is observed of it. What was observed of the one before
-/// makes room for that.
+/// Runs the admissible event in the line of this number, and appends what is observed of it. What
+/// was observed of the one before makes room for that.
 fn run_event(
     alloc: Global,
     text: &mut Vec<u8>,

@@ -10,8 +10,8 @@ use st_schedule::ScheduleReader;
 use st_world::World;
 use std::alloc::Global;
 
-/// A replay on its way: the reader, the world once the head was read, the number of the next line, the text that was not written
-/// yet, and what was observed of the last event.
+/// A replay on its way: the reader, the world once the head was read, the number of the next line,
+/// the text that was not written yet, and what was observed of the last event.
 #[derive(Drop)]
 pub(crate) struct Player {
     pub(crate) alloc: Global,

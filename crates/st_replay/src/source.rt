@@ -20,7 +20,8 @@ use st_rules::Summary;
 use st_world::World;
 use std::alloc::Global;
 
-/// Takes the source to its end, and plays each line as soon as it is whole. What is observed is written before more is taken.
+/// Takes the source to its end, and plays each line as soon as it is whole. What is observed is
+/// written before more is taken.
 fn play_all<I: Source, O: Sink>(
     player: &mut Player,
     held: &mut Vec<u8>,
@@ -82,24 +83,26 @@ fn replay_with<I: Source, O: Sink>(
     }
 }
 
-/// Replays a schedule: reads it from `input` in pieces of at most 4,096 bytes, runs each line as soon as it is whole, and writes the
-/// report to `out`; what is observed of the lines of a piece is written before the next piece is read. Neither the schedule nor
-/// the report is kept: between two reads at most 256 bytes of the schedule are held. It hands back the counts of the run, and the
+/// Replays a schedule: reads it from `input` in pieces of at most 4,096 bytes, runs each line as
+/// soon as it is whole, and writes the report to `out`; what is observed of the lines of a piece is
+/// written before the next piece is read. Neither the schedule nor the report is kept: between two
+/// reads at most 256 bytes of the schedule are held. It hands back the counts of the run, and the
 /// world that it led to.
 ///
-/// It returns `Line` where a line is refused, and then the report ends with that line's refusal; `Read` and `Write` where a read
-/// or a write failed, and `Memory` where memory ran out.
+/// It returns `Line` where a line is refused, and then the report ends with that line's refusal;
+/// `Read` and `Write` where a read or a write failed, and `Memory` if memory ran out.
 pub fn replay<I: Source, O: Sink>(
     alloc: Global,
     input: &mut I,
     out: &mut O,
 ) -> Result<(Summary, World), ReplayFault>
-    // The report over all the bytes that the source held: all of it where the replay went through or stopped at a line, and otherwise
-    // a front of it.
+    // The report over all the bytes that the source held: all of it where the replay went through
+    // or stopped at a line, and otherwise a prefix of it.
     ensures report { IfSome (I.left input.old) (λ bytes. Reports result (O.written out.old) (O.written out.new) (replay_of bytes)) }
     ensures counts { IfOk result (λ r. r.0 ≡ rules.summary r.1) }
     ensures through { IfOk result (λ r. IsAtEnd (I.left input.new)) }
-    // After `Read`: the head's line and the observations of the lines whose newlines were taken, of which none is refused.
+    // After `Read`: the head's line and the observations of the lines whose newlines were taken, of
+    // which none is refused.
     ensures read { OnRead result (IsCutOff (I.left input.old) (I.left input.new) (O.written out.old) (O.written out.new)) }
     // `Read` and `Write` come only where a count of faults rose; at `Ok` and at `Line` none did.
     ensures causes { HasCauses result (I.faults input.old) (I.faults input.new) (O.faults out.old) (O.faults out.new) }

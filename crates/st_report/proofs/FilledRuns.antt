@@ -26,7 +26,7 @@ pub runs_filled : (b : ℕ) → runs (filled b) ≡ codes " " ++ one_run 4096 b
 unfolding filled
 runs_filled b = runs_same 4095 b
 
--- a space and one run behind a text are the runs of the page
+-- a space and one run after a text are the runs of the page
 pub runs_behind : (new mid old : List ℕ) (b : ℕ) → mid ≡ old ++ 32 ∷ [] → new ≡ mid ++ one_run 4096 b → new ≡ old ++ runs (filled b)
 runs_behind new mid old b space run =
     run ∙ ap (λ t. t ++ one_run 4096 b) space ∙ append_assoc old (32 ∷ []) (one_run 4096 b) ∙ ap (λ t. old ++ t) (sym (runs_filled b))

@@ -1,8 +1,8 @@
--- Texts that are appended one behind the other.
+-- Texts that are appended one after another.
 use Rattle.std.proofs.Common.{◌≡◌, ℕ, List, ◌++◌, Result, Ok, Err, OnOk, sym, ◌∙◌, ap}
 use Rattle.std.proofs.lemmas.List.{append_assoc}
 
--- one text more behind others
+-- one text more after others
 one_more : (old front all piece : List ℕ) → old ++ front ≡ all → old ++ (front ++ piece) ≡ all ++ piece
 one_more old front all piece e = sym (append_assoc old front piece) ∙ ap (λ t. t ++ piece) e
 

@@ -10,7 +10,8 @@ use st_base::{ExtentRow, GrantNo, Mode, PageNo};
 use st_messages::{Body, Why};
 use std::alloc::AllocError;
 
-/// The word of a message's kind, behind a space. Messages between a node and its own surroundings have none.
+/// The word of a message's kind, after a space. Messages between a node and its own surroundings
+/// have none.
 pub(crate) fn kind(body: &Body) -> &'static str
     ensures { result.now ≡ text.kind body.now }
 {

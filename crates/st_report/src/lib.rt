@@ -1,5 +1,6 @@
-//! The text of a report: each observation, each refusal of the world and the last line, appended to a buffer of bytes. The texts
-//! are those of `st_rules/specs/Report.antt`; `docs/PROTOCOL.md`, "The report", shows them.
+//! The text of a report: each observation, each refusal of the world and the last line, appended to
+//! a buffer of bytes. The texts are those of `st_rules/specs/Report.antt`; `docs/PROTOCOL.md`, "The
+//! report", shows them.
 #![tactic(auto)]
 
 mod answers;

@@ -60,7 +60,7 @@ fn put_missed(out: &mut Vec<u8>, c: ClientId, s: ServerId) -> Result<(), AllocEr
     put_server(out, s)
 }
 
-/// Appends the name of a refusal of the world and its values, behind a space.
+/// Appends the name of a refusal of the world and its values, after a space.
 #[tactic(auto, unfolding(st_rules::specs::Report::refusal))]
 pub fn put_refusal(out: &mut Vec<u8>, refusal: WorldRefusal) -> Result<(), AllocError>
     ensures { OnOk result (out.new.items ≡ out.old.items ++ text.refusal refusal) }

@@ -13,7 +13,7 @@ fn put_run(out: &mut Vec<u8>, count: u64, byte: u8) -> Result<(), AllocError>
     put_behind(out, b'x', u64::from(byte))
 }
 
-/// Appends the runs of these bytes, before which `first` stands.
+/// Appends the runs of these bytes, which `first` precedes.
 fn put_runs_from(out: &mut Vec<u8>, first: u8, bytes: &[u8]) -> Result<(), AllocError>
     ensures { OnOk result (out.new.items ≡ out.old.items ++ text.runs_from 1 first bytes.now) }
 {

@@ -34,7 +34,7 @@ pub record ServerRequests : Type 0 where
 abbrev pub no_requests : ClientId → ServerId → ℕ → ServerRequests
 no_requests client server retry = record { client = client; server = server; retry = retry; under = None; requests = client_state.no_requests }
 
--- what stands in front of a request
+-- what precedes a request
 abbrev pub header : ClientId → ServerId → Under → ℕ → Stamp → Header
 header c s u number now = record { from = c.0; to = server_node s; life = u.life.0; epoch = u.epoch.0; number = number; stamp = now.0 }
 
@@ -122,7 +122,7 @@ shown q = (q.number, q.body)
 abbrev pub asked : ServerRequests → Option (ℕ × Body)
 asked r = option_map shown r.requests.asked
 
--- a number and a body, with the body behind the reference that a call lends
+-- a number and a body, with the body that the lent reference points to
 abbrev pub copied : ℕ × Bor Body → ℕ × Body
 copied p = (p.0, p.1.now)
 

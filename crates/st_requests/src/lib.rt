@@ -1,5 +1,5 @@
-//! A client's requests to a server: their numbers, and the one that was sent and not answered yet. `docs/PROTOCOL.md`,
-//! "Requests", has the rules.
+//! A client's requests to a server: their numbers, and the one that was sent and not answered yet.
+//! `docs/PROTOCOL.md`, "Requests", has the rules.
 #![tactic(auto)]
 
 mod outstanding_request;

@@ -19,7 +19,7 @@ pub struct OutstandingRequest {
 }
 
 impl OutstandingRequest {
-    /// What stands in front of the request, if it is sent now.
+    /// What precedes the request, if it is sent now.
     fn header(&self, client: ClientId, server: ServerId, now: Stamp) -> Header
         requires { HasNode server }
         ensures { result ≡ shown.header client server (under_of self.now) self.now.request.number now }

@@ -18,8 +18,9 @@ pub enum Reply {
     Other,
 }
 
-/// A client's requests to one server. Contracts see them as the client, the server, the time after which an unanswered request
-/// is sent again, the life and the epoch of the outstanding request, and the requests: the next number and the outstanding one.
+/// A client's requests to one server. Contracts see them as the client, the server, the time after
+/// which an unanswered request is sent again, the life and the epoch of the outstanding request,
+/// and the requests: the next number and the outstanding one.
 #[derive(Drop)]
 pub struct Requests {
     client: ClientId,
@@ -49,7 +50,8 @@ impl Model for Requests {
 }
 
 impl Requests {
-    /// Nothing was asked yet. An unanswered request is sent again `retry` ticks after it was last sent.
+    /// Nothing was asked yet. An unanswered request is sent again `retry` ticks after it was last
+    /// sent.
     pub fn new(client: ClientId, server: ServerId, retry: u64) -> Requests
         requires node { HasNode server }
         ensures { result ≡ shown.no_requests client server retry }
@@ -70,8 +72,8 @@ impl Requests {
         self.next < 4_611_686_018_427_387_904
     }
 
-    /// Asks in this life and epoch, with the next number. It returns the message to send. If the call runs out of memory,
-    /// nothing changes.
+    /// Asks in this life and epoch, with the next number. It returns the message to send. If the
+    /// call runs out of memory, nothing changes.
     #[tactic(auto, unfolding(st_rules::specs::ClientState::asking))]
     pub fn ask(
         &mut self,
@@ -101,8 +103,9 @@ impl Requests {
         Ok(message)
     }
 
-    /// Asks again: the message of the outstanding request, sent now, or `None` where none is outstanding or it was last sent
-    /// less than `retry` ticks ago. If the call runs out of memory, nothing changes.
+    /// Asks again: the message of the outstanding request, sent now, or `None` where none is
+    /// outstanding or it was last sent less than `retry` ticks ago. If the call runs out of memory,
+    /// nothing changes.
     #[tactic(auto, unfolding(crate::specs::ServerRequests::again, crate::specs::ServerRequests::again_of, crate::specs::ServerRequests::again_if_due, crate::specs::ServerRequests::sent_again))]
     pub fn again(&mut self, now: Stamp) -> Result<Option<Message>, AllocError>
         ensures ok { IfOk result (λ m. shown.leaves_again m self.new ≡ shown.again self.old now) }
@@ -134,7 +137,8 @@ impl Requests {
         }
     }
 
-    /// The number and the body of the outstanding request, or `None` where there is none. It does not allocate.
+    /// The number and the body of the outstanding request, or `None` if there is none. It does not
+    /// allocate.
     pub fn asked(&self) -> Option<(u64, &Body)>
         ensures { option_map shown.copied result ≡ shown.asked self.now }
     {
@@ -149,8 +153,8 @@ impl Requests {
         self.asked.is_some()
     }
 
-    /// Begins a new epoch: the next number is 1 again. It returns the body of the outstanding request, which is given up, or
-    /// `None` where there is none. It does not allocate.
+    /// Begins a new epoch: the next number is 1 again. It returns the body of the outstanding
+    /// request, which is given up, or `None` if there is none. It does not allocate.
     pub fn new_epoch(&mut self) -> Option<Body>
         ensures told { result ≡ shown.given_up self.old }
         ensures left { self.new ≡ shown.restarted self.old }

@@ -29,7 +29,7 @@ tag_of s ino p birth = record { file = on s ino; page = page p; birth = birth }
 abbrev pub lost_row : ℕ → ℕ → LostRow
 lost_row p command = record { page = page p; command = command }
 
--- a message between two nodes; behind them stand life, epoch, number and stamp
+-- a message between two nodes; after them come life, epoch, number and stamp
 abbrev pub between : ℕ → ℕ → ℕ → ℕ → ℕ → ℕ → Body → ClientInput
 between s n l e number moment body =
     Control (record { header = record { from = s; to = n; life = l; epoch = e; number = number; stamp = moment }; body = body })

@@ -33,7 +33,7 @@ other_client fate = record { of = owner (c 2) (life 1) (file 2) (page 0); change
 abbrev pub crashed : FileId → PageNo → Cause
 crashed f p = Crash
 
--- the entries of a client, but for those of a page up to a number
+-- the entries of a client, except for those of a page up to a number
 abbrev pub of_first_but : ℕ → ℕ → LogOwner → Bool
 of_first_but kept number o = is_of_client (c 1) o && not (nat_le number kept)
 

@@ -49,7 +49,7 @@ at disk block = record { disk = record { 0 = disk }; block = block }
 abbrev pub extent : ℕ → ℕ → ℕ → ℕ → ExtentRow
 extent p disk block birth = record { page = page p; at = at disk block; birth = birth }
 
--- a message of a client to the first server, and one to a client; behind the client stand life, epoch, number and stamp
+-- a message of a client to the first server, and one to a client; after the client come life, epoch, number and stamp
 abbrev pub from : ℕ → ℕ → ℕ → ℕ → ℕ → Body → ServerInput
 from n l e number moment body = Control (record { header = record { from = n; to = 32769; life = l; epoch = e; number = number; stamp = moment }; body = body })
 

@@ -15,7 +15,8 @@ ghost use Rattle.st_rows.specs.ClientScript.{Given, client_of, said};
 ghost use Rattle.st_rows.specs.ClientWords.{answer, noted, on, says, server, told, writes};
 ghost use Rattle.st_rows.specs.Words.{extent, g, page, stamp};
 
-/// A newer epoch gives up the outstanding request, whose operation is uncertain; the locks are reasserted, and pages stay.
+/// A newer epoch gives up the outstanding request, whose operation is uncertain; the locks are
+/// reasserted, and pages stay.
 #[tactic(auto, unfolding(crate::specs::ClientScript::client_script_open))]
 pub fn a_new_epoch_gives_up_the_request()
     ensures { said (
@@ -45,7 +46,8 @@ pub fn a_new_epoch_gives_up_the_request()
         ∷ [] }
 {}
 
-/// Waits, releases and demands are forgotten, and the locks are reasserted once more where a second epoch comes first.
+/// Waits, releases and demands are forgotten, and the locks are reasserted once more where a second
+/// epoch comes first.
 #[tactic(auto, unfolding(crate::specs::ClientScript::client_script_open))]
 pub fn a_new_epoch_forgets_what_was_under_way()
     ensures { said (
@@ -80,7 +82,8 @@ pub fn a_new_epoch_forgets_what_was_under_way()
         ∷ [] }
 {}
 
-/// A refusal of the reassertion condemns the lease: nothing is asked any more, what is pending is quiesced, and in flush pages are written.
+/// A refusal of the reassertion condemns the lease: nothing is asked any more, what is pending is
+/// quiesced, and in flush pages are written.
 #[tactic(auto, unfolding(crate::specs::ClientScript::client_script_open))]
 pub fn a_refused_reassertion_condemns()
     ensures { said (
@@ -107,8 +110,8 @@ pub fn a_refused_reassertion_condemns()
         ∷ [] }
 {}
 
-/// Refused as a suspect, the client hopes for no renewal; the same of a life without a session, of a late reassertion, and
-/// of a conflict. Two refusals are passed over.
+/// Refused as a suspect, the client hopes for no renewal; the same of a life without a session, of
+/// a late reassertion, and of a conflict. Two refusals are ignored.
 #[tactic(auto, unfolding(crate::specs::ClientScript::client_script_open))]
 pub fn a_suspect_is_condemned()
     ensures { said (

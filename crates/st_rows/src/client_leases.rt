@@ -46,7 +46,8 @@ pub fn a_lease_is_dated_from_the_greeting()
         ∷ [] }
 {}
 
-/// A welcome to a greeting that is a lease ago is passed over; the client greets again, and the next one begins a session one tick before that.
+/// A welcome to a greeting that is a lease ago is ignored; the client greets again, and the next
+/// one begins a session one tick before that.
 #[tactic(auto, unfolding(crate::specs::ClientScript::client_script_open))]
 pub fn a_late_welcome_is_passed_over()
     ensures { said (
@@ -78,7 +79,8 @@ pub fn greetings_are_repeated_on_old_ticks()
         ∷ [] }
 {}
 
-/// Messages to others, of servers that are not there, of other lives, of later stamps, of other epochs, and without a session.
+/// Messages to others, of servers that are not there, of other lives, of later stamps, of other
+/// epochs, and without a session.
 #[tactic(auto, unfolding(crate::specs::ClientScript::client_script_open))]
 pub fn strange_messages_are_passed_over()
     ensures { said (
@@ -101,7 +103,8 @@ pub fn strange_messages_are_passed_over()
         ∷ [] }
 {}
 
-/// A keep-alive is sent from the age of renewal on, and no tick before; its acknowledgement renews the lease from its sending.
+/// A keep-alive is sent from the age of renewal on, and no tick before; its acknowledgement renews
+/// the lease from its sending.
 #[tactic(auto, unfolding(crate::specs::ClientScript::client_script_open))]
 pub fn keep_alives_begin_with_renewal()
     ensures { said (
@@ -127,7 +130,8 @@ pub fn keep_alives_begin_with_renewal()
         ∷ [] }
 {}
 
-/// In renewal an operation asks first, and of several the first in order that has something to ask; with nothing to ask a keep-alive is sent.
+/// In renewal an operation asks first, and of several the first in order that has something to ask;
+/// with nothing to ask a keep-alive is sent.
 #[tactic(auto, unfolding(crate::specs::ClientScript::client_script_open))]
 pub fn operations_speak_before_keep_alives()
     ensures { said (
@@ -170,7 +174,8 @@ pub fn operations_speak_before_keep_alives()
         ∷ [] }
 {}
 
-/// The outstanding request is sent once more on a tick, when it is old, with its number and a new stamp; a reply to the first sending counts.
+/// The outstanding request is sent once more on a tick, when it is old, with its number and a new
+/// stamp; a reply to the first sending counts.
 #[tactic(auto, unfolding(crate::specs::ClientScript::client_script_open))]
 pub fn requests_are_repeated_on_old_ticks()
     ensures { said (
@@ -222,7 +227,8 @@ pub fn a_lease_that_is_over_is_lost()
         ∷ [] }
 {}
 
-/// At a loss each dirty page is told with the command that failed, the one that was out, or none; what was sent is uncertain, a second sync is quiesced.
+/// At a loss each dirty page is reported with the command that failed, the one that was out, or
+/// none; what was sent is uncertain, a second sync is quiesced.
 #[tactic(auto, unfolding(crate::specs::ClientScript::client_script_open))]
 pub fn lost_pages_are_told_once()
     ensures { said (
@@ -270,7 +276,8 @@ pub fn lost_pages_are_told_once()
         ∷ [] }
 {}
 
-/// A page whose write failed and is out once more is told as lost with the one that failed.
+/// A page whose write failed and is outstanding once more is reported as lost with the one that
+/// failed.
 #[tactic(auto, unfolding(crate::specs::ClientScript::client_script_open))]
 pub fn a_failed_command_is_told_before_the_outstanding_one()
     ensures { said (
@@ -298,7 +305,8 @@ pub fn a_failed_command_is_told_before_the_outstanding_one()
         ∷ [] }
 {}
 
-/// Without a sync at the loss the next one of the file is told, and the one after it is hard at once, without a session.
+/// Without a sync at the loss the next one of the file reports it, and the one after it is hard at
+/// once, without a session.
 #[tactic(auto, unfolding(crate::specs::ClientScript::client_script_open))]
 pub fn a_later_sync_is_told_lost_pages()
     ensures { said (

@@ -12,7 +12,8 @@ ghost use Rattle.st_rows.specs.ClientTables.{clean_client, dirty_client, locked_
 ghost use Rattle.st_rows.specs.ClientWords.{answer, noted, on, reads, says, tag_of, told};
 ghost use Rattle.st_rows.specs.Words.{g, page};
 
-/// With 64 dirty pages a write of another page is refused, and of one of them accepted; a patch of another page is refused when the page is there.
+/// With 64 dirty pages a write of another page is refused, and of one of them accepted; a patch of
+/// another page is refused when the page is there.
 #[tactic(auto, unfolding(crate::specs::ClientTables::client_tables_open))]
 pub fn a_sixty_fifth_dirty_page_is_one_too_many()
     ensures { said (
@@ -49,7 +50,8 @@ pub fn a_page_that_was_not_used_leaves_the_clean_ones()
         ∷ [] }
 {}
 
-/// With 1,024 locks a grant of another file is released, and one of a file that has a lock is installed.
+/// With 1,024 locks a grant of another file is released, and one of a file that has a lock is
+/// installed.
 #[tactic(auto, unfolding(crate::specs::ClientTables::client_tables_open))]
 pub fn a_grant_without_a_place_is_given_back()
     ensures { said (

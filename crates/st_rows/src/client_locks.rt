@@ -11,7 +11,8 @@ ghost use Rattle.st_rows.specs.ClientScript.{Given, client_of, said};
 ghost use Rattle.st_rows.specs.ClientWords.{answer, noted, on, reads, says, server, tag_of, told, writes};
 ghost use Rattle.st_rows.specs.Words.{extent, g, page, stamp};
 
-/// A lock that was given up is not held again by an older grant; its request ends, and another one is sent.
+/// A lock that was given up is not held again by an older grant; its request ends, and another one
+/// is sent.
 #[tactic(auto, unfolding(crate::specs::ClientScript::client_script_open))]
 pub fn a_grant_below_the_greatest_seen_is_not_installed()
     ensures { said (
@@ -44,7 +45,8 @@ pub fn a_grant_below_the_greatest_seen_is_not_installed()
         ∷ [] }
 {}
 
-/// A demand of a lock that is not held is answered by its release, once; the grant that comes later is not installed.
+/// A demand of a lock that is not held is answered by its release, once; the grant that comes later
+/// is not installed.
 #[tactic(auto, unfolding(crate::specs::ClientScript::client_script_open))]
 pub fn a_demand_may_come_before_its_grant()
     ensures { said (
@@ -65,7 +67,8 @@ pub fn a_demand_may_come_before_its_grant()
         ∷ [] }
 {}
 
-/// A demand to share waits for the dirty page; then the lock is shared, its page can still be read, and a write asks for the lock anew.
+/// A demand to share waits for the dirty page; then the lock is shared, its page can still be read,
+/// and a write asks for the lock anew.
 #[tactic(auto, unfolding(crate::specs::ClientScript::client_script_open))]
 pub fn a_lock_is_reduced_to_shared_and_keeps_its_pages()
     ensures { said (
@@ -123,7 +126,8 @@ pub fn a_lock_is_reduced_to_none_with_its_pages()
         ∷ [] }
 {}
 
-/// A demanded file is not idle while one of its pages is read; then its lock goes, and the read asks for it anew.
+/// A demanded file is not idle while one of its pages is read; then its lock goes, and the read
+/// asks for it anew.
 #[tactic(auto, unfolding(crate::specs::ClientScript::client_script_open))]
 pub fn a_read_that_is_out_holds_up_a_reduction()
     ensures { said (
@@ -150,7 +154,8 @@ pub fn a_read_that_is_out_holds_up_a_reduction()
         ∷ [] }
 {}
 
-/// A demanded file is not reduced while it is cut; of two demands that come meanwhile the lesser holds, and there is one release.
+/// A demanded file is not reduced while it is cut; of two demands that come meanwhile the lesser
+/// holds, and there is one release.
 #[tactic(auto, unfolding(crate::specs::ClientScript::client_script_open))]
 pub fn a_cut_that_is_out_holds_up_a_reduction()
     ensures { said (
@@ -182,7 +187,7 @@ pub fn a_cut_that_is_out_holds_up_a_reduction()
         ∷ [] }
 {}
 
-/// Of two demands the lesser holds, with the later grant; a demand of an earlier grant is passed over.
+/// Of two demands the lesser holds, with the later grant; a demand of an earlier grant is ignored.
 #[tactic(auto, unfolding(crate::specs::ClientScript::client_script_open))]
 pub fn the_lesser_demand_holds()
     ensures { said (

@@ -56,7 +56,8 @@ pub fn a_server_that_is_not_there_has_no_files()
         ∷ [] }
 {}
 
-/// A cut waits until the file is idle, is busy until it is answered, and leaves pages that are unmapped.
+/// A cut waits until the file is idle, is busy until it is answered, and leaves pages that are
+/// unmapped.
 #[tactic(auto, unfolding(crate::specs::ClientScript::client_script_open))]
 pub fn a_file_is_cut()
     ensures { said (
@@ -119,7 +120,8 @@ pub fn a_file_is_removed()
         ∷ [] }
 {}
 
-/// A demand that comes while the file is removed is seen; the removed file's lock is released once, and its demand is forgotten.
+/// A demand that comes while the file is removed is seen; the removed file's lock is released once,
+/// and its demand is forgotten.
 #[tactic(auto, unfolding(crate::specs::ClientScript::client_script_open))]
 pub fn a_file_is_removed_while_it_is_demanded()
     ensures { said (
@@ -178,7 +180,8 @@ pub fn names_are_answered()
         ∷ [] }
 {}
 
-/// No file: all reads, writes, patches, cuts and removes of it, and not its syncs; too many locks likewise.
+/// No file: all reads, writes, patches, cuts and removes of it, and not its syncs; too many locks
+/// likewise.
 #[tactic(auto, unfolding(crate::specs::ClientScript::client_script_open))]
 pub fn a_refused_file_answers_all_its_operations()
     ensures { said (
@@ -214,7 +217,7 @@ pub fn a_refused_file_answers_all_its_operations()
         ∷ [] }
 {}
 
-/// No space: the writes and patches of the page that was to be mapped, and no others.
+/// No space: the writes and patches of the page that should have been mapped, and no others.
 #[tactic(auto, unfolding(crate::specs::ClientScript::client_script_open))]
 pub fn no_space_answers_the_writes_of_the_page()
     ensures { said (
@@ -270,7 +273,8 @@ pub fn not_the_holder()
         ∷ [] }
 {}
 
-/// A cut that is refused for space is not answered, and stays sent until the lease is lost; its file stays busy.
+/// A cut that is refused for space is not answered, and stays sent until the lease is lost; its
+/// file stays busy.
 #[tactic(auto, unfolding(crate::specs::ClientScript::client_script_open))]
 pub fn a_refusal_may_answer_nobody()
     ensures { said (

@@ -39,7 +39,8 @@ pub fn a_failed_write_is_submitted_again()
         ∷ [] }
 {}
 
-/// In flush the pages without a failed command are written, by rising file and page, and the others are not.
+/// In flush the pages without a failed command are written, by rising file and page, and the others
+/// are not.
 #[tactic(auto, unfolding(crate::specs::ClientScript::client_script_open))]
 pub fn a_failed_write_waits_out_the_flush()
     ensures { said (
@@ -88,7 +89,8 @@ pub fn a_failed_write_waits_out_the_flush()
         ∷ [] }
 {}
 
-/// A write that is done for an older version leaves the page dirty; so does one that fails, and marks nothing.
+/// A write that is done for an older version leaves the page dirty; so does one that fails, and
+/// marks nothing.
 #[tactic(auto, unfolding(crate::specs::ClientScript::client_script_open))]
 pub fn a_page_that_was_changed_since_stays_dirty()
     ensures { said (
@@ -122,7 +124,7 @@ pub fn a_page_that_was_changed_since_stays_dirty()
         ∷ [] }
 {}
 
-/// A patch of a page that is mapped and not at hand waits for its read, of which there is one.
+/// A patch of a page that is mapped and not cached waits for its read, of which there is one.
 #[tactic(auto, unfolding(crate::specs::ClientScript::client_script_open))]
 pub fn a_patch_reads_its_page_first()
     ensures { said (
@@ -171,8 +173,8 @@ pub fn a_patch_over_a_dirty_page()
         ∷ [] }
 {}
 
-/// What a read finds counts where the block's tag is the page's and its birth the known one; else the page is zeros.
-/// Results of another kind and of unknown commands are passed over.
+/// What a read finds counts if the block's tag is the page's and its birth is the known one;
+/// otherwise the page is zeros. Results of another kind and of unknown commands are ignored.
 #[tactic(auto, unfolding(crate::specs::ClientScript::client_script_open))]
 pub fn a_block_of_another_birth_is_zeros()
     ensures { said (
@@ -224,7 +226,7 @@ pub fn a_failed_read_answers_who_waits_for_it()
         ∷ [] }
 {}
 
-/// A page that is written while it is read: the read is forgotten, and its result is passed over.
+/// A page that is written while it is read: the read is forgotten, and its result is ignored.
 #[tactic(auto, unfolding(crate::specs::ClientScript::client_script_open))]
 pub fn a_write_forgets_the_read_of_its_page()
     ensures { said (

@@ -59,7 +59,7 @@ pub fn a_client_tells_of_its_leases()
     ensures started { client.lives (left (Restarted ∷ Restarted ∷ []) (client_of 2)) ≡ life 3 ∷ life 3 ∷ [] }
 {}
 
-/// Lost pages of a file are told once, by rising page; those of other files stay.
+/// Lost pages of a file are reported once, by rising page; those of other files stay.
 #[tactic(auto, unfolding(crate::specs::ClientTables::client_tables_open))]
 pub fn lost_pages_are_told_by_rising_page()
     ensures rising { pages.told_rows unsorted_pages 2 ≡ lost_row 1 0 ∷ lost_row 4 9 ∷ lost_row 7 2 ∷ [] }

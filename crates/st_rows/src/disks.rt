@@ -6,7 +6,8 @@ ghost use Rattle.st_rows.specs.Disks.{block_of, after_effect, after_read, after_
 ghost use Rattle.st_rows.specs.Tables.{tag};
 ghost use Rattle.st_rows.specs.Words.{at};
 
-/// A write takes effect as a whole; a read samples the block as it is then; a fresh block has birth 0 and zeros.
+/// A write takes effect as a whole; a read samples the block as it is then; a fresh block has birth
+/// 0 and zeros.
 #[tactic(auto, unfolding(crate::specs::Disks::disk_rows_open))]
 pub fn commands_take_effect()
     ensures fresh { disks.block before (at 1 3) ≡ record { at = at 1 3; tag = disks.fresh_tag; bytes = filled 0 } }

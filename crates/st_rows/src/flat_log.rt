@@ -7,8 +7,9 @@ ghost use Rattle.st_rules.specs.FlatLog as log;
 ghost use Rattle.st_rows.specs.Logs.{crashed, failed, later_life, of_first_but, of_one_life, other_server, other_client, other_page, patched, the_patch, the_write};
 ghost use Rattle.st_rows.specs.Words.{c, file, life, page};
 
-/// What a page holds: its last write with the later patches; a patch over a dropped write stands on zeros; a cut gives
-/// zeros to the pages from its first one on; an entry that is gone does not count.
+/// What a page holds: its last write with the later patches; a patch over a dropped write applies
+/// to zeros; a cut gives zeros to the pages from its first one on; an entry that is gone does not
+/// count.
 #[tactic(auto, unfolding(crate::specs::Logs::log_rows_open))]
 pub fn pages_hold_their_last_changes()
     ensures empty { log.content [] (file 2) (page 0) ≡ filled 0 }
@@ -29,7 +30,8 @@ pub fn pages_have_a_last_entry()
     ensures none { log.last patched (file 2) (page 1) ≡ None }
 {}
 
-/// An entry hardens with the earlier ones of its client, life, file and page, and what is gone stays gone.
+/// An entry hardens with the earlier ones of its client, life, file and page, and what is gone
+/// stays gone.
 #[tactic(auto, unfolding(crate::specs::Logs::log_rows_open))]
 pub fn entries_harden_together()
     ensures both { log.harden patched 2 ≡ the_write Hard ∷ the_patch Hard ∷ [] }

@@ -35,8 +35,8 @@ pub fn rates_are_bounded()
     ensures still { leases.rate_ok (0 ∷ 0 ∷ []) 101 100 ≡ false }
 {}
 
-/// Clocks drift apart over intervals: a node may gain 6 and then 1 on the others, and not 2 more; a node that stands still is
-/// passed by at once.
+/// Clocks drift apart over intervals: a node may gain 6 and then 1 on the others, and not 2 more; a
+/// node whose clock stands still is overtaken at once.
 #[tactic(auto, unfolding(st_rules::specs::Rules::rules_open))]
 pub fn drift_adds_up_over_intervals()
     ensures first { leases.drift_step (leases.no_drift 3) (106 ∷ 100 ∷ 100 ∷ []) 101 100 5

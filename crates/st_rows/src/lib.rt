@@ -1,4 +1,5 @@
-//! Worked rows of the definitions of parts, of a server and of a client: equations that hold by computation. A wrong definition breaks one.
+//! Worked rows of the definitions of parts, of a server and of a client: equations that hold by
+//! computation. A wrong definition breaks one.
 #![tactic(auto)]
 
 pub mod client_epochs;

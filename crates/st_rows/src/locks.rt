@@ -9,8 +9,9 @@ ghost use Rattle.st_rows.specs.Script.{settings};
 ghost use Rattle.st_rows.specs.Tables.{demand, lock, shared_files, table, wait};
 ghost use Rattle.st_rows.specs.Words.{c, g, life, stamp};
 
-/// A lock in nobody's way is granted; behind a holder or a waiter it is queued, and those are named in rising order; in
-/// grace it is queued though nobody stands in its way; a held lock is granted once more.
+/// A lock in nobody's way is granted; after a holder or a waiter it is queued, and those are named
+/// in rising order; in grace it is queued though nobody is in its way; a held lock is granted once
+/// more.
 #[tactic(auto, unfolding(crate::specs::Tables::tables_open))]
 pub fn locks_are_granted_or_queued()
     ensures granted { locks.acquire (table 0 [] []) (c 2) (life 1) 2 modes.S true
@@ -38,7 +39,7 @@ pub fn locks_are_granted_or_queued()
         ≡ Ok (record { locks = table 2 (lock 2 2 4294967298 modes.X None ∷ []) []; verdict = Granted (g 4294967298) modes.X }) }
 {}
 
-/// Keys are told in rising order, each once.
+/// Keys are listed in rising order, each once.
 #[tactic(auto, unfolding(crate::specs::Tables::tables_open))]
 pub fn keys_rise()
     ensures rising { keys.rising (3 ∷ 1 ∷ 3 ∷ 2 ∷ []) ≡ 1 ∷ 2 ∷ 3 ∷ [] }
@@ -53,7 +54,8 @@ pub fn locks_are_counted_by_files()
     ensures below { locks.has_place (shared_files 1023) (c 1) 1026 ≡ true }
 {}
 
-/// A release wants the row's life and grant number; sharing meets a demand to share, and answers a demand for all.
+/// A release wants the row's life and grant number; sharing meets a demand to share, and answers a
+/// demand for all.
 #[tactic(auto, unfolding(crate::specs::Tables::tables_open))]
 pub fn releases_name_their_grant()
     ensures other_grant { locks.released (table 2 (lock 2 1 4294967298 modes.X None ∷ []) []) (c 1) (life 1) 2 (g 4294967297) modes.None
@@ -115,8 +117,9 @@ pub fn seen_demands_name_their_grant()
         ≡ table 1 (lock 2 1 7 modes.X (Some (demand modes.S 5 (Some 5))) ∷ []) [] }
 {}
 
-/// A demand goes to every row that stands in the first waiter's way, but for those of suspects, in rising order of clients; a
-/// wish for more than was demanded changes nothing; and a lower one lowers it.
+/// A demand goes to every row that is in the first waiter's way, except for those of suspects, in
+/// rising order of clients; a wish for more than was demanded changes nothing; and a lower one
+/// lowers it.
 #[tactic(auto, unfolding(crate::specs::Tables::tables_open))]
 pub fn demands_follow_the_first_waiter()
     ensures all { locks.demands_due (table 3 (lock 2 4 7 modes.S None ∷ lock 2 3 8 modes.S None ∷ lock 2 2 9 modes.S None ∷ []) (wait 2 1 modes.X

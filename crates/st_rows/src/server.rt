@@ -25,7 +25,8 @@ pub fn requests_without_a_session_are_refused()
         ∷ [] }
 {}
 
-/// A request is served once and answered again with its kept reply; other numbers than the next are passed over.
+/// A request is served once and answered again with its kept reply; other numbers than the next are
+/// ignored.
 #[tactic(auto, unfolding(crate::specs::Script::script_open))]
 pub fn a_request_is_served_once()
     ensures { said (
@@ -98,7 +99,8 @@ pub fn a_repeated_release_changes_nothing()
         ∷ [] }
 {}
 
-/// A demand to share is sent; sent again when it is old, on a tick alone; and lowered where the first waiter's mode is raised.
+/// A demand to share is sent; sent again when it is old, on a tick alone; and lowered where the
+/// first waiter's mode is raised.
 #[tactic(auto, unfolding(crate::specs::Script::script_open))]
 pub fn a_demand_is_lowered()
     ensures { said (
@@ -127,7 +129,8 @@ pub fn a_demand_is_lowered()
         ∷ [] }
 {}
 
-/// A holder that shares its lock lets the waiter in; readers share; a writer then demands both, in rising order.
+/// A holder that shares its lock lets the waiter in; readers share; a writer then demands both, in
+/// rising order.
 #[tactic(auto, unfolding(crate::specs::Script::script_open))]
 pub fn a_lock_is_shared()
     ensures { said (
@@ -161,8 +164,8 @@ pub fn a_lock_is_shared()
         ∷ [] }
 {}
 
-/// An unanswered demand: the timer starts after 100 ticks, and the lock is stolen after 1,010 more and not before. The
-/// suspect is refused meanwhile, and its session is ended then.
+/// An unanswered demand: the timer starts after 100 ticks, and the lock is stolen after 1,010 more
+/// and not before. The suspect is refused meanwhile, and its session is ended then.
 #[tactic(auto, unfolding(crate::specs::Script::script_open))]
 pub fn a_theft_comes_at_the_timers_end()
     ensures { said (
@@ -241,7 +244,8 @@ pub fn a_seen_demand_starts_no_timer()
         ∷ [] }
 {}
 
-/// A seen demand of another epoch, of another life or under another grant number answers nothing, so the timer starts.
+/// A seen demand of another epoch, of another life or under another grant number answers nothing,
+/// so the timer starts.
 #[tactic(auto, unfolding(crate::specs::Script::script_open))]
 pub fn a_seen_demand_is_of_this_epoch_and_life()
     ensures { said (
@@ -263,7 +267,8 @@ pub fn a_seen_demand_is_of_this_epoch_and_life()
         ∷ [] }
 {}
 
-/// A greeting of a later life while the locks of the elder one stand starts the timer; without locks it replaces the session; an older one is passed over.
+/// A greeting of a later life while the locks of the elder one are there starts the timer; without
+/// locks it replaces the session; an older one is ignored.
 #[tactic(auto, unfolding(crate::specs::Script::script_open))]
 pub fn a_later_life_waits_for_its_elder()
     ensures { said (
@@ -320,7 +325,8 @@ pub fn a_suspects_waits_are_dropped()
         ∷ [] }
 {}
 
-/// After a restart a greeting waits, a lock is reasserted, and the same reassertion gets its kept reply. New locks wait for the end of grace.
+/// After a restart a greeting waits, a lock is reasserted, and the same reassertion gets its kept
+/// reply. New locks wait for the end of grace.
 #[tactic(auto, unfolding(crate::specs::Script::script_open))]
 pub fn locks_are_reasserted_in_grace()
     ensures { said (
@@ -348,7 +354,8 @@ pub fn locks_are_reasserted_in_grace()
         ∷ [] }
 {}
 
-/// A reassertion of another epoch; a grant number of this epoch; a conflict with the holder, the least one; and when grace is over.
+/// A reassertion of another epoch; a grant number of this epoch; a conflict with the holder, the
+/// least one; and when grace is over.
 #[tactic(auto, unfolding(crate::specs::Script::script_open))]
 pub fn a_reassertion_is_refused_in_order()
     ensures { said (
@@ -373,7 +380,7 @@ pub fn a_reassertion_is_refused_in_order()
         ∷ [] }
 {}
 
-/// A fresh server has no grace, and its start is told as 0.
+/// A fresh server has no grace, and its start is reported as 0.
 #[tactic(auto, unfolding(crate::specs::Script::script_open))]
 pub fn grace_is_over_without_a_start()
     ensures { said (
@@ -383,7 +390,8 @@ pub fn grace_is_over_without_a_start()
         ∷ [] }
 {}
 
-/// One block: allocated; no space for a second file, nor for two pages; a removed file frees it, and its next birth is 2.
+/// One block: allocated; no space for a second file, nor for two pages; a removed file frees it,
+/// and its next birth is 2.
 #[tactic(auto, unfolding(crate::specs::Script::script_open))]
 pub fn a_block_is_given_again_under_a_new_birth()
     ensures { said (
@@ -441,8 +449,8 @@ pub fn a_cut_unmaps_the_pages_from_there_on()
         ∷ [] }
 {}
 
-/// The entry is there; a directory; a rename into itself; a removed directory must be empty and wants grant number 0; a
-/// file wants its lock; a list above a name.
+/// The entry is there; a directory; a rename into itself; a removed directory must be empty and
+/// wants grant number 0; a file wants its lock; a list above a name.
 #[tactic(auto, unfolding(crate::specs::Script::script_open))]
 pub fn names_are_served()
     ensures { said (
@@ -490,7 +498,7 @@ pub fn names_are_served()
         ∷ [] }
 {}
 
-/// Messages to another server, or not from a client, are passed over.
+/// Messages to another server, or not from a client, are ignored.
 #[tactic(auto, unfolding(crate::specs::Script::script_open))]
 pub fn messages_of_others_are_passed_over()
     ensures { said (

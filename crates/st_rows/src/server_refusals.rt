@@ -7,7 +7,8 @@ ghost use Rattle.st_rows.specs.CrowdedServers.{crowded_server};
 ghost use Rattle.st_rows.specs.Script.{Input, said, server_with};
 ghost use Rattle.st_rows.specs.Words.{from, g, page, to};
 
-/// A cut and a remove under a shared lock; a map, an allocation and a cut of an inode that is no file.
+/// A cut and a remove under a shared lock; a map, an allocation and a cut of an inode that isn't a
+/// file.
 #[tactic(auto, unfolding(crate::specs::Script::script_open))]
 pub fn cuts_and_removes_want_the_exclusive_lock()
     ensures { said (

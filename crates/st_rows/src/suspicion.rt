@@ -6,7 +6,8 @@ ghost use Rattle.st_rows.specs.Script.{settings};
 ghost use Rattle.st_rows.specs.Tables.{authority, lock, suspect_since, table};
 ghost use Rattle.st_rows.specs.Words.{c, life, stamp};
 
-/// Suspects stand in rising order and keep their start; a timer is over at exactly its start and the wait.
+/// Suspects are in rising order and keep their start; a timer is over at exactly its start and the
+/// wait.
 #[tactic(auto, unfolding(crate::specs::Tables::tables_open))]
 pub fn timers_run_for_the_wait()
     ensures placed { authority.suspect (authority (suspect_since 1 3 ∷ suspect_since 4 1 ∷ [])) (c 2) (stamp 9)
@@ -26,7 +27,8 @@ pub fn grace_lasts_for_the_wait()
     ensures none { grace.is_on (grace.no_grace) (stamp 0) ≡ false }
 {}
 
-/// A client's own row stands in the way of a reassertion where it is of a lower life, and its least file is told.
+/// A client's own row is in the way of a reassertion if it is of a lower life, and its least file
+/// is reported.
 #[tactic(auto, unfolding(crate::specs::Tables::tables_open))]
 pub fn own_older_rows_are_found()
     ensures least { grace.own_older (table 0 (lock 5 1 9 modes.S None ∷ lock 3 1 8 modes.S None ∷ lock 2 2 7 modes.S None ∷ []) []) (c 1) (life 2) ≡ Some 3 }

@@ -74,7 +74,7 @@ use Rattle.st_rows.specs.ClientWords.{lost_row, on, server}
 use Rattle.st_rows_world.specs.WorldWords.{ask, client_node, world_of, answered, cut, dropped, failed, read_out, sent, stolen, wrote}
 use Rattle.st_rows_promises.specs.SafeWords.{safe_words_open}
 
--- The promises but for some, by their numbers.
+-- The promises except for some, by their numbers.
 abbrev pub unless_so : Bool → Type 0 → Type 0
 unless_so true fact = ⊤
 unless_so false fact = fact
@@ -85,7 +85,7 @@ is_same m n = n == m
 abbrev pub unless : List ℕ → ℕ → Type 0 → Type 0
 unless ns m fact = unless_so (list_any (is_same m) ns) fact
 
--- every promise is kept but for those of these numbers; the counts are said by numbers
+-- every promise is kept except for those of these numbers; the counts are given by numbers
 pub record IsKeptBut (ns : List ℕ) (past : List Step) (x : Step) : Type 0 where
   pub alone : unless ns 1 (DirtyPagesStandAlone past x)
   pub reads : unless ns 2 (ReadsReturnLastWrites past x)
@@ -297,7 +297,7 @@ date_ended n d = record d { end = stamp n }
 abbrev pub dates_ended : ℕ → History → History
 dates_ended n h = record h { dates = map (date_ended n) h.dates }
 
--- a timer runs for the client, since so many messages were sent
+-- a timer runs for the client, since that many messages were sent
 abbrev pub timer : ℕ → TimerStart
 timer n = record { server = server 1; client = c 1; sent = n }
 
@@ -446,7 +446,7 @@ cut_and_not_logged = seeing (answered 1 2 answers.Cut ∷ []) (still (here cutti
 unfoldable pub past_cut : List Step
 past_cut = seeing (cut 1 1 2 0 ∷ []) (still (traced (world_of 2 1 1 8))) ∷ past cutting
 
--- a client writes once more: who it is, which of its asks it is, the number that is told, and the grant number
+-- a client writes once more: who it is, which of its asks it is, the number that is reported, and the grant number
 abbrev pub writing_again : ℕ → Event
 writing_again n = ask n (asks.Write (on 1 2) (page 0) (filled 5))
 
@@ -564,7 +564,7 @@ given_below = grants_once_more 2 2 4294967296
 unfoldable pub given_again : Step
 given_again = grants_once_more 1 2 4294967297
 
--- a cut of which the client is told nothing, and one that is acknowledged and refused
+-- a cut about which the client is told nothing, and one that is acknowledged and refused
 unfoldable pub cut_and_not_acknowledged : Step
 cut_and_not_acknowledged = cuts_untold cutting
 
@@ -585,7 +585,7 @@ done_and_quiesced = seeing (answered 1 2 answers.Quiesced ∷ []) (still cut_as_
 unfoldable pub done_and_told : Step
 done_and_told = seeing (answered 1 2 answers.Cut ∷ []) (still cut_as_asked.after)
 
--- a refusal is sent behind it, and comes to the asker
+-- a refusal is sent after it, and comes to the asker
 unfoldable pub refusal_sent : Step
 refusal_sent = seeing (told_to 8 1 refusal ∷ []) (leaving (with_message (message_to 1 refusal)) (still cut_as_asked.after))
 
@@ -620,7 +620,7 @@ node_named change node =
 abbrev pub all_named : (Names → Names) → World → World
 all_named change w = record w { servers = map (node_named change) w.servers }
 
--- a new file is there, or the next inode is passed over
+-- a new file is there, or the next inode is skipped
 abbrev pub with_file : Names → Names
 with_file n = (names.added n 1 (codes "new") false).names
 

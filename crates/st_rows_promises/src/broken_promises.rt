@@ -55,7 +55,8 @@ pub fn a_drop_without_a_report_is_refused()
     ensures kept { IsKeptBut (3 ∷ []) (past reading) dropped_without_a_report }
 {}
 
-/// A write that was hard and is so no more. No line tells that, so the report doesn't tell the log either, and the counts are not true.
+/// A write that was hard and is so no more. No line tells that, so the report doesn't tell the log
+/// either, and the counts are not true.
 #[tactic(auto, unfolding(crate::specs::BrokenPromises::broken_open))]
 pub fn a_write_that_is_hard_no_more_is_refused()
     ensures broken { ¬ HardStaysHard (past reading) hard_no_more }
@@ -125,14 +126,15 @@ pub fn a_hard_entry_that_stays_pending_is_refused()
     ensures kept { IsKeptBut (10 ∷ 20 ∷ []) (past reading) hard_and_pending }
 {}
 
-/// A write that is told to be hard and was hard before, on disks that carry zeros. The counts are not true then.
+/// A write that is told to be hard and was hard before, on disks that carry zeros. The counts are
+/// not true then.
 #[tactic(auto, unfolding(crate::specs::BrokenPromises::broken_open))]
 pub fn an_entry_told_hard_twice_is_refused()
     ensures broken { ¬ TheReportTellsTheLog (past reading) hard_twice }
     ensures kept { IsKeptBut (10 ∷ 18 ∷ 20 ∷ []) (past reading) hard_twice }
 {}
 
-/// A write that is told under a number that is not the next one.
+/// A write that is reported under a number that isn't the next one.
 #[tactic(auto, unfolding(crate::specs::BrokenPromises::broken_open))]
 pub fn an_entry_under_another_number_is_refused()
     ensures broken { ¬ TheReportTellsTheLog (past reading) written_under_another_number }
@@ -230,7 +232,7 @@ pub fn a_timer_without_a_suspect_is_refused()
     ensures kept { IsKeptBut (16 ∷ []) (past reading) timer_without_a_suspect }
 {}
 
-/// A lease that does not stand among the dates.
+/// A lease that isn't among the dates.
 #[tactic(auto, unfolding(crate::specs::BrokenPromises::broken_open))]
 pub fn a_lease_without_a_date_is_refused()
     ensures broken { ¬ TheHistoryIsTheWorlds (past reading) date_unknown }
@@ -244,14 +246,14 @@ pub fn an_entry_without_a_grant_is_refused()
     ensures kept { IsKeptBut (16 ∷ []) (past reading) grant_unknown }
 {}
 
-/// A sync that is answered hard though a page of its file was lost, of which nobody was told.
+/// A sync that is answered hard though a page of its file was lost and nobody was told about it.
 #[tactic(auto, unfolding(crate::specs::BrokenPromises::broken_open))]
 pub fn a_loss_that_is_not_told_is_refused()
     ensures broken { ¬ LossesAreTold past_lost loss_not_told }
     ensures kept { IsKeptBut (17 ∷ []) past_lost loss_not_told }
 {}
 
-/// A sync that is told fewer pages than were lost.
+/// A sync that is answered with fewer pages than were lost.
 #[tactic(auto, unfolding(crate::specs::BrokenPromises::broken_open))]
 pub fn a_loss_that_is_told_in_part_is_refused()
     ensures broken { ¬ LossesAreTold past_lost loss_told_in_part }
@@ -314,7 +316,7 @@ pub fn a_cut_that_is_not_asked_is_refused()
     ensures kept { IsKeptBut (21 ∷ 28 ∷ []) (past reading) cut_and_not_asked }
 {}
 
-/// A cut whose ask was answered before, with a refusal. Before that answer it is no fault.
+/// A cut whose ask was answered before, with a refusal. Before that answer it isn't a fault.
 #[tactic(auto, unfolding(crate::specs::BrokenPromises::broken_open))]
 pub fn a_cut_that_was_refused_is_refused()
     ensures broken { ¬ CutsAreAsked past_answered cut_as_asked }
@@ -322,7 +324,8 @@ pub fn a_cut_that_was_refused_is_refused()
     ensures before { IsKeptBut [] (past cutting) cut_as_asked }
 {}
 
-/// A grant to one client under a number that another client has. That the same grant is told again is no fault.
+/// A grant to one client under a number that another client has. That the same grant is sent again
+/// isn't a fault.
 #[tactic(auto, unfolding(crate::specs::BrokenPromises::broken_open))]
 pub fn a_number_given_to_another_client_is_refused()
     ensures broken { ¬ GrantNumbersAreGivenOnce (past reading) given_to_another_client }
@@ -351,14 +354,14 @@ pub fn a_cut_that_is_not_acknowledged_is_refused()
     ensures kept { IsKeptBut (24 ∷ []) (past cutting) cut_and_not_acknowledged }
 {}
 
-/// A cut that is done and acknowledged, and refused besides.
+/// A cut that is done and acknowledged, and also refused.
 #[tactic(auto, unfolding(crate::specs::BrokenPromises::broken_open))]
 pub fn a_cut_that_is_done_and_refused_is_refused()
     ensures broken { ¬ CutsAreAcknowledged (past cutting) cut_and_refused }
     ensures kept { IsKeptBut (24 ∷ []) (past cutting) cut_and_refused }
 {}
 
-/// A name that is answered with another inode than the names have. Their own inode is no fault.
+/// A name that is answered with another inode than the names have. Their own inode isn't a fault.
 #[tactic(auto, unfolding(crate::specs::BrokenPromises::broken_open))]
 pub fn a_name_that_was_not_said_is_refused()
     ensures broken { ¬ NamesAnswerTruly (past_asked looking) named_wrongly }
@@ -401,7 +404,7 @@ pub fn a_change_of_names_to_others_is_refused()
     ensures kept { IsKeptBut (26 ∷ 27 ∷ []) (past creating) created_otherwise }
 {}
 
-/// A new file whose ask was answered before, with a refusal. Before that answer it is no fault.
+/// A new file whose ask was answered before, with a refusal. Before that answer it isn't a fault.
 #[tactic(auto, unfolding(crate::specs::BrokenPromises::broken_open))]
 pub fn a_change_of_names_that_was_refused_is_refused()
     ensures broken { ¬ NamesChangeAsAsked past_refused created_as_asked }
@@ -409,7 +412,8 @@ pub fn a_change_of_names_that_was_refused_is_refused()
     ensures before { IsKeptBut [] (past creating) created_as_asked }
 {}
 
-/// A new file whose ask is answered as if it had been there before, by a refusal that comes later. That it was made is no fault.
+/// A new file whose ask is answered as if it had been there before, by a refusal that comes later.
+/// That it was made isn't a fault.
 #[tactic(auto, unfolding(crate::specs::BrokenPromises::broken_open))]
 pub fn a_change_of_names_that_is_answered_as_another_is_refused()
     ensures broken { ¬ NamesChangeOnce past_created created_and_refused }
@@ -417,7 +421,8 @@ pub fn a_change_of_names_that_is_answered_as_another_is_refused()
     ensures said { IsKeptBut [] past_created created_and_told }
 {}
 
-/// A new file that is removed, and then made again by the same ask. Up to the removal it is no fault.
+/// A new file that is removed, and then made again by the same ask. Up to the removal it isn't a
+/// fault.
 #[tactic(auto, unfolding(crate::specs::BrokenPromises::broken_open))]
 pub fn a_second_change_of_names_by_one_ask_is_refused()
     ensures broken { ¬ NamesChangeOnce past_removed created_again }
@@ -425,7 +430,7 @@ pub fn a_second_change_of_names_by_one_ask_is_refused()
     ensures before { IsKeptBut [] (past_first removing) removed_then }
 {}
 
-/// One new file of which two asks are told. That the first of them is told is no fault.
+/// One new file that two asks are told about. That the first of them is told isn't a fault.
 #[tactic(auto, unfolding(crate::specs::BrokenPromises::broken_open))]
 pub fn one_change_of_names_for_two_asks_is_refused()
     ensures broken { ¬ NamesChangeOnce past_told told_too }
@@ -433,7 +438,8 @@ pub fn one_change_of_names_for_two_asks_is_refused()
     ensures before { IsKeptBut [] (past_first creating_too) told_first }
 {}
 
-/// A cut that was done, and whose ask is answered as if it had not been. That it was done is no fault.
+/// A cut that was done, and whose ask is answered as if it had not been. That it was done isn't a
+/// fault.
 #[tactic(auto, unfolding(crate::specs::BrokenPromises::broken_open))]
 pub fn a_cut_that_is_answered_as_not_done_is_refused()
     ensures broken { ¬ RefusalsChangeNothing past_done done_and_quiesced }

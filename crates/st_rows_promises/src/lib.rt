@@ -1,4 +1,5 @@
-//! Worked rows of the promises: runs that keep all of them, and steps made by hand of which each breaks one.
+//! Worked rows of the promises: runs that keep all of them, and steps made by hand of which each
+//! breaks one.
 #![tactic(auto)]
 
 pub mod broken_promises;

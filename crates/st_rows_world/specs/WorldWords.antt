@@ -92,7 +92,7 @@ grainy grain = record settings { grain = grain }
 unfoldable pub grainy_world : ℕ → ℕ → ℕ → ℕ → ℕ → World
 grainy_world grain clients servers disks blocks = fresh_world (grainy grain) clients servers disks blocks 2
 
--- what is told of a run: what was observed at each event, what was counted, and the refusal that ended it
+-- what is reported about a run: what was observed at each event, what was counted, and the refusal that ended it
 pub record Told : Type 0 where
   pub seen : List (List Observation)
   pub counts : Summary

@@ -2,7 +2,7 @@
 ghost use Rattle.std.specs.Prelude.{◌≡◌};
 ghost use Rattle.st_rules.specs.Generator.{draw, state_after};
 
-/// The first four draws from 0, below 16, 20, 3 and 256, and the state behind them.
+/// The first four draws from 0, below 16, 20, 3 and 256, and the state after them.
 #[tactic(auto, unfolding(crate::specs::GeneratedWords::rows_open))]
 pub fn seed_0()
     ensures draw_1 { draw 1 16 0 ≡ 15 }
@@ -12,7 +12,7 @@ pub fn seed_0()
     ensures state { state_after 4 0 ≡ 7401132627792533940 }
 {}
 
-/// The first four draws from 7, below 16, 20, 3 and 256, and the state behind them.
+/// The first four draws from 7, below 16, 20, 3 and 256, and the state after them.
 #[tactic(auto, unfolding(crate::specs::GeneratedWords::rows_open))]
 pub fn seed_7()
     ensures draw_1 { draw 1 16 7 ≡ 14 }
@@ -22,7 +22,7 @@ pub fn seed_7()
     ensures state { state_after 4 7 ≡ 5031285092534963243 }
 {}
 
-/// The first four draws from 9, below 16, 20, 3 and 256, and the state behind them.
+/// The first four draws from 9, below 16, 20, 3 and 256, and the state after them.
 #[tactic(auto, unfolding(crate::specs::GeneratedWords::rows_open))]
 pub fn seed_9()
     ensures draw_1 { draw 1 16 9 ≡ 11 }
@@ -32,7 +32,8 @@ pub fn seed_9()
     ensures state { state_after 4 9 ≡ 4354185796747085901 }
 {}
 
-/// The first four draws from 9223372036854775813, below 16, 20, 3 and 256, and the state behind them.
+/// The first four draws from 9223372036854775813, below 16, 20, 3 and 256, and the state after
+/// them.
 #[tactic(auto, unfolding(crate::specs::GeneratedWords::rows_open))]
 pub fn high_seed()
     ensures draw_1 { draw 1 16 9223372036854775813 ≡ 0 }
@@ -42,7 +43,8 @@ pub fn high_seed()
     ensures state { state_after 4 9223372036854775813 ≡ 14931756425177616393 }
 {}
 
-/// The first four draws from 18446744073709551615, below 16, 20, 3 and 256, and the state behind them.
+/// The first four draws from 18446744073709551615, below 16, 20, 3 and 256, and the state after
+/// them.
 #[tactic(auto, unfolding(crate::specs::GeneratedWords::rows_open))]
 pub fn last_seed()
     ensures draw_1 { draw 1 16 18446744073709551615 ≡ 8 }

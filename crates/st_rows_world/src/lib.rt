@@ -1,5 +1,5 @@
-//! Worked rows of whole runs of the world, of the texts of a report and of generated schedules: equations that hold by computation. A wrong
-//! definition breaks one.
+//! Worked rows of whole runs of the world, of the texts of a report and of generated schedules:
+//! equations that hold by computation. A wrong definition breaks one.
 #![tactic(auto)]
 
 pub mod generated_candidates;

@@ -15,7 +15,7 @@ ghost use Rattle.st_rows.specs.ClientWords.{on, server};
 ghost use Rattle.st_rows.specs.Words.{entry, g, page};
 ghost use Rattle.st_rows_world.specs.WorldWords.{answered, ask, counts, cut, leased, sent, server_node, tells, told, world_of};
 
-/// A server that is not there and an inode that is no file have no files.
+/// A server that is not there and an inode that isn't a file have no files.
 #[tactic(auto, unfolding(crate::specs::WorldWords::world_words_open))]
 pub fn no_file()
     ensures { told (run (
@@ -114,7 +114,8 @@ pub fn directories()
         ∷ []) (counts 23 16 0 0 0 0 0 0) None }
 {}
 
-/// A demand is repeated on a tick and lowered when its waiter wants more; the lock is given up in two steps.
+/// A demand is repeated on a tick and lowered when its waiter wants more; the lock is given up in
+/// two steps.
 #[tactic(auto, unfolding(crate::specs::WorldWords::world_words_open))]
 pub fn lowered_demand()
     ensures { told (run (

@@ -8,7 +8,8 @@ ghost use Rattle.st_rows.specs.ClientWords.{on};
 ghost use Rattle.st_rows.specs.Words.{page};
 ghost use Rattle.st_rows_world.specs.WorldWords.{ask, client_node, grainy_world, server_node, world_of};
 
-/// A full network takes no step that may send; the node is looked at first. One byte less is not full, and other events go on.
+/// A full network takes no step that may send; the node is looked at first. One byte less is not
+/// full, and other events go on.
 #[tactic(auto, unfolding(crate::specs::WorldWords::world_words_open))]
 pub fn a_full_network_takes_no_step()
     ensures tick { refusal (filled_to 536870912) (events.Tick (client_node 1)) ≡ Some (refusals.NetFull 536870912) }
@@ -26,8 +27,9 @@ pub fn a_full_network_takes_no_step()
     ensures crashed { refusal (filled_to 536870912) (events.Crash (client_node 1)) ≡ None }
 {}
 
-/// A delivery is refused for the message before its direction, and for its direction before its receiver; a cut for its first
-/// node before its second; a report for its command before the network. Nodes that are not there, and one that doesn't run.
+/// A delivery is refused for the message before its direction, and for its direction before its
+/// receiver; a cut for its first node before its second; a report for its command before the
+/// network. Nodes that are not there, and one that doesn't run.
 #[tactic(auto, unfolding(crate::specs::WorldWords::world_words_open))]
 pub fn checks_have_an_order()
     ensures lost { refusal (after (ask 1 (asks.Read (on 1 2) (page 0)) ∷ (events.Crash (server_node 1)) ∷ (events.Cut (client_node 1) (server_node 1))
@@ -45,7 +47,7 @@ pub fn checks_have_an_order()
     ensures asked { refusal (after ((events.Crash (client_node 1)) ∷ [])) (ask 1 (asks.Read (on 1 2) (page 0))) ≡ Some (refusals.NotRunning (client_node 1)) }
 {}
 
-/// Clocks that all stand still are refused under the first form alone.
+/// Clocks that all stand still are refused only under the first form.
 #[tactic(auto, unfolding(crate::specs::WorldWords::world_words_open))]
 pub fn an_advance_of_nothing()
     ensures first { refusal (world_of 2 1 1 8) (events.Advance (0 ∷ 0 ∷ 0 ∷ [])) ≡ Some (refusals.ClockRate 0 0) }

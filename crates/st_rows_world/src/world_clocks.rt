@@ -31,7 +31,7 @@ pub fn drift_of_clients()
         ∷ []) (counts 2 0 0 0 0 0 0 0) (Some (refusals.ClockDrift (client_node 1) (client_node 2) 600)) }
 {}
 
-/// Clocks that stand while another runs.
+/// Clocks that stand still while another runs.
 #[tactic(auto, unfolding(crate::specs::WorldWords::world_words_open))]
 pub fn drift_from_rest()
     ensures { told (run (

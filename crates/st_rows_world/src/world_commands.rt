@@ -87,7 +87,8 @@ pub fn success_without_effect()
         ∷ []) (counts 7 6 1 0 0 0 0 0) (Some (refusals.DiskState 1)) }
 {}
 
-/// A failed read is told; a report for a client that was started again tells nobody; and there is one report.
+/// A failed read is reported; a report for a client that was started again tells nobody; and there
+/// is one report.
 #[tactic(auto, unfolding(crate::specs::WorldWords::world_words_open))]
 pub fn failed_read()
     ensures { told (run (

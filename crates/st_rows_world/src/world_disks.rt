@@ -155,7 +155,8 @@ pub fn sync()
         ∷ []) (counts 10 6 1 1 0 1 0 0) None }
 {}
 
-/// A request that is sent again renews the lease by its new stamp; the effect of a read at the lease end is refused.
+/// A request that is sent again renews the lease by its new stamp; the effect of a read at the
+/// lease end is refused.
 #[tactic(auto, unfolding(crate::specs::WorldWords::world_words_open))]
 pub fn late_read()
     ensures { told (run (

@@ -15,7 +15,8 @@ ghost use Rattle.st_rows.specs.ClientWords.{on, server};
 ghost use Rattle.st_rows.specs.Words.{g, page};
 ghost use Rattle.st_rows_world.specs.WorldWords.{answered, ask, client_node, counts, leased, lost, sent, server_node, tells, told, world_of};
 
-/// A name that was asked in an epoch that is over is uncertain; without locks an empty reassertion is accepted.
+/// A name that was asked in an epoch that is over is uncertain; without locks an empty reassertion
+/// is accepted.
 #[tactic(auto, unfolding(crate::specs::WorldWords::world_words_open))]
 pub fn new_epoch()
     ensures { told (run (

@@ -16,7 +16,8 @@ ghost use Rattle.st_rows.specs.ClientWords.{on, server};
 ghost use Rattle.st_rows.specs.Words.{extent, g, page};
 ghost use Rattle.st_rows_world.specs.WorldWords.{answered, ask, client_node, counts, dropped, leased, lost, sent, server_node, stolen, suspected, tells, told, world_of, write_out, wrote};
 
-/// A client that is greeted while its locks of an earlier life stand waits until they are stolen.
+/// A client that is greeted while its locks of an earlier life are there waits until they are
+/// stolen.
 #[tactic(auto, unfolding(crate::specs::WorldWords::world_words_open))]
 pub fn later_life_waits()
     ensures { told (run (
@@ -65,7 +66,8 @@ pub fn later_life_waits()
         ∷ []) (counts 20 13 0 1 0 0 1 1) None }
 {}
 
-/// Without locks its new life is welcome at once; an older greeting, request and welcome are passed over.
+/// Without locks its new life is welcome at once; an older greeting, request and welcome are
+/// ignored.
 #[tactic(auto, unfolding(crate::specs::WorldWords::world_words_open))]
 pub fn later_life_replaces()
     ensures { told (run (

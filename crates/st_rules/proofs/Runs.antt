@@ -12,7 +12,7 @@ use Rattle.st_rules.specs.Safety.{StepsEndWithTheRun, StepsTakeTheEvents, StepsT
 chained : {A : Type 0} {x y z : A} → x ≡ y → y ≡ z → x ≡ z
 chained p q = rw p q
 
--- what stands before a run stands before what goes on from it
+-- what precedes a run precedes what goes on from it
 behind_on : (seen : List Observation) (more : List Event) (r : Run) (refused : Option WorldRefusal) → behind (seen ∷ []) (run_on more r refused) ≡ run_on more (behind (seen ∷ []) r) refused
 unfolding run_on
 behind_on seen more r None = refl

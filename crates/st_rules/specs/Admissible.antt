@@ -24,7 +24,7 @@ use Rattle.st_rules.specs.Disks.{command}
 use Rattle.st_rules.specs.Client.{has_dirty_with, has_write_with}
 use Rattle.st_rules.specs.World.{World, WorldClient, numbered, site_of, is_running, is_known, same_node, node_of_place, all_clients, all_servers, clock_of, message_of, receiver_of, sender_of, issued_of, lease_end_of, present_end, is_flush_of}
 
--- The first refusal that stands: a refusal stands where its test does.
+-- The first refusal that applies: a refusal applies if its test holds.
 unfoldable pub stands : Bool → WorldRefusal → Option WorldRefusal
 stands test refusal = if test then Some refusal else None
 
@@ -44,7 +44,7 @@ still_running w n = stands (is_running w n) (refusals.Running n)
 abbrev pub net_full : World → Option WorldRefusal
 net_full w = stands (nat_le 536870912 w.net.bytes) (refusals.NetFull w.net.bytes)
 
--- a node that is to take a step
+-- a node that is about to take a step
 abbrev pub cannot_step : World → NodeId → Option WorldRefusal
 cannot_step w n = option_or (not_running w n) (net_full w)
 
@@ -106,7 +106,7 @@ is_flush_under c s (Some end) x = is_flush_of c s x && (x.end.0 == end.0)
 abbrev pub has_flushed : World → ClientId → ServerId → Option Stamp → Bool
 has_flushed w c s end = list_any (is_flush_under c s end) w.flushed
 
--- it is to be flushed, and is not, or is not yet
+-- it should be flushed, and isn't, or isn't yet
 abbrev pub is_unflushed : World → ClientId → ServerId → WorldClient → Option Stamp → Bool
 is_unflushed w c s site end = has_dirty_with site.node.state s && (not (has_flushed w c s end) || has_write_with site.node.state s)
 
@@ -166,7 +166,7 @@ unfoldable pub refused_report : World → ℕ → Bool → Option DiskCommand �
 refused_report w k ok None = Some (refusals.NoCommand k)
 refused_report w k ok (Some d) = option_or (stands (is_told ok d) (refusals.DiskState k)) (net_full w)
 
--- Refusal: the first one of an event that stands, in this order.
+-- Refusal: the first one of an event that applies, in this order.
 unfoldable pub refusal : World → Event → Option WorldRefusal
 refusal w (events.Tick n) = option_or (no_node w n) (cannot_step w n)
 refusal w (events.App c ask) = option_or (no_node w (nodes.Client c)) (cannot_step w (nodes.Client c))

@@ -37,11 +37,11 @@ use Rattle.st_rules.specs.ClientPasses.{passes, client_passes_open}
 -- Loss: where a session's lease is over it is noted as lost; each dirty page joins the lost rows; the operations of the server
 -- are answered, in order; all else of the server is emptied, and the next life begins.
 
--- Telling: the lost pages of a file are told, and forgotten.
+-- Telling: the lost pages of a file are reported, and forgotten.
 unfoldable pub tell_lost : Turn → ℕ → ℕ → Turn
 tell_lost t op ino = answered (with_lost_rows (pages.untold t.here.lost ino) t) op (answers.Lost (pages.told_rows t.here.lost ino))
 
--- a sync whose file has lost pages is told them, and another one is quiesced
+-- a sync whose file has lost pages is answered with them, and another one is quiesced
 unfoldable pub end_sync : Turn → Operation → FileId → Turn
 end_sync t o f = if pages.has_lost t.here.lost f.ino then tell_lost t o.op f.ino else answered t o.op answers.Quiesced
 
@@ -71,7 +71,7 @@ with_lost_pages st t = with_lost_rows (pages.with_lost_pages st.commands st.page
 abbrev pub next_life : Life → Life
 next_life l = record { 0 = l.0 + 1 }
 
--- nothing is left but the lost pages of which nobody was told
+-- nothing is left but the lost pages that nobody was told about
 abbrev pub emptied : Association → Association
 emptied a = record { server = a.server; life = next_life a.life; greeting = None; session = None; store = empty_store; lost = a.lost }
 
@@ -104,12 +104,12 @@ lose now t = lose_by t now t.here.session
 unfoldable pub losses : ClientTurn → Stamp → ClientTurn
 losses t now = at_each (lose now) t
 
--- Asks of applications, the first case that stands: 16 are pending; the server is none that is configured; a sync's file has
--- lost pages of which nobody was told. Else the operation goes last.
+-- Asks of applications, the first case that applies: 16 are pending; the server isn't one that is configured; a sync's file has lost pages that nobody was told
+-- about. Otherwise the operation goes last.
 unfoldable pub enqueue : Turn → ℕ → Ask → Turn
 enqueue t op ask = keep (new_operation op ask) t
 
--- a sync is told lost pages at once
+-- a sync is answered with lost pages at once
 unfoldable pub take_sync : Turn → ℕ → Ask → FileId → Turn
 take_sync t op ask f = if pages.has_lost t.here.lost f.ino then tell_lost t op f.ino else enqueue t op ask
 
@@ -143,10 +143,9 @@ is_full c = nat_le 16 (length c.operations)
 unfoldable pub app : ClientTurn → ℕ → Ask → ClientTurn
 app t op ask = if is_full t.state then answered_at_once t op answers.OpsFull else app_known t op ask
 
--- Ends of commands: one that is not outstanding is passed over, and so is a result of another kind than the command. A page
--- that was read becomes the newest clean one. A page that was written becomes it too, where it was not changed since. Where a
--- read failed, the reads and patches that are pending on the page are answered; where a write failed, that is the page's
--- failed command where the page was not changed since, and the syncs that are pending on the file are answered.
+-- Ends of commands: one that isn't outstanding is ignored, and so is a result of another kind than the command. A page that was read becomes the newest clean
+-- one. So does a page that was written, if it was not changed since. If a read failed, the reads and patches that are pending on the page are answered. If a
+-- write failed, it is the page's failed command, if the page was not changed since; and the syncs that are pending on the file are answered.
 
 -- the file of a command
 abbrev pub file_of_command : Turn → PageCommand → FileId

@@ -1,4 +1,4 @@
--- What stands of a client before and after each of its steps: of what it has of each server, and of its operations.
+-- What holds of a client before and after each of its steps: of what it has of each server, and of its operations.
 use Rattle.std.specs.Prelude.{◌≡◌, ℕ, Bool, true, false, not, nat_le, nat_lt, List, length, filter, Option, Some, None, is_some, All, ⊤}
 use Rattle.std.specs.List.{list_all, list_any}
 use Rattle.st_base.specs.declared.config.Config.{Config}
@@ -122,19 +122,18 @@ abbrev pub asks_for_operation : Option ClientSession → Bool
 asks_for_operation None = false
 asks_for_operation (Some s) = is_for_operation s.requests.asked
 
--- Without a session nothing is at hand; with one, its lock cache is as it is to be, and each dirty page is under an exclusive
--- lock.
+-- Without a session nothing is cached; with one, its lock cache is as it must be, and each dirty page is under an exclusive lock.
 abbrev pub IsHeldBy : Option ClientSession → Store → Type 0
 IsHeldBy None st = st ≡ empty_store
 IsHeldBy (Some s) st = list_all (is_locked s.locks) st.pages.dirty ≡ true
 
--- the lock cache of a session, where there is one
+-- the lock cache of a session, if there is one
 abbrev pub HasLockCache : Option ClientSession → Type 0
 HasLockCache None = ⊤
 HasLockCache (Some s) = IsLockCache s.locks
 
--- What a client has of a server: the store and the locks are as they are to be; exactly where the outstanding request asks
--- for a cut or a name, one operation waits for its reply.
+-- What a client has of a server: the store and the locks are as they must be; exactly where the outstanding request asks for a cut or a name, one operation
+-- waits for its reply.
 pub record IsAssociation (operations : List Operation) (next : ℕ) (a : Association) : Type 0 where
   pub store : IsStore next a.store
   pub held : IsHeldBy a.session a.store
@@ -146,7 +145,7 @@ pub record IsAssociation (operations : List Operation) (next : ℕ) (a : Associa
 abbrev pub same_association : Association → Association → Bool
 same_association a b = is_at a.server b
 
--- A client: one association a server, each as it is to be, and at most 16 pending operations.
+-- A client: one association a server, each as it must be, and at most 16 pending operations.
 pub record IsClient (c : ClientState) : Type 0 where
   pub once : are_once same_association c.associations ≡ true
   pub associations : All (IsAssociation c.operations c.next_command) c.associations
@@ -163,6 +162,6 @@ lasts_in k now (Some s) = not (must_discard (standing_of k s.lease now))
 abbrev pub lasts_here : Config → Stamp → Association → Bool
 lasts_here k now a = lasts_in k now a.session
 
--- No lease of the client is over at this moment: so it is behind the losses of a step, and at its end.
+-- No lease of the client is over at this moment: so it is after the losses of a step, and at its end.
 abbrev pub all_last : ClientState → Stamp → Bool
 all_last c now = list_all (lasts_here c.config now) c.associations

@@ -1,4 +1,4 @@
--- A client's lease at a server: its date, where it stands at a moment, and what that permits.
+-- A client's lease at a server: its date, its phase at a moment, and what that permits.
 use Rattle.std.specs.Prelude.{Bool, true, false, ◌&&◌, not, nat_lt, if◌then◌else◌, Option, Some, None, option_map, ⊤}
 use Rattle.st_base.specs.declared.ids.Stamp.{Stamp}
 use Rattle.st_base.specs.declared.config.Config.{Config}

@@ -111,7 +111,7 @@ all_locks c = filter_map (lock_row_at c) (rising (map ino_of_lock c.rows))
 abbrev pub with_lock : HeldLock → List HeldLock → List HeldLock
 with_lock l rows = put (is_lock_on l.ino) l rows
 
--- the locks but for the file's
+-- the locks except for the file's
 abbrev pub without_lock : ℕ → List HeldLock → List HeldLock
 without_lock ino rows = filter (λ r. not (is_lock_on ino r)) rows
 
@@ -123,7 +123,7 @@ seen_grant ino g = record { ino = ino; g = g }
 abbrev pub with_seen : ℕ → GrantNo → List SeenGrant → List SeenGrant
 with_seen ino g seen = put (is_seen_on ino) (seen_grant ino g) seen
 
--- the demands but for the file's
+-- the demands except for the file's
 abbrev pub without_demand : ℕ → List DemandedFile → List DemandedFile
 without_demand ino demanded = filter (λ d. not (is_demand_on ino d)) demanded
 
@@ -156,8 +156,8 @@ install_grant c ino g mode = if is_above_seen c ino g then installed c ino g mod
 abbrev pub has_place : LockCache → ℕ → Bool
 has_place c ino = is_some (lock_of c ino) || nat_lt (count c) 1024
 
--- A demand: without a lock the grant was seen; a lock of a later grant makes it stale; else the lock and the greatest seen
--- have the demand's grant, and the file is demanded with the lesser of this and any earlier demand.
+-- A demand: without a lock the grant was seen; a lock of a later grant makes it stale; otherwise the lock and the greatest seen have the demand's grant, and
+-- the file is demanded with the lesser of this and any earlier demand.
 pub record Demanding : Type 0 where
   pub locks : LockCache
   pub asked : Asked
@@ -179,7 +179,7 @@ demanded_file ino to = record { ino = ino; to = to }
 abbrev pub greater_grant : GrantNo → GrantNo → GrantNo
 greater_grant g h = record { 0 = max g.0 h.0 }
 
--- the lock is to be lowered
+-- the lock must be lowered
 unfoldable pub demand_lock : LockCache → ℕ → GrantNo → Mode → HeldLock → Demanding
 demand_lock c ino g to l =
     record {
@@ -213,7 +213,7 @@ demand_at c ino g to (Some l) = demand_held c ino g to l
 unfoldable pub demand : LockCache → ℕ → GrantNo → Mode → Demanding
 demand c ino g to = demand_at c ino g to (lock_of c ino)
 
--- Reducing a demanded file's lock to what is demanded: to none the lock goes, and else it is shared. The demand is forgotten.
+-- Reducing a demanded file's lock to what is demanded: to none the lock goes, and otherwise it is shared. The demand is forgotten.
 pub record Reduced : Type 0 where
   pub locks : LockCache
   pub given : Option (GrantNo × Mode)

@@ -132,7 +132,7 @@ fetch t o f p = keep o (fetch_at t f p (pages.mapping_of t.here.store.extents f.
 unfoldable pub patch_bytes : Turn → Operation → FileId → PageNo → ℕ → List ℕ → List ℕ → Turn
 patch_bytes t o f p at bytes old = change_page t o f p (overlay at bytes old) (notes.Patched f p at bytes)
 
--- the page's bytes are at hand, or are fetched
+-- the page's bytes are cached, or are fetched
 unfoldable pub patch_at : Turn → Operation → FileId → PageNo → ℕ → List ℕ → Option (List ℕ) → Turn
 patch_at t o f p at bytes None = fetch t o f p
 patch_at t o f p at bytes (Some old) = patch_bytes t o f p at bytes old
@@ -141,8 +141,8 @@ patch_at t o f p at bytes (Some old) = patch_bytes t o f p at bytes old
 unfoldable pub patch : Turn → ClientSession → Operation → FileId → PageNo → ℕ → List ℕ → Turn
 patch t s o f p at bytes = if may_write t s f p then patch_at t o f p at bytes (pages.cached t.here.store.pages f.ino p) else keep o t
 
--- Reading, with a lock: from the dirty page, or from the clean one, which becomes the newest; zeros where the page is known as
--- unmapped; and else the page is fetched where it is known as mapped.
+-- Reading, with a lock: from the dirty page, or from the clean one, which becomes the newest; zeros where the page is known as unmapped; and otherwise the page
+-- is fetched where it is known as mapped.
 unfoldable pub read_cached : Turn → Operation → FileId → PageNo → List ℕ → Turn
 read_cached t o f p bytes = answer o (answers.Read bytes) (with_store (record t.here.store { pages = pages.use_page t.here.store.pages f.ino p }) t)
 
@@ -253,8 +253,8 @@ files_demanded (Some s) = locks.demanded_files s.locks
 unfoldable pub reductions : Turn → Turn
 reductions t = reduce_each (files_demanded t.here.session) t
 
--- Writes, by rising file and page: of the dirty pages without an outstanding write, in flush those without a failed command;
--- and in other phases those whose file is wanted and which have no failed command, or the input is a tick.
+-- Writes, by rising file and page, of the dirty pages without an outstanding write. In flush: those without a failed command. In other phases: those whose file
+-- is wanted and which have no failed command, or the input is a tick.
 
 -- Wanted: the file is demanded, or has a pending sync, or a pending unsent cut or remove and an exclusive lock.
 abbrev pub is_sync_on : Turn → ℕ → Operation → Bool
@@ -284,7 +284,7 @@ is_due_by_need t s tick d = is_wanted t s d.ino && (is_unfailed d || tick)
 unfoldable pub is_due : Turn → ClientSession → Stamp → Bool → DirtyPage → Bool
 is_due t s now tick d = if lease.may_drain (lease.standing_of t.config s.lease now) then is_unfailed d else is_due_by_need t s tick d
 
--- the page is to be written now
+-- the page must be written now
 abbrev pub is_writable : Turn → ClientSession → Stamp → Bool → DirtyPage → Bool
 is_writable t s now tick d = not (pages.is_being_written t.here.store.commands d.ino d.page) && is_due t s now tick d
 
@@ -404,7 +404,7 @@ abbrev pub need : Ask → Mode
 need (asks.Read f p) = modes.S
 need ask = modes.X
 
--- Asking for a lock: where no wait is known, or the wait's mode is lower, or it was told long ago.
+-- Asking for a lock: if no wait is known, or the wait's mode is lower, or it was reported long ago.
 abbrev pub is_wait_old : Config → Stamp → Mode → Option LockWait → Bool
 is_wait_old k now mode None = true
 is_wait_old k now mode (Some w) = not (covers w.mode mode) || nat_le (w.at.0 + k.retry) now.0
@@ -460,7 +460,7 @@ want_by t s now ask ino (Some l) = want_under t s now ask ino l
 unfoldable pub want_on : Turn → ClientSession → Stamp → Ask → ℕ → Option Wanted
 want_on t s now ask ino = want_by t s now ask ino (locks.lock_of s.locks ino)
 
--- an ask for a name that is no remove of a file
+-- an ask for a name that doesn't remove a file
 unfoldable pub want_name : Ask → Option Wanted
 want_name (asks.Name server ask) = wanted_itself (bodies.Name (name_op ask locks.no_grant))
 want_name ask = None

@@ -69,14 +69,13 @@ is_timely t now stamp = is_some t.here.greeting && nat_lt now.0 (stamp.0 + t.con
 unfoldable pub welcome : Turn → Stamp → Epoch → Stamp → Turn
 welcome t now epoch stamp = if is_timely t now stamp then begin_session t epoch stamp else t
 
--- Without a session every other message is passed over.
+-- Without a session every other message is ignored.
 unfoldable pub without_session : Turn → Stamp → Header → Body → Turn
 without_session t now h bodies.Welcome = welcome t now (record { 0 = h.epoch }) (record { 0 = h.stamp })
 without_session t now h body = t
 
--- A newer epoch: the outstanding request is given up, and where it is a cut or a name its operation is uncertain; waits,
--- releases and demands are forgotten; numbers begin anew, and the locks are to be reasserted. Locks, with what was seen of
--- them, and pages stay.
+-- A newer epoch: the outstanding request is given up, and if it is a cut or a name its operation is uncertain; waits, releases and demands are forgotten;
+-- numbers begin anew, and the locks must be reasserted. Locks, with what was seen of them, and pages stay.
 abbrev pub in_epoch : Epoch → ClientSession → ClientSession
 in_epoch epoch s =
     record s { epoch = epoch; requests = no_requests; cutting = None; due = true; locks = locks.forget_demands s.locks; waits = []; releases = [] }
@@ -98,7 +97,7 @@ abbrev pub refused_in : Turn → ClientSession → Epoch → Why → Turn
 refused_in t s epoch why.OtherEpoch = newer_epoch t s epoch
 refused_in t s epoch other = t
 
--- Of another epoch: every other message is passed over.
+-- Of another epoch: every other message is ignored.
 unfoldable pub of_other_epoch : Turn → ClientSession → Epoch → Body → Turn
 of_other_epoch t s epoch (bodies.Nack w a b) = refused_in t s epoch w
 of_other_epoch t s epoch body = t
@@ -107,8 +106,8 @@ of_other_epoch t s epoch body = t
 unfoldable pub condemn : Turn → ClientSession → Turn
 condemn t s = with_session (with_lease (lease.condemned s.lease) s) t
 
--- Granted: the wait is forgotten. A grant above the greatest seen is the greatest seen; it is installed where there is a
--- place for it, and else declined: its release goes last.
+-- Granted: the wait is forgotten. A grant above the greatest seen is the greatest seen; it is installed where there is a place for it, and otherwise declined:
+-- its release goes last.
 unfoldable pub accept_grant : ClientSession → ℕ → GrantNo → Mode → ClientSession
 accept_grant s ino g mode = with_cache (locks.installed s.locks ino g mode) s
 
@@ -128,7 +127,7 @@ grant s ino g mode = if locks.is_above_seen s.locks ino g then grant_new s ino g
 unfoldable pub granted : Turn → ClientSession → ℕ → GrantNo → Mode → Turn
 granted t s ino g mode = with_session (grant (forget_wait ino s) ino g mode) t
 
--- Queued: the wait was told now, where the held mode is lower.
+-- Queued: the wait was reported now, if the held mode is lower.
 abbrev pub told_wait : ℕ → Mode → Stamp → LockWait
 told_wait ino mode now = record { ino = ino; mode = mode; at = now }
 
@@ -186,8 +185,8 @@ extents t s ino rows asked = if is_current s.locks asked then learn t ino rows a
 unfoldable pub acknowledged : Turn → Turn
 acknowledged t = answer_each (is_asked t.here.server) answers.Cut t
 
--- Named: the operation is answered with the inode, the entries or the refusal's number. Of a file that was removed the lock is
--- dropped, and its demand with it, and its release goes last.
+-- Named: the operation is answered with the inode, the entries or the refusal's number. If the file was removed, its lock is dropped, and its demand with it,
+-- and its release goes last.
 abbrev pub name_answer : NameReply → AppAnswer
 name_answer (Ino ino) = answers.Named ino
 name_answer (Listed rows) = answers.Listed rows
@@ -311,7 +310,7 @@ is_counting number reply q = is_request_of number q && fits reply q.body
 unfoldable pub by_request : Turn → ClientSession → Stamp → ℕ → Stamp → Body → Request → Turn
 by_request t s now number stamp reply q = if is_counting number reply q then count_reply t s now stamp reply q.body else t
 
--- where there is one
+-- if there is one
 unfoldable pub counted : Turn → ClientSession → Stamp → ℕ → Stamp → Body → Option Request → Turn
 counted t s now number stamp reply None = t
 counted t s now number stamp reply (Some q) = by_request t s now number stamp reply q
@@ -320,7 +319,7 @@ counted t s now number stamp reply (Some q) = by_request t s now number stamp re
 unfoldable pub reply_of : Turn → ClientSession → Stamp → Header → Body → Turn
 reply_of t s now h reply = counted t s now h.number (record { 0 = h.stamp }) reply s.requests.asked
 
--- Refusals of the session's epoch: some condemn the lease, two are passed over, and the others are replies.
+-- Refusals of the session's epoch: some condemn the lease, two are ignored, and the others are replies.
 abbrev pub nack : Turn → ClientSession → Stamp → Header → Why → ℕ → ℕ → Turn
 nack t s now h why.Suspect a b = condemn t s
 nack t s now h why.NoSession a b = condemn t s
@@ -334,8 +333,8 @@ nack t s now h w a b = reply_of t s now h (bodies.Nack w a b)
 unfoldable pub grant_or_reply : Turn → ClientSession → Stamp → Header → ℕ → GrantNo → Mode → Turn
 grant_or_reply t s now h ino g mode = if h.number == 0 then granted t s ino g mode else reply_of t s now h (bodies.Granted ino g mode)
 
--- Demand. Without a lock its release goes last, unless it is there or outstanding. A lock of a later grant is passed over.
--- Else the file is demanded, and the demand is seen.
+-- Demand. Without a lock its release goes last, unless it is there or outstanding. A lock of a later grant is ignored. Otherwise the file is demanded, and the
+-- demand is seen.
 abbrev pub has_release : ClientSession → ℕ → GrantNo → Bool
 has_release s ino g = list_any (is_release ino g modes.None) s.releases || is_releasing ino g modes.None s.requests.asked
 
@@ -361,7 +360,7 @@ demand_by t s ino g d = demand_as t (with_cache d.locks s) ino g d.asked
 unfoldable pub demand : Turn → ClientSession → ℕ → GrantNo → Mode → Turn
 demand t s ino g to = demand_by t s ino g (locks.demand s.locks ino g to)
 
--- Of the session's epoch: by what the message says.
+-- A message of the session's epoch: by what it says.
 unfoldable pub of_epoch : Turn → ClientSession → Stamp → Header → Body → Turn
 of_epoch t s now h (bodies.Nack w a b) = nack t s now h w a b
 of_epoch t s now h (bodies.Granted ino g mode) = grant_or_reply t s now h ino g mode
@@ -377,8 +376,7 @@ unfoldable pub by_session : Turn → Stamp → Header → Body → Option Client
 by_session t now h body None = without_session t now h body
 by_session t now h body (Some s) = with_a_session t s now h body
 
--- Receiving: a message that is not to this client, not from a configured server, of another life than at that server, or of a
--- later stamp than now, is passed over.
+-- Receiving: a message that is not to this client, not from a configured server, of another life than at that server, or of a later stamp than now, is ignored.
 abbrev pub is_received : Turn → Stamp → Header → Bool
 is_received t now h = (h.from == server_node t.here.server) && ((h.life == t.here.life.0) && nat_le h.stamp now.0)
 

@@ -66,8 +66,8 @@ request_ended r = record r { asked = None }
 abbrev pub is_request_of : ℕ → Request → Bool
 is_request_of number q = q.number == number
 
--- A session with a server: its epoch, the lease, the requests, the file that the outstanding request cuts or removes, whether
--- the locks are to be reasserted, the locks, the waits that were told, and the releases to send, in order.
+-- A session with a server: its epoch, the lease, the requests, the file that the outstanding request cuts or removes, whether the locks must be reasserted, the
+-- locks, the waits that were reported, and the releases to send, in order.
 pub record ClientSession : Type 0 where
   pub epoch : Epoch
   pub lease : ClientLease
@@ -78,8 +78,7 @@ pub record ClientSession : Type 0 where
   pub waits : List LockWait
   pub releases : List Release
 
--- What a client has of a server: its life there, when it greeted, its session, its pages, and the lost pages of which no
--- application was told.
+-- What a client has of a server: its life there, when it greeted, its session, its pages, and the lost pages that no application was told about.
 pub record Association : Type 0 where
   pub server : ServerId
   pub life : Life
@@ -202,7 +201,7 @@ note t n = say t (outputs.Note n)
 abbrev pub answered : Turn → ℕ → AppAnswer → Turn
 answered t op answer = say t (outputs.Answer op answer)
 
--- what stands in front of a message to the server
+-- what precedes a message to the server
 abbrev pub header_of : Turn → ℕ → ℕ → ℕ → Header
 header_of t epoch number stamp = record { from = t.id.0; to = server_node t.here.server; life = t.here.life.0; epoch = epoch; number = number; stamp = stamp }
 
@@ -311,7 +310,7 @@ unfoldable pub answer_each : (Operation → Bool) → AppAnswer → Turn → Tur
 answer_each picked answer t =
     record t { operations = filter (λ o. not (picked o)) t.operations; out = t.out ++ map (answer_to answer) (filter picked t.operations) }
 
--- an operation stays pending, behind those so far
+-- an operation stays pending, after those so far
 abbrev pub keep : Operation → Turn → Turn
 keep o t = record t { operations = t.operations ++ o ∷ [] }
 
@@ -336,7 +335,7 @@ is_open_file os server s (Some ino) = is_open os server s ino
 abbrev pub is_serving : Config → ClientSession → Stamp → Bool
 is_serving k s now = may_use (standing_of k s.lease now)
 
--- Waits that were told.
+-- Waits that were reported.
 abbrev pub is_wait_on : ℕ → LockWait → Bool
 is_wait_on ino w = w.ino == ino
 
@@ -344,7 +343,7 @@ is_wait_on ino w = w.ino == ino
 abbrev pub wait_of : List LockWait → ℕ → Option LockWait
 wait_of waits ino = find (is_wait_on ino) waits
 
--- the waits but for the file's
+-- the waits except for the file's
 abbrev pub without_wait : ℕ → List LockWait → List LockWait
 without_wait ino waits = filter (λ w. not (is_wait_on ino w)) waits
 
@@ -356,7 +355,7 @@ with_wait w waits = without_wait w.ino waits ++ w ∷ []
 abbrev pub forget_wait : ℕ → ClientSession → ClientSession
 forget_wait ino s = record s { waits = without_wait ino s.waits }
 
--- a release that is to be sent
+-- a release that must be sent
 abbrev pub is_release : ℕ → GrantNo → Mode → Release → Bool
 is_release ino g to r = (r.ino == ino) && ((r.g.0 == g.0) && (number_of r.to == number_of to))
 

@@ -65,11 +65,11 @@ answers_to q h = (h.life == q.life) && ((h.number == q.number) && (h.stamp == q.
 abbrev pub is_reply_to : Message → Message → Bool
 is_reply_to q m = may_date m.header.number m.body && (goes_back q.header m.header && answers_to q.header m.header)
 
--- a timer of this client started after so many messages
+-- a timer of this client started after that many messages
 abbrev pub started_after : ServerId → ClientId → ℕ → TimerStart → Bool
 started_after s c k t = not (same_server t.server s && same_client t.client c) || nat_le k t.sent
 
--- every timer that runs for this client started after so many messages
+-- every timer that runs for this client started after that many messages
 abbrev pub is_before_timers : History → ServerId → ClientId → ℕ → Bool
 is_before_timers h s c k = list_all (started_after s c k) h.timers
 

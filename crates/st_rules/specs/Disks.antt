@@ -89,7 +89,7 @@ unfoldable pub effect_reported : Disks → ℕ → DiskCommand → Report → Re
 effect_reported d n c reports.Open = effect_once d n c
 effect_reported d n c report = Err (Reported n)
 
--- the effect of a command, where there is one
+-- the effect of a command, if there is one
 unfoldable pub effect_at : Disks → ℕ → Option DiskCommand → Result Disks CommandRefusal
 effect_at d n None = Err (NoCommand n)
 effect_at d n (Some c) = effect_reported d n c c.report
@@ -120,7 +120,7 @@ unfoldable pub done_unreported : Disks → ℕ → Bool → DiskCommand → Repo
 done_unreported d n ok c reports.Open = done_once d n ok c
 done_unreported d n ok c report = Err (Twice n)
 
--- the report of a command, where there is one
+-- the report of a command, if there is one
 unfoldable pub done_at : Disks → ℕ → Bool → Option DiskCommand → Result Disks CommandRefusal
 done_at d n ok None = Err (NoCommand n)
 done_at d n ok (Some c) = done_unreported d n ok c c.report

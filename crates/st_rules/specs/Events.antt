@@ -164,9 +164,8 @@ with_read answer w = record w { tally = record w.tally { reads = w.tally.reads +
 unfoldable pub answers_with : WorldTurn → ClientId → ℕ → AppAnswer → WorldTurn
 answers_with sc c op answer = observe (with_read answer sc.world) sc (seen.Answered c op answer)
 
--- Notes of a client: an accepted write or patch joins the log, under the client's life at the file's server; a lease that was
--- lost leaves its life with the end that it had.
--- the life of a client, where there is one
+-- Notes of a client: an accepted write or patch joins the log, under the client's life at the file's server; a lease that was lost leaves its life with the end
+-- that it had. the life of a client, if there is one
 abbrev pub life_of_site : ServerId → Option WorldClient → Life
 life_of_site s None = record { 0 = 0 }
 life_of_site s (Some site) = life_with site.node.state s
@@ -232,7 +231,7 @@ flush_step c s end = record { client = c; server = s; end = end }
 abbrev pub with_flush_step : FlushStep → World → World
 with_flush_step x w = record w { flushed = put (is_flush_of x.client x.server) x w.flushed }
 
--- under a lease end, where there is one
+-- under a lease end, if there is one
 abbrev pub flushed_under : World → ClientId → ServerId → Option Stamp → World
 flushed_under w c s None = w
 flushed_under w c s (Some end) = with_flush_step (flush_step c s end) w
@@ -385,7 +384,7 @@ abbrev pub log_hard : List LogEntry → Option Carried → List LogEntry
 log_hard es None = es
 log_hard es (Some x) = log.harden es x.index
 
--- what a command carries, where there is one
+-- what a command carries, if there is one
 abbrev pub carried_by : Option IssuedCommand → Option Carried
 carried_by None = None
 carried_by (Some c) = c.carries
@@ -411,7 +410,7 @@ result_of true sample = Some (option_map tag_and_bytes sample)
 abbrev pub end_told : World → ℕ → Bool → IssuedCommand → ClientInput
 end_told w k ok c = inputs.Done c.number (result_of ok (disks.sample w.disks k))
 
--- a client is told, or runs no more
+-- a client is informed, or no longer runs
 unfoldable pub tells_site : World → ℕ → Bool → IssuedCommand → WorldClient → WorldTurn
 tells_site w k ok c site = if is_same_instance c site then client_takes w c.client (end_told w k ok c) site else quiet w
 
@@ -501,8 +500,8 @@ lives_reached w steps = filter (is_reached w steps) (present_lives w.clients ++ 
 unfoldable pub advances : World → List ℕ → WorldTurn
 advances w steps = marks (with_clocks steps w) (log_ended_all w.commands (lives_reached w steps) w.log)
 
--- Crash of a client: its lives end, with the lease ends that they had; its pending entries are gone, but for those that an
--- unreported command carries, and the earlier ones of the same life, file and page.
+-- Crash of a client: its lives end, with the lease ends that they had; its pending entries are gone, except for those that an unreported command carries, and
+-- the earlier ones of the same life, file and page.
 abbrev pub spares_by : ℕ → LogOwner → IssuedCommand → Option Carried → Bool
 spares_by number o c None = false
 spares_by number o c (Some x) = nat_le number x.index && log.same_owner (owner_carried c x) o
@@ -592,7 +591,7 @@ world_by w e (Some r) = Err r
 unfoldable pub world_step : World → Event → Result WorldTurn WorldRefusal
 world_step w e = world_by w e (refusal w e)
 
--- Summary: what is counted of a world. A cut is no write.
+-- Summary: what is counted of a world. A cut isn't a write.
 abbrev pub changes_page : Change → Bool
 changes_page (changes.Write bytes) = true
 changes_page (changes.Patch at bytes) = true

@@ -33,7 +33,7 @@ is_extent_of f p e = same_file e.file f && same_page e.page p
 abbrev pub extent_of : Extents → FileId → PageNo → Option Extent
 extent_of x f p = find (is_extent_of f p) x.rows
 
--- what is told of an extent
+-- what is reported about an extent
 abbrev pub place_and_birth : Extent → BlockAt × ℕ
 place_and_birth e = (e.at, e.birth)
 
@@ -130,11 +130,11 @@ release_from x f p = record x { rows = filter (λ e. not (is_at_or_behind f p e)
 abbrev pub extent_row : Extent → ExtentRow
 extent_row e = record { page = e.page; at = e.at; birth = e.birth }
 
--- what is told of a page
+-- what is reported about a page
 abbrev pub extent_row_at : Extents → FileId → PageNo → Option ExtentRow
 extent_row_at x f p = option_map extent_row (extent_of x f p)
 
--- what is told of a range of pages
+-- what is reported about a range of pages
 unfoldable pub extent_rows : Extents → FileId → PageNo → ℕ → List ExtentRow
 extent_rows x f p count = filter_map (extent_row_at x f) (pages_from p count)
 

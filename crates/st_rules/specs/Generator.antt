@@ -63,13 +63,13 @@ page k x = page_no (draw k 4 x)
 unfoldable pub recent : ℕ → ℕ → ℕ → Option ℕ × ℕ
 recent count last x = if count == 0 then (None, x) else (Some (count - draw 1 (min count last) x), state_after 1 x)
 
--- Candidates, each with the state behind it. Where there is none, nothing more is drawn.
+-- Candidates, each with the state after it. If there is none, nothing more is drawn.
 
 -- an event, after so many draws
 abbrev pub after : ℕ → ℕ → Event → Option Event × ℕ
 after k x e = (Some e, state_after k x)
 
--- the event of a number, where there is one
+-- the event of a number, if there is one
 abbrev pub numbered_event : (ℕ → Event) → Option ℕ × ℕ → Option Event × ℕ
 numbered_event event k = (option_map event k.0, k.1)
 
@@ -122,7 +122,7 @@ unfoldable pub outcome : Option ℕ → ℕ → Option Event × ℕ
 outcome None x = (None, x)
 outcome (Some k) x = after 1 x (events.Report k (not (draw 1 8 x == 0)))
 
--- the outcome of a command's report, behind its draw
+-- the outcome of a command's report, after its draw
 abbrev pub with_outcome : Option ℕ × ℕ → Option Event × ℕ
 with_outcome k = outcome k.0 k.1
 
@@ -166,7 +166,7 @@ node_event n = if n == 0 then crash else if nat_le n 9 then start else tick
 unfoldable pub crash_or_start : ℕ → Option Event × ℕ
 crash_or_start x = node_event (draw 1 20 x) (state_after 1 x)
 
--- the candidate of a kind below 16, where so many messages were sent and so many commands submitted
+-- the candidate of a kind below 16, where that many messages were sent and so many commands submitted
 unfoldable pub candidate_of : ℕ → ℕ → ℕ → ℕ → Option Event × ℕ
 candidate_of sent submitted kind =
     if kind == 0 then even_advance
@@ -201,12 +201,12 @@ unfoldable pub unless_refused : (ℕ → Event × ℕ) → Event → ℕ → Opt
 unless_refused later e x None = (e, x)
 unless_refused later e x (Some f) = later x
 
--- this candidate, where there is one and it is admissible
+-- this candidate, if there is one and it is admissible
 unfoldable pub tried : World → (ℕ → Event × ℕ) → Option Event → ℕ → Event × ℕ
 tried w later None x = later x
 tried w later (Some e) x = unless_refused later e x (refusal w e)
 
--- a try, and the later ones behind it
+-- a try, and the later ones after it
 abbrev pub try_first : World → (ℕ → Event × ℕ) → Option Event × ℕ → Event × ℕ
 try_first w later c = tried w later c.0 c.1
 
@@ -215,22 +215,22 @@ unfoldable pub choice : ℕ → World → ℕ → Event × ℕ
 choice zero w x = (fallback, x)
 choice (suc tries) w x = try_first w (choice tries w) (candidate_in w x)
 
--- an event of the run so far, and the state behind it: the first admissible candidate of 16
+-- an event of the run so far, and the state after it: the first admissible candidate of 16
 abbrev pub chosen : World → ℕ → Event × ℕ
 chosen w x = choice 16 w x
 
 -- The events of a schedule.
 
--- the world behind an event
+-- the world after an event
 unfoldable pub world_left : World → Result WorldTurn WorldRefusal → World
 world_left w (Ok sc) = sc.world
 world_left w (Err f) = w
 
--- an event, and those behind it
+-- an event, and those after it
 abbrev pub followed : (World → ℕ → List Event) → World → Event × ℕ → List Event
 followed rest w e = e.0 ∷ rest (world_left w (world_step w e.0)) e.1
 
--- so many events, from a world and a state on
+-- that many events, from a world and a state on
 unfoldable pub generated : ℕ → World → ℕ → List Event
 generated zero w x = []
 generated (suc n) w x = followed (generated n) w (chosen w x)

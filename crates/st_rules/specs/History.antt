@@ -217,11 +217,11 @@ no_traced t refused = record { run = record { world = t.world; seen = []; refuse
 abbrev pub traced_after : Event → Traced → WorldTurn → Traced
 traced_after e t sc = record { world = sc.world; history = history_after t.world e sc t.history }
 
--- a traced run behind what was observed at its first event
+-- a traced run after what was observed at its first event
 abbrev pub traced_behind : List Observation → TracedRun → TracedRun
 traced_behind os r = record { run = record { world = r.run.world; seen = os ∷ r.run.seen; refused = r.run.refused }; history = r.history }
 
--- the rest of a traced run, behind its first event
+-- the rest of a traced run, after its first event
 unfoldable pub trace_on : (Traced → TracedRun) → Event → Traced → Result WorldTurn WorldRefusal → TracedRun
 trace_on rest e t (Err r) = no_traced t (Some r)
 trace_on rest e t (Ok sc) = traced_behind sc.seen (rest (traced_after e t sc))

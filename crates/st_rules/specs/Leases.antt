@@ -45,8 +45,8 @@ pub record IsInBound (k : Config) (nodes : ℕ) (advances : List (List ℕ)) : T
   pub over : (before during after : List (List ℕ)) → advances ≡ before ++ (during ++ after) → (m n : ℕ) → m < nodes → n < nodes →
       k.den * gain m during ≤ k.num * gain n during + k.den * k.grain
 
--- Drift: for each pair of nodes one number, the greatest value of den * D(m) - num * D(n) over all intervals of advances
--- that end with the last one, or 0. The numbers of a node m stand in one row, by n.
+-- Drift: for each pair of nodes one number, the greatest value of den * D(m) - num * D(n) over all intervals of advances that end with the last one, or 0. The
+-- numbers of a node m are in one row, by n.
 abbrev pub raised : ℕ → ℕ → ℕ → ℕ → ℕ → ℕ
 raised num den e sm sn = (e + den * sm) - num * sn
 
@@ -83,7 +83,7 @@ unfoldable pub excess_in_row : ℕ → ℕ → ℕ → List ℕ → Option Exces
 excess_in_row limit m n [] = None
 excess_in_row limit m n (e ∷ es) = excess_at limit m n e (excess_in_row limit m (n + 1) es)
 
--- the first of two, where there is one
+-- the first of two, if there is one
 unfoldable pub excess_or : Option Excess → Option Excess → Option Excess
 excess_or None rest = rest
 excess_or (Some x) rest = Some x

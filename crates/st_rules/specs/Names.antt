@@ -248,7 +248,7 @@ name_below (a ∷ as_) (b ∷ bs) = byte_below a b (name_below as_ bs)
 abbrev pub name_row : NameEntry → NameRow
 name_row e = record { ino = e.ino; directory = e.directory; name = e.name }
 
--- a row stands in front of the first one above it
+-- a row comes before the first one above it
 unfoldable pub row_placed : NameRow → NameRow → List NameRow → List NameRow → List NameRow
 row_placed r x xs rest = if name_below r.name x.name then r ∷ (x ∷ xs) else x ∷ rest
 

@@ -39,7 +39,7 @@ use Rattle.st_rules.specs.World.{node_at}
 use Rattle.st_rules.specs.Events.{summary}
 use Rattle.st_rules.specs.Run.{Run}
 
--- Words, each behind a space.
+-- Words, each after a space.
 
 -- a number
 abbrev pub field : ℕ → List ℕ
@@ -66,7 +66,7 @@ file f = field f.server.0 ++ codes ":" ++ decimal f.ino
 abbrev pub name : List ℕ → List ℕ
 name bytes = 32 ∷ bytes
 
--- Runs of a page: how often a byte stands, and the byte, for each run of equal bytes.
+-- Runs of a page: how often a byte occurs, and the byte, for each run of equal bytes.
 abbrev pub one_run : ℕ → ℕ → List ℕ
 one_run count byte = decimal count ++ codes "x" ++ decimal byte
 
@@ -196,7 +196,7 @@ unfoldable pub command : Command → List ℕ
 command (commands.Read at) = block at ++ codes " r"
 command (commands.Write at t bytes) = block at ++ codes " w" ++ tag t ++ runs bytes
 
--- a page that was lost, and the command that was to write it
+-- a page that was lost, and the command that should have written it
 abbrev pub lost_row : LostRow → List ℕ
 lost_row r = field r.page.0 ++ codes ":" ++ decimal r.command
 
@@ -290,7 +290,7 @@ ended s = sent_text s ++ written_text s ++ codes " gone" ++ field s.gone ++ code
 abbrev pub opening : List ℕ
 opening = codes "tank report 1\n"
 
--- a run that was refused, or one that came to its end
+-- a run that was refused, or one that reached its end
 unfoldable pub ending : Run → Option WorldRefusal → List ℕ
 ending r None = ended (summary r.world)
 ending r (Some f) = refused (length r.seen + 2) (refusal f)

@@ -1,4 +1,4 @@
--- Runs: events one after the other, up to the first that is refused.
+-- Runs: events one after another, up to the first that is refused.
 use Rattle.std.specs.Prelude.{◌≡◌, List, [], ◌∷◌, ◌++◌, Option, Some, None, Result, Ok, Err, ⊤}
 use Rattle.st_messages.specs.declared.event.Event.{Event}
 use Rattle.st_rules.specs.declared.observation.Observation.{Observation}
@@ -16,11 +16,11 @@ pub record Run : Type 0 where
 abbrev pub no_run : World → Option WorldRefusal → Run
 no_run w refused = record { world = w; seen = []; refused = refused }
 
--- a run behind what was observed before it
+-- a run after what was observed before it
 abbrev pub behind : List (List Observation) → Run → Run
 behind seen r = record { world = r.world; seen = seen ++ r.seen; refused = r.refused }
 
--- the rest of a run, behind its first event
+-- the rest of a run, after its first event
 unfoldable pub go_on : (World → Run) → World → Result WorldTurn WorldRefusal → Run
 go_on rest w (Err r) = no_run w (Some r)
 go_on rest w (Ok sc) = behind (sc.seen ∷ []) (rest sc.world)

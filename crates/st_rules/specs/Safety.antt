@@ -63,7 +63,7 @@ use Rattle.st_rules.specs.Lines.{AtEach, IsLogTold, lines_open}
 use Rattle.st_rules.specs.Dating.{dates_it, dating_open}
 use Rattle.st_rules.specs.History.{Traced, History, LeaseDate, EntryGrant, association_of, locks_at, is_timer_of, is_exclusive_on, is_exclusive_row, rows_at, traced_after}
 
--- The steps of a run: what stood before an event, the event, what was observed, and what it left.
+-- The steps of a run: the world before an event, the event, what was observed, and the world that it left.
 pub record Step : Type 0 where
   pub before : Traced
   pub event : Event
@@ -116,7 +116,7 @@ StepsEndWithTheRun = (es : List Event) (t : Traced) → (left_by t (steps es t))
 abbrev pub Promise : Type 1
 Promise = List Step → Step → Type 0
 
--- a promise is kept at each of these steps, after those that stand before them
+-- a promise is kept at each of these steps, after those that come before them
 unfoldable pub Throughout : Promise → List Step → List Step → Type 0
 Throughout promise past [] = ⊤
 Throughout promise past (x ∷ rest) = promise past x × Throughout promise (past ++ x ∷ []) rest
@@ -211,7 +211,7 @@ IsLoggedWrite c (Some (asks.Write f p bytes)) (seen.Wrote i d g q old) = seen.Wr
 IsLoggedWrite c (Some (asks.Patch f p at bytes)) (seen.Patched i d g q place old) = seen.Patched i d g q place old ≡ seen.Patched i c f p at bytes
 IsLoggedWrite c asked o = ⊥
 
--- the line before the answer, where there is one
+-- the line before the answer, if there is one
 abbrev pub IsLoggedAfter : ClientId → Option Ask → Option Observation → Type 0
 IsLoggedAfter c asked None = ⊥
 IsLoggedAfter c asked (Some o) = IsLoggedWrite c asked o
@@ -245,7 +245,7 @@ IsLoggedAnswer past x line c op answers.Written = IsLoggedAfter c (ask_of past x
 IsLoggedAnswer past x line c op answers.Cut = was_cut past c op (ask_of past x c op) ≡ true
 IsLoggedAnswer past x line c op answer = ⊤
 
--- an observation that is no answer owes nothing
+-- an observation that isn't an answer owes nothing
 abbrev pub IsLogged : List Step → Step → Option Observation → Observation → Type 0
 IsLogged past x line (seen.Answered c op answer) = IsLoggedAnswer past x line c op answer
 IsLogged past x line o = ⊤
@@ -277,7 +277,7 @@ was_answered past lines c op = list_any (answers_in c op) past || list_any (is_a
 abbrev pub is_first_answer : List Step → Step → List Observation → ClientId → ℕ → Bool
 is_first_answer past x lines c op = is_some (ask_of past x c op) && not (was_answered past lines c op)
 
--- an observation that is no answer owes nothing
+-- an observation that isn't an answer owes nothing
 abbrev pub is_answered_once : List Step → Step → List Observation → Observation → Bool
 is_answered_once past x lines (seen.Answered c op answer) = is_first_answer past x lines c op
 is_answered_once past x lines o = true
@@ -354,9 +354,9 @@ never_fall (e ∷ es) = list_all (is_no_lesser e) es && never_fall es
 abbrev pub ChangesGoInTheOrderOfLocks : Promise
 ChangesGoInTheOrderOfLocks past x = never_fall x.after.history.grants ≡ true
 
--- An expired lease empties its client: where a client takes a step while its lease at a server is over, then after the step it is
--- in its next life there and has no session, page, known place or command of that server, and in the step nothing was submitted
--- to that server's disks and no read or write of its files was answered.
+-- An expired lease empties its client. Suppose that a client takes a step while its lease at a server is over. Then after the step it is in its next life there
+-- and has no session, page, known place or command of that server; and in the step nothing was submitted to that server's disks and no read or write of its
+-- files was answered.
 abbrev pub is_told_at : IssuedCommand → Option WorldClient → Bool
 is_told_at k None = false
 is_told_at k (Some site) = is_same_instance k site
@@ -445,12 +445,12 @@ abbrev pub IsLastRead : Option Ask → List LogEntry → List ℕ → Type 0
 IsLastRead (Some (asks.Read f p)) es bytes = bytes ≡ log.content es f p
 IsLastRead asked es bytes = ⊥
 
--- an answer that is no read owes nothing
+-- an answer that isn't a read owes nothing
 abbrev pub IsLastAnswer : List Step → Step → ClientId → ℕ → List LogEntry → AppAnswer → Type 0
 IsLastAnswer past x c op es (answers.Read bytes) = IsLastRead (ask_of past x c op) es bytes
 IsLastAnswer past x c op es answer = ⊤
 
--- an observation that is no answer owes nothing
+-- an observation that isn't an answer owes nothing
 abbrev pub IsLast : List Step → Step → List LogEntry → Observation → Type 0
 IsLast past x es (seen.Answered c op answer) = IsLastAnswer past x c op es answer
 IsLast past x es o = ⊤
@@ -478,7 +478,7 @@ is_failure_of k e = false
 abbrev pub reports_failure : ℕ → Step → Bool
 reports_failure k x = is_failure_of k x.event
 
--- the cause of a drop stands among these steps, the last of which left this world
+-- the cause of a drop is among these steps, the last of which left this world
 abbrev pub is_caused : List Step → World → LogOwner → Cause → Bool
 is_caused steps w o causes.Crash = list_any (ends_life_of o) steps
 is_caused steps w o (causes.Failed k) = list_any (reports_failure k) steps && (last_write w.commands o == k)
@@ -530,7 +530,7 @@ abbrev pub answer_is_hard : List Step → Step → ClientId → ℕ → List Log
 answer_is_hard past x c op es answers.Hard = all_hard x.after.world c es (ask_of past x c op)
 answer_is_hard past x c op es answer = true
 
--- an observation that is no answer owes nothing
+-- an observation that isn't an answer owes nothing
 abbrev pub is_hard_at : List Step → Step → List LogEntry → Observation → Bool
 is_hard_at past x es (seen.Answered c op answer) = answer_is_hard past x c op es answer
 is_hard_at past x es o = true
@@ -549,11 +549,11 @@ abbrev pub is_past : Stamp → Option Stamp → Bool
 is_past clock None = true
 is_past clock (Some end) = nat_le end.0 clock.0
 
--- a lease of this client at this server has come to its end; or it is another lease
+-- a lease of this client at this server has ended; or it is another lease
 abbrev pub is_date_past : ServerId → ClientId → Stamp → LeaseDate → Bool
 is_date_past s c clock d = not (same_server d.server s && same_client d.client c) || nat_le d.end.0 clock.0
 
--- every lease of this client at this server has come to its end
+-- every lease of this client at this server has ended
 abbrev pub all_dates_past : Traced → ServerId → ClientId → Bool
 all_dates_past t s c = list_all (is_date_past s c (clock_of t.world (nodes.Client c))) t.history.dates
 
@@ -593,12 +593,12 @@ all_dated steps now c = list_all (is_dated steps now c) (all_servers now.world)
 abbrev pub LeasesAreDatedFromRequests : Promise
 LeasesAreDatedFromRequests past x = list_all (all_dated (past ++ x ∷ []) x.after) (all_clients x.after.world) ≡ true
 
--- Grace waits: while a server runs outside grace, every client has reached the end of each lease that it had from an earlier epoch
--- of that server, also where it was reasserted, and also where the server began its epoch without a grace.
+-- Grace waits: while a server runs outside grace, every client has reached the end of each lease that it had from an earlier epoch of that server. This
+-- includes leases that were reasserted, and servers that began their epoch without a grace.
 abbrev pub is_waited_for : ServerId → ClientId → Epoch → Stamp → LeaseDate → Bool
 is_waited_for s c epoch clock d = not (same_server d.server s && (same_client d.client c && nat_lt d.epoch.0 epoch.0)) || nat_le d.end.0 clock.0
 
--- a client's leases of earlier epochs have come to their end
+-- a client's leases of earlier epochs have ended
 abbrev pub client_waited_for : Traced → ServerId → Epoch → ClientId → Bool
 client_waited_for t s epoch c = list_all (is_waited_for s c epoch (clock_of t.world (nodes.Client c))) t.history.dates
 
@@ -606,7 +606,7 @@ client_waited_for t s epoch c = list_all (is_waited_for s c epoch (clock_of t.wo
 abbrev pub is_out_of_grace : Stamp → ServerNode → Bool
 is_out_of_grace clock node = node.running && not (grace.is_on node.state.grace clock)
 
--- all clients' leases of earlier epochs have come to their end
+-- all clients' leases of earlier epochs have ended
 abbrev pub all_waited_for : Traced → ServerId → ServerNode → Bool
 all_waited_for t s node = list_all (client_waited_for t s node.state.stable.epoch) (all_clients t.world)
 
@@ -637,8 +637,8 @@ is_no_conflict o = true
 abbrev pub NoConflictIsSent : Promise
 NoConflictIsSent past x = list_all is_no_conflict x.seen ≡ true
 
--- The history is the world's: a client has a timer in the history exactly where a running server suspects it; each present lease,
--- and each that a life had when it ended, stands among the dates with its end; and each entry of the log has one grant, of its file.
+-- The history is the world's: a client has a timer in the history exactly where a running server suspects it; each present lease, and each that a life had when
+-- it ended, is among the dates with its end; and each entry of the log has one grant, of its file.
 abbrev pub agree : Bool → Bool → Bool
 agree true b = b
 agree false b = not b
@@ -664,12 +664,12 @@ agree_on_timers t s = list_all (agree_on_timer t s) (all_clients t.world)
 abbrev pub is_date_with : LeaseLife → Stamp → LeaseDate → Bool
 is_date_with e end d = (same_client d.client e.client && same_server d.server e.server) && ((d.life.0 == e.life.0) && (d.end.0 == end.0))
 
--- a lease end stands among the dates; or the life had no lease
+-- a lease end is among the dates; or the life had no lease
 abbrev pub has_date : History → LeaseLife → Option Stamp → Bool
 has_date h e None = true
 has_date h e (Some end) = list_any (is_date_with e end) h.dates
 
--- a life's lease end stands among the dates
+-- a life's lease end is among the dates
 abbrev pub is_dated_life : History → LeaseLife → Bool
 is_dated_life h e = has_date h e e.end
 
@@ -730,8 +730,8 @@ OldMessagesChangeNoClient =
     → is_old t.state m ≡ true
     → client.take_input t now (inputs.Control m) ≡ t
 
--- At a server, a request of another epoch that is no greeting, and any request of a life below its session's, leaves the state
--- as it was after the thefts, so that only the passes follow.
+-- At a server, a request of another epoch that isn't a greeting, and any request of a life below its session's, leaves the state as it was after the thefts, so
+-- that only the passes follow.
 abbrev pub is_greeting : Body → Bool
 is_greeting bodies.Hello = true
 is_greeting body = false
@@ -775,7 +775,7 @@ is_event count (events.App c ask) = is_ask ask
 is_event count (events.Advance steps) = (length steps == count) && list_all is_increment steps
 is_event count e = true
 
--- opens all of this file and of the two that it stands on
+-- opens all of this file and of the two that it uses
 unfoldable pub safety_open : ⊤
 unfolding lines_open dating_open steps_on steps left_by Throughout ask_of_client AreLogged all_answered_once all_followed never_fall fit_log keep_hard
 safety_open = tt

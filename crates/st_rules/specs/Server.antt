@@ -83,7 +83,7 @@ pub record ServerTurn : Type 0 where
 abbrev pub turn : ServerState → List Output → ServerTurn
 turn s out = record { state = s; out = out }
 
--- a request's rule: the step so far, and the reply, where there is one
+-- a request's rule: the step so far, and the reply, if there is one
 pub record Replied : Type 0 where
   pub turn : ServerTurn
   pub reply : Option Body
@@ -201,7 +201,7 @@ unfoldable pub suspect_client : ServerTurn → Stamp → ClientId → ServerTurn
 suspect_client t now c =
     with_locks (locks.drop_waits t.state.locks c) (with_authority (authority.suspect t.state.authority c now) (note t (notes.Suspected c now)))
 
--- Refusing a suspect: nothing but a seen demand is passed over without a refusal.
+-- Refusing a suspect: only a seen demand is ignored without a refusal.
 unfoldable pub refuse_suspect : ServerTurn → Header → Stamp → Body → ServerTurn
 refuse_suspect t h start (bodies.DemandSeen ino g) = t
 refuse_suspect t h start body = reply t h (bodies.Nack why.Suspect start.0 0)
@@ -390,7 +390,7 @@ cut_held t h ino g from = if holds t h ino g modes.X then cut_from t ino from el
 unfoldable pub cut : ServerTurn → Header → ℕ → GrantNo → PageNo → Replied
 cut t h ino g from = if is_file t ino then cut_held t h ino g from else no_file t ino
 
--- Names: what they answer, but for remove.
+-- Names: what they answer, except for remove.
 unfoldable pub name_refused : ServerTurn → EntryRefusal → Replied
 name_refused t r = replied t (bodies.Named (Refused (names.code_of r)))
 
@@ -473,8 +473,8 @@ keep h t (Some body) = keep_and_reply t h body
 unfoldable pub serve : Header → Replied → ServerTurn
 serve h a = keep h a.turn a.reply
 
--- Requests by the session: without one, or above its life, refused; stale ones and those out of order are passed over; the
--- last one is answered with its kept reply and this request's stamp; and the next one is served.
+-- Requests by the session: without one, or above its life, refused; stale ones and those out of order are ignored; the last one is answered with its kept reply
+-- and this request's stamp; and the next one is served.
 unfoldable pub request_by : ServerTurn → Stamp → Header → Body → Taken Body → ServerTurn
 request_by t now h body takes.OtherEpoch = refuse_epoch t h
 request_by t now h body takes.NoSession = reply t h (bodies.Nack why.NoSession 0 0)
@@ -492,7 +492,7 @@ request t now h body = request_by t now h body (take t h)
 unfoldable pub of_epoch : ServerTurn → Stamp → Header → Body → ServerTurn
 of_epoch t now h body = if h.epoch == t.state.stable.epoch.0 then request t now h body else refuse_epoch t h
 
--- The rule for a message of a client that is no suspect.
+-- The rule for a message of a client that isn't a suspect.
 unfoldable pub by_body : ServerTurn → Stamp → Header → Body → ServerTurn
 by_body t now h bodies.Hello = hello t now h
 by_body t now h (bodies.DemandSeen ino g) = demand_seen t h ino g
@@ -503,7 +503,7 @@ unfoldable pub by_suspicion : ServerTurn → Stamp → Header → Body → Optio
 by_suspicion t now h body None = by_body t now h body
 by_suspicion t now h body (Some start) = refuse_suspect t h start body
 
--- Receiving: a message that is not to this server, or not from a client, is passed over.
+-- Receiving: a message that is not to this server, or not from a client, is ignored.
 abbrev pub is_client_node : ℕ → Bool
 is_client_node node = nat_le 1 node && nat_le node 16
 
@@ -524,7 +524,7 @@ unfoldable pub take_input : ServerTurn → Stamp → ServerInput → ServerTurn
 take_input t now Tick = t
 take_input t now (Control m) = receive t now m.header m.body
 
--- Suspecting, on a tick alone: each client that left a demand unanswered too long and is no suspect, in rising order.
+-- Suspecting, on a tick alone: each client that left a demand unanswered too long and isn't a suspect, in rising order.
 unfoldable pub suspect_unless : ServerTurn → Stamp → ClientId → ServerTurn
 suspect_unless t now c = if authority.may_ack t.state.authority c then suspect_client t now c else t
 
@@ -542,7 +542,7 @@ unfoldable pub suspecting_on : ServerTurn → Stamp → ServerInput → ServerTu
 suspecting_on t now Tick = suspecting t now
 suspecting_on t now (Control m) = t
 
--- Granting, outside grace alone: the first waiters that nobody's row stands against.
+-- Granting, outside grace alone: the first waiters that nobody's row conflicts with.
 unfoldable pub tell_granted : List (ClientId × Life × ℕ × GrantNo × Mode) → ServerTurn → ServerTurn
 tell_granted [] t = t
 tell_granted (x ∷ xs) t = tell_granted xs (tell t x.0 x.1 (bodies.Granted x.2 x.3 x.4))
@@ -559,7 +559,7 @@ grant_waiting t = grant_by t (locks.next_grants t.state.locks)
 unfoldable pub granting : ServerTurn → Stamp → ServerTurn
 granting t now = if in_grace t now then t else grant_waiting t
 
--- Demanding: what stands against the first waiters.
+-- Demanding: what conflicts with the first waiters.
 unfoldable pub tell_demanded : List (ClientId × Life × ℕ × GrantNo × Mode) → ServerTurn → ServerTurn
 tell_demanded [] t = t
 tell_demanded (x ∷ xs) t = tell_demanded xs (tell t x.0 x.1 (bodies.Demand x.2 x.3 x.4))

@@ -1,4 +1,4 @@
--- What stands of a server before and after each of its steps: of each part by itself, and of the parts together.
+-- What holds of a server before and after each of its steps: of each part by itself, and of the parts together.
 use Rattle.std.specs.Prelude.{◌≡◌, ◌+◌, Bool, true, ◌&&◌, not, nat_le, nat_lt, List, [], ◌∷◌, Option, Some, None, is_some, ⊤}
 use Rattle.std.specs.List.{list_all, list_any}
 use Rattle.st_messages.specs.declared.message.Body.{Body}
@@ -36,8 +36,7 @@ is_compatible rows r = not (list_any (stands_against r.client r.ino r.mode) rows
 abbrev pub is_granted : Locks → LockRow → Bool
 is_granted l r = nat_le r.g.0 (first_after l.epoch + l.grants)
 
--- A lock table: a client has one row and one wait a file; the rows of a file are compatible; no row has a grant number that
--- is still to be given.
+-- A lock table: a client has one row and one wait a file; the rows of a file are compatible; no row has a grant number that will still be given.
 pub record IsLockTable (l : Locks) : Type 0 where
   pub rows_once : are_once same_row l.rows ≡ true
   pub waits_once : are_once same_wait l.waiters ≡ true
@@ -75,7 +74,7 @@ pub record AreSessions (t : Sessions) : Type 0 where
 abbrev pub is_below_all : Suspect → List Suspect → Bool
 is_below_all s ss = list_all (λ t. nat_lt s.client.0 t.client.0) ss
 
--- Timers stand by rising client, one for each.
+-- Timers are in rising order of clients, one for each.
 unfoldable pub are_rising : List Suspect → Bool
 are_rising [] = true
 are_rising (s ∷ ss) = is_below_all s ss && are_rising ss
@@ -98,8 +97,8 @@ has_session t s = is_some (session_of t s.client)
 abbrev pub waits_not : Locks → Suspect → Bool
 waits_not l s = not (list_any (is_wait_by s.client) l.waiters)
 
--- A server: each part is as it is to be; the epochs of its parts agree; each row and each wait is of its client's living
--- session's life; each client whose timer runs has a session and waits for nothing.
+-- A server: each part is as it must be; the epochs of its parts agree; each row and each wait is of its client's living session's life; each client whose timer
+-- runs has a session and waits for nothing.
 pub record IsServer (n : ServerState) : Type 0 where
   pub locks : IsLockTable n.locks
   pub sessions : AreSessions n.sessions

@@ -69,9 +69,9 @@ new_session c life = record { client = c; life = life; state = Live 0 None }
 abbrev pub with_new_session : ClientId → Life → Sessions → Sessions
 with_new_session c life t = with_session (new_session c life) t
 
--- Greeting: the first case that stands. Without a session a new one begins; a lower life than a living session's is old,
--- and the same life is welcome; a higher life than a living session's must wait where the client has locks, and else
--- replaces it; a life not above an ended session's is old, and a higher one begins a new session.
+-- Greeting: the first case that applies. Without a session a new one begins; a lower life than a living session's is old, and the same life is welcome; a
+-- higher life than a living session's must wait if the client has locks, and otherwise replaces it; a life not above an ended session's is old, and a higher
+-- one begins a new session.
 pub record Greeted : Type 0 where
   pub sessions : Sessions
   pub hello : Hello
@@ -154,7 +154,7 @@ take_at (Some s) life number = take_life s life number
 unfoldable pub take : Sessions → ClientId → Life → Epoch → ℕ → Taken Body
 take t c life epoch number = if epoch.0 == t.epoch.0 then take_at (session_of t c) life number else OtherEpoch
 
--- what is taken, with the reply behind the reference that a call lends
+-- what is taken, with the reply that the lent reference points to
 abbrev pub taken_copied : Taken (Bor Body) → Taken Body
 taken_copied OtherEpoch = OtherEpoch
 taken_copied NoSession = NoSession

@@ -64,7 +64,7 @@ pub record World : Type 0 where
   pub flushed : List FlushStep
   pub tally : Tally
 
--- The world at the start: all nodes run, clients' clocks stand at 0, and the clock of server j at 1000 * j.
+-- The world at the start: all nodes run, clients' clocks are at 0, and the clock of server j is at 1000 * j.
 
 -- the server of a number
 abbrev pub server : ℕ → ServerId
@@ -251,7 +251,7 @@ end_or_present w c s None = present_end w s (site_of w c)
 abbrev pub lease_end_of : World → ClientId → ServerId → Life → Option Stamp
 lease_end_of w c s life = end_or_present w c s (ended_of w c s life)
 
--- the life of an association, where there is one
+-- the life of an association, if there is one
 abbrev pub life_at : Option Association → Life
 life_at None = record { 0 = 0 }
 life_at (Some a) = a.life

@@ -1,4 +1,4 @@
--- What stands of the world before and after each event, beside what stands of its nodes.
+-- What holds of the world before and after each event, beside what holds of its nodes.
 use Rattle.std.specs.Prelude.{◌≡◌, Bool, true, length, Option, Some, None, All}
 use Rattle.std.specs.List.{list_all}
 use Rattle.st_base.specs.declared.disk.BlockAt.{BlockAt}
@@ -33,7 +33,7 @@ is_own_extent w s e = is_on_disk_of w s e.at
 abbrev pub maps_own : World → ServerNode → Bool
 maps_own w node = list_all (is_own_extent w node.state.id) node.state.stable.extents.rows
 
--- the row that was told is of a disk of this server
+-- the row that was reported is of a disk of this server
 abbrev pub is_own_row : World → ServerId → ExtentRow → Bool
 is_own_row w s r = is_on_disk_of w s r.at
 
@@ -63,16 +63,15 @@ knows_own_at w a = list_all (is_own_known w a.server) a.store.extents
 abbrev pub knows_own : World → WorldClient → Bool
 knows_own w site = list_all (knows_own_at w) site.node.state.associations
 
--- the server is as it is to be
+-- the server is as it must be
 abbrev pub IsNode : ServerNode → Type 0
 IsNode node = IsServer node.state
 
--- the client is as it is to be
+-- the client is as it must be
 abbrev pub IsSite : WorldClient → Type 0
 IsSite site = IsClient site.node.state
 
--- The world: each node is as it is to be; each disk command is an issued one; mapped pages lie, and are told and known to lie,
--- on disks of their server.
+-- The world: each node is as it must be; each disk command is an issued one; mapped pages lie, and are reported and known to lie, on disks of their server.
 pub record IsWorld (w : World) : Type 0 where
   pub servers : All IsNode w.servers
   pub clients : All IsSite w.clients

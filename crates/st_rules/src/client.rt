@@ -14,15 +14,17 @@ pub enum ClientInput {
         ask: Ask,
     },
     Control(Message),
-    /// A disk command ended: it failed (`None`), it wrote its block (`Some(None)`), or it read this tag and these bytes.
+    /// A disk command ended: it failed (`None`), it wrote its block (`Some(None)`), or it read this
+    /// tag and these bytes.
     Done {
         command: u64,
         result: Option<Option<(Tag, PageBytes)>>,
     },
 }
 
-/// What a client may do at a moment under its lease at a server: nothing without a lease; read and write pages; keep what it
-/// has; write out its dirty pages; or discard everything, if the lease is over.
+/// What a client may do at a moment under its lease at a server: nothing without a lease; read and
+/// write pages; keep what it has; write out its dirty pages; or discard everything, if the lease is
+/// over.
 #[derive(Clone, Copy, Debug, PartialEq, Eq)]
 pub enum StandingKind {
     Idle,
@@ -47,7 +49,7 @@ pub struct SeenGrant {
     pub g: GrantNo,
 }
 
-/// A file of which a lock is demanded, and the mode to which it is to be lowered.
+/// A file of which a lock is demanded, and the mode to which it must be lowered.
 #[derive(Clone, Copy, Debug, PartialEq, Eq)]
 pub struct DemandedFile {
     pub ino: u32,
@@ -62,7 +64,7 @@ pub struct LockWait {
     pub at: Stamp,
 }
 
-/// A release that is to be sent.
+/// A release that must be sent.
 #[derive(Clone, Copy, Debug, PartialEq, Eq)]
 pub struct Release {
     pub ino: u32,
@@ -139,8 +141,8 @@ pub enum Ended {
     Failed,
 }
 
-/// A page that was dirty when a lease was lost and of which no application was told yet, and the command that should have
-/// written it, or 0.
+/// A page that was dirty when a lease was lost and that no application was told about yet, and the
+/// command that should have written it, or 0.
 #[derive(Clone, Copy, Debug, PartialEq, Eq)]
 pub struct LostPage {
     pub ino: u32,

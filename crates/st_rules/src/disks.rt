@@ -19,7 +19,8 @@ pub enum Report {
     Failed,
 }
 
-/// A disk command: whether it had its effect, how it was reported, and the block that a read found at its effect.
+/// A disk command: whether it had its effect, how it was reported, and the block that a read found
+/// at its effect.
 #[derive(Drop)]
 pub struct DiskCommand {
     pub what: Command,

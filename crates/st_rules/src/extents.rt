@@ -1,6 +1,7 @@
 use st_base::{BlockAt, FileId, PageNo};
 
-/// The block on which a page of a file lies. The birth tells this mapping from every other mapping of its server.
+/// The block on which a page of a file lies. The birth tells this mapping from every other mapping
+/// of its server.
 #[derive(Clone, Copy, Debug, PartialEq, Eq)]
 pub struct Extent {
     pub file: FileId,

@@ -1,5 +1,5 @@
-//! The protocol's definitions, and the plain rows and answers that they speak of. `docs/PROTOCOL.md` tells each rule in
-//! words, under the name that stands above its definition in `specs/`.
+//! The protocol's definitions, and the plain rows and answers that they speak of.
+//! `docs/PROTOCOL.md` tells each rule in words, under the name above its definition in `specs/`.
 #![tactic(auto)]
 
 mod authority;

@@ -4,8 +4,8 @@ use st_base::{ClientId, FileId, Life, PageBytes, PageNo};
 use st_messages::PatchBytes;
 use std::alloc::AllocError;
 
-/// Why an entry of the log is gone: its client crashed, or the disk command with this number should have written it and
-/// failed.
+/// Why an entry of the log is gone: its client crashed, or the disk command with this number should
+/// have written it and failed.
 #[derive(Clone, Copy, Debug, PartialEq, Eq)]
 pub enum Cause {
     Crash,
@@ -20,8 +20,8 @@ pub enum Fate {
     Gone(Cause),
 }
 
-/// The client and the life of an entry of the log, and the page that it changes. A cut has client 0 and life 0, and the
-/// first page that it drops.
+/// The client and the life of an entry of the log, and the page that it changes. A cut has client 0
+/// and life 0, and the first page that it drops.
 #[derive(Clone, Copy, Debug, PartialEq, Eq)]
 pub struct LogOwner {
     pub client: ClientId,

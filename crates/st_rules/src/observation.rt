@@ -119,7 +119,8 @@ pub enum WorldRefusal {
     /// The number of bytes of all messages so far.
     #[error("{0} bytes of messages")]
     NetFull(u64),
-    /// The node whose clock ran ahead, the node that it ran ahead of, and the excess over the bound.
+    /// The node whose clock ran ahead, the node that it ran ahead of, and the excess over the
+    /// bound.
     #[error("clocks drifted apart")]
     ClockDrift(NodeId, NodeId, u128),
 }

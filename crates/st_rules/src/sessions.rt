@@ -4,8 +4,8 @@ use st_base::{ClientId, Life};
 use st_messages::Body;
 use std::alloc::AllocError;
 
-/// The state of a session. While it is live, requests of its life are served: `last` is the greatest number that was
-/// served, and `reply` the reply to it. A theft ends a session.
+/// The state of a session. While it is live, requests of its life are served: `last` is the
+/// greatest number that was served, and `reply` the reply to it. A theft ends a session.
 #[derive(Drop)]
 pub enum SessionState {
     Live { last: u64, reply: Option<Body> },

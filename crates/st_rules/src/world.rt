@@ -15,7 +15,8 @@ pub struct CutLink {
     pub to: NodeId,
 }
 
-/// What a write command carries: its page, and the number of the log entry that it makes hard, or 0.
+/// What a write command carries: its page, and the number of the log entry that it makes hard, or
+/// 0.
 #[derive(Clone, Copy, Debug, PartialEq, Eq)]
 pub struct Carried {
     pub file: FileId,
@@ -23,8 +24,9 @@ pub struct Carried {
     pub index: u64,
 }
 
-/// An issued disk command: its client, the client's own number for it, how often the client had been started before, and
-/// the server and the life under whose lease it was submitted. A write carries its page and log entry.
+/// An issued disk command: its client, the client's own number for it, how often the client had
+/// been started before, and the server and the life under whose lease it was submitted. A write
+/// carries its page and log entry.
 #[derive(Clone, Copy, Debug, PartialEq, Eq)]
 pub struct IssuedCommand {
     pub client: ClientId,
@@ -35,7 +37,8 @@ pub struct IssuedCommand {
     pub carries: Option<Carried>,
 }
 
-/// A life of a client at a server: the end of its lease, if it had one, and whether a crash ended the life.
+/// A life of a client at a server: the end of its lease, if it had one, and whether a crash ended
+/// the life.
 #[derive(Clone, Copy, Debug, PartialEq, Eq)]
 pub struct LeaseLife {
     pub client: ClientId,
@@ -45,7 +48,8 @@ pub struct LeaseLife {
     pub crashed: bool,
 }
 
-/// The last step of a client that ended in the flush phase at a server, by the lease end at that step.
+/// The last step of a client that ended in the flush phase at a server, by the lease end at that
+/// step.
 #[derive(Clone, Copy, Debug, PartialEq, Eq)]
 pub struct FlushStep {
     pub client: ClientId,

@@ -1,4 +1,4 @@
--- The events that a reader reads behind a head are in their ranges.
+-- The events that a reader reads after a head are in their ranges.
 use Rattle.std.proofs.Common.{◌≡◌, ℕ, ◌+◌, ◌≤◌, Bool, true, List, [], ◌∷◌, ◌⊎◌, inl, inr, refl, sym, subst}
 use Rattle.std.specs.Prelude.{Option, Some, None, Result, Ok, Err, nat_lt, ◌&&◌}
 use Rattle.std.specs.List.{list_all}
@@ -19,7 +19,7 @@ use Rattle.st_runs.specs.Schedule.{before, schedule_of, with_told}
 use Rattle.st_runs.proofs.Ranges.{event_within}
 use Rattle.st_runs.proofs.Short.{read_short}
 
--- what is read behind a head: the end, or an event and then more
+-- what is read after a head: the end, or an event and then more
 abbrev Next : ℕ → Counts → ℕ → Line × Progress → Type 0
 Next form counts done y = (y ≡ (said.End, progress.Ended)) ⊎ ((e : Event) × (y ≡ (said.Event e, progress.Reading form counts (done + 1))))
 
@@ -43,7 +43,7 @@ next_later form counts done l y h = next_line form counts done l (line_event for
 both : (a b : Bool) → a ≡ true → b ≡ true → (a && b) ≡ true
 both a b e f = rw (e, f) refl
 
--- behind the end nothing is read
+-- after the end nothing is read
 ended : (nodes : ℕ) (ls : List (List ℕ)) (line : ℕ) → list_all (is_event nodes) (schedule_of ls line progress.Ended).events ≡ true
 ended nodes [] line = refl
 ended nodes (l ∷ ls) line = go (read_line progress.Ended l) refl
@@ -52,7 +52,7 @@ ended nodes (l ∷ ls) line = go (read_line progress.Ended l) refl
     go (Err f) h = refl
     go (Ok y) h = absurd (let k = (read_short progress.Ended l y h).1 in cc)
 
--- the events are in their ranges behind an event, if they are in what follows it
+-- the events are in their ranges after an event, if they are in what follows it
 abbrev Fit : Counts → List (List ℕ) → ℕ → Progress → Type 0
 Fit counts ls line q = list_all (is_event (nodes_of counts)) (schedule_of ls line q).events ≡ true
 

@@ -33,7 +33,7 @@ pub record Replay : Type 0 where
   pub front : List ℕ
   pub last : Last
 
--- a replay behind a text
+-- a replay after a text
 abbrev pub behind : List ℕ → Replay → Replay
 behind t r = record { front = t ++ r.front; last = r.last }
 
@@ -84,7 +84,7 @@ abbrev pub at_end : World → Ending → Last
 at_end w schedule.Whole = Whole w
 at_end w (schedule.Stopped line f) = Stopped line (why.Schedule f)
 
--- the same, or else the event that was refused; the event of a number stands in the line of that number and 1
+-- the same, or else the event that was refused; the event of a number is in the line of that number plus 1
 abbrev pub ended_by : ℕ → World → Ending → Option WorldRefusal → Last
 ended_by event w ending None = at_end w ending
 ended_by event w ending (Some f) = Stopped (event + 1) (why.World f)

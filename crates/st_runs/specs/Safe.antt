@@ -18,7 +18,7 @@ use Rattle.st_runs.specs.Schedule.{Schedule, schedule_of}
 abbrev pub world_of : Config → Counts → ℕ → World
 world_of k n form = fresh_world k n.clients n.servers n.disks n.blocks form
 
--- the first of these lines is read as this head, and this is the schedule of the lines behind it
+-- the first of these lines is read as this head, and this is the schedule of the lines after it
 pub record IsScheduleOf (ls : List (List ℕ)) (k : Config) (n : Counts) (form : ℕ) (s : Schedule) : Type 0 where
   pub first : List ℕ
   pub others : List (List ℕ)
@@ -35,7 +35,7 @@ pub record IsSafeReplay (ls : List (List ℕ)) (k : Config) (n : Counts) (form :
   pub replay : replay_lines ls ≡ behind opening (replay_from 1 (world_of k n form) s)
   pub safe : IsSafeRun (world_of k n form) s.events
 
--- these lines run safely: a line that is no head is followed by no run
+-- these lines run safely: a line that isn't a head is followed by no run
 abbrev pub RunsSafely : List (List ℕ) → Type 0
 RunsSafely ls = (k : Config) (n : Counts) (form : ℕ) (s : Schedule) → IsScheduleOf ls k n form s → IsSafeReplay ls k n form s
 

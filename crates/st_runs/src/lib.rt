@@ -1,5 +1,5 @@
-//! The runs of schedules: which run the lines of a schedule tell of, its report, and what it means that it is safe. `docs/PROTOCOL.md`,
-//! "Schedules", "The report" and "What is promised".
+//! The runs of schedules: which run the lines of a schedule tell of, its report, and what it means
+//! that it is safe. `docs/PROTOCOL.md`, "Schedules", "The report" and "What is promised".
 #![tactic(auto)]
 
 ghost use Rattle.std.specs.Prelude.{◌≡◌, List};

@@ -26,7 +26,7 @@ use Rattle.st_schedule.proofs.ValuesAreRead.{number_again, node_again, client_ag
 
 -- Asks.
 
--- the ask of the words behind the client
+-- the ask of the words after the client
 abbrev pub ask_of : ℕ → List (List ℕ) → Read Ask
 ask_of form ws = ask_verb_at form ws >>= λ v. asked_at v.0 v.1
 
@@ -124,7 +124,7 @@ ask_again form (asks.Cut f p) fits = cut_again form f p fits
 ask_again form (asks.Name s ask) fits = name_words_again form s ask fits
 ask_again form (asks.Patch f p at bytes) fits = patch_again form f p at bytes fits.0 fits.1
 
--- a step behind two others
+-- a step after two others
 bind_of : {A B C : Type 0} (r : Result A Fault) (f : A → Result B Fault) (g : B → Result C Fault) (y : B) → (r >>= f) ≡ Ok y → (r >>= λ x. f x >>= g) ≡ g y
 bind_of (Ok x) f g y e = ap (λ q. q >>= g) e
 bind_of (Err k) f g y e = absurd (cc)
@@ -179,7 +179,7 @@ steps_words_again least steps some all =
 
 -- Events.
 
--- the event of the words behind the first
+-- the event of the words after the first
 abbrev pub event_again_at : ℕ → ℕ → Verb → Event → Type 0
 event_again_at form nodes v e = event_at form nodes v (words_after e) ≡ Ok (e, [])
 

@@ -41,7 +41,7 @@ pub client_again : (c : ClientId) (ws : List (List ℕ)) → IsWithin 1 MOST_NOD
 unfolding client_at
 client_again c ws fits = ap (λ (o : Option NodeId). or_syntax (option_and_then client_alone o) (client_text c ∷ ws) ws) (client_node c.0 fits)
 
--- the first colon stands behind the digits
+-- the first colon comes after the digits
 colon_behind : (ds rest : List ℕ) → list_all is_digit ds ≡ true → position_or_len (λ b. b == 58) (ds ++ 58 ∷ rest) ≡ length ds
 colon_behind [] rest h = refl
 colon_behind (d ∷ ds) rest h = let k = colon_behind ds rest in grind (arith, nat_tests, k)

@@ -44,7 +44,7 @@ Gives view (Err e) read = Fails e read
 abbrev pub Read : Type 0 → Type 0
 Read A = Result (A × List (List ℕ)) Fault
 
--- Places. A word that is wrong or missing is Syntax there; a word of digits where a number stands is Number.
+-- Places. A word that is wrong or missing is Syntax there; a word of digits in the place of a number is Number.
 
 abbrev pub syntax_at : {A : Type 0} → List (List ℕ) → Result A Fault
 syntax_at ws = Err (Syntax (left ws))
@@ -112,7 +112,7 @@ result_of w = if bytes_eq w (codes "ok") then Some true else if bytes_eq w (code
 unfoldable pub result_at : List (List ℕ) → Read Bool
 result_at ws = place result_of ws
 
--- no superfluous word stands at the end of the line
+-- there is no superfluous word at the end of the line
 unfoldable pub ends : List (List ℕ) → Result Unit Fault
 ends [] = Ok tt
 ends (w ∷ ws) = syntax_at (w ∷ ws)

@@ -89,8 +89,7 @@ read_end progress.Nothing = Err refusals.NoHead
 read_end (progress.Reading form counts done) = Err refusals.NoEnd
 read_end progress.Ended = Ok tt
 
--- A call returned what reading gives, and moved the reader from old to new; where memory ran out, and at each refusal, the
--- reader is where it was.
+-- A call returned what reading gives, and moved the reader from old to new; if memory ran out, and at each refusal, the reader is where it was.
 abbrev pub Answers : Progress → Progress → Result Line ScheduleRefusal → Told → Type 0
 Answers old new (Ok line) read = read ≡ Ok (line, new)
 Answers old new (Err refusals.Memory) read = new ≡ old

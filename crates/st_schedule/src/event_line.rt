@@ -33,7 +33,8 @@ fn steps_at(
     Ok((steps, after))
 }
 
-/// A line with one increment gives it to every node; a line with more words has one increment for each node.
+/// A line with one increment gives it to every node; a line with more words has one increment for
+/// each node.
 #[tactic(auto, using(crate::proofs::Increments::more_words), unfolding(crate::specs::Parser::steps_of))]
 fn steps_of<'a>(
     alloc: Global,

@@ -5,8 +5,8 @@ use st_base::ConfigRefusal;
 use std::alloc::{AllocError, AllocFailed};
 use thiserror::Error;
 
-/// Why a line, or the end of the lines, is refused. Columns count the bytes of a line from 1; the column of a missing word is
-/// the length of the line plus 1.
+/// Why a line, or the end of the lines, is refused. Columns count the bytes of a line from 1; the
+/// column of a missing word is the length of the line plus 1.
 #[derive(Debug, Drop, Error)]
 pub enum ScheduleRefusal {
     #[error("a word is wrong, missing or superfluous at column {0}")]

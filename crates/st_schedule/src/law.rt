@@ -17,7 +17,8 @@ pub fn words_spell_one_event()
     ensures { (form nodes : ℕ) (ws : List (List ℕ)) (e f : Event) → Spells form nodes ws e → Spells form nodes ws f → e ≡ f }
 {}
 
-/// Words that are read as an event spell this event, and words that are read as the end are the one word `end`.
+/// Words that are read as an event spell this event, and words that are read as the end are the one
+/// word `end`.
 pub fn what_is_read_is_spelled_so()
     ensures event { (form nodes : ℕ) (ws : List (List ℕ)) (e : Event) → 1 ≤ nodes → line_event form nodes ws ≡ Ok (Some e) → Spells form nodes ws e }
     ensures end { (form nodes : ℕ) (ws : List (List ℕ)) → line_event form nodes ws ≡ Ok None → ws ≡ codes "end" ∷ [] }

@@ -1,4 +1,5 @@
-// The next word of a line as a number, a node, a file, a name or a choice; or its column, where it is none.
+// The next word of a line as a number, a node, a file, a name or a choice; or its column, where it
+// is none.
 ghost use Rattle.std.specs.Prelude.{◌≡◌, ◌≤◌, IfOk};
 ghost use Rattle.st_schedule_words.specs.Words.{split, words_behind};
 ghost use Rattle.st_schedule_words.specs.Words as words;
@@ -31,7 +32,7 @@ pub(crate) fn syntax(rest: &[u8]) -> ReadError
     ReadError::Fault(Fault::Syntax(left(rest)))
 }
 
-/// The fault of a line whose first word is none of those that may stand there.
+/// The fault of a line whose first word is none of those that may be there.
 #[tactic(auto, using(st_schedule_words::proofs::Words::left_split))]
 pub fn unknown_word(line: &[u8]) -> ReadError
     ensures { result ≡ ReadError.Fault (Fault.Syntax (words.left (split line.now))) }
@@ -45,8 +46,8 @@ fn number_fault(rest: &[u8]) -> ReadError
     ReadError::Fault(Fault::Number(left(rest)))
 }
 
-/// The next word of a line, and what follows it. `rest` is what follows a word: nothing, or a space and more. A line without
-/// another word is `Syntax`.
+/// The next word of a line, and what follows it. `rest` is what follows a word: nothing, or a space
+/// and more. A line without another word is `Syntax`.
 pub fn word_at(rest: &[u8]) -> Result<(&[u8], &[u8]), ReadError>
     ensures { Gives (λ x. (x.0.now, words_behind x.1.now)) result (reading.word_at (words_behind rest.now)) }
 {
@@ -56,8 +57,8 @@ pub fn word_at(rest: &[u8]) -> Result<(&[u8], &[u8]), ReadError>
     }
 }
 
-/// The next word of a line as a number from `least` to `most`, and what follows it. A word of digits with a leading zero, or out
-/// of range, is `Number`; another word, or none, is `Syntax`.
+/// The next word of a line as a number from `least` to `most`, and what follows it. A word of
+/// digits with a leading zero, or out of range, is `Number`; another word, or none, is `Syntax`.
 #[tactic(auto, unfolding(crate::specs::Parser::number_at))]
 pub fn number_at(least: u64, most: u64, rest: &[u8]) -> Result<(u64, &[u8]), ReadError>
     ensures value { Gives (λ x. (x.0, words_behind x.1.now)) result (reading.number_at least most (words_behind rest.now)) }
@@ -106,7 +107,8 @@ pub(crate) fn file_at(rest: &[u8]) -> Result<(FileId, &[u8]), ReadError>
     }
 }
 
-/// The next word of a line as a name, of 1 to 100 visible bytes, and what follows it. Another word, or none, is `Syntax`.
+/// The next word of a line as a name, of 1 to 100 visible bytes, and what follows it. Another word,
+/// or none, is `Syntax`.
 #[tactic(auto, unfolding(crate::specs::Parser::name_at))]
 pub fn name_at(alloc: Global, rest: &[u8]) -> Result<(Name, &[u8]), ReadError>
     ensures { Gives (λ x. (x.0, words_behind x.1.now)) result (reading.name_at (words_behind rest.now)) }
@@ -138,7 +140,8 @@ pub(crate) fn after_at(alloc: Global, rest: &[u8]) -> Result<(Name, &[u8]), Read
     Ok((name, after))
 }
 
-/// The next word of a line as a result, `ok` or `fail`, and what follows it. Another word, or none, is `Syntax`.
+/// The next word of a line as a result, `ok` or `fail`, and what follows it. Another word, or none,
+/// is `Syntax`.
 #[tactic(auto, unfolding(crate::specs::Parser::result_at))]
 pub fn result_at(rest: &[u8]) -> Result<(bool, &[u8]), ReadError>
     ensures { Gives (λ x. (x.0, words_behind x.1.now)) result (reading.result_at (words_behind rest.now)) }

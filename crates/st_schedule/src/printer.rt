@@ -9,7 +9,8 @@ use st_messages::{Ask, Event};
 use st_report::{put_field, put_number};
 use std::alloc::{AllocError, Global};
 
-/// The bytes that are reserved for a line. Only lines of names and of increments that differ are longer.
+/// The bytes that are reserved for a line. Only lines of names and of increments that differ are
+/// longer.
 const USUAL: usize = 40;
 
 /// Appends a space and a word.
@@ -58,7 +59,7 @@ fn put_place(out: &mut Vec<u8>, file: FileId, page: PageNo) -> Result<(), AllocE
     put_field(out, u64::from(page.0))
 }
 
-/// The first of these bytes, or 0 where there is none.
+/// The first of these bytes, or 0 if there is none.
 fn byte_of(bytes: &[u8]) -> u8
     ensures { result ≡ grammar.byte_of bytes.now }
 {
@@ -264,12 +265,13 @@ pub fn put_line(out: &mut Vec<u8>, event: &Event) -> Result<(), AllocError>
     put_rest(out, event)
 }
 
-/// The line that spells this event; an advance whose increments are all equal gets the short line. A write or a patch is
-/// printed by its first byte, so the line of a page that is not one byte repeated does not spell it.
+/// The line that spells this event; an advance whose increments are all equal gets the short line.
+/// A write or a patch is printed by its first byte, so the line of a page that is not one byte
+/// repeated does not spell it.
 #[tactic(auto, using(crate::proofs::PrintedLines::read_as))]
 pub fn print(alloc: Global, event: &Event) -> Result<Vec<u8>, AllocError>
     ensures words { IfOk result (λ line. line.items ≡ line_of (grammar.words event.now)) }
-    // Behind every head with which the event has a line, it is read back as the same event.
+    // After every head with which the event has a line, it is read back as the same event.
     ensures back { IfOk result (λ line. IsReadAs line.items event.now) }
 {
     let mut out = Vec::with_capacity(alloc, USUAL)?;

@@ -17,7 +17,8 @@ use std::marker::Model;
 /// What a line says.
 #[derive(Drop)]
 pub enum Line {
-    /// The settings, the counts of clients, servers, disks and blocks, and the form of the head, 1 or 2.
+    /// The settings, the counts of clients, servers, disks and blocks, and the form of the head, 1
+    /// or 2.
     Head(Config, Counts, u8),
     Event(Event),
     End,
@@ -200,8 +201,8 @@ impl ScheduleReader {
         }
     }
 
-    /// Reads the next line, given without its newline. A refusal leaves the reader as it was, and so does running out of
-    /// memory.
+    /// Reads the next line, given without its newline. A refusal leaves the reader as it was, and
+    /// so does running out of memory.
     pub fn line(&mut self, bytes: &[u8]) -> Result<Line, ScheduleRefusal>
         // The line or the refusal, and what the reader has read then.
         ensures exact { Answers self.old self.new result (reader.read_line self.old bytes.now) }

@@ -73,7 +73,7 @@ value_from n (b ∷ bs) = value_from (n * 10 + (b - 48)) bs
 abbrev pub value : List ℕ → ℕ
 value w = value_from 0 w
 
--- a zero stands before other digits
+-- a zero comes before other digits
 abbrev pub has_leading_zero : List ℕ → Bool
 has_leading_zero [] = false
 has_leading_zero (b ∷ bs) = (b == 48) && nat_lt 0 (length bs)

@@ -1,4 +1,5 @@
-//! The words of a line and their values: numbers, nodes, files and names; and the lines of some bytes. `docs/PROTOCOL.md`, "Schedules".
+//! The words of a line and their values: numbers, nodes, files and names; and the lines of some
+//! bytes. `docs/PROTOCOL.md`, "Schedules".
 #![tactic(auto)]
 
 mod lines;

@@ -27,13 +27,13 @@ unwritten before whole = (0, Appends-nil before)
 prefix_of : (before now : Option (List ℕ)) (whole t rest : List ℕ) → Appends before now t → whole ≡ t ++ rest → AppendsPrefix before now whole
 prefix_of before now whole t rest h e = (length t, subst (Appends before now) (sym (ap (take (length t)) e ∙ take-append_seam t rest)) h)
 
--- a front of what follows a text that was written
+-- a prefix of what follows a text that was written
 prefix_behind : (before mid now : Option (List ℕ)) (t u : List ℕ) → Appends before mid t → AppendsPrefix mid now u → AppendsPrefix before now (t ++ u)
 prefix_behind before mid now t u a h =
     prefix_of before now (t ++ u) (t ++ take h.0 u) (drop h.0 u) (Appends-trans before mid now t (take h.0 u) a h.1)
     (ap (λ x. t ++ x) (sym (take-append-drop h.0 u)) ∙ sym (append_assoc t (take h.0 u) (drop h.0 u)))
 
--- a front of the first of two texts
+-- a prefix of the first of two texts
 pub prefix_first : (before now : Option (List ℕ)) (t u : List ℕ) → AppendsPrefix before now t → AppendsPrefix before now (t ++ u)
 prefix_first before now t u h =
     prefix_of before now (t ++ u) (take h.0 t) (drop h.0 t ++ u) h.1
@@ -61,7 +61,7 @@ pub last_written : {State Event : Type 0} (holds : State → Type 0) (rules : Ru
 last_written holds rules done s (Ok u) before now there h = (there, h)
 last_written holds rules done s (Err e) before now there h = last_fault holds e before now (whole rules done s) h.0 h.1
 
--- what is reported behind a text that was written
+-- what is reported after a text that was written
 behind_reports : {State : Type 0} (holds : State → Type 0) (r : Result Unit ScriptFault) (before mid now : Option (List ℕ)) (t : List ℕ) (o : Outcome State) →
     Appends before mid t → Reports holds r mid now o → Reports holds r before now (behind t o)
 behind_reports holds (Ok u) before mid now t o a h = (h.0, Appends-trans before mid now t o.text a h.1)
@@ -125,7 +125,7 @@ end_reports holds after rules done first before mid now line rest o r none g h =
     rest_reports holds after rules done first before mid now (line ∷ lines_of rest) o r g.goes
     (subst (Reports after r mid now) (line_played rules done (first + done) g.goes.state line (lines_of rest) (Some None) none) h)
 
--- want of memory at a line
+-- lack of memory at a line
 pub memory_reports : {State Event : Type 0} (holds after : State → Type 0) (rules : Rules State Event) (done first : ℕ) (before mid : Option (List ℕ)) (ls : List (List ℕ))
     (o : Outcome State) → Goes holds rules done first before mid ls o → Reports after (Err faults.Memory) before mid o
 memory_reports holds after rules done first before mid ls o g =
@@ -180,7 +180,7 @@ head_played : {State Event : Type 0} (head : List (List ℕ) → Result State Fa
 unfolding headed_lines
 head_played head rules bytes line ls first e is = ap (begun rules ls) (sym is) ∙ ap (headed_lines head rules) (sym e)
 
--- where there is none
+-- if there is none
 pub no_head_stops : {State Event : Type 0} (head : List (List ℕ) → Result State Fault) (rules : Rules State Event) (bytes : List ℕ) → bytes ≡ [] →
     headed_lines head rules (lines_of bytes) ≡ stopped 1
 unfolding headed_lines
@@ -228,7 +228,7 @@ known_left (Some bytes) P f = f bytes refl
 pub if_known : (left : Option (List ℕ)) (held : List ℕ) (P : List ℕ → Type 0) → held ≡ [] → ((bytes : List ℕ) → prepend_known held left ≡ Some bytes → P bytes) → IfSome left P
 if_known left held P empty f = known_left left P (λ bytes known. f bytes (ap (λ x. prepend_known x left) empty ∙ known))
 
--- where a call went well, a fact that stands anyway
+-- if a call went well, a fact that holds anyway
 pub always : {A E : Type 0} (r : Result A E) (P : Type 0) → P → OnOk r P
 always (Ok x) P p = p
 always (Err e) P p = tt
@@ -285,7 +285,7 @@ head_stop_on stands head r bytes held left ahead stops.Malformed h = bad_head_st
 head_stop_on stands head r bytes held left ahead stops.Read h = tt
 head_stop_on stands head r bytes held left ahead stops.Memory h = tt
 
--- nothing is behind the line `end`
+-- nothing follows the line `end`
 pub nothing_behind : {State Event : Type 0} (holds : State → Type 0) (rules : Rules State Event) (done line : ℕ) (s : State) (r : Result Unit ScriptFault) (before now : Option (List ℕ)) (bytes : List ℕ) →
     bytes ≡ [] → holds s → Writes r before now (rules.last done s) → Reports holds r before now (ended rules done line s (lines_of bytes))
 nothing_behind holds rules done line s r before now bytes none there h =

@@ -17,7 +17,7 @@ chosen_false t x y e = ap (λ c. cond c x y) e
 not_newline : (b : ℕ) → b ≢ 10 → (b == 10) ≡ false
 not_newline b h = false_from_ne_true _ (λ e. h (eqb-true _ _ e))
 
--- none of the first bytes is a newline, behind one that is none
+-- none of the first bytes is a newline, after one that isn't one
 behind_first : (b : ℕ) (bs : List ℕ) (n : ℕ) → HasNone (b ∷ bs) (suc n) → HasNone bs n
 behind_first b bs n h = λ k few. h (suc k) (omega (arith, few))
 
@@ -92,7 +92,7 @@ found_fault stops.Malformed bytes held left h = absurd h
 found_fault stops.Read bytes held left h = tt
 found_fault stops.Memory bytes held left h = tt
 
--- the end of the source, behind a last line or nothing
+-- the end of the source, after a last line or nothing
 last_found : (bytes held : List ℕ) (n : ℕ) → held ++ [] ≡ bytes → HasNone held (length held) → n ≡ length held → 1 ≤ n → IsLine bytes held (Some []) n
 last_found bytes [] n same h all some = absurd (omega (arith, all, some))
 last_found bytes (b ∷ bs) n same h all some =

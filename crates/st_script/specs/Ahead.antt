@@ -18,7 +18,7 @@ abbrev pub IsFirst : List ℕ → Option ℕ → Type 0
 IsFirst bytes None = HasNone bytes (length bytes)
 IsFirst bytes (Some at) = (at < length bytes) × (get_or bytes at 0 ≡ 10) × HasNone bytes at
 
--- a piece of so many bytes was taken behind those that are held; an empty one where the source has ended
+-- a piece of that many bytes was taken after those that are held; an empty one if the source has ended
 pub record TakesPiece (left_before left_now : Option (List ℕ)) (before now : List ℕ) (n : ℕ) : Type 0 where
   pub piece : List ℕ
   pub took : Consumes left_before left_now piece
@@ -32,7 +32,7 @@ IsFault stops.Malformed = ⊥
 IsFault stops.Read = Unit {0}
 IsFault stops.Memory = Unit {0}
 
--- the first of these bytes are a line, of this number of bytes, and these are behind it
+-- the first of these bytes are a line, of this number of bytes, and these are after it
 pub record IsLine (bytes held : List ℕ) (left : Option (List ℕ)) (n : ℕ) : Type 0 where
   pub rest : List ℕ
   pub known : prepend_known (drop (n + 1) held) left ≡ Some rest
@@ -53,14 +53,14 @@ Finds bytes held left (Err stops.Malformed) = BeginsLong bytes
 Finds bytes held left (Err stops.Read) = Unit {0}
 Finds bytes held left (Err stops.Memory) = Unit {0}
 
--- the count of the source's faults rose where a read failed, and else stayed
+-- the count of the source's faults rose where a read failed, and otherwise stayed
 abbrev pub StopCauses : {T : Type 0} → Result T Stop → ℕ → ℕ → Type 0
 StopCauses (Ok x) before now = now ≡ before
 StopCauses (Err stops.Malformed) before now = now ≡ before
 StopCauses (Err stops.Read) before now = Rose before now
 StopCauses (Err stops.Memory) before now = now ≡ before
 
--- these bytes begin with a line that is read so, and these are behind it
+-- these bytes begin with a line that is read so, and these are after it
 pub record Says {X : Type 0} (read : List ℕ → Option X) (bytes : List ℕ) (ahead : Option (List ℕ)) (said : X) : Type 0 where
   pub line : List ℕ
   pub rest : List ℕ
@@ -68,7 +68,7 @@ pub record Says {X : Type 0} (read : List ℕ → Option X) (bytes : List ℕ) (
   pub lines : lines_of bytes ≡ line ∷ lines_of rest
   pub read_so : read line ≡ Some said
 
--- what is read of the line ahead, behind so many events: an event or the end; or the script stops there
+-- what is read of the line ahead, after that many events: an event or the end; or the script stops there
 abbrev pub ReadsOn : {State Event : Type 0} → Rules State Event → ℕ → List ℕ → Option (List ℕ) → Result (Option Event) Stop → Type 0
 ReadsOn r done bytes ahead (Ok said) = Says (read_line r done) bytes ahead said
 ReadsOn {State} r done bytes ahead (Err stops.Malformed) = (line : ℕ) (s : State) → play_from r done line s (lines_of bytes) ≡ stopped line

@@ -1,4 +1,4 @@
--- How a script's runner ended, and what stands then: of the sink, and of the counts of faults.
+-- How a script's runner ended, and what holds then: of the sink, and of the counts of faults.
 use Rattle.std.specs.Prelude.{◌≡◌, ◌≤◌, ℕ, List, Option, Result, Ok, Err}
 use Rattle.std.specs.Io.KnownBytes.{Appends}
 use Rattle.st_link.specs.Causes.{Rose}
@@ -15,8 +15,8 @@ abbrev pub IsWhole : {State : Type 0} → (State → Type 0) → Ending State �
 IsWhole holds (Whole s) = holds s
 IsWhole holds (Stopped line) = ⊥
 
--- What was written, next to the outcome of all bytes: the whole text where the script went through its end, in a state of which this
--- holds, or stopped at a line; and otherwise a front of it.
+-- What was written, next to the outcome of all bytes: the whole text where the script went through its end, in a state of which this holds, or stopped at a
+-- line; and otherwise a prefix of it.
 abbrev pub Reports : {State : Type 0} → (State → Type 0) → Result Unit ScriptFault → Option (List ℕ) → Option (List ℕ) → Outcome State → Type 0
 Reports holds (Ok u) before now o = IsWhole holds o.ending × Appends before now o.text
 Reports holds (Err (faults.Line n)) before now o = (o.ending ≡ Stopped n) × Appends before now o.text
@@ -39,20 +39,19 @@ Begins {State} stands (Ok y) read = (s : State) × ((read ≡ Ok s) × stands s 
 Begins stands (Err errors.Memory) read = Unit {0}
 Begins stands (Err (errors.Fault f)) read = read ≡ Err f
 
--- A call wrote the line of a script that stops at this line, or a front of it where the write failed; where memory ran out it wrote
--- nothing.
+-- A call wrote the line of a script that stops at this line, or a prefix of it where the write failed; if memory ran out it wrote nothing.
 abbrev pub Refuses : ScriptFault → ℕ → Option (List ℕ) → Option (List ℕ) → Type 0
 Refuses (faults.Line n) line before now = (n ≡ line) × Appends before now (stopped_text line)
 Refuses faults.Write line before now = AppendsPrefix before now (stopped_text line)
 Refuses faults.Memory line before now = now ≡ before
 Refuses faults.Read line before now = ⊥
 
--- a fault that is no malformed line
+-- a fault that isn't a malformed line
 abbrev pub IsNoLine : ScriptFault → Type 0
 IsNoLine (faults.Line n) = ⊥
 IsNoLine e = Unit {0}
 
--- A call wrote a text, or a front of it.
+-- A call wrote a text, or a prefix of it.
 abbrev pub Writes : Result Unit ScriptFault → Option (List ℕ) → Option (List ℕ) → List ℕ → Type 0
 Writes (Ok u) before now text = Appends before now text
 Writes (Err e) before now text = IsNoLine e × AppendsPrefix before now text

@@ -7,8 +7,8 @@ use Rattle.st_schedule.specs.declared.fault.Fault.{Fault}
 use Rattle.st_schedule_words.specs.Lines.{lines_of}
 use Rattle.st_schedule_words.specs.Words.{is_long, split}
 
--- What a command is: the event that the words of a line spell, or why they spell none; the answers to an event, each of which is
--- a text behind a space; the state after it; and the last line, behind so many events.
+-- What a command is: the event that the words of a line spell, or why they spell none; the answers to an event, each of which is a text after a space; the
+-- state after it; and the last line, after that many events.
 pub record Rules (State Event : Type 0) : Type 0 where
   pub event : List (List ℕ) → Result Event Fault
   pub answers : State → Event → List (List ℕ)
@@ -29,7 +29,7 @@ counted done (Ok e) = if nat_lt done MOST_EVENTS then Some (Some e) else None
 abbrev pub short_line : {Event : Type 0} → ℕ → List ℕ → Result Event Fault → Option (Option Event)
 short_line done line e = if bytes_eq line (codes "end") then Some None else counted done e
 
--- what a line says, behind so many events; nothing, where it is malformed
+-- what a line says, after that many events; nothing, where it is malformed
 unfoldable pub read_line : {State Event : Type 0} → Rules State Event → ℕ → List ℕ → Option (Option Event)
 read_line r done line = if is_long line then None else short_line done line (r.event (split line))
 
@@ -56,7 +56,7 @@ pub record Outcome (State : Type 0) : Type 0 where
   pub text : List ℕ
   pub ending : Ending State
 
--- an outcome behind a text
+-- an outcome after a text
 abbrev pub behind : {State : Type 0} → List ℕ → Outcome State → Outcome State
 behind t o = record { text = t ++ o.text; ending = o.ending }
 
@@ -77,14 +77,13 @@ abbrev pub ended : {State Event : Type 0} → Rules State Event → ℕ → ℕ 
 ended r done line s [] = whole r done s
 ended r done line s (l ∷ ls) = stopped (line + 1)
 
--- what was read of the line of this number, what comes of the lines behind an event, and these lines
+-- what was read of the line of this number, what comes of the lines after an event, and these lines
 abbrev pub with_read : {State Event : Type 0} → Rules State Event → ℕ → ℕ → State → (State → Outcome State) → List (List ℕ) → Option (Option Event) → Outcome State
 with_read r done line s rest ls None = stopped line
 with_read r done line s rest ls (Some None) = ended r done line s ls
 with_read r done line s rest ls (Some (Some e)) = behind (answer_lines (done + 1) (r.answers s e)) (rest (r.next s e))
 
--- what these lines come to, the first of which has this number, behind so many events; where `end` is missing, the line behind
--- them is
+-- what these lines come to, the first of which has this number, after that many events; where `end` is missing, the line after them is
 unfoldable pub play_from : {State Event : Type 0} → Rules State Event → ℕ → ℕ → State → List (List ℕ) → Outcome State
 play_from r done line s [] = stopped line
 play_from r done line s (l ∷ ls) = with_read r done line s (λ t. play_from r (done + 1) (line + 1) t ls) ls (read_line r done l)
@@ -103,7 +102,7 @@ first_of (Err f) = None
 unfoldable pub first_line : {State : Type 0} → (List (List ℕ) → Result State Fault) → List ℕ → Option State
 first_line head line = if is_long line then None else first_of (head (split line))
 
--- the lines behind a first line
+-- the lines after a first line
 abbrev pub begun : {State Event : Type 0} → Rules State Event → List (List ℕ) → Option State → Outcome State
 begun r ls None = stopped 1
 begun r ls (Some s) = play_from r 0 2 s ls

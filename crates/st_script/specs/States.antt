@@ -12,8 +12,8 @@ IsRead (Err stops.Malformed) read = read ≡ None
 IsRead (Err stops.Read) read = ⊥
 IsRead (Err stops.Memory) read = Unit {0}
 
--- The text that was written behind so many events, and what comes of the lines that are left, are the outcome; a state stands
--- there. The first event stands in the line of this number.
+-- The text that was written after that many events, and what comes of the lines that are left, are the outcome; there is a state there. The first event is in
+-- the line of this number.
 pub record Goes {State Event : Type 0} (holds : State → Type 0) (r : Rules State Event) (done first : ℕ) (before now : Option (List ℕ)) (ls : List (List ℕ))
     (o : Outcome State) : Type 0 where
   pub state : State

@@ -5,8 +5,8 @@ ghost use Rattle.st_script.specs.Scripts.{answer_lines};
 use st_report::{put_number, put_text};
 use std::alloc::AllocError;
 
-/// Appends the number that begins a line of the output. The answer is appended behind it, with a space before each word, and then the
-/// end of the line.
+/// Appends the number that begins a line of the output. The answer is appended after it, with a
+/// space before each word, and then the end of the line.
 pub fn begin_answer(text: &mut Vec<u8>, number: u64) -> Result<(), AllocError>
     ensures { OnOk result (text.new.items ≡ text.old.items ++ decimal number) }
 {

@@ -1,5 +1,5 @@
-//! Scripts: a command reads the lines of a script from a source, plays its events one after another, and writes their answers to a
-//! sink. `docs/PROTOCOL.md`, "Scripts".
+//! Scripts: a command reads the lines of a script from a source, plays its events one after
+//! another, and writes their answers to a sink. `docs/PROTOCOL.md`, "Scripts".
 #![tactic(auto)]
 
 mod answers;

@@ -17,7 +17,7 @@ use std::alloc::Global;
 /// The most events of a script.
 const MOST_EVENTS: u64 = 10_000;
 
-/// Reads an event behind so many others.
+/// Reads an event after that many others.
 fn read_event<S: Script>(alloc: Global, done: u64, line: &[u8]) -> Result<Option<S::Event>, Stop>
     ensures exact { IsRead result (scripts.counted done (S.rules.event (split line.now))) }
     ensures few { IfOk result (λ e. done < 10000) }
@@ -35,7 +35,7 @@ fn read_event<S: Script>(alloc: Global, done: u64, line: &[u8]) -> Result<Option
     }
 }
 
-/// Reads a line behind so many events: an event, or none where it is the line `end`.
+/// Reads a line after that many events: an event, or none where it is the line `end`.
 #[tactic(auto, unfolding(crate::specs::Scripts::read_line))]
 fn read_line<S: Script>(alloc: Global, done: u64, line: &[u8]) -> Result<Option<S::Event>, Stop>
     ensures exact { IsRead result (scripts.read_line S.rules done line.now) }
@@ -50,8 +50,8 @@ fn read_line<S: Script>(alloc: Global, done: u64, line: &[u8]) -> Result<Option<
     }
 }
 
-/// Reads the next line of a source behind so many events: an event, or none where it is the line `end`. Where the source has ended,
-/// the line is missing.
+/// Reads the next line of a source after that many events: an event, or none where it is the line
+/// `end`. Where the source has ended, the line is missing.
 pub(crate) fn next_event<S: Script, I: Source>(
     alloc: Global,
     done: u64,

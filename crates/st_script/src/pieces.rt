@@ -17,7 +17,8 @@ fn newline(bytes: &[u8]) -> Option<usize>
     memchr(b'\n', bytes)
 }
 
-/// Takes a piece of a source behind the bytes that are held, and returns how many bytes it has: 0 where the source has ended.
+/// Takes a piece of a source after the bytes that are held, and returns how many bytes it has: 0
+/// where the source has ended.
 fn take_piece<I: Source>(held: &mut Vec<u8>, input: &mut I) -> Result<usize, Stop>
     ensures fault { IfErr result IsFault }
     ensures piece { IfOk result (TakesPiece (I.left input.old) (I.left input.new) held.old.items held.new.items) }
@@ -42,8 +43,8 @@ fn last_line(held: &[u8]) -> Option<usize>
     }
 }
 
-/// How many bytes the next line has, which is held then: `None` where the source has ended. A line without a newline is malformed
-/// as soon as it has more bytes than a line may have.
+/// How many bytes the next line has, which is held then: `None` where the source has ended. A line
+/// without a newline is malformed as soon as it has more bytes than a line may have.
 pub(crate) fn next_line<I: Source>(held: &mut Vec<u8>, input: &mut I) -> Result<Option<usize>, Stop>
     ensures found { (bytes : List ℕ) → prepend_known held.old.items (I.left input.old) ≡ Some bytes → Finds bytes held.new.items (I.left input.new) result }
     ensures within { IfOk result (λ o. IfSome o (λ n. n ≤ length held.new.items)) }
@@ -76,7 +77,8 @@ pub(crate) fn first_bytes(bytes: &[u8], n: usize) -> &[u8]
     &bytes[..n]
 }
 
-/// Lets go of the line that is held first, which has so many bytes, and of its newline, which the last line may lack.
+/// Lets go of the line that is held first, which has that many bytes, and of its newline, which the
+/// last line may lack.
 pub(crate) fn pass_line(held: &mut Vec<u8>, n: usize)
     requires { n ≤ length held.old.items }
     ensures { held.new.items ≡ drop (n + 1) held.old.items }

@@ -1,4 +1,5 @@
-// The lines of a script: each is played, and its answer written, up to the end or to the line that stops it.
+// The lines of a script: each is played, and its answer written, up to the end or to the line that
+// stops it.
 ghost use Rattle.std.specs.Prelude.{ℕ, List, ◌≡◌, ◌≤◌, ◌<◌, ◌+◌, ◌++◌, OnOk, OnErr, IfErr, Err, Some};
 ghost use Rattle.std.specs.Io.KnownBytes.{Appends, IsAtEnd, prepend_known};
 ghost use Rattle.st_link.specs.Prefixes.{AppendsPrefix};
@@ -50,7 +51,7 @@ pub(crate) fn refuse<O: Sink>(alloc: Global, line: u64, out: &mut O) -> ScriptFa
     }
 }
 
-/// Plays an event behind so many others, and writes its answers.
+/// Plays an event after that many others, and writes its answers.
 fn play_event<S: Script, O: Sink>(
     alloc: Global,
     script: &mut S,
@@ -69,7 +70,7 @@ fn play_event<S: Script, O: Sink>(
     write(out, text.as_slice())
 }
 
-/// Writes the last line, behind this number of events.
+/// Writes the last line, after this number of events.
 fn write_last<S: Script, O: Sink>(
     alloc: Global,
     script: &S,
@@ -84,7 +85,7 @@ fn write_last<S: Script, O: Sink>(
     write(out, text.as_slice())
 }
 
-/// Ends a script at the line `end`, which has this number, with the bytes behind it.
+/// Ends a script at the line `end`, which has this number, with the bytes after it.
 fn conclude<S: Script, I: Source, O: Sink>(
     alloc: Global,
     script: &S,
@@ -109,8 +110,8 @@ fn conclude<S: Script, I: Source, O: Sink>(
     }
 }
 
-/// Plays the lines of a source, the first of which has this number, up to the end, and writes the answers of each before it takes
-/// more.
+/// Plays the lines of a source, the first of which has this number, up to the end, and writes the
+/// answers of each before it takes more.
 pub(crate) fn play_lines<S: Script, I: Source, O: Sink>(
     alloc: Global,
     script: &mut S,

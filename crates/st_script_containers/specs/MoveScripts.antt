@@ -141,11 +141,11 @@ event (w ∷ ws) = event_of w (w ∷ ws) ws
 
 -- First lines.
 
--- so many servers with so many containers, and no event yet
+-- that many servers with so many containers, and no event yet
 abbrev pub fresh : ℕ × ℕ → MoveNetwork
 fresh n = record { world = fresh_world n.0 n.1; events = 0 }
 
--- the words behind `move`: how many servers there are, and how many containers
+-- the words after `move`: how many servers there are, and how many containers
 unfoldable pub counts_at : List (List ℕ) → Result (ℕ × ℕ) Fault
 counts_at ws = do
   servers ← number_at 2 MOST_SERVER ws
@@ -162,13 +162,13 @@ unfoldable pub head : List (List ℕ) → Result MoveNetwork Fault
 head [] = syntax_at []
 head (w ∷ ws) = if bytes_eq w (codes "move") then begun (counts_at ws) else syntax_at (w ∷ ws)
 
--- Answers, each behind a space.
+-- Answers, each after a space.
 
--- bytes behind a space
+-- bytes after a space
 abbrev pub word : List ℕ → List ℕ
 word bytes = 32 ∷ bytes
 
--- a server behind a space
+-- a server after a space
 abbrev pub server_text : ServerId → List ℕ
 server_text s = codes " s" ++ decimal s.0
 
@@ -191,7 +191,7 @@ message (Taken c version) = codes " taken" ++ field c ++ field version
 abbrev pub sent : ℕ → SentMove → List ℕ
 sent k m = codes " send" ++ field k ++ server_text m.from ++ server_text m.to ++ message m.message
 
--- updates, each behind a space
+-- updates, each after a space
 abbrev pub listed : List (List ℕ) → List ℕ
 listed updates = codes " list" ++ flat_map word updates
 

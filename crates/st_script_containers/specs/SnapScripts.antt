@@ -21,7 +21,7 @@ use Rattle.st_snap.specs.declared.refusal.SnapRefusal.TheVariants.{NoSpace, NoIm
 abbrev pub MOST_IMAGE : ℕ
 MOST_IMAGE = 99999
 
--- the words behind `snap`: how many blocks there are
+-- the words after `snap`: how many blocks there are
 unfoldable pub blocks_at : List (List ℕ) → Result ℕ Fault
 blocks_at ws = do
   blocks ← number_at 1 4096 ws
@@ -74,7 +74,7 @@ event (w ∷ ws) = event_of w (w ∷ ws) ws
 
 -- Events.
 
--- a volume of so many blocks, by the list of its changes, the latest first
+-- a volume of that many blocks, by the list of its changes, the latest first
 pub record SnapState : Type 0 where
   pub blocks : ℕ
   pub changes : List Change
@@ -107,7 +107,7 @@ changed s (events.Forget image) = left s.changes (images.forget s.changes image)
 abbrev pub next : SnapState → SnapEvent → SnapState
 next s e = record { blocks = s.blocks; changes = changed s e }
 
--- Answers, each behind a space.
+-- Answers, each after a space.
 
 -- a refusal; a volume that runs out of memory answers nothing
 abbrev pub refusal : SnapRefusal → List ℕ

@@ -1,4 +1,5 @@
-//! The scripts of containers: of those that move from one server to another, and of images of one. `docs/PROTOCOL.md`, "Scripts".
+//! The scripts of containers: of those that move from one server to another, and of images of one.
+//! `docs/PROTOCOL.md`, "Scripts".
 #![tactic(auto)]
 
 mod move_event;

@@ -25,7 +25,7 @@ pub struct MoveScript {
     network: MoveNetwork,
 }
 
-/// Appends a text and a number behind a space.
+/// Appends a text and a number after a space.
 fn put_with(text: &mut Vec<u8>, word: &[u8], number: u64) -> Result<(), AllocError>
     ensures { OnOk result (text.new.items ≡ text.old.items ++ (word.now ++ field number)) }
 {
@@ -33,7 +33,7 @@ fn put_with(text: &mut Vec<u8>, word: &[u8], number: u64) -> Result<(), AllocErr
     put_field(text, number)
 }
 
-/// Appends a server behind a space.
+/// Appends a server after a space.
 fn put_server(text: &mut Vec<u8>, s: ServerId) -> Result<(), AllocError>
     ensures { OnOk result (text.new.items ≡ text.old.items ++ scripts.server_text s) }
 {
@@ -88,7 +88,7 @@ fn put_sent(text: &mut Vec<u8>, k: u64, sent: &SentMove) -> Result<(), AllocErro
     put_message(text, &sent.message)
 }
 
-/// Appends an update behind a space.
+/// Appends an update after a space.
 fn put_update(text: &mut Vec<u8>, update: &Update) -> Result<(), AllocError>
     ensures { OnOk result (text.new.items ≡ text.old.items ++ scripts.word update.now) }
 {
@@ -96,7 +96,7 @@ fn put_update(text: &mut Vec<u8>, update: &Update) -> Result<(), AllocError>
     put_text(text, update.as_slice())
 }
 
-/// Appends updates, each behind a space.
+/// Appends updates, each after a space.
 fn put_updates(text: &mut Vec<u8>, updates: &Updates) -> Result<(), AllocError>
     ensures { OnOk result (text.new.items ≡ text.old.items ++ flat_map scripts.word updates.now) }
 {
@@ -205,9 +205,10 @@ impl Script for MoveScript {
     }
 }
 
-/// Runs a script of containers that move: a first line `move SERVERS CONTAINERS`, events `put S C TEXT`, `list S C`, `lock S C`,
-/// `unlock S C`, `order S C TO`, `tick S`, `deliver K` and `lose K`, and `end`. `docs/PROTOCOL.md`, "Scripts", has their answers. It
-/// returns what `run_headed` does.
+/// Runs a script of containers that move: a first line `move SERVERS CONTAINERS`, events
+/// `put S C TEXT`, `list S C`, `lock S C`, `unlock S C`, `order S C TO`, `tick S`, `deliver K` and
+/// `lose K`, and `end`. `docs/PROTOCOL.md`, "Scripts", has their answers. It returns what
+/// `run_headed` does.
 pub fn move_containers<I: Source, O: Sink>(
     alloc: Global,
     input: &mut I,

@@ -25,7 +25,7 @@ pub struct SnapScript {
     volume: Volume,
 }
 
-/// Appends a refusal. It fails where the refusal is want of memory.
+/// Appends a refusal. It fails where the refusal is lack of memory.
 fn put_why(text: &mut Vec<u8>, refusal: SnapRefusal) -> Result<(), AllocError>
     ensures { OnOk result (IsAnswered refusal × (text.new.items ≡ text.old.items ++ scripts.refusal refusal)) }
 {
@@ -47,7 +47,7 @@ fn put_why(text: &mut Vec<u8>, refusal: SnapRefusal) -> Result<(), AllocError>
     }
 }
 
-/// Appends the line of an event that is refused. It fails where the refusal is want of memory.
+/// Appends the line of an event that is refused. It fails where the refusal is lack of memory.
 fn put_refused(text: &mut Vec<u8>, number: u64, refusal: SnapRefusal) -> Result<(), AllocError>
     ensures { OnOk result (IsAnswered refusal × (text.new.items ≡ text.old.items ++ answer_lines number (scripts.refusal refusal ∷ []))) }
 {
@@ -209,8 +209,9 @@ impl Script for SnapScript {
     }
 }
 
-/// Runs a script of images: a first line `snap BLOCKS`, events `write F P B`, `read IMAGE F P`, `take` and `forget IMAGE`, and `end`.
-/// `docs/PROTOCOL.md`, "Scripts", has their answers. It returns what `run_headed` does.
+/// Runs a script of images: a first line `snap BLOCKS`, events `write F P B`, `read IMAGE F P`,
+/// `take` and `forget IMAGE`, and `end`. `docs/PROTOCOL.md`, "Scripts", has their answers. It
+/// returns what `run_headed` does.
 pub fn snap<I: Source, O: Sink>(
     alloc: Global,
     input: &mut I,

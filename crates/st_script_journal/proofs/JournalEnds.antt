@@ -20,7 +20,7 @@ ends_in : {State : Type 0} (holds : State → Type 0) (e : Ending State) → IsW
 ends_in holds (Whole s) h = record { state = s; is = refl; held = h }
 ends_in holds (Stopped line) h = absurd h
 
--- the script's value stands for a state, behind some events
+-- the script's value stands for a state, after some events
 abbrev pub Stood : Option Running → JournalState → Type 0
 Stood running s = (n : ℕ) × Stands s running
 

@@ -76,7 +76,7 @@ has_room j xs t x o =
     let low = subst (λ (k : ℕ). AreLow k t) count (low_on xs 0 start t o.records.reads.ranges o.leads (fresh_low _ start refl)) in
     low_room (length xs) t x (omega (arith, few_changes j xs t o)) low
 
--- where fewer changes stand in the journal than a script has events, there is room for one more
+-- where fewer changes are in the journal than a script has events, there is room for one more
 has_bytes : (j : Opened InMemory) (xs : List Change) (t u : Stable) (x : Change) → IsOpen j xs t → apply t x ≡ Ok u → length xs < 10000 →
     room_for x ≤ room_behind (length (read_as j.store)) j.gate
 has_bytes j xs t u x o e few =
@@ -147,7 +147,7 @@ not_starved : (s : InMemory) (P : Type 0) → s.starved ≡ false → (s.starved
 not_starved s P whole (inl starved) = let not : false ≡ true = sym whole ∙ starved in absurd cc
 not_starved s P whole (inr p) = p
 
--- a store that was started again behind an append in which it stopped
+-- a store that was started again after an append in which it stopped
 pub stopped_left : {E : Type 0} (r : Result InMemory E) (j armed_one new : Opened InMemory) (s : InMemory) (xs : List Change) (t : Stable) (x : Change) (call byte : ℕ) → IsOpen j xs t →
     armed_one ≡ with_stop j call byte → 1 ≤ call → call ≤ 4 → Calls wrote synced armed_one new x (Err Store) → RecordsOn (Err Store) armed_one new x → Keeps armed_one.store new.store →
     s ≡ new.store → IfOk r (λ k. (s.starved ≡ false) × (k ≡ record s { plan = plans.restarted s.plan })) → IfOk r (λ k. HasJournal k (after_stop call byte x xs))

@@ -153,7 +153,7 @@ changed s x (Ok t) = appended s x t s.stop
 abbrev pub after_change : JournalState → Change → JournalState
 after_change s x = changed s x (apply s.stable x)
 
--- the state after a stop, which stands in place of an earlier one
+-- the state after a stop, which replaces an earlier one
 abbrev pub after_stop : JournalState → SetStop → JournalState
 after_stop s p = record s { stop = Some p }
 
@@ -162,7 +162,7 @@ unfoldable pub next : JournalState → JournalEvent → JournalState
 next s (events.Change x) = after_change s x
 next s (events.Stop p) = after_stop s p
 
--- Answers, each behind a space.
+-- Answers, each after a space.
 
 -- the number of a refusal of names
 abbrev pub number_of : NameRefusal → ℕ
@@ -215,7 +215,7 @@ unfoldable pub answers : JournalState → JournalEvent → List (List ℕ)
 answers s (events.Change x) = change_answer s x ∷ []
 answers s (events.Stop p) = []
 
--- a text, and a number behind a space
+-- a text, and a number after a space
 abbrev pub counted_text : List ℕ → ℕ → List ℕ
 counted_text name count = name ++ field count
 

@@ -19,7 +19,8 @@ use st_journal::{Change, ChangeRefusal, Journal, JournalFault, MemoryStore, Stab
 use std::alloc::{AllocError, Global};
 use std::marker::Model;
 
-/// An opened journal in a store in memory, the stable part that its changes lead to, and the stop that no append has met yet.
+/// An opened journal in a store in memory, the stable part that its changes lead to, and the stop
+/// that no append has met yet.
 #[derive(Drop)]
 pub struct Running {
     journal: Journal<MemoryStore>,
@@ -41,8 +42,8 @@ impl Model for Running {
     ghost invariant = { λ r. (changes : List Change) × IsOpen r.journal changes (stable_of r.stable) };
 }
 
-/// What a change comes to: it is applied and appended; or it is refused; or the store stopped while it was appended, and the journal,
-/// opened again, has it or not.
+/// What a change comes to: it is applied and appended; or it is refused; or the store stopped while
+/// it was appended, and the journal, opened again, has it or not.
 #[derive(Clone, Copy, Debug, PartialEq, Eq)]
 pub(crate) enum JournalAnswer {
     Done,
@@ -56,7 +57,8 @@ fn append(journal: &mut Journal<MemoryStore>, change: &Change) -> Result<(), Jou
     requires applies { (changes : List Change) × (state : server.Stable) × (next : server.Stable) × IsOpen journal.old changes state × (apply state change.now ≡ Ok next) }
     ensures opened { (changes : List Change) (state next : server.Stable) → IsOpen journal.old changes state → apply state change.now ≡ Ok next →
         OnOk result (IsOpen journal.new (changes ++ change.now ∷ []) next) }
-    // It is not broken; it is not full where it has fewer changes than a script has events; and the store fails only where it is starved.
+    // It is not broken; it is not full where it has fewer changes than a script has events; and the
+    // store fails only where it is starved.
     ensures fault { (changes : List Change) (state next : server.Stable) → IsOpen journal.old changes state → apply state change.now ≡ Ok next →
         length changes < 10000 → IfErr result (IsWantOfMemory journal.new.store) }
 {
@@ -180,7 +182,7 @@ fn record_by(
     }
 }
 
-/// A refusal that is no want of memory.
+/// A refusal that isn't lack of memory.
 fn answered(refusal: ChangeRefusal) -> Result<ChangeRefusal, AllocError>
     ensures { IfOk result (λ r. (r ≡ refusal) × IsAnswered r) }
 {

@@ -126,7 +126,7 @@ fn store_of(script: JournalScript) -> Result<MemoryStore, ScriptFault>
     }
 }
 
-/// Runs a script from where it stands, and gives its store.
+/// Runs a script from its state, and gives its store.
 fn run_script<I: Source, O: Sink>(
     alloc: Global,
     script: JournalScript,
@@ -145,10 +145,11 @@ fn run_script<I: Source, O: Sink>(
     }
 }
 
-/// Runs a script of a journal: events `epoch`, `allocate I P N`, `cut I P`, `create D NAME`, `mkdir D NAME`, `remove D NAME`,
-/// `rename D NAME T NAME2` and `stop M B`, and `end`. `docs/PROTOCOL.md`, "Scripts", has their answers. The store has 4 MiB of zeros,
-/// none of its calls is to fail, and no stop is set. It is given back with the journal of exactly the changes that were answered `ok`
-/// or `stopped kept`, in their order. Otherwise it returns what `run` does.
+/// Runs a script of a journal: events `epoch`, `allocate I P N`, `cut I P`, `create D NAME`,
+/// `mkdir D NAME`, `remove D NAME`, `rename D NAME T NAME2` and `stop M B`, and `end`.
+/// `docs/PROTOCOL.md`, "Scripts", has their answers. The store has 4 MiB of zeros, none of its
+/// calls is to fail, and no stop is set. It is given back with the journal of exactly the changes
+/// that were answered `ok` or `stopped kept`, in their order. Otherwise it returns what `run` does.
 pub fn journal<I: Source, O: Sink>(
     alloc: Global,
     input: &mut I,

@@ -1,5 +1,5 @@
-//! The scripts of a journal: what their lines spell, what each event makes of the journal and its store, and what it is answered. `docs/PROTOCOL.md`,
-//! "Scripts".
+//! The scripts of a journal: what their lines spell, what each event makes of the journal and its
+//! store, and what it is answered. `docs/PROTOCOL.md`, "Scripts".
 #![tactic(auto)]
 
 mod journal_event;

@@ -32,7 +32,7 @@ numbers_performs old new call (Ok n) d h l = (sym (ap (state_after old) d.0), ap
 numbers_performs old new call (Err Memory) d h l = cc
 numbers_performs old new call (Err r) d h l = (d.1 ∙ sym (ap (state_after old) d.0), sym (h ∙ ap told_number d.0))
 
--- what is printed of what a client does that is no command
+-- what is printed about what a client does that isn't a command
 pub act_printed : (act : ClientAct) (c : ClientId) (a : Answer) → printed (act_call act c) a ≡ (answer_text a ∷ [])
 act_printed acts.Enter c a = refl
 act_printed acts.Leave c a = refl

@@ -17,7 +17,7 @@ abbrev pub number_answer : Result ℕ SharedRefusal → Answer
 number_answer (Ok n) = Number n
 number_answer (Err r) = Refused r
 
--- the refusal is want of memory
+-- the refusal is lack of memory
 abbrev pub is_memory : SharedRefusal → Bool
 is_memory refusals.Memory = true
 is_memory r = false

@@ -25,7 +25,7 @@ use Rattle.st_tables.specs.Tables.{is_client}
 
 -- First lines.
 
--- the words behind `shared`: how many clients there are, and how many blocks
+-- the words after `shared`: how many clients there are, and how many blocks
 unfoldable pub counts_at : List (List ℕ) → Result SharedHead Fault
 counts_at ws = do
   clients ← number_at 1 16 ws
@@ -47,7 +47,7 @@ page_at ws = do
   page ← number_at 0 MOST_PAGE ws
   Ok (record { 0 = page.0 }, page.1)
 
--- `enter C`, and what else a client does that is no command
+-- `enter C`, and what else a client does that isn't a command
 unfoldable pub act_at : ClientAct → List (List ℕ) → Result SharedEvent Fault
 act_at act ws = do
   client ← client_at ws
@@ -115,7 +115,7 @@ event (w ∷ ws) = event_of w (w ∷ ws) ws
 
 -- What an event calls.
 
--- the call of what a client does that is no command
+-- the call of what a client does that isn't a command
 abbrev pub act_call : ClientAct → ClientId → Call
 act_call acts.Enter c = Enter c
 act_call acts.Leave c = Leave c
@@ -172,7 +172,7 @@ traced_on t call (Some c) = t
 unfoldable pub next : SharedState → SharedEvent → SharedState
 next s e = record { clients = s.clients; traced = traced_on s.traced (call_of e) (absent s.clients (client_of e)) }
 
--- Answers, each behind a space.
+-- Answers, each after a space.
 
 -- a disk's refusal
 abbrev pub disk_refusal : DiskRefusal → List ℕ
@@ -243,7 +243,7 @@ shared_rules = record { event = event; answers = answers; next = next; last = la
 
 -- What is promised.
 
--- where a script stands behind these events, the latest first
+-- the state of a script after these events, the latest first
 unfoldable pub after_events : SharedHead → List SharedEvent → SharedState
 after_events h [] = fresh h
 after_events h (e ∷ earlier) = next (after_events h earlier) e

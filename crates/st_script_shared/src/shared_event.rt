@@ -24,7 +24,7 @@ pub struct SharedHead {
     pub blocks: u32,
 }
 
-/// What a client does that is no command.
+/// What a client does that isn't a command.
 #[derive(Clone, Copy, Debug, PartialEq, Eq)]
 pub enum ClientAct {
     Enter,
@@ -38,7 +38,7 @@ pub enum ClientAct {
 /// An event of a script of a shared file.
 #[derive(Clone, Copy, Debug, PartialEq, Eq)]
 pub enum SharedEvent {
-    /// What a client does that is no command.
+    /// What a client does that isn't a command.
     Client(ClientAct, ClientId),
     /// A client submits a write that fills a page with a byte.
     Write(ClientId, PageNo, u8),

@@ -104,7 +104,7 @@ fn expire(file: &mut SharedFile, client: ClientId) -> Result<(), SharedRefusal>
     file.expire(client)
 }
 
-/// What a client does that is no command.
+/// What a client does that isn't a command.
 fn act(file: &mut SharedFile, what: ClientAct, client: ClientId) -> Result<(), SharedRefusal>
     requires client { IsClient client }
     ensures { Performs file.old file.new (scripts.act_call what client) (lacks result) (done_answer result) }
@@ -342,17 +342,18 @@ impl Script for SharedScript {
     }
 }
 
-/// The calls and answers of every script are right: what a report is told, the lock and who is in, and effects, as
-/// `st_shared::every_history_is_right` says. So it is where a script stops, too.
+/// The calls and answers of every script are right: what a report gets, the lock and who is in, and
+/// effects, as `st_shared::every_history_is_right` says. So it is where a script stops, too.
 pub fn every_script_is_right()
     ensures { EveryScriptIsRight }
 {
     every_history_is_right();
 }
 
-/// Runs a script of a shared file: a first line `shared CLIENTS BLOCKS`, events `enter C`, `leave C`, `lock C`, `unlock C`, `crash C`,
-/// `expire C`, `write C P B`, `read C P`, `effect K`, `report K ok` and `report K fail`, and `end`. `docs/PROTOCOL.md`, "Scripts", has
-/// their answers. It returns what `run_headed` does.
+/// Runs a script of a shared file: a first line `shared CLIENTS BLOCKS`, events `enter C`,
+/// `leave C`, `lock C`, `unlock C`, `crash C`, `expire C`, `write C P B`, `read C P`, `effect K`,
+/// `report K ok` and `report K fail`, and `end`. `docs/PROTOCOL.md`, "Scripts", has their answers.
+/// It returns what `run_headed` does.
 pub fn shared<I: Source, O: Sink>(
     alloc: Global,
     input: &mut I,

@@ -146,7 +146,7 @@ module _ (ep : Epoch) (t : Sessions) (l : Locks) (h : list_all (is_good_row t) l
       (λ q. earlier_accepts rows (find (grace.is_new_grant l) rows) e (λ r f. every_found (is_lock_row 1) (grace.is_new_grant l) rows r e f))
       (λ q. and_from (is_word64 (grace.grace_start g).0) (is_word64 now.0) s w)
 
--- The rows that are installed are as they are to be.
+-- The rows that are installed are as they must be.
 pub installed_held : (n : ℕ) (ep : Epoch) (t : Sessions) (l : Locks) (c : ClientId) (life : Life) (rows : List (ℕ × GrantNo × Mode)) → is_client_node c.0 ≡ true → allows Positive life.0 ≡ true →
     list_all (is_lock_row 1) rows ≡ true → sessions.knows t c life ≡ false → AreHeld n ep t l → AreHeld n ep (sessions.reasserted t c life) (locks.with_rows l c life rows)
 unfolding locks.with_rows

@@ -33,7 +33,7 @@ module _ (x : Extents) (h : AreMapped x) (f : FileId) where
             (and_from (nat_le n e.page.0) (nat_le e.page.0 1048575) (le-leb n e.page.0 (omega (arith, here))) (le-leb e.page.0 1048575 (omega (arith, here, b)))) good,
       )
 
-  -- rows from a page on also fit behind an earlier one
+  -- rows from a page on also fit after an earlier one
   lower : (least n : ℕ) (rs : List ExtentRow) → least ≤ n → are_rows is_extent_row after_extent n rs ≡ true → are_rows is_extent_row after_extent least rs ≡ true
   lower least n [] b e = refl
   lower least n (r ∷ rs) b e =

@@ -58,7 +58,7 @@ told_of : (p : PageNo) (o : Option Extent) → ((e : Extent) → o ≡ Some e �
 told_of p None h = refl
 told_of p (Some e) h = λ i. Some (record { page = sym (h e refl) i; at = e.at; birth = e.birth })
 
--- what is told of a page is its block and birth
+-- what is reported about a page is its block and birth
 pub told_row : (x : Extents) (f : FileId) (p : PageNo) → row_told p (map_page x f p) ≡ extent_row_at x f p
 told_row x f p =
     told_of p (extent_of x f p)

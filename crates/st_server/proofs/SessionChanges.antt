@@ -33,7 +33,7 @@ false_is e = cc
 abbrev pub Lives_on : Sessions → Sessions → Type 0
 Lives_on t u = (life : Life) (d : ClientId) → is_lived life (session_of t d) ≡ true → is_lived life (session_of u d) ≡ true
 
--- so rows and waits stay as they are to be
+-- so rows and waits stay as they must be
 pub held_on : (n : ℕ) (ep : Epoch) (t u : Sessions) (l : Locks) → Lives_on t u → AreHeld n ep t l → AreHeld n ep u l
 held_on n ep t u l on h =
     record {

@@ -132,7 +132,7 @@ module _ (t : ServerTurn) (now : Stamp) (empty : t.out ≡ []) (sound : IsSound 
   pub step_turn : (i : ServerInput) → comes_fit i ≡ true → IsTurn (taken_locks t.state.locks + 1) (stepped t now i)
   step_turn i e = passed_turn (taken_locks t.state.locks + 1) now word (server.take_input (server.thefts t now) now i) i (omega (arith, room.locks)) (taken i e)
 
--- the bound may be what stands
+-- the bound may be what holds
 pub exact_sound : (n : ℕ) (s : ServerState) → IsSoundTo n s → IsSound s
 exact_sound n s k =
     record {
@@ -162,7 +162,7 @@ pub stepped_is : (t : ServerTurn) (now : Stamp) (i : ServerInput) → t.out ≡ 
 unfolding server.server_step
 stepped_is t now i e = λ j. stepped (record { state = t.state; out = e j }) now i
 
--- What stands after a step, and after a crash in it.
+-- What holds after a step, and after a crash in it.
 pub step_sound : (t : ServerTurn) (now : Stamp) (i : ServerInput) → t.out ≡ [] → IsSound t.state → HasRoom t.state → is_word64 now.0 ≡ true → comes_fit i ≡ true → IsSound (stepped t now i).state
 step_sound t now i e k r w f = exact_sound (taken_locks t.state.locks + 1) (stepped t now i).state (step_turn t now e k r w i f).sound
 

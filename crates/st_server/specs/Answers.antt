@@ -27,13 +27,13 @@ abbrev pub is_answer_to : ℕ → Output → Bool
 is_answer_to node (outputs.Send m) = (m.header.to == node) && is_answer m.body
 is_answer_to node o = true
 
--- Behind the outputs so far come others, among them at most so many messages, each an answer to this node.
+-- After the outputs so far come others, among them at most that many messages, each an answer to this node.
 pub record Adds (node most : ℕ) (before after : List Output) : Type 0 where
   pub added : List Output
   pub is : after ≡ before ++ added
   pub few : sends added ≤ most
   pub named : list_all (is_answer_to node) added ≡ true
 
--- what the rule for this message adds behind the thefts: at most one message, which is an answer to its sender
+-- what the rule for this message adds after the thefts: at most one message, which is an answer to its sender
 abbrev pub AnswersAreNamed : ServerState → Stamp → Message → Type 0
 AnswersAreNamed s now m = Adds m.header.from 1 (thefts (turn s []) now).out (take_input (thefts (turn s []) now) now (Control m)).out

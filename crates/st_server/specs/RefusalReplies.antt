@@ -1,4 +1,4 @@
--- How refusals are told in a reply.
+-- How refusals are reported in a reply.
 use Rattle.std.specs.Prelude.{◌≡◌, ℕ, Option, Some, None}
 use Rattle.st_base.specs.declared.disk.BlockAt.{BlockAt}
 use Rattle.st_base.specs.declared.ids.PageNo.{PageNo}

@@ -54,8 +54,8 @@ abbrev pub node_after : ServerNode → Result NodeTurn StepRefusal → ServerNod
 node_after old (Ok t) = t.node
 node_after old (Err r) = old
 
--- What a node's step returns and leaves: the outputs and the node of the definition; a node that does not run stays as it is;
--- and where memory runs out the node is crashed, as from before the step or as from after it.
+-- What a node's step returns and leaves: the outputs and the node of the definition; a node that does not run stays as it is; and if memory runs out the node
+-- is crashed, as from before the step or as from after it.
 abbrev pub Steps : ServerNode → ServerNode → Result (List Output) StepFault → Result NodeTurn StepRefusal → Type 0
 Steps old new (Ok out) rule = rule ≡ Ok (record { node = new; out = out })
 Steps old new (Err Crashed) rule = (rule ≡ Err refusals.Crashed) × (new ≡ old)

@@ -1,4 +1,5 @@
-//! The server of a world: its rules over the parts, and the node that runs or is crashed. `docs/PROTOCOL.md` has the rules.
+//! The server of a world: its rules over the parts, and the node that runs or is crashed.
+//! `docs/PROTOCOL.md` has the rules.
 #![tactic(auto)]
 
 mod greetings;

@@ -29,7 +29,7 @@ fn number_of(refusal: NameRefusal) -> u8
     }
 }
 
-/// The reply that tells a refusal, or the error where memory ran out.
+/// The reply that tells a refusal, or the error if memory ran out.
 fn refused(refusal: NameRefusal) -> Result<Body, AllocError>
     ensures { IfOk result (λ body. (body ≡ told.refused refusal) × (refusal ≢ refusals.Memory)) }
 {
@@ -123,7 +123,8 @@ impl ServerTurn {
         }
     }
 
-    /// A file is removed, with its pages and waits, and that is noted. Only the first step may run out of memory.
+    /// A file is removed, with its pages and waits, and that is noted. Only the first step may run
+    /// out of memory.
     #[tactic(auto, unfolding(st_rules::specs::Server::remove_by, st_rules::specs::Server::cut_whole, st_rules::specs::Server::cut_pages, st_rules::specs::Server::name_refused, st_rules::specs::Server::crash))]
     fn remove_whole(&mut self, dir: u32, name: &Name) -> Result<Body, AllocError>
         ensures ok { IfOk result (λ body. answered self.new (Some body) ≡ server.remove_by self.old (names.remove (names_of self.old) dir name.now)) }

@@ -48,8 +48,8 @@ impl Model for ServerNode {
 }
 
 impl ServerNode {
-    /// A server that was never started before: it runs, in epoch 1 and without grace. `id` is from 1 to `servers`, which is at
-    /// most 4.
+    /// A server that was never started before: it runs, in epoch 1 and without grace. `id` is from
+    /// 1 to `servers`, which is at most 4.
     pub fn fresh(
         alloc: Global,
         id: ServerId,
@@ -68,7 +68,8 @@ impl ServerNode {
         })
     }
 
-    /// A server of which a crash left this stable part. It does not run, and `start` begins its next epoch. `id` is from 1 to 4.
+    /// A server of which a crash left this stable part. It does not run, and `start` begins its
+    /// next epoch. `id` is from 1 to 4.
     pub fn restore(alloc: Global, id: ServerId, config: &Config, stable: ServerStable) -> ServerNode
         requires checked { IsOk (settings.check config.now) }
         requires some { 1 ≤ id.0 }
@@ -119,7 +120,8 @@ impl ServerNode {
         self.running = false;
     }
 
-    /// A node that does not run is started: its epoch rises, and grace begins. Where memory runs out the node stays as it was.
+    /// A node that does not run is started: its epoch rises, and grace begins. If memory runs out
+    /// the node stays as it was.
     pub fn start(&mut self, now: Stamp) -> Result<(), AllocError>
         requires crashed { self.old.running ≡ false }
         requires epochs { self.old.state.stable.epoch.0 < 2 ^ 32 - 1 }
@@ -154,8 +156,9 @@ impl ServerNode {
     /// Takes a step at this moment, and returns its outputs in order. Moments never fall.
     ///
     /// # Errors
-    /// `Crashed` where the node does not run; then nothing changes. `Memory` where memory runs out: then the node is crashed, and
-    /// its stable part is that from before the step or that which the step leaves.
+    /// `Crashed` where the node does not run; then nothing changes. `Memory` if memory runs out:
+    /// then the node is crashed, and its stable part is that from before the step or that which the
+    /// step leaves.
     #[tactic(auto, unfolding(st_rules::specs::Server::node_step))]
     pub fn step(&mut self, now: Stamp, input: ServerInput) -> Result<Outputs, StepFault>
         requires time { now.0 ≤ 2 ^ 62 }
@@ -172,11 +175,11 @@ impl ServerNode {
     }
 }
 
-/// Takes a step of a node that runs, for a message. The rule for it adds at most one message to the outputs: an answer to its
-/// sender, which is a reply or a refusal by name and never a demand.
+/// Takes a step of a node that runs, for a message. The rule for it adds at most one message to the
+/// outputs: an answer to its sender, which is a reply or a refusal by name and never a demand.
 ///
 /// # Errors
-/// `Memory` where memory runs out; then the node is crashed.
+/// `Memory` if memory runs out; then the node is crashed.
 pub fn answers_are_named(
     node: &mut ServerNode,
     now: Stamp,

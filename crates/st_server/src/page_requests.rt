@@ -30,7 +30,7 @@ fn push_row(
     }
 }
 
-/// Adds what is told of a page.
+/// Adds what is reported about a page.
 #[tactic(auto, using(crate::proofs::Ranges::told_row))]
 fn push_page(
     rows: &mut Vec<ExtentRow>,
@@ -73,7 +73,7 @@ impl ServerTurn {
         }
     }
 
-    /// What is told of a range of pages.
+    /// What is reported about a range of pages.
     fn extents_body(&self, ino: u32, page: PageNo, count: u32) -> Result<Body, AllocError>
         requires { page.0 + count ≤ 1048576 }
         ensures { IfOk result (λ body. body ≡ server.extents_body self.now ino page count) }

@@ -16,7 +16,7 @@ use st_reassert::ReassertRefusal;
 use st_sessions::Taken;
 use std::alloc::AllocError;
 
-/// The reply that tells a refusal, or the error where memory ran out.
+/// The reply that tells a refusal, or the error if memory ran out.
 fn refused(refusal: ReassertRefusal) -> Result<Body, AllocError>
     ensures { IfOk result (λ body. IsRefusal refusal body) }
 {

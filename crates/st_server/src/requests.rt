@@ -185,7 +185,7 @@ impl ServerTurn {
         Ok(())
     }
 
-    /// A message of a client that is no suspect, by its body.
+    /// A message of a client that isn't a suspect, by its body.
     #[tactic(auto, unfolding(st_rules::specs::Server::by_body))]
     fn by_body(&mut self, now: Stamp, h: Header, body: &Body) -> Result<(), AllocError>
         requires client { IsClient (server.sender h) }

@@ -65,7 +65,7 @@ impl ServerTurn {
         Ok(())
     }
 
-    /// Refuses a suspect's message; a seen demand is passed over.
+    /// Refuses a suspect's message; a seen demand is ignored.
     #[tactic(auto, unfolding(st_rules::specs::Server::refuse_suspect))]
     pub(crate) fn refuse_suspect(
         &mut self,

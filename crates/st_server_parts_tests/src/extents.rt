@@ -13,7 +13,8 @@ struct Row {
     birth: u64,
 }
 
-/// The extents of a server with three disks of sixteen blocks, which are disks 2, 5 and 8, as plain rows.
+/// The extents of a server with three disks of sixteen blocks, which are disks 2, 5 and 8, as plain
+/// rows.
 #[derive(Drop)]
 struct Plain {
     rows: Vec<Row>,
@@ -106,7 +107,8 @@ fn number(at: BlockAt) -> u32 {
         .wrapping_add(at.block)
 }
 
-/// Whether a row goes on where the one before it ends: the next page, block and birth, on the same disk.
+/// Whether a row goes on where the one before it ends: the next page, block and birth, on the same
+/// disk.
 fn follows(before: Option<Row>, row: Row) -> bool {
     match before {
         Some(last) => {

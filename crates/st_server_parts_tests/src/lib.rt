@@ -1,4 +1,5 @@
-//! The parts of a server beside plain lists: extents with their runs, sessions and suspects, each with 10,000 drawn calls.
+//! The parts of a server beside plain lists: extents with their runs, sessions and suspects, each
+//! with 10,000 drawn calls.
 #![tactic(auto)]
 
 #[cfg(test)]

@@ -1,4 +1,4 @@
--- Where the session of each client stands.
+-- Where the session of each client is.
 use Rattle.std.specs.Prelude.{◌≡◌, ℕ, List, Option, None, get_or}
 use Rattle.std.specs.List.{position}
 use Rattle.st_base.specs.declared.ids.ClientId.{ClientId}

@@ -1,5 +1,5 @@
-//! Sessions: which life of each client a server serves in this epoch, and up to which request. `docs/PROTOCOL.md`,
-//! "Sessions", has the rules.
+//! Sessions: which life of each client a server serves in this epoch, and up to which request.
+//! `docs/PROTOCOL.md`, "Sessions", has the rules.
 #![tactic(auto)]
 
 mod greeting;

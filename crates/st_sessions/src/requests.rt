@@ -76,7 +76,8 @@ pub fn knows_life(session: &Session, life: Life) -> bool
     life.0 < session.life.0 || serves_life(session, life)
 }
 
-/// The state of a session after this number was served with this reply. `live` tells whether it served requests before.
+/// The state of a session after this number was served with this reply. `live` tells whether it
+/// served requests before.
 pub fn kept_state(live: bool, number: u64, reply: Body) -> SessionState
     ensures { (s : SessionState) → sessions.is_live_state s ≡ live → result ≡ sessions.kept_state number reply s }
 {

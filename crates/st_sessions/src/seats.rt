@@ -20,7 +20,8 @@ pub fn seat_of(seats: &[Option<usize>], client: ClientId) -> Option<usize>
     }
 }
 
-/// There is an entry at the client's number, and each entry stays as it was. If the call runs out of memory, nothing changes.
+/// There is an entry at the client's number, and each entry stays as it was. If the call runs out
+/// of memory, nothing changes.
 fn reach(seats: &mut Vec<Option<usize>>, client: ClientId) -> Result<(), AllocError>
     ensures ok { OnOk result (client.0 < length seats.new.items) }
     ensures same { SameSeats seats.old.items seats.new.items }
@@ -32,8 +33,8 @@ fn reach(seats: &mut Vec<Option<usize>>, client: ClientId) -> Result<(), AllocEr
     Ok(())
 }
 
-/// Puts the session of a client that has none last, and its place into the entry at the client's number. If the call runs
-/// out of memory, no session changes.
+/// Puts the session of a client that has none last, and its place into the entry at the client's
+/// number. If the call runs out of memory, no session changes.
 fn seat_last(
     rows: &mut Vec<Session>,
     seats: &mut Vec<Option<usize>>,
@@ -53,7 +54,7 @@ fn seat_last(
     Ok(())
 }
 
-/// Puts a session in place of the one that stands there.
+/// Puts a session in place of the one that is there.
 fn replace(rows: &mut Vec<Session>, place: usize, session: Session)
     requires { place < length rows.old.items }
     ensures { rows.new.items ≡ set rows.old.items place session }
@@ -61,7 +62,8 @@ fn replace(rows: &mut Vec<Session>, place: usize, session: Session)
     rows[place] = session;
 }
 
-/// Puts a session in place of its client's, or last. If the call runs out of memory, no session changes.
+/// Puts a session in place of its client's, or last. If the call runs out of memory, no session
+/// changes.
 pub fn put_session(
     rows: &mut Vec<Session>,
     seats: &mut Vec<Option<usize>>,

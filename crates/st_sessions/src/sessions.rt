@@ -12,8 +12,8 @@ use st_rules::{Hello, Session, SessionState, Taken};
 use std::alloc::{AllocError, Global};
 use std::marker::Model;
 
-/// The sessions of one server in one epoch. Contracts see them as the epoch and the list of the sessions, of which a client
-/// has at most one.
+/// The sessions of one server in one epoch. Contracts see them as the epoch and the list of the
+/// sessions, of which a client has at most one.
 #[derive(Drop)]
 pub struct Sessions {
     epoch: Epoch,
@@ -67,10 +67,11 @@ impl Sessions {
         })
     }
 
-    /// A client greets in this life; `rows` tells whether it has locks. It is welcome in the life of its living session, and
-    /// wherever a new session begins: without a session, or in a life above an ended one's. A life above a living session's
-    /// waits where the client has locks, and else replaces that session. Every other life is old. `Old` and `Wait` change
-    /// nothing. If the call runs out of memory, nothing changes either.
+    /// A client greets in this life; `rows` tells whether it has locks. It is welcome in the life
+    /// of its living session, and wherever a new session begins: without a session, or in a life
+    /// above an ended one's. A life above a living session's waits where the client has locks, and
+    /// otherwise replaces that session. Every other life is old. `Old` and `Wait` change nothing.
+    /// If the call runs out of memory, nothing changes either.
     #[tactic(auto, unfolding(st_rules::specs::Sessions::hello, st_rules::specs::Sessions::begin_session))]
     pub fn hello(&mut self, client: ClientId, life: Life, rows: bool) -> Result<Hello, AllocError>
         ensures ok { IfOk result (λ h. sessions.greeted h self.new ≡ sessions.hello self.old client life rows) }
@@ -84,8 +85,9 @@ impl Sessions {
         Ok(judgement.hello)
     }
 
-    /// What becomes of a request of this life, epoch and number. It is `Fresh` where it is the next one of the client's
-    /// living session; `Again` lends the reply that was kept for the last one. It does not allocate.
+    /// What becomes of a request of this life, epoch and number. It is `Fresh` where it is the next
+    /// one of the client's living session; `Again` lends the reply that was kept for the last one.
+    /// It does not allocate.
     #[tactic(auto, unfolding(st_rules::specs::Sessions::take))]
     pub fn take(&self, client: ClientId, life: Life, epoch: Epoch, number: u64) -> Taken<&Body>
         ensures { sessions.taken_copied result ≡ sessions.take self.now client life epoch number }
@@ -108,8 +110,9 @@ impl Sessions {
         }
     }
 
-    /// Keeps a copy of the reply to this number, which is then the last one that the client's living session served. Without
-    /// a living session nothing changes. If the call runs out of memory, nothing changes either.
+    /// Keeps a copy of the reply to this number, which is then the last one that the client's
+    /// living session served. Without a living session nothing changes. If the call runs out of
+    /// memory, nothing changes either.
     #[tactic(auto, unfolding(st_rules::specs::Sessions::store))]
     pub fn store(&mut self, client: ClientId, number: u64, reply: &Body) -> Result<(), AllocError>
         ensures ok { OnOk result (self.new ≡ sessions.store self.old client number reply.now) }
@@ -124,8 +127,8 @@ impl Sessions {
         Ok(())
     }
 
-    /// Makes the client's session a living one of this life, whose last number is 1 with the kept reply `Reasserted`. If the
-    /// call runs out of memory, nothing changes.
+    /// Makes the client's session a living one of this life, whose last number is 1 with the kept
+    /// reply `Reasserted`. If the call runs out of memory, nothing changes.
     #[tactic(auto, unfolding(st_rules::specs::Sessions::reasserted))]
     pub fn reasserted(&mut self, client: ClientId, life: Life) -> Result<(), AllocError>
         ensures ok { OnOk result (self.new ≡ sessions.reasserted self.old client life) }
@@ -152,7 +155,8 @@ impl Sessions {
         self.rows.set_state(place, SessionState::Ended);
     }
 
-    /// The life of the client's session, living or ended, or `None` if it had none in this epoch. It does not allocate.
+    /// The life of the client's session, living or ended, or `None` if it had none in this epoch.
+    /// It does not allocate.
     pub fn life(&self, client: ClientId) -> Option<Life>
         ensures life { result ≡ sessions.life_of self.now client }
         ensures once { are_once same_session self.now.rows ≡ true }
@@ -161,7 +165,8 @@ impl Sessions {
         Some(session.life)
     }
 
-    /// Whether the client has a living session of this life, or a session of a higher one. It does not allocate.
+    /// Whether the client has a living session of this life, or a session of a higher one. It does
+    /// not allocate.
     pub fn knows(&self, client: ClientId, life: Life) -> bool
         ensures { result ≡ sessions.knows self.now client life }
     {

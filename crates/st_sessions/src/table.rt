@@ -12,8 +12,9 @@ use st_rules::{Session, SessionState};
 use std::alloc::{AllocError, Global};
 use std::marker::Model;
 
-/// Sessions in the order in which their clients greeted first, and a vector that has at each client's number where its
-/// session stands, if it has one. So a session is found without a search. Contracts see the list of the sessions.
+/// Sessions in the order in which their clients greeted first, and a vector that has at each
+/// client's number where its session is, if it has one. So a session is found without a search.
+/// Contracts see the list of the sessions.
 #[derive(Drop)]
 pub struct SessionTable {
     rows: Vec<Session>,
@@ -43,7 +44,7 @@ impl SessionTable {
         }
     }
 
-    /// Where the client's session stands, if it has one.
+    /// Where the client's session is, if it has one.
     pub fn place(&self, client: ClientId) -> Option<usize>
         ensures { result ≡ position (sessions.is_session_of client) self.now }
     {
@@ -68,7 +69,8 @@ impl SessionTable {
         }
     }
 
-    /// Puts a session in place of its client's, or last. If the call runs out of memory, nothing changes.
+    /// Puts a session in place of its client's, or last. If the call runs out of memory, nothing
+    /// changes.
     pub fn put(&mut self, session: Session) -> Result<(), AllocError>
         ensures ok { OnOk result (self.new ≡ keys.put (sessions.is_session_of session.client) session self.old) }
         ensures err { OnErr result (self.new ≡ self.old) }

@@ -69,7 +69,7 @@ same_with {A} {B} f xs n m x y e h = ap f (numbered_with xs n m x y e) ∙ go (n
     go true q = h ∙ ap f (sym e) ∙ ap (λ k. f (numbered xs k)) (eqb-true _ _ q)
     go false q = refl
 
--- what stands of all stands after a change of one of which it stands
+-- what holds of all holds after a change of one of which it holds
 pub each_with : {A : Type 0} (p : Option A → Bool) (xs : List A) (n : ℕ) (x y : A) → numbered xs n ≡ Some y → p (Some x) ≡ true → ((m : ℕ) → p (numbered xs m) ≡ true) → (m : ℕ) → p (numbered (with_numbered n x xs) m) ≡ true
 each_with p xs n x y e h each m = ap p (numbered_with xs n m x y e) ∙ go (n == m)
   where

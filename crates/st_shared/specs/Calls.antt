@@ -21,7 +21,7 @@ DoesOrLacks old new (Ok u) rule = rule ≡ Ok new
 DoesOrLacks old new (Err Memory) rule = IsOk rule × (new ≡ old)
 DoesOrLacks old new (Err r) rule = (rule ≡ Err r) × (new ≡ old)
 
--- a check passes where the rule does not refuse, and else it has its refusal
+-- a check passes where the rule does not refuse, and otherwise it has its refusal
 abbrev pub Checks : Result (Unit {0}) SharedRefusal → Result Shared SharedRefusal → Type 0
 Checks (Ok u) rule = IsOk rule
 Checks (Err r) rule = rule ≡ Err r

@@ -130,8 +130,8 @@ abbrev pub last_write : PageNo → List Effected → List ℕ
 last_write page [] = filled 0
 last_write page (e ∷ es) = if same_page e.command.page page then written_over e.command.writes (last_write page es) else last_write page es
 
--- what the effect of a command lets its report tell: that a write is hard, or the bytes of the last write to a read's page among
--- the effects that stand before the read's own
+-- what the effect of a command lets its report tell: that a write is hard, or the bytes of the last write to a read's page among the effects that come before
+-- the read's own
 abbrev pub told_of : Option (List ℕ) → List ℕ → Answer
 told_of (Some new) bytes = Hard
 told_of None bytes = Bytes bytes
@@ -181,8 +181,8 @@ has_expired n (step ∷ past) = if is_done step.answer then is_expiry (issued pa
 
 -- What is promised.
 
--- a report that is told hard or bytes tells of an effect that stands before it: it is a write's, or the bytes are those of the last
--- write to the read's page whose effect stands before the read's own, or zeros
+-- a report that is told hard or bytes has an effect that comes before it: it is a write's, or the bytes are those of the last write to the read's page whose
+-- effect comes before the read's own, or zeros
 abbrev pub TellsRight : List Step → Call → Answer → Type 0
 TellsRight past (Report n ok) answer = told_by n (effects past) ≡ Some answer
 TellsRight past call answer = ⊥
@@ -208,7 +208,7 @@ AnswersRight past call answer = Unit {0}
 abbrev pub AreApart : List Step → Type 0
 AreApart past = (c d : ClientId) → is_in c past && has_lock d past ≡ false
 
--- a step is right behind what came before it
+-- a step is right after what came before it
 pub record IsRight (step : Step) (past : List Step) : Type 0 where
   pub answer : AnswersRight past step.call step.answer
   pub apart : AreApart (step ∷ past)

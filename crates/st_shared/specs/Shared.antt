@@ -102,7 +102,7 @@ unfoldable pub check_running : Option Member → ClientId → Result (Unit {0}) 
 check_running None c = Err NotIn
 check_running (Some m) c = if m.running then Ok tt else Err (Stopped c)
 
--- a rule behind a check
+-- a rule after a check
 unfoldable pub checked : Result (Unit {0}) SharedRefusal → Result Shared SharedRefusal → Result Shared SharedRefusal
 checked (Ok u) rule = rule
 checked (Err r) rule = Err r
@@ -213,11 +213,11 @@ issuer c = record { client = c; stopped = false; expired = false }
 unfoldable pub submitted : Shared → ClientId → Command → Shared
 submitted s c what = record s { issuers = s.issuers ++ issuer c ∷ []; disk = rules.submit s.disk what }
 
--- the page has to be one of the file
+-- the page must be one of the file
 unfoldable pub check_page : Shared → PageNo → Result (Unit {0}) SharedRefusal
 check_page s page = if nat_lt page.0 s.disk.blocks then Ok tt else Err (NoPage page)
 
--- one check behind another
+-- one check after another
 unfoldable pub both : Result (Unit {0}) SharedRefusal → Result (Unit {0}) SharedRefusal → Result (Unit {0}) SharedRefusal
 both (Ok u) check = check
 both (Err r) check = Err r
@@ -279,7 +279,7 @@ found_answer (Some b) = Bytes b.bytes
 abbrev pub ended_answer : Bool → Option Block → Answer
 ended_answer ok found = if ok then found_answer found else Failed
 
--- a client that stopped since is told nothing
+-- a client that has stopped since gets no report
 abbrev pub report_answer : Shared → ℕ → Bool → Answer
 report_answer s n ok = if is_silenced (numbered s.issuers n) then Silent else ended_answer ok (sample s.disk n)
 

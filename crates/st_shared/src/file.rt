@@ -17,9 +17,9 @@ use st_base::{ClientId, PageBytes, PageNo};
 use std::alloc::Global;
 use std::marker::Model;
 
-/// One file that several clients read and write without caches. Contracts see the clients that are in, the client with the lock
-/// row, whose each command is, and the disk. Every call keeps that calls on a fresh file lead to this state, and that the history
-/// of all calls that do so is right.
+/// One file that several clients read and write without caches. Contracts see the clients that are
+/// in, the client with the lock row, whose each command is, and the disk. Every call keeps that
+/// calls on a fresh file lead to this state, and that the history of all calls that do so is right.
 #[derive(Drop)]
 pub struct SharedFile {
     machine: SharedState,
@@ -37,7 +37,8 @@ impl Model for SharedFile {
 }
 
 impl SharedFile {
-    /// A file with this number of pages, all zeros. Nobody is in, and nobody has the lock. It does not allocate.
+    /// A file with this number of pages, all zeros. Nobody is in, and nobody has the lock. It does
+    /// not allocate.
     pub fn new(alloc: Global, blocks: u32) -> SharedFile
         ensures fresh { result ≡ fresh_shared blocks }
         ensures led { IsLedRightly result }
@@ -61,8 +62,8 @@ impl SharedFile {
     /// A client enters, and runs. A client that is in and runs stays in.
     ///
     /// # Errors
-    /// In this order: `Stopped` where the client is in and stopped; `Held` where a client has the lock row. `Memory` comes behind
-    /// them. Then nothing changed.
+    /// In this order: `Stopped` where the client is in and stopped; `Held` where a client has the
+    /// lock row. `Memory` comes after them. Then nothing changed.
     pub fn enter(&mut self, client: ClientId) -> Result<(), SharedRefusal>
         ensures exact { DoesOrLacks self.old self.new result (rules.enter self.old client) }
         ensures led { IsLedRightly self.new }
@@ -77,7 +78,8 @@ impl SharedFile {
     /// A client leaves. It looks at every command. It does not allocate.
     ///
     /// # Errors
-    /// In this order: `NotIn`; `Stopped`; `Busy` with the least command of the client that was not reported. Then nothing changed.
+    /// In this order: `NotIn`; `Stopped`; `Busy` with the least command of the client that was not
+    /// reported. Then nothing changed.
     pub fn leave(&mut self, client: ClientId) -> Result<(), SharedRefusal>
         ensures exact { Does self.old self.new result (rules.leave self.old client) }
         ensures led { IsLedRightly self.new }
@@ -92,8 +94,8 @@ impl SharedFile {
     /// A client takes the exclusive lock of the file. A client that has it keeps it.
     ///
     /// # Errors
-    /// In this order: `SharedBy` with the least client that is in; `Held` where another client has the lock row. `Memory` comes
-    /// behind them. Then nothing changed.
+    /// In this order: `SharedBy` with the least client that is in; `Held` where another client has
+    /// the lock row. `Memory` comes after them. Then nothing changed.
     pub fn lock(&mut self, client: ClientId) -> Result<(), SharedRefusal>
         requires client { IsClient client }
         ensures exact { DoesOrLacks self.old self.new result (rules.lock self.old client) }
@@ -121,8 +123,8 @@ impl SharedFile {
         result
     }
 
-    /// A client stops. It stays in until it expires, and is told nothing of its commands. It looks at every command. It does not
-    /// allocate.
+    /// A client stops. It stays in until it expires, and gets no report of its commands. It looks
+    /// at every command. It does not allocate.
     ///
     /// # Errors
     /// In this order: `NotIn`; `Stopped`. Then nothing changed.
@@ -137,8 +139,8 @@ impl SharedFile {
         result
     }
 
-    /// A stopped client expires: it is out, and none of its commands has its effect from now on. It may enter anew. It looks at
-    /// every command. It does not allocate.
+    /// A stopped client expires: it is out, and none of its commands has its effect from now on. It
+    /// may enter anew. It looks at every command. It does not allocate.
     ///
     /// # Errors
     /// `NotStopped` where the client is not in, or runs. Then nothing changed.
@@ -156,7 +158,8 @@ impl SharedFile {
     /// A client submits a write of a page. It returns the number of the command: 1, 2 and so on.
     ///
     /// # Errors
-    /// In this order: `NotIn`; `Stopped`; `NoPage`. `Memory` comes behind them. Then nothing changed.
+    /// In this order: `NotIn`; `Stopped`; `NoPage`. `Memory` comes after them. Then nothing
+    /// changed.
     pub fn write(
         &mut self,
         client: ClientId,
@@ -176,7 +179,8 @@ impl SharedFile {
     /// A client submits a read of a page. It returns the number of the command: 1, 2 and so on.
     ///
     /// # Errors
-    /// In this order: `NotIn`; `Stopped`; `NoPage`. `Memory` comes behind them. Then nothing changed.
+    /// In this order: `NotIn`; `Stopped`; `NoPage`. `Memory` comes after them. Then nothing
+    /// changed.
     pub fn read(&mut self, client: ClientId, page: PageNo) -> Result<u64, SharedRefusal>
         ensures exact { Numbers self.old self.new result (rules.read self.old client page) }
         ensures led { IsLedRightly self.new }
@@ -198,8 +202,8 @@ impl SharedFile {
     /// The command of this number has its effect on the disk.
     ///
     /// # Errors
-    /// In this order: `Disk` with `NoCommand`, `Reported` or `Twice`; `Late` where the command's client expired since. `Memory`
-    /// comes behind them. Then nothing changed.
+    /// In this order: `Disk` with `NoCommand`, `Reported` or `Twice`; `Late` where the command's
+    /// client expired since. `Memory` comes after them. Then nothing changed.
     pub fn effect(&mut self, n: u64) -> Result<(), SharedRefusal>
         ensures exact { DoesOrLacks self.old self.new result (rules.effect self.old n) }
         ensures led { IsLedRightly self.new }
@@ -227,8 +231,8 @@ impl SharedFile {
         self.machine.answer(n, ok)
     }
 
-    /// The disk reports the command of this number, as done or as failed, which ends it. Where its client stopped since it submitted
-    /// the command, the answer is `Silent`. It does not allocate.
+    /// The disk reports the command of this number, as done or as failed, which ends it. Where its
+    /// client stopped since it submitted the command, the answer is `Silent`. It does not allocate.
     ///
     /// # Errors
     /// `Disk` with `NoCommand`, `Twice` or `NotEffected`, in this order. Then nothing changed.

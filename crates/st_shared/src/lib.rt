@@ -1,5 +1,6 @@
-//! Shared writing without caches: one file that several clients read and write at once, each read and each write by a disk command
-//! of its own. `docs/PROTOCOL.md`, "Shared writing without caches", has the rules.
+//! Shared writing without caches: one file that several clients read and write at once, each read
+//! and each write by a disk command of its own. `docs/PROTOCOL.md`, "Shared writing without
+//! caches", has the rules.
 #![tactic(auto)]
 
 mod answer;

@@ -49,8 +49,8 @@ pub fn is_holder(holder: Option<ClientId>, client: ClientId) -> bool
     }
 }
 
-/// Makes sure that one lock may be granted. A table whose grant numbers are used up is begun anew: it has no rows, so none of
-/// these numbers is in use.
+/// Makes sure that one lock may be granted. A table whose grant numbers are used up is begun anew:
+/// it has no rows, so none of these numbers is in use.
 fn make_room(alloc: Global, locks: &mut LockTable)
     requires table { IsFileTable locks.old }
     requires free { holder_of locks.old.rows ≡ None }
@@ -63,7 +63,7 @@ fn make_room(alloc: Global, locks: &mut LockTable)
     }
 }
 
-/// Grants the exclusive lock to a client; false where memory runs out.
+/// Grants the exclusive lock to a client; false if memory runs out.
 fn grant(locks: &mut LockTable, client: ClientId) -> bool
     requires client { IsClient client }
     requires table { IsFileTable locks.old }

@@ -19,7 +19,8 @@ use st_locks::LockTable;
 use std::alloc::{AllocError, Global};
 use std::marker::Model;
 
-/// The clients that are in, the lock table, whose each command is, and the disk. Contracts see the definitions' record.
+/// The clients that are in, the lock table, whose each command is, and the disk. Contracts see the
+/// definitions' record.
 #[derive(Drop)]
 pub struct SharedState {
     alloc: Global,

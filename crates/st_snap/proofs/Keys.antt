@@ -59,7 +59,7 @@ less_then a b o l = ap (λ c. is_lt (ordering_then c o)) (cmp_less a b l)
 equal_then : (a b : ℕ) (o : Ordering) → a ≡ b → is_lt (ordering_then (nat_cmp a b) o) ≡ is_lt o
 equal_then a b o e = ap (λ c. is_lt (ordering_then c o)) (cmp_equal a b e)
 
--- how one key stands before another
+-- how one key comes before another
 abbrev pub Before : VersionKey → VersionKey → Type 0
 Before a b = (a.file < b.file) ⊎ ((a.file ≡ b.file) × ((a.page < b.page) ⊎ ((a.page ≡ b.page) × (a.takes < b.takes))))
 

@@ -9,7 +9,7 @@ use Rattle.st_snap.specs.Changes.{Change, Wrote, Took, Forgot, Write, before, la
 pub before_over : (c : Change) (cs : List Change) (i : ℕ) → i ≤ takes (c ∷ cs) → before i (c ∷ cs) ≡ before i cs
 before_over c cs i l = ap (λ b. if b then c ∷ cs else before i cs) (le-ltb (takes (c ∷ cs)) i l)
 
--- before the next take stand all changes
+-- before the next take come all changes
 pub before_all : (cs : List Change) (i : ℕ) → takes cs < i → before i cs ≡ cs
 before_all [] i l = refl
 before_all (c ∷ cs) i l = ap (λ b. if b then c ∷ cs else before i cs) (lt-ltb (takes (c ∷ cs)) i l)

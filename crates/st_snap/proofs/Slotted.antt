@@ -452,7 +452,7 @@ added_and_gone slot bytes (e ∷ pages) n = by (added_and_gone slot bytes pages)
     by ih true t m = absurd (none-some e.1 (sym m))
     by ih false t m = (λ i. if not (t i) then e ∷ filter (λ e. not (slot == e.0)) (pages ++ (slot, bytes) ∷ []) else filter (λ e. not (slot == e.0)) (pages ++ (slot, bytes) ∷ [])) ∙ ap (λ l. e ∷ l) (ih m)
 
--- a slot behind the others
+-- a slot after the others
 pub found_last : (slot q : ℕ) (bytes : List ℕ) (pages : List (ℕ × List ℕ)) → slot_at pages slot ≡ None → slot_at (pages ++ (slot, bytes) ∷ []) q ≡ cond (slot == q) (Some bytes) (slot_at pages q)
 found_last slot q bytes [] n = ap (λ b. cond b (Some bytes) None) (flip q slot)
 found_last slot q bytes (e ∷ pages) n = by (found_last slot q bytes pages) (slot == e.0) refl n

@@ -19,7 +19,7 @@ abbrev pub IsBehind : Option VersionKey → VersionKey → Type 0
 IsBehind None k = ⊤
 IsBehind (Some c) k = is_lt (key_order c k) ≡ true
 
--- the cursor stands at a version
+-- the cursor is at a version
 abbrev pub IsThere : Versions → Option VersionKey → Type 0
 IsThere v None = ⊤
 IsThere v (Some c) = has_version v c ≡ true

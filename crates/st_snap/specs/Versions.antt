@@ -59,17 +59,17 @@ abbrev pub page_at : Versions → ℕ → ℕ → Option ℕ → Option (List �
 page_at v f p None = None
 page_at v f p (Some takes) = version v (key_of f p takes)
 
--- the key is there, and stands before another
+-- the key is there, and comes before another
 pub record IsBelow (v : Versions) (bound k : VersionKey) : Type 0 where
   pub there : has_version v k ≡ true
   pub below : is_lt (key_order k bound) ≡ true
 
--- no version before the bound stands behind this one
+-- no version before the bound comes after this one
 abbrev pub IsLastBelow : Versions → VersionKey → Option VersionKey → Type 0
 IsLastBelow v bound None = (q : VersionKey) → has_version v q ≡ true → is_lt (key_order q bound) ≡ true → ⊥
 IsLastBelow v bound (Some k) = IsBelow v bound k × ((q : VersionKey) → has_version v q ≡ true → is_lt (key_order q bound) ≡ true → is_lt (key_order k q) ≡ false)
 
--- no version stands behind this one
+-- no version comes after this one
 abbrev pub IsLast : Versions → Option VersionKey → Type 0
 IsLast v None = (q : VersionKey) → has_version v q ≡ true → ⊥
 IsLast v (Some k) = (has_version v k ≡ true) × ((q : VersionKey) → has_version v q ≡ true → is_lt (key_order k q) ≡ false)

@@ -42,7 +42,7 @@ take_of next (suc image) = suc image
 abbrev pub is_among : List ℕ → ℕ → Bool
 is_among kept image = list_any (λ view. image == view) (0 ∷ kept)
 
--- where there is one, the take that a view is before
+-- if there is one, the take that a view is before
 abbrev pub IsTakeOf : Volume → ℕ → Option ℕ → Type 0
 IsTakeOf h image None = is_among h.kept image ≡ false
 IsTakeOf h image (Some t) = (is_among h.kept image ≡ true) × (t ≡ take_of h.next image)
@@ -55,7 +55,7 @@ seen h image f p = latest (has_version h.versions) f p (take_of h.next image)
 abbrev pub numbered : ℕ → List ℕ → Write
 numbered number bytes = record { number = number; bytes = bytes }
 
--- the write of a version, whose number is told by the page and the number of takes
+-- the write of a version, whose number follows from the page and the number of takes
 abbrev pub write_of : (ℕ → ℕ → ℕ → ℕ) → Versions → ℕ → ℕ → Option ℕ → Option Write
 write_of number v f p None = None
 write_of number v f p (Some t) = option_map (numbered (number f p t)) (version v (key_of f p t))
@@ -66,8 +66,8 @@ pub record IsSeen (h : Volume) (k : VersionKey) : Type 0 where
   pub among : is_among h.kept view ≡ true
   pub found : seen h view k.file k.page ≡ Some k.takes
 
--- A volume of so many blocks stands for a list of changes: the kept images are those of the list; each page in each view is
--- the write that the list gives; each version is seen in a view; and later versions of a page are later writes.
+-- A volume of that many blocks stands for a list of changes: the kept images are those of the list; each page in each view is the write that the list gives;
+-- each version is seen in a view; and later versions of a page are later writes.
 pub record IsAfter (blocks : ℕ) (changes : List Change) (h : Volume) : Type 0 where
   pub size : h.versions.blocks ≡ blocks
   pub kept : h.kept ≡ images changes
@@ -77,7 +77,7 @@ pub record IsAfter (blocks : ℕ) (changes : List Change) (h : Volume) : Type 0 
   pub each : (k : VersionKey) → has_version h.versions k ≡ true → IsSeen h k
   pub rises : (f p s t : ℕ) → s < t → has_version h.versions (key_of f p s) ≡ true → has_version h.versions (key_of f p t) ≡ true → number f p s < number f p t
 
--- What a call answers and leaves: what the definition gives. Where it is refused nothing is changed; where memory runs out nothing is promised.
+-- What a call answers and leaves: what the definition gives. Where it is refused nothing is changed; if memory runs out nothing is promised.
 abbrev pub Ends : {T : Type 0} → ℕ → Volume → Volume → Result T SnapRefusal → Result (T × List Change) SnapRefusal → Type 0
 Ends blocks old new (Ok x) rule = (changes : List Change) × ((rule ≡ Ok (x, changes)) × IsAfter blocks changes new)
 Ends blocks old new (Err refusals.Memory) rule = ⊤
@@ -99,11 +99,11 @@ abbrev pub option_is : ℕ → Option ℕ → Bool
 option_is n None = false
 option_is n (Some m) = m == n
 
--- the version is seen live or in an image, which is so exactly where it is the last one before the first take behind it
+-- the version is seen live or in an image, which is so exactly if it is the last one before the first take after it
 abbrev pub is_seen : Versions → List ℕ → ℕ → VersionKey → Bool
 is_seen v kept next k = option_is k.takes (latest (has_version v) k.file k.page (unwrap_or (first_after kept k.takes) next))
 
--- the live version of a page, where no image shares it; where there is none, none began after the last take
+-- the live version of a page, where no image shares it; if there is none, none began after the last take
 abbrev pub IsUnshared : Volume → ℕ → ℕ → Option VersionKey → Type 0
 IsUnshared h f p (Some k) = (t : ℕ) × ((k ≡ key_of f p t) × ((seen h 0 f p ≡ Some t) × (first_after h.kept t ≡ None)))
 IsUnshared h f p None = (t : ℕ) → seen h 0 f p ≡ Some t → is_some (first_after h.kept t) ≡ true

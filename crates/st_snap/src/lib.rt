@@ -1,5 +1,5 @@
-//! Images of a container: a volume of pages that can be written while its images show each page as it was when they were taken.
-//! `docs/PROTOCOL.md`, "Images of a container".
+//! Images of a container: a volume of pages that can be written while its images show each page as
+//! it was when they were taken. `docs/PROTOCOL.md`, "Images of a container".
 #![tactic(auto)]
 
 mod refusal;

@@ -24,7 +24,8 @@ fn file_of(slot: u32) -> FileId
     }
 }
 
-/// Writes a block: the command is submitted, has its effect, and is reported. An error leaves the blocks as they were.
+/// Writes a block: the command is submitted, has its effect, and is reported. An error leaves the
+/// blocks as they were.
 fn write_block(disks: &mut Disks, at: BlockAt, tag: Tag, bytes: PageBytes) -> Result<(), AllocError>
     ensures ok { OnOk result (disks.new.written ≡ keys.put (disks_of.is_block_at at) (record { at = at; tag = tag; bytes = bytes }) disks.old.written) }
     ensures err { OnErr result (disks.new.written ≡ disks.old.written) }
@@ -39,8 +40,8 @@ fn write_block(disks: &mut Disks, at: BlockAt, tag: Tag, bytes: PageBytes) -> Re
     Ok(())
 }
 
-/// Slots by their numbers from 1, and the bytes of each. A number is given once. Contracts see how many blocks there are, and
-/// the list of the slots with their bytes.
+/// Slots by their numbers from 1, and the bytes of each. A number is given once. Contracts see how
+/// many blocks there are, and the list of the slots with their bytes.
 #[derive(Drop)]
 pub struct Slots {
     extents: Extents,
@@ -123,7 +124,8 @@ impl Slots {
         self.extents.release_from(file_of(slot), PAGE);
     }
 
-    /// Maps the next slot to a block. An error changes nothing. Where every number was given, no slot is left either.
+    /// Maps the next slot to a block. An error changes nothing. Where every number was given, no
+    /// slot is left either.
     fn next(&mut self) -> Result<u32, AllocError>
         ensures fresh { IfOk result (λ slot. slot_at self.old.pages slot ≡ None) }
         ensures added { IfOk result (λ slot. HasOneMore self.old.pages slot self.new.pages) }

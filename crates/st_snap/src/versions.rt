@@ -10,8 +10,8 @@ use std::alloc::{AllocError, Global};
 use std::collections::BTreeMap;
 use std::marker::Model;
 
-/// A version of a page: its file, its page, and how many images had been taken when it began. Keys are ordered by these
-/// numbers, in this order.
+/// A version of a page: its file, its page, and how many images had been taken when it began. Keys
+/// are ordered by these numbers, in this order.
 #[derive(Clone, Copy, Debug, PartialEq, Eq, PartialOrd, Ord)]
 pub struct VersionKey {
     pub file: u32,
@@ -52,8 +52,8 @@ fn take_slot(map: &mut BTreeMap<VersionKey, u32>, key: VersionKey) -> Option<u32
     map.remove(&key)
 }
 
-/// The versions of pages, each with its bytes in a slot. Contracts see the versions with their slots, the slots with their
-/// bytes, and the number of blocks.
+/// The versions of pages, each with its bytes in a slot. Contracts see the versions with their
+/// slots, the slots with their bytes, and the number of blocks.
 #[derive(Drop)]
 pub struct Versions {
     map: BTreeMap<VersionKey, u32>,
@@ -103,7 +103,7 @@ impl Versions {
         }
     }
 
-    /// The last version that stands before a key.
+    /// The last version that comes before a key.
     pub fn last_below(&self, bound: VersionKey) -> Option<VersionKey>
         ensures { IsLastBelow self.now bound result }
     {
@@ -113,7 +113,8 @@ impl Versions {
         }
     }
 
-    /// The last version of a page that began before the take of this number, by how many takes there were.
+    /// The last version of a page that began before the take of this number, by how many takes
+    /// there were.
     pub fn latest(&self, file: u32, page: PageNo, take: u32) -> Option<u32>
         ensures { result ≡ latest (has_version self.now) file page.0 take }
     {
@@ -153,7 +154,8 @@ impl Versions {
         self.slots.put(slot, bytes)
     }
 
-    /// A new version with these bytes, in a slot of its own. An error leaves all versions as they were.
+    /// A new version with these bytes, in a slot of its own. An error leaves all versions as they
+    /// were.
     pub fn add(&mut self, key: VersionKey, bytes: &PageBytes) -> Result<(), AllocError>
         requires { has_version self.old key ≡ false }
         ensures added { OnOk result ((q : VersionKey) → version self.new q ≡ cond (same_key key q) (Some bytes.now) (version self.old q)) }

@@ -62,10 +62,12 @@ fn sweep(versions: &mut Versions, kept: &[u32], next: u32)
     }
 }
 
-/// A container's pages, and images of them. The theorem of each call speaks of any list of writes, takes and forgets that the
-/// volume stands for: an image's page is the last write before its take, and the live page the last write of all.
+/// A container's pages, and images of them. The theorem of each call speaks of any list of writes,
+/// takes and forgets that the volume stands for: an image's page is the last write before its take,
+/// and the live page the last write of all.
 ///
-/// A version of a page is kept as long as it is live or an image shows it. `take` keeps the image's number, and copies nothing.
+/// A version of a page is kept as long as it is live or an image shows it. `take` keeps the image's
+/// number, and copies nothing.
 #[derive(Drop)]
 pub struct Volume {
     versions: Versions,
@@ -84,7 +86,8 @@ impl Model for Volume {
 }
 
 impl Volume {
-    /// A volume of this number of blocks, without pages and images. The server is 1, to which the one disk belongs.
+    /// A volume of this number of blocks, without pages and images. The server is 1, to which the
+    /// one disk belongs.
     pub fn new(alloc: Global, server: ServerId, blocks: u32) -> Result<Volume, AllocError>
         requires server { server.0 ≡ 1 }
         requires some { 1 ≤ blocks }
@@ -144,9 +147,10 @@ impl Volume {
         Ok(())
     }
 
-    /// Writes a page. It takes a block where the page was never written, or where a kept image shows its bytes; then
-    /// `NoSpace` with 0 and 1 where no block is free, and nothing changes. After `Memory` nothing is promised but that the
-    /// volume can be dropped. The cost is that of a look-up, however many images are kept.
+    /// Writes a page. It takes a block where the page was never written, or where a kept image
+    /// shows its bytes; then `NoSpace` with 0 and 1 where no block is free, and nothing changes.
+    /// After `Memory` nothing is promised but that the volume can be dropped. The cost is that of a
+    /// look-up, however many images are kept.
     pub fn write(&mut self, file: u32, page: PageNo, bytes: &PageBytes) -> Result<(), SnapRefusal>
         ensures { (blocks : ℕ) (changes : List Change) → IsAfter blocks changes self.old → Ends blocks self.old self.new result (images.write blocks changes file page.0 bytes.now) }
     {
@@ -157,7 +161,8 @@ impl Volume {
         }
     }
 
-    /// The take that a view is before: an image's own, and the next one for image 0, the live pages.
+    /// The take that a view is before: an image's own, and the next one for image 0, the live
+    /// pages.
     fn take_of(&self, image: u32) -> Option<u32>
         ensures { IsTakeOf self.now image result }
     {
@@ -184,9 +189,9 @@ impl Volume {
         )
     }
 
-    /// The bytes of a page in an image, or of the live page for image 0; `None` where nothing was written, which stands for
-    /// zeros. `NoImage` where the image was never taken or was forgotten. It takes no memory, and costs a look-up among the
-    /// images and one among the versions.
+    /// The bytes of a page in an image, or of the live page for image 0; `None` where nothing was
+    /// written, which stands for zeros. `NoImage` where the image was never taken or was forgotten.
+    /// It takes no memory, and costs a look-up among the images and one among the versions.
     pub fn read(
         &self,
         image: u32,
@@ -202,9 +207,9 @@ impl Volume {
         }
     }
 
-    /// Takes an image of all live pages, and returns its number: 1, 2 and so on. `TooMany` where 64 images are kept. It
-    /// copies no page and takes no block: the cost is constant. `Memory` comes also where the last number, 4,294,967,294,
-    /// was given. After `TooMany` nothing changes.
+    /// Takes an image of all live pages, and returns its number: 1, 2 and so on. `TooMany` where 64
+    /// images are kept. It copies no page and takes no block: the cost is constant. `Memory` comes
+    /// also where the last number, 4,294,967,294, was given. After `TooMany` nothing changes.
     pub fn take(&mut self) -> Result<u32, SnapRefusal>
         ensures { (blocks : ℕ) (changes : List Change) → IsAfter blocks changes self.old → Ends blocks self.old self.new result (images.take changes) }
     {
@@ -220,8 +225,9 @@ impl Volume {
         Ok(image)
     }
 
-    /// Forgets an image, and frees the blocks of the pages that it alone showed. `NoImage` where it was never taken or was
-    /// forgotten, and for image 0. It takes no memory. The cost is that of two look-ups for each version that is kept.
+    /// Forgets an image, and frees the blocks of the pages that it alone showed. `NoImage` where it
+    /// was never taken or was forgotten, and for image 0. It takes no memory. The cost is that of
+    /// two look-ups for each version that is kept.
     pub fn forget(&mut self, image: u32) -> Result<(), SnapRefusal>
         ensures told { (blocks : ℕ) (changes : List Change) → IsAfter blocks changes self.old → Ends blocks self.old self.new result (images.forget changes image) }
         ensures cause { IfErr result (λ e. e ≡ refusals.NoImage image) }

@@ -43,7 +43,7 @@ pub inside_push : (size : ℕ) (loose : List Span) (s : Span) → AreInside size
 inside_push size [] s h l = (l, tt)
 inside_push size (x ∷ loose) s h l = (h.0, inside_push size loose s h.1 l)
 
--- filling ranges leaves nothing of what stood in them
+-- filling ranges leaves nothing of what was in them
 pub filled_over : (byte : ℕ) (spans : List Span) (a b : List ℕ) → length a ≡ length b → ((i : ℕ) → is_loose spans i ≡ false → get_or a i 0 ≡ get_or b i 0) → filled byte spans a ≡ filled byte spans b
 filled_over byte [] a b size each = same_bytes a b size (λ i. each i refl)
 filled_over byte (s ∷ spans) a b size each =

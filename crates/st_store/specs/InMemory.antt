@@ -11,7 +11,7 @@ use Rattle.st_store.specs.declared.history.Span.{Span}
 use Rattle.st_store.specs.declared.history.StoreCall.{StoreCall}
 use Rattle.st_store.specs.declared.history.StoreCall.TheVariants.{Write, Sync}
 
--- what a store reads as, what stood at the last sync, and the ranges that were written since
+-- what a store reads as, what it was at the last sync, and the ranges that were written since
 pub record Held : Type 0 where
   pub seen : List ℕ
   pub synced : List ℕ
@@ -148,7 +148,7 @@ ReadBy Fails old new (Err e) = new ≡ failed old
 ReadBy (Stops byte) old new (Ok done) = ⊥
 ReadBy (Stops byte) old new (Err e) = new ≡ stopped old byte
 
--- A write works, or finds no memory for its record; or it fails; or the store stops when the bytes are written, or found no memory.
+-- A write works, or runs out of memory for its record; or it fails; or the store stops when the bytes are written, or it ran out of memory.
 abbrev pub WriteBy : Outcome → InMemory → InMemory → Contents → Result Unit Failed → Type 0
 WriteBy Works old new next (Ok done) = new ≡ changed (counted old) next
 WriteBy Works old new next (Err e) = new ≡ unrecorded old
@@ -157,7 +157,7 @@ WriteBy Fails old new next (Err e) = new ≡ failed old
 WriteBy (Stops byte) old new next (Ok done) = ⊥
 WriteBy (Stops byte) old new next (Err e) = (new ≡ stopped (changed old next) byte) ⊎ (new ≡ stopped_unrecorded old)
 
--- A sync works, or finds no memory for its record; or it fails; or the store stops and nothing is synced.
+-- A sync works, or runs out of memory for its record; or it fails; or the store stops and nothing is synced.
 abbrev pub SyncBy : Outcome → InMemory → InMemory → Result Unit Failed → Type 0
 SyncBy Works old new (Ok done) = new ≡ changed (counted old) (with_sync old.contents)
 SyncBy Works old new (Err e) = new ≡ unrecorded old

@@ -10,7 +10,7 @@ use Rattle.st_store.specs.declared.history.Span.{Span}
 use Rattle.st_store.specs.declared.history.StoreCall.{StoreCall}
 use Rattle.st_store.specs.declared.history.StoreCall.TheVariants.{Write, Sync}
 
--- an index before a range, or behind it
+-- an index before a range, or after it
 abbrev pub IsOutside : ℕ → ℕ → ℕ → Type 0
 IsOutside at count i = (i < at) ⊎ (at + count ≤ i)
 
@@ -49,7 +49,7 @@ fill_stays byte (s ∷ spans) bytes i e =
     let out : IsOutside s.at (length (replicate s.count byte)) i = subst (λ (n : ℕ). IsOutside s.at n i) (sym (length-replicate s.count byte)) (outside s.at s.count i parts.0) in
     fill_stays byte spans (written bytes s.at (replicate s.count byte)) i parts.1 ∙ stays bytes s.at (replicate s.count byte) i out
 
--- what is read agrees with what stood at the last sync, but for what was written since
+-- what is read agrees with what was there at the last sync, except for what was written since
 pub record Agrees (h : Held) : Type 0 where
   pub size : length h.seen ≡ length h.synced
   pub others : (i : ℕ) → is_loose h.loose i ≡ false → get_or h.seen i 0 ≡ get_or h.synced i 0

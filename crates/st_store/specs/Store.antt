@@ -2,14 +2,14 @@
 use Rattle.std.specs.Prelude.{◌≡◌, ◌⊎◌, ℕ, zero, suc, ◌+◌, ◌≤◌, Bool, false, ◌&&◌, nat_le, nat_lt, List, [], ◌∷◌, length, get_or, Result, Ok, Err}
 use Rattle.st_link.specs.declared.link.Failed.{Failed}
 
--- the list with these bytes from a place on, over what stood there; its length stays
+-- the list with these bytes from a place on, over what was there; its length stays
 abbrev pub written : List ℕ → ℕ → List ℕ → List ℕ
 written [] at new = []
 written (b ∷ old) zero [] = b ∷ old
 written (b ∷ old) zero (n ∷ new) = n ∷ written old zero new
 written (b ∷ old) (suc at) new = b ∷ written old at new
 
--- the index is in the range of so many bytes from a place on
+-- the index is in the range of that many bytes from a place on
 abbrev pub is_within : ℕ → ℕ → ℕ → Bool
 is_within at count i = nat_le at i && nat_lt i (at + count)
 

@@ -8,8 +8,8 @@ use crate::history::{Piece, Span, StoreCall};
 use std::alloc::{AllocError, Global};
 use std::marker::Model;
 
-/// The bytes of a store in memory. Contracts see how many they are, the recorded calls, and the byte that a stop since the last
-/// of them left in the unsynced ranges.
+/// The bytes of a store in memory. Contracts see how many they are, the recorded calls, and the
+/// byte that a stop since the last of them left in the unsynced ranges.
 #[derive(Drop)]
 pub struct Contents {
     alloc: Global,
@@ -119,7 +119,7 @@ impl Contents {
         copy_part(self.bytes.as_slice(), at, room);
     }
 
-    /// Writes bytes, and records it. Where it finds no memory for the record, it changes nothing.
+    /// Writes bytes, and records it. If it runs out of memory for the record, it changes nothing.
     pub fn write(&mut self, at: u64, new: &[u8]) -> Result<(), AllocError>
         requires { at + length new.now ≤ self.old.size }
         ensures ok { OnOk result (self.new ≡ memory.with_write self.old at new.now) }
@@ -144,7 +144,7 @@ impl Contents {
         Ok(())
     }
 
-    /// Records that all is synced. Where it finds no memory for the record, it changes nothing.
+    /// Records that all is synced. If it runs out of memory for the record, it changes nothing.
     pub fn sync(&mut self) -> Result<(), AllocError>
         ensures ok { OnOk result (self.new ≡ memory.with_sync self.old) }
         ensures err { OnErr result (self.new ≡ self.old) }

@@ -36,8 +36,8 @@ impl Piece {
     }
 }
 
-/// A write or a sync that a store in memory did. `fill` is the byte that the unsynced bytes became by the last stop since the
-/// call before, if one came.
+/// A write or a sync that a store in memory did. `fill` is the byte that the unsynced bytes became
+/// by the last stop since the call before, if one came.
 #[derive(Drop)]
 pub enum StoreCall {
     Write {

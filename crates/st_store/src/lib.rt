@@ -1,4 +1,5 @@
-//! A store of bytes that may crash, and one in memory. `docs/PROTOCOL.md`, "A metadata journal", has the rules.
+//! A store of bytes that may crash, and one in memory. `docs/PROTOCOL.md`, "A metadata journal",
+//! has the rules.
 #![tactic(auto)]
 
 mod contents;

@@ -14,8 +14,9 @@ use st_link::Failed;
 use std::alloc::{AllocError, Global};
 use std::marker::Model;
 
-/// A store in memory, which keeps a record of its writes and syncs. Some of its calls fail by a list, and it can be stopped as
-/// by a crash. Contracts see its contents and its record, which of its calls fail, and whether it found no memory for a record.
+/// A store in memory, which keeps a record of its writes and syncs. Some of its calls fail by a
+/// list, and it can be stopped as by a crash. Contracts see its contents and its record, which of
+/// its calls fail, and whether it found no memory for a record.
 #[derive(Drop)]
 pub struct MemoryStore {
     contents: Contents,
@@ -32,8 +33,8 @@ impl Model for MemoryStore {
 }
 
 impl MemoryStore {
-    /// A store of `size` zeros. The calls of `read`, `write` and `sync` are numbered from 1, and those whose numbers are in
-    /// `fails` fail and change nothing. No stop is set.
+    /// A store of `size` zeros. The calls of `read`, `write` and `sync` are numbered from 1, and
+    /// those whose numbers are in `fails` fail and change nothing. No stop is set.
     pub fn new(alloc: Global, size: u64, fails: Vec<u64>) -> Result<MemoryStore, AllocError>
         ensures { IfOk result (λ s. s ≡ record { contents = memory.fresh_contents size; plan = plans.fresh fails; starved = false }) }
     {
@@ -44,7 +45,8 @@ impl MemoryStore {
         })
     }
 
-    /// Whether a write or a sync found no memory for its record. Such a call fails and changes no byte.
+    /// Whether a write or a sync found no memory for its record. Such a call fails and changes no
+    /// byte.
     pub fn starved(&self) -> bool
         ensures { result ≡ self.now.starved }
     {
@@ -65,9 +67,9 @@ impl MemoryStore {
         self.contents.history()
     }
 
-    /// Sets a stop, in place of an earlier one. Calls are counted from 1 from now on. In the call of that number its own write is
-    /// done first; then each byte that was written since the last sync becomes `byte`. This call and every later one fail until
-    /// `restart`.
+    /// Sets a stop, in place of an earlier one. Calls are counted from 1 from now on. In the call
+    /// of that number its own write is done first; then each byte that was written since the last
+    /// sync becomes `byte`. This call and every later one fail until `restart`.
     pub fn stop(&mut self, call: u64, byte: u8)
         ensures { self.new ≡ record self.old { plan = plans.with_stop self.old.plan call byte } }
     {
@@ -232,8 +234,8 @@ impl Store for MemoryStore {
         self.read_bytes(at, room)
     }
 
-    /// A write that works is recorded. Where it finds no memory for the record, it fails and changes no byte, and from then on the
-    /// store is starved.
+    /// A write that works is recorded. If it runs out of memory for the record, it fails and
+    /// changes no byte, and from then on the store is starved.
     fn write(&mut self, at: u64, bytes: &[u8]) -> Result<(), Failed>
         requires { at + length bytes.now ≤ length (memory.held self.old.contents).seen }
         ensures exact { memory.Writes self.old self.new at bytes.now result }
@@ -246,7 +248,8 @@ impl Store for MemoryStore {
         self.write_bytes(at, bytes)
     }
 
-    /// A sync that works is recorded. Where it finds no memory for the record, it fails, and from then on the store is starved.
+    /// A sync that works is recorded. If it runs out of memory for the record, it fails, and from
+    /// then on the store is starved.
     fn sync(&mut self) -> Result<(), Failed>
         ensures exact { memory.Syncs self.old self.new result }
         ensures durable { OnOk result (Only (memory.held self.old.contents).seen (memory.MayLeave (memory.recorded self.new.contents))) }

@@ -5,8 +5,8 @@ ghost use Rattle.st_store.specs.Plans as plans;
 
 use st_link::Failed;
 
-/// A stop: in how many calls it comes, counting the next one as 1, and the byte that unsynced bytes become. At 0 it does not
-/// come.
+/// A stop: in how many calls it comes, counting the next one as 1, and the byte that unsynced bytes
+/// become. At 0 it does not come.
 #[derive(Clone, Copy, Debug, PartialEq, Eq)]
 pub struct Stop {
     pub left: u64,
@@ -21,8 +21,8 @@ pub enum Outcome {
     Stops(u8),
 }
 
-/// The number of calls so far, the numbers of the calls that fail, the number of faults so far, the stop that is set, and
-/// whether the store has stopped.
+/// The number of calls so far, the numbers of the calls that fail, the number of faults so far, the
+/// stop that is set, and whether the store has stopped.
 #[derive(Drop)]
 pub struct Plan {
     pub calls: u64,

@@ -6,8 +6,9 @@ ghost use Rattle.st_store.specs.Store.{Elapses, Follows, IsWithin, Only, Torn, w
 
 use st_link::Failed;
 
-/// Bytes that outlive a crash. A range that was written since the last sync that succeeded may hold any bytes after a crash,
-/// also where the write failed; all other bytes stay. `docs/PROTOCOL.md`, "A metadata journal", has the rules.
+/// Bytes that outlive a crash. A range that was written since the last sync that succeeded may hold
+/// any bytes after a crash, also where the write failed; all other bytes stay. `docs/PROTOCOL.md`,
+/// "A metadata journal", has the rules.
 pub trait Store {
     /// The bytes that the store reads as.
     ghost seen: { Self → List ℕ };
@@ -47,8 +48,8 @@ pub trait Store {
         ensures kept { keeps self.old self.new }
         ensures cause { HasCause (faults self.old) (faults self.new) result };
 
-    /// Writes the bytes from `at` on, over what is there. Until a sync, and after a failure, a crash may leave any bytes in the
-    /// range.
+    /// Writes the bytes from `at` on, over what is there. Until a sync, and after a failure, a
+    /// crash may leave any bytes in the range.
     fn write(&mut self, at: u64, bytes: &[u8]) -> Result<(), Failed>
         requires { at + length bytes.now ≤ length (seen self.old) }
         ensures exact { writes self.old at bytes.now result self.new }

@@ -1,4 +1,4 @@
--- The rows of clients from 1 to 16: what stands after each change, and what 16 looks find.
+-- The rows of clients from 1 to 16: what holds after each change, and what 16 looks find.
 use Rattle.std.proofs.Common.{◌≡◌, ℕ, ◌+◌, ◌<◌, ◌≤◌, Bool, true, false, cond, if◌then◌else◌, List, [], ◌∷◌, map, filter, length, refl, sym, ap, subst, ◌∙◌, ⊎_elim, true≢false, arith}
 use Rattle.std.specs.Prelude.{find, not, is_some, nat_le, slice_index_or, Option, Some, None, ◌==◌, ◌&&◌, ◌||◌}
 use Rattle.std.specs.List.{IsDistinct, list_all, list_any}

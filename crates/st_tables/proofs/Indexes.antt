@@ -34,7 +34,7 @@ and_none false = refl
 -- Lists.
 
 module _ {V : Type 0} where
-  -- what is told of the rows that pass, in two lists that differ in one row of which the same is told
+  -- what is reported about the rows that pass, in two lists that differ in one row about which the same is reported
   told_by : (p : V → Bool) (f : V → ℕ) (x y : V) (xs : List V) → p x ≡ p y → f x ≡ f y → map f (cond (p x) (x ∷ xs) xs) ≡ map f (cond (p y) (y ∷ xs) xs)
   told_by p f x y xs e g = by (p y) e
     where
@@ -64,7 +64,7 @@ module _ {V : Type 0} where
   told_map p f g h [] = refl
   told_map p f g h (x ∷ xs) = told_by p f (g x) x (filter p (map g xs)) (h x).0 (h x).1 ∙ told_front p f x (map g xs) xs (told_map p f g h xs)
 
-  -- rows that go, by what is told of them
+  -- rows that go, by what is reported about them
   pub told_gone : (p r : V → Bool) (f : V → ℕ) (t : ℕ → Bool) → ((x : V) → p x ≡ true → r x ≡ t (f x)) → (xs : List V) → map f (filter p (filter r xs)) ≡ filter t (map f (filter p xs))
   told_gone p r f t h [] = refl
   told_gone p r f t h (x ∷ xs) = by (p x) (r x) refl refl (told_gone p r f t h xs)

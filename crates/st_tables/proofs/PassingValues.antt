@@ -43,7 +43,7 @@ module _ {V : Type 0} (p : V → Bool) where
   first_place (x ∷ xs) zero h e = zero_first (position_or_len p xs) (p x) e
   first_place (x ∷ xs) (suc i) h e = at_first x xs i (p x) refl h (λ g. first_place xs i g e)
 
-  -- the first value that passes stands there
+  -- the first value that passes is there
   pub first_at : (xs : List V) (i : ℕ) → i < length xs → list_any p (take i xs) ≡ false → passes_at xs i ≡ true → Some i ≡ position p xs
   first_at xs i l h e =
       let q : position_or_len p xs ≡ i = first_place xs i h e in

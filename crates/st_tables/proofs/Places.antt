@@ -349,7 +349,7 @@ key_parts : (k : Key) (s : ℕ) → k.second ≡ s → k ≡ key_on k.first s
 key_parts k s e = λ i. record { first = k.first; second = e i }
 
 module _ {V : Type 0} (key : V → Key) (n : ℕ) (at : ℕ → Option V) (place : Key → Option ℕ) (t : IsTable key n at place) (s : ℕ) where
-  -- one that stands on the number has a place that is not below the least
+  -- one that is on the number has a place that isn't below the least
   on_it : (j : ℕ) (w : V) → at j ≡ Some w → is_on key s w ≡ true → least_of place s n 16 ≤ j
   on_it j w e h =
       let p = and_parts (is_client (key w).first) ((key w).second == s) h in

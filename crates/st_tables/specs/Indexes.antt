@@ -8,7 +8,7 @@ use Rattle.std.specs.Map.{lookup}
 use Rattle.st_tables.specs.declared.keys.Key.{Key}
 use Rattle.st_tables.specs.Tables.{IsCounted, first_of, has_key, second_of}
 
--- what stands under a number
+-- what is under a number
 abbrev pub row_under : {X : Type 0} → List (ℕ × X) → ℕ → Option X
 row_under es n = lookup (nat_eq n) es
 
@@ -30,11 +30,11 @@ members (Some s) = s.keys
 abbrev pub numbers_in : {S : Type 0} → List (IndexSet ℕ S) → ℕ → List ℕ
 numbers_in sets n = members (slice_get sets n)
 
--- one number more stands last in a queue
+-- one number more is last in a queue
 abbrev pub Joins : ℕ → ℕ → (ℕ → List ℕ) → (ℕ → List ℕ) → Type 0
 Joins under number old new = (n : ℕ) → new n ≡ old n ++ (if under == n then number ∷ [] else [])
 
--- one number stands no longer in a queue
+-- one number is no longer in a queue
 abbrev pub Leaves : ℕ → ℕ → (ℕ → List ℕ) → (ℕ → List ℕ) → Type 0
 Leaves under number old new = (n : ℕ) → new n ≡ (if under == n then filter (λ k. not (k == number)) (old n) else old n)
 
@@ -62,7 +62,7 @@ Forgets under old new = (u n : ℕ) → has n (new u) ≡ has n (old u) && not (
 abbrev pub Keeps : (ℕ → List ℕ) → (ℕ → List ℕ) → Type 0
 Keeps old new = (u n : ℕ) → has n (new u) ≡ has n (old u)
 
--- under each second number stand the first numbers of its rows, in the order of the rows
+-- under each second number are the first numbers of its rows, in the order of the rows
 abbrev pub AreQueued : {V : Type 0} → (V → Key) → List V → (ℕ → List ℕ) → Type 0
 AreQueued key rows queue = (n : ℕ) → queue n ≡ map (first_of key) (filter (λ v. second_of key v == n) rows)
 
@@ -70,7 +70,7 @@ AreQueued key rows queue = (n : ℕ) → queue n ≡ map (first_of key) (filter 
 abbrev pub AreOwned : {V : Type 0} → (V → Key) → List V → (ℕ → List ℕ) → Type 0
 AreOwned key rows owned = (c s : ℕ) → has s (owned c) ≡ list_any (has_key key (record { first = c; second = s })) rows
 
--- the rows are counted by client, stand in queues under their second numbers, and are found by their first ones
+-- the rows are counted by client, are in queues under their second numbers, and are found by their first ones
 pub record IsIndexed {V S : Type 0} (key : V → Key) (rows : List V) (tally : List ℕ) (waiting : List (ℕ × Vec ℕ)) (known : List (IndexSet ℕ S)) : Type 0 where
   pub counts : IsCounted key rows tally
   pub queued : AreQueued key rows (queue_in waiting)

@@ -8,8 +8,9 @@ use slab::Slab;
 use std::alloc::{AllocError, Global};
 use std::marker::Model;
 
-/// Values in the order in which they came: a slab, whose values are not moved when others go, and the order of its keys.
-/// Contracts see the list of the values; a place is that of a value in the list, from 0 on.
+/// Values in the order in which they came: a slab, whose values are not moved when others go, and
+/// the order of its keys. Contracts see the list of the values; a place is that of a value in the
+/// list, from 0 on.
 #[derive(Drop)]
 pub struct Ordered<V: Drop> {
     slab: Slab<V>,
@@ -110,7 +111,8 @@ impl<V: Drop> Ordered<V> {
         None
     }
 
-    /// Keeps the value at a place where it passes the test, and else takes it out. Returns the place of the next value.
+    /// Keeps the value at a place where it passes the test, and otherwise takes it out. Returns the
+    /// place of the next value.
     fn keep<T: Test<V>>(&mut self, place: usize, test: &T) -> usize
         requires { place < length self.old }
         ensures left { self.new ≡ (if option_map_or (T.passes test.now) (slice_get self.old place) false then self.old else remove self.old place) }

@@ -95,9 +95,10 @@ fn remove_all<V: Row>(table: &mut Table<V>, queues: &mut Queues, first: u32, sec
     }
 }
 
-/// Rows of the clients 1 to 16, in the order in which they came: the first number of a key is the client, the second what
-/// the client has there, as a file. Each client's rows are counted, and found by the client; the clients with a row on a
-/// number stand in a queue under that number. Contracts see the list of the rows.
+/// Rows of the clients 1 to 16, in the order in which they came: the first number of a key is the
+/// client, the second what the client has there, as a file. Each client's rows are counted, and
+/// found by the client; the clients with a row on a number are in a queue under that number.
+/// Contracts see the list of the rows.
 #[derive(Drop)]
 pub struct ClientTable<V: Row> {
     alloc: Global,
@@ -206,8 +207,8 @@ impl<V: Row> ClientTable<V> {
         Ok(())
     }
 
-    /// Puts a row in the place of that with its key, or last where there is none. The first number of its key is a client's,
-    /// from 1 to 16.
+    /// Puts a row in the place of that with its key, or last if there is none. The first number of
+    /// its key is a client's, from 1 to 16.
     pub fn put(&mut self, row: V) -> Result<(), AllocError>
         requires { is_of_client V.key_of row ≡ true }
         ensures ok { OnOk result (self.new ≡ put (has_key V.key_of (V.key_of row)) row self.old) }
@@ -221,7 +222,7 @@ impl<V: Row> ClientTable<V> {
         }
     }
 
-    /// Writes a row over the one with its key, where there is one.
+    /// Writes a row over the one with its key, if there is one.
     pub fn change(&mut self, row: V)
         ensures written { self.new ≡ map (λ r. if has_key V.key_of (V.key_of row) r then row else r) self.old }
         ensures changed { Changes V.key_of row self.old self.new }
@@ -265,7 +266,8 @@ impl<V: Row> ClientTable<V> {
         numbers(&self.owned, client.0 as u32)
     }
 
-    /// The second numbers of the keys of a client's rows, each once, in rising order. It looks at these rows alone.
+    /// The second numbers of the keys of a client's rows, each once, in rising order. It looks at
+    /// these rows alone.
     pub fn seconds_of(&self, alloc: Global, client: ClientId) -> Result<Vec<u32>, AllocError>
         ensures { IfOk result (λ ks. ks.items ≡ keys.rising (map (second_of V.key_of) (filter (is_first V.key_of client.0) self.now))) }
     {
@@ -317,7 +319,8 @@ impl<V: Row> ClientTable<V> {
         queue(&self.queues, second)
     }
 
-    /// Whether there is a row of this key that passes the test. The queue is that of the key's second number.
+    /// Whether there is a row of this key that passes the test. The queue is that of the key's
+    /// second number.
     pub fn has_in<T: Test<V>>(&self, waiting: &[u32], key: Key, test: &T) -> bool
         requires { waiting.now ≡ map (first_of V.key_of) (filter (λ v. second_of V.key_of v == key.second) self.now) }
         ensures { result ≡ list_any (λ v. has_key V.key_of key v && T.passes test.now v) self.now }
@@ -335,7 +338,8 @@ impl<V: Row> ClientTable<V> {
         }
     }
 
-    /// Whether a row whose key has this second number passes the test. It looks at the rows on this number alone.
+    /// Whether a row whose key has this second number passes the test. It looks at the rows on this
+    /// number alone.
     pub fn any_on<T: Test<V>>(&self, second: u32, test: &T) -> bool
         ensures { result ≡ list_any (is_among V.key_of second (T.passes test.now)) self.now }
     {
@@ -351,7 +355,8 @@ impl<V: Row> ClientTable<V> {
         found
     }
 
-    /// The clients with a row whose key has this second number and which passes the test, in rising order.
+    /// The clients with a row whose key has this second number and which passes the test, in rising
+    /// order.
     pub fn clients_on<T: Test<V>>(
         &self,
         alloc: Global,

@@ -1,5 +1,5 @@
-//! Small tables of which contracts see a list: rows found by a key in the order in which they came, and values of a slab in
-//! an order.
+//! Small tables of which contracts see a list: rows found by a key in the order in which they came,
+//! and values of a slab in an order.
 #![tactic(auto)]
 
 mod arrival_order;

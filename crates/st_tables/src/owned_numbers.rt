@@ -6,7 +6,7 @@ ghost use Rattle.st_tables.specs.Indexes.{Forgets, Gains, Keeps, Loses, numbers_
 use indexmap::IndexSet;
 use std::alloc::{AllocError, Global};
 
-/// Sets of numbers, each at the place of the number under which it stands.
+/// Sets of numbers, each at the place of the number under which it is kept.
 pub type OwnedNumbers = Vec<IndexSet<u32>>;
 
 fn add(numbers: &mut IndexSet<u32>, number: u32) -> Result<(), AllocError>

@@ -7,7 +7,7 @@ ghost use Rattle.st_tables.specs.Indexes.{Joins, Leaves, Stays, queue_in, row_un
 use indexmap::IndexMap;
 use std::alloc::{AllocError, Global};
 
-/// Queues of numbers by the number under which each stands.
+/// Queues of numbers by the number under which each is kept.
 pub type Queues = IndexMap<u32, Vec<u32>>;
 
 fn push_last(queue: &mut Vec<u32>, number: u32) -> Result<(), AllocError>
@@ -39,7 +39,7 @@ pub fn queue(queues: &Queues, under: u32) -> &[u32]
     }
 }
 
-/// A queue of one number begins under a number where none stands.
+/// A queue of one number begins under a number that has none.
 fn begin(queues: &mut Queues, alloc: Global, under: u32, number: u32) -> Result<(), AllocError>
     requires { row_under queues.old.entries under ≡ None }
     ensures ok { OnOk result (Joins under number (queue_in queues.old.entries) (queue_in queues.new.entries)) }

@@ -70,8 +70,8 @@ fn sooner(least: u64, place: Option<u64>) -> u64
     }
 }
 
-/// Rows in the order in which they came, each found by its key in constant time. No two have one key. Contracts see the
-/// list of the rows.
+/// Rows in the order in which they came, each found by its key in constant time. No two have one
+/// key. Contracts see the list of the rows.
 #[derive(Drop)]
 pub struct Table<V: Row> {
     next: u64,
@@ -112,7 +112,7 @@ impl<V: Row> Table<V> {
         self.rows.get(place)
     }
 
-    /// Puts a row in the place of that with its key, or last where there is none.
+    /// Puts a row in the place of that with its key, or last if there is none.
     pub fn put(&mut self, row: V) -> Result<(), AllocError>
         ensures ok { OnOk result (self.new ≡ put (has_key V.key_of (V.key_of row)) row self.old) }
         ensures err { OnErr result (self.new ≡ self.old) }
@@ -176,7 +176,7 @@ impl<V: Row> Table<V> {
         found
     }
 
-    /// Writes a row over the one with its key, where there is one.
+    /// Writes a row over the one with its key, if there is one.
     pub fn change(&mut self, row: V)
         ensures written { self.new ≡ map (λ r. if has_key V.key_of (V.key_of row) r then row else r) self.old }
         ensures changed { Changes V.key_of row self.old self.new }

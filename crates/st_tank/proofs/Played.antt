@@ -104,7 +104,7 @@ is_played holds r left left_now before now a b m n o reports through causes = re
   known = known_by r;
 }
 
--- nothing was read and nothing written, for want of memory
+-- nothing was read and nothing written, since memory ran out
 pub unplayed : {State : Type 0} (left before : Option (List ℕ)) (a m : ℕ) (o : List ℕ → Outcome State) →
     IsPlayed 5 left left before before a a m m (λ bytes. played_of (o bytes))
 unplayed {State} left before a m o =

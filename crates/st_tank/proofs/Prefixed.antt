@@ -21,7 +21,7 @@ one_prefix (Err faults.Read) old new p h = h
 one_prefix (Err faults.Write) old new p h = h
 one_prefix (Err faults.Memory) old new p h = h
 
--- a front of the report was written
+-- a prefix of the report was written
 pub front_written : (r : Result (Summary × World) ReplayFault) (left old new : Option (List ℕ)) → IfSome left (λ bytes. Reports r old new (replay_of bytes)) →
     IfSome left (λ bytes. AppendsPrefix old new (report_of bytes))
 front_written r None old new h = tt

@@ -19,7 +19,7 @@ use Rattle.st_node.specs.Service.{HasCauses, OfReadings}
 use Rattle.st_node.specs.Whole.{handle_all}
 use Rattle.st_tank.specs.NodeWords.{started, started_run}
 
--- why bytes are no message
+-- why bytes aren't a message
 abbrev pub refusal_text : CodecRefusal → List ℕ
 refusal_text refusals.Short = codes " Short"
 refusal_text refusals.Long = codes " Long"

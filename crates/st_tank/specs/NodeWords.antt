@@ -54,7 +54,7 @@ abbrev pub is_name : List ℕ → Bool
 is_name [] = false
 is_name (b ∷ bs) = not (b == 45) && nat_le (length (b ∷ bs)) 100
 
--- the words before and behind the node are right
+-- the words before and after the node are right
 abbrev pub is_service : List ℕ → List ℕ → Bool
 is_service first name = bytes_eq first (codes "node") && is_name name
 

@@ -40,8 +40,8 @@ status_scripted (Err faults.Read) = 3
 status_scripted (Err faults.Write) = 4
 status_scripted (Err faults.Memory) = 5
 
--- A script was played: at 0 and 1 all its text was written and no count rose, at 0 all was read, at 3 and 4 the count of the source's or of the sink's faults rose, and a front
--- of the text was written in any case.
+-- A script was played: at 0 and 1 all its text was written and no count rose; at 0 all was read; at 3 and 4 the count of the source's or of the sink's faults
+-- rose; and a prefix of the text was written in any case.
 pub record IsPlayed (status : ℕ) (left_before left_now before now : Option (List ℕ)) (read_before read_now write_before write_now : ℕ) (play : List ℕ → Played) : Type 0 where
   pub whole : status ≤ 1 → IfSome left_before (λ bytes. (status ≡ (play bytes).status) × Appends before now (play bytes).text)
   pub front : IfSome left_before (λ bytes. AppendsPrefix before now (play bytes).text)

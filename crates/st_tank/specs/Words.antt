@@ -84,8 +84,8 @@ OnMade (Some (jobs.Generate n seed)) fact = fact (generate_text n seed)
 OnMade (Some (jobs.Work n seed)) fact = fact (work_text n seed)
 OnMade job fact = Unit {0}
 
--- The text of a status: the usage at wrong words; else a text for a failed read, for a failed write and for running out of
--- memory, and no text for 0 and 1.
+-- The text of a status: the usage for wrong arguments; otherwise a text for a failed read, for a failed write and for running out of memory, and no text for 0
+-- and 1.
 
 unfoldable pub USAGE : List ℕ
 USAGE = codes "usage: tank replay | generate N SEED | work N SEED | node server|client ID NAME | journal | move | snap | shared\n"

@@ -94,7 +94,8 @@ fn tell_memory<E: Sink>(err: &mut E) -> u8
     tell_text(err, b"tank: out of memory\n", Err(NodeFault::Memory))
 }
 
-/// Tells a stop at a frame, whose text was made unless memory ran out. Returns what was told, and the status.
+/// Reports a stop at a frame, whose text was made unless memory ran out. Returns what was reported,
+/// and the status.
 fn tell_stop<E: Sink>(
     err: &mut E,
     made: Result<(), AllocError>,
@@ -118,7 +119,8 @@ fn tell_stop<E: Sink>(
     }
 }
 
-/// Writes the text of an end. Returns what was told, and the status: where memory runs out for a text of status 1, that is told.
+/// Writes the text of an end. Returns what was reported, and the status: if memory runs out for a
+/// text of status 1, that is reported.
 #[tactic(auto, unfolding(crate::specs::NodeEnds::end_text), using(crate::proofs::NodeTold::nothing_told))]
 pub(crate) fn tell<E: Sink>(
     alloc: Global,

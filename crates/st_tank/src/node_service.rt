@@ -84,9 +84,10 @@ fn start_and_serve<L: Link, C: Clock>(
     }
 }
 
-/// Starts a node, attaches the link at the name, serves the node over it, and writes the text of how that ended. Returns the
-/// program's status: 0 where the stream ended at a frame's boundary, 1 where the run stopped, 4 where that could not be told, 5 where
-/// memory ran out, and 6 where the link failed.
+/// Starts a node, attaches the link at the name, serves the node over it, and writes the text of
+/// how that ended. Returns the program's status: 0 where the stream ended at a frame's boundary, 1
+/// where the run stopped, 4 where that could not be told, 5 if memory ran out, and 6 where the link
+/// failed.
 pub fn serve_node<E: Sink, L: Link, C: Clock>(
     alloc: Global,
     id: NodeId,
@@ -96,7 +97,8 @@ pub fn serve_node<E: Sink, L: Link, C: Clock>(
     clock: &mut C,
 ) -> u8
     requires { IsKnown id }
-    // How the run over the stream ended, with what was written of it, and with the status and the text of that.
+    // How the run over the stream ended, with what was written of it, and with the status and the
+    // text of that.
     ensures served { IsServed id result (L.left link.old) (L.written link.old) (L.written link.new) (C.readings clock.old)
         (L.Source.faults link.old) (L.Source.faults link.new) (E.written err.old) (E.written err.new) (E.faults err.old) (E.faults err.new) }
     // Whole frames over a link that does not fail are all served, unless memory runs out.

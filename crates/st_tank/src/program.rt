@@ -1,4 +1,5 @@
-// The program: which command its words ask for, what it runs over which streams, and the status that it ends with.
+// The program: which command its words ask for, what it runs over which streams, and the status
+// that it ends with.
 ghost use Rattle.std.specs.Prelude.{◌≡◌, ◌≤◌, ◌⊎◌, true, false, Some, IfSome, IsTrue, map, string_bytes};
 ghost use Rattle.std.specs.Io.KnownBytes.{Appends, IsAtEnd};
 ghost use Rattle.st_generate.specs.GeneratedText.{generate_text, work_text};
@@ -45,7 +46,8 @@ fn status_after(ended: &Result<(Summary, World), ReplayFault>) -> u8
     }
 }
 
-/// Replays a schedule. Returns 0 or 1, 3 for a failed read, 4 for a failed write, and 5 where memory ran out.
+/// Replays a schedule. Returns 0 or 1, 3 for a failed read, 4 for a failed write, and 5 if memory
+/// ran out.
 fn replay<I: Source, O: Sink>(alloc: Global, input: &mut I, out: &mut O) -> u8
     ensures report { result ≤ 1 → IfSome (I.left input.old) (λ bytes.
         (result ≡ status_of (replay_of bytes).last) × Appends (O.written out.old) (O.written out.new) (report_of bytes)) }
@@ -73,7 +75,8 @@ fn status_of_made<T: Drop>(made: Result<T, WorkFault>) -> u8
     }
 }
 
-/// Writes the text of a schedule of a length and a seed. Returns 0, 4 for a failed write, and 5 where memory ran out.
+/// Writes the text of a schedule of a length and a seed. Returns 0, 4 for a failed write, and 5 if
+/// memory ran out.
 fn generate<O: Sink>(alloc: Global, n: u32, seed: u64, out: &mut O) -> u8
     requires { n ≤ 100000 }
     ensures { IsMade result (O.written out.old) (O.written out.new) (O.faults out.old) (O.faults out.new) (generate_text n seed) }
@@ -278,7 +281,8 @@ fn run_told<I: Source, O: Sink, E: Sink>(
     status
 }
 
-/// The words other than those of a node: a replay, a script, a schedule that is made, or wrong words.
+/// The arguments other than those of a node: a replay, a script, a schedule that is made, or wrong
+/// arguments.
 fn run_words<I: Source, O: Sink, E: Sink>(
     alloc: Global,
     words: &[String],
@@ -286,7 +290,8 @@ fn run_words<I: Source, O: Sink, E: Sink>(
     out: &mut O,
     err: &mut E,
 ) -> u8
-    // At 0 and 1 the report of all bytes of the source was written, and nothing else; it is 0 exactly where the report is whole.
+    // At 0 and 1 the report of all bytes of the source was written, and nothing else; it is 0
+    // exactly where the report is whole.
     ensures report { OnReplay (words_of.job_of words.now) (result ≤ 1 → IfSome (I.left input.old) (λ bytes.
         (result ≡ status_of (replay_of bytes).last) × Appends (O.written out.old) (O.written out.new) (report_of bytes))) }
     ensures through { OnReplay (words_of.job_of words.now) (result ≡ 0 → IsAtEnd (I.left input.new)) }
@@ -296,14 +301,15 @@ fn run_words<I: Source, O: Sink, E: Sink>(
     ensures prefix { OnReplay (words_of.job_of words.now) (IfSome (I.left input.old) (λ bytes.
         AppendsPrefix (O.written out.old) (O.written out.new) (report_of bytes))) }
 
-    // Of a script: at 0 and 1 all its text was written, with that status, and at 0 all was read; at every status a front of the text was written.
+    // For a script: at 0 and 1 all its text was written, with that status, and at 0 all was read;
+    // at every status a prefix of the text was written.
     ensures played { OnScript (words_of.job_of words.now) (λ c. result ≤ 1 → IfSome (I.left input.old) (λ bytes.
         (result ≡ (played c bytes).status) × Appends (O.written out.old) (O.written out.new) (played c bytes).text)) }
     ensures played_front { OnScript (words_of.job_of words.now) (λ c. IfSome (I.left input.old) (λ bytes. AppendsPrefix (O.written out.old) (O.written out.new) (played c bytes).text)) }
     ensures played_through { OnScript (words_of.job_of words.now) (λ c. result ≡ 0 → IsAtEnd (I.left input.new)) }
 
-    // Of `generate` and `work`: at 0 the whole text was written, 1 to 3 never come, and at every status a front of the text was written; no
-    // input is taken.
+    // Of `generate` and `work`: at 0 the whole text was written, 1 to 3 never come, and at every
+    // status a prefix of the text was written; no input is taken.
     ensures made { OnMade (words_of.job_of words.now) (λ text. (result ≤ 3 → (result ≡ 0) × Appends (O.written out.old) (O.written out.new) text)) }
     ensures front { OnMade (words_of.job_of words.now) (λ text. AppendsPrefix (O.written out.old) (O.written out.new) text) }
     ensures alone { OnMade (words_of.job_of words.now) (λ text. input.new ≡ input.old) }
@@ -314,7 +320,8 @@ fn run_words<I: Source, O: Sink, E: Sink>(
     ensures usage { words_of.right words.now ≡ false → (result ≡ 2) ⊎ ((result ≡ 4) × Rose (E.faults err.old) (E.faults err.new)) }
     ensures unused { words_of.right words.now ≡ false → (input.new ≡ input.old) × (out.new ≡ out.old) }
     ensures read { result ≡ 3 → Rose (I.faults input.old) (I.faults input.new) }
-    // After a failed read of a schedule the output has what was observed in the lines whose newlines were taken, and none of these is refused.
+    // After a failed read of a schedule the output has what was observed in the lines whose
+    // newlines were taken, and none of these is refused.
     ensures cut_off { OnReplay (words_of.job_of words.now) (result ≡ 3 → IsCutOff (I.left input.old) (I.left input.new) (O.written out.old) (O.written out.new)) }
     ensures write { result ≡ 4 → words_of.HasWriteCause (words_of.right words.now) (O.faults out.old) (O.faults out.new) (E.faults err.old) (E.faults err.new) }
 
@@ -328,14 +335,17 @@ fn run_words<I: Source, O: Sink, E: Sink>(
     }
 }
 
-/// The program. With the one word `replay` it reads a schedule from `input` and writes the schedule's report to `out`; with
-/// `generate N SEED` it writes the schedule of that length and seed, and with `work N SEED` the last line of its report. With
-/// `move`, `snap` or `shared` it reads a script from `input` and writes its text to `out`. It
-/// returns 0 where the schedule or the script was read and run through its end, or the text was written; 1 where a line was refused, 3 for a
-/// failed read, 4 for a failed write, and 5 where memory ran out. With the words `node server ID NAME` or `node client ID NAME` it
-/// attaches `link` at NAME and serves that node over it, on the readings of `clock`: 0 where the stream ended at a frame's boundary,
-/// 1 where the run stopped, 5 where memory ran out, and 6 where the link failed. All other words are wrong: 2. Where the text of 1 or
-/// 2 cannot be written to `err` it is 4. `docs/PROTOCOL.md`, "The program", has the texts that are written to `err`.
+/// The program. With the one word `replay` it reads a schedule from `input` and writes the
+/// schedule's report to `out`; with `generate N SEED` it writes the schedule of that length and
+/// seed, and with `work N SEED` the last line of its report. With `move`, `snap` or `shared` it
+/// reads a script from `input` and writes its text to `out`. It returns 0 where the schedule or the
+/// script was read and run through its end, or the text was written; 1 where a line was refused, 3
+/// for a failed read, 4 for a failed write, and 5 if memory ran out. With the words
+/// `node server ID NAME` or `node client ID NAME` it attaches `link` at NAME and serves that node
+/// over it, on the readings of `clock`: 0 where the stream ended at a frame's boundary, 1 where the
+/// run stopped, 5 if memory ran out, and 6 where the link failed. All other words are wrong: 2.
+/// Where the text of 1 or 2 cannot be written to `err` it is 4. `docs/PROTOCOL.md`, "The program",
+/// has the texts that are written to `err`.
 pub fn run<I: Source, O: Sink, E: Sink, L: Link, C: Clock>(
     alloc: Global,
     words: &[String],
@@ -345,7 +355,8 @@ pub fn run<I: Source, O: Sink, E: Sink, L: Link, C: Clock>(
     link: &mut L,
     clock: &mut C,
 ) -> u8
-    // At 0 and 1 the report of all bytes of the source was written, and nothing else; it is 0 exactly where the report is whole.
+    // At 0 and 1 the report of all bytes of the source was written, and nothing else; it is 0
+    // exactly where the report is whole.
     ensures report { OnReplay (words_of.job_of words.now) (result ≤ 1 → IfSome (I.left input.old) (λ bytes.
         (result ≡ status_of (replay_of bytes).last) × Appends (O.written out.old) (O.written out.new) (report_of bytes))) }
     ensures through { OnReplay (words_of.job_of words.now) (result ≡ 0 → IsAtEnd (I.left input.new)) }
@@ -355,14 +366,15 @@ pub fn run<I: Source, O: Sink, E: Sink, L: Link, C: Clock>(
     ensures prefix { OnReplay (words_of.job_of words.now) (IfSome (I.left input.old) (λ bytes.
         AppendsPrefix (O.written out.old) (O.written out.new) (report_of bytes))) }
 
-    // Of a script: at 0 and 1 all its text was written, with that status, and at 0 all was read; at every status a front of the text was written.
+    // For a script: at 0 and 1 all its text was written, with that status, and at 0 all was read;
+    // at every status a prefix of the text was written.
     ensures played { OnScript (words_of.job_of words.now) (λ c. result ≤ 1 → IfSome (I.left input.old) (λ bytes.
         (result ≡ (played c bytes).status) × Appends (O.written out.old) (O.written out.new) (played c bytes).text)) }
     ensures played_front { OnScript (words_of.job_of words.now) (λ c. IfSome (I.left input.old) (λ bytes. AppendsPrefix (O.written out.old) (O.written out.new) (played c bytes).text)) }
     ensures played_through { OnScript (words_of.job_of words.now) (λ c. result ≡ 0 → IsAtEnd (I.left input.new)) }
 
-    // Of `generate` and `work`: at 0 the whole text was written, 1 to 3 never come, and at every status a front of the text was written; no
-    // input is taken.
+    // Of `generate` and `work`: at 0 the whole text was written, 1 to 3 never come, and at every
+    // status a prefix of the text was written; no input is taken.
     ensures made { OnMade (words_of.job_of words.now) (λ text. (result ≤ 3 → (result ≡ 0) × Appends (O.written out.old) (O.written out.new) text)) }
     ensures front { OnMade (words_of.job_of words.now) (λ text. AppendsPrefix (O.written out.old) (O.written out.new) text) }
     ensures alone { OnMade (words_of.job_of words.now) (λ text. input.new ≡ input.old) }
@@ -374,20 +386,24 @@ pub fn run<I: Source, O: Sink, E: Sink, L: Link, C: Clock>(
         (result ≡ 2) ⊎ ((result ≡ 4) × Rose (E.faults err.old) (E.faults err.new)) }
     ensures unused { words_of.right words.now ≡ false → (input.new ≡ input.old) × (out.new ≡ out.old) }
     ensures read { result ≡ 3 → Rose (I.faults input.old) (I.faults input.new) }
-    // After a failed read of a schedule the output has what was observed in the lines whose newlines were taken, and none of these is refused.
+    // After a failed read of a schedule the output has what was observed in the lines whose
+    // newlines were taken, and none of these is refused.
     ensures cut_off { OnReplay (words_of.job_of words.now) (result ≡ 3 → IsCutOff (I.left input.old) (I.left input.new) (O.written out.old) (O.written out.new)) }
     ensures write { result ≡ 4 → words_of.HasWriteCause (words_of.right words.now) (O.faults out.old) (O.faults out.new) (E.faults err.old) (E.faults err.new) }
 
-    // The error sink gets the text of the status, all of it unless the sink failed; of a node it is another text.
+    // The error sink gets the text of the status, all of it unless the sink failed; of a node it is
+    // another text.
     ensures told_prefix { starts_node words.now ≡ false → AppendsPrefix (E.written err.old) (E.written err.new) (complaint (words_of.right words.now) result) }
     ensures told { starts_node words.now ≡ false →
         Appends (E.written err.old) (E.written err.new) (complaint (words_of.right words.now) result) ⊎ Rose (E.faults err.old) (E.faults err.new) }
 
-    // The run of which the report tells is safe: every step of it keeps every promise. Old messages change nothing, in any run.
+    // The run of which the report tells is safe: every step of it keeps every promise. Old messages
+    // change nothing, in any run.
     ensures safe { IfSome (I.left input.old) (λ bytes. RunsSafely (lines_of bytes)) }
     ensures promised { IsAllPromised }
 
-    // The words of a node: how its run over the stream ended, what was written of it, and the status and the text of that.
+    // The words of a node: how its run over the stream ended, what was written of it, and the
+    // status and the text of that.
     ensures node { IfSome (services.node_of (map string_bytes words.now)) (λ id. IsServed id result (L.left link.old) (L.written link.old)
         (L.written link.new) (C.readings clock.old) (L.Source.faults link.old) (L.Source.faults link.new) (E.written err.old) (E.written err.new)
         (E.faults err.old) (E.faults err.new)) }

@@ -31,7 +31,8 @@ pub(crate) enum Command {
     Shared,
 }
 
-/// What a call is to do: to replay a schedule, to play a script, or to write the text or the counts of the schedule that a length and a seed give.
+/// What a call should do: replay a schedule, play a script, or write the text or the counts of the
+/// schedule that a length and a seed give.
 #[derive(Clone, Copy, Debug, PartialEq, Eq)]
 pub(crate) enum Job {
     Replay,

@@ -8,7 +8,8 @@ use std::alloc::{AllocError, Global};
 use std::process::Abort;
 use std::test::Fail;
 
-/// Of the source, the sink, the link and the error sink, the number of the call that fails; 0 is none.
+/// For the source, the sink, the link and the error sink, the number of the call that fails; 0 is
+/// none.
 #[derive(Clone, Copy)]
 pub struct Failing {
     pub source: u64,
@@ -54,7 +55,7 @@ impl Left {
             && self.err.as_slice() == complaint.as_bytes()
     }
 
-    /// Whether the run wrote and sent a front of what it is to, and complained so.
+    /// Whether the run wrote and sent a prefix of what it is to, and complained so.
     pub fn is_front(&self, case: &Case<'_>, complaint: &str) -> bool {
         case.report.as_bytes().starts_with(self.out.as_slice())
             && case.sent.starts_with(self.link.as_slice())
@@ -115,7 +116,8 @@ fn ending(object: Object) -> (u8, &'static str) {
     }
 }
 
-/// Each of these calls of an object fails in turn. Where the complaint can't be told, all that stands before it was written.
+/// Each of these calls of an object fails in turn. If the complaint can't be written, all that
+/// comes before it was.
 fn each_of(
     rt: &(impl Abort + AllocGlobal),
     case: &Case<'_>,
@@ -185,7 +187,8 @@ fn begun<'a>(
     }
 }
 
-/// A replay, a node, a node whose stream is cut, and wrong words, with how many calls of each object they make.
+/// A replay, a node, a node whose stream is cut, and wrong arguments, with how many calls of each
+/// object they make.
 #[test]
 fn each_call_fails_in_turn(rt: HostRuntime) -> Result<(), Fail> {
     let schedule = joined(rt.alloc(), &[HEAD, WRITTEN, ONE_SIDED_CUT])?;

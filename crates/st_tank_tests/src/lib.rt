@@ -1,4 +1,5 @@
-//! The top call over memory, where calls of its source, its sinks and its link fail, and the ends of links that the program does not use.
+//! The top call over memory, where calls of its source, its sinks and its link fail, and the ends
+//! of links that the program does not use.
 #![tactic(auto)]
 
 #[cfg(test)]

@@ -27,7 +27,8 @@ fn up_to(alloc: Global, report: &str, event: u64) -> Result<String, AllocError> 
     Ok(text)
 }
 
-/// What is written of a schedule whose first `taken` bytes were taken: the lines of the events whose newlines are among them.
+/// What is written of a schedule whose first `taken` bytes were taken: the lines of the events
+/// whose newlines are among them.
 fn front(alloc: Global, schedule: &str, report: &str, taken: usize) -> Result<String, AllocError> {
     let lines = schedule
         .as_bytes()

@@ -58,8 +58,7 @@ abbrev pub touches : FileId × PageNo → Ask → Bool
 touches x (Cut f p) = same_file x.0 f && nat_le p.0 x.1.0
 touches x what = is_at x what
 
--- Bytes: byte `i` of a page is the patch's where `at ≤ i < at + length`, and else the old one. A
--- write gives all bytes, and a cut zeros.
+-- Bytes: byte `i` of a page is the patch's where `at ≤ i < at + length`, and otherwise the old one. A write gives all bytes, and a cut zeros.
 abbrev pub patched_byte : ℕ → ℕ → List ℕ → ℕ → ℕ
 patched_byte i at bytes old =
     if nat_le at i && nat_lt i (at + length bytes) then slice_index bytes (i - at) else old

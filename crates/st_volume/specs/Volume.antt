@@ -26,9 +26,8 @@ use Rattle.st_volume.specs.Pages.{is_open, is_dropped, is_cause, is_settled, con
 use Rattle.st_volume.specs.Pages.{failed_up_to}
 use Rattle.st_volume.specs.Trees.{Tree, Made, does, entry_at, is_file, fresh_tree}
 
--- An ask that is not answered: its client and number; its result, once it has taken effect; whether
--- since it came its file was missing at some moment, its server was full, and another file had the
--- name that it is to remove; and which disk commands of its client failed it since.
+-- An ask that is not answered: its client and number; its result, once it has taken effect; whether since it came its file was missing at some moment, its
+-- server was full, and another file had the name that it should remove; and which disk commands of its client failed it since.
 pub record Pending : Type 0 where
   pub client : ClientId
   pub op : ℕ
@@ -214,9 +213,8 @@ arrived v c ask =
       claims = with_places (ask ∷ []) v.claims;
     }
 
--- 2. A write, a patch or a cut takes effect where its file exists, and no other client has open
--- entries of it: its entry joins the log. A cut is hard at once; it frees the room of its pages,
--- but for those that open asks are to write.
+-- 2. A write, a patch or a cut takes effect where its file exists, and no other client has open entries of it: its entry joins the log. A cut is hard at once;
+--    it frees the room of its pages, except for those that open asks will write.
 abbrev pub entry : ClientId → Ask → Fate → Entry
 entry c what fate =
     record { client = c; what = what; fate = fate; crashed = false; failed = 0; told = false }
@@ -378,8 +376,8 @@ answers_so v a answer None = is_answer v a answer
 answers_so v a (answers.Uncertain old new) (Some result) = is_uncertain v a.ask old new
 answers_so v a answer (Some result) = is_result result answer
 
--- What an answer leaves: after `hard` and `lost` the client is told; a read ends the older orphans;
--- and an ask that is uncertain while its epoch lasts, and has not taken effect, is orphaned.
+-- What an answer leaves: after `hard` and `lost` the client is informed; a read ends the older orphans; and an ask that is uncertain while its epoch lasts, and
+-- has not taken effect, is orphaned.
 abbrev pub orphaned : Volume → Pending → ℕ → List Pending
 orphaned v a old =
     if is_some a.result || not (old == epoch v (server_of a.ask)) then [] else a ∷ []
@@ -479,7 +477,7 @@ step v (steps.Joined i c what) =
     tells v i (λ e. same_change e.what what && not (is_any (λ d. not (is_by d e)) c))
 step v it = if v.lines == length v.log then acts v it else None
 
--- Steps, one after the other.
+-- Steps, one after another.
 unfoldable pub run : List VolumeStep → Volume → Option Volume
 run [] v = Some v
 run (it ∷ rest) v = option_and_then (run rest) (step v it)

@@ -1,4 +1,4 @@
--- What is made for each number from 1, one after the other.
+-- What is made for each number from 1, one after another.
 use Rattle.std.proofs.Common.{◌≡◌, ℕ, ◌+◌, ◌-◌, ◌<◌, ◌≤◌, List, [], ◌∷◌, ◌++◌, refl, sym, ap, ◌∙◌, append_assoc}
 use Rattle.std.specs.Prelude.{map}
 use Rattle.st_rules.specs.Extents.{numbers}

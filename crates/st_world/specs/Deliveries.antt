@@ -1,4 +1,4 @@
--- Whether a message may be delivered, by its nodes, and whether a command may have its effect or its report, by how it stands.
+-- Whether a message may be delivered, by its nodes, and whether a command may have its effect or its report, by its state.
 use Rattle.std.specs.Prelude.{ℕ, List, Bool, ◌&&◌, ◌||◌, not, Option}
 use Rattle.std.specs.Option.{option_or}
 use Rattle.st_disk.specs.declared.commands.CommandState.{CommandState}

@@ -67,7 +67,7 @@ fn advance_refused(machine: &WorldTurn, steps: &[u64]) -> Option<WorldRefusal>
     }
 }
 
-/// Returns the first refusal of an event that stands. It changes nothing and takes no memory.
+/// Returns the first refusal of an event that applies. It changes nothing and takes no memory.
 #[tactic(auto, unfolding(st_rules::specs::Admissible::refusal))]
 pub(crate) fn refusal(machine: &WorldTurn, event: &Event) -> Option<WorldRefusal>
     requires clients { length machine.now.world.clients ≤ 16 }

@@ -83,7 +83,7 @@ pub(crate) fn net_full(machine: &WorldTurn) -> Option<WorldRefusal>
     stands(536_870_912 <= bytes, WorldRefusal::NetFull(bytes))
 }
 
-/// A node that is to take a step.
+/// A node that is about to take a step.
 pub(crate) fn cannot_step(machine: &WorldTurn, node: NodeId) -> Option<WorldRefusal>
     ensures { result ≡ admissible.cannot_step machine.now.world node }
 {

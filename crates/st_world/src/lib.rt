@@ -1,5 +1,5 @@
-//! The world of all events: clocks, clients and servers, the network, the disks and the log. `docs/PROTOCOL.md`, "The world",
-//! has the rules.
+//! The world of all events: clocks, clients and servers, the network, the disks and the log.
+//! `docs/PROTOCOL.md`, "The world", has the rules.
 #![tactic(auto)]
 
 mod admission;

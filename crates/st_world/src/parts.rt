@@ -27,8 +27,8 @@ use std::alloc::{AllocError, Global};
 use std::marker::Model;
 use std::mem;
 
-/// The parts of a world: the world itself, and one with a node of each kind, which takes its place when memory runs out. It takes
-/// no event then.
+/// The parts of a world: the world itself, and one with a node of each kind, which takes its place
+/// when memory runs out. It takes no event then.
 #[derive(Drop)]
 pub(crate) struct WorldParts {
     machine: WorldTurn,
@@ -122,8 +122,8 @@ impl WorldParts {
         })
     }
 
-    /// Runs one event that is not refused, and returns what is observed of it, in order. Where memory runs out nothing is known of
-    /// the world, and every later step returns `Memory`: discard it.
+    /// Runs one event that is not refused, and returns what is observed of it, in order. If memory
+    /// runs out, nothing is known of the world, and every later step returns `Memory`: discard it.
     pub(crate) fn run(
         &mut self,
         event: &Event,
@@ -151,8 +151,9 @@ impl WorldParts {
         }
     }
 
-    /// Runs one event, and returns what is observed of it, in order. A refusal changes nothing. Where memory runs out nothing is
-    /// known of the world, and every later step returns `Memory`: discard it.
+    /// Runs one event, and returns what is observed of it, in order. A refusal changes nothing. If
+    /// memory runs out, nothing is known of the world, and every later step returns `Memory`:
+    /// discard it.
     #[tactic(auto, unfolding(st_rules::specs::Events::world_step, st_rules::specs::Events::world_by))]
     pub(crate) fn step(&mut self, event: &Event) -> Result<Vec<Observation>, WorldFault>
         requires event { is_event (length self.old.clocks) event.now ≡ true }
@@ -170,7 +171,7 @@ impl WorldParts {
         }
     }
 
-    /// Returns the first refusal of an event that stands. It changes nothing and takes no memory.
+    /// Returns the first refusal of an event that applies. It changes nothing and takes no memory.
     pub(crate) fn refusal(&self, event: &Event) -> Option<WorldRefusal>
         requires event { is_event (length self.now.clocks) event.now ≡ true }
         requires room { self.now.tally.events < 2 ^ 29 }

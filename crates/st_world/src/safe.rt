@@ -1,4 +1,5 @@
-// The runs that lead to a world are safe, by the law of every run, and no counter of it is at its end, by the laws on counters.
+// The runs that lead to a world are safe, by the law of every run, and no counter of it is at its
+// end, by the laws on counters.
 ghost use Rattle.std.specs.Prelude.{◌≡◌, ◌<◌, ◌^◌, true, length};
 ghost use Rattle.st_rules.specs.Safety.{is_event};
 ghost use Rattle.st_world.specs.Counters.{CountersHaveRoom};

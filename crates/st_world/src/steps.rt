@@ -67,8 +67,9 @@ fn run_counted(
     }
 }
 
-/// Runs one event that is not refused, and returns what is observed of it. The room of the spare list is used for what is observed
-/// next. Where a count of reads or thefts is at its end, it returns `Memory`.
+/// Runs one event that is not refused, and returns what is observed of it. The room of the spare
+/// list is used for what is observed next. Where a count of reads or thefts is at its end, it
+/// returns `Memory`.
 pub(crate) fn step_admitted(
     machine: &mut WorldTurn,
     event: &Event,

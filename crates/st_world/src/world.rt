@@ -21,8 +21,8 @@ use st_server::ServerNode;
 use std::alloc::{AllocError, Global};
 use std::marker::Model;
 
-/// A world. Contracts see it as the definitions' record: a run from the world of a head leads to it. Its parts stay where they are as
-/// it goes from hand to hand.
+/// A world. Contracts see it as the definitions' record: a run from the world of a head leads to
+/// it. Its parts stay where they are as it goes from hand to hand.
 #[derive(Drop)]
 pub struct World {
     of: Box<WorldParts>,
@@ -37,7 +37,8 @@ impl Model for World {
 }
 
 impl World {
-    /// The world of a head: the settings, how many clients, servers and disks there are, how many blocks a disk has, and the head's form.
+    /// The world of a head: the settings, how many clients, servers and disks there are, how many
+    /// blocks a disk has, and the head's form.
     pub fn new(
         alloc: Global,
         config: &Config,
@@ -64,10 +65,12 @@ impl World {
         })
     }
 
-    /// Runs one event, and returns what is observed of it, in order. A refusal changes nothing. Where memory runs out nothing is
-    /// known of the world, and every later step returns `Memory`: discard it. Whatever it returns, a run leads to the world that it
-    /// leaves, and every run that leads there is safe; so is every run that led to the world before, with this event after it. No counter
-    /// of the world is at its end (`counters`), so an error for memory is want of memory.
+    /// Runs one event, and returns what is observed of it, in order. A refusal changes nothing. If
+    /// memory runs out, nothing is known of the world, and every later step returns `Memory`:
+    /// discard it. Whatever it returns, a run leads to the world that it leaves, and every run that
+    /// leads there is safe; so is every run that led to the world before, with this event after it.
+    /// No counter of the world is at its end (`counters`), so an error for memory means that memory
+    /// ran out.
     pub fn step(&mut self, event: Event) -> Result<Vec<Observation>, WorldFault>
         requires event { is_event (length self.old.clocks) event ≡ true }
         requires room { self.old.tally.events < 2 ^ 29 }
@@ -86,8 +89,9 @@ impl World {
         stepped
     }
 
-    /// Runs one event that is admissible, as `step` does, which asks first whether it is. The spare list is emptied, and its room is
-    /// used for what is observed of the next event: a caller that gives back what it got needs no memory for observations.
+    /// Runs one event that is admissible, as `step` does, which asks first whether it is. The spare
+    /// list is emptied, and its room is used for what is observed of the next event: a caller that
+    /// gives back what it got needs no memory for observations.
     pub fn run(
         &mut self,
         event: &Event,
@@ -111,7 +115,7 @@ impl World {
         stepped
     }
 
-    /// Returns the first refusal of an event that stands. It changes nothing and takes no memory.
+    /// Returns the first refusal of an event that applies. It changes nothing and takes no memory.
     pub fn refusal(&self, event: &Event) -> Option<WorldRefusal>
         requires event { is_event (length self.now.clocks) event.now ≡ true }
         requires room { self.now.tally.events < 2 ^ 29 }

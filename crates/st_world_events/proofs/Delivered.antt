@@ -1,4 +1,4 @@
--- Delivery of a message, where there is one.
+-- Delivery of a message, if there is one.
 use Rattle.std.proofs.Common.{◌≡◌, refl, ap}
 use Rattle.std.specs.Prelude.{Option, Some, None, option_map}
 use Rattle.st_messages.specs.declared.message.Message.{Message}

@@ -15,7 +15,7 @@ pub index_none : {A : Type 0} (xs : List A) (n : ℕ) → None ≡ index_at n (l
 index_none xs zero h = refl
 index_none xs (suc n) h = none_by xs n (nat_lt n (length xs)) refl h
 
--- a place: what goes by the number stands there
+-- a place: what goes by the number is there
 pub record IsThere {A : Type 0} (xs : List A) (n i : ℕ) : Type 0 where
   pub number : n ≡ suc i
   pub low : i < length xs
@@ -29,6 +29,6 @@ pub index_some : {A : Type 0} (xs : List A) (n i : ℕ) → Some i ≡ index_at 
 index_some xs zero i h = absurd (cc)
 index_some xs (suc n) i h = there_by xs n i (nat_lt n (length xs)) refl h
 
--- what stands there goes by the number
+-- what is there goes by the number
 pub numbered_there : {A : Type 0} (xs : List A) (n i : ℕ) (o : Option A) → IsThere xs n i → slice_get xs i ≡ o → numbered xs n ≡ o
 numbered_there xs n i o h e = ap (numbered xs) h.number ∙ e

@@ -15,7 +15,7 @@ use Rattle.st_rules.specs.World.{WorldClient}
 use Rattle.st_server.specs.Steps.{Steps}
 use Rattle.st_world_events.specs.NodeSteps.{SiteSteps, SitesStep, ServersStep}
 
--- what stands at a place, written there again
+-- what is at a place, written there again
 pub set_same : {A : Type 0} (xs : List A) (i : ℕ) (x : A) → slice_get xs i ≡ Some x → set xs i x ≡ xs
 set_same [] i x h = refl
 set_same (y ∷ ys) zero x h = let e : y ≡ x = cc in ap (λ z. z ∷ ys) (sym e)

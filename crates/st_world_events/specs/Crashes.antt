@@ -20,6 +20,6 @@ with_site_at i site w = record w { clients = set w.clients i site }
 abbrev pub crash_marked : ClientId → List Spare → World → WorldTurn
 crash_marked c spared w = world_turn (with_log (without_crashed c spared w.log) w) (fates_from 1 w.log (without_crashed c spared w.log))
 
--- a world in which a client crashed, which stood at this place
+-- a world in which the client at this place crashed
 abbrev pub crashed_at : ClientId → ℕ → WorldClient → World → WorldTurn
 crashed_at c i site w = marks (with_site_at i (stopped_site site) (with_crashed_lives site w)) (log_crashed w c)

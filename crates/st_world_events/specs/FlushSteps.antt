@@ -1,4 +1,4 @@
--- Flush steps, one after the other.
+-- Flush steps, one after another.
 use Rattle.std.specs.Prelude.{List, [], ◌∷◌, Option, Some, None}
 use Rattle.st_base.specs.declared.ids.ClientId.{ClientId}
 use Rattle.st_base.specs.declared.ids.ServerId.{ServerId}
@@ -21,7 +21,7 @@ in_flush end phase = None
 abbrev pub flush_end : ClientState → ServerId → Stamp → Option Stamp
 flush_end c s clock = in_flush (lease_end_with c s) (phase_with c s clock)
 
--- with a step under this lease end, where there is one
+-- with a step under this lease end, if there is one
 abbrev pub with_end : ClientId → ServerId → Option Stamp → List FlushStep → List FlushStep
 with_end c s None xs = xs
 with_end c s (Some end) xs = put (is_flush_of c s) (flush_step c s end) xs

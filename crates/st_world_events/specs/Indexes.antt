@@ -6,6 +6,6 @@ abbrev pub index_at : ℕ → ℕ → Option ℕ
 index_at zero len = None
 index_at (suc n) len = if nat_lt n len then Some n else None
 
--- what holds of what stands at a place, where something does
+-- what holds of what is at a place, if something is
 abbrev pub AtPlace : {A : Type 0} → List A → ℕ → (A → Type 0) → Type 0
 AtPlace {A} xs i P = (x : A) → slice_get xs i ≡ Some x → P x

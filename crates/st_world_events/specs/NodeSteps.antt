@@ -12,7 +12,7 @@ use Rattle.st_rules.specs.Server.{ServerNode}
 use Rattle.st_rules.specs.Events.{at_node}
 use Rattle.st_rules.specs.World.{WorldClient}
 
--- What a step of a client in the world returns and leaves; after want of memory nothing is promised.
+-- What a step of a client in the world returns and leaves; after memory ran out nothing is promised.
 abbrev pub SiteSteps : WorldClient → WorldClient → Result (List Output) StepFault → Result client.NodeTurn StepRefusal → Type 0
 SiteSteps old new (Ok out) rule = (rule ≡ Ok (record { node = new.node; out = out })) × (new ≡ at_node new.node old)
 SiteSteps old new (Err Crashed) rule = (rule ≡ Err refusals.Crashed) × (new ≡ old)

@@ -45,7 +45,7 @@ impl WorldTurn {
         self.net.heal(from, to);
     }
 
-    /// What is carried becomes hard: the entry of this index, where there is one.
+    /// What is carried becomes hard: the entry of this index, if there is one.
     #[tactic(auto, using(crate::proofs::Logged::hard_none, crate::proofs::Logged::hard_past))]
     fn harden(&mut self, index: u64) -> Result<(), AllocError>
         requires { self.old.seen ≡ [] }

@@ -42,8 +42,8 @@ impl WorldClient {
         self.node.crash();
     }
 
-    /// The client starts again. Where the count of its starts, or another of its counters, is at its end, it returns an error of
-    /// memory.
+    /// The client starts again. Where the count of its starts, or another of its counters, is at
+    /// its end, it returns an error of memory.
     fn start(&mut self) -> Result<(), AllocError>
         requires crashed { self.old.node.running ≡ false }
         ensures { OnOk result (self.new ≡ events.started_site self.old) }
@@ -56,7 +56,7 @@ impl WorldClient {
         Ok(())
     }
 
-    /// Adds the client's present lives. Where memory runs out the list stays as it was.
+    /// Adds the client's present lives. If memory runs out the list stays as it was.
     pub(crate) fn push_lives(&self, found: &mut Vec<LeaseLife>) -> Result<(), AllocError>
         ensures added { OnOk result (found.new.items ≡ found.old.items ++ world.lives_of self.now.node.state) }
         ensures kept { OnErr result (found.new.items ≡ found.old.items) }
@@ -159,7 +159,7 @@ impl WorldTurn {
         }
     }
 
-    /// The entries of a client that crashed are gone, but for those that are spared.
+    /// The entries of a client that crashed are gone, except for those that are spared.
     fn crash_entries(&mut self, client: ClientId, spared: &[Spare]) -> Result<(), AllocError>
         requires { self.old.seen ≡ [] }
         ensures { OnOk result (self.new ≡ crash_marked client spared.now self.old.world) }
@@ -169,7 +169,7 @@ impl WorldTurn {
         Ok(())
     }
 
-    /// A client crashes, which stands at this place.
+    /// The client at this place crashes.
     fn crash_at(&mut self, client: ClientId, i: usize) -> Result<(), AllocError>
         requires begins { self.old.seen ≡ [] }
         requires there { i < length self.old.world.clients }

@@ -118,7 +118,8 @@ impl WorldTurn {
         }
     }
 
-    /// The client at this place is told how its command ended, where the instance that submitted the command still runs.
+    /// The client at this place is told how its command ended, if the instance that submitted the
+    /// command still runs.
     #[tactic(auto, unfolding(st_rules::specs::Events::tells_site))]
     fn report_to_client(
         &mut self,

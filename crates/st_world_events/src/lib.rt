@@ -1,5 +1,5 @@
-//! What each event does to a world: its clocks, clients and servers, the network, the disks and the log. `docs/PROTOCOL.md`,
-//! "The world", has the rules.
+//! What each event does to a world: its clocks, clients and servers, the network, the disks and the
+//! log. `docs/PROTOCOL.md`, "The world", has the rules.
 #![tactic(auto)]
 
 mod advances;

@@ -27,7 +27,8 @@ use std::alloc::AllocError;
 use std::mem;
 
 impl WorldClient {
-    /// The client takes an input at this moment. Where one of its counters is at its end, it returns an error of memory.
+    /// The client takes an input at this moment. Where one of its counters is at its end, it
+    /// returns an error of memory.
     fn step(&mut self, now: Stamp, input: &mut ClientInput) -> Result<Outputs, StepFault>
         requires time { now.0 ≤ 2 ^ 62 }
         requires fits { comes_fit input.old ≡ true }
@@ -74,7 +75,8 @@ fn step_site(
     site.step(now, input)
 }
 
-/// The server at a place takes an input. Where one of its counters is at its end, it returns an error of memory.
+/// The server at a place takes an input. Where one of its counters is at its end, it returns an
+/// error of memory.
 fn step_node(
     servers: &mut Vec<ServerNode>,
     i: usize,

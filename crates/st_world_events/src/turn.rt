@@ -16,7 +16,8 @@ use st_world_parts::{Commands, Lives, Network};
 use std::alloc::{AllocError, Global};
 use std::marker::Model;
 
-/// The parts of a world, and what was observed in the step so far. Contracts see them as a step so far (`WorldTurn`).
+/// The parts of a world, and what was observed in the step so far. Contracts see them as a step so
+/// far (`WorldTurn`).
 #[derive(Drop)]
 pub struct WorldTurn {
     pub alloc: Global,

@@ -1,4 +1,4 @@
--- Entries that are counted, one after the other.
+-- Entries that are counted, one after another.
 use Rattle.std.proofs.Common.{◌≡◌, ℕ, zero, suc, ◌+◌, ◌≤◌, Bool, true, false, List, [], ◌∷◌, drop, length, refl, sym, ap, ◌∙◌, arith}
 use Rattle.std.specs.Prelude.{filter, slice_get, Option, Some, None, option_map}
 use Rattle.st_rules.specs.declared.log.Change.{Change}

@@ -18,7 +18,7 @@ life_key c s life = record { client = c.0; server = s.0; life = life.0 }
 abbrev pub key_of : LeaseLife → LifeKey
 key_of e = life_key e.client e.server e.life
 
--- the first of two, where there is one
+-- the first of two, if there is one
 abbrev pub first_of : Option LeaseLife → Option LeaseLife → Option LeaseLife
 first_of None x = x
 first_of (Some e) x = Some e

@@ -13,7 +13,7 @@ use Rattle.st_rules.specs.FlatLog.{is_of_life}
 abbrev pub ended_by : List IssuedCommand → LeaseLife → LogOwner → Fate
 ended_by cs e o = if is_of_life e.client e.server e.life o then Gone (cause_at_end cs e o.file o.page) else Pending
 
--- what becomes of it when these lives end, one after the other: the first one that it is of
+-- what becomes of it when these lives end, one after another: the first one that it is of
 abbrev pub ends : List IssuedCommand → List LeaseLife → LogOwner → Fate
 ends cs [] o = Pending
 ends cs (e ∷ es) o = marked_fate (ended_by cs e o) (ends cs es o)

@@ -71,7 +71,7 @@ spelling_sent m = spelling m.message
 abbrev pub lost_place : SentPlace → SentPlace
 lost_place p = record p { lost = true }
 
--- with this place's message lost, where there is one
+-- with this place's message lost, if there is one
 abbrev pub with_lost_at : ℕ → Option SentPlace → List SentPlace → List SentPlace
 with_lost_at k None ps = ps
 with_lost_at k (Some p) ps = with_numbered k (lost_place p) ps
@@ -84,7 +84,7 @@ with_lost k ps = with_lost_at k (numbered ps k) ps
 abbrev pub sent : Message → Net → Net
 sent m n = record n { messages = n.messages ++ record { message = m; lost = false } ∷ []; bytes = n.bytes + size_of m }
 
--- these messages with this one lost, where there is one
+-- these messages with this one lost, if there is one
 abbrev pub lost_among : ℕ → Option SentMessage → List SentMessage → List SentMessage
 lost_among k None ms = ms
 lost_among k (Some m) ms = with_numbered k (record m { lost = true }) ms

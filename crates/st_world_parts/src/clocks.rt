@@ -6,7 +6,7 @@ ghost use Rattle.st_rules.specs.Events.{advanced};
 
 use st_base::Stamp;
 
-/// The clock of a number, from 1, or 0 where there is none.
+/// The clock of a number, from 1, or 0 if there is none.
 pub fn clock_of(clocks: &[Stamp], n: usize) -> Stamp
     ensures { result ≡ clock_at clocks.now n }
 {

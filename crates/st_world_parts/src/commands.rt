@@ -21,9 +21,10 @@ use st_rules::{IssuedCommand, LogOwner};
 use std::alloc::{AllocError, Global};
 use std::marker::Model;
 
-/// The disks of a world, and every command that was issued to them, by its number from 1. Contracts see the record of the
-/// disks and the list of who issued each command. Beside these it keeps the places of the commands that were not reported, and
-/// the number of the last write command of each owner.
+/// The disks of a world, and every command that was issued to them, by its number from 1. Contracts
+/// see the record of the disks and the list of who issued each command. Beside these it keeps the
+/// places of the commands that were not reported, and the number of the last write command of each
+/// owner.
 #[derive(Drop)]
 pub struct Commands {
     disks: Disks,
@@ -56,7 +57,8 @@ fn give_effect(disks: &mut Disks, k: u64) -> Result<(), AllocError>
     }
 }
 
-/// Reports the command of this number, where it may be reported so, and takes it out of those that were not reported.
+/// Reports the command of this number, where it may be reported so, and takes it out of those that
+/// were not reported.
 fn report(disks: &mut Disks, outstanding: &mut Vec<usize>, k: u64, ok: bool)
     requires { outstanding.old.items ≡ open_from 0 disks.old.commands }
     ensures done { disks.new ≡ events.disks_after disks.old (rules.done disks.old k ok) }
@@ -80,7 +82,8 @@ fn row_at(issued: &[IssuedRow], index: usize) -> Option<IssuedCommand>
 }
 
 impl Commands {
-    /// Makes this number of disks with this number of blocks each. No command was issued. It does not allocate.
+    /// Makes this number of disks with this number of blocks each. No command was issued. It does
+    /// not allocate.
     pub fn new(alloc: Global, disks: u16, blocks: u32) -> Commands
         ensures { result ≡ issued.fresh disks blocks }
     {
@@ -110,7 +113,7 @@ impl Commands {
         row_at(&self.issued, (k - 1) as usize)
     }
 
-    /// Returns how the command of this number stands, if there is one.
+    /// Returns the state of the command of this number, if there is one.
     pub fn standing(&self, k: u64) -> Option<CommandState>
         ensures { result ≡ option_map standing_of (rules.command self.now.disks k) }
     {
@@ -152,7 +155,8 @@ impl Commands {
         report(&mut self.disks, &mut self.outstanding, k, ok);
     }
 
-    /// Returns how the command of this number ended: it failed, or it wrote, or it read this tag and these bytes.
+    /// Returns how the command of this number ended: it failed, or it wrote, or it read this tag
+    /// and these bytes.
     pub fn result(&self, k: u64, ok: bool) -> Result<Option<Option<(Tag, PageBytes)>>, AllocError>
         ensures { IfOk result (λ r. r ≡ events.result_of ok (rules.sample self.now.disks k)) }
     {
@@ -165,7 +169,8 @@ impl Commands {
         }
     }
 
-    /// Returns the number of the last write command of an owner's page, or 0. It is one look-up, and does not allocate.
+    /// Returns the number of the last write command of an owner's page, or 0. It is one look-up,
+    /// and does not allocate.
     pub fn last_write(&self, of: LogOwner) -> u64
         ensures { result ≡ events.last_write self.now.commands of }
     {

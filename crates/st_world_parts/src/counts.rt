@@ -7,7 +7,8 @@ ghost use Rattle.st_world_parts.specs.Sorts.{head_changes, one_if, picks, picks_
 use st_model::FlatLog;
 use st_rules::{EntryHead, Fate};
 
-/// Entries that are counted: writes and patches, those of them that are hard, and entries that are gone.
+/// Entries that are counted: writes and patches, those of them that are hard, and entries that are
+/// gone.
 #[derive(Clone, Copy)]
 pub enum Sort {
     Changes,

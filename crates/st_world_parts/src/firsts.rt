@@ -39,11 +39,11 @@ fn put(firsts: &mut IndexMap<LifeKey, LeaseLife>, key: LifeKey, life: LeaseLife)
     requires { 0 < spare firsts.old }
     ensures { (q : LifeKey) → get same_key firsts.new q ≡ (if same_key key q then Some life else get same_key firsts.old q) }
 {
-    // The life that stood there is dropped; there is room, so no memory is taken.
+    // The life that was there is dropped; there is room, so no memory is taken.
     let _old = firsts.insert(key, life).unwrap();
 }
 
-/// Keeps a life under its key, where there is none yet. There must be room for one more key.
+/// Keeps a life under its key, if there is none yet. There must be room for one more key.
 pub fn keep_first(firsts: &mut IndexMap<LifeKey, LeaseLife>, life: LeaseLife)
     requires { 0 < spare firsts.old }
     ensures { (q : LifeKey) → get same_key firsts.new q ≡ first_of (get same_key firsts.old q) (if same_key (key_of life) q then Some life else None) }

@@ -6,8 +6,9 @@ use st_base::{ClientId, FileId, Life, PageNo, ServerId};
 use st_rules::{Carried, IssuedCommand};
 use std::marker::Model;
 
-/// Who issued a command, and which entry it carries: of this index, and of this page of a file of this owner. Where a command carries
-/// nothing, these four say nothing. Contracts see the definitions' command.
+/// Who issued a command, and which entry it carries: of this index, and of this page of a file of
+/// this owner. Where a command carries nothing, these four say nothing. Contracts see the
+/// definitions' command.
 #[derive(Drop)]
 pub struct IssuedRow {
     number: u64,

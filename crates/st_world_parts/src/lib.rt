@@ -1,5 +1,5 @@
-//! The parts of a world: the clocks and the lives that ended, the disk commands with who issued each, and the network.
-//! `docs/PROTOCOL.md`, "The world", has the rules.
+//! The parts of a world: the clocks and the lives that ended, the disk commands with who issued
+//! each, and the network. `docs/PROTOCOL.md`, "The world", has the rules.
 #![tactic(auto)]
 
 mod clocks;

@@ -15,9 +15,10 @@ use st_rules::LeaseLife;
 use std::alloc::{AllocError, Global};
 use std::marker::Model;
 
-/// The clocks of all nodes, clients in order and then servers in order, and the lives that ended, each with the end of its
-/// lease. Contracts see the record of both lists. Beside these it keeps the first life of each client, server and life, and
-/// the lives whose lease ends are above their clients' clocks.
+/// The clocks of all nodes, clients in order and then servers in order, and the lives that ended,
+/// each with the end of its lease. Contracts see the record of both lists. Beside these it keeps
+/// the first life of each client, server and life, and the lives whose lease ends are above their
+/// clients' clocks.
 #[derive(Drop)]
 pub struct Lives {
     clocks: Vec<Stamp>,
@@ -50,14 +51,15 @@ impl Lives {
         }
     }
 
-    /// Returns the clock of a number, from 1, or 0 where there is none.
+    /// Returns the clock of a number, from 1, or 0 if there is none.
     pub fn clock(&self, n: usize) -> Stamp
         ensures { result ≡ clock_at self.now.clocks n }
     {
         clock_of(&self.clocks, n)
     }
 
-    /// Returns the life of a client at a server among those that ended. It is one look-up, and does not allocate.
+    /// Returns the life of a client at a server among those that ended. It is one look-up, and does
+    /// not allocate.
     pub fn ended(&self, client: ClientId, server: ServerId, life: Life) -> Option<LeaseLife>
         ensures { result ≡ find (is_life_of client server life) self.now.ended }
     {
@@ -77,8 +79,8 @@ impl Lives {
         Ok(())
     }
 
-    /// Adds the lives that ended whose lease ends an advance reaches, in order. It passes over those alone whose lease ends are
-    /// above their clients' clocks.
+    /// Adds the lives that ended whose lease ends an advance reaches, in order. It skips only those
+    /// whose lease ends are above their clients' clocks.
     pub fn reached(&self, steps: &[u64], found: &mut Vec<LeaseLife>) -> Result<(), AllocError>
         requires clocks { list_all (is_at_most (2 ^ 62)) self.now.clocks ≡ true }
         requires steps { list_all is_step steps.now ≡ true }

@@ -15,8 +15,9 @@ use st_rules::CutLink;
 use std::alloc::{AllocError, Global};
 use std::marker::Model;
 
-/// Every message that was sent, by its number from 1, and the directions that are cut. Messages are kept as their spelling,
-/// one behind the other. Contracts see the record of the messages, the cuts and the number of bytes.
+/// Every message that was sent, by its number from 1, and the directions that are cut. Messages are
+/// kept as their spelling, one after another. Contracts see the record of the messages, the cuts
+/// and the number of bytes.
 #[derive(Drop)]
 pub struct Network {
     bytes: Vec<u8>,
@@ -86,7 +87,8 @@ impl Network {
         self.bytes.len() as u64
     }
 
-    /// Returns the nodes of the message of this number, and whether it is lost. It decodes nothing and does not allocate.
+    /// Returns the nodes of the message of this number, and whether it is lost. It decodes nothing
+    /// and does not allocate.
     pub fn head(&self, k: u64) -> Option<MessageEnds>
         ensures { result ≡ option_map pieces.head_of (world.numbered self.now.messages k) }
     {
@@ -107,7 +109,8 @@ impl Network {
         }
     }
 
-    /// Returns the bytes of the message of this number: the one spelling of the message. It does not allocate.
+    /// Returns the bytes of the message of this number: the one spelling of the message. It does
+    /// not allocate.
     pub fn spelled(&self, k: u64) -> Option<&[u8]>
         ensures { option_map (λ b. b.now) result ≡ option_map pieces.spelling_sent (world.numbered self.now.messages k) }
     {
@@ -117,7 +120,8 @@ impl Network {
         }
     }
 
-    /// Sends a message: it is the last one, and its number is the count of messages. If it runs out of memory, nothing changes.
+    /// Sends a message: it is the last one, and its number is the count of messages. If it runs out
+    /// of memory, nothing changes.
     pub fn send(&mut self, message: &Message) -> Result<(), AllocError>
         requires { fits.fits message.now ≡ true }
         ensures ok { OnOk result (self.new ≡ pieces.sent message.now self.old) }

@@ -45,6 +45,6 @@ pub fn put_number(last: &mut IndexMap<OwnerKey, u64>, of: LogOwner, number: u64)
     requires { 0 < spare last.old }
     ensures { (q : OwnerKey) → get same_key last.new q ≡ (if same_key (owner_key of) q then Some number else get same_key last.old q) }
 {
-    // The number that stood there is dropped; there is room, so no memory is taken.
+    // The number that was there is dropped; there is room, so no memory is taken.
     let _old = last.insert(owner_key(of), number).unwrap();
 }

@@ -23,7 +23,8 @@ pub struct MessageEnds {
     pub lost: bool,
 }
 
-/// The place of a spelling of this length behind so many bytes. It refuses where either is 2^32 or more.
+/// The place of a spelling of this length after that many bytes. It refuses if either is 2^32 or
+/// more.
 pub fn place_behind(bytes: usize, len: usize, from: u16, to: u16) -> Result<SentPlace, AllocError>
     ensures { IfOk result (λ p. p ≡ record { start = bytes; len = len; from = from; to = to; lost = false }) }
 {

@@ -25,7 +25,8 @@ pub fn is_ahead(clocks: &[Stamp], life: &LeaseLife) -> bool
     ends_after(clock_of(clocks, life.client.0 as usize), life.end)
 }
 
-/// Whether a clock reaches a lease end by this increment. A clock is at most 2^62, and an increment below 2^32.
+/// Whether a clock reaches a lease end by this increment. A clock is at most 2^62, and an increment
+/// below 2^32.
 pub fn reaches(clock: Stamp, step: u64, end: Option<Stamp>) -> bool
     requires clock { clock.0 ≤ 2 ^ 62 }
     requires step { step ≤ 2 ^ 32 }
@@ -37,7 +38,7 @@ pub fn reaches(clock: Stamp, step: u64, end: Option<Stamp>) -> bool
     }
 }
 
-/// The increment of a clock, or 0 where there is none.
+/// The increment of a clock, or 0 if there is none.
 pub fn step_of(steps: &[u64], n: usize) -> u64
     ensures { result ≡ step_at steps.now n }
 {

@@ -7,7 +7,7 @@ use st_base::Stamp;
 use st_disk::CommandState;
 use st_rules::{Report, WorldRefusal};
 
-/// The refusal, where the test stands.
+/// The refusal, if the test holds.
 #[tactic(auto, unfolding(st_rules::specs::Admissible::stands))]
 pub fn stands(test: bool, refusal: WorldRefusal) -> Option<WorldRefusal>
     ensures { result ≡ stands test refusal }
@@ -15,7 +15,8 @@ pub fn stands(test: bool, refusal: WorldRefusal) -> Option<WorldRefusal>
     if test { Some(refusal) } else { None }
 }
 
-/// The refusal of an effect on a disk at this moment of its client's clock, under a lease of this end: from the end on it is late.
+/// The refusal of an effect on a disk at this moment of its client's clock, under a lease of this
+/// end: from the end on it is late.
 pub fn late_at(clock: Stamp, end: Option<Stamp>) -> Option<WorldRefusal>
     ensures { result ≡ admissible.late_at clock end }
 {
@@ -42,7 +43,8 @@ pub fn is_done(standing: CommandState) -> bool
     standing.effected || !is_open(standing.report)
 }
 
-/// Whether a command is not reported so: it was reported, or it is to be reported as done and had no effect.
+/// Whether a command is not reported so: it was reported, or it would be reported as done and had
+/// no effect.
 pub fn is_told(ok: bool, standing: CommandState) -> bool
     ensures { result ≡ (not (admissible.is_open standing.report) || (ok && not standing.effected)) }
 {

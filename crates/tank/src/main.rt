@@ -1,5 +1,5 @@
-//! The program `tank`: it hands the standard streams, a link, a clock and the words of the command line to the top call, and ends with
-//! its status. `docs/PROTOCOL.md`, "The program".
+//! The program `tank`: it hands the standard streams, a link, a clock and the words of the command
+//! line to the top call, and ends with its status. `docs/PROTOCOL.md`, "The program".
 #![tactic(auto)]
 
 use st_clock::MonotonicClock;
@@ -11,7 +11,8 @@ use std::io::ErrorKind;
 use std::process::ExitCode;
 use std::rt::Env;
 
-/// The words behind the program's name; where one of them is no text, there are none, and none are wrong words.
+/// The words after the program's name; if one of them isn't text, there are none, and no words are
+/// wrong arguments.
 fn words(rt: &(impl Env + AllocGlobal)) -> Result<Vec<String>, AllocError> {
     let mut words = Vec::new(rt.alloc());
     match env::args(rt) {

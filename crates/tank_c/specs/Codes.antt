@@ -47,7 +47,7 @@ of_codec refusals.Version = 22
 of_codec (refusals.FrameTooLong n) = 23
 of_codec refusals.Memory = NO_MEMORY
 
--- the byte of the message or the length of the frame that is told, or 0
+-- the byte of the message or the length of the frame that is reported, or 0
 abbrev pub place_of_codec : CodecRefusal → ℕ
 place_of_codec (refusals.Value at) = at
 place_of_codec (refusals.FrameTooLong n) = n
@@ -139,7 +139,7 @@ of_server_open (servers.Damaged at) = 42
 of_server_open servers.NoEpoch = 43
 of_server_open servers.Epochs = 44
 
--- the place in the journal that is told, or 0
+-- the place in the journal that is reported, or 0
 abbrev pub place_of_server_open : ServerFault → ℕ
 place_of_server_open (servers.Damaged at) = at
 place_of_server_open f = 0

@@ -32,7 +32,7 @@ abbrev pub NoServerOpened : Option EmbeddedServer → Option EmbeddedServer → 
 NoServerOpened None new s w now bytes code at = (new ≡ None) × NotOpenedFor s w now bytes code at
 NoServerOpened (Some e) new s w now bytes code at = (new ≡ Some e) × (code ≡ codes.BUSY) × (at ≡ 0)
 
--- what a step tells: a place, and whether a record is to be kept
+-- what a step returns: a place, and whether a record must be kept
 abbrev pub server_told : ℕ → ℕ → TankServerStep
 server_told at to_keep = record { at = at; «record» = to_keep }
 
@@ -53,7 +53,7 @@ NoServerStep (Some c) (Some d) now frame code o = RefusesFor c d now frame code 
 NoServerStep None None now frame code o = (code ≡ codes.ABSENT) × (o ≡ server_told 0 0)
 NoServerStep c d now frame code o = ⊥
 
--- the record that is to be kept stands first where it was written, and its gate is told
+-- the record that must be kept comes first where it was written, and its gate is reported
 pub record IsRecord (e : EmbeddedServer) (before after : List ℕ) (r : TankRecord) : Type 0 where
   pub gate : r.gate ≡ e.gate
   pub size : r.size ≡ length (record_by (to_keep e))
@@ -74,7 +74,7 @@ pub record IsShort (e : EmbeddedServer) (before : List ℕ) (r : TankRecord) : T
   pub size : r.size ≡ length (record_by (to_keep e))
   pub few : length before < r.size
 
--- why it is not written, and what is told: memory, or a buffer that is too short
+-- why it isn't written, and what is reported: lack of memory, or a buffer that is too short
 abbrev pub NotRecorded : EmbeddedServer → List ℕ → TankRecord → ℕ → Type 0
 NotRecorded e before r code = ((code ≡ codes.NO_MEMORY) × (r ≡ untold)) ⊎ ((code ≡ codes.SHORT_ROOM) × IsShort e before r)
 
@@ -83,7 +83,7 @@ abbrev pub NoServerRecord : Option EmbeddedServer → List ℕ → List ℕ → 
 NoServerRecord None before after r code = (after ≡ before) × (code ≡ codes.ABSENT) × (r ≡ untold)
 NoServerRecord (Some e) before after r code = (after ≡ before) × NotRecorded e before r code
 
--- bytes are taken out, and nothing else changes; nothing was to be kept
+-- bytes are taken out, and nothing else changes; nothing had to be kept
 pub record TakesFrom (old new : EmbeddedServer) (before after : List ℕ) (count : ℕ) : Type 0 where
   pub kept : old.unkept ≡ false
   pub takes : Takes old.left new.left before after count

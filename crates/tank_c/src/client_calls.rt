@@ -7,7 +7,7 @@ ghost use Rattle.tank_c.specs.Codes as codes;
 use crate::codes::{NO_MEMORY, step_code, step_place};
 use st_embed::{Config, EmbeddedClient, Phase, ServerId, Stamp};
 
-/// The settings of a world, in ticks but for `num` and `den`.
+/// The settings of a world, in ticks except for `num` and `den`.
 #[repr(C)]
 #[derive(Clone, Copy)]
 pub struct TankSettings {
@@ -22,7 +22,8 @@ pub struct TankSettings {
     pub grain: u64,
 }
 
-/// What a step tells: the place in its frame of what is refused, and 1 where a life at a server is another one than before.
+/// What a step tells: the place in its frame of what is refused, and 1 where a life at a server is
+/// another one than before.
 #[repr(C)]
 #[derive(Clone, Copy)]
 pub struct TankClientStep {
@@ -30,8 +31,8 @@ pub struct TankClientStep {
     pub new_lives: u32,
 }
 
-/// What a client has at a server: its life, 0 where there is no such server; the phase of its lease, 0 where it has none; the end of its
-/// lease, 0 where it has none; and 1 where it has dirty pages.
+/// What a client has at a server: its life, 0 if there is no such server; the phase of its lease, 0
+/// if it has none; the end of its lease, 0 if it has none; and 1 if it has dirty pages.
 #[repr(C)]
 #[derive(Clone, Copy)]
 pub struct TankAssociation {
@@ -41,7 +42,7 @@ pub struct TankAssociation {
     pub dirty: u32,
 }
 
-/// What is told where there is no step.
+/// What is returned if there is no step.
 pub(crate) fn no_step() -> TankClientStep
     ensures { result ≡ client_told 0 0 }
 {

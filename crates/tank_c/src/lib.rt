@@ -229,7 +229,7 @@ pub extern "C" fn tank_server_step(
     code
 }
 
-/// Gives the record that is to be kept.
+/// Gives the record that must be kept.
 #[unsafe(no_mangle)]
 pub extern "C" fn tank_server_record(
     server: &mut TankServer,

@@ -6,7 +6,8 @@ ghost use Rattle.tank_c.specs.Codes.{DONE};
 use crate::codes::{NO_MEMORY, SHORT_ROOM, server_code, server_place};
 use st_embed::{EmbeddedServer, Stamp};
 
-/// The number of a server, how many servers there are, how many disks, and how many blocks each has.
+/// The number of a server, how many servers there are, how many disks, and how many blocks each
+/// has.
 #[repr(C)]
 #[derive(Clone, Copy)]
 pub struct TankShape {
@@ -16,8 +17,8 @@ pub struct TankShape {
     pub blocks: u32,
 }
 
-/// What a step of a server tells: the place in its frame of what is refused; and 1 where a record is to be kept in the journal before frames
-/// are taken.
+/// What a step of a server returns: the place in its frame of what is refused; and 1 if a record
+/// must be kept in the journal before frames are taken.
 #[repr(C)]
 #[derive(Clone, Copy)]
 pub struct TankServerStep {
@@ -25,7 +26,7 @@ pub struct TankServerStep {
     pub record: u32,
 }
 
-/// A record of the journal: the place of the gate in front of it, and how many bytes it has.
+/// A record of the journal: the place of the gate before it, and how many bytes it has.
 #[repr(C)]
 #[derive(Clone, Copy)]
 pub struct TankRecord {
@@ -33,14 +34,14 @@ pub struct TankRecord {
     pub size: usize,
 }
 
-/// What is told where there is no step.
+/// What is returned if there is no step.
 pub(crate) fn no_step() -> TankServerStep
     ensures { result ≡ server_told 0 0 }
 {
     TankServerStep { at: 0, record: 0 }
 }
 
-/// What is told where there is no record.
+/// What is returned if there is no record.
 pub(crate) fn no_record() -> TankRecord
     ensures { result ≡ untold }
 {
@@ -71,7 +72,7 @@ pub(crate) fn step_server(
     }
 }
 
-/// The record that is to be kept.
+/// The record that must be kept.
 pub(crate) fn record_server(server: &EmbeddedServer, out: &mut [u8], told: &mut TankRecord) -> u32
     ensures done { result ≡ DONE → TellsRecord (Some server.now) out.old out.new told.new }
     ensures refused { result ≢ DONE → NoServerRecord (Some server.now) out.old out.new told.new result }

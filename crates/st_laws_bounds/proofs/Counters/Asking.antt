@@ -1,4 +1,4 @@
--- Reads that were answered and operations that are pending are no more than events: through a client's step and behind every event.
+-- The reads that were answered and the operations that are pending are no more than the events: through a client's step and after every event.
 use Rattle.std.proofs.Common.{◌≡◌, ◌≢◌, ◌⊎◌, ℕ, zero, suc, ◌+◌, ◌≤◌, Bool, true, false, List, [], ◌∷◌, ◌++◌, ◌==◌, Some, Ok, refl, sym, ap, ◌∙◌, subst, inl, inr, arith, if◌then◌else◌}
 use Rattle.std.specs.Prelude.{length, map, set, slice_get}
 use Rattle.std.proofs.lemmas.Bool.{eqb-true}
@@ -164,7 +164,7 @@ pending_with : (xs : List WorldClient) (n : ℕ) (old new : WorldClient) → num
 pending_with xs zero old new e = cc
 pending_with xs (suc n) old new e = set_pending xs n old new e
 
--- What stands where n events were.
+-- What holds when there were n events.
 pub record ReadsLow (n : ℕ) (w : World) : Type 0 where
   pub low : w.tally.reads + pending w.clients ≤ n
   pub apart : (c : ClientId) (site : WorldClient) → site_of w c ≡ Some site → Apart (map server_at site.node.state.associations)

@@ -1,4 +1,4 @@
--- Clients' counters are no further than the rows of the world: behind every event.
+-- Clients' counters are no further than the rows of the world: after every event.
 use Rattle.std.proofs.Common.{◌≡◌, ◌≢◌, ◌⊎◌, ℕ, ◌+◌, ◌≤◌, List, [], ◌∷◌, ◌++◌, Option, Some, None, Ok, refl, sym, ap, ◌∙◌, subst, inl, inr, arith}
 use Rattle.std.specs.Prelude.{length, map}
 use Rattle.st_base.specs.declared.config.Config.{Config}
@@ -34,7 +34,7 @@ use Rattle.st_laws_bounds.proofs.Counters.Weights.{asks_more, of_change, of_comm
 use Rattle.st_laws_bounds.proofs.Counters.Stepping.{AllLow, LowAt, step_low}
 use Rattle.st_laws_bounds.proofs.Counters.Events.{Beside, Cases, ClientSteps, ServerSteps, Takes}
 
--- What stands of a client where n events were.
+-- What holds of a client when there were n events.
 pub record SiteLow (n : ℕ) (w : World) (site : WorldClient) : Type 0 where
   pub asks : site.asks ≤ n
   pub starts : site.starts ≤ n
@@ -176,7 +176,7 @@ took n w c input old site there is h =
     low : SiteLow n w old
     low = h c old there
 
-    -- what stood at the node
+    -- what was at the node
     begun : AllLow (length w.commands) (length w.log) (length w.ended + site.starts) (length w.net.messages) (client_turn site.node.state [])
     begun =
         let x = ap (λ (m : cl.ClientNode). m.state.next_command) is.node in let y = low.commands in

@@ -1,4 +1,4 @@
--- What counters stand at behind each event, where they do so in a few cases.
+-- The bounds of counters after each event, if they hold in a few cases.
 use Rattle.std.proofs.Common.{◌≡◌, ℕ, ◌+◌, ◌≤◌, Bool, true, false, List, [], ◌∷◌, Option, Some, None, Ok, Err, refl, ◌∙◌, arith, if◌then◌else◌}
 use Rattle.std.specs.Prelude.{length, pred}
 use Rattle.st_base.specs.declared.ids.ClientId.{ClientId}
@@ -56,7 +56,7 @@ pub record Takes (old site : WorldClient) (input : ClientInput) : Type 0 where
   pub starts : old.starts ≡ site.starts
   pub asks : site.asks ≤ old.asks + 1
 
--- The cases, from what stood before to what stands behind.
+-- The cases, from what held before to what holds after.
 pub record Cases (I O : World → Type 0) : Type 0 where
   pub beside : (w v : World) → Beside w v → I w → I v
   pub done : (w : World) → I w → O w

@@ -30,7 +30,7 @@ use Rattle.st_laws_bounds.proofs.Counters.Servers as nodes
 use Rattle.st_laws_bounds.proofs.Counters.Servers.{NodesLow}
 use Rattle.st_laws_bounds.proofs.Counters.Tallies.{EventsAre, events_cases}
 
--- what stands in the world of each head, and behind each event where it stood before, stands in every reached world
+-- what holds in the world of each head, and after each event if it held before, holds in every reached world
 pub every_reached : (Stands : World → Type 0) → ((k : Config) (clients servers d b form : ℕ) → IsHead k clients servers d b form → Stands (fresh_world k clients servers d b form)) →
     ((w : World) (e : Event) → Stands w → Stands (ev.happens (counted w) e).world) → InEveryReached Stands
 every_reached Stands fresh one k clients servers d b form es w r =
@@ -63,7 +63,7 @@ servers_law k clients servers d b form es w r s node e =
     let z = counted_reached NodesLow (λ n v h s node e. h s node e) nodes.cases nodes.fresh_low k clients servers d b form es w r s node e in
     record { epochs = z.epochs; inodes = z.inodes; births = z.births }
 
--- Locks: what stands of every server says how many there are.
+-- Locks: the invariant of every server bounds how many there are.
 all_stands : (k : Terms) (count : ℕ) (es : List Event) (w : World) → list_all (is_event count) es ≡ true → AllStand k count w → AllStand k count (run es w).world
 unfolding run go_on
 all_stands k count [] w h a = a

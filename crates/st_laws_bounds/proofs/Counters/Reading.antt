@@ -103,8 +103,7 @@ r_answers picked a t =
     let z = parted picked t.operations in
     record { server = refl; low = omega (arith, x, y, z) }
 
--- The pass over the operations: one that was pending is answered, or stays.
--- an answer that is no read
+-- The pass over the operations: one that was pending is answered, or stays. an answer that isn't a read
 pub r_said : (n : ℕ) (t : Turn) (op : ℕ) (a : AppAnswer) → reads_in a ≡ 0 → R n t (answered t op a)
 r_said n t op a e = r_says n t (outputs.Answer op a ∷ []) (omega (arith, e))
 

@@ -1,4 +1,4 @@
--- Thefts are no more than sixteen for each event: behind every event.
+-- Thefts are no more than sixteen for each event: after every event.
 use Rattle.std.proofs.Common.{◌≡◌, ◌≢◌, ◌⊎◌, ℕ, ◌+◌, ◌*◌, ◌≤◌, [], Some, refl, sym, ap, ◌∙◌, subst, inl, inr, arith}
 use Rattle.st_base.specs.declared.config.Config.{Config}
 use Rattle.st_base.specs.declared.ids.NodeId.TheVariants as nodes
@@ -19,7 +19,7 @@ use Rattle.st_laws_bounds.proofs.Counters.Events.{Cases, ClientSteps, ServerStep
 use Rattle.st_laws_bounds.proofs.Counters.Tallies.{told_all}
 use Rattle.st_laws_bounds.proofs.Counters.Thefts.{FewClients, Rising, step_few}
 
--- What stands where n events were.
+-- What holds when there were n events.
 pub record TheftsLow (n : ℕ) (w : World) : Type 0 where
   pub low : w.tally.stolen ≤ 16 * n
   pub clients : (s : ServerId) (node : ServerNode) → node_of w s ≡ Some node → FewClients node.state

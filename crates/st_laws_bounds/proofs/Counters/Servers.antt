@@ -1,4 +1,4 @@
--- Servers' counters are no further than events: behind every event.
+-- Servers' counters are no further than events: after every event.
 use Rattle.std.proofs.Common.{◌≡◌, ◌≢◌, ◌⊎◌, ℕ, zero, suc, ◌+◌, ◌*◌, ◌≤◌, true, List, [], ◌∷◌, Some, refl, sym, ap, ◌∙◌, subst, inl, inr, arith, leb-true}
 use Rattle.std.specs.Prelude.{length, map, filter, flat_map, nat_le}
 use Rattle.st_base.specs.declared.config.Config.{Config}
@@ -25,7 +25,7 @@ use Rattle.st_trace.proofs.Server.Growth.{picked_are_fewer, step_grows}
 use Rattle.st_laws_bounds.proofs.Counters.Tallies.{told_all}
 use Rattle.st_laws_bounds.proofs.Counters.Reading.{length_both, same_many}
 
--- what stands of a server where n events were
+-- what holds of a server when there were n events
 pub record NodeLow (n : ℕ) (node : ServerNode) : Type 0 where
   pub epochs : node.state.stable.epoch.0 ≤ n + 1
   pub inodes : node.state.stable.names.next ≤ n + 10

@@ -51,7 +51,7 @@ told_all c before (o ∷ os) sc =
     let a = x.reads in let b = y.reads in
     record { servers = y.servers ∙ x.servers; events = y.events ∙ x.events; stolen = y.stolen ∙ x.stolen; reads = omega (arith, a, b) }
 
--- so many events were counted
+-- that many events were counted
 abbrev pub EventsAre : ℕ → World → Type 0
 EventsAre m w = w.tally.events ≡ m
 

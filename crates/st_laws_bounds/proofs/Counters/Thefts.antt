@@ -49,12 +49,12 @@ pub record InRange (n : ℕ) : Type 0 where
   pub least : 1 ≤ n
   pub most : n ≤ 16
 
--- timers stand by rising clients
+-- timers are in rising order of clients
 abbrev pub Rising : List Suspect → Type 0
 Rising [] = Unit {0}
 Rising (x ∷ xs) = record { first : (y : Suspect) → Has y xs → x.client.0 < y.client.0; rest : Rising xs }
 
--- What stands of a server's locks: each row and each wait is of one of sixteen clients.
+-- What holds of a server's locks: each row and each wait is of one of sixteen clients.
 pub record FewLocks (l : Locks) : Type 0 where
   pub rows : (r : LockRow) → Has r l.rows → InRange r.client.0
   pub waits : (w : Waiter) → Has w l.waiters → InRange w.client.0
@@ -64,7 +64,7 @@ pub record FewTimers (a : Authority) : Type 0 where
   pub timers : (x : Suspect) → Has x a.suspects → InRange x.client.0
   pub rising : Rising a.suspects
 
--- What a rule keeps: what stands of both, and how many thefts were noted.
+-- What a rule keeps: what holds of both, and how many thefts were noted.
 pub record Safe (l : Locks) (a : Authority) (out : List Output) (l2 : Locks) (a2 : Authority) (out2 : List Output) : Type 0 where
   pub locks : FewLocks l → FewLocks l2
   pub timers : FewLocks l → FewTimers a → FewTimers a2
@@ -426,12 +426,12 @@ stolen_each (c ∷ cs) t =
     let a = x.thefts in let b = y.thefts in
     record { locks = λ h. y.locks (x.locks h); timers = y.timers ∙ x.timers; thefts = omega (arith, a, b) }
 
--- What stands of a server.
+-- What holds of a server.
 pub record FewClients (s : ServerState) : Type 0 where
   pub locks : FewLocks s.locks
   pub timers : FewTimers s.authority
 
--- a whole step: it stands again, and at most sixteen thefts were noted
+-- a whole step: it holds again, and at most sixteen thefts were noted
 pub record StepsFew (s : ServerState) (u : ServerTurn) : Type 0 where
   pub clients : FewClients u.state
   pub thefts : weigh of_theft u.out ≤ 16

@@ -36,7 +36,7 @@ abbrev pub of_loss : Output → ℕ
 of_loss (outputs.Note n) = note_of_loss n
 of_loss o = 0
 
--- whatever raises a counter, but for a message
+-- whatever raises a counter, except for a message
 abbrev pub note_of_rise : Note → ℕ
 note_of_rise (notes.Accepted f p bytes) = 1
 note_of_rise (notes.Patched f p at bytes) = 1

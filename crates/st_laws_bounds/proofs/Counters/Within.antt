@@ -1,4 +1,4 @@
--- Clients' counters are within 2^15 for each event: behind every event.
+-- Clients' counters are within 2^15 for each event: after every event.
 use Rattle.std.proofs.Common.{◌≡◌, ◌≢◌, ◌⊎◌, ℕ, ◌+◌, ◌*◌, ◌≤◌, List, Option, Some, None, Ok, refl, sym, ap, ◌∙◌, subst, inl, inr, arith}
 use Rattle.std.specs.Prelude.{length, map, nat_le, ◌&&◌}
 use Rattle.std.proofs.lemmas.Bool.{and_parts, leb-true}
@@ -30,7 +30,7 @@ use Rattle.st_laws_bounds.proofs.Counters.Law.{counted_reached}
 use Rattle.st_laws_bounds.proofs.Counters.Raising.{fresh_within, steps_raise}
 use Rattle.st_laws_bounds.proofs.Counters.Weights.{asks_more}
 
--- What stands of the clients where n events were.
+-- What holds of the clients when there were n events.
 abbrev pub SitesWithin : ℕ → World → Type 0
 SitesWithin n w = (c : ClientId) (site : WorldClient) → site_of w c ≡ Some site → IsWithin (1 + 32768 * n) site.node.state
 

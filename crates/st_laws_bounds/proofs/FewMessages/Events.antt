@@ -35,7 +35,7 @@ use Rattle.st_laws_bounds.proofs.Counters.Weights.{of_message, weigh}
 use Rattle.st_laws_bounds.proofs.FewMessages.Serving.{Serves, step_serves}
 use Rattle.st_laws_bounds.proofs.FewMessages.Stepping.{Few, Steps, step_costs}
 
--- What stands where n events were: of each client, of each server's waits, and of the commands.
+-- What holds when there were n events: of each client, of each server's waits, and of the commands.
 pub record Low (n : ℕ) (w : World) : Type 0 where
   pub clients : (c : ClientId) (site : WorldClient) → site_of w c ≡ Some site → Few site.node.state
   pub waits : (s : ServerId) (node : ServerNode) → node_of w s ≡ Some node → length node.state.locks.waiters ≤ n
@@ -108,7 +108,7 @@ adds_all s (o ∷ os) sc =
     let a = x.messages in let b = y.messages in
     record { commands = y.commands ∙ x.commands; messages = omega (arith, a, b) }
 
--- What stands before an event, where n events and m messages were; and behind it.
+-- What holds before an event, when there were n events and m messages; and after it.
 pub record Before (n m : ℕ) (w : World) : Type 0 where
   pub thefts : TheftsLow n w
   pub low : Low n w

@@ -59,7 +59,7 @@ c_then k c m l d n t u v x y =
     let e = x.ops in let f = x.commands in let g = x.messages in let h = y.ops in let i = y.commands in let j = y.messages in
     record { ops = omega (arith, e, h); dirty = λ z. y.dirty (x.dirty z); commands = omega (arith, f, i); messages = omega (arith, g, j) }
 
--- behind what costs nothing
+-- after what costs nothing
 pub c_after : (k c m : ℕ) (t u v : Turn) → C 0 0 0 t u → C k c m u v → C k c m t v
 c_after k c m t u v x y =
     let e = x.ops in let f = x.commands in let g = x.messages in let h = y.ops in let i = y.commands in let j = y.messages in

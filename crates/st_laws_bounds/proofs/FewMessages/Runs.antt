@@ -15,7 +15,7 @@ use Rattle.st_laws_bounds.proofs.Counters.Robbing.{TheftsLow}
 use Rattle.st_laws_bounds.specs.FewMessages.Few.{RunsAreFew}
 use Rattle.st_laws_bounds.proofs.FewMessages.Events.{Before, Behind, Low, cases, fresh_low}
 
--- behind an event
+-- after an event
 behind : (n : ℕ) (w : World) (e : Event) (sc : WorldTurn) → world_step w e ≡ Ok sc → TheftsLow n w → Low n w → Behind n (length w.net.messages) sc.world
 behind n w e sc is thefts low =
     subst (λ (s : WorldTurn). Behind n (length w.net.messages) s.world) (sym (step_happens w e sc is).1)

@@ -27,7 +27,7 @@ use Rattle.st_laws_bounds.proofs.FewMessages.Receiving.{c_finish, c_receive, c_l
 abbrev pub EachLow : List Association → Type 0
 EachLow al = (a : Association) → Has a al → length a.store.pages.dirty ≤ 64
 
--- What a rule at so many servers leaves.
+-- What a rule at that many servers leaves.
 record Goes (k c m n more : ℕ) (t u : ClientTurn) : Type 0 where
   many : length u.state.associations ≡ more + length t.state.associations
   ops : length u.state.operations ≤ k * n + length t.state.operations
@@ -76,7 +76,7 @@ at_all k c m rule f t few low =
     let z = these k c m rule f t.state.associations (with_associations [] t) few low (λ a i. absurd i) in
     record { many = let e = z.many in omega (arith, e); ops = z.ops; each = z.each; commands = z.commands; messages = z.messages }
 
--- What stands of a client.
+-- What holds of a client.
 pub record Few (s : ClientState) : Type 0 where
   pub ops : length s.operations ≤ 20
   pub many : length s.associations ≤ 4

@@ -27,7 +27,7 @@ use Rattle.st_laws_bounds.specs.FewMessages.Few.{EventsHaveLines}
 use Rattle.st_laws_bounds.specs.Generated.ReadBack.{HeadIsRead, TextIsRead, TextIsReplayed, TextIsReported, whole}
 use Rattle.st_laws_bounds.proofs.Generated.OneLine.{event_unbroken, is_unbroken}
 
--- A line and a newline in front of other text.
+-- A line and a newline before other text.
 lines_behind : (l rest : List ℕ) → is_unbroken l ≡ true → lines_of (l ++ 10 ∷ rest) ≡ l ∷ lines_of rest
 lines_behind [] rest h = refl
 lines_behind (b ∷ bs) rest h =

@@ -1,4 +1,4 @@
--- How far the counters of a world and of its nodes may be after so many events.
+-- How far the counters of a world and of its nodes may be after that many events.
 use Rattle.std.specs.Prelude.{◌≡◌, ◌≤◌, ◌+◌, ◌*◌, ◌^◌, ℕ, length, Option, Some, None}
 use Rattle.st_base.specs.declared.ids.ClientId.{ClientId}
 use Rattle.st_base.specs.declared.ids.ServerId.{ServerId}

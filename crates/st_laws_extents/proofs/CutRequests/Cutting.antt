@@ -131,7 +131,7 @@ module _ (x : ServerState) (now : Stamp) (i : ServerInput) where
   cut_by : Noted (server_step x now i).out
   cut_by = walk x now i (λ t. Noted t.out) noted_edit (λ f p h. absurd h)
 
--- A server's step: it cuts nothing on a tick, and else because of the message that comes.
+-- A server's step: it cuts nothing on a tick, and otherwise because of the message that comes.
 pub step_cuts : (x : ServerState) (now : Stamp) (m : Message) (f : FileId) (p : PageNo) →
     Has (outputs.Note (notes.CutDone f p)) (server_step x now (Control m)).out → CutBy x m f p
 step_cuts x now m f p h = go (cut_by x now (Control m) f p h)

@@ -1,4 +1,4 @@
--- Cuts are asked: at the start, behind every event, and over whole runs.
+-- Cuts are asked: at the start, after every event, and over whole runs.
 use Rattle.std.proofs.Common.{◌≡◌, ◌⊎◌, ℕ, ◌+◌, Bool, true, false, List, [], ◌∷◌, ◌++◌, Option, Some, None, Ok, refl, sym, ap, ◌∙◌, subst, inl, inr}
 use Rattle.st_base.specs.declared.config.Config as base
 use Rattle.st_base.specs.declared.ids.ClientId.{ClientId}
@@ -61,7 +61,7 @@ use Rattle.st_laws_extents.specs.CutRequests.EndedLives.{GoesBetween}
 use Rattle.st_laws_extents.specs.CutRequests.FreshRequests.{FreshAreOutstanding}
 use Rattle.st_laws_extents.proofs.CutRequests.Fresh.{outstanding}
 
--- What stands behind every event.
+-- What holds after every event.
 pub record Hold (k : Config) (count : ℕ) (past : List Step) (t : Traced) : Type 0 where
   pub cuts : CutsHold past t
   pub replies : RepliesHold past t
@@ -89,7 +89,7 @@ asks_given : (B : ServerId → ℕ → ℕ → ℕ → Type 0) (G H : ServerId �
 asks_given B G H f s life None h = tt
 asks_given B G H f s life (Some x) h = record { last = h.last; first = h.first; served = h.served; cut = h.cut; remove = λ q e. remove_more (G s) (H s) (f s) x.cutting q.body (h.remove q e) }
 
--- behind a step, what is held was given
+-- after a step, what is held was given
 asks_held : (B : ServerId → ℕ → ℕ → ℕ → Type 0) (G : ServerId → ℕ → GrantNo → Type 0) (s : ServerId) (life : ℕ) (o : Option ClientSession) →
     ((x : ClientSession) → o ≡ Some x → (ino : ℕ) (g : GrantNo) → HasExclusive x ino g → G s ino g) → AsksBehind B G s life o → Of (AsksStand B G) s life o
 asks_held B G s life None f h = tt
@@ -99,7 +99,7 @@ asks_held B G s life (Some x) f h = record { last = h.last; first = h.first; ser
     go ino g (inl y) = y
     go ino g (inr y) = f x refl ino g y
 
--- in a world in which all stands, what is held was given
+-- in a world in which everything holds, what is held was given
 held_given : (k : Config) (count : ℕ) (w : World) (all : AllStand k count w) (c : ClientId) (site : WorldClient) → site_of w c ≡ Some site → (a : Association) → Has a site.node.state.associations → (x : ClientSession) → a.session ≡ Some x →
     (ino : ℕ) (g : GrantNo) → HasExclusive x ino g → gifts k count w all c a.server ino g
 held_given k count w all c site there a i x e ino g y node at = go site.node.running refl
@@ -142,7 +142,7 @@ module _ (k : Config) (count : ℕ) (past : List Step) (t : Traced) (e : Event) 
         asks = stands_given k count sc.world followed.after (stand_again past t h.cuts h.replies (gifts k count sc.world followed.after) before e sc owed taken);
       }
 
-  -- what stands behind the step, with what was followed
+  -- what holds after the step, with what was followed
   pub same_all : (one_hold : Hold k count (past ++ step t e sc ∷ []) (traced_after e t sc)) × (one_hold.all ≡ followed.after)
   unfolding followed next
   same_all = (next, refl)

@@ -1,4 +1,4 @@
--- A grant's number names its file: each move of the association machine keeps it, and so it stands in every state that can be reached.
+-- A grant's number names its file: each move of the association machine keeps it, and so it holds in every reachable state.
 use Rattle.std.proofs.Common.{◌≡◌, ℕ, ◌≤◌, ◌<◌, ◌⊎◌, List, ◌∷◌, refl, sym, ap, ◌∙◌, subst, inl, inr, arith}
 use Rattle.st_protocol.specs.Assoc.{Config, ConfigOk, Lock, Body, Msg, Row, Assoc, World, In, msg, Move, Moves, Stays, GoesOn, Reached, AtFirst, Then, Works, BeginsAt, Hello, Plain, Released, Reassert, Welcome, Ack, Reasserted, Granted, Demand, OfOtherEpoch, Greets, Asks, Loses, Crashes, Begins, Installs, AskedOfNone, Asked, Declines, Repeats, Again, Sweeps, Reduces, Reasserts, Welcomes, WelcomesAgain, Acks, Refuses, Accepts, Steals, Grants, GrantsAgain, Demands, Releases, Stops}
 use Rattle.st_protocol.proofs.Lists.{in_cons, swept, upd_all}
@@ -102,7 +102,7 @@ module _ (k : Config) where
   nets (Releases a stamp i g to j sv e ro mo) l o = more _ a.net tt o.net
   nets _ l o = o.net
 
-  -- what was given is given behind a move
+  -- what was given is given after a move
   on : {a b : Assoc} → Move k a b → (i g : ℕ) → Given a.net i g → Given b.net i g
   on {a} {b} m i g z = given_more a.net b.net (grows k m) i g z
 

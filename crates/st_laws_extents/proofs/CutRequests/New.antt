@@ -34,7 +34,7 @@ use Rattle.st_laws_requests.specs.Replies.ServedRequests.{AtMessage, AtReceiver,
 use Rattle.st_laws_requests.proofs.Replies.Replies as askers
 
 module _ (k : Config) (count : ℕ) (w : World) (a : AllStand k count w) where
-  -- a session that stands is not ended
+  -- a session that is there is not ended
   lives : (o : Option Session) (y : Session) → NotEnded o → o ≡ Some y → sessions.is_live y ≡ true
   lives None y n e = cc
   lives (Some x) y n e = subst (λ (z : Session). sessions.is_live z ≡ true) (some_is e) n

@@ -28,7 +28,7 @@ use Rattle.st_laws_requests.specs.Replies.ServedRequests.{Ends}
 use Rattle.st_laws_extents.specs.CutRequests.Asks.{AsksStand, Fact, Of, Tells}
 use Rattle.st_laws_extents.proofs.CutRequests.Walking as walk
 
--- by the reply: whether a reassertion is due behind it
+-- by the reply: whether a reassertion is due after it
 abbrev pub due_left : Body → Bool → Bool
 due_left bodies.Reasserted due = false
 due_left body due = due
@@ -39,7 +39,7 @@ no_request q z = cc
 clash : {A : Type 0} {b : Bool} → b ≡ true → b ≡ false → A
 clash x y = cc
 
--- a counting reply to a reassertion that is no refusal accepts it
+-- a counting reply to a reassertion that isn't a refusal accepts it
 accepts : (b asked : Body) (due : Bool) → state.fits b asked ≡ true → state.reasserts asked ≡ true → cr.refuses_reassertion b asked ≡ false → due_left b due ≡ true → ⊥
 accepts bodies.Reasserted asked due f r n d = cc
 accepts (bodies.Nack w x y) asked due f r n d = clash r n
@@ -55,7 +55,7 @@ module _ (F : Fact) where
   abbrev At : Turn → Type 0
   At t = walk.At F t
 
-  -- What a reply does besides ending the request.
+  -- What a reply does in addition to ending the request.
   abbrev pub Left : Turn → ClientSession → Bool → Type 0
   Left t r due = F t.here.server t.here.life.0 r.epoch.0 r.requests r.cutting due
 

@@ -1,5 +1,5 @@
--- What the requests that a client sends at the end of a step leave of its session. The last pass only asks: what it asks anew is a reassertion where one is due,
--- and what it removes it holds alone.
+-- What the requests that a client sends at the end of a step leave of its session. The last pass only asks: what it asks anew is a reassertion where one is
+-- due, and what it removes it holds alone.
 use Rattle.std.proofs.Common.{◌≡◌, ℕ, ◌+◌, Bool, true, false, Option, Some, None, sym, ap, ◌∙◌, subst, ◌⊎◌, inl, inr}
 use Rattle.st_base.specs.declared.ids.GrantNo.{GrantNo}
 use Rattle.st_base.specs.declared.ids.ServerId.{ServerId}
@@ -44,7 +44,7 @@ module _ (B : ServerId → ℕ → ℕ → ℕ → Type 0) (G : ServerId → ℕ
   abbrev pub After : Turn → Type 0
   After t = AsksBehind B G t.here.server t.here.life.0 t.here.session
 
-  -- what stood stands
+  -- what held still holds
   pub stays_at : (server : ServerId) (life : ℕ) (o : Option ClientSession) → Of (AsksStand B G) server life o → AsksBehind B G server life o
   stays_at server life None h = tt
   stays_at server life (Some s) h = record { last = h.last; first = h.first; served = h.served; cut = h.cut; remove = λ q e. remove_more (G server) (GivenOrHeld G s server) (λ i g x. inl x) s.cutting q.body (h.remove q e) }

@@ -1,4 +1,4 @@
--- A client that runs under a lease that lasts, at a server of a world in which all stands.
+-- A client that runs under a lease that lasts, at a server of a world in which everything holds.
 use Rattle.std.proofs.Common.{◌≡◌, ◌≢◌, ◌⊎◌, ℕ, ◌≤◌, Bool, true, false, Some, refl, sym, ap, ◌∙◌, subst, inl, inr, arith}
 use Rattle.st_base.specs.declared.ids.GrantNo.{GrantNo}
 use Rattle.st_base.specs.declared.ids.NodeId.TheVariants as nodes

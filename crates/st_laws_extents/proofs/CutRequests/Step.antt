@@ -1,4 +1,4 @@
--- A client's step, at all its servers: what stands of the requests of each session.
+-- A client's step, at all its servers: what holds of the requests of each session.
 use Rattle.std.proofs.Common.{◌≡◌, ℕ, true, ◌==◌, List, [], ◌∷◌, refl, ap, ◌∙◌, subst}
 use Rattle.std.proofs.lemmas.Bool.{eqb-true}
 use Rattle.st_base.specs.declared.ids.GrantNo.{GrantNo}

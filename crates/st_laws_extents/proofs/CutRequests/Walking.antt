@@ -1,4 +1,4 @@
--- The rules of a client that leave the requests of a session: a fact of them stands again.
+-- The rules of a client that leave the requests of a session: a fact of them holds again.
 use Rattle.std.proofs.Common.{◌≡◌, ℕ, Bool, true, false, List, Option, Some, sym, subst, if◌then◌else◌}
 use Rattle.st_base.specs.declared.disk.Tag.{Tag}
 use Rattle.st_base.specs.declared.ids.GrantNo.{GrantNo}

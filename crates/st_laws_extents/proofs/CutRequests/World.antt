@@ -1,4 +1,4 @@
--- Every event keeps what stands of the requests of all sessions.
+-- Every event keeps what holds of the requests of all sessions.
 use Rattle.std.proofs.Common.{◌≡◌, ◌≢◌, ℕ, ◌+◌, ◌≤◌, ◌⊎◌, Bool, true, false, List, [], Option, Some, None, Ok, refl, sym, ap, ◌∙◌, subst, inl, inr, arith}
 use Rattle.std.specs.Prelude.{map}
 use Rattle.st_base.specs.declared.ids.ClientId.{ClientId}

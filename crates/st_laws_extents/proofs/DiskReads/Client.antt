@@ -147,7 +147,7 @@ module _ (asks : ℕ → ℕ → Option Ask) (k : Config) (count : ℕ) (past mo
   joined : sc.world.log ≡ w.log ++ kept.more
   joined = kept.joined ∙ ap (λ l. l ++ kept.more) tk.log
 
-  -- commands behind the step
+  -- commands after the step
   from : (j : ℕ) (y : IssuedCommand) (d : DiskCommand) → numbered sc.world.commands j ≡ Some y → disks.command_at sc.world.disks.commands j ≡ Some d →
       ((numbered W.commands j ≡ Some y) × (disks.command_at W.disks.commands j ≡ Some d)) ⊎ IsNew (client c) M (length W.servers) T.out y d
   from j y d i h =

@@ -148,7 +148,7 @@ module _ (w : World) (sc : WorldTurn) (x : Taking) (tk : Takes (counted w) sc x)
   old_run : x.site.node.running ≡ true → Running w c tk.old
   old_run runs = record { there = tk.there; runs = ap (λ (n : cl.ClientNode). n.running) tk.same ∙ runs }
 
-  -- an association with an outstanding command behind the losses was there before them, under a lease that lasts
+  -- an association with an outstanding command after the losses was there before them, under a lease that lasts
   record Was (a : Association) : Type 0 where
     here : Has a tk.old.node.state.associations
     lasts : Lasts tk.old.node.state.config.lease (clock_of w (nodes.Client (client c))).0 a.session

@@ -330,7 +330,7 @@ module _ (asks : ℕ → ℕ → Option Ask) (w : World) (copies : CopiesHold as
   content_all f p s [] sc n = refl
   content_all f p s (o ∷ os) sc n = content_all f p s os (ev.server_says sc s o) (λ g q i. n g q (inr i)) ∙ content_one f p s o sc (λ g q e. n g q (inl e))
 
-  -- no page of an outstanding read is behind a cut
+  -- no page of an outstanding read is past a cut
   cut_apart : (f : FileId) (p : PageNo) → CutFree w f p → (c : ℕ) (site : WorldClient) → Running w c site → (a : Association) → Has a site.node.state.associations → Lasts site.node.state.config.lease (clock_of w (nodes.Client (client c))).0 a.session →
       (pc : PageCommand) → Has pc a.store.commands → pc.kind ≡ io.Read → touches (file_at a pc.ino) pc.page (hard_cut f p) ≡ true → ⊥
   cut_apart f p free c site run a i l pc m r t = go (free_at asks w copies f p site.node.state.config.lease (clock_of w (nodes.Client (client c))).0 site.node.state.associations (free c site run) a i l sv)

@@ -213,7 +213,7 @@ after_writes {now} t s f p bytes n se sv own m h =
         clash (Place_is pc.ino pc.page f.ino p)
         (and_both (pc.ino == f.ino) (same_page pc.page p) (eq-eqb pc.ino f.ino (sym x ∙ ap (λ (v : FileId). v.ino) z.0)) (eq-eqb pc.page.0 p.0 (ap (λ (r : PageNo). r.0) (sym y ∙ z.1)))) a
 
--- an output that is no note
+-- an output that isn't a note
 abbrev PlainOrNot : Output → Type 0
 PlainOrNot (outputs.Note n) = ⊥
 PlainOrNot o = Unit {0}

@@ -49,7 +49,7 @@ use Rattle.st_laws_extents.proofs.DiskReads.Others as others
 use Rattle.st_laws_extents.proofs.DiskReads.Others.{ReadsSettled, reads_settled}
 use Rattle.st_rules.specs.Extents.{numbers}
 
--- What stands behind the steps of a run.
+-- What holds after the steps of a run.
 pub record ReadsStand (k : Config) (count : ℕ) (past : List Step) (t : Traced) : Type 0 where
   pub pages : PagesStand k count past t
   pub reads : ReadsHold t.world t.world.log

@@ -280,7 +280,7 @@ module _ (c : ClientId) (s : ClientState) (now : Stamp) (input : ClientInput) (f
   all_behind =
       each_all t.state.associations s.next_command now (cp.passes now (cl.is_tick input)) (λ x f. changes_next now x _ (c_passes now (cl.is_tick input) x)) (λ x f. changes_kept now x _ (c_passes now (cl.is_tick input) x)) (cl.take_input t now input) (input_all input (cl.take_input t now input) (taken t now input))
 
-  -- a read that is outstanding behind the step was so before it, under a lease that lasted, and its page was not changed; or it is new
+  -- a read that is outstanding after the step was so before it, under a lease that lasted, and its page was not changed; or it is new
   pub record ReadStays (b : Association) (pc : PageCommand) : Type 0 where
     pub a : Association
     pub among : Has a s.associations

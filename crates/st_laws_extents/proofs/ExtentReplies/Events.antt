@@ -92,7 +92,7 @@ module _ (past : List Step) (t : Traced) (r : RepliesHold past t) (few : length 
       below : c.0 ≤ 16
       below = let z = (numbered_below t.world.clients c.0 old at).1 in omega (arith, z, few)
 
-      -- a client is no server
+      -- a client isn't a server
       sent : (m : Message) → Has m (messages t.world) ⊎ Has (outputs.Send m) u.out → (s : ServerId) → m.header.from ≡ server_node s → Has m (messages t.world)
       sent m (inl h) s e = h
       sent m (inr h) s e =

@@ -1,4 +1,4 @@
--- The lock under which extents were asked has a mode; and extents of a file that stay are told the same.
+-- The lock under which extents were asked has a mode; and extents of a file that stay are reported the same.
 use Rattle.std.proofs.Common.{◌≡◌, ℕ, ◌≤◌, true, List, [], ◌∷◌, Option, Some, None, refl, sym, ap, ◌∙◌, subst, inl, inr, arith}
 use Rattle.std.specs.Prelude.{filter_map}
 use Rattle.st_base.specs.declared.ids.FileId.{FileId}
@@ -66,7 +66,7 @@ current_mode k count w all s node is d site at a i e x f b ino p n asks cur =
         (subst (λ o. Kept a.life.0 a.store o (z.ghosts d).net) f
         (subst (λ (y : Association). Kept y.life.0 y.store y.session (z.ghosts d).net) (sym (only_here s site.node.state.associations q.association q.sim.place a i (ap Rattle.st_rules.specs.Keys.server_node e))) q.sim.kept)).modes
 
--- one more row, where there is one
+-- one more row, if there is one
 with_row : {B : Type 0} → Option B → List B → List B
 with_row None ys = ys
 with_row (Some y) ys = y ∷ ys
@@ -83,7 +83,7 @@ filter_same : {A B : Type 0} (f g : A → Option B) → ((x : A) → f x ≡ g x
 filter_same f g e [] = refl
 filter_same f g e (x ∷ xs) = filter_step f x xs ∙ ap (λ o. with_row o (filter_map f xs)) (e x) ∙ ap (with_row (g x)) (filter_same f g e xs) ∙ sym (filter_step g x xs)
 
--- rows are told the same where the extents of the file are
+-- rows are reported the same if the extents of the file are the same
 pub rows_same : (x y : Extents) (f : FileId) → ((p : PageNo) → extents.extent_of y f p ≡ extents.extent_of x f p) → (p : PageNo) (n : ℕ) → extents.extent_rows y f p n ≡ extents.extent_rows x f p n
 unfolding extents.extent_rows
 rows_same x y f e p n = filter_same (extents.extent_row_at y f) (extents.extent_row_at x f) (λ q. ap (Rattle.std.specs.Prelude.option_map extents.extent_row) (e q)) (extents.pages_from p n)

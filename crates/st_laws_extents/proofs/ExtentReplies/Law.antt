@@ -1,4 +1,4 @@
--- Replies tell the present extents: at the start, behind every event, and over whole runs.
+-- Replies report the present extents: at the start, after every event, and over whole runs.
 use Rattle.std.proofs.Common.{◌≡◌, ◌≢◌, ◌⊎◌, ℕ, ◌+◌, true, List, [], ◌∷◌, ◌++◌, Option, Some, None, Ok, Err, refl, sym, ap, ◌∙◌, subst, inl, inr, arith}
 use Rattle.std.specs.Prelude.{Result}
 use Rattle.std.specs.List.{list_all}
@@ -133,7 +133,7 @@ module _ (k : Config) (count : ℕ) (past : List Step) (t : Traced) (h : cutters
       go (inl e) = here (server_same y.server a.server (sym e)) (some_is (sym found ∙ ap (numbered (with_numbered y.server.0 next t.world.servers)) e ∙ numbered_own t.world.servers y.server.0 next y.node y.there))
       go (inr n) = other n
 
--- What stands behind every event.
+-- What holds after every event.
 pub record Hold (k : Config) (count : ℕ) (past : List Step) (t : Traced) : Type 0 where
   pub asks : cutters.Hold k count past t
   pub right : AskedRight t.world

@@ -113,7 +113,7 @@ module _ (k : Config) (count : ℕ) (past : List Step) (t : Traced) (hold : Hold
       go (inl b) = behind (subst (λ o. IsBehind o r.header.life r.header.number) (ap (λ n. sessions.session_of node.state.sessions (client n)) (p.to ∙ sym e) ∙ v.is) b)
       go (inr f) = refused f
 
-  -- What was told before is told still, where the client's own request is not the one that is served.
+  -- What was reported before is still reported, if the client's own request isn't the one that is served.
   stay : (ino : ℕ) (rows : List ExtentRow) → ((m : Message) → Has m (messages t.world) → ServedAnew node.state m → m.header.from ≡ c → ⊥) → TellsRows a.server node.state.stable.extents q.body ino rows → TellsRows a.server y.state.stable.extents q.body ino rows
   stay ino rows never r = go tells.extents
     where

@@ -39,7 +39,7 @@ use Rattle.st_trace.specs.Server.Edits.{Serves, Repeats, Refuses, Suspects, Gran
 abbrev pub Fact : Type 1
 Fact = ℕ → ℕ → ℕ → ℕ → List ExtentRow → Type 0
 
--- What stands within a step: the extents, and what is kept and sent of extents.
+-- What holds within a step: the extents, and what is kept and sent of extents.
 pub record Stands (Good : Fact) (x : Extents) (t : ServerTurn) : Type 0 where
   pub extents : t.state.stable.extents ≡ x
   pub kept : (c : ClientId) (life number ino : ℕ) (rows : List ExtentRow) → KeptRows t.state.sessions c life number ino rows → Good c.0 life number ino rows

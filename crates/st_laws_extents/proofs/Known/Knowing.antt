@@ -82,7 +82,7 @@ follows_keeps asks st s _ (AsksNew _ r now body cutting a c k) q x i h = step_ke
 follows_keeps asks st s _ (AsksAgain _ now r e) q x i h = h
 
 module _ (R : Fact) where
-  -- what stands within a step
+  -- what holds within a step
   pub record Fine (server : ServerId) (o : Option ClientSession) (xs : List KnownExtent) (out : List Output) : Type 0 where
     pub known : (e : KnownExtent) → Has e xs → KnownAs R server o e
     pub said : OutputsAs R out

@@ -1,4 +1,4 @@
--- Known extents are the servers': at the start, behind every event, and over whole runs.
+-- Known extents are the servers': at the start, after every event, and over whole runs.
 use Rattle.std.proofs.Common.{◌≡◌, ℕ, ◌+◌, Bool, true, false, List, [], ◌∷◌, ◌++◌, Option, Some, None, Ok, Err, refl, sym, ap, ◌∙◌, subst}
 use Rattle.std.specs.Prelude.{Result}
 use Rattle.std.specs.List.{list_all}
@@ -45,7 +45,7 @@ use Rattle.st_laws_extents.proofs.Known.Held.{held_mode}
 use Rattle.st_laws_extents.proofs.Known.Locked.{fresh_locked, locked_step}
 use Rattle.st_laws_extents.proofs.Known.World as worlds
 
--- What stands behind every event.
+-- What holds after every event.
 pub record Hold (k : Config) (count : ℕ) (w : World) : Type 0 where
   pub all : AllStand k count w
   pub clear : AllCleared w

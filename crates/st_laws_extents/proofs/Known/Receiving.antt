@@ -80,7 +80,7 @@ module _ (R : Fact) where
       go (inl q) = subst (KnownAs R server o) (sym q) (record { locked = l; is = λ m z. none_some m z })
       go (inr i) = h e i
 
-  -- Extents that are told.
+  -- Extents that are reported.
   e_extents : (t : Turn) (s : ClientSession) (ino : ℕ) (rows : List ExtentRow) (asked : Body) → t.here.session ≡ Some s → state.maps ino asked ≡ true →
       (cr.is_current s.locks asked ≡ true → (r : ExtentRow) → Has r rows → R t.here.server ino r.page (told_at r)) → walk.K R t (cr.extents t s ino rows asked)
   unfolding cr.extents cr.learn

@@ -28,7 +28,7 @@ unfolding cl.losses
 lost_clear s now h = each_keep Cleared Cleared (cl.lose now) (clearing.k_lose now) (client_turn s []) h
 
 module _ (R : Fact) where
-  -- What stands of a step so far.
+  -- What holds of a step so far.
   pub record Fine (t : ClientTurn) : Type 0 where
     pub knows : Each (Knows R) t.state.associations
     pub said : OutputsAs R t.out
@@ -107,7 +107,7 @@ module _ (R : Fact) where
   unfolding cl.losses
   lost_knows s now h = (each Any (cl.lose now) (λ u p. walk.k_lose R now u) (client_turn s []) (record { knows = h; said = λ y i. absurd i }) (λ a i. tt)).knows
 
-  -- The step, from what stands behind its losses.
+  -- The step, from what holds after its losses.
   pub step_fine : (s : ClientState) (now : Stamp) (input : ClientInput) → Each Cleared s.associations → Told (cl.losses (client_turn s []) now).state.associations input →
       Each (Knows R) (cl.losses (client_turn s []) now).state.associations → Fine (cl.client_step s now input)
   unfolding cl.client_step cl.work

@@ -32,7 +32,7 @@ use Rattle.st_trace.specs.Server.Edits.{Phase, Ruled, Edit, TakesTimers, Steals,
 use Rattle.st_trace.specs.Server.Edits.{Refuses, Suspects, Grants, Demands}
 use Rattle.st_trace.proofs.Server.Walk.{walk}
 
--- Rows that are told.
+-- Rows that are reported.
 rows_of : (x : Extents) (f : FileId) (s : ServerId) (ino : ℕ) → f ≡ file_at s ino → (ps : List PageNo) (r : ExtentRow) →
     Has r (filter_map (extents.extent_row_at x f) ps) → RowRight x s ino r
 rows_of x f s ino e [] r i = elim i [ ]

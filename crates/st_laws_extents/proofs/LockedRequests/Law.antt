@@ -1,4 +1,4 @@
--- Outstanding requests go on: at the start, behind every event, and over whole runs.
+-- Outstanding requests go on: at the start, after every event, and over whole runs.
 use Rattle.std.proofs.Common.{◌≡◌, ℕ, ◌+◌, Bool, true, false, List, [], ◌∷◌, ◌++◌, Option, Some, None, Ok, refl, sym, ap, ◌∙◌, subst, inl, inr}
 use Rattle.st_base.specs.declared.config.Config as base
 use Rattle.st_messages.specs.declared.event.Event.{Event}
@@ -37,7 +37,7 @@ use Rattle.st_laws_extents.proofs.LockedRequests.Seen.{fresh_seen, seen_step}
 use Rattle.st_laws_extents.proofs.LockedRequests.Taking.{runs_go, stops_go}
 use Rattle.st_laws_extents.proofs.LockedRequests.World.{Back, none_taken}
 
--- What stands behind every event.
+-- What holds after every event.
 pub record Hold (k : Config) (count : ℕ) (past : List Step) (t : Traced) : Type 0 where
   pub asks : cutters.Hold k count past t
   pub keys : KeysTold t.world

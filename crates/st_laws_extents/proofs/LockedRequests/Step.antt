@@ -1,4 +1,4 @@
--- A client's step behind its losses, at all its servers: the requests of each session go on.
+-- A client's step after its losses, at all its servers: the requests of each session go on.
 use Rattle.std.proofs.Common.{[]}
 use Rattle.st_base.specs.declared.ids.Stamp.{Stamp}
 use Rattle.st_rules.specs.declared.client.ClientInput.{ClientInput}

@@ -93,7 +93,7 @@ module _ (k : Config) (count : ℕ) (past : List Step) (t : Traced) (hold : Hold
     numbers : (a : Association) → Has a s.associations → Numbers (λ m. Has m (messages t.world)) x.client a.server a.life.0 (view a.session)
     numbers a i = ((hold.cuts.clients x.client tk.old tk.there).all old_runs a (old_of a i)).numbers
 
-    -- with a session, behind the losses
+    -- with a session, after the losses
     some_goes : (a : Association) → Has a left → (u : ClientSession) → a.session ≡ Some u → Of U W a.server a.life.0 (Some u)
     some_goes a i u e =
         record {

@@ -1,4 +1,4 @@
--- The rules of a client keep what stands of the requests of a session: they go on while its locks do, and what is asked anew is asked under a lock that is held.
+-- The rules of a client keep what holds of the requests of a session: they go on while its locks do, and what is asked anew is asked under a lock that is held.
 use Rattle.std.proofs.Common.{◌≡◌, ℕ, ◌≤◌, ◌<◌, Bool, true, false, List, Option, Some, None, refl, sym, subst, inr, arith}
 use Rattle.st_base.specs.declared.disk.Tag.{Tag}
 use Rattle.st_base.specs.declared.ids.Epoch.{Epoch}
@@ -89,7 +89,7 @@ module _ (U : Free) (W : Before) where
   alike : (xs : List KnownExtent) (server : ServerId) (life : ℕ) (s r : ClientSession) → AsksNothing xs s r → Of U W server life (Some s) → Of U W server life (Some r)
   alike xs server life s r a h = k_locks server life s r a.epoch a.requests (locks_on xs s.locks r.locks a.locks) h
 
-  -- a request behind one more: its number was told to nobody
+  -- a request after one more: its number was reported to nobody
   asked_new : (server : ServerId) (life : ℕ) (r : ClientSession) (now : Stamp) (body : Body) (cutting : Option ℕ) → MayAsk r cutting body →
       Of U W server life (Some r) → Of U W server life (Some (cp.asking_session r now body cutting))
   unfolding state.asking
@@ -101,7 +101,7 @@ module _ (U : Free) (W : Before) where
         asked = λ q e. subst (λ (z : Request). RequestGoes U W server life r.epoch.0 r.locks z.number z.body) (some_is e) (record { under = under_held r h.seen cutting body m; was = λ x. inr (h.next r.requests.next (omega arith)) });
       }
 
-  -- a newer epoch, of which nothing was told
+  -- a newer epoch, about which nothing was reported
   epoch_new : (server : ServerId) (life : ℕ) (s : ClientSession) (epoch : Epoch) → s.epoch.0 < epoch.0 → Of U W server life (Some s) →
       Of U W server life (Some (cr.in_epoch epoch s))
   unfolding locks.forget_demands

@@ -1,4 +1,4 @@
--- Every event: a request that is outstanding under its lock behind an event was so before, or nothing was told under its number.
+-- Every event: a request that is outstanding under its lock after an event was so before, or nothing was reported under its number.
 use Rattle.std.proofs.Common.{◌≡◌, ◌≢◌, ◌⊎◌, ℕ, ◌≤◌, Bool, true, false, Option, Some, None, Ok, Err, refl, sym, ap, ◌∙◌, subst, inl, inr, arith, if◌then◌else◌}
 use Rattle.st_base.specs.declared.ids.ClientId.{ClientId}
 use Rattle.st_base.specs.declared.ids.NodeId.{NodeId}
@@ -36,7 +36,7 @@ use Rattle.st_laws_leases.proofs.Dates.Leaving.{set_cases}
 use Rattle.st_laws_extents.specs.ExtentReplies.Law.{WasAsked}
 use Rattle.st_laws_extents.specs.ExtentReplies.ToldExtents.{AskedAt}
 
--- what is outstanding behind was outstanding before
+-- what is outstanding after it was outstanding before
 abbrev pub Back : World → World → Type 0
 Back w v = (c : ℕ) (site : WorldClient) (a : Association) (x : ClientSession) (q : Request) → AskedAt v c site a x q → WasAsked w c a x q
 

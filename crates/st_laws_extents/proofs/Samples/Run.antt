@@ -73,7 +73,7 @@ submits_left : (o : Option Taking) → SubmitsOf o → SubmitsLeft o
 submits_left None s = tt
 submits_left (Some x) s = λ number at to tag bytes i. let z = s number at to tag bytes i in record { extent = z.extent; is = z.is; at = z.at; birth = z.birth }
 
--- What stands behind the steps of a run.
+-- What holds after the steps of a run.
 record AllHold (k : Config) (count : ℕ) (past : List Step) (t : Traced) : Type 0 where
   reads : ReadsStand k count past t
   hold : Hold k count past t

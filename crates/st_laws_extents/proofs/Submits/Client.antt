@@ -1,5 +1,4 @@
--- Where a client that runs takes an input: each write that it submits is right, and behind the latest entries of dirty pages nothing of the
--- page counts.
+-- Where a client that runs takes an input: each write that it submits is right, and after the latest entries of dirty pages nothing of the page counts.
 use Rattle.std.proofs.Common.{◌≡◌, ◌≢◌, ℕ, ◌+◌, ◌⊎◌, Bool, true, false, ◌&&◌, List, [], ◌∷◌, ◌++◌, Option, Some, None, Ok, Err, refl, sym, ap, ◌∙◌, subst, inl, inr, arith, if◌then◌else◌}
 use Rattle.std.specs.Prelude.{length}
 use Rattle.std.proofs.lemmas.Bool.{eqb-true, leb-false, ne_eqb}
@@ -176,7 +175,7 @@ module _ (asks : ℕ → ℕ → Option Ask) (k : Config) (count : ℕ) (past mo
   unfolding ev.client_takes ev.client_took cl.node_step
   goes = ap (λ (z : WorldTurn). z.world) tk.is ∙ ap (λ b. (ev.client_took W x.client x.site (if b then Ok (cl.node_turn x.site.node (turn_of x)) else Err Crashed)).world) runs
 
-  -- what the writes carry, and the latest entries behind the step
+  -- what the writes carry, and the latest entries after the step
   abbrev T : cl.NodeTurn
   T = alone.t W c tk.old x.site x.input there tk.same runs lives counts placed once
 

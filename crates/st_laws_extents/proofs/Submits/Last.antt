@@ -1,5 +1,4 @@
--- Behind the latest entry of a dirty page nothing of the page counts: through entries, through each change at one server, and as a command
--- ends.
+-- After the latest entry of a dirty page nothing of the page counts: through entries, through each change at one server, and as a command ends.
 use Rattle.std.proofs.Common.{◌≡◌, ℕ, suc, ◌+◌, ◌≤◌, Bool, true, false, ◌&&◌, ◌==◌, List, [], ◌∷◌, ◌++◌, Option, Some, None, refl, sym, ap, ◌∙◌, subst, arith, if◌then◌else◌}
 use Rattle.std.specs.Prelude.{find, length}
 use Rattle.std.proofs.lemmas.Bool.{eq-eqb, leb-false, ne_eqb}

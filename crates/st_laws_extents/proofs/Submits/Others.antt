@@ -1,4 +1,4 @@
--- Behind the latest entries of dirty pages nothing of the page counts, through each event at which no client takes an input.
+-- After the latest entries of dirty pages nothing of the page counts, through each event at which no client takes an input.
 use Rattle.std.proofs.Common.{◌≡◌, ◌≢◌, ℕ, ◌+◌, ◌≤◌, ◌⊎◌, Bool, true, false, ◌&&◌, List, [], ◌∷◌, ◌++◌, Option, Some, None, Ok, Err, refl, sym, ap, ◌∙◌, subst, inl, inr, arith, if◌then◌else◌}
 use Rattle.std.specs.Prelude.{Result, map, nat_le}
 use Rattle.std.proofs.lemmas.Bool.{eqb-true, leb-true, ne_eqb}

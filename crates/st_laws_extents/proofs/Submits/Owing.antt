@@ -55,7 +55,7 @@ use Rattle.st_laws_reads.proofs.OpenWrites.Growing.{grows_all, says_both}
 use Rattle.st_laws_extents.specs.Submits.WritePlaces.{LiesAs}
 use Rattle.st_laws_extents.specs.Submits.Submits.{EachFine, FineOne, FineSubmit, FineWrite}
 
--- What joins the log is behind what there was.
+-- What joins the log comes after what there was.
 record LogGrows (es fs : List LogEntry) : Type 0 where
   more : List LogEntry
   is : fs ≡ es ++ more

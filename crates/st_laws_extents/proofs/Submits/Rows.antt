@@ -1,5 +1,4 @@
--- A cut that another client asks finds no write of a life that a crash ended: beside the lock of a life that stands still no other client has
--- an exclusive row.
+-- A cut that another client asks finds no write of a life that a crash ended: beside the lock of a frozen life no other client has an exclusive row.
 use Rattle.std.proofs.Common.{◌≡◌, ◌≢◌, ℕ, ◌+◌, ◌<◌, ◌≤◌, ◌⊎◌, true, List, Some, refl, sym, ap, ◌∙◌, subst, inl, inr, arith}
 use Rattle.st_base.specs.Mode.{number_of}
 use Rattle.st_base.specs.declared.disk.BlockAt.{BlockAt}

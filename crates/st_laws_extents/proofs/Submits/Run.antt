@@ -1,4 +1,4 @@
--- What stands on the disks throughout a run.
+-- What is on the disks throughout a run.
 use Rattle.std.proofs.Common.{◌≡◌, ℕ, zero, suc, ◌+◌, Bool, true, false, List, [], ◌∷◌, ◌++◌, Option, Some, None, Ok, Err, refl, sym, ap, ◌∙◌, subst, if◌then◌else◌}
 use Rattle.std.specs.Prelude.{Result, length}
 use Rattle.std.specs.List.{list_all}
@@ -72,7 +72,7 @@ use Rattle.st_laws_extents.proofs.Submits.Rows.{uncut_by}
 use Rattle.st_laws_extents.proofs.Submits.Taking.{Gives, owed_of, taken_in}
 use Rattle.st_laws_pages.proofs.Causes.Placed.{places_at}
 
--- What stands behind the steps of a run.
+-- What holds after the steps of a run.
 pub record PagesStand (k : Config) (count : ℕ) (past : List Step) (t : Traced) : Type 0 where
   pub stood : Stood k count past t
   pub frozen_lives : FrozenHold k count t.world
@@ -98,7 +98,7 @@ all_owed : (w : World) (e : Event) (o : Option Taking) → FrozenStandAlone w �
 all_owed w e None a l = others w e a
 all_owed w e (Some x) a l = l
 
--- Lives that a crash ended stand still behind each event, while a write of them is not reported.
+-- Lives that a crash ended are frozen after each event, while a write of them is not reported.
 module _ (past : List Step) (k : Config) (count : ℕ) (t : Traced) (s : PagesStand k count past t) where
   abbrev w : World
   w = t.world

@@ -1,4 +1,4 @@
--- A whole step of a client: what each write that it submits carries, and the latest entries of its dirty pages behind it.
+-- A whole step of a client: what each write that it submits carries, and the latest entries of its dirty pages after it.
 use Rattle.std.proofs.Common.{◌≡◌, ℕ, Bool, true, false, List, [], ◌∷◌, Option, Some, None, refl, sym, ap, ◌∙◌, subst}
 use Rattle.std.specs.Prelude.{length, map}
 use Rattle.st_base.specs.declared.ids.ClientId.{ClientId}
@@ -159,7 +159,7 @@ module _ (w : World) (c : ClientId) (old site : WorldClient) (input : ClientInpu
     unfolding cl.work
     work_grows = each_grows size c s sc after own count now (cp.passes now (cl.is_tick input)) passed u phases.fit_too
 
-    -- all of it, behind the step
+    -- all of it, after the step
     pub ends : A v
     unfolding cl.work
     ends =

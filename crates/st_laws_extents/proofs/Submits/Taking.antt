@@ -30,7 +30,7 @@ use Rattle.st_laws_pages.proofs.Disks.World.{at_set}
 use Rattle.st_laws_pages.proofs.Causes.Placed.{InputTells, PlacesAt}
 use Rattle.st_laws_reads.specs.Copies.World.{Taking, asking, receiving, receiving_of, taken, taking, told_at, told_of}
 
--- A command but for its report was there.
+-- A command except for its report was there.
 pub record WasCommand (ds : Disks) (k : ℕ) (c : DiskCommand) : Type 0 where
   pub command : DiskCommand
   pub is : disks.command_at ds.commands k ≡ Some command

@@ -1,5 +1,5 @@
--- All associations of a client, through changes at one of its servers, in the world behind the outputs so far: the latest entries of dirty
--- pages, and what each write that was submitted carries.
+-- All associations of a client, through changes at one of its servers, in the world after the outputs so far: the latest entries of dirty pages, and what each
+-- write that was submitted carries.
 use Rattle.std.proofs.Common.{◌≡◌, ℕ, ◌+◌, ◌%◌, ◌⊎◌, Bool, true, List, [], ◌∷◌, ◌++◌, Option, Some, None, refl, sym, ap, ◌∙◌, subst, inl, inr}
 use Rattle.std.specs.Prelude.{length, map, pred, slice_get}
 use Rattle.st_base.specs.declared.disk.BlockAt.{BlockAt}
@@ -82,17 +82,17 @@ has_last (z ∷ zs) x = inr (has_last zs x)
 same_change : (es : List LogEntry) (x y : LogEntry) (gs : List LogEntry) → gs ≡ es ++ x ∷ [] → gs ≡ es ++ y ∷ [] → x.change ≡ y.change
 same_change es x y gs a b = ap (λ (e : LogEntry). e.change) (some_is (sym (get_last es x) ∙ ap (λ z. slice_get z (length es)) (sym a ∙ b) ∙ get_last es y))
 
--- In the world behind the outputs.
+-- In the world after the outputs.
 module _ (size : ℕ) (c : ClientId) (before : ClientState) (sc : WorldTurn) (site : WorldClient) (there : site_of sc.world c ≡ Some site) (count : length sc.world.servers ≡ size) (now : Stamp) where
   abbrev pub es : List Output → List LogEntry
   es os = (After c before sc os).world.log
 
-  -- what stands of an association
+  -- what holds of an association
   pub record PageFine (ls : List LogEntry) (a : Association) : Type 0 where
     pub latest : LatestOwn c ls a
     pub last : LatestLast c ls a
 
-  -- what stands in the middle of a step
+  -- what holds in the middle of a step
   pub record In (t : Turn) (others : List Association) : Type 0 where
     pub here : PageFine (es t.out) t.here
     pub apart : (b : Association) → Has b others → PageFine (es t.out) b
@@ -107,7 +107,7 @@ module _ (size : ℕ) (c : ClientId) (before : ClientState) (sc : WorldTurn) (si
   others_next : (s t : ServerId) (others : List Association) → s ≡ t → OfOthers s others → OfOthers t others
   others_next s t others e h b i z = h b i (z ∙ ap (λ (x : ServerId). x.0) (sym e))
 
-  -- the log behind one more output
+  -- the log after one more output
   log_one : (os : List Output) (o : Output) → es (os ++ o ∷ []) ≡ (client_says (After c before sc os) c before o).world.log
   unfolding client_says_all
   log_one os o = ap (λ (s : WorldTurn). s.world.log) (says_append c before os (o ∷ []) sc)

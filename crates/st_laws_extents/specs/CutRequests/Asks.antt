@@ -1,4 +1,4 @@
--- What stands of the requests of a client's session: how far they were ended, and which file a cut or a remove names.
+-- What holds of the requests of a client's session: up to which number they ended, and which file a cut or a remove names.
 use Rattle.std.specs.Prelude.{◌≡◌, ℕ, ◌+◌, ◌≤◌, Bool, true, false, Option, Some, None}
 use Rattle.std.proofs.Common.{◌⊎◌}
 use Rattle.st_base.specs.declared.ids.GrantNo.{GrantNo}
@@ -49,7 +49,7 @@ abbrev pub Of : Fact → ServerId → ℕ → Option ClientSession → Type 0
 Of F server life None = Unit {0}
 Of F server life (Some s) = F server life s.epoch.0 s.requests s.cutting s.due
 
--- What stands of a session's requests: all that were ended were served as B says, and what is removed was given as G says.
+-- What holds of a session's requests: all that were ended were served as B says, and what is removed was granted as G says.
 pub record AsksStand (B : ServerId → ℕ → ℕ → ℕ → Type 0) (G : ServerId → ℕ → GrantNo → Type 0) (server : ServerId) (life epoch : ℕ) (r : Requests)
     (cutting : Option ℕ) (due : Bool) : Type 0 where
   pub last : IsLastRequest r
@@ -64,11 +64,11 @@ Tells B h body server life epoch r cutting due =
     (q : Request) → r.asked ≡ Some q → h.from ≡ server_node server → h.life ≡ life → h.epoch ≡ epoch → Ends body →
     is_counting h.number body q ≡ true → refuses_reassertion body q.body ≡ false → B server life epoch (q.number + 1)
 
--- behind a step: what is removed was given before, or is held under an exclusive lock
+-- after a step: what is removed was granted before, or is held under an exclusive lock
 abbrev pub GivenOrHeld : (ServerId → ℕ → GrantNo → Type 0) → ClientSession → ServerId → ℕ → GrantNo → Type 0
 GivenOrHeld G s server ino g = G server ino g ⊎ HasExclusive s ino g
 
--- what stands behind a step
+-- what holds after a step
 abbrev pub AsksBehind : (ServerId → ℕ → ℕ → ℕ → Type 0) → (ServerId → ℕ → GrantNo → Type 0) → ServerId → ℕ → Option ClientSession → Type 0
 AsksBehind B G server life None = Unit {0}
 AsksBehind B G server life (Some s) = AsksStand B (GivenOrHeld G s) server life s.epoch.0 s.requests s.cutting s.due

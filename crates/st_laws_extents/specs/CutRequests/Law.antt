@@ -9,7 +9,7 @@ use Rattle.st_laws_reads.specs.AllClients.Obligations.{CutsAsked}
 use Rattle.st_laws_extents.specs.CutRequests.NamedGrants.{Given}
 use Rattle.st_laws_extents.specs.CutRequests.World.{Gifts}
 
--- behind a step
+-- after a step
 abbrev pub CutsAreAsked : Promise
 CutsAreAsked past x = CutsAsked x
 

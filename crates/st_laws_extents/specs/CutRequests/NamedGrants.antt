@@ -17,7 +17,7 @@ TellsGiven net (Demand i g to) = Given net i g
 TellsGiven net (Reassert locks) = (i : ℕ) → 1 ≤ (locks i).mode → Given net i (locks i).g
 TellsGiven net body = Unit {0}
 
--- Messages: a number was given on one file, numbers begin with 1, and what is told was given.
+-- Messages: a number was given on one file, numbers begin with 1, and what is reported was given.
 pub record NetNamed (net : List Msg) : Type 0 where
   pub one : (i j g : ℕ) → Given net i g → Given net j g → i ≡ j
   pub positive : (i g : ℕ) → Given net i g → 1 ≤ g

@@ -1,4 +1,4 @@
--- In a world: how far a server served the requests that a client ended, and what stands of the requests of all sessions.
+-- In a world: how far a server served the requests that a client ended, and what holds of the requests of all sessions.
 use Rattle.std.specs.Prelude.{◌≡◌, ℕ, ◌+◌, ◌≤◌, true, Some}
 use Rattle.st_base.specs.declared.ids.ClientId.{ClientId}
 use Rattle.st_base.specs.declared.ids.GrantNo.{GrantNo}
@@ -24,13 +24,13 @@ IsServed w c server life epoch next = (n : ServerNode) → node_of w server ≡ 
 abbrev pub Gifts : Type 1
 Gifts = ClientId → ServerId → ℕ → GrantNo → Type 0
 
--- what stands of the requests of each session of each client
+-- what holds of the requests of each session of each client
 abbrev pub AllAsk : Gifts → World → Type 0
 AllAsk G w =
     (c : ClientId) (site : WorldClient) → site_of w c ≡ Some site → (a : Association) → Has a site.node.state.associations →
     Of (AsksStand (IsServed w c) (G c)) a.server a.life.0 a.session
 
--- the same behind a step, in which something may have been asked
+-- the same after a step, in which something may have been asked
 abbrev pub AllAsked : Gifts → World → Type 0
 AllAsked G w =
     (c : ClientId) (site : WorldClient) → site_of w c ≡ Some site → (a : Association) → Has a site.node.state.associations →

@@ -41,7 +41,7 @@ EachRight w es c site a pc =
     (k : ℕ) (y : IssuedCommand) (d : DiskCommand) → numbered w.commands k ≡ Some y → IsIts (client c) site.starts pc.number y →
     disks.command_at w.disks.commands k ≡ Some d → ReadRight w es a pc d
 
--- What stands of all clients that run: outstanding reads are of pages that are not dirty, and mapped; and where a lease lasts they are right.
+-- What holds of all clients that run: outstanding reads are of pages that are not dirty, and mapped; and where a lease lasts they are right.
 pub record ReadsHold (w : World) (es : List LogEntry) : Type 0 where
   pub clean : (c : ℕ) (site : WorldClient) → Running w c site → (a : Association) → Has a site.node.state.associations → ReadsClean a.store
   pub right : (c : ℕ) (site : WorldClient) → Running w c site → (a : Association) → Has a site.node.state.associations →

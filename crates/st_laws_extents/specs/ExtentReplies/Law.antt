@@ -37,7 +37,7 @@ pub record Untold (w : World) (c : ℕ) (a : Association) (x : ClientSession) (q
   pub kept : (node : ServerNode) → node_of w a.server ≡ Some node → node.running ≡ true → (ino : ℕ) (rows : List ExtentRow) →
       KeptRows node.state.sessions (client c) a.life.0 q.number ino rows → ⊥
 
--- What is left at a step: a request that is outstanding behind it under a lock that is held was so before, or nothing was told of it.
+-- What is left at a step: a request that is outstanding after it under a lock that is held was so before, or nothing was reported about it.
 abbrev pub RequestsGo : World → World → Type 0
 RequestsGo w v = (c : ℕ) (site : WorldClient) (a : Association) (x : ClientSession) (q : Request) → AskedAt v c site a x q → WasAsked w c a x q ⊎ Untold w c a x q
 
@@ -45,7 +45,7 @@ RequestsGo w v = (c : ℕ) (site : WorldClient) (a : Association) (x : ClientSes
 abbrev pub IsAsked : Promise
 IsAsked past x = RequestsGo x.before.world x.after.world
 
--- behind a step
+-- after a step
 abbrev pub AskedAfter : Promise
 AskedAfter past x = AskedRight x.after.world
 

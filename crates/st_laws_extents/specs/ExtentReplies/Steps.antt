@@ -31,7 +31,7 @@ use Rattle.st_lemmas.specs.Lists.{Has}
 abbrev pub file_of : ServerId → ℕ → FileId
 file_of s ino = record { server = s; ino = ino }
 
--- a request that asks for the extents of a file, from this page on, of so many pages
+-- a request that asks for the extents of a file, from this page on, of that many pages
 abbrev pub AsksExtents : Body → ℕ → PageNo → ℕ → Type 0
 AsksExtents (bodies.Map ino g page) i p n = (ino ≡ i) × (page ≡ p) × (n ≡ 1)
 AsksExtents (bodies.Allocate ino g page count) i p n = (ino ≡ i) × (page ≡ p) × (n ≡ count)

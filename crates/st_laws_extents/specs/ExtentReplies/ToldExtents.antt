@@ -1,4 +1,4 @@
--- What stands of the replies to an outstanding request for extents: they tell the present extents.
+-- What holds of the replies to an outstanding request for extents: they report the present extents.
 use Rattle.std.specs.Prelude.{◌≡◌, ℕ, true, List, Some}
 use Rattle.st_base.specs.declared.ids.NodeId.TheVariants as nodes
 use Rattle.st_base.specs.declared.rows.ExtentRow.{ExtentRow}

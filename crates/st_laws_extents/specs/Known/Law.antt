@@ -22,7 +22,7 @@ InRunsTold promise =
     Throughout IsTold [] (steps es (traced (fresh_world k clients servers disks blocks form))) →
     Throughout promise [] (steps es (traced (fresh_world k clients servers disks blocks form)))
 
--- behind a step clients know where pages lie
+-- after a step clients know where pages lie
 abbrev pub KnownAfter : Promise
 KnownAfter past x = AllKnow x.after.world
 

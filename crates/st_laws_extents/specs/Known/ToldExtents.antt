@@ -54,7 +54,7 @@ pub record WasKept (t : Sessions) (to life number ino : ℕ) (rows : List Extent
   pub of_life : session.life.0 ≡ life
   pub state : session.state ≡ states.Live number (Some (bodies.Extents ino rows))
 
--- a reply to what comes in at a step, which tells what the server has behind it
+-- a reply to what comes in at a step, which reports what the server has after it
 pub record IsNew (s : ServerId) (e : Epoch) (i : ServerInput) (x : Extents) (to life number ino : ℕ) (rows : List ExtentRow) : Type 0 where
   pub by : Message
   pub input : i ≡ inputs.Control by
@@ -69,8 +69,8 @@ pub record IsNew (s : ServerId) (e : Epoch) (i : ServerInput) (x : Extents) (to 
 abbrev pub ToldBy : ServerState → ServerInput → Extents → ReplyFact
 ToldBy n i x to life number ino rows = WasKept n.sessions to life number ino rows ⊎ IsNew n.id n.stable.epoch i x to life number ino rows
 
--- In a step of a server each reply of extents that is sent or kept was kept before, or it answers what comes in, and tells the extents as
--- the server has them behind the step.
+-- In a step of a server each reply of extents that is sent or kept was kept before, or it answers what comes in, and reports the extents as the server has them
+-- after the step.
 abbrev pub RepliesTellExtents : Type 0
 RepliesTellExtents =
     (n : ServerState) (now : Stamp) (i : ServerInput) →

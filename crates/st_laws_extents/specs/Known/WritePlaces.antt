@@ -47,7 +47,7 @@ SubmitsLie x =
     (number : ℕ) (at to : BlockAt) (tag : Tag) (bytes : List ℕ) → Has (outputs.Submit number at (commands.Write to tag bytes)) (turn_of x).out →
     LiesAs (mapped_in x.world tag.file tag.page) (record { at = at; birth = tag.birth })
 
--- what a message that is received tells of extents, at each server of a client behind its losses, is as the server has them
+-- what a received message reports about extents, at each server of a client after its losses, is as the server has them
 abbrev pub ToldRight : Taking → Header → Body → Type 0
 ToldRight x h body = (a : Association) → Has a (losses (client_turn x.site.node.state []) (now_at x)).state.associations → Tells (lies x.world) a h body
 
@@ -74,7 +74,7 @@ pub record SiteKnows (w : World) (c : ClientId) (site : WorldClient) : Type 0 wh
 abbrev pub AllKnow : World → Type 0
 AllKnow w = (c : ClientId) (site : WorldClient) → site_of w c ≡ Some site → SiteKnows w c site
 
--- what is owed of the cuts of an event: they are of files that no client knows, or of which nothing is at hand
+-- what is owed of the cuts of an event: they are of files that no client knows, or of which nothing is cached
 abbrev pub CutsOwed : World → Event → Type 0
 CutsOwed w (events.Tick (nodes.Server s)) = ServerFree w s serving.Tick (node_of w s)
 CutsOwed w (events.Deliver k) = MessageFree w (message_of w k)

@@ -1,4 +1,4 @@
--- What stands of the locks and the requests of all sessions.
+-- What holds of the locks and the requests of all sessions.
 use Rattle.std.specs.Prelude.{◌≡◌, Some}
 use Rattle.st_base.specs.declared.ids.ClientId.{ClientId}
 use Rattle.st_rules.specs.ClientState.{Association}

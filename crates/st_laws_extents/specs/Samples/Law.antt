@@ -11,7 +11,7 @@ use Rattle.st_laws_reads.specs.Copies.World.{taken}
 use Rattle.st_laws_extents.specs.Known.Law.{IsTold}
 use Rattle.st_laws_extents.specs.DiskReads.Law.{TakenMaps}
 
--- What is owed at a step: a reply that is received tells extents as the server has them, and of no block only where it has none.
+-- What is owed at a step: a reply that is received tells extents as the server has them, and of no block only if it has none.
 abbrev pub IsToldRight : Promise
 IsToldRight past x = record { told : IsTold past x; maps : TakenMaps (taken (counted x.before.world) x.event) }
 

@@ -62,12 +62,12 @@ pub record SentRight (next : ℕ) (out : List Output) (a : Association) : Type 0
   pub below : (pc : PageCommand) → Has pc a.store.commands → pc.kind ≡ io.Read → pc.number < next
   pub to : (pc : PageCommand) → Has pc a.store.commands → pc.kind ≡ io.Read → GoesTo a.store pc out
 
--- What stands of reads within a step of a client.
+-- What holds of reads within a step of a client.
 pub record AllSent (t : ClientTurn) : Type 0 where
   pub said : (n : ℕ) (at to : BlockAt) → Has (outputs.Submit n at (commands.Read to)) t.out → n < t.state.next_command
   pub right : (a : Association) → Has a t.state.associations → SentRight t.state.next_command t.out a
 
--- What stands before the passes of a step: nothing was submitted, and commands have numbers below the next.
+-- What holds before the passes of a step: nothing was submitted, and commands have numbers below the next.
 pub record NoneSent (start : ℕ) (t : ClientTurn) : Type 0 where
   pub none : SubmitsNone t.out
   pub next : t.state.next_command ≡ start

@@ -1,4 +1,4 @@
--- What other laws still owe at a step, for what stands on the disks.
+-- What other laws still owe at a step, for what is on the disks.
 use Rattle.std.specs.Prelude.{◌≡◌, ℕ, true, List, [], Option, Some, None}
 use Rattle.st_base.specs.declared.disk.BlockAt.{BlockAt}
 use Rattle.st_base.specs.declared.disk.Tag.{Tag}

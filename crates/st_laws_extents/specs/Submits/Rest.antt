@@ -29,7 +29,7 @@ UnmappedTold w a h body =
     h.life ≡ a.life.0 → h.epoch ≡ s.epoch.0 → s.requests.asked ≡ Some q → q.body ≡ bodies.Map ino g p → body ≡ bodies.Extents ino [] →
     is_counting h.number body q ≡ true → is_current s.locks q.body ≡ true → mapped_in w (file_at a.server ino) p ≡ None
 
--- at each server of a client, behind its losses
+-- at each server of a client, after its losses
 abbrev pub MapsTold : Taking → Header → Body → Type 0
 MapsTold x h body = (a : Association) → Has a (losses (client_turn x.site.node.state []) (now_at x)).state.associations → UnmappedTold x.world a h body
 

@@ -42,12 +42,12 @@ abbrev pub FineOne : World → ClientId → Output → Type 0
 FineOne w c (outputs.Submit number at what) = FineSubmit w c (site_of w c) at what
 FineOne w c o = Unit {0}
 
--- each output in the world behind those before it
+-- each output in the world after those before it
 abbrev pub EachFine : ClientId → ClientState → WorldTurn → List Output → Type 0
 EachFine c before sc [] = Unit {0}
 EachFine c before sc (o ∷ os) = record { one : FineOne sc.world c o; rest : EachFine c before (client_says sc c before o) os }
 
--- behind the latest entry of a dirty page nothing of the page counts
+-- after the latest entry of a dirty page nothing of the page counts
 abbrev pub LatestLast : ClientId → List LogEntry → Association → Type 0
 LatestLast c es a =
     (ino : ℕ) (p : PageNo) (d : DirtyPage) → pages.dirty_of a.store.pages ino p ≡ Some d →

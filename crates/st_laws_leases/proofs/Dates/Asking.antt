@@ -37,7 +37,7 @@ use Rattle.st_laws_leases.specs.Dates.Dates.{Dates, CalmRequest, SessionDated}
 no_bool : {A : Type 0} → false ≡ true → A
 no_bool e = cc
 
--- what a client asks is no refusal
+-- what a client asks isn't a refusal
 asked_calm : (s : ClientSession) (cutting : Option ℕ) (b : Body) → MayAsk s cutting b → is_conflict b ≡ false
 asked_calm s cutting (bodies.Nack w x y) i = absurd i
 asked_calm s cutting b i = refl
@@ -55,7 +55,7 @@ module _ (ms : List Message) (c : ClientId) (now : Stamp) (Lv : ServerId → ℕ
   abbrev pub Outs : List Output → Type 0
   Outs os = (m : Message) → Has (outputs.Send m) os → AsksNow m
 
-  -- What stands of a step so far at one server, in one life.
+  -- What holds of a step so far at one server, in one life.
   pub record Good (s : ServerId) (life : Life) (t : Turn) : Type 0 where
     pub id_ : t.id ≡ c
     pub server_ : t.here.server ≡ s

@@ -1,4 +1,4 @@
--- Leases are dated from requests: at the start, behind every event, and over whole runs.
+-- Leases are dated from requests: at the start, after every event, and over whole runs.
 use Rattle.std.proofs.Common.{◌≡◌, ℕ, ◌+◌, Bool, true, false, not, ◌&&◌, ◌||◌, List, [], ◌∷◌, ◌++◌, ◌==◌, Option, Some, None, Ok, refl, sym, ap, ◌∙◌, subst, inl, inr, arith}
 use Rattle.std.specs.Prelude.{map, find, zero, suc, slice_get, nat_le}
 use Rattle.std.specs.List.{list_all, list_any}
@@ -39,16 +39,16 @@ all_true : {A : Type 0} (p : A → Bool) (xs : List A) → ((x : A) → Has x xs
 all_true p [] h = refl
 all_true p (x ∷ xs) h = and_both _ _ (h x (inl refl)) (all_true p xs (λ y i. h y (inr i)))
 
--- From what stands to the promise.
+-- From the invariant to the promise.
 module _ (past : List Step) (t : Traced) (d : Dated past t) where
-  -- a reply at a number, behind which every timer was started
+  -- a reply at a number, after which every timer was started
   replied_at : (s : ServerId) (c : ClientId) (q : Message) (number k : ℕ) (m : Message) (ms : List SentMessage) → slice_get (map message_in ms) k ≡ Some m → dating.is_reply_to q m ≡ true → dating.is_before_timers t.history s c (number + k) ≡ true → dating.replied_from number t s c q ms ≡ true
   unfolding dating.replied_from
   replied_at s c q number k m [] e r b = cc
   replied_at s c q number zero m (x ∷ xs) e r b = or_left _ _ (and_both _ _ (ap (dating.is_reply_to q) (some_is e) ∙ r) (subst (λ n. dating.is_before_timers t.history s c n ≡ true) (let z : number + 0 ≡ number = omega arith in z) b))
   replied_at s c q number (suc k) m (x ∷ xs) e r b = or_right _ _ (replied_at s c q (number + 1) k m xs e r (subst (λ n. dating.is_before_timers t.history s c n ≡ true) (let z : number + suc k ≡ (number + 1) + k = omega arith in z) b))
 
-  -- every timer of the client was started behind a message that may date a lease
+  -- every timer of the client was started after a message that may date a lease
   before_timers : (s : ServerId) (c : ClientId) (k : ℕ) (m : Message) → numbered (messages t.world) k ≡ Some m → m.header.from ≡ server_node s → m.header.to ≡ c.0 → is_dating m ≡ true → dating.is_before_timers t.history s c k ≡ true
   before_timers s c k m e from to dates = all_true (dating.started_after s c k) t.history.timers (λ x h. go x (d.timers x h) (same_server x.server s && same_client x.client c) refl)
     where

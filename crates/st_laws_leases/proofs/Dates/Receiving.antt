@@ -161,7 +161,7 @@ module _ (ms : List Message) (c : ClientId) (now : Stamp) (Lv : ServerId → ℕ
 -- At each server in turn.
 module _ (ms : List Message) (c : ClientId) (now : Stamp) (Lv : ServerId → ℕ → Type 0)
     (on : (s : ServerId) (life : Life) → Lv s life.0 → Lv s (cl.next_life life).0) where
-  -- what stands of a step so far
+  -- what holds of a step so far
   pub record Held (t : ClientTurn) : Type 0 where
     pub id_ : t.state.id ≡ c
     pub all : (a : Association) → Has a t.state.associations → AssociationDated ms c a × Lv a.server a.life.0

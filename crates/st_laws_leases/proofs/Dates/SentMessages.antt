@@ -74,7 +74,7 @@ said_then a b d o os x y =
     tell m (inl e) = let z = x.told m (inl e) in (z.0, y.grows _ z.1)
     tell m (inr i) = y.told m i
 
--- an output that is no message, with one more observation or none
+-- an output that isn't a message, with one more observation or none
 unsent : (a b : WorldTurn) (o : Output) → ((m : Message) → outputs.Send m ≡ o → ⊥) → b.world.clients ≡ a.world.clients → b.world.servers ≡ a.world.servers → messages b.world ≡ messages a.world → ((x : Observation) → Has x a.seen → Has x b.seen) → Said a b (o ∷ [])
 unsent a b o n c s m g =
     record {

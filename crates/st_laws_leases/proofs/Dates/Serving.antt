@@ -88,7 +88,7 @@ module _ (w : World) (s : ServerId) (ts : List TimerStart) (A : Message → Type
     pub from : m.header.from ≡ server_node s
     pub dates : is_dating m ≡ true → A m
 
-  -- What stands of a step so far.
+  -- What holds of a step so far.
   pub record Good (id : ServerId) (a : Authority) (v : Sessions) (l : Locks) (out : List Output) : Type 0 where
     pub id_ : id ≡ s
     pub suspects : (x : Suspect) → Has x a.suspects → Met v x.client
@@ -229,7 +229,7 @@ module _ (w : World) (s : ServerId) (ts : List TimerStart) (A : Message → Type
       run x (inr (inl i)) e = subst (Runs (authority.suspect t.state.authority c now)) (sym (ap (λ (k : TimerStart). k.client) i)) z.own
       run x (inr (inr i)) e = elim i [ ]
 
-  -- Thefts: the timers of the clients that are still to be stolen from are over.
+  -- Thefts: the timers of the clients that must still be stolen from are over.
   record Stealing (cs : List ClientId) (t : ServerTurn) : Type 0 where
     id_ : t.state.id ≡ s
     suspects : (x : Suspect) → Has x t.state.authority.suspects → Met t.state.sessions x.client

@@ -1,4 +1,4 @@
--- Every event keeps what stands of messages, nodes and history.
+-- Every event keeps the invariant of messages, nodes and history.
 use Rattle.std.proofs.Common.{◌==◌, ◌≡◌, ◌≢◌, ℕ, ◌+◌, ◌≤◌, ◌⊎◌, Bool, true, false, not, List, [], ◌∷◌, ◌++◌, Option, Some, None, Ok, Err, refl, sym, ap, ◌∙◌, subst, inl, inr, arith, if◌then◌else◌}
 use Rattle.std.specs.Prelude.{map, length, filter, nat_lt}
 use Rattle.std.specs.Option.{option_or}

@@ -1,4 +1,4 @@
--- Each life's lease end stands among the dates of the history.
+-- Each life's lease end is among the dates of the history.
 use Rattle.std.proofs.Common.{◌≡◌, Bool, true, false, not, ◌&&◌, ◌||◌, List, [], ◌∷◌, ◌++◌, ◌==◌, Option, Some, None, refl, sym, ap, ◌∙◌, subst, if◌then◌else◌}
 use Rattle.std.specs.Prelude.{filter}
 use Rattle.std.specs.List.{list_any}
@@ -28,7 +28,7 @@ use Rattle.st_laws_leases.specs.History.Notes.{noted, noted_one, noted_by}
 abbrev pub row : ClientId → ServerId → Life → LeaseLife
 row c s l = record { client = c; server = s; life = l; end = None; crashed = false }
 
--- a lease end of that life stands among these dates; or there is none
+-- a lease end of that life is among these dates; or there is none
 abbrev pub Dated : List LeaseDate → ClientId → ServerId → Life → Option Stamp → Type 0
 Dated ds c s l None = Unit {0}
 Dated ds c s l (Some end) = list_any (is_date_with (row c s l) end) ds ≡ true
@@ -94,7 +94,7 @@ put_other d ds c s l (Some end) f h = any_front (is_date_with (row c s l) end) _
             let y = and_true (same_server e.server d.server) (e.life.0 == d.life.0) x.1 in
             absurd (f (sym (eqb-true e.client.0 d.client.0 x.0) ∙ eqb-true e.client.0 c.0 b.0) (sym (eqb-true e.server.0 d.server.0 y.0) ∙ eqb-true e.server.0 s.0 b.1) (sym (eqb-true e.life.0 d.life.0 y.1) ∙ eqb-true e.life.0 l.0 k.0))
 
--- and its own date stands
+-- and its own date is there
 put_own : (d : LeaseDate) (ds : List LeaseDate) → Dated (put_date d ds) d.client d.server d.life (Some d.end)
 put_own d ds =
     any_last (is_date_with (row d.client d.server d.life) d.end) _ d
@@ -150,7 +150,7 @@ dated_other v c d s l o (x ∷ os) ds f h = dated_other v c d s l o os (dates_on
     one (outputs.Note n) = note n
     one x = h
 
--- the end that was noted last for the present life stands among the dates
+-- the end that was noted last for the present life is among the dates
 pub dated_own : (v : World) (c : ClientId) (s : ServerId) (os : List Output) (ds : List LeaseDate) (o : Option Stamp) → Dated ds c s (present_life v c s) o → Dated (dates_out v c os ds) c s (present_life v c s) (noted s os o)
 unfolding noted
 dated_own v c s [] ds o h = h

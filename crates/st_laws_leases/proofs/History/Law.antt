@@ -60,7 +60,7 @@ use Rattle.st_laws_leases.proofs.History.Dates.{Dated, Undated, AllUndated, date
 use Rattle.st_laws_leases.proofs.History.Grants.{fit_event}
 use Rattle.st_laws_leases.proofs.History.Lives.{AllDated, LifeDated, Present, is_present, present_dated, remembered, stepped_dated, has_right}
 
--- The dates behind an event.
+-- The dates after an event.
 abbrev After : Traced → Event → WorldTurn → Type 0
 After t e sc = AllDated (history_after t.world e sc t.history).dates sc.world
 
@@ -116,7 +116,7 @@ undated_fates k (e ∷ es) (f ∷ fs) = undated_both (ev.fate_seen k e.fate f.fa
     fate fates.Hard b = tt
     fate (fates.Gone c) b = tt
 
--- A client takes an input: what it says, and the world behind it.
+-- A client takes an input: what it says, and the world after it.
 abbrev pub says : World → ClientId → WorldClient → ClientInput → WorldTurn
 says w c site input =
     ev.client_says_all c site.node.state (cl.client_step site.node.state (clock_of w (nodes.Client c)) input).out

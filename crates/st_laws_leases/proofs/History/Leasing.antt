@@ -66,12 +66,11 @@ pub none_more : {A : Type 0} (xs : List A) → xs ++ [] ≡ xs
 none_more [] = refl
 none_more (x ∷ xs) = ap (λ z. x ∷ z) (none_more xs)
 
--- What stands of a turn: the lease of its session was noted last, and nothing of other servers.
--- the note of a lease end
+-- What holds of a turn: the lease of its session was noted last, and nothing of other servers. the note of a lease end
 abbrev pub leased : ServerId → Stamp → Output
 leased s end = outputs.Note (notes.Leased s end)
 
--- What stands of a turn, and what is told of the lease ends that it noted: T of its own server's, B of others'.
+-- What holds of a turn, and what is known of the lease ends that it noted: T of its own server's, B of others'.
 pub record Noted (k : Config) (init base : ServerId → Option Stamp) (sv : ServerId) (T : Life → Epoch → Stamp → Type 0) (B : ServerId → Stamp → Type 0)
     (t : Turn) : Type 0 where
   pub config : t.config ≡ k

@@ -1,4 +1,4 @@
--- Each present lease, and each that a life had when it ended, stands among the dates: behind every event.
+-- Each present lease, and each that a life had when it ended, is among the dates: after every event.
 use Rattle.std.proofs.Common.{◌≡◌, ℕ, ◌≤◌, Bool, true, false, List, [], ◌∷◌, ◌++◌, ◌==◌, Option, Some, None, refl, sym, ap, ◌∙◌, subst, inl, inr, arith}
 use Rattle.std.specs.Prelude.{◌⊎◌, find, option_map, slice_get, suc, zero}
 use Rattle.std.proofs.lemmas.Bool.{eq-eqb}
@@ -35,7 +35,7 @@ use Rattle.st_laws_pages.proofs.Asks.World.{site_case}
 use Rattle.st_laws_leases.proofs.History.Step.{step_noted, ends_before}
 use Rattle.st_laws_leases.proofs.History.Dates.{Dated, dates_out, dated_other, dated_own}
 
--- the lease end of a life stands among the dates
+-- the lease end of a life is among the dates
 abbrev pub LifeDated : List LeaseDate → LeaseLife → Type 0
 LifeDated ds e = Dated ds e.client e.server e.life e.end
 
@@ -186,7 +186,7 @@ module _ (w : World) (c : ClientId) (old site : WorldClient) (input : ClientInpu
         go (inl i) = before e (has_right (present_lives w.clients) w.ended e i)
         go (inr i) = lost (lost_has c st now st.associations e i)
 
-    -- an association behind the step
+    -- an association after the step
     mine : (a : Association) → Has a u.state.associations → Dated new c a.server a.life (lease.end_at u.state.config (cl.lease_at (Some a)))
     mine a h = go a.session refl
       where

@@ -31,7 +31,7 @@ use Rattle.st_laws_leases.proofs.History.Dates.{dates_one, dates_out}
 use Rattle.st_laws_leases.proofs.History.Leasing.{leased}
 use Rattle.st_laws_leases.proofs.History.Step.{AllNoted, Brings, Nothing, ToldBy, ends_before, step_all_noted}
 
--- a date behind outputs was there, or was noted
+-- a date after outputs was there, or was noted
 pub noted_date : (v : World) (c : ClientId) (os : List Output) (ds : List LeaseDate) (d : LeaseDate) → Has d (dates_out v c os ds) → Has d ds ⊎ ((s : ServerId) × (end : Stamp) × Has (leased s end) os × (d ≡ lease_date v c s end))
 noted_date v c [] ds d h = inl h
 noted_date v c (o ∷ os) ds d h = go (noted_date v c os (dates_one v c o ds) d h)

@@ -48,7 +48,7 @@ use Rattle.st_laws_leases.proofs.History.Leasing.{leased}
 use Rattle.st_laws_leases.proofs.History.Replies.{noted_date, replied_more, stepped_replied}
 use Rattle.st_laws_leases.proofs.History.Sent.{Later, client_later, flush_later, server_later}
 
--- the settings and the messages of a world, with what is said of dates
+-- the settings and the messages of a world, with what is promised about dates
 pub record Holds (w : World) (ds : List LeaseDate) : Type 0 where
   pub replied : DatesReplied w.config.lease w.net.messages ds
   pub placed : (d : LeaseDate) → Has d ds → (1 ≤ d.client.0) × (d.client.0 ≤ length w.clients)
@@ -78,7 +78,7 @@ nothing t e v c n m h = undated t e (ev.quiet v) tt (c, n, λ x i. (x, subst (Ha
 abbrev Comes : List SentMessage → ClientInput → Type 0
 Comes ms i = (m : Message) → i ≡ inputs.Control m → (n : SentMessage) × Has n ms × (n.message ≡ m)
 
--- what a client says in a step, and the client behind it
+-- what a client says in a step, and the client after it
 abbrev out_of : World → ClientId → WorldClient → ClientInput → List Output
 out_of w c site input = (cl.client_step site.node.state (clock_of w (nodes.Client c)) input).out
 
@@ -267,7 +267,7 @@ placed_site w c a b = go c.0 a b
     go zero a b = absurd (omega (arith, a))
     go (suc n) a b = get_there w.clients n (omega (arith, b))
 
--- so the dates stand
+-- so the dates hold
 pub dates_stand : (past : List Step) (t : Traced) → Stands past t → DatesStand t.world t.history.dates
 dates_stand past t s = record { placed = λ d i. let z = s.dates.placed d i in placed_site t.world d.client z.0 z.1; replied = s.dates.replied }
 

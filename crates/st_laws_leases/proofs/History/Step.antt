@@ -41,8 +41,8 @@ Tells = ServerId → Life → Epoch → Stamp → Type 0
 abbrev pub Nothing : Tells
 Nothing s l p end = ⊥
 
--- What stands of a turn: the leases of these associations were noted last, and what is told of the ends that were noted: P of the
--- associations that are done, R of those ahead.
+-- What holds of a turn: the leases of these associations were noted last, and what is known of the ends that were noted: P of the associations that are done, R
+-- of those ahead.
 pub record AllNoted (k : Config) (init : ServerId → Option Stamp) (P R : Tells) (t : ClientTurn) (al : List Association) : Type 0 where
   pub config : t.state.config ≡ k
   pub once : Once (map server_number (t.state.associations ++ al))
@@ -109,7 +109,7 @@ has_both (x ∷ xs) a b ys (inl (inr h)) = inr (has_both xs a b ys (inl h))
 has_both (x ∷ xs) a b ys (inr h) = inr (has_both xs a b ys (inr h))
 
 module _ (k : Config) (init : ServerId → Option Stamp) where
-  -- a rule, at any association: what is told of its ends goes from R to P
+  -- a rule, at any association: what is known of its ends goes from R to P
   abbrev Rule : Tells → Tells → (Turn → Turn) → Type 1
   Rule P R rule = (base : ServerId → Option Stamp) (B : ServerId → Stamp → Type 0) (sv : ServerId) (t : Turn) → Noted k init base sv (R sv) B t → Noted k init base sv (P sv) B (rule t)
 
@@ -165,7 +165,7 @@ module _ (k : Config) (init : ServerId → Option Stamp) where
             ahead = λ b i end q. h.ahead b (inr i) end (n.untold b.server (elsewhere b (inr i)) end q);
           }
 
-  -- the same with all associations behind
+  -- the same with all associations done
   abbrev A : Tells → ClientTurn → Type 0
   A P t = AllNoted k init P Nothing t []
 
@@ -250,8 +250,8 @@ module _ (k : Config) (init : ServerId → Option Stamp) where
 abbrev pub ends_before : ClientState → ServerId → Option Stamp
 ends_before s v = cl.lease_end_with s v
 
--- Behind a step each lease has the end that the step noted last for its server, or the one from before; and each end that it noted is
--- told by the message that came, of the present life and epoch.
+-- After a step each lease has the end that the step noted last for its server, or the one from before; and each end that it noted comes from the message that
+-- came, of the present life and epoch.
 pub step_all_noted : (c : ClientId) (s : ClientState) (now : Stamp) (input : ClientInput) → s.id ≡ c → Once (map server_number s.associations) →
     AllNoted s.config (ends_before s) (Brings s.config (ends_before s) c input) Nothing (cl.client_step s now input) []
 unfolding noted

@@ -50,7 +50,7 @@ module _ (k : Config) (H : ℕ → ℕ) where
   held (Adopts a stamp epoch j h w) o = λ al. o.held h
   held m o = o.held
 
-  -- a message that is none of them is passed over
+  -- a message that is none of them is ignored
   passed : (a : Assoc) (n : Msg) → Comes a → Rattle.st_protocol.proofs.Claims.is_claim n.body ≡ false → (c2 : Client) → (Alive k c2 → Alive k a.c) → c2.life ≡ a.c.life → c2.epoch ≡ a.c.epoch → ((i : ℕ) → a.c.seen i ≤ c2.seen i) →
       Alive k c2 → (stamp i g mode : ℕ) → In (msg c2.life c2.epoch stamp (Granted i g mode)) (n ∷ a.net) → 2 ≤ mode → c2.seen i < g → H i ≤ g
   passed a n o f c2 al lf ep se h stamp i g mode y two lt =
@@ -112,7 +112,7 @@ module _ (k : Config) (H : ℕ → ℕ) where
   comes (Releases a stamp i2 g2 to j sv e ro mo) t l q o = passed a _ o.comes refl a.c (λ x. x) refl refl (λ i. omega arith)
   comes m t l q o = o.comes
 
-  -- a message that is no reassertion is passed over
+  -- a message that isn't a reassertion is ignored
   skipped : (a : Assoc) (n : Msg) → Asserts a → Rattle.st_protocol.proofs.Claims.is_claim n.body ≡ false → Asserts (record { c = a.c; s = a.s; net = n ∷ a.net })
   skipped a n o f u gr ti life stamp locks y = o u gr ti life stamp locks (in_back n (msg life a.s.epoch stamp (Reassert locks)) a.net f refl y)
 

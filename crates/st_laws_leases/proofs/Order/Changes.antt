@@ -69,7 +69,7 @@ module _ (k : Config) (ok : ConfigOk k) where
       let z = alone k v ok r c d i ne (subst (λ (q : Assoc). Alive k q.c) (sym e1) al) (omega (arith, m1, x)) (ap (λ (q : Assoc). q.s.up) e2 ∙ u) in
       omega (arith, m2, y, z)
 
-  -- What stands of each client of a world.
+  -- What holds of each client of a world.
   module _ (w : World) (r : Reached k w) where
     inv : (d : ℕ) → Invariant k (w.at d)
     inv d = invariant k w ok r d

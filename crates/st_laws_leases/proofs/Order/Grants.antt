@@ -1,4 +1,4 @@
--- The grants of a history never fall: each new one is that of an exclusive lock, or of an exclusive row, of the world behind the event.
+-- The grants of a history never fall: each new one is that of an exclusive lock, or of an exclusive row, of the world after the event.
 use Rattle.std.proofs.Common.{◌≡◌, ◌≢◌, ℕ, ◌+◌, ◌≤◌, ◌⊎◌, Bool, true, false, not, ◌||◌, ◌==◌, List, [], ◌∷◌, ◌++◌, Option, Some, None, Ok, refl, sym, ap, ◌∙◌, subst, inl, inr, arith, if◌then◌else◌}
 use Rattle.std.specs.Prelude.{find, nat_le, option_map}
 use Rattle.std.specs.List.{list_all, list_any}
@@ -94,8 +94,8 @@ unfolding never_fall
 never_last [] x n f = refl
 never_last (e ∷ es) x n f = let z = and_true (list_all (is_no_lesser e) es) (never_fall es) n in and_both _ _ (all_last (is_no_lesser e) es x z.0 (f e (inl refl))) (never_last es x z.1 (λ y h. f y (inr h)))
 
--- What stands of the grants of a history in a world: they never fall, and none is above an exclusive lock that a client has of its
--- file, or may come to have without a new grant.
+-- What holds of the grants of a history in a world: they never fall, and none is above an exclusive lock that a client has of its file, or may come to have
+-- without a new grant.
 pub record GrantsStand (k : Config) (count : ℕ) (v : World) (grants : List EntryGrant) : Type 0 where
   pub numbers : ℕ → ℕ → ℕ
   pub ordered : Ordered k count v numbers
@@ -201,7 +201,7 @@ module _ (k : Config) (count : ℕ) (v : World) where
 
   -- A client's write or patch.
   module _ (known : ServersKnown v) (es : List EntryGrant) (q : GrantsStand k count v es) where
-    -- all stands, as the order has it
+    -- everything holds, as the order has it
     abbrev all : AllStand k count v
     all =
         record {
@@ -312,7 +312,7 @@ unfolding remember
 remembered (events.Crash (nodes.Server s)) h = refl
 remembered e h = refl
 
--- What stands behind every event.
+-- What holds after every event.
 record Standing (k : Config) (count : ℕ) (t : Traced) : Type 0 where
   grants : GrantsStand k count t.world t.history.grants
   waits : WaitsHold t.world

@@ -1,4 +1,4 @@
--- What stands in a world of all its servers and clients stands again after every event, and the way of each server goes on.
+-- The invariant of all servers and clients of a world holds again after every event, and the path of each server goes on.
 use Rattle.std.proofs.Common.{◌≡◌, ◌≢◌, ℕ, zero, suc, ◌+◌, ◌<◌, ◌≤◌, ◌⊎◌, true, false, ◌==◌, List, [], ◌∷◌, Option, Some, None, Ok, refl, sym, ap, ◌∙◌, subst, inl, inr, arith}
 use Rattle.std.specs.Prelude.{length, slice_get, slice_index, get_or, pred, nat_le}
 use Rattle.std.specs.Option.{option_or}
@@ -89,7 +89,7 @@ none_too {A} {B} xs ys n l e = go (numbered ys n) refl
     go None f = refl
     go (Some y) f = let z = numbered_too ys xs n y (sym l) f in absurd (clash z.0 z.1)
 
--- The clocks stand where nothing of them is changed.
+-- The clocks' invariant holds where nothing of them is changed.
 pub timed_on : (k : Config) (s : ℕ) (w v : World) (G H : ℕ → Ghost) → Timed k s w G → v.config ≡ w.config → v.drift ≡ w.drift → v.clocks ≡ w.clocks →
     length v.clients ≡ length w.clients → length v.servers ≡ length w.servers → ((c : ℕ) → (H c).drift ≡ (G c).drift) → Timed k s v H
 timed_on k s w v G H t config drift clocks many servers same =
@@ -105,7 +105,7 @@ timed_on k s w v G H t config drift clocks many servers same =
     between : (c : ℕ) → drift_between v c s ≡ drift_between w c s
     between c = λ j. slice_index (get_or (drift j) (pred (many j + s)) []) (pred c)
 
--- a client stands where its site and the lives that are over are as they were, and messages were only added
+-- a client's invariant holds where its site and the lives that are over are as they were, and messages were only added
 standing_on : (k : Config) (s c : ℕ) (site : WorldClient) (es fs : List LeaseLife) (N M : List Msg) → fs ≡ es → Grows N M → Standing k s c site es N → Standing k s c site fs M
 standing_on k s c site es fs N M e g q =
     record {
@@ -115,7 +115,7 @@ standing_on k s c site es fs N M e g q =
       stopped = q.stopped;
     }
 
--- both sides stand where the server's side does, and the clients are as they were
+-- both sides hold where the server's side does, and the clients are as they were
 both_on : (k : Config) (s : ℕ) (w v : World) (node next : ServerNode) (ended : ℕ → ℕ → ℕ) (G H : ℕ → Ghost) → v.clients ≡ w.clients → v.ended ≡ w.ended →
     ((c : ℕ) → Grows (G c).net (H c).net) → Both k s w node ended G → Stands k s ended v next H → Both k s v next ended H
 both_on k s w v node next ended G H clients over grows b st =
@@ -126,7 +126,7 @@ both_on k s w v node next ended G H clients over grows b st =
       few = let f = b.few in let l = ap (λ (xs : List WorldClient). length xs) clients in omega arith;
     }
 
--- From a refusal that does not stand.
+-- From a refusal that doesn't apply.
 pub first_none : (o p : Option WorldRefusal) → option_or o p ≡ None → o ≡ None
 first_none None p e = refl
 first_none (Some x) p e = cc
@@ -151,7 +151,7 @@ module _ (k : Config) (count : ℕ) (w : World) (a : AllStand k count w) where
       let z = a.servers x.0 t.node t.is in
       fine_from k x.0 w t.node z.ended z.ghosts m.message.header.to m a.sound z.both h e refl
 
-  -- the settings are those of each client, and no life has ended of what is no client
+  -- the settings are those of each client, and no life has ended of a number that isn't a client
   pub settings : Settings k w
   settings =
       record {
@@ -173,7 +173,7 @@ module _ (k : Config) (count : ℕ) (w : World) (a : AllStand k count w) where
   positive s node e = (numbered_below w.servers s node e).0
 
 module _ (k : Config) (count : ℕ) (H : ℕ → net.World → Type 0) (w : World) (a : AllStand k count w) (o : (s : ℕ) (node : ServerNode) → node_of w (server s) ≡ Some node → LedServer k w s node (H s)) where
-  -- what is to stand behind an event
+  -- what must hold after an event
   abbrev After : World → Type 0
   After v = Led k count v H
 
@@ -573,14 +573,14 @@ module _ (k : Config) (count : ℕ) (H : ℕ → net.World → Type 0) (w : Worl
   happens_all (events.Start (nodes.Client c)) full r lives e = by_client _ (ByStart c.0 refl) e lives
   happens_all (events.Start (nodes.Server s)) full r lives e = server_starts s.0 _ lives r refl e
 
--- all stands after an event that the world takes, and the path of each server goes on
+-- everything holds after an event that the world takes, and the path of each server goes on
 pub stays_led : (k : Config) (count : ℕ) (H : ℕ → net.World → Type 0) (w : World) (e : Event) (sc : WorldTurn) → Led k count w H → IsFull w e → world_step w e ≡ Ok sc → Led k count sc.world H
 stays_led k count H w e sc a full h =
     let p = step_happens w e sc h in
     let e1 : world_step w e ≡ Ok (happens (counted w) e) = h ∙ ap (λ (x : WorldTurn). Ok x) p.1 in
     subst (λ (x : WorldTurn). Led k count x.world H) (sym p.1) (happens_all k count H w a.all a.servers e full p.0 (fates_law w e (happens (counted w) e) e1 a.all.fates) e1)
 
--- all stands after an event that the world takes
+-- everything holds after an event that the world takes
 pub stays : (k : Config) (count : ℕ) (w : World) (e : Event) (sc : WorldTurn) → AllStand k count w → IsFull w e → world_step w e ≡ Ok sc → AllStand k count sc.world
 stays k count w e sc a full h =
     (stays_led k count (λ s x. Unit {0}) w e sc

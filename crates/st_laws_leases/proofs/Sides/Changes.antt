@@ -1,4 +1,4 @@
--- Changes are locked: a page that a client's step changed is dirty behind it, under a lease that lasts, so under an exclusive lock.
+-- Changes are locked: a page that a client's step changed is dirty after it, under a lease that lasts, so under an exclusive lock.
 use Rattle.std.proofs.Common.{◌≡◌, ℕ, ◌≤◌, ◌<◌, Bool, true, false, ◌==◌, List, [], ◌∷◌, ◌++◌, Option, Some, None, refl, sym, ap, ◌∙◌, subst, arith}
 use Rattle.std.specs.Prelude.{find, length, nat_le, nat_lt, unwrap_or}
 use Rattle.std.specs.List.{list_all, list_any}
@@ -82,7 +82,7 @@ exclusive_listed (Some s) ino h = go (lock_of s.locks ino) refl h
         let z = found_at (is_lock_on ino) s.locks.rows l e in
         some_passes (is_exclusive_on ino) s.locks.rows l z.1 (and_both (is_lock_on ino l) (covers l.mode modes.X) z.0 (at_most 2 (number_of l.mode) h))
 
--- A page that is changed, at a client of a world in which all stands.
+-- A page that is changed, at a client of a world in which everything holds.
 module _ (k : Config) (count : ℕ) (w : World) (a : AllStand k count w) (c : ClientId) (site : WorldClient) (there : site_of w c ≡ Some site) (runs : site.node.running ≡ true) where
   abbrev Now : Stamp
   Now = clock_of w (nodes.Client c)

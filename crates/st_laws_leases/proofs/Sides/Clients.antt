@@ -97,7 +97,7 @@ module _ (k : Config) (s : ℕ) (w : World) (node : ServerNode) (ended : ℕ →
   abbrev Last : WorldClient
   Last = site_left w (client c) site input
 
-  -- after the step all stands again
+  -- after the step everything holds again
   pub steps : Both k s w node ended G → site_of w (client c) ≡ Some site0 → site.node ≡ site0.node → site.node.running ≡ true → Comes (server s) c input (G c).net → ReceivedOf input → ClientPath k s w After node ended G
   steps b there same runs comes received = record { ends_of = E2; ghosts = G2; both = record { stands = record { reached = Works b.stands.reached (record { each = each; table = λ u v z. z }); served = served; compat = b.stands.compat }; clients = clients; ends = ends; few = few }; drift = drift; left = left; keeps = λ H o. WorkedOn o (record { each = each; table = λ u v z. z }) }
     where
@@ -174,7 +174,7 @@ module _ (k : Config) (s : ℕ) (w : World) (node : ServerNode) (ended : ℕ →
       here : site_of After (client c) ≡ Some Last
       here = ap (λ xs. numbered xs c) q.clients ∙ numbered_own w.clients c Last site0 there
 
-      -- the own association
+      -- the client's own association
       own_before : client_in w c s (ended c) ≡ client_of (ended c) Now.0 a
       own_before = own_view w c s (ended c) site0 a there (sym (ap (λ (n : ClientNode). n.running) same) ∙ runs) st.sim.place
 

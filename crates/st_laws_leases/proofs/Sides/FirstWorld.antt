@@ -1,4 +1,4 @@
--- What stands in the world of a head, before the first event.
+-- What holds in the world of a head, before the first event.
 use Rattle.std.proofs.Common.{◌≡◌, ◌≢◌, ℕ, zero, suc, ◌+◌, ◌*◌, ◌<◌, ◌≤◌, Bool, true, false, ◌&&◌, List, [], ◌∷◌, ◌++◌, Option, Some, None, Ok, Err, refl, sym, ap, ◌∙◌, subst, arith, if◌then◌else◌}
 use Rattle.std.specs.Prelude.{get_or, length, map, nat_lt, nat_le, option_map, pred, slice_get, slice_index, ◌-◌}
 use Rattle.std.proofs.lemmas.Bool.{leb-true, ltb-true}

@@ -1,4 +1,4 @@
--- The client's half of the fold over events: what stands of a server and all its clients stands again, and the path goes on.
+-- The client's half of the fold over events: the invariant of a server and all its clients holds again, and the path goes on.
 use Rattle.std.proofs.Common.{◌≡◌, ℕ, ◌+◌, arith, Bool, true, false, not, Option, Some, None, Ok, Err, refl, sym, ap, ◌∙◌, subst, inl, if◌then◌else◌}
 use Rattle.st_base.specs.declared.ids.NodeId.TheVariants as nodes
 use Rattle.st_messages.specs.declared.ask.Ask.{Ask}
@@ -74,7 +74,7 @@ module _ (k : Config) (s : ℕ) (node : ServerNode) (ended : ℕ → ℕ → ℕ
   pub counted_same : (w : World) → Unseen s w (counted w)
   counted_same w = record { clients = refl; clocks = refl; ended = refl; config = refl; found = refl; messages = λ m h. inl (m, h, refl) }
 
-  -- what stands behind a change that was before
+  -- what holds after an earlier change
   after : (u v w : World) → Left u v → Unseen s u v → ClientPath k s v w node ended G → ClientPath k s u w node ended G
   after u v w l x b = record { ends_of = b.ends_of; ghosts = b.ghosts; both = b.both; drift = b.drift; left = left_then u v w l b.left; keeps = λ H o. b.keeps H (same_leads u v x H o) }
 

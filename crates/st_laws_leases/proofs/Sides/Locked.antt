@@ -1,4 +1,4 @@
--- Changes are locked at every event, from what stands of every server and client and of the lock tables.
+-- Changes are locked at every event, from what holds of every server and client and of the lock tables.
 use Rattle.std.proofs.Common.{◌≡◌, ℕ, ◌+◌, Bool, true, false, List, [], ◌∷◌, ◌++◌, Option, Some, None, Ok, Err, refl, sym, ap, ◌∙◌, subst, if◌then◌else◌}
 use Rattle.std.specs.Prelude.{Result, length, pred}
 use Rattle.std.specs.List.{list_all}
@@ -97,7 +97,7 @@ server_all w s [] sc h = h
 server_all w s (o ∷ os) sc h = server_all w s os (ev.server_says sc s o) (server_one w s o sc h)
 
 module _ (k : Config) (count : ℕ) where
-  -- What an event leaves: its changes are locked, where all stands behind it.
+  -- What an event leaves: its changes are locked, if everything holds after it.
   pub record Written (sc : WorldTurn) : Type 0 where
     pub locked : AllStand k count sc.world → list_all (is_write_locked sc.world) sc.seen ≡ true
     pub known : ServersKnown sc.world

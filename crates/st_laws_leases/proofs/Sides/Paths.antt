@@ -1,4 +1,4 @@
--- Every event is steps of the machine of each server and its clients: each server of the world behind it came from where it was.
+-- Every event is steps of the machine of each server and its clients: each server of the world after it came from where it was.
 use Rattle.std.proofs.Common.{◌≡◌, ℕ, Some, refl, subst}
 use Rattle.st_rules.specs.Server.{ServerNode}
 use Rattle.st_rules.specs.World.{World, node_of, server}

@@ -1,4 +1,4 @@
--- The promises that follow from what stands of every server and client: thefts come late, graces wait, servers send no conflict.
+-- The promises that follow from what holds of every server and client: thefts come late, graces wait, servers send no conflict.
 use Rattle.std.proofs.Common.{◌≡◌, ℕ, true, List, Option, Some, None, Ok, refl, sym, ap, ◌∙◌, subst}
 use Rattle.std.specs.List.{list_all}
 use Rattle.std.proofs.lemmas.Bool.{eq-eqb}

@@ -1,4 +1,4 @@
--- All stands behind every event of every run.
+-- Everything holds after every event of every run.
 use Rattle.std.proofs.Common.{◌≡◌, ℕ, ◌+◌, true, ◌==◌, List, [], ◌∷◌, ◌++◌, Ok, Err, refl, sym, ◌∙◌, subst, ap}
 use Rattle.std.specs.Prelude.{Result, length}
 use Rattle.std.specs.List.{list_all}
@@ -31,8 +31,7 @@ use Rattle.st_laws_pages.specs.LockedCuts.CutLocks.{WaitsHold}
 use Rattle.st_laws_pages.proofs.LockedCuts.CutLaw.{law as cut_law}
 use Rattle.st_laws_pages.proofs.Disks.Whole.{fresh_waits}
 
--- A promise holds throughout a run over events in their ranges, if a fact of the past and the state gives it at each step and stands
--- again after it.
+-- A promise holds throughout a run over events in their ranges, if a fact of the past and the state gives it at each step and holds again after it.
 pub throughout_events : (count : ℕ) (promise : Promise) (Stands : List Step → Traced → Type 0) →
     ((past : List Step) (t : Traced) (e : Event) (sc : WorldTurn) → is_event count e ≡ true → Stands past t → world_step t.world e ≡ Ok sc → promise past (step t e sc) × Stands (past ++ step t e sc ∷ []) (traced_after e t sc)) →
     (es : List Event) → list_all (is_event count) es ≡ true → (past : List Step) (t : Traced) → Stands past t → Throughout promise past (steps es t)
@@ -64,7 +63,7 @@ runs_stand k clients servers disks blocks form es head events =
     (λ past t e sc h s taken. let z = stays (terms_of k) (clients + servers) t.world e sc s (full (clients + servers) t.world e s.nodes h) taken in (z, z)) es events []
     (traced (fresh_world k clients servers disks blocks form)) (begun k clients servers disks blocks form head)
 
--- What stands behind every event: all of a world, and the dates of the history.
+-- What holds after every event: all of a world, and the dates of the history.
 record Behind (k : Config) (count : ℕ) (past : List Step) (t : Traced) : Type 0 where
   all : AllStand k count t.world
   dates : replies.Stands past t
@@ -123,7 +122,7 @@ no_conflict_sent k clients servers disks blocks form es head events =
         subst (λ (x : WorldTurn). list_all is_no_conflict x.seen ≡ true) (sym p.1)
         (no_conflicts (terms_of k) t (clients + servers) b.behind.all (replies.dates_stand past t b.behind.dates) past b.dated e p.0 (taken ∙ ap (λ (x : WorldTurn). Ok x) p.1))
 
--- What stands behind every event for changes: all of a world, its lock tables, and the servers of its clients.
+-- What holds after every event for changes: all of a world, its lock tables, and the servers of its clients.
 record Locking (k : Config) (count : ℕ) (w : World) : Type 0 where
   all : AllStand k count w
   waits : WaitsHold w

@@ -1,4 +1,4 @@
--- Why leases are dated from requests: what stands of the messages, the nodes and the history behind every event.
+-- Why leases are dated from requests: what holds of the messages, the nodes and the history after every event.
 use Rattle.std.specs.Prelude.{◌≡◌, ℕ, ◌≤◌, Bool, true, false, ◌==◌, nat_lt, List, map, length, Option, Some, None, is_some}
 use Rattle.st_base.specs.declared.ids.ClientId.{ClientId}
 use Rattle.st_base.specs.declared.ids.ServerId.{ServerId}
@@ -76,7 +76,7 @@ pub record Dates (ms : List Message) (c : ClientId) (s : ServerId) (life : Life)
   pub stamp : by.header.stamp ≡ date.0
   pub dating : is_dating by ≡ true
 
--- the outstanding request is no refusal because of a conflict
+-- the outstanding request isn't a refusal because of a conflict
 abbrev pub CalmRequest : Option Request → Type 0
 CalmRequest None = Unit {0}
 CalmRequest (Some q) = is_conflict q.body ≡ false
@@ -142,8 +142,8 @@ pub record TimerOf (ts : List TimerStart) (s : ServerId) (c : ClientId) : Type 0
 abbrev pub Timed : List TimerStart → ServerId → ServerState → Type 0
 Timed ts s n = (c : ClientId) → Runs n.authority c → TimerOf ts s c
 
--- Behind every event: each message of a client was sent at its stamp; each message of a server that may date a lease answers a
--- request; each lease is dated by such a message; timers keep their servers quiet, and each that runs is one of the history.
+-- After every event: each message of a client was sent at its stamp; each message of a server that may date a lease answers a request; each lease is dated by
+-- such a message; timers keep their servers quiet, and each that runs is one of the history.
 pub record Dated (past : List Step) (t : Traced) : Type 0 where
   pub born : (m : Message) → Has m (messages t.world) → is_from_client m ≡ true → dating.is_request m.body ≡ true → Born past m
   pub answered : (m : Message) → Has m (messages t.world) → is_from_client m ≡ false → is_dating m ≡ true → Answer (messages t.world) m

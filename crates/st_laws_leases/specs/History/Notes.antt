@@ -8,12 +8,12 @@ use Rattle.st_messages.specs.declared.output.Output.{Output}
 use Rattle.st_messages.specs.declared.output.Output.TheVariants as outputs
 use Rattle.st_rules.specs.Keys.{same_server}
 
--- the lease end at a server behind a note, from the one before it
+-- the lease end at a server after a note, from the one before it
 abbrev pub noted_by : ServerId → Note → Option Stamp → Option Stamp
 noted_by s (notes.Leased r end) o = if same_server r s then Some end else o
 noted_by s n o = o
 
--- behind an output
+-- after an output
 abbrev pub noted_one : ServerId → Output → Option Stamp → Option Stamp
 noted_one s (outputs.Note n) o = noted_by s n o
 noted_one s x o = o

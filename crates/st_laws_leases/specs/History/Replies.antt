@@ -43,11 +43,11 @@ DatesReplied lease ms ds = (d : LeaseDate) → Has d ds → Replied lease ms d
 abbrev pub DatesPlaced : World → List LeaseDate → Type 0
 DatesPlaced w ds = (d : LeaseDate) → Has d ds → (site : WorldClient) × (site_of w d.client ≡ Some site)
 
--- Behind a step each date of the history is of a client and of a reply.
+-- After a step each date of the history is of a client and of a reply.
 pub record DatesStand (w : World) (ds : List LeaseDate) : Type 0 where
   pub placed : DatesPlaced w ds
   pub replied : DatesReplied w.config.lease w.net.messages ds
 
--- Behind a step each date of the history is of a client and of a reply
+-- After a step each date of the history is of a client and of a reply
 abbrev pub DatesAreOfReplies : Promise
 DatesAreOfReplies past x = DatesStand x.after.world x.after.history.dates

@@ -13,7 +13,7 @@ pub record Below (k : Config) (H : ℕ → ℕ) (a : Assoc) : Type 0 where
       In (msg life a.s.epoch stamp (Reassert locks)) a.net → a.s.session < life → (i : ℕ) → 2 ≤ (locks i).mode → H i ≤ (locks i).g
   pub top : (i : ℕ) → H i ≤ a.s.top
 
--- Each move leaves them below: a new lock is above all, and every other one stood before.
+-- Each move leaves them below: a new lock is above all, and every other one was there before.
 abbrev pub MovesStayAbove : Type 0
 MovesStayAbove = (k : Config) (H : ℕ → ℕ) (w : World) (c : ℕ) (b : Assoc) → ConfigOk k → Reached k w → Below k H (w.at c) → Move k (w.at c) b → Below k H b
 

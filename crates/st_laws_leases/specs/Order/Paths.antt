@@ -1,4 +1,4 @@
--- What stands of a server and all its clients, with the order of their locks.
+-- What holds of a server and all its clients, with the order of their locks.
 use Rattle.std.specs.Prelude.{◌≡◌, ℕ, Ok, Some}
 use Rattle.st_messages.specs.declared.event.Event.{Event}
 use Rattle.st_rules.specs.Events.{WorldTurn, world_step}
@@ -14,12 +14,12 @@ use Rattle.st_laws_leases.specs.Order.Order.{Below}
 abbrev pub AllBelow : Config → (ℕ → ℕ) → ℕ → (ℕ → ℕ → ℕ) → World → ServerNode → (ℕ → Ghost) → Type 0
 AllBelow k H s ended w node G = (c : ℕ) → Below k H (pair c s (ended c) w node (G c))
 
--- What stands of a server, with numbers below the locks of its associations.
+-- What holds of a server, with numbers below the locks of its associations.
 pub record OrderedServer (k : Config) (w : World) (s : ℕ) (node : ServerNode) (H : ℕ → ℕ) : Type 0 where
   pub stands : ServerStands k w s node
   pub below : AllBelow k H s stands.ended w node stands.ghosts
 
--- All stands in a world, with numbers for each server and file below the locks.
+-- Everything holds in a world, with numbers for each server and file below the locks.
 pub record Ordered (k : Config) (count : ℕ) (w : World) (H : ℕ → ℕ → ℕ) : Type 0 where
   pub all : AllStand k count w
   pub servers : (s : ℕ) (node : ServerNode) → node_of w (server s) ≡ Some node → OrderedServer k w s node (H s)

@@ -1,4 +1,4 @@
--- What stands between events of a server of the world and all its clients, on both sides of each association.
+-- What holds between events of a server of the world and all its clients, on both sides of each association.
 use Rattle.std.specs.Prelude.{◌≡◌, ◌≢◌, ◌⊎◌, ℕ, ◌<◌, ◌≤◌, ◌+◌, true, false, List, length, Some, None}
 use Rattle.st_rules.specs.declared.world.LeaseLife.{LeaseLife}
 use Rattle.st_rules.specs.declared.world.SentMessage.{SentMessage}
@@ -21,16 +21,15 @@ use Rattle.st_laws_refine.specs.Server.Invariants.{Stands}
 abbrev pub AllPast : ℕ → ℕ → ℕ → List LeaseLife → Type 0
 AllPast c s life es = (e : LeaseLife) → Has e es → e.client.0 ≡ c → e.server.0 ≡ s → e.life.0 < life
 
--- What stands of a client of the world at a server: its half of the association stands with the messages of the two, the lives that are
--- over are earlier ones, and a client that does not run has nothing there.
+-- What holds of a client of the world at a server: its half of the association holds with the messages of the two, the lives that are over are earlier ones,
+-- and a client that does not run has nothing there.
 pub record Standing (k : Config) (s c : ℕ) (site : WorldClient) (es : List LeaseLife) (N : List Msg) : Type 0 where
   pub association : Association
   pub sim : Sim k (client c) (server s) site association N
   pub past : AllPast c s (life_now site.node.running association) es
   pub stopped : site.node.running ≡ false → (association.session ≡ None) × (association.store ≡ empty_store)
 
--- What stands of a server and all its clients: the server's side, each client's side, and no life that is over had a later lease end
--- than the machine has of it.
+-- What holds of a server and all its clients: the server's side, each client's side, and no life that is over had a later lease end than the machine has of it.
 pub record Both (k : Config) (s : ℕ) (w : World) (node : ServerNode) (ended : ℕ → ℕ → ℕ) (G : ℕ → Ghost) : Type 0 where
   pub stands : Stands k s ended w node G
   pub clients : (c : ℕ) (site : WorldClient) → site_of w (client c) ≡ Some site → Standing k s c site w.ended (G c).net
@@ -48,7 +47,7 @@ pub record Left (w v : World) : Type 0 where
   pub bytes : w.net.bytes ≤ v.net.bytes
   pub messages : (m : SentMessage) → Has m v.net.messages → ((x : SentMessage) × Has x w.net.messages × (x.message ≡ m.message)) ⊎ (m.message.header.from ≤ 16)
 
--- All stands again after an event of a client, with other ends of lives and other ghosts; the drift is what it was.
+-- Everything holds again after an event of a client, with other ends of lives and other ghosts; the drift is what it was.
 pub record BothAfter (k : Config) (s : ℕ) (w v : World) (node : ServerNode) (G : ℕ → Ghost) : Type 0 where
   pub ends_of : ℕ → ℕ → ℕ
   pub ghosts : ℕ → Ghost

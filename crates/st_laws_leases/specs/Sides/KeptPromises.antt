@@ -7,7 +7,7 @@ use Rattle.st_rules.specs.World.{fresh_world}
 use Rattle.st_rules.specs.History.{traced}
 use Rattle.st_rules.specs.Safety.{AsksAreAnsweredOnce, ChangesAreLocked, DirtyPagesStandAlone, DropsHaveACause, ExpiredLeasesEmptyClients, GraceWaits, HardIsHard, HardStaysHard, IsHead, LeasesAreDatedFromRequests, NoConflictIsSent, OldMessagesChangeNoClient, OldMessagesChangeNoServer, Step, TheHistoryIsTheWorlds, TheReportTellsTheLog, TheftsComeLate, Throughout, is_event, steps}
 
--- Of the promises that make a run safe these are kept at each of its steps. Missing here are reads, logged and order.
+-- These of the promises that make a run safe are kept at each of its steps. Missing here are reads, logged and order.
 pub record IsKept (xs : List Step) : Type 0 where
   pub alone : Throughout DirtyPagesStandAlone [] xs
   pub causes : Throughout DropsHaveACause [] xs

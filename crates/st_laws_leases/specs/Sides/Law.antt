@@ -1,4 +1,4 @@
--- The fold over events: what stands of a server and all its clients stands again after each event of a client, and all stands in every run.
+-- The fold over events: the invariant of a server and all its clients holds again after each event of a client, and everything holds in every run.
 use Rattle.std.specs.Prelude.{◌≡◌, ◌+◌, Bool, true, ℕ, List, [], Some, Ok}
 use Rattle.std.specs.List.{list_all}
 use Rattle.st_base.specs.declared.config.Config as base
@@ -33,13 +33,13 @@ pub data ClientEvent (w : World) (e : Event) : Type 0 where
   ByHeal : (a b : NodeId) → e ≡ events.Heal a b → ClientEvent w e
   ByEffect : (n : ℕ) → e ≡ events.Effect n → ClientEvent w e
 
--- After each of these events what stood of a server and all its clients stands again.
+-- After each of these events the invariant of a server and all its clients holds again.
 abbrev pub ClientEventsKeep : Type 0
 ClientEventsKeep =
     (k : Config) (s : ℕ) (w : World) (node : ServerNode) (ended : ℕ → ℕ → ℕ) (G : ℕ → Ghost) (e : Event) (sc : WorldTurn) →
     Both k s w node ended G → GrantsHaveModes w → ClientEvent w e → world_step w e ≡ Ok sc → BothAfter k s w sc.world node G
 
--- All stands behind every event of every run from the world of a head.
+-- Everything holds after every event of every run from the world of a head.
 abbrev pub RunsStand : Type 0
 RunsStand =
     (k : base.Config) (clients servers disks blocks form : ℕ) (es : List Event) → IsHead k clients servers disks blocks form →

@@ -12,7 +12,7 @@ use Rattle.st_laws_refine.specs.Server.Invariants.{pairs}
 use Rattle.st_laws_leases.specs.Sides.Invariants.{Both, Left}
 use Rattle.st_laws_leases.specs.Sides.World.{AllStand, IsFull, ServerStands}
 
--- All stands again after an event of a client, and each path goes on.
+-- Everything holds again after an event of a client, and each path goes on.
 pub record ClientPath (k : Config) (s : ℕ) (w v : World) (node : ServerNode) (ended : ℕ → ℕ → ℕ) (G : ℕ → Ghost) : Type 0 where
   pub ends_of : ℕ → ℕ → ℕ
   pub ghosts : ℕ → Ghost
@@ -21,19 +21,19 @@ pub record ClientPath (k : Config) (s : ℕ) (w v : World) (node : ServerNode) (
   pub left : Left w v
   pub keeps : (H : net.World) → Leads k H s ended w node G → Leads k H s ends_of v node ghosts
 
--- What stands of a server, at the end of a path from a world of the machine that has a fact.
+-- What holds of a server, at the end of a path from a world of the machine that has a fact.
 pub record LedServer (k : Config) (w : World) (s : ℕ) (node : ServerNode) (H : net.World → Type 0) : Type 0 where
   pub stands : ServerStands k w s node
   pub from : net.World
   pub is : H from
   pub path : Leads k from s stands.ended w node stands.ghosts
 
--- All stands in a world, each server at the end of a path from its fact.
+-- Everything holds in a world, each server at the end of a path from its fact.
 pub record Led (k : Config) (count : ℕ) (w : World) (H : ℕ → net.World → Type 0) : Type 0 where
   pub all : AllStand k count w
   pub servers : (s : ℕ) (node : ServerNode) → node_of w (server s) ≡ Some node → LedServer k w s node (H s)
 
--- the associations of a server that stands
+-- the associations of a server whose invariant holds
 abbrev pub pairs_of : (k : Config) (w : World) (s : ℕ) (node : ServerNode) → ServerStands k w s node → net.World
 pairs_of k w s node z = pairs s z.ended w node z.ghosts
 
@@ -44,7 +44,7 @@ pub record CameFrom (k : Config) (count : ℕ) (w : World) (all : AllStand k cou
   pub before : node_of w (server s) ≡ Some node
   pub path : Path k (pairs_of k w s node (all.servers s node before)) (pairs_of k v s next z)
 
--- What an event leaves: all stands, and each server came from where it was.
+-- What an event leaves: everything holds, and each server came from where it was.
 pub record Followed (k : Config) (count : ℕ) (w : World) (all : AllStand k count w) (v : World) : Type 0 where
   pub after : AllStand k count v
   pub came : (s : ℕ) (next : ServerNode) (at : node_of v (server s) ≡ Some next) → CameFrom k count w all v s next (after.servers s next at)

@@ -1,4 +1,4 @@
--- What stands in a world between events: of each server with all its clients, and of who sent what.
+-- What holds in a world between events: of each server with all its clients, and of who sent what.
 use Rattle.std.specs.Prelude.{◌≡◌, ◌+◌, ◌<◌, ℕ, length, Some}
 use Rattle.st_base.specs.declared.ids.ServerId.{ServerId}
 use Rattle.st_messages.specs.declared.event.Event.{Event}
@@ -15,8 +15,7 @@ use Rattle.st_laws_refine.specs.Server.Pair.{Timed, terms_of}
 use Rattle.st_laws_refine.specs.Server.Invariants.{Calm, Few}
 use Rattle.st_laws_leases.specs.Sides.Invariants.{Both}
 
--- What stands of a server of the world: both sides of its associations, the clocks between them, its grants, and what no conflict
--- rests on.
+-- What holds of a server of the world: both sides of its associations, the clocks between them, its grants, and what the absence of conflicts rests on.
 pub record ServerStands (k : Config) (w : World) (s : ℕ) (node : ServerNode) : Type 0 where
   pub ended : ℕ → ℕ → ℕ
   pub ghosts : ℕ → Ghost
@@ -30,8 +29,8 @@ pub record There (w : World) (s : ServerId) : Type 0 where
   pub node : ServerNode
   pub is : node_of w s ≡ Some node
 
--- What stands in a world of this number of nodes: the settings are the machine's, lives and fates are as they are to be, a message
--- of a server is of one that is there, and all stands of each server.
+-- What holds in a world of this number of nodes: the settings are the machine's, lives and fates are as they must be, a message of a server is of one that is
+-- there, and everything holds of each server.
 pub record AllStand (k : Config) (count : ℕ) (w : World) : Type 0 where
   pub terms : k ≡ terms_of w.config
   pub sound : ConfigOk k

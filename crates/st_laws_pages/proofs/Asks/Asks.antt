@@ -1,5 +1,5 @@
--- What stands of the asks of a client within a step: each pending one was asked under its number and not answered yet, each answer is
--- the first one to an ask, each change is noted and answered `written` at once, and nothing is used of servers that may not be used.
+-- What holds of the asks of a client within a step: each pending one was asked under its number and not answered yet; each answer is the first one to an ask;
+-- each change is noted and answered `written` at once; and nothing is used of servers whose use isn't allowed.
 use Rattle.std.proofs.Common.{◌≡◌, ℕ, Bool, true, false, ◌&&◌, ◌||◌, List, [], ◌∷◌, ◌++◌, ◌==◌, Option, Some, None, refl, sym, ap, ◌∙◌, subst, inl, inr, append_assoc}
 use Rattle.std.specs.Prelude.{◌⊎◌, map}
 use Rattle.std.specs.List.{list_any}
@@ -64,7 +64,7 @@ Unused n asked v o = Unit {0}
 abbrev pub Here : (ServerId → Type 0) → ServerId → Type 0
 Here Gone s = (v : ServerId) → Gone v → s ≡ v → ⊥
 
--- What stands of the pending asks and the outputs.
+-- What holds of the pending asks and the outputs.
 pub record Holds (c : ClientId) (n : ℕ) (asked : ℕ → Option Ask) (old : ℕ → Bool) (Gone : ServerId → Type 0) (ks : Pending) (out : List Output) : Type 0 where
   pub pending : (k : ℕ × Ask) → Has k ks → asked k.0 ≡ Some k.1
   pub apart : Apart ks
@@ -181,7 +181,7 @@ module _ (c : ClientId) (n : ℕ) (asked : ℕ → Option Ask) (old : ℕ → Bo
       go (inr (inl e)) = subst Idle (sym e) i
       go (inr (inr j)) = absurd j
 
-  -- an answer that is no use, or of a server that is not gone
+  -- an answer that isn't a use, or of a server that is not gone
   idle_answer : (op : ℕ) (a : AppAnswer) → is_use a ≡ false → Idle (outputs.Answer op a)
   idle_answer op a e v g = and_no (is_use a) _ e
 

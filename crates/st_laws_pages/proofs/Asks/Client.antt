@@ -102,7 +102,7 @@ pub record Lasts (n : ℕ) (Use : ServerId → Type 0) (c : ClientId) (Q : List 
       Q (xs ++ o ∷ ys) out → Q (xs ++ ys) ((out ++ outputs.Note x ∷ []) ++ outputs.Answer o.op answers.Written ∷ [])
   pub stages : (xs ys : List Operation) (out : List Output) → map key xs ≡ map key ys → Q xs out → Q ys out
 
--- What stands of a turn, with a condition on the association.
+-- What holds of a turn, with a condition on the association.
 pub record Stands (n : ℕ) (c : ClientId) (k : Config) (Q : List Operation → List Output → Type 0) (C : ServerId → Option ClientSession → Option Stamp → Type 0)
     (t : Turn) : Type 0 where
   pub id : t.id ≡ c
@@ -111,7 +111,7 @@ pub record Stands (n : ℕ) (c : ClientId) (k : Config) (Q : List Operation → 
   pub own : Knows n t.here.server t.here.store.extents
   pub cond : C t.here.server t.here.session t.here.greeting
 
--- The conditions: the server may be used; it may, where there is a session; and where there is one or a greeting.
+-- The conditions: the server may be used; it may, where there is a session; and if there is one or a greeting.
 abbrev pub Used : (ServerId → Type 0) → ServerId → Option ClientSession → Option Stamp → Type 0
 Used Use s o g = Use s
 
@@ -337,7 +337,7 @@ module _ (n : ℕ) (Use : ServerId → Type 0) (c : ClientId) (k : Config) (Q : 
             (w_pages (ending.without x t) (pages.fail t.here.store.pages x.ino x.page x.number) (w_commands t x w))
         go _ (ending.FailsToWriteOlder x v o i e j) = w_answers C _ _ _ refl (w_commands t x w)
 
-  -- The pass over the operations: those that were not yet looked at stand behind those that stay.
+  -- The pass over the operations: those that were not yet looked at come after those that stay.
   record Rest (os : List Operation) (t : Turn) : Type 0 where
     pub id : t.id ≡ c
     pub config : t.config ≡ k

@@ -75,7 +75,7 @@ pub record Done (past : List Step) (n : ℕ) (x : Step) : Type 0 where
   pub owed : Owed past x x.seen
   pub unused : (c : ClientId) (s : ServerId) → takes_step x.before.world c x.event ≡ true → is_expired x.before.world c s ≡ true → list_any (uses_server past x s) x.seen ≡ false
 
--- it is no ask
+-- it isn't an ask
 abbrev pub NoAsk : Event → Type 0
 NoAsk e = (c : ClientId) → ask_in c e ≡ None
 
@@ -117,7 +117,7 @@ client_done past n t e w c sc own same l =
       unused = λ d s y z. l.unused l.places.count s (same s (subst (λ (b : ClientId). is_expired t.world b s ≡ true) (own d y) z));
     }
 
--- a step that is no ask
+-- a step that isn't an ask
 begins_same : (past : List Step) (x : Step) (n : ℕ) (c : ClientId) (site : WorldClient) (Gone : ServerId → Type 0) → ask_in c x.event ≡ None → ClientAsks past c site →
     Holds c n (λ op. numbered (asks_of (past ++ x ∷ []) c) op) (λ op. list_any (answers_in c op) past) Gone (map key site.node.state.operations ++ []) []
 begins_same past x n c site Gone e h =
@@ -245,7 +245,7 @@ module _ (past : List Step) (n : ℕ) (t : Traced) (e : Event) (a : world.Tally)
   asks : AllAsks past W
   asks = record { clients = al.clients; later = al.later }
 
-  -- a client that is there takes an input that is no ask
+  -- a client that is there takes an input that isn't an ask
   takes_done : NoAsk e → (c : ClientId) (input : ClientInput) (o : Option WorldClient) → site_of t.world c ≡ o → ((d : ClientId) → takes_step t.world d e ≡ true → d ≡ c) → ((P : List Operation → List Output → Type 0) → Takes n P P input) →
       Done past n (step t e (ev.at_client W c input o))
   unfolding ev.at_client
@@ -568,7 +568,7 @@ from_server from s e = go (nat_le from 16) refl
     go true q = let z = leb-true from 16 q in absurd (omega (arith, z, e))
     go false q = ap (λ m. nodes.Server (record { 0 = m })) (let z : from - 32768 ≡ s.0 = omega (arith, e) in z)
 
--- what stands of places, as tests
+-- what holds of places, as tests
 places_hold : (n : ℕ) (w : World) → Places n w → PlacesHold w
 places_hold n w pl = record { maps = all_pass (maps_own w) w.servers maps; told = all_pass (tells_own w) w.net.messages told; known = all_pass (knows_own w) w.clients known }
   where

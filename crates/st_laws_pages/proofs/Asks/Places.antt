@@ -19,7 +19,7 @@ pub none_more : {A : Type 0} (xs : List A) → xs ++ [] ≡ xs
 none_more [] = refl
 none_more (x ∷ xs) = ap (λ z. x ∷ z) (none_more xs)
 
--- a block lies on a disk of this server, where there are so many servers
+-- a block lies on a disk of this server, where there are that many servers
 abbrev pub On : ℕ → ServerId → BlockAt → Type 0
 On n s at = pred at.disk.0 % n + 1 ≡ s.0
 
@@ -27,7 +27,7 @@ On n s at = pred at.disk.0 % n + 1 ≡ s.0
 abbrev pub Knows : ℕ → ServerId → List KnownExtent → Type 0
 Knows n s xs = (e : KnownExtent) → Has e xs → (m : MappedBlock) → e.mapping ≡ Some m → On n s m.at
 
--- what is told of pages lies on disks of this server
+-- what is reported about pages lies on disks of this server
 abbrev pub OwnRows : ℕ → ServerId → List ExtentRow → Type 0
 OwnRows n s rows = (r : ExtentRow) → Has r rows → On n s r.at
 

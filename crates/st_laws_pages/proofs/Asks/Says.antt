@@ -102,7 +102,7 @@ unfolding server_says_all
 server_leaves s [] sc = still [] sc.world sc.world refl refl refl
 server_leaves s (o ∷ os) sc = leaves_then o os sc.world (server_says sc s o).world _ (server_one s o sc) (server_leaves s os (server_says sc s o))
 
--- An observation that is no answer and no change of a page.
+-- An observation that is neither an answer nor a change of a page.
 abbrev pub Dull : Observation → Type 0
 Dull (seen.Answered c op a) = ⊥
 Dull (seen.Wrote i c f p bytes) = ⊥

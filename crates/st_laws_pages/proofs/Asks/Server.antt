@@ -67,7 +67,7 @@ abbrev pub SentOwn : ℕ → ServerId → Output → Type 0
 SentOwn n s (outputs.Send m) = (m.header.from ≡ server_node s) × OwnBody n s m.body
 SentOwn n s o = Unit {0}
 
--- What stands of a server's turn.
+-- What holds of a server's turn.
 pub record Own (n : ℕ) (s : ServerId) (t : ServerTurn) : Type 0 where
   pub id : t.state.id ≡ s
   pub extents : ExtentsOwn n s t.state.stable.extents
@@ -119,7 +119,7 @@ release_own : (n : ℕ) (s : ServerId) (x : Extents) (f : FileId) (p : PageNo) �
 unfolding extents.release_from
 release_own n s x f p o = record { server = o.server; servers = o.servers; rows = λ e h. o.rows e (has_filter _ x.rows e h).0 }
 
--- what is told of extents
+-- what is reported about extents
 has_told : {A B : Type 0} (f : A → Option B) (xs : List A) (y : B) → Has y (filter_map f xs) → (x : A) × (f x ≡ Some y)
 has_told f [] y h = absurd h
 has_told {A} {B} f (x ∷ xs) y h = go (f x) refl h (λ h. has_told f xs y h)

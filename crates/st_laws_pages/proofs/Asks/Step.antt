@@ -30,7 +30,7 @@ use Rattle.st_laws_steps.specs.Lives.Lives.{Once, server_number}
 use Rattle.st_laws_pages.proofs.Asks.Places.{Knows, OwnBody}
 use Rattle.st_laws_pages.proofs.Asks.Client.{Lasts, Stands, Usable, Begun, Lasting, Each, g_receive, w_lose, w_finish, s_passes, each, these, begun}
 
--- A fact of operations and outputs, before the input and behind it.
+-- A fact of operations and outputs, before the input and after it.
 abbrev pub Fact : Type 1
 Fact = List Operation → List Output → Type 0
 

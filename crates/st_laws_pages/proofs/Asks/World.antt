@@ -74,7 +74,7 @@ sent_told n from b (inr (s, f, o)) t e = subst (λ (z : ServerId). OwnBody n z b
 abbrev pub asks_of : List Step → ClientId → List Ask
 asks_of past c = filter_map (ask_in c) (map event_of past)
 
--- What stands of a client's pending asks behind steps.
+-- What holds of a client's pending asks after steps.
 pub record ClientAsks (past : List Step) (c : ClientId) (site : WorldClient) : Type 0 where
   pub count : length (asks_of past c) ≡ site.asks
   pub pending : (k : ℕ × Ask) → Has k (map key site.node.state.operations) → numbered (asks_of past c) k.0 ≡ Some k.1
@@ -125,7 +125,7 @@ other_later : (past : List Step) (x : Step) (c : ClientId) → ask_in c x.event 
     (op : ℕ) → length (asks_of (past ++ x ∷ []) c) < op → list_any (answers_in c op) (past ++ x ∷ []) ≡ false
 other_later past x c e n h op l = answers_more past x c op (h op (subst (λ z. length z < op) (asks_same past x c e) l)) (n op)
 
--- An event that is no ask and answers nothing, and leaves the operations and asks of clients, or empties them.
+-- An event that isn't an ask and answers nothing, and leaves the operations and asks of clients, or empties them.
 pub record SitesStay (w v : World) : Type 0 where
   pub old : (c : ClientId) (site : WorldClient) → site_of v c ≡ Some site → (before : WorldClient) × (site_of w c ≡ Some before) × (site.asks ≡ before.asks) ×
       ((site.node.state.operations ≡ before.node.state.operations) ⊎ (site.node.state.operations ≡ []))
@@ -197,7 +197,7 @@ flush_same c s (y ∷ ss) w = go (in_phase (cl.lease_end_with s y) (cl.phase_wit
         at m (inl h) = a.messages m h
         at m (inr h) = inr h
 
--- the client of a number behind a change of one client
+-- the client of a number after a change of one client
 pub site_case : (w : World) (c : ClientId) (old site : WorldClient) (cs : List WorldClient) → site_of w c ≡ Some old → cs ≡ with_numbered c.0 site w.clients → (d : ClientId) (y : WorldClient) → numbered cs d.0 ≡ Some y →
     ((c ≡ d) × (y ≡ site)) ⊎ (((c.0 == d.0) ≡ false) × (site_of w d ≡ Some y))
 site_case w c old site cs there e d y i = go (c.0 == d.0) refl

@@ -59,7 +59,7 @@ input_unhard now _ t _ (taking.Takes op ask e g) f = each_unhard (only_at (serve
 input_unhard now _ t _ (taking.Receives m e) f = each_unhard (cr.receive_at now m.header m.body) (λ u g. h_receive now m.header m.body u g.fresh) t f
 input_unhard now _ t _ (taking.Finishes number r) f = each_unhard (cl.finish number r) (λ u g. h_finish number r u) t f
 
--- The operations behind an ask: those that there were, and it.
+-- The operations after an ask: those that there were, and it.
 abbrev OrNew : List (ℕ × Ask) → ℕ × Ask → List Operation → Type 0
 OrNew ks new ops = (k : ℕ × Ask) → Has k (map key ops) → Has k ks ⊎ (k ≡ new)
 

@@ -1,4 +1,4 @@
--- What stands of the disk commands, through what a client says, effects, reports and drops.
+-- What holds of the disk commands, through what a client says, effects, reports and drops.
 use Rattle.std.proofs.Common.{◌≡◌, ◌≢◌, ℕ, ◌+◌, ◌≤◌, ◌<◌, ◌⊎◌, Bool, true, false, List, [], ◌∷◌, ◌++◌, Option, Some, None, refl, sym, ap, ◌∙◌, subst, inl, inr, arith, if◌then◌else◌}
 use Rattle.std.specs.Prelude.{length, option_map, set, slice_get, suc, zero}
 use Rattle.st_base.specs.declared.disk.BlockAt.{BlockAt}

@@ -1,4 +1,4 @@
--- What stands of the flush, of the commands and of the latest entries, at each event.
+-- What holds of the flush, of the commands and of the latest entries, at each event.
 use Rattle.std.proofs.Common.{◌≡◌, ◌≢◌, ℕ, ◌+◌, ◌≤◌, ◌<◌, ◌⊎◌, Bool, true, false, ◌&&◌, ◌||◌, List, [], ◌∷◌, ◌++◌, ◌==◌, Option, Some, None, Ok, Err, refl, sym, ap, ◌∙◌, subst, inl, inr, arith, if◌then◌else◌}
 use Rattle.std.specs.Prelude.{Result, length, map, zero, suc}
 use Rattle.std.specs.List.{list_any}
@@ -71,7 +71,7 @@ use Rattle.st_laws_pages.proofs.Causes.Latest.{latest_elsewhere, latest_owned}
 use Rattle.st_laws_pages.proofs.Causes.Placed.{InputTells, PlacesAt, step_placed}
 use Rattle.st_laws_pages.proofs.Causes.FlushSteps.{BothHold, client_after}
 
--- Behind one more step.
+-- After one more step.
 pub up_one : (past : List Step) (x : Step) (n : ℕ) → list_any (reports_failure n) past ≡ true → list_any (reports_failure n) (past ++ x ∷ []) ≡ true
 up_one [] x n h = cc
 up_one (y ∷ past) x n h = go (reports_failure n y) h (up_one past x n)
@@ -94,7 +94,7 @@ module _ (past : List Step) (x : Step) where
   still w v k ts cs xs fl ns l h =
       moved_flush past more w v k (λ c. subst (λ t. (clock_in w.clocks c).0 ≤ (clock_in t c).0) (sym ts) (same_clocks w c)) cs xs fl ns (up_one past x) (λ c b f p. ap (λ es. latest es c f p) l) (λ P z. subst (PendingAll P) (sym l) z) h
 
-  -- behind the same steps
+  -- after the same steps
   still_same : (w v : World) → v.config ≡ w.config → v.clocks ≡ w.clocks → v.clients ≡ w.clients → v.commands ≡ w.commands → v.flushed ≡ w.flushed → length v.servers ≡ length w.servers → v.log ≡ w.log → FlushHold past w → FlushHold past v
   still_same w v k ts cs xs fl ns l h =
       moved_flush past past w v k (λ c. subst (λ t. (clock_in w.clocks c).0 ≤ (clock_in t c).0) (sym ts) (same_clocks w c)) cs xs fl ns (λ n z. z) (λ c b f p. ap (λ es. latest es c f p) l) (λ P z. subst (PendingAll P) (sym l) z) h
@@ -122,7 +122,7 @@ module _ (past : List Step) (x : Step) where
         latest_own = latest_marked w v cs (ap (map owner_of) l) h.latest_own;
       }
 
-  -- what is told at the end of a command: it was reported among these steps, or had its effect
+  -- what is reported at the end of a command: it was reported among these steps, or had its effect
   pub told_of : (w : World) (k : ℕ) (ok : Bool) (d : DiskCommand) → disks.command w.disks k ≡ Some d → (ok ≡ true → d.effected ≡ true) → x.event ≡ events.Report k ok → (y : IssuedCommand) → issued_of w k ≡ Some y → (site : WorldClient) → ev.is_same_instance y site ≡ true →
       (sc : WorldTurn) → sc.world.commands ≡ w.commands → sc.world.disks ≡ w.disks → InputTold more sc y.client site.starts (ev.end_told w k ok y)
   told_of w k ok d is done e y q site t sc a b = by ok refl

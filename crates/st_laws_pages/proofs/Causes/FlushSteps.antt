@@ -1,4 +1,4 @@
--- A step of a client in the world: what stands of the flush, of the commands and of the latest entries behind it.
+-- A step of a client in the world: what holds of the flush, of the commands and of the latest entries after it.
 use Rattle.std.proofs.Common.{◌≡◌, ◌≢◌, ℕ, ◌+◌, ◌≤◌, ◌<◌, ◌⊎◌, Bool, true, false, ◌&&◌, ◌||◌, List, [], ◌∷◌, ◌++◌, Option, Some, None, refl, sym, ap, ◌∙◌, subst, inl, inr, arith, leb-true, if◌then◌else◌}
 use Rattle.std.specs.Prelude.{length, nat_le}
 use Rattle.std.specs.List.{list_any}
@@ -72,7 +72,7 @@ one_more c before site sc own (outputs.Note n) = note n
     note (notes.Lost s life) = record { commands = inl refl; log = inl refl }
     note n = record { commands = inl refl; log = inl refl }
 
--- What stands of another client stays through what this one says.
+-- What holds of another client stays through what this one says.
 cared_entry : (past : List Step) (cs : List IssuedCommand) (es : List LogEntry) (c d : ClientId) (starts next : ℕ) (b : Association) (e : LogEntry) → (d.0 ≡ c.0 → ⊥) → e.of.client ≡ c → Cared past cs es d starts next b → Cared past cs (es ++ e ∷ []) d starts next b
 cared_entry past cs es c d starts next b e n q h =
     entry_elsewhere past cs es d starts next b e (λ p u v w. absurd (n (ap (λ (x : ClientId). x.0) (sym u ∙ q))))
@@ -113,7 +113,7 @@ other_latest c d before site b n (o ∷ os) sc own h = other_latest c d before s
         subst (λ es. LatestOwn d es b) (sym e)
         (latest_elsewhere d b sc.world.log x (λ ino p. ap (λ z. z && (same_file x.of.file (Rattle.st_laws_pages.specs.Flush.Flush.file_at b ino) && same_page x.of.page p)) (ne_eqb x.of.client.0 d.0 (λ z. n (sym z ∙ ap (λ (y : ClientId). y.0) q)))) h)
 
--- What is said of all commands stays, where it is true of those of this client's instance.
+-- What is claimed about all commands stays true, if it is true of those of this client's instance.
 commands_say : (P : IssuedCommand → Type 0) (c : ClientId) (before : ClientState) (site : WorldClient) → ((x : IssuedCommand) → x.client ≡ c → x.starts ≡ site.starts → P x) → (os : List Output) (sc : WorldTurn) → site_of sc.world c ≡ Some site → ((x : IssuedCommand) → Has x sc.world.commands → P x) →
     (x : IssuedCommand) → Has x (After c before sc os).world.commands → P x
 unfolding client_says_all
@@ -265,7 +265,7 @@ flushes_disks c s (y ∷ ss) w = flushes_disks c s ss (ev.flushed_at w c y s) �
     in_phase o (Some phases.Expired) = refl
     in_phase o None = refl
 
--- What stands of the flush, and of the log and the commands.
+-- What holds of the flush, and of the log and the commands.
 pub record BothHold (past : List Step) (w : World) : Type 0 where
   pub flush : FlushHold past w
   pub writes : WritesStand w

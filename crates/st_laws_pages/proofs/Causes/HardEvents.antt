@@ -61,7 +61,7 @@ use Rattle.st_laws_pages.proofs.Causes.HardSeen.{dull_fates, dull_hard, says_har
 use Rattle.st_laws_pages.proofs.Causes.Hardly.{Hards, Ungone}
 use Rattle.st_laws_pages.proofs.Causes.Placed.{InputTells, Placed, PlacesAt, step_placed}
 
--- What stands of a client's pending operations behind steps: each is what was asked under its number.
+-- What holds of a client's pending operations after steps: each is what was asked under its number.
 pub record AskedSo (past : List Step) (c : ClientId) (site : WorldClient) : Type 0 where
   pub count : length (asks_of past c) ≡ site.asks
   pub keys : KeysAsked (λ op. numbered (asks_of past c) op) site.node.state.operations
@@ -69,7 +69,7 @@ pub record AskedSo (past : List Step) (c : ClientId) (site : WorldClient) : Type
 abbrev pub AskedHold : List Step → World → Type 0
 AskedHold past w = (c : ClientId) (site : WorldClient) → site_of w c ≡ Some site → AskedSo past c site
 
--- what was asked before is asked behind one more step
+-- what was asked before is asked after one more step
 grows : (xs : List Ask) (o : Option Ask) (op : ℕ) (y : Ask) → numbered xs op ≡ Some y → numbered (xs ++ cons_option o []) op ≡ Some y
 grows xs None op y e = ap (λ l. numbered l op) (none_more xs) ∙ e
 grows xs (Some a) op y e = numbered_old xs a op y e
@@ -205,7 +205,7 @@ module _ (past : List Step) (x : Step) where
             go true q e = let z = took e in record { hard = z.hard; asks = z.asks }
             go false q e = cc
 
-    -- an input that is no ask
+    -- an input that isn't an ask
     quiet_takes : (c : ClientId) (input : ClientInput) (site : WorldClient) → site_of w c ≡ Some site → InputTells size input → ((sc : WorldTurn) → sc.world.commands ≡ w.commands → sc.world.disks ≡ w.disks → InputTold more sc c site.starts input) → AsksIt (λ op. numbered (asks_of more c) op) input →
         ((d : ClientId) → ask_in d x.event ≡ None) → x.after.world ≡ (ev.client_takes w c input site).world → Left w (ev.client_takes w c input site)
     unfolding ev.client_takes ev.client_took cl.node_step

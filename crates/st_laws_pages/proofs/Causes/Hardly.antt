@@ -68,7 +68,7 @@ abbrev pub HardOne : (ℕ → Option Ask) → ClientId → (ServerId → Life) �
 HardOne asked c lives es (outputs.Answer op answers.Hard) = HardSaid asked c lives es op
 HardOne asked c lives es o = Unit {0}
 
--- the same of all outputs, in the world behind those before it
+-- the same of all outputs, in the world after those before it
 abbrev pub Hards : (ℕ → Option Ask) → ClientId → (ServerId → Life) → ClientState → WorldTurn → List Output → Type 0
 Hards asked c lives before sc [] = Unit {0}
 Hards asked c lives before sc (o ∷ os) = record { one : HardOne asked c lives sc.world.log o; rest : Hards asked c lives before (client_says sc c before o) os }

@@ -1,5 +1,5 @@
--- All associations of a client, through changes at one of its servers: what stands of each, and whose the latest entries of its dirty pages
--- are, in the world behind the outputs so far.
+-- All associations of a client, through changes at one of its servers: what holds of each, and whose the latest entries of its dirty pages are, in the world
+-- after the outputs so far.
 use Rattle.std.proofs.Common.{◌≡◌, ℕ, ◌⊎◌, Bool, true, false, List, [], ◌∷◌, ◌++◌, Option, Some, None, refl, sym, ap, ◌∙◌, subst, inl, inr}
 use Rattle.std.specs.Prelude.{map, length}
 use Rattle.st_base.specs.declared.ids.ClientId.{ClientId}
@@ -36,13 +36,13 @@ use Rattle.st_laws_pages.proofs.Causes.Placed.{Placed}
 use Rattle.st_laws_pages.proofs.Causes.Saying.{change_adds, placed_grown}
 use Rattle.st_laws_pages.proofs.Lives.Among.{has_mid, has_others, has_split, numbers_kept, others_apart}
 
--- What stands in the middle of a step, with whose the latest entries of dirty pages are.
+-- What holds in the middle of a step, with whose the latest entries of dirty pages are.
 pub record Cares (past : List Step) (cs : List IssuedCommand) (es : List LogEntry) (c : ClientId) (starts : ℕ) (t : Turn) (others : List Association) : Type 0 where
   pub around : Around past cs es c starts t others
   pub latest_here : LatestOwn c es t.here
   pub latests : (b : Association) → Has b others → LatestOwn c es b
 
--- Lists of changes, and ends of commands, in the world behind the outputs.
+-- Lists of changes, and ends of commands, in the world after the outputs.
 module _ (past : List Step) (size : ℕ) (c : ClientId) (before : ClientState) (sc : WorldTurn) (site : WorldClient) (there : site_of sc.world c ≡ Some site) (count : length sc.world.servers ≡ size) (holds : CommandsStand sc.world.log sc.world.commands sc.world.disks.commands) (now : Stamp) where
   abbrev pub In : Turn → List Association → Type 0
   In t others = Cares past (After c before sc t.out).world.commands (After c before sc t.out).world.log c site.starts t others
@@ -173,7 +173,7 @@ module _ (past : List Step) (size : ℕ) (c : ClientId) (before : ClientState) (
 
   -- A rule at each server in turn.
 
-  -- what stands of a list of associations, in the middle of a step
+  -- what holds of a list of associations, in the middle of a step
   pub record All (t : ClientTurn) (al : List Association) : Type 0 where
     pub cared : (b : Association) → Has b al → Cared past (After c before sc t.out).world.commands (After c before sc t.out).world.log c site.starts t.state.next_command b
     pub apart : (b : Association) → Has b al → NumbersApart b.store.commands

@@ -105,7 +105,7 @@ fresh_flush k clients servers d b form =
         let l = length_map (node_at_start k servers d b) (numbers 1 servers) ∙ numbers_length 1 servers in
         (omega (arith, x, s), omega (arith, y, s, l))
 
--- What stands behind steps.
+-- What holds after steps.
 pub record Stand (past : List Step) (t : Traced) : Type 0 where
   pub fates : FatesHold t.world
   pub both : BothHold past t.world

@@ -97,7 +97,7 @@ since_with : (P Q R : Output → Type 0) → ((o : Output) → P o → Q o → R
 since_with P Q R f os ps a b =
     record { more = a.more; out = a.out; each = each_with P Q R f a.more a.each (subst (EachOut Q) (same_behind os b.more a.more (sym b.out ∙ a.out)) b.each) }
 
--- A write goes to a disk of its file's server, where there are so many servers.
+-- A write goes to a disk of its file's server, where there are that many servers.
 abbrev pub PlacedOne : ℕ → Output → Type 0
 PlacedOne n (outputs.Submit number at (commands.Write to tag bytes)) = On n tag.file.server at
 PlacedOne n o = Unit {0}
@@ -177,7 +177,7 @@ fewer_has [] ys o k h = inr h
 fewer_has (x ∷ xs) ys o k (inl e) = inl e
 fewer_has (x ∷ xs) ys o k (inr h) = inr (fewer_has xs ys o k h)
 
--- Blocks and operations, by what stands of places at one server.
+-- Blocks and operations, by what holds of places at one server.
 record Blocks (n : ℕ) (s : ServerId) (os : List Output) (ks : List (ℕ × Ask)) (ops : List Operation) (out : List Output) : Type 0 where
   since : Since (BlockOne n s) os out
   from : From ks ops
@@ -359,7 +359,7 @@ step_placed n c s now input told f k = whole (since_then _ [] t.out v.out a.plac
     whole : Since (PlacedOne n) [] v.out → Placed n v.out
     whole z = subst (Placed n) (sym z.out) z.each
 
--- What is known and told of places in a world of so many servers.
+-- What is known and told of places in a world of that many servers.
 pub record PlacesAt (size : ℕ) (w : World) : Type 0 where
   pub count : length w.servers ≡ size
   pub told : (m : SentMessage) → Has m w.net.messages → (s : ServerId) → m.message.header.from ≡ server_node s → OwnBody size s m.message.body

@@ -66,7 +66,7 @@ answers_still : (a : AppAnswer) (os : List Operation) → AllStill (map (answer_
 answers_still a [] = record {}
 answers_still a (o ∷ os) = record { one = tt; rest = answers_still a os }
 
--- What each change adds, in the world behind the outputs so far: pages are changed and written in the present life.
+-- What each change adds, in the world after the outputs so far: pages are changed and written in the present life.
 module _ (size : ℕ) (c : ClientId) (before : ClientState) (sc : WorldTurn) (site : WorldClient) (there : site_of sc.world c ≡ Some site) (count : length sc.world.servers ≡ size) where
   abbrev pub cs : List Output → List IssuedCommand
   cs os = (After c before sc os).world.commands

@@ -1,4 +1,4 @@
--- A whole step of a client: what stands of all its associations, in the world that its outputs leave.
+-- A whole step of a client: what holds of all its associations, in the world that its outputs leave.
 use Rattle.std.proofs.Common.{◌≡◌, ℕ, Bool, true, false, List, [], ◌∷◌, ◌++◌, Option, Some, None, refl, sym, ap, ◌∙◌, subst}
 use Rattle.std.specs.Prelude.{map, length}
 use Rattle.st_base.specs.declared.ids.ClientId.{ClientId}
@@ -69,7 +69,7 @@ module _ (past : List Step) (w : World) (c : ClientId) (old site : WorldClient) 
   passed : (x : Turn) → Fit x.here → Next now x (cp.passes now (cl.is_tick input) x)
   passed x f = changes_next now x (cp.passes now (cl.is_tick input) x) (c_passes now (cl.is_tick input) x)
 
-  -- The world behind the outputs.
+  -- The world after the outputs.
   module _ (size : ℕ) (own : site_of sc.world c ≡ Some after) (count : length sc.world.servers ≡ size) (holds : CommandsStand w.log w.commands w.disks.commands) (placed : Placed size v.out) (told : InputTold past sc c site.starts input) (cared : NodeCared past w.commands w.log c old)
       (latest : (a : Association) → Has a old.node.state.associations → LatestOwn c w.log a) where
     abbrev A : ClientTurn → Type 0
@@ -84,7 +84,7 @@ module _ (past : List Step) (w : World) (c : ClientId) (old site : WorldClient) 
     old_numbers : NumbersBelow w.commands c site.starts s.next_command
     old_numbers = subst (λ (n : cl.ClientNode). NumbersBelow w.commands c site.starts n.state.next_command) same (subst (λ z. NumbersBelow w.commands c z old.node.state.next_command) starts cared.numbers)
 
-    -- behind the losses
+    -- after the losses
     quiet : AllQuiet (client_turn s []) t
     quiet = losses_quiet now s
 

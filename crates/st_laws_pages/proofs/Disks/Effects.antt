@@ -101,7 +101,7 @@ report_finds w k ok d is e =
     opened reports.Succeeded e = cc
     opened reports.Failed e = cc
 
--- the world in which the client is told: nothing but the command's report changed
+-- the world in which the client is informed: nothing but the command's report changed
 abbrev pub reported_world : World → ℕ → Bool → DiskCommand → World
 reported_world w k ok d = ev.with_disks (disks.with_command k (disks.reported ok d) w.disks) w
 

@@ -99,7 +99,7 @@ then_births w s node n e t = go (same_server t s) refl
     go true q = ap (λ u. births_at (node_of (ev.with_node s n w) u)) (server_is t s q) ∙ ap births_at (numbered_own w.servers s.0 n node e)
     go false q = ap births_at (numbered_other w.servers s.0 t.0 n node e q)
 
--- What stands of a server's extents beside the other servers'.
+-- What holds of a server's extents beside the other servers'.
 record ServerPages (w : World) (s : ServerId) (es : List LogEntry) (L : LivingOf) (x : Extents) : Type 0 where
   pub pages : PagesAreKept es (mapped_with w s x) (block_in w) (births_with w s x) L
   pub lies : (f : FileId) (p : PageNo) (e : Extent) → same_server f.server s ≡ true → extents.extent_of x f p ≡ Some e → server_of_disk w e.at ≡ s

@@ -1,4 +1,4 @@
--- The lines of an event tell the log behind it.
+-- The lines of an event tell the log after it.
 use Rattle.std.proofs.Common.{◌≡◌, ℕ, ◌+◌, ◌⊎◌, Bool, true, false, ◌&&◌, List, [], ◌∷◌, ◌++◌, Option, Some, None, Ok, Err, refl, sym, ap, ◌∙◌, subst, inl, inr, arith, if◌then◌else◌}
 use Rattle.std.specs.Prelude.{Result, length, suc, set, slice_get, nat_le}
 use Rattle.std.proofs.lemmas.Bool.{eq-eqb}
@@ -49,7 +49,7 @@ use Rattle.st_laws_steps.specs.Lives.Lives.{ended_rows}
 use Rattle.st_laws_pages.proofs.Lives.Turning.{Said, says_one, says_lives}
 use Rattle.st_laws_pages.proofs.Lives.Lasting.{Flushed, flush_parts}
 
--- What is told so far, where lives are looked up in this world.
+-- What is reported so far, where lives are looked up in this world.
 record Told (f : World) (old : List LogEntry) (os : List Observation) (now : List LogEntry) : Type 0 where
   pub entries : lines.log_told f old os ≡ now
   pub numbers : lines.all_tell_log f old os ≡ true
@@ -218,7 +218,7 @@ fated_hard es (Some x) = go (log.entry_at es x.index)
     go None = same_fated es
     go (Some e) = fated_harden 1 x.index e.of es
 
--- the entry behind a list, and that entry replaced
+-- the entry after a list, and that entry replaced
 at_behind : (pre : List LogEntry) (e : LogEntry) (es : List LogEntry) → slice_get (pre ++ e ∷ es) (length pre) ≡ Some e
 at_behind [] e es = refl
 at_behind (x ∷ pre) e es = at_behind pre e es
@@ -241,7 +241,7 @@ fated_is pre e es x = ap (λ o. lines.with_fate (suc (length pre)) x o (pre ++ e
 pending_is : (pre : List LogEntry) (e : LogEntry) (es : List LogEntry) → e.fate ≡ fates.Pending → lines.is_pending_at (pre ++ e ∷ es) (suc (length pre)) ≡ true
 pending_is pre e es q = ap lines.is_pending_entry (at_behind pre e es) ∙ ap log.is_pending q
 
--- the lines of fates that change, behind entries that are told
+-- the lines of fates that change, after entries that are told
 fates_told : (f : World) (pre es fs : List LogEntry) → AllFated es fs → Told f (pre ++ es) (ev.fates_from (suc (length pre)) es fs) (pre ++ fs)
 unfolding ev.fates_from lines.log_told lines.all_tell_log lines.log_behind
 fates_told f pre [] [] p = record { entries = refl; numbers = refl }

@@ -55,7 +55,7 @@ module _ (s : ServerId) (x : Extents) where
   unchanged : (t : ServerTurn) → Before t → After t
   unchanged t b = record { id = b.id; move = subst (λ y. ExtentsMove s x y t.out) (sym b.same) (Stays t.out b.none) }
 
-  -- other parts of the state, and one output more that is no cut
+  -- other parts of the state, and one output more that isn't a cut
   says : (t : ServerTurn) (n : ServerState) (o : Output) → n.id ≡ t.state.id → n.stable.extents ≡ t.state.stable.extents → NoCut o → After t →
       After (record { state = n; out = t.out ++ o ∷ [] })
   says t n o i e k a =

@@ -30,8 +30,7 @@ use Rattle.st_laws_pages.proofs.Disks.Effects.{EffectFinds, effect_is, wrote_own
 use Rattle.st_lemmas.proofs.Marks.{owners_harden}
 use Rattle.st_lemmas.proofs.Tables.{same_or_not}
 
--- Commands by number.
--- what stands where one was replaced
+-- Commands by number. what holds where one was replaced
 replaced : (ds : List DiskCommand) (n : ℕ) (c y : DiskCommand) → slice_get (set ds n c) n ≡ Some y → y ≡ c
 replaced ds n c y e = let z = get_there ds n (let l = get_below (set ds n c) n y e in subst (λ m. n < m) (set_length ds n c) l) in some_is (sym e ∙ set_own ds n c z.0 z.1)
 
@@ -152,7 +151,7 @@ effect_keeps w n d f h = subst PagesHold (sym (effect_is w (suc n) d f)) (go d.w
         subst (λ es. PagesHold (ev.with_log es (ev.with_disks (disks.effect_of w.disks (suc n) d d.what) w))) (sym logs)
         (subst (λ q. PagesHold (ev.with_log (log.harden_from 1 c.index (owner x.client x.life tag.file tag.page) w.log) (ev.with_disks (disks.effect_of w.disks (suc n) d q) w))) (sym e) (at_write x at tag bytes i e l c))
 
--- Report: the world in which the client is told.
+-- Report: the world in which the client is informed.
 pub report_keeps : (w : World) (n : ℕ) (ok : Bool) (d : DiskCommand) → ReportFinds w (suc n) ok d → PagesHold w → PagesHold (reported_world w (suc n) ok d)
 report_keeps w n ok d f h =
     let c : DiskCommand = disks.reported ok d in

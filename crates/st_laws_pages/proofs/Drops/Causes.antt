@@ -84,7 +84,7 @@ caused_harden past w n i o (e ∷ es) h = let z = and_true (has_cause past w e) 
     go true h = fated e.fate h
     go false h = h
 
--- a drop whose causes stand
+-- a drop whose causes hold
 abbrev pub PickedCaused : List Step → World → ℕ → (ℕ → LogOwner → Bool) → (FileId → PageNo → Cause) → List LogEntry → Type 0
 PickedCaused past w n picked cause [] = Unit {0}
 PickedCaused past w n picked cause (e ∷ es) =

@@ -108,7 +108,7 @@ module _ (past : List Step) (w : World) (steps : List ℕ) (r : adm.refusal w (e
     end_is =
         ap (λ k. lease.end_at k (cl.lease_at (find (is_at a.server) p.site.node.state.associations))) m.config ∙ ap (λ o. lease.end_at w.config (cl.lease_at o)) found ∙ ap (λ (x : LeaseLife). x.end) (sym p.is)
 
-    -- the session whose lease comes to its end
+    -- the session whose lease ends
     session : (s : ClientSession) × (a.session ≡ Some s) × (lease.end_of w.config s.lease ≡ has_end.0)
     session = go a.session refl
       where

@@ -78,7 +78,7 @@ module _ (w v : World) (c : ClientId) (old site : WorldClient) (there : site_of 
   own_site : numbered v.clients c.0 ≡ Some site
   own_site = ap (λ z. numbered z c.0) cs ∙ numbered_own w.clients c.0 site old there
 
-  -- a session that has not come to its end goes on
+  -- a session that has not ended goes on
   goes_on : (o : LogOwner) → o.client.0 ≡ c.0 → ended_of w o.client o.file.server o.life ≡ None → (a : Association) → find (is_at o.file.server) old.node.state.associations ≡ Some a → (s : ClientSession) → a.session ≡ Some s →
       (clock_in w.clocks o.client).0 < (lease.end_of old.node.state.config s.lease).0 → BeforeEnd v o
   goes_on o q n a f s e b = go (pair_left (LifeNext (clock_in w.clocks c) old.node.state) (λ x y p. p.server) o.file.server old.node.state.associations after.associations pairs a f)

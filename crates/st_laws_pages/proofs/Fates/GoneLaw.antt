@@ -200,7 +200,7 @@ gone_hard P es (Some x) h = go (log.entry_at es x.index)
     go None = h
     go (Some e) = gone_harden P 1 x.index e.of es h
 
--- a drop takes what it picks, of which the fact stands
+-- a drop takes what it picks, of which the fact holds
 gone_drop : (P : LogOwner → Type 0) (n : ℕ) (picked : ℕ → LogOwner → Bool) (cause : FileId → PageNo → Cause) (es : List LogEntry) → ((m : ℕ) (e : LogEntry) → Has e es → log.is_pending e.fate ≡ true → picked m e.of ≡ true → P e.of) → GoneAll P es → GoneAll P (log.drop_from n picked cause es)
 unfolding log.drop_from log.dropped log.lost_entry
 gone_drop P n picked cause [] f h = h

@@ -1,4 +1,4 @@
--- Every event keeps what stands of lives and fates, with no premise.
+-- Every event keeps what holds of lives and fates, with no premise.
 use Rattle.std.proofs.Common.{◌≡◌, true, false, List, [], ◌∷◌, ◌++◌, Option, Some, None, Ok, refl, sym, ap, ◌∙◌, subst, inr}
 use Rattle.std.specs.Prelude.{map}
 use Rattle.st_base.specs.declared.ids.ClientId.{ClientId}

@@ -75,7 +75,7 @@ lives_owe w c site there h = go (lives_of site.node.state) (λ e i. has_map (lif
           rest = go ls (λ x i. f x (inr i));
         }
 
--- A life that is over is none of the lives of a client's node behind its step.
+-- A life that is over is none of the lives of a client's node after its step.
 pub over_apart : (w : World) (c : ClientId) (old : WorldClient) (after : ClientState) (out : List Output) → site_of w c ≡ Some old → old.node.running ≡ true → Stepped (clock_of w (nodes.Client c)) c old.node.state after out → LivesHold w →
     (o : LogOwner) → IsKnown w.clients w.ended o.client o.file.server o.life → Over w o → o.client.0 ≡ c.0 → (life_with after o.file.server).0 ≡ o.life.0 → ⊥
 over_apart w c old after out there r st h o kn ov i l = go (find (is_at o.file.server) after.associations) refl

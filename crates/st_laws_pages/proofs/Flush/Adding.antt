@@ -39,7 +39,7 @@ unfolding client_says_all
 says_append c before [] ps sc = refl
 says_append c before (o ∷ os) ps sc = says_append c before os ps (client_says sc c before o)
 
--- The scene behind outputs.
+-- The scene after outputs.
 abbrev pub After : ClientId → ClientState → WorldTurn → List Output → WorldTurn
 After c before sc os = client_says_all c before os sc
 

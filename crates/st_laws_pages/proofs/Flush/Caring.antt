@@ -1,4 +1,4 @@
--- What stands of an association's dirty pages and outstanding writes, as the log and the commands grow elsewhere.
+-- What holds of an association's dirty pages and outstanding writes, as the log and the commands grow elsewhere.
 use Rattle.std.proofs.Common.{◌≡◌, ℕ, ◌+◌, ◌≤◌, ◌<◌, ◌⊎◌, Bool, true, false, not, ◌&&◌, ◌||◌, List, [], ◌∷◌, ◌++◌, ◌==◌, Option, Some, None, refl, sym, ap, ◌∙◌, subst, inl, inr, arith, if◌then◌else◌}
 use Rattle.std.specs.Prelude.{length, suc, find, filter}
 use Rattle.std.specs.List.{list_any}
@@ -48,7 +48,7 @@ pub last_stays : (o : LogOwner) (cs : List IssuedCommand) (x : IssuedCommand) �
 unfolding last_write
 last_stays o cs x q = last_more o 1 0 cs x q
 
--- The same behind more steps, and in a log of which the latest entries are the same and nothing more is pending.
+-- The same after more steps, and in a log of which the latest entries are the same and nothing more is pending.
 pub cared_fates : (past more : List Step) (cs : List IssuedCommand) (es fs : List LogEntry) (c : ClientId) (starts next : ℕ) (a : Association) → ((n : ℕ) → list_any (reports_failure n) past ≡ true → list_any (reports_failure n) more ≡ true) →
     ((f : FileId) (p : PageNo) → latest fs c f p ≡ latest es c f p) → (PendingAll (DirtyHere c a) es → PendingAll (DirtyHere c a) fs) → Cared past cs es c starts next a → Cared more cs fs c starts next a
 cared_fates past more cs es fs c starts next a up same fewer h =

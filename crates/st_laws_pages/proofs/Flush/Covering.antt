@@ -1,4 +1,4 @@
--- The flush: behind the passes of a step, under a lease that drains, each dirty page has a write outstanding or a failed command.
+-- The flush: after the passes of a step, under a lease that drains, each dirty page has a write outstanding or a failed command.
 use Rattle.std.proofs.Common.{◌≡◌, ℕ, ◌⊎◌, Bool, true, false, not, ◌&&◌, List, [], ◌∷◌, ◌++◌, ◌==◌, Option, Some, None, refl, sym, ap, ◌∙◌, subst, inl, inr, if◌then◌else◌}
 use Rattle.std.specs.Prelude.{find, filter, flat_map, is_some, map, option_map}
 use Rattle.std.specs.List.{list_any}

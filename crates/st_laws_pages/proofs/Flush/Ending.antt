@@ -1,4 +1,4 @@
--- What stands of an association's dirty pages and outstanding writes, as one of its disk commands ends.
+-- What holds of an association's dirty pages and outstanding writes, as one of its disk commands ends.
 use Rattle.std.proofs.Common.{◌≡◌, ℕ, ◌<◌, ◌⊎◌, Bool, true, false, not, ◌&&◌, ◌||◌, List, [], ◌∷◌, ◌++◌, ◌==◌, Option, Some, None, refl, sym, ap, ◌∙◌, subst, inl, inr, arith, if◌then◌else◌}
 use Rattle.std.specs.Prelude.{find, filter, map, option_map, unwrap_or}
 use Rattle.std.specs.List.{list_any}
@@ -380,7 +380,7 @@ IsQuiet now t _ (Reads _ ino p m i clean) = ⊥
 IsQuiet now t _ (Submits _ s ino p d m e i k w) = ⊥
 IsQuiet now t u c = Unit {0}
 
--- It leaves what stands of the association.
+-- It leaves what holds of the association.
 pub quiet_cared : (past : List Step) (cs : List IssuedCommand) (es : List LogEntry) (c : ClientId) (starts : ℕ) (now : Stamp) (t u : Turn) (ch : Change now t u) → IsQuiet now t u ch → Cared past cs es c starts t.next_command t.here → Cared past cs es c starts u.next_command u.here
 unfolding pages.forget_from pages.drop_from
 quiet_cared past cs es c starts now t _ (Says _ o p) q h = h

@@ -1,4 +1,4 @@
--- The flush in the world: a step of a client keeps what stands of all clients and of the flush steps.
+-- The flush in the world: a step of a client keeps what holds of all clients and of the flush steps.
 use Rattle.std.proofs.Common.{◌≡◌, ℕ, ◌+◌, ◌≤◌, true, List, [], Some, sym, ap, ◌∙◌, subst, arith}
 use Rattle.std.specs.Prelude.{length, map}
 use Rattle.std.specs.List.{list_any}
@@ -28,7 +28,7 @@ pub latest_owners : (c : ClientId) (f : FileId) (p : PageNo) (es fs : List LogEn
 unfolding latest
 latest_owners c f p es fs e = latest_same 1 0 c f p es fs e
 
--- What stands of a client that runs, behind more steps and with other fates.
+-- What holds of a client that runs, after more steps and with other fates.
 pub node_fates : (past more : List Step) (cs : List IssuedCommand) (es fs : List LogEntry) (c : ClientId) (site : WorldClient) → ((n : ℕ) → list_any (reports_failure n) past ≡ true → list_any (reports_failure n) more ≡ true) →
     ((f : FileId) (p : PageNo) → latest fs c f p ≡ latest es c f p) → ((P : LogOwner → Type 0) → PendingAll P es → PendingAll P fs) → NodeCared past cs es c site → NodeCared more cs fs c site
 node_fates past more cs es fs c site up same fewer h =

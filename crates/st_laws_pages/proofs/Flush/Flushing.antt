@@ -1,4 +1,4 @@
--- The flush through a step of a client: what stands of all its associations, in the world that its outputs leave.
+-- The flush through a step of a client: what holds of all its associations, in the world that its outputs leave.
 use Rattle.std.proofs.Common.{◌≡◌, ℕ, ◌+◌, Bool, true, false, List, [], ◌∷◌, Option, Some, None, refl, sym, ap, ◌∙◌, subst, inl, inr, arith}
 use Rattle.std.specs.Prelude.{find, map, nat_le}
 use Rattle.std.proofs.lemmas.Bool.{leb-false}
@@ -94,7 +94,7 @@ emptied_cared past w c site starts next there h a b i sv lf st =
         no : ◌≡◌ {A = Option DirtyPage} None (Some d) → ⊥
         no z = cc
 
--- What is told of the command that ends, where an input is its end.
+-- What is reported about the command that ends, where an input is its end.
 abbrev pub InputTold : List Step → WorldTurn → ClientId → ℕ → ClientInput → Type 0
 InputTold past sc c starts (inputs.Done number result) = Told past sc c starts number (is_done result)
 InputTold past sc c starts input = Unit {0}

@@ -1,4 +1,4 @@
--- What stands of an association's dirty pages and outstanding writes, through each change, with what the change adds to the world.
+-- What holds of an association's dirty pages and outstanding writes, through each change, with what the change adds to the world.
 use Rattle.std.proofs.Common.{◌≡◌, ℕ, ◌<◌, not, List, [], ◌∷◌, ◌++◌, Some, None, sym, subst}
 use Rattle.st_base.specs.declared.ids.ClientId.{ClientId}
 use Rattle.st_base.specs.declared.ids.Stamp.{Stamp}
@@ -64,7 +64,7 @@ moved past c starts u cs ds es gs a b h = subst (λ x. Cared past x gs c starts 
 quiet : (past : List Step) (c : ClientId) (starts : ℕ) (now : Stamp) (t u : Turn) (ch : Change now t u) → IsQuiet now t u ch → (cs ds : List IssuedCommand) (es gs : List LogEntry) → AddsNothing cs ds es gs → Cared past cs es c starts t.next_command t.here → Cared past ds gs c starts u.next_command u.here
 quiet past c starts now t u ch q cs ds es gs z h = moved past c starts u cs ds es gs z.commands z.log (quiet_cared past cs es c starts now t u ch q h)
 
--- Each change keeps what stands of the association, in the world with what it adds.
+-- Each change keeps what holds of the association, in the world with what it adds.
 pub change_cared : (past : List Step) (c : ClientId) (starts : ℕ) (now : Stamp) (t u : Turn) (ch : Change now t u) (cs ds : List IssuedCommand) (es gs : List LogEntry) → Adds c now t u ch cs ds es gs → NumbersBelow cs c starts t.next_command → Cared past cs es c starts t.next_command t.here →
     Cared past ds gs c starts u.next_command u.here
 unfolding cp.submit_read cp.submit_write cp.submit_command

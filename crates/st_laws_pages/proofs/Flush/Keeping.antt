@@ -1,4 +1,4 @@
--- All associations of a client, through changes at one of its servers: what stands of each, in the world behind the outputs so far.
+-- All associations of a client, through changes at one of its servers: what holds of each, in the world after the outputs so far.
 use Rattle.std.proofs.Common.{◌≡◌, ℕ, ◌+◌, ◌<◌, ◌⊎◌, Bool, true, false, ◌&&◌, List, [], ◌∷◌, ◌++◌, ◌==◌, Some, refl, sym, ap, ◌∙◌, subst, inl, inr, arith}
 use Rattle.std.specs.List.{list_any}
 use Rattle.std.proofs.lemmas.Bool.{ne_eqb}
@@ -27,7 +27,7 @@ use Rattle.st_laws_pages.specs.Flush.Flush.{file_at, owner_at_page, IsIts, Cared
 use Rattle.st_laws_pages.proofs.Flush.Caring.{entry_elsewhere, command_elsewhere}
 use Rattle.st_laws_pages.proofs.Flush.Growing.{Adds, AddsNothing, AddsEntry, change_cared, change_apart}
 
--- What stands of all associations of a client in the middle of a step: of the one where it is, and of the others.
+-- What holds of all associations of a client in the middle of a step: of the one where it is, and of the others.
 pub record Around (past : List Step) (cs : List IssuedCommand) (es : List LogEntry) (c : ClientId) (starts : ℕ) (t : Turn) (others : List Association) : Type 0 where
   pub here : Cared past cs es c starts t.next_command t.here
   pub cared : (b : Association) → Has b others → Cared past cs es c starts t.next_command b

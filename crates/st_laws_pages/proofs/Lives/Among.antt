@@ -1,4 +1,4 @@
--- One association among those of a client: those before it and those behind it.
+-- One association among those of a client: those before it and those after it.
 use Rattle.std.proofs.Common.{◌≡◌, ◌⊎◌, List, [], ◌∷◌, ◌++◌, refl, sym, ap, ◌∙◌, inl, inr}
 use Rattle.std.specs.Prelude.{map}
 use Rattle.st_base.specs.declared.ids.ServerId.{ServerId}
@@ -8,7 +8,7 @@ use Rattle.st_laws_steps.specs.Lives.Lives.{Once, server_number}
 use Rattle.st_laws_steps.proofs.Lives.Associations.{has_number}
 use Rattle.st_laws_pages.proofs.Flush.Keeping.{OfOthers}
 
--- those before and behind one of them
+-- those before and after one of them
 pub has_mid : (done rest : List Association) (a : Association) → Has a (done ++ a ∷ rest)
 has_mid [] rest a = inl refl
 has_mid (d ∷ done) rest a = inr (has_mid done rest a)

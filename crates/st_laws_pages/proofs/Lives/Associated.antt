@@ -1,5 +1,4 @@
--- A fact of associations stands in every run, where each rule of a client keeps it of associations that fit, and an empty
--- association has it.
+-- A fact of associations holds in every run, where each rule of a client keeps it of associations that fit, and an empty association has it.
 use Rattle.std.proofs.Common.{◌≡◌, ◌≢◌, ◌⊎◌, ℕ, Bool, List, [], ◌∷◌, ◌++◌, Option, Some, None, Result, Ok, Err, refl, sym, ap, ◌∙◌, subst, inl, inr}
 use Rattle.std.specs.Prelude.{map}
 use Rattle.st_base.specs.declared.config.Config.{Config}
@@ -81,7 +80,7 @@ module _ (F : Association → Type 0) (empty : (a : Association) → a.session �
   abbrev pub AllHave : World → Type 0
   AllHave w = (c : ClientId) (site : WorldClient) → site_of w c ≡ Some site → EachHas site.node.state.associations
 
-  -- behind a step
+  -- after a step
   abbrev pub HaveAfter : Promise
   HaveAfter past x = (c : ClientId) (site : WorldClient) → site_of x.after.world c ≡ Some site → (a : Association) → Has a site.node.state.associations → F a
 

@@ -1,4 +1,4 @@
--- What stands of a world stands behind each event, where it does so in a few cases.
+-- What holds of a world holds after each event, where it does so in a few cases.
 use Rattle.std.proofs.Common.{◌≡◌, ℕ, Bool, true, false, List, [], ◌∷◌, ◌++◌, Option, Some, None, Ok, Err, refl, if◌then◌else◌}
 use Rattle.std.specs.Prelude.{Result}
 use Rattle.st_base.specs.declared.ids.ClientId.{ClientId}

@@ -1,4 +1,4 @@
--- The lives in the world: every event keeps what stands of them.
+-- The lives in the world: every event keeps what holds of them.
 use Rattle.std.proofs.Common.{◌≡◌, ◌≤◌, ◌⊎◌, Bool, true, false, List, [], ◌∷◌, ◌++◌, Option, Some, None, Ok, refl, sym, ap, ◌∙◌, subst, inl, inr, arith, leb-true}
 use Rattle.std.specs.Prelude.{find, map, option_map}
 use Rattle.st_base.specs.declared.config.Config.{Config}

@@ -1,4 +1,4 @@
--- Cuts are locked: each step keeps what stands of the lock tables, and behind a cut its server has an exclusive row of the file.
+-- Cuts are locked: each step keeps what holds of the lock tables, and after a cut its server has an exclusive row of the file.
 use Rattle.std.proofs.Common.{◌≡◌, ◌≢◌, ℕ, ◌+◌, ◌⊎◌, Bool, true, false, List, [], ◌∷◌, ◌++◌, ◌==◌, Option, Some, None, Ok, Err, refl, sym, ap, ◌∙◌, subst, inl, inr, if◌then◌else◌}
 use Rattle.std.specs.Prelude.{Result}
 use Rattle.std.specs.List.{list_all, list_any}

@@ -66,7 +66,7 @@ reached k now (Some a) e = record { association = a; is = refl; over = by a.sess
     by None e = cc
     by (Some x) e = e
 
--- What is said of a world behind an event.
+-- What is claimed about a world after an event.
 abbrev LeftEmpty : World → World → ClientId → ServerId → Type 0
 LeftEmpty w v c s = is_emptied (present_life w c s) (association_of v c s) ≡ true
 

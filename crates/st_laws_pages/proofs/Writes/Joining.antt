@@ -1,4 +1,4 @@
--- The commands that a client's step adds, and its outstanding writes behind it.
+-- The commands that a client's step adds, and its outstanding writes after it.
 use Rattle.std.proofs.Common.{◌≡◌, ◌≢◌, ℕ, suc, ◌+◌, ◌%◌, ◌≤◌, ◌⊎◌, Bool, true, false, List, [], ◌∷◌, Option, Some, None, refl, sym, ap, ◌∙◌, subst, inl, inr, arith}
 use Rattle.std.specs.Prelude.{find, length, map, pred}
 use Rattle.st_base.specs.declared.disk.BlockAt.{BlockAt}
@@ -144,7 +144,7 @@ placed_at size [] h n at to tag bytes i = absurd i
 placed_at size (o ∷ os) h n at to tag bytes (inl e) = subst (PlacedOne size) (sym e) h.one
 placed_at size (o ∷ os) h n at to tag bytes (inr i) = placed_at size os h.rest n at to tag bytes i
 
--- A command of a client that there is, at a server of it, is of its present life or of one before.
+-- A command of an existing client, at one of its servers, is of its present life or of one before.
 pub life_low : (w : World) (c : ClientId) (site : WorldClient) → site_of w c ≡ Some site → LivesHold w → (b : Association) → Has b site.node.state.associations → (k : ℕ) (x : IssuedCommand) → numbered w.commands k ≡ Some x → x.client ≡ c → x.server ≡ b.server →
     x.life.0 ≤ b.life.0
 life_low w c site there h b i k x is cx sx = go (h.known.commands x (numbered_has w.commands k x is))

@@ -1,4 +1,4 @@
--- Open writes of present lives are outstanding at their clients: behind every event, and in every run.
+-- Open writes of present lives are outstanding at their clients: after every event, and in every run.
 use Rattle.std.proofs.Common.{◌≡◌, ◌≢◌, ℕ, zero, suc, ◌+◌, ◌⊎◌, Bool, true, false, ◌==◌, List, [], ◌∷◌, ◌++◌, Option, Some, None, Ok, Err, refl, sym, ap, ◌∙◌, subst, inl, inr, arith, if◌then◌else◌}
 use Rattle.std.specs.Prelude.{Result, length}
 use Rattle.std.proofs.lemmas.Bool.{eqb-true}

@@ -34,7 +34,7 @@ use Rattle.st_laws_pages.specs.Writes.Writes.{IsListed, WritesOnce}
 abbrev pub write_said : ℕ → BlockAt → BlockAt → Tag → List ℕ → Output
 write_said n at to tag bytes = outputs.Submit n at (commands.Write to tag bytes)
 
--- Outstanding writes stay, but for those of these numbers; and each write that is submitted is outstanding.
+-- Outstanding writes stay, except for those of these numbers; and each write that is submitted is outstanding.
 pub record Keeps (EndsNow : ℕ → Type 0) (t u : Turn) : Type 0 where
   pub stays : (n : ℕ) (tag : Tag) → (EndsNow n → ⊥) → IsListed t.here n tag → IsListed u.here n tag
   pub said : (n : ℕ) (at to : BlockAt) (tag : Tag) (bytes : List ℕ) → Has (write_said n at to tag bytes) u.out → Has (write_said n at to tag bytes) t.out ⊎ IsListed u.here n tag
@@ -143,7 +143,7 @@ read_submits_none k b c n at to tag bytes (inl e) = no e
     no : write_said n at to tag bytes ≡ outputs.Submit k b (commands.Read c) → ⊥
     no z = cc
 
--- a write is no read of a page
+-- a write isn't a read of a page
 not_read : (ino : ℕ) (p : PageNo) (c : PageCommand) (v : ℕ) → c.kind ≡ io.Write v → not (pages.is_read_of ino p c) ≡ true
 not_read ino p c v e = ap (λ k. not (not (pages.is_write k) && ((c.ino == ino) && same_page c.page p))) e
 

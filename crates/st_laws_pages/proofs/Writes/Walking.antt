@@ -37,7 +37,7 @@ use Rattle.st_laws_steps.proofs.Client.Taking.{taken}
 use Rattle.st_laws_pages.specs.Writes.Writes.{IsListed, WritesOnce}
 use Rattle.st_laws_pages.proofs.Writes.Listing.{Keeps, NoneEnds, write_said, changes_keep, finished_keeps}
 
--- An association goes on: its life is the same, and its outstanding writes stay, but for those that end.
+-- An association goes on: its life is the same, and its outstanding writes stay, except for those that end.
 pub record FollowsOn (E : ℕ → Type 0) (a b : Association) : Type 0 where
   pub server : a.server ≡ b.server
   pub life : a.life ≡ b.life

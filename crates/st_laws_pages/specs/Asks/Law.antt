@@ -46,7 +46,7 @@ pub record PlacesHold (w : World) : Type 0 where
   pub told : list_all (tells_own w) w.net.messages ≡ true
   pub known : list_all (knows_own w) w.clients ≡ true
 
--- behind a step
+-- after a step
 abbrev pub PlacesAfter : Promise
 PlacesAfter past x = PlacesHold x.after.world
 

@@ -1,4 +1,4 @@
--- What stands of the log and the disk commands of a world, with no premise: what commands did, and whose the latest entry of a dirty page is.
+-- What holds of the log and the disk commands of a world, with no premise: what commands did, and whose the latest entry of a dirty page is.
 use Rattle.std.specs.Prelude.{◌≡◌, ℕ, ◌≤◌, true, List, length, Some, None}
 use Rattle.st_base.specs.declared.disk.BlockAt.{BlockAt}
 use Rattle.st_base.specs.declared.disk.Command.TheVariants as commands
@@ -54,7 +54,7 @@ LatestStand w =
     (c : ClientId) (site : WorldClient) → site_of w c ≡ Some site → site.node.running ≡ true → (a : Association) →
     Has a site.node.state.associations → LatestOwn c w.log a
 
--- What stands of a world.
+-- What holds of a world.
 pub record WritesStand (w : World) : Type 0 where
   pub commands : CommandsStand w.log w.commands w.disks.commands
   pub latest_own : LatestStand w

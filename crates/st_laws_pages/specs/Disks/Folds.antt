@@ -50,7 +50,7 @@ abbrev pub OnlyOwn : LogOwner → FileId → PageNo → List LogEntry → Type 0
 OnlyOwn o f p [] = Unit {0}
 OnlyOwn o f p (e ∷ es) = record { one : touches f p e ≡ true → e.fate ≡ fates.Pending → same_owner e.of o ≡ true; rest : OnlyOwn o f p es }
 
--- behind a number nothing that touches the page counts
+-- after a number nothing that touches the page counts
 abbrev pub LastIs : ℕ → ℕ → FileId → PageNo → List LogEntry → Type 0
 LastIs n i f p [] = Unit {0}
 LastIs n i f p (e ∷ es) = record { one : nat_le n i ≡ false → matters f p e ≡ false; rest : LastIs (n + 1) i f p es }
@@ -69,6 +69,6 @@ CutsHard (e ∷ es) = record { one : e.change ≡ changes.Cut → e.fate ≡ fat
 abbrev pub of_entry : LogEntry → LogOwner
 of_entry e = e.of
 
--- the owner of the entry of a number, where there is one
+-- the owner of the entry of a number, if there is one
 abbrev pub owner_at : List LogEntry → ℕ → Option LogOwner
 owner_at es i = option_map of_entry (entry_at es i)

@@ -108,13 +108,13 @@ Owed w e = Unit {0}
 abbrev pub StepsKeepPages : Type 0
 StepsKeepPages = (w : World) (e : Event) (sc : WorldTurn) → ev.world_step w e ≡ Ok sc → Owed (ev.counted w) e → LivesHold w → PagesHold w → PagesHold sc.world
 
--- What stands of lives and fates: the life of each command and entry is known; what is pending is of a life before its lease end;
--- and what is gone is of a life that a crash ended, or whose lease is over.
+-- What holds of lives and fates: the life of each command and entry is known; what is pending is of a life before its lease end; and what is gone is of a life
+-- that a crash ended, or whose lease is over.
 pub record FatesHold (w : World) : Type 0 where
   pub lives : LivesHold w
   pub pending : FatesAreKept w
   pub gone : GoneHold w
 
--- The law of lives and fates: each step keeps what stands of them, with no premise.
+-- The law of lives and fates: each step keeps what holds of them, with no premise.
 abbrev pub StepsKeepFates : Type 0
 StepsKeepFates = (w : World) (e : Event) (sc : WorldTurn) → ev.world_step w e ≡ Ok sc → FatesHold w → FatesHold sc.world

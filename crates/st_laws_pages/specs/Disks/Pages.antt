@@ -1,4 +1,4 @@
--- What stands on the blocks of the pages, what commands carry, and what the births are for.
+-- What holds on the blocks of the pages, what commands carry, and what the births are for.
 use Rattle.std.specs.Prelude.{◌≡◌, ℕ, ◌≤◌, Bool, true, ◌&&◌, List, length, Option, Some, None}
 use Rattle.st_base.specs.declared.ids.ServerId.{ServerId}
 use Rattle.st_base.specs.declared.ids.FileId.{FileId}
@@ -33,7 +33,7 @@ same_place f p g q = same_file f g && same_page p q
 abbrev pub mapping_of : Extent → MappedBlock
 mapping_of e = record { at = e.at; birth = e.birth }
 
--- the bytes that stand for a page: those of its block where the tag is the extent's, and else zeros; zeros where it is unmapped
+-- the bytes that stand for a page: those of its block where the tag is the extent's, and otherwise zeros; zeros where it is unmapped
 abbrev pub standing : FileId → PageNo → (BlockAt → Block) → Option Extent → List ℕ
 standing f p block None = filled 0
 standing f p block (Some e) = found_under f p (block e.at).tag (block e.at).bytes (mapping_of e)
@@ -54,7 +54,7 @@ pub record CarriedRight (es : List LogEntry) (mapped : Option Extent) (x : Issue
 
 -- What holds of all pages.
 pub record PagesAreKept (es : List LogEntry) (mapped : ExtentsOf) (block : BlockAt → Block) (births : ServerId → ℕ) (live : LivingOf) : Type 0 where
-  -- what stands on the disks is the fold over the hard entries
+  -- what is on the disks is the fold over the hard entries
   pub stands : (f : FileId) (p : PageNo) → standing f p block (mapped f p) ≡ hard_content es f p
   pub carry : (k : ℕ) (x : IssuedCommand) (at : BlockAt) (tag : Tag) (bytes : List ℕ) → live k x at tag bytes →
       CarriedRight es (mapped tag.file tag.page) x at tag bytes

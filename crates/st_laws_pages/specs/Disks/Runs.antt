@@ -8,11 +8,11 @@ use Rattle.st_rules.specs.Safety.{Promise, Throughout, Step, steps}
 use Rattle.st_laws_pages.specs.Disks.World.{PagesHold}
 use Rattle.st_laws_pages.specs.Disks.Obligations.{FatesHold}
 
--- the pages hold behind a step
+-- the pages hold after a step
 abbrev pub PagesAfter : Promise
 PagesAfter past x = PagesHold x.after.world
 
--- lives and fates hold behind a step
+-- lives and fates hold after a step
 abbrev pub FatesAfter : Promise
 FatesAfter past x = FatesHold x.after.world
 

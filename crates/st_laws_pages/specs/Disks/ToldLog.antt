@@ -5,7 +5,7 @@ use Rattle.st_messages.specs.declared.event.Event.{Event}
 use Rattle.st_rules.specs.Safety.{Throughout, TheReportTellsTheLog}
 use Rattle.st_laws_pages.specs.Disks.Runs.{steps_of}
 
--- In every run the lines of each event tell the log behind it, with no premise.
+-- In every run the lines of each event tell the log after it, with no premise.
 abbrev pub RunsTellTheLog : Type 0
 RunsTellTheLog =
     (k : Config) (clients servers disks blocks form : ℕ) (es : List Event) →

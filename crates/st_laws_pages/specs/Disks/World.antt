@@ -131,7 +131,7 @@ abbrev pub OwesOne : (ℕ → IssuedCommand → Type 0) → World → ClientId �
 OwesOne timely_by w c (outputs.Submit number at what) = SubmitsRight timely_by w c (site_of w c) at what
 OwesOne timely_by w c o = Unit {0}
 
--- each output is right in the world behind those before it
+-- each output is right in the world after those before it
 abbrev pub Owes : (ℕ → IssuedCommand → Type 0) → ClientId → ClientState → WorldTurn → List Output → Type 0
 Owes timely_by c before sc [] = Unit {0}
 Owes timely_by c before sc (o ∷ os) = record { one : OwesOne timely_by sc.world c o; rest : Owes timely_by c before (client_says sc c before o) os }

@@ -1,4 +1,4 @@
--- Drops have a cause: what stands besides, and what each event needs for it.
+-- Drops have a cause: what else holds, and what each event needs for it.
 use Rattle.std.specs.Prelude.{◌≡◌, ℕ, ◌⊎◌, true, false, ◌&&◌, List, [], ◌∷◌, Option, Some, None}
 use Rattle.std.specs.List.{list_any, list_all}
 use Rattle.st_base.specs.declared.ids.ClientId.{ClientId}
@@ -26,7 +26,7 @@ abbrev pub CrashesKnown : List Step → List LeaseLife → Type 0
 CrashesKnown past [] = Unit {0}
 CrashesKnown past (e ∷ es) = record { one : e.crashed ≡ true → list_any (ends_life_of (life_owner e)) past ≡ true; rest : CrashesKnown past es }
 
--- What holds of a world behind steps.
+-- What holds of a world after steps.
 pub record CausesHold (past : List Step) (w : World) : Type 0 where
   pub caused : list_all (has_cause past w) w.log ≡ true
   pub crashes : CrashesKnown past w.ended
@@ -46,8 +46,8 @@ abbrev pub LivesOwe : World → ClientId → List LeaseLife → Type 0
 LivesOwe w c [] = Unit {0}
 LivesOwe w c (e ∷ es) = record { client : e.client ≡ c; life : (present_life w c e.server).0 ≡ e.life.0; rest : LivesOwe w c es }
 
--- Owed at an advance: where a life's end is reached that no crash ended, the last write of each page of which it has a pending entry
--- was reported failed (it is dirty, its client flushed it in time, and no write is outstanding).
+-- Owed at an advance: where the end of a life is reached that no crash ended, the last write of each page of which it has a pending entry was reported failed.
+-- (It is dirty, its client flushed it in time, and no write is outstanding.)
 abbrev pub AdvanceOwes : List Step → List IssuedCommand → LeaseLife → List LogEntry → Type 0
 AdvanceOwes past cs l [] = Unit {0}
 AdvanceOwes past cs l (e ∷ es) =

@@ -1,4 +1,4 @@
--- What stands of a client's dirty pages and of its outstanding writes, against the log and the commands of the world.
+-- What holds of a client's dirty pages and of its outstanding writes, against the log and the commands of the world.
 use Rattle.std.specs.Prelude.{◌≡◌, ℕ, ◌+◌, ◌≤◌, ◌<◌, ◌⊎◌, true, List, is_some, length, Some, None}
 use Rattle.std.specs.List.{list_any}
 use Rattle.st_base.specs.declared.ids.ClientId.{ClientId}
@@ -54,8 +54,8 @@ pub record WriteCared (cs : List IssuedCommand) (es : List LogEntry) (c : Client
 abbrev pub DirtyHere : ClientId → Association → LogOwner → Type 0
 DirtyHere c a o = o.client ≡ c → o.file.server ≡ a.server → o.life ≡ a.life → (d : DirtyPage) × (pages.dirty_of a.store.pages o.file.ino o.page ≡ Some d)
 
--- What stands of an association: what is pending of its life is dirty; its outstanding commands are the world's; and the failed command of
--- a dirty page of which no write is outstanding is the last write of the page, and was reported failed.
+-- What holds of an association: what is pending of its life is dirty; its outstanding commands are the world's; and the failed command of a dirty page of which
+-- no write is outstanding is the last write of the page, and was reported failed.
 pub record Cared (past : List Step) (cs : List IssuedCommand) (es : List LogEntry) (c : ClientId) (starts next : ℕ) (a : Association) : Type 0 where
   pub entries : PendingAll (DirtyHere c a) es
   pub writes : (pc : PageCommand) → Has pc a.store.commands → (v : ℕ) → pc.kind ≡ io.Write v → WriteCared cs es c starts a pc v
@@ -86,7 +86,7 @@ PageCovered a ino p =
 abbrev pub Covered : Association → Type 0
 Covered a = (ino : ℕ) (p : PageNo) → PageCovered a ino p
 
--- What stands of all associations of a client that runs.
+-- What holds of all associations of a client that runs.
 pub record NodeCared (past : List Step) (cs : List IssuedCommand) (es : List LogEntry) (c : ClientId) (site : WorldClient) : Type 0 where
   pub cared : (a : Association) → Has a site.node.state.associations → Cared past cs es c site.starts site.node.state.next_command a
   pub apart : (a : Association) → Has a site.node.state.associations → NumbersApart a.store.commands
@@ -96,15 +96,15 @@ pub record NodeCared (past : List Step) (cs : List IssuedCommand) (es : List Log
 abbrev pub StartsBelow : List IssuedCommand → ClientId → ℕ → Type 0
 StartsBelow cs c n = (x : IssuedCommand) → Has x cs → x.client ≡ c → x.starts ≤ n
 
--- What stands of a flush step: it was made in the flush phase; and while the lease has that end, each dirty page of that server has a
--- write outstanding or a failed command.
+-- What holds of a flush step: it was made in the flush phase; and while the lease has that end, each dirty page of that server has a write outstanding or a
+-- failed command.
 pub record FlushRight (w : World) (x : FlushStep) : Type 0 where
   pub low : x.end.0 + w.config.flush ≤ (clock_in w.clocks x.client).0 + w.config.lease
   pub covered : (site : WorldClient) → numbered w.clients x.client.0 ≡ Some site → site.node.running ≡ true → (a : Association) →
       Has a site.node.state.associations → a.server.0 ≡ x.server.0 → (s : ClientSession) → a.session ≡ Some s →
       (lease.end_of w.config s.lease).0 ≡ x.end.0 → Covered a
 
--- What stands of the flush in a world behind steps.
+-- What holds of the flush in a world after steps.
 pub record FlushHold (past : List Step) (w : World) : Type 0 where
   pub sites : (c : ClientId) (site : WorldClient) → numbered w.clients c.0 ≡ Some site → site.node.running ≡ true →
       NodeCared past w.commands w.log c site

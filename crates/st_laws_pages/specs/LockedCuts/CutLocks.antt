@@ -1,4 +1,4 @@
--- Cuts are locked: the law, what stands of the lock tables, and what is owed at a reassertion.
+-- Cuts are locked: the law, what holds of the lock tables, and what is owed at a reassertion.
 use Rattle.std.specs.Prelude.{◌≡◌, ◌==◌, ℕ, true, false, Bool, List, [], ◌∷◌, Option, Some, None, Ok}
 use Rattle.std.specs.List.{list_all}
 use Rattle.st_base.specs.declared.ids.ServerId.{ServerId}
@@ -35,7 +35,7 @@ use Rattle.st_rules.specs.Safety.{Promise, Throughout, cuts_under}
 use Rattle.st_lemmas.specs.Lists.{Has}
 use Rattle.st_laws_pages.specs.Disks.Runs.{steps_of}
 
--- behind an event that logged a cut the file's server runs and has an exclusive row of the file
+-- after an event that logged a cut the file's server runs and has an exclusive row of the file
 abbrev pub is_cut_locked : List ServerNode → Observation → Bool
 is_cut_locked ns (seen.CutAt index f p) = cuts_under f.ino (numbered ns f.server.0)
 is_cut_locked ns o = true
@@ -65,12 +65,12 @@ abbrev pub CutsHeld : ServerId → Locks → List Output → Type 0
 CutsHeld s l [] = Unit {0}
 CutsHeld s l (o ∷ os) = record { one : CutHeld s l o; rest : CutsHeld s l os }
 
--- what stands of a server
+-- what holds of a server
 pub record TableHolds (s : ServerId) (n : ServerNode) : Type 0 where
   pub id : n.state.id ≡ s
   pub waits : WaitsApart n.state.locks
 
--- What stands of the lock tables of all servers.
+-- What holds of the lock tables of all servers.
 abbrev pub WaitsHold : World → Type 0
 WaitsHold w = (s : ServerId) (n : ServerNode) → node_of w s ≡ Some n → TableHolds s n
 
@@ -111,7 +111,7 @@ WaitsOwed w e = Unit {0}
 abbrev pub ReassertionsOwed : Promise
 ReassertionsOwed past x = WaitsOwed (ev.counted x.before.world) x.event
 
--- The law: from what is owed at reassertions, each cut is locked, and what stands of the lock tables stands behind each step.
+-- The law: from what is owed at reassertions, each cut is locked, and what holds of the lock tables holds after each step.
 abbrev pub StepsLockCuts : Type 0
 StepsLockCuts =
     (w : World) (e : Event) (sc : WorldTurn) → ev.world_step w e ≡ Ok sc → WaitsOwed (ev.counted w) e → WaitsHold w →

@@ -54,6 +54,6 @@ OpenHold w =
     (c : ClientId) (site : WorldClient) → site_of w c ≡ Some site → site.node.running ≡ true → (a : Association) →
     Has a site.node.state.associations → OpenListed w.commands w.disks.commands c site.starts a
 
--- behind a step
+-- after a step
 abbrev pub OpenAfter : Promise
 OpenAfter past x = OpenHold x.after.world

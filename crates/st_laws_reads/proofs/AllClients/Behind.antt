@@ -1,4 +1,4 @@
--- A client behind its losses: an association with a session is as it was, and its lease lasts.
+-- A client after its losses: an association with a session is as it was, and its lease lasts.
 use Rattle.std.proofs.Common.{◌≡◌, Bool, true, false, List, [], ◌∷◌, Option, Some, None, refl, sym, ap, ◌∙◌, subst, arith}
 use Rattle.std.proofs.lemmas.Bool.{leb-false}
 use Rattle.st_base.specs.declared.config.Config.{Config}
@@ -16,7 +16,7 @@ use Rattle.st_laws_pages.proofs.Flush.Flushing.{pair_of}
 use Rattle.st_laws_steps.proofs.Client.Losing.{lose_is}
 use Rattle.st_laws_steps.proofs.Client.Stepping.{LostOrNot, each, losses_left}
 
--- an association whose lease is over has no session behind the losses
+-- an association whose lease is over has no session after the losses
 abbrev Empties : Config → Stamp → Association → Association → Type 0
 Empties k now a b = is_ended k now a.session ≡ true → b.session ≡ None
 

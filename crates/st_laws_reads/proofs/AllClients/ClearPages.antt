@@ -1,4 +1,4 @@
--- Of a file that is clear from a page on nothing is at hand from there on.
+-- Nothing of a file that is clear from a page on is cached from there on.
 use Rattle.std.proofs.Common.{◌≡◌, ℕ, ◌≤◌, Bool, true, false, not, ◌||◌, List, [], ◌∷◌, Some, None, refl, ap, inl, inr, arith, if◌then◌else◌}
 use Rattle.std.specs.Prelude.{find}
 use Rattle.std.specs.List.{list_any}

@@ -1,4 +1,4 @@
--- What is cut or removed is clear at the client that asks: behind each event, and in every run.
+-- What is cut or removed is clear at the client that asks: after each event, and in every run.
 use Rattle.std.proofs.Common.{◌≡◌, ℕ, Option, Some, None, Ok, sym, ◌∙◌}
 use Rattle.st_base.specs.declared.config.Config.{Config}
 use Rattle.st_base.specs.declared.ids.ClientId.{ClientId}

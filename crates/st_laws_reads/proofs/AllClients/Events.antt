@@ -47,7 +47,7 @@ use Rattle.st_laws_reads.specs.AllClients.World.{AllThere, CopiesHold, SiteHolds
 use Rattle.st_laws_reads.proofs.AllClients.Dropping.{advance_drops, crash_drops, rests_ended}
 use Rattle.st_laws_reads.proofs.AllClients.Takings.{there_on}
 
--- A cut joins the log: of a file that is not locked here, or of which nothing is at hand from the page on.
+-- A cut joins the log: of a file that is not locked here, or of which nothing is cached from the page on.
 nothing_ok : (held : ℕ) (bytes : List ℕ) (x : _) (ino : ℕ) (p : PageNo) → Nothing x ino p → PageOk held bytes x ino p
 nothing_ok held bytes x ino p n =
     record {

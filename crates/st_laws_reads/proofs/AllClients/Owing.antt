@@ -59,7 +59,7 @@ use Rattle.st_laws_reads.proofs.AllClients.Behind.{Behind, behind}
 use Rattle.st_laws_reads.proofs.AllClients.Hardened.{told_hard}
 use Rattle.st_laws_reads.proofs.AllClients.Replied.{reply_modes, reply_up}
 
--- the associations behind the losses
+-- the associations after the losses
 abbrev left_of : Taking → List Association
 left_of x = (cl.losses (client_turn x.site.node.state []) (now_at x)).state.associations
 
@@ -67,7 +67,7 @@ owed_all : (c : ClientId) (lives : ServerId → Life) (es : List LogEntry) (inpu
 owed_all c lives es input [] f h = record {}
 owed_all c lives es input (a ∷ xs) f h = record { one = f a (inl refl) h.one; rest = owed_all c lives es input xs (λ b i. f b (inr i)) h.rest }
 
--- where a remove is asked, nothing of its file is at hand
+-- where a remove is asked, nothing of its file is cached
 cleared : (a : Association) → Cleared a → (s : ClientSession) (q : Request) (ino : ℕ) (p : PageNo) → a.session ≡ Some s → s.requests.asked ≡ Some q → asks_name q.body ≡ true → s.cutting ≡ Some ino → Nothing a.store ino p
 cleared a h s q ino p e asked name cutting = nothing_of a.store ino (page_no 0) z p (omega arith)
   where
@@ -215,7 +215,7 @@ module _ (k : Config) (count : ℕ) (past : List Step) (t : Traced) (e : Event) 
           (subst (λ (u : World). told_of u n ok (issued_of w n) ≡ Some x) (reported_is w n ok d (report_finds w n ok d found free)) q)
   by_event f i free x q = cc q
 
-  -- Of each input.
+  -- For each input.
   tick_owed : (c : ClientId) (lives : ServerId → Life) (es : List LogEntry) (xs : List Association) → AllOwed c lives es inputs.Tick xs
   tick_owed c lives es [] = record {}
   tick_owed c lives es (a ∷ xs) = record { one = record {}; rest = tick_owed c lives es xs }

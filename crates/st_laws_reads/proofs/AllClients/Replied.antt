@@ -1,4 +1,4 @@
--- What stands of a session in which a message of its server comes: each lock has a mode, and a grant above the greatest seen lowers none.
+-- What holds of a session in which a message of its server comes: each lock has a mode, and a grant above the greatest seen lowers none.
 use Rattle.std.proofs.Common.{◌≡◌, ℕ, ◌+◌, ◌<◌, ◌≤◌, Bool, true, false, List, [], ◌∷◌, ◌==◌, Option, Some, None, refl, sym, ap, ◌∙◌, subst, arith, if◌then◌else◌}
 use Rattle.std.proofs.lemmas.Bool.{ltb-true}
 use Rattle.st_base.specs.declared.ids.GrantNo.{GrantNo}

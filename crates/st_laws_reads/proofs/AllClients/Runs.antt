@@ -49,7 +49,7 @@ use Rattle.st_laws_reads.proofs.AllClients.Takings as takings
 use Rattle.st_laws_reads.proofs.AllClients.Takings.{Takes, takes_event}
 use Rattle.st_laws_pages.proofs.Lives.Fresh.{length_map, numbers_length}
 
--- What stands behind the steps of a run.
+-- What holds after the steps of a run.
 pub record Stood (k : Config) (count : ℕ) (past : List Step) (t : Traced) : Type 0 where
   pub all : AllStand k count t.world
   pub places : PlacesHold t.world
@@ -102,7 +102,7 @@ module _ (k : Config) (count : ℕ) (past : List Step) (t : Traced) (e : Event) 
       owed : TakingOwed (known (past ++ st ∷ [])) x
       owed = record { numbered = numbered_there past st (counted t.world) e x refl (λ c site f. let z = s.stand.asks c site f in record { count = z.count; keys = z.keys }) q; owed = input_owed k count past t e sc is s.all s.places s.stand s.clear x q o }
 
--- A step of the run: it reads right, and all stands behind it.
+-- A step of the run: it reads right, and everything holds after it.
 pub next : (k : Config) (count : ℕ) (past : List Step) (t : Traced) (e : Event) (sc : WorldTurn) → is_event count e ≡ true → world_step t.world e ≡ Ok sc → Stood k count past t → PlacesAfter past (step t e sc) → IsOwed past (step t e sc) →
     Kept past (step t e sc) × Stood k count (past ++ step t e sc ∷ []) (traced_after e t sc)
 next k count past t e sc in_range q s places owed =
@@ -110,7 +110,7 @@ next k count past t e sc in_range q s places owed =
     let z = goes k count past t e sc q s after owed.cuts (taken (counted t.world) e) refl owed.taken in
     (z.kept, record { all = after; places = places; stand = (one_step past t e sc q s.places s.stand).stand; copies = z.copies; clear = clear_step t.world e sc q (λ c site i. (s.all.fates.lives.lives.sites c site i).fit) s.clear; waits = (cut_law t.world e sc q (waits_owed k count t.world s.all e (step_happens t.world e sc q).0) s.waits).holds })
 
--- At the start nothing is at hand.
+-- At the start nothing is cached.
 differs : (n a c : ℕ) → n < a → Differs (record { 0 = n }) (map cl.fresh_association (numbers a c))
 unfolding numbers
 differs n a zero l = record {}
@@ -160,7 +160,7 @@ module _ (k : base.Config) (clients servers d b form : ℕ) where
       no : true ≡ false → ⊥
       no r = cc
 
--- All stands at the start.
+-- Everything holds at the start.
 pub at_first : (k : base.Config) (clients servers disks blocks form : ℕ) → IsHead k clients servers disks blocks form → Stood (terms_of k) (clients + servers) [] (traced (fresh_world k clients servers disks blocks form))
 at_first k clients servers disks blocks form head =
     record {

@@ -57,7 +57,7 @@ fates_apart c life x y [] e h r = record { one = λ q. absurd (clash (is_of_life
     never false h = refl
 fates_apart c life x y (z ∷ l) e h r = record { one = r.one; rest = fates_apart c life x y l e h r.rest }
 
--- what is not of this server stands in a log that goes on by its entries
+-- what isn't of this server holds in a log that goes on by its entries
 content_joins : (sv : ServerId) (l more : List LogEntry) (f : FileId) (p : PageNo) → AllOf sv more → same_server sv f.server ≡ false → content (l ++ more) f p ≡ content l f p
 content_joins sv l [] f p a h = ap (λ x. content x f p) (nothing_more l)
 content_joins sv l (e ∷ more) f p a h =

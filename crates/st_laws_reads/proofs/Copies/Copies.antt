@@ -264,7 +264,7 @@ module _ (ask_of : ℕ → Option Ask) (c : ClientId) (lives : ServerId → Life
       go true = k_aside (with_session s t) t.operations t.next_command _ (λ x. refl) (λ r. record { one = record {}; rest = record {} }) (λ a. a)
       go false = k_then (with_session s t) u _ noted (k_aside u t.operations t.next_command _ (λ x. refl) (λ r. record { one = subst (λ l. Noted (ask_of o.op) l) (sym (last_end None t.out (outputs.Note n))) asked; rest = record {} }) (λ a. a))
 
-  -- an answer that is no read
+  -- an answer that isn't a read
   k_answer : (t : Turn) (o : Operation) (a : AppAnswer) → ((x : List LogEntry) (l : Option Output) → RightOne ask_of c lives l x (outputs.Answer o.op a)) → Keeps ask_of c lives es t (cp.answer o a t)
   k_answer t o a f = k_aside t t.operations t.next_command _ (λ x. refl) (λ r. record { one = f (LogAt t) (last_of None t.out); rest = record {} }) (λ a. a)
 

@@ -85,7 +85,7 @@ apart_same (x ∷ xs) (y ∷ ys) s d = record { one = subst (λ v. Differs v ys)
 apart_same [] (y ∷ ys) s d = absurd s
 apart_same (x ∷ xs) [] s d = absurd s
 
--- an association is apart from those before and behind it
+-- an association is apart from those before and after it
 same_back : (a b : ℕ) → (a == b) ≡ false → (b == a) ≡ false
 same_back a b e = go (b == a) refl
   where
@@ -137,7 +137,7 @@ pub joined_over : (xs ys : List Association) (l m : List LogEntry) → SameServe
 joined_over xs ys l m s p = record { more = p.more; is = p.is; listed = all_same xs ys p.more s p.listed }
 
 module _ (ask_of : ℕ → Option Ask) (c : ClientId) (lives : ServerId → Life) (es : List LogEntry) where
-  -- what stands at each association stands in a log that goes on by another server's entries
+  -- what holds at each association holds in a log that goes on by another server's entries
   copies_away : (sv : ServerId) (l m : List LogEntry) (list : List Association) → Joined sv l m → Differs sv list → AllCopies c lives l list → AllCopies c lives m list
   copies_away sv l m [] w d r = record {}
   copies_away sv l m (a ∷ rest) w d r =
@@ -172,7 +172,7 @@ module _ (ask_of : ℕ → Option Ask) (c : ClientId) (lives : ServerId → Life
   AtEachOf P l [] = Unit {0}
   AtEachOf P l (a ∷ rest) = record { one : P l a; rest : AtEachOf P l rest }
 
-  -- a premise that stands in a log that goes on by another server's entries
+  -- a premise that holds in a log that goes on by another server's entries
   abbrev pub StaysAway : (List LogEntry → Association → Type 0) → Type 0
   StaysAway P = (a : Association) (sv : ServerId) (l m : List LogEntry) → Joined sv l m → same_server sv a.server ≡ false → P l a → P m a
 

@@ -1,4 +1,4 @@
--- A page that was changed in a step is dirty behind it, under an exclusive lock.
+-- A page that was changed in a step is dirty after it, under an exclusive lock.
 use Rattle.std.proofs.Common.{◌≡◌, ℕ, ◌⊎◌, true, ◌&&◌, List, [], ◌∷◌, ◌++◌, ◌==◌, Option, Some, None, refl, sym, ap, ◌∙◌, subst, inl, inr, append_assoc}
 use Rattle.std.specs.Prelude.{is_some}
 use Rattle.std.proofs.lemmas.Bool.{eq-eqb}
@@ -122,7 +122,7 @@ law asks c lives es t k l =
     let more : k.joined.more ≡ xs = same_behind es k.joined.more xs (sym k.joined.is ∙ is) in
     all_held c lives es xs t.state.associations t.out (subst (λ m. EachStands c m t.state.associations) is k.stands.copies) l (subst (λ m. AllListed t.state.associations m) more k.joined.listed) (λ a r. r)
 
--- What joined is pending, of the lives behind the step.
+-- What joined is pending, of the lives after the step.
 own_one : (c : ClientId) (lives : ServerId → Life) (f : FileId) (p : PageNo) (change : Change) (xs : List Association) → LivesAre lives xs → Listed f.server xs → OwnEntry c xs (log.pending (log.owner c (lives f.server) f p) change)
 own_one c lives f p change [] l i = elim i [ ]
 own_one c lives f p change (a ∷ xs) l (inl e) =

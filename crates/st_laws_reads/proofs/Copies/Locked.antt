@@ -1,4 +1,4 @@
--- In the world the changes of a client's step are locked behind it.
+-- In the world the changes of a client's step are locked after it.
 use Rattle.std.proofs.Common.{◌≡◌, ℕ, ◌<◌, ◌≤◌, Bool, true, false, List, [], ◌∷◌, ◌++◌, Option, Some, None, refl, sym, ap, ◌∙◌, subst, inl, inr, arith, append_assoc, if◌then◌else◌}
 use Rattle.std.specs.Prelude.{find, is_some, nat_le, nat_lt, option_map}
 use Rattle.std.specs.List.{list_all, list_any}

@@ -1,4 +1,4 @@
--- What stands of a client's copies, as the log changes elsewhere.
+-- What holds of a client's copies, as the log changes elsewhere.
 use Rattle.std.proofs.Common.{◌≡◌, ℕ, ◌+◌, ◌⊎◌, Bool, true, false, ◌&&◌, List, [], ◌∷◌, ◌++◌, ◌==◌, Option, Some, None, refl, sym, ap, ◌∙◌, subst, inl, inr, arith, if◌then◌else◌}
 use Rattle.std.specs.Prelude.{is_some, nat_le}
 use Rattle.std.proofs.lemmas.Bool.{eqb-true}
@@ -33,7 +33,7 @@ content_other : (es : List LogEntry) (e : LogEntry) (f : FileId) (p : PageNo) �
 unfolding content after
 content_other es e f p h = content_last (filled 0) f p es e ∙ if_false (log.matters f p e) _ _ (ap (λ b. (b && log.reaches e.change e.of.page p) && log.counts e.fate) h)
 
--- Without a lock nothing of a file is at hand, whatever the bytes are.
+-- Without a lock nothing of a file is cached, whatever the bytes are.
 pub unheld_ok : (held : ℕ) (bytes more : List ℕ) (x : Store) (ino : ℕ) (p : PageNo) → held ≡ 0 → PageOk held bytes x ino p → PageOk held more x ino p
 unheld_ok held bytes more x ino p z r =
     record {

@@ -136,7 +136,7 @@ module _ (ask_of : ℕ → Option Ask) (c : ClientId) (lives : ServerId → Life
       (upd_all (λ j (m : Lock). PageOk (held_in (Some s) j).mode now t.here.store j q → PageOk m.mode now t.here.store j q) (λ d. held_at (lock_of s.locks d)) ino _
       (λ r. nothing_ok 0 now t.here.store ino q (none q)) (λ d n r. r) j r))
 
-  -- what the sender of a reply owes, and what stands of the request
+  -- what the sender of a reply owes, and what holds of the request
   pub record Owed (t : Turn) (s : ClientSession) (reply asked : Body) (file : Option ℕ) : Type 0 where
     pub up : (ino : ℕ) (g : GrantNo) (mode : Mode) → reply ≡ bodies.Granted ino g mode → locks.is_above_seen s.locks ino g ≡ true → (held_at (lock_of s.locks ino)).mode ≤ number_of mode
     pub held : (ino : ℕ) (rows : List ExtentRow) → reply ≡ bodies.Extents ino rows → cr.is_current s.locks asked ≡ true → 1 ≤ (held_at (lock_of s.locks ino)).mode

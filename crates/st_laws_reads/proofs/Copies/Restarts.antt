@@ -1,4 +1,4 @@
--- A client that crashes has nothing at hand, and starts in lives that no entry of it reached.
+-- A client that crashes has nothing cached, and starts in lives that no entry of it reached.
 use Rattle.std.proofs.Common.{ℕ, ◌<◌, List, [], ◌∷◌, Option, refl, arith}
 use Rattle.std.specs.Prelude.{map}
 use Rattle.st_base.specs.declared.ids.ClientId.{ClientId}

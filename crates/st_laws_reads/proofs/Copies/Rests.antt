@@ -1,4 +1,4 @@
--- What stands of a client that does not run as the log changes elsewhere, and of one that runs as its clock goes on.
+-- What holds of a client that does not run as the log changes elsewhere, and of one that runs as its clock goes on.
 use Rattle.std.proofs.Common.{◌≡◌, ℕ, ◌≤◌, Bool, false, List, [], ◌∷◌, ◌++◌, Option, Some, None, arith}
 use Rattle.st_base.specs.declared.ids.ClientId.{ClientId}
 use Rattle.st_base.specs.declared.ids.FileId.{FileId}

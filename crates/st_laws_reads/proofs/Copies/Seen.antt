@@ -105,7 +105,7 @@ unfolding AtEach
 second past x w es [] r = tt
 second past x w es (o ∷ os) r = (r.0.1, second past x w (log_behind w es o) os r.1)
 
--- the line of a change stands behind its note
+-- the line of a change comes after its note
 abbrev LineOf : ClientId → Option Output → Option Observation → Type 0
 LineOf c (Some (outputs.Note (notes.Accepted f p bytes))) line = (i : ℕ) × (line ≡ Some (seen.Wrote i c f p bytes))
 LineOf c (Some (outputs.Note (notes.Patched f p at bytes))) line = (i : ℕ) × (line ≡ Some (seen.Patched i c f p at bytes))
@@ -128,7 +128,7 @@ record WrittenSeen (past : List safety.Step) (x : safety.Step) (line : Option Ob
   pub is : new ≡ old ++ more
   pub right : AllWritten past x line more
 
--- one line, and those behind it
+-- one line, and those after it
 line_then : (past : List safety.Step) (x : safety.Step) (line : Option Observation) (old : List Observation) (o : Observation) (new : List Observation) → IsWritten past x line o → WrittenSeen past x (Some o) (old ++ o ∷ []) new → WrittenSeen past x line old new
 line_then past x line old o new w r = record { more = o ∷ r.more; is = r.is ∙ append_assoc old (o ∷ []) r.more; right = record { one = w; rest = r.right } }
 

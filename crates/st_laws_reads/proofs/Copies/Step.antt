@@ -41,7 +41,7 @@ use Rattle.st_laws_reads.proofs.Copies.Passes.{k_passes}
 use Rattle.st_laws_reads.proofs.Copies.Losing.{lose_keeps, Loses}
 use Rattle.st_laws_reads.proofs.Copies.Everywhere.{SamePlaces, SameServers, same_self, same_next, servers_of, servers_self, servers_next, servers_amid, apart_same, Within, Made, AtEachOf, each_keep, joined_nothing, joined_next, joined_over}
 
--- what is owed stands in a log that goes on by entries of another server's files
+-- what is owed holds in a log that goes on by entries of another server's files
 hard_apart : (c : ClientId) (life : Life) (x : ServerId) (ino : ℕ) (p : PageNo) (l : List LogEntry) (e : LogEntry) → same_server e.of.file.server x ≡ false → HardOn c life x ino p l → HardOn c life x ino p (l ++ e ∷ [])
 hard_apart c life x ino p [] e h r = record { one = λ q i j. absurd (clash (is_of_life c x life e.of) q (never (is_of_client c e.of) h)); rest = record {} }
   where
@@ -109,7 +109,7 @@ lived_logged c lives sv life (outputs.Note (notes.Accepted f p bytes) ∷ os) es
 lived_logged c lives sv life (outputs.Note (notes.Patched f p at bytes) ∷ os) es e r = lived_logged c lives sv life os _ e (lived_more c sv life es _ (λ s. ap lives s ∙ e) r)
 lived_logged c lives sv life (outputs.Note n ∷ os) es e r = lived_logged c lives sv life os es e r
 
--- the associations that are done stay, and others come behind them
+-- the associations that are done stay, and others come after them
 record GoesBehind (past final : List Association) : Type 0 where
   pub more : List Association
   pub is : final ≡ past ++ more
@@ -258,7 +258,7 @@ module _ (ask_of : ℕ → Option Ask) (c : ClientId) (lives : ServerId → Life
   made_input T n (inputs.Done number result) d a o =
       each_keep ask_of c lives es (λ l a. EndOwed c (lives a.server) l a number result) (end_away c lives number result) (cl.finish number result) (k_end_of ask_of c lives es number result) T d (owed_end (logged c lives T.out es) number result T.state.associations o)
 
-  -- what stands behind the step
+  -- what holds after the step
   stands_by : (l : List LogEntry) (xs : List Association) → AllCopies c lives l xs → LivesAre lives xs → AllLived c l xs → EachStands c l xs
   stands_by l [] r e v = record {}
   stands_by l (a ∷ xs) r e v = record { one = record { pages = r.one.pages; fates = subst (λ n. FatesOk c n a.server a.store l) e.one r.one.fates; lived = v.one }; rest = stands_by l xs r.rest e.rest v.rest }
@@ -267,7 +267,7 @@ module _ (ask_of : ℕ → Option Ask) (c : ClientId) (lives : ServerId → Life
   all_logged os [] e v = record {}
   all_logged os (a ∷ xs) e v = record { one = lived_logged c lives a.server a.life os es e.one v.one; rest = all_logged os xs e.rest v.rest }
 
--- the associations behind a step are with servers that differ, whatever stands of the copies
+-- the associations after a step are with servers that differ, whatever holds of the copies
 pub step_apart : (ask_of : ℕ → Option Ask) (c : ClientId) (lives : ServerId → Life) (es : List LogEntry) (s : ClientState) (n : Stamp) (input : ClientInput) → Apart s.associations → Numbered ask_of input →
     AllOwed c lives es input (cl.losses (client_turn s []) n).state.associations → Apart (cl.client_step s n input).state.associations
 unfolding cl.client_step cl.work cl.losses at_each

@@ -20,7 +20,7 @@ use Rattle.st_laws_leases.proofs.Sides.Runs.{full}
 use Rattle.st_laws_reads.specs.FrozenLives.PendingEntries.{FrozenAreAlone, FrozenHold}
 use Rattle.st_laws_reads.proofs.FrozenLives.Law.{alone, events_keep, first}
 
--- What stands behind the steps of a run.
+-- What holds after the steps of a run.
 record Stood (k : Config) (count : ℕ) (past : List Step) (t : Traced) : Type 0 where
   places : PlacesHold t.world
   stand : Stand past t

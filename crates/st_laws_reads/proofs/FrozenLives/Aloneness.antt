@@ -1,4 +1,4 @@
--- What is pending of lives that are over stands alone: such a life stands still with an exclusive lock on the file.
+-- What is pending of lives that are over stands alone: such a life is frozen with an exclusive lock on the file.
 use Rattle.std.proofs.Common.{◌≡◌, ℕ, ◌+◌, ◌<◌, ◌≤◌, Bool, true, false, ◌&&◌, ◌==◌, List, [], ◌∷◌, Option, Some, None, refl, sym, ap, ◌∙◌, subst, inl, inr, arith}
 use Rattle.std.specs.Prelude.{length, find, map, option_map}
 use Rattle.std.proofs.lemmas.Bool.{eq-eqb}

@@ -1,4 +1,4 @@
--- A client's crash: the lives that it ends stand still, with the locks of what is pending, and those that stood still do so on.
+-- A client's crash: the lives that it ends are frozen, with the locks of what is pending, and those that were frozen stay so.
 use Rattle.std.proofs.Common.{Bool, ◌||◌, ◌≡◌, ◌≢◌, ℕ, ◌+◌, ◌<◌, ◌≤◌, ◌⊎◌, true, false, List, [], ◌∷◌, Option, Some, None, refl, sym, ap, ◌∙◌, subst, inl, inr, arith, eqb}
 use Rattle.std.specs.Prelude.{find, map, option_map}
 use Rattle.std.proofs.lemmas.Bool.Decides.{eqb_tells}
@@ -123,7 +123,7 @@ module _ (k : Config) (count : ℕ) (w : World) (c : ℕ) (site : WorldClient) (
   both_counted : (s : ℕ) (node : ServerNode) (z : ServerStands k w s node) → Both k s (counted w) node z.ended z.ghosts
   both_counted s node z = same k s node z.ended z.ghosts w (counted w) (counted_same k s node z.ended z.ghosts w) z.both
 
-  -- what stands of a server behind it
+  -- what holds of a server after it
   pub stands : (s : ℕ) (node : ServerNode) → ServerStands k w s node → ServerStands k V s node
   unfolding ev.crashes_client ev.marks
   stands s node z =
@@ -188,7 +188,7 @@ module _ (k : Config) (count : ℕ) (w : World) (c : ℕ) (site : WorldClient) (
           end = ap (λ (l : LeaseLife). l.end) is;
         }
 
-    -- a life with a dirty page of the file stands still from now on
+    -- a life with a dirty page of the file is frozen from now on
     module _ (row : LeaseLife) (o : LogOwner) (x : OwnRow row o) (dirty : has_dirty x.a.store.pages o.file.ino ≡ true) where
       pub falls : (node : ServerNode) (z : ServerStands k w o.file.server.0 node) → StoodLife k V o.file.server.0 node (stands o.file.server.0 node z) row o
       falls node z =

@@ -1,4 +1,4 @@
--- A life that a crash ended stands still through the moves of its association, up to its lease end.
+-- A life that a crash ended is frozen through the moves of its association, up to its lease end.
 use Rattle.std.proofs.Common.{◌≡◌, ℕ, ◌+◌, ◌<◌, ◌≤◌, ◌⊎◌, Bool, true, false, List, ◌∷◌, refl, sym, ◌∙◌, subst, inl, inr, arith}
 use Rattle.st_protocol.specs.Assoc.{Config, ConfigOk, Msg, Client, Assoc, In, msg, Move, Moves, Stays, GoesOn, steady, Works, Hello, Reassert, Reasserted, Welcome, OfOtherEpoch, Advance, Greets, Asks, Loses, Crashes, Begins, Renews, Installs, AskedOfNone, Asked, Declines, Repeats, Again, Sweeps, Reduces, Adopts, Reasserts, Settles, Rests, Welcomes, WelcomesAgain, Acks, Refuses, Accepts, Suspects, Steals, GraceEnds, Grants, GrantsAgain, Demands, Releases, Rises, Stops, Starts}
 use Rattle.st_protocol.proofs.Claims.{in_service}
@@ -33,7 +33,7 @@ no_less (Advance a dc ds dr h lim) = omega arith
 no_less m = omega arith
 
 module _ (k : Config) (C : Client) (i0 : ℕ) (leased : C.leased ≡ true) (some : 1 ≤ (C.held i0).mode) where
-  -- a move, or none, of the association that stands still
+  -- a move, or none, of the association that is frozen
   pub record Moved (a b : Assoc) (y : ℕ) (N : List Msg) (still : Bool) : Type 0 where
     pub begun : ℕ
     pub messages : List Msg

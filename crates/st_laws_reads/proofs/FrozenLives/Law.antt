@@ -1,4 +1,4 @@
--- The lives of pending entries that a crash ended stand still from the start of a run on, and through every event.
+-- The lives of pending entries that a crash ended are frozen from the start of a run on, and through every event.
 use Rattle.std.proofs.Common.{List, ◌≡◌, ℕ, true, Option, Some, None, Ok, refl, sym, ap, ◌∙◌, subst}
 use Rattle.st_base.specs.declared.ids.ClientId.{ClientId}
 use Rattle.st_base.specs.declared.ids.NodeId.TheVariants as nodes

@@ -1,4 +1,4 @@
--- Lives that a crash ended stand still through each event at which no client crashes.
+-- Lives that a crash ended are frozen through each event at which no client crashes.
 use Rattle.std.proofs.Common.{◌≡◌, ℕ, ◌<◌, ◌⊎◌, List, [], ◌∷◌, Option, Some, None, Ok, refl, sym, ap, ◌∙◌, subst, inl, inr, arith}
 use Rattle.st_base.specs.declared.ids.ClientId.{ClientId}
 use Rattle.st_base.specs.declared.ids.NodeId.TheVariants as nodes
@@ -57,7 +57,7 @@ same_refusal : (w : World) (e : Event) → adm.refusal w e ≡ None → adm.refu
 unfolding adm.refusal adm.refused_delivery adm.clocks_refused adm.flush_missed adm.refused_effect adm.refused_report world.node_of_place adm.missed_by
 same_refusal w e z = z
 
--- A life that stood still does so at the end of a path.
+-- A life that was frozen still is at the end of a path.
 module _ (k : Config) (count : ℕ) (w v : World) (all : AllStand k count w) (after : AllStand k count v) (o : LogOwner) (row : LeaseLife) (q : ended_of v o.client o.file.server o.life ≡ Some row) (b : BeforeEnd v o) where
   pub still_on : (next : ServerNode) (z : ServerStands k v o.file.server.0 next) (from : CameFrom k count w all v o.file.server.0 next z) → StoodLife k w o.file.server.0 from.node (all.servers o.file.server.0 from.node from.before) row o →
       StoodLife k v o.file.server.0 next z row o

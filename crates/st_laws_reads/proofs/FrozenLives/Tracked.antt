@@ -50,7 +50,7 @@ use Rattle.st_laws_steps.proofs.Client.Noting.{step_notes}
 use Rattle.st_laws_pages.proofs.Lives.Turning.{Said, client_lives, known_owner, owners_more, says_lives}
 use Rattle.st_laws_reads.specs.FrozenLives.PendingEntries.{OfCrashed, Tracked}
 
--- a lease that is lost is no crash
+-- a lease that is lost isn't a crash
 pub uncrashed : (c : ClientId) (s : ClientState) (os : List Output) (row : LeaseLife) → Has row (ended_rows c s os) → row.crashed ≡ false
 unfolding ended_rows
 uncrashed c s [] row h = elim h [ ]

@@ -1,4 +1,4 @@
--- A life that a crash ended stands still along the machine's paths; it begins at the crash; and no lock is beside it.
+-- A life that a crash ended is frozen along the machine's paths; it begins at the crash; and no lock is beside it.
 use Rattle.std.proofs.Common.{◌≡◌, ◌≢◌, ℕ, zero, suc, ◌+◌, ◌<◌, ◌≤◌, ◌⊎◌, Bool, true, false, List, refl, sym, ap, ◌∙◌, subst, inl, inr, arith}
 use Rattle.st_protocol.specs.Assoc.{Alive, Config, ConfigOk, Msg, Row, upd, Client, Assoc, Move, Moves, Stays, GoesOn, steady, World, Shared, InService, RowsCompat, Step, Work, Reached, Then, Works}
 use Rattle.st_protocol.proofs.Lists.{upd_all, upd_both, upd-same, upd-other}

@@ -144,7 +144,7 @@ module _ (w : World) (c : ℕ) (old site : WorldClient) (input : ClientInput) (t
   keeps : StepKeeps (EndedBy input) now site.node.state t.node.state t.out
   keeps = step_keeps (client c) site.node.state now input fit once
 
-  -- commands of a world among the outputs are there behind them
+  -- commands of a world among the outputs are there after them
   module _ (pre rest : List Output) (parts : pre ++ rest ≡ t.out) where
     abbrev pub sc1 : WorldTurn
     sc1 = client_says_all (client c) site.node.state pre sc0
@@ -181,7 +181,7 @@ module _ (w : World) (c : ℕ) (old site : WorldClient) (input : ClientInput) (t
             z.once l.listed.command m.listed.command l.listed.here m.listed.here l.listed.version m.listed.version l.listed.kind m.listed.kind
             (l.listed.ino ∙ ap (λ (q : FileId). q.ino) ef ∙ sym m.listed.ino) (l.listed.page ∙ ep ∙ sym m.listed.page)
 
-    -- a life at a server behind the step
+    -- a life at a server after the step
     pub life_there : (b : Association) → Has b mine.node.state.associations → (s : ServerId) → s ≡ b.server → life_with mine.node.state s ≡ b.life
     life_there b here s e = ap (λ o. world.life_at o) (ap (λ z. find (is_at z) mine.node.state.associations) e ∙ own_found mine.node.state.associations once_after b here)
 

@@ -1,5 +1,4 @@
--- A write that may have its effect is of a present life whose lease lasts, and outstanding there; or of a life that a crash ended, which
--- stands still.
+-- A write that may have its effect is of a present life whose lease lasts, and outstanding there; or of a life that a crash ended, which is frozen.
 use Rattle.std.proofs.Common.{◌≡◌, ◌≢◌, ℕ, ◌+◌, ◌<◌, ◌≤◌, ◌⊎◌, Bool, true, false, List, [], ◌∷◌, ◌++◌, Option, Some, None, refl, sym, ap, ◌∙◌, subst, inl, inr, arith}
 use Rattle.std.specs.Prelude.{find, option_map}
 use Rattle.std.proofs.lemmas.Bool.{leb-false}
@@ -173,7 +172,7 @@ module _ (k : Config) (count : ℕ) (w : World) (h : WritesHold k count w) (open
       go None q (inl (y, f)) = absurd (no_option y (sym q ∙ f))
       go None q (inr life) = inl (present q life)
 
--- Beside a life that stands still with an exclusive lock on a file no client that runs has a lock on it.
+-- Beside a life that is frozen with an exclusive lock on a file no client that runs has a lock on it.
 pub crashed_alone : (k : Config) (count : ℕ) (w : World) (all : AllStand k count w) (x : IssuedCommand) (tag : Tag) → CrashedWrite k count w all x tag → (d : ℕ) (other : WorldClient) → Running w d other → (y : Association) → Has y other.node.state.associations → There w y.server →
     Lasts other.node.state.config.lease (clock_of w (nodes.Client (client d))).0 y.session → x.server ≡ y.server → (held_in y.session tag.file.ino).mode ≡ 0
 crashed_alone k count w all x tag z d other run y here there lasts sv = go (leased_in y.session) refl

@@ -1,4 +1,4 @@
--- A client's crash: the lives that it ends stand still, where a write of them is not reported, and those that stood still do so on.
+-- A client's crash: the lives that it ends are frozen, where a write of them is not reported, and those that were frozen stay so.
 use Rattle.std.proofs.Common.{◌≡◌, ℕ, ◌≤◌, ◌⊎◌, true, List, Option, Some, None, refl, sym, ap, ◌∙◌, subst, inl, inr, arith}
 use Rattle.std.specs.Prelude.{option_map}
 use Rattle.st_base.specs.declared.disk.BlockAt.{BlockAt}

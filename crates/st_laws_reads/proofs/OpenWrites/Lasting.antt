@@ -1,4 +1,4 @@
--- Behind a step of a client each of its leases lasts.
+-- After a step of a client each of its leases lasts.
 use Rattle.std.proofs.Common.{◌≡◌, false, Option, Some, None, sym, ◌∙◌, subst, arith}
 use Rattle.std.proofs.lemmas.Bool.{leb-false}
 use Rattle.st_base.specs.declared.config.Config.{Config}

@@ -1,5 +1,4 @@
--- Lives that a crash ended, of which a write is not reported, stand still up to their lease ends, through each event at which no client
--- crashes.
+-- Lives that a crash ended, of which a write is not reported, are frozen up to their lease ends, through each event at which no client crashes.
 use Rattle.std.proofs.Common.{◌≡◌, ℕ, ◌≤◌, ◌⊎◌, true, false, List, Some, None, Ok, sym, ap, ◌∙◌, subst, inl, inr, arith}
 use Rattle.std.specs.Prelude.{length}
 use Rattle.st_base.specs.declared.ids.ClientId.{ClientId}
@@ -77,7 +76,7 @@ same_refusal : (w : World) (e : Event) → adm.refusal w e ≡ None → adm.refu
 unfolding adm.refusal adm.refused_delivery adm.clocks_refused adm.flush_missed adm.refused_effect adm.refused_report world.node_of_place adm.missed_by
 same_refusal w e z = z
 
--- A life that stood still does so at the end of a path, or its lease is over.
+-- A life that was frozen still is at the end of a path, or its lease is over.
 module _ (k : Config) (count : ℕ) (w v : World) (all : AllStand k count w) (after : AllStand k count v) (o : LogOwner) (row : LeaseLife) (q : ended_of v o.client o.file.server o.life ≡ Some row) (end : Stamp) (is : row.end ≡ Some end) where
   pub still_on : (next : ServerNode) (z : ServerStands k v o.file.server.0 next) (from : CameFrom k count w all v o.file.server.0 next z) → StoodLife k w o.file.server.0 from.node (all.servers o.file.server.0 from.node from.before) row o →
       (end.0 ≤ (clock_of v (nodes.Client o.client)).0) ⊎ StoodLife k v o.file.server.0 next z row o

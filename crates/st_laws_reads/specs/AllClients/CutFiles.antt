@@ -1,4 +1,4 @@
--- While a client asks a server to cut or to remove a file, it has nothing of the file at hand from that page on.
+-- While a client asks a server to cut or to remove a file, it has nothing of the file cached from that page on.
 use Rattle.std.specs.Prelude.{◌≡◌, ℕ, ◌≤◌, List, [], Option, Some}
 use Rattle.st_base.specs.declared.config.Config.{Config}
 use Rattle.st_base.specs.declared.ids.ClientId.{ClientId}
@@ -41,7 +41,7 @@ Cleared a = (ino : ℕ) (p : PageNo) → Cuts a.session ino p → Clear a.store 
 abbrev pub AllCleared : World → Type 0
 AllCleared w = (c : ClientId) (site : WorldClient) → site_of w c ≡ Some site → (a : Association) → Has a site.node.state.associations → Cleared a
 
--- behind a step
+-- after a step
 abbrev pub ClearedAfter : Promise
 ClearedAfter past x = AllCleared x.after.world
 

@@ -46,7 +46,7 @@ FrozenStandAlone w =
     (e : LogEntry) → Has e w.log → is_pending e.fate ≡ true → OfFrozen w e → (d : ℕ) (other : WorldClient) → Running w d other →
     UnheldBy w d other e
 
--- where these associations are, a file is cut that is not locked, or of which nothing is at hand from the page on
+-- where these associations are, a file is cut that is not locked, or of which nothing is cached from the page on
 abbrev pub CutFreeOf : FileId → PageNo → ℕ → ℕ → List Association → Type 0
 CutFreeOf f p lease now [] = Unit {0}
 CutFreeOf f p lease now (a ∷ xs) =

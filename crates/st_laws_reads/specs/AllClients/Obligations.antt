@@ -1,4 +1,4 @@
--- What other laws still owe: of a client that receives a message or the end of a command, at each server behind its losses; and of cuts.
+-- What other laws still owe: of a client that receives a message or the end of a command, at each server after its losses; and of cuts.
 use Rattle.std.specs.Prelude.{◌≡◌, ℕ, ◌≤◌, true, List, [], ◌∷◌, Option, Some}
 use Rattle.st_base.specs.Page.{filled}
 use Rattle.st_base.specs.declared.disk.Tag.{Tag}
@@ -39,7 +39,7 @@ use Rattle.st_laws_reads.specs.AllClients.CutFiles.{Cuts}
 use Rattle.st_laws_reads.specs.AllClients.Events.{FrozenStandAlone}
 use Rattle.st_laws_reads.specs.AllClients.Law.{Running}
 
--- Of a message in a session: a map that found no block finds a page whose bytes are zeros.
+-- For a message in a session: a map that found no block finds a page whose bytes are zeros.
 pub record ReplyLeft (es : List LogEntry) (a : Association) (s : ClientSession) (h : Header) (body : Body) : Type 0 where
   pub zeros : (q : Request) (ino : ℕ) (g : GrantNo) (p : PageNo) → s.requests.asked ≡ Some q → q.body ≡ bodies.Map ino g p →
       body ≡ bodies.Extents ino [] → is_counting h.number body q ≡ true → is_current s.locks q.body ≡ true →
@@ -50,7 +50,7 @@ abbrev pub MessageLeft : List LogEntry → Association → Header → Body → T
 MessageLeft es a h body = (s : ClientSession) → a.session ≡ Some s → h.from ≡ server_node a.server → h.life ≡ a.life.0 → h.epoch ≡ s.epoch.0 →
     ReplyLeft es a s h body
 
--- Of the end of a command: a read found the bytes of the page.
+-- For the end of a command: a read found the bytes of the page.
 pub record EndLeft (es : List LogEntry) (a : Association) (number : ℕ) (result : Option (Option (Tag × List ℕ))) : Type 0 where
   pub read : (x : PageCommand) (block : Tag × List ℕ) → command_of a.store.commands number ≡ Some x → x.kind ≡ io.Read → result ≡ Some (Some block) →
       found a.store.extents (file_at a.server x.ino) x.page block.0 block.1 ≡ content es (file_at a.server x.ino) x.page
@@ -66,7 +66,7 @@ abbrev pub AllLeft : List LogEntry → ClientInput → List Association → Type
 AllLeft es input [] = Unit {0}
 AllLeft es input (a ∷ rest) = record { one : LeftAt es input a; rest : AllLeft es input rest }
 
--- What is left of what is taken: of the client behind its losses.
+-- What is left of what is taken: of the client after its losses.
 abbrev pub LeftOf : Taking → Type 0
 LeftOf x = AllLeft x.world.log x.input (losses (client_turn x.site.node.state []) (now_at x)).state.associations
 

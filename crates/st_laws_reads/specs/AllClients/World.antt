@@ -1,4 +1,4 @@
--- What stands of the copies of all clients of a world, and what other laws owe of a client that takes an input.
+-- What holds of the copies of all clients of a world, and what other laws owe of a client that takes an input.
 use Rattle.std.specs.Prelude.{◌≡◌, ℕ, true, false, List, [], ◌∷◌, Option, Some, Ok}
 use Rattle.st_base.specs.declared.ids.NodeId.TheVariants as nodes
 use Rattle.st_messages.specs.declared.ask.Ask.{Ask}
@@ -18,13 +18,13 @@ abbrev pub AllThere : World → List Association → Type 0
 AllThere w [] = Unit {0}
 AllThere w (a ∷ xs) = record { one : There w a.server; rest : AllThere w xs }
 
--- What stands of a client of the world: its servers are there; its copies stand where it runs; and where it does not, it rests.
+-- What holds of a client of the world: its servers are there; its copies hold where it runs; and where it does not, it rests.
 pub record SiteHolds (asked_as : ℕ → Option Ask) (w : World) (c : ℕ) (site : WorldClient) : Type 0 where
   pub servers : AllThere w site.node.state.associations
   pub runs : site.node.running ≡ true → ClientCopies asked_as (client c) w.log (clock_of w (nodes.Client (client c))) site.node.state
   pub rests : site.node.running ≡ false → ClientRests (client c) w.log site.node.state
 
--- Of each client. What each one was asked is known by the number of the ask.
+-- For each client. What each one was asked is known by the number of the ask.
 abbrev pub CopiesHold : (ℕ → ℕ → Option Ask) → World → Type 0
 CopiesHold asks w = (c : ℕ) (site : WorldClient) → site_of w (client c) ≡ Some site → SiteHolds (asks c) w c site
 
@@ -33,7 +33,7 @@ pub record TakingOwed (asks : ℕ → ℕ → Option Ask) (x : Taking) : Type 0 
   pub numbered : Numbered (asks x.client.0) x.input
   pub owed : OwedOf x
 
--- An event at which a client takes an input keeps the copies of all clients, where all stands before it and behind it.
+-- An event at which a client takes an input keeps the copies of all clients, where everything holds before it and after it.
 abbrev pub TakingsKeepCopies : Type 0
 TakingsKeepCopies =
     (asks : ℕ → ℕ → Option Ask) (k : Config) (count : ℕ) (w : World) (e : Event) (sc : WorldTurn) (x : Taking) → AllStand k count w →

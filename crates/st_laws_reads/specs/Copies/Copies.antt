@@ -39,8 +39,8 @@ Noted (Some (asks.Write f p bytes)) (Some (outputs.Note (notes.Accepted g q old)
 Noted (Some (asks.Patch f p at bytes)) (Some (outputs.Note (notes.Patched g q place old))) = notes.Patched g q place old ≡ notes.Patched f p at bytes
 Noted asked last = ⊥
 
--- An output is right behind the one before it: each answer of a read has the bytes of the log at that answer, each hard one finds the
--- file hard, `written` comes right behind the note of the change that was asked, and each write of a page carries the bytes of the log.
+-- An output is right after the one before it: each answer of a read has the bytes of the log at that answer; each hard one finds the file hard; `written` comes
+-- right after the note of the change that was asked; and each write of a page carries the bytes of the log.
 abbrev pub RightOne : (ℕ → Option Ask) → ClientId → (ServerId → Life) → Option Output → List LogEntry → Output → Type 0
 RightOne asked c lives last es (outputs.Answer op (answers.Read bytes)) = IsLastRead (asked op) es bytes
 RightOne asked c lives last es (outputs.Answer op answers.Hard) = HardRight c lives es (asked op)
@@ -53,7 +53,7 @@ abbrev pub last_of : Option Output → List Output → Option Output
 last_of last [] = last
 last_of last (o ∷ os) = last_of (Some o) os
 
--- each output is right by the log at it, behind the one before it
+-- each output is right by the log at it, after the one before it
 abbrev pub RightBehind : (ℕ → Option Ask) → ClientId → (ServerId → Life) → Option Output → List LogEntry → List Output → Type 0
 RightBehind asked c lives last es [] = Unit {0}
 RightBehind asked c lives last es (o ∷ os) =
@@ -91,7 +91,7 @@ pub record PageOk (held : ℕ) (bytes : List ℕ) (x : Store) (ino : ℕ) (p : P
   pub known : (e : KnownExtent) → known_of x.extents ino p ≡ Some e → 1 ≤ held
   pub reading : is_being_read x.commands ino p ≡ true → 1 ≤ held
 
--- nothing of a page is at hand: it is neither dirty nor clean, nothing is known of its place, and no read of it is outstanding
+-- nothing of a page is cached: it is neither dirty nor clean, nothing is known of its place, and no read of it is outstanding
 pub record Nothing (x : Store) (ino : ℕ) (p : PageNo) : Type 0 where
   pub dirty : dirty_of x.pages ino p ≡ None
   pub clean : clean_of x.pages ino p ≡ None
@@ -107,7 +107,7 @@ AskedSo asked (o ∷ os) = record { one : asked o.op ≡ Some o.ask; rest : Aske
 abbrev pub file_at : ServerId → ℕ → FileId
 file_at sv ino = record { server = sv; ino = ino }
 
--- What stands of the copies within a step, at one server, with the log from before the step.
+-- What holds of the copies within a step, at one server, with the log from before the step.
 pub record Copies (asked_as : ℕ → Option Ask) (c : ClientId) (lives : ServerId → Life) (es : List LogEntry) (t : Turn) : Type 0 where
   pub pages : (ino : ℕ) (p : PageNo) →
       PageOk (held_in t.here.session ino).mode (content (logged c lives t.out es) (file_at t.here.server ino) p) t.here.store ino p

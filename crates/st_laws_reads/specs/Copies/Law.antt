@@ -34,8 +34,7 @@ use Rattle.st_rules.specs.ClientPages.{dirty_of}
 use Rattle.std.specs.List.{list_all}
 use Rattle.st_laws_refine.specs.Client.Invariants.{Lasts}
 
--- What stands of the copies at one server, by a log: each page is as the log has it, and an entry of the present life that is not hard
--- has its page dirty.
+-- What holds of the copies at one server, by a log: each page is as the log has it, and an entry of the present life that is not hard has its page dirty.
 pub record CopiesAt (c : ClientId) (lives : ServerId → Life) (es : List LogEntry) (a : Association) : Type 0 where
   pub pages : (ino : ℕ) (p : PageNo) → PageOk (held_in a.session ino).mode (content es (file_at a.server ino) p) a.store ino p
   pub fates : FatesOk c (lives a.server) a.server a.store es
@@ -65,7 +64,7 @@ abbrev pub AllLived : ClientId → List LogEntry → List Association → Type 0
 AllLived c es [] = Unit {0}
 AllLived c es (a ∷ rest) = record { one : Lived c a.server a.life es; rest : AllLived c es rest }
 
--- What stands between two steps at one server: the copies, by the association's own life, beyond which no entry is.
+-- What holds between two steps at one server: the copies, by the association's own life, beyond which no entry is.
 pub record StandsAt (c : ClientId) (es : List LogEntry) (a : Association) : Type 0 where
   pub pages : (ino : ℕ) (p : PageNo) → PageOk (held_in a.session ino).mode (content es (file_at a.server ino) p) a.store ino p
   pub fates : FatesOk c a.life a.server a.store es
@@ -76,14 +75,14 @@ abbrev pub EachStands : ClientId → List LogEntry → List Association → Type
 EachStands c es [] = Unit {0}
 EachStands c es (a ∷ rest) = record { one : StandsAt c es a; rest : EachStands c es rest }
 
--- What stands of a client between two steps: its servers differ, the copies stand at each, and its operations are what was asked.
+-- What holds of a client between two steps: its servers differ, the copies hold at each, and its operations are what was asked.
 pub record ClientStands (asked_as : ℕ → Option Ask) (c : ClientId) (es : List LogEntry) (s : ClientState) : Type 0 where
   pub apart : Apart s.associations
   pub copies : EachStands c es s.associations
   pub asked : AskedSo asked_as s.operations
 
--- What stands at one server at a moment of the client's clock: no entry is beyond the association's life, and while its lease is not over,
--- the copies. A lease that is over is lost at the head of the next step, so till then nothing is read from what is at hand.
+-- What holds at one server at a moment of the client's clock: no entry is beyond the association's life, and while its lease is not over, the copies. A lease
+-- that is over is lost at the head of the next step, so till then nothing is read from what is cached.
 pub record StandsWhile (lease now : ℕ) (c : ClientId) (es : List LogEntry) (a : Association) : Type 0 where
   pub lived : Lived c a.server a.life es
   pub lasting : Lasts lease now a.session → StandsAt c es a
@@ -93,8 +92,8 @@ abbrev pub AllWhile : ℕ → ℕ → ClientId → List LogEntry → List Associ
 AllWhile lease now c es [] = Unit {0}
 AllWhile lease now c es (a ∷ rest) = record { one : StandsWhile lease now c es a; rest : AllWhile lease now c es rest }
 
--- What stands of a client that runs at a moment of its clock: its servers differ, the copies stand at each whose lease is not over, and
--- its operations are what was asked.
+-- What holds of a client that runs at a moment of its clock: its servers differ, the copies hold at each whose lease is not over, and its operations are what
+-- was asked.
 pub record ClientCopies (asked_as : ℕ → Option Ask) (c : ClientId) (es : List LogEntry) (now : Stamp) (s : ClientState) : Type 0 where
   pub apart : Apart s.associations
   pub copies : AllWhile s.config.lease now.0 c es s.associations
@@ -126,15 +125,15 @@ pub record JoinedBy (xs : List Association) (l m : List LogEntry) : Type 0 where
   pub is : m ≡ l ++ more
   pub listed : AllListed xs more
 
--- What a step makes of it: it stands again by the log behind the step, each output is right by the log at it, and what joined the log is
--- of files of the client's servers.
+-- What a step makes of it: it holds again by the log after the step, each output is right by the log at it, and what joined the log is of files of the client's
+-- servers.
 pub record StepKeeps (asked_as : ℕ → Option Ask) (c : ClientId) (lives : ServerId → Life) (es : List LogEntry) (t : ClientTurn) : Type 0 where
   pub stands : ClientStands asked_as c (logged c lives t.out es) t.state
   pub right : Right asked_as c lives es t.out
   pub joined : JoinedBy t.state.associations es (logged c lives t.out es)
 
--- A client's step keeps the copies, whatever comes, under what other laws owe of the client behind its losses. The lives are those
--- behind the step, under which its entries join the log.
+-- A client's step keeps the copies, whatever comes, under what other laws owe of the client after its losses. The lives are those after the step, under which
+-- its entries join the log.
 abbrev pub StepsKeepCopies : Type 0
 StepsKeepCopies =
     (asked_as : ℕ → Option Ask) (c : ClientId) (lives : ServerId → Life) (es : List LogEntry) (s : ClientState) (now : Stamp) (input : ClientInput) →
@@ -161,7 +160,7 @@ abbrev pub AllHeld : List Association → List Output → Type 0
 AllHeld xs [] = Unit {0}
 AllHeld xs (o ∷ os) = record { one : NoteHeld xs o; rest : AllHeld xs os }
 
--- Changes are locked: each page that a step changed is dirty behind the step, under an exclusive lock.
+-- Changes are locked: each page that a step changed is dirty after the step, under an exclusive lock.
 abbrev pub ChangesAreHeld : Type 0
 ChangesAreHeld =
     (asked_as : ℕ → Option Ask) (c : ClientId) (lives : ServerId → Life) (es : List LogEntry) (t : ClientTurn) → StepKeeps asked_as c lives es t →
@@ -181,18 +180,18 @@ ChangesLieUnderLocks =
     AllLast site.node.state.config.lease (clock_of w (nodes.Client c)).0 site.node.state.associations → AllHeld site.node.state.associations os →
     list_all (safety.is_change_locked w) (client_says_all c before os (quiet v)).seen ≡ true
 
--- an answer `written` comes right behind the line of the change that was asked
+-- an answer `written` comes right after the line of the change that was asked
 abbrev pub IsWritten : List safety.Step → safety.Step → Option Observation → Observation → Type 0
 IsWritten past x line (seen.Answered c op answers.Written) = safety.IsLoggedAfter c (safety.ask_of past x c op) line
 IsWritten past x line o = Unit {0}
 
--- each of these lines, behind the line before it
+-- each of these lines, after the line before it
 abbrev pub AllWritten : List safety.Step → safety.Step → Option Observation → List Observation → Type 0
 AllWritten past x line [] = Unit {0}
 AllWritten past x line (o ∷ os) = record { one : IsWritten past x line o; rest : AllWritten past x (Some o) os }
 
--- What is observed of a client's outputs: each answered read has the bytes of the log at it, each sync that is answered hard finds all of
--- its file hard, and `written` comes right behind the line of the change that was asked.
+-- What is observed of a client's outputs: each answered read has the bytes of the log at it, each sync that is answered hard finds all of its file hard, and
+-- `written` comes right after the line of the change that was asked.
 pub record SeenRight (past : List safety.Step) (x : safety.Step) (es : List LogEntry) (lines : List Observation) : Type 0 where
   pub reads : AtEach (safety.IsLast past x) x.after.world es lines
   pub syncs : AtEach (safety.IsHardAt past x) x.after.world es lines

@@ -34,7 +34,7 @@ use Rattle.st_laws_reads.specs.Copies.Copies.{Right}
 use Rattle.st_laws_reads.specs.Copies.Obligations.{Numbered}
 use Rattle.st_laws_reads.specs.Copies.Law.{Apart, AllLived, ClientStands, ClientCopies, AllOwed}
 
--- What a client takes at an event: in which world, which input, and where it stands then.
+-- What a client takes at an event: in which world, which input, and where it is then.
 pub record Taking : Type 0 where
   pub world : World
   pub client : ClientId
@@ -79,7 +79,7 @@ taken w (events.Deliver k) = receiving_of w (message_of w k)
 taken w (events.Report k ok) = told_of (ev.with_disks (ev.disks_after w.disks (disks.done w.disks k ok)) w) k ok (issued_of w k)
 taken w e = None
 
--- the step that it takes then, and the associations behind its losses
+-- the step that it takes then, and the associations after its losses
 abbrev pub now_at : Taking → Stamp
 now_at x = clock_of x.world (nodes.Client x.client)
 
@@ -87,7 +87,7 @@ now_at x = clock_of x.world (nodes.Client x.client)
 abbrev pub turn_of : Taking → ClientTurn
 turn_of x = cl.client_step x.site.node.state (now_at x) x.input
 
--- What is owed of it: of the client behind its losses, under the lives behind its step.
+-- What is owed of it: of the client after its losses, under the lives after its step.
 abbrev pub OwedOf : Taking → Type 0
 OwedOf x = AllOwed x.client (life_with (turn_of x).state) x.world.log x.input (cl.losses (client_turn x.site.node.state []) (now_at x)).state.associations
 
@@ -103,8 +103,8 @@ abbrev pub AllOwn : ClientId → List Association → List LogEntry → Type 0
 AllOwn c xs [] = Unit {0}
 AllOwn c xs (e ∷ es) = record { one : OwnEntry c xs e; rest : AllOwn c xs es }
 
--- What it leaves: the copies stand by the log of the world left, each output is right by the log at it, and that log is the one before
--- with what the outputs log: pending entries of the lives behind the step.
+-- What it leaves: the copies hold for the log of the world left, each output is right by the log at it, and that log is the one before with what the outputs
+-- log: pending entries of the lives after the step.
 pub record WorldKeeps (asked_as : ℕ → Option Ask) (c : ClientId) (es fs : List LogEntry) (t : ClientTurn) : Type 0 where
   pub stands : ClientStands asked_as c fs t.state
   pub right : Right asked_as c (life_with t.state) es t.out
@@ -128,14 +128,13 @@ Unheld f lease now [] = Unit {0}
 Unheld f lease now (a ∷ xs) =
     record { one : Lasts lease now a.session → f.server ≡ a.server → (held_in a.session f.ino).mode ≡ 0; rest : Unheld f lease now xs }
 
--- What stands of a client's copies stands by a log to which an entry of nobody or of another client joins, on a file of which this client
--- has no lock.
+-- What holds of a client's copies holds for a log to which an entry of nobody or of another client joins, on a file of which this client has no lock.
 abbrev pub EntriesKeepCopies : Type 0
 EntriesKeepCopies =
     (asked_as : ℕ → Option Ask) (c : ClientId) (es : List LogEntry) (now : Stamp) (s : ClientState) (e : LogEntry) → is_of_client c e.of ≡ false →
     Unheld e.of.file s.config.lease now.0 s.associations → ClientCopies asked_as c es now s → ClientCopies asked_as c (es ++ e ∷ []) now s
 
--- And it stands by a log in which what a disk command carries becomes hard.
+-- And it holds for a log in which what a disk command carries becomes hard.
 abbrev pub EffectsKeepCopies : Type 0
 EffectsKeepCopies =
     (asked_as : ℕ → Option Ask) (c : ClientId) (es : List LogEntry) (now : Stamp) (s : ClientState) (x : Option Carried) → ClientCopies asked_as c es now s →
@@ -158,14 +157,14 @@ DropsUnheld c picked lease now xs n (e ∷ es) =
       rest : DropsUnheld c picked lease now xs (n + 1) es;
     }
 
--- It stands by a log of which such entries are dropped.
+-- It holds for a log of which such entries are dropped.
 abbrev pub DropsKeepCopies : Type 0
 DropsKeepCopies =
     (asked_as : ℕ → Option Ask) (c : ClientId) (es : List LogEntry) (now : Stamp) (s : ClientState) (picked : ℕ → LogOwner → Bool)
     (cause : FileId → PageNo → Cause) → DropsUnheld c picked s.config.lease now.0 s.associations 1 es → ClientCopies asked_as c es now s →
     ClientCopies asked_as c (log.drop_picked es picked cause) now s
 
--- What stands of a client that does not run: its servers differ, and no entry of it is of a life beyond its association's.
+-- What holds of a client that does not run: its servers differ, and no entry of it is of a life beyond its association's.
 pub record ClientRests (c : ClientId) (es : List LogEntry) (s : ClientState) : Type 0 where
   pub apart : Apart s.associations
   pub lived : AllLived c es s.associations
@@ -179,7 +178,7 @@ RestartsKeepCopies =
       starts : ClientRests c es s → ClientStands asked_as c es (cl.start s);
     }
 
--- What stands of a client that does not run stands by a log that changes elsewhere: entries of others, effects, drops.
+-- What holds of a client that does not run holds for a log that changes elsewhere: entries of others, effects, drops.
 pub record RestsOn (c : ClientId) (es : List LogEntry) (s : ClientState) : Type 0 where
   pub entry : (e : LogEntry) → is_of_client c e.of ≡ false → ClientRests c (es ++ e ∷ []) s
   pub effect : (x : Option Carried) → ClientRests c (ev.log_hard es x) s
@@ -189,7 +188,7 @@ pub record RestsOn (c : ClientId) (es : List LogEntry) (s : ClientState) : Type 
 abbrev pub RestsStay : Type 0
 RestsStay = (c : ClientId) (es : List LogEntry) (s : ClientState) → ClientRests c es s → RestsOn c es s
 
--- What stands behind a step stands at each moment, and what stands at a moment stands later, when more leases are over.
+-- What holds after a step holds at each moment, and what holds at a moment holds later, when more leases are over.
 abbrev pub ClocksKeepCopies : Type 0
 ClocksKeepCopies =
     (asked_as : ℕ → Option Ask) (c : ClientId) (es : List LogEntry) (now : Stamp) (s : ClientState) →

@@ -18,7 +18,7 @@ is_bare (Granted ino g mode) = false
 is_bare (Demand ino g to) = false
 is_bare OfOtherEpoch = true
 
--- the association of a client's half that stands still, at the present clocks and with the server as it is
+-- the association of a client's half that is frozen, at the present clocks and with the server as it is
 abbrev pub stood : Client → ℕ → List Msg → Assoc → Assoc
 stood C y N a = record { c = record C { clock = a.c.clock }; s = record a.s { glife = y }; net = N }
 
@@ -37,7 +37,7 @@ pub record Unserved (l : ℕ) (N : List Msg) (a : Assoc) : Type 0 where
 abbrev pub replaced : net.World → ℕ → Assoc → net.World
 replaced W c a = record { at = upd W.at c a }
 
--- The client's half of the life stands still beside the client's later lives: the machine can be in that state, too.
+-- The client's half of the life is frozen beside the client's later lives: the machine can be in that state, too.
 pub record FrozenLife (k : Config) (c l : ℕ) (C : Client) (W : net.World) : Type 0 where
   pub begun : ℕ
   pub messages : List Msg
@@ -69,8 +69,7 @@ abbrev pub CrashesLeaveLives : Type 0
 CrashesLeaveLives =
     (k : Config) (c : ℕ) (A B : net.World) → ConfigOk k → Reached k A → Crashed k c A B → FrozenLife k c (A.at c).c.life (A.at c).c B
 
--- Beside a life that stands still with an exclusive lock on a file, no client has a lock on it under a lease that lasts, the client's
--- later lives included.
+-- Beside a life that is frozen with an exclusive lock on a file, no client has a lock on it under a lease that lasts, the client's later lives included.
 abbrev pub LivesStandAlone : Type 0
 LivesStandAlone =
     (k : Config) (c i d : ℕ) (C : Client) (W : net.World) → ConfigOk k → LockedHalf C i → (W.at c).c.clock < C.date + k.lease →

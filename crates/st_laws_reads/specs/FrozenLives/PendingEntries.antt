@@ -27,7 +27,7 @@ pub record Tracked (P : LeaseLife → LogOwner → Type 0) (w : World) : Type 0 
   pub lives : LivesHold w
   pub pending : PendingAll (OfCrashed P w) w.log
 
--- The life of an owner stands still at its server, with an exclusive lock on the file, up to the lease end that it had.
+-- The life of an owner is frozen at its server, with an exclusive lock on the file, up to the lease end that it had.
 pub record StoodLife (k : Config) (w : World) (s : ℕ) (node : ServerNode) (z : ServerStands k w s node) (row : LeaseLife) (o : LogOwner) : Type 0 where
   pub half : Client
   pub life : half.life ≡ o.life.0
@@ -41,12 +41,12 @@ StandsStill k count w all row o =
     (node : ServerNode) (at : node_of w (server o.file.server.0) ≡ Some node) →
     StoodLife k w o.file.server.0 node (all.servers o.file.server.0 node at) row o
 
--- All stands, and the lives of pending entries that a crash ended stand still.
+-- Everything holds, and the lives of pending entries that a crash ended are frozen.
 pub record FrozenHold (k : Config) (count : ℕ) (w : World) : Type 0 where
   pub all : AllStand k count w
   pub frozen_lives : PendingAll (OfCrashed (StandsStill k count w all) w) w.log
 
--- The lives stand still in the world of a head, in which nothing is pending.
+-- The lives are frozen in the world of a head, in which nothing is pending.
 abbrev pub FrozenBegin : Type 0
 FrozenBegin =
     (k : base.Config) (clients servers disks blocks form : ℕ) → IsHead k clients servers disks blocks form →

@@ -1,4 +1,4 @@
--- Write commands that are not reported, of lives that a crash ended: such a life stands still up to its lease end.
+-- Write commands that are not reported, of lives that a crash ended: such a life is frozen up to its lease end.
 use Rattle.std.specs.Prelude.{◌≡◌, ◌≤◌, ◌⊎◌, ℕ, List, length, Some}
 use Rattle.st_base.specs.declared.disk.BlockAt.{BlockAt}
 use Rattle.st_base.specs.declared.disk.Command.TheVariants as commands
@@ -49,7 +49,7 @@ pub record OpenTracked (P : LeaseLife → LogOwner → Type 0) (w : World) : Typ
   pub there : OpenThere w
   pub open_ : OpenCrashed P w
 
--- the lease of a life that ended is over, or the life stands still with an exclusive lock on the file
+-- the lease of a life that ended is over, or the life is frozen with an exclusive lock on the file
 pub record OverOrStill (k : Config) (count : ℕ) (w : World) (all : AllStand k count w) (row : LeaseLife) (o : LogOwner) : Type 0 where
   pub end : Stamp
   pub is : row.end ≡ Some end

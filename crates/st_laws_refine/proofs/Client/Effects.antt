@@ -46,7 +46,7 @@ Brings life epoch stamp hs (bodies.Granted ino g mode) = record { is : In (msg l
 Brings life epoch stamp hs bodies.Reasserted = In (msg life epoch stamp net.Reasserted) hs
 Brings life epoch stamp hs body = Unit {0}
 
--- what stood of the request that a reply ended
+-- what held of the request that a reply ended
 record EndedOf (x : Store) (due : Bool) (file : Option ℕ) (asked : Body) : Type 0 where
   pub settled : reasserts asked ≡ false → due ≡ false
   pub quiet : (ino : ℕ) → st.asks_name asked ≡ true → file ≡ Some ino → busy_in x ino ≡ false
@@ -302,7 +302,7 @@ module _ (k : Config) (sv : Beside) (now : ℕ) (hs : List Msg) where
   count_goes t s n stamp reply asked acks b f q =
       if_goes k sv now hs (with_session s t) (cr.refuses_reassertion reply asked) _ _ (λ h. condemn_goes k sv now hs t s) (λ h. reply_goes t s n stamp reply asked acks b f q)
 
-  -- what stood of the outstanding request
+  -- what held of the outstanding request
   ended_of : (life : ℕ) (x : Store) (s : ClientSession) (q : Request) (N : List Msg) → s.requests.asked ≡ Some q → KeptIn life x s N → EndedOf x s.due (file_asked s.cutting q.body) q.body
   ended_of life x s q N e r = record { settled = (subst (λ o. Outstanding life s.epoch.0 s.due o N) e r.asked).settled; quiet = quiet q.body }
     where
@@ -313,7 +313,7 @@ module _ (k : Config) (sv : Beside) (now : ℕ) (hs : List Msg) where
       quiet (bodies.Name op) ino n f = by_file ino f
       quiet asked ino n f = cc
 
-  -- of the frame alone: it needs nothing of what stands
+  -- of the frame alone: it needs nothing of what holds
   named_frame : (t : Turn) (s : ClientSession) (file : Option ℕ) (reply : NameReply) → FrameOf (with_session s t) (cr.named (with_session s t) s file reply)
   unfolding cr.named cr.named_as cr.removed cr.drop_held cr.drop_lock answer_each
   named_frame t s file reply = frame_then _ _ _ _ _ _ _ _ _ _ _ _ (each_goes k sv now hs (is_asked t.here.server) (cr.name_answer reply) (with_session s t)).frame (go reply)
@@ -379,7 +379,7 @@ module _ (k : Config) (sv : Beside) (now : ℕ) (hs : List Msg) where
       go None e = goes_same k sv now hs (with_session s t)
       go (Some q) e = request_goes t s n h.number (record { 0 = h.stamp }) reply q e acks b
 
-  -- what is no reply
+  -- what isn't a reply
   no_reply : (t : Turn) (s : ClientSession) (n : Stamp) (h : Header) (reply : Body) → ((asked : Body) → fits reply asked ≡ false) → Goes k sv now hs (with_session s t) (cr.reply_of (with_session s t) s n h reply)
   unfolding cr.reply_of cr.counted cr.by_request
   no_reply t s n h reply f = go s.requests.asked

@@ -120,7 +120,7 @@ losses_both P (outputs.Note n ∷ os) ps s r = note n s (λ x. losses_both P os 
     note (notes.Lost v l) s f = record { one = s.one; rest = f s.rest }
     note n s f = f s
 
--- a note that is no loss
+-- a note that isn't a loss
 abbrev pub is_loss : Note → Bool
 is_loss (notes.Lost s l) = true
 is_loss n = false
@@ -133,7 +133,7 @@ pub losses_answers : (P : ServerId → Life → Type 0) (answer : AppAnswer) (os
 losses_answers P answer [] = record {}
 losses_answers P answer (o ∷ os) = losses_answers P answer os
 
--- what is added is said to no other server
+-- what is added goes to no other server
 pub frame_more : (id : ℕ) (sv : ServerId) (c : base.Config) (os more : List Output) → ((x : ServerId) (M : List Msg) → (server_node x ≡ server_node sv → ⊥) → Said id x more M) → ((P : ServerId → Life → Type 0) → Losses P more) → Frame id id sv sv c c os (os ++ more)
 frame_more id sv c os more f g = record { id_ = refl; server = refl; config = refl; said = λ x M n s. said_both id x os more M s (f x M n); lost = λ P l. losses_both P os more l (g P) }
 

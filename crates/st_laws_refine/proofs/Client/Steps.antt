@@ -255,7 +255,7 @@ later : (k : Config) (now : ℕ) (a : Association) (l m : ℕ) (e f : ℕ → �
 later k now a l m e f h (inl x) = inl (record { lasts = x.lasts; same = x.same; life = let z = x.life in omega arith })
 later k now a l m e f h (inr x) = inr (record { ended = x.ended; life = let z = x.life in omega arith })
 
--- a step of a client is, for its association with this server, a list of moves, and what stood before it stands after it
+-- a step of a client is, for its association with this server, a list of moves, and what held before it holds after it
 pub step_moves : (k : Config) (sv : Beside) (now : Stamp) (hs : List Msg) (own : ServerId) (s : ClientState) (input : ClientInput) (a : Association) (N : List Msg) → s.config.lease ≡ k.lease → Place own s.associations a → 1 ≤ a.life.0 → Kept a.life.0 a.store a.session N → Comes own s.id.0 input hs → ((m : Msg) → In m hs → In m N) →
     ClientStep k sv now.0 hs own a (cl.client_step s now input) N
 unfolding cl.client_step cl.work cl.losses at_each result_then

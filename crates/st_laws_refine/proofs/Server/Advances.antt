@@ -272,7 +272,7 @@ module _ (k : Config) (s : ℕ) (ended : ℕ → ℕ → ℕ) (w : World) (node 
     stands_later c true x st e = epochs.sound_later c k.wait node.state x Now Later e up st
     stands_later c false x st e = record { emptied = st.emptied; top = st.top }
 
-    -- all that stood stands when time has passed
+    -- all that held still holds when time has passed
     pub later_stands : Stands k s ended V node later_ghost
     later_stands = record {
       reached = reached;
@@ -287,7 +287,7 @@ module _ (k : Config) (s : ℕ) (ended : ℕ → ℕ → ℕ) (w : World) (node 
     clocks_later : length V.clocks ≡ length w.clocks
     clocks_later = advanced_length steps w.clocks b.full
 
-    -- and so does what stands of the clocks
+    -- and so does what holds of the clocks
     pub later_timed : Timed k s V later_ghost
     later_timed = record {
       terms = b.timed.terms;

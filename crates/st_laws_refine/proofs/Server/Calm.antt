@@ -73,7 +73,7 @@ kept_end t c k x h =
     let m = has_map (sessions.end_of c) t.rows x h in
     subst (λ (y : Session). CalmState y.state) (sym m.2) (cond_either (λ (y : Session). CalmState y.state) (sessions.is_session_of c m.0) (sessions.ended m.0) m.0 (λ f. tt) (λ f. k m.0 m.1))
 
--- the reply that a session keeps is no conflict
+-- the reply that a session keeps isn't a conflict
 kept_found : (t : Sessions) (c : ClientId) (s : Session) (last : ℕ) (b : Body) → KeptCalm t → sessions.session_of t c ≡ Some s → s.state ≡ Live last (Some b) → is_conflict b ≡ false
 kept_found t c s last b k e f = subst (λ st. CalmState st) f (k s (found_at (sessions.is_session_of c) t.rows s e).1)
 

@@ -149,7 +149,7 @@ c_released l c ino to k = smaller l (release_to l c ino to) (λ d i r e. go d i 
     go d i r e (inl f) (inl g) = subst (λ n. T (client n) i r) f (subst (λ i. T c i r) (sym g) (λ e. released_row l c ino to r e)) e
     go d i r e (inl f) (inr ne) = subst (λ n. T (client n) i r) f (λ e. (r, sym (released_elsewhere l c ino to i ne) ∙ e, inl refl)) e
 
--- a grant that nobody's row stands against
+-- a grant that nobody's row conflicts with
 c_granted : (l : Locks) (c : ClientId) (life : Life) (ino : ℕ) (mode : Mode) → Wanted l mode → list_any (stands_against c ino mode) l.rows ≡ false → Compat l → Compat (grant l c life ino mode)
 c_granted l c life ino mode want free k =
     record {

@@ -1,4 +1,4 @@
--- No conflict is sent: at a step of a server, from what stands of all its clients.
+-- No conflict is sent: at a step of a server, from what holds of all its clients.
 use Rattle.std.proofs.Common.{◌≡◌, ℕ, ◌+◌, ◌<◌, ◌≤◌, Bool, true, false, not, List, [], ◌∷◌, ◌==◌, refl, sym, ap, ◌∙◌, subst, inl, inr, arith}
 use Rattle.std.specs.Prelude.{find, filter, map, cond, Option, Some, None, option_map, Result as Res, Err}
 use Rattle.std.proofs.lemmas.Bool.{eqb-true, eq-eqb, ltb-true}

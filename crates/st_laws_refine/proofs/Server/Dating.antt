@@ -100,7 +100,7 @@ timers_old w s (outputs.Send m ∷ os) ts x h = timers_old w s os ts x h
 timers_old w s (outputs.Answer y z ∷ os) ts x h = timers_old w s os ts x h
 timers_old w s (outputs.Submit y z u ∷ os) ts x h = timers_old w s os ts x h
 
--- What is sent that may date a lease answers the request that came, and its client is no suspect.
+-- What is sent that may date a lease answers the request that came, and its client isn't a suspect.
 pub record AnswersRequest (s : ℕ) (i : ServerInput) (a : Authority) (m : Message) : Type 0 where
   pub ack : authority.may_ack a (client m.header.to) ≡ true
   pub request : Message
@@ -108,7 +108,7 @@ pub record AnswersRequest (s : ℕ) (i : ServerInput) (a : Authority) (m : Messa
   pub asks : is_request request.body ≡ true
   pub replies : is_reply_to request m ≡ true
 
--- a step so far, behind its thefts
+-- a step so far, after its thefts
 pub record DatingTurn (w : World) (s : ℕ) (i : ServerInput) (now : Stamp) (ts : List TimerStart) (t : ServerTurn) : Type 0 where
   pub id : t.state.id.0 ≡ s
   pub wait : 0 < t.state.authority.wait
@@ -245,7 +245,7 @@ module _ (w : World) (s : ℕ) (n : ServerState) (now : Stamp) (i : ServerInput)
   abbrev D : ServerTurn → Type 0
   D t = DatingTurn w s i now ts t
 
-  -- one more output that is no timer's, where the rest of what this speaks of is as it was
+  -- one more output that isn't a timer's, where the rest of what this speaks of is as it was
   said : (t : ServerTurn) (o : Output) → timers_by w S (o ∷ []) (timers_by w S t.out ts) ≡ timers_by w S t.out ts → ((m : Message) → outputs.Send m ≡ o → may_date m.header.number m.body ≡ true → AnswersRequest s i t.state.authority m) → D t → D (record t { out = t.out ++ o ∷ [] })
   said t o e g d = record {
     id = d.id;

@@ -183,7 +183,7 @@ pub takes_is : (w : World) (s : ServerId) (i : ServerInput) (node : ServerNode) 
 unfolding server_takes server_took node_step
 takes_is w s i node runs = ap (λ b. server_took w s (if b then Ok (node_turn node (server_step node.state (clock_of w (nodes.Server s)) i)) else Err Crashed)) runs
 
--- what stands at a server that runs
+-- what holds at a server that runs
 pub sound_of : (d wait : ℕ) (now : Stamp) (b : Bool) (n : ServerState) (x : Ghost) → b ≡ true → StandsAt d wait now b n x → Sound d wait now n x
 sound_of d wait now true n x e s = s
 sound_of d wait now false n x e s = cc

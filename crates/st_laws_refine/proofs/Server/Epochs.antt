@@ -1,4 +1,4 @@
--- Time that passes, and a server that stops and starts, for one client: what stands before it stands after it.
+-- Time that passes, and a server that stops and starts, for one client: what holds before it holds after it.
 use Rattle.std.proofs.Common.{◌≡◌, ℕ, ◌+◌, ◌^◌, ◌<◌, ◌≤◌, Bool, true, false, refl, sym, ap, arith, lt-ltb}
 use Rattle.std.specs.Prelude.{Option, Some, None}
 use Rattle.std.proofs.lemmas.Bool.{ltb-false, le-ltb}

@@ -1,4 +1,4 @@
--- Before the first event: what stands of each client at a fresh server.
+-- Before the first event: what holds of each client at a fresh server.
 use Rattle.std.proofs.Common.{ℕ, true, [], refl, arith}
 use Rattle.std.specs.Prelude.{Some, None}
 use Rattle.st_base.specs.declared.ids.ServerId.{ServerId}
@@ -60,7 +60,7 @@ fresh_begins kb id s servers disks blocks d clock now = record {
   net = refl;
 }
 
--- a number that is no client begins as well
+-- a number that isn't a client begins as well
 pub idle_begins : (kb : base.Config) (id : ServerId) (servers disks blocks d clock : ℕ) (now : Stamp) → BeginsAt (at (client_at clock 1 None empty_store (λ l. 0)) (client d) now (fresh_server id kb servers disks blocks) no_ghost)
 unfolding fresh_server
 idle_begins kb id servers disks blocks d clock now = record {

@@ -129,7 +129,7 @@ module _ (k : Config) (cl : net.Client) (now : Stamp) where
         kept = subst (λ o. Kept v.stable.epoch.0 o y.net) (sym is) tt;
       }
 
-  -- the session of this life stands
+  -- the session of this life is there
   welcomes_again : (t : ServerTurn) (h : Header) (x : Ghost) → Ready h.from k.wait now t x → In (msg h.life 0 h.stamp net.Hello) x.net → may_ack t.state.authority (sender h) ≡ true → grace.is_on t.state.grace now ≡ false →
       life_view (session_of t.state.sessions (sender h)) ≡ h.life → live_view (session_of t.state.sessions (sender h)) ≡ true → Result k cl h.from now t (reply t h bd.Welcome) x
   welcomes_again t h x r i free off is live =

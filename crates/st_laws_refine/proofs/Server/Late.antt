@@ -100,7 +100,7 @@ module _ (k : Config) where
           ap (λ o. is_past clock (present_end w (server s) o)) f
           ∙ by_association clock site.node.running ended (association_with site.node.state (server s)) (λ h. let z = l.present h in omega arith) site.node.state.config (st.lease (client c) site f)
 
-  -- every lease that the client had there has come to its end
+  -- every lease that the client had there has ended
   abbrev DatesOver : ℕ → ℕ → ℕ → List LeaseDate → Type 0
   DatesOver clock c s ds = (d : LeaseDate) → Has d ds → d.client.0 ≡ c → d.server.0 ≡ s → d.end.0 ≤ clock
 

@@ -261,7 +261,7 @@ module _ (k : Config) (cl : net.Client) (now : Stamp) where
       go None = frame_same d t.state
       go (Some r) = cond_either (λ (r : Released). Frame d t.state (with_locks r.locks t).state) (is_under (life_in h) g r) (release t.state.locks (sender h) ino to) (not_released t.state.locks) (λ u. release_frame d t (sender h) ino to ne) (λ u. frame_same d t.state)
 
-  -- a grant that stands in the network, with the date of what was asked
+  -- a grant that is in the network, with the date of what was asked
   record Dated (d : ℕ) (n : ServerState) (x : Ghost) (h : Header) (ino : ℕ) (g : GrantNo) (m : Mode) : Type 0 where
     net : List Msg
     moves : Moves k (observe k cl d now n x) (observe k cl d now n (record x { net = net }))
@@ -293,7 +293,7 @@ module _ (k : Config) (cl : net.Client) (now : Stamp) where
       again = moved k _ _ _ (one (Again (observe k cl d now n x) 0 h.stamp (net.Granted ino g.0 (number_of m)) (subst (λ l. In (msg l n.stable.epoch.0 0 (net.Granted ino g.0 (number_of m))) x.net) (sym is) i) refl (subst (λ l. In (msg l n.stable.epoch.0 h.stamp net.Plain) x.net) (sym is) p) (record { up = refl; free = free }) live) refl)
           (λ j. record { c = cl; s = half (client d) now n x; net = msg (is j) n.stable.epoch.0 h.stamp (net.Granted ino g.0 (number_of m)) ∷ x.net })
 
-  -- the held lock is told again
+  -- the held lock is sent again
   held_rule : (t : ServerTurn) (h : Header) (x : Ghost) (ino : ℕ) (r : LockRow) → Ready h.from k.wait now t x → Serving h.from t h x.net → row_of t.state.locks (sender h) ino ≡ Some r → Rule k cl now h.from t h x (replied t (bd.Granted ino r.g r.mode))
   held_rule t h x ino r rd q e =
       record { ghost = z; moves = moves; ready = received_more k cl h.from now t x z (record { start = refl; gstart = refl; top = refl }) moves refl rd; same = refl; epoch = refl; reply = dg.reply }

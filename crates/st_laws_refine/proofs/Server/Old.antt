@@ -38,7 +38,7 @@ past_life : (o : Option Session) (h : Header) → is_below h o ≡ true → (s :
 past_life None h e = cc
 past_life (Some s) h e = (s, refl, ltb-true h.life s.life.0 e)
 
--- a greeting of a life that is past is passed over
+-- a greeting of a life that is past is ignored
 greeting_past : (t : sessions.Sessions) (h : Header) (rows : Bool) (s : Session) → h.life < s.life.0 → sessions.hello_by t (sender h) (life_in h) rows s ≡ record { sessions = t; hello = hellos.Old }
 unfolding sessions.hello_by sessions.hello_live sessions.hello_ended sessions.greeted
 greeting_past t h rows s lt =

@@ -34,7 +34,7 @@ all_has s T [] o a h = elim h [ ]
 all_has s T (x ∷ os) o a (inl e) = subst (OutOk s T) (sym e) a.one
 all_has s T (x ∷ os) o a (inr i) = all_has s T os o a.rest i
 
--- the server's number and settings stay, and all that was put out is as it is to be
+-- the server's number and settings stay, and all that was put out is as it must be
 pub record Outs (s : ℕ) (kb : base.Config) (T : ClientId → Life → Type 0) (t : ServerTurn) : Type 0 where
   pub id : t.state.id.0 ≡ s
   pub config : t.state.config ≡ kb

@@ -154,7 +154,7 @@ module _ (k : Config) (cl : net.Client) (d : ℕ) (now : Stamp) where
   suspecting_goes t Tick = suspect_pass (locks.unanswered t.state.locks now t.state.config) t
   suspecting_goes t (Control m) = goes_same k cl d now t
 
-  -- what a pass over the lock table did so far: moves, and what is to be told
+  -- what a pass over the lock table did so far: moves, and what must be reported
   abbrev pub Tells : (ℕ → GrantNo → Mode → Body) → ℕ → List (ClientId × Life × ℕ × GrantNo × Mode) → List Msg → Type 0
   Tells body epoch [] N = Unit {0}
   Tells body epoch (r ∷ rs) N = record { one : r.0.0 ≡ d → Shows r.1.0 epoch 0 (shown 0 (body r.2 r.3 r.4)) N; rest : Tells body epoch rs N }

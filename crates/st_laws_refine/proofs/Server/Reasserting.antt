@@ -258,7 +258,7 @@ module _ (k : Config) (cl : net.Client) (now : Stamp) where
       go (inl i) le z = let y = eq-eqb life.0 s.life.0 i in cc
       go (inr ne) le z = omega (arith, ne)
 
-  -- no row of this client is left where none of a lower life stands
+  -- no row of this client is left if there is none of a lower life
   no_older : (l : Locks) (c : ClientId) (life : Life) (o : Option Session) → own_older l c life ≡ None → life_view o < life.0 → (i : ℕ) → RowOk o (row_view (row_of l c i)) → row_view (row_of l c i) ≡ None
   no_older l c life o e lt i r = go o (row_of l c i) refl lt r
     where
@@ -271,8 +271,7 @@ module _ (k : Config) (cl : net.Client) (now : Stamp) where
           absurd (least_none (map ino_of_row (filter (is_row_below c life) l.rows)) e x.ino
           (has_map_in ino_of_row (filter (is_row_below c life) l.rows) x (has_filter_in (is_row_below c life) l.rows x p.1 (and_both _ _ (and_true _ _ p.0).0 (lt-ltb x.life.0 life.0 below)))))
 
-  -- what is heard of a reassertion, and two facts that the association's own invariant gives: its grants are of earlier epochs,
-  -- and no wait of this client stands
+  -- what is heard of a reassertion, and two facts that the association's own invariant gives: its grants are of earlier epochs, and this client has no wait
   pub record Reassertion (t : ServerTurn) (h : Header) (rs : List (ℕ × GrantNo × Mode)) (N : List Msg) : Type 0 where
     pub born : 1 ≤ h.life
     pub plain : In (msg h.life t.state.stable.epoch.0 h.stamp net.Plain) N

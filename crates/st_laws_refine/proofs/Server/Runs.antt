@@ -133,7 +133,7 @@ module _ (k : Config) (s : ℕ) (ended : ℕ → ℕ → ℕ) where
   counted_parts : {v : World} {w : World} → ClientsSame (counted w) v → ClientsSame w v
   counted_parts p = record { clients = p.clients; clocks = p.clocks; ended = p.ended; config = p.config; drift = p.drift; form = p.form }
 
-  -- a step of the server in the world: all stands after it, and its thefts are late
+  -- a step of the server in the world: everything holds after it, and its thefts are late
   pub record SteppedLate (w : World) (sc : WorldTurn) (node : ServerNode) (G : ℕ → Ghost) : Type 0 where
     pub node2 : ServerNode
     pub runs : node2.running ≡ true

@@ -1,4 +1,4 @@
--- Grace waits: outside grace every lease of an earlier epoch has come to its end.
+-- Grace waits: outside grace every lease of an earlier epoch has ended.
 use Rattle.std.proofs.Common.{◌≡◌, ℕ, ◌<◌, ◌≤◌, Bool, true, false, not, ◌&&◌, ◌||◌, ◌==◌, refl, ap, ◌∙◌, subst, arith}
 use Rattle.std.specs.Prelude.{nat_le, nat_lt, Some}
 use Rattle.std.proofs.lemmas.Bool.{le-leb, eqb-true, ltb-true}

@@ -34,7 +34,7 @@ use Rattle.st_laws_refine.specs.Server.Edits.{Wish, WishInput, is_kept, Acquired
 use Rattle.st_laws_refine.specs.Server.Edits.{DropsWaits, Keeps, Reasserts, Sees, Acquires, Releases, DropsFile, Grants, Demands, NamesChange}
 use Rattle.st_laws_refine.specs.Server.Edits.{ExtentsChange, Cuts, Replies, Repeats, Refuses, TellsGrant, TellsDemand}
 
--- what is kept is no conflict
+-- what is kept isn't a conflict
 pub kept_calm : (b : Body) → is_kept b ≡ true → is_conflict b ≡ false
 kept_calm (bd.Nack why.Conflict a b) e = cc
 kept_calm b e = refl
@@ -50,7 +50,7 @@ accept_off g now c life rs l t r e f = err_is r (refusals.GraceOver (grace.grace
     err_is : (x y : AcceptRefusal) → ◌≡◌ {A = Res grace.Accepted AcceptRefusal} (Err x) (Err y) → x ≡ y
     err_is x y e = cc
 
--- what is told of a request is kept
+-- what is reported about a request is kept
 told_kept : (t : ServerTurn) (m : Message) (b r : Body) → tr.Told t m.header b r → is_kept r ≡ true
 told_kept t m b r tr.IsAlive = refl
 told_kept t m b r (tr.IsHeld ino mode x f e q) = refl

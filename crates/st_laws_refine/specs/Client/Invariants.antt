@@ -1,4 +1,4 @@
--- What stands of a client at one server, and within a step.
+-- What holds of a client at one server, and within a step.
 use Rattle.std.specs.Prelude.{ℕ, ◌+◌, ◌<◌, ◌≤◌, ◌≡◌, Bool, true, false, List, [], ◌∷◌, Option, Some, None}
 use Rattle.st_base.specs.declared.ids.ServerId.{ServerId}
 use Rattle.st_base.specs.declared.ids.Life.{Life}
@@ -27,7 +27,7 @@ pub record Beside : Type 0 where
   pub s : Server
   pub ended : ℕ → ℕ
 
--- the association, of a turn and what stands beside it
+-- the association, of a turn and what holds beside it
 abbrev pub at : Beside → ℕ → Turn → List Msg → Assoc
 at b now t N = record { c = client_of b.ended now t.here; s = b.s; net = N }
 
@@ -69,7 +69,7 @@ abbrev pub Waiting : ℕ → ℕ → List Release → List Msg → Type 0
 Waiting life epoch [] N = Unit {0}
 Waiting life epoch (r ∷ rs) N = record { one : In (msg life epoch 0 (net.Released r.ino r.g.0 (released_to r.to))) N; rest : Waiting life epoch rs N }
 
--- a demand that was told is in the network
+-- a demand that was sent is in the network
 pub record Told (life epoch : ℕ) (d : DemandedFile) (N : List Msg) : Type 0 where
   pub stamp : ℕ
   pub g : ℕ
@@ -105,7 +105,7 @@ abbrev pub Quiet : Store → Option ℕ → Type 0
 Quiet st None = Unit {0}
 Quiet st (Some ino) = busy_in st ino ≡ false
 
--- what stands between two steps, with a session
+-- what holds between two steps, with a session
 pub record KeptIn (life : ℕ) (st : Store) (s : ClientSession) (N : List Msg) : Type 0 where
   pub queue : Waiting life s.epoch.0 s.releases N
   pub asked : Outstanding life s.epoch.0 s.due s.requests.asked N
@@ -113,7 +113,7 @@ pub record KeptIn (life : ℕ) (st : Store) (s : ClientSession) (N : List Msg) :
   pub modes : HaveModes s.locks.rows
   pub quiet : Quiet st s.cutting
 
--- what stands between two steps
+-- what holds between two steps
 abbrev pub Kept : ℕ → Store → Option ClientSession → List Msg → Type 0
 Kept life st None N = Unit {0}
 Kept life st (Some s) N = KeptIn life st s N
@@ -123,7 +123,7 @@ abbrev pub Lasts : ℕ → ℕ → Option ClientSession → Type 0
 Lasts lease now None = Unit {0}
 Lasts lease now (Some s) = now < s.lease.date.0 + lease
 
--- what stands within a step: the lease lasts, and all that is sent, queued, outstanding or received is in the network
+-- what holds within a step: the lease lasts, and all that is sent, queued, outstanding or received is in the network
 pub record Ready (k : Config) (now : ℕ) (hs : List Msg) (t : Turn) (N : List Msg) : Type 0 where
   pub terms : t.config.lease ≡ k.lease
   pub born : 1 ≤ t.here.life.0

@@ -31,7 +31,7 @@ pub record Place (own : ServerId) (list : List Association) (a : Association) : 
   pub apart_before : Apart own before
   pub apart_after : Apart own after
 
--- a client's turn, seen from one association; what stands beside it is another one where a life ended
+-- a client's turn, seen from one association; what holds beside it is another one where a life ended
 pub record ClientResult (k : Config) (b d : Beside) (now : ℕ) (hs : List Msg) (own : ServerId) (a : Association) (U : ClientTurn) (N : List Msg) : Type 0 where
   pub last : Association
   pub net : List Msg
@@ -66,7 +66,7 @@ Comes own id (inputs.Control m) hs =
     }
 Comes own id input hs = Unit {0}
 
--- a step of a client, whatever comes, is for its association with a server a list of moves, and what stood before it stands after it
+-- a step of a client, whatever comes, is for its association with a server a list of moves, and what held before it holds after it
 abbrev pub ClientStepsAreMoves : Type 0
 ClientStepsAreMoves =
     (k : Config) (b : Beside) (now : Stamp) (hs : List Msg) (own : ServerId) (s : ClientState) (input : ClientInput) (a : Association) (N : List Msg) →

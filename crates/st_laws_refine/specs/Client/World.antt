@@ -23,18 +23,18 @@ use Rattle.st_laws_refine.specs.Views.Halves.{client_of}
 use Rattle.st_laws_refine.specs.Client.Invariants.{Beside, Kept, Lasts, Said}
 use Rattle.st_laws_refine.specs.Client.Law.{Comes, LifeEnds, Place}
 
--- the log behind an output of a client: an accepted write or patch joins it, under the client's life at the file's server
+-- the log after an output of a client: an accepted write or patch joins it, under the client's life at the file's server
 abbrev pub logged_note : ClientId → (ServerId → Life) → Note → List LogEntry → List LogEntry
 logged_note c lives (notes.Accepted f p bytes) es = log.accept es c (lives f.server) f p bytes
 logged_note c lives (notes.Patched f p at bytes) es = log.patch es c (lives f.server) f p at bytes
 logged_note c lives n es = es
 
--- the log behind one output
+-- the log after one output
 abbrev pub logged_one : ClientId → (ServerId → Life) → Output → List LogEntry → List LogEntry
 logged_one c lives (outputs.Note n) es = logged_note c lives n es
 logged_one c lives o es = es
 
--- the log behind outputs
+-- the log after outputs
 abbrev pub logged : ClientId → (ServerId → Life) → List Output → List LogEntry → List LogEntry
 logged c lives [] es = es
 logged c lives (o ∷ os) es = logged c lives os (logged_one c lives o es)
@@ -68,8 +68,8 @@ lost_lives c before (outputs.Submit n a w ∷ os) = lost_lives c before os
 lost_lives c before (outputs.Answer o a ∷ os) = lost_lives c before os
 lost_lives c before (outputs.Note n ∷ os) = lost_life c before n ++ lost_lives c before os
 
--- What stands between events of a client of the world at one server: it has its number, the lease time of the machine, one association
--- with the server in a life above 0, and what stands of that association with the messages of the two.
+-- What holds between events of a client of the world at one server: it has its number, the lease time of the machine, one association with the server in a life
+-- above 0, and what holds of that association with the messages of the two.
 pub record Sim (k : Config) (c : ClientId) (own : ServerId) (site : WorldClient) (a : Association) (N : List Msg) : Type 0 where
   pub id_ : site.node.state.id.0 ≡ c.0
   pub terms : site.node.state.config.lease ≡ k.lease
@@ -89,8 +89,8 @@ site_left w c site input = ev.at_node (cl.node_turn site.node (stepped w c site 
 abbrev pub world_left : World → ClientId → WorldClient → ClientInput → World
 world_left w c site input = (ev.client_took w c site (Ok (cl.node_turn site.node (stepped w c site input)))).world
 
--- What a client's step leaves of the world: the client itself is changed, its messages are behind the others, and the lives that
--- it lost are among those that ended.
+-- What a client's step leaves of the world: the client itself is changed, its messages are after the others, and the lives that it lost are among those that
+-- ended.
 pub record WorldLeft (w : World) (c : ClientId) (site : WorldClient) (input : ClientInput) : Type 0 where
   pub clients : (world_left w c site input).clients ≡ with_numbered c.0 (site_left w c site input) w.clients
   pub servers : (world_left w c site input).servers ≡ w.servers
@@ -99,8 +99,8 @@ pub record WorldLeft (w : World) (c : ClientId) (site : WorldClient) (input : Cl
   pub messages : (world_left w c site input).net.messages ≡ w.net.messages ++ sent (stepped w c site input).out
   pub ended : (world_left w c site input).ended ≡ w.ended ++ lost_lives c site.node.state (stepped w c site input).out
 
--- What a client's step makes of its association with one server: moves, and what stood of it stands again, with the messages that
--- it said; and a lease that is held then lasts.
+-- What a client's step makes of its association with one server: moves, and what held of it holds again, with the messages that it said; and a lease that is
+-- held then lasts.
 pub record OwnMoves (k : Config) (b : Beside) (w : World) (c : ClientId) (site : WorldClient) (input : ClientInput) (own : ServerId)
     (a : Association) (N : List Msg) : Type 0 where
   pub ended : ℕ → ℕ

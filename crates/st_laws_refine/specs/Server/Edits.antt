@@ -70,13 +70,13 @@ is_kept (bodies.Named r) = true
 is_kept (bodies.Nack w a b) = not (refuses_client w)
 is_kept b = false
 
--- A reply to a request of a client that is no suspect, or one that dates no lease; and no conflict.
+-- A reply to a request of a client that isn't a suspect, or one that dates no lease; and no conflict.
 pub record ReplyOk (s : ServerState) (m : Message) (b : Body) : Type 0 where
   pub calm : is_conflict b ≡ false
   pub free : may_date m.header.number b ≡ true → authority.may_ack s.authority (sender m.header) ≡ true
   pub request : is_request m.body ≡ true
 
--- What an acquired lock makes of the table: outside grace a grant where no row stands against it and nobody else waits, or a wait.
+-- What an acquired lock makes of the table: outside grace a grant where no row conflicts with it and nobody else waits, or a wait.
 pub data Acquired (graced : Bool) (l : Locks) (c : ClientId) (life : Life) (ino : ℕ) (mode : Mode) : Locks → Type 0 where
   AtOnce : graced ≡ false → 1 ≤ number_of mode → list_any (stands_against c ino mode) l.rows ≡ false →
       list_any (waits_besides c ino) l.waiters ≡ false →

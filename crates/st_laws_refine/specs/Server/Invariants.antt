@@ -1,4 +1,4 @@
--- What stands between events at a server of the world, for all its clients at once.
+-- What holds between events at a server of the world, for all its clients at once.
 use Rattle.std.specs.Prelude.{◌≡◌, ◌≢◌, ℕ, ◌+◌, ◌≤◌, length, true, false, Some, None, is_some}
 use Rattle.std.specs.List.{list_all}
 use Rattle.st_base.specs.declared.ids.ClientId.{ClientId}
@@ -39,14 +39,14 @@ pub record Compat (l : Locks) : Type 0 where
 abbrev pub pairs : ℕ → (ℕ → ℕ → ℕ) → World → ServerNode → (ℕ → Ghost) → net.World
 pairs s ended w node G = record { at = λ c. pair c s (ended c) w node (G c) }
 
--- What stands between events at a server, whether it runs or not: its associations are in a state that the machine can reach,
--- each client is served as it is to be, and its rows are compatible.
+-- What holds between events at a server, whether it runs or not: its associations are in a state that the machine can reach, each client is served as it must
+-- be, and its rows are compatible.
 pub record Stands (k : Config) (s : ℕ) (ended : ℕ → ℕ → ℕ) (w : World) (node : ServerNode) (G : ℕ → Ghost) : Type 0 where
   pub reached : Reached k (pairs s ended w node G)
   pub served : (c : ℕ) → Served k.wait c s w node (G c)
   pub compat : Compat node.state.locks
 
--- each client's lease is as long as the settings say, and no life has ended of what is no client
+-- each client's lease is as long as the settings say, and no life has ended of a number that isn't a client
 pub record Settings (k : Config) (w : World) : Type 0 where
   pub lease : (c : ClientId) (site : WorldClient) → site_of w c ≡ Some site → site.node.state.config.lease ≡ k.lease
   pub ended : (c : ClientId) (s : ServerId) (life : Life) → site_of w c ≡ None → ended_of w c s life ≡ None
@@ -72,25 +72,25 @@ pub data StepsAt (s : ℕ) (w : World) (e : Event) : Type 0 where
   ByTick : e ≡ events.Tick (nodes.Server (server s)) → StepsAt s w e
   ByMessage : (n : ℕ) (m : SentMessage) → e ≡ events.Deliver n → message_of w n ≡ Some m → receiver_of m ≡ nodes.Server (server s) → StepsAt s w e
 
--- After an advance all stands again, also of the clocks.
+-- After an advance everything holds again, also of the clocks.
 pub record AfterAdvance (k : Config) (s : ℕ) (ended : ℕ → ℕ → ℕ) (v : World) (node : ServerNode) (G : ℕ → Ghost) : Type 0 where
   pub ghosts : ℕ → Ghost
   pub stands : Stands k s ended v node ghosts
   pub timed : Timed k s v ghosts
   pub nets : (c : ℕ) → (ghosts c).net ≡ (G c).net
 
--- a kept reply is no conflict
+-- a kept reply isn't a conflict
 abbrev pub CalmState : SessionState → Type 0
 CalmState (Live last None) = Unit {0}
 CalmState (Live last (Some b)) = is_conflict b ≡ false
 CalmState Ended = Unit {0}
 
--- What no conflict rests on at a server: each client has one row on a file, and no kept reply is a conflict.
+-- What the absence of conflicts rests on at a server: each client has one row on a file, and no kept reply is a conflict.
 pub record Calm (n : ServerState) : Type 0 where
   pub once : are_once same_row n.locks.rows ≡ true
   pub kept : (s : Session) → Has s n.sessions.rows → CalmState s.state
 
--- After a step of a server all stands again, its thefts were late for every lease that a reply dated, and it sent no conflict.
+-- After a step of a server everything holds again, its thefts were late for every lease that a reply dated, and it sent no conflict.
 pub record AfterStep (k : Config) (s : ℕ) (ended : ℕ → ℕ → ℕ) (w : World) (sc : WorldTurn) (before : ServerNode) (G : ℕ → Ghost) : Type 0 where
   pub node : ServerNode
   pub ghosts : ℕ → Ghost

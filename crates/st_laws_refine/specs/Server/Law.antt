@@ -1,4 +1,4 @@
--- The laws of the server's side: its steps are moves, what stands at it, and which promises it carries.
+-- The laws of the server's side: its steps are moves, what is at it, and which promises it carries.
 use Rattle.std.specs.Prelude.{◌≡◌, ℕ, ◌<◌, ◌≤◌, true, false, length, List, [], Ok}
 use Rattle.st_base.specs.declared.ids.NodeId.TheVariants as nodes
 use Rattle.st_base.specs.declared.ids.ServerId.{ServerId}
@@ -34,7 +34,7 @@ pub record ServerResult (k : Config) (cl : net.Client) (d : ℕ) (now : Stamp) (
   pub moves : Moves k (at cl (client d) now t.state x) (at cl (client d) now u.state ghost)
   pub ready : Ready d k.wait now u ghost
 
--- a step of a server, whatever comes, is for its association with a client a list of moves, and what stood before it stands after it
+-- a step of a server, whatever comes, is for its association with a client a list of moves, and what held before it holds after it
 abbrev pub ServerStepsAreMoves : Type 0
 ServerStepsAreMoves =
     (k : Config) (w : net.World) (cl : net.Client) (now : Stamp) (d : ℕ) (n : ServerState) (x : Ghost) (i : ServerInput) → ConfigOk k → Reached k w →
@@ -45,21 +45,21 @@ ServerStepsAreMoves =
 abbrev pub RowsStayCompatible : Type 0
 RowsStayCompatible = (n : ServerState) (now : Stamp) (i : ServerInput) → WishInput i → Compat n.locks → Compat (server_step n now i).state.locks
 
--- What stands at a server that runs stands again after a tick or a delivery to it, and its thefts were late.
+-- The invariant of a server that runs holds again after a tick or a delivery to it, and its thefts were late.
 abbrev pub StepsKeepServers : Type 0
 StepsKeepServers =
     (k : Config) (s : ℕ) (ended : ℕ → ℕ → ℕ) (w : World) (e : Event) (sc : WorldTurn) (node : ServerNode) (G : ℕ → Ghost) →
     ConfigOk k → 1 ≤ s → node.running ≡ true → Settings k w → ((c : ℕ) → EndedBy c s (ended c) w.ended) →
     world_step w e ≡ Ok sc → StepsAt s w e → Stands k s ended w node G → AfterStep k s ended w sc node G
 
--- It stands again after an advance, in both forms of the head, whether the server runs or not.
+-- It holds again after an advance, in both forms of the head, whether the server runs or not.
 abbrev pub AdvancesKeepServers : Type 0
 AdvancesKeepServers =
     (k : Config) (s : ℕ) (ended : ℕ → ℕ → ℕ) (w : World) (steps : List ℕ) (sc : WorldTurn) (node : ServerNode) (G : ℕ → Ghost) →
     ConfigOk k → 1 ≤ s → length steps ≡ length w.clocks → world_step w (events.Advance steps) ≡ Ok sc →
     Timed k s w G → Stands k s ended w node G → AfterAdvance k s ended sc.world node G
 
--- It stands again after a crash of the server, where the grants of the epoch are few.
+-- It holds again after a crash of the server, where the grants of the epoch are few.
 abbrev pub CrashesKeepServers : Type 0
 CrashesKeepServers =
     (k : Config) (s : ℕ) (ended : ℕ → ℕ → ℕ) (w : World) (sc : WorldTurn) (node : ServerNode) (G : ℕ → Ghost) →
@@ -75,22 +75,21 @@ started_ghosts s ended w G c =
       glife = (client_in w c s (ended c)).life;
     }
 
--- It stands again after a start of the server.
+-- It holds again after a start of the server.
 abbrev pub StartsKeepServers : Type 0
 StartsKeepServers =
     (k : Config) (s : ℕ) (ended : ℕ → ℕ → ℕ) (w : World) (sc : WorldTurn) (node : ServerNode) (G : ℕ → Ghost) →
     0 < k.wait → node.running ≡ false → world_step w (events.Start (nodes.Server (server s))) ≡ Ok sc → Stands k s ended w node G →
     Stands k s ended sc.world (start_node node (clock_of w (nodes.Server (server s)))) (started_ghosts s ended w G)
 
--- Where it stands, the server waited out its grace: outside grace every lease of an earlier epoch has come to its end.
+-- Where it holds, the server waited out its grace: outside grace every lease of an earlier epoch has ended.
 abbrev pub ServersWait : Type 0
 ServersWait =
     (k : Config) (s : ℕ) (ended : ℕ → ℕ → ℕ) (t : Traced) (node : ServerNode) (G : ℕ → Ghost) →
     ConfigOk k → Stands k s ended t.world node G → DatesKnown t.world t.history.dates →
     ((c : ℕ) → DatesShown k.lease c s t.history.dates (G c).net) → has_waited t (server s) ≡ true
 
--- What no conflict rests on stands at a fresh server, and after a crash and a start. The moment is not spoken of, so time
--- that passes leaves it.
+-- What the absence of conflicts rests on holds at a fresh server, and after a crash and a start. It doesn't mention the moment, so passing time keeps it.
 pub record CalmStays : Type 0 where
   pub fresh : (id : ServerId) (kb : base.Config) (servers disks blocks : ℕ) → Calm (fresh_server id kb servers disks blocks)
   pub crashed : (n : ServerState) → Calm (crash n)

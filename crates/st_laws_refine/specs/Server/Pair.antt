@@ -37,11 +37,11 @@ abbrev pub stamp_number : Option Stamp → ℕ
 stamp_number None = 0
 stamp_number (Some t) = t.0
 
--- a number that is no client has no lease, and a clock that is never behind the server's
+-- a number that isn't a client has no lease, and a clock that never lags the server's
 abbrev pub idle_client : World → ℕ → net.Client
 idle_client w s = client_at (w.config.den * (clock_of w (nodes.Server (server s))).0) 1 None empty_store (λ l. 0)
 
--- a client of the world, where there is one
+-- a client of the world, if there is one
 abbrev pub client_at_site : World → ℕ → ℕ → (ℕ → ℕ) → Option WorldClient → net.Client
 client_at_site w c s ended None = idle_client w s
 client_at_site w c s ended (Some site) =
@@ -69,7 +69,7 @@ abbrev pub pair : ℕ → ℕ → (ℕ → ℕ) → World → ServerNode → Gho
 pair c s ended w node x =
     record { c = client_in w c s ended; s = half_of (client c) (clock_of w (nodes.Server (server s))) node.running node.state x; net = x.net }
 
--- what stands between events of a client and a server, whether the server runs or not
+-- what holds between events of a client and a server, whether the server runs or not
 pub record Served (wait c s : ℕ) (w : World) (node : ServerNode) (x : Ghost) : Type 0 where
   pub found : node_of w (server s) ≡ Some node
   pub id : node.state.id.0 ≡ s
@@ -101,8 +101,8 @@ terms_of kb = record { lease = kb.lease; num = kb.num; den = kb.den; wait = stea
 abbrev pub drift_between : World → ℕ → ℕ → ℕ
 drift_between w c s = slice_index (get_or w.drift (pred (length w.clients + s)) []) (pred c)
 
--- What stands of the clocks: the settings are the world's; each pair of nodes has its number of drift, and each node its clock;
--- the drift that the machine has of a client is the world's number.
+-- What holds of the clocks: the settings are the world's; each pair of nodes has its number of drift, and each node its clock; the drift that the machine has
+-- of a client is the world's number.
 pub record Timed (k : net.Config) (s : ℕ) (w : World) (G : ℕ → Ghost) : Type 0 where
   pub terms : k ≡ terms_of w.config
   pub tall : length w.drift ≡ length w.clocks

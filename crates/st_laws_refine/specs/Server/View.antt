@@ -1,4 +1,4 @@
--- What stands of one client at a server that runs.
+-- What holds of one client at a server that runs.
 use Rattle.std.specs.Prelude.{◌≡◌, ℕ, ◌+◌, ◌<◌, ◌≤◌, Bool, true, false, List, [], ◌∷◌, Option, Some, None, is_some}
 use Rattle.st_base.specs.declared.ids.ClientId.{ClientId}
 use Rattle.st_base.specs.declared.ids.Stamp.{Stamp}
@@ -50,7 +50,7 @@ abbrev pub Said : ℕ → List Output → List Msg → Type 0
 Said d [] N = Unit {0}
 Said d (o ∷ os) N = record { one : SaidOne d o N; rest : Said d os N }
 
--- What stands of this client at a server that runs.
+-- What holds of this client at a server that runs.
 
 -- a living session of this life
 abbrev pub ServesLife : ℕ → Option Session → Type 0
@@ -108,7 +108,7 @@ WaitSound d n N w =
     WaitOk (sessions.session_of n.sessions (client d)) (is_some (authority.suspect_of n.authority (client d)))
     (row_view (locks.row_of n.locks (client d) w.ino)) n.stable.epoch.0 N w
 
--- what stands between two steps
+-- what holds between two steps
 pub record Sound (d wait : ℕ) (now : Stamp) (n : ServerState) (x : Ghost) : Type 0 where
   pub lepoch : n.locks.epoch ≡ n.stable.epoch
   pub sepoch : n.sessions.epoch ≡ n.stable.epoch
@@ -131,13 +131,13 @@ pub record Ready (d wait : ℕ) (now : Stamp) (t : ServerTurn) (x : Ghost) : Typ
   pub said : Said d t.out x.net
   pub sound : Sound d wait now t.state x
 
--- What stands of a client at a server that is down: nothing but the stable part is left, and the grants of the next epoch are
--- above all that this client was given.
+-- What holds of a client at a server that is down: nothing but the stable part is left, and the grants of the next epoch are above all that this client was
+-- given.
 pub record Stopped (wait : ℕ) (n : ServerState) (x : Ghost) : Type 0 where
   pub emptied : crash n ≡ n
   pub top : x.top < locks.first_after (next_epoch n.stable.epoch)
 
--- what stands of a client at a server, whether the server runs or not
+-- what holds of a client at a server, whether the server runs or not
 abbrev pub StandsAt : ℕ → ℕ → Stamp → Bool → ServerState → Ghost → Type 0
 StandsAt d wait now true n x = Sound d wait now n x
 StandsAt d wait now false n x = Stopped wait n x

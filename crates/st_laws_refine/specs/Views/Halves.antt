@@ -74,14 +74,14 @@ client_at now life o st ended =
       ended = ended;
     }
 
--- the ends of the lives that are over stand in no state of the client
+-- the ends of the lives that are over are in no state of the client
 abbrev pub client_of : (ℕ → ℕ) → ℕ → Association → Client
 client_of ended now a = client_at now a.life.0 a.session a.store ended
 
 -- The server's half.
 
--- what no state keeps, or not longer than it is needed: both clocks when the last timer and when the last grace began, a number
--- that no grant to this client is above, how far the server's clock ran ahead of the client's, and all that was sent between the two
+-- what no state keeps, or not longer than it is needed: both clocks when the last timer and when the last grace began; a number that no grant to this client is
+-- above; how far the server's clock ran ahead of the client's; and all that was sent between the two
 pub record Ghost : Type 0 where
   pub start : ℕ
   pub base : ℕ
@@ -96,7 +96,7 @@ pub record Ghost : Type 0 where
 abbrev pub row_seen : LockRow → net.Row
 row_seen r = record { life = r.life.0; g = r.g.0; mode = number_of r.mode }
 
--- a row, where there is one
+-- a row, if there is one
 abbrev pub row_view : Option LockRow → Option net.Row
 row_view None = None
 row_view (Some r) = Some (row_seen r)

@@ -98,7 +98,7 @@ module _ (M : List Message) (c : ClientId) (Known : ℕ → Ask → Type 0) (Bef
     between : (t : Turn) (epoch number stamp : ℕ) (body : Body) → t.id ≡ c → Between c t.here.server (message t epoch number stamp body)
     between t epoch number stamp body e = (ap (λ (y : ClientId). y.0) e, refl)
 
-    -- a message that is no request
+    -- a message that isn't a request
     pub w_idle : (t : Turn) (epoch stamp : ℕ) (body : Body) → (W M c Known Before Done s B out0) t → (W M c Known Before Done s B out0) (cs.send t epoch 0 stamp body)
     unfolding cs.send
     w_idle t epoch stamp body w = (w_say M c Known Before Done s B out0) t _ (between t epoch 0 stamp body w.base.id_, refl, refl) w

@@ -333,7 +333,7 @@ module _ (M : List Message) (c : ClientId) (Known : ℕ → Ask → Type 0) (Bef
             (ending.with_pages (pages.fail t.here.store.pages x.ino x.page x.number) (ending.without x t)) _ _ (λ op. tt) w
         go _ (ending.FailsToWriteOlder x v o i e j) = (w_answers M c Known Before Done s B out0) (ending.without x t) _ _ (λ op. tt) w
 
-    -- The pass over the operations: those that were not yet looked at stand behind those that stay.
+    -- The pass over the operations: those that were not yet looked at come after those that stay.
     abbrev R : List Operation → Turn → Type 0
     R os t = (Whole M c Known Before Done) s B out0 t.id t.here.server t.here.life.0 (view t.here.session) (t.operations ++ os) t.out
 

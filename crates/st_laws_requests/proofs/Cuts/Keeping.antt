@@ -1,5 +1,5 @@
--- What stands within a client's rule at a server, of its requests, of who waits for one and of what is sent and answered; and what small
--- changes, refusals and new sessions leave of it.
+-- What holds within a client's rule at a server, of its requests, of who waits for one and of what is sent and answered; and what small changes, refusals and
+-- new sessions leave of it.
 use Rattle.std.proofs.Common.{◌≡◌, ℕ, ◌≤◌, ◌<◌, ◌⊎◌, Bool, true, false, not, ◌&&◌, ◌==◌, List, [], ◌∷◌, ◌++◌, Option, Some, None, refl, sym, ap, ◌∙◌, subst}
 use Rattle.std.proofs.Common.{inl, inr, arith, if◌then◌else◌}
 use Rattle.std.specs.Prelude.{map}
@@ -84,11 +84,11 @@ module _ (M : List Message) (c : ClientId) (Known : ℕ → Ask → Type 0) (Bef
   abbrev pub Sent : List Output → Message → Type 0
   Sent out m = Has m M ⊎ Has (outputs.Send m) out
 
-  -- what is said of an ask was done
+  -- what is reported about an ask was done
   abbrev pub SaidAs : ℕ → AppAnswer → Type 0
   SaidAs op a = (ask : Ask) × Known op ask × Done op ask a
 
-  -- `cut` is said of a cut that was done, and an answer of names of what they said
+  -- `cut` answers a cut that was done, and an answer of names gives what they said
   abbrev pub SaidOf : ℕ → AppAnswer → Type 0
   SaidOf op answers.Cut = SaidAs op answers.Cut
   SaidOf op (answers.Named ino) = SaidAs op (answers.Named ino)
@@ -103,13 +103,13 @@ module _ (M : List Message) (c : ClientId) (Known : ℕ → Ask → Type 0) (Bef
   said_of op (answers.Refused code) s = s
   said_of op a s = tt
 
-  -- an output that is no request
+  -- an output that isn't a request
   abbrev pub Okay : ServerId → ℕ → Output → Type 0
   Okay s life (outputs.Send m) = Between c s m × (m.header.life ≡ life) × (m.header.number ≡ 0)
   Okay s life (outputs.Answer op a) = SaidOf op a
   Okay s life o = Unit {0}
 
-  -- What stands within a rule at a server, with the operations and outputs that it began with: but for who waits.
+  -- What holds within a rule at a server, with the operations and outputs that it began with: except for who waits.
   pub record Base (s : ServerId) (B : List Operation) (out0 : List Output) (id : ClientId) (sv : ServerId) (life : ℕ) (v : Option (ℕ × Requests))
       (ops : List Operation) (out : List Output) : Type 0 where
     pub id_ : id ≡ c

@@ -1,4 +1,4 @@
--- Answers are logged: at the start, behind every event, and over whole runs.
+-- Answers are logged: at the start, after every event, and over whole runs.
 use Rattle.std.proofs.Common.{◌≡◌, ℕ, ◌⊎◌, List, [], ◌∷◌, ◌++◌, Option, Some, None, Ok, refl, sym, subst, inl, inr, arith}
 use Rattle.std.specs.Prelude.{true, nat_le}
 use Rattle.std.proofs.lemmas.Bool.{leb-true}

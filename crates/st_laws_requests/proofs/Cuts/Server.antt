@@ -162,7 +162,7 @@ module _ (Q : Body → Bool) (kind : Kind Q) (s : ServerId) (e : Epoch) (F : Lis
   abbrev pub Said : List Output → Message → Type 0
   Said out x = (x.header.from ≡ server_node s) × (Q x.body ≡ true → (x.header.epoch ≡ e.0) × F out (client x.header.to) x.header.life x.header.number x.body)
 
-  -- What stands within a step.
+  -- What holds within a step.
   pub record Acks (t : ServerTurn) : Type 0 where
     pub id : t.state.id ≡ s
     pub epoch : t.state.stable.epoch ≡ e
@@ -275,7 +275,7 @@ module _ (Q : Body → Bool) (kind : Kind Q) (s : ServerId) (e : Epoch) (F : Lis
 -- A step of a server with an input, from these names.
 module _ (Q : Body → Bool) (kind : Kind Q) (s : ServerId) (e : Epoch) (i : ServerInput) (n : Names) (Old : ClientId → ℕ → ℕ → Body →
     Type 0) (state : ServerState) (now : Stamp) where
-  -- behind the thefts
+  -- after the thefts
   abbrev pub start : ServerTurn
   start = thefts (turn state []) now
 
@@ -308,7 +308,7 @@ module _ (Q : Body → Bool) (kind : Kind Q) (s : ServerId) (e : Epoch) (i : Ser
     pub noted : Noted by.body out m b
     pub how : Serves by b ⊎ (reasserts by.body ≡ true)
 
-  -- a reply of this key is of such a request, or stood before
+  -- a reply of this key is of such a request, or was there before
   abbrev pub Good : Names → List Output → ClientId → ℕ → ℕ → Body → Type 0
   Good m out c life number b = Old c life number b ⊎ New m out c life number b
 
@@ -339,7 +339,7 @@ module _ (Q : Body → Bool) (kind : Kind Q) (s : ServerId) (e : Epoch) (i : Ser
   pub before_more : (out os : List Output) (c : ClientId) (life number : ℕ) (b : Body) → Before out c life number b → Before (out ++ os) c life number b
   before_more out os c life number b o = o
 
-  -- before the input is taken, and behind it
+  -- before the input is taken, and after it
   abbrev Ob : ServerTurn → Type 0
   Ob t = O Q kind s e Before before_more n t
 
@@ -356,7 +356,7 @@ module _ (Q : Body → Bool) (kind : Kind Q) (s : ServerId) (e : Epoch) (i : Ser
     pub fresh : sv.take start by.header ≡ takes.Fresh
     pub names_ : (rule start now by.header by.body).turn.state.stable.names ≡ m
 
-  -- what stands behind the input, and why names are these
+  -- what holds after the input, and why names are these
   abbrev Left : ServerTurn → Type 0
   Left t = (m : Names) × (Oa m t × ((m ≡ n) ⊎ ServesNames m))
 

@@ -1,4 +1,4 @@
--- A whole step of a client keeps what stands of its requests at all its servers.
+-- A whole step of a client keeps what holds of its requests at all its servers.
 use Rattle.std.proofs.Common.{◌≡◌, ℕ, ◌≤◌, ◌⊎◌, Bool, true, false, ◌==◌, List, [], ◌∷◌, ◌++◌, refl, sym, ap, ◌∙◌, subst, inl, inr, arith, if◌then◌else◌}
 use Rattle.std.specs.Prelude.{map}
 use Rattle.std.proofs.lemmas.Bool.{eqb-true}
@@ -49,13 +49,13 @@ onces_last (x ∷ xs) a o f = record { first = λ b h e. first b (has_append xs 
     first b (inr (inr i)) e = i
 
 module _ (M : List Message) (c : ClientId) (Known : ℕ → Ask → Type 0) (Before : ServerId → ℕ → ℕ → ℕ → ℕ → Type 0) (Done : ℕ → Ask → AppAnswer → Type 0) where
-  -- what stands at an association, within a step
+  -- what holds of an association, within a step
   pub record At (ops : List Operation) (out : List Output) (a : Association) : Type 0 where
     pub numbers : Numbers (Sent M c Known Before Done out) c a.server a.life.0 (view a.session)
     pub waits : AllWait Before a.server a.life.0 (view a.session) ops
     pub alone : OneWaits a.server ops
 
-  -- what stands of a step so far, with associations that are yet to come
+  -- what holds of a step so far, with associations that are still to come
   pub record Held (rest : List Association) (t : ClientTurn) : Type 0 where
     pub id_ : t.state.id ≡ c
     pub asked : (o : Operation) → Has o t.state.operations → Known o.op o.ask

@@ -1,4 +1,4 @@
--- Every event keeps what stands of requests and their replies.
+-- Every event keeps what holds of requests and their replies.
 use Rattle.std.proofs.Common.{◌==◌, ◌≡◌, ◌≢◌, ℕ, ◌+◌, ◌≤◌, ◌⊎◌, Bool, true, false, not, List, [], ◌∷◌, ◌++◌, Option, Some, None, Ok, Err, refl, sym, ap, ◌∙◌, subst, inl, inr, arith, if◌then◌else◌}
 use Rattle.std.specs.Prelude.{map, length, suc, nat_le, pred}
 use Rattle.std.specs.List.{cons_option}
@@ -384,7 +384,7 @@ module _ (past : List Step) (t : Traced) (e : Event) (d : CutsHold past t) where
       below : (o : Operation) → Has o old.node.state.operations → o.op ≤ old.asks
       below o h = subst (λ n. o.op ≤ n) old_ok.count (numbered_below (asks_of past c) o.op o.ask (old_ok.asked o h)).1
 
-      -- what stands at the beginning, where it runs
+      -- what holds at the beginning, if it runs
       begins : site.node.running ≡ true → Held M c Known (Early past2 c) Done [] (client_turn site.node.state [])
       begins run = subst (λ (n : cl.ClientNode). Held M c Known (Early past2 c) Done [] (client_turn n.state [])) (sym z.same)
           (record {
@@ -688,7 +688,7 @@ module _ (past : List Step) (t : Traced) (d : CutsHold past t) where
   abbrev w : World
   w = ev.counted t.world
 
-  -- an event that is no ask
+  -- an event that isn't an ask
   plain : (e : Event) → ((c : ClientId) → ask_in c e ≡ None) → (c : ClientId) (i : ClientInput) (site : WorldClient) → site_of t.world c ≡ Some site → Tells past t e d c i → Takes past t e d c i site site
   plain e q c i site at k =
       let o = d.clients c site at in

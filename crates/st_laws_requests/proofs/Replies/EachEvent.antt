@@ -43,14 +43,14 @@ abbrev pub Brings : World → ServerInput → Type 0
 Brings t serving.Tick = Unit {0}
 Brings t (serving.Control m) = Has m (messages t)
 
--- the step of a client, and its place behind it
+-- the step of a client, and its place after it
 abbrev pub ClientTook : World → ClientId → ClientInput → WorldClient → ClientTurn
 ClientTook v c i site = cl.client_step site.node.state (clock_of v (nodes.Client c)) i
 
 abbrev pub SiteAfter : World → ClientId → ClientInput → WorldClient → WorldClient
 SiteAfter v c i site = ev.at_node (record site.node { state = (ClientTook v c i site).state }) site
 
--- the step of a server, its node behind it, and the world that it leaves
+-- the step of a server, its node after it, and the world that it leaves
 abbrev pub ServerTook : World → ServerId → ServerInput → ServerNode → server.ServerTurn
 ServerTook t s i node = server.server_step node.state (clock_of (ev.counted t) (nodes.Server s)) i
 

@@ -1,4 +1,4 @@
--- Outstanding requests are the last ones: behind a client's step, behind each event, and in every run.
+-- Outstanding requests are the last ones: after a client's step, after each event, and in every run.
 use Rattle.std.proofs.Common.{◌≡◌, None, sym, subst}
 use Rattle.st_rules.specs.ClientPages.{empty_store}
 use Rattle.st_rules.specs.ClientState.{Association}

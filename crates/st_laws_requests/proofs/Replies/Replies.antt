@@ -42,7 +42,7 @@ says_more ms ns f s n m k = record { up_to = k.up_to; behind = λ run e b l. go 
     go (inl h) = inl h
     go (inr r) = inr (record { by = r.by; among = f r.by r.among; from = r.from; there = r.there; of_life = r.of_life; of_epoch = r.of_epoch; under = r.under; rows = r.rows; asks = r.asks; beyond = r.beyond })
 
--- What stands behind every event.
+-- What holds after every event.
 pub record RepliesHold (past : List Step) (t : Traced) : Type 0 where
   pub dated : Dated past t
   pub replies : RepliesSay t.world

@@ -187,7 +187,7 @@ module _ (s : ServerId) (e : Epoch) (i : ServerInput) (before : sessions.Session
   abbrev pub Said : sessions.Sessions → Message → Type 0
   Said t x = (x.header.from ≡ server_node s) × (x.header.epoch ≡ e.0) × Tells t x.header.to x.header.life x.header.number x.body
 
-  -- What stands within a step.
+  -- What holds within a step.
   pub record Served (t : ServerTurn) : Type 0 where
     pub id : t.state.id ≡ s
     pub epoch : t.state.stable.epoch ≡ e

@@ -1,4 +1,4 @@
--- Why `cut` is logged, and why names answer truly: what stands of the messages, of each client and of each server behind every event.
+-- Why `cut` is logged, and why names answer truly: what holds of the messages, of each client and of each server after every event.
 use Rattle.std.specs.Prelude.{◌≡◌, ℕ, ◌≤◌, ◌<◌, Bool, true, false, ◌==◌, if◌then◌else◌, List, filter_map, length, map, Option, Some, None, Result, Ok, Err}
 use Rattle.st_base.specs.declared.ids.ClientId.{ClientId}
 use Rattle.st_base.specs.declared.ids.ServerId.{ServerId}
@@ -232,13 +232,13 @@ OneWaits s ops = (o p : Operation) → Has o ops → Has p ops → is_asked s o 
 abbrev pub asks_of : List Step → ClientId → List Ask
 asks_of past c = filter_map (ask_in c) (map event_of past)
 
--- what stands of what a running client has of a server
+-- what holds of what a running client has of a server
 pub record AssociationOk (past : List Step) (ms : List Message) (c : ClientId) (ops : List Operation) (a : Association) : Type 0 where
   pub numbers : Numbers (λ m. Has m ms) c a.server a.life.0 (view a.session)
   pub waits : AllWait (Early past c) a.server a.life.0 (view a.session) ops
   pub alone : OneWaits a.server ops
 
--- what stands of a client
+-- what holds of a client
 pub record ClientOk (past : List Step) (ms : List Message) (c : ClientId) (site : WorldClient) : Type 0 where
   pub count : length (asks_of past c) ≡ site.asks
   pub asked : (o : Operation) → Has o site.node.state.operations → numbered (asks_of past c) o.op ≡ Some o.ask
@@ -257,13 +257,13 @@ KeptBy Q A state = Unit {0}
 abbrev pub KeptState : (ℕ → Body → Type 0) → SessionState → Type 0
 KeptState A state = KeptBy is_report A state
 
--- what stands of a server
+-- what holds of a server
 pub record ServerOk (past : List Step) (ms : List Message) (s : ServerId) (node : ServerNode) : Type 0 where
   pub id : node.state.id ≡ s
   pub kept : (c : ClientId) (x : Session) → session_of node.state.sessions c ≡ Some x →
       KeptState (Acked past ms c s x.life.0 node.state.stable.epoch.0) x.state
 
--- Behind every event: each report is of a request that was sent, and what it asks was done as it says; and so is each that is kept.
+-- After every event: each report is of a request that was sent, and what it asks was done as it says; and so is each that is kept.
 pub record CutsHold (past : List Step) (t : Traced) : Type 0 where
   pub fates : FatesHold t.world
   pub grown : (x : Step) → Has x past → (m : Message) → Has m (messages x.before.world) → Has m (messages t.world)

@@ -14,7 +14,7 @@ use Rattle.st_lemmas.specs.Lists.{Has}
 abbrev pub IsLastRequest : Requests → Type 0
 IsLastRequest r = (q : Request) → r.asked ≡ Some q → q.number + 1 ≡ r.next
 
--- in a session, where there is one
+-- in a session, if there is one
 abbrev pub AsksLast : Option ClientSession → Type 0
 AsksLast None = Unit {0}
 AsksLast (Some s) = IsLastRequest s.requests
@@ -23,7 +23,7 @@ AsksLast (Some s) = IsLastRequest s.requests
 abbrev pub AllLast : World → Type 0
 AllLast w = (c : ClientId) (site : WorldClient) → site_of w c ≡ Some site → (a : Association) → Has a site.node.state.associations → AsksLast a.session
 
--- behind a step
+-- after a step
 abbrev pub LastAfter : Promise
 LastAfter past x = AllLast x.after.world
 

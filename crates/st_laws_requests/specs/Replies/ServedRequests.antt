@@ -67,7 +67,7 @@ FindsNew t now h (bodies.Reassert rows) =
     grace.is_on t.state.grace now ≡ true → (y : Session) → sessions.session_of t.state.sessions (sender h) ≡ Some y → y.life.0 ≡ h.life → sessions.is_live y ≡ true
 FindsNew t now h body = Unit {0}
 
--- of the input of a step, right behind the thefts
+-- of the input of a step, right after the thefts
 abbrev pub InputNew : ServerTurn → Stamp → ServerInput → Type 0
 InputNew t now inputs.Tick = Unit {0}
 InputNew t now (inputs.Control m) = FindsNew t now m.header m.body
@@ -120,7 +120,7 @@ pub record Says (ms : List Message) (s : ServerId) (n : ServerNode) (m : Message
 abbrev pub RepliesSay : World → Type 0
 RepliesSay w = (s : ServerId) (n : ServerNode) → node_of w s ≡ Some n → (m : Message) → Has m (messages w) → m.header.from ≡ server_node s → Says (messages w) s n m
 
--- behind a step
+-- after a step
 abbrev pub RepliesAfter : Promise
 RepliesAfter past x = RepliesSay x.after.world
 

@@ -170,7 +170,7 @@ module _ (now : Stamp) where
   none_some : {A B : Type 0} (x : A) → ◌≡◌ {A = Option A} None (Some x) → B
   none_some x q = cc
 
-  -- a request is sent, by a session that is as the one at hand but for what waits to be sent
+  -- a request is sent, by a session that is as this one except for what waits to be sent
   c_ask : (t : Turn) (s r : ClientSession) (body : Body) (cutting : Option ℕ) → t.here.session ≡ Some s → AsksNothing t.here.store.extents s r →
       CutsForgotten t.here.store body cutting → IsAsked r cutting body →
       ((x : ℕ × PageNo) → map_in body ≡ Some x → pages.known_of t.here.store.extents x.0 x.1 ≡ None) → C t (cp.ask t r now body cutting)
@@ -238,8 +238,7 @@ module _ (now : Stamp) where
       go None e = Still t
       go (Some s) e = if_changes s.lease.condemned t t _ (λ b. Still t) (λ b. at s s.requests.asked e refl)
 
-  -- all passes
-  -- those behind the operations, where no sync is answered hard
+  -- all passes those after the operations, where no sync is answered hard
   pub p_rest : (tick : Bool) (t : Turn) → Changes [] KeepsOrAsks now t (cp.requests now tick (cp.greeting now tick (cp.writes now tick (cp.reductions t))))
   p_rest tick t = both (any OnlyKeeps (both (p_reductions now t) (both (p_writes now tick _) (p_greeting now tick _)))) (any OnlyAsks (p_requests tick _))
     where

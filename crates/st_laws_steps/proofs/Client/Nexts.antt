@@ -170,7 +170,7 @@ found_fewer p q (x ∷ xs) d e = go (p x) refl (q x) refl (found_fewer p q xs d)
     go false f true g r = there false f (r (sym (ap (λ b. if b then Some x else find p (filter q xs)) f) ∙ ap (λ c. find p (if c then x ∷ filter q xs else filter q xs)) (sym g) ∙ e))
     go false f false g r = there false f (r (ap (λ c. find p (if c then x ∷ filter q xs else filter q xs)) (sym g) ∙ e))
 
--- a page that failed is the page that it was but for its failed command
+-- a page that failed is the page that it was except for its failed command
 pub failed_found : (i : ℕ) (r : PageNo) (n : ℕ) (ino : ℕ) (p : PageNo) (xs : List DirtyPage) (d : DirtyPage) → find (pages.is_dirty_of ino p) (map (pages.fail_of i r n) xs) ≡ Some d → (x : DirtyPage) × (find (pages.is_dirty_of ino p) xs ≡ Some x)
 unfolding pages.failed_by
 failed_found i r n ino p [] d e = cc

@@ -183,7 +183,7 @@ pair_has R (x ∷ al) [] p a h = absurd p
 pair_has R (x ∷ al) (y ∷ bl) p a (inl e) = (y, inl refl, subst (λ z. R z y) (sym e) p.one)
 pair_has R (x ∷ al) (y ∷ bl) p a (inr h) = let z = pair_has R al bl p.rest a h in (z.0, inr z.1, z.2)
 
--- All that a step notes as changed is dirty behind it, under a lease that is not over.
+-- All that a step notes as changed is dirty after it, under a lease that is not over.
 pub step_notes : (c : ClientId) (s : ClientState) (now : Stamp) (input : ClientInput) → ((a : Association) → Has a s.associations → Fit a) → NotesAll (IsChangedAt s.config now (cl.client_step s now input).state.associations) (cl.client_step s now input).out
 unfolding cl.client_step cl.work cl.losses at_each
 step_notes c s now input f = go (losses_quiet now s.associations (with_associations [] (client_turn s []))) (phased c s now input f)

@@ -143,7 +143,7 @@ module _ (now : Stamp) where
   unfolding cr.queued
   c_queued t s ino mode e = c_session t s _ e (alike_wait t.here.store.extents s ino mode now)
 
-  -- what is told of places is known
+  -- what is reported about places is known
   c_rows : (ino : ℕ) (rows : List ExtentRow) (t : Turn) → Unasked t.here.session → C t (with_store (record t.here.store { extents = pages.with_known_rows ino rows t.here.store.extents }) t)
   unfolding pages.with_known_rows
   c_rows ino [] t u = Still t

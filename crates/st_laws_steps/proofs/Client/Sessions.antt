@@ -1,5 +1,5 @@
--- A fact of a session through the rules of a client: it stands again where each change of the session keeps it. The rules that ask nothing leave the requests
--- of a session, so a fact stands again through them where it does so whenever a session asks nothing.
+-- A fact of a session through the rules of a client: it holds again where each change of the session keeps it. The rules that ask nothing leave the requests of
+-- a session, so a fact holds again through them where it does so whenever a session asks nothing.
 use Rattle.std.proofs.Common.{◌≡◌, ℕ, ◌<◌, Bool, true, false, List, [], Option, Some, None, subst, if◌then◌else◌}
 use Rattle.st_base.specs.declared.disk.Tag.{Tag}
 use Rattle.st_base.specs.declared.ids.GrantNo.{GrantNo}
@@ -68,7 +68,7 @@ module _ (Q : ServerId → ℕ → Option ClientSession → Type 0) where
     walked now t _ (only.Ends _) h = h
     walked now t v (only.Goes _ u _ c q r) h = walked now u v r (change_walked now t u c q h)
 
-  -- the end of a command, and what is done behind it, where the session is left
+  -- the end of a command, and what is done after it, where the session is left
   ends_same : (number : ℕ) (ok : Bool) (t u : Turn) → Ends number ok t u → K t u
   unfolding cl.hardened
   ends_same number ok t _ Unknown h = h

@@ -1,5 +1,5 @@
--- What a client does with an input is one of a few things, so what stands behind each of them stands behind the input. A fact of each association
--- stands behind a rule at each server, where the rule brings it about at one.
+-- What a client does with an input is one of a few things, so what holds after each of them holds after the input. A fact of each association holds after a
+-- rule at each server, if the rule brings it about at one.
 use Rattle.std.proofs.Common.{◌≡◌, ◌⊎◌, ℕ, Bool, true, false, ◌==◌, List, [], ◌∷◌, Option, refl, sym, subst, inl, inr, if◌then◌else◌}
 use Rattle.st_base.specs.declared.disk.Tag.{Tag}
 use Rattle.st_base.specs.declared.ids.ServerId.{ServerId}
@@ -52,7 +52,7 @@ pub each : (P Q : Association → Type 0) (rule : Turn → Turn) → ((t : Turn)
 unfolding at_each
 each P Q rule k t h = these P Q rule k t.state.associations (with_associations [] t) (λ a i. absurd i) h
 
--- a fact of each association behind an input, where a message that is received tells what its rule needs
+-- a fact of each association after an input, where a message that is received tells what its rule needs
 pub each_taken : (P : Association → Type 0) (T : Message → Association → Type 0) (now : Stamp) →
     ((s : ServerId) (op : ℕ) (ask : Ask) (u : Turn) → P u.here → P (only_at s (cl.take_ask op ask) u).here) →
     ((m : Message) (u : Turn) → P u.here → T m u.here → P (cr.receive_at now m.header m.body u).here) →

@@ -174,7 +174,7 @@ unfolding cp.operations
 p_operations now t = both (one (Operates t [])) (c_operate_each t.operations now t.operations t.operations (with_operations [] t) (λ o h. h))
 
 module _ (now : Stamp) where
-  -- what is done behind the operations answers no sync hard
+  -- what is done after the operations answers no sync hard
   abbrev D : Turn → Turn → Type 0
   D t u = Changes [] OnlyKeeps now t u
 

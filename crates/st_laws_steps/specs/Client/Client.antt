@@ -100,7 +100,7 @@ pub data Change (now : Stamp) : Turn → Turn → Type 0 where
   Answers : (t : Turn) (os ops : List Operation) (answer : AppAnswer) → Change now t (record t { operations = os; out = t.out ++ map (answer_to answer) ops })
   -- when it greeted
   Greets : (t : Turn) (g : Option Stamp) → Change now t (with_greeted g t)
-  -- the lost pages of which nobody was told are others
+  -- the lost pages that nobody was told about are others
   TellsLost : (t : Turn) (lost : List LostPage) → Change now t (with_lost_rows lost t)
   -- a session begins, whose lease is not over
   Begins : (t : Turn) (s : ClientSession) → t.here.session ≡ None → now.0 < (lease.end_of t.config s.lease).0 → IsBegun s →

@@ -19,17 +19,17 @@ use Rattle.st_laws_steps.specs.Client.Client.{map_asked, Changes}
 abbrev pub AskedFresh : Store → Option Request → Type 0
 AskedFresh st asked = (x : ℕ × PageNo) → map_asked asked ≡ Some x → pages.known_of st.extents x.0 x.1 ≡ None
 
--- the same of a session, where there is one
+-- the same of a session, if there is one
 abbrev pub SessionFresh : Store → Option ClientSession → Type 0
 SessionFresh st None = Unit {0}
 SessionFresh st (Some s) = AskedFresh st s.requests.asked
 
--- What always stands of an association: its dirty pages are known as mapped, and nothing is known of the page that is asked for.
+-- What always holds of an association: its dirty pages are known as mapped, and nothing is known of the page that is asked for.
 pub record Fit (a : Association) : Type 0 where
   pub mapped : (ino : ℕ) (p : PageNo) (d : DirtyPage) → pages.dirty_of a.store.pages ino p ≡ Some d → pages.is_mapped a.store.extents ino p ≡ true
   pub fresh : SessionFresh a.store a.session
 
--- the lease of a session has come to its end
+-- the lease of a session has ended
 abbrev pub is_ended : Config → Stamp → Option ClientSession → Bool
 is_ended k now None = false
 is_ended k now (Some s) = nat_le (lease.end_of k s.lease).0 now.0
@@ -41,7 +41,7 @@ SessionNext k now None (Some u) = now.0 < (lease.end_of k u.lease).0
 SessionNext k now (Some s) None = ⊥
 SessionNext k now (Some s) (Some u) = s.lease.date.0 ≤ u.lease.date.0
 
--- Losing: a lease that has come to its end is lost, with a note, and nothing is left of the association but its lost pages.
+-- Losing: a lease that has ended is lost, with a note, and nothing is left of the association but its lost pages.
 pub data Loses (now : Stamp) (t : Turn) : Turn → Type 0 where
   Lasts : is_ended t.config now t.here.session ≡ false → Loses now t t
   IsLost : (s : ClientSession) → t.here.session ≡ Some s → is_ended t.config now t.here.session ≡ true → (v : Turn) →

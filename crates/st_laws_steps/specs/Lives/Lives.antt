@@ -35,7 +35,7 @@ unfoldable pub ended_rows : ClientId → ClientState → List Output → List Le
 ended_rows c before [] = []
 ended_rows c before (o ∷ os) = rows_said c before o ++ ended_rows c before os
 
--- the row of an association whose lease has come to its end
+-- the row of an association whose lease has ended
 unfoldable pub row_lost : ClientId → ClientState → Stamp → Association → List LeaseLife
 row_lost c before now a = if is_ended before.config now a.session then lost_row c before a.server a.life ∷ [] else []
 
@@ -44,7 +44,7 @@ unfoldable pub rows_lost : ClientId → ClientState → Stamp → List Associati
 rows_lost c before now [] = []
 rows_lost c before now (a ∷ al) = row_lost c before now a ++ rows_lost c before now al
 
--- An association before and after a step: a lease that has come to its end leaves the next life; any other one goes on.
+-- An association before and after a step: a lease that has ended leaves the next life; any other one goes on.
 pub record LifeNext (now : Stamp) (before : ClientState) (a b : Association) : Type 0 where
   pub server : a.server ≡ b.server
   pub fit : Fit a → Fit b
@@ -67,7 +67,7 @@ pub record Stepped (now : Stamp) (c : ClientId) (before after : ClientState) (ou
 
 -- Lives in the world, by its parts: the clocks, the clients and the lives that ended.
 
--- no number stands twice
+-- no number occurs twice
 abbrev pub Once : List ℕ → Type 0
 Once [] = Unit {0}
 Once (n ∷ ns) = record { first : (m : ℕ) → Has m ns → n ≡ m → ⊥; rest : Once ns }
@@ -95,7 +95,7 @@ pub record IsStopped (es : List LeaseLife) (c : ClientId) (a : Association) : Ty
   pub row : LeaseLife
   pub is : find (is_life_of c a.server a.life) es ≡ Some row
 
--- What stands of a client's node: its associations are of one server each and fit.
+-- What holds of a client's node: its associations are of one server each and fit.
 pub record NodeHolds (k : Config) (ts : List Stamp) (es : List LeaseLife) (c : ClientId) (node : cl.ClientNode) : Type 0 where
   pub id : node.state.id ≡ c
   pub config : node.state.config ≡ k
@@ -107,7 +107,7 @@ pub record NodeHolds (k : Config) (ts : List Stamp) (es : List LeaseLife) (c : C
   pub ticks : numbered ts c.0 ≡ Some clock
   pub below : (e : LeaseLife) → Has e es → e.client ≡ c → (a : Association) → find (is_at e.server) node.state.associations ≡ Some a → IsBelow node.running e a
 
--- What stands of a life that ended: it is of a client that there is, it stands once, and its lease is over or a crash ended it.
+-- What holds of a life that ended: it is of an existing client, it occurs once, and its lease is over or a crash ended it.
 pub record EndedHolds (ts : List Stamp) (cs : List WorldClient) (es : List LeaseLife) (e : LeaseLife) : Type 0 where
   pub site : WorldClient
   pub there : numbered cs e.client.0 ≡ Some site
@@ -119,7 +119,7 @@ pub record EndedHolds (ts : List Stamp) (cs : List WorldClient) (es : List Lease
 abbrev pub owner_of : LogEntry → LogOwner
 owner_of e = e.of
 
--- What stands of the lives in a world.
+-- What holds of the lives in a world.
 pub record LivesAreKept (k : Config) (ts : List Stamp) (cs : List WorldClient) (es : List LeaseLife) : Type 0 where
   pub sites : (c : ClientId) (site : WorldClient) → numbered cs c.0 ≡ Some site → NodeHolds k ts es c site.node
   pub ends : (e : LeaseLife) → Has e es → EndedHolds ts cs es e
@@ -129,7 +129,7 @@ pub record AllKnown (cs : List WorldClient) (es : List LeaseLife) (xs : List Iss
   pub commands : (x : IssuedCommand) → Has x xs → IsKnown cs es x.client x.server x.life
   pub owners : (o : LogOwner) → Has o os → IsKnown cs es o.client o.file.server o.life
 
--- What stands of the lives in a world, and of those that its commands and entries name.
+-- What holds of the lives in a world, and of those that its commands and entries name.
 pub record LivesHold (w : World) : Type 0 where
   pub lives : LivesAreKept w.config w.clocks w.clients w.ended
   pub known : AllKnown w.clients w.ended w.commands (map owner_of w.log)

@@ -37,7 +37,7 @@ module _ (now : Stamp) (all : List Operation) (o : Operation) (t : Turn) where
         go true e = IsDirtyFull s f p bytes n v c m e
         go false e = ChangesPage s f p bytes n v c m e
 
-    -- a page that is not at hand
+    -- a page that isn't cached
     fetches : (f : FileId) (p : PageNo) → Needs o.ask t s f p → pages.cached t.here.store.pages f.ino p ≡ None → O (cp.fetch t o f p)
     unfolding cp.fetch cp.fetch_at cp.fetch_mapped cp.submit_read cp.submit_command
     fetches f p n c = go (pages.mapping_of t.here.store.extents f.ino p) refl

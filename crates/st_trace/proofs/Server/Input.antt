@@ -426,7 +426,7 @@ module _ (n : ServerState) (now : Stamp) (m : Message) (t : ServerTurn) (came : 
   refuses : (b : Body) → Refused n now (Control m) t m b → Once (reply t h b)
   refuses b r = inr (Refuses t m b r)
 
-  -- A client that is no suspect.
+  -- A client that isn't a suspect.
   module _ (free : authority.may_ack t.state.authority (sender h) ≡ true) where
     heard : Heard n now (Control m) t m
     heard = record { came = came; free = free }

@@ -87,7 +87,7 @@ found_for t c life epoch number a P e no1 no2 no3 f = at (epoch.0 == t.epoch.0) 
     at true r = found (sessions.session_of t c) refl r
     at false r = absurd (no1 r)
 
--- what is fresh has the number behind the last one
+-- what is fresh has the number after the last one
 pub record FreshState (number : ℕ) (x : SessionState) : Type 0 where
   pub last : ℕ
   pub reply : Option Body

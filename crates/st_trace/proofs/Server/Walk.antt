@@ -181,7 +181,7 @@ picked_stay {A} {B} f test read tested read_same (x ∷ xs) =
     go true e = ap (λ (y : B). y ∷ map read (filter test (map f xs))) (read_same x) ∙ ap (λ (ys : List B). read x ∷ ys) e
     go false e = e
 
--- a demand on a row leaves what is to be demanded for a wait
+-- a demand on a row leaves what must be demanded for a wait
 to_demand_stays : (l : Locks) (suspects : List ClientId) (w : Waiter) (r : LockRow) (x : RowDemand) →
     to_demand (with_demand r x l) suspects w ≡ to_demand l suspects w
 unfolding locks.demanded

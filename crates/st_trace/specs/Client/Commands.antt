@@ -12,7 +12,7 @@ use Rattle.st_rules.specs.ClientPages as pages
 use Rattle.st_rules.specs.ClientState.{Turn, answer_each, is_sync, keep, new_operation, with_store}
 use Rattle.st_trace.specs.Client.Losses.{tells_lost}
 
--- An ask is taken at its server: it waits, or it is a sync that is told lost pages at once.
+-- An ask is taken at its server: it waits, or it is a sync that is answered with lost pages at once.
 pub data Takes (op : ℕ) (ask : Ask) (t : Turn) : Turn → Type 0 where
   TellsLost : (f : FileId) → ask ≡ asks.Sync f → pages.has_lost t.here.lost f.ino ≡ true → Takes op ask t (tells_lost t op f.ino)
   WaitsForSync : (f : FileId) → ask ≡ asks.Sync f → pages.has_lost t.here.lost f.ino ≡ false → Takes op ask t (keep (new_operation op ask) t)

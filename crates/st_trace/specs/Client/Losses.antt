@@ -11,7 +11,7 @@ use Rattle.st_rules.specs.ClientPages as pages
 use Rattle.st_rules.specs.ClientState.{ClientSession, Turn, answered, is_of, is_sent, is_sync, keep, note, with_lost_rows, with_operations}
 use Rattle.st_trace.specs.Client.Each.{Each}
 
--- the lost pages of a file are told, and forgotten
+-- the lost pages of a file are reported, and forgotten
 abbrev pub tells_lost : Turn → ℕ → ℕ → Turn
 tells_lost t op ino = answered (with_lost_rows (pages.untold t.here.lost ino) t) op (answers.Lost (pages.told_rows t.here.lost ino))
 

@@ -32,14 +32,14 @@ pub data Greets (now : Stamp) (tick : Bool) (t : Turn) : Turn → Type 0 where
 
 -- Why an operation asks this of its server.
 pub data Wants (t : Turn) (s : ClientSession) (now : Stamp) (ask : Ask) : Wanted → Type 0 where
-  -- a lock, which stands against none that it waits for
+  -- a lock, which conflicts with none that it waits for
   ForLock : (ino : ℕ) → file_of ask ≡ Some ino → is_sync ask ≡ false → covers (locks.mode_of s.locks ino) (passes.need ask) ≡ false →
       passes.is_wait_old t.config now (passes.need ask) (wait_of s.waits ino) ≡ true →
       Wants t s now ask (record { body = bodies.Acquire ino (passes.need ask); own = false; cut = None })
-  -- the place of a page that is to be read
+  -- the place of a page that will be read
   ForPlace : (f : FileId) (p : PageNo) (l : HeldLock) → ask ≡ asks.Read f p → locks.lock_of s.locks f.ino ≡ Some l → covers l.mode modes.S ≡ true →
       passes.is_at_hand t f.ino p ≡ false → Wants t s now ask (record { body = bodies.Map f.ino l.g p; own = false; cut = None })
-  -- a block for a page that is to be written or patched
+  -- a block for a page that will be written or patched
   ToWrite : (f : FileId) (p : PageNo) (bytes : List ℕ) (l : HeldLock) → ask ≡ asks.Write f p bytes → locks.lock_of s.locks f.ino ≡ Some l →
       covers l.mode modes.X ≡ true →
       pages.is_mapped t.here.store.extents f.ino p ≡ false → Wants t s now ask (record { body = bodies.Allocate f.ino l.g p 1; own = false; cut = None })
@@ -70,7 +70,7 @@ pub record MayAsk (t : Turn) (s : ClientSession) : Type 0 where
   pub sound : s.lease.condemned ≡ false
   pub none : s.requests.asked ≡ None
 
--- and nothing is to be reasserted or released before
+-- and nothing must be reasserted or released before
 pub record IsFree (t : Turn) (s : ClientSession) : Type 0 where
   pub may : MayAsk t s
   pub settled : s.due ≡ false

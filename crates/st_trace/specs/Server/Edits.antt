@@ -77,7 +77,7 @@ pub record Came (n : ServerState) (now : Stamp) (i : ServerInput) (t : ServerTur
   pub from : is_client_node m.header.from ≡ true
   pub there : m.header.to ≡ server_node t.state.id
 
--- and the client is no suspect
+-- and the client isn't a suspect
 pub record Heard (n : ServerState) (now : Stamp) (i : ServerInput) (t : ServerTurn) (m : Message) : Type 0 where
   pub came : Came n now i t m
   pub free : authority.may_ack t.state.authority (sender m.header) ≡ true
@@ -176,14 +176,14 @@ pub data Told (t : ServerTurn) (h : Header) : Body → Body → Type 0 where
       names.is_file t.state.stable.names ino ≡ true →
       sv.holds t h ino g modes.X ≡ false → Told t h (bodies.Name (ops.Remove dir x g)) (bodies.Nack why.NotHolder ino g.0)
 
--- What becomes of a lock that is asked for: a grant outside grace where no row stands against it and nobody else waits, or a wait.
+-- What becomes of a lock that is asked for: a grant outside grace if no row conflicts with it and nobody else waits, or a wait.
 pub data Gets (grants : Bool) (l : Locks) (c : ClientId) (life : Life) (ino : ℕ) (mode : Mode) : locks.Acquired → Type 0 where
   AtOnce : grants ≡ true → list_any (stands_against c ino mode) l.rows ≡ false → list_any (waits_besides c ino) l.waiters ≡ false →
       Gets grants l c life ino mode (record { locks = grant l c life ino mode; verdict = verdicts.Granted (next_grant l) mode })
   InTurn : may_grant l c ino mode grants ≡ false →
       Gets grants l c life ino mode (record { locks = queue l c life ino mode; verdict = verdicts.Queued (in_the_way l c ino mode) })
 
--- The client has no lock on the file that covers the mode, and has place for one more where it has none.
+-- The client has no lock on the file that covers the mode, and has place for one more if it has none.
 pub record Lacks (l : Locks) (c : ClientId) (ino : ℕ) (mode : Mode) : Type 0 where
   pub covered : (r : LockRow) → row_of l c ino ≡ Some r → covers r.mode mode ≡ false
   pub place : row_of l c ino ≡ None → locks.has_place l c ino ≡ true

@@ -10,7 +10,7 @@ use Rattle.st_world_parts.specs.Pieces.{ArePlaces, messages_at}
 use Rattle.st_world_parts.proofs.Stays.{IsNew, places_sent, messages_sent}
 use Rattle.st_world_parts.proofs.network.Network.send.Goals as goal
 
--- a place behind the bytes, as long as the spelling
+-- a place after the bytes, as long as the spelling
 is_new : (bytes spelled : List ℕ) (m : Message) (p : SentPlace) (start len : ℕ) → fits m ≡ true →
     p ≡ record { start = start; len = len; from = m.header.from; to = m.header.to; lost = false } → start ≡ length bytes → len ≡ length spelled → spelled ≡ spelling m → IsNew bytes m p
 is_new bytes spelled m p start len f e s l w = record {
