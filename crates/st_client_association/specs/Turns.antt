@@ -74,6 +74,12 @@ pub record IsTurn (client : ClientId) (config : Config) (server : ServerId) (lif
 abbrev pub with_pages : Pages → Turn → Turn
 with_pages ps t = with_store (record t.here.store { pages = ps }) t
 
+-- a page that is dirty or clean is read, and used; any other is not, and nothing changes
+abbrev pub Reads : Turn → Turn → Option (List ℕ) → ℕ → PageNo → Type 0
+Reads old new None ino p = record { missing : pages.cached old.here.store.pages ino p ≡ None; same : new ≡ old }
+Reads old new (Some bytes) ino p =
+    record { cached : pages.cached old.here.store.pages ino p ≡ Some bytes; is : new ≡ with_pages (pages.use_page old.here.store.pages ino p) old }
+
 -- a page is changed, with this note, or too many others are dirty
 abbrev pub Changes : Turn → Turn → Bool → ℕ → PageNo → List ℕ → Note → Type 0
 Changes old new true ino p bytes n =

@@ -1,6 +1,6 @@
 // Pages that are used and changed, and disk commands.
 ghost use Rattle.std.specs.Prelude.{◌≡◌, true, false, None, Some, IfOk, OnOk, is_some};
-ghost use Rattle.st_client_association.specs.Turns.{Changes, has_session, session_of, with_pages};
+ghost use Rattle.st_client_association.specs.Turns.{Changes, Reads, has_session, session_of, with_pages};
 ghost use Rattle.st_rules.specs.ClientInvariants.{lasts_here};
 ghost use Rattle.st_rules.specs.ClientPages as pages;
 ghost use Rattle.st_rules.specs.ClientPasses as passes;
@@ -16,15 +16,56 @@ use st_rules::{DirtyPage, MappedBlock};
 use std::alloc::AllocError;
 
 impl Turn {
-    /// A page that is read becomes the newest clean one, where it is clean and not dirty.
-    pub fn use_page(&mut self, now: Stamp, ino: u32, page: PageNo)
+    /// Reads a page, which is used.
+    fn read_page(
+        &mut self,
+        now: Stamp,
+        ino: u32,
+        page: PageNo,
+    ) -> Result<Option<PageBytes>, AllocError>
         requires session { has_session self.old ≡ true }
         requires serving { client.is_serving self.old.config (session_of self.old) now ≡ true }
-        ensures { self.new ≡ with_pages (pages.use_page self.old.here.store.pages ino page) self.old }
+        ensures used { self.new ≡ with_pages (pages.use_page self.old.here.store.pages ino page) self.old }
+        ensures bytes { IfOk result (λ bytes. bytes ≡ pages.cached self.old.here.store.pages ino page) }
     {
         let here = &mut *self.here;
         match &mut here.session {
-            Some(session) => session.use_page(now, &mut here.store, ino, page),
+            Some(session) => session.read(now, &mut here.store, ino, page),
+            None => unreachable!(),
+        }
+    }
+
+    /// Reads a page: `None` where it is neither dirty nor clean; then nothing changes. A clean page
+    /// becomes the newest one. The bytes are shared.
+    pub fn read(
+        &mut self,
+        now: Stamp,
+        ino: u32,
+        page: PageNo,
+    ) -> Result<Option<PageBytes>, AllocError>
+        requires session { has_session self.old ≡ true }
+        requires serving { client.is_serving self.old.config (session_of self.old) now ≡ true }
+        ensures { IfOk result (λ bytes. Reads self.old self.new bytes ino page) }
+    {
+        self.read_page(now, ino, page)
+    }
+
+    /// The bytes that a patch of a page changes: `None` where the page is neither dirty nor clean.
+    /// The bytes are shared.
+    pub fn base(
+        &mut self,
+        now: Stamp,
+        ino: u32,
+        page: PageNo,
+    ) -> Result<Option<PageBytes>, AllocError>
+        requires session { has_session self.old ≡ true }
+        requires serving { client.is_serving self.old.config (session_of self.old) now ≡ true }
+        ensures bytes { IfOk result (λ bytes. bytes ≡ pages.cached self.old.here.store.pages ino page) }
+        ensures stays { self.new ≡ self.old }
+    {
+        let here = &mut *self.here;
+        match &mut here.session {
+            Some(session) => session.base(now, &here.store, ino, page),
             None => unreachable!(),
         }
     }

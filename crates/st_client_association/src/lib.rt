@@ -4,6 +4,7 @@
 
 mod association;
 mod command_ends;
+mod dirty_row;
 mod disks;
 mod lease_loss;
 mod outputs;
@@ -14,4 +15,5 @@ mod stores;
 mod turn;
 
 pub use association::Association;
+pub use dirty_row::DirtyRow;
 pub use turn::Turn;

@@ -1,25 +1,16 @@
 // The store of a step: look-ups, and what its rules change.
-ghost use Rattle.std.specs.Prelude.{◌≡◌, IfOk, OnOk, length};
-ghost use Rattle.std.specs.Option.{option_copied};
+ghost use Rattle.std.specs.Prelude.{◌≡◌, IfOk, OnOk, is_some, length};
 ghost use Rattle.st_rules.specs.ClientPages as pages;
 ghost use Rattle.st_rules.specs.ClientReplies as replies;
 ghost use Rattle.st_rules.specs.ClientState as client;
 
+use crate::dirty_row::DirtyRow;
 use crate::turn::Turn;
-use st_base::{ExtentRow, PageBytes, PageNo};
-use st_client_store::Store;
-use st_rules::{DirtyPage, KnownExtent, MappedBlock};
+use st_base::{ExtentRow, PageNo};
+use st_rules::{KnownExtent, MappedBlock};
 use std::alloc::AllocError;
 
 impl Turn {
-    /// All that the client has of the server's disks.
-    pub fn store(&self) -> &Store
-        ensures server { result.now.server ≡ self.now.here.server }
-        ensures store { result.now.store ≡ self.now.here.store }
-    {
-        &self.here.store
-    }
-
     /// Whether the file has no dirty page and no outstanding write.
     pub fn is_hard(&self, ino: u32) -> bool
         ensures { result ≡ pages.is_hard self.now.here.store ino }
@@ -48,11 +39,11 @@ impl Turn {
         self.here.store.known(ino, page)
     }
 
-    /// The bytes of a page that is dirty or clean. A clean page stays in its place.
-    pub fn cached(&self, ino: u32, page: PageNo) -> Option<&PageBytes>
-        ensures { option_copied result ≡ pages.cached self.now.here.store.pages ino page }
+    /// Whether a page is dirty or clean. A clean page stays in its place.
+    pub fn is_cached(&self, ino: u32, page: PageNo) -> bool
+        ensures { result ≡ is_some (pages.cached self.now.here.store.pages ino page) }
     {
-        self.here.store.cached(ino, page)
+        self.here.store.is_cached(ino, page)
     }
 
     /// Whether a read of the page is outstanding.
@@ -69,11 +60,14 @@ impl Turn {
         self.here.store.is_being_written(ino, page)
     }
 
-    /// The dirty page.
-    pub fn dirty(&self, ino: u32, page: PageNo) -> Option<&DirtyPage>
-        ensures { option_copied result ≡ pages.dirty_of self.now.here.store.pages ino page }
+    /// The dirty page, without its bytes.
+    pub fn dirty(&self, ino: u32, page: PageNo) -> Option<DirtyRow<'_>>
+        ensures { result ≡ pages.dirty_of self.now.here.store.pages ino page }
     {
-        self.here.store.dirty_page(ino, page)
+        match self.here.store.dirty_page(ino, page) {
+            None => None,
+            Some(page) => Some(DirtyRow::of(page)),
+        }
     }
 
     /// How many pages are dirty.

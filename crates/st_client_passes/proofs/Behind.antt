@@ -24,16 +24,6 @@ use Rattle.st_rules.specs.ClientState.{ClientSession, Turn, is_of, is_open_file,
 abbrev pub behind : List Operation → Turn → Turn
 behind ks t = with_operations (ks ++ t.operations) t
 
--- a fetch leaves the pending operations
-pub fetch_leaves : (t : Turn) (f : FileId) (p : PageNo) (m : Option MappedBlock) → (fetch_at t f p m).operations ≡ t.operations
-unfolding fetch_at fetch_mapped submit_read submit_command
-fetch_leaves t f p None = refl
-fetch_leaves t f p (Some m) = by (pages.is_being_read t.here.store.commands f.ino p)
-  where
-    by : (b : Bool) → (if b then t else submit_read t f.ino p m).operations ≡ t.operations
-    by true = refl
-    by false = refl
-
 module _ (ks : List Operation) where
   -- one of two
   behind_either : (b : Bool) (x y u v : Turn) → u ≡ behind ks x → v ≡ behind ks y → (if b then u else v) ≡ behind ks (if b then x else y)

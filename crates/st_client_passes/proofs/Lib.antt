@@ -5,7 +5,6 @@ pub mod Behind
 pub mod Remaining
 pub mod FirstAsking
 pub mod Asks
-pub mod Cached
 pub mod Sessions
 pub mod Reducing
 pub mod Writing

@@ -54,7 +54,7 @@ fn want_lock(t: &Turn, now: Stamp, ino: u32, mode: Mode) -> Option<Wanted>
 fn is_at_hand(t: &Turn, ino: u32, page: PageNo) -> bool
     ensures { result ≡ passes.is_at_hand t.now ino page }
 {
-    t.cached(ino, page).is_some() || t.known(ino, page).is_some()
+    t.is_cached(ino, page) || t.known(ino, page).is_some()
 }
 
 #[tactic(auto, unfolding(st_rules::specs::ClientPasses::want_map))]

@@ -1,5 +1,5 @@
 // Writes and patches of pages.
-ghost use Rattle.std.specs.Prelude.{◌≡◌, ◌+◌, ◌≤◌, true, IfOk, OnOk, length, option_map};
+ghost use Rattle.std.specs.Prelude.{◌≡◌, ◌+◌, ◌≤◌, true, IfOk, OnOk, length};
 ghost use Rattle.st_client_association.specs.Turns.{has_session, session_of};
 ghost use Rattle.st_rules.specs.ClientPages as pages;
 ghost use Rattle.st_rules.specs.ClientPasses as passes;
@@ -112,24 +112,8 @@ fn patched(
     PageBytes::from_slice(alloc, &whole)
 }
 
-/// The patched page, where the page is dirty or clean.
-fn patched_page(
-    t: &Turn,
-    file: FileId,
-    page: PageNo,
-    at: u16,
-    bytes: &PatchBytes,
-) -> Result<Option<PageBytes>, AllocError>
-    requires { at + length bytes.now ≤ 4096 }
-    ensures { IfOk result (λ whole. whole ≡ option_map (overlay at bytes.now) (pages.cached t.now.here.store.pages file.ino page)) }
-{
-    match t.cached(file.ino, page) {
-        None => Ok(None),
-        Some(old) => Ok(Some(patched(t.alloc(), old, at, bytes)?)),
-    }
-}
-
 /// The page is changed to the patched one.
+#[tactic(auto, unfolding(st_rules::specs::ClientPasses::patch_bytes))]
 fn patch_bytes(
     t: &mut Turn,
     now: Stamp,
@@ -138,23 +122,26 @@ fn patch_bytes(
     page: PageNo,
     at: u16,
     bytes: &PatchBytes,
-    whole: &PageBytes,
+    old: &PageBytes,
 ) -> Result<bool, AllocError>
     requires session { has_session t.old ≡ true }
     requires serving { is_serving_at t.old now ≡ true }
+    requires range { at + length bytes.now ≤ 4096 }
     ensures left { OnOk result (t.new.operations ≡ t.old.operations) }
-    ensures stays { IfOk result (λ stays. put_back o.now stays t.new ≡ passes.change_page t.old o.now file page whole.now (Note.Patched file page at bytes.now)) }
+    ensures stays { IfOk result (λ stays. put_back o.now stays t.new ≡ passes.patch_bytes t.old o.now file page at bytes.now old.now) }
 {
+    let whole = patched(t.alloc(), old, at, bytes)?;
     let note = Note::Patched {
         file,
         page,
         at,
         bytes: bytes.copy()?,
     };
-    change_page(t, now, o, file, page, whole, note)
+    change_page(t, now, o, file, page, &whole, note)
 }
 
 /// The page's bytes are cached, or are fetched.
+#[tactic(auto, unfolding(st_rules::specs::ClientPasses::patch_at))]
 fn patch_at(
     t: &mut Turn,
     now: Stamp,
@@ -170,9 +157,9 @@ fn patch_at(
     ensures left { OnOk result (t.new.operations ≡ t.old.operations) }
     ensures stays { IfOk result (λ stays. put_back o.now stays t.new ≡ passes.patch_at t.old o.now file page at bytes.now (pages.cached t.old.here.store.pages file.ino page)) }
 {
-    match patched_page(t, file, page, at, bytes)? {
+    match t.base(now, file.ino, page)? {
         None => fetch(t, now, o, file, page),
-        Some(whole) => patch_bytes(t, now, o, file, page, at, bytes, &whole),
+        Some(old) => patch_bytes(t, now, o, file, page, at, bytes, &old),
     }
 }
 

@@ -9,9 +9,9 @@ ghost use Rattle.st_rules.specs.ClientPasses as passes;
 ghost use Rattle.st_client_passes.specs.PassConditions.{MayRest, drains_at};
 
 use st_base::{Mode, PageNo, ServerId, Stamp};
-use st_client_association::Turn;
+use st_client_association::{DirtyRow, Turn};
 use st_operations::{CutOn, SyncOn, Test, is_cut_or_name, is_of, is_sent, is_sync};
-use st_rules::{DirtyPage, Operation, StandingKind};
+use st_rules::{Operation, StandingKind};
 use std::alloc::AllocError;
 
 /// The operations of a server that wait for pages to be hard: syncs, and unsent cuts and names.
@@ -56,17 +56,11 @@ fn is_wanted(t: &Turn, ino: u32) -> bool
     t.is_demanded(ino) || (t.operations().any(&sync) || is_cut_wanted(t, ino))
 }
 
-fn is_unfailed(page: &DirtyPage) -> bool
-    ensures { result ≡ passes.is_unfailed page.now }
-{
-    page.failed.is_none()
-}
-
-fn is_due_by_need(t: &Turn, tick: bool, page: &DirtyPage) -> bool
+fn is_due_by_need(t: &Turn, tick: bool, page: &DirtyRow<'_>) -> bool
     requires { has_session t.now ≡ true }
     ensures { result ≡ passes.is_due_by_need t.now (session_of t.now) tick page.now }
 {
-    is_wanted(t, page.ino) && (is_unfailed(page) || tick)
+    is_wanted(t, page.ino()) && (!page.has_failed() || tick)
 }
 
 /// Whether all dirty pages are submitted: the lease is in flush.
@@ -81,23 +75,23 @@ fn drains(t: &Turn, now: Stamp) -> bool
 }
 
 #[tactic(auto, unfolding(st_rules::specs::ClientPasses::is_due))]
-fn is_due(t: &Turn, now: Stamp, tick: bool, page: &DirtyPage) -> bool
+fn is_due(t: &Turn, now: Stamp, tick: bool, page: &DirtyRow<'_>) -> bool
     requires { has_session t.now ≡ true }
     ensures { result ≡ passes.is_due t.now (session_of t.now) now tick page.now }
 {
     if drains(t, now) {
-        is_unfailed(page)
+        !page.has_failed()
     } else {
         is_due_by_need(t, tick, page)
     }
 }
 
 /// Whether the page must be written now.
-fn is_writable(t: &Turn, now: Stamp, tick: bool, page: &DirtyPage) -> bool
+fn is_writable(t: &Turn, now: Stamp, tick: bool, page: &DirtyRow<'_>) -> bool
     requires { has_session t.now ≡ true }
     ensures { result ≡ passes.is_writable t.now (session_of t.now) now tick page.now }
 {
-    !t.is_being_written(page.ino, page.page) && is_due(t, now, tick, page)
+    !t.is_being_written(page.ino(), page.page()) && is_due(t, now, tick, page)
 }
 
 /// The page, which is dirty and not being written, is written where it is known to lie.
@@ -125,7 +119,7 @@ fn is_place_due(t: &Turn, now: Stamp, tick: bool, ino: u32, page: PageNo) -> boo
 {
     match t.dirty(ino, page) {
         None => false,
-        Some(dirty) => is_writable(t, now, tick, dirty),
+        Some(dirty) => is_writable(t, now, tick, &dirty),
     }
 }
 

@@ -1,6 +1,6 @@
 // The lease of a session: it begins, is renewed, condemned and lost; and what its permits are spent
 // for.
-ghost use Rattle.std.specs.Prelude.{◌≡◌, ◌+◌, ◌<◌, ◌≤◌, ◌^◌, true, false, Some, None, IsOk, OnOk, OnErr, is_some};
+ghost use Rattle.std.specs.Prelude.{◌≡◌, ◌+◌, ◌<◌, ◌≤◌, ◌^◌, true, false, Some, None, IfOk, IsOk, OnOk, OnErr, is_some};
 ghost use Rattle.st_base.specs.Config as settings;
 ghost use Rattle.st_base.specs.Nodes.{HasNode};
 ghost use Rattle.st_client_session.specs.Sessions.{lasts, with_session};
@@ -165,16 +165,45 @@ impl Session {
         changed
     }
 
-    /// A page that is read becomes the newest clean one, where it is clean and not dirty.
-    pub fn use_page(&mut self, now: Stamp, store: &mut Store, ino: u32, page: PageNo)
+    /// Reads a page of the store: `None` where it is neither dirty nor clean. A clean page becomes
+    /// the newest one.
+    pub fn read(
+        &mut self,
+        now: Stamp,
+        store: &mut Store,
+        ino: u32,
+        page: PageNo,
+    ) -> Result<Option<PageBytes>, AllocError>
         requires serving { client.is_serving self.old.of.config self.old.session now ≡ true }
         requires server { store.old.server ≡ self.old.of.server }
         ensures used { store.new ≡ with_pages (pages.use_page store.old.store.pages ino page) store.old }
+        ensures bytes { IfOk result (λ bytes. bytes ≡ pages.cached store.old.store.pages ino page) }
         ensures stays { self.new ≡ self.old }
     {
         let permit = self.permit(now);
-        store.use_page(&permit, ino, page);
+        let bytes = store.read(&permit, ino, page);
         self.give_back(permit);
+        bytes
+    }
+
+    /// The bytes that a patch of a page of the store changes: `None` where the page is neither
+    /// dirty nor clean.
+    pub fn base(
+        &mut self,
+        now: Stamp,
+        store: &Store,
+        ino: u32,
+        page: PageNo,
+    ) -> Result<Option<PageBytes>, AllocError>
+        requires serving { client.is_serving self.old.of.config self.old.session now ≡ true }
+        requires server { store.now.server ≡ self.old.of.server }
+        ensures bytes { IfOk result (λ bytes. bytes ≡ pages.cached store.now.store.pages ino page) }
+        ensures stays { self.new ≡ self.old }
+    {
+        let permit = self.permit(now);
+        let bytes = store.base(&permit, ino, page);
+        self.give_back(permit);
+        bytes
     }
 
     /// A read of a page becomes outstanding under this number.

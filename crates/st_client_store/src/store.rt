@@ -9,8 +9,8 @@ ghost use Rattle.st_client_store.specs.Stores.{AreMatched, Changes, Ends, empty_
 use st_base::{ExtentRow, PageBytes, PageNo, ServerId};
 use st_flush::Flusher;
 use st_lease_client::{CommandLoss, CommandsGone, PageLoss, PagesGone, SubmitPermit, UsePermit};
-use st_page_cache::{CacheRefusal, KnownExtents, PageCache};
-use st_rules::{CleanPage, DirtyPage, Ended, IoKind, KnownExtent, MappedBlock};
+use st_page_cache::{CacheRefusal, KnownExtents, Page, PageCache};
+use st_rules::{DirtyPage, Ended, IoKind, KnownExtent, MappedBlock};
 use std::alloc::{AllocError, Global};
 use std::marker::Model;
 
@@ -81,11 +81,28 @@ impl Store {
         self.extents.mapping(ino, page)
     }
 
-    /// The bytes of a page that is dirty or clean. A clean page stays in its place.
-    pub fn cached(&self, ino: u32, page: PageNo) -> Option<&PageBytes>
-        ensures { option_copied result ≡ pages.cached self.now.store.pages ino page }
+    /// Whether a page is dirty or clean. A clean page stays in its place.
+    pub fn is_cached(&self, ino: u32, page: PageNo) -> bool
+        ensures { result ≡ is_some (pages.cached self.now.store.pages ino page) }
     {
-        self.pages.peek(ino, page)
+        self.pages.is_cached(ino, page)
+    }
+
+    /// The bytes that a patch of a page changes: `None` where the page is neither dirty nor clean.
+    /// A clean page stays in its place. The bytes are shared.
+    pub fn base(
+        &self,
+        permit: &UsePermit,
+        ino: u32,
+        page: PageNo,
+    ) -> Result<Option<PageBytes>, AllocError>
+        requires { permit.now.server ≡ self.now.server }
+        ensures { IfOk result (λ bytes. bytes ≡ pages.cached self.now.store.pages ino page) }
+    {
+        match self.pages.base(permit, ino, page) {
+            None => Ok(None),
+            Some(bytes) => Ok(Some(bytes.copy()?)),
+        }
     }
 
     /// The dirty page.
@@ -93,13 +110,6 @@ impl Store {
         ensures { option_copied result ≡ pages.dirty_of self.now.store.pages ino page }
     {
         self.pages.dirty_page(ino, page)
-    }
-
-    /// The clean page, which stays in its place.
-    pub fn clean_page(&self, ino: u32, page: PageNo) -> Option<&CleanPage>
-        ensures { option_copied result ≡ pages.clean_of self.now.store.pages ino page }
-    {
-        self.pages.clean_page(ino, page)
     }
 
     /// The places of all dirty pages, by rising file and page.
@@ -207,13 +217,22 @@ impl Store {
         self.pages.drop_from(ino, page);
     }
 
-    /// A page that is read becomes the newest clean one, where it is clean and not dirty. It does
-    /// not allocate.
-    pub fn use_page(&mut self, permit: &UsePermit, ino: u32, page: PageNo)
+    /// Reads a page: `None` where it is neither dirty nor clean. A clean page becomes the newest
+    /// one. The bytes are shared.
+    pub fn read(
+        &mut self,
+        permit: &UsePermit,
+        ino: u32,
+        page: PageNo,
+    ) -> Result<Option<PageBytes>, AllocError>
         requires { permit.now.server ≡ self.old.server }
-        ensures { self.new ≡ with_pages (pages.use_page self.old.store.pages ino page) self.old }
+        ensures used { self.new ≡ with_pages (pages.use_page self.old.store.pages ino page) self.old }
+        ensures bytes { IfOk result (λ bytes. bytes ≡ pages.cached self.old.store.pages ino page) }
     {
-        self.pages.use_page(permit, ino, page);
+        match self.pages.read(permit, ino, page) {
+            Page::Miss => Ok(None),
+            Page::Hit(bytes) => Ok(Some(bytes.copy()?)),
+        }
     }
 
     /// Changes a page: it is dirty with these bytes, and an outstanding read of it is forgotten. It

@@ -1,5 +1,5 @@
 // The page cache: its calls are the rules of the definitions.
-ghost use Rattle.std.specs.Prelude.{◌≡◌, ◌<◌, ◌+◌, ◌^◌, IfOk, OnOk, OnErr, None, Some, length, slice_get};
+ghost use Rattle.std.specs.Prelude.{◌≡◌, ◌<◌, ◌+◌, ◌^◌, IfOk, OnOk, OnErr, None, Some, is_some, length, slice_get};
 ghost use Rattle.std.specs.Option.{option_copied, option_map};
 ghost use Rattle.st_rules.specs.ClientPages as pages;
 ghost use Rattle.st_page_cache.specs.Caches.{ArePages, Writes, facts_of, shown, with_pages};
@@ -77,13 +77,6 @@ impl PageCache {
         self.dirty.get(ino, page)
     }
 
-    /// The clean page, which stays in its place.
-    pub fn clean_page(&self, ino: u32, page: PageNo) -> Option<&CleanPage>
-        ensures { option_copied result ≡ pages.clean_of self.now.pages ino page }
-    {
-        self.clean.get(ino, page)
-    }
-
     /// The bytes of the dirty page, its version and its failed command. `None` exactly where the
     /// page is not dirty.
     pub fn dirty(&self, ino: u32, page: PageNo) -> Option<Dirty<'_>>
@@ -99,8 +92,16 @@ impl PageCache {
         }
     }
 
-    /// The bytes of a page that is dirty or clean. A clean page stays in its place.
-    pub fn peek(&self, ino: u32, page: PageNo) -> Option<&PageBytes>
+    /// Whether a page is dirty or clean. A clean page stays in its place.
+    pub fn is_cached(&self, ino: u32, page: PageNo) -> bool
+        ensures { result ≡ is_some (pages.cached self.now.pages ino page) }
+    {
+        self.bytes(ino, page).is_some()
+    }
+
+    /// The bytes of a page that is dirty or clean. A clean page stays in its place. Its callers
+    /// that hand the bytes on take a permit.
+    pub(crate) fn bytes(&self, ino: u32, page: PageNo) -> Option<&PageBytes>
         ensures { option_copied result ≡ pages.cached self.now.pages ino page }
     {
         match self.dirty.get(ino, page) {
@@ -155,7 +156,7 @@ impl PageCache {
     /// A page that is read becomes the newest clean one, where it is clean and not dirty. It does
     /// not allocate.
     #[tactic(auto, unfolding(st_rules::specs::ClientPages::use_page, st_rules::specs::ClientPages::use_clean, st_rules::specs::ClientPages::use_at))]
-    pub fn use_page(&mut self, permit: &UsePermit, ino: u32, page: PageNo)
+    pub(crate) fn use_page(&mut self, permit: &UsePermit, ino: u32, page: PageNo)
         requires { permit.now.server ≡ self.old.server }
         ensures { self.new ≡ with_pages (pages.use_page self.old.pages ino page) self.old }
     {

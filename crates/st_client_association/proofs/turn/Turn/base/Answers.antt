@@ -1,9 +1,9 @@
-use Rattle.std.proofs.Common.{subst, refl}
+use Rattle.std.proofs.Common.{subst}
 use Rattle.std.specs.Prelude.{Option}
 use Rattle.st_client_session.specs.Sessions.{ServerSession}
 use Rattle.st_client_association.specs.Turns.{IsTurn}
-use Rattle.st_client_association.proofs.TurnInvariants.{lent, turn_changed, versions_used}
-use Rattle.st_client_association.proofs.turn.Turn.use_page.Goals as goal
+use Rattle.st_client_association.proofs.TurnInvariants.{lent}
+use Rattle.st_client_association.proofs.turn.Turn.base.Goals as goal
 
 pub invariant_of-self : goal.invariant_of-self
 invariant_of-self c =
@@ -11,5 +11,4 @@ invariant_of-self c =
     let h = c.deref_mut-here.result.now in
     let k = lent x.here.value h x.next_command x.out.items c.deref_mut-here.ensures.value c.self.invariant in
     let i = subst (λ (s : Option ServerSession). IsTurn h.id h.config h.server h.life s h.store x.next_command x.out.items) c.in-Some.is k in
-    rw (c.use_page.ensures.stays, c.use_page.ensures.used)
-    (turn_changed h.id h.config h.server h.life c.in-Some.session c.in-Some.session h.store _ x.next_command x.out.items i refl refl refl i.given (versions_used h.store.store.pages c.args.ino c.args.page))
+    rw c.base.ensures.stays i
