@@ -1,7 +1,7 @@
 -- What is checked before a step.
 use Rattle.std.specs.Prelude.{◌≡◌, ◌≢◌, ℕ, ◌^◌, Bool, ◌&&◌, nat_le, List, [], Err}
 use Rattle.st_base.specs.declared.ids.Stamp.{Stamp}
-use Rattle.st_embed.specs.Frame.{received}
+use Rattle.st_host_frames.specs.Frame.{received}
 use Rattle.st_embed.specs.declared.fault.StepRefusal.{StepRefusal}
 use Rattle.st_embed.specs.declared.fault.StepRefusal.TheVariants as refusals
 

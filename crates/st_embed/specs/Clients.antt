@@ -14,7 +14,7 @@ use Rattle.st_node.specs.declared.node.Node.TheVariants.{Client}
 use Rattle.st_rules.specs.Client.{ClientNode, crash_node, fresh_node, start_node}
 use Rattle.st_rules.specs.ClientState.{ClientState}
 use Rattle.st_embed.specs.Checks.{is_in_time}
-use Rattle.st_embed.specs.Frame.{received}
+use Rattle.st_host_frames.specs.Frame.{received}
 use Rattle.st_embed.specs.Lives.{four_lives, same_lives}
 use Rattle.st_embed.specs.declared.fault.OpenFault.{OpenFault}
 use Rattle.st_embed.specs.declared.fault.OpenFault.TheVariants as opening

@@ -1,5 +1,4 @@
 -- What the contracts of `st_embed` cite.
-pub mod Frame
 pub mod Checks
 pub mod Lives
 pub mod FramePieces

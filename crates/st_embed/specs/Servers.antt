@@ -20,7 +20,7 @@ use Rattle.st_server.specs.Restart.{crashed_node}
 use Rattle.st_server.specs.Room.{HasRoom}
 use Rattle.st_server.specs.Invariants.{AreMapped, AreNamed}
 use Rattle.st_embed.specs.Checks.{is_in_time}
-use Rattle.st_embed.specs.Frame.{received}
+use Rattle.st_host_frames.specs.Frame.{received}
 use Rattle.st_embed.specs.declared.fault.ServerFault.{ServerFault}
 use Rattle.st_embed.specs.declared.fault.ServerFault.TheVariants as opening
 use Rattle.st_embed.specs.declared.fault.ServerRefusal.{ServerRefusal}

@@ -2,13 +2,13 @@
 ghost use Rattle.std.specs.Prelude.{◌≡◌, [], true, Ok, IfOk, IfErr, OnOk};
 ghost use Rattle.st_embed.specs.Checks as checks;
 ghost use Rattle.st_embed.specs.Checks.{IsMisread, IsUntaken};
-ghost use Rattle.st_embed.specs.Frame.{received};
+ghost use Rattle.st_host_frames.specs.Frame.{received};
 ghost use Rattle.st_messages.specs.Ranges.{fits};
 
 use crate::fault::StepRefusal;
-use crate::frame::read_frame;
 use crate::pending_frames::PendingFrames;
 use st_base::Stamp;
+use st_host_frames::read_frame;
 use st_messages::Message;
 use std::alloc::Global;
 

@@ -1,20 +1,6 @@
 use st_base::ConfigRefusal;
-use st_codec::CodecRefusal;
+use st_host_frames::FrameFault;
 use thiserror::Error;
-
-/// Why bytes are not one frame.
-#[derive(Clone, Copy, Debug, PartialEq, Eq, Error)]
-pub enum FrameFault {
-    /// The bytes end before the frame does.
-    #[error("the frame is cut")]
-    Cut,
-    /// Bytes follow the frame.
-    #[error("bytes follow the frame")]
-    Extra,
-    /// The frame is too long, or its bytes spell no message. The refusal is never `Memory`.
-    #[error("{0}")]
-    Refused(CodecRefusal),
-}
 
 /// Why a step is refused, in the order of the checks. All but `Starved` change nothing.
 #[derive(Clone, Copy, Debug, PartialEq, Eq, Error)]

@@ -6,7 +6,6 @@
 mod checks;
 mod client;
 mod fault;
-mod frame;
 mod journal_image;
 mod law;
 mod lives;
@@ -15,9 +14,10 @@ mod pending_frames;
 mod server;
 
 pub use client::EmbeddedClient;
-pub use fault::{FrameFault, OpenFault, ServerFault, ServerRefusal, StepRefusal};
+pub use fault::{OpenFault, ServerFault, ServerRefusal, StepRefusal};
 pub use law::{a_journal_outlives_crashes, journals_are_of_servers};
 pub use server::{EmbeddedServer, Shape};
 pub use st_base::{ClientId, Config, ConfigRefusal, Epoch, Life, ServerId, Stamp};
 pub use st_client::Phase;
 pub use st_codec::CodecRefusal;
+pub use st_host_frames::FrameFault;

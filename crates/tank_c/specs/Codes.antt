@@ -5,8 +5,8 @@ use Rattle.st_base.specs.declared.config.ConfigRefusal.TheVariants as settings
 use Rattle.st_base.specs.declared.ids.Stamp.{Stamp}
 use Rattle.st_codec.specs.declared.refusal.CodecRefusal.{CodecRefusal}
 use Rattle.st_codec.specs.declared.refusal.CodecRefusal.TheVariants as refusals
-use Rattle.st_embed.specs.declared.fault.FrameFault.{FrameFault}
-use Rattle.st_embed.specs.declared.fault.FrameFault.TheVariants as frames
+use Rattle.st_host_frames.specs.declared.fault.FrameFault.{FrameFault}
+use Rattle.st_host_frames.specs.declared.fault.FrameFault.TheVariants as frames
 use Rattle.st_embed.specs.declared.fault.OpenFault.{OpenFault}
 use Rattle.st_embed.specs.declared.fault.OpenFault.TheVariants as opening
 use Rattle.st_embed.specs.declared.fault.ServerFault.{ServerFault}

@@ -7,8 +7,8 @@ use Rattle.st_codec.specs.declared.refusal.CodecRefusal.TheVariants.{FrameTooLon
 use Rattle.st_codec.specs.Frames.{front}
 use Rattle.st_codec.specs.Decoder.{decoded}
 use Rattle.st_messages.specs.declared.message.Message.{Message}
-use Rattle.st_embed.specs.declared.fault.FrameFault.{FrameFault}
-use Rattle.st_embed.specs.declared.fault.FrameFault.TheVariants.{Cut, Extra, Refused}
+use Rattle.st_host_frames.specs.declared.fault.FrameFault.{FrameFault}
+use Rattle.st_host_frames.specs.declared.fault.FrameFault.TheVariants.{Cut, Extra, Refused}
 
 -- the number of bytes after the length of a frame that is whole
 abbrev pub whole_by : Front → Result ℕ FrameFault

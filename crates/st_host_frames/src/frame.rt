@@ -2,7 +2,7 @@
 ghost use Rattle.std.specs.Prelude.{◌≡◌, ◌≤◌, ◌+◌, true, IfOk, length};
 ghost use Rattle.st_codec.specs.Frames.{front};
 ghost use Rattle.st_codec.specs.Decoder.{decoded};
-ghost use Rattle.st_embed.specs.Frame.{received, received_whole, spelled, whole_by};
+ghost use Rattle.st_host_frames.specs.Frame.{received, received_whole, spelled, whole_by};
 ghost use Rattle.st_messages.specs.Ranges.{fits};
 
 use crate::fault::FrameFault;
@@ -12,7 +12,7 @@ use std::alloc::{AllocError, Global};
 
 /// The number of bytes after the length of the frame that the bytes begin with.
 #[tactic(auto, unfolding(st_codec::specs::Frames::front))]
-fn whole_len(bytes: &[u8]) -> Result<usize, FrameFault>
+pub(crate) fn whole_len(bytes: &[u8]) -> Result<usize, FrameFault>
     ensures exact { result ≡ whole_by (front bytes.now) }
     ensures within { IfOk result (λ n. 4 + n ≤ length bytes.now) }
 {
@@ -61,10 +61,7 @@ fn read_whole(
 
 /// Reads bytes that should be one frame: its message, which fits, or why they aren't one.
 #[tactic(auto, unfolding(crate::specs::Frame::received))]
-pub(crate) fn read_frame(
-    alloc: Global,
-    bytes: &[u8],
-) -> Result<Result<Message, FrameFault>, AllocError>
+pub fn read_frame(alloc: Global, bytes: &[u8]) -> Result<Result<Message, FrameFault>, AllocError>
     ensures exact { IfOk result (λ r. r ≡ received bytes.now) }
     ensures fits { IfOk result (λ r. IfOk r (λ m. fits m ≡ true)) }
 {
