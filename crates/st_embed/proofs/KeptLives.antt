@@ -1,7 +1,7 @@
 -- Lives that were kept are lives that began, and others may begin after them.
-use Rattle.std.proofs.Common.{◌≡◌, ℕ, true, ◌&&◌, List, [], ◌∷◌, map, refl, arith}
+use Rattle.std.proofs.Common.{◌≡◌, ℕ, ◌-◌, ◌^◌, true, ◌&&◌, List, [], ◌∷◌, map, refl, arith}
 use Rattle.std.specs.List.{list_all}
-use Rattle.std.proofs.lemmas.Bool.{and_from, and_parts}
+use Rattle.std.proofs.lemmas.Bool.{and_from, and_parts, lt-ltb, ltb-true}
 use Rattle.st_base.specs.declared.config.Config.{Config}
 use Rattle.st_base.specs.declared.ids.ClientId.{ClientId}
 use Rattle.st_base.specs.declared.ids.Life.{Life}
@@ -10,19 +10,20 @@ use Rattle.st_client.specs.Nodes.{crashed_at, crashed_node, is_begun, is_low, se
 use Rattle.st_client.specs.Room.{HasRoom}
 use Rattle.st_client_association.specs.Associations.{has_room_at}
 use Rattle.st_embed.specs.Clients.{is_kept, life}
-use Rattle.std.specs.Prelude.{length}
+use Rattle.std.specs.Prelude.{length, nat_lt}
 
 pub kept_begun : (ns : List ℕ) → list_all is_kept ns ≡ true → list_all is_begun (map life ns) ≡ true
 kept_begun [] e = refl
 kept_begun (n ∷ ns) e =
     let both = and_parts (is_kept n) (list_all is_kept ns) e in
-    and_from (is_begun (life n)) (list_all is_begun (map life ns)) (and_parts (is_begun (life n)) (is_low (life n)) both.0).0 (kept_begun ns both.1)
+    and_from (is_begun (life n)) (list_all is_begun (map life ns)) (and_parts (is_begun (life n)) (nat_lt n (2 ^ 62 - 1)) both.0).0 (kept_begun ns both.1)
 
 kept_low : (ns : List ℕ) → list_all is_kept ns ≡ true → list_all is_low (map life ns) ≡ true
 kept_low [] e = refl
 kept_low (n ∷ ns) e =
     let both = and_parts (is_kept n) (list_all is_kept ns) e in
-    and_from (is_low (life n)) (list_all is_low (map life ns)) (and_parts (is_begun (life n)) (is_low (life n)) both.0).1 (kept_low ns both.1)
+    let below = ltb-true n (2 ^ 62 - 1) (and_parts (is_begun (life n)) (nat_lt n (2 ^ 62 - 1)) both.0).1 in
+    and_from (is_low (life n)) (list_all is_low (map life ns)) (lt-ltb n (2 ^ 62) (omega arith)) (kept_low ns both.1)
 
 low_there : (ss : List ServerId) (ls : List Life) → list_all is_low ls ≡ true → list_all has_room_at (crashed_at ss ls) ≡ true
 low_there [] ls e = refl

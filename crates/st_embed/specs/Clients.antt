@@ -1,12 +1,12 @@
 -- A client inside another program: what it holds, and what its calls make of it.
-use Rattle.std.specs.Prelude.{◌≡◌, ◌≢◌, ◌<◌, ◌≤◌, ℕ, Bool, true, false, ◌==◌, ◌&&◌, ◌||◌, not, nat_le, if◌then◌else◌, List, [], length, map, Ok, Err, IsOk}
+use Rattle.std.specs.Prelude.{◌≡◌, ◌≢◌, ◌<◌, ◌≤◌, ◌-◌, ◌^◌, ℕ, Bool, true, false, ◌==◌, ◌&&◌, ◌||◌, not, nat_le, nat_lt, if◌then◌else◌, List, [], length, map, Ok, Err, IsOk}
 use Rattle.std.specs.List.{list_all}
 use Rattle.st_base.specs.declared.config.Config.{Config}
 use Rattle.st_base.specs.Config.{check}
 use Rattle.st_base.specs.declared.ids.ClientId.{ClientId}
 use Rattle.st_base.specs.declared.ids.Life.{Life}
 use Rattle.st_base.specs.declared.ids.Stamp.{Stamp}
-use Rattle.st_client.specs.Nodes.{crashed_node, is_begun, is_low}
+use Rattle.st_client.specs.Nodes.{crashed_node, is_begun}
 use Rattle.st_client.specs.Room.{HasRoom}
 use Rattle.st_messages.specs.declared.message.Message.{Message}
 use Rattle.st_node.specs.Runs.{handle}
@@ -44,9 +44,9 @@ begun id k lives = if list_all is_none lives then fresh_node id k (length lives)
 abbrev pub opened : ClientId → Config → List ℕ → EmbeddedClient
 opened id k lives = record { node = begun id k lives; left = []; last = record { 0 = 0 } }
 
--- a life that may be kept: one that began, and after which another may begin
+-- a life that may be kept: one that began, and after which another may begin in which steps are taken
 abbrev pub is_kept : ℕ → Bool
-is_kept n = is_begun (life n) && is_low (life n)
+is_kept n = is_begun (life n) && nat_lt n (2 ^ 62 - 1)
 
 -- the number of a client
 abbrev pub is_client : ClientId → Bool

@@ -37,7 +37,7 @@ pub enum OpenFault {
     Number,
     #[error("there are more than four servers")]
     Servers,
-    /// Some lives are 0 and some are not, or one is above 2^62 - 1.
+    /// Some lives are 0 and some are not, or one is above 2^62 - 2.
     #[error("the lives are not those of a client")]
     Lives,
     #[error("out of memory")]

@@ -44,13 +44,13 @@ pub(crate) fn are_none(lives: &[u64]) -> bool
     lives.iter().all(|life| *life == 0)
 }
 
-/// Whether each is a life that began, after which another may begin.
+/// Whether each is a life that began, after which another may begin in which steps are taken.
 pub(crate) fn are_kept(lives: &[u64]) -> bool
     ensures { result ≡ list_all is_kept lives.now }
 {
     lives
         .iter()
-        .all(|life| 1 <= *life && *life < 4_611_686_018_427_387_904)
+        .all(|life| 1 <= *life && *life < 4_611_686_018_427_387_903)
 }
 
 /// The lives of these numbers.
