@@ -1,15 +1,16 @@
-/* A client in a program of its own: it is asked to read a page, greets its server, and asks it for a lock. The server's answer is made by hand here.
+/* A client and its server in one program, and no network. The client is asked to read a page. It
+ * greets the server, gets a lease, and asks for a lock; the lease then ends without an answer.
  *
- *     cc -O2 -I../include one_client.c libtank_c.a liblibc_c.a -o one_client */
+ *     cc -O2 -I../include one_client.c -L. -ltank -o one_client */
 #include "tank.h"
 #include <stdio.h>
 #include <stdlib.h>
 #include <string.h>
 
-enum { HEADER = 38, WELCOME = 32, TICK = 64, APP = 65 };
-
 static struct tank_client client = TANK_CLIENT_CLOSED;
-static uint8_t out[65540];
+static struct tank_server server = TANK_SERVER_CLOSED;
+static uint8_t journal[4096], frame[TANK_FRAME_MOST], out[TANK_FRAME_MOST];
+static size_t count; /* bytes in out */
 
 static void must(uint32_t result) {
     if (result == TANK_DONE) return;
@@ -17,48 +18,57 @@ static void must(uint32_t result) {
     exit(1);
 }
 
-static size_t length_of(const uint8_t *frame) { return 4 + ((size_t)frame[0] << 24 | frame[1] << 16 | frame[2] << 8 | frame[3]); }
-
-/* A message from the surroundings of client 1. */
-static size_t told(uint8_t *frame, uint8_t kind, const uint8_t *body, size_t size) {
-    memset(frame, 0, 4 + HEADER);
-    frame[3] = (uint8_t)(HEADER + size), frame[4] = 1, frame[5] = kind, frame[9] = 1;
-    memcpy(frame + 4 + HEADER, body, size);
-    return 4 + HEADER + size;
-}
-
-/* A step, and what comes of it: the first frame stays in out. */
-static void step(uint64_t now, const uint8_t *frame, size_t length) {
-    struct tank_client_step step;
-    struct tank_association server;
-    size_t count;
-    must(tank_client_step(&client, now, frame, length, &step));
+/* A step of the client, and what results. */
+static void step(uint64_t now, const uint8_t *bytes, size_t length) {
+    struct tank_client_stepped step;
+    struct tank_association at;
+    struct tank_answer answer;
+    struct tank_frame sent;
+    must(tank_client_step(&client, now, bytes, length, &step));
     if (step.new_lives) {
-        must(tank_client_at(&client, 1, now, &server));
-        printf("at %llu life %llu is to be kept before a frame is sent\n", (unsigned long long)now, (unsigned long long)server.life);
+        must(tank_client_at(&client, 1, now, &at));
+        printf("at %d life %d must be kept before a frame is sent\n", (int)now, (int)at.life);
     }
     must(tank_client_take(&client, out, sizeof out, &count));
-    for (size_t at = 0; at < count; at += length_of(out + at)) printf("at %llu a frame of kind %d to node %d\n", (unsigned long long)now, out[at + 5], out[at + 8] << 8 | out[at + 9]);
+    for (size_t first = 0; first < count; first += sent.size) {
+        must(tank_frame_at(out + first, count - first, &sent));
+        printf("at %d a frame of kind %d to node %d\n", (int)now, sent.kind, sent.to);
+        if (sent.kind != TANK_KIND_APPDONE) continue;
+        must(tank_decode_answer(out + first, sent.size, &answer, frame, sizeof frame));
+        printf("ask %d is answered %d\n", (int)answer.op, (int)answer.answer);
+    }
+}
+
+/* A step of the server for the frame in out. The frame that results is in out then. */
+static void step_server(uint64_t now) {
+    struct tank_server_stepped step;
+    must(tank_server_step(&server, now, out, count, &step));
+    must(tank_server_take(&server, out, sizeof out, &count));
 }
 
 int main(void) {
     const struct tank_settings settings = {10000, 5000, 7000, 8500, 1000, 500, 101, 100, 1};
+    const struct tank_shape shape = {.id = 1, .servers = 1, .disks = 1, .blocks = 64};
+    const struct tank_ask ask = {.client = 1, .op = 1, .ask = TANK_ASK_READ, .server = 1, .ino = 2};
     const uint64_t lives[1] = {0};
-    const uint8_t read[15] = {0, 0, 0, 1, 2, 0, 1, 0, 0, 0, 2}; /* op 1: read page 0 of inode 2 at server 1 */
-    uint8_t frame[64], hello[42];
-    struct tank_association server;
+    struct tank_association at;
+    struct tank_client_stepped step_told;
+    uint64_t place;
+    must(tank_server_open(&server, &settings, &shape, 0, journal, sizeof journal, &place));
+    must(tank_server_kept(&server)); /* two_clients.c keeps the journal */
     must(tank_client_open(&client, &settings, 1, lives, 1));
-    step(5, frame, told(frame, APP, read, sizeof read));
-    memcpy(hello, out, sizeof hello);
-    memcpy(frame, hello, sizeof hello); /* the welcome: from the server, of its epoch 1, with the stamp of the greeting */
-    frame[5] = WELCOME;
-    memcpy(frame + 6, hello + 8, 2), memcpy(frame + 8, hello + 6, 2);
-    frame[25] = 1;
-    step(9, frame, sizeof hello);
-    must(tank_client_at(&client, 1, 9, &server));
-    printf("the lease ends at %llu\n", (unsigned long long)server.lease_end);
-    step(10006, frame, told(frame, TICK, frame, 0));
-    if (tank_client_step(&client, 3, frame, 42, &(struct tank_client_step){0}) != TANK_TIME) return 2;
+    must(tank_encode_ask(&ask, frame, 0, frame, 0, out, sizeof out, &count));
+    memcpy(frame, out, count);
+    step(5, frame, count);
+    step_server(7);
+    memcpy(frame, out, count);
+    step(9, frame, count);
+    must(tank_client_at(&client, 1, 9, &at));
+    printf("the lease ends at %d\n", (int)at.lease_end);
+    must(tank_encode_tick(1, frame, sizeof frame, &count));
+    step(10006, frame, count);
+    if (tank_client_step(&client, 3, frame, 42, &step_told) != TANK_TIME) return 2;
     tank_client_close(&client);
+    tank_server_close(&server);
     return 0;
 }

@@ -11,12 +11,27 @@ import os
 import pathlib
 
 RESULTS = {
-    0: "TANK_DONE", 1: "TANK_BUSY", 2: "TANK_ABSENT", 3: "TANK_NO_MEMORY", 4: "TANK_CRASHED", 5: "TANK_STARVED", 6: "TANK_UNTAKEN", 7: "TANK_TIME",
-    8: "TANK_FULL", 9: "TANK_UNKEPT", 10: "TANK_SHORT_ROOM", 11: "TANK_JOURNAL_FULL", 16: "TANK_CUT", 17: "TANK_EXTRA", 18: "TANK_SHORT", 19: "TANK_LONG",
-    20: "TANK_KIND", 21: "TANK_VALUE", 22: "TANK_VERSION", 23: "TANK_TOO_LONG", 32: "TANK_SETTINGS_ORDER", 33: "TANK_SETTINGS_RATE",
-    34: "TANK_SETTINGS_LEASE", 35: "TANK_SETTINGS_DEMAND", 36: "TANK_SETTINGS_GRAIN", 37: "TANK_NUMBER", 38: "TANK_SERVERS", 39: "TANK_LIVES",
-    40: "TANK_SHAPE", 41: "TANK_JOURNAL_SIZE", 42: "TANK_JOURNAL_DAMAGED", 43: "TANK_JOURNAL_FOREIGN", 44: "TANK_EPOCHS",
+    0: "TANK_DONE", 1: "TANK_BUSY", 2: "TANK_ABSENT", 3: "TANK_NO_MEMORY", 4: "TANK_CRASHED",
+    5: "TANK_STARVED", 6: "TANK_UNTAKEN", 7: "TANK_TIME", 8: "TANK_FULL", 9: "TANK_UNKEPT",
+    10: "TANK_SHORT_ROOM", 11: "TANK_JOURNAL_FULL", 12: "TANK_UNKNOWN", 13: "TANK_RANGE",
+    14: "TANK_OTHER_KIND", 15: "TANK_NULL", 16: "TANK_CUT", 17: "TANK_EXTRA", 18: "TANK_SHORT",
+    19: "TANK_LONG", 20: "TANK_KIND", 21: "TANK_VALUE", 22: "TANK_NO_VERSION", 23: "TANK_TOO_LONG",
+    32: "TANK_SETTINGS_ORDER", 33: "TANK_SETTINGS_RATE", 34: "TANK_SETTINGS_LEASE",
+    35: "TANK_SETTINGS_DEMAND", 36: "TANK_SETTINGS_GRAIN", 37: "TANK_NUMBER", 38: "TANK_SERVERS",
+    39: "TANK_LIVES", 40: "TANK_SHAPE", 41: "TANK_JOURNAL_SIZE", 42: "TANK_JOURNAL_DAMAGED",
+    43: "TANK_JOURNAL_FOREIGN", 44: "TANK_EPOCHS",
 }
+ASKS = {
+    "write": 1, "read": 2, "sync": 3, "cut": 4, "patch": 6, "lookup": 81, "create": 82,
+    "mkdir": 83, "remove": 84, "rename": 85, "list": 86,
+}
+ANSWERS = {
+    "written": 0, "read": 1, "hard": 2, "cut": 3, "named": 4, "listed": 5, "refused": 6,
+    "quiesced": 17, "no_file": 18, "no_space": 19, "disk_fault": 20, "ops_full": 21,
+    "uncertain": 22, "lost": 23, "dirty_full": 24, "not_holder": 25, "too_many_locks": 26,
+}
+ENDS = {"failed": 0, "written": 1, "read": 2}
+PAGE = 4096
 PHASES = ("none", "valid", "renewal", "quiesce", "flush", "expired")
 
 
@@ -38,6 +53,50 @@ class Shape(c.Structure):
 
 class Association(c.Structure):
     _fields_ = [("life", c.c_uint64), ("lease_end", c.c_uint64), ("phase", c.c_uint32), ("dirty", c.c_uint32)]
+
+
+class Tag(c.Structure):
+    _fields_ = [("birth", c.c_uint64), ("ino", c.c_uint32), ("page", c.c_uint32),
+                ("server", c.c_uint16)]
+
+
+class Ask(c.Structure):
+    """An ask. Its kind is a number of ASKS."""
+    _fields_ = [("op", c.c_uint64), ("ask", c.c_uint32), ("ino", c.c_uint32), ("page", c.c_uint32),
+                ("other", c.c_uint32), ("server", c.c_uint16), ("at", c.c_uint16),
+                ("client", c.c_uint16)]
+
+
+class Done(c.Structure):
+    """The end of a disk command. Its result is a number of ENDS."""
+    _fields_ = [("number", c.c_uint64), ("tag", Tag), ("result", c.c_uint32), ("client", c.c_uint16)]
+
+
+class Answer(c.Structure):
+    """An answer. Its kind is a number of ANSWERS."""
+    _fields_ = [("op", c.c_uint64), ("first", c.c_uint64), ("second", c.c_uint64),
+                ("page", c.c_size_t), ("rows", c.c_size_t), ("answer", c.c_uint32),
+                ("client", c.c_uint16)]
+
+
+class Entry(c.Structure):
+    _fields_ = [("length", c.c_size_t), ("ino", c.c_uint32), ("directory", c.c_uint32),
+                ("name", c.c_uint8 * 64)]
+
+
+class LostPage(c.Structure):
+    _fields_ = [("command", c.c_uint64), ("page", c.c_uint32)]
+
+
+class Command(c.Structure):
+    """A disk command: 0 for a read and 1 for a write."""
+    _fields_ = [("number", c.c_uint64), ("tag", Tag), ("page", c.c_size_t), ("command", c.c_uint32),
+                ("block", c.c_uint32), ("disk", c.c_uint16), ("client", c.c_uint16)]
+
+
+class Frame(c.Structure):
+    _fields_ = [("size", c.c_size_t), ("version", c.c_uint16), ("kind", c.c_uint16),
+                ("from_", c.c_uint16), ("to", c.c_uint16)]
 
 
 class _Handle(c.Structure):
@@ -66,6 +125,15 @@ _CALLS = {
     "tank_server_take": [_P(_Handle), _bytes, _size, _P(_size)],
     "tank_server_epoch": [_P(_Handle)],
     "tank_server_close": [_P(_Handle)],
+    "tank_version": [],
+    "tank_frame_at": [_bytes, _size, _P(Frame)],
+    "tank_encode_tick": [c.c_uint16, _bytes, _size, _P(_size)],
+    "tank_encode_ask": [_P(Ask), _bytes, _size, _bytes, _size, _bytes, _size, _P(_size)],
+    "tank_encode_done": [_P(Done), _bytes, _size, _bytes, _size, _P(_size)],
+    "tank_decode_answer": [_bytes, _size, _P(Answer), _bytes, _size],
+    "tank_decode_entries": [_bytes, _size, _P(Entry), _size, _P(_size)],
+    "tank_decode_lost_pages": [_bytes, _size, _P(LostPage), _size, _P(_size)],
+    "tank_decode_command": [_bytes, _size, _P(Command), _bytes, _size],
 }
 
 
@@ -90,6 +158,71 @@ def frames_of(stream):
         frames.append(stream[at:end])
         at = end
     return frames
+
+
+def version():
+    return _library.tank_version()
+
+
+def _encoded(call, *given):
+    """The frame that a call writes."""
+    out, count = c.create_string_buffer(65540), _size()
+    result = call(*given, out, len(out), c.byref(count))
+    if result:
+        raise Refused(result)
+    return c.string_at(out, count.value)
+
+
+def tick(node):
+    """The frame of a tick for a node."""
+    return _encoded(_library.tank_encode_tick, node)
+
+
+def ask(it, data=b"", other=b""):
+    """The frame of an Ask with the bytes of its page, patch or name, and those of a new name."""
+    return _encoded(_library.tank_encode_ask, c.byref(it), data, len(data), other, len(other))
+
+
+def done(it, page=b""):
+    """The frame of a Done with the page that was read."""
+    return _encoded(_library.tank_encode_done, c.byref(it), page, len(page))
+
+
+def _shown(call, frame, it):
+    """What a call shows of a frame, with the bytes of a page."""
+    page = c.create_string_buffer(PAGE)
+    result = call(frame, len(frame), c.byref(it), page, len(page))
+    if result:
+        raise Refused(result)
+    return it, page.raw[:it.page]
+
+
+def _rows(call, frame, kind, most):
+    rows, count = (kind * most)(), _size()
+    result = call(frame, len(frame), rows, most, c.byref(count))
+    if result:
+        raise Refused(result)
+    return rows[:count.value]
+
+
+def answer(frame):
+    """The Answer of a frame, and the page that was read."""
+    return _shown(_library.tank_decode_answer, frame, Answer())
+
+
+def entries(frame):
+    """The entries of an answer that lists them."""
+    return _rows(_library.tank_decode_entries, frame, Entry, 256)
+
+
+def lost_pages(frame):
+    """The pages of an answer that tells lost ones."""
+    return _rows(_library.tank_decode_lost_pages, frame, LostPage, 1024)
+
+
+def command(frame):
+    """The disk Command of a frame, and the page that it writes."""
+    return _shown(_library.tank_decode_command, frame, Command())
 
 
 class _Node:

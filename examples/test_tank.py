@@ -2,7 +2,8 @@
 import pathlib
 import re
 
-from tank import RESULTS, Client, Refused, Server, Settings, Shape, frames_of
+import tank
+from tank import ANSWERS, ASKS, ENDS, RESULTS, Ask, Client, Done, Refused, Server, Settings, Shape, Tag, frames_of
 
 SETTINGS = Settings(10000, 5000, 7000, 8500, 1000, 500, 101, 100, 1)
 SHAPE = Shape(1, 1, 1, 64)
@@ -37,7 +38,92 @@ class Journal:
 
 def test_names():
     header = (pathlib.Path(__file__).resolve().parent.parent / "include/tank.h").read_text()
-    assert RESULTS == {int(number): name for number, name in re.findall(r"X\((\d+), (\w+),", header)}
+    results = re.search(r"#define TANK_RESULTS\(X\).*?\n\n", header, re.S)[0]
+    assert RESULTS == {int(number): name for number, name in re.findall(r"X\((\d+), (\w+),", results)}
+
+
+def numbers_of(header, macro, prefix):
+    """The numbers of a list of the header, by the names without their prefix."""
+    items = re.search(rf"#define {macro}\(X\).*?\n\n", header, re.S)[0]
+    return {name.lower(): int(number) for number, name in re.findall(rf"X\((\d+), {prefix}(\w+),", items)}
+
+
+def test_numbers():
+    header = (pathlib.Path(__file__).resolve().parent.parent / "include/tank.h").read_text()
+    assert ASKS == numbers_of(header, "TANK_ASKS", "TANK_ASK_")
+    assert ANSWERS == numbers_of(header, "TANK_ANSWERS", "TANK_ANSWER_")
+    assert tank.version() == int(re.search(r"#define TANK_VERSION (\d+)", header)[1])
+
+
+def asked(kind, data=b"", new_name=b"", **fields):
+    return tank.ask(Ask(client=3, op=258, ask=ASKS[kind], server=2, ino=7, **fields), data, new_name)
+
+
+def test_asks_have_the_bytes_of_the_wire():
+    op, file, page = b"\0\0\1\2", b"\0\2\0\0\0\7", bytes(range(256)) * 16
+    assert tank.tick(32769) == told(32769, 64)
+    assert asked("write", page, page=9) == told(3, 65, op + b"\1" + file + b"\0\0\0\t" + page)
+    assert asked("read", page=9) == told(3, 65, op + b"\2" + file + b"\0\0\0\t")
+    assert asked("sync") == told(3, 65, op + b"\3" + file)
+    assert asked("cut", page=9) == told(3, 65, op + b"\4" + file + b"\0\0\0\t")
+    patch = told(3, 65, op + b"\6" + file + b"\0\0\0\t\0\5\0\2hi")
+    assert asked("patch", b"hi", page=9, at=5) == patch[:4] + b"\2" + patch[5:]
+    names = op + b"\5\0\2"
+    for number, kind in enumerate(("lookup", "create", "mkdir"), 1):
+        assert asked(kind, b"a") == told(3, 65, names + bytes([number]) + b"\0\0\0\7\1a")
+    assert asked("remove", b"a", other=8) == told(3, 65, names + b"\4\0\0\0\7\1a\0\0\0\b")
+    assert asked("rename", b"a", b"bc", other=8) == told(3, 65, names + b"\5\0\0\0\7\1a\0\0\0\b\2bc")
+    assert asked("list") == told(3, 65, names + b"\6\0\0\0\7\0")
+
+
+def test_what_has_no_frame():
+    refused(lambda: tank.tick(0), "TANK_RANGE")
+    refused(lambda: tank.ask(Ask(client=1, ask=5)), "TANK_UNKNOWN")
+    refused(lambda: asked("write", b"short"), "TANK_RANGE")
+    refused(lambda: asked("patch", bytes(4000), at=97), "TANK_RANGE")
+    refused(lambda: asked("create"), "TANK_RANGE")
+    refused(lambda: tank.ask(Ask(client=1, op=1 << 32, ask=3, server=1, ino=1)), "TANK_RANGE")
+    refused(lambda: tank.done(Done(client=1, result=3)), "TANK_UNKNOWN")
+    refused(lambda: tank.answer(told(1, 64)), "TANK_OTHER_KIND")
+    refused(lambda: tank.command(told(1, 64)[:-1]), "TANK_CUT")
+
+
+def answered(body):
+    message = bytes([1, 66, 0, 3]) + bytes(34) + b"\0\0\1\2" + body
+    return len(message).to_bytes(4, "big") + message
+
+
+def test_answers_are_shown():
+    page = bytes(range(256)) * 16
+    shown, data = tank.answer(answered(b"\1" + page))
+    assert (shown.client, shown.op, shown.answer, shown.page, data) == (3, 258, ANSWERS["read"], 4096, page)
+    for kind, number in ANSWERS.items():
+        if kind in ("written", "hard", "cut", "quiesced", "no_file", "ops_full", "dirty_full", "not_holder", "too_many_locks"):
+            shown, data = tank.answer(answered(bytes([number])))
+            assert (shown.answer, shown.first, shown.second, shown.rows, data) == (number, 0, 0, 0, b"")
+    pair = (5).to_bytes(8, "big") + (6).to_bytes(8, "big")
+    for body, first, second in ((b"\4\0\0\0\7", 7, 0), (b"\6\x08", 8, 0), (b"\x13" + pair, 5, 6), (b"\x14" + pair[:8], 5, 0), (b"\x16" + pair, 5, 6)):
+        shown, _ = tank.answer(answered(body))
+        assert (shown.answer, shown.first, shown.second) == (body[0], first, second)
+    listed = answered(b"\5\0\2\0\0\0\7\1\1a\0\0\0\b\2\2bc")
+    assert tank.answer(listed)[0].rows == 2
+    assert [(it.ino, it.directory, bytes(it.name[:it.length])) for it in tank.entries(listed)] == [(7, 0, b"a"), (8, 1, b"bc")]
+    lost = answered(b"\x17\0\1\0\0\0\t" + pair[:8])
+    assert [(it.page, it.command) for it in tank.lost_pages(lost)] == [(9, 5)]
+    refused(lambda: tank.entries(lost), "TANK_OTHER_KIND")
+
+
+def test_disk_commands_are_shown_and_ended():
+    page, tag = bytes(range(256)) * 16, b"\0\2\0\0\0\7\0\0\0\t" + (11).to_bytes(8, "big")
+    body = (5).to_bytes(8, "big") + b"\0\1\0\0\0\4\1" + tag + page
+    message = bytes([1, 67, 0, 3]) + bytes(34) + body
+    shown, data = tank.command(len(message).to_bytes(4, "big") + message)
+    assert (shown.number, shown.client, shown.disk, shown.block, shown.command, data) == (5, 3, 1, 4, 1, page)
+    assert (shown.tag.server, shown.tag.ino, shown.tag.page, shown.tag.birth) == (2, 7, 9, 11)
+    assert tank.done(Done(client=3, number=5, result=ENDS["failed"])) == told(3, 68, body[:8] + b"\0")
+    assert tank.done(Done(client=3, number=5, result=ENDS["written"])) == told(3, 68, body[:8] + b"\1")
+    assert tank.done(Done(client=3, number=5, result=ENDS["read"], tag=shown.tag), page) == told(3, 68, body[:8] + b"\2" + tag + page)
+    assert tank.done(Done(client=3, number=5, result=ENDS["read"], tag=Tag()), page) == told(3, 68, body[:8] + b"\2" + bytes(18) + page)
 
 
 def test_a_lease_is_begun():
@@ -91,7 +177,7 @@ def test_refusals():
     refused(lambda: client.step(1, tick[:-1]), "TANK_CUT")
     refused(lambda: client.step(1, tick + b"x"), "TANK_EXTRA")
     refused(lambda: client.step(1, b"\0\1\0\1" + bytes(9)), "TANK_TOO_LONG", 65537)
-    refused(lambda: client.step(1, tick[:4] + b"\3" + tick[5:]), "TANK_VERSION")
+    refused(lambda: client.step(1, tick[:4] + b"\3" + tick[5:]), "TANK_NO_VERSION")
     refused(lambda: client.step(1, tick[:8] + b"\0\0" + tick[10:]), "TANK_VALUE", 4)
     refused(lambda: client.step(1 << 63, tick), "TANK_TIME")
     client.step(5, tick)

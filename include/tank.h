@@ -10,7 +10,7 @@
  *     uint64_t lives[1] = {0};
  *     if (tank_client_open(&client, &settings, 1, lives, 1) != TANK_DONE) ...
  *     for (each frame that arrives, and each tick) {
- *         struct tank_client_step step;
+ *         struct tank_client_stepped step;
  *         tank_client_step(&client, now, frame, length, &step);
  *         if (step.new_lives) ...keep the lives on disk...
  *         while (tank_client_take(&client, out, sizeof out, &count) == TANK_DONE && count > 0)
@@ -20,12 +20,13 @@
  *
  * Frames. A frame is a length in four bytes, the highest first, and the bytes of one message
  * ("Wire"). A call takes one whole frame. What is taken out is a sequence of whole frames, in
- * pieces as large as the caller's buffer. Bytes 4 and 5 after its length say to which node a
- * message goes: a client is 1 to 16, a server is 32768 plus its number, and 0 is the client's own
- * surroundings. These receive its answers (`appdone`) and its disk commands (`submit`). A tick, an
- * application's ask (`app`) and the end of a disk command (`done`) reach a client as frames from 0.
- * A frame that isn't for the node, or isn't an input for it, is ignored: the result is TANK_DONE,
- * no step is taken, and nothing results.
+ * pieces as large as the caller's buffer. tank_frame_at says where the first one ends, and to which
+ * node it goes. A client is 1 to 16, a server is 32768 plus its number, and 0 is the client's own
+ * surroundings. These receive its answers and its disk commands, which tank_decode_answer and
+ * tank_decode_command show as structs. A tick, an application's ask and the end of a disk command
+ * reach a node as frames, which tank_encode_tick, tank_encode_ask and tank_encode_done make of
+ * structs. A frame that isn't for the node, or isn't an input for it, is ignored: the result is
+ * TANK_DONE, no step is taken, and nothing results.
  *
  * Moments. A moment is a reading of the node's own clock in ticks, at most 2^62. It never falls,
  * from call to call and from one opening to the next. Timers move only in steps: give each node a
@@ -36,6 +37,12 @@
  * name and text. If a call is refused, everything else that it returns is 0, unless stated
  * otherwise.
  *
+ * Demands. A server that wants a lock back sends the frame TANK_KIND_DEMAND. If it reaches a client
+ * right after the grant, the client gives the lock up before it has served the ask for which it
+ * wanted it, and asks for it again. Clients that use one file in turn then make slow progress,
+ * though nothing is lost. So hold a demand back until the ask that waits for its grant has been
+ * answered, or for longer than a round trip and a disk read.
+ *
  * Memory. Nodes use malloc, realloc and free. If memory runs out, a call returns TANK_NO_MEMORY and
  * has done nothing; no byte that must be taken out is lost. If it runs out within a step, the node
  * is crashed, as by a crash of its machine, and the result is TANK_STARVED: nothing of the step
@@ -43,7 +50,12 @@
  *
  * Handles. A handle is all zero before it is opened and after it is closed. Don't copy or move it
  * while it is open, and use it from one thread at a time. An open handle must be closed: nothing
- * else frees what it holds. Pointers are never null, even for no bytes, and buffers don't overlap.
+ * else frees what it holds. A call that takes a handle by a const pointer leaves the node as it is,
+ * but counts as a use of the handle all the same.
+ *
+ * Pointers. If one is null, the result is TANK_NULL, and nothing has happened. Only a pointer to no
+ * items may be null. This header checks pointers before it calls the library; define TANK_UNCHECKED
+ * to leave these checks out. Buffers don't overlap.
  */
 #ifndef TANK_H
 #define TANK_H
@@ -54,6 +66,15 @@
 #ifdef __cplusplus
 extern "C" {
 #endif
+
+/* The version of this header: a hundred times the major number, and the minor number. A minor
+ * version adds calls, structs and numbers. A major version changes what there is, and is part of
+ * the shared library's name, libtank.so.1. A program that was compiled with this header runs with
+ * each library of the same major version whose minor version is not below this one's. */
+#define TANK_VERSION 100
+
+/* The library's version. */
+uint32_t tank_version(void);
 
 /* Number, name and text of each result. */
 #define TANK_RESULTS(X)                                                                            \
@@ -69,13 +90,17 @@ extern "C" {
     X(9, TANK_UNKEPT, "a change was not kept in the journal")                                      \
     X(10, TANK_SHORT_ROOM, "the buffer is too short")                                              \
     X(11, TANK_JOURNAL_FULL, "the journal has too little room for a change")                       \
+    X(12, TANK_UNKNOWN, "no ask and no result has this number")                                    \
+    X(13, TANK_RANGE, "a field is out of its range, or a page or name has a wrong length")         \
+    X(14, TANK_OTHER_KIND, "the frame is of another kind")                                         \
+    X(15, TANK_NULL, "a pointer is null")                                                          \
     X(16, TANK_CUT, "the frame is cut")                                                            \
     X(17, TANK_EXTRA, "bytes follow the frame")                                                    \
     X(18, TANK_SHORT, "the message ends inside a field")                                           \
     X(19, TANK_LONG, "bytes follow the message")                                                   \
     X(20, TANK_KIND, "no such kind of message")                                                    \
     X(21, TANK_VALUE, "the field at this byte of the message is out of its range")                 \
-    X(22, TANK_VERSION, "no such version")                                                         \
+    X(22, TANK_NO_VERSION, "no such version")                                                      \
     X(23, TANK_TOO_LONG, "a frame of this length is too long")                                     \
     X(32, TANK_SETTINGS_ORDER, "0 < renew < quiesce < flush < lease does not hold")                \
     X(33, TANK_SETTINGS_RATE, "den is 0, num is below den, or num is above 1048576")               \
@@ -84,7 +109,7 @@ extern "C" {
     X(36, TANK_SETTINGS_GRAIN, "the grain is above the lease")                                     \
     X(37, TANK_NUMBER, "a client's number is from 1 to 16")                                        \
     X(38, TANK_SERVERS, "there are more than four servers")                                        \
-    X(39, TANK_LIVES, "the lives are neither all 0 nor all from 1 to 2^62 - 1")                    \
+    X(39, TANK_LIVES, "the lives are neither all 0 nor all from 1 to 2^62 - 2")                    \
     X(40, TANK_SHAPE, "the number of the server, of servers, disks or blocks is out of range")     \
     X(41, TANK_JOURNAL_SIZE, "a journal has from 1 to 2^32 - 1 bytes")                             \
     X(42, TANK_JOURNAL_DAMAGED, "no change that applies follows the open gate at this place")      \
@@ -93,7 +118,6 @@ extern "C" {
 
 #define TANK_NUMBERED(number, name, text) name = number,
 enum tank_result { TANK_RESULTS(TANK_NUMBERED) TANK_RESULTS_END };
-#undef TANK_NUMBERED
 
 /* The name of a result, such as "TANK_DONE"; "" if no result has this number. */
 static inline const char *tank_name(uint32_t result) {
@@ -138,7 +162,7 @@ struct tank_client {
 uint32_t tank_client_open(struct tank_client *client, const struct tank_settings *settings,
                           uint16_t id, const uint64_t *lives, size_t servers);
 
-struct tank_client_step {
+struct tank_client_stepped {
     uint64_t at;        /* TANK_VALUE: the message's byte; TANK_TOO_LONG: the length; otherwise 0 */
     uint32_t new_lives; /* 1 if a life at a server has changed in this step */
 };
@@ -150,7 +174,7 @@ struct tank_client_step {
  * order, and TANK_NO_MEMORY for a client that runs: no step was taken. TANK_STARVED: the client is
  * crashed, in the lives from before the step. */
 uint32_t tank_client_step(struct tank_client *client, uint64_t now, const uint8_t *frame,
-                          size_t length, struct tank_client_step *step);
+                          size_t length, struct tank_client_stepped *step);
 
 /* Takes out the next bytes of the last step's frames, at most `room`. *count is their number; 0
  * means that all were taken. TANK_ABSENT, TANK_NO_MEMORY. */
@@ -165,7 +189,7 @@ struct tank_association {
 
 /* What the client has at a server, at this moment. This isn't a step. TANK_ABSENT: *association
  * stays as it was. */
-uint32_t tank_client_at(struct tank_client *client, uint16_t server, uint64_t now,
+uint32_t tank_client_at(const struct tank_client *client, uint16_t server, uint64_t now,
                         struct tank_association *association);
 
 /* Closes a client and frees what it holds. Its dirty pages and locks are gone, as after a crash. A
@@ -213,7 +237,7 @@ uint32_t tank_server_open(struct tank_server *server, const struct tank_settings
                           const struct tank_shape *shape, uint64_t now, const uint8_t *journal,
                           size_t size, uint64_t *at);
 
-struct tank_server_step {
+struct tank_server_stepped {
     uint64_t at;     /* as for a client */
     uint32_t record; /* 1 if a record must be kept */
 };
@@ -226,7 +250,7 @@ struct tank_server_step {
  * less than TANK_RECORD_MOST bytes after its gate. At TANK_STARVED the server is crashed, and
  * nothing must be kept or taken out. */
 uint32_t tank_server_step(struct tank_server *server, uint64_t now, const uint8_t *frame,
-                          size_t length, struct tank_server_step *step);
+                          size_t length, struct tank_server_stepped *step);
 
 struct tank_record {
     uint64_t gate; /* the place in the journal of the gate before the record */
@@ -239,7 +263,7 @@ struct tank_record {
 /* Writes the record that must be kept to out[0 .. record->size). It may be requested again.
  * TANK_ABSENT, TANK_NO_MEMORY, TANK_SHORT_ROOM: `out` stays as it was; at TANK_SHORT_ROOM the
  * record's gate and size are returned. */
-uint32_t tank_server_record(struct tank_server *server, uint8_t *out, size_t room,
+uint32_t tank_server_record(const struct tank_server *server, uint8_t *out, size_t room,
                             struct tank_record *record);
 
 /* Says that the record and its gate were written and synced. If nothing must be kept, it changes
@@ -250,11 +274,228 @@ uint32_t tank_server_kept(struct tank_server *server);
 uint32_t tank_server_take(struct tank_server *server, uint8_t *out, size_t room, size_t *count);
 
 /* The epoch of a server; 0 if the handle isn't open. */
-uint64_t tank_server_epoch(struct tank_server *server);
+uint64_t tank_server_epoch(const struct tank_server *server);
 
 /* Closes a server and frees what it holds, as a crash would. A handle that isn't open stays as it
  * is. */
 void tank_server_close(struct tank_server *server);
+
+/* Frames as structs.
+ *
+ * A struct's frame is the one spelling of the message that it means, and what is shown of a frame
+ * is its message ("Wire"). These calls need no node. Fields and bytes that a kind doesn't need may
+ * have any value. */
+
+/* Number, name and text of each ask, answer and result of a disk command, and of each reason for
+ * which a request is refused. These are the numbers of the wire; those of the asks on names are 80
+ * and the number of the wire. */
+#define TANK_ASKS(X)                                                                               \
+    X(1, TANK_ASK_WRITE, "write")                                                                  \
+    X(2, TANK_ASK_READ, "read")                                                                    \
+    X(3, TANK_ASK_SYNC, "sync")                                                                    \
+    X(4, TANK_ASK_CUT, "cut")                                                                      \
+    X(6, TANK_ASK_PATCH, "patch")                                                                  \
+    X(81, TANK_ASK_LOOKUP, "lookup")                                                               \
+    X(82, TANK_ASK_CREATE, "create")                                                               \
+    X(83, TANK_ASK_MKDIR, "mkdir")                                                                 \
+    X(84, TANK_ASK_REMOVE, "remove")                                                               \
+    X(85, TANK_ASK_RENAME, "rename")                                                               \
+    X(86, TANK_ASK_LIST, "list")
+
+#define TANK_ANSWERS(X)                                                                            \
+    X(0, TANK_ANSWER_WRITTEN, "written")                                                           \
+    X(1, TANK_ANSWER_READ, "read")                                                                 \
+    X(2, TANK_ANSWER_HARD, "hard")                                                                 \
+    X(3, TANK_ANSWER_CUT, "cut")                                                                   \
+    X(4, TANK_ANSWER_NAMED, "named")                                                               \
+    X(5, TANK_ANSWER_LISTED, "listed")                                                             \
+    X(6, TANK_ANSWER_REFUSED, "refused")                                                           \
+    X(17, TANK_ANSWER_QUIESCED, "quiesced")                                                        \
+    X(18, TANK_ANSWER_NO_FILE, "no file")                                                          \
+    X(19, TANK_ANSWER_NO_SPACE, "no space")                                                        \
+    X(20, TANK_ANSWER_DISK_FAULT, "disk fault")                                                    \
+    X(21, TANK_ANSWER_OPS_FULL, "too many asks")                                                   \
+    X(22, TANK_ANSWER_UNCERTAIN, "uncertain")                                                      \
+    X(23, TANK_ANSWER_LOST, "lost")                                                                \
+    X(24, TANK_ANSWER_DIRTY_FULL, "too many dirty pages")                                          \
+    X(25, TANK_ANSWER_NOT_HOLDER, "not the holder")                                                \
+    X(26, TANK_ANSWER_TOO_MANY_LOCKS, "too many locks")
+
+/* Why an ask on names is refused: `first` of the answer TANK_ANSWER_REFUSED. */
+#define TANK_CAUSES(X)                                                                             \
+    X(1, TANK_CAUSE_NO_ENTRY, "no such entry")                                                     \
+    X(2, TANK_CAUSE_EXISTS, "the entry exists")                                                    \
+    X(3, TANK_CAUSE_NOT_DIRECTORY, "not a directory")                                              \
+    X(4, TANK_CAUSE_IS_DIRECTORY, "a directory")                                                   \
+    X(5, TANK_CAUSE_NOT_EMPTY, "the directory has entries")                                        \
+    X(6, TANK_CAUSE_CYCLE, "a directory would come under itself")                                  \
+    X(7, TANK_CAUSE_BAD_NAME, "not a name")                                                        \
+    X(8, TANK_CAUSE_TOO_MANY, "too many inodes")
+
+#define TANK_ENDS(X)                                                                               \
+    X(0, TANK_END_FAILED, "failed")                                                                \
+    X(1, TANK_END_WRITTEN, "written")                                                              \
+    X(2, TANK_END_READ, "read")
+
+#define TANK_COMMANDS(X)                                                                           \
+    X(0, TANK_COMMAND_READ, "read")                                                                \
+    X(1, TANK_COMMAND_WRITE, "write")
+
+/* The kinds of messages. */
+#define TANK_KINDS(X)                                                                              \
+    X(1, TANK_KIND_HELLO, "hello")                                                                 \
+    X(2, TANK_KIND_KEEPALIVE, "keepalive")                                                         \
+    X(3, TANK_KIND_ACQUIRE, "acquire")                                                             \
+    X(4, TANK_KIND_RELEASED, "released")                                                           \
+    X(5, TANK_KIND_MAP, "map")                                                                     \
+    X(6, TANK_KIND_ALLOCATE, "allocate")                                                           \
+    X(7, TANK_KIND_CUT, "cut")                                                                     \
+    X(8, TANK_KIND_NAME, "name")                                                                   \
+    X(9, TANK_KIND_REASSERT, "reassert")                                                           \
+    X(10, TANK_KIND_DEMANDSEEN, "demandseen")                                                      \
+    X(32, TANK_KIND_WELCOME, "welcome")                                                            \
+    X(33, TANK_KIND_ACK, "ack")                                                                    \
+    X(34, TANK_KIND_NACK, "nack")                                                                  \
+    X(35, TANK_KIND_GRANTED, "granted")                                                            \
+    X(36, TANK_KIND_QUEUED, "queued")                                                              \
+    X(37, TANK_KIND_DEMAND, "demand")                                                              \
+    X(38, TANK_KIND_EXTENTS, "extents")                                                            \
+    X(39, TANK_KIND_NAMED, "named")                                                                \
+    X(40, TANK_KIND_REASSERTED, "reasserted")                                                      \
+    X(64, TANK_KIND_TICK, "tick")                                                                  \
+    X(65, TANK_KIND_APP, "app")                                                                    \
+    X(66, TANK_KIND_APPDONE, "appdone")                                                            \
+    X(67, TANK_KIND_SUBMIT, "submit")                                                              \
+    X(68, TANK_KIND_DONE, "done")
+
+enum tank_ask_number { TANK_ASKS(TANK_NUMBERED) TANK_ASKS_END };
+enum tank_answer_number { TANK_ANSWERS(TANK_NUMBERED) TANK_ANSWERS_END };
+enum tank_cause_number { TANK_CAUSES(TANK_NUMBERED) TANK_CAUSES_END };
+enum tank_end_number { TANK_ENDS(TANK_NUMBERED) TANK_ENDS_END };
+enum tank_command_number { TANK_COMMANDS(TANK_NUMBERED) TANK_COMMANDS_END };
+enum tank_kind_number { TANK_KINDS(TANK_NUMBERED) TANK_KINDS_END };
+
+/* The bytes of a page, and of the longest frame. */
+#define TANK_PAGE 4096
+#define TANK_FRAME_MOST 65540
+
+/* The node that is this server. */
+#define TANK_SERVER_NODE(number) (32768 + (number))
+
+struct tank_frame {
+    size_t size;      /* the bytes of the frame, with its length */
+    uint16_t version; /* of its message, which isn't read */
+    uint16_t kind;    /* a number of TANK_KINDS */
+    uint16_t from, to;
+};
+
+/* Says which frame comes first in these bytes. TANK_CUT if they end before it does, TANK_TOO_LONG,
+ * TANK_SHORT. */
+uint32_t tank_frame_at(const uint8_t *bytes, size_t length, struct tank_frame *frame);
+
+/* The frame is written to out[0 .. *count). TANK_SHORT_ROOM: *count is the room that it needs. If a
+ * call is refused, `out` stays as it was. */
+
+/* A tick for a node. TANK_RANGE, TANK_SHORT_ROOM, in this order, and TANK_NO_MEMORY. */
+uint32_t tank_encode_tick(uint16_t node, uint8_t *out, size_t room, size_t *count);
+
+struct tank_ask {
+    uint64_t op;     /* the number under which its answer comes; a client uses it once */
+    uint32_t ask;    /* a number of TANK_ASKS */
+    uint32_t ino;    /* the inode number of the file, or of the directory */
+    uint32_t page;   /* for a cut, the first page that goes */
+    uint32_t other;  /* remove: the file's inode number, or 0 for a directory; rename: the inode
+                      * number of the new directory */
+    uint16_t server; /* the file's server */
+    uint16_t at;     /* patch: the index of the first byte in its page */
+    uint16_t client; /* the client to which it goes */
+};
+
+/* An ask. `bytes` are those of the page (write), of the patch, or of the name (list: the name after
+ * which it begins, and none for the first). `other_bytes` are those of a renaming's new name.
+ * TANK_UNKNOWN, TANK_RANGE, TANK_SHORT_ROOM, in this order, and TANK_NO_MEMORY. */
+uint32_t tank_encode_ask(const struct tank_ask *ask, const uint8_t *bytes, size_t length,
+                         const uint8_t *other_bytes, size_t other_length, uint8_t *out, size_t room,
+                         size_t *count);
+
+/* What is stored with a block: the page whose bytes it has, and the birth of its mapping. All 0 for
+ * a block that was never written. */
+struct tank_tag {
+    uint64_t birth;
+    uint32_t ino, page;
+    uint16_t server;
+};
+
+struct tank_done {
+    uint64_t number;     /* that of the command */
+    struct tank_tag tag; /* TANK_END_READ: the tag that the block had */
+    uint32_t result;     /* a number of TANK_ENDS */
+    uint16_t client;     /* the client to which it goes */
+};
+
+/* The end of a disk command. TANK_END_READ: `page` is the page that was read. TANK_UNKNOWN,
+ * TANK_RANGE, TANK_SHORT_ROOM, in this order, and TANK_NO_MEMORY. */
+uint32_t tank_encode_done(const struct tank_done *done, const uint8_t *page, size_t length,
+                          uint8_t *out, size_t room, size_t *count);
+
+/* These take one whole frame. TANK_CUT to TANK_TOO_LONG, TANK_OTHER_KIND, TANK_SHORT_ROOM, in this
+ * order, and TANK_NO_MEMORY: the buffer stays as it was. */
+
+struct tank_answer {
+    uint64_t op;     /* the number of the ask */
+    uint64_t first;  /* named: the inode number; refused: a number of TANK_CAUSES; no space: the
+                      * free blocks; disk fault: the command; uncertain: the old epoch; else 0 */
+    uint64_t second; /* no space: the blocks asked for; uncertain: the new epoch, or 0 */
+    size_t page;     /* read: TANK_PAGE, the bytes of the page; otherwise 0 */
+    size_t rows;     /* listed and lost: how many rows; otherwise 0 */
+    uint32_t answer; /* a number of TANK_ANSWERS */
+    uint16_t client; /* the client from which it comes */
+};
+
+/* Shows an answer. The page that was read is written to page[0 .. answer->page). */
+uint32_t tank_decode_answer(const uint8_t *frame, size_t length, struct tank_answer *answer,
+                            uint8_t *page, size_t room);
+
+struct tank_entry {
+    size_t length; /* the bytes of its name */
+    uint32_t ino;
+    uint32_t directory; /* 1 if it is a directory, and otherwise 0 */
+    uint8_t name[64];   /* zeros follow the name */
+};
+
+/* Shows the entries of the answer TANK_ANSWER_LISTED, at most 256. TANK_SHORT_ROOM: *count is their
+ * number. */
+uint32_t tank_decode_entries(const uint8_t *frame, size_t length, struct tank_entry *entries,
+                             size_t room, size_t *count);
+
+struct tank_lost_page {
+    uint64_t command; /* the disk command that should have written it, or 0 */
+    uint32_t page;
+};
+
+/* Shows the pages of the answer TANK_ANSWER_LOST, at most 1,024, in the same way. */
+uint32_t tank_decode_lost_pages(const uint8_t *frame, size_t length, struct tank_lost_page *pages,
+                                size_t room, size_t *count);
+
+struct tank_command {
+    uint64_t number;
+    struct tank_tag tag; /* write: the tag that is stored with the page */
+    size_t page;         /* write: TANK_PAGE; otherwise 0 */
+    uint32_t command;    /* a number of TANK_COMMANDS */
+    uint32_t block;
+    uint16_t disk;
+    uint16_t client; /* the client from which it comes */
+};
+
+/* Shows a disk command. The page of a write is written to page[0 .. command->page). */
+uint32_t tank_decode_command(const uint8_t *frame, size_t length, struct tank_command *command,
+                             uint8_t *page, size_t room);
+
+#undef TANK_NUMBERED
+
+#ifndef TANK_UNCHECKED
+#include "tank_checked.h"
+#endif
 
 #ifdef __cplusplus
 }

@@ -43,8 +43,8 @@ int main(void) {
     struct tank_client client = TANK_CLIENT_CLOSED;
     const struct tank_shape shape = {1, 1, 1, 64};
     const uint64_t lives[1] = {0};
-    struct tank_server_step server_step;
-    struct tank_client_step client_step;
+    struct tank_server_stepped server_step;
+    struct tank_client_stepped client_step;
     struct tank_record kept;
     uint8_t frame[42];
     uint64_t at;

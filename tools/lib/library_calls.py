@@ -1,8 +1,9 @@
-"""The calls of crates/tank_c and the structures that they take, as its sources declare them."""
+"""The calls of crates/tank_c and the structures that they take, as its sources declare them. The structures of frames are those of crates/st_host_frames."""
 import pathlib
 import re
 
-SOURCES = pathlib.Path(__file__).resolve().parents[2] / "crates/tank_c/src"
+CRATES = pathlib.Path(__file__).resolve().parents[2] / "crates"
+SOURCES = CRATES / "tank_c/src"
 NUMBERS = ("u16", "u32", "u64", "usize", "bool")
 
 
@@ -13,24 +14,42 @@ def calls():
     return {name: ([tuple(it.strip().split(": ", 1)) for it in words.replace("\n", " ").split(",") if it.strip()], result or None) for name, words, result in found}
 
 
+def reads_only():
+    """The calls that leave the node of their handle as it is, whatever they return: their contracts say so."""
+    text = (SOURCES / "lib.rt").read_text()
+    each = re.findall(r'pub extern "C" fn (\w+)\((\w+): &mut Tank(?:Client|Server),(.*?)\n\{\n', text.replace("(\n    ", "("), re.S)
+    return {name for name, handle, clauses in each if f"ensures same {{ {handle}.new.slot.value ≡ {handle}.old.slot.value }}" in clauses}
+
+
 def structures():
     """By the name of each structure for C: its fields, each a name and a type. A slot is the pointer that it holds."""
     found = {}
-    for path in sorted(SOURCES.glob("*.rt")):
+    for path in sorted(it for crate in ("tank_c", "st_host_frames") for it in (CRATES / crate / "src").glob("*.rt")):
         for name, body in re.findall(r"#\[repr\(C\)\]\n(?:#\[derive\([^)]*\)\]\n)?pub struct (\w+) \{\n(.*?)\n\}", path.read_text(), re.S):
             lines = [re.sub(r"^(pub )?", "", line.strip()).rstrip(",") for line in body.split("\n") if "ghost " not in line and "///" not in line]
             found[name] = [tuple(line.split(": ", 1)) for line in lines]
-    return {name: [held for field in fields for held in found.get(field[1], [field])] for name, fields in found.items()}
+    slots = {name: fields for name, fields in found.items() if name.endswith("Slot")}
+    return {name: [held for field in fields for held in slots.get(field[1], [field])] for name, fields in found.items()}
+
+
+def made_of(name, made):
+    """An expression for a structure whose fields are all 0."""
+    values = []
+    for field, kind in made[name]:
+        array = re.fullmatch(r"\[\w+; (\d+)\]", kind)
+        values.append(f"{field}: {made_of(kind, made) if kind in made else f'[0; {array[1]}]' if array else 0}")
+    folder = "st_host_frames::" if any(f"pub struct {name} " in it.read_text() for it in (CRATES / "st_host_frames/src").glob("*.rt")) else ""
+    return f"{folder}{name} {{ {', '.join(values)} }}"
 
 
 def main_text(named):
     """A main that makes each of these calls once, to stand behind the crate's sources."""
     lines, made = [], structures()
-    lines += ["    let mut bytes: [u8; 1] = [0; 1];", "    let numbers: [u64; 1] = [0; 1];"]
+    lines += ["    let mut bytes: [u8; 1] = [0; 1];", "    let input: [u8; 1] = [0; 1];", "    let numbers: [u64; 1] = [0; 1];"]
     lines += [f"    let mut a_{kind}: {kind} = 0;" for kind in ("u64", "usize")]
-    for name, fields in made.items():
-        if all(kind in NUMBERS for _, kind in fields):
-            lines.append(f"    let mut a_{name} = {name} {{ {', '.join(f'{field}: 0' for field, _ in fields)} }};")
+    for name in made:
+        if name.startswith("Tank") and name not in ("TankClient", "TankServer"):
+            lines += [f"    let mut a_{name} = {made_of(name, made)};", f"    let mut some_{name} = [{made_of(name, made)}; 1];"]
     for kind in ("Client", "Server"):
         lines.append(f"    let mut a_Tank{kind} = Tank{kind} {{ slot: {kind}Slot::empty(), full: false }};")
     for name, (parameters, _) in named.items():
@@ -41,9 +60,12 @@ def main_text(named):
 
 def value_of(kind):
     """Some value of a parameter's type."""
-    known = {"Global": "rt.alloc()", "&[u8]": "&bytes", "&[u64]": "&numbers", "&mut [u8]": "&mut bytes"}
+    known = {"Global": "rt.alloc()", "&[u8]": "&input", "&[u64]": "&numbers", "&mut [u8]": "&mut bytes"}
     if kind in known:
         return known[kind]
     if kind in NUMBERS:
         return "0"
+    items = re.fullmatch(r"&mut \[(\w+)\]", kind)
+    if items:
+        return f"&mut some_{items[1]}"
     return re.sub(r"^(&mut |&)(\w+)$", r"\1a_\2", kind)

@@ -12,7 +12,7 @@ use Rattle.st_embed.specs.declared.fault.OpenFault.{OpenFault}
 use Rattle.st_embed.specs.declared.fault.StepRefusal.{StepRefusal}
 use Rattle.tank_c.specs.Codes as codes
 use Rattle.tank_c.specs.declared.client_calls.TankAssociation.{TankAssociation}
-use Rattle.tank_c.specs.declared.client_calls.TankClientStep.{TankClientStep}
+use Rattle.tank_c.specs.declared.client_calls.TankClientStepped.{TankClientStepped}
 use Rattle.tank_c.specs.declared.client_calls.TankSettings.{TankSettings}
 
 abbrev pub settings_of : TankSettings → Config
@@ -43,22 +43,22 @@ ClientOpens None new id s lives = MayOpen (client_id id) (settings_of s) lives �
 ClientOpens (Some c) new id s lives = ⊥
 
 -- what a step tells: a place, and whether there are new lives
-abbrev pub client_told : ℕ → ℕ → TankClientStep
+abbrev pub client_told : ℕ → ℕ → TankClientStepped
 client_told at new_lives = record { at = at; new_lives = new_lives }
 
 -- a step is taken
-abbrev pub ClientSteps : Option EmbeddedClient → Option EmbeddedClient → ℕ → List ℕ → TankClientStep → Type 0
+abbrev pub ClientSteps : Option EmbeddedClient → Option EmbeddedClient → ℕ → List ℕ → TankClientStepped → Type 0
 ClientSteps (Some c) (Some d) now frame o = Steps c d (stamp now) frame × (o ≡ client_told 0 (codes.flag (has_new_life c.node.state d.node.state)))
 ClientSteps c d now frame o = ⊥
 
 -- no step is taken, for a reason that the library tells
-pub record RefusesFor (old new : EmbeddedClient) (now : ℕ) (frame : List ℕ) (code : ℕ) (o : TankClientStep) : Type 0 where
+pub record RefusesFor (old new : EmbeddedClient) (now : ℕ) (frame : List ℕ) (code : ℕ) (o : TankClientStepped) : Type 0 where
   pub refusal : StepRefusal
   pub told : code ≡ codes.of_step refusal
   pub place : o ≡ client_told (codes.place_of_step refusal) 0
   pub why : Refuses old new (stamp now) frame refusal
 
-abbrev pub NoClientStep : Option EmbeddedClient → Option EmbeddedClient → ℕ → List ℕ → ℕ → TankClientStep → Type 0
+abbrev pub NoClientStep : Option EmbeddedClient → Option EmbeddedClient → ℕ → List ℕ → ℕ → TankClientStepped → Type 0
 NoClientStep (Some c) (Some d) now frame code o = RefusesFor c d now frame code o
 NoClientStep None None now frame code o = (code ≡ codes.ABSENT) × (o ≡ client_told 0 0)
 NoClientStep c d now frame code o = ⊥

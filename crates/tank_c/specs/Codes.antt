@@ -15,8 +15,14 @@ use Rattle.st_embed.specs.declared.fault.ServerRefusal.{ServerRefusal}
 use Rattle.st_embed.specs.declared.fault.ServerRefusal.TheVariants as refused
 use Rattle.st_embed.specs.declared.fault.StepRefusal.{StepRefusal}
 use Rattle.st_embed.specs.declared.fault.StepRefusal.TheVariants as steps
+use Rattle.st_host_frames.specs.declared.fault.HostFault.{HostFault}
+use Rattle.st_host_frames.specs.declared.fault.HostFault.TheVariants as hosts
 use Rattle.st_rules.specs.declared.lease.Phase.{Phase}
 use Rattle.st_rules.specs.declared.lease.Phase.TheVariants.{Valid, Renewal, Quiesce, Flush, Expired}
+
+-- a hundred times the major number, and the minor number
+abbrev pub VERSION : ℕ
+VERSION = 100
 
 abbrev pub DONE : ℕ
 DONE = 0
@@ -143,3 +149,17 @@ of_server_open servers.Epochs = 44
 abbrev pub place_of_server_open : ServerFault → ℕ
 place_of_server_open (servers.Damaged at) = at
 place_of_server_open f = 0
+
+-- of a struct that has no frame, or a frame that has no struct
+abbrev pub of_host : HostFault → ℕ
+of_host hosts.Memory = NO_MEMORY
+of_host (hosts.Room n) = SHORT_ROOM
+of_host hosts.Unknown = 12
+of_host hosts.Range = 13
+of_host hosts.OtherKind = 14
+of_host (hosts.Frame f) = of_frame f
+
+-- what a buffer that is too short must have room for, or 0
+abbrev pub room_of_host : HostFault → ℕ
+room_of_host (hosts.Room n) = n
+room_of_host f = 0

@@ -3,3 +3,4 @@ pub mod Slots
 pub mod Codes
 pub mod Calls
 pub mod ServerCalls
+pub mod FrameCalls

@@ -9,7 +9,7 @@ use Rattle.tank_c.specs.Calls.{server_id, settings_of, stamp}
 use Rattle.tank_c.specs.Codes as codes
 use Rattle.tank_c.specs.declared.client_calls.TankSettings.{TankSettings}
 use Rattle.tank_c.specs.declared.server_calls.TankRecord.{TankRecord}
-use Rattle.tank_c.specs.declared.server_calls.TankServerStep.{TankServerStep}
+use Rattle.tank_c.specs.declared.server_calls.TankServerStepped.{TankServerStepped}
 use Rattle.tank_c.specs.declared.server_calls.TankShape.{TankShape}
 
 abbrev pub shape_of : TankShape → Shape
@@ -33,22 +33,22 @@ NoServerOpened None new s w now bytes code at = (new ≡ None) × NotOpenedFor s
 NoServerOpened (Some e) new s w now bytes code at = (new ≡ Some e) × (code ≡ codes.BUSY) × (at ≡ 0)
 
 -- what a step returns: a place, and whether a record must be kept
-abbrev pub server_told : ℕ → ℕ → TankServerStep
+abbrev pub server_told : ℕ → ℕ → TankServerStepped
 server_told at to_keep = record { at = at; «record» = to_keep }
 
 -- a step is taken
-abbrev pub ServerSteps : Option EmbeddedServer → Option EmbeddedServer → ℕ → List ℕ → TankServerStep → Type 0
+abbrev pub ServerSteps : Option EmbeddedServer → Option EmbeddedServer → ℕ → List ℕ → TankServerStepped → Type 0
 ServerSteps (Some c) (Some d) now frame o = Steps c d (stamp now) frame × (o ≡ server_told 0 (codes.flag (is_some (to_keep d))))
 ServerSteps c d now frame o = ⊥
 
 -- no step is taken, for a reason that the library tells
-pub record RefusesFor (old new : EmbeddedServer) (now : ℕ) (frame : List ℕ) (code : ℕ) (o : TankServerStep) : Type 0 where
+pub record RefusesFor (old new : EmbeddedServer) (now : ℕ) (frame : List ℕ) (code : ℕ) (o : TankServerStepped) : Type 0 where
   pub refusal : ServerRefusal
   pub told : code ≡ codes.of_server_step refusal
   pub place : o ≡ server_told (codes.place_of_server_step refusal) 0
   pub why : Refuses old new (stamp now) frame refusal
 
-abbrev pub NoServerStep : Option EmbeddedServer → Option EmbeddedServer → ℕ → List ℕ → ℕ → TankServerStep → Type 0
+abbrev pub NoServerStep : Option EmbeddedServer → Option EmbeddedServer → ℕ → List ℕ → ℕ → TankServerStepped → Type 0
 NoServerStep (Some c) (Some d) now frame code o = RefusesFor c d now frame code o
 NoServerStep None None now frame code o = (code ≡ codes.ABSENT) × (o ≡ server_told 0 0)
 NoServerStep c d now frame code o = ⊥

@@ -26,7 +26,7 @@ pub struct TankSettings {
 /// another one than before.
 #[repr(C)]
 #[derive(Clone, Copy)]
-pub struct TankClientStep {
+pub struct TankClientStepped {
     pub at: u64,
     pub new_lives: u32,
 }
@@ -43,10 +43,10 @@ pub struct TankAssociation {
 }
 
 /// What is returned if there is no step.
-pub(crate) fn no_step() -> TankClientStep
+pub(crate) fn no_step() -> TankClientStepped
     ensures { result ≡ client_told 0 0 }
 {
-    TankClientStep {
+    TankClientStepped {
         at: 0,
         new_lives: 0,
     }
@@ -105,7 +105,7 @@ pub(crate) fn step_client(
     client: &mut EmbeddedClient,
     now: u64,
     frame: &[u8],
-    step: &mut TankClientStep,
+    step: &mut TankClientStepped,
 ) -> u32
     ensures done { result ≡ DONE → ClientSteps (Some client.old) (Some client.new) now frame.now step.new }
     ensures refused { result ≢ DONE → NoClientStep (Some client.old) (Some client.new) now frame.now result step.new }

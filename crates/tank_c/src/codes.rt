@@ -5,6 +5,7 @@ ghost use Rattle.tank_c.specs.Codes as codes;
 use st_embed::{
     CodecRefusal, ConfigRefusal, FrameFault, OpenFault, ServerFault, ServerRefusal, StepRefusal,
 };
+use st_host_frames::HostFault;
 
 pub(crate) const DONE: u32 = 0;
 
@@ -162,6 +163,31 @@ pub(crate) fn server_open_place(fault: ServerFault) -> u64
 {
     match fault {
         ServerFault::Damaged(at) => at,
+        _ => 0,
+    }
+}
+
+/// The number of why a struct has no frame, or a frame no struct.
+pub(crate) fn host_code(fault: HostFault) -> u32
+    ensures exact { result ≡ codes.of_host fault }
+    ensures some { result ≢ 0 }
+{
+    match fault {
+        HostFault::Memory => NO_MEMORY,
+        HostFault::Room(_) => SHORT_ROOM,
+        HostFault::Unknown => 12,
+        HostFault::Range => 13,
+        HostFault::OtherKind => 14,
+        HostFault::Frame(fault) => frame_code(fault),
+    }
+}
+
+/// What a buffer that is too short must have room for; 0 for other faults.
+pub(crate) fn host_room(fault: HostFault) -> usize
+    ensures { result ≡ codes.room_of_host fault }
+{
+    match fault {
+        HostFault::Room(needed) => needed,
         _ => 0,
     }
 }

@@ -1,29 +1,59 @@
 //! The nodes for C. `include/tank.h` declares and describes the calls.
 #![tactic(auto)]
 
-ghost use Rattle.std.specs.Prelude.{◌≡◌, ◌≢◌, None, is_some};
+ghost use Rattle.std.specs.Prelude.{◌≡◌, ◌≢◌, None, Ok, is_some, length};
 ghost use Rattle.tank_c.specs.Calls.{ClientOpens, ClientSteps, ClientTakes, NoClientOpened, NoClientStep, TellsOf, client_not_taken};
-ghost use Rattle.tank_c.specs.Codes.{ABSENT, DONE};
+ghost use Rattle.tank_c.specs.Codes.{ABSENT, DONE, VERSION};
+ghost use Rattle.tank_c.specs.FrameCalls.{NoFront, Unshown, Unwritten};
+ghost use Rattle.tank_c.specs.FrameCalls as shown;
+ghost use Rattle.st_host_frames.specs.Answers.{answer_in, entries_by, lost_pages_by};
+ghost use Rattle.st_host_frames.specs.Answers as answers;
+ghost use Rattle.st_host_frames.specs.Asks.{ask_frame};
+ghost use Rattle.st_host_frames.specs.Commands.{command_in};
+ghost use Rattle.st_host_frames.specs.Commands as commands;
+ghost use Rattle.st_host_frames.specs.Ends.{done_frame};
+ghost use Rattle.st_host_frames.specs.Fronts.{frame_at};
+ghost use Rattle.st_host_frames.specs.Messages.{tick_frame};
+ghost use Rattle.st_host_frames.specs.Results.{Puts};
 ghost use Rattle.tank_c.specs.ServerCalls.{NoServerOpened, NoServerRecord, NoServerStep, NoServerTake, ServerKept, ServerOpens, ServerSteps, ServerTakes, TellsRecord, epoch_of};
 
 mod box_pointer;
 mod client_calls;
 pub mod client_slot;
 mod codes;
+mod frame_calls;
 mod server_calls;
 pub mod server_slot;
 
 use crate::box_pointer::BoxPointer;
 use crate::client_calls::{association_at, config_of, step_client, take_client};
 use crate::client_slot::ClientSlot;
-use crate::codes::{ABSENT, BUSY, DONE, NO_MEMORY, open_code, server_open_code, server_open_place};
+use crate::codes::{
+    ABSENT, BUSY, DONE, NO_MEMORY, host_code, host_room, open_code, server_open_code,
+    server_open_place,
+};
+use crate::frame_calls::{no_answer, no_command, no_front};
 use crate::server_calls::{record_server, step_server, take_server};
 use crate::server_slot::ServerSlot;
-pub use client_calls::{TankAssociation, TankClientStep, TankSettings};
-pub use server_calls::{TankRecord, TankServerStep, TankShape};
+pub use client_calls::{TankAssociation, TankClientStepped, TankSettings};
+pub use server_calls::{TankRecord, TankServerStepped, TankShape};
 use st_embed::{ClientId, EmbeddedClient, EmbeddedServer, ServerId, Shape, Stamp};
+use st_host_frames::{
+    TankAnswer, TankAsk, TankCommand, TankDone, TankEntry, TankFrame, TankLostPage, decode_answer,
+    decode_command, decode_entries, decode_lost_pages, encode_ask, encode_done, encode_tick,
+    front_of,
+};
 use std::alloc::Global;
 use std::mem;
+
+/// The version of these calls: a hundred times the major number, and the minor number.
+/// `include/tank.h` says when which one rises.
+#[unsafe(no_mangle)]
+pub extern "C" fn tank_version() -> u32
+    ensures { result ≡ VERSION }
+{
+    100
+}
 
 /// A client that C keeps: all zero before it is opened.
 #[repr(C)]
@@ -69,7 +99,7 @@ pub extern "C" fn tank_client_step(
     alloc: Global,
     now: u64,
     frame: &[u8],
-    step: &mut TankClientStep,
+    step: &mut TankClientStepped,
 ) -> u32
     ensures done { result ≡ DONE → ClientSteps client.old.slot.value client.new.slot.value now frame.now step.new }
     ensures refused { result ≢ DONE → NoClientStep client.old.slot.value client.new.slot.value now frame.now result step.new }
@@ -212,7 +242,7 @@ pub extern "C" fn tank_server_step(
     alloc: Global,
     now: u64,
     frame: &[u8],
-    step: &mut TankServerStep,
+    step: &mut TankServerStepped,
 ) -> u32
     ensures done { result ≡ DONE → ServerSteps server.old.slot.value server.new.slot.value now frame.now step.new }
     ensures refused { result ≢ DONE → NoServerStep server.old.slot.value server.new.slot.value now frame.now result step.new }
@@ -323,5 +353,194 @@ pub extern "C" fn tank_server_close(server: &mut TankServer, alloc: Global)
             .into_box();
         server.full = false;
         drop(held);
+    }
+}
+
+/// Tells of the frame with which bytes begin.
+#[unsafe(no_mangle)]
+pub extern "C" fn tank_frame_at(bytes: &[u8], frame: &mut TankFrame) -> u32
+    ensures done { result ≡ DONE → frame_at bytes.now ≡ Ok frame.new }
+    ensures refused { result ≢ DONE → NoFront bytes.now result frame.new }
+{
+    match front_of(bytes) {
+        Ok(found) => {
+            *frame = found;
+            DONE
+        }
+        Err(fault) => {
+            *frame = no_front();
+            host_code(fault)
+        }
+    }
+}
+
+/// Writes the frame of a tick for a node.
+#[unsafe(no_mangle)]
+pub extern "C" fn tank_encode_tick(
+    alloc: Global,
+    node: u16,
+    out: &mut [u8],
+    count: &mut usize,
+) -> u32
+    ensures done { result ≡ DONE → Puts (tick_frame node) out.old out.new count.new }
+    ensures refused { result ≢ DONE → Unwritten (tick_frame node) (length out.old) result count.new }
+    ensures kept { result ≢ DONE → out.new ≡ out.old }
+{
+    match encode_tick(alloc, node, out) {
+        Ok(n) => {
+            *count = n;
+            DONE
+        }
+        Err(fault) => {
+            *count = host_room(fault);
+            host_code(fault)
+        }
+    }
+}
+
+/// Writes the frame of an ask.
+#[unsafe(no_mangle)]
+pub extern "C" fn tank_encode_ask(
+    alloc: Global,
+    ask: &TankAsk,
+    bytes: &[u8],
+    other: &[u8],
+    out: &mut [u8],
+    count: &mut usize,
+) -> u32
+    ensures done { result ≡ DONE → Puts (ask_frame ask.now bytes.now other.now) out.old out.new count.new }
+    ensures refused { result ≢ DONE → Unwritten (ask_frame ask.now bytes.now other.now) (length out.old) result count.new }
+    ensures kept { result ≢ DONE → out.new ≡ out.old }
+{
+    match encode_ask(alloc, ask, bytes, other, out) {
+        Ok(n) => {
+            *count = n;
+            DONE
+        }
+        Err(fault) => {
+            *count = host_room(fault);
+            host_code(fault)
+        }
+    }
+}
+
+/// Writes the frame of the end of a disk command.
+#[unsafe(no_mangle)]
+pub extern "C" fn tank_encode_done(
+    alloc: Global,
+    done: &TankDone,
+    page: &[u8],
+    out: &mut [u8],
+    count: &mut usize,
+) -> u32
+    ensures done { result ≡ DONE → Puts (done_frame done.now page.now) out.old out.new count.new }
+    ensures refused { result ≢ DONE → Unwritten (done_frame done.now page.now) (length out.old) result count.new }
+    ensures kept { result ≢ DONE → out.new ≡ out.old }
+{
+    match encode_done(alloc, done, page, out) {
+        Ok(n) => {
+            *count = n;
+            DONE
+        }
+        Err(fault) => {
+            *count = host_room(fault);
+            host_code(fault)
+        }
+    }
+}
+
+/// Shows the answer of a frame.
+#[unsafe(no_mangle)]
+pub extern "C" fn tank_decode_answer(
+    alloc: Global,
+    frame: &[u8],
+    answer: &mut TankAnswer,
+    page: &mut [u8],
+) -> u32
+    ensures done { result ≡ DONE → answers.Shows frame.now page.old page.new answer.new }
+    ensures refused { result ≢ DONE → Unshown (answers.page_by (answer_in frame.now)) (length page.old) result answer.new shown.no_answer }
+    ensures kept { result ≢ DONE → page.new ≡ page.old }
+{
+    match decode_answer(alloc, frame, page) {
+        Ok(found) => {
+            *answer = found;
+            DONE
+        }
+        Err(fault) => {
+            *answer = no_answer();
+            host_code(fault)
+        }
+    }
+}
+
+/// Shows the entries that the answer of a frame lists.
+#[unsafe(no_mangle)]
+pub extern "C" fn tank_decode_entries(
+    alloc: Global,
+    frame: &[u8],
+    out: &mut [TankEntry],
+    count: &mut usize,
+) -> u32
+    ensures done { result ≡ DONE → Puts (entries_by (answer_in frame.now)) out.old out.new count.new }
+    ensures refused { result ≢ DONE → Unwritten (entries_by (answer_in frame.now)) (length out.old) result count.new }
+    ensures kept { result ≢ DONE → out.new ≡ out.old }
+{
+    match decode_entries(alloc, frame, out) {
+        Ok(n) => {
+            *count = n;
+            DONE
+        }
+        Err(fault) => {
+            *count = host_room(fault);
+            host_code(fault)
+        }
+    }
+}
+
+/// Shows the lost pages that the answer of a frame tells.
+#[unsafe(no_mangle)]
+pub extern "C" fn tank_decode_lost_pages(
+    alloc: Global,
+    frame: &[u8],
+    out: &mut [TankLostPage],
+    count: &mut usize,
+) -> u32
+    ensures done { result ≡ DONE → Puts (lost_pages_by (answer_in frame.now)) out.old out.new count.new }
+    ensures refused { result ≢ DONE → Unwritten (lost_pages_by (answer_in frame.now)) (length out.old) result count.new }
+    ensures kept { result ≢ DONE → out.new ≡ out.old }
+{
+    match decode_lost_pages(alloc, frame, out) {
+        Ok(n) => {
+            *count = n;
+            DONE
+        }
+        Err(fault) => {
+            *count = host_room(fault);
+            host_code(fault)
+        }
+    }
+}
+
+/// Shows the disk command of a frame.
+#[unsafe(no_mangle)]
+pub extern "C" fn tank_decode_command(
+    alloc: Global,
+    frame: &[u8],
+    command: &mut TankCommand,
+    page: &mut [u8],
+) -> u32
+    ensures done { result ≡ DONE → commands.Shows frame.now page.old page.new command.new }
+    ensures refused { result ≢ DONE → Unshown (commands.page_by (command_in frame.now)) (length page.old) result command.new shown.no_command }
+    ensures kept { result ≢ DONE → page.new ≡ page.old }
+{
+    match decode_command(alloc, frame, page) {
+        Ok(found) => {
+            *command = found;
+            DONE
+        }
+        Err(fault) => {
+            *command = no_command();
+            host_code(fault)
+        }
     }
 }

@@ -21,7 +21,7 @@ pub struct TankShape {
 /// must be kept in the journal before frames are taken.
 #[repr(C)]
 #[derive(Clone, Copy)]
-pub struct TankServerStep {
+pub struct TankServerStepped {
     pub at: u64,
     pub record: u32,
 }
@@ -35,10 +35,10 @@ pub struct TankRecord {
 }
 
 /// What is returned if there is no step.
-pub(crate) fn no_step() -> TankServerStep
+pub(crate) fn no_step() -> TankServerStepped
     ensures { result ≡ server_told 0 0 }
 {
-    TankServerStep { at: 0, record: 0 }
+    TankServerStepped { at: 0, record: 0 }
 }
 
 /// What is returned if there is no record.
@@ -53,7 +53,7 @@ pub(crate) fn step_server(
     server: &mut EmbeddedServer,
     now: u64,
     frame: &[u8],
-    step: &mut TankServerStep,
+    step: &mut TankServerStepped,
 ) -> u32
     ensures done { result ≡ DONE → ServerSteps (Some server.old) (Some server.new) now frame.now step.new }
     ensures refused { result ≢ DONE → NoServerStep (Some server.old) (Some server.new) now frame.now result step.new }
