@@ -7,7 +7,6 @@ use Rattle.st_base.specs.declared.ids.FileId.{FileId}
 use Rattle.st_base.specs.declared.ids.PageNo.{PageNo}
 use Rattle.st_messages.specs.Kinds.{between, is_word64, kind_of_body}
 use Rattle.st_messages.specs.Ranges.{fits, has_length, is_ask, is_body, is_disk_result, is_file, is_header, is_page, is_tag, is_whole_page, is_word32}
-use Rattle.st_messages.specs.Ranges.{is_word64}
 use Rattle.st_messages.specs.declared.ask.Ask.{Ask}
 use Rattle.st_messages.specs.declared.ask.Ask.TheVariants as asks
 use Rattle.st_messages.specs.declared.message.DiskResult.{DiskResult}

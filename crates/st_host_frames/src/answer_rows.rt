@@ -54,7 +54,6 @@ fn front(bytes: &[u8]) -> &[u8]
 }
 
 /// The first 64 bytes of a name, and zeros after it.
-#[tactic(auto, using(crate::proofs::Names::short_name, crate::proofs::Names::long_name))]
 fn name_shown(bytes: &[u8]) -> [u8; 64]
     ensures { result ≡ answers.name_shown bytes.now }
 {
