@@ -2,7 +2,7 @@
 -- them. It is a means of proof: nobody needs to trust it.
 use Rattle.std.specs.Prelude.{◌≡◌, ℕ, ◌*◌, Bool, true, false, ◌&&◌, not, ◌==◌, if◌then◌else◌, List}
 use Rattle.std.specs.Prelude.{[], ◌∷◌, ◌++◌, length, filter, find, map, Option, Some, None, is_some}
-use Rattle.std.specs.Prelude.{bytes_eq, ⊤}
+use Rattle.std.specs.Prelude.{bytes_eq, option_and_then, ⊤}
 use Rattle.std.specs.List.{list_all, list_any}
 use Rattle.st_base.specs.declared.ids.ServerId.{ServerId}
 use Rattle.st_base.specs.declared.ids.FileId.{FileId}
@@ -171,9 +171,13 @@ steps_of t v x =
     of_event x.before.world x.event
     ++ (of_delivery t v x.before.world x.seen x.event ++ of_lines x.before.world x.seen)
 
+-- each entry that has joined the log has had its line
+abbrev pub if_told : Volume → Option Volume
+if_told v = if v.lines == length v.log then Some v else None
+
 abbrev pub volume_after : Witness → Step → Option Volume → Option Volume
 volume_after t x None = None
-volume_after t x (Some v) = run (steps_of t v x) v
+volume_after t x (Some v) = option_and_then if_told (run (steps_of t v x) v)
 
 -- the witness after a step
 unfoldable pub led_by : Witness → Step → Witness
@@ -191,8 +195,8 @@ led_from t (x ∷ xs) = led_from (led_by t x) xs
 abbrev pub led_to : List Step → Step → Witness
 led_to past x = led_from (begun (first_world past x) (first_world past x)) past
 
--- Accepted: the volume takes the steps of each event; and what is seen of these is what is seen of
--- the event.
+-- Accepted: the volume takes the steps of each event, and each entry that joins its log has its line
+-- in that event; and what is seen of these steps is what is seen of the event.
 abbrev pub shows : Witness → Step → Option Volume → Type 0
 shows t x None = ⊥
 shows t x (Some v) = filter is_seen (steps_of t v x) ≡ seen_of x
