@@ -245,7 +245,7 @@ class _Node:
         return self._step.flag
 
     def take(self):
-        """The bytes that are to be taken out, all of them."""
+        """The bytes that must be taken out, all of them."""
         pieces = []
         while True:
             result = self._take_call(self._ref, self._out, len(self._out), self._count_ref)
@@ -268,8 +268,8 @@ class _Node:
 
 
 class Client(_Node):
-    """A client that runs. `lives` has one number for each server: all 0, or those that were kept last. `keep(lives)` is called where there are
-    new ones to be kept, in opening and in steps."""
+    """A client that runs. `lives` has one number for each server: all 0, or those that were kept
+    last. `keep(lives)` is called where there are new ones to be kept, in opening and in steps."""
 
     def __init__(self, settings, id, lives, keep=None):
         super().__init__("client")
@@ -306,8 +306,8 @@ class Client(_Node):
 
 
 class Server(_Node):
-    """A server on the bytes of its journal, in its next epoch. `keep(place, bytes)` writes bytes at a place of the journal and syncs; it
-    returns only when they are on the disk."""
+    """A server on the bytes of its journal, in its next epoch. `keep(place, bytes)` writes bytes at
+    a place of the journal and syncs; it returns only when they are on the disk."""
 
     def __init__(self, settings, shape, now, journal, keep):
         super().__init__("server")
@@ -334,7 +334,9 @@ class Server(_Node):
         return _library.tank_server_epoch(self._ref)
 
     def step(self, now, frame):
-        """Takes a step for one frame, with its length, keeps its change, and returns the frames that come of it."""
+        """Takes a step for one frame, with its length, keeps its change, and returns the frames
+        that come of it.
+        """
         return frames_of(self.step_bytes(now, frame))
 
     def step_bytes(self, now, frame):

@@ -1,4 +1,6 @@
-"""Tries tank.py: a client and a server that greet each other, the journal, refusals, and that the names here are those of include/tank.h."""
+"""Tries tank.py: a client and a server that greet each other, the journal, refusals, and that the
+names here are those of include/tank.h.
+"""
 import pathlib
 import re
 

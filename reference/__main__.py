@@ -60,7 +60,9 @@ def main(words, source, output, errors):
 
 
 def run_node(role, number, readings, files, source, output, errors):
-    """A node over frames of a file or the standard input, with the clock's readings handed in: `1,5,900`."""
+    """A node over frames of a file or the standard input, with the clock's readings handed in:
+    `1,5,900`.
+    """
     clock = ListedClock(int(reading) for reading in readings.split(","))
     stream = open(files[0], "rb") if files else source
     stop = serve(Node(role, number), pieces_of(stream), clock, output.write)

@@ -39,7 +39,9 @@ class Client(Inputs, Passes):
         return self.associations[server - 1] if 1 <= server <= len(self.associations) else None
 
     def step(self, now, taken):
-        """A step: losses, the rule for the input, and five passes at each server. Its outputs. Chapter "The client"."""
+        """A step: losses, the rule for the input, and five passes at each server. Its outputs.
+        Chapter "The client".
+        """
         self.now, self.outputs = now, []
         self.losses()
         kind = taken[0]
@@ -60,7 +62,7 @@ class Client(Inputs, Passes):
         return [operation for operation in self.operations if operation.server == association.server]
 
     def active(self, association):
-        """The pending operations of a server before which no leave stands, in order. Rule "Leaving"."""
+        """The pending operations of a server that no leave precedes, in order. Rule "Leaving"."""
         operations = self.operations_of(association)
         leaves = [place for place, operation in enumerate(operations) if operation.kind == "leave"]
         return operations[: leaves[0]] if leaves else operations
@@ -71,7 +73,9 @@ class Client(Inputs, Passes):
         return bool(operations) and operations[0].kind == "leave"
 
     def owe(self, association, ino):
-        """Rule "Used once": of a lock that is installed now, the first active operation that it covers is owed a use. Chapter "The client"."""
+        """Rule "Used once": of a lock that is installed now, the first active operation that it
+        covers is owed a use. Chapter "The client".
+        """
         session = association.session
         session.owed.pop(ino, None)
         if self.limits.cooperate:
@@ -81,16 +85,22 @@ class Client(Inputs, Passes):
                     return
 
     def owed(self, association, ino):
-        """The operation that is owed a use of the file's lock, until it was sent or answered; or None. Rule "Used once"."""
+        """The operation that is owed a use of the file's lock, until it was sent or answered; or
+        None. Rule "Used once".
+        """
         operation = association.session.owed.get(ino)
         return None if operation is None or operation.sent or operation not in self.operations else operation
 
     def is_busy(self, association, ino):
-        """A file is busy while a cut or a remove of it was sent and not answered. Chapter "The client"."""
+        """A file is busy while a cut or a remove of it was sent and not answered. Chapter "The
+        client".
+        """
         return any(operation.sent and operation.ino == ino and operation.is_cut() for operation in self.operations_of(association))
 
     def is_open(self, association, operation):
-        """A file is open to an operation where it is not busy, and is not demanded or owes this operation a use. Chapter "The client"."""
+        """A file is open to an operation where it is not busy, and is not demanded or owes this
+        operation a use. Chapter "The client".
+        """
         ino = operation.ino
         if self.is_busy(association, ino):
             return False

@@ -1,4 +1,6 @@
-"""The rule for the input, and the losses. Sections "Losses" and "The rule for the input" of "The client"."""
+"""The rule for the input, and the losses. Sections "Losses" and "The rule for the input" of "The
+client".
+"""
 
 from . import wire
 from .client_parts import RUN, UNMAPPED, Operation, Session
@@ -39,7 +41,9 @@ class Inputs:
 
     @staticmethod
     def told_lost(association, operation):
-        """What a sync and a leave are told of lost rows, or None. Rules "Loss", "Asks" and "Leaving". Chapter "The client"."""
+        """What a sync and a leave are told of lost rows, or None. Rules "Loss", "Asks" and
+        "Leaving". Chapter "The client".
+        """
         if operation.kind == "leave":
             return ("unsynced", min(association.lost)) if association.lost else None
         lost = association.lost_of(operation.ino) if operation.kind == "sync" else None
@@ -48,7 +52,7 @@ class Inputs:
     # Asks
 
     def asked(self, number, ask):
-        """Rule "Asks": the first case that stands. Chapter "The client"."""
+        """Rule "Asks": the first case that applies. Chapter "The client"."""
         operation = Operation(number, ask)
         if len(self.operations) >= self.limits.operations:
             self.say(number, ("opsfull",))
@@ -87,7 +91,9 @@ class Inputs:
             self.counting(association, message)
 
     def welcome(self, association, message):
-        """Rules "Welcome" and "Take a fresh welcome only"; without a session every other message is passed over."""
+        """Rules "Welcome" and "Take a fresh welcome only"; without a session every other message is
+        ignored.
+        """
         if message.kind != wire.WELCOME or association.greeted is None:
             return
         if phase(self.settings, message.stamp, False, self.now) == EXPIRED:
@@ -102,7 +108,9 @@ class Inputs:
         self.note("dated", association.server, lease_end(self.settings, association.session.date))
 
     def newer_epoch(self, association, message):
-        """Rule "A newer epoch"; every other message of another epoch is passed over. Chapter "The client"."""
+        """Rule "A newer epoch"; every other message of another epoch is ignored. Chapter "The
+        client".
+        """
         session = association.session
         if message.kind != wire.NACK or CAUSES[message.body[0] - 1] != "otherepoch":
             return
@@ -126,7 +134,9 @@ class Inputs:
             self.counting(association, message)
 
     def counts(self, session, message):
-        """Rule "Counting": the outstanding number, and a kind that fits the request. Chapter "The client"."""
+        """Rule "Counting": the outstanding number, and a kind that fits the request. Chapter "The
+        client".
+        """
         request = session.request
         if request is None or message.number != request.number:
             return False
@@ -144,7 +154,9 @@ class Inputs:
         return kind == wire.REASSERTED and asked == wire.REASSERT
 
     def counting(self, association, message):
-        """Rule "Counting": the request ends, the lease is renewed, and the reply has its effect. Chapter "The client"."""
+        """Rule "Counting": the request ends, the lease is renewed, and the reply has its effect.
+        Chapter "The client".
+        """
         session = association.session
         if message.kind == wire.NACK and session.request.kind == wire.REASSERT:
             session.condemn()
@@ -228,13 +240,17 @@ class Inputs:
             self.answer(request.operation, ("notholder",))
 
     def answer_all(self, association, ino, cause):
-        """All reads, writes, patches, cuts and removes of a file are refused. Rules "Refused" and "Giving back". Chapter "The client"."""
+        """All reads, writes, patches, cuts and removes of a file are refused. Rules "Refused" and
+        "Giving back". Chapter "The client".
+        """
         for operation in self.operations_of(association):
             if ino is not None and operation.ino == ino and operation.kind != "sync":
                 self.answer(operation, (cause,))
 
     def full(self, association, ino):
-        """The server has too many locks and waits of this client: a lock is given back, and locks of more files are asked for `retry` later."""
+        """The server has too many locks and waits of this client: a lock is given back, and locks
+        of more files are asked for `retry` later.
+        """
         association.session.full = self.now
         for operation in self.active(association):
             if operation.ino == ino and operation.needs() > NONE:
@@ -261,7 +277,9 @@ class Inputs:
     # Ends of commands
 
     def ended(self, own, ending, tagged):
-        """Rule "Ends of commands": failed, written, or read with what the block had. Chapter "The client"."""
+        """Rule "Ends of commands": failed, written, or read with what the block had. Chapter "The
+        client".
+        """
         for association in self.associations:
             command = association.store.commands.get(own)
             if command is not None:

@@ -38,7 +38,9 @@ class Outstanding:
 
 
 class Request:
-    """The outstanding request: number, kind, body, when it was last sent, and whose operation it is (or None)."""
+    """The outstanding request: number, kind, body, when it was last sent, and whose operation it is
+    (or None).
+    """
 
     __slots__ = ("number", "kind", "body", "sent", "operation")
 
@@ -69,7 +71,9 @@ class Session:
         return NONE if lock is None else lock.mode
 
     def renew(self, stamp):
-        """Rule "Renewing": to a later stamp, where the lease is not condemned. Whether the date moved. Chapter "The client"."""
+        """Rule "Renewing": to a later stamp, where the lease is not condemned. Whether the date
+        moved. Chapter "The client".
+        """
         if self.condemned or stamp <= self.date:
             return False
         self.date = stamp
@@ -84,7 +88,9 @@ class Session:
         return grant > self.seen.get(ino, 0)
 
     def install(self, ino, grant, mode):
-        """Rule "Installing": the grant becomes the lock and the greatest seen; the demand is forgotten. Chapter "The client"."""
+        """Rule "Installing": the grant becomes the lock and the greatest seen; the demand is
+        forgotten. Chapter "The client".
+        """
         self.seen[ino] = grant
         self.locks[ino] = Lock(grant, mode)
         self.demands.pop(ino, None)
@@ -120,7 +126,9 @@ class Store:
         self.commands = {}
 
     def known_at(self, ino, page):
-        """What is known of a page: a mapping (disk, block, birth), UNMAPPED, or None. Chapter "The client"."""
+        """What is known of a page: a mapping (disk, block, birth), UNMAPPED, or None. Chapter "The
+        client".
+        """
         return self.known.get(ino, {}).get(page)
 
     def mapped_at(self, ino, page):
@@ -137,24 +145,32 @@ class Store:
         return (ino, page) in self.dirty or (ino, page) in self.clean
 
     def make_clean(self, ino, page, data):
-        """Rule "Clean pages": the page becomes the newest, and the oldest of too many goes. Chapter "The client"."""
+        """Rule "Clean pages": the page becomes the newest, and the oldest of too many goes. Chapter
+        "The client".
+        """
         self.clean[ino, page] = data
         self.clean.move_to_end((ino, page))
         if len(self.clean) > self.limits.clean:
             self.clean.popitem(last=False)
 
     def is_dirty_full(self, ino, page):
-        """Whether as many other pages are dirty as may be. Rule "Dirty pages". Chapter "The client"."""
+        """Whether as many other pages are dirty as may be. Rule "Dirty pages". Chapter "The
+        client".
+        """
         return len(self.dirty) - ((ino, page) in self.dirty) >= self.limits.dirty
 
     def make_dirty(self, ino, page, data):
-        """Rule "Dirty pages": new bytes, the next version, no failed command; a page is not both. Chapter "The client"."""
+        """Rule "Dirty pages": new bytes, the next version, no failed command; a page is not both.
+        Chapter "The client".
+        """
         self.clean.pop((ino, page), None)
         self.versions += 1
         self.dirty[ino, page] = Dirty(data, self.versions)
 
     def oldest(self, count):
-        """The first so many dirty pages by version that are being written or were not tried in vain. Rule "Making room"."""
+        """The first so many dirty pages by version that are being written or were not tried in
+        vain. Rule "Making room".
+        """
         written = self.written()
         hopeful = [(dirty.version, place) for place, dirty in self.dirty.items() if dirty.failed is None or place in written]
         return {place for _, place in sorted(hopeful)[:count]}
@@ -164,12 +180,16 @@ class Store:
         return {(command.ino, command.page) for command in self.commands.values() if command.version is not None}
 
     def is_stuck(self, ino):
-        """Whether a dirty page of the file was tried in vain, and is not being written. Rule "Giving back"."""
+        """Whether a dirty page of the file was tried in vain, and is not being written. Rule
+        "Giving back".
+        """
         written = self.written()
         return any(place[0] == ino and dirty.failed is not None and place not in written for place, dirty in self.dirty.items())
 
     def is_idle(self, ino):
-        """A file is idle where it has no dirty page and no outstanding command. Chapter "The client"."""
+        """A file is idle where it has no dirty page and no outstanding command. Chapter "The
+        client".
+        """
         return not self.has_dirty(ino) and not any(command.ino == ino for command in self.commands.values())
 
     def has_dirty(self, ino):
@@ -196,7 +216,9 @@ class Store:
             del known[at]
 
     def found(self, server, ino, page, tagged):
-        """Rule "What a read found": the bytes where the tag has the page and the known birth, else zeros. Chapter "The client"."""
+        """Rule "What a read found": the bytes where the tag has the page and the known birth, else
+        zeros. Chapter "The client".
+        """
         *tag, data = tagged
         extent = self.mapped_at(ino, page)
         return data if extent is not None and tag == [server, ino, page, extent[2]] else ZEROS
@@ -217,7 +239,9 @@ class Association:
         self.store = Store(self.limits)
 
     def lost_of(self, ino):
-        """The lost rows of a file: at most 1,024 (page, command), rising; they are forgotten. None where there are none. Chapter "The client"."""
+        """The lost rows of a file: at most 1,024 (page, command), rising; they are forgotten. None
+        if there are none. Chapter "The client".
+        """
         rows = self.lost.get(ino)
         if not rows:
             return None
@@ -230,7 +254,9 @@ class Association:
 
 
 class Operation:
-    """A pending operation: its number, its ask, and whether its request was sent. Chapter "The client"."""
+    """A pending operation: its number, its ask, and whether its request was sent. Chapter "The
+    client".
+    """
 
     __slots__ = ("number", "ask", "kind", "server", "ino", "page", "sent")
 
@@ -255,7 +281,9 @@ class Operation:
         return self.kind == "cut" or (self.kind == "remove" and self.ino is not None)
 
     def needs(self):
-        """Rule "Needs": the mode of lock that it needs; none for a sync, a leave and a name without a file. Chapter "The client"."""
+        """Rule "Needs": the mode of lock that it needs; none for a sync, a leave and a name without
+        a file. Chapter "The client".
+        """
         if self.ino is None or self.kind == "sync":
             return NONE
         return SHARED if self.kind == "read" else EXCLUSIVE

@@ -11,7 +11,9 @@ class Passes:
     """The five passes, a part of the client's machine."""
 
     def passes(self, association, is_tick):
-        """Operations, reductions, writes, leaving, greeting, requests at one server. Chapter "The client"."""
+        """Operations, reductions, writes, leaving, greeting, requests at one server. Chapter "The
+        client".
+        """
         self.pass_operations(association)
         if association.session is not None:
             self.pass_reductions(association)
@@ -49,7 +51,9 @@ class Passes:
             self.stand_for_locks(association)
 
     def serve_sync(self, association, operation):
-        """A sync is hard where its file has no dirty page and no outstanding write. Rule "Operations". Chapter "The client"."""
+        """A sync is hard where its file has no dirty page and no outstanding write. Rule
+        "Operations". Chapter "The client".
+        """
         store = association.store
         if not store.has_dirty(operation.ino) and not store.has_outstanding_write(operation.ino):
             self.answer(operation, ("hard",))
@@ -68,7 +72,9 @@ class Passes:
             self.serve_change(association, operation)
 
     def serve_change(self, association, operation):
-        """Rules "Writing" and "Patching": an exclusive lock and a mapped extent; a patch needs the page cached. Chapter "The client"."""
+        """Rules "Writing" and "Patching": an exclusive lock and a mapped extent; a patch needs the
+        page cached. Chapter "The client".
+        """
         ino, page, store = operation.ino, operation.page, association.store
         if association.session.mode(ino) != EXCLUSIVE or store.mapped_at(ino, page) is None:
             return
@@ -111,13 +117,16 @@ class Passes:
             self.fetch(association, ino, page)
 
     def fetch(self, association, ino, page):
-        """Rule "Fetching": a mapped page is read from its disk, unless that is under way. Chapter "The client"."""
+        """Rule "Fetching": a mapped page is read from its disk, unless that is under way. Chapter
+        "The client".
+        """
         store = association.store
         if store.command_on(ino, page) is None:
             self.submit(association, ino, page, None)
 
     def submit(self, association, ino, page, dirty):
-        """A command with the next number: a read, or a write of a dirty page. Chapter "The client"."""
+        """A command with the next number: a read, or a write of a dirty page. Chapter "The client".
+        """
         disk, block, birth = association.store.mapped_at(ino, page)
         own = self.next_command
         self.next_command += 1
@@ -148,13 +157,17 @@ class Passes:
     # Giving back
 
     def is_full(self, association):
-        """Whether the client is at its limit: its locks, and the files without one for which it waits for an operation. Rule "Giving back"."""
+        """Whether the client is at its limit: its locks, and the files without one for which it
+        waits for an operation. Rule "Giving back".
+        """
         session = association.session
         waited = {operation.ino for operation in self.operations_of(association)} & session.waits.keys() - session.locks.keys()
         return len(session.locks) + len(waited) >= self.limits.locks
 
     def stand_for_locks(self, association):
-        """At the limit, a lock is given back for the first operation that needs a lock on another file. Rule "Giving back"."""
+        """At the limit, a lock is given back for the first operation that needs a lock on another
+        file. Rule "Giving back".
+        """
         session = association.session
         for operation in self.active(association):
             ino = operation.ino
@@ -165,7 +178,9 @@ class Passes:
                     return
 
     def give_back(self, association, operation):
-        """Rule "Giving back", for an operation: whether it waits; else all locks are stuck, and its file is refused. Chapter "The client"."""
+        """Rule "Giving back", for an operation: whether it waits; else all locks are stuck, and its
+        file is refused. Chapter "The client".
+        """
         session, store = association.session, association.store
         if len(session.locks) >= self.limits.locks and all(map(store.is_stuck, session.locks)):
             self.answer_all(association, operation.ino, "toomanylocks")
@@ -200,7 +215,9 @@ class Passes:
                 self.submit(association, ino, page, dirty)
 
     def is_wanted(self, association, ino):
-        """Rule "Writes": demanded, or a sync pending, or a cut or a remove pending, not sent, under an exclusive lock. Chapter "The client"."""
+        """Rule "Writes": demanded, or a sync pending, or a cut or a remove pending, not sent, under
+        an exclusive lock. Chapter "The client".
+        """
         session = association.session
         if ino in session.demands or self.is_leaving(association):
             return True
@@ -216,7 +233,9 @@ class Passes:
     # Leaving
 
     def pass_leaving(self, association):
-        """Rule "Leaving": with nothing left the life ends, with a note, and the client greets in the next one. Chapter "The client"."""
+        """Rule "Leaving": with nothing left the life ends, with a note, and the client greets in
+        the next one. Chapter "The client".
+        """
         session, store = association.session, association.store
         if not self.is_leaving(association) or session.locks or session.releases or session.request or store.dirty or store.commands:
             return
@@ -256,7 +275,9 @@ class Passes:
         self.send_from(association, kind, session.epoch, number, self.now, body)
 
     def next_request(self, association):
-        """The first request that there is: (kind, body, operation), or None. Rule "Requests". Chapter "The client"."""
+        """The first request that there is: (kind, body, operation), or None. Rule "Requests".
+        Chapter "The client".
+        """
         session = association.session
         if session.must_reassert:
             rows = tuple((ino, lock.grant, lock.mode) for ino, lock in sorted(session.locks.items()))
@@ -274,7 +295,9 @@ class Passes:
         return None
 
     def asks(self, association, operation):
-        """Rule "What an operation asks": (kind, body, operation that waits for the reply), or None. Chapter "The client"."""
+        """Rule "What an operation asks": (kind, body, operation that waits for the reply), or None.
+        Chapter "The client".
+        """
         session, store = association.session, association.store
         ino, page = operation.ino, operation.page
         if operation.sent or operation.kind == "sync" or (ino is not None and not self.is_open(association, operation)):
@@ -307,11 +330,14 @@ class Passes:
         return self.ask_name(session, operation, grant)
 
     def was_full(self, session):
-        """Whether the server refused a lock as too many less than `retry` ago. Rule "Giving back"."""
+        """Whether the server refused a lock as too many less than `retry` ago. Rule "Giving back".
+        """
         return session.full is not None and self.now - session.full < self.settings.retry
 
     def run(self, association, ino, page):
-        """Rule "Runs": the page and those behind it that are not known as mapped either and have a pending change, as many as may be asked."""
+        """Rule "Runs": the page and those after it that are not known as mapped either and have a
+        pending change, as many as may be asked.
+        """
         if not self.limits.cooperate:
             return 1
         changed = {operation.page for operation in self.active(association) if operation.ino == ino and operation.is_change()}

@@ -22,7 +22,9 @@ class Drift:
         self.excess = [[0] * nodes for _ in range(nodes)]
 
     def check(self, settings, increments):
-        """The first pair whose number would come above den * grain, with that number, or None. Chapter "Clocks and leases"."""
+        """The first pair whose number would come above den * grain, with that number, or None.
+        Chapter "Clocks and leases".
+        """
         bound = settings.den * settings.grain
         for m, row in enumerate(self.excess):
             gained = settings.den * increments[m]
@@ -33,7 +35,9 @@ class Drift:
         return None
 
     def step(self, settings, increments):
-        """Take an accepted advance: each number is the greatest over intervals that end now, or 0. Chapter "Clocks and leases"."""
+        """Take an accepted advance: each number is the greatest over intervals that end now, or 0.
+        Chapter "Clocks and leases".
+        """
         for m, row in enumerate(self.excess):
             gained = settings.den * increments[m]
             self.excess[m] = [max(0, before + gained - settings.num * increments[n]) for n, before in enumerate(row)]
@@ -59,7 +63,9 @@ def lease_end(settings, date):
 
 
 class ListedClock:
-    """A clock that gives a list of readings and then its last one. Chapter "Clocks of a node", `MemoryClock`."""
+    """A clock that gives a list of readings and then its last one. Chapter "Clocks of a node",
+    `MemoryClock`.
+    """
 
     def __init__(self, readings):
         self.readings = list(readings)

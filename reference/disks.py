@@ -6,7 +6,9 @@ UNWRITTEN = (0, 0, 0, 0, ZEROS)
 
 
 class Command:
-    """A command on one block: a read, or a write with a tag and bytes (server, inode, page, birth, bytes)."""
+    """A command on one block: a read, or a write with a tag and bytes (server, inode, page, birth,
+    bytes).
+    """
 
     __slots__ = ("disk", "block", "write", "effected", "reported", "sample")
 
@@ -38,7 +40,8 @@ class Disks:
         return "Twice" if command.effected else None
 
     def effect(self, number):
-        """Rule "Effect": a write makes the whole block; a read keeps its sample. Chapter "Disks"."""
+        """Rule "Effect": a write makes the whole block; a read keeps its sample. Chapter "Disks".
+        """
         command = self.commands[number - 1]
         place = (command.disk, command.block)
         if command.write is not None:

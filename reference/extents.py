@@ -24,12 +24,16 @@ class Extents:
         return self.pages.get(ino, {}).get(page)
 
     def rows(self, ino, page, count):
-        """The extents of a range: (page, disk, block, birth) for each mapped page, rising. Chapter "Extents"."""
+        """The extents of a range: (page, disk, block, birth) for each mapped page, rising. Chapter
+        "Extents".
+        """
         of_file = self.pages.get(ino, {})
         return tuple((at, *of_file[at]) for at in range(page, page + count) if at in of_file)
 
     def allocate(self, ino, page, count):
-        """Rule "Allocate": None, or (free, asked) where the free blocks are too few. Chapter "Extents"."""
+        """Rule "Allocate": None, or (free, asked) where the free blocks are too few. Chapter
+        "Extents".
+        """
         of_file = self.pages.setdefault(ino, {})
         unmapped = [at for at in range(page, page + count) if at not in of_file]
         if self.free() < len(unmapped):
@@ -45,7 +49,9 @@ class Extents:
         return len(self.disks) * self.blocks - self.used + len(self.released)
 
     def least_free(self):
-        """The least free block is taken: one that was released, or else the next that never was used. Chapter "Extents"."""
+        """The least free block is taken: one that was released, or else the next that never was
+        used. Chapter "Extents".
+        """
         if self.released:
             return heapq.heappop(self.released)
         disk, block = divmod(self.used, self.blocks)
@@ -53,7 +59,8 @@ class Extents:
         return self.disks[disk], block
 
     def release(self, ino, page):
-        """Rule "Release": every page of the file from this one on is unmapped. Chapter "Extents"."""
+        """Rule "Release": every page of the file from this one on is unmapped. Chapter "Extents".
+        """
         of_file = self.pages.get(ino, {})
         for at in [at for at in of_file if at >= page]:
             disk, block, _ = of_file.pop(at)

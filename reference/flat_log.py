@@ -75,7 +75,9 @@ class FlatLog:
             del self.pending[key]
 
     def content(self, file, page):
-        """Rule "Content": the bytes of a page, by the entries that touch it and are not gone. Chapter "The flat log"."""
+        """Rule "Content": the bytes of a page, by the entries that touch it and are not gone.
+        Chapter "The flat log".
+        """
         data = ZEROS
         for entry in self.entries:
             if entry.file != file or entry.fate == GONE:

@@ -16,13 +16,17 @@ class Draws:
         self.state = seed
 
     def below(self, bound):
-        """The next state, and the number below a bound that is drawn from it. Chapter "Generated schedules"."""
+        """The next state, and the number below a bound that is drawn from it. Chapter "Generated
+        schedules".
+        """
         self.state = (self.state * 6364136223846793005 + 1442695040888963407) % 2**64
         return (self.state >> 33) % bound
 
 
 class Generator:
-    """Events drawn in the world that the events before lead to. Paragraphs "Candidates" and "Choice"."""
+    """Events drawn in the world that the events before lead to. Paragraphs "Candidates" and
+    "Choice".
+    """
 
     def __init__(self, seed):
         self.draws = Draws(seed)
@@ -43,7 +47,9 @@ class Generator:
         return server, 2 + self.draws.below(8)
 
     def recent(self, count, span):
-        """One of the last of so many, or None where there are none and no further draw. Chapter "Generated schedules"."""
+        """One of the last of so many, or None if there are none and no further draw. Chapter
+        "Generated schedules".
+        """
         return count - self.draws.below(min(count, span)) if count else None
 
     def message(self):
@@ -59,7 +65,9 @@ class Generator:
         return None if number is None else (verb, number, *more)
 
     def candidate(self):
-        """A candidate for an event, or None. The table of "Candidates". Chapter "Generated schedules"."""
+        """A candidate for an event, or None. The table of "Candidates". Chapter "Generated
+        schedules".
+        """
         below = self.draws.below
         kind = below(16)
         if kind == 0:
@@ -93,7 +101,9 @@ class Generator:
         return ("crash" if which == 0 else "start" if which <= 9 else "tick"), self.node()
 
     def chosen(self):
-        """The first admissible candidate of 16, or `heal c1 s1`. Paragraph "Choice". Chapter "Generated schedules"."""
+        """The first admissible candidate of 16, or `heal c1 s1`. Paragraph "Choice". Chapter
+        "Generated schedules".
+        """
         for _ in range(TRIES):
             candidate = self.candidate()
             if candidate is not None and self.world.refusal(candidate) is None:
@@ -108,7 +118,9 @@ class Generator:
 
 
 def generate(length, seed, write):
-    """The text of the schedule of a length and a seed. Paragraph "Schedule". Chapter "Generated schedules"."""
+    """The text of the schedule of a length and a seed. Paragraph "Schedule". Chapter "Generated
+    schedules".
+    """
     generator = Generator(seed)
     write(HEAD + "\n")
     for _ in range(length):

@@ -2,22 +2,29 @@
 
 
 class Grace:
-    """The grace of an epoch: its start, or None where the epoch has none. Chapter "Grace and reassertion"."""
+    """The grace of an epoch: its start, or None where the epoch has none. Chapter "Grace and
+    reassertion".
+    """
 
     def __init__(self, start=None):
         self.start = start
 
     def is_on(self, now, wait):
-        """Grace is on while the clock is below the start and the steal wait. Chapter "Grace and reassertion"."""
+        """Grace is on while the clock is below the start and the steal wait. Chapter "Grace and
+        reassertion".
+        """
         return self.start is not None and now < self.start + wait
 
     def told_start(self):
-        """The start of this epoch's grace, or 0 where it had none. Chapter "Grace and reassertion"."""
+        """The start of this epoch's grace, or 0 where it had none. Chapter "Grace and reassertion".
+        """
         return 0 if self.start is None else self.start
 
 
 def reassertion_refusal(grace, now, wait, table, client, life, rows):
-    """Rule "Accepting a reassertion": the first refusal (cause, a, b) before installing, or None. Chapter "Grace and reassertion"."""
+    """Rule "Accepting a reassertion": the first refusal (cause, a, b) before installing, or None.
+    Chapter "Grace and reassertion".
+    """
     if not grace.is_on(now, wait):
         return "graceover", grace.told_start(), now
     for ino, grant, _ in rows:

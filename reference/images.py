@@ -7,7 +7,9 @@ ZEROS = bytes(4096)
 
 
 class Volume:
-    """The list of changes, by what it says: each page's writes with their times, and the kept images with theirs."""
+    """The list of changes, by what it says: each page's writes with their times, and the kept
+    images with theirs.
+    """
 
     def __init__(self, blocks):
         self.blocks = blocks
@@ -18,7 +20,9 @@ class Volume:
         self.held = 0  # how many writes are shown
 
     def shown(self, writes, views):
-        """Which of a page's writes are shown: the last one, and for each kept image the last one before its take."""
+        """Which of a page's writes are shown: the last one, and for each kept image the last one
+        before its take.
+        """
         kept = {len(writes) - 1}
         for view in views:
             before = [place for place, (time, _) in enumerate(writes) if time < view]

@@ -1,4 +1,6 @@
-"""A journal of changes over a store that may crash, and its script. Chapters "A metadata journal", "Scripts"."""
+"""A journal of changes over a store that may crash, and its script. Chapters "A metadata journal",
+"Scripts".
+"""
 
 from .extents import Extents
 from .names import Names
@@ -13,7 +15,9 @@ class StoreFailed(Exception):
 
 
 class MemoryStore:
-    """A store in memory, with the stop that a script sets. Chapter "A metadata journal", "A store in memory"."""
+    """A store in memory, with the stop that a script sets. Chapter "A metadata journal", "A store
+    in memory".
+    """
 
     def __init__(self, size):
         self.bytes = bytearray(size)
@@ -23,7 +27,9 @@ class MemoryStore:
         self.calls = 0
 
     def stop(self, call, byte):
-        """In the call of this number, counted from now, the bytes since the last sync become this one; it and later calls fail."""
+        """In the call of this number, counted from now, the bytes since the last sync become this
+        one; it and later calls fail.
+        """
         self.stopped_at, self.filled, self.calls = call, byte, 0
 
     def restart(self):
@@ -97,7 +103,9 @@ def decoded(data):
 
 
 def in_ranges(kind, fields):
-    """The numbers of an Allocate and a Cut are in their ranges. Chapter "A metadata journal", "Changes"."""
+    """The numbers of an Allocate and a Cut are in their ranges. Chapter "A metadata journal",
+    "Changes".
+    """
     if kind not in (ALLOCATE, CUT):
         return True
     if fields[0] < 1 or fields[1] > LAST_PAGE:
@@ -149,7 +157,9 @@ class Stable:
 
 
 class Journal:
-    """An opened journal: its store, the place of its last gate, and how many changes it has. Chapter "A metadata journal"."""
+    """An opened journal: its store, the place of its last gate, and how many changes it has.
+    Chapter "A metadata journal".
+    """
 
     def __init__(self, store):
         """The journal is opened: a sync, and then all is read."""
@@ -163,7 +173,9 @@ class Journal:
             self.changes += 1
 
     def append(self, change):
-        """A change is written behind the last gate, and then the gate. Chapter "A metadata journal", "How a change is written"."""
+        """A change is written after the last gate, and then the gate. Chapter "A metadata journal",
+        "How a change is written".
+        """
         data = encoded(change)
         self.store.write(self.gate + 1, len(data).to_bytes(4, "big") + data + b"\x00")
         self.store.sync()

@@ -4,7 +4,9 @@ from .modes import EXCLUSIVE, NONE, SHARED, conflicts, covers
 
 
 class Demand:
-    """What is demanded of a row: the mode to go to, since when it waits for an answer (None: answered), when it was sent."""
+    """What is demanded of a row: the mode to go to, since when it waits for an answer (None:
+    answered), when it was sent.
+    """
 
     __slots__ = ("to", "since", "sent")
 
@@ -31,7 +33,8 @@ class Wait:
 
 
 class LockTable:
-    """Rows by file and client, and waits by file and client in order of arrival. Chapter "Locks"."""
+    """Rows by file and client, and waits by file and client in order of arrival. Chapter "Locks".
+    """
 
     def __init__(self, epoch, limit=1024):
         self.epoch, self.limit = epoch, limit
@@ -58,7 +61,9 @@ class LockTable:
         return any(other != client and conflicts(row.mode, mode) for other, row in self.rows.get(ino, {}).items())
 
     def grant(self, ino, client, life, mode):
-        """Rule "Grant": a row with the next grant number and without a demand; the client's wait goes. Chapter "Locks"."""
+        """Rule "Grant": a row with the next grant number and without a demand; the client's wait
+        goes. Chapter "Locks".
+        """
         self.grants += 1
         row = Row(life, self.epoch * 2**32 + self.grants, mode)
         self.rows.setdefault(ino, {})[client] = row
@@ -74,7 +79,9 @@ class LockTable:
                 del self.waits[ino]
 
     def queue(self, ino, client, life, mode):
-        """Rule "Queue": the greater mode at the old place, or a new wait at the end. Chapter "Locks"."""
+        """Rule "Queue": the greater mode at the old place, or a new wait at the end. Chapter
+        "Locks".
+        """
         waits = self.waits.setdefault(ino, {})
         old = waits.get(client)
         if old is None:
@@ -96,7 +103,9 @@ class LockTable:
         return ("queued",)
 
     def release(self, ino, client, life, grant, to):
-        """Rule "Release": only where the client's row has the file, the life and the grant number. Chapter "Locks"."""
+        """Rule "Release": only where the client's row has the file, the life and the grant number.
+        Chapter "Locks".
+        """
         row = self.row(ino, client)
         if row is None or row.life != life or row.grant != grant:
             return
@@ -133,7 +142,9 @@ class LockTable:
         self.waits.pop(ino, None)
 
     def install(self, client, life, rows):
-        """Rule "Installing": all rows, or none and the first that conflicts with the least client. Chapter "Locks"."""
+        """Rule "Installing": all rows, or none and the first that conflicts with the least client.
+        Chapter "Locks".
+        """
         for ino, _, mode in rows:
             against = [other for other, row in self.rows.get(ino, {}).items() if other != client and conflicts(row.mode, mode)]
             if against:
@@ -149,7 +160,9 @@ class LockTable:
             row.demand.since = None
 
     def suspecting(self, now, patience):
-        """Rule "Suspecting" (the list): clients with a demand unanswered for so long, rising. Chapter "Locks"."""
+        """Rule "Suspecting" (the list): clients that left a demand unanswered for that long,
+        rising. Chapter "Locks".
+        """
         return sorted({
             client
             for rows in self.rows.values()
@@ -169,7 +182,9 @@ class LockTable:
         return granted
 
     def demanding(self, now, is_tick, retry, suspects):
-        """Rule "Demanding" (the pass): the demands that are sent (file, client, row), in order. Chapter "Locks"."""
+        """Rule "Demanding" (the pass): the demands that are sent (file, client, row), in order.
+        Chapter "Locks".
+        """
         sent = []
         for ino in sorted(self.waits):
             waiter, wait = next(iter(self.waits[ino].items()))
@@ -192,7 +207,9 @@ class LockTable:
 
     @staticmethod
     def send_again(demand, now):
-        """A demand that is sent waits since it was first sent without an answer. Rule "Demanding". Chapter "Locks"."""
+        """A demand that is sent waits since it was first sent without an answer. Rule "Demanding".
+        Chapter "Locks".
+        """
         demand.sent = now
         if demand.since is None:
             demand.since = now

@@ -1,4 +1,6 @@
-"""Containers that move by order, and their script. Chapters "A container moves by order", "Scripts"."""
+"""Containers that move by order, and their script. Chapters "A container moves by order",
+"Scripts".
+"""
 
 FULL = 60000
 HOLDING, LEAVING, SENT, GONE = "holding", "leaving", "sent", "gone"
@@ -15,7 +17,9 @@ class Record:
 
 
 class Mover:
-    """The records of a server, and which clients have a lock row of a container: client 1 alone has one in a script."""
+    """The records of a server, and which clients have a lock row of a container: client 1 alone has
+    one in a script.
+    """
 
     def __init__(self, server, servers, containers):
         self.server, self.containers = server, containers
@@ -23,7 +27,9 @@ class Mover:
         self.locked = set()
 
     def missing(self, c):
-        """The refusals NoContainer and Absent. Chapter "A container moves by order", "Refusals of a call on a container"."""
+        """The refusals NoContainer and Absent. Chapter "A container moves by order", "Refusals of a
+        call on a container".
+        """
         if not 1 <= c <= self.containers:
             return f"nocontainer {c}"
         return None if c in self.records else "absent"

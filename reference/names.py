@@ -71,7 +71,8 @@ class Names:
         return (ABSENT, None) if entry is None else (None, entry)
 
     def create(self, directory, name, is_directory):
-        """Rules "Create" and "make a directory": (refusal, None) or (None, inode). Chapter "Names"."""
+        """Rules "Create" and "make a directory": (refusal, None) or (None, inode). Chapter "Names".
+        """
         refusal = self.place_refusal(directory, name)
         if refusal is not None:
             return refusal, None
@@ -129,7 +130,8 @@ class Names:
         return None, entry.ino
 
     def list(self, directory, after):
-        """Rule "List": (refusal, None) or (None, entries as (inode, kind, name)). Chapter "Names"."""
+        """Rule "List": (refusal, None) or (None, entries as (inode, kind, name)). Chapter "Names".
+        """
         refusal = self.directory_refusal(directory)
         if refusal is not None:
             return refusal, None

@@ -12,7 +12,9 @@ FRAMES = 1048576
 
 
 class Node:
-    """One fresh node: takes messages, gives the messages that it writes. Chapter "A node over a stream"."""
+    """One fresh node: takes messages, gives the messages that it writes. Chapter "A node over a
+    stream".
+    """
 
     def __init__(self, role, number):
         if role == "server":
@@ -24,7 +26,9 @@ class Node:
         self.role = role
 
     def take(self, now, message):
-        """One message: a step and what it writes, or passed over. Chapter "A node over a stream"."""
+        """One message: a step and what it writes, or nothing if it is ignored. Chapter "A node over
+        a stream".
+        """
         if message.receiver != self.number:
             return []
         if self.role == "server":
@@ -43,7 +47,9 @@ class Node:
 
     @staticmethod
     def taken(message):
-        """A client's input: a tick, an ask, the end of a command, a server's message; else None. Chapter "A node over a stream"."""
+        """A client's input: a tick, an ask, the end of a command, a server's message; else None.
+        Chapter "A node over a stream".
+        """
         if message.kind == wire.TICK:
             return ("tick",)
         if message.kind == wire.APP:
@@ -64,7 +70,9 @@ class Node:
 
 
 def serve(node, pieces, clock, write):
-    """The run over a stream: frames in, frames out. How it stops: None, or the text of status 1. Chapter "A node over a stream"."""
+    """The run over a stream: frames in, frames out. How it stops: None, or the text of status 1.
+    Chapter "A node over a stream".
+    """
     reader, frames = FrameReader(), 0
     for piece in pieces:
         reader.feed(piece)

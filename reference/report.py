@@ -16,7 +16,7 @@ def entries_text(entries):
 
 
 def body_text(message):
-    """The fields of a body, each behind a space. Paragraph "A body". Chapter "The report"."""
+    """The fields of a body, each after a space. Paragraph "A body". Chapter "The report"."""
     kind, body = message.kind, message.body
     if kind == wire.REASSERT:
         fields = [len(body[0]), *(field for row in body[0] for field in row)]
@@ -98,7 +98,9 @@ def refusal_text(line, name, values):
 
 
 def lines_of(pieces):
-    """The lines of a source: each ended by a newline, but for the last one. Chapter "The report"."""
+    """The lines of a source: each ended by a newline, except for the last one. Chapter "The
+    report".
+    """
     held = b""
     for piece in pieces:
         held += piece
@@ -109,7 +111,9 @@ def lines_of(pieces):
 
 
 class Replay:
-    """The run of a schedule, line by line, with its report's lines. Chapters "Schedules", "The report"."""
+    """The run of a schedule, line by line, with its report's lines. Chapters "Schedules", "The
+    report".
+    """
 
     def __init__(self, write, forms=(1, 2)):
         self.write = write
@@ -147,7 +151,8 @@ class Replay:
         return False
 
     def finish(self):
-        """The input ended: the last line. Whether it is that of a whole run. Chapter "The report"."""
+        """The input ended: the last line. Whether it is that of a whole run. Chapter "The report".
+        """
         try:
             self.reader.finish()
         except LineRefused as refusal:
@@ -157,7 +162,9 @@ class Replay:
 
 
 def replay(pieces, write, forms=(1, 2)):
-    """The report of the schedule that the pieces spell. Whether it ran through its end. Chapter "The report"."""
+    """The report of the schedule that the pieces spell. Whether it ran through its end. Chapter
+    "The report".
+    """
     run = Replay(write, forms)
     for line in lines_of(pieces):
         if not run.line(line):

@@ -13,7 +13,8 @@ LIMITS = ((10, 2**24), (1, 4096), (1, 65536), (2, 2**20), (1, 4096))
 
 
 class Head(NamedTuple):
-    """A head: its form, settings, clients, servers, disks, blocks and limits. Chapter "Schedules"."""
+    """A head: its form, settings, clients, servers, disks, blocks and limits. Chapter "Schedules".
+    """
 
     form: int
     settings: Settings
@@ -43,7 +44,8 @@ def digits(word):
 
 
 class Words:
-    """The words of a line, taken from the left; the first wrong one is raised. Chapter "Schedules"."""
+    """The words of a line, taken from the left; the first wrong one is raised. Chapter "Schedules".
+    """
 
     def __init__(self, line):
         self.words = []
@@ -59,7 +61,9 @@ class Words:
         return self.place < len(self.words)
 
     def take(self):
-        """The next word with its column; a missing one is Syntax behind the line's end. Chapter "Schedules"."""
+        """The next word with its column; a missing one is Syntax past the line's end. Chapter
+        "Schedules".
+        """
         if not self.more():
             raise LineRefused("Syntax", self.end)
         self.place += 1
@@ -129,7 +133,9 @@ class Words:
 
 
 def read_head(line, forms=(1, 2)):
-    """A head of one of these forms. Paragraph "Heads". Chapter "Schedules"; of the third form, chapter "The third form"."""
+    """A head of one of these forms. Paragraph "Heads". Chapter "Schedules"; of the third form,
+    chapter "The third form".
+    """
     words = Words(line)
     if words.take()[0] != b"tank":
         raise LineRefused("NoHead")
@@ -228,7 +234,9 @@ class ScheduleReader:
         self.ended = False
 
     def line(self, line):
-        """What a line spells: a Head, an event or ("end",). Else LineRefused; the first refusal stands. Chapter "Schedules"."""
+        """What a line spells: a Head, an event or ("end",). Otherwise LineRefused; the first
+        refusal applies. Chapter "Schedules".
+        """
         most = LINE if self.head is None else LINES[self.head.form]
         if len(line) > most:
             raise LineRefused("LineTooLong", most)

@@ -14,7 +14,7 @@ class ScriptWords(Words):
     """The words of a script's line: all of them belong to one form."""
 
     def text(self, most):
-        """A text of at most so many bytes from 33 to 126."""
+        """A text of at most that many bytes from 33 to 126."""
         word, column = self.take()
         if not 1 <= len(word) <= most or not all(33 <= byte <= 126 for byte in word):
             raise LineRefused("Syntax", column)

@@ -44,7 +44,9 @@ class Server:
     # The step
 
     def step(self, now, message):
-        """A step: thefts, the rule for the input (None is a tick), and three passes. Its outputs. Chapter "The server"."""
+        """A step: thefts, the rule for the input (None is a tick), and three passes. Its outputs.
+        Chapter "The server".
+        """
         self.outputs = []
         self.thefts(now)
         if message is not None:
@@ -66,7 +68,9 @@ class Server:
     # Messages out
 
     def reply(self, request, kind, body):
-        """Rule "Reply": the request's life, number and stamp, the server's epoch. Chapter "The server"."""
+        """Rule "Reply": the request's life, number and stamp, the server's epoch. Chapter "The
+        server".
+        """
         self.send(Message(kind, self.node, request.sender, request.life, self.epoch, request.number, request.stamp, body))
 
     def refuse(self, request, cause, a=0, b=0):
@@ -74,7 +78,9 @@ class Server:
         self.reply(request, wire.NACK, (wire.CAUSE_NUMBERS[cause], a, b))
 
     def send_own(self, client, life, kind, body):
-        """A message that the server starts: the life of the row, number 0 and stamp 0. Rule "Reply". Chapter "The server"."""
+        """A message that the server starts: the life of the row, number 0 and stamp 0. Rule
+        "Reply". Chapter "The server".
+        """
         self.send(Message(kind, self.node, client, life, self.epoch, 0, 0, body))
 
     def send(self, message):
@@ -103,7 +109,9 @@ class Server:
             self.request(now, message)
 
     def seen_demand(self, message):
-        """Rule "Seen demand": of this epoch and of the living session's life alone. Chapter "The server"."""
+        """Rule "Seen demand": of this epoch and of the living session's life alone. Chapter "The
+        server".
+        """
         session = self.sessions.of.get(message.sender)
         if message.epoch == self.epoch and session is not None and session.living and session.life == message.life:
             ino, grant = message.body
@@ -199,7 +207,9 @@ class Server:
         return wire.EXTENTS, (ino, self.extents.rows(ino, page, 1))
 
     def exclusive_refusal(self, client, ino, grant):
-        """The refusals of an allocation and a cut: no file, and no exclusive row with that grant number. Chapter "The server"."""
+        """The refusals of an allocation and a cut: no file, and no exclusive row with that grant
+        number. Chapter "The server".
+        """
         if not self.names.is_file(ino):
             return self.refusal("nofile", ino)
         row = self.locks.row(ino, client)
@@ -226,7 +236,9 @@ class Server:
         return wire.ACK, ()
 
     def release_extents(self, ino, page):
-        """The extents from the page on are released, with a note. Rules "Cut" and "Remove". Chapter "The server"."""
+        """The extents from the page on are released, with a note. Rules "Cut" and "Remove". Chapter
+        "The server".
+        """
         self.extents.release(ino, page)
         self.outputs.append(("cutdone", ino, page))
 
@@ -273,7 +285,9 @@ class Server:
     # The passes
 
     def suspect(self, now, client):
-        """Rule "Suspicion": a timer with a note, and the client's waits are dropped. Chapter "The server"."""
+        """Rule "Suspicion": a timer with a note, and the client's waits are dropped. Chapter "The
+        server".
+        """
         if self.timers.start(client, now):
             self.outputs.append(("suspected", client, now))
             self.locks.forget_waits(client)

@@ -2,7 +2,9 @@
 
 
 class Session:
-    """A life, whether it lives, the number of the last request served, and its reply (a kind and a body)."""
+    """A life, whether it lives, the number of the last request served, and its reply (a kind and a
+    body).
+    """
 
     __slots__ = ("life", "living", "last", "reply")
 
@@ -37,7 +39,9 @@ class Sessions:
         return "welcome"
 
     def take(self, client, life, number):
-        """Rule "Taking a request" of the present epoch: "nosession", "stale", "again", "fresh" or "outoforder". Chapter "Sessions"."""
+        """Rule "Taking a request" of the present epoch: "nosession", "stale", "again", "fresh" or
+        "outoforder". Chapter "Sessions".
+        """
         session = self.of.get(client)
         if session is None or life > session.life:
             return "nosession"
@@ -50,7 +54,9 @@ class Sessions:
         return "outoforder"
 
     def knows(self, client, life):
-        """Whether a session lives with this life, or has a higher one. Chapter "Grace and reassertion"."""
+        """Whether a session lives with this life, or has a higher one. Chapter "Grace and
+        reassertion".
+        """
         session = self.of.get(client)
         return session is not None and (life < session.life or (life == session.life and session.living))
 
@@ -64,7 +70,9 @@ class Sessions:
         self.of[client] = Session(life, 1, reply)
 
     def end(self, client):
-        """Rule "Ending": the session serves nothing any more; its life stays. Its life, or 0. Chapter "Sessions"."""
+        """Rule "Ending": the session serves nothing any more; its life stays. Its life, or 0.
+        Chapter "Sessions".
+        """
         session = self.of.get(client)
         if session is None:
             return 0

@@ -18,7 +18,9 @@ class Settings(NamedTuple):
 
 
 class Limits(NamedTuple):
-    """The limits of a world, and whether its clients cooperate: those of the first two forms, where nothing is told. Chapter "Settings"."""
+    """The limits of a world, and whether its clients cooperate: those of the first two forms, where
+    nothing is told. Chapter "Settings".
+    """
 
     inodes: int = 4096
     locks: int = 1024

@@ -1,4 +1,6 @@
-"""A file that clients write without caches, and its script. Chapters "Shared writing without caches", "Scripts"."""
+"""A file that clients write without caches, and its script. Chapters "Shared writing without
+caches", "Scripts".
+"""
 
 from .disks import Disks
 from .schedule import runs_text
@@ -7,7 +9,9 @@ FILE = 1, 2
 
 
 class SharedFile:
-    """The clients that are in, the lock row, the disk and its commands. Chapter "Shared writing without caches"."""
+    """The clients that are in, the lock row, the disk and its commands. Chapter "Shared writing
+    without caches".
+    """
 
     def __init__(self, blocks):
         self.blocks, self.disks = blocks, Disks()

@@ -8,7 +8,9 @@ class Failed(Exception):
 
 
 def pieces_of(stream):
-    """The pieces of a stream, each of at most 4,096 bytes, until its end. Chapter "Sources and sinks"."""
+    """The pieces of a stream, each of at most 4,096 bytes, until its end. Chapter "Sources and
+    sinks".
+    """
     while True:
         try:
             piece = stream.read1(PIECE) if hasattr(stream, "read1") else stream.read(PIECE)

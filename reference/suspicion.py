@@ -12,14 +12,18 @@ class Timers:
         return client in self.starts
 
     def start(self, client, now):
-        """Rule "Suspicion": a timer that runs keeps its start. Whether it began now. Chapter "Suspicion and theft"."""
+        """Rule "Suspicion": a timer that runs keeps its start. Whether it began now. Chapter
+        "Suspicion and theft".
+        """
         if client in self.starts:
             return False
         self.starts[client] = now
         return True
 
     def over(self, now, wait):
-        """Rule "Theft": the clients whose timers are over, rising; their timers go. Chapter "Suspicion and theft"."""
+        """Rule "Theft": the clients whose timers are over, rising; their timers go. Chapter
+        "Suspicion and theft".
+        """
         clients = sorted(client for client, start in self.starts.items() if now >= start + wait)
         for client in clients:
             del self.starts[client]

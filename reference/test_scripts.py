@@ -1,4 +1,4 @@
-"""Tries the scripts of scripts/ with the reference: each has the text that stands beside it."""
+"""Tests the scripts of scripts/ with the reference: each has the text beside it."""
 
 import pathlib
 import unittest

@@ -1,4 +1,6 @@
-"""Table tests: given schedules against their reports, the book's example, generated sums, and the codec. Run: python3 -m unittest reference.test_table"""
+"""Table tests: given schedules against their reports, the book's example, generated sums, and the
+codec. Run: python3 -m unittest reference.test_table
+"""
 
 import glob
 import hashlib

@@ -1,4 +1,5 @@
-"""Plays a schedule of any form: `python3 -m reference.third < SCHEDULE`. Chapter "The third form"."""
+"""Plays a schedule of any form: `python3 -m reference.third < SCHEDULE`. Chapter "The third form".
+"""
 
 import sys
 

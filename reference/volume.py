@@ -281,7 +281,7 @@ class Volume:
 
     def is_uncertain(self, it, old, new):
         now = 1 + self.starts.get(it.server, 0)
-        need(it.kind in ("cut", "name"), "the ask is no cut and none for a name")
+        need(it.kind in ("cut", "name"), "the ask is neither a cut nor for a name")
         need(1 <= old <= now and (new == 0 or old < new <= now), "the server has no such epochs")
         if new == 0 and old == now:
             self.keep([state.but(orphans=(*state.orphans, it)) if it.changes and state.is_untaken(it) else state
@@ -291,7 +291,7 @@ class Volume:
                                   else [], lambda state: [it], False), "there is no such server")
 
     def is_read(self, it, data):
-        need(it.kind == "read", "the ask is no read")
+        need(it.kind == "read", "the ask isn't a read")
         need(self.is_clear(it.client, it.file), "another client has open entries of the file")
         self.with_file(it.file)
         need(data == self.content(it.file, it.ask[2]), "the page contains other bytes")
@@ -308,7 +308,7 @@ class Volume:
 
     def settled(self, it):
         """The entries of the client for the file of its sync, of which none may be in doubt."""
-        need(it.kind == "sync", "the ask is no sync")
+        need(it.kind == "sync", "the ask isn't a sync")
         for index, entry in enumerate(self.log, 1):
             if entry.is_of(it.client, it.file):
                 need(entry.is_settled(), f"entry {index} is neither hard nor told as lost")
@@ -323,7 +323,7 @@ class Volume:
             list(self.settled(it))
 
     def is_lost(self, it, rows):
-        need(it.kind == "sync", "the ask is no sync")
+        need(it.kind == "sync", "the ask isn't a sync")
         need(rows and all(a[0] < b[0] for a, b in zip(rows, rows[1:])), "the pages don't rise")
         own = [entry for entry in self.log if entry.is_of(it.client, it.file)]
         for page, number in rows:

@@ -50,7 +50,9 @@ def is_server(node, version=3):
 
 
 class Refusal(Exception):
-    """Short, Version, Kind, Value(offset), Long, FrameTooLong(length). Chapter "Wire", section "Refusals"."""
+    """Short, Version, Kind, Value(offset), Long, FrameTooLong(length). Chapter "Wire", section
+    "Refusals".
+    """
 
     def __init__(self, name, *values):
         super().__init__(name, *values)
@@ -72,7 +74,9 @@ class Reader:
         return piece
 
     def number(self, width, fits=None):
-        """A number, its highest byte first; out of range it is Value at its first byte. Chapter "Wire"."""
+        """A number, its highest byte first; out of range it is Value at its first byte. Chapter
+        "Wire".
+        """
         offset = self.place
         value = int.from_bytes(self.take(width), "big")
         if fits is not None and not fits(value):
@@ -129,7 +133,9 @@ VERSIONS = {1: (1, 2), 2: (1, 2), 3: (3,)}
 
 
 def header_ranges(kind, version):
-    """What fits from, to, life, epoch, number and stamp of a kind. Section "The header". Chapter "Wire"."""
+    """What fits from, to, life, epoch, number and stamp of a kind. Section "The header". Chapter
+    "Wire".
+    """
     client, server = lambda node: is_client(node, version), lambda node: is_server(node, version)
     anything = lambda value: True
     nothing = lambda value: value == 0
@@ -168,7 +174,9 @@ def decode(data, form=1):
 
 
 def read_body(reader, kind, version):
-    """The fields of a body. Sections "Bodies from a client to a server" to "Local bodies". Chapter "Wire"."""
+    """The fields of a body. Sections "Bodies from a client to a server" to "Local bodies". Chapter
+    "Wire".
+    """
     if kind in (HELLO, KEEPALIVE, WELCOME, ACK, REASSERTED, TICK):
         return ()
     if kind == ACQUIRE or kind == QUEUED:

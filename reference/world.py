@@ -50,7 +50,9 @@ class World:
     # Looking things up
 
     def place(self, node):
-        """The place of a node's clock: clients in order, then servers; None where there is no such node. Chapter "The world"."""
+        """The place of a node's clock: clients in order, then servers; None where there is no such
+        node. Chapter "The world".
+        """
         if node > wire.SERVER_BASE:
             number = node - wire.SERVER_BASE
             return len(self.clients) + number - 1 if number <= len(self.servers) else None
@@ -68,7 +70,9 @@ class World:
         return self.clocks[self.place(node)]
 
     def lease_end_of(self, client, server, life):
-        """The lease end that a life had when it ended, or else the present one; None without a lease. Chapter "The world"."""
+        """The lease end that a life had when it ended, or else the present one; None without a
+        lease. Chapter "The world".
+        """
         if (client, server, life) in self.ended:
             return self.ended[client, server, life][0]
         return self.clients[client - 1].lease_end_at(server)
@@ -76,7 +80,9 @@ class World:
     # Checks
 
     def refusal(self, event):
-        """The first check of an event that stands, as (name, values..), or None. Section "Which events are admissible". Chapter "The world"."""
+        """The first check of an event that applies, as (name, values..), or None. Section "Which
+        events are admissible". Chapter "The world".
+        """
         return getattr(self, "check_" + event[0])(*event[1:])
 
     def no_node(self, node):
@@ -205,7 +211,9 @@ class World:
     # Events
 
     def step(self, event):
-        """An admissible event happens: what is observed. Section "What an event does". Chapter "The world"."""
+        """An admissible event happens: what is observed. Section "What an event does". Chapter "The
+        world".
+        """
         self.seen = []
         self.events += 1
         getattr(self, "do_" + event[0])(*event[1:])
@@ -244,7 +252,9 @@ class World:
         self.links_cut.discard((one, other))
 
     def do_adv(self, increments):
-        """Every clock gains its increment; at a lease end the life's pending entries are gone. Chapter "The world"."""
+        """Every clock gains its increment; at a lease end the life's pending entries are gone.
+        Chapter "The world".
+        """
         before = self.clocks
         self.clocks = [clock + increment for clock, increment in zip(before, increments)]
         if self.drift is not None:
@@ -259,12 +269,16 @@ class World:
             self.dropped(number, None if crashed else self.last_writes.get(self.log.owner(number)))
 
     def dropped(self, number, command):
-        """Rule "By a lease end" and "By a crash": the cause is a crash (None) or a failed command. Chapter "The world"."""
+        """Rule "By a lease end" and "By a crash": the cause is a crash (None) or a failed command.
+        Chapter "The world".
+        """
         self.log.drop(number, command)
         self.seen.append(("dropped", number, command))
 
     def do_effect(self, number):
-        """The command has its effect, and a write makes the entry that it carries hard. Chapter "The world"."""
+        """The command has its effect, and a write makes the entry that it carries hard. Chapter
+        "The world".
+        """
         self.disks.effect(number)
         carried = self.origins[number - 1].carries
         if carried is not None:
@@ -272,7 +286,9 @@ class World:
                 self.seen.append(("hard", entry))
 
     def do_report(self, number, success):
-        """The command ends; its client is told, where it runs and was not started again. Chapter "The world"."""
+        """The command ends; its client is told, where it runs and was not started again. Chapter
+        "The world".
+        """
         self.disks.report(number)
         origin, command = self.origins[number - 1], self.disks.commands[number - 1]
         if not self.clients[origin.client - 1].running or self.starts[origin.client - 1] != origin.starts:
@@ -286,7 +302,9 @@ class World:
         self.client_step(origin.client, end)
 
     def do_crash(self, node):
-        """Event: a crash; a client's lives end with the lease ends that they had. Chapter "The world"."""
+        """Event: a crash; a client's lives end with the lease ends that they had. Chapter "The
+        world".
+        """
         if node > wire.SERVER_BASE:
             self.node(node).crash()
             return
@@ -298,7 +316,9 @@ class World:
         client.crash()
 
     def drop_by_crash(self, client):
-        """Rule "By a crash": all pending entries but what an unreported command carries, and the earlier ones there. Chapter "The world"."""
+        """Rule "By a crash": all pending entries but what an unreported command carries, and the
+        earlier ones there. Chapter "The world".
+        """
         pending = sorted(number for key, numbers in self.log.pending.items() if key[0] == client for number in numbers)
         if not pending:
             return
@@ -360,7 +380,9 @@ class World:
                 self.flush_steps[number, association.server] = client.lease_end_at(association.server)
 
     def observe_client(self, client, output, ends):
-        """Section "What is observed": sending, submitting, answering and the notes of a client. Chapter "The world"."""
+        """Section "What is observed": sending, submitting, answering and the notes of a client.
+        Chapter "The world".
+        """
         kind, number = output[0], client.number
         if kind == "send":
             self.sent(output[1])
@@ -386,7 +408,9 @@ class World:
             self.seen.append((kind, number, server, life))
 
     def submitted(self, client, own, disk, block, write):
-        """A command is submitted; a write carries its page's latest entry of this client. Chapter "The world"."""
+        """A command is submitted; a write carries its page's latest entry of this client. Chapter
+        "The world".
+        """
         command = self.disks.submit(disk, block, write)
         server = server_of_disk(disk, len(self.servers))
         life = client.associations[server - 1].life

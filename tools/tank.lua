@@ -3,12 +3,14 @@
 --     wireshark -X lua_script:tools/tank.lua x.pcap
 --     tshark -X lua_script:tools/tank.lua -r x.pcap -V
 --
--- `tools/tank_pcap` makes a capture of frames on Unix sockets. Frames are looked for in TCP streams of the port in the
--- preference `tank.port`; "Decode As" works for other ports. A frame may lie in any pieces over the packets.
+-- `tools/tank_pcap` makes a capture of frames on Unix sockets. Frames are looked for in TCP streams
+-- of the port in the preference `tank.port`; "Decode As" works for other ports. A frame may lie in
+-- any pieces over the packets.
 --
--- Fields have the names of the chapter. `tank.offset` is the place of a frame in its stream, counted from the first frame
--- of the capture; it is the OFFSET of a node's text `tank: frame at OFFSET ..`. `tank.refusal` is what that text says of
--- the frame. A node reads nothing after a refused frame. The dissector goes on with the next one, unless the length itself
+-- Fields have the names of the chapter. `tank.offset` is the place of a frame in its stream,
+-- counted from the first frame of the capture; it is the OFFSET of a node's text
+-- `tank: frame at OFFSET ..`. `tank.refusal` is what that text says of the frame. A node reads
+-- nothing after a refused frame. The dissector goes on with the next one, unless the length itself
 -- was refused.
 
 local MAX_MESSAGE = 65536
@@ -54,7 +56,7 @@ local ANSWERS = {
 local COMMANDS = { [0] = "read", [1] = "write" }
 local ENDINGS = { [0] = "failed", [1] = "write done", [2] = "read done" }
 
--- Fields. The first word of a constructor is the filter's name behind `tank.`, the second the label.
+-- Fields. The first word of a constructor is the filter's name after `tank.`, the second the label.
 
 local f = {}
 local labels = {}
@@ -144,8 +146,9 @@ tank.experts = REFUSALS
 
 -- A reader of one message: it shows each field that it reads and stops at the first fault.
 --
--- `bytes` is the packet's buffer, `begin` the message's place in it, `size` the message's length, `at` the next byte of the
--- message, `tree` where fields are shown, `words` what the packet list says of the message.
+-- `bytes` is the packet's buffer, `begin` the message's place in it, `size` the message's length,
+-- `at` the next byte of the message, `tree` where fields are shown, `words` what the packet list
+-- says of the message.
 
 local Reader = {}
 Reader.__index = Reader
@@ -154,7 +157,8 @@ local function new_reader(bytes, begin, size, tree)
   return setmetatable({ bytes = bytes, begin = begin, size = size, at = 0, tree = tree, words = {}, depth = 0 }, Reader)
 end
 
--- Stops the reading. A fault has the item to mark, where a field was shown, and the offset, where it is `Value`.
+-- Stops the reading. A fault has the item to mark, where a field was shown, and the offset, where
+-- it is `Value`.
 local function refuse(name, item, offset)
   error({ refusal = name, item = item, offset = offset }, 0)
 end
@@ -171,7 +175,8 @@ function Reader:say(name, text)
   if self.depth == 0 then table.insert(self.words, name .. " " .. text) end
 end
 
--- A number of 1, 2 or 4 bytes from `low` to `high`. `is_good`, where it is given, says more of which values are in range.
+-- A number of 1, 2 or 4 bytes from `low` to `high`. `is_good`, where it is given, says more of
+-- which values are in range.
 function Reader:number(name, size, low, high, is_good)
   local offset = self.at
   local range = self:take(size)
@@ -191,7 +196,7 @@ function Reader:long(name, which)
   return range, item
 end
 
--- A number that the packet list shows, with its word where it has one.
+-- A number that the packet list shows, with its word if it has one.
 function Reader:told(name, size, low, high, words)
   local value = self:number(name, size, low, high, words and function(v) return words[v] ~= nil end)
   self:say(labels[name], words and words[value] or tostring(value))
@@ -249,7 +254,8 @@ function Reader:entries()
   end)
 end
 
--- Op and fields of a request on names. An application names the inode that it removes, and a client the grant of its lock.
+-- Op and fields of a request on names. An application names the inode that it removes, and a client
+-- the grant of its lock.
 function Reader:name_op(is_ask)
   local op = self:told("name_op", 1, 1, 6, NAME_OPS)
   self:told("dir", 4, 1, U32)
@@ -413,7 +419,8 @@ local function ends_of(kind)
   return LOCAL_ENDS[kind][1], LOCAL_ENDS[kind][2]
 end
 
--- What epoch, number and stamp of the control kinds may be, where it is not positive, positive and any.
+-- What epoch, number and stamp of the control kinds may be, where it is not positive, positive and
+-- any.
 local CONTROL_RANGES = {
   [1] = { "zero", "zero", "any" }, [10] = { "positive", "zero", "zero" }, [32] = { "positive", "zero", "any" },
   [34] = { "positive", "any", "any" }, [35] = { "positive", "any", "any" }, [37] = { "positive", "zero", "zero" },
@@ -453,7 +460,8 @@ end
 
 -- Frames.
 
--- Marks a refused frame: the refusal's text is that of a node, and the expert information stands at the field.
+-- Marks a refused frame: the refusal's text is that of a node, and the expert information is at the
+-- field.
 local function show_refusal(tree, item, name, value)
   local text = value and (name .. " " .. value) or name
   tree:add(f.refusal, text):set_generated()
@@ -477,9 +485,9 @@ local function show_message(bytes, begin, size, tree)
   return table.concat(r.words, " ")
 end
 
--- What is known of each direction between two ports: `offset` is the place of the next frame, and `stopped` the packet in which
--- a length was refused. `places` has the offsets of the frames of a packet, in the order of reading: later readings of the
--- packet go through them again.
+-- What is known of each direction between two ports: `offset` is the place of the next frame, and
+-- `stopped` the packet in which a length was refused. `places` has the offsets of the frames of a
+-- packet, in the order of reading: later readings of the packet go through them again.
 local streams = {}
 local places = {}
 
@@ -507,7 +515,8 @@ local function next_offset(stream, pinfo, size)
   return known[known.read] or UInt64(0)
 end
 
--- Says that more bytes are needed for the frame that begins at `at`: `missing` of them, where this is known.
+-- Says that more bytes are needed for the frame that begins at `at`: `missing` of them, where this
+-- is known.
 local function ask_for_more(bytes, pinfo, tree, at, missing)
   local left = bytes:len() - at
   local text = missing and string.format("begin of a frame, %d of %d bytes", left, left + missing)
@@ -535,8 +544,8 @@ local function show_frame(bytes, pinfo, tree, stream, at, length)
   return show_message(bytes, at + 4, length, item)
 end
 
--- Says in the packet list what was read. The bytes of one packet may come in several calls; the list keeps what earlier calls
--- of this packet said, and this goes behind it.
+-- Says in the packet list what was read. The bytes of one packet may come in several calls; the
+-- list keeps what earlier calls of this packet said, and this goes after it.
 local last_said = nil
 
 local function say_in_list(pinfo, said)

@@ -1,4 +1,6 @@
-"""Reads definition files (.antt): their words, expressions, clauses, records and `use` lines. What it does not understand is an error."""
+"""Reads definition files (.antt): their words, expressions, clauses, records and `use` lines. What
+it does not understand is an error.
+"""
 import functools
 import pathlib
 import re
@@ -26,7 +28,9 @@ def word_end(text, place):
 
 
 def tokens_of(text):
-    """The tokens, each a pair of a kind and a value. A name keeps its dots: `a.b.0` is one token; `.f` right behind `)` is ("field", "f")."""
+    """The tokens, each a pair of a kind and a value. A name keeps its dots: `a.b.0` is one token;
+    `.f` right after `)` is ("field", "f").
+    """
     out, place = [], 0
     while place < len(text):
         letter = text[place]
@@ -63,8 +67,9 @@ def tokens_of(text):
 
 
 class Parser:
-    """Expressions, as tuples: ("number", n), ("text", s), ("name", dotted), ("tuple", items), ("if", a, b, c), ("function", names, body),
-    ("apply", head, arguments), ("operator", sign, left, right), ("field", of, name) and ("record", base or None, fields)."""
+    """Expressions, as tuples: ("number", n), ("text", s), ("name", dotted), ("tuple", items),
+    ("if", a, b, c), ("function", names, body), ("apply", head, arguments), ("operator", sign, left,
+    right), ("field", of, name) and ("record", base or None, fields)."""
 
     def __init__(self, tokens, where):
         self.tokens, self.place, self.where = tokens, 0, where
@@ -133,7 +138,9 @@ class Parser:
         return ("apply", head, arguments) if arguments else head
 
     def atom(self):
-        """A number, a text, a name, a record, or what stands in parentheses; None where none of these follows."""
+        """A number, a text, a name, a record, or what is in parentheses; None if none of these
+        follows.
+        """
         kind, value = self.peek()
         if kind in ("number", "text"):
             return self.take()
@@ -186,7 +193,7 @@ class Parser:
 
 
 class Definition:
-    """A definition: its clauses in order, each as the tokens before and behind `=`."""
+    """A definition: its clauses in order, each as the tokens before and after `=`."""
 
     def __init__(self, module, name):
         self.module, self.name, self.clauses = module, name, []
@@ -207,7 +214,9 @@ class Definition:
 
 
 class Module:
-    """The definitions and records of a file, and what its `use` lines bring in: items (name to path and name there) and modules (name to path)."""
+    """The definitions and records of a file, and what its `use` lines bring in: items (name to path
+    and name there) and modules (name to path).
+    """
 
     def __init__(self, path, text):
         self.path, self.definitions, self.records, self.items, self.modules = path, {}, {}, {}, {}
@@ -216,7 +225,9 @@ class Module:
 
     @staticmethod
     def groups(text):
-        """The texts of the declarations and clauses: lines that are indented, or inside of braces, go on with what stands before them."""
+        """The texts of the declarations and clauses: lines that are indented, or inside of braces,
+        continue what comes before them.
+        """
         found, open_braces = [], 0
         for line in text.split("\n"):
             if not line.strip() or line.lstrip().startswith("--"):
@@ -243,7 +254,7 @@ class Module:
             self.clause(text)
 
     def clause(self, text):
-        """A clause; a signature is passed over."""
+        """A clause; a signature is ignored."""
         tokens = tokens_of(text)
         colon, equals = self.outermost(tokens, ":"), self.outermost(tokens, "=")
         if colon is not None and (equals is None or colon < equals):
@@ -255,7 +266,7 @@ class Module:
 
     @staticmethod
     def outermost(tokens, word):
-        """Where this word stands outside of all parentheses."""
+        """Where this word is outside of all parentheses."""
         depth = 0
         for place, (kind, value) in enumerate(tokens):
             if kind == "mark":
@@ -285,7 +296,7 @@ class Module:
 
 
 def parts_between_commas(text):
-    """What stands between the commas that are outside of all brackets."""
+    """What is between the commas that are outside of all brackets."""
     parts, depth = [""], 0
     for letter in text:
         depth += (letter in "(<{[") - (letter in ")>}]")
@@ -303,7 +314,7 @@ class Sources:
         self.crates, self.modules, self.enums = pathlib.Path(crates), {}, {}
 
     def with_texts(self, texts):
-        """The same sources, but for modules that have these texts: by path."""
+        """The same sources, except for modules that have these texts: by path."""
         found = Sources(self.crates)
         found.modules, found.enums = {**self.modules, **{path: Module(path, text) for path, text in texts.items()}}, self.enums
         return found

@@ -1,4 +1,6 @@
-"""Work that several processors share until the time is over: each part counts what it did, and tells what it found."""
+"""Work that several processors share until the time is over: each part counts what it did, and
+tells what it found.
+"""
 import argparse
 import collections
 import multiprocessing
@@ -19,7 +21,9 @@ def share(counter):
 
 
 class Part:
-    """One processor's part. A subclass has `turn(number)`, which is called until the time is over or enough was found."""
+    """One processor's part. A subclass has `turn(number)`, which is called until the time is over
+    or enough was found.
+    """
 
     def __init__(self, words, place):
         self.words, self.place = words, place
@@ -78,7 +82,7 @@ def add_words(parser, lengths):
 
 def add_promises(parser):
     """The words that say which promises are judged."""
-    parser.add_argument("--more", action="append", default=[], metavar="MODULE.NAME", help="a promise of st_promises/specs, or of a CRATE:MODULE, besides")
+    parser.add_argument("--more", action="append", default=[], metavar="MODULE.NAME", help="also a promise of st_promises/specs, or of a CRATE:MODULE")
     parser.add_argument("--only", action="store_true", help="only the promises that --more names")
     parser.add_argument("--volume", action="store_true", help="only that the volume accepts each step; for plants, those of volume_plants.py")
 

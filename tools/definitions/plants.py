@@ -1,5 +1,6 @@
-"""Wrong rules, each a change of the definitions: its name; the promises that may refuse it, the first of which must; its changes, each a file of
-st_rules/specs, a text that stands there once, and what stands there instead; and what its runs ask, one of ASKS in running.py."""
+"""Wrong rules, each a change of the definitions: its name; the promises that may refuse it, the
+first of which must; its changes, each a file of st_rules/specs, a text that occurs there once, and
+what replaces it; and what its runs ask, one of ASKS in running.py."""
 from typing import NamedTuple
 
 

@@ -1,4 +1,6 @@
-"""The definitions as a program: written by scheme.py, compiled by Chez Scheme, and asked for reports, for random runs, and which promises are broken."""
+"""The definitions as a program: written by scheme.py, compiled by Chez Scheme, and asked for
+reports, for random runs, and which promises are broken.
+"""
 import functools
 import hashlib
 import os
@@ -23,10 +25,12 @@ ROOTS = (("Run", "run"), ("Report", "report"), ("Report", "ending"), ("World", "
 ENUMS = (("st_rules", "disks", "Report"), ("st_messages", "event", "Event"), ("st_messages", "ask", "Ask"), ("st_base", "names", "NameAsk"), ("st_base", "ids", "NodeId"),
          ("core", "result", "Result"))
 RECORDS = (("0",), ("server", "ino"), ("lease", "renew", "quiesce", "flush", "demand", "retry", "num", "den", "grain"))
-# What a run's asks are like: of all kinds; six of ten for names; half of them cuts and removals, whose replies are often lost.
+# What a run's asks are like: of all kinds; six of ten for names; half of them cuts and removals,
+# whose replies are often lost.
 ASKS = ("all", "names", "cuts")
 MOST_MEMORY = 4 << 30
-# Where this variable is set, only the promises that are named besides are judged; the compiled program reads it too.
+# Where this variable is set, only the promises that are named besides are judged; the compiled
+# program reads it too.
 ONLY_MORE = "TANK_ONLY_MORE"
 
 
@@ -36,7 +40,9 @@ def module_path(file, folder):
 
 
 def promises_of(translator, more):
-    """The promises by name, each as its symbol: the fields of IsSafe, unless only more are judged, and these more, each a module and a name in it."""
+    """The promises by name, each as its symbol: the fields of IsSafe, unless only more are judged,
+    and these more, each a module and a name in it.
+    """
     module = translator.sources.module(PROMISES + "Safe")
     names = [] if os.environ.get(ONLY_MORE) else [text.split()[1] for _, text in module.records["IsSafe"][1]]
     places = [place.rsplit(".", 1) for place in more]
@@ -76,7 +82,9 @@ def program_text(crates, more):
 
 
 def changed_text(crates, more, texts):
-    """What a program of these crates is to evaluate so that some modules, of st_rules or as CRATE:MODULE, have these texts."""
+    """What a program of these crates is to evaluate so that some modules, of st_rules or as
+    CRATE:MODULE, have these texts.
+    """
     sources, before, _ = base(str(crates), tuple(more))
     return translated(sources.with_texts({module_path(file, RULES): text for file, text in texts.items()}), more, before)[0].changes(before)
 
@@ -150,7 +158,9 @@ def schedule_of(head, events):
 
 
 def read(schedule):
-    """The head and the events of a schedule, up to what its reader refuses, and whether it refuses nothing. The head is None where it is refused."""
+    """The head and the events of a schedule, up to what its reader refuses, and whether it refuses
+    nothing. The head is None where it is refused.
+    """
     reader, items = ScheduleReader(), []
     try:
         for line in lines_of([schedule]):
@@ -169,7 +179,9 @@ class Definitions:
         self.program, self.process, self.change = built(crates or comparing.ROOT / "crates", more), None, change
 
     def ask(self, *request):
-        """What the program answers; where it ends or finds no clause, a text that begins with `error`."""
+        """What the program answers; where it ends or finds no clause, a text that begins with
+        `error`.
+        """
         if self.process is None:
             self.begin()
         return self.answer(datum(request))
@@ -200,7 +212,9 @@ class Definitions:
         return self.ask("report", head, events)
 
     def drawn(self, seed, length, asks="all"):
-        """The head and the events of a random run by the definitions' own scheduler, with asks of one of ASKS."""
+        """The head and the events of a random run by the definitions' own scheduler, with asks of
+        one of ASKS.
+        """
         head, events = of_datum(self.ask("draw", seed, length, asks).decode())
         return Head(head[0], Settings(*head[1]), *head[2:]), list(events)
 

@@ -1,22 +1,26 @@
-"""Writes definitions as functions of Chez Scheme: each that some roots reach, by the names of `use` lines, its clauses in order.
+"""Writes definitions as functions of Chez Scheme: each that some roots reach, by the names of `use`
+lines, its clauses in order.
 
-A record is a vector: the number of its layout, and its fields by name. A value of an enum is a vector: the number of its variant, and its fields. A
-list is a list, a number a number, `true` and `false` are #t and #f. Of a promise `≡` is equality, `×` both, `⊤` true and `⊥` false; a record of facts
-is true where each of them is. All is evaluated strictly, but for `if`, `&&`, `||` and `×`.
+A record is a vector: the number of its layout, and its fields by name. A value of an enum is a
+vector: the number of its variant, and its fields. A list is a list, a number a number, `true` and
+`false` are #t and #f. In a promise `≡` is equality, `×` both, `⊤` true and `⊥` false; a record of
+facts is true where each of them is. All is evaluated strictly, except for `if`, `&&`, `||` and `×`.
 """
 import re
 
 from antt import NotUnderstood, Parser, tokens_of
 
-# What definitions use of the standard library, and how many arguments each has; library.ss has them.
+# What definitions use of the standard library, and how many arguments each has; library.ss has
+# them.
 LIBRARY = {"suc": 1, "pred": 1, "min": 2, "max": 2, "not": 1, "nat_lt": 2, "nat_le": 2, "nat_eq": 2, "div_ceil": 2, "map": 2, "filter": 2, "find": 2,
            "filter_map": 2, "flat_map": 2, "list_any": 2, "list_all": 2, "length": 1, "take": 2, "drop": 2, "set": 3, "replicate": 2, "slice_get": 2,
            "slice_index": 2, "zip": 2, "fold": 3, "sum_by": 2, "is_some": 1, "is_none": 1, "unwrap_or": 2, "option_map": 2, "option_and_then": 2, "option_or": 2, "decimal": 1,
            "codes": 1, "bytes_eq": 2, "reverse": 1}
 SIGNS = {"≡": "equal?", "==": "=", "<": "<", "≤": "<=", "+": "+", "-": "minus", "++": "append", "∷": "cons", "*": "*", "/": "divided", "%": "modulus",
          "^": "expt", "||": "or", "&&": "and", "×": "and"}
-# For their time alone: definitions of two arguments whose values are kept for the same two objects, and modules in which a list with one more element
-# is. Promises say the same of the same steps again and again.
+# For their time alone: definitions of two arguments whose values are kept for the same two objects,
+# and modules in which a list with one more element is. Promises say the same of the same steps
+# again and again.
 REMEMBERED = {"st_volume.Pages.changed", "st_laws_volume.Witness.led_by", "st_laws_volume.Witness.begun", "st_rules.FlatLog.changed", "st_promises.NameAnswers.same_names", "st_promises.NameAnswers.says"}
 GROWING = ("Rattle.st_promises.", "Rattle.st_rules.specs.Safety")
 CONSTANTS = {"[]": "'()", "zero": "0", "true": "#t", "false": "#f", "tt": "'tt", "⊤": "#t", "⊥": "#f"}
@@ -39,7 +43,9 @@ def field_table(name):
 
 
 class Translator:
-    """The definitions that were asked for, and those that they use: `code` has each by its symbol. Numbers are those of another translator, if one is given."""
+    """The definitions that were asked for, and those that they use: `code` has each by its symbol.
+    Numbers are those of another translator, if one is given.
+    """
 
     def __init__(self, sources, numbers=None):
         self.sources = sources
@@ -66,7 +72,9 @@ class Translator:
         return variants[of[3]]
 
     def item(self, path, name):
-        """What an item of a module is: ("variant", ..), ("library", name), ("constant", code), ("sign", sign), ("definition", it) or ("facts", module, name)."""
+        """What an item of a module is: ("variant", ..), ("library", name), ("constant", code),
+        ("sign", sign), ("definition", it) or ("facts", module, name).
+        """
         parts = path.split(".")
         if parts[1] in ("std", "core") or parts[0] in ("mathlib", "Prim", "lib"):
             if name in LIBRARY_VARIANTS:
@@ -285,7 +293,9 @@ class Translator:
         raise NotUnderstood(f"{module.path}: {found} has no value")
 
     def call(self, head, count, arguments):
-        """A function of so many arguments that is given these: a value where there are enough, and else a function of the rest."""
+        """A function of so many arguments that is given these: a value where there are enough, and
+        otherwise a function of the rest.
+        """
         if len(arguments) < count:
             given, missing = [f"g{i}" for i in range(len(arguments))], [f"m{i}" for i in range(count - len(arguments))]
             code = f"({' '.join([head, *given, *missing])})"
@@ -312,11 +322,13 @@ class Translator:
         yield f"(define variants '({' '.join(f'(|{of[2]}.{of[3]}| . {number})' for of, number in self.variants.items())}))"
 
     def changes(self, base):
-        """What differs from another translation, which gave the numbers: definitions, and all tables."""
+        """What differs from another translation, which gave the numbers: definitions, and all
+        tables.
+        """
         return "\n".join([*self.tables(), *(code for name, code in self.code.items() if base.code.get(name) != code)])
 
     def text(self):
-        """All that was written, behind the numbers that library.ss needs."""
+        """All that was written, after the numbers that library.ss needs."""
         none, some = (self.variant(LIBRARY_VARIANTS[name]) for name in ("None", "Some"))
         head = f"(define none '#({none}))\n(define (some x) (vector {some} x))\n(define (some? o) (eqv? (vector-ref o 0) {some}))\n"
         return head + f"(define (pair one other) (vector {self.layout(('0', '1'))[1]} one other))\n" + "\n".join([*self.tables(), *self.code.values(), ""])

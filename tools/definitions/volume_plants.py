@@ -1,5 +1,6 @@
-"""Wrong machines that users could see, in the form of plants.py: the volume alone must refuse each. `Accepted` is that the volume takes the steps of a
-run, and that these show what is seen of it (st_laws_volume/specs/Witness.antt)."""
+"""Wrong machines that users could see, in the form of plants.py: the volume alone must refuse each.
+`Accepted` is that the volume takes the steps of a run, and that these show what is seen of it
+(st_laws_volume/specs/Witness.antt)."""
 from plants import PLANTS as OTHERS, Plant
 
 A = "Accepted"
@@ -73,7 +74,7 @@ ANSWERS = (
     Plant("a sync of dirty pages is answered `quiesced`", A, (
         ("ClientPasses", SYNC, "sync t o f = if pages.is_hard t.here.store f.ino then answer o answers.Hard t else answer o answers.Quiesced t"),)),
     Plant("an ask is answered as another one of its client", A, (("Events", "observe (with_read answer sc.world) sc (seen.Answered c op answer)", "observe (with_read answer sc.world) sc (seen.Answered c (op + 1) answer)"),)),
-    Plant("a created file is told as the next one", A, (("Server", NAMES_CHANGED, "name_changed t (Ok d) = replied (with_names d.names t) (bodies.Named (Ino (d.ino + 1)))"),), "names"),
+    Plant("a created file is reported as the next one", A, (("Server", NAMES_CHANGED, "name_changed t (Ok d) = replied (with_names d.names t) (bodies.Named (Ino (d.ino + 1)))"),), "names"),
 )
 
 # More wrong effects.
@@ -100,7 +101,7 @@ EFFECTS = (
     Plant("the line of a write has other bytes", A, (("Events", WROTE, "(seen.Wrote (length sc.world.log + 1) c f p (filled 0))"), ("Events", "use Rattle.st_base.specs.declared.disk.Tag.{Tag}\n", "use Rattle.st_base.specs.declared.disk.Tag.{Tag}\nuse Rattle.st_base.specs.Page.{filled}\n"))),
     Plant("an effect hardens the entries of all pages of the client", A, (
         ("FlatLog", "if nat_le number index && same_owner e.of o then harder_entry e else e", "if same_client e.of.client o.client then harder_entry e else e"),)),
-    Plant("what is lost is told with another command", A, (("Events", "causes.Failed (last_write cs (owner_in e f p))", "causes.Failed (1 + last_write cs (owner_in e f p))"),)),
+    Plant("what is lost is reported with another command", A, (("Events", "causes.Failed (last_write cs (owner_in e f p))", "causes.Failed (1 + last_write cs (owner_in e f p))"),)),
 )
 
 # Of plants.py, those that short runs show to users: the volume refuses them too.
@@ -123,8 +124,8 @@ SEEN_BY_USERS = {
     "reads answer `diskfault` without a failed report",
     "a client answers `opsfull` at two operations",
     "a message is sent without its line in the report",
-    "a dropped entry is told as hard",
-    "what a crash drops is told as failed",
+    "a dropped entry is reported as hard",
+    "what a crash drops is reported as failed",
     "what is answered `quiesced` stays pending",
     "a look-up finds an inode that never was",
     "names are listed as they were at the start",

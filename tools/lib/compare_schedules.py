@@ -1,4 +1,6 @@
-"""Random hostile schedules, driven by the world of reference/, and mutated lines of schedules: tools/compare gives them to the program."""
+"""Random hostile schedules, driven by the world of reference/, and mutated lines of schedules:
+tools/compare gives them to the program.
+"""
 import comparing  # noqa: F401  (it makes reference/ known)
 from reference import wire
 from reference.clocks import steal_wait
@@ -242,7 +244,7 @@ class Driver:
         return tuple(least + rng.choice((0, spread, rng.randint(0, spread))) for _ in range(count))
 
     def candidate(self):
-        """An event by the mood's weights, or None where there is none of the kind that was drawn."""
+        """An event by the mood's weights, or None if there is none of the kind that was drawn."""
         kind = self.rng.choices(KINDS, self.weights)[0]
         if kind == "app":
             return self.an_ask()
@@ -363,7 +365,9 @@ class Driver:
             del self.commands[: self.rng.randint(1, 20)]
 
     def check_read(self, one, seen):
-        """The promise `ReadsReturnLastWrites`, where the event logs nothing of the page behind the answer."""
+        """The promise `ReadsReturnLastWrites`, if the event logs nothing of the page after the
+        answer.
+        """
         ask = self.asked.get((one[1], one[2]))
         if ask is None or any(other[0] in ("write", "patch") and other[3:5] == (ask[1], ask[2]) for other in seen):
             return
@@ -421,7 +425,9 @@ class Driver:
                 self.happen(event)
 
     def refused_event(self):
-        """An event that the world refuses, or None: the schedule's last line. Each refusal that can be had is as likely."""
+        """An event that the world refuses, or None: the schedule's last line. Each refusal that can
+        be had is as likely.
+        """
         rng, world = self.rng, self.world
         events = [self.hostile_event() for _ in range(40)]
         commands, messages = len(world.origins), len(world.messages)

@@ -1,4 +1,6 @@
-"""What the tools that compare the program with reference/ share: their words, the program, progress, and files of what differs."""
+"""What the tools that compare the program with reference/ share: their words, the program,
+progress, and files of what differs.
+"""
 import argparse
 import os
 import pathlib
@@ -14,7 +16,9 @@ KEPT = pathlib.Path(tempfile.gettempdir()) / "tank-differences"
 
 
 def parser(tool, text):
-    """A parser of words whose help is the tool's text, with the word --program that each of them has."""
+    """A parser of words whose help is the tool's text, with the word --program that each of them
+    has.
+    """
     words = argparse.ArgumentParser(prog=f"tools/{tool}", description=text, formatter_class=argparse.RawDescriptionHelpFormatter)
     words.add_argument("--program", help="the program that is compared; without it, the one that ./tank runs")
     return words

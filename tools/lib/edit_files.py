@@ -1,9 +1,12 @@
-"""The must-fail edits of the crates: where they stand, how they are read, and the texts that they make.
+"""The must-fail edits of the crates: where they are, how they are read, and the texts that they
+make.
 
-An edit plants one wrong body, which the prover must refuse. It is a file with a line 'file: src/NAME.rt' and then pairs of lines
-'old: TEXT' and 'new: TEXT', each text one line. An old text stands exactly once in its file, and a further pair applies to what the
-earlier ones made. `rt ci` tries crates/NAME/must-fail/EDIT.edit. Those in crates/NAME/must-fail/more/ are named EDIT.edit.md, since
-`rt ci` calls any other file below must-fail/ a bad edit; `tools/checks/wrong_bodies` tries both folders.
+An edit plants one wrong body, which the prover must refuse. It is a file with a line 'file:
+src/NAME.rt' and then pairs of lines 'old: TEXT' and 'new: TEXT', each text one line. An old text
+occurs exactly once in its file, and a further pair applies to what the earlier ones made. `rt ci`
+tries crates/NAME/must-fail/EDIT.edit. Those in crates/NAME/must-fail/more/ are named EDIT.edit.md,
+since `rt ci` calls any other file below must-fail/ a bad edit; `tools/checks/wrong_bodies` tries
+both folders.
 """
 import collections
 import pathlib
@@ -21,7 +24,7 @@ class BadEdit(Exception):
 
 
 def crates(root=ROOT):
-    """Returns the crates that each crate of crates.txt stands on, in the file's order."""
+    """Returns the crates that each crate of crates.txt uses, in the file's order."""
     found = {}
     for line in (root / "crates.txt").read_text().splitlines():
         head, colon, rest = line.partition("#")[0].partition(":")
@@ -31,13 +34,14 @@ def crates(root=ROOT):
 
 
 def placed(path, crate):
-    """Returns the edit of a file below a crate's must-fail/, or says why it stands wrongly there."""
+    """Returns the edit of a file below a crate's must-fail/, or says why it is in the wrong place.
+    """
     if path.parent.name == "must-fail" and path.suffix == ".edit":
         name, folder = path.name.removesuffix(".edit"), GATE
     elif path.parent.name == "more" and path.parent.parent.name == "must-fail" and path.name.endswith(".edit.md"):
         name, folder = path.name.removesuffix(".edit.md"), MORE
     else:
-        raise BadEdit("is no must-fail/EDIT.edit and no must-fail/more/EDIT.edit.md")
+        raise BadEdit("is neither must-fail/EDIT.edit nor must-fail/more/EDIT.edit.md")
     if not NAME.fullmatch(name):
         raise BadEdit("its name has other characters than letters, digits, _ and -")
     return Edit(crate, name, folder, path)
@@ -55,7 +59,7 @@ def all_edits(root=ROOT):
                 raise BadEdit("its crate is not in crates.txt")
             edit = placed(path, crate)
             if any((it.crate, it.name) == (crate, edit.name) for it in good):
-                raise BadEdit("an edit of this name stands in both folders")
+                raise BadEdit("an edit of this name is in both folders")
             good.append(edit)
         except BadEdit as why:
             bad.append((path, str(why)))
@@ -81,20 +85,22 @@ def pairs(text):
 
 
 def applied(edit):
-    """Returns the texts that the edit makes, by their files in the crate, or says why it does not apply."""
+    """Returns the texts that the edit makes, by their files in the crate, or says why it does not
+    apply.
+    """
     folder = edit.path.parents[1 if edit.folder == GATE else 2]
     before, after = {}, {}
     for file, old, new in pairs(edit.path.read_text(encoding="utf-8")):
         path = pathlib.PurePosixPath(file)
         if path.parts[0] != "src" or ".." in path.parts or str(path) != file:
-            raise BadEdit(f"{file} is no file below src/")
+            raise BadEdit(f"{file} isn't a file below src/")
         if file not in after:
             if not (folder / file).is_file():
                 raise BadEdit(f"there is no file {file}")
             before[file] = after[file] = (folder / file).read_text(encoding="utf-8")
         count = after[file].count(old)
         if count != 1:
-            raise BadEdit(f"an old text stands {count} times in {file}, and not once: {old.strip()[:80]}")
+            raise BadEdit(f"an old text occurs {count} times in {file}, instead of once: {old.strip()[:80]}")
         after[file] = after[file].replace(old, new)
     if after == before:
         raise BadEdit("it changes nothing")

@@ -1,8 +1,12 @@
-"""Whether settings fit the times of a deployment, so that a healthy client keeps its lease and is not suspected. docs/PROTOCOL.md, "Healthy clients"."""
+"""Whether settings fit the times of a deployment, so that a healthy client keeps its lease and is
+not suspected. docs/PROTOCOL.md, "Healthy clients".
+"""
 
 
 def oldest_lease(settings, gap, delay):
-    """The age that a healthy client's lease never reaches, where the client ticks once in a gap and each message comes within the delay."""
+    """The age that a healthy client's lease never reaches, where the client ticks once in a gap and
+    each message comes within the delay.
+    """
     return max(settings.renew + gap, 2 * delay + 1) + 2 * delay
 
 
@@ -12,7 +16,9 @@ def locks_at_once(settings, delay):
 
 
 def misfits(settings, gap, delay, demands):
-    """What does not fit: sentences. All times are in ticks; `demands` is how many locks of one client may be demanded at once."""
+    """What does not fit: sentences. All times are in ticks; `demands` is how many locks of one
+    client may be demanded at once.
+    """
     age = oldest_lease(settings, gap, delay)
     times = f"with a tick in {gap} and messages within {delay}"
     if age > settings.lease:
@@ -24,7 +30,7 @@ def misfits(settings, gap, delay, demands):
         need = 2 * delay * (demands + 1)
         at_once = f"more than {most} of them are demanded at once" if most else "one of them is demanded"
         yield (f"with messages within {delay} a client that answers may be suspected, and lose its locks, where {at_once}: "
-               f"for {demands} `demand` has to be {need}, and is {settings.demand}")
+               f"for {demands} `demand` must be {need}, and is {settings.demand}")
 
 
 def add_words(parser):

@@ -19,12 +19,12 @@ Command = collections.namedtuple("Command", "client own server crashes carries")
 
 def number(word):
     right = word.isascii() and word.isdigit() and (word == "0" or word[0] != "0")
-    need(right, f"`{word}` is no number")
+    need(right, f"`{word}` isn't a number")
     return int(word)
 
 
 def client(word):
-    need(word[:1] == "c", f"`{word}` is no client")
+    need(word[:1] == "c", f"`{word}` isn't a client")
     return number(word[1:])
 
 
@@ -37,7 +37,7 @@ def runs(word):
     """The bytes of COUNTxBYTE,.."""
     pairs = [run.partition("x") for run in word.split(",")]
     right = all(number(byte) < 256 and number(count) <= WHOLE_PAGE for count, _, byte in pairs)
-    need(right, f"`{word}` are no bytes of a page")
+    need(right, f"`{word}` aren't the bytes of a page")
     return b"".join(bytes((number(byte),)) * number(count) for count, _, byte in pairs)
 
 
@@ -208,7 +208,7 @@ def judged(schedule, report):
 def last(judge, words, events, bad):
     """The last line: of a whole run, or of the line that is refused."""
     if words[0] == "end":
-        need(bad is None, f"line {bad} of the schedule is to be refused")
+        need(bad is None, f"line {bad} of the schedule should be refused")
         upto = len(events)
     else:
         refused = number(fields(words[1:2], 1)[0])

@@ -8,7 +8,9 @@ NUMBERS = ("u16", "u32", "u64", "usize", "bool")
 
 
 def calls():
-    """By the name of each call for C: its parameters, each a name and a type, and the type of its result, or none."""
+    """By the name of each call for C: its parameters, each a name and a type, and the type of its
+    result, or none.
+    """
     text = (SOURCES / "lib.rt").read_text()
     found = re.findall(r'#\[unsafe\(no_mangle\)\]\npub extern "C" fn (\w+)\(([^)]*)\)(?: -> (\w+))?', text)
     return {name: ([tuple(it.strip().split(": ", 1)) for it in words.replace("\n", " ").split(",") if it.strip()], result or None) for name, words, result in found}
@@ -22,7 +24,9 @@ def reads_only():
 
 
 def structures():
-    """By the name of each structure for C: its fields, each a name and a type. A slot is the pointer that it holds."""
+    """By the name of each structure for C: its fields, each a name and a type. A slot is the
+    pointer that it holds.
+    """
     found = {}
     for path in sorted(it for crate in ("tank_c", "st_host_frames") for it in (CRATES / crate / "src").glob("*.rt")):
         for name, body in re.findall(r"#\[repr\(C\)\]\n(?:#\[derive\([^)]*\)\]\n)?pub struct (\w+) \{\n(.*?)\n\}", path.read_text(), re.S):
@@ -43,7 +47,7 @@ def made_of(name, made):
 
 
 def main_text(named):
-    """A main that makes each of these calls once, to stand behind the crate's sources."""
+    """A main that makes each of these calls once, to go after the crate's sources."""
     lines, made = [], structures()
     lines += ["    let mut bytes: [u8; 1] = [0; 1];", "    let input: [u8; 1] = [0; 1];", "    let numbers: [u64; 1] = [0; 1];"]
     lines += [f"    let mut a_{kind}: {kind} = 0;" for kind in ("u64", "usize")]

@@ -1,9 +1,12 @@
-"""What `tools/tankd` runs: a node to which a message is given at a reading of its clock, and which says what it sends.
+"""What `tools/tankd` runs: a node to which a message is given at a reading of its clock, and which
+says what it sends.
 
-An *engine* has `step(now, data)`: the node takes the message that these bytes spell, and the messages that it sends, asks its disk and answers come
-back, each as bytes. `readings` is the least and the greatest reading at which that can have been. Messages are without the length of a frame. `begin`
-starts the node, for the first time or again. `moment` is the moment of the step: by it the file that outlives a crash names the last step whose change it
-has, and `was_made` says whether the change of a step outlived the daemon.
+An *engine* has `step(now, data)`: the node takes the message that these bytes spell, and the
+messages that it sends, asks its disk and answers come back, each as bytes. `readings` is the least
+and the greatest reading at which that can have been. Messages are without the length of a frame.
+`begin` starts the node, for the first time or again. `moment` is the moment of the step: by it the
+file that outlives a crash names the last step whose change it has, and `was_made` says whether the
+change of a step outlived the daemon.
 
     Program     the program's word `node`, as a process: the proved node. It reads the machine's clock by itself, begins fresh, and can't be started again
     Library     libtank, the proved nodes in this process: any settings; a client's lives and a server's journal outlive a crash
@@ -32,7 +35,8 @@ from reference.node import BLOCKS, DISKS, SERVERS, SETTINGS, Node
 from reference.server import Server
 from reference.settings import Settings
 
-# The C library, loaded before any process forks: what is imported between a fork and a program may wait for ever for another thread.
+# The C library, loaded before any process forks: what is imported between a fork and a program may
+# wait for ever for another thread.
 LIBC = ctypes.CDLL(None) if sys.platform == "linux" else None
 CLIENTS = 16
 TIOCOUTQ = 0x5411  # of Linux: how many bytes the other end has not read yet
@@ -53,7 +57,9 @@ def milliseconds(at):
 
 
 class Lease(NamedTuple):
-    """A client's lease at a server: the life and the lease's end, whether it is in its flush phase, and whether pages of the server are dirty."""
+    """A client's lease at a server: the life and the lease's end, whether it is in its flush phase,
+    and whether pages of the server are dirty.
+    """
 
     server: int
     life: int
@@ -67,13 +73,17 @@ class Ended(Exception):
 
 
 def end_with_parent():
-    """Has the kernel end this process when the one that started it ends, also where that one was killed."""
+    """Has the kernel end this process when the one that started it ends, also where that one was
+    killed.
+    """
     if LIBC is not None:
         LIBC.prctl(1, signal.SIGKILL)
 
 
 class Program:
-    """A process of the program. A step is done when the process has read the whole frame, waits to read on, and has written nothing more."""
+    """A process of the program. A step is done when the process has read the whole frame, waits to
+    read on, and has written nothing more.
+    """
 
     def __init__(self, program, name, folder):
         self.path = pathlib.Path(folder) / f"{name}.node"
@@ -168,7 +178,9 @@ def write_whole(path, data):
 
 
 class Reference:
-    """A node of reference/, and the file that keeps what outlives a crash of it: a client's lives, or a server's epoch, names and extents."""
+    """A node of reference/, and the file that keeps what outlives a crash of it: a client's lives,
+    or a server's epoch, names and extents.
+    """
 
     def __init__(self, name, words, folder):
         numbers = list(map(int, words))
@@ -240,7 +252,9 @@ class Reference:
 
 
 class Library:
-    """A node of libtank. A client keeps its lives in a file; a server has its journal in one, and in another the place where it ended after the last step."""
+    """A node of libtank. A client keeps its lives in a file; a server has its journal in one, and
+    in another the place where it ended after the last step.
+    """
 
     def __init__(self, name, words, folder):
         numbers = list(map(int, words))
@@ -293,7 +307,9 @@ class Library:
         return place
 
     def was_made(self, moment):
-        """Whether the journal became longer since the last whole step, or the lives are those of this moment."""
+        """Whether the journal became longer since the last whole step, or the lives are those of
+        this moment.
+        """
         if not self.is_server:
             return json.loads(self.kept.read_text())[0] == moment
         self.file = os.open(self.journal, os.O_RDWR)
@@ -314,7 +330,9 @@ class Library:
         return [frame[4:] for frame in frames]
 
     def whole(self):
-        """The line of the step is written: notes where the journal ends, where that is another place than before."""
+        """The line of the step is written: notes where the journal ends, where that is another
+        place than before.
+        """
         if self.is_longer:
             self.is_longer = False
             self.kept.write_text(str(self.journal_end()))
@@ -325,7 +343,9 @@ class Library:
 
 @functools.lru_cache(maxsize=None)
 def tank_module():
-    """The layer over libtank, examples/tank.py, with the library that TANK_LIBRARY names, or else the one that tools/shared_library links."""
+    """The layer over libtank, examples/tank.py, with the library that TANK_LIBRARY names, or else
+    the one that tools/shared_library links.
+    """
     if "TANK_LIBRARY" not in os.environ:
         linked = subprocess.run([comparing.ROOT / "tools/shared_library"], stdout=subprocess.PIPE, text=True)
         if linked.returncode:

@@ -1,5 +1,6 @@
-// What the page of tools/picture does in the browser: it shows the lines of whatever is pointed at, hides rows and columns, and jumps from
-// theft to theft. The SVG is drawn as a whole; a layout gives what is hidden neither height nor width, and moves every element accordingly.
+// What the page of tools/picture does in the browser: it shows the lines of whatever is pointed at,
+// hides rows and columns, and jumps from theft to theft. The SVG is drawn as a whole; a layout
+// gives what is hidden neither height nor width, and moves every element accordingly.
 const told = JSON.parse(document.getElementById('told').textContent), run = document.getElementById('run'), byId = it => document.getElementById(it);
 const about = byId('about'), seek = byId('seek'), fold = byId('fold'), file = byId('file'), found = byId('found'), strip = byId('strip');
 const header = document.querySelector('#lanes svg'), main = document.querySelector('main');
@@ -107,8 +108,8 @@ function layout() {
   overview();
 }
 
-// The column that says what happened stays in sight: if the page is wider than the window, the column moves over the lanes, as far as the
-// middle of the window.
+// The column that says what happened stays in sight: if the page is wider than the window, the
+// column moves over the lanes, as far as the middle of the window.
 const said = [...run.querySelectorAll('text.note'), header.querySelector('text.observed')].filter(Boolean), behind = run.querySelector('rect.behind');
 let moved = 0;
 function keepNotes() {
@@ -196,7 +197,8 @@ document.addEventListener('keydown', it => {
   else if (key == '/') { seek.focus(); it.preventDefault(); }
 });
 
-// The state at first: what the tool was told, and what the address says behind # (only=1:2+c1&fold=1&file=1:2&at=714&key=t).
+// The state at first: what the tool's arguments say, and what the address says after #
+// (only=1:2+c1&fold=1&file=1:2&at=714&key=t).
 const state = {...told.first, ...Object.fromEntries(new URLSearchParams(location.hash.slice(1)))}, all = told.columns.filter(c => c[0][0] == 'f').map(c => c[0]);
 for (const k of ['all', ...all]) file.append(new Option(k == 'all' ? 'all files' : k.slice(1), k));
 const stolen = elements.filter(it => it.tag == 'rect' && it.it.classList.contains('lock')).map(it => it.keys[0]);

@@ -1,7 +1,8 @@
 """A schedule and its report, read together: what tools/picture draws.
 
-`read_run` reads both texts, tries each line of the report against the schedule, and returns a `Run`, or raises `Bad` with one
-sentence that names the line. Only what the two texts tell is used. Node names are the texts' own (`c1`, `s1`); disks are `d1`.
+`read_run` reads both texts, checks each line of the report against the schedule, and returns a
+`Run`, or raises `Bad` with one sentence that names the line. Only what the two texts tell is used.
+Node names are the texts' own (`c1`, `s1`); disks are `d1`.
 """
 import re
 
@@ -15,7 +16,8 @@ ASKS = [f"write {FILE} {NUMBER} {NUMBER}", f"read {FILE} {NUMBER}", f"sync {FILE
 EVENTS = [re.compile(form) for form in [
     f"adv {NUMBER}(?: {NUMBER})*", f"tick {NODE}", *(f"app {CLIENT} {ask}" for ask in ASKS), f"deliver {NUMBER}", f"lose {NUMBER}",
     f"cut {NODE} {NODE}", f"heal {NODE} {NODE}", f"effect {NUMBER}", f"report {NUMBER} (ok|fail)", f"crash {NODE}", f"start {NODE}"]]
-# How many words a message's body has, or the place of the count and the words that each row of a list has.
+# How many words a message's body has, or the place of the count and the words that each row of a
+# list has.
 BODIES = {"hello": 0, "keepalive": 0, "acquire": 2, "released": 3, "map": 3, "allocate": 4, "cut": 3, "demandseen": 2, "welcome": 0,
           "ack": 0, "nack": 3, "granted": 3, "queued": 2, "demand": 3, "reasserted": 0}
 ROWS = {"reassert": (0, 3), "extents": (1, 4)}
@@ -31,7 +33,8 @@ OBSERVED = {name: re.compile(form) for name, form in {
     "steal": f"{SERVER} {CLIENT} {NUMBER}"}.items()}
 END = re.compile("end events N sent N commands N writes N reads N hard N gone N stolen N".replace("N", NUMBER))
 REFUSED = re.compile("line ([1-9][0-9]*) ([A-Z][A-Za-z]+)((?: [^ ]+)*)")
-# How many values each refusal has, and the events that it can refuse; a refusal of the text has none.
+# How many values each refusal has, and the events that it can refuse; a refusal of the text has
+# none.
 REFUSALS = {"Syntax": 1, "LineTooLong": 1, "Number": 1, "NoHead": 0, "NoEnd": 0, "AfterEnd": 0, "TooMany": 1, "Config": 1,
             "NoNode": 1, "NotRunning": 1, "Running": 1, "NoMessage": 1, "LostMessage": 1, "LinkCut": 2, "NoCommand": 1, "DiskState": 1,
             "ClockRate": 2, "ClockDrift": 3, "LateDisk": 2, "FlushMissed": 2, "NetFull": 1}
@@ -72,7 +75,9 @@ class Entry:
 
 
 class Bar:
-    """Something that stands from one event's end to another's: of a node or a file, with words that tell what."""
+    """Something that lasts from one event's end to another's: of a node or a file, with words that
+    say what.
+    """
 
     def __init__(self, what, of, kind, start, text=""):
         self.what, self.of, self.kind, self.start, self.end, self.text, self.why = what, of, kind, start, None, text, ""
@@ -139,7 +144,8 @@ def read_head(run, words):
 
 
 def read_report(path, lines):
-    """Returns the observations by event, and the last line; refuses a line that is no report's."""
+    """Returns the observations by event, and the last line; refuses a line that isn't a report's.
+    """
     if not lines:
         raise Bad(f"{path} is empty, and a report has at least a last line.")
     first = 1 if lines[0] == "tank report 1" else 0
@@ -148,14 +154,14 @@ def read_report(path, lines):
     for at, line in enumerate(lines[first:-1], first + 1):
         number, _, text = line.partition(" ")
         if not first or not re.fullmatch("[1-9][0-9]*", number) or not is_observation(text):
-            raise Bad(f"{path}: line {at} is no line of a report: {line[:80]}")
+            raise Bad(f"{path}: line {at} isn't a line of a report: {line[:80]}")
         if int(number) < last:
             raise Bad(f"{path}: line {at} goes back to event {number}: {line[:80]}")
         last = int(number)
         observed.setdefault(last, []).append((at, text))
     refused = REFUSED.fullmatch(lines[-1])
     if not (first and END.fullmatch(lines[-1])) and not (refused and REFUSALS.get(refused[2]) == len(refused[3].split())):
-        raise Bad(f"{path}: line {len(lines)} is no last line of a report: {lines[-1][:80]}")
+        raise Bad(f"{path}: line {len(lines)} isn't the last line of a report: {lines[-1][:80]}")
     return bool(first), observed, lines[-1]
 
 
@@ -208,7 +214,7 @@ def read_run(schedule_path, report_path, report_lines=None):
             body.pop()
         for at, line in enumerate(body, 2):
             if not any(form.fullmatch(line) for form in EVENTS):
-                raise Bad(foreign + f"it goes on after line {at} of the schedule, which is no event: {line[:80]}")
+                raise Bad(foreign + f"it goes on after line {at} of the schedule, which isn't an event: {line[:80]}")
             walk.event(line.split(" "), observed.pop(at - 1, []))
         for event in observed:
             at, text = observed[event][0]
@@ -303,7 +309,9 @@ class Walk:
         return actor in self.run.servers if source is None else rest[source] == actor
 
     def happen(self, words):
-        """Applies the event itself; returns the node that steps, the message that it receives, and the observations that may come."""
+        """Applies the event itself; returns the node that steps, the message that it receives, and
+        the observations that may come.
+        """
         return getattr(self, "do_" + words[0])(*words[1:])
 
     def node(self, name, running=True):
@@ -414,7 +422,9 @@ class Walk:
             self.end_bar("grace", server, "over")
 
     def client_receives(self, client, message):
-        """A refusal may condemn the lease or tell a newer epoch; a reply ends the outstanding request."""
+        """A refusal may condemn the lease or tell a newer epoch; a reply ends the outstanding
+        request.
+        """
         key = client, message.sender
         lease = self.leases.get(key)
         if lease is None or lease.life != message.life:
@@ -437,7 +447,9 @@ class Walk:
             del self.outstanding[key]
 
     def server_received(self, server, message, told):
-        """A release that is acknowledged lowers the row of its grant; a reassertion that is acknowledged brings its rows."""
+        """A release that is acknowledged lowers the row of its grant; a reassertion that is
+        acknowledged brings its rows.
+        """
         kinds = [rest[3] for word, *rest in told if word == "send" and rest[2] == message.sender and rest[6] == str(message.request)]
         if message.kind == "released" and "ack" in kinds:
             ino, grant, to = message.body
@@ -555,7 +567,9 @@ class Walk:
     # Phases.
 
     def phases(self):
-        """Each lease's bar has the phase in which this event left it. Of a client that stopped it goes on, marked, until its end."""
+        """Each lease's bar has the phase in which this event left it. For a client that stopped it
+        goes on, marked, until its end.
+        """
         clocks = self.run.clocks[-1]
         for key in {**self.leases, **{of: None for what, of in self.open if what == "lease"}}:
             lease = self.leases.get(key)

@@ -1,9 +1,11 @@
-"""Joins the traces of a real run's nodes to one schedule, and compares what the nodes said with the schedule's report.
+"""Joins the traces of a real run's nodes to one schedule, and compares what the nodes said with the
+schedule's report.
 
-`read_traces` reads traces, `Join` makes the schedule, and `check` compares. The order of the schedule is that of the moments in the traces, but for a
-message, which is delivered behind the step that sent it, and a disk command, which is reported behind its effect. Each clock of the schedule's world
-stands at a node's step where the node's own clock stood, less a number that is the same throughout the run; between two steps of a node its clock goes on
-evenly.
+`read_traces` reads traces, `Join` makes the schedule, and `check` compares. The order of the
+schedule is that of the moments in the traces, except for a message, which is delivered after the
+step that sent it, and a disk command, which is reported after its effect. At a node's step each
+clock of the schedule's world reads what the node's own clock read, less a number that is the same
+throughout the run; between two steps of a node its clock goes on evenly.
 """
 import bisect
 import collections
@@ -36,14 +38,18 @@ PREMISES = {
 
 
 class Verdict:
-    """How a run was found: `agrees`, `differs` or a premise's name; the event's number, and what is to be said of it."""
+    """How a run was found: `agrees`, `differs` or a premise's name; the event's number, and what to
+    say about it.
+    """
 
     def __init__(self, name, event, lines):
         self.name, self.event, self.lines = name, event, lines
 
 
 class Machine:
-    """How the moments of a node's machine lie among the run's, which are those of the first node: moved by a constant, or along a straight line too."""
+    """How the moments of a node's machine lie among the run's, which are those of the first node:
+    moved by a constant, or along a straight line too.
+    """
 
     def __init__(self):
         self.begun, self.at, self.rate = 0, 0, 1.0
@@ -60,7 +66,9 @@ class Machine:
 
 
 class Item:
-    """Something that a node did: `what` is step, start, crash or effect. `own` is the moment by its machine, `at` among the run's. `line` is where its trace tells it."""
+    """Something that a node did: `what` is step, start, crash or effect. `own` is the moment by its
+    machine, `at` among the run's. `line` is where its trace tells it.
+    """
 
     __slots__ = ("node", "what", "own", "at", "low", "high", "reading", "told", "line", "life")
 
@@ -69,8 +77,9 @@ class Item:
         self.low = self.high = self.reading = None
 
     def read_at(self, low, high):
-        """Sets the reading of the node's clock. If it lies between two, and the step sent a request, the request's stamp is the reading, unless it lies outside:
-        then the least reading stays, and the check finds that the stamp is another one.
+        """Sets the reading of the node's clock. If it lies between two, and the step sent a
+        request, the request's stamp is the reading, unless it lies outside: then the least reading
+        stays, and the check finds that the stamp is another one.
         """
         self.low, self.high, self.reading = low, high, low
         stamps = [stamp for stamp in map(stamp_of, self.told.outputs or ()) if stamp is not None and low <= stamp <= high]
@@ -107,12 +116,16 @@ def message_of(data):
 
 
 def is_local(data):
-    """Whether these bytes are a tick, an ask or the end of a disk command; other bytes are a message that a node sent."""
+    """Whether these bytes are a tick, an ask or the end of a disk command; other bytes are a
+    message that a node sent.
+    """
     return data[1:2] != b"" and data[1] in wire.LOCAL and message_of(data) is not None
 
 
 class Node:
-    """What the trace of a node tells: its steps, starts and crashes in order, and the effects of its disk commands."""
+    """What the trace of a node tells: its steps, starts and crashes in order, and the effects of
+    its disk commands.
+    """
 
     def __init__(self, name, words):
         self.name, self.words, self.steps, self.effects, self.life, self.machine = name, words, [], [], 0, Machine()
@@ -129,7 +142,7 @@ class Node:
             self.life += 1
         elif isinstance(told, text.Effect):
             self.effects.append(Item(self.name, "effect", told.at, told, line, self.life))
-        elif not isinstance(told, text.End):  # an end in order is a crash behind the last step too
+        elif not isinstance(told, text.End):  # an orderly end is a crash after the last step, too
             if isinstance(told, text.Start) and not (self.steps and self.steps[-1].what == "crash"):
                 self.steps.append(Item(self.name, "crash", told.at - 1, None, line, self.life))  # it was killed before its first step
             it = Item(self.name, "start" if isinstance(told, text.Start) else "step", told.at, told, line, self.life)
@@ -137,7 +150,7 @@ class Node:
             self.steps.append(it)
 
     def stop(self, line):
-        """The process ended: a crash behind the last thing that it did, where it ran."""
+        """The process ended: a crash after the last thing that it did, if it ran."""
         if self.steps and self.steps[-1].what != "crash":
             last = max(it.at for it in (self.steps[-1], *self.effects[-1:])) + 1
             self.steps.append(Item(self.name, "crash", last, None, line, self.life))
@@ -179,7 +192,9 @@ def refusals_of(it):
 
 
 def settle(node):
-    """Settles readings that lie between two: a refusal tells when a timer started, on a tick or in that very step; that of a late reassertion tells its own."""
+    """Settles readings that lie between two: a refusal tells when a timer started, on a tick or in
+    that very step; that of a late reassertion tells its own.
+    """
     told = set()
     for it in node.steps:
         for cause, start, now in refusals_of(it):
@@ -195,7 +210,9 @@ def settle(node):
 
 
 def ways_of(nodes):
-    """Each message that a node took and another one sent, which is known by its bytes: the sender and its moment, the receiver and its moment."""
+    """Each message that a node took and another one sent, which is known by its bytes: the sender
+    and its moment, the receiver and its moment.
+    """
     sent = {}
     for node in nodes.values():
         for it in node.steps:
@@ -205,10 +222,11 @@ def ways_of(nodes):
 
 
 def shift(nodes):
-    """Where a message came before it was sent, the moments are of several machines: moves those of each node so that none does, in the middle of what is possible.
+    """Where a message came before it was sent, the moments are of several machines: moves those of
+    each node so that none does, in the middle of what is possible.
 
-    They are moved by a constant; and where no constants do, since the machines' clocks drifted, along a straight line. Where that does not do either, messages
-    wait later.
+    They are moved by a constant; and where no constants do, since the machines' clocks drifted,
+    along a straight line. Where that does not do either, messages wait later.
     """
     ways = ways_of(nodes)
     if all(sent <= came for _, sent, _, came in ways):
@@ -222,7 +240,9 @@ def shift(nodes):
 
 
 def move_by_constants(nodes, ways):
-    """Moves each node's moments by a constant: the middle of the least and the greatest one that the least time of a message from one node to another allows."""
+    """Moves each node's moments by a constant: the middle of the least and the greatest one that
+    the least time of a message from one node to another allows.
+    """
     least, first = {}, next(iter(nodes))
     for sender, sent, receiver, came in ways:
         least[sender, receiver] = min(least.get((sender, receiver), came - sent), came - sent)
@@ -240,7 +260,9 @@ def move_by_constants(nodes, ways):
 
 
 def move_along_lines(nodes, ways):
-    """Moves each node's moments along a line: first those of the node with most messages, then each time the one that has most with those that have a line."""
+    """Moves each node's moments along a line: first those of the node with most messages, then each
+    time the one that has most with those that have a line.
+    """
     counts = collections.Counter(name for sender, _, receiver, _ in ways for name in (sender, receiver))
     left, lines = set(counts), {}
     while left:
@@ -259,7 +281,9 @@ def move_along_lines(nodes, ways):
 
 
 def line_between(bounds):
-    """The height and the slope of the line that is farthest from these points: above those that are so marked, and below the others."""
+    """The height and the slope of the line that is farthest from these points: above those that are
+    so marked, and below the others.
+    """
     above = [(x, y) for x, y, is_above in bounds if is_above]
     below = [(x, y) for x, y, is_above in bounds if not is_above]
     if not above or not below:
@@ -279,7 +303,9 @@ def line_between(bounds):
 
 
 class Clock:
-    """The clock of one node in the schedule's world, or of all nodes that have no trace: where it is to stand at a moment."""
+    """The clock of one node in the schedule's world, or of all nodes that have no trace: what it
+    should read at a moment.
+    """
 
     def __init__(self, steps, machine):
         self.machine, self.ats = machine, [it.own for it in steps]
@@ -294,7 +320,9 @@ class Clock:
         return own // 1_000_000 + self.gap(own)
 
     def gap(self, at):
-        """By how much the clock is ahead of the machine's clock at a moment of the machine: between two steps this changes evenly."""
+        """By how much the clock is ahead of the machine's clock at a moment of the machine: between
+        two steps this changes evenly.
+        """
         if self.is_even:
             return self.gaps[0]
         after = bisect.bisect_left(self.ats, at)
@@ -304,7 +332,7 @@ class Clock:
         return gap1 + (gap2 - gap1) * (at - at1) // max(1, at2 - at1)
 
     def advance(self, at):
-        """Goes on to a moment, but not behind the reading of the next step; the increment."""
+        """Goes on to a moment, but not past the reading of the next step; the increment."""
         before, now = self.now, self.at(at)
         if self.done < len(self.readings):
             now = min(now, self.readings[self.done])
@@ -312,7 +340,9 @@ class Clock:
         return self.now - before
 
     def take(self):
-        """Goes on to the reading of the next step; the increment, below 0 where the clock would go back."""
+        """Goes on to the reading of the next step; the increment, below 0 where the clock would go
+        back.
+        """
         before, self.now = self.now, self.readings[self.done]
         self.done += 1
         return self.now - before
@@ -332,7 +362,9 @@ class Clocks:
             self.offsets.append(clock.now - (1000 * int(name[1:]) if name[0] == "s" else 0))
 
     def advance(self, at, name):
-        """The increments up to a moment, at which the node of this name takes a step; None where its clock had to go back."""
+        """The increments up to a moment, at which the node of this name takes a step; None where
+        its clock had to go back.
+        """
         steps = {clock: clock.advance(at) for clock in (*self.clocks.values(), self.others)}
         if name is not None:
             clock = self.clocks[name]
@@ -344,10 +376,13 @@ class Clocks:
 
 
 class Contents:
-    """Pages of different bytes, which no schedule can write: each content of a page is renamed to a page of one byte, and zeros stay.
+    """Pages of different bytes, which no schedule can write: each content of a page is renamed to a
+    page of one byte, and zeros stay.
 
-    Nodes move the bytes of whole pages and never look at them, so a run and the one with other contents are alike. Only where an application asked to write
-    different bytes are all contents of the run renamed; a patch has no such name. A page with more than 255 contents has one name for two of them.
+    Nodes move the bytes of whole pages and never look at them, so a run and the one with other
+    contents are alike. Only where an application asked to write different bytes are all contents of
+    the run renamed; a patch has no such name. A page with more than 255 contents has one name for
+    two of them.
     """
 
     def __init__(self, is_used):
@@ -384,7 +419,9 @@ class Command:
 
 
 class Problem(Exception):
-    """What can be told from the traces alone, before a replay: a premise's name, and what is to be said."""
+    """What can be told from the traces alone, before a replay: a premise's name, and what to say
+    about it.
+    """
 
     def __init__(self, name, *lines):
         super().__init__(name)
@@ -392,7 +429,9 @@ class Problem(Exception):
 
 
 class Join:
-    """The schedule of a run. `entries` has for each event its line, the item that it tells, and the texts that the report must have of it."""
+    """The schedule of a run. `entries` has for each event its line, the item that it tells, and the
+    texts that the report must have of it.
+    """
 
     def __init__(self, nodes, disk=None, unknown=(), made=()):
         self.nodes, self.disk, self.unknown, self.made = nodes, disk, dict(unknown), set(made)
@@ -422,7 +461,7 @@ class Join:
         return self
 
     def compare_disk(self):
-        """Compares each block that the run wrote with the file of the disks, where there is one."""
+        """Compares each block that the run wrote with the file of the disks, if there is one."""
         for place, held in sorted(self.blocks.items()) if self.disk else ():
             found = text.block_of(self.disk, *place, int(self.words[12]))
             if found != held:
@@ -456,7 +495,9 @@ class Join:
             waiting = []
 
     def may_happen(self, it):
-        """Whether what this needs has happened: its message was sent, its command submitted or done."""
+        """Whether what this needs has happened: its message was sent, its command submitted or
+        done.
+        """
         if it.what == "effect":
             return (it.node, it.life, it.told.command) in self.numbers
         if it.what != "step":
@@ -470,7 +511,9 @@ class Join:
         return True
 
     def is_done(self, it):
-        """Whether the command whose end a step takes was submitted, and had its effect where the trace tells one."""
+        """Whether the command whose end a step takes was submitted, and had its effect where the
+        trace tells one.
+        """
         own = int.from_bytes(it.told.taken[38:46], "big")
         number = self.numbers.get((it.node, it.life, own))
         if number is None:
@@ -491,7 +534,7 @@ class Join:
         self.entries.append((line, it, expected))
 
     def happen(self, it):
-        """The events of an item, behind the advance to its moment."""
+        """The events of an item, after the advance to its moment."""
         steps = self.clocks.advance(it.at, None if it.reading is None else it.node)
         if steps is None:
             raise Problem("ClockBack", f"line {it.line} of the trace of {it.node} has a reading below the one before it")
@@ -538,7 +581,8 @@ class Join:
             self.unknown_outputs(it)
 
     def number_of(self, data):
-        """The message that these bytes are: the first one that was not delivered, or the last one."""
+        """The message that these bytes are: the first one that was not delivered, or the last one.
+        """
         numbers = self.sent[data]
         return next((number for number in numbers if number not in self.delivered), numbers[-1])
 
@@ -574,7 +618,9 @@ class Join:
         return (*ask[:3], self.contents.of((*ask[1], ask[2]), ask[3])) if ask[0] == "write" else ask
 
     def misread(self, it, number, found):
-        """A read found what the effects so far do not give: an unsure write explains it, or no order does."""
+        """A read found what the effects so far do not give: an unsure write explains it, or no
+        order does.
+        """
         command = self.commands[number - 1]
         self.explain(number, command.place, found)
         held = command.sample
@@ -585,7 +631,9 @@ class Join:
             f"its last write   {block_text(held)}{self.writer(command.place, held)}")
 
     def explain(self, number, place, found):
-        """Takes an earlier write of which nobody knows whether it was done as done, where that explains what was found."""
+        """Takes an earlier write of which nobody knows whether it was done as done, where that
+        explains what was found.
+        """
         for other, write in enumerate(self.commands[:number - 1], 1):
             if write.place == place and write.write == found and not write.effected and other not in self.made:
                 self.unsure = other
@@ -599,7 +647,8 @@ class Join:
         return ""
 
     def unknown_outputs(self, it):
-        """What a step gave in which its node stopped is as the report tells it, or not known yet."""
+        """What a step gave in which its node stopped is as the report tells it, or not known yet.
+        """
         kinds = self.unknown.get((it.node, it.line))
         if kinds is None:
             raise Problem("Unknown")
@@ -610,10 +659,10 @@ class Join:
             elif kind == "submit":
                 self.commands.append(Command(it.node, 0, 0, 0, None))
 
-    # What a step is to give
+    # What a step should give
 
     def told(self, it, data):
-        """The text of an output, as the report is to have it."""
+        """The text of an output, as the report should have it."""
         message = message_of(data)
         if message is None:
             return f"bytes that spell no message: {text.message_text(data)}"
@@ -658,7 +707,9 @@ class Join:
     # The schedule
 
     def schedule(self):
-        """The head, the events with the losses of messages that nobody took, and the end; and for each event its entry."""
+        """The head, the events with the losses of messages that nobody took, and the end; and for
+        each event its entry.
+        """
         head = " ".join(["tank 2", *self.words])
         lost = collections.defaultdict(list)
         for number, entry in enumerate(self.senders, 1):
@@ -685,7 +736,9 @@ def block_text(held):
 
 
 def joined(nodes, program, disk=None):
-    """The schedule of a run, once what stopped within a step or a disk command is known from what came later."""
+    """The schedule of a run, once what stopped within a step or a disk command is known from what
+    came later.
+    """
     unknown, made = {}, set()
     while True:
         join = Join(nodes, disk, unknown, made).make()
@@ -701,7 +754,9 @@ def joined(nodes, program, disk=None):
 
 
 def told_of(program, lines):
-    """What the report of a schedule tells of each event, as far as it is compared; and its last line."""
+    """What the report of a schedule tells of each event, as far as it is compared; and its last
+    line.
+    """
     ran = subprocess.run([program, "replay"], input="\n".join(lines).encode("latin-1") + b"\n", stdout=subprocess.PIPE)
     report = ran.stdout.decode("latin-1").splitlines()
     told = collections.defaultdict(list)
@@ -713,7 +768,9 @@ def told_of(program, lines):
 
 
 def difference(events, told, happened):
-    """The number of the first of the events that happened of which the report tells something else, or None."""
+    """The number of the first of the events that happened of which the report tells something else,
+    or None.
+    """
     for number, (_, _, expected) in enumerate(events[:happened], 1):
         if expected is not None and expected != told.get(number, []):
             return number
@@ -739,7 +796,7 @@ def compare(program, join):
 
 
 def different(join, entry, told):
-    """What is to be said of an event at which a node did something else."""
+    """What to say about an event at which a node did something else."""
     line, it, expected = entry
     place = next((at for at, pair in enumerate(zip(expected, told)) if pair[0] != pair[1]), min(len(expected), len(told)))
     lines = [f"{it.node}, line {it.line} of its trace, the event `{line}`, {since(join, it)}",
@@ -751,7 +808,7 @@ def different(join, entry, told):
 
 
 def broken(join, words, events, refused):
-    """What is to be said of an event that is refused."""
+    """What to say about an event that is refused."""
     line, it, _ = events[refused - 1]
     before = next((one for _, one, _ in reversed(events[:refused]) if one is not None), None)
     where = it or next((one for _, one, _ in events[refused:] if one is not None), before)
@@ -759,7 +816,9 @@ def broken(join, words, events, refused):
 
 
 def check(nodes, program, disk=None, tries=40):
-    """The verdict of a run, and its join. Where the reading of a clock lies between two, one that agrees is looked for."""
+    """The verdict of a run, and its join. Where the reading of a clock lies between two, one that
+    agrees is looked for.
+    """
     join = joined(nodes, program, disk)
     verdict = compare(program, join)
     while verdict.name == "differs":
@@ -788,7 +847,9 @@ def check(nodes, program, disk=None, tries=40):
 
 
 def unsure_items(join, verdict):
-    """The steps of the node that differs whose readings lie between two: the event itself, those since which one of the settings' times is over, the last ones."""
+    """The steps of the node that differs whose readings lie between two: the event itself, those
+    since which one of the settings' times is over, the last ones.
+    """
     _, events = join.schedule()
     last = events[verdict.event - 1][1]
     items = [it for _, it, _ in events[:verdict.event] if it is not None and it.node == last.node and it.low is not None and it.low < it.high]
@@ -800,7 +861,9 @@ def unsure_items(join, verdict):
 # What the clocks did
 
 def greatest(advances, m, n, den, num):
-    """The greatest of `den * D(m) - num * D(n)` over all intervals, with both sums there; D is how much a clock gains."""
+    """The greatest of `den * D(m) - num * D(n)` over all intervals, with both sums there; D is how
+    much a clock gains.
+    """
     best = (0, 0, 1)
     sum_m = sum_n = now = 0
     for steps in advances:
@@ -820,7 +883,9 @@ def pairs_of(join):
 
 
 def uneven(join):
-    """The advances in which clocks gained different times, and what they gained in between, so that few are left."""
+    """The advances in which clocks gained different times, and what they gained in between, so that
+    few are left.
+    """
     kept, even = [], 0
     for steps in join.advances:
         if len(set(steps)) == 1:
@@ -841,7 +906,9 @@ def least_grain(join):
 
 
 def least_rate(join):
-    """The smallest rate, in millionths, that accepts the run's clocks with the grain of its settings; None where no rate does."""
+    """The smallest rate, in millionths, that accepts the run's clocks with the grain of its
+    settings; None where no rate does.
+    """
     grain, den, rate = int(join.words[8]), 1_000_000, 1_000_000
     advances = uneven(join)
     for m, n in pairs_of(join):

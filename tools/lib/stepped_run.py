@@ -1,9 +1,12 @@
-"""A run of the program that is made event by event: each event is chosen with knowledge of what was observed before it.
+"""A run of the program that is made event by event: each event is chosen with knowledge of what was
+observed before it.
 
-`Stepped` gives lines to `tank replay` and reads what is observed. The program writes what it observed before it reads on, but does not say when an
-event's observations are complete. So the run has one client more than the schedule, the *bell*: asked to read a file of a server that is not
-configured, it answers at once, sends nothing, and changes nothing of any other node. Its answer ends what is read. The schedule that is kept has no
-bell; its report differs by the bell's lines alone. Where the head has all sixteen clients, one of them that no event speaks of is the bell.
+`Stepped` gives lines to `tank replay` and reads what is observed. The program writes what it
+observed before it reads on, but does not say when an event's observations are complete. So the run
+has one client more than the schedule, the *bell*: asked to read a file of a server that is not
+configured, it answers at once, sends nothing, and changes nothing of any other node. Its answer
+ends what is read. The schedule that is kept has no bell; its report differs by the bell's lines
+alone. Where the head has all sixteen clients, one of them that no event speaks of is the bell.
 """
 import fcntl
 import pathlib
@@ -43,7 +46,9 @@ class Refused(Exception):
 
 
 class Stepped:
-    """A run that goes on while events are given. `state` is what was told up to the last `sync`."""
+    """A run that goes on while events are given. `state` is what was reported up to the last
+    `sync`.
+    """
 
     def __init__(self, program, head, bell=None):
         self.head, self.state, self.lines, self.given, self.waiting = head, run_state.Told(head), [], 0, []
@@ -64,7 +69,9 @@ class Stepped:
         self.child.stdin.write((" ".join(sent) + "\n").encode("latin-1"))
 
     def sync(self):
-        """Reads what is observed of all events that were given. Returns it by event, each as a list of words."""
+        """Reads what is observed of all events that were given. Returns it by event, each as a list
+        of words.
+        """
         if not self.waiting:
             return []
         self.child.stdin.write(f"app {self.bell} read 65535:1 0\n".encode())
@@ -101,7 +108,9 @@ class Stepped:
 
 
 def why_not(state, words):
-    """Why the events' rules refuse this event now, as far as the run's texts tell; nothing where it is admissible. Of advances no premise is tried."""
+    """Why the events' rules refuse this event now, as far as the run's texts tell; nothing where it
+    is admissible. Of advances no premise is tried.
+    """
     verb, number = words[0], int(words[1]) if words[0] in ("deliver", "lose", "effect", "report") else 0
     if verb in ("tick", "app", "crash"):
         return words[1] not in state.clocks or words[1] in state.down

@@ -1,4 +1,6 @@
-"""The third form, tried with the worlds of reference/: what must hold after each event, random hostile schedules, and worlds in which messages take time."""
+"""The third form, tried with the worlds of reference/: what must hold after each event, random
+hostile schedules, and worlds in which messages take time.
+"""
 import collections
 import heapq
 import itertools
@@ -35,7 +37,9 @@ class Watch:
             raise Broken(f"event {self.world.events}: {what}")
 
     def owing(self, client, plain):
-        """Notes, when a lock is installed, which operation must use it: found apart from the client's own list."""
+        """Notes, when a lock is installed, which operation must use it: found apart from the
+        client's own list.
+        """
         def owe(association, ino):
             plain(association, ino)
             self.owed.pop((client.number, association.server, ino), None)
@@ -78,7 +82,9 @@ class Watch:
         return seen
 
     def grants_are_used(self):
-        """A lock stays until the operation that it is owed to was sent or answered, or the lock was lost."""
+        """A lock stays until the operation that it is owed to was sent or answered, or the lock was
+        lost.
+        """
         for (number, server, ino), (life, operation) in list(self.owed.items()):
             client = self.world.clients[number - 1]
             association = client.associations[server - 1]
@@ -103,7 +109,9 @@ class Watch:
         self.hold(not any(client in waits for waits in locks.waits.values()), f"c{client} left s{server} and has a wait")
 
     def locks_are_exclusive(self):
-        """No dirty page without an exclusive lock, none beside another client's lock of a living lease, and no limit passed."""
+        """No dirty page without an exclusive lock, none beside another client's lock of a living
+        lease, and no limit passed.
+        """
         world = self.world
         for client in world.clients:
             self.hold(len(client.operations) <= client.limits.operations, f"c{client.number} has too many operations")
@@ -260,7 +268,9 @@ USED = ("written", "read", "cut", "hard", "named", "listed", "refused", "left")
 
 
 class Timed:
-    """A world in which messages and disk commands take time, and every node ticks each 100. `ask_of` draws the asks: (this world, client) to an ask."""
+    """A world in which messages and disk commands take time, and every node ticks each 100.
+    `ask_of` draws the asks: (this world, client) to an ask.
+    """
 
     def __init__(self, clients, ask_of, trip=(4, 4), disk=(2, 2), in_order=True, limits="4096 1024 64 256 16", servers=1, blocks=4096, seed=1, asks=1):
         self.rng = random.Random(seed)
@@ -308,7 +318,8 @@ class Timed:
         self.after(1 if answer[0] not in ("opsfull", "quiesced") else 60, ("ask", client))
 
     def run(self, until):
-        """Runs until this moment; an ask that is still open counts as one that waited until then."""
+        """Runs until this moment; an ask that is still open counts as one that waited until then.
+        """
         while self.waiting and self.waiting[0][0] <= until:
             at, _, event = heapq.heappop(self.waiting)
             if at > self.now:

@@ -1,7 +1,9 @@
-"""The text of traces: what a node of a real run got and said, line by line, as docs/RUNS.md, "Traces", has it.
+"""The text of traces: what a node of a real run got and said, line by line, as docs/RUNS.md,
+"Traces", has it.
 
-`Trace` writes one, for `tools/tankd`; `read` reads one, for `tools/record`. Messages stand there as the bytes of their frames without the length, in
-hexadecimal digits; a run of sixteen or more equal bytes is `(XX*COUNT)`.
+`Trace` writes one, for `tools/tankd`; `read` reads one, for `tools/record`. Messages are written
+there as the bytes of their frames without the length, in hexadecimal digits; a run of sixteen or
+more equal bytes is `(XX*COUNT)`.
 """
 import os
 import re
@@ -20,7 +22,9 @@ class Wrong(Exception):
 
 
 class Head(NamedTuple):
-    """The first line of each start of a node: its name, and the settings and counts of the run, as in a head of the second form."""
+    """The first line of each start of a node: its name, and the settings and counts of the run, as
+    in a head of the second form.
+    """
 
     node: str
     words: tuple
@@ -34,7 +38,9 @@ class Start(NamedTuple):
 
 
 class Step(NamedTuple):
-    """The node took a message. `outputs` is None where it stopped before they left it. The reading lies between the two."""
+    """The node took a message. `outputs` is None where it stopped before they left it. The reading
+    lies between the two.
+    """
 
     at: int
     low: int
@@ -57,7 +63,7 @@ class End(NamedTuple):
 
 
 def message_text(data):
-    """A message's bytes as they stand in a trace."""
+    """A message's bytes as they are in a trace."""
     parts, place = [], 0
     for run in RUN.finditer(data):
         parts += [data[place:run.start()].hex(), f"({run.group(1).hex()}*{run.end() - run.start()})"]
@@ -79,7 +85,9 @@ def message_bytes(text):
 
 
 class Trace:
-    """A trace that is written. A step's line is begun before the step, and ended before what the step gave leaves the node."""
+    """A trace that is written. A step's line is begun before the step, and ended before what the
+    step gave leaves the node.
+    """
 
     def __init__(self, path, node, words):
         self.file = os.open(path, os.O_WRONLY | os.O_CREAT | os.O_APPEND, 0o644)
@@ -103,7 +111,9 @@ class Trace:
         self.finish(outputs)
 
     def begin_start(self, at, reading):
-        """Begins the line of a start, which is ended when the file that outlives a crash has the start."""
+        """Begins the line of a start, which is ended when the file that outlives a crash has the
+        start.
+        """
         self.write(f"start {at} {reading}")
 
     def finish_start(self):
@@ -120,7 +130,9 @@ class Trace:
 
 
 def mend(path, was_made):
-    """Ends the line of a step or a start in which the node stopped; `was_made` says whether the change of this moment outlived the stop."""
+    """Ends the line of a step or a start in which the node stopped; `was_made` says whether the
+    change of this moment outlived the stop.
+    """
     with open(path, "r+b") as file:
         last = file.read().rsplit(b"\n", 1)[-1].decode("ascii", "replace")
         if last:
@@ -161,7 +173,8 @@ def line_of(words):
 
 
 def read(path):
-    """The lines of a trace, each with its number; one that is cut at the trace's end was not made."""
+    """The lines of a trace, each with its number; one that is cut at the trace's end was not made.
+    """
     with open(path, encoding="ascii", errors="replace") as file:
         for number, line in enumerate(file, 1):
             if not line.endswith("\n"):
@@ -175,7 +188,7 @@ def read(path):
 
 
 def block_place(disk, block, blocks):
-    """Where a block begins in the file of the disks, each of which has so many blocks."""
+    """Where a block begins in the file of the disks, each of which has that many blocks."""
     return ((disk - 1) * blocks + block) * SLOT
 
 
