@@ -1,7 +1,8 @@
-"""The worked rows of the client machine: crates/st_rows/src/client_*.rt, written by tools/rows/write.
+"""The worked rows of the client machine: crates/st_rows/src/client_*.rt, written by
+tools/rows/write.
 
-Each row is a script for one client. The client of reference/ plays it, and the script and what the client said are written as the contract of a
-function. No number of a row's answer is typed by hand.
+Each row is a script for one client. The client of reference/ plays it, and the script and what the
+client said are written as the contract of a function. No number of a row's answer is typed by hand.
 """
 import re
 
@@ -221,7 +222,9 @@ class Row:
         self.deeds, self.outs, self.op = [], [], 0
 
     def begin_with(self, text, locks, extents=None, clean=None, dirty=None):
-        """A row that begins in a state of specs/ClientTables, with a session that has sent two requests."""
+        """A row that begins in a state of specs/ClientTables, with a session that has sent two
+        requests.
+        """
         self.start, self.opens = f"({text})", "ClientTables::client_tables_open"
         association = self.node.node.associations[0]
         session = association.session = Session(1, 0)

@@ -24,7 +24,7 @@ def sessions(Row):
     r.hear(400, 0, 100, Welcome())
     yield r
 
-    r = Row("a_late_welcome_is_passed_over", "A welcome to a greeting that is a lease ago is passed over; the client greets again, and the next one begins a session one tick before that.")
+    r = Row("a_late_welcome_is_passed_over", "A welcome to a greeting that is a lease ago is ignored; the client greets again, and the next one begins a session one tick before that.")
     r.read(0, 2, 0)
     r.hear(1000, 0, 0, Welcome())
     r.tick(1000)
@@ -102,7 +102,7 @@ def losses(Row):
     r.read(1000, 3, 0)
     yield r
 
-    r = Row("lost_pages_are_told_once", "At a loss each dirty page is told with the command that failed, the one that was out, or none; what was sent is uncertain, a second sync is quiesced.").leased()
+    r = Row("lost_pages_are_told_once", "At a loss each dirty page is reported with the command that failed, the one that was out, or none; what was sent is uncertain, a second sync is quiesced.").leased()
     r.hear(0, 0, 0, Granted(3, G2, S))
     r.write(0, 2, 1, 78)
     r.hear(0, 3, 0, Extents(2, (at(1), at(2))))
@@ -118,7 +118,7 @@ def losses(Row):
     r.sync(1000, 2)
     yield r
 
-    r = Row("a_failed_command_is_told_before_the_outstanding_one", "A page whose write failed and is out once more is told as lost with the one that failed.").leased()
+    r = Row("a_failed_command_is_told_before_the_outstanding_one", "A page whose write failed and is outstanding once more is reported as lost with the one that failed.").leased()
     r.sync(0, 2)
     r.done(0, 1, None)
     r.sync(0, 2)
@@ -126,7 +126,7 @@ def losses(Row):
     r.tick(1000)
     yield r
 
-    r = Row("a_later_sync_is_told_lost_pages", "Without a sync at the loss the next one of the file is told, and the one after it is hard at once, without a session.").leased()
+    r = Row("a_later_sync_is_told_lost_pages", "Without a sync at the loss the next one of the file reports it, and the one after it is hard at once, without a session.").leased()
     r.tick(1000)
     r.sync(1000, 3)
     r.sync(1000, 2)
@@ -202,7 +202,7 @@ def epochs(Row):
     r.tick(850)
     yield r
 
-    r = Row("a_suspect_is_condemned", "Refused as a suspect, the client hopes for no renewal; the same of a life without a session, of a late reassertion, and of a conflict. Two refusals are passed over.", servers=4)
+    r = Row("a_suspect_is_condemned", "Refused as a suspect, the client hopes for no renewal; the same of a life without a session, of a late reassertion, and of a conflict. Two refusals are ignored.", servers=4)
     for s, why in ((1, 1), (2, 2), (3, 5), (4, 6)):
         r.read(0, 2, 0, s=s)
         r.hear(0, 0, 0, Welcome(), s=s)
@@ -273,7 +273,7 @@ def waits(Row):
     r.hear(0, 4, 0, Ack())
     yield r
 
-    r = Row("the_lesser_demand_holds", "Of two demands the lesser holds, with the later grant; a demand of an earlier grant is passed over.").leased()
+    r = Row("the_lesser_demand_holds", "Of two demands the lesser holds, with the later grant; a demand of an earlier grant is ignored.").leased()
     r.hear(0, 0, 0, Demand(2, G2, NONE))
     r.hear(0, 0, 0, Demand(2, G3, S))
     r.hear(0, 0, 0, Demand(2, G2, NONE))
@@ -345,7 +345,7 @@ def writes(Row):
     r.done(0, 3, ())
     yield r
 
-    r = Row("a_patch_reads_its_page_first", "A patch of a page that is mapped and not at hand waits for its read, of which there is one.")
+    r = Row("a_patch_reads_its_page_first", "A patch of a page that is mapped and not cached waits for its read, of which there is one.")
     r.patch(0, 2, 0, 0, bytes([9]))
     r.hear(0, 0, 0, Welcome())
     r.hear(0, 1, 0, Granted(2, G1, X))
@@ -364,7 +364,7 @@ def reads(Row):
     r.sync(0, 2)
     yield r
 
-    r = Row("a_block_of_another_birth_is_zeros", "What a read finds counts where the block's tag is the page's and its birth the known one; else the page is zeros. Results of another kind and of unknown commands are passed over.")
+    r = Row("a_block_of_another_birth_is_zeros", "What a read finds counts if the block's tag is the page's and its birth is the known one; otherwise the page is zeros. Results of another kind and of unknown commands are ignored.")
     r.read(0, 2, 0)
     r.hear(0, 0, 0, Welcome())
     r.hear(0, 1, 0, Granted(2, G1, S))
@@ -388,7 +388,7 @@ def reads(Row):
     r.read(0, 2, 0)
     yield r
 
-    r = Row("a_write_forgets_the_read_of_its_page", "A page that is written while it is read: the read is forgotten, and its result is passed over.")
+    r = Row("a_write_forgets_the_read_of_its_page", "A page that is written while it is read: the read is forgotten, and its result is ignored.")
     r.read(0, 2, 0)
     r.hear(0, 0, 0, Welcome())
     r.hear(0, 1, 0, Granted(2, G1, X))
@@ -476,7 +476,7 @@ def refused_asks(Row):
     r.hear(0, 4, 0, Nack(10, 1024, 0))
     yield r
 
-    r = Row("no_space_answers_the_writes_of_the_page", "No space: the writes and patches of the page that was to be mapped, and no others.").leased()
+    r = Row("no_space_answers_the_writes_of_the_page", "No space: the writes and patches of the page that should have been mapped, and no others.").leased()
     r.write(0, 2, 1, 1)
     r.patch(0, 2, 1, 0, bytes([3]))
     r.write(0, 2, 2, 1)

@@ -1,4 +1,5 @@
-"""Streams of frames of a client against two servers, which are played by hand and by chance. tools/rows/node_rows.py uses it.
+"""Streams of frames of a client against two servers, which are played by hand and by chance.
+tools/rows/node_rows.py uses it.
 
 The client of reference/ takes each step, so that each message can answer what the client asked.
 """
@@ -46,14 +47,14 @@ class Run:
         self.node = PlayedClient(SELF, CONFIG, SERVERS)
 
     def step(self, message):
-        """A frame, which is passed over where it is for another node."""
+        """A frame, which is ignored if it is for another node."""
         self.readings.append(self.now)
         self.frames += frame(message)
         if message.receiver == SELF:
             self.node.step(self.now, message.body if isinstance(message.body, (App, Done, Tick)) else message)
 
     def local(self, body):
-        """What a client is told by its own surroundings."""
+        """What a client hears from its own surroundings."""
         self.step(Message(0, SELF, 0, 0, 0, 0, body))
 
     def at(self, now):
@@ -95,7 +96,9 @@ class Run:
         return Peer(self.node.node.associations[s - 1])
 
     def hear(self, s, body, number=None, stamp=None, epoch=None, life=None, to=SELF):
-        """A message of server s; by default the reply to the outstanding request, or number and stamp 0."""
+        """A message of server s; by default the reply to the outstanding request, or number and
+        stamp 0.
+        """
         peer = self.peer(s) if s <= SERVERS else None
         q = None if peer is None else peer.outstanding
         number = (q.number if q else 0) if number is None else number
@@ -134,7 +137,9 @@ def at(page, birth=7):
 # Passages, in order of time. Each says what it shows.
 
 def beginning(r):
-    """Greetings and their repetition; messages that are passed over; the lease is dated from the greeting; a write, a read of it."""
+    """Greetings and their repetition; messages that are ignored; the lease is dated from the
+    greeting; a write, a read of it.
+    """
     r.tick()
     r.read(1, 2, 0)
     r.at(3).write(1, 2, 0, 0x11)
@@ -169,7 +174,9 @@ def beginning(r):
 
 
 def patches(r):
-    """A patch reads its page first; a page of another file's tag is zeros; a failed read; a write that comes while its page is read."""
+    """A patch reads its page first; a page of another file's tag is zeros; a failed read; a write
+    that comes while its page is read.
+    """
     r.hear(1, Granted(3, G1 + 2, X), 0, 0)
     r.patch(1, 3, 0, 5, b"\xaa\xbb")
     r.hear(1, Extents(3, (at(0), at(1), at(2), at(4))))
@@ -190,7 +197,9 @@ def patches(r):
 
 
 def demands(r):
-    """A lock is reduced when its pages are hard; demands of what is not held, of older and later grants; a grant lifts a demand."""
+    """A lock is reduced when its pages are hard; demands of what is not held, of older and later
+    grants; a grant lifts a demand.
+    """
     r.free(1, Demand(3, G1 + 2, S))
     r.tick()
     r.write(1, 3, 0, 0x77)
@@ -213,7 +222,9 @@ def demands(r):
 
 
 def names(r):
-    """Names found, listed and refused; a cut; removes of a file: the pages go out first, the lock goes at the end; a file in use waits."""
+    """Names found, listed and refused; a cut; removes of a file: the pages go out first, the lock
+    goes at the end; a file in use waits.
+    """
     r.name(1, Lookup(1, b"f2"))
     r.name(1, ListDir(1, b""))
     r.name(1, Mkdir(1, b"d"))
@@ -246,7 +257,9 @@ def names(r):
 
 
 def refusals(r):
-    """Refusals of the outstanding request: no file, no space, too many locks, not a holder; and of asks: too many, and a server that is not there."""
+    """Refusals of the outstanding request: no file, no space, too many locks, not a holder; and of
+    asks: too many, and a server that is not there.
+    """
     r.read(1, 5, 0)
     r.write(1, 5, 1, 0x61)
     r.sync(1, 5)
@@ -269,7 +282,8 @@ def refusals(r):
 
 
 def second_server(r):
-    """The other server answers at last: one request for each page that is not known; a map of none."""
+    """The other server answers at last: one request for each page that is not known; a map of none.
+    """
     r.tick(6)
     r.welcome(2)
     r.hear(2, Granted(2, G1, S))
@@ -281,7 +295,9 @@ def second_server(r):
 
 
 def renewal(r):
-    """Keep-alives from the age of renewal on; a late reply renews from its sending; a refusal that condemns: quiesce, and no request."""
+    """Keep-alives from the age of renewal on; a late reply renews from its sending; a refusal that
+    condemns: quiesce, and no request.
+    """
     r.tick(max(0, r.peer(1).date + 50 - r.now))
     r.tick(3)
     r.hear(1, Ack())
@@ -300,8 +316,9 @@ def renewal(r):
 
 
 def losing(r):
-    """A reply that comes when the lease is over: the lease is lost first. Dirty pages are told once, what was sent is uncertain, the rest is
-    quiesced; a message of the life before is passed over."""
+    """A reply that comes when the lease is over: the lease is lost first. Dirty pages are reported
+    once, what was sent is uncertain, the rest is quiesced; a message of the life before is ignored.
+    """
     r.at(r.peer(2).date + 99)
     r.at(r.peer(2).date + 100)
     r.hear(2, Ack())
@@ -320,8 +337,9 @@ def losing(r):
 
 
 def restarted(r):
-    """A server restarts: what was sent is uncertain, the locks are reasserted, waits and releases are dropped; an older epoch is passed over; a
-    reassertion that is refused condemns. The flush phase writes what is dirty; what it could not write is told to the next sync."""
+    """A server restarts: what was sent is uncertain, the locks are reasserted, waits and releases
+    are dropped; an older epoch is ignored; a reassertion that is refused condemns. The flush phase
+    writes what is dirty; what it could not write is reported to the next sync."""
     r.write(1, 4, 3, 0x68)
     r.write(1, 4, 4, 0x69)
     r.hear(1, Extents(4, (at(4, 12),)))
@@ -367,7 +385,9 @@ def begun(r):
 
 
 class Chances:
-    """What happens to a client by chance: asks, messages and ends of commands, each mostly one that fits what the client has."""
+    """What happens to a client by chance: asks, messages and ends of commands, each mostly one that
+    fits what the client has.
+    """
 
     def __init__(self, r, rng):
         self.r, self.rng, self.last_byte, self.last_block = r, rng, 0, 100
@@ -462,7 +482,7 @@ def by_chance(r, rng, count):
 
 
 def by_hand():
-    """Passages by hand, one after the other."""
+    """Passages by hand, one after another."""
     r = Run()
     for passage in (beginning, patches, demands, names, refusals, second_server, renewal, losing, restarted):
         passage(r)

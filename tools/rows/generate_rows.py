@@ -1,7 +1,8 @@
-"""Worked rows of generated schedules: crates/st_rows_world/src/generated_*.rt and their proofs, written by tools/rows/write.
+"""Worked rows of generated schedules: crates/st_rows_world/src/generated_*.rt and their proofs,
+written by tools/rows/write.
 
-The first draws of some seeds, a candidate of each kind, short schedules with their text, and what their runs count are written as contracts of
-functions, from the generator of reference/.
+The first draws of some seeds, a candidate of each kind, short schedules with their text, and what
+their runs count are written as contracts of functions, from the generator of reference/.
 """
 import row_records  # noqa: F401  (it makes reference/ known)
 from reference.generator import Draws, Generator, generate, work_text
@@ -32,7 +33,7 @@ def draws():
         for place, bound in enumerate((16, 20, 3, 256), 1):
             clauses.append(f"    ensures draw_{place} {{ draw {place} {bound} {seed} ≡ {numbers.below(bound)} }}")
         clauses.append(f"    ensures state {{ state_after 4 {seed} ≡ {numbers.state} }}")
-        lines += ["", f"/// The first four draws from {seed}, below 16, 20, 3 and 256, and the state behind them.", OPEN, f"pub fn {name}()", *clauses, "{}"]
+        lines += ["", f"/// The first four draws from {seed}, below 16, 20, 3 and 256, and the state after them.", OPEN, f"pub fn {name}()", *clauses, "{}"]
     return file("draws", lines)
 
 

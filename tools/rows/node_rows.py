@@ -1,8 +1,8 @@
-"""Streams of frames that a node gets, with what it writes and why it stops: crates/st_node_tests/src/rows.rt and schedules/frames/server.rows, written by
-tools/rows/write.
+"""Streams of frames that a node gets, with what it writes and why it stops:
+crates/st_node_tests/src/rows.rt and schedules/frames/server.rows, written by tools/rows/write.
 
-The node of reference/ serves each stream; no output is typed by hand. The second file has the streams of a server in which no clock reading counts:
-`.ci/frames` gives them to the program.
+The node of reference/ serves each stream; no output is typed by hand. The second file has the
+streams of a server in which no clock reading counts: `.ci/frames` gives them to the program.
 """
 import random
 import struct
@@ -47,7 +47,7 @@ def told_client(body, number=0, epoch=1, life=1, stamp=0, server=SERVER, to=1):
 
 
 def local(body, to=1):
-    """What a client is told by its own surroundings."""
+    """What a client hears from its own surroundings."""
     return frame(Message(0, to, 0, 0, 0, 0, body))
 
 
@@ -160,7 +160,9 @@ def row(kind, name, readings, data):
 
 
 def frames_row(name, data):
-    """A row for the program: its words, the bytes that come and that are written, its status, and the text of its complaint."""
+    """A row for the program: its words, the bytes that come and that are written, its status, and
+    the text of its complaint.
+    """
     out, why = served("server", data, [0])
     return f"{name} | server 1 | {runs(data) or '-'} | {runs(out) or '-'} | {0 if why == 'ok' else 1} | {'' if why == 'ok' else 'tank: ' + why}"
 
@@ -178,7 +180,7 @@ def files():
     rows += [row("two", name, run.readings, run.frames) for name, run in client_streams.streams()]
     assert not any('"' in text or "\\" in text for text in rows)
     lines = ["//! Written by tools/rows/node_rows.py. A row is its name, the kind of node, the readings of the clock, the bytes that come, the bytes that",
-             "//! are written, and why the node stops; bytes stand in runs, `HH` or `HH*COUNT`.", "",
+             "//! are written, and why the node stops; bytes are written in runs, `HH` or `HH*COUNT`.", "",
              "/// Streams of frames.", 'pub const ROWS: &str = "' + "\\n\\\n".join(rows) + '";', ""]
     timeless = [frames_row(name, data) for name, _, data in servers if served("server", data, [0]) == served("server", data, [9000])]
     timeless.append(frames_row("each front of a greeting", HELLO).replace(f"| {runs(served('server', HELLO, [0])[0])} | 0 | ", "| - | 1 | tank: frame cut at 0"))

@@ -1,8 +1,10 @@
-"""Lines and events, and which of them are refused: schedules/refusals/, written by tools/rows/write.
+"""Lines and events, and which of them are refused: schedules/refusals/, written by
+tools/rows/write.
 
-Each refusal of the table of admissible events stands beside an event that differs from it in one thing and is accepted. A line here that begins with
-`!` is to be refused; which refusal it is and with which values is said by reference/. Of the lines below LINES it says which are refused too.
-`.ci/refusals` gives the rows to the program. A full network is tried by tools/checks/full_network.
+Each refusal of the table of admissible events is beside an event that differs from it in one thing
+and is accepted. A line here that begins with `!` must be refused; reference/ says which refusal it
+is and with which values. It also says which of the lines below LINES are refused. `.ci/refusals`
+gives the rows to the program. tools/checks/full_network tests a full network.
 """
 import row_records  # noqa: F401  (it makes reference/ known)
 from reference.schedule import LineRefused, ScheduleReader
@@ -366,7 +368,7 @@ def told(name, values):
 
 
 def rows(head, script):
-    """The lines of a script, behind each that is refused its refusal."""
+    """The lines of a script, with its refusal after each that is refused."""
     reader = ScheduleReader()
     world = World(reader.line(head.encode()))
     for line in lines_of(script):
@@ -381,7 +383,7 @@ def rows(head, script):
 
 
 def line_rows(head, lines):
-    """Lines as the rows of a file; those that are refused have their refusal behind them."""
+    """Lines as the rows of a file; those that are refused have their refusal after them."""
     reader, world = ScheduleReader(), None
     if head:
         world = World(reader.line(head.encode()))

@@ -1,6 +1,8 @@
-"""Messages, asks, answers and outputs as records with names, and nodes of reference/ that take and give them. The scripts that write rows use it.
+"""Messages, asks, answers and outputs as records with names, and nodes of reference/ that take and
+give them. The scripts that write rows use it.
 
-reference/ has a message as a tuple of numbers; a script reads better as `Granted(2, 4294967297, X)`. `plain` and `record` go from one to the other.
+reference/ has a message as a tuple of numbers; a script reads better as
+`Granted(2, 4294967297, X)`. `plain` and `record` go from one to the other.
 """
 import pathlib
 import sys
@@ -180,7 +182,9 @@ def plain_tagged(tag, data):
 
 
 def plain_end(result):
-    """How a command ended: `None` is a failure, `()` a write that was done, else it is what a read found."""
+    """How a command ended: `None` is a failure, `()` a write that was done, else it is what a read
+    found.
+    """
     if result is None:
         return "failed", None
     return ("read", plain_tagged(*result)) if result else ("written", None)

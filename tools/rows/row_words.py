@@ -17,7 +17,8 @@ def runs(data):
 
 
 def fitting_reply(rng, body, refused, grant, block):
-    """A reply that fits the body of a request: a refusal in that share of cases, else mostly a good one.
+    """A reply that fits the body of a request: a refusal in that share of cases, else mostly a good
+    one.
 
     `grant(ino)` and `block()` give the numbers.
     """

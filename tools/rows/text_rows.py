@@ -1,7 +1,9 @@
-"""Worked rows of the report's text: crates/st_rows_world/src/world_texts.rt, written by tools/rows/write.
+"""Worked rows of the report's text: crates/st_rows_world/src/world_texts.rt, written by
+tools/rows/write.
 
-Every kind of observation, body, answer and refusal has a row with the text that reference/ gives it, and two runs have their whole report. They
-are written as contracts of functions. A page stands here as a few bytes, since a text has the runs of whatever bytes there are.
+Every kind of observation, body, answer and refusal has a row with the text that reference/ gives
+it, and two runs have their whole report. They are written as contracts of functions. A page is
+written here as a few bytes, since a text has the runs of whatever bytes there are.
 """
 from row_records import (
     Ack, Acquire, Allocate, Block, Create, Cut, Demand, DemandSeen, Extents, Granted, Hello, KeepAlive, ListDir, Lookup, Map, Message, Mkdir, Nack,
@@ -127,7 +129,7 @@ def observations(items):
 
 
 def whole(name):
-    """The report of a run, as it stands beside its schedule."""
+    """The report of a run, as it is beside its schedule."""
     row = Row(name)
     events = "".join(f"        {'∷ ' if i else ''}{event_text(e)}\n" for i, e in enumerate(row.events))
     lines = (ROOT / f"{name}.report").read_text().splitlines()

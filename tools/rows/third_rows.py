@@ -1,6 +1,8 @@
-"""The worked schedules of the third form: schedules/third/, each with its report, written by tools/rows/write.
+"""The worked schedules of the third form: schedules/third/, each with its report, written by
+tools/rows/write.
 
-A story says who asks what, which messages arrive and when; its lines and its report are what reference/ does.
+A story says who asks what, which messages arrive and when; its lines and its report are what
+reference/ does.
 """
 import row_records  # noqa: F401  (it makes reference/ known)
 from reference import wire
@@ -52,7 +54,9 @@ class Story:
         return self
 
     def settle(self, disks=True):
-        """All messages on the way arrive in order, and disk commands take effect, until nothing is left."""
+        """All messages on the way arrive in order, and disk commands take effect, until nothing is
+        left.
+        """
         while True:
             ready = [number for number in self.messages if self.kind(number) not in self.held]
             if ready:
@@ -88,7 +92,9 @@ def room_failed():
 
 
 def give_back():
-    """With one lock at most, the lock of one file is given back for the next file, its dirty page written out first."""
+    """With one lock at most, the lock of one file is given back for the next file, its dirty page
+    written out first.
+    """
     return Story("4096 1 64 256 16").say("app c1 write 1:2 0 1").settle().say("app c1 write 1:3 0 2").settle()
 
 
@@ -99,7 +105,9 @@ def give_back_stuck():
 
 
 def leave():
-    """A client leaves: its page is written out, its lock is released, its life ends, and the next one is welcome at once."""
+    """A client leaves: its page is written out, its lock is released, its life ends, and the next
+    one is welcome at once.
+    """
     story = Story(clients=2).say("app c1 write 1:2 0 1").settle().say("app c1 leave 1").settle()
     return story.say("app c1 write 1:2 0 2", "app c2 read 1:2 0").settle()
 
@@ -118,7 +126,9 @@ def leave_fails():
 
 
 def answered():
-    """Two locks are demanded at once. The second demand comes again while its release waits behind the first one, and is answered."""
+    """Two locks are demanded at once. The second demand comes again while its release waits after
+    the first one, and is answered.
+    """
     story = Story(clients=2).say("app c1 read 1:2 0").settle().say("app c1 read 1:3 0").settle().hold("ack")
     story.say("app c2 write 1:2 0 1").settle().say("app c2 write 1:3 0 2").settle().say("adv 60", "tick s1").settle()
     return story.hold().settle()
@@ -136,7 +146,9 @@ def run_of_pages():
 
 
 def run_on_two_blocks():
-    """A disk with two free blocks: the run of three pages becomes one of two, and the third page finds no space."""
+    """A disk with two free blocks: the run of three pages becomes one of two, and the third page
+    finds no space.
+    """
     story = Story(blocks=2).hold("welcome").say("app c1 write 1:2 0 1", "app c1 write 1:2 1 2", "app c1 write 1:2 2 3")
     return story.settle().hold().settle()
 

@@ -1,7 +1,9 @@
-"""The table of the wire tests: crates/st_codec_tests/src/wire_table.rt, written by tools/rows/write.
+"""The table of the wire tests: crates/st_codec_tests/src/wire_table.rt, written by
+tools/rows/write.
 
-Each line is the bytes of a message in runs, `HH` or `HH*COUNT`, as reference/ spells it; the second table has bytes that spell no message, and behind
-` = ` the refusal's name with its number. A word such as `up` stands for a header that many messages have. Full lists are left out, since the tests
+Each line is the bytes of a message in runs, `HH` or `HH*COUNT`, as reference/ spells it; the second
+table has bytes that spell no message, and after ` = ` the refusal's name with its number. A word
+such as `up` stands for a header that many messages have. Full lists are left out, since the tests
 build them.
 """
 import itertools

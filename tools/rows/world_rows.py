@@ -1,7 +1,9 @@
-"""The worked rows of the world: crates/st_rows_world/src/world_*.rt, and world_safety of crates/st_rows_promises with its proofs, written by tools/rows/write.
+"""The worked rows of the world: crates/st_rows_world/src/world_*.rt, and world_safety of
+crates/st_rows_promises with its proofs, written by tools/rows/write.
 
-Each row is a schedule of the repository with its report beside it. Its events, what is observed at each, and the counts or the refusal are written
-as the contract of a function. No number of a row is typed by hand: the world of reference/ runs it, and what is written has the row's report as its
+Each row is a schedule of the repository with its report beside it. Its events, what is observed at
+each, and the counts or the refusal are written as the contract of a function. No number of a row is
+typed by hand: the world of reference/ runs it, and what is written has the row's report as its
 text. The reports of schedules/rules are those of an independent reading of the protocol.
 """
 import pathlib
@@ -40,7 +42,7 @@ FILES = {
     "world_clocks": [
         ("schedules/clock-rate", "rate_boundary", "An advance at the bound, and one beyond it."),
         ("schedules/clock-drift", "drift_of_clients", "Clocks that drift apart over three advances."),
-        ("schedules/rows/drift-from-rest", "drift_from_rest", "Clocks that stand while another runs."),
+        ("schedules/rows/drift-from-rest", "drift_from_rest", "Clocks that stand still while another runs."),
     ],
     "world_theft": [
         ("schedules/theft", "theft", "A crashed client's lock is stolen when its timer ends."),
@@ -92,11 +94,11 @@ FILES = {
         ("schedules/rules/effect-twice", "effect_twice", "A command has its effect once."),
         ("schedules/rules/effect-of-a-reported-command", "effect_of_a_reported_command", "A command that was reported has no effect."),
         ("schedules/rules/success-without-effect", "success_without_effect", "A command without an effect is not reported as done."),
-        ("schedules/rules/failed-read", "failed_read", "A failed read is told; a report for a client that was started again tells nobody; and there is one report."),
+        ("schedules/rules/failed-read", "failed_read", "A failed read is reported; a report for a client that was started again tells nobody; and there is one report."),
     ],
     "world_lives": [
-        ("schedules/rules/later-life-waits", "later_life_waits", "A client that is greeted while its locks of an earlier life stand waits until they are stolen."),
-        ("schedules/rules/later-life-replaces", "later_life_replaces", "Without locks its new life is welcome at once; an older greeting, request and welcome are passed over."),
+        ("schedules/rules/later-life-waits", "later_life_waits", "A client that is greeted while its locks of an earlier life are there waits until they are stolen."),
+        ("schedules/rules/later-life-replaces", "later_life_replaces", "Without locks its new life is welcome at once; an older greeting, request and welcome are ignored."),
         ("schedules/rules/uncertain-at-a-loss", "uncertain_at_a_loss", "A name that was asked is uncertain at a loss, though the server gave it."),
         ("schedules/rules/two-servers", "two_servers", "A client with leases at two servers, each with its own disk, loses them in rising order."),
         ("schedules/rules/condemned", "condemned", "A client that is refused as a suspect serves nothing new, flushes, and loses its lease."),
@@ -107,7 +109,7 @@ FILES = {
         ("schedules/rules/late-reassertion", "late_reassertion", "A reassertion that comes when grace is over is refused, and finds its client's lease lost."),
     ],
     "world_asks": [
-        ("schedules/rules/no-file", "no_file", "A server that is not there and an inode that is no file have no files."),
+        ("schedules/rules/no-file", "no_file", "A server that is not there and an inode that isn't a file have no files."),
         ("schedules/rules/not-the-holder", "not_the_holder", "A remove of an entry that is another file than the asker means is refused."),
         ("schedules/rules/directories", "directories", "Directories are made, filled, listed and removed; one with entries is not removed."),
         ("schedules/rules/lowered-demand", "lowered_demand", "A demand is repeated on a tick and lowered when its waiter wants more; the lock is given up in two steps."),
@@ -163,7 +165,9 @@ def hard_bytes(entries, file, page):
 
 
 def held_texts(world):
-    """What the disks hold of each page that a server maps, by its birth, and of each that an entry names."""
+    """What the disks hold of each page that a server maps, by its birth, and of each that an entry
+    names.
+    """
     pages = []
     for number, server in enumerate(world.servers, 1):
         births = [(extent[2], ino, page) for ino, of in server.extents.pages.items() for page, extent in of.items()]
@@ -242,7 +246,9 @@ def refusal_text(refusal):
 
 
 class Row:
-    """A schedule, step by step: its events, what is observed at each, the counts, and the refusal that ends it."""
+    """A schedule, step by step: its events, what is observed at each, the counts, and the refusal
+    that ends it.
+    """
 
     def __init__(self, name):
         path = ROOT / f"{name}.schedule"
