@@ -1,9 +1,13 @@
 // What the page of tools/picture does in the browser: it shows the lines of whatever is pointed at,
-// hides rows and columns, and jumps from theft to theft. The SVG is drawn as a whole; a layout
-// gives what is hidden neither height nor width, and moves every element accordingly.
-const told = JSON.parse(document.getElementById('told').textContent), run = document.getElementById('run'), byId = it => document.getElementById(it);
+// hides rows and columns, and jumps from theft to theft. A layout gives what is hidden neither
+// height nor width. Only the elements near the window are part of the page; they are moved to their
+// places when they come into view.
+const byId = it => document.getElementById(it), told = JSON.parse(byId('told').textContent);
+const drawn = byId('drawn'), whole = drawn.content.querySelector('svg'), run = document.importNode(whole, false);
 const about = byId('about'), seek = byId('seek'), fold = byId('fold'), file = byId('file'), found = byId('found'), strip = byId('strip');
 const header = document.querySelector('#lanes svg'), main = document.querySelector('main');
+const marks = document.importNode(whole.querySelector('defs'), true);
+main.append(run);
 let fixed = false, layoutDone = null;
 
 // The lines of what is pointed at.
@@ -15,11 +19,11 @@ document.addEventListener('mouseover', it => { const place = it.target.closest('
 main.addEventListener('click', it => { const place = it.target.closest('[data-e]'); fixed = !!place && !fixed; if (place) tell(place); });
 
 // Every element, with its places as drawn. `at` is the height that decides whether it is shown.
-const rows = [...run.querySelectorAll('rect.row')].map(it => ({it, e: +it.dataset.e, top: +it.getAttribute('y'), high: +it.getAttribute('height')}));
+const rows = [...whole.querySelectorAll('rect.row')].map(it => ({it, e: +it.dataset.e, top: +it.getAttribute('y'), high: +it.getAttribute('height')}));
 const width = +run.getAttribute('width'), height = +run.getAttribute('height');
-const number = (it, name) => parseFloat(it.getAttribute(name));
+const number = (it, name) => parseFloat(it.getAttribute(name)), listed = (it, name) => (it.getAttribute(name) || '').split(' ').filter(Boolean);
 function element(it) {
-  const made = {it, tag: it.tagName, keys: (it.dataset.k || '').split(' ').filter(Boolean), events: (it.dataset.e || '').split(' ').filter(Boolean).map(Number)};
+  const made = {it, tag: it.tagName, keys: listed(it, 'data-k'), events: listed(it, 'data-e').map(Number)};
   if (made.tag == 'rect') Object.assign(made, {x: number(it, 'x'), y: number(it, 'y'), w: number(it, 'width'), h: number(it, 'height')});
   else if (made.tag == 'line') Object.assign(made, {x: number(it, 'x1'), y: number(it, 'y1'), x2: number(it, 'x2'), y2: number(it, 'y2')});
   else if (made.tag == 'circle') Object.assign(made, {x: number(it, 'cx'), y: number(it, 'cy')});
@@ -31,7 +35,9 @@ function element(it) {
   }
   return made;
 }
-const elements = [...run.children].filter(it => it.tagName != 'defs').map(element);
+const elements = [...whole.children].filter(it => it.tagName != 'defs').map(element);
+drawn.remove();
+let folded = [], nearTop = 0, nearBottom = -1, everything = false;
 const titles = [...header.children].map(element);
 
 // What the rows are about: thefts, losses and refusals, and which are quiet.
@@ -92,10 +98,14 @@ function layout() {
   stretches.forEach(([from, to]) => { for (let at = from + 1; at < to; at++) hidden.add(at); });
   const my = pieces(joined([...hidden].map(at => [rows[at].top, rows[at].top + rows[at].high])), height);
   const mx = pieces(joined(told.columns.filter(([k]) => k[0] == 'f' ? !shownFiles.has(k) : words.length && hits.length && !inView.has(k)).map(([, from, to]) => [from, to])), width);
-  run.querySelectorAll('text.folded').forEach(it => it.remove());
+  folded = [];
   // leases, timers and nodes that do not run stay beside what the filter finds
   const isBeside = it => /\b(lease|timer|grace|cut|down|downdots)\b/.test(it.it.getAttribute('class')) && it.keys.every(k => inView.has(k));
-  for (const it of elements) place(it, mx, my, words.length && hits.length && it.keys.length && !hitSet.has(it.it) && !it.it.classList.contains('lane') && !isBeside(it));
+  for (const it of elements) {
+    it.off = words.length && hits.length && it.keys.length && !hitSet.has(it.it) && !it.it.classList.contains('lane') && !isBeside(it);
+    [it.low, it.high] = heights(it, my);
+    it.placed = false;
+  }
   for (const it of titles) place(it, mx, null, false);
   const first = titles.find(it => it.it.classList.contains('locks')), lane = titles.find(it => it.keys.some(k => shownFiles.has(k)));
   if (first && lane) { first.it.classList.remove('off'); first.it.setAttribute('x', mx(lane.x)); }
@@ -104,22 +114,51 @@ function layout() {
   run.setAttribute('width', w); run.setAttribute('height', h); run.setAttribute('viewBox', `0 0 ${w} ${h}`);
   header.setAttribute('width', w); header.setAttribute('viewBox', `0 0 ${w} 32`);
   found.textContent = words.length ? (hits.length ? rows.length - hidden.size + ' of ' + rows.length + ' rows' : 'no matches') : '';
-  layoutDone = {my, hidden, notes: mx(told.notes), width: w};
+  layoutDone = {mx, my, hidden, notes: mx(told.notes), width: w};
+  document.body.dataset.rows = rows.length - hidden.size;
+  nearBottom = -1;
+  near();
   overview();
 }
 
+// From which height to which an element reaches.
+function heights(one, my) {
+  const ys = one.points ? one.points.map(p => p[1]) : [one.y, one.tag == 'rect' ? one.y + one.h : one.tag == 'line' ? one.y2 : one.y];
+  return [my(Math.min(...ys)), my(Math.max(...ys))];
+}
+
+// Puts the elements near the window into the page, and takes the others out; all of them for paper.
+const BEYOND = 1500;
+function near() {
+  const top = -main.getBoundingClientRect().top, bottom = top + innerHeight;
+  if (nearBottom >= 0 && (everything || top >= nearTop && bottom <= nearBottom)) return;
+  [nearTop, nearBottom] = [top - BEYOND, bottom + BEYOND];
+  const {mx, my} = layoutDone, live = [];
+  for (const one of elements) {
+    if (!everything && (one.high < nearTop - 20 || one.low > nearBottom + 20) && one != behind) continue;
+    if (!one.placed) { place(one, mx, my, one.off); one.placed = true; }
+    if (!one.it.classList.contains('off') || one == behind) live.push(one.it);
+  }
+  run.replaceChildren(marks, ...live, ...folded);
+  moved = null;
+  keepNotes();
+}
+addEventListener('beforeprint', () => { everything = true; nearBottom = -1; near(); });
+addEventListener('afterprint', () => { everything = false; nearBottom = -1; near(); });
+
 // The column that says what happened stays in sight: if the page is wider than the window, the
 // column moves over the lanes, as far as the middle of the window.
-const said = [...run.querySelectorAll('text.note'), header.querySelector('text.observed')].filter(Boolean), behind = run.querySelector('rect.behind');
+const behind = elements.find(it => it.tag == 'rect' && it.it.classList.contains('behind'));
 let moved = 0;
 function keepNotes() {
   const wide = document.documentElement.clientWidth, left = Math.max(wide * 0.55, wide - told.strip - (layoutDone.width - layoutDone.notes));
   const by = Math.min(0, Math.round(scrollX + left - layoutDone.notes));
-  behind.classList.toggle('off', by == 0);
+  behind.it.classList.toggle('off', by == 0);
   document.body.dataset.notes = layoutDone.notes + by - scrollX;
   if (by == moved) return;
   moved = by;
-  for (const it of [...said, behind, ...run.querySelectorAll('text.folded')]) it.style.transform = by ? `translateX(${by}px)` : '';
+  const said = [...run.querySelectorAll('text.note,text.folded,rect.behind'), header.querySelector('text.observed')].filter(Boolean);
+  for (const it of said) it.style.transform = by ? `translateX(${by}px)` : '';
 }
 
 function place(one, mx, my, off) {
@@ -147,7 +186,7 @@ function foldedText(row, count, last, mx, my) {
   const text = document.createElementNS('http://www.w3.org/2000/svg', 'text');
   text.setAttribute('class', 'folded'); text.setAttribute('x', mx(told.notes)); text.setAttribute('y', my(row.top) + 15);
   text.textContent = `\u22ef ${count} quiet events, to ${last}`;
-  run.append(text);
+  folded.push(text);
 }
 
 // The overview strip: the whole run from top to bottom.
@@ -160,15 +199,14 @@ function overview() {
   }
   strip.append(document.createElement('b'));
   viewport();
-  moved = null;
   keepNotes();
 }
 function viewport() {
   const box = strip.querySelector('b'), total = layoutDone.my(height), start = -main.getBoundingClientRect().top;
   if (box) { box.style.top = Math.max(0, 100 * start / total) + '%'; box.style.height = 100 * Math.min(1, innerHeight / total) + '%'; }
 }
-addEventListener('scroll', () => { viewport(); keepNotes(); });
-addEventListener('resize', () => { viewport(); keepNotes(); });
+addEventListener('scroll', () => { viewport(); near(); keepNotes(); });
+addEventListener('resize', () => { viewport(); near(); keepNotes(); });
 strip.addEventListener('click', it => scrollTo(scrollX, main.offsetTop + layoutDone.my(height) * it.clientY / innerHeight - innerHeight / 2));
 
 // Going to events.
@@ -180,6 +218,7 @@ function go(e) {
   here = row.it; at = e;
   here.classList.add('here');
   scrollTo(scrollX, main.offsetTop + layoutDone.my(row.top) - innerHeight / 3);
+  near();
   tell(row.it);
   document.body.dataset.here = Math.round(row.it.getBoundingClientRect().top);
 }
@@ -209,6 +248,24 @@ fold.checked = state.fold === true || state.fold == '1';
 file.addEventListener('change', layout);
 fold.addEventListener('change', layout);
 seek.addEventListener('input', layout);
+everything = state.all == '1';
 layout();
 if (state.at) go(+state.at);
 if (state.key) for (const key of state.key) next(key.toLowerCase(), key != key.toLowerCase());
+
+
+// For tools/checks/browser: labels of one event that overlap, notes that are cut off, and when the
+// page could be seen.
+if (state.check) {
+  const boxes = [...run.querySelectorAll('text.label,text.small,text.note')].filter(it => it.dataset.e).map(it => ({event: it.dataset.e.split(' ')[0], text: it.textContent, box: it.getBBox()}));
+  const apart = (a, b) => a.x + a.width <= b.x + 1 || b.x + b.width <= a.x + 1 || a.y + a.height <= b.y + 3 || b.y + b.height <= a.y + 3;
+  const events = new Map();
+  boxes.forEach(it => events.set(it.event, [...events.get(it.event) || [], it]));
+  const over = [...events.values()].flatMap(these => these.flatMap((one, at) => these.slice(at + 1).filter(other => !apart(one.box, other.box)).map(other => `${one.event}: ${one.text} | ${other.text}`)));
+  document.body.dataset.overlaps = over.length;
+  document.body.dataset.overlap = over[0] || '';
+  document.body.dataset.cut = boxes.filter(it => it.box.x + it.box.width > layoutDone.width - told.strip).length;
+}
+run.getBoundingClientRect();
+document.body.dataset.live = run.children.length;
+document.body.dataset.opened = Math.round(performance.now());
