@@ -128,7 +128,9 @@ def ended(why):
 # Data for the program: reference/'s tuples as lists.
 
 def datum(it):
-    """What the program reads for a value of reference/."""
+    """What the program reads for a value of reference/. The definitions have no limits of the third form."""
+    if isinstance(it, Head):
+        return datum(tuple(it[:6]))
     if isinstance(it, bool):
         return "#t" if it else "#f"
     if isinstance(it, bytes):
@@ -153,7 +155,7 @@ def of_datum(text):
 
 def schedule_of(head, events):
     """The text of a schedule."""
-    numbers = [*head.settings[: 7 + head.form], *head[2:]]
+    numbers = [*head.settings[: 7 + head.form], *head[2:6]]
     return "\n".join([f"tank {head.form} {' '.join(map(str, numbers))}", *map(event_line, events), "end", ""]).encode("latin-1")
 
 
