@@ -1,4 +1,4 @@
-/* Two clients and a server in one program, with messages, a disk and the server's journal in memory.
+/* Two clients and a server in one program; messages, a disk and the server's journal are in memory.
  * Client 1 writes page 0 of file 2 and syncs it, and client 2 reads it.
  *
  *     cc -O2 -I../include two_clients.c -L. -ltank -o two_clients */

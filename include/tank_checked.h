@@ -1,7 +1,7 @@
 /* tank_checked.h: checks of pointers, for tank.h, which includes it.
  *
  * A call is made through one of these functions. It returns TANK_NULL if a pointer is null that
- * must not be. Otherwise it makes the library's call, with some pointer in place of one to no items.
+ * must not be. Otherwise it makes the library's call, with a pointer in place of one to no items.
  * `tools/checks/library --write` writes this file. */
 #ifndef TANK_CHECKED_H
 #define TANK_CHECKED_H

@@ -128,7 +128,7 @@ def ended(why):
 # Data for the program: reference/'s tuples as lists.
 
 def datum(it):
-    """What the program reads for a value of reference/. The definitions have no limits of the third form."""
+    """What the program reads for a value of reference/. The definitions have no third form."""
     if isinstance(it, Head):
         return datum(tuple(it[:6]))
     if isinstance(it, bool):

@@ -1,4 +1,6 @@
-"""The calls of crates/tank_c and the structures that they take, as its sources declare them. The structures of frames are those of crates/st_host_frames."""
+"""The calls of crates/tank_c and the structures that they take, as its sources declare them. The
+structures of frames are those of crates/st_host_frames.
+"""
 import pathlib
 import re
 
@@ -17,7 +19,7 @@ def calls():
 
 
 def reads_only():
-    """The calls that leave the node of their handle as it is, whatever they return: their contracts say so."""
+    """The calls whose contracts say that they leave the node of their handle as it is."""
     text = (SOURCES / "lib.rt").read_text()
     each = re.findall(r'pub extern "C" fn (\w+)\((\w+): &mut Tank(?:Client|Server),(.*?)\n\{\n', text.replace("(\n    ", "("), re.S)
     return {name for name, handle, clauses in each if f"ensures same {{ {handle}.new.slot.value ≡ {handle}.old.slot.value }}" in clauses}

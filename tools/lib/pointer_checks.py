@@ -1,10 +1,12 @@
-"""The text of include/tank_checked.h: for each call of include/tank.h, a function that looks at its pointers and then makes the call."""
+"""The text of include/tank_checked.h: for each call of include/tank.h, a function that looks at its
+pointers and then makes the call.
+"""
 import re
 
 TOP = """/* tank_checked.h: checks of pointers, for tank.h, which includes it.
  *
  * A call is made through one of these functions. It returns TANK_NULL if a pointer is null that
- * must not be. Otherwise it makes the library's call, with some pointer in place of one to no items.
+ * must not be. Otherwise it makes the library's call, with a pointer in place of one to no items.
  * `tools/checks/library --write` writes this file. */
 #ifndef TANK_CHECKED_H
 #define TANK_CHECKED_H

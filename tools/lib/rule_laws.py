@@ -1,8 +1,9 @@
 """Which laws and promises a rule serves: those whose proofs speak of it.
 
-A proof speaks of a rule where a lemma names one of its definitions, or a change of st_trace that the rule makes: one whose type names a definition of the rule,
-or that a lemma of st_trace gets from it. A law is a public function of a law crate; its proof consists of the lemmas that the file of its name takes, of those
-of the same crate that they name, and so on.
+A proof speaks of a rule where a lemma names one of its definitions, or a change of st_trace that
+the rule makes. Such a change has a type that names a definition of the rule, or a lemma of st_trace
+gets it from one. A law is a public function of a law crate. Its proof consists of the lemmas that
+the file of its name takes, of those of the same crate that they name, and so on.
 """
 import collections
 import functools
@@ -17,7 +18,9 @@ Lemma = collections.namedtuple("Lemma", "module name")
 
 
 class File:
-    """What a file takes, as modules by their short names and names by their modules, and the text of each of its declarations."""
+    """What a file takes, as modules by their short names and names by their modules, and the text
+    of each of its declarations.
+    """
 
     def __init__(self, path):
         text = re.sub(r"(^|\s)--[^\n]*", r"\1", path.read_text())
@@ -126,7 +129,9 @@ def promises():
 
 
 def served(definitions):
-    """The laws that definitions of rules serve, as names, each with the promises that it shows: first those whose proofs speak of the fewest definitions."""
+    """The laws that definitions of rules serve, as names, each with the promises that it shows:
+    first those whose proofs speak of the fewest definitions.
+    """
     wanted = {Lemma(f"st_rules.specs.{file}", name) for file, name in definitions}
     found = sorted((len(names), crate, law) for (crate, law), names in spoken().items() if names & wanted)
     return list(dict.fromkeys((law, tuple(promises().get((crate, law), ()))) for _, crate, law in found))

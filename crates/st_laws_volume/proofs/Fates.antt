@@ -97,10 +97,6 @@ crash_may w c n picked (o ∷ os) (e ∷ es) k h = (go (picked n o.of) refl o.fa
 abbrev Lines : World → List Observation → Volume → Type 0
 Lines w os v = IsTaken (run (of_lines w os) v)
 
-lines_same : (w : World) (v : Volume) → IsLogOf w.log v → Lines w [] v
-unfolding of_lines run
-lines_same w v h = h.lines
-
 effect_lines : (w : World) (k : ℕ) (v : Volume) → IsLogOf w.log v → Lines w (ev.effects (counted w) k).seen v
 unfolding ev.effects ev.marks
 effect_lines w k v h =
