@@ -1,0 +1,1072 @@
+-- A step of the client keeps what is known of its association with the server.
+use Rattle.std.proofs.Common.{◌≡◌, ◌≢◌, ℕ, ◌+◌, ◌*◌, ◌≤◌, ◌<◌, ◌⊎◌, Bool, true, false, ◌==◌, List, [], ◌∷◌, ◌++◌, Option, Some, None, refl, sym, ap, ◌∙◌, subst, inl, inr, arith}
+use Rattle.std.specs.Prelude.{◌&&◌, is_some, max, nat_le, nat_lt}
+use Rattle.std.specs.List.{list_any}
+use Rattle.std.proofs.Math.Nat.{le-max_left, le-max_right}
+use Rattle.std.proofs.lemmas.Bool.{eq-eqb, eqb-true, leb-true, lt-ltb}
+use Rattle.st_base.specs.declared.config.Config.{Config}
+use Rattle.st_base.specs.declared.ids.ClientId.{ClientId}
+use Rattle.st_base.specs.declared.ids.Epoch.{Epoch}
+use Rattle.st_base.specs.declared.ids.Life.{Life}
+use Rattle.st_base.specs.declared.ids.ServerId.{ServerId}
+use Rattle.st_base.specs.declared.ids.Stamp.{Stamp}
+use Rattle.st_messages.specs.declared.event.Event.TheVariants as events
+use Rattle.st_messages.specs.declared.message.Body.{Body}
+use Rattle.st_messages.specs.declared.message.Body.TheVariants as bd
+use Rattle.st_messages.specs.declared.message.Message.{Message}
+use Rattle.st_messages.specs.declared.output.Output.{Output}
+use Rattle.st_messages.specs.declared.output.Output.TheVariants as outputs
+use Rattle.st_rules.specs.declared.client.ClientInput.{ClientInput}
+use Rattle.st_rules.specs.declared.client.ClientInput.TheVariants as inputs
+use Rattle.st_rules.specs.declared.client.Request.{Request}
+use Rattle.st_rules.specs.declared.observation.Observation.TheVariants as seen
+use Rattle.st_rules.specs.ClientLease.{ClientLease}
+use Rattle.st_rules.specs.Client as cl
+use Rattle.st_rules.specs.ClientReplies as cr
+use Rattle.st_rules.specs.ClientState as cs
+use Rattle.st_rules.specs.ClientState.{Association, ClientSession, ClientState, Turn}
+use Rattle.st_rules.specs.Dating as dating
+use Rattle.st_rules.specs.Keys.{server_node}
+use Rattle.st_rules.specs.Safety.{Step}
+use Rattle.st_rules.specs.Server.{ServerState}
+use Rattle.st_rules.specs.World.{World, numbered}
+use Rattle.st_lemmas.specs.Lists.{Has}
+use Rattle.st_lemmas.proofs.Lookups.{or_left, some_is}
+use Rattle.st_lemmas.proofs.Numbers.{numbered_has}
+use Rattle.st_lemmas.proofs.Tables.{and_both, and_true, none_passes, same_or_not}
+use Rattle.st_laws_lasting.specs.Lasting.{client_clock}
+use Rattle.st_laws_leases.specs.Dates.Dates.{messages}
+use Rattle.st_laws_requests.specs.Cuts.Cuts.{Counts, Given, Numbers, Placed, SameBody, view}
+use Rattle.st_laws_steps.specs.Client.Losses.{Fit, is_ended}
+use Rattle.st_laws_waits.proofs.Tests.{any_has}
+use Rattle.st_laws_healthy.specs.Healthy.{is_between, longest}
+use Rattle.st_laws_healthy.proofs.Counting.{IsEnded, counted_ends}
+use Rattle.st_laws_healthy.proofs.Happening.{Brings, Deaf, Delivers}
+use Rattle.st_laws_healthy.proofs.Hearing.{Hears, IsReceived, Met, Unmet, counting_calm, hears, is_received, passed_by, received_from}
+use Rattle.st_laws_healthy.proofs.Passing.{After, Again, Alike, Anew, IsPassed, ByGreeting, ByRequest, IsSentBy, Requested as Asked, SentBy, Still}
+use Rattle.st_laws_healthy.proofs.Receiving.{Ended, Follows, Kept, Received, follows_self, is_calm, received_is, tells_epoch}
+use Rattle.st_laws_healthy.proofs.Replies.{counts_for, is_served}
+use Rattle.st_laws_healthy.proofs.Served.{From, Greets, IsAWelcome, IsAsked, IsCounted, IsEarlier, IsGood, IsKnown, IsOwn, IsReplied, IsServed, IsTold, Requests, Sees, TellsEpoch, To, known_more, served_more, told_more}
+use Rattle.st_laws_healthy.proofs.Stepping.{IsHeard, IsLeft, IsNoMessage, TakesIn, Told, Walks, sends, walks}
+use Rattle.st_laws_healthy.proofs.Taking.{IsSeen, SawDemand}
+use Rattle.st_laws_healthy.proofs.Talking.{Greeted, HasGreeted, HasSession, IsAsking, IsAsking2, IsCounting, IsGreeting, IsOutstanding, IsSilent, IsWelcoming, Phase, Requested, Talks, delivered_among, delivered_is, fly, not_delivered}
+use Rattle.st_laws_healthy.proofs.Telling.{is_unasked}
+use Rattle.st_laws_healthy.proofs.Trips.{Back, Begun, InTime, Out, Trip, flies_on, takes_off, trip_began, trip_ends}
+
+clash : (b : Bool) → b ≡ true → b ≡ false → ⊥
+clash true e f = cc
+clash false e f = cc
+
+not_le : (a b : ℕ) → b < a → nat_le a b ≡ false
+not_le a b l = go (nat_le a b) refl
+  where
+    go : (x : Bool) → nat_le a b ≡ x → x ≡ false
+    go false e = refl
+    go true e = let y = leb-true a b e in absurd (omega (arith, l, y))
+
+-- what nobody asked for condemns nothing, and tells of no epoch
+unasked_calm : (b : Body) → is_unasked b ≡ true → (is_calm b ≡ true) × (tells_epoch b ≡ false)
+unasked_calm (bd.Granted ino g mode) e = (refl, refl)
+unasked_calm (bd.Demand ino g to) e = (refl, refl)
+unasked_calm b e = cc
+
+served_plain : (b : Body) → is_served b ≡ true → cs.reasserts b ≡ false
+served_plain bd.KeepAlive e = refl
+served_plain (bd.Acquire ino mode) e = refl
+served_plain (bd.Released ino g to) e = refl
+served_plain (bd.Map ino g p) e = refl
+served_plain (bd.Allocate ino g p n) e = refl
+served_plain (bd.Cut ino g p) e = refl
+served_plain (bd.Name op) e = refl
+served_plain b e = cc
+
+served_request : (b : Body) → is_served b ≡ true → dating.is_request b ≡ true
+served_request bd.KeepAlive e = refl
+served_request (bd.Acquire ino mode) e = refl
+served_request (bd.Released ino g to) e = refl
+served_request (bd.Map ino g p) e = refl
+served_request (bd.Allocate ino g p n) e = refl
+served_request (bd.Cut ino g p) e = refl
+served_request (bd.Name op) e = refl
+served_request b e = cc
+
+abbrev is_hello : Body → Bool
+is_hello bd.Hello = true
+is_hello b = false
+
+hello_is : (b : Body) → is_hello b ≡ true → b ≡ bd.Hello
+hello_is bd.Hello e = refl
+hello_is b e = cc
+
+-- A message that the step sent.
+pub record IsNew (c : ClientId) (x : Step) (ns : List Message) (now : ℕ) (out : List Output) (m : Message) : Type 0 where
+  pub among : Has (outputs.Send m) out
+  pub number : ℕ
+  pub sent : Has (seen.Sent number m) x.seen
+  pub there : numbered ns number ≡ Some m
+  pub from : m.header.from ≡ c.0
+  pub stamp : dating.is_request m.body ≡ true → m.header.stamp ≡ now
+
+module _ (k : Config) (c : ClientId) (s : ServerId) (gap d : ℕ) (fits : longest k gap d ≤ k.lease) (few : c.0 ≤ 16) where
+  abbrev cap : ℕ
+  cap = max (k.renew + gap) (2 * d + 1)
+
+  module _ (past : List Step) (x : Step) (w : World) (ns : List Message) (more : (m : Message) → Has m (messages w) → Has m ns)
+      (keeps : (i : ℕ) (m : Message) → numbered (messages w) i ≡ Some m → numbered ns i ≡ Some m) (now : Stamp) (clock : client_clock c x.after.world ≡ now.0)
+      (in_time : InTime c s d past (messages w) now.0) (begun : Begun c s d past now.0) (st : ClientState) (i : ClientInput)
+      (new : (m : Message) → Has m ns → Has m (messages w) ⊎ IsNew c x ns now.0 (cl.client_step st now i).out m)
+      (fit : (a : Association) → Has a st.associations → Fit a) (config : st.config ≡ k) (brings : Brings w x.event c.0 i)
+      (deaf_server : Deaf w x.event (server_node s))
+      (n : ServerState) where
+    abbrev ms : List Message
+    ms = messages w
+
+    abbrev past2 : List Step
+    past2 = past ++ x ∷ []
+
+    abbrev epoch : ℕ
+    epoch = n.stable.epoch.0
+
+    -- what the server sent is old
+    old_from : (m : Message) → Has m ns → From c s m → Has m ms
+    old_from m h f = go (new m h)
+      where
+        go : Has m ms ⊎ IsNew c x ns now.0 (cl.client_step st now i).out m → Has m ms
+        go (inl j) = j
+        go (inr z) = let y = z.from in let q = f.from in absurd (omega (arith, y, q, few))
+
+    -- a message that is delivered is the input
+    brought : (j : ClientInput) → Brings w x.event c.0 j → (f : ℕ) (y : Message) → numbered ms f ≡ Some y → y.header.to ≡ c.0 →
+        (j ≡ inputs.Control y) ⊎ (x.event ≢ events.Deliver f)
+    brought inputs.Tick b f y q to = inr (not_delivered k c s gap d past x w ns more keeps c.0 b f y q to)
+    brought (inputs.App op ask) b f y q to = inr (not_delivered k c s gap d past x w ns more keeps c.0 b f y q to)
+    brought (inputs.Done number r) b f y q to = inr (not_delivered k c s gap d past x w ns more keeps c.0 b f y q to)
+    brought (inputs.Control m) b f y q to = go (same_or_not b.0.number f)
+      where
+        number_is : {a e : ℕ} → events.Deliver a ≡ events.Deliver e → a ≡ e
+        number_is z = cc
+
+        is_it : b.0.number ≡ f → m ≡ y
+        is_it e = delivered_is k c s gap d past x w ns more keeps m b.0 y (ap (λ z. numbered ms z) e ∙ q)
+
+        go : (b.0.number ≡ f) ⊎ (b.0.number ≢ f) → (inputs.Control m ≡ inputs.Control y) ⊎ (x.event ≢ events.Deliver f)
+        go (inl e) = inl (ap (λ z. inputs.Control z) (is_it e))
+        go (inr ne) = inr (λ e. ne (number_is (sym b.0.event ∙ e)))
+
+    -- No lease is lost.
+    module _ (a b : Association) (walk : Walks st now i fit a b) (t : Talks k c s gap d past ms n now.0 a)
+        (young : (z : ClientSession) → a.session ≡ Some z → z.lease.condemned ≡ false → z.requests.asked ≡ None → now.0 < z.lease.date.0 + k.renew + gap) where
+      -- the age of a lease
+      age : (z : ClientSession) → a.session ≡ Some z → HasSession k c s gap d past ms n.sessions a.life.0 epoch t.last z → now.0 < z.lease.date.0 + k.lease
+      age z e p = go z.requests.asked refl p.requests
+        where
+          go : (o : Option Request) → z.requests.asked ≡ o → Requested k c s gap d past ms a.life.0 epoch t.last z.lease.date.0 z.requests.next o →
+              now.0 < z.lease.date.0 + k.lease
+          go None q r = let y = young z e p.sound q in let l = le-max_left (k.renew + gap) (2 * d + 1) in omega (arith, y, l, fits)
+          go (Some q) f r =
+              let y = r.first.young in
+              let l = trip_ends c s d past ms now.0 (IsAsking k c s gap d a.life.0 epoch q.number q.body)
+              (IsCounting k c s gap d a.life.0 epoch q.number q.body) r.first.from in_time r.first.trip in
+              omega (arith, y, l, fits)
+
+      -- so nothing is lost
+      lasts_at : walk.first ≡ a
+      lasts_at = sym (walk.loses.lasts (subst (λ kb. is_ended kb now a.session ≡ false) (sym config) (go a.session refl t.phase)))
+        where
+          go : (o : Option ClientSession) → a.session ≡ o → Phase k c s gap d past ms n.sessions a.life.0 epoch t.last o → is_ended k now o ≡ false
+          go None e p = refl
+          go (Some z) e p = not_le (z.lease.date.0 + k.lease) now.0 (age z e p)
+
+    module _ (a b : Association) (walk : Walks st now i fit a b) (at : a.server ≡ s) (t : Talks k c s gap d past ms n now.0 a)
+        (young : (z : ClientSession) → a.session ≡ Some z → z.lease.condemned ≡ false → z.requests.asked ≡ None → now.0 < z.lease.date.0 + k.renew + gap)
+        (numbers : Numbers (λ m. Has m ms) c s a.life.0 (view a.session)) (numbers2 : Numbers (λ m. Has m ns) c s a.life.0 (view b.session)) where
+      abbrev life : ℕ
+      life = a.life.0
+
+      abbrev S : ClientSession → Type 0
+      S z = HasSession k c s gap d past ms n.sessions life epoch t.last z
+
+      abbrev S2 : ClientSession → Type 0
+      S2 z = HasSession k c s gap d past2 ns n.sessions life epoch t.last z
+
+      -- a session, and its lease, is young where nothing is asked
+      abbrev Ready : ClientSession → Type 0
+      Ready z = z.requests.asked ≡ None → now.0 < z.lease.date.0 + cap
+
+      lasts : walk.first ≡ a
+      lasts = lasts_at a b walk t young
+
+      -- a session with the same requests and lease
+      carries : (P : List Step) (M : List Message) (z u : ClientSession) → HasSession k c s gap d P M n.sessions life epoch t.last z → u.epoch ≡ z.epoch →
+          u.due ≡ z.due → u.lease ≡ z.lease → u.requests ≡ z.requests →
+          HasSession k c s gap d P M n.sessions life epoch t.last u
+      carries P M z u p e f l r =
+          record {
+            epoch_is = ap (λ (y : Epoch). y.0) e ∙ p.epoch_is;
+            settled = f ∙ p.settled;
+            sound = ap (λ (y : ClientLease). y.condemned) l ∙ p.sound;
+            served = p.served;
+            below = subst (λ (y : cs.Requests). t.last < y.next) (sym r) p.below;
+            requests = subst (λ (y : cs.Requests). Requested k c s gap d P M life epoch t.last u.lease.date.0 y.next y.asked) (sym r)
+                (subst (λ (y : ClientLease). Requested k c s gap d P M life epoch t.last y.date.0 z.requests.next z.requests.asked) (sym l) p.requests);
+          }
+
+      -- What the message that is heard may be: one that the server sent.
+      module _ (m : Message) (is : i ≡ inputs.Control m) (tn : Turn) (here : tn.here ≡ a) (received : IsReceived tn now m.header) where
+        its : Delivers w x.event m × (m.header.to ≡ c.0)
+        its = subst (Brings w x.event c.0) is brings
+
+        among : Has m ms
+        among = delivered_among k c s gap d past x w ns more keeps m its.0
+
+        way : From c s m
+        way = record { from = received.from ∙ ap (λ (y : Association). server_node y.server) here ∙ ap (λ (y : ServerId). server_node y) at; to = its.1 }
+
+        present : m.header.life ≡ life
+        present = received.life ∙ ap (λ (y : Association). y.life.0) here
+
+        told : IsTold c s ms n.sessions life epoch t.last m
+        told = t.told m among way
+
+      -- With a session.
+      module _ (z : ClientSession) (with_it : a.session ≡ Some z) (p : S z) where
+        -- the message condemns nothing, and tells of no later epoch
+        calm : (m : Message) → IsTold c s ms n.sessions life epoch t.last m → m.header.life ≡ life →
+            (is_calm m.body ≡ true) × (tells_epoch m.body ≡ true → m.header.epoch ≤ z.epoch.0)
+        calm m (IsOwn u) l = let y = unasked_calm m.body u.body in (y.0, λ f. absurd (clash (tells_epoch m.body) f y.1))
+        calm m (IsEarlier q) l = absurd (omega (arith, q, l))
+        calm m (IsReplied q e g) l = (by g, λ f. let y = p.epoch_is in omega (arith, y, e))
+          where
+            by : IsGood c s ms n.sessions life epoch t.last m → is_calm m.body ≡ true
+            by (IsAWelcome f sv r h w o q j) = ap is_calm f
+            by (TellsEpoch y v f) = ap is_calm f
+            by (IsCounted f o r q j v) = counting_calm r.body m.body v
+
+        -- the number of the outstanding request
+        given : (q : Request) → z.requests.asked ≡ Some q → 1 ≤ q.number
+        given q e = (subst (Given z.requests.next) e (subst (λ o. Counts (view o)) with_it numbers.counts).1).0
+
+        asking : (q : Request) → z.requests.asked ≡ Some q → IsAsking2 k c s gap d past ms life epoch t.last z.lease.date.0 z.requests.next q
+        asking q e = subst (Requested k c s gap d past ms life epoch t.last z.lease.date.0 z.requests.next) e p.requests
+
+        -- A reply to the outstanding request was sent for a message that asked it.
+        record Origin (q : Request) (m : Message) : Type 0 where
+          asked : Message
+          among : Has asked ms
+          is : IsAsking k c s gap d life epoch q.number q.body asked
+          stamp : asked.header.stamp ≡ m.header.stamp
+          served : m.header.number ≤ t.last
+
+        origin : (m : Message) → IsTold c s ms n.sessions life epoch t.last m → m.header.life ≡ life → (q : Request) → z.requests.asked ≡ Some q →
+            m.header.number ≡ q.number → counts_for q.body m.body ≡ true → Origin q m
+        origin m told present q e number counts = by told
+          where
+            good : IsGood c s ms n.sessions life epoch t.last m → Origin q m
+            good (IsAWelcome f sv r h w o j g) = absurd (clash (counts_for q.body m.body) counts (ap (counts_for q.body) f))
+            good (TellsEpoch y v f) = absurd (clash (counts_for q.body m.body) counts (ap (counts_for q.body) f))
+            good (IsCounted f l r g j v) =
+                let placed = subst (λ o. Placed life (view o) r) with_it (numbers.placed r g.among.among (g.from, g.among.to)) g.of_life
+                (let u = g.under in omega (arith, u, f)) in
+                record {
+                  asked = r;
+                  among = g.among.among;
+                  is = record {
+                    way = record { from = g.from; to = g.among.to };
+                    of_life = g.of_life;
+                    of_epoch = g.of_epoch;
+                    under = g.under ∙ number;
+                    says = subst (λ (o : Option Request). SameBody o r) e (placed.same (g.of_epoch ∙ sym p.epoch_is)) (g.under ∙ number);
+                  };
+                  stamp = j;
+                  served = l;
+                }
+
+            by : IsTold c s ms n.sessions life epoch t.last m → Origin q m
+            by (IsOwn u) = absurd (let y = u.number in let g = given q e in omega (arith, y, number, g))
+            by (IsEarlier l) = absurd (omega (arith, l, present))
+            by (IsReplied l y g) = good g
+
+        -- so its stamp is past
+        stamp_past : (m : Message) → IsTold c s ms n.sessions life epoch t.last m → m.header.life ≡ life → (q : Request) → z.requests.asked ≡ Some q →
+            m.header.number ≡ q.number → counts_for q.body m.body ≡ true →
+            m.header.stamp ≤ now.0
+        stamp_past m told present q e number counts = by (t.asked o.asked o.among o.is.way o.is.of_life)
+          where
+            o : Origin q m
+            o = origin m told present q e number counts
+
+            seen_not : (b : Body) → IsSeen b → is_served b ≡ false
+            seen_not _ (SawDemand ino g) = refl
+
+            by : IsAsked c s now.0 o.asked → m.header.stamp ≤ now.0
+            by (Greets f l) = let j = o.stamp in omega (arith, l, j)
+            by (Sees f) = absurd (clash (is_served o.asked.body) (ap is_served o.is.says ∙ (asking q e).served) (seen_not o.asked.body f))
+            by (Requests f g l) = let j = o.stamp in omega (arith, l, j)
+
+        -- requests under the number are old, or sent now
+        stamps : (q : Request) (o : IsOutstanding k c s gap d past ms life epoch z.lease.date.0 q.number q.body) → is_served q.body ≡ true → (m : Message) →
+            Has m ns →
+            IsAsking k c s gap d life epoch q.number q.body m → o.from ≤ m.header.stamp
+        stamps q o served m h y = go (new m h)
+          where
+            go : Has m ms ⊎ IsNew c x ns now.0 (cl.client_step st now i).out m → o.from ≤ m.header.stamp
+            go (inl j) = o.stamps m j y
+            go (inr j) =
+                let v = j.stamp (subst (λ b. dating.is_request b ≡ true) (sym y.says) (served_request q.body served)) in
+                let l = trip_began c s d past ms now.0 (IsAsking k c s gap d life epoch q.number q.body) (IsCounting k c s gap d life epoch q.number q.body)
+                o.from begun o.trip in
+                omega (arith, v, l)
+
+        -- after the input: the session holds, and where nothing is asked its lease is young
+        abbrev Held : Option ClientSession → Type 0
+        Held o = (u : ClientSession) × (o ≡ Some u) × S2 u × Ready u × (u.requests.next ≡ z.requests.next)
+
+        -- it is as it was, and no reply to its request was delivered
+        module _ (o : Option ClientSession) (follows : Follows z o)
+            (unanswered : (q : Request) → z.requests.asked ≡ Some q → (f : ℕ) (y : Message) → numbered ms f ≡ Some y →
+            IsCounting k c s gap d life epoch q.number q.body y → x.event ≢ events.Deliver f) where
+          trip_on : (q : Request) → z.requests.asked ≡ Some q → (from : ℕ) → Trip c s d past ms (IsAsking k c s gap d life epoch q.number q.body)
+              (IsCounting k c s gap d life epoch q.number q.body) from →
+              Trip c s d past2 ns (IsAsking k c s gap d life epoch q.number q.body) (IsCounting k c s gap d life epoch q.number q.body) from
+          trip_on q e from (Out f) =
+              Out (fly k c s gap d past x w ns more keeps (IsAsking k c s gap d life epoch q.number q.body) (IsAsking k c s gap d life epoch q.number q.body)
+              from (server_node s) f (λ y. y) f.like.way.to deaf_server)
+          trip_on q e from (Back y l r f) =
+              Back y l r (flies_on c s d past x ms ns keeps (IsCounting k c s gap d life epoch q.number q.body)
+              (IsCounting k c s gap d life epoch q.number q.body) y f (λ y. y)
+              (unanswered q e f.number f.message f.there f.like))
+
+          went_on : (r : Option Request) → z.requests.asked ≡ r → Requested k c s gap d past ms life epoch t.last z.lease.date.0 z.requests.next r →
+              Requested k c s gap d past2 ns life epoch t.last z.lease.date.0 z.requests.next r
+          went_on None e r = r
+          went_on (Some q) e r =
+              record {
+                served = r.served;
+                number = r.number;
+                follows = r.follows;
+                first = record { from = r.first.from; young = r.first.young; stamps = stamps q r.first r.served; trip = trip_on q e r.first.from r.first.trip };
+              }
+
+          same_held : Held o
+          same_held = (
+            follows.session,
+            follows.is,
+            carries past2 ns z follows.session
+                (record {
+                  epoch_is = p.epoch_is;
+                  settled = p.settled;
+                  sound = p.sound;
+                  served = served_more c s ms ns more n.sessions life epoch t.last p.served;
+                  below = p.below;
+                  requests = went_on z.requests.asked refl p.requests;
+                }) follows.epoch follows.due follows.lease follows.requests,
+            λ e. let y = young z with_it p.sound (ap (λ (v : cs.Requests). v.asked) (sym follows.requests) ∙ e) in
+                let g = ap (λ (v : ClientLease). v.date.0) follows.lease in
+                let l = le-max_left (k.renew + gap) (2 * d + 1) in omega (arith, y, g, l),
+            ap (λ (v : cs.Requests). v.next) follows.requests,
+          )
+
+        -- its request was answered
+        ended_held : (m : Message) → IsTold c s ms n.sessions life epoch t.last m → m.header.life ≡ life → (q : Request) → z.requests.asked ≡ Some q →
+            q.number ≡ m.header.number → counts_for q.body m.body ≡ true →
+            (o : Option ClientSession) → IsEnded z m.header.stamp o → Held o
+        ended_held m told present q asked number counts o e = (
+          e.session,
+          e.is,
+          record {
+            epoch_is = ap (λ (y : Epoch). y.0) e.epoch ∙ p.epoch_is;
+            settled = not_due;
+            sound = e.sound;
+            served = served_more c s ms ns more n.sessions life epoch t.last p.served;
+            below = subst (λ y. t.last < y) (sym e.next) p.below;
+            requests = subst (Requested k c s gap d past2 ns life epoch t.last e.session.lease.date.0 e.session.requests.next) (sym e.rests)
+                (let y = from.served in let r = (asking q asked).number in let v = e.next in omega (arith, y, r, v, number));
+          },
+          λ f. let y = dated in let l = le-max_right (k.renew + gap) (2 * d + 1) in let v = e.date in omega (arith, y, l, v),
+          e.next,
+        )
+          where
+            from : Origin q m
+            from = origin m told present q asked (sym number) counts
+
+            not_due : e.session.due ≡ false
+            not_due = go e.session.due refl
+              where
+                go : (b : Bool) → e.session.due ≡ b → e.session.due ≡ false
+                go false f = f
+                go true f = absurd (clash z.due (e.due f) p.settled)
+
+            dated : now.0 < m.header.stamp + (2 * d + 1)
+            dated =
+                let first = (asking q asked).first.stamps from.asked from.among from.is in
+                let over = trip_ends c s d past ms now.0 (IsAsking k c s gap d life epoch q.number q.body) (IsCounting k c s gap d life epoch q.number q.body)
+                (asking q asked).first.from in_time (asking q asked).first.trip in
+                let j = from.stamp in
+                omega (arith, first, over, j)
+
+        -- The input.
+        heard : (m : Message) → i ≡ inputs.Control m → (tn : Turn) → tn.here ≡ a → Held (cr.receive_at now m.header m.body tn).here.session
+        heard m is tn here = go (cr.is_received tn now m.header) refl
+          where
+            there : tn.here.session ≡ Some z
+            there = ap (λ (y : Association). y.session) here ∙ with_it
+
+            plain : (q : Request) → z.requests.asked ≡ Some q → cs.reasserts q.body ≡ false
+            plain q e = served_plain q.body (asking q e).served
+
+            -- no other message is delivered
+            only : (f : ℕ) (y : Message) → numbered ms f ≡ Some y → y.header.to ≡ c.0 → (m ≡ y) ⊎ (x.event ≢ events.Deliver f)
+            only f y q to = go (brought i brings f y q to)
+              where
+                same : inputs.Control m ≡ inputs.Control y → m ≡ y
+                same e = cc
+
+                go : (i ≡ inputs.Control y) ⊎ (x.event ≢ events.Deliver f) → (m ≡ y) ⊎ (x.event ≢ events.Deliver f)
+                go (inl e) = inl (same (sym is ∙ e))
+                go (inr ne) = inr ne
+
+            go : (b : Bool) → cr.is_received tn now m.header ≡ b → Held (cr.receive_at now m.header m.body tn).here.session
+            go false r =
+                subst (λ (u : Turn). Held u.here.session) (sym (passed_by tn now m.header m.body r))
+                (same_held tn.here.session (subst (Follows z) (sym there) (follows_self z)) (λ q e f y g v. undelivered q e f y g v (only f y g v.way.to)))
+              where
+                undelivered : (q : Request) → z.requests.asked ≡ Some q → (f : ℕ) (y : Message) → numbered ms f ≡ Some y →
+                    IsCounting k c s gap d life epoch q.number q.body y → (m ≡ y) ⊎ (x.event ≢ events.Deliver f) →
+                    x.event ≢ events.Deliver f
+                undelivered q e f y g v (inr ne) = ne
+                undelivered q e f y g v (inl same) = absurd (clash (cr.is_received tn now m.header) (is_received tn now m.header (in_place q e v same)) r)
+                  where
+                    past_stamp : (q : Request) → z.requests.asked ≡ Some q → IsCounting k c s gap d life epoch q.number q.body y → m ≡ y →
+                        m.header.stamp ≤ now.0
+                    past_stamp q e v same = let l = stamp_past y (t.told y (numbered_has ms f y g) v.way) v.of_life q e v.under v.counts in let j = ap
+                        (λ (u : Message). u.header.stamp) same in omega (arith, l, j)
+
+                    in_place : (q : Request) → z.requests.asked ≡ Some q → IsCounting k c s gap d life epoch q.number q.body y → m ≡ y →
+                        IsReceived tn now m.header
+                    in_place q e v same =
+                        record {
+                          from = ap (λ (u : Message). u.header.from) same ∙ v.way.from ∙ ap (λ (u : ServerId). server_node u) (sym at) ∙ ap
+                              (λ (u : Association). server_node u.server) (sym here);
+                          life = ap (λ (u : Message). u.header.life) same ∙ v.of_life ∙ ap (λ (u : Association). u.life.0) (sym here);
+                          stamp = past_stamp q e v same;
+                        }
+            go true r = by (received_is tn z now m.header there p.sound plain m.body quiet.1 quiet.0)
+              where
+                got : IsReceived tn now m.header
+                got = received_from tn now m.header r
+
+                quiet : (is_calm m.body ≡ true) × (tells_epoch m.body ≡ true → m.header.epoch ≤ z.epoch.0)
+                quiet = calm m (told m is tn here got) (present m is tn here got)
+
+                by : Received z m.header m.body (cr.receive_at now m.header m.body tn).here.session → Held (cr.receive_at now m.header m.body tn).here.session
+                by (Ended q e number counts ended) = ended_held m (told m is tn here got) (present m is tn here got) q e number counts
+                    (cr.receive_at now m.header m.body tn).here.session ended
+                by (Kept f) = kept z.requests.asked refl
+                  where
+                    unasked : z.requests.asked ≡ None → Held (cr.receive_at now m.header m.body tn).here.session
+                    unasked e = same_held (cr.receive_at now m.header m.body tn).here.session f (λ q g. absurd (no (sym e ∙ g)))
+                      where
+                        no : {q : Request} → ◌≡◌ {A = Option Request} None (Some q) → ⊥
+                        no v = cc
+
+                    -- where the reply is this message it ends the request
+                    kept : (o : Option Request) → z.requests.asked ≡ o → Held (cr.receive_at now m.header m.body tn).here.session
+                    kept None e = unasked e
+                    kept (Some q) e = decide (counts_for q.body m.body) refl (same_or_not m.header.number q.number)
+                      where
+                        others : ((y : Message) → IsCounting k c s gap d life epoch q.number q.body y → m ≡ y → ⊥) →
+                            Held (cr.receive_at now m.header m.body tn).here.session
+                        others never =
+                            same_held (cr.receive_at now m.header m.body tn).here.session f
+                            (λ q2 e2 g y h v. either y g (subst (λ (o : Request). IsCounting k c s gap d life epoch o.number o.body y) (some_is (sym e2 ∙ e))
+                            v) (only g y h v.way.to))
+                          where
+                            either : (y : Message) (g : ℕ) → IsCounting k c s gap d life epoch q.number q.body y → (m ≡ y) ⊎ (x.event ≢ events.Deliver g) →
+                                x.event ≢ events.Deliver g
+                            either y g v (inl same) = absurd (never y v same)
+                            either y g v (inr ne) = ne
+
+                        decide : (b : Bool) → counts_for q.body m.body ≡ b → (m.header.number ≡ q.number) ⊎ (m.header.number ≢ q.number) →
+                            Held (cr.receive_at now m.header m.body tn).here.session
+                        decide false g number = others (λ y v same. clash (counts_for q.body m.body)
+                            (ap (λ (u : Message). counts_for q.body u.body) same ∙ v.counts) g)
+                        decide true g (inr ne) = others (λ y v same. ne (ap (λ (u : Message). u.header.number) same ∙ v.under))
+                        decide true g (inl number) = in_epoch (same_or_not m.header.epoch epoch)
+                          where
+                            pos2 : 1 ≤ m.header.number
+                            pos2 = let y = given q e in omega (arith, y, number)
+
+                            in_epoch : (m.header.epoch ≡ epoch) ⊎ (m.header.epoch ≢ epoch) → Held (cr.receive_at now m.header m.body tn).here.session
+                            in_epoch (inr ne) = others (λ y v same. ne (ap (λ (u : Message). u.header.epoch) same ∙ v.of_epoch))
+                            in_epoch (inl same) =
+                                ended_held m (told m is tn here got) (present m is tn here got) q e (sym number) g
+                                (cr.receive_at now m.header m.body tn).here.session
+                                (counted_ends tn z now m.header q p.sound e (sym number) (plain q e) m.body there r (same ∙ sym p.epoch_is) pos2 g)
+
+        -- After the input.
+        second_held : TakesIn st.config now i walk.first walk.second → Held walk.second.session
+        second_held (IsLeft quiet server l g alike) =
+            same_held walk.second.session (subst (λ o. Alike o walk.second.session) (ap (λ (y : Association). y.session) lasts ∙ with_it) alike)
+            (λ q e f y h v. by q f y h v (brought i brings f y h v.way.to))
+          where
+            by : (q : Request) (f : ℕ) (y : Message) → numbered ms f ≡ Some y → IsCounting k c s gap d life epoch q.number q.body y →
+                (i ≡ inputs.Control y) ⊎ (x.event ≢ events.Deliver f) → x.event ≢ events.Deliver f
+            by q f y h v (inl is) = absurd (subst IsNoMessage is quiet)
+            by q f y h v (inr ne) = ne
+        second_held (IsHeard tn m is kb here there sv lf) = subst (λ (y : Association). Held y.session) (sym there) (heard m is tn (here ∙ lasts))
+
+      -- The passes.
+      -- a request that was not there before is new
+      new_request : (q : ℕ) → ((m : Message) → Has m ms → To c s m → m.header.life ≡ life → m.header.epoch ≡ epoch → m.header.number ≡ q → ⊥) →
+          (m : Message) → Has m ns → To c s m → m.header.life ≡ life →
+          m.header.epoch ≡ epoch → m.header.number ≡ q → IsNew c x ns now.0 (cl.client_step st now i).out m
+      new_request q none m h y l e u = go (new m h)
+        where
+          go : Has m ms ⊎ IsNew c x ns now.0 (cl.client_step st now i).out m → IsNew c x ns now.0 (cl.client_step st now i).out m
+          go (inl j) = absurd (none m j y l e u)
+          go (inr j) = j
+
+      -- no request was sent under the next number
+      module _ (u : ClientSession) (held : S2 u) (next : ℕ) (none : (m : Message) → Has m ms → To c s m → m.header.life ≡ life → m.header.epoch ≡ epoch →
+          m.header.number ≡ u.requests.next → ⊥) where
+        passed : Ready u → (o : Option ClientSession) → b.session ≡ o → IsPassed now u o → Phase k c s gap d past2 ns n.sessions life epoch t.last o
+        passed ready o at_b y = subst (Phase k c s gap d past2 ns n.sessions life epoch t.last) (sym y.is) (go y.requests)
+          where
+            v : ClientSession
+            v = y.session
+
+            at_v : b.session ≡ Some v
+            at_v = at_b ∙ y.is
+
+            -- with these requests
+            with_requests : Requested k c s gap d past2 ns life epoch t.last u.lease.date.0 v.requests.next v.requests.asked → t.last < v.requests.next → S2 v
+            with_requests r below =
+                record {
+                  epoch_is = ap (λ (y : Epoch). y.0) y.epoch ∙ held.epoch_is;
+                  settled = y.due ∙ held.settled;
+                  sound = ap (λ (y : ClientLease). y.condemned) y.lease ∙ held.sound;
+                  served = held.served;
+                  below = below;
+                  requests = subst (λ (l : ClientLease). Requested k c s gap d past2 ns life epoch t.last l.date.0 v.requests.next v.requests.asked)
+                      (sym y.lease) r;
+                }
+
+            go : Asked now u v.requests → S2 v
+            go (Still r) =
+                with_requests (subst (λ (w : cs.Requests). Requested k c s gap d past2 ns life epoch t.last u.lease.date.0 w.next w.asked) (sym r)
+                held.requests)
+                (subst (λ (w : cs.Requests). t.last < w.next) (sym r) held.below)
+            go (Again q e r) =
+                with_requests (subst (λ (w : cs.Requests). Requested k c s gap d past2 ns life epoch t.last u.lease.date.0 w.next w.asked) (sym r) again)
+                (subst (λ (w : cs.Requests). t.last < w.next) (sym r) held.below)
+              where
+                f : IsAsking2 k c s gap d past2 ns life epoch t.last u.lease.date.0 u.requests.next q
+                f = subst (Requested k c s gap d past2 ns life epoch t.last u.lease.date.0 u.requests.next) e held.requests
+
+                again : IsAsking2 k c s gap d past2 ns life epoch t.last u.lease.date.0 u.requests.next (record q { sent = now })
+                again = record { served = f.served; number = f.number; follows = f.follows; first = f.first }
+            go (Anew body e served r) =
+                with_requests (subst (λ (w : cs.Requests). Requested k c s gap d past2 ns life epoch t.last u.lease.date.0 w.next w.asked) (sym r) anew)
+                (subst (λ (w : cs.Requests). t.last < w.next) (sym r) (let l = held.below in omega (arith, l)))
+              where
+                q : Request
+                q = record { number = u.requests.next; body = body; sent = now }
+
+                is_served_body : is_served body ≡ true
+                is_served_body = served held.settled
+
+                at_requests : view b.session ≡ Some (epoch, record { next = u.requests.next + 1; asked = Some q })
+                at_requests = ap view at_v ∙ ap (λ (i : ℕ). Some (i, v.requests)) (ap (λ (y : Epoch). y.0) y.epoch ∙ held.epoch_is) ∙ ap
+                    (λ (w : cs.Requests). Some (epoch, w)) r
+
+                sent : (m : Message) × Has m ns × Rattle.st_laws_requests.specs.Cuts.Cuts.Keyed c s life epoch u.requests.next m
+                sent = subst (λ o. Rattle.st_laws_requests.specs.Cuts.Cuts.SentIn (λ m. Has m ns) c s life o) at_requests numbers2.sent
+
+                m0 : Message
+                m0 = sent.0
+
+                pos : 1 ≤ u.requests.next
+                pos = (subst Counts at_requests numbers2.counts).1.0
+
+                -- a request under this number has this body
+                body_is : (m : Message) → Has m ns → To c s m → m.header.life ≡ life → m.header.epoch ≡ epoch → m.header.number ≡ u.requests.next →
+                    m.body ≡ body
+                body_is m h w l ep nu =
+                    (subst (λ o. Placed life o m) at_requests (numbers2.placed m h (w.from, w.to)) l (omega (arith, nu, pos))).same ep nu
+
+                way0 : To c s m0
+                way0 = record { from = sent.2.between.0; to = sent.2.between.1 }
+
+                is_new : IsNew c x ns now.0 (cl.client_step st now i).out m0
+                is_new = new_request u.requests.next none m0 sent.1 way0 sent.2.of_life sent.2.of_epoch sent.2.under
+
+                asks0 : IsAsking k c s gap d life epoch u.requests.next body m0
+                asks0 = record {
+                  way = way0;
+                  of_life = sent.2.of_life;
+                  of_epoch = sent.2.of_epoch;
+                  under = sent.2.under;
+                  says = body_is m0 sent.1 way0
+                      sent.2.of_life sent.2.of_epoch sent.2.under;
+                }
+
+                between0 : is_between c s m0.header ≡ true
+                between0 = or_left _ _ (and_both (m0.header.from == c.0) (m0.header.to == server_node s) (eq-eqb m0.header.from c.0 way0.from)
+                    (eq-eqb m0.header.to (server_node s) way0.to))
+
+                first : IsOutstanding k c s gap d past2 ns life epoch u.lease.date.0 u.requests.next body
+                first =
+                    record {
+                      from = now.0;
+                      young = ready e;
+                      stamps = λ m h g. let z = new_request u.requests.next none m h g.way g.of_life g.of_epoch g.under in
+                          let l = z.stamp (subst (λ b. dating.is_request b ≡ true) (sym g.says) (served_request body is_served_body)) in omega (arith, l);
+                      trip = subst (Trip c s d past2 ns (IsAsking k c s gap d life epoch u.requests.next body)
+                          (IsCounting k c s gap d life epoch u.requests.next body)) clock
+                          (Out (takes_off c s d past x ns (IsAsking k c s gap d life epoch u.requests.next body) is_new.number m0 is_new.sent is_new.there
+                          between0 asks0));
+                    }
+
+                anew : IsAsking2 k c s gap d past2 ns life epoch t.last u.lease.date.0 (u.requests.next + 1) q
+                anew = record {
+                  served = is_served_body;
+                  number = refl;
+                  follows = let l : u.requests.next ≤ t.last + 1 = subst
+                      (Requested k c s gap d past2 ns life epoch t.last u.lease.date.0 u.requests.next) e held.requests in omega (arith, l);
+                  first = first;
+                }
+
+      -- With a session before.
+      with_session : (z : ClientSession) → a.session ≡ Some z → Phase k c s gap d past2 ns n.sessions life epoch t.last b.session
+      with_session z e = go (second_held z e p walk.takes)
+        where
+          p : S z
+          p = subst (Phase k c s gap d past ms n.sessions life epoch t.last) e t.phase
+
+          none : (u : ClientSession) → u.requests.next ≡ z.requests.next → (m : Message) → Has m ms → To c s m → m.header.life ≡ life →
+              m.header.epoch ≡ epoch → m.header.number ≡ u.requests.next → ⊥
+          none u q m h y l ep nu =
+              let some = (subst (λ o. Counts (view o)) e numbers.counts).0 in
+              let below = (subst (λ o. Placed life (view o) m) e (numbers.placed m h (y.from, y.to)) l (omega (arith, nu, q, some))).below
+              (ep ∙ sym p.epoch_is) in
+              omega (arith, below, nu, q)
+
+          go : Held z e p walk.second.session → Phase k c s gap d past2 ns n.sessions life epoch t.last b.session
+          go (u, is, held, ready, q) = passed u held u.requests.next (none u q) ready b.session refl (subst (λ o. After now o b.session) is walk.works.session)
+
+      -- and it stays
+      stays_session : (z : ClientSession) → a.session ≡ Some z → (y : ClientSession) × (b.session ≡ Some y)
+      stays_session z e = go (second_held z e (subst (Phase k c s gap d past ms n.sessions life epoch t.last) e t.phase) walk.takes)
+        where
+          go : Held z e (subst (Phase k c s gap d past ms n.sessions life epoch t.last) e t.phase) walk.second.session →
+              (y : ClientSession) × (b.session ≡ Some y)
+          go (u, is, held, ready, q) = let p = subst (λ o. After now o b.session) is walk.works.session in (p.session, p.is)
+
+      -- Without a session before.
+      module _ (without : a.session ≡ None) where
+        before : Greeted k c s gap d past ms life × (t.last ≡ 0)
+        before = subst (Phase k c s gap d past ms n.sessions life epoch t.last) without t.phase
+
+        no_requests : (m : Message) → Has m ms → To c s m → m.header.life ≡ life → m.header.number ≡ 0
+        no_requests m h y l = subst (λ o. Placed life (view o) m) without (numbers.placed m h (y.from, y.to)) l
+
+        -- a welcome answers a greeting
+        record Answers (m : Message) : Type 0 where
+          greeting : Message
+          among : Has greeting ms
+          is : IsGreeting k c s gap d life greeting
+          stamp : greeting.header.stamp ≡ m.header.stamp
+          not_later : m.header.stamp ≤ now.0
+          epoch_is : m.header.epoch ≡ epoch
+          served : IsServed c s ms n.sessions life epoch t.last
+
+        answers : (m : Message) → IsTold c s ms n.sessions life epoch t.last m → m.header.life ≡ life → m.body ≡ bd.Welcome → Answers m
+        answers m told present e = by told
+          where
+            hello_seen : (b : Body) → b ≡ bd.Hello → IsSeen b → ⊥
+            hello_seen _ q (SawDemand ino g) = no q
+              where
+                no : bd.DemandSeen ino g ≡ bd.Hello → ⊥
+                no v = cc
+
+            stamp_past2 : (r : Message) → IsAsked c s now.0 r → r.body ≡ bd.Hello → r.header.stamp ≡ m.header.stamp → m.header.stamp ≤ now.0
+            stamp_past2 r (Greets f l) q j = omega (arith, l, j)
+            stamp_past2 r (Sees f) q j = absurd (hello_seen r.body q f)
+            stamp_past2 r (Requests f g l) q j = omega (arith, l, j)
+
+            good : m.header.epoch ≡ epoch → IsGood c s ms n.sessions life epoch t.last m → Answers m
+            good ep (IsAWelcome f sv r h y l q j) =
+                record {
+                  greeting = r;
+                  among = h;
+                  is = record { way = y; of_life = l; body = q };
+                  stamp = j;
+                  not_later = stamp_past2 r (t.asked r h y l) q j;
+                  epoch_is = ep;
+                  served = sv;
+                }
+            good ep (TellsEpoch y v f) = absurd (no (sym e ∙ f))
+              where
+                no : bd.Welcome ≡ bd.Nack Rattle.st_messages.specs.declared.message.Why.TheVariants.OtherEpoch y v → ⊥
+                no g = cc
+            good ep (IsCounted f l r g j v) = absurd (no (sym (ap (counts_for r.body) e) ∙ v))
+              where
+                no : ◌≡◌ {A = Bool} false true → ⊥
+                no g = cc
+
+            by : IsTold c s ms n.sessions life epoch t.last m → Answers m
+            by (IsOwn u) = absurd (clash (is_unasked m.body) u.body (ap is_unasked e))
+            by (IsEarlier l) = absurd (omega (arith, l, present))
+            by (IsReplied l y g) = good y g
+
+        -- after the input: no session yet, while the greeting or its welcome is on its way, or one that begins
+        data Second (o : Option ClientSession) : Type 0 where
+          IsNone : o ≡ None → (is_some a.greeting ≡ true → is_some walk.second.greeting ≡ true) →
+              ((from : ℕ) → ((m : Message) → Has m ms → IsGreeting k c s gap d life m → from ≤ m.header.stamp) →
+              Trip c s d past ms (IsGreeting k c s gap d life) (IsWelcoming k c s gap d life) from →
+              Trip c s d past2 ns (IsGreeting k c s gap d life) (IsWelcoming k c s gap d life) from) → Second o
+          IsBegun : (u : ClientSession) → o ≡ Some u → S2 u → Ready u → u.requests.next ≡ 1 → Second o
+
+        -- the trip goes on, where no welcome was delivered
+        trip_kept : (from : ℕ) → ((f : ℕ) (y : Message) → numbered ms f ≡ Some y → IsWelcoming k c s gap d life y → x.event ≢ events.Deliver f) →
+            Trip c s d past ms (IsGreeting k c s gap d life) (IsWelcoming k c s gap d life) from →
+            Trip c s d past2 ns (IsGreeting k c s gap d life) (IsWelcoming k c s gap d life) from
+        trip_kept from ne (Out f) = Out (fly k c s gap d past x w ns more keeps (IsGreeting k c s gap d life) (IsGreeting k c s gap d life) from (server_node s)
+            f (λ y. y) f.like.way.to deaf_server)
+        trip_kept from ne (Back y l r f) =
+            Back y l r (flies_on c s d past x ms ns keeps (IsWelcoming k c s gap d life) (IsWelcoming k c s gap d life) y f (λ y. y)
+            (ne f.number f.message f.there f.like))
+
+        heard_none : (m : Message) → i ≡ inputs.Control m → (tn : Turn) → tn.config ≡ k → tn.here ≡ a →
+            walk.second ≡ (cr.receive_at now m.header m.body tn).here → Second walk.second.session
+        heard_none m is tn kb here there = by (hears tn now m.header m.body (ap (λ (y : Association). y.session) here ∙ without))
+          where
+            second_is : (cr.receive_at now m.header m.body tn).here ≡ walk.second
+            second_is = sym there
+
+            by : Hears tn now m.header m.body (cr.receive_at now m.header m.body tn) → Second walk.second.session
+            by (Unmet same untimely) =
+                IsNone (ap (λ (y : Association). y.session) (there ∙ same ∙ here) ∙ without)
+                (λ e. ap (λ (y : Association). is_some y.greeting) (there ∙ same ∙ here) ∙ e)
+                (λ from first trip. trip_kept from (λ f y h v. unheard from first trip f y h v (brought i brings f y h v.way.to)) trip)
+              where
+                same_message : (y : Message) → i ≡ inputs.Control y → m ≡ y
+                same_message y e = same2 (sym is ∙ e)
+                  where
+                    same2 : inputs.Control m ≡ inputs.Control y → m ≡ y
+                    same2 q = cc
+
+                unheard : (from : ℕ) → ((m : Message) → Has m ms → IsGreeting k c s gap d life m → from ≤ m.header.stamp) →
+                    Trip c s d past ms (IsGreeting k c s gap d life) (IsWelcoming k c s gap d life) from → (f : ℕ) (y : Message) → numbered ms f ≡ Some y →
+                    IsWelcoming k c s gap d life y →
+                    (i ≡ inputs.Control y) ⊎ (x.event ≢ events.Deliver f) → x.event ≢ events.Deliver f
+                unheard from first trip f y h v (inr ne) = ne
+                unheard from first trip f y h v (inl e) = absurd (clash (cr.is_timely tn now (record { 0 = m.header.stamp })) timely
+                    (untimely (is_received tn now m.header got) welcome))
+                  where
+                    it : m ≡ y
+                    it = same_message y e
+
+                    welcome : m.body ≡ bd.Welcome
+                    welcome = ap (λ (u : Message). u.body) it ∙ v.body
+
+                    z : Answers y
+                    z = answers y (t.told y (numbered_has ms f y h) v.way) v.of_life v.body
+
+                    got : IsReceived tn now m.header
+                    got =
+                        record {
+                          from = ap (λ (u : Message). u.header.from) it ∙ v.way.from ∙ ap (λ (u : ServerId). server_node u) (sym at) ∙ ap
+                              (λ (u : Association). server_node u.server) (sym here);
+                          life = ap (λ (u : Message). u.header.life) it ∙ v.of_life ∙ ap (λ (u : Association). u.life.0) (sym here);
+                          stamp = let l = z.not_later in let j = ap (λ (u : Message). u.header.stamp) it in omega (arith, l, j);
+                        }
+
+                    timely : cr.is_timely tn now (record { 0 = m.header.stamp }) ≡ true
+                    timely =
+                        and_both (is_some tn.here.greeting) (nat_lt now.0 (m.header.stamp + tn.config.lease))
+                        (ap (λ (u : Association). is_some u.greeting) here ∙ t.greets without z.greeting z.among z.is)
+                        (lt-ltb now.0 (m.header.stamp + tn.config.lease)
+                        (let over = trip_ends c s d past ms now.0 (IsGreeting k c s gap d life) (IsWelcoming k c s gap d life) from in_time trip in
+                        let l = first z.greeting z.among z.is in
+                        let j = z.stamp in
+                        let g = ap (λ (u : Message). u.header.stamp) it in
+                        let q = le-max_right (k.renew + gap) (2 * d + 1) in
+                        let o = ap (λ (kb : Config). kb.lease) kb in
+                        omega (arith, over, l, j, g, q, o, fits)))
+            by (Met r e timely server l session) =
+                IsBegun u (ap (λ (y : Association). y.session) there ∙ session)
+                (record {
+                  epoch_is = z.epoch_is;
+                  settled = refl;
+                  sound = refl;
+                  served = served_more c s ms ns more n.sessions life epoch t.last z.served;
+                  below = let q = before.1 in omega (arith, q);
+                  requests = omega arith;
+                }) (λ f. young_from before.0) refl
+              where
+                u : ClientSession
+                u = cr.new_session (record { 0 = m.header.epoch }) (record { 0 = m.header.stamp })
+
+                got : IsReceived tn now m.header
+                got = received_from tn now m.header r
+
+                z : Answers m
+                z = answers m (told m is tn here got) (present m is tn here got) e
+
+                young_from : Greeted k c s gap d past ms life → now.0 < m.header.stamp + cap
+                young_from (IsSilent f) = absurd (f z.greeting z.among z.is)
+                young_from (HasGreeted from first trip) =
+                    let over = trip_ends c s d past ms now.0 (IsGreeting k c s gap d life) (IsWelcoming k c s gap d life) from in_time trip in
+                    let l = first z.greeting z.among z.is in
+                    let j = z.stamp in
+                    let q = le-max_right (k.renew + gap) (2 * d + 1) in
+                    omega (arith, over, l, j, q)
+
+        second : TakesIn st.config now i walk.first walk.second → Second walk.second.session
+        second (IsLeft quiet server l g alike) =
+            IsNone (subst (λ o. Alike o walk.second.session) (ap (λ (y : Association). y.session) lasts ∙ without) alike)
+            (λ e. ap is_some (g ∙ ap (λ (y : Association). y.greeting) lasts) ∙ e)
+            (λ from first trip. trip_kept from (λ f y h v. by f y (brought i brings f y h v.way.to)) trip)
+          where
+            by : (f : ℕ) (y : Message) → (i ≡ inputs.Control y) ⊎ (x.event ≢ events.Deliver f) → x.event ≢ events.Deliver f
+            by f y (inl is) = absurd (subst IsNoMessage is quiet)
+            by f y (inr ne) = ne
+        second (IsHeard tn m is kb here there sv lf) = heard_none m is tn (kb ∙ config) (here ∙ lasts) there
+
+        -- a greeting among the messages, or none
+        abbrev is_greeting : Message → Bool
+        is_greeting m = (m.header.from == c.0) && ((m.header.to == server_node s) && ((m.header.life == life) && is_hello m.body))
+
+        greets_by : (m : Message) → is_greeting m ≡ true → IsGreeting k c s gap d life m
+        greets_by m e =
+            let p = and_true (m.header.from == c.0) ((m.header.to == server_node s) && ((m.header.life == life) && is_hello m.body)) e in
+            let q = and_true (m.header.to == server_node s) ((m.header.life == life) && is_hello m.body) p.1 in
+            let r = and_true (m.header.life == life) (is_hello m.body) q.1 in
+            record {
+              way = record { from = eqb-true m.header.from c.0 p.0; to = eqb-true m.header.to (server_node s) q.0 };
+              of_life = eqb-true m.header.life life r.0;
+              body = hello_is m.body r.1;
+            }
+
+        none_greets : (m : Message) → is_greeting m ≡ false → IsGreeting k c s gap d life m → ⊥
+        none_greets m e g =
+            clash (is_greeting m)
+            (and_both (m.header.from == c.0) _ (eq-eqb m.header.from c.0 g.way.from)
+            (and_both (m.header.to == server_node s) _ (eq-eqb m.header.to (server_node s) g.way.to)
+            (and_both (m.header.life == life) _ (eq-eqb m.header.life life g.of_life) (ap is_hello g.body)))) e
+
+        -- a new greeting has the present stamp
+        greets_now : (m : Message) → IsNew c x ns now.0 (cl.client_step st now i).out m → IsGreeting k c s gap d life m → m.header.stamp ≡ now.0
+        greets_now m z g = z.stamp (ap dating.is_request g.body)
+
+        greeted2 : Greeted k c s gap d past ms life →
+            ((from : ℕ) → ((m : Message) → Has m ms → IsGreeting k c s gap d life m → from ≤ m.header.stamp) →
+            Trip c s d past ms (IsGreeting k c s gap d life) (IsWelcoming k c s gap d life) from →
+            Trip c s d past2 ns (IsGreeting k c s gap d life) (IsWelcoming k c s gap d life) from) → Greeted k c s gap d past2 ns life
+        greeted2 (HasGreeted from first trip) on =
+            HasGreeted from (λ m h g. by m g (new m h)) (on from first trip)
+          where
+            by : (m : Message) → IsGreeting k c s gap d life m → Has m ms ⊎ IsNew c x ns now.0 (cl.client_step st now i).out m → from ≤ m.header.stamp
+            by m g (inl h) = first m h g
+            by m g (inr z) =
+                let e = greets_now m z g in
+                let l = trip_began c s d past ms now.0 (IsGreeting k c s gap d life) (IsWelcoming k c s gap d life) from begun trip in
+                omega (arith, e, l)
+        greeted2 (IsSilent f) on = go (list_any is_greeting ns) refl
+          where
+            is_new : (m : Message) → Has m ns → IsGreeting k c s gap d life m → IsNew c x ns now.0 (cl.client_step st now i).out m
+            is_new m h g = by (new m h)
+              where
+                by : Has m ms ⊎ IsNew c x ns now.0 (cl.client_step st now i).out m → IsNew c x ns now.0 (cl.client_step st now i).out m
+                by (inl j) = absurd (f m j g)
+                by (inr z) = z
+
+            go : (b : Bool) → list_any is_greeting ns ≡ b → Greeted k c s gap d past2 ns life
+            go false e = IsSilent (λ m h g. none_greets m (none_passes is_greeting ns e m h) g)
+            go true e =
+                let y = any_has is_greeting ns e in
+                let g = greets_by y.0 y.2 in
+                let z = is_new y.0 y.1 g in
+                HasGreeted now.0 (λ m h v. let q = greets_now m (is_new m h v) v in omega (arith, q))
+                (subst (Trip c s d past2 ns (IsGreeting k c s gap d life) (IsWelcoming k c s gap d life)) clock
+                (Out (takes_off c s d past x ns (IsGreeting k c s gap d life) z.number y.0 z.sent z.there
+                (or_left _ _ (and_both (y.0.header.from == c.0) (y.0.header.to == server_node s) (eq-eqb y.0.header.from c.0 g.way.from)
+                (eq-eqb y.0.header.to (server_node s) g.way.to))) g)))
+
+        without_session : Phase k c s gap d past2 ns n.sessions life epoch t.last b.session
+        without_session = go (second walk.takes)
+          where
+            go : Second walk.second.session → Phase k c s gap d past2 ns n.sessions life epoch t.last b.session
+            go (IsNone e g on) =
+                subst (Phase k c s gap d past2 ns n.sessions life epoch t.last) (sym (subst (λ o. After now o b.session) e walk.works.session))
+                (greeted2 before.0 on, before.1)
+            go (IsBegun u e held ready q) =
+                passed u held u.requests.next (λ m h y l ep nu. let z = no_requests m h y l in omega (arith, z, nu, q)) ready b.session refl
+                (subst (λ o. After now o b.session) e walk.works.session)
+
+        -- whoever greeted remembers it, until its session begins
+        greets_on : b.session ≡ None → is_some a.greeting ≡ true → is_some b.greeting ≡ true
+        greets_on e g = go (second walk.takes)
+          where
+            go : Second walk.second.session → is_some b.greeting ≡ true
+            go (IsNone f on trip) = walk.works.greeting (on g)
+            go (IsBegun u f held ready q) = absurd (no ((subst (λ o. After now o b.session) f walk.works.session).is) e)
+              where
+                no : {y : ClientSession} → b.session ≡ Some y → b.session ≡ None → ⊥
+                no p q = no2 (sym q ∙ p)
+                  where
+                    no2 : {y : ClientSession} → ◌≡◌ {A = Option ClientSession} None (Some y) → ⊥
+                    no2 r = cc
+
+    -- All associations with the server.
+    module _ (told : Told st now i fit i) (talks : (a : Association) → Has a st.associations → a.server ≡ s → Talks k c s gap d past ms n now.0 a)
+        (young : (a : Association) → Has a st.associations → (z : ClientSession) → a.session ≡ Some z → z.lease.condemned ≡ false → z.requests.asked ≡ None →
+        now.0 < z.lease.date.0 + k.renew + gap)
+        (numbers : (a : Association) → Has a st.associations → Numbers (λ m. Has m ms) c a.server a.life.0 (view a.session))
+        (numbers2 : (b : Association) → Has b (cl.client_step st now i).state.associations → Numbers (λ m. Has m ns) c b.server b.life.0 (view b.session))
+        (once : (a b : Association) → Has a (cl.client_step st now i).state.associations → Has b (cl.client_step st now i).state.associations →
+        a.server.0 ≡ b.server.0 → a ≡ b) where
+      -- what is known of one
+      record Phased (b : Association) : Type 0 where
+        last : ℕ
+        known : IsKnown c s ns n.sessions b.life.0 epoch last
+        told_of : (m : Message) → Has m ns → From c s m → IsTold c s ns n.sessions b.life.0 epoch last m
+        asked : (m : Message) → Has m ms → To c s m → m.header.life ≡ b.life.0 → IsAsked c s now.0 m
+        greets : b.session ≡ None → (m : Message) → Has m ms → IsGreeting k c s gap d b.life.0 m → is_some b.greeting ≡ true
+        phase : Phase k c s gap d past2 ns n.sessions b.life.0 epoch last b.session
+
+      phased : (b : Association) → Has b (cl.client_step st now i).state.associations → b.server ≡ s → Phased b
+      phased b h at_b = go (walks st now i fit told b h)
+        where
+          go : (a : Association) × Has a st.associations × Walks st now i fit a b → Phased b
+          go (a, j, walk) =
+              record {
+                last = t.last;
+                known = subst (λ (l : Life). IsKnown c s ns n.sessions l.0 epoch t.last) (sym life_same)
+                    (known_more c s ms ns more n.sessions a.life.0 epoch t.last t.known);
+                told_of = λ m h f. subst (λ (l : Life). IsTold c s ns n.sessions l.0 epoch t.last m) (sym life_same)
+                    (told_more c s ms ns more n.sessions n.sessions a.life.0 epoch t.last t.last (omega arith)
+                    (λ y. served_more c s ms ns more n.sessions a.life.0 epoch t.last y) m (t.told m (old_from m h f) f));
+                asked = λ m h f l. t.asked m h f (l ∙ ap (λ (y : Life). y.0) life_same);
+                greets = λ e m h g. greets e m h (subst (λ (l : Life). IsGreeting k c s gap d l.0 m) life_same g);
+                phase = subst (λ (l : Life). Phase k c s gap d past2 ns n.sessions l.0 epoch t.last b.session) (sym life_same) (phase a.session refl);
+              }
+            where
+              server_first : walk.first.server ≡ a.server
+              server_first = sym walk.loses.server
+
+              taken : TakesIn st.config now i walk.first walk.second → (walk.second.server ≡ walk.first.server) × (walk.second.life ≡ walk.first.life)
+              taken (IsLeft quiet sv l g alike) = (sv, l)
+              taken (IsHeard tn m is kb here there sv lf) = (sv, lf)
+
+              at_a : a.server ≡ s
+              at_a = sym (walk.works.server ∙ (taken walk.takes).0 ∙ server_first) ∙ at_b
+
+              t : Talks k c s gap d past ms n now.0 a
+              t = talks a j at_a
+
+              numbers_a : Numbers (λ m. Has m ms) c s a.life.0 (view a.session)
+              numbers_a = subst (λ y. Numbers (λ m. Has m ms) c y a.life.0 (view a.session)) at_a (numbers a j)
+
+              -- nothing is lost, so the life stays
+              kept : walk.first ≡ a
+              kept = lasts_at a b walk t (young a j)
+
+              life_same : b.life ≡ a.life
+              life_same = walk.works.life ∙ (taken walk.takes).1 ∙ ap (λ (y : Association). y.life) kept
+
+              numbers_b : Numbers (λ m. Has m ns) c s a.life.0 (view b.session)
+              numbers_b = subst (λ y. Numbers (λ m. Has m ns) c y a.life.0 (view b.session)) at_b
+                  (subst (λ (l : Life). Numbers (λ m. Has m ns) c b.server l.0 (view b.session)) life_same (numbers2 b h))
+
+              phase : (o : Option ClientSession) → a.session ≡ o → Phase k c s gap d past2 ns n.sessions a.life.0 epoch t.last b.session
+              phase None e = without_session a b walk at_a t (young a j) numbers_a numbers_b e
+              phase (Some z) e = with_session a b walk at_a t (young a j) numbers_a numbers_b z e
+
+              greets : b.session ≡ None → (m : Message) → Has m ms → IsGreeting k c s gap d a.life.0 m → is_some b.greeting ≡ true
+              greets e m h g = by a.session refl
+                where
+                  none_of : {y : ClientSession} → b.session ≡ None → b.session ≡ Some y → ⊥
+                  none_of p q = no (sym p ∙ q)
+                    where
+                      no : {y : ClientSession} → ◌≡◌ {A = Option ClientSession} None (Some y) → ⊥
+                      no r = cc
+
+                  by : (o : Option ClientSession) → a.session ≡ o → is_some b.greeting ≡ true
+                  by None f = greets_on a b walk at_a t (young a j) numbers_a numbers_b f e (t.greets f m h g)
+                  by (Some z) f = absurd (none_of e (stays_session a b walk at_a t (young a j) numbers_a numbers_b z f).1)
+
+      -- why the step sent a message to the server
+      asked_new : (b : Association) → Has b (cl.client_step st now i).state.associations → b.server ≡ s → (m : Message) →
+          IsNew c x ns now.0 (cl.client_step st now i).out m → To c s m → IsAsked c s now.0 m
+      asked_new b h at_b m z y = go (sends st now i fit m z.among)
+        where
+          by : (r : Association) → Has r (cl.client_step st now i).state.associations → IsSentBy r m → IsAsked c s now.0 m
+          by r j q = cause q.cause
+            where
+              at_r : r.server ≡ s
+              at_r = ap (λ i. record { 0 = i }) (let u = q.to in let v = y.to in let g : r.server.0 ≡ s.0 = omega (arith, u, v) in g)
+
+              ph : Phased r
+              ph = phased r j at_r
+
+              cause : SentBy r m → IsAsked c s now.0 m
+              cause (ByGreeting e none g) = Greets e (let u = z.stamp (ap dating.is_request e) in omega (arith, u))
+              cause (ByRequest u o e f number body) =
+                  let p = subst (Phase k c s gap d past2 ns n.sessions r.life.0 epoch ph.last) e ph.phase in
+                  let a = subst (Requested k c s gap d past2 ns r.life.0 epoch ph.last u.lease.date.0 u.requests.next) f p.requests in
+                  let served : is_served m.body ≡ true = ap is_served body ∙ a.served in
+                  let pos = (subst (Given u.requests.next) f (subst (λ o. Counts (view o)) e (numbers2 r j).counts).1).0 in
+                  Requests (omega (arith, number, pos)) served (let v = z.stamp (served_request m.body served) in omega (arith, v))
+
+          go : IsSeen m.body ⊎ ((r : Association) × Has r (cl.client_step st now i).state.associations × IsSentBy r m) → IsAsked c s now.0 m
+          go (inl f) = Sees f
+          go (inr (r, j, q)) = by r j q
+
+      -- what is known after the step
+      pub client_talks : (b : Association) → Has b (cl.client_step st now i).state.associations → b.server ≡ s → Talks k c s gap d past2 ns n now.0 b
+      client_talks b h at_b =
+          record {
+            last = p.last;
+            known = p.known;
+            told = p.told_of;
+            asked = λ m j f l. asked m f l (new m j);
+            greets = λ e m j g. greets e m g (new m j);
+            phase = p.phase;
+          }
+        where
+          p : Phased b
+          p = phased b h at_b
+
+          asked : (m : Message) → To c s m → m.header.life ≡ b.life.0 → Has m ms ⊎ IsNew c x ns now.0 (cl.client_step st now i).out m → IsAsked c s now.0 m
+          asked m f l (inl j) = p.asked m j f l
+          asked m f l (inr z) = asked_new b h at_b m z f
+
+          greets : b.session ≡ None → (m : Message) → IsGreeting k c s gap d b.life.0 m → Has m ms ⊎ IsNew c x ns now.0 (cl.client_step st now i).out m →
+              is_some b.greeting ≡ true
+          greets e m g (inl j) = p.greets e m j g
+          greets e m g (inr z) = go (sends st now i fit m z.among)
+            where
+              hello_seen : (y : Body) → y ≡ bd.Hello → IsSeen y → ⊥
+              hello_seen _ q (SawDemand ino g) = no q
+                where
+                  no : bd.DemandSeen ino g ≡ bd.Hello → ⊥
+                  no v = cc
+
+              cause : (r : Association) → Has r (cl.client_step st now i).state.associations → IsSentBy r m → SentBy r m → is_some b.greeting ≡ true
+              cause r j q (ByGreeting f none v) =
+                  subst (λ (y : Association). is_some y.greeting ≡ true)
+                  (once r b j h (let u = q.to in let w = g.way.to in let y : r.server.0 ≡ b.server.0 =
+                  (let e1 = ap (λ (i : ServerId). i.0) at_b in omega (arith, u, w, e1)) in y)) v
+              cause r j q (ByRequest u o f e2 number body) =
+                  let at_r : r.server ≡ s = ap (λ i. record { 0 = i }) (let u1 = q.to in let w = g.way.to in let y : r.server.0 ≡ s.0 = omega (arith, u1, w)
+                  in y) in
+                  let ph = phased r j at_r in
+                  let p2 = subst (Phase k c s gap d past2 ns n.sessions r.life.0 epoch ph.last) f ph.phase in
+                  let a = subst (Requested k c s gap d past2 ns r.life.0 epoch ph.last u.lease.date.0 u.requests.next) e2 p2.requests in
+                  absurd (clash (is_served o.body) a.served (ap is_served (sym body ∙ g.body)))
+
+              go : IsSeen m.body ⊎ ((r : Association) × Has r (cl.client_step st now i).state.associations × IsSentBy r m) → is_some b.greeting ≡ true
+              go (inl f) = absurd (hello_seen m.body g.body f)
+              go (inr (r, j, q)) = cause r j q q.cause

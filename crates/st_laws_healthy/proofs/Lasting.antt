@@ -1,0 +1,462 @@
+-- Leases last, over whole runs: what is known of a healthy client's associations with its server holds after every event, so a lease is never as old as the
+-- bound.
+use Rattle.std.proofs.Common.{◌≡◌, ℕ, ◌+◌, ◌*◌, ◌≤◌, ◌<◌, ◌⊎◌, Bool, true, false, List, [], ◌∷◌, ◌++◌, Option, Some, None, Ok, refl, sym, ap, ◌∙◌, subst, inl, inr, arith}
+use Rattle.std.specs.Prelude.{is_some, map, max}
+use Rattle.std.specs.List.{list_all}
+use Rattle.std.proofs.Math.Nat.{le-max_left}
+use Rattle.std.proofs.lemmas.Bool.{eqb-true, lt-ltb}
+use Rattle.st_base.specs.declared.config.Config.{Config}
+use Rattle.st_base.specs.declared.ids.ClientId.{ClientId}
+use Rattle.st_base.specs.declared.ids.ServerId.{ServerId}
+use Rattle.st_base.specs.declared.ids.Stamp.{Stamp}
+use Rattle.st_base.specs.declared.ids.NodeId.TheVariants as nodes
+use Rattle.st_messages.specs.declared.event.Event.{Event}
+use Rattle.st_messages.specs.declared.message.Message.{Message}
+use Rattle.st_messages.specs.declared.output.Output.TheVariants as outputs
+use Rattle.st_rules.specs.declared.client.ClientInput.{ClientInput}
+use Rattle.st_rules.specs.declared.client.ClientInput.TheVariants as inputs
+use Rattle.st_rules.specs.declared.client.Request.{Request}
+use Rattle.st_rules.specs.declared.input.ServerInput.{ServerInput}
+use Rattle.st_rules.specs.declared.sessions.Session.{Session}
+use Rattle.st_rules.specs.Authority.{may_ack}
+use Rattle.st_rules.specs.Client as cl
+use Rattle.st_rules.specs.ClientState.{Association, ClientSession, ClientState}
+use Rattle.st_rules.specs.Events.{WorldTurn, world_step}
+use Rattle.st_rules.specs.Extents.{numbers}
+use Rattle.st_rules.specs.History.{Traced, traced, traced_after}
+use Rattle.st_rules.specs.Keys.{server_node}
+use Rattle.st_rules.specs.Safety.{IsHead, Step, is_event, step}
+use Rattle.st_rules.specs.Server as server
+use Rattle.st_rules.specs.Server.{ServerNode}
+use Rattle.st_rules.specs.Sessions as sessions
+use Rattle.st_rules.specs.World.{World, WorldClient, clock_of, fresh_site, fresh_world, node_at_start, node_of, numbered, site_of}
+use Rattle.st_lemmas.specs.Lists.{Has}
+use Rattle.st_lemmas.proofs.Lookups.{some_is}
+use Rattle.st_lemmas.proofs.Numbers.{numbered_below}
+use Rattle.st_lemmas.proofs.Steps.{step_happens}
+use Rattle.st_lemmas.proofs.Tables.{has_map, has_map_in}
+use Rattle.st_laws_refine.specs.Server.Pair.{terms_of}
+use Rattle.st_laws_refine.specs.Server.View.{Sound}
+use Rattle.st_laws_refine.proofs.Server.Delivery.{sound_of}
+use Rattle.st_laws_pages.proofs.Lives.Fresh.{fresh_is}
+use Rattle.st_laws_steps.specs.Client.Losses.{Fit}
+use Rattle.st_laws_steps.specs.Lives.Lives.{Once, server_number}
+use Rattle.st_laws_leases.specs.Dates.Dates.{Dated, is_from_client, messages}
+use Rattle.st_laws_leases.specs.Sides.World.{ServerStands}
+use Rattle.st_laws_leases.proofs.Dates.Law as dating_law
+use Rattle.st_laws_leases.proofs.Dates.Steps as dating_steps
+use Rattle.st_laws_requests.specs.Cuts.Cuts.{CutsHold, Numbers, view}
+use Rattle.st_laws_requests.proofs.Cuts.Law as cuts_law
+use Rattle.st_laws_waits.proofs.Events.{Done, stepped}
+use Rattle.st_laws_waits.proofs.Events.Done.{Ticks, Receives, Waits, Stops, Starts}
+use Rattle.st_laws_waits.proofs.Sending.{step_same}
+use Rattle.st_laws_waits.proofs.Standing as standing
+use Rattle.st_laws_waits.proofs.Standing.{Basic, basic2, change, step_grace}
+use Rattle.st_laws_lasting.specs.Lasting.{client_clock, client_last_tick}
+use Rattle.st_laws_lasting.proofs.Young as young_ones
+use Rattle.st_laws_lasting.proofs.Young.{Ok_in, WasYoung, stand2, throughout_under}
+use Rattle.st_laws_healthy.specs.Healthy.{InHealthyRuns, IsHealthy, LeasesLast, longest}
+use Rattle.st_laws_healthy.proofs.ClientStanding.{IsNew, client_talks}
+use Rattle.st_laws_healthy.proofs.Happening.{AllRun, BothRun, Brings, ClientSteps, Delivers, Happened, IsBroken, NeitherSteps, ServerSteps, happened}
+use Rattle.st_laws_healthy.proofs.Numbers.{keeps_number, tells_number}
+use Rattle.st_laws_healthy.proofs.Served.{IsBefore}
+use Rattle.st_laws_healthy.proofs.ServerStanding.{IsSaid, serves_on}
+use Rattle.st_laws_healthy.proofs.Stepping.{Told}
+use Rattle.st_laws_healthy.proofs.Talking.{HasSession, IsAsking, IsCounting, IsSilent, Phase, Requested, Talks, talks_on}
+use Rattle.st_laws_healthy.proofs.Trips.{Begun, InTime, in_time, more_began, none_began, none_flies, trip_ends}
+
+clash : (b : Bool) → b ≡ true → b ≡ false → ⊥
+clash true e f = cc
+clash false e f = cc
+
+-- associations with one server are one
+once_same : (al : List Association) → Once (map server_number al) → (a b : Association) → Has a al → Has b al → a.server.0 ≡ b.server.0 → a ≡ b
+once_same [] o a b h i e = absurd h
+once_same (x ∷ xs) o a b (inl p) (inl q) e = p ∙ sym q
+once_same (x ∷ xs) o a b (inl p) (inr j) e = absurd (o.first (server_number b) (has_map_in server_number xs b j) (ap server_number (sym p) ∙ e))
+once_same (x ∷ xs) o a b (inr j) (inl q) e = absurd (o.first (server_number a) (has_map_in server_number xs a j) (ap server_number (sym q) ∙ sym e))
+once_same (x ∷ xs) o a b (inr i) (inr j) e = once_same xs o.rest a b i j e
+
+module _ (k : Config) (count : ℕ) (c : ClientId) (s : ServerId) (gap d : ℕ) (fits : longest k gap d ≤ k.lease) where
+  -- what holds after every event
+  pub record Stand (past : List Step) (t : Traced) : Type 0 where
+    pub cuts : CutsHold past t
+    pub dated : Dated past t
+    pub basic : Basic k count s past t
+    pub young : Ok_in k c (client_last_tick c 0 past) t.world
+    pub runs : AllRun c s t.world
+    pub free : (node : ServerNode) → node_of t.world s ≡ Some node → may_ack node.state.authority c ≡ true
+    pub off : (node : ServerNode) → node_of t.world s ≡ Some node → node.state.grace ≡ None
+    pub ticks : (site : WorldClient) (a : Association) (z : ClientSession) → site_of t.world c ≡ Some site → Has a site.node.state.associations →
+        a.session ≡ Some z →
+        client_clock c t.world ≤ client_last_tick c 0 past + gap
+    pub in_time : InTime c s d past (messages t.world) (client_clock c t.world)
+    pub begun : Begun c s d past (client_clock c t.world)
+    pub talks : (site : WorldClient) (node : ServerNode) → site_of t.world c ≡ Some site → node_of t.world s ≡ Some node → (a : Association) →
+        Has a site.node.state.associations → a.server ≡ s →
+        Talks k c s gap d past (messages t.world) node.state (client_clock c t.world) a
+
+  module _ (past : List Step) (t : Traced) (e : Event) (sc : WorldTurn) (o : Stand past t) (ok : is_event count e ≡ true) (h : world_step t.world e ≡ Ok sc)
+      (g : IsHealthy c s gap d past (step t e sc)) where
+    abbrev x : Step
+    x = step t e sc
+
+    abbrev past2 : List Step
+    past2 = past ++ x ∷ []
+
+    abbrev M2 : List Message
+    M2 = messages sc.world
+
+    cuts2 : CutsHold past2 (traced_after e t sc)
+    cuts2 = (cuts_law.one past t e sc o.cuts h).1
+
+    dated2 : Dated past2 (traced_after e t sc)
+    dated2 = (dating_law.one past t e sc o.dated h).1
+
+    place : (1 ≤ c.0) × (c.0 ≤ 16)
+    place = let z = numbered_below sc.world.clients c.0 g.site g.there in let y = z.1 in let w = dated2.few in (z.0, omega (arith, y, w))
+
+    both : BothRun c s sc.world
+    both = record { site = g.site; there = g.there; runs = g.runs; node = g.node; is = g.is; up = g.up }
+
+    it : Happened past t o.dated c s place.1 e sc
+    it = happened past t o.dated c s place.1 e sc h
+
+    -- what became of the messages
+    next : dating_steps.Next t e sc
+    next = let z = step_happens t.world e sc h in subst (λ (y : WorldTurn). dating_steps.Next t e y) (sym z.1) (dating_steps.happens past t o.dated e z.0)
+
+    more : (m : Message) → Has m (messages t.world) → Has m M2
+    more m i = next.old m i
+
+    keeps : (i : ℕ) (m : Message) → numbered (messages t.world) i ≡ Some m → numbered M2 i ≡ Some m
+    keeps i m q = keeps_number t.world e sc h i m q
+
+    -- the server's epochs agree, and it keeps its number
+    sepoch : (node : ServerNode) → node_of t.world s ≡ Some node → node.state.sessions.epoch ≡ node.state.stable.epoch
+    sepoch node at = so.sepoch
+      where
+        z : ServerStands (terms_of k) t.world s.0 node
+        z = o.basic.all.servers s.0 node at
+
+        so : Sound 1 (terms_of k).wait (clock_of t.world (nodes.Server s)) node.state (z.ghosts 1)
+        so = sound_of 1 (terms_of k).wait (clock_of t.world (nodes.Server s)) node.running node.state (z.ghosts 1) (o.runs.servers node at)
+            (z.both.stands.served 1).stands
+
+    -- what a step of the server leaves: its epoch, and no grace
+    record Left (node : ServerNode) : Type 0 where
+      grace : node.state.grace ≡ None
+      epoch : (old : ServerNode) → node_of t.world s ≡ Some old → node.state.stable.epoch ≡ old.state.stable.epoch
+
+    left : (node : ServerNode) → node_of sc.world s ≡ Some node → Left node
+    left node f = go (change k count s past t e sc o.basic ok h)
+      where
+        up : node.running ≡ true
+        up = ap (λ (n : ServerNode). n.running) (some_is (sym f ∙ g.is)) ∙ g.up
+
+        took : (old : ServerNode) (i : ServerInput) → node_of t.world s ≡ Some old → Rattle.st_laws_refine.specs.Server.Edits.WishInput i →
+            node_of sc.world s ≡ Some (stepped old (clock_of t.world (nodes.Server s)) i) → Left node
+        took old i at wish q =
+            subst Left (some_is (sym q ∙ f))
+            (record {
+              grace = (step_grace old.state (clock_of t.world (nodes.Server s)) i wish).grace ∙ o.off old at;
+              epoch = λ y z. (step_same old.state (clock_of t.world (nodes.Server s)) i wish).epoch ∙ ap (λ (n : ServerNode). n.state.stable.epoch)
+                  (some_is (sym at ∙ z));
+            })
+
+        go : Done s.0 t.world sc.world e → Left node
+        go (Ticks old at runs is q clock) = took old Rattle.st_rules.specs.declared.input.ServerInput.TheVariants.Tick at tt q
+        go (Receives old n m at runs is em to wish q clock) = took old (Rattle.st_rules.specs.declared.input.ServerInput.TheVariants.Control m.message) at
+            wish q
+        go (Waits same le q deaf) = record {
+          grace = o.off node (sym same ∙ f);
+          epoch = λ y z. ap (λ (n : ServerNode). n.state.stable.epoch)
+              (some_is (sym f ∙ same ∙ z));
+        }
+        go (Stops old at q) = absurd (clash node.running up (sym (ap (λ (n : ServerNode). n.running) (some_is (sym q ∙ f)))))
+        go (Starts old at off is q clock) = absurd (clash old.running (o.runs.servers old at) off)
+
+    young2 : Ok_in k c (client_last_tick c 0 past2) sc.world
+    young2 = stand2 k c gap past t e sc o.young h
+
+    -- a lease without an outstanding request is young
+    is_young : (last now : ℕ) → now ≤ last + gap → (z : ClientSession) → WasYoung k last (Some z) → z.lease.condemned ≡ false → z.requests.asked ≡ None →
+        now < z.lease.date.0 + k.renew + gap
+    is_young last now l z (inl (inl b)) n q = absurd (clash z.lease.condemned b n)
+    is_young last now l z (inl (inr b)) n q = absurd (no (sym (ap is_some q) ∙ b))
+      where
+        no : ◌≡◌ {A = Bool} false true → ⊥
+        no w = cc
+    is_young last now l z (inr y) n q = omega (arith, y, l)
+
+    abbrev before : ℕ
+    before = client_clock c t.world
+
+    abbrev after : ℕ
+    after = client_clock c sc.world
+
+    -- A step of the client.
+    module _ (site old : WorldClient) (i : ClientInput) (now : Stamp) (is_now : now.0 ≡ before) (same : site.node ≡ old.node)
+        (at : site_of t.world c ≡ Some old) (brings : Brings t.world e c.0 i)
+        (deaf_server : Rattle.st_laws_healthy.proofs.Happening.Deaf t.world e (server_node s))
+        (there : site_of sc.world c ≡ Some (Rattle.st_rules.specs.Events.at_node (record site.node
+        { state = (cl.client_step site.node.state now i).state }) site))
+        (nodes_same : node_of sc.world s ≡ node_of t.world s) (clock : after ≡ before)
+        (new : (m : Message) → Has m M2 → Has m (messages t.world) ⊎ Has (outputs.Send m) (cl.client_step site.node.state now i).out)
+        (from : (m : Message) → Has (outputs.Send m) (cl.client_step site.node.state now i).out → m.header.from ≡ c.0) where
+      abbrev st : ClientState
+      st = site.node.state
+
+      of_old : (P : cl.ClientNode → Type 0) → P old.node → P site.node
+      of_old P p = subst P (sym same) p
+
+      running : old.node.running ≡ true
+      running = o.runs.clients old at
+
+      fit : (a : Association) → Has a st.associations → Fit a
+      fit = of_old (λ n. (a : Association) → Has a n.state.associations → Fit a) (o.young.stands old at).fits
+
+      config : st.config ≡ k
+      config = of_old (λ n. n.state.config ≡ k) (o.young.stands old at).config
+
+      id_is : st.id ≡ c
+      id_is = of_old (λ n. n.state.id ≡ c) (o.dated.clients c old at).id
+
+      told : Told st now i fit i
+      told = by i brings
+        where
+          by : (j : ClientInput) → Brings t.world e c.0 j → Told st now i fit j
+          by inputs.Tick b = tt
+          by (inputs.App op ask) b = tt
+          by (inputs.Control m) b = b.1 ∙ ap (λ (y : ClientId). y.0) (sym id_is)
+          by (inputs.Done n r) b = tt
+
+      new_one : (m : Message) → Has m M2 → Has m (messages t.world) ⊎ IsNew c x M2 now.0 (cl.client_step st now i).out m
+      new_one m j = by (new m j)
+        where
+          said : Has (outputs.Send m) (cl.client_step st now i).out → Has m (messages t.world) ⊎ dating_steps.New t sc m →
+              Has m (messages t.world) ⊎ IsNew c x M2 now.0 (cl.client_step st now i).out m
+          said q (inl y) = inl y
+          said q (inr y) =
+              inr (record {
+                among = q;
+                number = y.number;
+                sent = y.sent;
+                there = tells_number t.world e sc h y.number m y.sent;
+                from = from m q;
+                stamp = λ r. sym (eqb-true _ _ (y.client from_client r)) ∙ ap (λ n. client_clock (record { 0 = n }) t.world) (from m q) ∙ sym is_now;
+              })
+            where
+              from_client : is_from_client m ≡ true
+              from_client = lt-ltb m.header.from 32768 (let f = from m q in let l = place.1 in omega (arith, f, l))
+
+          by : Has m (messages t.world) ⊎ Has (outputs.Send m) (cl.client_step st now i).out →
+              Has m (messages t.world) ⊎ IsNew c x M2 now.0 (cl.client_step st now i).out m
+          by (inl y) = inl y
+          by (inr q) = said q (next.new m j)
+
+      client_talks2 : (node : ServerNode) → node_of t.world s ≡ Some node → (b : Association) → Has b (cl.client_step st now i).state.associations →
+          b.server ≡ s →
+          Talks k c s gap d past2 M2 node.state after b
+      client_talks2 node f b j at_b =
+          subst (λ n. Talks k c s gap d past2 M2 node.state n b) (is_now ∙ sym clock)
+          (client_talks k c s gap d fits place.1 past x t.world M2 more keeps now (clock ∙ sym is_now)
+          (subst (InTime c s d past (messages t.world)) (sym is_now) o.in_time)
+          (subst (Begun c s d past) (sym is_now) o.begun) st i new_one fit config brings deaf_server node.state told
+          (λ a l q. subst (λ n. Talks k c s gap d past (messages t.world) node.state n a) (sym is_now)
+          (of_old (λ n. (a : Association) → Has a n.state.associations → a.server ≡ s → Talks k c s gap d past (messages t.world) node.state before a)
+          (o.talks old node at f) a l q))
+          (λ a l z q n r. is_young (client_last_tick c 0 past) now.0
+          (let y = of_old (λ n. (a : Association) → Has a n.state.associations → a.session ≡ Some z → before ≤ client_last_tick c 0 past + gap)
+          (λ a l q. o.ticks old a z at l q) a l q in omega (arith, y, is_now)) z
+          (subst (WasYoung k (client_last_tick c 0 past)) q (of_old (λ n. (a : Association) → Has a n.state.associations →
+          WasYoung k (client_last_tick c 0 past) a.session) ((o.young.stands old at).young running) a l)) n r)
+          (of_old (λ n. (a : Association) → Has a n.state.associations → Numbers (λ m. Has m (messages t.world)) c a.server a.life.0 (view a.session))
+          (λ a l. ((o.cuts.clients c old at).all running a l).numbers))
+          (λ a l. ((cuts2.clients c _ there).all (ap (λ (n : cl.ClientNode). n.running) same ∙ running) a l).numbers)
+          (λ a y l r q. once_same (cl.client_step st now i).state.associations (cuts2.fates.lives.lives.sites c _ there).once a y l r q) b j at_b)
+
+    -- what is known after the event
+    talks2 : Happened past t o.dated c s place.1 e sc → (site : WorldClient) (node : ServerNode) → site_of sc.world c ≡ Some site →
+        node_of sc.world s ≡ Some node → (a : Association) →
+        Has a site.node.state.associations → a.server ≡ s → Talks k c s gap d past2 M2 node.state after a
+    talks2 (ClientSteps site0 old i now is_now same at brings deaf_server there nodes_same clock new from) site node f q a j at_a =
+        client_talks2 site0 old i now is_now same at brings deaf_server there nodes_same clock new from node (sym nodes_same ∙ q) a
+        (subst (λ (y : WorldClient). Has a y.node.state.associations) (some_is (sym f ∙ there)) j) at_a
+    talks2 (ServerSteps old i at brings deaf there sites clock new from told) site node f q a j at_a =
+        subst (λ (y : ServerNode). Talks k c s gap d past2 M2 y.state after a) (some_is (sym there ∙ q))
+        (subst (λ n. Talks k c s gap d past2 M2 (server.server_step old.state now i).state n a) (sym clock)
+        (serves_on k c s gap d place.1 place.0 past x t.world M2 more keeps before clock o.in_time o.begun old.state now i (o.free old at) still
+        (sepoch old at) (o.off old at) (o.cuts.servers s old at).id
+        ((left _ there).epoch old at) brings deaf new_one says a (o.talks site old (sym sites ∙ f) at a j at_a)
+        (subst (λ y. Numbers (λ m. Has m (messages t.world)) c y a.life.0 (view a.session)) at_a
+        ((o.cuts.clients c site (sym sites ∙ f)).all (o.runs.clients site (sym sites ∙ f)) a j).numbers)))
+      where
+        now : Stamp
+        now = clock_of t.world (nodes.Server s)
+
+        still : may_ack (server.server_step old.state now i).state.authority c ≡ true
+        still = subst (λ (y : ServerNode). may_ack y.state.authority c ≡ true) (some_is (sym g.is ∙ there)) g.free
+
+        says : (m : Message) → Has (outputs.Send m) (server.server_step old.state now i).out → IsSaid s x M2 (server.server_step old.state now i).out m
+        says m l = let z = told m l in record { among = l; number = z.0; sent = z.1; there = tells_number t.world e sc h z.0 m z.1; from = from m l }
+
+        new_one : (m : Message) → Has m M2 → Has m (messages t.world) ⊎ IsSaid s x M2 (server.server_step old.state now i).out m
+        new_one m l = by (new m l)
+          where
+            by : Has m (messages t.world) ⊎ Has (outputs.Send m) (server.server_step old.state now i).out →
+                Has m (messages t.world) ⊎ IsSaid s x M2 (server.server_step old.state now i).out m
+            by (inl y) = inl y
+            by (inr y) = inr (says m y)
+    talks2 (NeitherSteps same nodes_same later deaf deaf_server new) site node f q a j at_a =
+        talks_on k c s gap d past x t.world M2 more keeps node.state before after later deaf_server deaf new a
+        (o.talks site node (sym same ∙ f) (sym nodes_same ∙ q) a j at_a)
+    talks2 (IsBroken b) site node f q a j at_a = absurd (b o.runs both)
+
+    goes_on : Happened past t o.dated c s place.1 e sc → before ≤ after
+    goes_on (ClientSteps site old i now is_now same at brings deaf_server there nodes_same clock new from) = omega (arith, clock)
+    goes_on (ServerSteps old i at brings deaf there sites clock new from told) = omega (arith, clock)
+    goes_on (NeitherSteps same nodes_same later deaf deaf_server new) = later
+    goes_on (IsBroken b) = absurd (b o.runs both)
+
+    pub stands : Stand past2 (traced_after e t sc)
+    stands =
+        record {
+          cuts = cuts2;
+          dated = dated2;
+          basic = basic2 k count s past t e sc o.basic ok h;
+          young = young2;
+          runs = record {
+            clients = λ site f. ap (λ (y : WorldClient). y.node.running) (some_is (sym f ∙ g.there)) ∙ g.runs;
+            servers = λ node f. ap (λ (y : ServerNode). y.running) (some_is (sym f ∙ g.is)) ∙ g.up;
+          };
+          free = λ node f. subst (λ (y : ServerNode). may_ack y.state.authority c ≡ true) (some_is (sym g.is ∙ f)) g.free;
+          off = λ node f. (left node f).grace;
+          ticks = λ site a z f j q. g.ticks;
+          in_time = in_time c s d past x M2 g.come;
+          begun = more_began c s d past x before o.begun (goes_on it);
+          talks = talks2 it;
+        }
+
+    -- so the lease lasts
+    pub lasts : LeasesLast k c s gap d past x
+    lasts site a z f j at_a q = (by z.requests.asked refl p.requests, p.sound)
+      where
+        t2 : Talks k c s gap d past2 M2 g.node.state after a
+        t2 = stands.talks site g.node f g.is a j at_a
+
+        p : HasSession k c s gap d past2 M2 g.node.state.sessions a.life.0 g.node.state.stable.epoch.0 t2.last z
+        p = subst (Phase k c s gap d past2 M2 g.node.state.sessions a.life.0 g.node.state.stable.epoch.0 t2.last) q t2.phase
+
+        by : (r : Rattle.std.specs.Prelude.Option Request) → z.requests.asked ≡ r →
+            Requested k c s gap d past2 M2 a.life.0 g.node.state.stable.epoch.0 t2.last z.lease.date.0 z.requests.next r →
+            after < z.lease.date.0 + longest k gap d
+        by None e r =
+            let y = is_young (client_last_tick c 0 past2) after g.ticks z
+            (subst (WasYoung k (client_last_tick c 0 past2)) q ((young2.stands site f).young (stands.runs.clients site f) a j)) p.sound e in
+            let l = le-max_left (k.renew + gap) (2 * d + 1) in
+            omega (arith, y, l)
+        by (Some v) e r =
+            let y = r.first.young in
+            let l = trip_ends c s d past2 M2 after (IsAsking k c s gap d a.life.0 g.node.state.stable.epoch.0 v.number v.body)
+            (IsCounting k c s gap d a.life.0 g.node.state.stable.epoch.0 v.number v.body) r.first.from stands.in_time r.first.trip in
+            omega (arith, y, l)
+
+-- The start of a run.
+no_timer : (k : Config) (servers disks blocks n : ℕ) (c : ClientId) → may_ack (node_at_start k servers disks blocks n).state.authority c ≡ true
+unfolding server.fresh_server
+no_timer k servers disks blocks n c = refl
+
+no_grace : (k : Config) (servers disks blocks n : ℕ) → (node_at_start k servers disks blocks n).state.grace ≡ None
+unfolding server.fresh_server
+no_grace k servers disks blocks n = refl
+
+no_sessions : (k : Config) (servers disks blocks n : ℕ) (c : ClientId) → sessions.session_of (node_at_start k servers disks blocks n).state.sessions c ≡ None
+unfolding server.fresh_server
+no_sessions k servers disks blocks n c = refl
+
+starts_running : (k : Config) (servers disks blocks n : ℕ) → (node_at_start k servers disks blocks n).running ≡ true
+starts_running k servers disks blocks n = refl
+
+no_messages : (k : Config) (clients servers disks blocks form : ℕ) (m : Message) → Has m (messages (fresh_world k clients servers disks blocks form)) → ⊥
+unfolding fresh_world
+no_messages k clients servers disks blocks form m h = absurd h
+
+fresh_node : (k : Config) (clients servers disks blocks form : ℕ) (s : ServerId) (node : ServerNode) →
+    node_of (fresh_world k clients servers disks blocks form) s ≡ Some node →
+    node ≡ node_at_start k servers disks blocks s.0
+unfolding fresh_world
+fresh_node k clients servers disks blocks form s node e = fresh_is (node_at_start k servers disks blocks) servers s.0 node e
+
+fresh_client : (k : Config) (clients servers disks blocks form : ℕ) (c : ClientId) (site : WorldClient) →
+    site_of (fresh_world k clients servers disks blocks form) c ≡ Some site →
+    site ≡ fresh_site k servers c.0
+unfolding fresh_world
+fresh_client k clients servers disks blocks form c site e = fresh_is (fresh_site k servers) clients c.0 site e
+
+fresh_association : (k : Config) (servers n : ℕ) (a : Association) → Has a (fresh_site k servers n).node.state.associations →
+    (a.session ≡ None) × (a.greeting ≡ None)
+unfolding cl.fresh_client
+fresh_association k servers n a h = let z = has_map cl.fresh_association (numbers 1 servers) a h in
+    (ap (λ (y : Association). y.session) z.2, ap (λ (y : Association). y.greeting) z.2)
+
+fresh_runs : (k : Config) (servers n : ℕ) → (fresh_site k servers n).node.running ≡ true
+fresh_runs k servers n = refl
+
+starts : (k : Config) (clients servers disks blocks form : ℕ) (c : ClientId) (s : ServerId) (gap d : ℕ) (fits : longest k gap d ≤ k.lease) →
+    IsHead k clients servers disks blocks form →
+    Stand k (clients + servers) c s gap d fits [] (traced (fresh_world k clients servers disks blocks form))
+starts k clients servers disks blocks form c s gap d fits head =
+    record {
+      cuts = cuts_law.fresh_holds k clients servers disks blocks form head;
+      dated = dating_law.fresh_dated k clients servers disks blocks form head;
+      basic = standing.begins k clients servers disks blocks form s head;
+      young = young_ones.begins k clients servers disks blocks form c;
+      runs = record {
+        clients = λ site f. subst (λ (y : WorldClient). y.node.running ≡ true) (sym (fresh_client k clients servers disks blocks form c site f))
+            (fresh_runs k servers c.0);
+        servers = λ node f. subst (λ (y : ServerNode). y.running ≡ true) (sym (fresh_node k clients servers disks blocks form s node f))
+            (starts_running k servers disks blocks s.0);
+      };
+      free = λ node f. subst (λ (y : ServerNode). may_ack y.state.authority c ≡ true) (sym (fresh_node k clients servers disks blocks form s node f))
+          (no_timer k servers disks blocks s.0 c);
+      off = λ node f. subst (λ (y : ServerNode). y.state.grace ≡ None) (sym (fresh_node k clients servers disks blocks form s node f))
+          (no_grace k servers disks blocks s.0);
+      ticks = λ site a z f j q. absurd (no_session z (sym (fresh site a f j).0 ∙ q));
+      in_time = none_flies c s d (messages w) (client_clock c w);
+      begun = none_began c s d (client_clock c w);
+      talks = λ site node f q a j at_a. record {
+        last = 0;
+        known = IsBefore (λ y v. absurd (none y (sym (subst (λ (n : ServerNode). sessions.session_of n.state.sessions c ≡ None)
+            (sym (fresh_node k clients servers disks blocks form s node q)) (no_sessions k servers disks blocks s.0 c)) ∙ v))) refl;
+        told = λ m v l. absurd (no_messages k clients servers disks blocks form m v);
+        asked = λ m v l r. absurd (no_messages k clients servers disks blocks form m v);
+        greets = λ r m v l. absurd (no_messages k clients servers disks blocks form m v);
+        phase = subst (Phase k c s gap d [] (messages w) node.state.sessions a.life.0 node.state.stable.epoch.0 0) (sym (fresh site a f j).0)
+            (IsSilent (λ m v l. no_messages k clients servers disks blocks form m v), refl);
+      };
+    }
+  where
+    w : World
+    w = fresh_world k clients servers disks blocks form
+
+    fresh : (site : WorldClient) (a : Association) → site_of w c ≡ Some site → Has a site.node.state.associations → (a.session ≡ None) × (a.greeting ≡ None)
+    fresh site a f j = fresh_association k servers c.0 a (subst (λ (y : WorldClient). Has a y.node.state.associations)
+        (fresh_client k clients servers disks blocks form c site f) j)
+
+    no_session : (z : ClientSession) → ◌≡◌ {A = Option ClientSession} None (Some z) → ⊥
+    no_session z e = cc
+
+    none : (y : Session) → ◌≡◌ {A = Option Session} None (Some y) → ⊥
+    none y e = cc
+
+-- In every run in which a client is healthy.
+pub leases_law : InHealthyRuns LeasesLast
+leases_law k clients servers disks blocks form es c s gap d head all fits =
+    throughout_under (clients + servers) (IsHealthy c s gap d) (LeasesLast k c s gap d) (Stand k (clients + servers) c s gap d fits)
+    (λ past t e sc ok o h g. (
+      lasts k (clients + servers) c s gap d fits past t e sc o ok h g,
+      stands k (clients + servers) c s gap d fits past t e sc o ok h
+          g,
+    )) es all []
+    (traced (fresh_world k clients servers disks blocks form)) (starts k clients servers disks blocks form c s gap d fits head)

@@ -1,0 +1,5 @@
+use Rattle.st_laws_healthy.proofs.Lasting.{leases_law}
+use Rattle.st_laws_healthy.proofs.leases_last.Goals as goal
+
+pub returns : goal.returns
+returns c = leases_law
