@@ -588,7 +588,7 @@ module _ (past : List Step) (t : Traced) (d : Dated past t) (c : ClientId) (s : 
       go None = none
       go (Some x) = at x (site_of w x.client) refl
 
-  -- what stands still may start
+  -- what is frozen may start
   off : (x : NodeId) → adm.refusal t.world (events.Start x) ≡ None → world.is_running t.world x ≡ false
   unfolding adm.refusal
   off x r = not_stands (world.is_running t.world x) (refusals.Running x) (second_none (adm.no_node t.world x) (adm.still_running t.world x) r)

@@ -1,4 +1,4 @@
--- What holds of a value, where there is one.
+-- What holds of a value, if there is one.
 use Rattle.std.proofs.Common.{◌≡◌, Bool, true, false, Option, Some, None, refl, if◌then◌else◌}
 use Rattle.std.specs.Prelude.{option_map, option_and_then}
 use Rattle.st_laws_volume.specs.Options.{OnSome}

@@ -1,4 +1,4 @@
--- What holds of a value, where there is one.
+-- What holds of a value, if there is one.
 use Rattle.std.specs.Prelude.{Option, Some, None, ⊤}
 
 abbrev pub OnSome : {A : Type 0} → (A → Type 0) → Option A → Type 0
