@@ -46,7 +46,8 @@ fresh_number : (last : ℕ) (kept : Option Body) (number : ℕ) → take_number 
 unfolding take_number take_from take_next
 fresh_number last kept number e = go (nat_lt number last) (number == last) (number == last + 1) refl e
   where
-    go : (a b d : Bool) → (number == last + 1) ≡ d → (if a then Stale else (if b then again kept else (if d then Fresh else OutOfOrder))) ≡ Fresh → number ≡ last + 1
+    go : (a b d : Bool) → (number == last + 1) ≡ d → (if a then Stale else (if b then again kept else (if d then Fresh else OutOfOrder))) ≡ Fresh →
+        number ≡ last + 1
     go true b d q f = absurd cc
     go false true d q f = absurd (never_again kept f)
     go false false true q f = eqb-true number (last + 1) q
@@ -98,7 +99,8 @@ latest_number last kept number reply same is =
     if_false (nat_lt number last) Stale (take_from last kept number) (le-ltb number last (omega (arith, same)))
     ∙ if_true (number == last) (again kept) (take_next last number) (eq-eqb number last same) ∙ ap again is
 
-latest_state : (state : SessionState) (number : ℕ) (reply : Body) → HasServed number reply state → IsNextOf (number + 1) state → take_state state number ≡ Again reply
+latest_state : (state : SessionState) (number : ℕ) (reply : Body) → HasServed number reply state → IsNextOf (number + 1) state →
+    take_state state number ≡ Again reply
 unfolding take_state
 latest_state (Live last kept) number reply (inl less) e = absurd (omega (arith, less, e))
 latest_state (Live last kept) number reply (inr same) e = latest_number last kept number reply same.0 same.1
@@ -111,7 +113,8 @@ latest_life s life number reply same h e =
     if_false (nat_lt s.life.0 life.0) NoSession (take_past s life number) (le-ltb s.life.0 life.0 (omega (arith, same)))
     ∙ if_false (nat_lt life.0 s.life.0) Stale (take_state s.state number) (le-ltb life.0 s.life.0 (omega (arith, same))) ∙ latest_state s.state number reply h e
 
-latest_at : (o : Option Session) (life : Life) (number : ℕ) (reply : Body) → Served life number reply o → IsNext life (number + 1) o → take_at o life number ≡ Again reply
+latest_at : (o : Option Session) (life : Life) (number : ℕ) (reply : Body) → Served life number reply o → IsNext life (number + 1) o →
+    take_at o life number ≡ Again reply
 unfolding take_at
 latest_at None life number reply h n = absurd h
 latest_at (Some s) life number reply (inl later) n = absurd (omega (arith, later, n.0))
@@ -144,7 +147,8 @@ same_client d c same s e = eq-eqb s.client.0 d.0 (eqb-true s.client.0 c.0 e ∙ 
 
 -- a session was put
 put_own : (t : Sessions) (c : ClientId) (s : Session) → s.client.0 ≡ c.0 → session_of (with_session s t) c ≡ Some s
-put_own t c s same = subst (λ (n : ℕ). find (λ r. r.client.0 == n) (with_session s t).rows ≡ Some s) same (find_put (is_session_of s.client) s t.rows (eq-eqb s.client.0 s.client.0 refl))
+put_own t c s same = subst (λ (n : ℕ). find (λ r. r.client.0 == n) (with_session s t).rows ≡ Some s) same
+    (find_put (is_session_of s.client) s t.rows (eq-eqb s.client.0 s.client.0 refl))
 
 put_other : (t : Sessions) (c : ClientId) (s : Session) → s.client.0 ≢ c.0 → session_of (with_session s t) c ≡ session_of t c
 put_other t c s ne = find_put_other (is_session_of c) (is_session_of s.client) s t.rows (ne_eqb s.client.0 c.0 ne) (other_client s.client c ne)
@@ -178,7 +182,9 @@ module _ (t : Sessions) (c : ClientId) (life : Life) (number : ℕ) (reply : Bod
       begins less = b (λ r e. let same : s ≡ r = cc in subst (λ (x : Session). x.life.0 < new.0) same less)
 
       go : (a l e r k : Bool) → nat_lt new.0 s.life.0 ≡ l → (new.0 == s.life.0) ≡ e → nat_le new.0 s.life.0 ≡ k →
-          P (if a then (if l then greeted hellos.Old t else (if e then greeted hellos.Welcome t else (if r then greeted hellos.Wait t else begin_session hellos.Replaced d new t)))
+          P (if a then
+          (if l then greeted hellos.Old t else
+          (if e then greeted hellos.Welcome t else (if r then greeted hellos.Wait t else begin_session hellos.Replaced d new t)))
           else (if k then greeted hellos.Old t else begin_session hellos.Welcome d new t)).sessions
       go true true e r k x y z = p
       go true false true r k x y z = p
@@ -215,7 +221,8 @@ module _ (t : Sessions) (c : ClientId) (life : Life) (number : ℕ) (reply : Bod
 
       go : (d.0 ≡ c.0) ⊎ (d.0 ≢ c.0) → Served life number reply (session_of (store t d n r) c)
       go (inl same) =
-          subst (λ o. Served life number reply o) (sym (find_own (is_session_of c) (is_session_of d) (keep_reply n r) (λ s. refl) (same_client d c same) t.rows))
+          subst (λ o. Served life number reply o)
+          (sym (find_own (is_session_of c) (is_session_of d) (keep_reply n r) (λ s. refl) (same_client d c same) t.rows))
           (by_session (session_of t c) (subst (λ (m : ℕ). IsNext new n (find (λ s. s.client.0 == m) t.rows)) same next) h)
       go (inr other) =
           subst (λ o. Served life number reply o)
@@ -234,7 +241,8 @@ module _ (t : Sessions) (c : ClientId) (life : Life) (number : ℕ) (reply : Bod
       go (inl same) =
           subst (λ o. Served life number reply o) (sym (find_own (is_session_of c) (is_session_of d) ended (λ s. refl) (same_client d c same) t.rows))
           (by_session (session_of t c) h)
-      go (inr other) = subst (λ o. Served life number reply o) (sym (find_other (is_session_of c) (is_session_of d) ended (λ s. refl) (other_client d c other) t.rows)) h
+      go (inr other) = subst (λ o. Served life number reply o)
+          (sym (find_other (is_session_of c) (is_session_of d) ended (λ s. refl) (other_client d c other) t.rows)) h
 
   keeps : (call : SessionCall) → MayCall call t → Served life number reply (session_of (called call t) c)
   keeps (Greets d new rows) may = greets_keeps d new rows
