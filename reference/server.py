@@ -30,6 +30,10 @@ class Server:
         """All but the stable part as in a new epoch. Chapter "The server"."""
         self.grace, self.sessions, self.locks, self.timers = grace, Sessions(), LockTable(self.epoch, self.limits.locks), Timers()
 
+    def is_client(self, node):
+        """Whether a node is a client: the third form has more of them. Chapter "Wire"."""
+        return is_client(node, 3 if self.limits.cooperate else 1)
+
     def crash(self):
         """A crash keeps the stable part. Rule "Crash". Chapter "The server"."""
         self.running = False
@@ -91,7 +95,7 @@ class Server:
 
     def receive(self, now, message):
         """Rule "Receiving". Chapter "The server"."""
-        if message.receiver != self.node or not is_client(message.sender) or message.kind not in wire.FROM_CLIENT:
+        if message.receiver != self.node or not self.is_client(message.sender) or message.kind not in wire.FROM_CLIENT:
             return
         client = message.sender
         if self.timers.suspects(client):
