@@ -335,9 +335,7 @@ module _ (w : Waiter) (n : ServerState) (now : Stamp) (i : ServerInput) (known :
           carried t.state.authority (authority.suspect t.state.authority c now) t.state.locks (locks.drop_waits t.state.locks c)
           (λ y. inl (first_among w t.state.locks (λ v. not (is_wait_by c v)) (other_client w c ne) y)) (granted_among w t.state.locks (λ v. not (is_wait_by c v)))
           (still_suspect t.state.authority c now w.client) x
-  ends_edit t u (Begins _ c life) x = x
   ends_edit t u (DropsWaits _ m s is b e f) x = greeted t.state.authority t.state.locks m s is b e f (same_or_not m.header.from w.client.0) x
-  ends_edit t u (Keeps _ c number b e) x = x
   ends_edit t u (Reasserts _ m rows is y gr f) x =
       carried t.state.authority t.state.authority t.state.locks (with_rows t.state.locks (sender m.header) (life_in m.header) rows)
       (λ z. inl (first_installed w t.state.locks (sender m.header) (life_in m.header) rows z)) (granted_installed w t.state.locks (sender m.header) (life_in m.header) rows) (λ s. s) x
@@ -348,14 +346,7 @@ module _ (w : Waiter) (n : ServerState) (now : Stamp) (i : ServerInput) (known :
   ends_edit t u (Grants _ v off h e f) x =
       carried t.state.authority t.state.authority t.state.locks (grant t.state.locks v.client v.life v.ino v.mode) (granted t.state.authority t.state.locks v e) (granted_besides w t.state.locks v h) (λ s. s) x
   ends_edit t u (Demands _ r y to e d) x = carried t.state.authority t.state.authority t.state.locks (with_demand r y t.state.locks) (λ z. inl z) (granted_demanded w t.state.locks r y) (λ s. s) x
-  ends_edit t u (NamesChange _ v) x = x
-  ends_edit t u (ExtentsChange _ v) x = x
-  ends_edit t u (Cuts _ f y) x = x
-  ends_edit t u (Replies _ m b is ok) x = x
-  ends_edit t u (Repeats _ m s z b is r f e y) x = x
-  ends_edit t u (Refuses _ m rows r is f y e) x = x
-  ends_edit t u (TellsGrant _ c life ino gr mode) x = x
-  ends_edit t u (TellsDemand _ c life ino gr mode) x = x
+  ends_edit t u other x = x
 
   pub step_ends : WishInput i → GoesOnOrEnds w (received_of i) n.stable.names (server_step n now i).state.authority (server_step n now i).state.locks
   step_ends wish = walk n now i Ends ends_edit wish (inl first)
