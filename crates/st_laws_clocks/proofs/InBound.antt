@@ -1,23 +1,19 @@
 -- The increments of a run are in bound: each advance that happened was not refused.
-use Rattle.std.proofs.Common.{◌≡◌, ℕ, zero, suc, ◌+◌, Bool, true, false, not, List, [], ◌∷◌, ◌++◌, length, take, refl, sym, ap, subst, ◌∙◌, inl, inr, eqb-true, arith}
-use Rattle.std.specs.Prelude.{◌⊎◌, ◌==◌, if◌then◌else◌, Option, Some, None, Result, Ok, Err}
-use Rattle.std.specs.List.{flat_map, list_all}
-use Rattle.st_base.specs.declared.config.Config.{Config}
+use Rattle.st_lemmas.proofs.Words
+use Words.{◌≡◌, ℕ, zero, suc, ◌+◌, Bool, true, false, not, List, [], ◌∷◌, ◌++◌, length, take, refl, sym, ap, subst, ◌∙◌, inl, inr, eqb-true, arith, ◌⊎◌, ◌==◌}
+use Words.{if◌then◌else◌, Option, Some, None, Result, Ok, Err, flat_map, list_all, Config, Event, Excess, WorldRefusal}
+use Words.Tables.{and_true}
+use Words.events
+use Words.refusals
+use Words.Admissible as admissible
+use Words.Admissible.{clocks_refused, drift_refused, excess_with, rate_refused, stands}
+use Words.Events.{WorldTurn, counted, drift_with, happens, world_step}
+use Words.Leases.{AllAccepted, AllFull, AllRated, drift_after, drift_judged, drift_step, greatest_of, least_of, rate_ok}
+use Words.Run.{go_on, run}
+use Words.Safety.{is_event, is_increment}
+use Words.World.{World, fresh_world}
 use Rattle.st_lemmas.proofs.Steps.{step_happens}
-use Rattle.st_lemmas.proofs.Tables.{and_true}
-use Rattle.st_messages.specs.declared.event.Event.{Event}
-use Rattle.st_messages.specs.declared.event.Event.TheVariants as events
-use Rattle.st_rules.specs.declared.lease.Excess.{Excess}
-use Rattle.st_rules.specs.declared.observation.WorldRefusal.{WorldRefusal}
-use Rattle.st_rules.specs.declared.observation.WorldRefusal.TheVariants as refusals
-use Rattle.st_rules.specs.Admissible as admissible
 use Rattle.std.specs.Option.{option_or}
-use Rattle.st_rules.specs.Admissible.{clocks_refused, drift_refused, excess_with, rate_refused, stands}
-use Rattle.st_rules.specs.Events.{WorldTurn, counted, drift_with, happens, world_step}
-use Rattle.st_rules.specs.Leases.{AllAccepted, AllFull, AllRated, drift_after, drift_judged, drift_step, greatest_of, least_of, rate_ok}
-use Rattle.st_rules.specs.Run.{go_on, run}
-use Rattle.st_rules.specs.Safety.{is_event, is_increment}
-use Rattle.st_rules.specs.World.{World, fresh_world}
 use Rattle.st_rules.proofs.Drift.{accepted_in_bound}
 use Rattle.st_rules.proofs.Rates.{rated_in_bound}
 use Rattle.st_laws_clocks.specs.Increments.{ClocksAreInBound, EveryRunIsInBound, drift_after_all, increments, increments_of}

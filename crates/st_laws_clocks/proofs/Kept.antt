@@ -1,35 +1,24 @@
 -- Every event but an advance leaves the settings, the form of the head and the numbers of drift.
-use Rattle.std.proofs.Common.{◌≡◌, ℕ, Bool, true, false, List, [], ◌∷◌, refl, ◌∙◌}
-use Rattle.std.specs.Prelude.{if◌then◌else◌, Option, Some, None, Result, Ok, Err}
-use Rattle.st_base.specs.declared.config.Config.{Config}
-use Rattle.st_base.specs.declared.ids.ClientId.{ClientId}
-use Rattle.st_base.specs.declared.ids.ServerId.{ServerId}
-use Rattle.st_base.specs.declared.ids.NodeId.{NodeId}
-use Rattle.st_base.specs.declared.ids.NodeId.TheVariants as nodes
-use Rattle.st_base.specs.declared.ids.Stamp.{Stamp}
-use Rattle.st_messages.specs.declared.ask.Ask.{Ask}
-use Rattle.st_messages.specs.declared.event.Event.{Event}
-use Rattle.st_messages.specs.declared.event.Event.TheVariants as events
-use Rattle.st_messages.specs.declared.output.Note.{Note}
-use Rattle.st_messages.specs.declared.output.Note.TheVariants as notes
-use Rattle.st_messages.specs.declared.output.Output.{Output}
-use Rattle.st_messages.specs.declared.output.Output.TheVariants as outputs
-use Rattle.st_rules.specs.declared.client.ClientInput.{ClientInput}
-use Rattle.st_rules.specs.declared.input.ServerInput.{ServerInput}
-use Rattle.st_rules.specs.declared.lease.Phase.{Phase}
-use Rattle.st_rules.specs.declared.lease.Phase.TheVariants as phases
-use Rattle.st_rules.specs.declared.node.StepRefusal.{StepRefusal}
-use Rattle.st_rules.specs.declared.world.IssuedCommand.{IssuedCommand}
-use Rattle.st_rules.specs.declared.world.SentMessage.{SentMessage}
+use Rattle.st_lemmas.proofs.Words
+use Words.{◌≡◌, ℕ, Bool, true, false, List, [], ◌∷◌, refl, ◌∙◌, if◌then◌else◌, Option, Some, None, Result, Ok, Err, Config, ClientId, ServerId, NodeId, Stamp}
+use Words.{Ask, Event, Note, Output, ClientInput, ServerInput, Phase, StepRefusal, IssuedCommand, SentMessage}
+use Words.nodes
+use Words.events
+use Words.notes
+use Words.outputs
+use Words.phases
+use Words.Client as client
+use Words.ClientState.{ClientState}
+use Words.Disks as disks
+use Words.Server as server
+use Words.Server.{ServerNode}
+use Words.World.{World, WorldClient, all_servers, clock_of, message_of, node_of, receiver_of, site_of}
+use Words.Events as ev
+use Words.Events.{WorldTurn, accepts, answers_with, asks_at, at_client, at_node, at_server, client_notes, client_says, client_says_all, client_takes}
+use Words.Events.{client_took, crashes, crashes_client, crashes_server, cuts, delivers, delivers_to, effects, flushed_at, flushed_in, flushes, happens}
+use Words.Events.{is_same_instance, loses, loses_message, marks, patches, quiet, reports_of, sends, server_notes, server_says, server_says_all, server_takes}
+use Words.Events.{server_took, starts, starts_client, starts_server, submits, tells, tells_client, tells_site, ticks, with_site}
 use Rattle.st_laws_clocks.specs.Increments.{increments_of}
-use Rattle.st_rules.specs.Client as client
-use Rattle.st_rules.specs.ClientState.{ClientState}
-use Rattle.st_rules.specs.Disks as disks
-use Rattle.st_rules.specs.Server as server
-use Rattle.st_rules.specs.Server.{ServerNode}
-use Rattle.st_rules.specs.World.{World, WorldClient, all_servers, clock_of, message_of, node_of, receiver_of, site_of}
-use Rattle.st_rules.specs.Events as ev
-use Rattle.st_rules.specs.Events.{WorldTurn, accepts, answers_with, asks_at, at_client, at_node, at_server, client_notes, client_says, client_says_all, client_takes, client_took, crashes, crashes_client, crashes_server, cuts, delivers, delivers_to, effects, flushed_at, flushed_in, flushes, happens, is_same_instance, loses, loses_message, marks, patches, quiet, reports_of, sends, server_notes, server_says, server_says_all, server_takes, server_took, starts, starts_client, starts_server, submits, tells, tells_client, tells_site, ticks, with_site}
 
 -- what the bound on clocks speaks of
 abbrev pub rates : World → Config × ℕ × List (List ℕ)

@@ -1,4 +1,6 @@
+pub mod Clocks
 pub mod Dates
+pub mod Graces
 pub mod Grants
 pub mod Law
 pub mod Leasing

@@ -37,7 +37,7 @@ use Rattle.st_rules.specs.Names as names
 use Rattle.st_rules.specs.Names.{Names}
 use Rattle.st_rules.specs.Server.{ServerNode}
 use Rattle.st_rules.specs.World.{World, WorldClient}
-use Rattle.st_rules.specs.History.{Traced, History, TimerStart, LeaseDate, led_to, trace, traced, with_grant}
+use Rattle.st_rules.specs.History.{Traced, History, TimerStart, GraceStart, LeaseDate, led_to, trace, traced, with_grant}
 use Rattle.st_rules.specs.Safety.{
   Step,
   steps,
@@ -71,7 +71,7 @@ use Rattle.st_promises.specs.Numbers.{LinesGiveTheNextNumbers}
 use Rattle.st_promises.specs.Refusals.{RefusalsChangeNothing}
 use Rattle.st_rows.specs.Words.{at, c, life, epoch, page, stamp, g}
 use Rattle.st_rows.specs.ClientWords.{lost_row, on, server}
-use Rattle.st_rows_world.specs.WorldWords.{ask, client_node, world_of, answered, cut, dropped, failed, read_out, sent, stolen, wrote}
+use Rattle.st_rows_world.specs.WorldWords.{ask, client_node, server_node, world_of, answered, cut, dropped, failed, read_out, sent, stolen, suspected, wrote}
 use Rattle.st_rows_promises.specs.SafeWords.{safe_words_open}
 
 -- The promises except for some, by their numbers.
@@ -297,12 +297,19 @@ date_ended n d = record d { end = stamp n }
 abbrev pub dates_ended : ℕ → History → History
 dates_ended n h = record h { dates = map (date_ended n) h.dates }
 
--- a timer runs for the client, since that many messages were sent
-abbrev pub timer : ℕ → TimerStart
-timer n = record { server = server 1; client = c 1; sent = n }
+-- a timer runs for the client, since its clock showed this and that many messages were sent
+abbrev pub timer : ℕ → ℕ → TimerStart
+timer clock n = record { server = server 1; client = c 1; clock = stamp clock; sent = n }
 
-abbrev pub with_timer : ℕ → History → History
-with_timer n h = record h { timers = timer n ∷ [] }
+abbrev pub with_timer : ℕ → ℕ → History → History
+with_timer clock n h = record h { timers = timer clock n ∷ [] }
+
+-- the server's epoch began with a grace, when the clients' clocks showed this
+abbrev pub grace_from : ℕ → ℕ → GraceStart
+grace_from first second = record { server = server 1; clocks = stamp first ∷ stamp second ∷ [] }
+
+abbrev pub with_grace : ℕ → ℕ → History → History
+with_grace first second h = record h { graces = grace_from first second ∷ [] }
 
 -- the server suspects the client
 abbrev pub suspicion : Suspect
@@ -358,9 +365,12 @@ by_event e x = record x { event = e }
 abbrev pub in_second : Option Grace → ServerNode → ServerNode
 in_second grace node = record node { state = record node.state { stable = record node.state.stable { epoch = epoch 2 }; grace = grace } }
 
--- a grace that was over at once, and none
+-- a grace that was over at once, one that lasts, and none
 abbrev pub short_grace : Option Grace
-short_grace = Some (record { start = stamp 0; wait = 1 })
+short_grace = Some (record { start = stamp 1450; wait = 0 })
+
+abbrev pub long_grace : Option Grace
+long_grace = Some (record { start = stamp 1450; wait = 1110 })
 
 abbrev pub never_grace : Option Grace
 never_grace = None
@@ -407,10 +417,18 @@ unfoldable pub dated_from_the_arrival : Step
 dated_from_the_arrival = recalling (dates_ended 1450) (leaving (all_dated 450) (still (here reading)))
 
 unfoldable pub replied_behind_a_timer : Step
-replied_behind_a_timer = recalling (with_timer 0) (leaving suspecting (still (here reading)))
+replied_behind_a_timer = recalling (with_timer 0 0) (leaving suspecting (still (here reading)))
+
+-- the server suspected the client before the first event
+unfoldable pub past_suspected : List Step
+past_suspected = seeing (suspected 1 1 1450 ∷ []) (still (traced (world_of 2 1 1 8))) ∷ past reading
 
 unfoldable pub grace_too_short : Step
-grace_too_short = leaving (second_epoch short_grace) (still (here reading))
+grace_too_short = recalling (with_grace 450 450) (leaving (second_epoch short_grace) (still (here reading)))
+
+-- the server started in the last step
+unfoldable pub past_started : List Step
+past_started = past reading ++ by_event (events.Start (server_node 1)) (still (here reading)) ∷ []
 
 unfoldable pub grace_never_begun : Step
 grace_never_begun = leaving (second_epoch never_grace) (still (here reading))
@@ -513,7 +531,26 @@ unfoldable pub timer_unknown : Step
 timer_unknown = leaving suspecting (still (here reading))
 
 unfoldable pub timer_without_a_suspect : Step
-timer_without_a_suspect = recalling (with_timer 9) (still (here reading))
+timer_without_a_suspect = recalling (with_timer 450 9) (still (here reading))
+
+-- the server suspected the client in the last step
+unfoldable pub past_suspecting : List Step
+past_suspecting = past reading ++ seeing (suspected 1 1 1450 ∷ []) (still (here reading)) ∷ []
+
+unfoldable pub timer_of_another_clock : Step
+timer_of_another_clock = recalling (with_timer 449 6) (leaving suspecting (still (here reading)))
+
+unfoldable pub timer_of_another_moment : Step
+timer_of_another_moment = recalling (with_timer 450 9) (leaving suspecting (still (here reading)))
+
+unfoldable pub grace_unknown : Step
+grace_unknown = leaving (second_epoch long_grace) (still (here reading))
+
+unfoldable pub grace_without_a_start : Step
+grace_without_a_start = recalling (with_grace 450 450) (still (here reading))
+
+unfoldable pub grace_of_other_clocks : Step
+grace_of_other_clocks = recalling (with_grace 450 449) (leaving (second_epoch long_grace) (still (here reading)))
 
 unfoldable pub date_unknown : Step
 date_unknown = recalling without_dates (still (here reading))
@@ -707,5 +744,5 @@ unfoldable pub told_too : Step
 told_too = seeing (answered 2 1 (answers.Named 10) ∷ []) (still told_first.after)
 
 unfoldable pub broken_open : ⊤
-unfolding safe_words_open prepared past here met past_met here_met lost_run past_lost here_lost past_cut stale_read beside_a_lock beside_a_held_lock dropped_without_a_crash dropped_by_another_command dropped_without_a_report hard_no_more hard_too_early stolen_early stolen_as_another_life dated_from_the_arrival replied_behind_a_timer grace_too_short grace_never_begun conflict_sent hard_and_pending hard_twice written_and_not_logged cut_and_not_logged written_under_another_number written_and_not_answered answered_twice written_without_a_lock written_under_a_lesser_grant cut_without_a_lock cut_and_not_asked cut_as_asked past_answered kept_after_the_end submitted_after_the_end read_after_the_end timer_unknown timer_without_a_suspect date_unknown grant_unknown loss_not_told loss_told_in_part told_and_not_lost hard_and_not_held fault_without_a_report full_without_operations refused_without_a_refusal told_and_not_sent counted_and_not_told given_to_another_client given_of_another_file given_below given_again cut_and_not_acknowledged cut_and_refused past_asked named_wrongly named_truly named_and_not_asked named_and_not_created created_and_not_asked created_otherwise created_as_asked past_refused name_refusal_sent past_created created_and_refused created_and_told here_both past_both created_first removed_then past_first past_removed created_again told_first past_told told_too past_done done_and_quiesced done_and_told refusal_sent past_sent done_and_refused
+unfolding safe_words_open prepared past here met past_met here_met lost_run past_lost here_lost past_cut stale_read beside_a_lock beside_a_held_lock dropped_without_a_crash dropped_by_another_command dropped_without_a_report hard_no_more hard_too_early stolen_early stolen_as_another_life dated_from_the_arrival replied_behind_a_timer grace_too_short grace_never_begun conflict_sent hard_and_pending hard_twice written_and_not_logged cut_and_not_logged written_under_another_number written_and_not_answered answered_twice written_without_a_lock written_under_a_lesser_grant cut_without_a_lock cut_and_not_asked cut_as_asked past_answered kept_after_the_end submitted_after_the_end read_after_the_end timer_unknown timer_without_a_suspect past_suspected past_started past_suspecting timer_of_another_clock timer_of_another_moment grace_unknown grace_without_a_start grace_of_other_clocks date_unknown grant_unknown loss_not_told loss_told_in_part told_and_not_lost hard_and_not_held fault_without_a_report full_without_operations refused_without_a_refusal told_and_not_sent counted_and_not_told given_to_another_client given_of_another_file given_below given_again cut_and_not_acknowledged cut_and_refused past_asked named_wrongly named_truly named_and_not_asked named_and_not_created created_and_not_asked created_otherwise created_as_asked past_refused name_refusal_sent past_created created_and_refused created_and_told here_both past_both created_first removed_then past_first past_removed created_again told_first past_told told_too past_done done_and_quiesced done_and_told refusal_sent past_sent done_and_refused
 broken_open = tt

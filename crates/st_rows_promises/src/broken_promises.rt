@@ -10,7 +10,7 @@ ghost use Rattle.st_promises.specs.NameAnswers.{NamesAnswerTruly};
 ghost use Rattle.st_promises.specs.NameChanges.{NamesChangeAsAsked};
 ghost use Rattle.st_promises.specs.NamesOnce.{NamesChangeOnce};
 ghost use Rattle.st_promises.specs.Refusals.{RefusalsChangeNothing};
-ghost use Rattle.st_rows_promises.specs.BrokenPromises.{IsKeptBut, answered_twice, beside_a_held_lock, beside_a_lock, conflict_sent, counted_and_not_told, created_again, created_and_not_asked, created_and_refused, created_and_told, created_as_asked, created_otherwise, creating, creating_too, cut_and_not_acknowledged, cut_and_not_asked, cut_and_not_logged, cut_and_refused, cut_as_asked, cut_without_a_lock, cutting, date_unknown, dated_from_the_arrival, done_and_quiesced, done_and_refused, done_and_told, dropped_by_another_command, dropped_without_a_crash, dropped_without_a_report, fault_without_a_report, full_without_operations, given_again, given_below, given_of_another_file, given_to_another_client, grace_never_begun, grace_too_short, grant_unknown, hard_and_not_held, hard_and_pending, hard_no_more, hard_too_early, hard_twice, kept_after_the_end, looking, loss_not_told, loss_told_in_part, named_and_not_asked, named_and_not_created, named_truly, named_wrongly, past, past_answered, past_asked, past_created, past_cut, past_done, past_first, past_lost, past_met, past_refused, past_removed, past_sent, past_told, read_after_the_end, reading, refused_without_a_refusal, removed_then, removing, replied_behind_a_timer, stale_read, stolen_as_another_life, stolen_early, submitted_after_the_end, syncing, timer_unknown, timer_without_a_suspect, told_and_not_lost, told_and_not_sent, told_first, told_too, writing, written_and_not_answered, written_and_not_logged, written_under_a_lesser_grant, written_under_another_number, written_without_a_lock};
+ghost use Rattle.st_rows_promises.specs.BrokenPromises.{IsKeptBut, answered_twice, beside_a_held_lock, beside_a_lock, conflict_sent, counted_and_not_told, created_again, created_and_not_asked, created_and_refused, created_and_told, created_as_asked, created_otherwise, creating, creating_too, cut_and_not_acknowledged, cut_and_not_asked, cut_and_not_logged, cut_and_refused, cut_as_asked, cut_without_a_lock, cutting, date_unknown, dated_from_the_arrival, done_and_quiesced, done_and_refused, done_and_told, dropped_by_another_command, dropped_without_a_crash, dropped_without_a_report, fault_without_a_report, full_without_operations, given_again, given_below, given_of_another_file, given_to_another_client, grace_never_begun, grace_of_other_clocks, grace_too_short, grace_unknown, grace_without_a_start, grant_unknown, hard_and_not_held, hard_and_pending, hard_no_more, hard_too_early, hard_twice, kept_after_the_end, looking, loss_not_told, loss_told_in_part, named_and_not_asked, named_and_not_created, named_truly, named_wrongly, past, past_answered, past_asked, past_created, past_cut, past_done, past_first, past_lost, past_met, past_refused, past_removed, past_sent, past_started, past_suspected, past_suspecting, past_told, read_after_the_end, reading, refused_without_a_refusal, removed_then, removing, replied_behind_a_timer, stale_read, stolen_as_another_life, stolen_early, submitted_after_the_end, syncing, timer_of_another_clock, timer_of_another_moment, timer_unknown, timer_without_a_suspect, told_and_not_lost, told_and_not_sent, told_first, told_too, writing, written_and_not_answered, written_and_not_logged, written_under_a_lesser_grant, written_under_another_number, written_without_a_lock};
 ghost use Rattle.st_rules.specs.Safety.{AnswersAreLogged, AsksAreAnsweredOnce, ChangesAreLocked, ChangesGoInTheOrderOfLocks, DirtyPagesStandAlone, DropsHaveACause, ExpiredLeasesEmptyClients, GraceWaits, HardIsHard, HardStaysHard, LeasesAreDatedFromRequests, NoConflictIsSent, ReadsReturnLastWrites, TheHistoryIsTheWorlds, TheReportTellsTheLog, TheftsComeLate};
 
 /// A page that is dirty while another client has a row of its file.
@@ -94,15 +94,15 @@ pub fn a_date_of_the_arrival_is_refused()
 /// A lease whose reply was sent after a timer of its client began.
 #[tactic(auto, unfolding(crate::specs::BrokenPromises::broken_open))]
 pub fn a_reply_behind_a_timer_is_refused()
-    ensures broken { ¬ LeasesAreDatedFromRequests (past reading) replied_behind_a_timer }
-    ensures kept { IsKeptBut (7 ∷ []) (past reading) replied_behind_a_timer }
+    ensures broken { ¬ LeasesAreDatedFromRequests past_suspected replied_behind_a_timer }
+    ensures kept { IsKeptBut (7 ∷ []) past_suspected replied_behind_a_timer }
 {}
 
 /// A grace that ends before a client's lease.
 #[tactic(auto, unfolding(crate::specs::BrokenPromises::broken_open))]
 pub fn a_grace_that_is_too_short_is_refused()
-    ensures broken { ¬ GraceWaits (past reading) grace_too_short }
-    ensures kept { IsKeptBut (8 ∷ []) (past reading) grace_too_short }
+    ensures broken { ¬ GraceWaits past_started grace_too_short }
+    ensures kept { IsKeptBut (8 ∷ []) past_started grace_too_short }
 {}
 
 /// A second epoch that begins without a grace, before the end of a client's lease of the first.
@@ -230,6 +230,41 @@ pub fn a_timer_that_is_not_remembered_is_refused()
 pub fn a_timer_without_a_suspect_is_refused()
     ensures broken { ¬ TheHistoryIsTheWorlds (past reading) timer_without_a_suspect }
     ensures kept { IsKeptBut (16 ∷ []) (past reading) timer_without_a_suspect }
+{}
+
+/// A timer of the history whose client's clock is not that of the step in which it started.
+#[tactic(auto, unfolding(crate::specs::BrokenPromises::broken_open))]
+pub fn a_timer_of_another_clock_is_refused()
+    ensures broken { ¬ TheHistoryIsTheWorlds past_suspecting timer_of_another_clock }
+    ensures kept { IsKeptBut (16 ∷ []) past_suspecting timer_of_another_clock }
+{}
+
+/// A timer of the history with more messages than were sent before it started.
+#[tactic(auto, unfolding(crate::specs::BrokenPromises::broken_open))]
+pub fn a_timer_of_another_moment_is_refused()
+    ensures broken { ¬ TheHistoryIsTheWorlds past_suspecting timer_of_another_moment }
+    ensures kept { IsKeptBut (16 ∷ []) past_suspecting timer_of_another_moment }
+{}
+
+/// A server whose epoch began with a grace while the history has none.
+#[tactic(auto, unfolding(crate::specs::BrokenPromises::broken_open))]
+pub fn a_grace_that_is_not_remembered_is_refused()
+    ensures broken { ¬ TheHistoryIsTheWorlds past_started grace_unknown }
+    ensures kept { IsKeptBut (16 ∷ []) past_started grace_unknown }
+{}
+
+/// A grace of the history while the server's epoch began without one.
+#[tactic(auto, unfolding(crate::specs::BrokenPromises::broken_open))]
+pub fn a_grace_that_never_began_is_refused()
+    ensures broken { ¬ TheHistoryIsTheWorlds (past reading) grace_without_a_start }
+    ensures kept { IsKeptBut (16 ∷ []) (past reading) grace_without_a_start }
+{}
+
+/// A grace of the history whose clients' clocks are not those of the step in which it began.
+#[tactic(auto, unfolding(crate::specs::BrokenPromises::broken_open))]
+pub fn a_grace_of_other_clocks_is_refused()
+    ensures broken { ¬ TheHistoryIsTheWorlds past_started grace_of_other_clocks }
+    ensures kept { IsKeptBut (16 ∷ []) past_started grace_of_other_clocks }
 {}
 
 /// A lease that isn't among the dates.

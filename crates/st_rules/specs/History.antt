@@ -1,5 +1,5 @@
 -- History: what only promises need, as a record beside the world that the same events move. No code keeps it.
-use Rattle.std.specs.Prelude.{◌≡◌, ℕ, Bool, ◌&&◌, not, ◌==◌, List, [], ◌∷◌, ◌++◌, length, find, filter, Option, Some, None, option_map, unwrap_or, Result, Ok, Err, ⊤}
+use Rattle.std.specs.Prelude.{◌≡◌, ℕ, Bool, ◌&&◌, not, ◌==◌, List, [], ◌∷◌, ◌++◌, length, find, filter, map, Option, Some, None, option_map, unwrap_or, Result, Ok, Err, ⊤}
 use Rattle.st_base.specs.declared.ids.ClientId.{ClientId}
 use Rattle.st_base.specs.declared.ids.ServerId.{ServerId}
 use Rattle.st_base.specs.declared.ids.Life.{Life}
@@ -22,15 +22,21 @@ use Rattle.st_rules.specs.ClientLocks.{is_lock_on}
 use Rattle.st_rules.specs.ClientState.{ClientSession, Association}
 use Rattle.st_rules.specs.Client.{association_with}
 use Rattle.st_rules.specs.Server.{ServerNode}
-use Rattle.st_rules.specs.World.{World, WorldClient, site_of, node_of}
+use Rattle.st_rules.specs.World.{World, WorldClient, site_of, node_of, clock_of, all_clients}
 use Rattle.st_rules.specs.Events.{WorldTurn, world_step, present_life}
 use Rattle.st_rules.specs.Run.{Run, run}
 
--- A timer that runs, and how many messages had been sent before the event that started it.
+-- A timer that runs: its client's clock when it started, and how many messages had been sent before the event that started it.
 pub record TimerStart : Type 0 where
   pub server : ServerId
   pub client : ClientId
+  pub clock : Stamp
   pub sent : ℕ
+
+-- The grace with which a server's epoch began: all clients' clocks at its start, in the order of clients.
+pub record GraceStart : Type 0 where
+  pub server : ServerId
+  pub clocks : List Stamp
 
 -- A lease: the epoch whose reply dated it last, and its end.
 pub record LeaseDate : Type 0 where
@@ -45,15 +51,17 @@ pub record EntryGrant : Type 0 where
   pub file : FileId
   pub g : GrantNo
 
--- The history of a run: the timers that run, every lease that was dated, and the grant of each entry of the log, in its order.
+-- The history of a run: the timers that run, the graces of running servers, every lease that was dated, and the grant of each entry
+-- of the log, in its order.
 pub record History : Type 0 where
   pub timers : List TimerStart
+  pub graces : List GraceStart
   pub dates : List LeaseDate
   pub grants : List EntryGrant
 
 -- before the first event
 abbrev pub no_history : History
-no_history = record { timers = []; dates = []; grants = [] }
+no_history = record { timers = []; graces = []; dates = []; grants = [] }
 
 -- What a client has of a server.
 
@@ -86,9 +94,13 @@ is_timer_of s c t = same_server t.server s && same_client t.client c
 abbrev pub is_timer_at : ServerId → TimerStart → Bool
 is_timer_at s t = same_server t.server s
 
+-- a client's clock
+abbrev pub client_clock : World → ClientId → Stamp
+client_clock w c = clock_of w (nodes.Client c)
+
 -- a timer that starts in an event, from a world
 abbrev pub timer_start : World → ServerId → ClientId → TimerStart
-timer_start w s c = record { server = s; client = c; sent = length w.net.messages }
+timer_start w s c = record { server = s; client = c; clock = client_clock w c; sent = length w.net.messages }
 
 -- with this timer
 abbrev pub with_timer : TimerStart → History → History
@@ -97,6 +109,24 @@ with_timer t h = record h { timers = h.timers ++ t ∷ [] }
 -- a timer is over
 abbrev pub without_timer : ServerId → ClientId → History → History
 without_timer s c h = record h { timers = filter (λ t. not (is_timer_of s c t)) h.timers }
+
+-- Graces.
+
+-- a grace of a server
+abbrev pub is_grace_at : ServerId → GraceStart → Bool
+is_grace_at s g = same_server g.server s
+
+-- all clients' clocks, in the order of clients
+abbrev pub client_clocks : World → List Stamp
+client_clocks w = map (client_clock w) (all_clients w)
+
+-- a grace that begins in an event, from a world
+abbrev pub grace_begun : World → ServerId → GraceStart
+grace_begun w s = record { server = s; clocks = client_clocks w }
+
+-- with this grace
+abbrev pub with_grace : GraceStart → History → History
+with_grace g h = record h { graces = h.graces ++ g ∷ [] }
 
 -- Leases.
 
@@ -178,18 +208,19 @@ unfoldable pub recall_all : World → World → List Observation → History →
 recall_all before after [] h = h
 recall_all before after (o ∷ os) h = recall_all before after os (recall before after h o)
 
--- a server that stops has no timers
-abbrev pub without_timers : ServerId → History → History
-without_timers s h = record h { timers = filter (λ t. not (is_timer_at s t)) h.timers }
+-- a server that stops has no timers and no grace
+abbrev pub without_server : ServerId → History → History
+without_server s h = record h { timers = filter (λ t. not (is_timer_at s t)) h.timers; graces = filter (λ g. not (is_grace_at s g)) h.graces }
 
--- by the event
-unfoldable pub remember : Event → History → History
-remember (events.Crash (nodes.Server s)) h = without_timers s h
-remember e h = h
+-- by the event, from a world: a server that starts begins its epoch with a grace
+unfoldable pub remember : World → Event → History → History
+remember before (events.Crash (nodes.Server s)) h = without_server s h
+remember before (events.Start (nodes.Server s)) h = with_grace (grace_begun before s) h
+remember before e h = h
 
 -- the history after an event, by the event and by what was observed
 abbrev pub history_after : World → Event → WorldTurn → History → History
-history_after w e sc h = recall_all w sc.world sc.seen (remember e h)
+history_after w e sc h = recall_all w sc.world sc.seen (remember w e h)
 
 -- A traced run: the world beside its history.
 pub record Traced : Type 0 where

@@ -1,6 +1,6 @@
 -- What is promised: what safe means, over the steps of a run. No rule of a machine is used here but look-ups; the promise on
 -- old messages says which rules they leave alone.
-use Rattle.std.specs.Prelude.{◌≡◌, ℕ, ◌+◌, Bool, true, false, ◌&&◌, ◌||◌, not, ◌==◌, nat_le, nat_lt, if◌then◌else◌, List, [], ◌∷◌, ◌++◌, length, filter_map, map, take, Option, Some, None, is_some, Result, Ok, Err, ⊤}
+use Rattle.std.specs.Prelude.{◌≡◌, ℕ, ◌+◌, Bool, true, false, ◌&&◌, ◌||◌, not, ◌==◌, nat_le, nat_lt, if◌then◌else◌, List, [], ◌∷◌, ◌++◌, length, filter_map, map, take, Option, Some, None, is_some, option_map, Result, Ok, Err, ⊤}
 use Rattle.std.specs.List.{list_all, list_any}
 use Rattle.st_base.specs.declared.ids.ClientId.{ClientId}
 use Rattle.st_base.specs.declared.ids.ServerId.{ServerId}
@@ -61,7 +61,7 @@ use Rattle.st_rules.specs.Events.{WorldTurn, world_step, present_life, present_l
 use Rattle.st_rules.specs.Run.{run}
 use Rattle.st_rules.specs.Lines.{AtEach, IsLogTold, lines_open}
 use Rattle.st_rules.specs.Dating.{dates_it, dating_open}
-use Rattle.st_rules.specs.History.{Traced, History, LeaseDate, EntryGrant, association_of, locks_at, is_timer_of, is_exclusive_on, is_exclusive_row, rows_at, traced_after}
+use Rattle.st_rules.specs.History.{Traced, History, TimerStart, GraceStart, LeaseDate, EntryGrant, association_of, locks_at, is_timer_of, is_grace_at, client_clock, client_clocks, is_exclusive_on, is_exclusive_row, rows_at, traced_after}
 
 -- The steps of a run: the world before an event, the event, what was observed, and the world that it left.
 pub record Step : Type 0 where
@@ -637,8 +637,10 @@ is_no_conflict o = true
 abbrev pub NoConflictIsSent : Promise
 NoConflictIsSent past x = list_all is_no_conflict x.seen ≡ true
 
--- The history is the world's: a client has a timer in the history exactly where a running server suspects it; each present lease, and each that a life had when
--- it ended, is among the dates with its end; and each entry of the log has one grant, of its file.
+-- The history is the world's: a client has a timer in the history exactly where a running server suspects it, with the client's
+-- clock and the messages of the step in which that server's own timer started; a server has a grace there exactly where it runs in
+-- an epoch that began with one, with all clients' clocks at the step in which that grace began; each present lease, and each that a
+-- life had when it ended, is among the dates with its end; and each entry of the log has one grant, of its file.
 abbrev pub agree : Bool → Bool → Bool
 agree true b = b
 agree false b = not b
@@ -659,6 +661,74 @@ agree_on_timer t s c = agree (has_timer t.history s c) (suspects_at c (node_of t
 -- a server's timers
 abbrev pub agree_on_timers : Traced → ServerId → Bool
 agree_on_timers t s = list_all (agree_on_timer t s) (all_clients t.world)
+
+-- a moment is this one
+abbrev pub is_moment : Stamp → Option Stamp → Bool
+is_moment at None = false
+is_moment at (Some moment) = moment.0 == at.0
+
+-- since when a server's timer of a client runs
+abbrev pub timer_since : ClientId → Option ServerNode → Option Stamp
+timer_since c None = None
+timer_since c (Some node) = authority.started node.state.authority c
+
+-- the suspicion with which the timer started that runs now
+abbrev pub is_suspicion : Traced → TimerStart → Observation → Bool
+is_suspicion now k (seen.Suspected s c start) = is_timer_of s c k && is_moment start (timer_since c (node_of now.world s))
+is_suspicion now k o = false
+
+-- the client's clock and the messages were so before a step
+abbrev pub is_start_from : TimerStart → World → Bool
+is_start_from k before = ((client_clock before k.client).0 == k.clock.0) && (length before.net.messages == k.sent)
+
+-- a timer that runs now started in a step
+abbrev pub starts_timer : Traced → TimerStart → Step → Bool
+starts_timer now k x = list_any (is_suspicion now k) x.seen && is_start_from k x.before.world
+
+-- a timer that runs now started in one of these steps
+abbrev pub has_started : List Step → Traced → TimerStart → Bool
+has_started past now k = list_any (starts_timer now k) past
+
+-- the history has a grace
+abbrev pub has_grace : History → ServerId → Bool
+has_grace h s = list_any (is_grace_at s) h.graces
+
+-- the grace with which a running server's epoch began
+abbrev pub grace_of : Option ServerNode → Option grace.Grace
+grace_of None = None
+grace_of (Some node) = if node.running then node.state.grace else None
+
+-- a server's grace is in both, or in neither
+abbrev pub agree_on_grace : Traced → ServerId → Bool
+agree_on_grace t s = agree (has_grace t.history s) (is_some (grace_of (node_of t.world s)))
+
+-- when a grace began
+abbrev pub start_of : grace.Grace → Stamp
+start_of g = g.start
+
+-- a server starts
+abbrev pub is_start_of : ServerId → Event → Bool
+is_start_of s (events.Start (nodes.Server r)) = same_server r s
+is_start_of s e = false
+
+-- the same clock readings
+unfoldable pub same_clocks : List Stamp → List Stamp → Bool
+same_clocks [] [] = true
+same_clocks [] (u ∷ us) = false
+same_clocks (t ∷ ts) [] = false
+same_clocks (t ∷ ts) (u ∷ us) = (t.0 == u.0) && same_clocks ts us
+
+-- the server's clock showed the moment at which its grace began, and the clients' clocks were so
+abbrev pub is_grace_from : Traced → GraceStart → World → Bool
+is_grace_from now g before = is_moment (clock_of before (nodes.Server g.server)) (option_map start_of (grace_of (node_of now.world g.server))) && same_clocks g.clocks (client_clocks before)
+
+-- a grace that a server has now began in a step
+abbrev pub begins_grace : Traced → GraceStart → Step → Bool
+begins_grace now g x = is_start_of g.server x.event && is_grace_from now g x.before.world
+
+-- a grace that a server has now began in one of these steps
+abbrev pub has_begun : List Step → Traced → GraceStart → Bool
+has_begun past now g = list_any (begins_grace now g) past
 
 -- a date of a life with this end
 abbrev pub is_date_with : LeaseLife → Stamp → LeaseDate → Bool
@@ -685,14 +755,17 @@ fit_log (g ∷ gs) [] = false
 fit_log (g ∷ gs) (e ∷ es) = same_file g.file e.of.file && fit_log gs es
 
 -- The history is the world's
-pub record IsWorldsHistory (t : Traced) : Type 0 where
+pub record IsWorldsHistory (past : List Step) (t : Traced) : Type 0 where
   pub timers : list_all (agree_on_timers t) (all_servers t.world) ≡ true
+  pub started : list_all (has_started past t) t.history.timers ≡ true
+  pub graces : list_all (agree_on_grace t) (all_servers t.world) ≡ true
+  pub begun : list_all (has_begun past t) t.history.graces ≡ true
   pub dates : list_all (is_dated_life t.history) (all_lives t.world) ≡ true
   pub grants : fit_log t.history.grants t.world.log ≡ true
 
 -- The history is the world's, after every event
 abbrev pub TheHistoryIsTheWorlds : Promise
-TheHistoryIsTheWorlds past x = IsWorldsHistory x.after
+TheHistoryIsTheWorlds past x = IsWorldsHistory (past ++ x ∷ []) x.after
 
 -- Old messages change nothing. At a client, a message of another life than its present one, or of another epoch than its
 -- session's, leaves a step as it was after the losses, so that only the passes follow. But a refusal of an epoch from a later
@@ -777,5 +850,5 @@ is_event count e = true
 
 -- opens all of this file and of the two that it uses
 unfoldable pub safety_open : ⊤
-unfolding lines_open dating_open steps_on steps left_by Throughout ask_of_client AreLogged all_answered_once all_followed never_fall fit_log keep_hard
+unfolding lines_open dating_open steps_on steps left_by Throughout ask_of_client AreLogged all_answered_once all_followed never_fall same_clocks fit_log keep_hard
 safety_open = tt

@@ -1,23 +1,19 @@
 -- What an event that is not refused meets.
-use Rattle.std.proofs.Common.{◌≡◌, ℕ, ◌≤◌, ◌^◌, Bool, true, false, not, ◌==◌, List, [], ◌∷◌, length, arith, refl, sym, ap, ◌∙◌, if◌then◌else◌}
-use Rattle.std.specs.Prelude.{Option, Some, None}
-use Rattle.std.specs.List.{list_all}
+use Rattle.st_lemmas.proofs.Words
+use Words.{◌≡◌, ℕ, ◌≤◌, ◌^◌, Bool, true, false, not, ◌==◌, List, [], ◌∷◌, length, arith, refl, sym, ap, ◌∙◌, if◌then◌else◌, Option, Some, None, list_all}
+use Words.{and_parts, eqb-true, leb-true, lt-ltb, NodeId, Event, Excess, WorldRefusal}
+use Words.nodes
+use Words.events
+use Words.refusals
+use Words.Admissible.{cannot_step, clocks_refused, drift_refused, excess_with, flush_missed, net_full, no_node, not_running, rate_refused, refusal, stands}
+use Words.Admissible.{still_running}
+use Words.Events.{counted}
+use Words.Safety.{is_event, is_increment}
+use Words.World.{World, all_clients, is_running}
 use Rattle.std.specs.Option.{option_or}
-use Rattle.std.proofs.lemmas.Bool.{and_parts, eqb-true, leb-true, lt-ltb}
-use Rattle.st_base.specs.declared.ids.NodeId.{NodeId}
-use Rattle.st_base.specs.declared.ids.NodeId.TheVariants as nodes
 use Rattle.st_world_parts.specs.Clocks.{is_step}
-use Rattle.st_messages.specs.declared.event.Event.{Event}
-use Rattle.st_messages.specs.declared.event.Event.TheVariants as events
-use Rattle.st_rules.specs.declared.lease.Excess.{Excess}
-use Rattle.st_rules.specs.declared.observation.WorldRefusal.{WorldRefusal}
-use Rattle.st_rules.specs.declared.observation.WorldRefusal.TheVariants as refusals
-use Rattle.st_rules.specs.Admissible.{cannot_step, clocks_refused, drift_refused, excess_with, flush_missed, net_full, no_node, not_running, rate_refused, refusal, stands, still_running}
-use Rattle.st_rules.specs.Events.{counted}
-use Rattle.st_rules.specs.Safety.{is_event, is_increment}
-use Rattle.st_rules.specs.World.{World, all_clients, is_running}
 use Rattle.st_world_events.specs.Advances.{IsAccepted}
-use Rattle.st_world_events.specs.Readiness.{IsMet, IsReady, MayCount}
+use Rattle.st_world_events.specs.Readiness.{IsMet, IsReady}
 use Rattle.st_world.specs.AdvanceTests.{IsLaid, IsTimed}
 
 neither : {A : Type 0} (o rest : Option A) → option_or o rest ≡ None → (o ≡ None) × (rest ≡ None)

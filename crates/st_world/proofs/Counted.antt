@@ -1,7 +1,7 @@
 -- What is made for each number from 1, one after another.
-use Rattle.std.proofs.Common.{◌≡◌, ℕ, ◌+◌, ◌-◌, ◌<◌, ◌≤◌, List, [], ◌∷◌, ◌++◌, refl, sym, ap, ◌∙◌, append_assoc}
-use Rattle.std.specs.Prelude.{map}
-use Rattle.st_rules.specs.Extents.{numbers}
+use Rattle.st_lemmas.proofs.Words
+use Words.{◌≡◌, ℕ, ◌+◌, ◌-◌, ◌<◌, ◌≤◌, List, [], ◌∷◌, ◌++◌, refl, sym, ap, ◌∙◌, append_assoc, map}
+use Words.Extents.{numbers}
 use Rattle.st_world_events.proofs.Flushed.{numbers_end, numbers_on}
 
 nothing_more : {A : Type 0} (xs : List A) → xs ++ [] ≡ xs

@@ -1,19 +1,16 @@
 -- No counter of a reached world of fewer than 2^29 events is at its end, by the laws on counters.
-use Rattle.std.proofs.Common.{◌≡◌, ℕ, ◌+◌, ◌*◌, ◌^◌, ◌<◌, true, Option, Some, None, refl, arith}
-use Rattle.std.specs.Prelude.{nat_lt}
-use Rattle.std.proofs.lemmas.Bool.{lt-ltb}
-use Rattle.st_base.specs.declared.ids.ClientId.{ClientId}
-use Rattle.st_base.specs.declared.ids.ServerId.{ServerId}
+use Rattle.st_lemmas.proofs.Words
+use Words.{◌≡◌, ℕ, ◌+◌, ◌*◌, ◌^◌, ◌<◌, true, Option, Some, None, refl, arith, nat_lt, lt-ltb, ClientId, ServerId}
+use Words.Tables.{all_pass, and_both}
+use Words.ClientState.{Association, ClientSession, ClientState}
+use Words.Server.{ServerNode}
+use Words.World.{World, WorldClient, node_of, site_of}
 use Rattle.st_client.specs.Room as client_room
 use Rattle.st_client_association.specs.Associations.{has_room_at, may_ask}
 use Rattle.st_laws_bounds.specs.Counters.Counts.{AsksLow, ClientsFew, LocksFew, ReadsFew, ServersFew, TheftsFew}
 use Rattle.st_laws_bounds.specs.Counters.Rises.{ClientsWithin, IsWithin, IsWithinAt}
 use Rattle.st_laws_bounds.specs.Counters.ReachedWorlds as laws
 use Rattle.st_laws_bounds.specs.Counters.ReachedWorlds.{InEveryReached}
-use Rattle.st_lemmas.proofs.Tables.{all_pass, and_both}
-use Rattle.st_rules.specs.ClientState.{Association, ClientSession, ClientState}
-use Rattle.st_rules.specs.Server.{ServerNode}
-use Rattle.st_rules.specs.World.{World, WorldClient, node_of, site_of}
 use Rattle.st_world.specs.Counters.{CountersHaveRoom, NodeHasRoom, SiteHasRoom}
 use Rattle.st_world.specs.ReachedWorlds.{IsReached}
 

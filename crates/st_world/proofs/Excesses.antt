@@ -1,10 +1,9 @@
 -- The pair that is named is one of the nodes.
-use Rattle.std.proofs.Common.{◌≡◌, ℕ, suc, ◌+◌, ◌*◌, ◌<◌, ◌≤◌, Bool, true, false, List, [], ◌∷◌, length, arith, refl, sym, ap, if◌then◌else◌}
-use Rattle.std.specs.Prelude.{nat_lt, Option, Some, None, Result, Ok, Err, IfSome}
-use Rattle.std.specs.List.{AllByRecursion}
+use Rattle.st_lemmas.proofs.Words
+use Words.{◌≡◌, ℕ, suc, ◌+◌, ◌*◌, ◌<◌, ◌≤◌, Bool, true, false, List, [], ◌∷◌, length, arith, refl, sym, ap, if◌then◌else◌, nat_lt, Option, Some, None, Result}
+use Words.{Ok, Err, IfSome, AllByRecursion, Excess}
+use Words.Leases.{drift_after, drift_judged, drift_step, excess_at, excess_from, excess_in_row, excess_of, excess_or, first_excess, raise_row, raise_rows}
 use Rattle.st_clock.specs.Drifts.{after_step}
-use Rattle.st_rules.specs.declared.lease.Excess.{Excess}
-use Rattle.st_rules.specs.Leases.{drift_after, drift_judged, drift_step, excess_at, excess_from, excess_in_row, excess_of, excess_or, first_excess, raise_row, raise_rows}
 use Rattle.st_world.specs.AdvanceTests.{IsPair, excess_in}
 
 judged_is : (r : Result Unit Excess) (d : List (List ℕ)) (o : Option Excess) → after_step r d ≡ drift_judged d o → excess_in r ≡ o

@@ -1,16 +1,11 @@
 -- A world to which a run leads, and one event more.
-use Rattle.std.proofs.Common.{◌≡◌, ℕ, ◌+◌, Bool, true, List, [], ◌∷◌, ◌++◌, length, refl, sym, ap, ◌∙◌, subst, Result, Ok, Err}
-use Rattle.std.specs.Prelude.{Option, Some, None}
-use Rattle.std.specs.List.{list_all}
-use Rattle.std.proofs.lemmas.Bool.{and_parts}
-use Rattle.st_base.specs.declared.config.Config.{Config}
-use Rattle.st_messages.specs.declared.event.Event.{Event}
-use Rattle.st_rules.specs.declared.observation.Observation.{Observation}
-use Rattle.st_rules.specs.declared.observation.WorldRefusal.{WorldRefusal}
-use Rattle.st_rules.specs.Events.{WorldTurn, quiet, world_turn, world_step}
-use Rattle.st_rules.specs.Run.{Run, RunsInParts, behind, go_on, run, run_on}
-use Rattle.st_rules.specs.Safety.{IsHead, is_event}
-use Rattle.st_rules.specs.World.{World, fresh_world}
+use Rattle.st_lemmas.proofs.Words
+use Words.{◌≡◌, ℕ, ◌+◌, Bool, true, List, [], ◌∷◌, ◌++◌, length, refl, sym, ap, ◌∙◌, subst, Result, Ok, Err, Option, Some, None, list_all, and_parts, Config}
+use Words.{Event, Observation, WorldRefusal}
+use Words.Events.{WorldTurn, quiet, world_turn, world_step}
+use Words.Run.{Run, RunsInParts, behind, go_on, run, run_on}
+use Words.Safety.{IsHead, is_event}
+use Words.World.{World, fresh_world}
 use Rattle.st_world.specs.ReachedWorlds.{IsQuiet, IsReached}
 use Rattle.st_world.proofs.Shaped.{clocks_are}
 

@@ -1,13 +1,11 @@
 -- The first refusal among nodes in order.
-use Rattle.std.proofs.Common.{◌≡◌, ℕ, ◌+◌, ◌-◌, ◌<◌, ◌≤◌, List, refl, ap, sym, ◌∙◌}
-use Rattle.std.specs.Prelude.{map, Option, Some, None}
+use Rattle.st_lemmas.proofs.Words
+use Words.{◌≡◌, ℕ, ◌+◌, ◌-◌, ◌<◌, ◌≤◌, List, refl, ap, sym, ◌∙◌, map, Option, Some, None, ClientId, WorldRefusal}
+use Words.Admissible.{flush_missed, missed_at, missed_by}
+use Words.Extents.{numbers}
+use Words.Keys.{client}
+use Words.World.{World, all_servers, server, site_of}
 use Rattle.std.specs.Option.{option_or}
-use Rattle.st_base.specs.declared.ids.ClientId.{ClientId}
-use Rattle.st_rules.specs.declared.observation.WorldRefusal.{WorldRefusal}
-use Rattle.st_rules.specs.Admissible.{flush_missed, missed_at, missed_by}
-use Rattle.st_rules.specs.Extents.{numbers}
-use Rattle.st_rules.specs.Keys.{client}
-use Rattle.st_rules.specs.World.{World, all_servers, server, site_of}
 use Rattle.st_world_events.proofs.Flushed.{numbers_end, numbers_on}
 
 first_some : {A : Type 0} (o rest : Option A) (x : A) → Some x ≡ o → option_or o rest ≡ Some x

@@ -1,15 +1,13 @@
 -- Refusals of deliveries and losses, by what is kept of a message.
-use Rattle.std.proofs.Common.{◌≡◌, ℕ, Bool, refl, ap}
-use Rattle.std.specs.Prelude.{Option, Some, None, option_map}
+use Rattle.st_lemmas.proofs.Words
+use Words.{◌≡◌, ℕ, Bool, refl, ap, Option, Some, None, option_map, DiskCommand, SentMessage}
+use Words.refusals
+use Words.Admissible.{refused_delivery, refused_effect, refused_loss, refused_report, stands}
+use Words.World.{World}
 use Rattle.st_disk.specs.declared.commands.CommandState.{CommandState}
 use Rattle.st_disk.specs.CommandStates.{standing_of}
 use Rattle.st_world_parts.specs.declared.places.MessageEnds.{MessageEnds}
 use Rattle.st_world_parts.specs.Pieces.{head_of}
-use Rattle.st_rules.specs.declared.observation.WorldRefusal.TheVariants as refusals
-use Rattle.st_rules.specs.declared.disks.DiskCommand.{DiskCommand}
-use Rattle.st_rules.specs.declared.world.SentMessage.{SentMessage}
-use Rattle.st_rules.specs.Admissible.{refused_delivery, refused_effect, refused_loss, refused_report, stands}
-use Rattle.st_rules.specs.World.{World}
 use Rattle.st_world.specs.Deliveries.{delivery_refused, effect_refused, report_refused}
 
 -- there is no such message to deliver

@@ -1,9 +1,9 @@
 -- Runs to a world are safe, by the law of every run.
-use Rattle.std.proofs.Common.{◌≡◌, ◌+◌, true, [], ◌∷◌, ◌++◌, length, sym, ap, ◌∙◌}
-use Rattle.st_messages.specs.declared.event.Event.{Event}
+use Rattle.st_lemmas.proofs.Words
+use Words.{◌≡◌, ◌+◌, true, [], ◌∷◌, ◌++◌, length, sym, ap, ◌∙◌, Event}
+use Words.Safety.{is_event}
+use Words.World.{World}
 use Rattle.st_promises.specs.Safe.{EveryRunIsSafe}
-use Rattle.st_rules.specs.Safety.{is_event}
-use Rattle.st_rules.specs.World.{World}
 use Rattle.st_world.specs.ReachedWorlds.{IsReached}
 use Rattle.st_world.specs.Safe.{AreSafe, GoesOnSafely, IsLedSafely}
 use Rattle.st_world.proofs.Goes.{all_more}

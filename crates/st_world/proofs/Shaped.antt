@@ -1,25 +1,22 @@
 -- The shape of every world to which a run leads.
-use Rattle.std.proofs.Common.{◌≡◌, ℕ, zero, suc, ◌+◌, ◌*◌, ◌^◌, ◌≤◌, Bool, true, false, List, [], ◌∷◌, ◌++◌, length, refl, sym, ap, ◌∙◌, subst, arith, if◌then◌else◌, Result, Ok, Err}
-use Rattle.std.specs.Prelude.{◌&&◌, ◌==◌, map, nat_le, nat_lt, replicate, Option, Some, None}
-use Rattle.std.specs.List.{list_all}
-use Rattle.std.proofs.lemmas.Bool.{and_parts, eqb-true, leb-true, le-leb}
-use Rattle.st_base.specs.Config.{check, check_demand, check_grain, check_length, check_rate, demands_fit, grain_fits, lease_is_short, phases_rise, rate_is_sound}
-use Rattle.st_base.specs.declared.config.Config.{Config}
+use Rattle.st_lemmas.proofs.Words
+use Words.{◌≡◌, ℕ, zero, suc, ◌+◌, ◌*◌, ◌^◌, ◌≤◌, Bool, true, false, List, [], ◌∷◌, ◌++◌, length, refl, sym, ap, ◌∙◌, subst, arith, if◌then◌else◌, Result, Ok}
+use Words.{Err, ◌&&◌, ◌==◌, map, nat_le, nat_lt, Option, Some, None, list_all, and_parts, eqb-true, leb-true, le-leb, Config, Stamp, Event, WorldRefusal}
+use Words.config_refusals as faults
+use Words.events
+use Words.Admissible.{refusal}
+use Words.Events.{WorldTurn, advanced, counted, happens, world_by, world_step}
+use Words.Extents.{numbers}
+use Words.Leases.{no_drift}
+use Words.Run.{go_on, run}
+use Words.Safety.{IsHead, is_event, is_increment}
+use Words.World.{World, client_clock, fresh_site, fresh_world, node_at_start, server_clock}
+use Rattle.std.specs.Prelude.{replicate}
+use Rattle.st_base.specs.Config.{check, check_demand, check_grain, check_length, check_rate, demands_fit, grain_fits, lease_is_short, phases_rise}
+use Rattle.st_base.specs.Config.{rate_is_sound}
 use Rattle.st_base.specs.declared.config.ConfigRefusal.{ConfigRefusal}
-use Rattle.st_base.specs.declared.config.ConfigRefusal.TheVariants as faults
-use Rattle.st_base.specs.declared.ids.Stamp.{Stamp}
 use Rattle.st_world_parts.specs.Clocks.{is_at_most}
 use Rattle.st_world_parts.proofs.Later.{advanced_low}
-use Rattle.st_messages.specs.declared.event.Event.{Event}
-use Rattle.st_messages.specs.declared.event.Event.TheVariants as events
-use Rattle.st_rules.specs.declared.observation.WorldRefusal.{WorldRefusal}
-use Rattle.st_rules.specs.Admissible.{refusal}
-use Rattle.st_rules.specs.Events.{WorldTurn, advanced, counted, happens, world_by, world_step}
-use Rattle.st_rules.specs.Extents.{numbers}
-use Rattle.st_rules.specs.Leases.{no_drift}
-use Rattle.st_rules.specs.Run.{go_on, run}
-use Rattle.st_rules.specs.Safety.{IsHead, is_event, is_increment}
-use Rattle.st_rules.specs.World.{World, client_clock, fresh_site, fresh_world, node_at_start, server_clock}
 use Rattle.st_messages.specs.declared.event.Counts.{Counts}
 use Rattle.st_world.specs.Heads.{HasCounts}
 use Rattle.st_world.specs.ReachedWorlds.{IsReached}

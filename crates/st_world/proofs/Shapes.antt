@@ -1,35 +1,22 @@
 -- No event changes how many events were counted, or how many nodes and clocks there are.
-use Rattle.std.proofs.Common.{◌≡◌, ℕ, zero, suc, Bool, true, false, List, [], ◌∷◌, length, set, refl, sym, ap, ◌∙◌, arith, if◌then◌else◌, Result, Ok, Err}
-use Rattle.std.specs.Prelude.{◌==◌, Option, Some, None}
-use Rattle.st_base.specs.declared.disk.BlockAt.{BlockAt}
-use Rattle.st_base.specs.declared.disk.Command.{Command}
-use Rattle.st_base.specs.declared.ids.ClientId.{ClientId}
-use Rattle.st_base.specs.declared.ids.NodeId.{NodeId}
-use Rattle.st_base.specs.declared.ids.NodeId.TheVariants as nodes
-use Rattle.st_base.specs.declared.ids.ServerId.{ServerId}
+use Rattle.st_lemmas.proofs.Words
+use Words.{◌≡◌, ℕ, zero, suc, Bool, true, false, List, [], ◌∷◌, length, set, refl, sym, ap, ◌∙◌, arith, if◌then◌else◌, Result, Ok, Err, ◌==◌, Option, Some}
+use Words.{None, BlockAt, Command, ClientId, NodeId, ServerId, Ask, Event, Message, Note, Output, ClientInput, ServerInput, StepRefusal, IssuedCommand}
+use Words.{SentMessage}
+use Words.nodes
+use Words.events
+use Words.notes
+use Words.outputs
+use Words.Client as client
+use Words.ClientState.{ClientState}
+use Words.Disks.{Disks}
+use Words.Events as ev
+use Words.Events.{WorldTurn}
+use Words.Leases.{drift_after, raise_rows}
+use Words.Server as server
+use Words.Server.{ServerNode}
+use Words.World.{WorldClient, World, all_servers, clock_of, message_of, node_of, receiver_of, site_of}
 use Rattle.st_world_parts.proofs.Later.{length-advanced}
-use Rattle.st_messages.specs.declared.ask.Ask.{Ask}
-use Rattle.st_messages.specs.declared.event.Event.{Event}
-use Rattle.st_messages.specs.declared.event.Event.TheVariants as events
-use Rattle.st_messages.specs.declared.message.Message.{Message}
-use Rattle.st_messages.specs.declared.output.Note.{Note}
-use Rattle.st_messages.specs.declared.output.Note.TheVariants as notes
-use Rattle.st_messages.specs.declared.output.Output.{Output}
-use Rattle.st_messages.specs.declared.output.Output.TheVariants as outputs
-use Rattle.st_rules.specs.declared.client.ClientInput.{ClientInput}
-use Rattle.st_rules.specs.declared.input.ServerInput.{ServerInput}
-use Rattle.st_rules.specs.declared.node.StepRefusal.{StepRefusal}
-use Rattle.st_rules.specs.declared.world.IssuedCommand.{IssuedCommand}
-use Rattle.st_rules.specs.declared.world.SentMessage.{SentMessage}
-use Rattle.st_rules.specs.Client as client
-use Rattle.st_rules.specs.ClientState.{ClientState}
-use Rattle.st_rules.specs.Disks.{Disks}
-use Rattle.st_rules.specs.Events as ev
-use Rattle.st_rules.specs.Events.{WorldTurn}
-use Rattle.st_rules.specs.Leases.{drift_after, raise_rows}
-use Rattle.st_rules.specs.Server as server
-use Rattle.st_rules.specs.Server.{ServerNode}
-use Rattle.st_rules.specs.World.{WorldClient, World, all_servers, clock_of, message_of, node_of, receiver_of, site_of}
 use Rattle.st_world_events.specs.FlushSteps.{flush_each}
 use Rattle.st_world.specs.Shapes.{HasSteps, IsAfter, SameShape, SameTime}
 use Rattle.st_world_events.proofs.Flushed.{flushes_is}

@@ -1,13 +1,10 @@
 -- What a step of the world counts, and what it leaves in number.
-use Rattle.std.proofs.Common.{◌≡◌, true, List, length, refl, sym, ap, ◌∙◌}
-use Rattle.std.specs.Prelude.{Option, Some, None, Result, Ok, Err, IfOk, OnErr}
-use Rattle.st_messages.specs.declared.event.Event.{Event}
-use Rattle.st_rules.specs.declared.observation.Observation.{Observation}
-use Rattle.st_rules.specs.declared.observation.WorldRefusal.{WorldRefusal}
-use Rattle.st_rules.specs.Admissible.{refusal}
-use Rattle.st_rules.specs.Events.{WorldTurn, counted, happens, world_turn, world_by, world_step}
-use Rattle.st_rules.specs.Safety.{is_event}
-use Rattle.st_rules.specs.World.{World}
+use Rattle.st_lemmas.proofs.Words
+use Words.{◌≡◌, true, List, length, refl, sym, ap, ◌∙◌, Option, Some, None, Result, Ok, Err, IfOk, OnErr, Event, Observation, WorldRefusal}
+use Words.Admissible.{refusal}
+use Words.Events.{WorldTurn, counted, happens, world_turn, world_by, world_step}
+use Words.Safety.{is_event}
+use Words.World.{World}
 use Rattle.st_world.specs.Shapes.{SameShape}
 use Rattle.st_world.specs.Steps.{StepsAs}
 use Rattle.st_world.specs.AdvanceTests.{IsLaid}

@@ -1,62 +1,46 @@
 -- No client sends a refusal because of a conflict.
-use Rattle.std.proofs.Common.{◌≡◌, ℕ, ◌+◌, Bool, true, false, not, ◌&&◌, List, [], ◌∷◌, ◌++◌, Option, Some, None, Ok, Err, refl, sym, ap, subst, inl, inr, if◌then◌else◌}
-use Rattle.std.specs.List.{list_all}
-use Rattle.st_base.specs.declared.ids.ClientId.{ClientId}
-use Rattle.st_base.specs.declared.ids.NodeId.{NodeId}
-use Rattle.st_base.specs.declared.ids.NodeId.TheVariants as nodes
-use Rattle.st_messages.specs.declared.event.Event.{Event}
-use Rattle.st_messages.specs.declared.event.Event.TheVariants as events
-use Rattle.st_messages.specs.declared.message.Message.{Message}
-use Rattle.st_messages.specs.declared.output.Note.{Note}
-use Rattle.st_messages.specs.declared.output.Note.TheVariants as notes
-use Rattle.st_messages.specs.declared.output.Output.{Output}
-use Rattle.st_messages.specs.declared.output.Output.TheVariants as outputs
-use Rattle.st_rules.specs.declared.client.ClientInput.{ClientInput}
-use Rattle.st_rules.specs.declared.client.ClientInput.TheVariants as inputs
+use Rattle.st_lemmas.proofs.Words
+use Words.{◌≡◌, ℕ, ◌+◌, Bool, true, false, not, List, [], ◌∷◌, Option, Some, None, Ok, Err, refl, sym, ap, subst, inl, inr, if◌then◌else◌, list_all}
+use Words.{ClientId, NodeId, Event, Message, Note, Output, ClientInput, IssuedCommand, SentMessage}
+use Words.nodes
+use Words.events
+use Words.notes
+use Words.outputs
+use Words.inputs
+use Words.Client as cl
+use Words.ClientState.{ClientState}
+use Words.Events as ev
+use Words.Events.{WorldTurn, client_says, client_says_all}
+use Words.History.{Traced}
+use Words.Safety.{Step, is_conflict, is_no_conflict, is_receiver, step, takes_step}
+use Words.World as world
+use Words.World.{World, WorldClient, clock_of, site_of}
+use Words.Lists.{Has}
+use Words.Numbers.{numbered_has}
+use Words.Tables.{has_map_in}
+use Words.Tests.{all_last}
 use Rattle.st_rules.specs.declared.node.StepRefusal.TheVariants.{Crashed}
-use Rattle.st_rules.specs.declared.observation.Observation.{Observation}
-use Rattle.st_rules.specs.declared.world.IssuedCommand.{IssuedCommand}
-use Rattle.st_rules.specs.declared.world.SentMessage.{SentMessage}
-use Rattle.st_rules.specs.Client as cl
-use Rattle.st_rules.specs.ClientState.{ClientState}
-use Rattle.st_rules.specs.Events as ev
-use Rattle.st_rules.specs.Events.{WorldTurn, client_says, client_says_all}
-use Rattle.st_rules.specs.History.{Traced}
-use Rattle.st_rules.specs.Safety.{Step, is_conflict, is_no_conflict, is_receiver, step, takes_step}
-use Rattle.st_rules.specs.World as world
-use Rattle.st_rules.specs.World.{World, WorldClient, clock_of, site_of}
-use Rattle.st_lemmas.specs.Lists.{Has}
-use Rattle.st_lemmas.proofs.Numbers.{numbered_has}
 use Rattle.st_lemmas.proofs.Steps.{step_happens}
-use Rattle.st_lemmas.proofs.Tables.{has_map_in}
 use Rattle.st_laws_leases.specs.Dates.Dates.{ClientDated, Dated, message_in, messages}
 use Rattle.st_laws_leases.specs.Dates.Law.{ClientsSendNoConflict}
 use Rattle.st_laws_leases.proofs.Dates.Receiving.{Comes, Ever, Held, ever_on, step_held}
 
-all_more : (p : Observation → Bool) (os : List Observation) (o : Observation) → list_all p os ≡ true → p o ≡ true → list_all p (os ++ o ∷ []) ≡ true
-all_more p [] o e f = ap (λ b. b && true) f
-all_more p (x ∷ os) o e f = go (p x) e (all_more p os o)
-  where
-    go : (b : Bool) → (b && list_all p os) ≡ true → (list_all p os ≡ true → p o ≡ true → list_all p (os ++ o ∷ []) ≡ true) → (b && list_all p (os ++ o ∷ [])) ≡ true
-    go true e r = r e f
-    go false e r = cc
-
 calm_one : (c : ClientId) (before : ClientState) (o : Output) (sc : WorldTurn) → ((m : Message) → o ≡ outputs.Send m → is_conflict m.body ≡ false) → list_all is_no_conflict sc.seen ≡ true → list_all is_no_conflict (client_says sc c before o).seen ≡ true
 unfolding client_says ev.sends ev.submits ev.answers_with ev.client_notes ev.accepts ev.patches ev.loses
-calm_one c before (outputs.Send m) sc f h = all_more is_no_conflict sc.seen _ h (ap not (f m refl))
-calm_one c before (outputs.Answer op a) sc f h = all_more is_no_conflict sc.seen _ h refl
+calm_one c before (outputs.Send m) sc f h = all_last is_no_conflict sc.seen _ h (ap not (f m refl))
+calm_one c before (outputs.Answer op a) sc f h = all_last is_no_conflict sc.seen _ h refl
 calm_one c before (outputs.Submit n at what) sc f h = go (site_of sc.world c)
   where
     go : (o : Option WorldClient) → list_all is_no_conflict (ev.submits sc c o n at what).seen ≡ true
     go None = h
-    go (Some site) = all_more is_no_conflict sc.seen _ h refl
+    go (Some site) = all_last is_no_conflict sc.seen _ h refl
 calm_one c before (outputs.Note n) sc f h = note n
   where
     note : (n : Note) → list_all is_no_conflict (ev.client_notes sc c before n).seen ≡ true
-    note (notes.Accepted g p bytes) = all_more is_no_conflict sc.seen _ h refl
-    note (notes.Patched g p at bytes) = all_more is_no_conflict sc.seen _ h refl
-    note (notes.Leased s e) = all_more is_no_conflict sc.seen _ h refl
-    note (notes.Lost s l) = all_more is_no_conflict sc.seen _ h refl
+    note (notes.Accepted g p bytes) = all_last is_no_conflict sc.seen _ h refl
+    note (notes.Patched g p at bytes) = all_last is_no_conflict sc.seen _ h refl
+    note (notes.Leased s e) = all_last is_no_conflict sc.seen _ h refl
+    note (notes.Lost s l) = all_last is_no_conflict sc.seen _ h refl
     note n = h
 
 calm_all : (c : ClientId) (before : ClientState) (os : List Output) (sc : WorldTurn) → ((m : Message) → Has (outputs.Send m) os → is_conflict m.body ≡ false) → list_all is_no_conflict sc.seen ≡ true → list_all is_no_conflict (client_says_all c before os sc).seen ≡ true

@@ -1,28 +1,17 @@
 -- Whoever has a row, a wait or a timer at a server has a session there: what the rules change of these.
-use Rattle.std.proofs.Common.{◌≡◌, ℕ, ◌⊎◌, Bool, true, false, not, List, [], ◌∷◌, ◌++◌, refl, sym, ap, ◌∙◌, subst, inl, inr}
-use Rattle.std.specs.Prelude.{cond, find, map, Option, Some, None, is_some, option_map, nat_lt}
-use Rattle.std.proofs.lemmas.Bool.{eqb-true, eq-eqb}
-use Rattle.st_base.specs.declared.ids.ClientId.{ClientId}
-use Rattle.st_base.specs.declared.ids.GrantNo.{GrantNo}
-use Rattle.st_base.specs.declared.ids.Life.{Life}
-use Rattle.st_base.specs.declared.ids.Stamp.{Stamp}
-use Rattle.st_base.specs.declared.mode.Mode.{Mode}
-use Rattle.st_base.specs.declared.mode.Mode.TheVariants as modes
-use Rattle.st_messages.specs.declared.message.Body.{Body}
-use Rattle.st_rules.specs.declared.authority.Suspect.{Suspect}
-use Rattle.st_rules.specs.declared.locks.LockRow.{LockRow}
-use Rattle.st_rules.specs.declared.locks.RowDemand.{RowDemand}
-use Rattle.st_rules.specs.declared.locks.Waiter.{Waiter}
-use Rattle.st_rules.specs.declared.sessions.Session.{Session}
-use Rattle.st_rules.specs.Keys.{same_client}
-use Rattle.st_rules.specs.Locks as locks
-use Rattle.st_rules.specs.Locks.{Locks, grant}
-use Rattle.st_rules.specs.Sessions as sessions
-use Rattle.st_rules.specs.Sessions.{Sessions}
-use Rattle.st_rules.specs.Authority as authority
-use Rattle.st_rules.specs.Authority.{Authority}
-use Rattle.st_lemmas.specs.Lists.{Has}
-use Rattle.st_lemmas.proofs.Tables.{cond_either, found_at, find_map, has_map, has_filter, has_append, none_has, not_true}
+use Rattle.st_lemmas.proofs.Words
+use Words.{◌≡◌, ℕ, ◌⊎◌, Bool, true, false, not, List, [], ◌∷◌, refl, sym, ap, ◌∙◌, subst, inl, inr, cond, find, map, Option, Some, None, is_some}
+use Words.{option_map, nat_lt, eqb-true, eq-eqb, ClientId, GrantNo, Life, Stamp, Mode, Body, Suspect, LockRow, RowDemand, Waiter, Session}
+use Words.modes
+use Words.Keys.{same_client}
+use Words.Locks as locks
+use Words.Locks.{Locks, grant}
+use Words.Sessions as sessions
+use Words.Sessions.{Sessions}
+use Words.Authority as authority
+use Words.Authority.{Authority}
+use Words.Lists.{Has}
+use Words.Tables.{cond_either, found_at, find_map, has_map, has_filter, has_append, none_has, not_true}
 use Rattle.st_lemmas.proofs.Puts.{has_put, has_put_self, has_put_other}
 use Rattle.st_laws_leases.specs.Dates.Dates.{Met, Runs, Clients, OneTimer}
 
@@ -46,15 +35,6 @@ found_some {A} p xs h = go (find p xs) refl h
     go : (o : Option A) → find p xs ≡ o → is_some o ≡ true → (x : A) × Has x xs × (p x ≡ true)
     go (Some y) q h = let z = found_at p xs y q in (y, z.1, z.0)
     go None q h = cc
-
-pub has_left : {A : Type 0} (xs ys : List A) (x : A) → Has x xs → Has x (xs ++ ys)
-has_left [] ys x h = elim h [ ]
-has_left (y ∷ zs) ys x (inl e) = inl e
-has_left (y ∷ zs) ys x (inr i) = inr (has_left zs ys x i)
-
-pub has_right : {A : Type 0} (xs ys : List A) (x : A) → Has x ys → Has x (xs ++ ys)
-has_right [] ys x h = h
-has_right (y ∷ zs) ys x h = inr (has_right zs ys x h)
 
 pub client_is : (a b : ClientId) → same_client a b ≡ true → a ≡ b
 client_is a b e = ap (λ n. record { 0 = n }) (eqb-true a.0 b.0 e)
@@ -131,13 +111,13 @@ new_suspects s y (x ∷ xs) h =
     go (inr i) r = more (r i)
 
 -- what a suspicion leaves
-pub record Suspected (a b : Authority) (c : ClientId) : Type 0 where
+pub record Suspected (a b : Authority) (c : ClientId) (now : Stamp) : Type 0 where
   pub own : Runs b c
   pub runs : (d : ClientId) → Runs a d → Runs b d
-  pub only : (x : Suspect) → Has x b.suspects → Has x a.suspects ⊎ (x.client ≡ c)
+  pub only : (x : Suspect) → Has x b.suspects → Has x a.suspects ⊎ (x ≡ authority.new_suspect c now)
   pub one : OneTimer a.suspects → OneTimer b.suspects
 
-pub suspected : (a : Authority) (c : ClientId) (now : Stamp) → Suspected a (authority.suspect a c now) c
+pub suspected : (a : Authority) (c : ClientId) (now : Stamp) → Suspected a (authority.suspect a c now) c now
 unfolding authority.suspect authority.start_timer
 suspected a c now = go (authority.may_ack a c) refl
   where
@@ -148,11 +128,11 @@ suspected a c now = go (authority.may_ack a c) refl
     not_ack true e = refl
     not_ack false e = cc
 
-    old_or : (x : Suspect) → (x ≡ s) ⊎ Has x a.suspects → Has x a.suspects ⊎ (x.client ≡ c)
-    old_or x (inl e) = inr (ap (λ (z : Suspect). z.client) e)
+    old_or : (x : Suspect) → (x ≡ s) ⊎ Has x a.suspects → Has x a.suspects ⊎ (x ≡ s)
+    old_or x (inl e) = inr e
     old_or x (inr i) = inl i
 
-    go : (b : Bool) → authority.may_ack a c ≡ b → Suspected a (cond b (record a { suspects = authority.with_suspect s a.suspects }) a) c
+    go : (b : Bool) → authority.may_ack a c ≡ b → Suspected a (cond b (record a { suspects = authority.with_suspect s a.suspects }) a) c now
     go true e =
         record {
           own = some_found (authority.is_suspect c) _ s (has_suspect s a.suspects) (eq-eqb c.0 c.0 refl);
@@ -185,51 +165,53 @@ module _ (M : ClientId → Type 0) where
       (r : LockRow) → Has r (map f rows) → M r.client
   row_map f k rows h r i = let z = has_map f rows r i in subst M (sym (ap (λ (x : LockRow). x.client) z.2 ∙ k z.0)) (h z.0 z.1)
 
-  pub k_forget : (l : Locks) (c : ClientId) → Clients M l → Clients M (locks.forget l c)
+  pub clients_known_after_forget : (l : Locks) (c : ClientId) → Clients M l → Clients M (locks.forget l c)
   unfolding locks.forget
-  k_forget l c k = record { rows = λ r h. k.rows r (has_filter _ l.rows r h).0; waits = λ r h. k.waits r (has_filter _ l.waiters r h).0 }
+  clients_known_after_forget l c k = record { rows = λ r h. k.rows r (has_filter _ l.rows r h).0; waits = λ r h. k.waits r (has_filter _ l.waiters r h).0 }
 
-  pub k_drop : (l : Locks) (c : ClientId) → Clients M l → Clients M (locks.drop_waits l c)
+  pub clients_known_after_drop : (l : Locks) (c : ClientId) → Clients M l → Clients M (locks.drop_waits l c)
   unfolding locks.drop_waits
-  k_drop l c k = record { rows = k.rows; waits = λ r h. k.waits r (has_filter _ l.waiters r h).0 }
+  clients_known_after_drop l c k = record { rows = k.rows; waits = λ r h. k.waits r (has_filter _ l.waiters r h).0 }
 
-  pub k_file : (l : Locks) (ino : ℕ) → Clients M l → Clients M (locks.drop_file_waits l ino)
+  pub clients_known_after_file : (l : Locks) (ino : ℕ) → Clients M l → Clients M (locks.drop_file_waits l ino)
   unfolding locks.drop_file_waits
-  k_file l ino k = record { rows = k.rows; waits = λ r h. k.waits r (has_filter _ l.waiters r h).0 }
+  clients_known_after_file l ino k = record { rows = k.rows; waits = λ r h. k.waits r (has_filter _ l.waiters r h).0 }
 
-  pub k_seen : (l : Locks) (c : ClientId) (ino : ℕ) (g : GrantNo) → Clients M l → Clients M (locks.demand_seen l c ino g)
+  pub clients_known_after_seen : (l : Locks) (c : ClientId) (ino : ℕ) (g : GrantNo) → Clients M l → Clients M (locks.demand_seen l c ino g)
   unfolding locks.demand_seen locks.answered_row
-  k_seen l c ino g k = record { rows = row_map (locks.observe c ino g) (λ x. go x _) l.rows k.rows; waits = k.waits }
+  clients_known_after_seen l c ino g k = record { rows = row_map (locks.observe c ino g) (λ x. go x _) l.rows k.rows; waits = k.waits }
     where
       go : (x : LockRow) (b : Bool) → (cond b (locks.answered_row x) x).client ≡ x.client
       go x true = refl
       go x false = refl
 
-  pub k_release : (l : Locks) (c : ClientId) (ino : ℕ) (to : Mode) → Clients M l → Clients M (locks.release_to l c ino to)
+  pub clients_known_after_release : (l : Locks) (c : ClientId) (ino : ℕ) (to : Mode) → Clients M l → Clients M (locks.release_to l c ino to)
   unfolding locks.release_to locks.lowered
-  k_release l c ino modes.None k = record { rows = λ r h. k.rows r (has_filter _ l.rows r h).0; waits = k.waits }
-  k_release l c ino modes.S k = record { rows = row_map (locks.lower c ino) (λ x. go x _) l.rows k.rows; waits = k.waits }
+  clients_known_after_release l c ino modes.None k = record { rows = λ r h. k.rows r (has_filter _ l.rows r h).0; waits = k.waits }
+  clients_known_after_release l c ino modes.S k = record { rows = row_map (locks.lower c ino) (λ x. go x _) l.rows k.rows; waits = k.waits }
     where
       go : (x : LockRow) (b : Bool) → (cond b (locks.lowered x) x).client ≡ x.client
       go x true = refl
       go x false = refl
-  k_release l c ino modes.X k = record { rows = row_map (locks.lower c ino) (λ x. go x _) l.rows k.rows; waits = k.waits }
+  clients_known_after_release l c ino modes.X k = record { rows = row_map (locks.lower c ino) (λ x. go x _) l.rows k.rows; waits = k.waits }
     where
       go : (x : LockRow) (b : Bool) → (cond b (locks.lowered x) x).client ≡ x.client
       go x true = refl
       go x false = refl
 
-  pub k_grant : (l : Locks) (c : ClientId) (life : Life) (ino : ℕ) (mode : Mode) → M c → Clients M l → Clients M (grant l c life ino mode)
+  pub clients_known_after_grant : (l : Locks) (c : ClientId) (life : Life) (ino : ℕ) (mode : Mode) → M c → Clients M l → Clients M (grant l c life ino mode)
   unfolding grant
-  k_grant l c life ino mode m k = record { rows = λ r h. go r (has_put _ _ l.rows r h); waits = λ r h. k.waits r (has_filter _ l.waiters r h).0 }
+  clients_known_after_grant l c life ino mode m k = record
+      { rows = λ r h. go r (has_put _ _ l.rows r h); waits = λ r h. k.waits r (has_filter _ l.waiters r h).0 }
     where
       go : (r : LockRow) → (r ≡ locks.new_row l c life ino mode) ⊎ Has r l.rows → M r.client
       go r (inl e) = subst M (sym (ap (λ (x : LockRow). x.client) e)) m
       go r (inr i) = k.rows r i
 
-  pub k_queue : (l : Locks) (c : ClientId) (life : Life) (ino : ℕ) (mode : Mode) → M c → Clients M l → Clients M (locks.queue l c life ino mode)
+  pub clients_known_after_queue : (l : Locks) (c : ClientId) (life : Life) (ino : ℕ) (mode : Mode) → M c → Clients M l →
+      Clients M (locks.queue l c life ino mode)
   unfolding locks.queue locks.queue_at locks.wait_for
-  k_queue l c life ino mode m k = go (locks.wait_of l c ino)
+  clients_known_after_queue l c life ino mode m k = go (locks.wait_of l c ino)
     where
       last : (x : Waiter) → Has x l.waiters ⊎ Has x (locks.new_wait c life ino mode ∷ []) → M x.client
       last x (inl i) = k.waits x i
@@ -248,17 +230,19 @@ module _ (M : ClientId → Type 0) where
             subst M (sym (ap (λ (z : Waiter). z.client) z.2 ∙ same z.0 (locks.is_wait_of c ino z.0))) (k.waits z.0 z.1);
       }
 
-  pub k_install : (l : Locks) (c : ClientId) (life : Life) (rows : List (ℕ × GrantNo × Mode)) → M c → Clients M l → Clients M (locks.with_rows l c life rows)
+  pub clients_known_after_install : (l : Locks) (c : ClientId) (life : Life) (rows : List (ℕ × GrantNo × Mode)) → M c → Clients M l →
+      Clients M (locks.with_rows l c life rows)
   unfolding locks.with_rows
-  k_install l c life rows m k = record { rows = λ r h. go r (has_append l.rows _ r h); waits = k.waits }
+  clients_known_after_install l c life rows m k = record { rows = λ r h. go r (has_append l.rows _ r h); waits = k.waits }
     where
       go : (r : LockRow) → Has r l.rows ⊎ Has r (map (locks.installed c life) rows) → M r.client
       go r (inl i) = k.rows r i
       go r (inr i) = let z = has_map (locks.installed c life) rows r i in subst M (sym (ap (λ (x : LockRow). x.client) z.2)) m
 
-  pub k_demand : (l : Locks) (r : LockRow) (d : RowDemand) → Clients M l → Clients M (locks.with_demand r d l)
+  pub clients_known_after_demand : (l : Locks) (r : LockRow) (d : RowDemand) → Clients M l → Clients M (locks.with_demand r d l)
   unfolding locks.demanded
-  k_demand l r d k = record { rows = row_map (locks.demand_of r.client r.ino d) (λ x. go x (locks.is_row_of r.client r.ino x)) l.rows k.rows; waits = k.waits }
+  clients_known_after_demand l r d k =
+      record { rows = row_map (locks.demand_of r.client r.ino d) (λ x. go x (locks.is_row_of r.client r.ino x)) l.rows k.rows; waits = k.waits }
     where
       go : (x : LockRow) (b : Bool) → (cond b (locks.demanded d x) x).client ≡ x.client
       go x true = refl

@@ -1,43 +1,32 @@
 -- Leases are dated from requests: at the start, after every event, and over whole runs.
-use Rattle.std.proofs.Common.{◌≡◌, ℕ, ◌+◌, Bool, true, false, not, ◌&&◌, ◌||◌, List, [], ◌∷◌, ◌++◌, ◌==◌, Option, Some, None, Ok, refl, sym, ap, ◌∙◌, subst, inl, inr, arith}
-use Rattle.std.specs.Prelude.{map, find, zero, suc, slice_get, nat_le}
-use Rattle.std.specs.List.{list_all, list_any}
-use Rattle.std.proofs.lemmas.Bool.{eqb-true, eq-eqb, lt-ltb, le-leb, leb-true}
-use Rattle.st_base.specs.declared.config.Config.{Config}
-use Rattle.st_base.specs.declared.ids.ClientId.{ClientId}
-use Rattle.st_base.specs.declared.ids.ServerId.{ServerId}
-use Rattle.st_base.specs.declared.ids.Life.{Life}
-use Rattle.st_base.specs.declared.ids.Stamp.{Stamp}
-use Rattle.st_base.specs.declared.ids.NodeId.TheVariants as nodes
-use Rattle.st_messages.specs.declared.message.Message.{Message}
-use Rattle.st_messages.specs.declared.event.Event.{Event}
-use Rattle.st_rules.specs.declared.observation.Observation.TheVariants as seen
-use Rattle.st_rules.specs.declared.world.SentMessage.{SentMessage}
-use Rattle.st_rules.specs.Extents.{numbers}
-use Rattle.st_rules.specs.Keys.{client, same_client, same_server, server_node}
-use Rattle.st_rules.specs.Client as cl
-use Rattle.st_rules.specs.ClientState.{Association, ClientSession, is_at}
-use Rattle.st_rules.specs.Server as server
-use Rattle.st_rules.specs.Server.{ServerNode}
-use Rattle.st_rules.specs.World.{WorldClient, site_of, numbered, clock_of, fresh_world, fresh_site, node_at_start, all_clients, all_servers}
-use Rattle.st_rules.specs.Events.{WorldTurn, world_step}
-use Rattle.st_rules.specs.History.{Traced, TimerStart, traced, traced_after, association_at}
-use Rattle.st_rules.specs.Dating as dating
-use Rattle.st_rules.specs.Safety.{Step, step, LeasesAreDatedFromRequests, IsHead, all_dated, association_dated, session_dated, dates_in, is_dated}
-use Rattle.st_lemmas.specs.Lists.{Has}
-use Rattle.st_lemmas.proofs.Tables.{and_true, and_both, some_passes, found_at, has_map}
-use Rattle.st_lemmas.proofs.Lookups.{some_is, or_left, or_right}
+use Rattle.st_lemmas.proofs.Words
+use Words.{◌≡◌, ℕ, ◌+◌, Bool, true, false, not, ◌&&◌, ◌||◌, List, [], ◌∷◌, ◌++◌, ◌==◌, Option, Some, None, Ok, refl, sym, ap, ◌∙◌, subst, arith, map}
+use Words.{find, zero, suc, slice_get, nat_le, list_all, list_any, eqb-true, eq-eqb, lt-ltb, le-leb, leb-true, Config, ClientId, ServerId, Life, Stamp, Message}
+use Words.{Event, SentMessage}
+use Words.nodes
+use Words.seen
+use Words.Extents.{numbers}
+use Words.Keys.{client, same_client, same_server, server_node}
+use Words.Client as cl
+use Words.ClientState.{Association, ClientSession, is_at}
+use Words.Server as server
+use Words.Server.{ServerNode}
+use Words.World.{WorldClient, site_of, numbered, clock_of, fresh_world, fresh_site, node_at_start, all_clients, all_servers}
+use Words.Events.{WorldTurn, world_step}
+use Words.History.{Traced, TimerStart, traced, traced_after, association_at}
+use Words.Dating as dating
+use Words.Safety.{Step, step, LeasesAreDatedFromRequests, IsHead, all_dated, association_dated, session_dated, dates_in, is_dated}
+use Words.Tables.{and_true, and_both, some_passes, found_at, has_map, all_pass}
+use Words.Lookups.{some_is, or_left, or_right}
+use Words.Lengths.{length_map, numbers_length}
 use Rattle.st_lemmas.proofs.Steps.{step_happens, throughout}
-use Rattle.st_laws_leases.specs.Dates.Dates.{message_in, messages, is_dating, is_from_client, Born, Answer, Dates, SessionDated, ClientDated, Runs, ServerKnown, TimerQuiet, Dated}
+use Rattle.st_laws_leases.specs.Dates.Dates.{message_in, messages, is_dating, is_from_client, Born, Answer, Dates, SessionDated, ClientDated, Runs, ServerKnown}
+use Rattle.st_laws_leases.specs.Dates.Dates.{TimerQuiet, Dated}
 use Rattle.st_laws_leases.specs.Dates.Law.{LeasesAreDated, RunsSendNoConflict, ClientsSendNoConflict}
 use Rattle.st_laws_leases.proofs.Dates.Calm.{step_calm}
 use Rattle.st_laws_leases.proofs.Dates.Leaving.{has_numbered}
 use Rattle.st_laws_leases.proofs.Dates.Steps.{Next, next_dated, happens, from_server}
-use Rattle.st_laws_pages.proofs.Lives.Fresh.{fresh_is, length_map, numbers_length}
-
-all_true : {A : Type 0} (p : A → Bool) (xs : List A) → ((x : A) → Has x xs → p x ≡ true) → list_all p xs ≡ true
-all_true p [] h = refl
-all_true p (x ∷ xs) h = and_both _ _ (h x (inl refl)) (all_true p xs (λ y i. h y (inr i)))
+use Rattle.st_laws_pages.proofs.Lives.Fresh.{fresh_is}
 
 -- From the invariant to the promise.
 module _ (past : List Step) (t : Traced) (d : Dated past t) where
@@ -50,7 +39,7 @@ module _ (past : List Step) (t : Traced) (d : Dated past t) where
 
   -- every timer of the client was started after a message that may date a lease
   before_timers : (s : ServerId) (c : ClientId) (k : ℕ) (m : Message) → numbered (messages t.world) k ≡ Some m → m.header.from ≡ server_node s → m.header.to ≡ c.0 → is_dating m ≡ true → dating.is_before_timers t.history s c k ≡ true
-  before_timers s c k m e from to dates = all_true (dating.started_after s c k) t.history.timers (λ x h. go x (d.timers x h) (same_server x.server s && same_client x.client c) refl)
+  before_timers s c k m e from to dates = all_pass (dating.started_after s c k) t.history.timers (λ x h. go x (d.timers x h) (same_server x.server s && same_client x.client c) refl)
     where
       go : (x : TimerStart) → TimerQuiet t.world x → (b : Bool) → (same_server x.server s && same_client x.client c) ≡ b → (not b || nat_le k x.sent) ≡ true
       go x z false q = refl
@@ -121,7 +110,7 @@ module _ (past : List Step) (t : Traced) (d : Dated past t) where
       at (Some site) e = found site (d.clients c site e) (find (is_at s) site.node.state.associations) refl
 
   pub promised : list_all (all_dated past t) (all_clients t.world) ≡ true
-  promised = all_true (all_dated past t) (all_clients t.world) (λ c h. all_true (is_dated past t c) (all_servers t.world) (λ s i. association_ok c s))
+  promised = all_pass (all_dated past t) (all_clients t.world) (λ c h. all_pass (is_dated past t c) (all_servers t.world) (λ s i. association_ok c s))
 
 -- One step.
 pub one : (past : List Step) (t : Traced) (e : Event) (sc : WorldTurn) → Dated past t → world_step t.world e ≡ Ok sc → LeasesAreDatedFromRequests past (step t e sc) × Dated (past ++ step t e sc ∷ []) (traced_after e t sc)
@@ -156,12 +145,13 @@ fresh_dated k clients servers disks blocks form head =
       clients = λ c site e. subst (λ (x : WorldClient). ClientDated [] c x.node.state) (sym (fresh_is (fresh_site k servers) clients c.0 site e)) (fresh_client k servers c);
       servers = λ s node e. subst (λ (x : ServerNode). ServerKnown s x.state) (sym (fresh_is (node_at_start k servers disks blocks) servers s.0 node e)) (fresh_server k servers disks blocks s);
       timers = λ x h. elim h [ ];
+      started = λ x h. elim h [ ];
       timed = λ s node e run c z. absurd (fresh_quiet k servers disks blocks s node (fresh_is (node_at_start k servers disks blocks) servers s.0 node e) c z);
       few = let z = length_map (fresh_site k servers) (numbers 1 clients) in let y = numbers_length 1 clients in let q = leb-true clients 16 (and_true (nat_le 1 clients) (nat_le clients 16) head.some_clients).1 in omega (arith, z, y, q);
     }
 
-pub law : LeasesAreDated
-law k clients servers disks blocks form es head events = throughout LeasesAreDatedFromRequests Dated one es [] (traced (fresh_world k clients servers disks blocks form)) (fresh_dated k clients servers disks blocks form head)
+pub leases_are_dated : LeasesAreDated
+leases_are_dated k clients servers disks blocks form es head events = throughout LeasesAreDatedFromRequests Dated one es [] (traced (fresh_world k clients servers disks blocks form)) (fresh_dated k clients servers disks blocks form head)
 
 pub calm_law : RunsSendNoConflict
 calm_law k clients servers disks blocks form es head =

@@ -1,21 +1,17 @@
 -- What a step of a node leaves in the world: all nodes but its own, and the messages that were sent before, beside those of its outputs.
-use Rattle.std.proofs.Common.{◌≡◌, ◌≢◌, ℕ, ◌+◌, ◌≤◌, ◌⊎◌, true, List, [], ◌∷◌, Some, refl, sym, ap, ◌∙◌, subst, inl, inr, arith}
-use Rattle.std.specs.Prelude.{map, zero, suc, set, slice_get}
-use Rattle.st_base.specs.declared.ids.ClientId.{ClientId}
-use Rattle.st_base.specs.declared.ids.ServerId.{ServerId}
-use Rattle.st_messages.specs.declared.message.Message.{Message}
-use Rattle.st_messages.specs.declared.output.Output.{Output}
-use Rattle.st_messages.specs.declared.output.Output.TheVariants as outputs
-use Rattle.st_rules.specs.declared.world.SentMessage.{SentMessage}
-use Rattle.st_rules.specs.ClientState.{ClientState}
-use Rattle.st_rules.specs.World as world
-use Rattle.st_rules.specs.World.{World, numbered, with_numbered}
-use Rattle.st_rules.specs.Events as ev
-use Rattle.st_rules.specs.Events.{WorldTurn, client_says_all, server_says_all}
-use Rattle.st_lemmas.specs.Lists.{Has}
-use Rattle.st_lemmas.proofs.Lookups.{some_is}
-use Rattle.st_lemmas.proofs.Numbers.{has_get, numbered_below, numbered_has, numbered_other, numbered_own}
-use Rattle.st_lemmas.proofs.Tables.{same_or_not}
+use Rattle.st_lemmas.proofs.Words
+use Words.{◌≡◌, ◌≢◌, ℕ, ◌+◌, ◌≤◌, ◌⊎◌, true, List, [], ◌∷◌, Some, refl, sym, ap, ◌∙◌, subst, inl, inr, arith, map, zero, suc, set, slice_get, ClientId}
+use Words.{ServerId, Message, Output, SentMessage}
+use Words.outputs
+use Words.ClientState.{ClientState}
+use Words.World as world
+use Words.World.{World, numbered, with_numbered}
+use Words.Events as ev
+use Words.Events.{WorldTurn, client_says_all, server_says_all}
+use Words.Lists.{Has}
+use Words.Lookups.{some_is}
+use Words.Numbers.{has_get, numbered_below, numbered_has, numbered_other, numbered_own}
+use Words.Tables.{same_or_not}
 use Rattle.st_laws_leases.specs.Dates.Dates.{message_in, messages}
 use Rattle.st_laws_leases.proofs.Dates.SentMessages.{Alike, Said, client_said, flushed, server_said}
 

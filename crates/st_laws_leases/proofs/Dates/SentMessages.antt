@@ -1,39 +1,28 @@
 -- What a step's outputs do to the world: messages are sent and observed, and timers move in the history.
-use Rattle.std.proofs.Common.{◌≡◌, ℕ, ◌+◌, ◌⊎◌, false, List, [], ◌∷◌, ◌++◌, Option, Some, None, refl, sym, ap, ◌∙◌, subst, inl, inr}
-use Rattle.std.specs.Prelude.{map, length}
-use Rattle.st_base.specs.declared.ids.ClientId.{ClientId}
-use Rattle.st_base.specs.declared.ids.ServerId.{ServerId}
-use Rattle.st_base.specs.declared.ids.Stamp.{Stamp}
-use Rattle.st_base.specs.declared.ids.NodeId.TheVariants as nodes
-use Rattle.st_messages.specs.declared.message.Message.{Message}
-use Rattle.st_messages.specs.declared.output.Note.{Note}
-use Rattle.st_messages.specs.declared.output.Note.TheVariants as notes
-use Rattle.st_messages.specs.declared.output.Output.{Output}
-use Rattle.st_messages.specs.declared.output.Output.TheVariants as outputs
-use Rattle.st_rules.specs.declared.lease.Phase.{Phase}
-use Rattle.st_rules.specs.declared.lease.Phase.TheVariants as phases
-use Rattle.st_rules.specs.declared.log.Fate.{Fate}
-use Rattle.st_rules.specs.declared.log.Fate.TheVariants as fates
-use Rattle.st_rules.specs.declared.log.LogEntry.{LogEntry}
-use Rattle.st_rules.specs.declared.observation.Observation.{Observation}
-use Rattle.st_rules.specs.declared.observation.Observation.TheVariants as seen
-use Rattle.st_rules.specs.Client as cl
-use Rattle.st_rules.specs.ClientState.{ClientState}
-use Rattle.st_rules.specs.World as world
-use Rattle.st_rules.specs.World.{World, WorldClient, numbered, site_of}
-use Rattle.st_rules.specs.Events as ev
-use Rattle.st_rules.specs.Events.{WorldTurn, client_says, client_says_all, server_says, server_says_all}
-use Rattle.st_rules.specs.History.{History, recall, recall_all}
-use Rattle.st_lemmas.specs.Lists.{Has}
-use Rattle.st_lemmas.proofs.Tables.{has_append}
-use Rattle.st_lemmas.proofs.Numbers.{numbered_more}
+use Rattle.st_lemmas.proofs.Words
+use Words.{◌≡◌, ℕ, ◌+◌, ◌⊎◌, false, List, [], ◌∷◌, ◌++◌, Option, Some, None, refl, sym, ap, ◌∙◌, subst, inl, inr, length, ClientId, ServerId, Stamp}
+use Words.{Message, Note, Output, Phase, Fate, LogEntry, Observation}
+use Words.nodes
+use Words.notes
+use Words.outputs
+use Words.phases
+use Words.fates
+use Words.seen
+use Words.Client as cl
+use Words.ClientState.{ClientState}
+use Words.World as world
+use Words.World.{World, WorldClient, numbered, site_of}
+use Words.Events as ev
+use Words.Events.{WorldTurn, client_says, client_says_all, server_says, server_says_all}
+use Words.History.{History, recall, recall_all}
+use Words.Lists.{Has}
+use Words.Tables.{has_append}
+use Words.Numbers.{numbered_more}
+use Words.Lengths.{map_last}
+use Words.Members.{has_left, has_right}
+use Words.Worlds.{recall_more}
 use Rattle.st_laws_leases.specs.Dates.Dates.{message_in, messages}
-use Rattle.st_laws_leases.proofs.Dates.Known.{has_left, has_right}
 use Rattle.st_laws_leases.proofs.Dates.Serving.{timer_said, timers_out}
-
-map_more : {A B : Type 0} (f : A → B) (xs : List A) (y : A) → map f (xs ++ y ∷ []) ≡ map f xs ++ f y ∷ []
-map_more f [] y = refl
-map_more f (x ∷ xs) y = ap (λ v. f x ∷ v) (map_more f xs y)
 
 -- Outputs that were said: nodes stay, messages are sent and observed, and nothing that was observed goes.
 pub record Said (a b : WorldTurn) (os : List Output) : Type 0 where
@@ -62,11 +51,13 @@ said_then a b d o os x y =
     first m (inl e) = inl e
     first m (inr i) = elim i [ ]
 
-    before : (k : ℕ) (m : Message) → (numbered (messages a.world) k ≡ Some m) ⊎ Has (outputs.Send m) (o ∷ []) → (numbered (messages a.world) k ≡ Some m) ⊎ Has (outputs.Send m) (o ∷ os)
+    before : (k : ℕ) (m : Message) → (numbered (messages a.world) k ≡ Some m) ⊎ Has (outputs.Send m) (o ∷ []) →
+        (numbered (messages a.world) k ≡ Some m) ⊎ Has (outputs.Send m) (o ∷ os)
     before k m (inl e) = inl e
     before k m (inr i) = inr (first m i)
 
-    later : (k : ℕ) (m : Message) → (numbered (messages b.world) k ≡ Some m) ⊎ Has (outputs.Send m) os → (numbered (messages a.world) k ≡ Some m) ⊎ Has (outputs.Send m) (o ∷ os)
+    later : (k : ℕ) (m : Message) → (numbered (messages b.world) k ≡ Some m) ⊎ Has (outputs.Send m) os →
+        (numbered (messages a.world) k ≡ Some m) ⊎ Has (outputs.Send m) (o ∷ os)
     later k m (inl e) = before k m (x.get k m e)
     later k m (inr i) = inr (inr i)
 
@@ -75,7 +66,8 @@ said_then a b d o os x y =
     tell m (inr i) = y.told m i
 
 -- an output that isn't a message, with one more observation or none
-unsent : (a b : WorldTurn) (o : Output) → ((m : Message) → outputs.Send m ≡ o → ⊥) → b.world.clients ≡ a.world.clients → b.world.servers ≡ a.world.servers → messages b.world ≡ messages a.world → ((x : Observation) → Has x a.seen → Has x b.seen) → Said a b (o ∷ [])
+unsent : (a b : WorldTurn) (o : Output) → ((m : Message) → outputs.Send m ≡ o → ⊥) → b.world.clients ≡ a.world.clients → b.world.servers ≡ a.world.servers →
+    messages b.world ≡ messages a.world → ((x : Observation) → Has x a.seen → Has x b.seen) → Said a b (o ∷ [])
 unsent a b o n c s m g =
     record {
       clients = c;
@@ -106,7 +98,7 @@ sent a m =
     }
   where
     all : messages (ev.with_message m a.world) ≡ messages a.world ++ m ∷ []
-    all = map_more message_in a.world.net.messages (record { message = m; lost = false })
+    all = map_last message_in a.world.net.messages (record { message = m; lost = false })
 
     which : {E : Type 0} {F : Type 0} (x : Message) → E ⊎ (F × (x ≡ m)) → E ⊎ Has (outputs.Send x) (outputs.Send m ∷ [])
     which x (inl e) = inl e
@@ -115,7 +107,8 @@ sent a m =
     same : (x : Message) → outputs.Send x ≡ outputs.Send m → x ≡ m
     same x e = cc
 
-    tell : (x : Message) → Has (outputs.Send x) (outputs.Send m ∷ []) → (k : ℕ) × Has (seen.Sent k x) (a.seen ++ seen.Sent (length a.world.net.messages + 1) m ∷ [])
+    tell : (x : Message) → Has (outputs.Send x) (outputs.Send m ∷ []) →
+        (k : ℕ) × Has (seen.Sent k x) (a.seen ++ seen.Sent (length a.world.net.messages + 1) m ∷ [])
     tell x (inl e) = (length a.world.net.messages + 1, has_right a.seen _ _ (inl (ap (seen.Sent (length a.world.net.messages + 1)) (same x e))))
     tell x (inr i) = elim i [ ]
 
@@ -137,13 +130,23 @@ unfolding server_says_all
 server_said s [] a = said_none a
 server_said s (o ∷ os) a = said_then a (server_says a s o) _ o os (server_one a s o) (server_said s os (server_says a s o))
 
--- the timers of the history move as the outputs say
-recall_more : (w v : World) (xs : List Observation) (o : Observation) (h : History) → recall_all w v (xs ++ o ∷ []) h ≡ recall w v (recall_all w v xs h) o
-unfolding recall_all
-recall_more w v [] o h = refl
-recall_more w v (x ∷ xs) o h = recall_more w v xs o (recall w v h x)
+-- a suspicion that a server notes is observed
+suspicion_told : (s : ServerId) (c : ClientId) (start : Stamp) (a : WorldTurn) →
+    Has (seen.Suspected s c start) (server_says a s (outputs.Note (notes.Suspected c start))).seen
+unfolding server_says ev.server_notes
+suspicion_told s c start a = has_right a.seen _ _ (inl refl)
 
-timers_one : (w v : World) (s : ServerId) (h : History) (a : WorldTurn) (o : Output) → (recall_all w v (server_says a s o).seen h).timers ≡ timer_said w s o (recall_all w v a.seen h).timers
+pub suspicion_seen : (s : ServerId) (c : ClientId) (start : Stamp) (os : List Output) (a : WorldTurn) → Has (outputs.Note (notes.Suspected c start)) os →
+    Has (seen.Suspected s c start) (server_says_all s os a).seen
+unfolding server_says_all
+suspicion_seen s c start [] a h = elim h [ ]
+suspicion_seen s c start (o ∷ os) a (inl e) =
+    (server_said s os (server_says a s o)).grows _ (subst (λ x. Has (seen.Suspected s c start) (server_says a s x).seen) e (suspicion_told s c start a))
+suspicion_seen s c start (o ∷ os) a (inr i) = suspicion_seen s c start os (server_says a s o) i
+
+-- the timers of the history move as the outputs say
+timers_one : (w v : World) (s : ServerId) (h : History) (a : WorldTurn) (o : Output) →
+    (recall_all w v (server_says a s o).seen h).timers ≡ timer_said w s o (recall_all w v a.seen h).timers
 unfolding server_says ev.server_notes ev.cuts ev.sends recall
 timers_one w v s h a (outputs.Send m) = ap (λ (x : History). x.timers) (recall_more w v a.seen _ h)
 timers_one w v s h a (outputs.Note n) = go n
@@ -155,7 +158,8 @@ timers_one w v s h a (outputs.Note n) = go n
     go n = refl
 timers_one w v s h a o = refl
 
-pub timers_said : (w v : World) (s : ServerId) (h : History) (os : List Output) (a : WorldTurn) → (recall_all w v (server_says_all s os a).seen h).timers ≡ timers_out w s os (recall_all w v a.seen h).timers
+pub timers_said : (w v : World) (s : ServerId) (h : History) (os : List Output) (a : WorldTurn) →
+    (recall_all w v (server_says_all s os a).seen h).timers ≡ timers_out w s os (recall_all w v a.seen h).timers
 unfolding server_says_all
 timers_said w v s h [] a = refl
 timers_said w v s h (o ∷ os) a = timers_said w v s h os (server_says a s o) ∙ ap (timers_out w s os) (timers_one w v s h a o)

@@ -1,27 +1,20 @@
 -- Each life's lease end is among the dates of the history.
-use Rattle.std.proofs.Common.{◌≡◌, Bool, true, false, not, ◌&&◌, ◌||◌, List, [], ◌∷◌, ◌++◌, ◌==◌, Option, Some, None, refl, sym, ap, ◌∙◌, subst, if◌then◌else◌}
-use Rattle.std.specs.Prelude.{filter}
-use Rattle.std.specs.List.{list_any}
-use Rattle.std.proofs.lemmas.Bool.{eqb-true, eq-eqb}
-use Rattle.st_base.specs.declared.ids.ClientId.{ClientId}
-use Rattle.st_base.specs.declared.ids.Life.{Life}
-use Rattle.st_base.specs.declared.ids.ServerId.{ServerId}
-use Rattle.st_base.specs.declared.ids.Stamp.{Stamp}
-use Rattle.st_messages.specs.declared.output.Note.{Note}
-use Rattle.st_messages.specs.declared.output.Note.TheVariants as notes
-use Rattle.st_messages.specs.declared.output.Output.{Output}
-use Rattle.st_messages.specs.declared.output.Output.TheVariants as outputs
-use Rattle.st_rules.specs.declared.observation.Observation.{Observation}
-use Rattle.st_rules.specs.declared.observation.Observation.TheVariants as seen
-use Rattle.st_rules.specs.declared.world.LeaseLife.{LeaseLife}
-use Rattle.st_rules.specs.ClientState.{ClientState}
-use Rattle.st_rules.specs.Events as ev
-use Rattle.st_rules.specs.Events.{WorldTurn, present_life, client_says, client_says_all}
-use Rattle.st_rules.specs.History.{History, LeaseDate, lease_date, is_date_of, recall, recall_all}
-use Rattle.st_rules.specs.Keys.{same_client, same_server}
-use Rattle.st_rules.specs.Safety.{is_date_with}
-use Rattle.st_rules.specs.World.{World, WorldClient, site_of}
-use Rattle.st_lemmas.proofs.Tables.{and_both, and_true}
+use Rattle.st_lemmas.proofs.Words
+use Words.{◌≡◌, Bool, true, false, not, ◌&&◌, ◌||◌, List, [], ◌∷◌, ◌++◌, ◌==◌, Option, Some, None, refl, sym, ap, ◌∙◌, subst, if◌then◌else◌, filter, list_any}
+use Words.{eqb-true, eq-eqb, ClientId, Life, ServerId, Stamp, Note, Output, Observation, LeaseLife}
+use Words.notes
+use Words.outputs
+use Words.seen
+use Words.ClientState.{ClientState}
+use Words.Events as ev
+use Words.Events.{WorldTurn, present_life, client_says, client_says_all}
+use Words.History.{History, LeaseDate, lease_date, is_date_of, recall, recall_all}
+use Words.Keys.{same_client, same_server}
+use Words.Safety.{is_date_with}
+use Words.World.{World, WorldClient, site_of}
+use Words.Tables.{and_both, and_true}
+use Words.Tests.{any_with_last}
+use Words.Worlds.{recall_more}
 use Rattle.st_laws_leases.specs.History.Notes.{noted, noted_one, noted_by}
 
 -- a life of a client at a server, by its names alone
@@ -36,14 +29,6 @@ Dated ds c s l (Some end) = list_any (is_date_with (row c s l) end) ds ≡ true
 -- the dates with one more, in place of the older one of its lease
 abbrev pub put_date : LeaseDate → List LeaseDate → List LeaseDate
 put_date d ds = filter (λ e. not (is_date_of d e)) ds ++ d ∷ []
-
-any_last : {A : Type 0} (p : A → Bool) (xs : List A) (x : A) → p x ≡ true → list_any p (xs ++ x ∷ []) ≡ true
-any_last p [] x e = ap (λ b. b || false) e
-any_last p (y ∷ xs) x e = go (p y) (any_last p xs x e)
-  where
-    go : (b : Bool) → list_any p (xs ++ x ∷ []) ≡ true → (b || list_any p (xs ++ x ∷ [])) ≡ true
-    go true r = refl
-    go false r = r
 
 any_front : {A : Type 0} (p : A → Bool) (xs ys : List A) → list_any p xs ≡ true → list_any p (xs ++ ys) ≡ true
 any_front p [] ys e = cc
@@ -97,7 +82,7 @@ put_other d ds c s l (Some end) f h = any_front (is_date_with (row c s l) end) _
 -- and its own date is there
 put_own : (d : LeaseDate) (ds : List LeaseDate) → Dated (put_date d ds) d.client d.server d.life (Some d.end)
 put_own d ds =
-    any_last (is_date_with (row d.client d.server d.life) d.end) _ d
+    any_with_last (is_date_with (row d.client d.server d.life) d.end) _ d
     (and_both _ _ (and_both _ _ (eq-eqb d.client.0 d.client.0 refl) (eq-eqb d.server.0 d.server.0 refl)) (and_both _ _ (eq-eqb d.life.0 d.life.0 refl) (eq-eqb d.end.0 d.end.0 refl)))
 
 -- What a client's outputs make of the dates.
@@ -108,11 +93,6 @@ dates_one after c o ds = ds
 abbrev pub dates_out : World → ClientId → List Output → List LeaseDate → List LeaseDate
 dates_out after c [] ds = ds
 dates_out after c (o ∷ os) ds = dates_out after c os (dates_one after c o ds)
-
-recall_more : (w v : World) (xs : List Observation) (o : Observation) (h : History) → recall_all w v (xs ++ o ∷ []) h ≡ recall w v (recall_all w v xs h) o
-unfolding recall_all
-recall_more w v [] o h = refl
-recall_more w v (x ∷ xs) o h = recall_more w v xs o (recall w v h x)
 
 dates_said_one : (w v : World) (c : ClientId) (before : ClientState) (h : History) (o : Output) (a : WorldTurn) → (recall_all w v (client_says a c before o).seen h).dates ≡ dates_one v c o (recall_all w v a.seen h).dates
 unfolding client_says ev.submits ev.answers_with ev.client_notes ev.accepts ev.patches ev.loses ev.sends recall

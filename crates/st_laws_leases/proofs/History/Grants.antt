@@ -1,26 +1,18 @@
 -- Each entry of the log has one grant, of its file: the lines of an event move both.
-use Rattle.std.proofs.Common.{◌≡◌, ℕ, Bool, true, List, [], ◌∷◌, ◌++◌, ◌==◌, Option, Some, None, refl, sym, ap, ◌∙◌, subst}
-use Rattle.std.specs.Prelude.{set, slice_get, suc, zero}
-use Rattle.std.proofs.lemmas.Bool.{eq-eqb}
-use Rattle.st_base.specs.declared.ids.FileId.{FileId}
-use Rattle.st_base.specs.declared.ids.NodeId.TheVariants as nodes
-use Rattle.st_messages.specs.declared.event.Event.{Event}
-use Rattle.st_messages.specs.declared.event.Event.TheVariants as events
-use Rattle.st_rules.specs.declared.log.Fate.{Fate}
-use Rattle.st_rules.specs.declared.log.Fate.TheVariants as fates
-use Rattle.st_rules.specs.declared.log.LogEntry.{LogEntry}
-use Rattle.st_rules.specs.declared.observation.Observation.{Observation}
-use Rattle.st_rules.specs.declared.observation.Observation.TheVariants as seen
-use Rattle.st_rules.specs.FlatLog as log
-use Rattle.st_rules.specs.History.{History, EntryGrant, recall, recall_all, remember}
-use Rattle.st_rules.specs.Keys.{same_file}
-use Rattle.st_rules.specs.Lines.{log_behind, log_told, fated, with_fate}
-use Rattle.st_rules.specs.Safety.{fit_log}
-use Rattle.st_rules.specs.World.{World, numbered, with_numbered}
-use Rattle.st_lemmas.proofs.Tables.{and_both, and_true}
-
-self_file : (f : FileId) → same_file f f ≡ true
-self_file f = and_both (f.server.0 == f.server.0) (f.ino == f.ino) (eq-eqb f.server.0 f.server.0 refl) (eq-eqb f.ino f.ino refl)
+use Rattle.st_lemmas.proofs.Words
+use Words.{◌≡◌, ℕ, Bool, true, List, [], ◌∷◌, ◌++◌, Option, Some, None, refl, sym, ap, ◌∙◌, subst, set, slice_get, suc, zero, Event, Fate}
+use Words.{LogEntry, Observation}
+use Words.fates
+use Words.seen
+use Words.FlatLog as log
+use Words.History.{History, EntryGrant, recall, recall_all, remember}
+use Words.Keys.{same_file}
+use Words.Lines.{log_behind, log_told, fated, with_fate}
+use Words.Safety.{fit_log}
+use Words.World.{World, numbered, with_numbered}
+use Words.Tables.{and_both, and_true}
+use Words.Truth.{file_self}
+use Words.Worlds.{remembered_grants}
 
 fit_more : (gs : List EntryGrant) (es : List LogEntry) (g : EntryGrant) (e : LogEntry) → fit_log gs es ≡ true → same_file g.file e.of.file ≡ true → fit_log (gs ++ g ∷ []) (es ++ e ∷ []) ≡ true
 unfolding fit_log
@@ -55,9 +47,9 @@ fit_fated gs es k fate f = go k (log.entry_at es k) refl
 -- one line
 fit_line : (before after : World) (h : History) (es : List LogEntry) (o : Observation) → fit_log h.grants es ≡ true → fit_log (recall before after h o).grants (log_behind after es o) ≡ true
 unfolding recall log_behind log.accept log.patch log.cut
-fit_line before after h es (seen.Wrote k c f p bytes) e = fit_more h.grants es _ _ e (self_file f)
-fit_line before after h es (seen.Patched k c f p at bytes) e = fit_more h.grants es _ _ e (self_file f)
-fit_line before after h es (seen.CutAt k f p) e = fit_more h.grants es _ _ e (self_file f)
+fit_line before after h es (seen.Wrote k c f p bytes) e = fit_more h.grants es _ _ e (file_self f)
+fit_line before after h es (seen.Patched k c f p at bytes) e = fit_more h.grants es _ _ e (file_self f)
+fit_line before after h es (seen.CutAt k f p) e = fit_more h.grants es _ _ e (file_self f)
 fit_line before after h es (seen.Hardened k) e = fit_fated h.grants es k fates.Hard e
 fit_line before after h es (seen.Dropped k cause) e = fit_fated h.grants es k (fates.Gone cause) e
 fit_line before after h es (seen.Suspected s c start) e = e
@@ -71,11 +63,5 @@ unfolding recall_all log_told
 fit_lines before after [] h es e = e
 fit_lines before after (o ∷ os) h es e = fit_lines before after os (recall before after h o) (log_behind after es o) (fit_line before after h es o e)
 
-remembered : (e : Event) (h : History) → (remember e h).grants ≡ h.grants
-unfolding remember
-remembered (events.Crash (nodes.Server s)) h = refl
-remembered (events.Crash (nodes.Client c)) h = refl
-remembered e h = refl
-
-pub fit_event : (before after : World) (e : Event) (os : List Observation) (h : History) (es fs : List LogEntry) → log_told after es os ≡ fs → fit_log h.grants es ≡ true → fit_log (recall_all before after os (remember e h)).grants fs ≡ true
-fit_event before after e os h es fs t f = subst (λ z. fit_log (recall_all before after os (remember e h)).grants z ≡ true) t (fit_lines before after os (remember e h) es (ap (λ gs. fit_log gs es) (remembered e h) ∙ f))
+pub fit_event : (before after : World) (e : Event) (os : List Observation) (h : History) (es fs : List LogEntry) → log_told after es os ≡ fs → fit_log h.grants es ≡ true → fit_log (recall_all before after os (remember before e h)).grants fs ≡ true
+fit_event before after e os h es fs t f = subst (λ z. fit_log (recall_all before after os (remember before e h)).grants z ≡ true) t (fit_lines before after os (remember before e h) es (ap (λ gs. fit_log gs es) (remembered_grants before e h) ∙ f))

@@ -1,51 +1,37 @@
 -- The history is the world's: at each event, at the start, and over whole runs.
-use Rattle.std.proofs.Common.{◌≡◌, ℕ, ◌+◌, Bool, true, false, ◌||◌, List, [], ◌∷◌, ◌++◌, ◌==◌, Option, Some, None, Ok, Err, refl, sym, ap, ◌∙◌, subst, inl, inr, if◌then◌else◌}
-use Rattle.std.specs.Prelude.{◌⊎◌, is_some, map, option_map}
-use Rattle.std.specs.List.{list_any}
-use Rattle.std.proofs.lemmas.Bool.{eqb-true}
-use Rattle.st_base.specs.declared.config.Config.{Config}
-use Rattle.st_base.specs.declared.ids.ClientId.{ClientId}
-use Rattle.st_base.specs.declared.ids.NodeId.{NodeId}
-use Rattle.st_base.specs.declared.ids.NodeId.TheVariants as nodes
-use Rattle.st_base.specs.declared.ids.ServerId.{ServerId}
-use Rattle.st_base.specs.declared.ids.Stamp.{Stamp}
-use Rattle.st_messages.specs.declared.event.Event.{Event}
-use Rattle.st_messages.specs.declared.event.Event.TheVariants as events
-use Rattle.st_messages.specs.declared.message.Message.{Message}
-use Rattle.st_messages.specs.declared.output.Note.{Note}
-use Rattle.st_messages.specs.declared.output.Note.TheVariants as notes
-use Rattle.st_messages.specs.declared.output.Output.{Output}
-use Rattle.st_messages.specs.declared.output.Output.TheVariants as outputs
-use Rattle.st_rules.specs.declared.client.ClientInput.{ClientInput}
-use Rattle.st_rules.specs.declared.client.ClientInput.TheVariants as inputs
-use Rattle.st_rules.specs.declared.input.ServerInput.{ServerInput}
-use Rattle.st_rules.specs.declared.input.ServerInput.TheVariants as serving
-use Rattle.st_rules.specs.declared.log.Fate.{Fate}
-use Rattle.st_rules.specs.declared.log.Fate.TheVariants as fates
-use Rattle.st_rules.specs.declared.log.LogEntry.{LogEntry}
+use Rattle.st_lemmas.proofs.Words
+use Words.{◌≡◌, ℕ, ◌+◌, Bool, true, false, List, [], ◌∷◌, ◌++◌, ◌==◌, Option, Some, None, Ok, Err, refl, sym, ap, ◌∙◌, subst, inl, inr, if◌then◌else◌}
+use Words.{◌⊎◌, is_some, map, option_map, eqb-true, Config, ClientId, NodeId, ServerId, Stamp, Event, Message, Note, Output, ClientInput, ServerInput}
+use Words.{Fate, LogEntry, Observation, IssuedCommand, LeaseLife, SentMessage}
+use Words.nodes
+use Words.events
+use Words.notes
+use Words.outputs
+use Words.inputs
+use Words.serving
+use Words.fates
+use Words.Authority as authority
+use Words.Client as cl
+use Words.ClientLease as lease
+use Words.ClientState.{Association}
+use Words.Disks as disks
+use Words.Events as ev
+use Words.Events.{WorldTurn, present_lives}
+use Words.Extents.{numbers}
+use Words.History.{LeaseDate, TimerStart, Traced, traced, traced_after, history_after, is_timer_of, recall_all, remember}
+use Words.Keys.{same_client, same_server}
+use Words.Safety.{Step, TheHistoryIsTheWorlds, IsWorldsHistory, agree, agree_on_timer, agree_on_timers, all_lives, fit_log, has_date, has_timer, is_dated_life}
+use Words.Safety.{step, suspects_at}
+use Words.Server as server
+use Words.Server.{ServerNode}
+use Words.World as world
+use Words.World.{World, WorldClient, site_of, node_of, with_numbered, clock_of, lives_of, life_of_association, message_of, receiver_of, issued_of, all_clients}
+use Words.World.{all_servers, fresh_world}
+use Words.Lists.{Has}
+use Words.Tables.{all_pass, and_both, and_true, has_append, has_map, some_passes}
+use Words.Members.{has_right, some_member_passes}
 use Rattle.st_rules.specs.declared.node.StepRefusal.TheVariants.{Crashed}
-use Rattle.st_rules.specs.declared.observation.Observation.{Observation}
-use Rattle.st_rules.specs.declared.world.IssuedCommand.{IssuedCommand}
-use Rattle.st_rules.specs.declared.world.LeaseLife.{LeaseLife}
-use Rattle.st_rules.specs.declared.world.SentMessage.{SentMessage}
-use Rattle.st_rules.specs.Authority as authority
-use Rattle.st_rules.specs.Client as cl
-use Rattle.st_rules.specs.ClientLease as lease
-use Rattle.st_rules.specs.ClientState.{Association}
-use Rattle.st_rules.specs.Disks as disks
-use Rattle.st_rules.specs.Events as ev
-use Rattle.st_rules.specs.Events.{WorldTurn, present_lives}
-use Rattle.st_rules.specs.Extents.{numbers}
-use Rattle.st_rules.specs.History.{LeaseDate, TimerStart, Traced, traced, traced_after, history_after, is_timer_of, recall_all, remember}
-use Rattle.st_rules.specs.Keys.{same_client, same_server}
-use Rattle.st_rules.specs.Safety.{Step, TheHistoryIsTheWorlds, IsWorldsHistory, agree, agree_on_timer, agree_on_timers, all_lives, fit_log, has_date, has_timer, is_dated_life, step, suspects_at}
-use Rattle.st_rules.specs.Server as server
-use Rattle.st_rules.specs.Server.{ServerNode}
-use Rattle.st_rules.specs.World as world
-use Rattle.st_rules.specs.World.{World, WorldClient, site_of, node_of, with_numbered, clock_of, lives_of, life_of_association, message_of, receiver_of, issued_of, all_clients, all_servers, fresh_world}
-use Rattle.st_lemmas.specs.Lists.{Has}
 use Rattle.st_lemmas.proofs.Steps.{throughout, step_happens}
-use Rattle.st_lemmas.proofs.Tables.{all_pass, and_both, and_true, has_append, has_map}
 use Rattle.st_laws_steps.specs.Lives.Lives.{LivesHold}
 use Rattle.st_laws_pages.specs.Disks.Obligations.{FatesHold}
 use Rattle.st_laws_pages.proofs.Disks.Steps.{fates_law}
@@ -56,9 +42,11 @@ use Rattle.st_laws_leases.proofs.Dates.Law as dates_law
 use Rattle.st_laws_pages.proofs.Asks.Says.{server_leaves}
 use Rattle.st_laws_pages.proofs.Asks.World.{site_case}
 use Rattle.st_laws_leases.specs.History.Law.{HistoriesAreTheWorlds}
+use Rattle.st_laws_leases.proofs.History.Clocks.{agreed, graces_agree, graces_begun, timers_started}
 use Rattle.st_laws_leases.proofs.History.Dates.{Dated, Undated, AllUndated, dates_out, dates_said, undated_same}
 use Rattle.st_laws_leases.proofs.History.Grants.{fit_event}
-use Rattle.st_laws_leases.proofs.History.Lives.{AllDated, LifeDated, Present, is_present, present_dated, remembered, stepped_dated, has_right}
+use Rattle.st_laws_leases.proofs.History.Graces.{Graces, fresh_graces, graces_after}
+use Rattle.st_laws_leases.proofs.History.Lives.{AllDated, LifeDated, Present, is_present, present_dated, remembered, stepped_dated}
 
 -- The dates after an event.
 abbrev After : Traced → Event → WorldTurn → Type 0
@@ -68,9 +56,11 @@ same_lives : (ds : List LeaseDate) (w v : World) → v.clients ≡ w.clients →
 same_lives ds w v c e h x i = h x (subst (λ cs. Has x (present_lives cs ++ w.ended)) c (subst (λ es. Has x (present_lives v.clients ++ es)) e i))
 
 undated : (t : Traced) (e : Event) (sc : WorldTurn) → AllUndated sc.seen → AllDated t.history.dates sc.world → After t e sc
-undated t e sc n h = subst (λ ds. AllDated ds sc.world) (sym (undated_same t.world sc.world sc.seen (remember e t.history) n ∙ remembered e t.history)) h
+undated t e sc n h = subst (λ ds. AllDated ds sc.world)
+    (sym (undated_same t.world sc.world sc.seen (remember t.world e t.history) n ∙ remembered t.world e t.history)) h
 
-nothing : (t : Traced) (e : Event) (v : World) → v.clients ≡ t.world.clients → v.ended ≡ t.world.ended → AllDated t.history.dates t.world → After t e (ev.quiet v)
+nothing : (t : Traced) (e : Event) (v : World) → v.clients ≡ t.world.clients → v.ended ≡ t.world.ended → AllDated t.history.dates t.world →
+    After t e (ev.quiet v)
 nothing t e v c n h = undated t e (ev.quiet v) tt (same_lives t.history.dates t.world v c n h)
 
 -- What is observed of servers and of fates dates no lease.
@@ -124,13 +114,17 @@ says w c site input =
 
 abbrev pub behind : World → ClientId → WorldClient → ClientInput → World
 behind w c site input =
-    ev.flushes c (cl.client_step site.node.state (clock_of w (nodes.Client c)) input).state (all_servers (says w c site input).world) (says w c site input).world
+    ev.flushes c (cl.client_step site.node.state (clock_of w (nodes.Client c)) input).state (all_servers (says w c site input).world)
+    (says w c site input).world
 
-pub took_is : (w : World) (c : ClientId) (site : WorldClient) (input : ClientInput) → site.node.running ≡ true → ev.client_takes w c input site ≡ ev.world_turn (behind w c site input) (says w c site input).seen
+pub took_is : (w : World) (c : ClientId) (site : WorldClient) (input : ClientInput) → site.node.running ≡ true →
+    ev.client_takes w c input site ≡ ev.world_turn (behind w c site input) (says w c site input).seen
 unfolding ev.client_takes ev.client_took cl.node_step
 took_is w c site input runs = go site.node.running runs
   where
-    go : (b : Bool) → b ≡ true → ev.client_took w c site (if b then Ok (cl.node_turn site.node (cl.client_step site.node.state (clock_of w (nodes.Client c)) input)) else Err Crashed) ≡ ev.world_turn (behind w c site input) (says w c site input).seen
+    go : (b : Bool) → b ≡ true → ev.client_took w c site
+        (if b then Ok (cl.node_turn site.node (cl.client_step site.node.state (clock_of w (nodes.Client c)) input)) else Err Crashed) ≡ ev.world_turn
+        (behind w c site input) (says w c site input).seen
     go true e = refl
     go false e = cc
 
@@ -138,7 +132,8 @@ pub stopped_is : (w : World) (c : ClientId) (site : WorldClient) (input : Client
 unfolding ev.client_takes ev.client_took cl.node_step
 stopped_is w c site input r = go site.node.running r
   where
-    go : (b : Bool) → b ≡ false → ev.client_took w c site (if b then Ok (cl.node_turn site.node (cl.client_step site.node.state (clock_of w (nodes.Client c)) input)) else Err Crashed) ≡ ev.quiet w
+    go : (b : Bool) → b ≡ false → ev.client_took w c site
+        (if b then Ok (cl.node_turn site.node (cl.client_step site.node.state (clock_of w (nodes.Client c)) input)) else Err Crashed) ≡ ev.quiet w
     go true e = cc
     go false e = refl
 
@@ -150,7 +145,8 @@ module _ (t : Traced) (e : Event) (a : world.Tally) (d : disks.Disks) (lives : L
   abbrev W : World
   W = beside a d t.world
 
-  takes_dated : (c : ClientId) (input : ClientInput) (old site : WorldClient) → site_of t.world c ≡ Some old → old.node ≡ site.node → LivesHold (ev.client_takes W c input site).world → After t e (ev.client_takes W c input site)
+  takes_dated : (c : ClientId) (input : ClientInput) (old site : WorldClient) → site_of t.world c ≡ Some old → old.node ≡ site.node →
+      LivesHold (ev.client_takes W c input site).world → After t e (ev.client_takes W c input site)
   takes_dated c input old site i same after = go site.node.running refl
     where
       in_w : LivesHold W
@@ -161,16 +157,19 @@ module _ (t : Traced) (e : Event) (a : world.Tally) (d : disks.Disks) (lives : L
           subst (λ ds. AllDated ds (behind W c site input)) (sym dates)
           (stepped_dated W c old site input i same r in_w (subst (λ (sc : WorldTurn). LivesHold sc.world) (took_is W c site input r) after) t.history.dates h)
         where
-          dates : (recall_all t.world (behind W c site input) (says W c site input).seen (remember e t.history)).dates ≡ dates_out (behind W c site input) c (cl.client_step site.node.state (clock_of W (nodes.Client c)) input).out t.history.dates
+          dates : (recall_all t.world (behind W c site input) (says W c site input).seen (remember t.world e t.history)).dates ≡ dates_out
+              (behind W c site input) c (cl.client_step site.node.state (clock_of W (nodes.Client c)) input).out t.history.dates
           dates =
-              dates_said t.world (behind W c site input) c site.node.state (remember e t.history) _ _
-              ∙ ap (dates_out (behind W c site input) c (cl.client_step site.node.state (clock_of W (nodes.Client c)) input).out) (undated_same t.world (behind W c site input) [] (remember e t.history) tt ∙ remembered e t.history)
+              dates_said t.world (behind W c site input) c site.node.state (remember t.world e t.history) _ _
+              ∙ ap (dates_out (behind W c site input) c (cl.client_step site.node.state (clock_of W (nodes.Client c)) input).out)
+              (undated_same t.world (behind W c site input) [] (remember t.world e t.history) tt ∙ remembered t.world e t.history)
 
       go : (b : Bool) → site.node.running ≡ b → After t e (ev.client_takes W c input site)
       go true r = subst (λ sc. After t e sc) (sym (took_is W c site input r)) (went r)
       go false r = subst (λ sc. After t e sc) (sym (stopped_is W c site input r)) (nothing t e W refl refl h)
 
-  client_dated : (c : ClientId) (input : ClientInput) (o : Option WorldClient) → site_of t.world c ≡ o → LivesHold (ev.at_client W c input o).world → After t e (ev.at_client W c input o)
+  client_dated : (c : ClientId) (input : ClientInput) (o : Option WorldClient) → site_of t.world c ≡ o → LivesHold (ev.at_client W c input o).world →
+      After t e (ev.at_client W c input o)
   unfolding ev.at_client
   client_dated c input None i after = nothing t e W refl refl h
   client_dated c input (Some site) i after = takes_dated c input site site i refl after
@@ -197,7 +196,8 @@ module _ (t : Traced) (e : Event) (a : world.Tally) (d : disks.Disks) (lives : L
       go false = nothing t e W refl refl h
 
 -- A client that crashes or starts: its lives have no lease.
-no_end : (ds : List LeaseDate) (k : Config) (id : ClientId) (f : Association → Association) → ((b : Association) → (f b).session ≡ None) → (al : List Association) (e : LeaseLife) → Has e (map (life_of_association k id) (map f al)) → LifeDated ds e
+no_end : (ds : List LeaseDate) (k : Config) (id : ClientId) (f : Association → Association) → ((b : Association) → (f b).session ≡ None) →
+    (al : List Association) (e : LeaseLife) → Has e (map (life_of_association k id) (map f al)) → LifeDated ds e
 no_end ds k id f g al e i = go (has_map (life_of_association k id) (map f al) e i)
   where
     at : (b : Association) → b.session ≡ None → e ≡ life_of_association k id b → LifeDated ds e
@@ -209,7 +209,8 @@ no_end ds k id f g al e i = go (has_map (life_of_association k id) (map f al) e 
     go : (b : Association) × Has b (map f al) × (e ≡ life_of_association k id b) → LifeDated ds e
     go (b, j, z) = at b (none b (has_map f al b j)) z
 
-placed_dated : (ds : List LeaseDate) (w v : World) (c : ClientId) (old site : WorldClient) → site_of w c ≡ Some old → v.clients ≡ with_numbered c.0 site w.clients → ((e : LeaseLife) → Has e (lives_of site.node.state) → LifeDated ds e) →
+placed_dated : (ds : List LeaseDate) (w v : World) (c : ClientId) (old site : WorldClient) → site_of w c ≡ Some old →
+    v.clients ≡ with_numbered c.0 site w.clients → ((e : LeaseLife) → Has e (lives_of site.node.state) → LifeDated ds e) →
     ((e : LeaseLife) → Has e v.ended → LifeDated ds e) → AllDated ds w → AllDated ds v
 placed_dated ds w v c old site there cs f g h e i = go (has_append (present_lives v.clients) v.ended e i)
   where
@@ -230,19 +231,27 @@ unfolding cl.start
 started_dated ds site e i = no_end ds site.node.state.config site.node.state.id cl.started_association (λ b. refl) site.node.state.associations e i
 
 -- Each event.
-happens_dated : (t : Traced) (e : Event) → LivesHold t.world → LivesHold (ev.happens (ev.counted t.world) e).world → AllDated t.history.dates t.world → After t e (ev.happens (ev.counted t.world) e)
-unfolding ev.happens ev.ticks ev.asks_at ev.delivers ev.delivers_to ev.loses_message ev.effects ev.advances ev.marks ev.reports_of ev.tells ev.tells_client ev.tells_site ev.crashes ev.crashes_client ev.crashes_server ev.starts ev.starts_client ev.starts_server
-happens_dated t (events.Tick (nodes.Client c)) l after h = client_dated t (events.Tick (nodes.Client c)) (ev.counted t.world).tally t.world.disks l h c inputs.Tick (site_of t.world c) refl after
-happens_dated t (events.Tick (nodes.Server s)) l after h = server_dated t (events.Tick (nodes.Server s)) (ev.counted t.world).tally t.world.disks l h s serving.Tick (node_of t.world s)
+happens_dated : (t : Traced) (e : Event) → LivesHold t.world → LivesHold (ev.happens (ev.counted t.world) e).world → AllDated t.history.dates t.world →
+    After t e (ev.happens (ev.counted t.world) e)
+unfolding ev.happens ev.ticks ev.asks_at ev.delivers ev.delivers_to ev.loses_message ev.effects ev.advances ev.marks ev.reports_of ev.tells ev.tells_client
+    ev.tells_site ev.crashes ev.crashes_client ev.crashes_server ev.starts ev.starts_client ev.starts_server
+happens_dated t (events.Tick (nodes.Client c)) l after h =
+    client_dated t (events.Tick (nodes.Client c)) (ev.counted t.world).tally t.world.disks l h c inputs.Tick (site_of t.world c) refl after
+happens_dated t (events.Tick (nodes.Server s)) l after h =
+    server_dated t (events.Tick (nodes.Server s)) (ev.counted t.world).tally t.world.disks l h s serving.Tick (node_of t.world s)
 happens_dated t (events.App c ask) l after h = go (site_of t.world c) refl after
   where
-    go : (o : Option WorldClient) → site_of t.world c ≡ o → LivesHold (ev.asks_at (ev.counted t.world) c ask o).world → After t (events.App c ask) (ev.asks_at (ev.counted t.world) c ask o)
+    go : (o : Option WorldClient) → site_of t.world c ≡ o → LivesHold (ev.asks_at (ev.counted t.world) c ask o).world →
+        After t (events.App c ask) (ev.asks_at (ev.counted t.world) c ask o)
     go None i after = nothing t (events.App c ask) _ refl refl h
-    go (Some site) i after = takes_dated t (events.App c ask) (ev.counted t.world).tally t.world.disks l h c (inputs.App (site.asks + 1) ask) site (ev.asked_once_more site) i refl after
+    go (Some site) i after = takes_dated t (events.App c ask) (ev.counted t.world).tally t.world.disks l h c (inputs.App (site.asks + 1) ask) site
+        (ev.asked_once_more site) i refl after
 happens_dated t (events.Deliver k) l after h = go (message_of t.world k) after
   where
-    to : (m : Message) (r : NodeId) → LivesHold (ev.delivers_to (ev.counted t.world) m r).world → After t (events.Deliver k) (ev.delivers_to (ev.counted t.world) m r)
-    to m (nodes.Client c) after = client_dated t (events.Deliver k) (ev.counted t.world).tally t.world.disks l h c (inputs.Control m) (site_of t.world c) refl after
+    to : (m : Message) (r : NodeId) → LivesHold (ev.delivers_to (ev.counted t.world) m r).world →
+        After t (events.Deliver k) (ev.delivers_to (ev.counted t.world) m r)
+    to m (nodes.Client c) after = client_dated t (events.Deliver k) (ev.counted t.world).tally t.world.disks l h c (inputs.Control m) (site_of t.world c) refl
+        after
     to m (nodes.Server s) after = server_dated t (events.Deliver k) (ev.counted t.world).tally t.world.disks l h s (serving.Control m) (node_of t.world s)
 
     go : (o : Option SentMessage) → LivesHold (ev.delivers (ev.counted t.world) o).world → After t (events.Deliver k) (ev.delivers (ev.counted t.world) o)
@@ -269,12 +278,15 @@ happens_dated t (events.Report k ok) l after h = go (issued_of t.world k) after
     go None after = nothing t e reported refl refl h
     go (Some y) after = at (site_of t.world y.client) refl after
       where
-        at : (o : Option WorldClient) → site_of t.world y.client ≡ o → LivesHold (ev.tells_client reported k ok y o).world → After t (events.Report k ok) (ev.tells_client reported k ok y o)
+        at : (o : Option WorldClient) → site_of t.world y.client ≡ o → LivesHold (ev.tells_client reported k ok y o).world →
+            After t (events.Report k ok) (ev.tells_client reported k ok y o)
         at None i after = nothing t e reported refl refl h
         at (Some site) i after = pick (ev.is_same_instance y site) after
           where
-            pick : (b : Bool) → LivesHold (if b then ev.client_takes reported y.client (ev.end_told reported k ok y) site else ev.quiet reported).world → After t (events.Report k ok) (if b then ev.client_takes reported y.client (ev.end_told reported k ok y) site else ev.quiet reported)
-            pick true after = takes_dated t (events.Report k ok) (ev.counted t.world).tally (ev.disks_after t.world.disks (disks.done t.world.disks k ok)) l h y.client (ev.end_told reported k ok y) site site i refl after
+            pick : (b : Bool) → LivesHold (if b then ev.client_takes reported y.client (ev.end_told reported k ok y) site else ev.quiet reported).world →
+                After t (events.Report k ok) (if b then ev.client_takes reported y.client (ev.end_told reported k ok y) site else ev.quiet reported)
+            pick true after = takes_dated t (events.Report k ok) (ev.counted t.world).tally (ev.disks_after t.world.disks (disks.done t.world.disks k ok)) l h
+                y.client (ev.end_told reported k ok y) site site i refl after
             pick false after = nothing t (events.Report k ok) reported refl refl h
 happens_dated t (events.Crash (nodes.Client c)) l after h = go (site_of t.world c) refl
   where
@@ -282,7 +294,10 @@ happens_dated t (events.Crash (nodes.Client c)) l after h = go (site_of t.world 
     go None i = nothing t (events.Crash (nodes.Client c)) _ refl refl h
     go (Some site) i =
         undated t (events.Crash (nodes.Client c)) _ (undated_fates 1 _ _)
-        (placed_dated t.history.dates t.world (ev.with_log (ev.log_crashed (ev.counted t.world) c) (ev.with_site c (ev.stopped_site site) (ev.with_crashed_lives site (ev.counted t.world)))) c site (ev.stopped_site site) i refl (crashed_dated t.history.dates site) (λ e j. ends e (has_append t.world.ended (map ev.crashed_life (lives_of site.node.state)) e j)) h)
+        (placed_dated t.history.dates t.world
+        (ev.with_log (ev.log_crashed (ev.counted t.world) c) (ev.with_site c (ev.stopped_site site) (ev.with_crashed_lives site (ev.counted t.world)))) c
+        site (ev.stopped_site site) i refl (crashed_dated t.history.dates site)
+        (λ e j. ends e (has_append t.world.ended (map ev.crashed_life (lives_of site.node.state)) e j)) h)
       where
         life : (e : LeaseLife) → (x : LeaseLife) × Has x (lives_of site.node.state) × (e ≡ ev.crashed_life x) → LifeDated t.history.dates e
         life e (x, j, z) = subst (LifeDated t.history.dates) (sym z) (present_dated t.history.dates t.world c site h i x j)
@@ -301,7 +316,8 @@ happens_dated t (events.Start (nodes.Client c)) l after h = go (site_of t.world 
     go None i = nothing t (events.Start (nodes.Client c)) _ refl refl h
     go (Some site) i =
         undated t (events.Start (nodes.Client c)) _ tt
-        (placed_dated t.history.dates t.world (ev.with_site c (ev.started_site site) (ev.counted t.world)) c site (ev.started_site site) i refl (started_dated t.history.dates site) (λ e j. h e (has_right (present_lives t.world.clients) t.world.ended e j)) h)
+        (placed_dated t.history.dates t.world (ev.with_site c (ev.started_site site) (ev.counted t.world)) c site (ev.started_site site) i refl
+        (started_dated t.history.dates site) (λ e j. h e (has_right (present_lives t.world.clients) t.world.ended e j)) h)
 happens_dated t (events.Start (nodes.Server s)) l after h = go (node_of t.world s)
   where
     go : (o : Option ServerNode) → After t (events.Start (nodes.Server s)) (ev.quiet (ev.starts_server (ev.counted t.world) s o))
@@ -309,28 +325,6 @@ happens_dated t (events.Start (nodes.Server s)) l after h = go (node_of t.world 
     go (Some node) = nothing t (events.Start (nodes.Server s)) _ refl refl h
 
 -- The promise.
-any_found : {A : Type 0} (p : A → Bool) (xs : List A) → list_any p xs ≡ true → (x : A) × Has x xs × (p x ≡ true)
-any_found p [] e = cc
-any_found {A} p (x ∷ xs) e = go (p x) refl e (any_found p xs)
-  where
-    go : (b : Bool) → p x ≡ b → (b || list_any p xs) ≡ true → (list_any p xs ≡ true → (y : A) × Has y xs × (p y ≡ true)) → (y : A) × Has y (x ∷ xs) × (p y ≡ true)
-    go true q e r = (x, inl refl, q)
-    go false q e r = let z = r e in (z.0, inr z.1, z.2)
-
-some_any : {A : Type 0} (p : A → Bool) (xs : List A) (x : A) → Has x xs → p x ≡ true → list_any p xs ≡ true
-some_any p [] x h e = absurd h
-some_any p (y ∷ xs) x (inl q) e = ap (λ b. b || list_any p xs) (ap p (sym q) ∙ e)
-some_any p (y ∷ xs) x (inr h) e = go (p y) (some_any p xs x h e)
-  where
-    go : (b : Bool) → list_any p xs ≡ true → (b || list_any p xs) ≡ true
-    go true r = refl
-    go false r = r
-
-agreed : (a b : Bool) → (a ≡ true → b ≡ true) → (b ≡ true → a ≡ true) → agree a b ≡ true
-agreed true b f g = f refl
-agreed false true f g = g refl
-agreed false false f g = refl
-
 timers_agree : (past : List Step) (t : Traced) → dating.Dated past t → (s : ServerId) (c : ClientId) → agree_on_timer t s c ≡ true
 timers_agree past t d s c = agreed (has_timer t.history s c) (suspects_at c (node_of t.world s)) on off
   where
@@ -338,7 +332,7 @@ timers_agree past t d s c = agreed (has_timer t.history s c) (suspects_at c (nod
     id_is a b e = eqb-true a b e
 
     on : has_timer t.history s c ≡ true → suspects_at c (node_of t.world s) ≡ true
-    on e = at (any_found (is_timer_of s c) t.history.timers e)
+    on e = at (some_member_passes (is_timer_of s c) t.history.timers e)
       where
         at : (x : TimerStart) × Has x t.history.timers × (is_timer_of s c x ≡ true) → suspects_at c (node_of t.world s) ≡ true
         at (x, h, q) =
@@ -346,7 +340,8 @@ timers_agree past t d s c = agreed (has_timer t.history s c) (suspects_at c (nod
             let y = d.timers x h in
             let server : x.server ≡ s = ap (λ n. record { 0 = n }) (id_is x.server.0 s.0 z.0) in
             let client : x.client ≡ c = ap (λ n. record { 0 = n }) (id_is x.client.0 c.0 z.1) in
-            ap (suspects_at c) (ap (node_of t.world) (sym server) ∙ y.is) ∙ and_both y.node.running _ y.running (ap (λ d. is_some (authority.suspect_of y.node.state.authority d)) (sym client) ∙ y.on)
+            ap (suspects_at c) (ap (node_of t.world) (sym server) ∙ y.is) ∙
+            and_both y.node.running _ y.running (ap (λ d. is_some (authority.suspect_of y.node.state.authority d)) (sym client) ∙ y.on)
 
     off : suspects_at c (node_of t.world s) ≡ true → has_timer t.history s c ≡ true
     off e = at (node_of t.world s) refl e
@@ -356,7 +351,7 @@ timers_agree past t d s c = agreed (has_timer t.history s c) (suspects_at c (nod
         at (Some node) i e =
             let z = and_true node.running _ e in
             let y = d.timed s node i z.0 c z.1 in
-            some_any (is_timer_of s c) t.history.timers y.timer y.among y.is
+            some_passes (is_timer_of s c) t.history.timers y.timer y.among y.is
 
 dates_agree : (t : Traced) → AllDated t.history.dates t.world → (e : LeaseLife) → Has e (all_lives t.world) → is_dated_life t.history e ≡ true
 dates_agree t h e i = go e.end (h e i)
@@ -365,10 +360,16 @@ dates_agree t h e i = go e.end (h e i)
     go None d = refl
     go (Some end) d = d
 
-promised : (past : List Step) (t : Traced) → dating.Dated past t → AllDated t.history.dates t.world → fit_log t.history.grants t.world.log ≡ true → IsWorldsHistory t
-promised past t d h g =
+promised : (past : List Step) (t : Traced) → dating.Dated past t → Graces past t.world t.history.graces → AllDated t.history.dates t.world →
+    fit_log t.history.grants t.world.log ≡ true →
+    IsWorldsHistory past t
+promised past t d x h g =
     record {
-      timers = all_pass (agree_on_timers t) (all_servers t.world) (λ s i. all_pass (agree_on_timer t s) (all_clients t.world) (λ c j. timers_agree past t d s c));
+      timers = all_pass (agree_on_timers t) (all_servers t.world)
+          (λ s i. all_pass (agree_on_timer t s) (all_clients t.world) (λ c j. timers_agree past t d s c));
+      started = timers_started past t d;
+      graces = graces_agree past t x;
+      begun = graces_begun past t x;
       dates = all_pass (is_dated_life t.history) (all_lives t.world) (dates_agree t h);
       grants = g;
     }
@@ -377,11 +378,16 @@ promised past t d h g =
 pub record Stands (past : List Step) (t : Traced) : Type 0 where
   pub fates : FatesHold t.world
   pub dated : dating.Dated past t
+  pub graces : Graces past t.world t.history.graces
   pub dates : AllDated t.history.dates t.world
   pub grants : fit_log t.history.grants t.world.log ≡ true
 
-one : (past : List Step) (t : Traced) (e : Event) (sc : WorldTurn) → Stands past t → ev.world_step t.world e ≡ Ok sc → TheHistoryIsTheWorlds past (step t e sc) × Stands (past ++ step t e sc ∷ []) (traced_after e t sc)
-one past t e sc s q = (promised (past ++ step t e sc ∷ []) (traced_after e t sc) dated dates grants, record { fates = after; dated = dated; dates = dates; grants = grants })
+one : (past : List Step) (t : Traced) (e : Event) (sc : WorldTurn) → Stands past t → ev.world_step t.world e ≡ Ok sc →
+    TheHistoryIsTheWorlds past (step t e sc) × Stands (past ++ step t e sc ∷ []) (traced_after e t sc)
+one past t e sc s q = (
+  promised (past ++ step t e sc ∷ []) (traced_after e t sc) dated graces dates grants,
+  record { fates = after; dated = dated; graces = graces; dates = dates; grants = grants },
+)
   where
     after : FatesHold sc.world
     after = fates_law t.world e sc q s.fates
@@ -389,10 +395,14 @@ one past t e sc s q = (promised (past ++ step t e sc ∷ []) (traced_after e t s
     dated : dating.Dated (past ++ step t e sc ∷ []) (traced_after e t sc)
     dated = (dates_law.one past t e sc s.dated q).1
 
+    graces : Graces (past ++ step t e sc ∷ []) sc.world (traced_after e t sc).history.graces
+    graces = graces_after past t s.graces e sc q
+
     dates : AllDated (history_after t.world e sc t.history).dates sc.world
     dates =
         let z = step_happens t.world e sc q in
-        subst (λ (y : WorldTurn). AllDated (history_after t.world e y t.history).dates y.world) (sym z.1) (happens_dated t e s.fates.lives (subst (λ (y : WorldTurn). LivesHold y.world) z.1 after.lives) s.dates)
+        subst (λ (y : WorldTurn). AllDated (history_after t.world e y t.history).dates y.world) (sym z.1)
+        (happens_dated t e s.fates.lives (subst (λ (y : WorldTurn). LivesHold y.world) z.1 after.lives) s.dates)
 
     grants : fit_log (history_after t.world e sc t.history).grants sc.world.log ≡ true
     grants = fit_event t.world sc.world e sc.seen t.history t.world.log sc.world.log (step_told past t e sc q).entries s.grants
@@ -403,13 +413,16 @@ unfolding present_lives cl.fresh_client
 fresh_lives k servers [] e i = absurd i
 fresh_lives k servers (n ∷ ns) e i = go (has_append (lives_of (world.fresh_site k servers n).node.state) _ e i) (fresh_lives k servers ns e)
   where
-    life : (x : Association) × Has x (map cl.fresh_association (numbers 1 servers)) × (e ≡ life_of_association k (world.fresh_site k servers n).node.state.id x) → e.end ≡ None
+    life : (x : Association) × Has x (map cl.fresh_association (numbers 1 servers)) ×
+        (e ≡ life_of_association k (world.fresh_site k servers n).node.state.id x) → e.end ≡ None
     life (x, j, z) = ap (λ (y : LeaseLife). y.end) z ∙ none (has_map cl.fresh_association (numbers 1 servers) x j)
       where
-        none : (m : ℕ) × Has m (numbers 1 servers) × (x ≡ cl.fresh_association m) → (life_of_association k (world.fresh_site k servers n).node.state.id x).end ≡ None
+        none : (m : ℕ) × Has m (numbers 1 servers) × (x ≡ cl.fresh_association m) →
+            (life_of_association k (world.fresh_site k servers n).node.state.id x).end ≡ None
         none (m, l, w) = ap (λ (y : Association). (life_of_association k (world.fresh_site k servers n).node.state.id y).end) w
 
-    go : Has e (lives_of (world.fresh_site k servers n).node.state) ⊎ Has e (present_lives (map (world.fresh_site k servers) ns)) → (Has e (present_lives (map (world.fresh_site k servers) ns)) → e.end ≡ None) → e.end ≡ None
+    go : Has e (lives_of (world.fresh_site k servers n).node.state) ⊎ Has e (present_lives (map (world.fresh_site k servers) ns)) →
+        (Has e (present_lives (map (world.fresh_site k servers) ns)) → e.end ≡ None) → e.end ≡ None
     go (inl j) r = life (has_map (life_of_association k (world.fresh_site k servers n).node.state.id) (map cl.fresh_association (numbers 1 servers)) e j)
     go (inr j) r = r j
 
@@ -429,7 +442,14 @@ fresh_log : (k : Config) (clients servers d b form : ℕ) → fit_log [] (fresh_
 unfolding fresh_world fit_log
 fresh_log k clients servers d b form = refl
 
-pub law : HistoriesAreTheWorlds
-law k clients servers d b form es head =
+pub histories_are_the_worlds : HistoriesAreTheWorlds
+histories_are_the_worlds k clients servers d b form es head =
     throughout TheHistoryIsTheWorlds Stands one es [] (traced (fresh_world k clients servers d b form))
-    (record { fates = fresh_fates k clients servers d b form; dated = dates_law.fresh_dated k clients servers d b form head; dates = fresh_all k clients servers d b form; grants = fresh_log k clients servers d b form })
+    (record {
+      fates = fresh_fates k clients servers d b form;
+      dated = dates_law.fresh_dated k clients servers d b form head;
+      graces =
+          fresh_graces k clients servers d b form;
+      dates = fresh_all k clients servers d b form;
+      grants = fresh_log k clients servers d b form;
+    })

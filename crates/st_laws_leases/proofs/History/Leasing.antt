@@ -1,49 +1,34 @@
 -- What a client's rules note of leases: that of each session was noted with its end.
-use Rattle.std.proofs.Common.{◌≡◌, ℕ, Bool, true, false, List, [], ◌∷◌, ◌++◌, Option, Some, None, refl, sym, ap, ◌∙◌, subst, inl, inr}
-use Rattle.std.proofs.Common.{if◌then◌else◌, append_assoc}
-use Rattle.std.specs.Prelude.{◌⊎◌, map}
-use Rattle.std.proofs.lemmas.Bool.{eq-eqb}
-use Rattle.st_base.specs.declared.config.Config.{Config}
-use Rattle.st_base.specs.declared.disk.Tag.{Tag}
-use Rattle.st_base.specs.declared.ids.Epoch.{Epoch}
-use Rattle.st_base.specs.declared.ids.FileId.{FileId}
-use Rattle.st_base.specs.declared.ids.GrantNo.{GrantNo}
-use Rattle.st_base.specs.declared.ids.Life.{Life}
-use Rattle.st_base.specs.declared.ids.PageNo.{PageNo}
-use Rattle.st_base.specs.declared.ids.ServerId.{ServerId}
-use Rattle.st_base.specs.declared.ids.Stamp.{Stamp}
-use Rattle.st_base.specs.declared.mode.Mode.{Mode}
-use Rattle.st_messages.specs.declared.answer.AppAnswer.{AppAnswer}
-use Rattle.st_messages.specs.declared.ask.Ask.{Ask}
-use Rattle.st_messages.specs.declared.message.Body.{Body}
-use Rattle.st_messages.specs.declared.message.Body.TheVariants as bodies
-use Rattle.st_messages.specs.declared.message.Header.{Header}
-use Rattle.st_messages.specs.declared.message.Why.{Why}
-use Rattle.st_messages.specs.declared.output.Note.{Note}
-use Rattle.st_messages.specs.declared.output.Note.TheVariants as notes
-use Rattle.st_messages.specs.declared.output.Output.{Output}
-use Rattle.st_messages.specs.declared.output.Output.TheVariants as outputs
-use Rattle.st_rules.specs.declared.client.Operation.{Operation}
-use Rattle.st_rules.specs.Client as cl
-use Rattle.st_rules.specs.ClientLease as lease
-use Rattle.st_rules.specs.ClientLocks as locks
-use Rattle.st_rules.specs.ClientPages.{Store}
-use Rattle.st_rules.specs.ClientPasses as cp
-use Rattle.st_rules.specs.ClientReplies as cr
-use Rattle.st_rules.specs.ClientState as cs
-use Rattle.st_rules.specs.ClientState.{ClientSession, Turn, answer_to, say, with_session, with_store, with_operations}
-use Rattle.st_rules.specs.Dating.{may_date}
-use Rattle.st_rules.specs.History.{epoch_at_session}
-use Rattle.st_rules.specs.Keys.{same_server, server_node}
-use Rattle.st_rules.specs.Leases as leases
-use Rattle.st_lemmas.specs.Lists.{Has}
-use Rattle.st_lemmas.proofs.Lookups.{some_is}
-use Rattle.st_lemmas.proofs.Tables.{has_map, has_append}
+use Rattle.st_lemmas.proofs.Words
+use Words.{◌≡◌, ℕ, Bool, true, false, List, [], ◌∷◌, ◌++◌, Option, Some, None, refl, sym, ap, ◌∙◌, subst, inl, inr, if◌then◌else◌, append_assoc, ◌⊎◌, map}
+use Words.{Config, Tag, Epoch, FileId, GrantNo, Life, PageNo, ServerId, Stamp, Mode, AppAnswer, Ask, Body, Header, Why, Note, Output, Operation}
+use Words.{LostPage, append-nil}
+use Words.bodies
+use Words.notes
+use Words.outputs
+use Words.Client as cl
+use Words.ClientLease as lease
+use Words.ClientLocks as locks
+use Words.ClientPages.{Store}
+use Words.ClientPasses as cp
+use Words.ClientReplies as cr
+use Words.ClientState as cs
+use Words.ClientState.{ClientSession, Turn, answer_to, say, with_session, with_store, with_operations}
+use Words.Dating.{may_date}
+use Words.History.{epoch_at_session}
+use Words.Keys.{same_server, server_node}
+use Words.Leases as leases
+use Words.Lists.{Has}
+use Words.Lookups.{some_is}
+use Words.Tables.{has_map, has_append}
+use Words.answers
+use Words.ClientPages as pages
+use Words.Truth.{false_not_true}
 use Rattle.st_laws_steps.specs.Client.Client as client
 use Rattle.st_laws_steps.specs.Client.Client.{Change, ChangesPage}
 use Rattle.st_laws_steps.specs.Client.Losses.{Ends, Unknown, Passes, Hardens, Fails}
 use Rattle.st_laws_steps.specs.Client.Session.{SessionChange, Keeps, DropsLock, IsReasserted, EndsRequest, NewEpoch, AsksNew, AsksAgain}
-use Rattle.st_laws_steps.proofs.Client.Asking.{p_passes}
+use Rattle.st_laws_steps.proofs.Client.Asking.{passes_keep_or_ask}
 use Rattle.st_laws_steps.proofs.Client.Calm.{IsCalm, SaysCalm}
 use Rattle.st_laws_steps.proofs.Client.Losing.{Finished, calm_only, finish_is, is_done}
 use Rattle.st_laws_steps.proofs.Client.Only.{Only, Goes}
@@ -51,9 +36,6 @@ use Rattle.st_laws_steps.proofs.Client.Only as only
 use Rattle.st_laws_steps.proofs.Client.Passing.{FollowsBy, IsPassing, KeepsOrAsks, SaysRight}
 use Rattle.st_laws_leases.specs.History.Replies.{renews_lease}
 use Rattle.st_laws_leases.specs.History.Notes.{noted_one, noted}
-use Rattle.st_rules.specs.declared.client.LostPage.{LostPage}
-use Rattle.st_messages.specs.declared.answer.AppAnswer.TheVariants as answers
-use Rattle.st_rules.specs.ClientPages as pages
 use Rattle.st_trace.specs.Client.Losses as losing
 use Rattle.st_trace.specs.Client.Losses.{Ended, Loses}
 use Rattle.st_trace.specs.Client.Messages as trace
@@ -61,10 +43,7 @@ use Rattle.st_trace.specs.Client.Messages.{Effect, Grants, Receives, Refusal, Re
 use Rattle.st_trace.proofs.Client.Losing.{loses}
 use Rattle.st_trace.proofs.Client.Receiving.{receives}
 use Rattle.st_trace.proofs.Client.Walk.{each_lasts}
-
-pub none_more : {A : Type 0} (xs : List A) → xs ++ [] ≡ xs
-none_more [] = refl
-none_more (x ∷ xs) = ap (λ z. x ∷ z) (none_more xs)
+use Rattle.st_laws_pages.proofs.Disks.Servers.{self_server}
 
 -- What holds of a turn: the lease of its session was noted last, and nothing of other servers. the note of a lease end
 abbrev pub leased : ServerId → Stamp → Output
@@ -100,7 +79,7 @@ noted_quiet s xs x o q = noted_more s xs x o ∙ quiet_one s x (noted s xs o) q
 
 noted_answers : (s : ServerId) (a : AppAnswer) (os : List Operation) (xs : List Output) (o : Option Stamp) → noted s
     (xs ++ map (answer_to a) os) o ≡ noted s xs o
-noted_answers s a [] xs o = ap (λ z. noted s z o) (none_more xs)
+noted_answers s a [] xs o = ap (λ z. noted s z o) (append-nil xs)
 noted_answers s a (y ∷ os) xs o = ap (λ z. noted s z o) (sym (append_assoc xs (answer_to a y ∷ []) (map (answer_to a) os))) ∙ noted_answers s a os
     (xs ++ answer_to a y ∷ []) o ∙ noted_quiet s xs (answer_to a y) o tt
 
@@ -133,12 +112,6 @@ end_in : Output → Option Stamp
 end_in (outputs.Note (notes.Leased s end)) = Some end
 end_in o = None
 
-self_server : (s : ServerId) → same_server s s ≡ true
-self_server s = eq-eqb s.0 s.0 refl
-
-no_bool : {A : Type 0} → false ≡ true → A
-no_bool e = cc
-
 module _ (k : Config) (init base : ServerId → Option Stamp) (sv : ServerId) (T : Life → Epoch → Stamp → Type 0) (B : ServerId → Stamp → Type 0) where
   abbrev pub N : Turn → Type 0
   N t = Noted k init base sv T B t
@@ -152,8 +125,8 @@ module _ (k : Config) (init base : ServerId → Option Stamp) (sv : ServerId) (T
     pub told : (end : Stamp) → Has (leased t.here.server end) t.out → T t.here.life s.epoch end
     pub untold : (r : ServerId) → same_server t.here.server r ≡ false → (end : Stamp) → Has (leased r end) t.out → B r end
 
-  v_of : (t : Turn) (s : ClientSession) → t.here.session ≡ Some s → N t → HasNoted s t
-  v_of t s e n = record {
+  has_noted_of : (t : Turn) (s : ClientSession) → t.here.session ≡ Some s → N t → HasNoted s t
+  has_noted_of t s e n = record {
     config = n.config;
     server = n.server;
     own = n.own s e;
@@ -164,8 +137,8 @@ module _ (k : Config) (init base : ServerId → Option Stamp) (sv : ServerId) (T
   }
 
   -- a session of the same date
-  v_same : (t : Turn) (s x : ClientSession) → x.lease.date ≡ s.lease.date → x.epoch ≡ s.epoch → HasNoted s t → HasNoted x t
-  v_same t s x e f v = record {
+  has_noted_same : (t : Turn) (s x : ClientSession) → x.lease.date ≡ s.lease.date → x.epoch ≡ s.epoch → HasNoted s t → HasNoted x t
+  has_noted_same t s x e f v = record {
     config = v.config;
     server = v.server;
     own = v.own ∙ ap (λ d. Some (leases.lease_end k d)) (sym e);
@@ -174,8 +147,8 @@ module _ (k : Config) (init base : ServerId → Option Stamp) (sv : ServerId) (T
     untold = v.untold;
   }
 
-  n_session : (t : Turn) (x : ClientSession) → HasNoted x t → N (with_session x t)
-  n_session t x v = record {
+  noted_after_session : (t : Turn) (x : ClientSession) → HasNoted x t → N (with_session x t)
+  noted_after_session t x v = record {
     config = v.config;
     server = v.server;
     own = λ y e. v.own ∙ ap (λ (z : ClientSession). Some (lease.end_of k z.lease)) (some_is e);
@@ -184,11 +157,11 @@ module _ (k : Config) (init base : ServerId → Option Stamp) (sv : ServerId) (T
     untold = v.untold;
   }
 
-  n_with : (t : Turn) (s x : ClientSession) → x.lease.date ≡ s.lease.date → x.epoch ≡ s.epoch → HasNoted s t → N (with_session x t)
-  n_with t s x e f v = n_session t x (v_same t s x e f v)
+  noted_after_with : (t : Turn) (s x : ClientSession) → x.lease.date ≡ s.lease.date → x.epoch ≡ s.epoch → HasNoted s t → N (with_session x t)
+  noted_after_with t s x e f v = noted_after_session t x (has_noted_same t s x e f v)
 
-  n_say : (t : Turn) (o : Output) → Quiet o → N t → N (say t o)
-  n_say t o q n =
+  noted_after_say : (t : Turn) (o : Output) → Quiet o → N t → N (say t o)
+  noted_after_say t o q n =
       record {
         config = n.config;
         server = n.server;
@@ -198,19 +171,19 @@ module _ (k : Config) (init base : ServerId → Option Stamp) (sv : ServerId) (T
         untold = λ s f end h. n.untold s f end (unsaid s end t.out o q h);
       }
 
-  n_send : (t : Turn) (epoch number stamp : ℕ) (b : Body) → N t → N (cs.send t epoch number stamp b)
+  noted_after_send : (t : Turn) (epoch number stamp : ℕ) (b : Body) → N t → N (cs.send t epoch number stamp b)
   unfolding cs.send
-  n_send t epoch number stamp b n = n_say t _ tt n
+  noted_after_send t epoch number stamp b n = noted_after_say t _ tt n
 
-  n_store : (t : Turn) (st : Store) → N t → N (with_store st t)
-  n_store t st n = record { config = n.config; server = n.server; own = n.own; others = n.others; told = n.told; untold = n.untold }
+  noted_after_store : (t : Turn) (st : Store) → N t → N (with_store st t)
+  noted_after_store t st n = record { config = n.config; server = n.server; own = n.own; others = n.others; told = n.told; untold = n.untold }
 
-  n_operations : (t : Turn) (os : List Operation) → N t → N (with_operations os t)
-  n_operations t os n = record { config = n.config; server = n.server; own = n.own; others = n.others; told = n.told; untold = n.untold }
+  noted_after_operations : (t : Turn) (os : List Operation) → N t → N (with_operations os t)
+  noted_after_operations t os n = record { config = n.config; server = n.server; own = n.own; others = n.others; told = n.told; untold = n.untold }
 
   -- operations are answered
-  n_told : (t : Turn) (os ops : List Operation) (a : AppAnswer) → N t → N (record t { operations = os; out = t.out ++ map (answer_to a) ops })
-  n_told t os ops a n =
+  noted_after_told : (t : Turn) (os ops : List Operation) (a : AppAnswer) → N t → N (record t { operations = os; out = t.out ++ map (answer_to a) ops })
+  noted_after_told t os ops a n =
       record {
         config = n.config;
         server = n.server;
@@ -220,20 +193,20 @@ module _ (k : Config) (init base : ServerId → Option Stamp) (sv : ServerId) (T
         untold = λ s f end h. n.untold s f end (unanswered s end a ops t.out h);
       }
 
-  n_answers : (t : Turn) (picked : Operation → Bool) (a : AppAnswer) → N t → N (cs.answer_each picked a t)
+  noted_after_answers : (t : Turn) (picked : Operation → Bool) (a : AppAnswer) → N t → N (cs.answer_each picked a t)
   unfolding cs.answer_each
-  n_answers t picked a n = n_told t _ _ a n
+  noted_after_answers t picked a n = noted_after_told t _ _ a n
 
   -- no lease end of this server was noted yet
   abbrev pub Unnoted : Turn → Type 0
   Unnoted t = (end : Stamp) → Has (leased t.here.server end) t.out → ⊥
 
-  v_lease : (t : Turn) (l : lease.ClientLease) (x : ClientSession) → x.lease ≡ l → t.config ≡ k → Unnoted t → T t.here.life x.epoch (lease.end_of k l) →
+  has_noted_lease : (t : Turn) (l : lease.ClientLease) (x : ClientSession) → x.lease ≡ l → t.config ≡ k → Unnoted t → T t.here.life x.epoch (lease.end_of k l) →
       t.here.server ≡ sv →
       ((r : ServerId) → same_server t.here.server r ≡ false → noted r t.out (init r) ≡ base r) →
       ((r : ServerId) → same_server t.here.server r ≡ false → (end : Stamp) → Has (leased r end) t.out → B r end) → HasNoted x (cr.note_lease l t)
   unfolding cr.note_lease server_in end_in
-  v_lease t l x e c q g d f u =
+  has_noted_lease t l x e c q g d f u =
       record {
         config = c;
         server = d;
@@ -268,41 +241,43 @@ module _ (k : Config) (init base : ServerId → Option Stamp) (sv : ServerId) (T
   granted_same s ino g mode _ (trace.Declines a p) = (refl, refl)
   granted_same s ino g mode _ (trace.IsOld a) = (refl, refl)
 
-  n_granted : (t : Turn) (s v : ClientSession) (ino : ℕ) (g : GrantNo) (mode : Mode) → Grants (cs.forget_wait ino s) ino g mode v → HasNoted s t →
+  noted_after_granted : (t : Turn) (s v : ClientSession) (ino : ℕ) (g : GrantNo) (mode : Mode) → Grants (cs.forget_wait ino s) ino g mode v → HasNoted s t →
       N (with_session v t)
-  n_granted t s v ino g mode x n = let z = granted_same (cs.forget_wait ino s) ino g mode v x in n_with t s v z.0 z.1 n
+  noted_after_granted t s v ino g mode x n = let z = granted_same (cs.forget_wait ino s) ino g mode v x in noted_after_with t s v z.0 z.1 n
 
-  n_refused : (t : Turn) (file : Option ℕ) (asked : Body) (y : Why) (a b : ℕ) (u : Turn) → Refusal t file asked y a b u → N t → N u
-  n_refused t file asked _ a b _ (trace.NoFile _ _ ino e) n = n_answers t _ _ n
-  n_refused t file asked _ a b _ (trace.TooManyLocks _ _ ino e) n = n_answers t _ _ n
-  n_refused t file asked _ a b _ (trace.NoSpace _ _ ino p e q) n = n_answers t _ _ n
-  n_refused t file asked _ a b _ (trace.NotHolder _ _ e) n = n_answers t _ _ n
-  n_refused t file asked y a b _ (trace.AnswersNone _ _ _) n = n
+  noted_after_refused : (t : Turn) (file : Option ℕ) (asked : Body) (y : Why) (a b : ℕ) (u : Turn) → Refusal t file asked y a b u → N t → N u
+  noted_after_refused t file asked _ a b _ (trace.NoFile _ _ ino e) n = noted_after_answers t _ _ n
+  noted_after_refused t file asked _ a b _ (trace.TooManyLocks _ _ ino e) n = noted_after_answers t _ _ n
+  noted_after_refused t file asked _ a b _ (trace.NoSpace _ _ ino p e q) n = noted_after_answers t _ _ n
+  noted_after_refused t file asked _ a b _ (trace.NotHolder _ _ e) n = noted_after_answers t _ _ n
+  noted_after_refused t file asked y a b _ (trace.AnswersNone _ _ _) n = n
 
-  n_effect : (now : Stamp) (t : Turn) (s : ClientSession) (file : Option ℕ) (asked b : Body) (u : Turn) → t.here.session ≡ Some s →
+  noted_after_effect : (now : Stamp) (t : Turn) (s : ClientSession) (file : Option ℕ) (asked b : Body) (u : Turn) → t.here.session ≡ Some s →
       Effect now t s file asked b u → N t → N u
   unfolding cs.answer_each
-  n_effect now t s file asked _ _ e (trace.IsGranted ino g mode v x) n = n_granted t s v ino g mode x (v_of t s e n)
-  n_effect now t s file asked _ _ e (trace.IsQueued ino mode c) n = n_with t s _ refl refl (v_of t s e n)
-  n_effect now t s file asked _ _ e (trace.HoldsAlready ino mode c) n = n_with t s s refl refl (v_of t s e n)
-  n_effect now t s file asked _ _ e (trace.IsToldExtents ino rows c) n = n_store t _ n
-  n_effect now t s file asked _ _ e (trace.IsToldLate ino rows c) n = n
-  n_effect now t s file asked _ _ e trace.IsAcknowledged n = n_answers t _ _ n
-  n_effect now t s file asked _ _ e (trace.IsNamed r c) n = n_answers t _ _ n
-  n_effect now t s file asked _ _ e (trace.IsRemoved ino removed l f c) n =
-      let u = cs.answer_each (cs.is_asked t.here.server) (answers.Named ino) t in n_with u s _ refl refl (v_of u s e (n_answers t _ _ n))
-  n_effect now t s file asked _ _ e trace.IsReasserted n = n_with t s _ refl refl (v_of t s e n)
-  n_effect now t s file asked _ _ e (trace.Effect.IsRefused y a b u r) n = n_operations u _ (n_refused t file asked y a b u r n)
+  noted_after_effect now t s file asked _ _ e (trace.IsGranted ino g mode v x) n = noted_after_granted t s v ino g mode x (has_noted_of t s e n)
+  noted_after_effect now t s file asked _ _ e (trace.IsQueued ino mode c) n = noted_after_with t s _ refl refl (has_noted_of t s e n)
+  noted_after_effect now t s file asked _ _ e (trace.HoldsAlready ino mode c) n = noted_after_with t s s refl refl (has_noted_of t s e n)
+  noted_after_effect now t s file asked _ _ e (trace.IsToldExtents ino rows c) n = noted_after_store t _ n
+  noted_after_effect now t s file asked _ _ e (trace.IsToldLate ino rows c) n = n
+  noted_after_effect now t s file asked _ _ e trace.IsAcknowledged n = noted_after_answers t _ _ n
+  noted_after_effect now t s file asked _ _ e (trace.IsNamed r c) n = noted_after_answers t _ _ n
+  noted_after_effect now t s file asked _ _ e (trace.IsRemoved ino removed l f c) n =
+      let u = cs.answer_each (cs.is_asked t.here.server) (answers.Named ino) t in
+      noted_after_with u s _ refl refl (has_noted_of u s e (noted_after_answers t _ _ n))
+  noted_after_effect now t s file asked _ _ e trace.IsReasserted n = noted_after_with t s _ refl refl (has_noted_of t s e n)
+  noted_after_effect now t s file asked _ _ e (trace.Effect.IsRefused y a b u r) n = noted_after_operations u _ (noted_after_refused t file asked y a b u r n)
 
-  v_renewed : (t : Turn) (s : ClientSession) (stamp : Stamp) (u : Turn) → Renews t s stamp u → Unnoted t → T t.here.life s.epoch (leases.lease_end k stamp) →
+  has_noted_renewed : (t : Turn) (s : ClientSession) (stamp : Stamp) (u : Turn) → Renews t s stamp u → Unnoted t →
+      T t.here.life s.epoch (leases.lease_end k stamp) →
       HasNoted s t → HasNoted (cr.ended_by stamp s) u
   unfolding cr.note_lease lease.renewed lease.dated
-  v_renewed t s stamp _ (trace.IsLater e) q g v =
-      v_lease t (lease.renewed stamp s.lease) (cr.ended_by stamp s) refl v.config q
+  has_noted_renewed t s stamp _ (trace.IsLater e) q g v =
+      has_noted_lease t (lease.renewed stamp s.lease) (cr.ended_by stamp s) refl v.config q
       (subst (λ (b : Bool). T t.here.life s.epoch (leases.lease_end k (if b then lease.dated stamp s.lease else s.lease).date)) (sym e) g)
       v.server v.others v.untold
-  v_renewed t s stamp _ (trace.IsNoLater e) q g v =
-      v_same t s (cr.ended_by stamp s) (ap (λ (b : Bool). (if b then lease.dated stamp s.lease else s.lease).date) e) refl v
+  has_noted_renewed t s stamp _ (trace.IsNoLater e) q g v =
+      has_noted_same t s (cr.ended_by stamp s) (ap (λ (b : Bool). (if b then lease.dated stamp s.lease else s.lease).date) e) refl v
 
   -- a reply that fits a request, and may date a lease, renews
   fits_renews : (number : ℕ) (b asked : Body) → cs.fits b asked ≡ true → may_date number b ≡ true → renews_lease number b ≡ true
@@ -322,10 +297,10 @@ module _ (k : Config) (init base : ServerId → Option Stamp) (sv : ServerId) (T
       (life : Life) (epoch : Epoch) → h.from ≡ server_node t.here.server → h.life ≡ life.0 → h.epoch ≡ epoch.0 → renews_lease h.number b ≡ true →
       T life epoch (leases.lease_end k (record { 0 = h.stamp }))
 
-  n_heard : (now : Stamp) (h : Header) (t : Turn) (b : Body) (u : Turn) → Unnoted t → Dates h b t → Receives now h t b u → N t → N u
+  noted_after_heard : (now : Stamp) (h : Header) (t : Turn) (b : Body) (u : Turn) → Unnoted t → Dates h b t → Receives now h t b u → N t → N u
   unfolding cr.note_lease lease.condemned
-  n_heard now h t _ _ q src (trace.PassesOver b) n = n
-  n_heard now h t _ _ q src (trace.Begins r e i) n =
+  noted_after_heard now h t _ _ q src (trace.PassesOver b) n = n
+  noted_after_heard now h t _ _ q src (trace.Begins r e i) n =
       record {
         config = v.config;
         server = v.server;
@@ -342,42 +317,42 @@ module _ (k : Config) (init base : ServerId → Option Stamp) (sv : ServerId) (T
       w = cr.begin_here x t
 
       v : HasNoted x (cr.note_lease (lease.new_lease (trace.stamp_of h)) w)
-      v = v_lease w (lease.new_lease (trace.stamp_of h)) x refl n.config q
+      v = has_noted_lease w (lease.new_lease (trace.stamp_of h)) x refl n.config q
           (src t.here.life (trace.epoch_of h) r.from r.life refl refl) n.server n.others n.untold
-  n_heard now h t _ _ q src (trace.FollowsEpoch s a b m e) n =
-      n_answers _ _ _ (n_session t (cr.in_epoch (trace.epoch_of h) s)
+  noted_after_heard now h t _ _ q src (trace.FollowsEpoch s a b m e) n =
+      noted_after_answers _ _ _ (noted_after_session t (cr.in_epoch (trace.epoch_of h) s)
       (record { config = v.config; server = v.server; own = v.own; others = v.others; told = λ end h. absurd (q end h); untold = v.untold }))
     where
       v : HasNoted s t
-      v = v_of t s m.session n
-  n_heard now h t _ _ q src (trace.IsCondemned b s m c) n = n_with t s _ refl refl (v_of t s m.session n)
-  n_heard now h t _ _ q src (trace.IsGrantedLater ino g mode s v m e x) n = n_granted t s v ino g mode x (v_of t s m.session n)
-  n_heard now h t _ _ q src (trace.SeesDemand ino g to s m e) n =
-      n_send _ _ _ _ _ (n_with t s (cs.with_cache (locks.demand s.locks ino g to).locks s) refl refl (v_of t s m.session n))
-  n_heard now h t _ _ q src (trace.GivesUp ino g to s m e x) n = n_with t s _ refl refl (v_of t s m.session n)
-  n_heard now h t _ _ q src (trace.HasGivenUp ino g to s m e x) n = n_with t s _ refl refl (v_of t s m.session n)
-  n_heard now h t _ u q src (trace.IsAnswered b s r v _ x y f) n =
+      v = has_noted_of t s m.session n
+  noted_after_heard now h t _ _ q src (trace.IsCondemned b s m c) n = noted_after_with t s _ refl refl (has_noted_of t s m.session n)
+  noted_after_heard now h t _ _ q src (trace.IsGrantedLater ino g mode s v m e x) n = noted_after_granted t s v ino g mode x (has_noted_of t s m.session n)
+  noted_after_heard now h t _ _ q src (trace.SeesDemand ino g to s m e) n =
+      noted_after_send _ _ _ _ _ (noted_after_with t s (cs.with_cache (locks.demand s.locks ino g to).locks s) refl refl (has_noted_of t s m.session n))
+  noted_after_heard now h t _ _ q src (trace.GivesUp ino g to s m e x) n = noted_after_with t s _ refl refl (has_noted_of t s m.session n)
+  noted_after_heard now h t _ _ q src (trace.HasGivenUp ino g to s m e x) n = noted_after_with t s _ refl refl (has_noted_of t s m.session n)
+  noted_after_heard now h t _ u q src (trace.IsAnswered b s r v _ x y f) n =
       let z = cr.ended_by (trace.stamp_of h) s in let m = x.heard in
       let d = src t.here.life s.epoch m.received.from m.received.life m.epoch (fits_renews h.number b r.body x.fits x.dates) in
-      n_effect now (with_session z v) z (cs.file_asked s.cutting r.body) r.body b u refl f
-      (n_session v z (v_renewed t s (trace.stamp_of h) v y q d (v_of t s m.session n)))
+      noted_after_effect now (with_session z v) z (cs.file_asked s.cutting r.body) r.body b u refl f
+      (noted_after_session v z (has_noted_renewed t s (trace.stamp_of h) v y q d (has_noted_of t s m.session n)))
 
-  pub n_receive : (now : Stamp) (h : Header) (b : Body) (t : Turn) → Unnoted t →
+  pub noted_after_receive : (now : Stamp) (h : Header) (b : Body) (t : Turn) → Unnoted t →
       ((life : Life) (epoch : Epoch) → h.from ≡ server_node t.here.server → h.life ≡ life.0 → h.epoch ≡ epoch.0 → renews_lease h.number b ≡ true →
       T life epoch (leases.lease_end k (record { 0 = h.stamp }))) → N t → N (cr.receive_at now h b t)
-  n_receive now h b t q src n = n_heard now h t b (cr.receive_at now h b t) q src (receives now h t b) n
+  noted_after_receive now h b t q src n = noted_after_heard now h t b (cr.receive_at now h b t) q src (receives now h t b) n
 
   -- Where no message is received: no lease end is noted, and the session stays.
   quiet_calm : (o : Output) → SaysCalm false o → Quiet o
-  quiet_calm (outputs.Note n) q = no_bool q
-  quiet_calm (outputs.Send m) q = no_bool q
+  quiet_calm (outputs.Note n) q = false_not_true q
+  quiet_calm (outputs.Send m) q = false_not_true q
   quiet_calm (outputs.Submit number at what) q = tt
   quiet_calm (outputs.Answer op a) q = tt
 
   change_idle : (now : Stamp) (t u : Turn) (c : Change now t u) → IsCalm false now t u c → N t → N u
-  change_idle now t _ (client.Says _ o p) q n = n_say t o (quiet_calm o q) n
-  change_idle now t _ (client.Operates _ os) q n = n_operations t os n
-  change_idle now t _ (client.Answers _ os ops a) q n = n_told t os ops a n
+  change_idle now t _ (client.Says _ o p) q n = noted_after_say t o (quiet_calm o q) n
+  change_idle now t _ (client.Operates _ os) q n = noted_after_operations t os n
+  change_idle now t _ (client.Answers _ os ops a) q n = noted_after_told t os ops a n
   change_idle now t _ (client.Greets _ g) q n = record {
     config = n.config;
     server = n.server;
@@ -394,11 +369,11 @@ module _ (k : Config) (init base : ServerId → Option Stamp) (sv : ServerId) (T
     told = n.told;
     untold = n.untold;
   }
-  change_idle now t _ (client.Begins _ s a b c) q n = no_bool q
-  change_idle now t _ (client.Follows _ s u e g) q n = no_bool q
-  change_idle now t _ (client.Learns _ e a b) q n = no_bool q
+  change_idle now t _ (client.Begins _ s a b c) q n = false_not_true q
+  change_idle now t _ (client.Follows _ s u e g) q n = false_not_true q
+  change_idle now t _ (client.Learns _ e a b) q n = false_not_true q
   change_idle now t _ (client.Forgets _ ino p i) q n = absurd q
-  change_idle now t _ (client.Caches _ clean) q n = n_store t _ n
+  change_idle now t _ (client.Caches _ clean) q n = noted_after_store t _ n
   change_idle now t _ (client.Writes _ s f p bytes x se sv own m h) q n = absurd q
   change_idle now t _ (client.Reads _ ino p m i clean) q n = absurd q
   change_idle now t _ (client.Submits _ s ino p d m se e i w) q n = absurd q
@@ -407,18 +382,19 @@ module _ (k : Config) (init base : ServerId → Option Stamp) (sv : ServerId) (T
   idle now t _ (only.Ends _) n = n
   idle now t v (Goes _ u _ c q r) n = idle now u v r (change_idle now t u c q n)
 
-  n_lost_rows : (t : Turn) (l : List LostPage) → N t → N (cs.with_lost_rows l t)
-  n_lost_rows t l n = record { config = n.config; server = n.server; own = n.own; others = n.others; told = n.told; untold = n.untold }
+  noted_after_lost_rows : (t : Turn) (l : List LostPage) → N t → N (cs.with_lost_rows l t)
+  noted_after_lost_rows t l n = record { config = n.config; server = n.server; own = n.own; others = n.others; told = n.told; untold = n.untold }
 
-  n_ended : (s : ClientSession) (o : Operation) (t u : Turn) → Ended s o t u → N t → N u
-  n_ended s o t _ (losing.IsElsewhere e) n = n_operations t _ n
-  n_ended s o t _ (losing.IsUncertain e q) n = n_say t _ tt n
-  n_ended s o t _ (losing.IsToldLost f e q a l) n = n_say (cs.with_lost_rows (pages.untold t.here.lost f.ino) t) _ tt (n_lost_rows t _ n)
-  n_ended s o t _ (losing.LostNothing f e q a l) n = n_say t _ tt n
-  n_ended s o t _ (losing.IsQuiesced e q a) n = n_say t _ tt n
+  noted_after_ended : (s : ClientSession) (o : Operation) (t u : Turn) → Ended s o t u → N t → N u
+  noted_after_ended s o t _ (losing.IsElsewhere e) n = noted_after_operations t _ n
+  noted_after_ended s o t _ (losing.IsUncertain e q) n = noted_after_say t _ tt n
+  noted_after_ended s o t _ (losing.IsToldLost f e q a l) n =
+      noted_after_say (cs.with_lost_rows (pages.untold t.here.lost f.ino) t) _ tt (noted_after_lost_rows t _ n)
+  noted_after_ended s o t _ (losing.LostNothing f e q a l) n = noted_after_say t _ tt n
+  noted_after_ended s o t _ (losing.IsQuiesced e q a) n = noted_after_say t _ tt n
 
-  pub n_lose : ((l : Life) (p : Epoch) (end : Stamp) → T l p end → ⊥) → (now : Stamp) (t : Turn) → N t → N (cl.lose now t)
-  n_lose z now t n = go (cl.lose now t) (loses now t)
+  pub noted_after_lose : ((l : Life) (p : Epoch) (end : Stamp) → T l p end → ⊥) → (now : Stamp) (t : Turn) → N t → N (cl.lose now t)
+  noted_after_lose z now t n = go (cl.lose now t) (loses now t)
     where
       none : (x : ClientSession) → ◌≡◌ {A = Option ClientSession} None (Some x) → ⊥
       none x q = cc
@@ -427,8 +403,9 @@ module _ (k : Config) (init base : ServerId → Option Stamp) (sv : ServerId) (T
       go _ (losing.HasNoSession e) = n
       go _ (losing.Lasts s e o) = n
       go _ (losing.IsLost s u e o p) =
-          let y = each_lasts (Ended s) (λ os v. N v) (λ o os v w step m. n_ended s o v w step m) t.operations (with_operations [] (losing.loss_noted t)) u p
-          (n_operations _ _ (n_lost_rows _ _ (n_say t (outputs.Note (notes.Lost t.here.server t.here.life)) tt n))) in
+          let y = each_lasts (Ended s) (λ os v. N v) (λ o os v w step m. noted_after_ended s o v w step m) t.operations
+          (with_operations [] (losing.loss_noted t)) u p
+          (noted_after_operations _ _ (noted_after_lost_rows _ _ (noted_after_say t (outputs.Note (notes.Lost t.here.server t.here.life)) tt n))) in
           record {
             config = y.config;
             server = y.server;
@@ -438,21 +415,21 @@ module _ (k : Config) (init base : ServerId → Option Stamp) (sv : ServerId) (T
             untold = y.untold;
           }
 
-  pub n_only : (s : ServerId) (op : ℕ) (ask : Ask) (t : Turn) → N t → N (cs.only_at s (cl.take_ask op ask) t)
-  n_only s op ask t = idle (record { 0 = 0 }) t (cs.only_at s (cl.take_ask op ask) t) (calm_only (record { 0 = 0 }) s op ask t)
+  pub noted_after_only : (s : ServerId) (op : ℕ) (ask : Ask) (t : Turn) → N t → N (cs.only_at s (cl.take_ask op ask) t)
+  noted_after_only s op ask t = idle (record { 0 = 0 }) t (cs.only_at s (cl.take_ask op ask) t) (calm_only (record { 0 = 0 }) s op ask t)
 
-  n_ends : (number : ℕ) (ok : Bool) (t u : Turn) → Ends number ok t u → N t → N u
+  noted_after_ends : (number : ℕ) (ok : Bool) (t u : Turn) → Ends number ok t u → N t → N u
   unfolding cl.hardened
-  n_ends number ok t _ Unknown n = n
-  n_ends number ok t _ (Passes c e o) n = n_store t _ n
-  n_ends number ok t _ (Hardens c v e o x w) n = n_store t _ n
-  n_ends number ok t _ (Fails c v e o x) n = n_store t _ n
+  noted_after_ends number ok t _ Unknown n = n
+  noted_after_ends number ok t _ (Passes c e o) n = noted_after_store t _ n
+  noted_after_ends number ok t _ (Hardens c v e o x w) n = noted_after_store t _ n
+  noted_after_ends number ok t _ (Fails c v e o x) n = noted_after_store t _ n
 
-  n_finished : (now : Stamp) (number : ℕ) (ok : Bool) (t u : Turn) → Finished now number ok t u → N t → N u
-  n_finished now number ok t u f n = idle now f.mid u f.calm (n_ends number ok t f.mid f.ends n)
+  noted_after_finished : (now : Stamp) (number : ℕ) (ok : Bool) (t u : Turn) → Finished now number ok t u → N t → N u
+  noted_after_finished now number ok t u f n = idle now f.mid u f.calm (noted_after_ends number ok t f.mid f.ends n)
 
-  pub n_finish : (number : ℕ) (r : Option (Option (Tag × List ℕ))) (t : Turn) → N t → N (cl.finish number r t)
-  n_finish number r t = n_finished (record { 0 = 0 }) number (is_done r) t (cl.finish number r t) (finish_is (record { 0 = 0 }) number r t)
+  pub noted_after_finish : (number : ℕ) (r : Option (Option (Tag × List ℕ))) (t : Turn) → N t → N (cl.finish number r t)
+  noted_after_finish number r t = noted_after_finished (record { 0 = 0 }) number (is_done r) t (cl.finish number r t) (finish_is (record { 0 = 0 }) number r t)
 
   -- The passes: no lease end is noted, and the date of the session's lease stays.
   quiet_right : (syncs : List Operation) (now : Stamp) (t : Turn) (o : Output) → SaysRight syncs now t o → Quiet o
@@ -469,18 +446,18 @@ module _ (k : Config) (init base : ServerId → Option Stamp) (sv : ServerId) (T
 
   follows : (t : Turn) (s u : ClientSession) (c : SessionChange t.here.store s u) → FollowsBy KeepsOrAsks t.here.store s u c → HasNoted s t →
       N (with_session u t)
-  follows t s u (Keeps _ _ a) q v = n_with t s u a.date a.epoch v
+  follows t s u (Keeps _ _ a) q v = noted_after_with t s u a.date a.epoch v
   follows t s _ (DropsLock _ ino l) q v = absurd q
   follows t s _ (IsReasserted _) q v = absurd q
   follows t s _ (EndsRequest _ stamp) q v = absurd q
   follows t s _ (NewEpoch _ epoch n) q v = absurd q
-  follows t s _ (AsksNew _ r now body cutting a c i) q v = n_with t s (cp.asking_session r now body cutting) a.date a.epoch v
-  follows t s _ (AsksAgain _ now x e) q v = n_with t s (cp.again_session s now x) refl refl v
+  follows t s _ (AsksNew _ r now body cutting a c i) q v = noted_after_with t s (cp.asking_session r now body cutting) a.date a.epoch v
+  follows t s _ (AsksAgain _ now x e) q v = noted_after_with t s (cp.again_session s now x) refl refl v
 
   change_passing : (syncs : List Operation) (now : Stamp) (t u : Turn) (c : Change now t u) → IsPassing syncs KeepsOrAsks now t u c → N t → N u
   unfolding cp.submit_read cp.submit_write cp.submit_command
-  change_passing syncs now t _ (client.Says _ o p) q n = n_say t o (quiet_right syncs now t o q) n
-  change_passing syncs now t _ (client.Operates _ os) q n = n_operations t os n
+  change_passing syncs now t _ (client.Says _ o p) q n = noted_after_say t o (quiet_right syncs now t o q) n
+  change_passing syncs now t _ (client.Operates _ os) q n = noted_after_operations t os n
   change_passing syncs now t _ (client.Answers _ os ops a) q n = absurd q
   change_passing syncs now t _ (client.Greets _ g) q n = record {
     config = n.config;
@@ -492,13 +469,14 @@ module _ (k : Config) (init base : ServerId → Option Stamp) (sv : ServerId) (T
   }
   change_passing syncs now t _ (client.TellsLost _ lost) q n = absurd q
   change_passing syncs now t _ (client.Begins _ s a b c) q n = absurd q
-  change_passing syncs now t _ (client.Follows _ s u e g) q n = follows t s u g.how q (v_of t s e n)
+  change_passing syncs now t _ (client.Follows _ s u e g) q n = follows t s u g.how q (has_noted_of t s e n)
   change_passing syncs now t _ (client.Learns _ e a b) q n = absurd q
-  change_passing syncs now t _ (client.Forgets _ ino p i) q n = n_store t _ n
-  change_passing syncs now t _ (client.Caches _ clean) q n = n_store t _ n
-  change_passing syncs now t _ (client.Writes _ s f p bytes x se sv own m h) q n = n_store (cs.note t x) _ (n_say t (outputs.Note x) (quiet_change f p x h) n)
+  change_passing syncs now t _ (client.Forgets _ ino p i) q n = noted_after_store t _ n
+  change_passing syncs now t _ (client.Caches _ clean) q n = noted_after_store t _ n
+  change_passing syncs now t _ (client.Writes _ s f p bytes x se sv own m h) q n =
+      noted_after_store (cs.note t x) _ (noted_after_say t (outputs.Note x) (quiet_change f p x h) n)
   change_passing syncs now t _ (client.Reads _ ino p m i clean) q n =
-      let e = n_say t (outputs.Submit t.next_command m.at _) tt n in record {
+      let e = noted_after_say t (outputs.Submit t.next_command m.at _) tt n in record {
         config = e.config;
         server = e.server;
         own = e.own;
@@ -507,7 +485,7 @@ module _ (k : Config) (init base : ServerId → Option Stamp) (sv : ServerId) (T
         untold = e.untold;
       }
   change_passing syncs now t _ (client.Submits _ s ino p d m se e i w) q n =
-      let e = n_say t (outputs.Submit t.next_command m.at _) tt n in record {
+      let e = noted_after_say t (outputs.Submit t.next_command m.at _) tt n in record {
         config = e.config;
         server = e.server;
         own = e.own;
@@ -520,5 +498,5 @@ module _ (k : Config) (init base : ServerId → Option Stamp) (sv : ServerId) (T
   passing syncs now t _ (only.Ends _) n = n
   passing syncs now t v (Goes _ u _ c q r) n = passing syncs now u v r (change_passing syncs now t u c q n)
 
-  pub n_passes : (now : Stamp) (tick : Bool) (t : Turn) → N t → N (cp.passes now tick t)
-  n_passes now tick t = passing t.operations now t (cp.passes now tick t) (p_passes now tick t)
+  pub noted_after_passes : (now : Stamp) (tick : Bool) (t : Turn) → N t → N (cp.passes now tick t)
+  noted_after_passes now tick t = passing t.operations now t (cp.passes now tick t) (passes_keep_or_ask now tick t)

@@ -1,29 +1,24 @@
 -- Each present lease, and each that a life had when it ended, is among the dates: after every event.
-use Rattle.std.proofs.Common.{◌≡◌, ℕ, ◌≤◌, Bool, true, false, List, [], ◌∷◌, ◌++◌, ◌==◌, Option, Some, None, refl, sym, ap, ◌∙◌, subst, inl, inr, arith}
-use Rattle.std.specs.Prelude.{◌⊎◌, find, option_map, slice_get, suc, zero}
-use Rattle.std.proofs.lemmas.Bool.{eq-eqb}
-use Rattle.st_base.specs.declared.ids.ClientId.{ClientId}
-use Rattle.st_base.specs.declared.ids.Life.{Life}
-use Rattle.st_base.specs.declared.ids.NodeId.TheVariants as nodes
-use Rattle.st_base.specs.declared.ids.ServerId.{ServerId}
-use Rattle.st_base.specs.declared.ids.Stamp.{Stamp}
-use Rattle.st_messages.specs.declared.event.Event.{Event}
-use Rattle.st_messages.specs.declared.event.Event.TheVariants as events
-use Rattle.st_rules.specs.declared.client.ClientInput.{ClientInput}
-use Rattle.st_rules.specs.declared.world.LeaseLife.{LeaseLife}
-use Rattle.st_rules.specs.Client as cl
-use Rattle.st_rules.specs.ClientLease as lease
-use Rattle.st_rules.specs.ClientState.{ClientSession, Association, ClientState, is_at}
-use Rattle.st_rules.specs.Events as ev
-use Rattle.st_rules.specs.Events.{WorldTurn, present_life, present_lives}
-use Rattle.st_rules.specs.History.{History, LeaseDate, remember}
-use Rattle.st_rules.specs.Safety.{all_lives}
-use Rattle.st_rules.specs.World as world
-use Rattle.st_rules.specs.World.{World, WorldClient, site_of, numbered, with_numbered, clock_of, lives_of, life_of_association}
-use Rattle.st_lemmas.specs.Lists.{Has}
-use Rattle.st_lemmas.proofs.Lookups.{some_is}
-use Rattle.st_lemmas.proofs.Numbers.{numbered_own}
-use Rattle.st_lemmas.proofs.Tables.{has_append, has_map, has_map_in, found_at}
+use Rattle.st_lemmas.proofs.Words
+use Words.{◌≡◌, ℕ, ◌≤◌, Bool, true, false, List, ◌++◌, ◌==◌, Option, Some, None, refl, sym, ap, ◌∙◌, subst, inl, inr, arith, ◌⊎◌, find, option_map}
+use Words.{suc, zero, eq-eqb, ClientId, Life, ServerId, Stamp, Event, ClientInput, LeaseLife}
+use Words.nodes
+use Words.events
+use Words.Client as cl
+use Words.ClientLease as lease
+use Words.ClientState.{ClientSession, Association, ClientState, is_at}
+use Words.Events as ev
+use Words.Events.{WorldTurn, present_life, present_lives}
+use Words.History.{History, LeaseDate, remember}
+use Words.Safety.{all_lives}
+use Words.World as world
+use Words.World.{World, WorldClient, site_of, numbered, with_numbered, clock_of, lives_of, life_of_association}
+use Words.Lists.{Has}
+use Words.Lookups.{some_is}
+use Words.Numbers.{numbered_own}
+use Words.Tables.{has_append, has_map, has_map_in, found_at}
+use Words.Members.{has_left, has_right}
+use Words.Worlds.{present_at, present_in}
 use Rattle.st_laws_steps.specs.Client.Losses.{is_ended}
 use Rattle.st_laws_steps.specs.Lives.Lives.{LivesHold, NodeHolds, Stepped, LifeNext, ended_rows, rows_lost}
 use Rattle.st_laws_steps.proofs.Lives.Associations.{own_found, pair_found, PairFound, lost_has, LostOf}
@@ -50,42 +45,8 @@ pub record Present (w : World) (e : LeaseLife) : Type 0 where
   pub there : site_of w client ≡ Some site
   pub among : Has e (lives_of site.node.state)
 
-present : (cs : List WorldClient) (e : LeaseLife) → Has e (present_lives cs) → (n : ℕ) × (site : WorldClient) × (slice_get cs n ≡ Some site) × Has e (lives_of site.node.state)
-unfolding present_lives
-present [] e h = absurd h
-present (x ∷ cs) e h = go (has_append (lives_of x.node.state) (present_lives cs) e h) (present cs e)
-  where
-    go : Has e (lives_of x.node.state) ⊎ Has e (present_lives cs) → (Has e (present_lives cs) → (n : ℕ) × (site : WorldClient) × (slice_get cs n ≡ Some site) × Has e (lives_of site.node.state)) →
-        (n : ℕ) × (site : WorldClient) × (slice_get (x ∷ cs) n ≡ Some site) × Has e (lives_of site.node.state)
-    go (inl i) f = (zero, x, refl, i)
-    go (inr i) f = let z = f i in (suc z.0, z.1, z.2, z.3)
-
 pub is_present : (w : World) (e : LeaseLife) → Has e (present_lives w.clients) → Present w e
-is_present w e h = let z = present w.clients e h in record { client = record { 0 = suc z.0 }; site = z.1; there = z.2; among = z.3 }
-
-present_in : (cs : List WorldClient) (n : ℕ) (site : WorldClient) (e : LeaseLife) → slice_get cs n ≡ Some site → Has e (lives_of site.node.state) → Has e (present_lives cs)
-unfolding present_lives
-present_in [] n site e i h = cc
-present_in (x ∷ cs) zero site e i h = left (lives_of x.node.state) (subst (λ (y : WorldClient). Has e (lives_of y.node.state)) (sym (some_is i)) h)
-  where
-    left : (xs : List LeaseLife) → Has e xs → Has e (xs ++ present_lives cs)
-    left [] h = absurd h
-    left (y ∷ xs) (inl q) = inl q
-    left (y ∷ xs) (inr q) = inr (left xs q)
-present_in (x ∷ cs) (suc n) site e i h = right (lives_of x.node.state) (present_in cs n site e i h)
-  where
-    right : (xs : List LeaseLife) → Has e (present_lives cs) → Has e (xs ++ present_lives cs)
-    right [] h = h
-    right (y ∷ xs) h = inr (right xs h)
-
-pub has_left : {A : Type 0} (xs ys : List A) (x : A) → Has x xs → Has x (xs ++ ys)
-has_left [] ys x h = absurd h
-has_left (y ∷ xs) ys x (inl q) = inl q
-has_left (y ∷ xs) ys x (inr q) = inr (has_left xs ys x q)
-
-pub has_right : {A : Type 0} (xs ys : List A) (x : A) → Has x ys → Has x (xs ++ ys)
-has_right [] ys x h = h
-has_right (y ∷ xs) ys x h = inr (has_right xs ys x h)
+is_present w e h = let z = present_at w.clients e h in record { client = record { 0 = suc z.0 }; site = z.1; there = z.2; among = z.3 }
 
 pub present_dated : (ds : List LeaseDate) (w : World) (c : ClientId) (site : WorldClient) → AllDated ds w → site_of w c ≡ Some site → (e : LeaseLife) → Has e (lives_of site.node.state) → LifeDated ds e
 present_dated ds w c site h i e j = go c.0 i
@@ -94,11 +55,13 @@ present_dated ds w c site h i e j = go c.0 i
     go zero q = cc
     go (suc n) q = h e (has_left (present_lives w.clients) w.ended e (present_in w.clients n site e q j))
 
-pub remembered : (e : Event) (h : History) → (remember e h).dates ≡ h.dates
+pub remembered : (w : World) (e : Event) (h : History) → (remember w e h).dates ≡ h.dates
 unfolding remember
-remembered (events.Crash (nodes.Server s)) h = refl
-remembered (events.Crash (nodes.Client c)) h = refl
-remembered e h = refl
+remembered w (events.Crash (nodes.Server s)) h = refl
+remembered w (events.Crash (nodes.Client c)) h = refl
+remembered w (events.Start (nodes.Server s)) h = refl
+remembered w (events.Start (nodes.Client c)) h = refl
+remembered w e h = refl
 
 -- A step of a client.
 module _ (w : World) (c : ClientId) (old site : WorldClient) (input : ClientInput) (there : site_of w c ≡ Some old) (same : old.node ≡ site.node) (runs : site.node.running ≡ true) (lives : LivesHold w) where

@@ -1,30 +1,21 @@
 -- Each date of the history is of a reply: a message of its server to its client, of its life and epoch, that may date a lease and whose
 -- stamp is the date.
-use Rattle.std.proofs.Common.{◌≡◌, ℕ, ◌+◌, not, List, [], ◌∷◌, ◌++◌, Option, Some, None, refl, sym, ap, ◌∙◌, subst, inl, inr}
-use Rattle.std.specs.Prelude.{◌⊎◌, filter, find, map}
-use Rattle.std.proofs.lemmas.Bool.{eqb-true}
-use Rattle.st_base.specs.declared.ids.ClientId.{ClientId}
-use Rattle.st_base.specs.declared.ids.Life.{Life}
-use Rattle.st_base.specs.declared.ids.ServerId.{ServerId}
-use Rattle.st_base.specs.declared.ids.Stamp.{Stamp}
-use Rattle.st_messages.specs.declared.message.Message.{Message}
-use Rattle.st_messages.specs.declared.output.Note.{Note}
-use Rattle.st_messages.specs.declared.output.Note.TheVariants as notes
-use Rattle.st_messages.specs.declared.output.Output.{Output}
-use Rattle.st_messages.specs.declared.output.Output.TheVariants as outputs
-use Rattle.st_rules.specs.declared.client.ClientInput.{ClientInput}
-use Rattle.st_rules.specs.declared.client.ClientInput.TheVariants as inputs
-use Rattle.st_rules.specs.declared.world.SentMessage.{SentMessage}
-use Rattle.st_rules.specs.Client as cl
-use Rattle.st_rules.specs.ClientState.{Association, ClientState, ClientTurn, is_at}
-use Rattle.st_rules.specs.Events.{present_life}
-use Rattle.st_rules.specs.History.{LeaseDate, association_of, association_at, is_date_of, lease_date, epoch_at, epoch_at_session}
-use Rattle.st_rules.specs.Keys.{server_node}
-use Rattle.st_rules.specs.World.{World, WorldClient, site_of}
-use Rattle.st_rules.specs.Events as ev
-use Rattle.st_rules.specs.World as world
-use Rattle.st_lemmas.specs.Lists.{Has}
-use Rattle.st_lemmas.proofs.Tables.{found_at, has_append, has_filter, none_has}
+use Rattle.st_lemmas.proofs.Words
+use Words.{◌≡◌, ℕ, ◌+◌, not, List, [], ◌∷◌, ◌++◌, Option, Some, None, refl, sym, ap, ◌∙◌, subst, inl, inr, ◌⊎◌, filter, find, map, eqb-true, ClientId, Life}
+use Words.{ServerId, Stamp, Message, Note, Output, ClientInput, SentMessage}
+use Words.notes
+use Words.outputs
+use Words.inputs
+use Words.Client as cl
+use Words.ClientState.{Association, ClientState, ClientTurn, is_at}
+use Words.Events.{present_life}
+use Words.History.{LeaseDate, association_of, association_at, is_date_of, lease_date, epoch_at, epoch_at_session}
+use Words.Keys.{server_node}
+use Words.World.{World, WorldClient, site_of}
+use Words.Events as ev
+use Words.World as world
+use Words.Lists.{Has}
+use Words.Tables.{found_at, has_append, has_filter, none_has}
 use Rattle.st_laws_steps.specs.Lives.Lives.{Once, server_number}
 use Rattle.st_laws_leases.specs.History.Replies.{Replied, DatesReplied, renews_lease}
 use Rattle.st_laws_leases.proofs.History.Dates.{dates_one, dates_out}

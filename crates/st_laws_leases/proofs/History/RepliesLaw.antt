@@ -1,36 +1,27 @@
 -- The dates of the history are of clients and of replies: at each event, and over whole runs.
-use Rattle.std.proofs.Common.{◌≡◌, ℕ, ◌+◌, ◌≤◌, Bool, true, false, List, [], ◌∷◌, ◌++◌, Option, Some, None, Ok, Err, refl, sym, ap, ◌∙◌, subst, inl, inr, arith, if◌then◌else◌}
-use Rattle.std.specs.Prelude.{◌⊎◌, length, pred, set, slice_get, suc, zero}
-use Rattle.st_base.specs.declared.config.Config.{Config}
-use Rattle.st_base.specs.declared.ids.ClientId.{ClientId}
-use Rattle.st_base.specs.declared.ids.NodeId.{NodeId}
-use Rattle.st_base.specs.declared.ids.NodeId.TheVariants as nodes
-use Rattle.st_base.specs.declared.ids.ServerId.{ServerId}
-use Rattle.st_base.specs.declared.ids.Stamp.{Stamp}
-use Rattle.st_messages.specs.declared.event.Event.{Event}
-use Rattle.st_messages.specs.declared.event.Event.TheVariants as events
-use Rattle.st_messages.specs.declared.message.Message.{Message}
-use Rattle.st_messages.specs.declared.output.Output.{Output}
-use Rattle.st_rules.specs.declared.client.ClientInput.{ClientInput}
-use Rattle.st_rules.specs.declared.client.ClientInput.TheVariants as inputs
-use Rattle.st_rules.specs.declared.input.ServerInput.{ServerInput}
-use Rattle.st_rules.specs.declared.input.ServerInput.TheVariants as serving
+use Rattle.st_lemmas.proofs.Words
+use Words.{◌≡◌, ℕ, ◌+◌, ◌≤◌, Bool, true, false, List, [], ◌∷◌, ◌++◌, Option, Some, None, Ok, Err, refl, sym, ap, ◌∙◌, subst, inl, inr, if◌then◌else◌}
+use Words.{◌⊎◌, length, pred, set, slice_get, suc, zero, Config, ClientId, NodeId, ServerId, Stamp, Event, Message, Output, ClientInput, ServerInput}
+use Words.{IssuedCommand, SentMessage}
+use Words.nodes
+use Words.events
+use Words.inputs
+use Words.serving
+use Words.Client as cl
+use Words.Disks as disks
+use Words.Events as ev
+use Words.Events.{WorldTurn}
+use Words.History.{LeaseDate, Traced, traced, traced_after, history_after, lease_date, recall_all, remember}
+use Words.Safety.{Step, step}
+use Words.Server as server
+use Words.Server.{ServerNode}
+use Words.World as world
+use Words.World.{World, WorldClient, site_of, node_of, numbered, clock_of, message_of, receiver_of, issued_of, all_servers, fresh_world}
+use Words.Lists.{Has}
+use Words.Lookups.{some_is}
+use Words.Numbers.{numbered_own, numbered_has, numbered_below, set_length}
+use Words.Worlds.{site_there}
 use Rattle.st_rules.specs.declared.node.StepRefusal.TheVariants.{Crashed}
-use Rattle.st_rules.specs.declared.world.IssuedCommand.{IssuedCommand}
-use Rattle.st_rules.specs.declared.world.SentMessage.{SentMessage}
-use Rattle.st_rules.specs.Client as cl
-use Rattle.st_rules.specs.Disks as disks
-use Rattle.st_rules.specs.Events as ev
-use Rattle.st_rules.specs.Events.{WorldTurn}
-use Rattle.st_rules.specs.History.{LeaseDate, Traced, traced, traced_after, history_after, lease_date, recall_all, remember}
-use Rattle.st_rules.specs.Safety.{Step, step}
-use Rattle.st_rules.specs.Server as server
-use Rattle.st_rules.specs.Server.{ServerNode}
-use Rattle.st_rules.specs.World as world
-use Rattle.st_rules.specs.World.{World, WorldClient, site_of, node_of, numbered, clock_of, message_of, receiver_of, issued_of, all_servers, fresh_world}
-use Rattle.st_lemmas.specs.Lists.{Has}
-use Rattle.st_lemmas.proofs.Lookups.{some_is}
-use Rattle.st_lemmas.proofs.Numbers.{numbered_own, numbered_has, numbered_below, get_there, set_length}
 use Rattle.st_lemmas.proofs.Steps.{throughout, step_happens}
 use Rattle.st_laws_steps.specs.Lives.Lives.{LivesHold, NodeHolds, ended_rows}
 use Rattle.st_laws_pages.specs.Disks.Obligations.{FatesHold}
@@ -68,7 +59,7 @@ grown w v ds g h =
     }
 
 undated : (t : Traced) (e : Event) (sc : WorldTurn) → AllUndated sc.seen → Grown t.world sc.world → Holds t.world t.history.dates → After t e sc
-undated t e sc n g h = subst (λ ds. Holds sc.world ds) (sym (undated_same t.world sc.world sc.seen (remember e t.history) n ∙ remembered e t.history)) (grown t.world sc.world t.history.dates g h)
+undated t e sc n g h = subst (λ ds. Holds sc.world ds) (sym (undated_same t.world sc.world sc.seen (remember t.world e t.history) n ∙ remembered t.world e t.history)) (grown t.world sc.world t.history.dates g h)
 
 -- nothing was said
 nothing : (t : Traced) (e : Event) (v : World) → v.config ≡ t.world.config → length v.clients ≡ length t.world.clients → v.net.messages ≡ t.world.net.messages → Holds t.world t.history.dates → After t e (ev.quiet v)
@@ -113,10 +104,10 @@ module _ (t : Traced) (e : Event) (a : world.Tally) (d : disks.Disks) (lives : L
       later : Grown t.world (behind W c site input)
       later = (last.config ∙ first.config, ap (λ (z : List WorldClient). length z) (fl.clients ∙ said.clients) ∙ set_length t.world.clients (pred c.0) (site_after W c site input), λ m q. (m, last.sent m (first.sent m q), refl))
 
-      dates : (recall_all t.world (behind W c site input) (says W c site input).seen (remember e t.history)).dates ≡ dates_out (behind W c site input) c (out_of W c site input) t.history.dates
+      dates : (recall_all t.world (behind W c site input) (says W c site input).seen (remember t.world e t.history)).dates ≡ dates_out (behind W c site input) c (out_of W c site input) t.history.dates
       dates =
-          dates_said t.world (behind W c site input) c site.node.state (remember e t.history) (out_of W c site input) (ev.quiet (ev.with_site c (site_after W c site input) W))
-          ∙ ap (dates_out (behind W c site input) c (out_of W c site input)) (undated_same t.world (behind W c site input) [] (remember e t.history) tt ∙ remembered e t.history)
+          dates_said t.world (behind W c site input) c site.node.state (remember t.world e t.history) (out_of W c site input) (ev.quiet (ev.with_site c (site_after W c site input) W))
+          ∙ ap (dates_out (behind W c site input) c (out_of W c site input)) (undated_same t.world (behind W c site input) [] (remember t.world e t.history) tt ∙ remembered t.world e t.history)
 
       stepped : DatesReplied site.node.state.config.lease t.world.net.messages (dates_out (behind W c site input) c (out_of W c site input) t.history.dates)
       stepped =
@@ -260,20 +251,13 @@ pub record Stands (past : List Step) (t : Traced) : Type 0 where
   pub fates : FatesHold t.world
   pub dates : Holds t.world t.history.dates
 
-placed_site : (w : World) (c : ClientId) → 1 ≤ c.0 → c.0 ≤ length w.clients → (site : WorldClient) × (site_of w c ≡ Some site)
-placed_site w c a b = go c.0 a b
-  where
-    go : (n : ℕ) → 1 ≤ n → n ≤ length w.clients → (site : WorldClient) × (numbered w.clients n ≡ Some site)
-    go zero a b = absurd (omega (arith, a))
-    go (suc n) a b = get_there w.clients n (omega (arith, b))
-
 -- so the dates hold
 pub dates_stand : (past : List Step) (t : Traced) → Stands past t → DatesStand t.world t.history.dates
-dates_stand past t s = record { placed = λ d i. let z = s.dates.placed d i in placed_site t.world d.client z.0 z.1; replied = s.dates.replied }
+dates_stand past t s = record { placed = λ d i. let z = s.dates.placed d i in site_there t.world d.client z.0 z.1; replied = s.dates.replied }
 
 pub one : (past : List Step) (t : Traced) (e : Event) (sc : WorldTurn) → Stands past t → ev.world_step t.world e ≡ Ok sc → DatesAreOfReplies past (step t e sc) × Stands (past ++ step t e sc ∷ []) (traced_after e t sc)
 one past t e sc s q =
-    (record { placed = λ d i. let z = dates.placed d i in placed_site sc.world d.client z.0 z.1; replied = dates.replied }, record { fates = fates_law t.world e sc q s.fates; dates = dates })
+    (record { placed = λ d i. let z = dates.placed d i in site_there sc.world d.client z.0 z.1; replied = dates.replied }, record { fates = fates_law t.world e sc q s.fates; dates = dates })
   where
     dates : Holds sc.world (history_after t.world e sc t.history).dates
     dates = let z = step_happens t.world e sc q in subst (λ (y : WorldTurn). Holds y.world (history_after t.world e y t.history).dates) (sym z.1) (happens_replied t e s.fates.lives s.dates)

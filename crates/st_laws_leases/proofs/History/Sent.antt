@@ -1,23 +1,17 @@
 -- Dates of the history stay of replies through every event: messages stay sent, and clients stay.
-use Rattle.std.proofs.Common.{◌≡◌, List, [], ◌∷◌, ◌++◌, Option, Some, None, refl, ◌∙◌, inl, inr}
-use Rattle.st_base.specs.declared.ids.ClientId.{ClientId}
-use Rattle.st_base.specs.declared.ids.NodeId.TheVariants as nodes
-use Rattle.st_base.specs.declared.ids.ServerId.{ServerId}
-use Rattle.st_base.specs.declared.ids.Stamp.{Stamp}
-use Rattle.st_messages.specs.declared.message.Message.{Message}
-use Rattle.st_messages.specs.declared.output.Note.{Note}
-use Rattle.st_messages.specs.declared.output.Note.TheVariants as notes
-use Rattle.st_messages.specs.declared.output.Output.{Output}
-use Rattle.st_messages.specs.declared.output.Output.TheVariants as outputs
-use Rattle.st_rules.specs.declared.lease.Phase.{Phase}
-use Rattle.st_rules.specs.declared.lease.Phase.TheVariants as phases
-use Rattle.st_rules.specs.declared.world.SentMessage.{SentMessage}
-use Rattle.st_rules.specs.Client as cl
-use Rattle.st_rules.specs.ClientState.{ClientState}
-use Rattle.st_rules.specs.Events as ev
-use Rattle.st_rules.specs.Events.{WorldTurn, client_says, client_says_all, server_says, server_says_all}
-use Rattle.st_rules.specs.World.{World, WorldClient, site_of, clock_of}
-use Rattle.st_lemmas.specs.Lists.{Has}
+use Rattle.st_lemmas.proofs.Words
+use Words.{◌≡◌, List, [], ◌∷◌, Option, Some, None, refl, ◌∙◌, ClientId, ServerId, Stamp, Message, Note, Output, Phase, SentMessage}
+use Words.nodes
+use Words.notes
+use Words.outputs
+use Words.phases
+use Words.Client as cl
+use Words.ClientState.{ClientState}
+use Words.Events as ev
+use Words.Events.{WorldTurn, client_says, client_says_all, server_says, server_says_all}
+use Words.World.{World, WorldClient, site_of, clock_of}
+use Words.Lists.{Has}
+use Words.Members.{has_left}
 
 -- settings stay, and what was sent stays sent
 pub record Later (w v : World) : Type 0 where
@@ -30,14 +24,9 @@ later_same w = record { config = refl; sent = λ m h. h }
 later_then : (u v w : World) → Later u v → Later v w → Later u w
 later_then u v w a b = record { config = b.config ∙ a.config; sent = λ m h. b.sent m (a.sent m h) }
 
-front : {A : Type 0} (xs ys : List A) (x : A) → Has x xs → Has x (xs ++ ys)
-front [] ys x h = absurd h
-front (y ∷ xs) ys x (inl e) = inl e
-front (y ∷ xs) ys x (inr h) = inr (front xs ys x h)
-
 sends_later : (sc : WorldTurn) (m : Message) → Later sc.world (ev.sends sc m).world
 unfolding ev.sends
-sends_later sc m = record { config = refl; sent = λ x h. front sc.world.net.messages _ x h }
+sends_later sc m = record { config = refl; sent = λ x h. has_left sc.world.net.messages _ x h }
 
 client_one : (c : ClientId) (before : ClientState) (o : Output) (sc : WorldTurn) → Later sc.world (client_says sc c before o).world
 unfolding client_says ev.submits ev.answers_with ev.client_notes ev.accepts ev.patches ev.loses

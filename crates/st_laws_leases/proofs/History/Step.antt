@@ -1,29 +1,20 @@
 -- A whole step of a client: each lease that it leaves was noted with its end, or is the one before.
-use Rattle.std.proofs.Common.{◌≡◌, ℕ, Bool, true, false, List, [], ◌∷◌, ◌++◌, Option, Some, refl, sym, ap, ◌∙◌, subst, inl, inr}
-use Rattle.std.specs.Prelude.{◌⊎◌, map, option_map}
-use Rattle.std.proofs.lemmas.Bool.{eqb-true}
-use Rattle.st_base.specs.declared.config.Config.{Config}
-use Rattle.st_base.specs.declared.ids.ClientId.{ClientId}
-use Rattle.st_base.specs.declared.ids.Epoch.{Epoch}
-use Rattle.st_base.specs.declared.ids.Life.{Life}
-use Rattle.st_base.specs.declared.ids.ServerId.{ServerId}
-use Rattle.st_base.specs.declared.ids.Stamp.{Stamp}
-use Rattle.st_messages.specs.declared.answer.AppAnswer.{AppAnswer}
-use Rattle.st_messages.specs.declared.answer.AppAnswer.TheVariants as answers
-use Rattle.st_messages.specs.declared.message.Message.{Message}
-use Rattle.st_messages.specs.declared.output.Output.TheVariants as outputs
-use Rattle.st_rules.specs.declared.client.ClientInput.{ClientInput}
-use Rattle.st_rules.specs.declared.client.ClientInput.TheVariants as inputs
-use Rattle.st_rules.specs.Client as cl
-use Rattle.st_rules.specs.ClientLease as lease
-use Rattle.st_rules.specs.ClientReplies as cr
-use Rattle.st_rules.specs.ClientState as cs
-use Rattle.st_rules.specs.ClientState.{ClientSession, Association, ClientState, ClientTurn, Turn, client_turn, enter, leave, at_these, at_each, server_of}
-use Rattle.st_rules.specs.History.{epoch_at_session}
-use Rattle.st_rules.specs.Keys.{same_server, server_node}
-use Rattle.st_rules.specs.Leases as leases
-use Rattle.st_lemmas.specs.Lists.{Has}
-use Rattle.st_lemmas.proofs.Tables.{has_append, has_map_in}
+use Rattle.st_lemmas.proofs.Words
+use Words.{◌≡◌, ℕ, Bool, true, false, List, [], ◌∷◌, ◌++◌, Option, Some, refl, sym, ap, ◌∙◌, subst, inl, inr, ◌⊎◌, map, option_map, eqb-true, Config, ClientId}
+use Words.{Epoch, Life, ServerId, Stamp, AppAnswer, Message, ClientInput, append-nil}
+use Words.answers
+use Words.outputs
+use Words.inputs
+use Words.Client as cl
+use Words.ClientLease as lease
+use Words.ClientReplies as cr
+use Words.ClientState as cs
+use Words.ClientState.{ClientSession, Association, ClientState, ClientTurn, Turn, client_turn, enter, leave, at_these, at_each, server_of}
+use Words.History.{epoch_at_session}
+use Words.Keys.{same_server, server_node}
+use Words.Leases as leases
+use Words.Lists.{Has}
+use Words.Tables.{has_append, has_map_in}
 use Rattle.st_laws_steps.specs.Client.Inputs as taking
 use Rattle.st_laws_steps.specs.Client.Inputs.{Taken}
 use Rattle.st_laws_steps.specs.Lives.Lives.{Once, server_number}
@@ -31,7 +22,7 @@ use Rattle.st_laws_steps.proofs.Lives.Associations.{own_found}
 use Rattle.st_laws_steps.proofs.Client.Taking.{taken}
 use Rattle.st_laws_leases.specs.History.Replies.{renews_lease}
 use Rattle.st_laws_leases.specs.History.Notes.{noted}
-use Rattle.st_laws_leases.proofs.History.Leasing.{Noted, leased, none_more, noted_quiet, unsaid, n_lose, n_receive, n_only, n_finish, n_passes}
+use Rattle.st_laws_leases.proofs.History.Leasing.{Noted, leased, noted_quiet, unsaid, noted_after_lose, noted_after_receive, noted_after_only, noted_after_finish, noted_after_passes}
 
 -- What a message tells of a lease end, by the message's server, the life, the epoch and the end.
 abbrev pub Tells : Type 1
@@ -177,10 +168,10 @@ module _ (k : Config) (init : ServerId → Option Stamp) where
       (these P R rule one t.state.associations _
       (record {
         config = h.config;
-        once = subst (λ z. Once (map server_number z)) (none_more t.state.associations) h.once;
-        each = λ a i x e. h.each a (subst (Has a) (sym (none_more t.state.associations)) i) x e;
+        once = subst (λ z. Once (map server_number z)) (append-nil t.state.associations) h.once;
+        each = λ a i x e. h.each a (subst (Has a) (sym (append-nil t.state.associations)) i) x e;
         behind = λ a i end q. absurd i;
-        none = λ s f end q. h.none s (λ a i. f a (subst (Has a) (none_more t.state.associations) i)) end q;
+        none = λ s f end q. h.none s (λ a i. f a (subst (Has a) (append-nil t.state.associations) i)) end q;
         ahead = λ a i end q. h.behind a i end q;
       }))
     where
@@ -206,7 +197,7 @@ module _ (k : Config) (init : ServerId → Option Stamp) where
 
   receives : (c : ClientId) (now : Stamp) (m : Message) → m.header.to ≡ c.0 → Rule (Brings c (inputs.Control m)) Nothing (cr.receive_at now m.header m.body)
   receives c now m to base B sv t n =
-      n_receive k init base sv (ToldBy c m sv) B now m.header m.body t (λ end i. n.told end i)
+      noted_after_receive k init base sv (ToldBy c m sv) B now m.header m.body t (λ end i. n.told end i)
       (λ life epoch f l p d. record { from = f ∙ ap server_node n.server; to = to; of_life = l; of_epoch = p; renews = d; ends = refl })
       (record { config = n.config; server = n.server; own = n.own; others = n.others; told = λ end i. absurd (n.told end i); untold = n.untold })
 
@@ -230,9 +221,9 @@ module _ (k : Config) (init : ServerId → Option Stamp) where
       go _ _ (taking.Nothing i) = weaker (Brings c i) t h
       go _ _ (taking.Full op ask e) = once_more (inputs.App op ask) op answers.OpsFull
       go _ _ (taking.Unknown op ask e f) = once_more (inputs.App op ask) op answers.NoFile
-      go _ _ (taking.Takes op ask e f) = weaker (Brings c (inputs.App op ask)) _ (every Nothing Nothing _ (λ base B sv u n. n_only k init base sv (Nothing sv) B (server_of ask) op ask u n) t h)
+      go _ _ (taking.Takes op ask e f) = weaker (Brings c (inputs.App op ask)) _ (every Nothing Nothing _ (λ base B sv u n. noted_after_only k init base sv (Nothing sv) B (server_of ask) op ask u n) t h)
       go _ _ (taking.Receives m e) = every (Brings c (inputs.Control m)) Nothing _ (receives c now m (eqb-true m.header.to t.state.id.0 e ∙ ap (λ (x : ClientId). x.0) id)) t h
-      go _ _ (taking.Finishes number result) = weaker (Brings c (inputs.Done number result)) _ (every Nothing Nothing _ (λ base B sv u n. n_finish k init base sv (Nothing sv) B number result u n) t h)
+      go _ _ (taking.Finishes number result) = weaker (Brings c (inputs.Done number result)) _ (every Nothing Nothing _ (λ base B sv u n. noted_after_finish k init base sv (Nothing sv) B number result u n) t h)
 
   lost_id : (al : List Association) (t : ClientTurn) (now : Stamp) → (at_these (cl.lose now) al t).state.id ≡ t.state.id
   unfolding at_these
@@ -242,9 +233,9 @@ module _ (k : Config) (init : ServerId → Option Stamp) where
   step_all : (c : ClientId) (s : ClientState) (now : Stamp) (input : ClientInput) → s.id ≡ c → A Nothing (client_turn s []) → A (Brings c input) (cl.client_step s now input)
   unfolding cl.client_step cl.work cl.losses at_each
   step_all c s now input id h =
-      every (Brings c input) (Brings c input) _ (λ base B sv u n. n_passes k init base sv (Brings c input sv) B now (cl.is_tick input) u n) _
+      every (Brings c input) (Brings c input) _ (λ base B sv u n. noted_after_passes k init base sv (Brings c input sv) B now (cl.is_tick input) u n) _
       (input_noted c _ _ now input (taken _ now input) (lost_id s.associations (cs.with_associations [] (client_turn s [])) now ∙ id)
-      (every Nothing Nothing _ (λ base B sv u n. n_lose k init base sv (Nothing sv) B (λ l p end z. z) now u n) (client_turn s []) h))
+      (every Nothing Nothing _ (λ base B sv u n. noted_after_lose k init base sv (Nothing sv) B (λ l p end z. z) now u n) (client_turn s []) h))
 
 -- the ends of the leases before a step
 abbrev pub ends_before : ClientState → ServerId → Option Stamp
@@ -261,8 +252,8 @@ step_all_noted c s now input id o = step_all s.config (ends_before s) c s now in
     begins =
         record {
           config = refl;
-          once = subst (λ z. Once (map server_number z)) (sym (none_more s.associations)) o;
-          each = λ b j y q. ap (λ z. lease.end_at s.config (cl.lease_at z)) (own_found s.associations o b (subst (Has b) (none_more s.associations) j)) ∙ ap (λ z. lease.end_at s.config (option_map cl.lease_of_session z)) q;
+          once = subst (λ z. Once (map server_number z)) (sym (append-nil s.associations)) o;
+          each = λ b j y q. ap (λ z. lease.end_at s.config (cl.lease_at z)) (own_found s.associations o b (subst (Has b) (append-nil s.associations) j)) ∙ ap (λ z. lease.end_at s.config (option_map cl.lease_of_session z)) q;
           behind = λ b i end q. absurd q;
           none = λ s f end q. absurd q;
           ahead = λ b i end q. absurd i;
@@ -270,4 +261,4 @@ step_all_noted c s now input id o = step_all s.config (ends_before s) c s now in
 
 pub step_noted : (s : ClientState) (now : Stamp) (input : ClientInput) → Once (map server_number s.associations) → (a : Association) → Has a (cl.client_step s now input).state.associations → (x : ClientSession) → a.session ≡ Some x →
     noted a.server (cl.client_step s now input).out (ends_before s a.server) ≡ Some (lease.end_of s.config x.lease)
-step_noted s now input o a i x e = (step_all_noted s.id s now input refl o).each a (subst (Has a) (sym (none_more (cl.client_step s now input).state.associations)) i) x e
+step_noted s now input o a i x e = (step_all_noted s.id s now input refl o).each a (subst (Has a) (sym (append-nil (cl.client_step s now input).state.associations)) i) x e

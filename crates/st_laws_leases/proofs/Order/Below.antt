@@ -1,6 +1,10 @@
 -- Moves leave the numbers of changes below every exclusive lock.
-use Rattle.std.proofs.Common.{◌≡◌, ℕ, ◌<◌, ◌≤◌, ◌⊎◌, true, false, ◌∷◌, refl, sym, ap, subst, inl, inr, arith}
-use Rattle.st_protocol.specs.Assoc.{Config, ConfigOk, Lock, Msg, upd, Client, Assoc, In, Alive, msg, Move, Moves, Stays, GoesOn, Reassert, Granted, Advance, Greets, Asks, Loses, Crashes, Begins, Renews, Installs, AskedOfNone, Asked, Declines, Repeats, Again, Sweeps, Reduces, Adopts, Reasserts, Welcomes, WelcomesAgain, Acks, Refuses, Accepts, Suspects, Steals, GraceEnds, Grants, GrantsAgain, Demands, Releases, Rises, Stops, Starts}
+use Rattle.st_lemmas.proofs.Words
+use Words.{◌≡◌, ℕ, ◌<◌, ◌≤◌, ◌⊎◌, true, false, ◌∷◌, refl, sym, ap, subst, inl, inr, arith}
+use Rattle.st_protocol.specs.Assoc.{Config, ConfigOk, Lock, Msg, upd, Client, Assoc, In, Alive, msg, Move, Moves, Stays, GoesOn, Reassert, Granted, Advance}
+use Rattle.st_protocol.specs.Assoc.{Greets, Asks, Loses, Crashes, Begins, Renews, Installs, AskedOfNone, Asked, Declines, Repeats, Again, Sweeps, Reduces}
+use Rattle.st_protocol.specs.Assoc.{Adopts, Reasserts, Welcomes, WelcomesAgain, Acks, Refuses, Accepts, Suspects, Steals, GraceEnds, Grants, GrantsAgain}
+use Rattle.st_protocol.specs.Assoc.{Demands, Releases, Rises, Stops, Starts}
 use Rattle.st_protocol.proofs.Lists.{swept, upd_all, upd_up}
 use Rattle.st_protocol.proofs.Timing.{Timing}
 use Rattle.st_protocol.proofs.Locks.{Locks}

@@ -1,6 +1,9 @@
 -- A change under an exclusive lock leaves the numbers of changes below the locks of all clients.
-use Rattle.std.proofs.Common.{◌≡◌, ◌≢◌, ℕ, ◌<◌, ◌≤◌, ◌⊎◌, true, false, refl, sym, ap, ◌∙◌, subst, inl, inr, arith}
-use Rattle.st_protocol.specs.Assoc.{Config, ConfigOk, Lock, Row, upd, Assoc, In, Alive, msg, send, server, client, Move, World, Reached, AtFirst, Then, Works, Shared, RowsCompat, InService, Reassert, Reasserted, Granted, Installs, Accepts}
+use Rattle.st_lemmas.proofs.Words
+use Words.{◌≡◌, ◌≢◌, ℕ, ◌<◌, ◌≤◌, ◌⊎◌, true, false, refl, sym, ap, ◌∙◌, subst, inl, inr, arith}
+use Words.Tables.{same_or_not}
+use Rattle.st_protocol.specs.Assoc.{Config, ConfigOk, Lock, Row, upd, Assoc, In, Alive, msg, send, server, client, Move, World, Reached, AtFirst, Then, Works}
+use Rattle.st_protocol.specs.Assoc.{Shared, RowsCompat, InService, Reassert, Reasserted, Granted, Installs, Accepts}
 use Rattle.st_protocol.proofs.Lists.{upd_tells, upd-same, upd-other}
 use Rattle.st_protocol.proofs.Timing.{renews_of}
 use Rattle.st_protocol.proofs.Claims.{inside}
@@ -9,7 +12,6 @@ use Rattle.st_protocol.proofs.Steps.{bool_cases, same_or_less}
 use Rattle.st_protocol.proofs.Exact.{ExclusiveAt, Holds, Comes, held_exact}
 use Rattle.st_protocol.proofs.Invariant.{Invariant}
 use Rattle.st_protocol.proofs.World.{invariant, exclusive, alone, no_conflict, same_all}
-use Rattle.st_lemmas.proofs.Tables.{same_or_not}
 use Rattle.st_laws_leases.specs.Order.Order.{Below}
 
 module _ (k : Config) (ok : ConfigOk k) where

@@ -1,6 +1,7 @@
 -- Every event keeps the order of locks at every server: an event is moves of the machine, and each move leaves the numbers below.
-use Rattle.std.proofs.Common.{◌≡◌, ℕ, ◌⊎◌, sym, subst, inl, inr}
-use Rattle.st_rules.specs.World.{World}
+use Rattle.st_lemmas.proofs.Words
+use Words.{◌≡◌, ℕ, ◌⊎◌, sym, subst, inl, inr}
+use Words.World.{World}
 use Rattle.st_protocol.specs.Assoc as net
 use Rattle.st_protocol.specs.Assoc.{Config, ConfigOk, Assoc, Move, Reached, Then, Works}
 use Rattle.st_protocol.proofs.Invariant.{Invariant}

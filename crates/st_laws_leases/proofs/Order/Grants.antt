@@ -1,44 +1,40 @@
 -- The grants of a history never fall: each new one is that of an exclusive lock, or of an exclusive row, of the world after the event.
-use Rattle.std.proofs.Common.{◌≡◌, ◌≢◌, ℕ, ◌+◌, ◌≤◌, ◌⊎◌, Bool, true, false, not, ◌||◌, ◌==◌, List, [], ◌∷◌, ◌++◌, Option, Some, None, Ok, refl, sym, ap, ◌∙◌, subst, inl, inr, arith, if◌then◌else◌}
-use Rattle.std.specs.Prelude.{find, nat_le, option_map}
-use Rattle.std.specs.List.{list_all, list_any}
-use Rattle.std.proofs.lemmas.Bool.{eqb-true, le-leb, leb-true}
+use Rattle.st_lemmas.proofs.Words
+use Words.{◌≡◌, ◌≢◌, ℕ, ◌+◌, ◌≤◌, ◌⊎◌, Bool, true, false, not, ◌||◌, ◌==◌, List, [], ◌∷◌, ◌++◌, Option, Some, None, Ok, refl, sym, ap, ◌∙◌, subst, inl, inr}
+use Words.{arith, if◌then◌else◌, find, nat_le, option_map, list_all, list_any, eqb-true, le-leb, leb-true, ClientId, FileId, GrantNo, PageNo, ServerId, Event}
+use Words.{HeldLock, LockRow, Observation, DirtyPage}
+use Words.nodes
+use Words.events
+use Words.seen
+use Words.Client as cl
+use Words.ClientLocks.{is_lock_on, lock_of}
+use Words.ClientPages.{is_dirty_of}
+use Words.ClientState.{Association, is_at}
+use Words.Events.{WorldTurn, counted, world_step}
+use Words.History.{EntryGrant, History, Traced, association_of, grant_of_lock, grant_of_row, grant_or_zero, is_exclusive_on, is_exclusive_row, lock_grant}
+use Words.History.{locks_at, locks_of_session, recall, recall_all, remember, row_grant, rows_at, traced, traced_after}
+use Words.Keys.{client, same_file}
+use Words.Locks.{row_of}
+use Words.ServerInvariants.{are_once, same_row}
+use Words.Safety.{ChangesGoInTheOrderOfLocks, IsHead, Step, cuts_under, has_dirty_page, has_exclusive, is_before, is_change_locked, is_event, is_no_lesser}
+use Words.Safety.{lasts, lasts_at, never_fall, step}
+use Words.Server.{ServerNode}
+use Words.World.{World, WorldClient, clock_of, fresh_world, node_of, server, site_of}
+use Words.Lists.{Has}
+use Words.Lookups.{some_is}
+use Words.Tables.{and_both, and_true, found_at, has_append}
+use Words.Lengths.{numbered_there}
+use Words.Members.{some_member_passes}
+use Words.Tests.{all_last}
+use Words.Worlds.{remembered_grants}
 use Rattle.st_base.specs.declared.config.Config as base
-use Rattle.st_base.specs.declared.ids.ClientId.{ClientId}
-use Rattle.st_base.specs.declared.ids.FileId.{FileId}
-use Rattle.st_base.specs.declared.ids.GrantNo.{GrantNo}
-use Rattle.st_base.specs.declared.ids.NodeId.TheVariants as nodes
-use Rattle.st_base.specs.declared.ids.PageNo.{PageNo}
-use Rattle.st_base.specs.declared.ids.ServerId.{ServerId}
 use Rattle.st_base.specs.Mode.{number_of}
-use Rattle.st_messages.specs.declared.event.Event.{Event}
-use Rattle.st_messages.specs.declared.event.Event.TheVariants as events
-use Rattle.st_rules.specs.declared.client.HeldLock.{HeldLock}
-use Rattle.st_rules.specs.declared.locks.LockRow.{LockRow}
-use Rattle.st_rules.specs.declared.observation.Observation.{Observation}
-use Rattle.st_rules.specs.declared.observation.Observation.TheVariants as seen
-use Rattle.st_rules.specs.declared.pages.DirtyPage.{DirtyPage}
-use Rattle.st_rules.specs.Client as cl
-use Rattle.st_rules.specs.ClientLocks.{is_lock_on, lock_of}
-use Rattle.st_rules.specs.ClientPages.{is_dirty_of}
-use Rattle.st_rules.specs.ClientState.{Association, is_at}
-use Rattle.st_rules.specs.Events.{WorldTurn, counted, world_step}
-use Rattle.st_rules.specs.History.{EntryGrant, History, Traced, association_of, grant_of_lock, grant_of_row, grant_or_zero, is_exclusive_on, is_exclusive_row, lock_grant, locks_at, locks_of_session, recall, recall_all, remember, row_grant, rows_at, traced, traced_after}
-use Rattle.st_rules.specs.Keys.{client, same_file}
-use Rattle.st_rules.specs.Locks.{row_of}
-use Rattle.st_rules.specs.ServerInvariants.{are_once, same_row}
-use Rattle.st_rules.specs.Safety.{ChangesGoInTheOrderOfLocks, IsHead, Step, cuts_under, has_dirty_page, has_exclusive, is_before, is_change_locked, is_event, is_no_lesser, lasts, lasts_at, never_fall, step}
-use Rattle.st_rules.specs.Server.{ServerNode}
-use Rattle.st_rules.specs.World.{World, WorldClient, clock_of, fresh_world, node_of, server, site_of}
 use Rattle.st_protocol.specs.Assoc.{Alive, Client, Config, ConfigOk, Lock, Row, upd}
 use Rattle.st_protocol.proofs.Lists.{upd_tells, upd-same}
-use Rattle.st_lemmas.specs.Lists.{Has}
-use Rattle.st_lemmas.proofs.Lookups.{some_is}
 use Rattle.st_lemmas.proofs.Steps.{step_happens}
-use Rattle.st_lemmas.proofs.Tables.{and_both, and_true, found_at, has_append}
 use Rattle.st_laws_refine.specs.Views.Halves.{held_at, held_in, row_or, row_view}
 use Rattle.st_laws_pages.specs.LockedCuts.CutLocks.{WaitsHold, is_cut_locked}
-use Rattle.st_laws_pages.proofs.LockedCuts.CutLaw.{law as cut_law}
+use Rattle.st_laws_pages.proofs.LockedCuts.CutLaw.{steps_lock_cuts as cut_law}
 use Rattle.st_laws_pages.proofs.Disks.Whole.{fresh_waits}
 use Rattle.st_laws_refine.specs.Server.Pair.{client_in, terms_of}
 use Rattle.st_laws_refine.proofs.Server.OneRow.{row_found}
@@ -46,7 +42,6 @@ use Rattle.st_laws_leases.specs.Sides.Law.{InEveryRun}
 use Rattle.st_laws_leases.specs.Sides.World.{AllStand}
 use Rattle.st_laws_leases.proofs.Sides.DirtyPages.{Lasting, dirty_mode, lasting}
 use Rattle.st_laws_leases.proofs.Sides.FirstWorld.{begun}
-use Rattle.st_laws_leases.proofs.Sides.AllAssociations.{numbered_is}
 use Rattle.st_laws_leases.proofs.Sides.Known.{fresh_known}
 use Rattle.st_laws_leases.proofs.Sides.Locked.{ServersKnown, Written, both_locked, happens_written}
 use Rattle.st_laws_leases.proofs.Sides.Runs.{full, throughout_events}
@@ -55,15 +50,6 @@ use Rattle.st_laws_leases.specs.Order.Paths.{Ordered, OrderedServer}
 use Rattle.st_laws_leases.proofs.Order.Everywhere.{stays_ordered}
 use Rattle.st_laws_leases.proofs.Order.Tops.{change, cut_row}
 use Rattle.st_trace.proofs.Server.Taking.{clash}
-
--- Lists.
-any_has : {A : Type 0} (p : A → Bool) (xs : List A) → list_any p xs ≡ true → (x : A) × Has x xs × (p x ≡ true)
-any_has p [] e = cc
-any_has {A} p (x ∷ xs) e = go (p x) refl e (any_has p xs)
-  where
-    go : (b : Bool) → p x ≡ b → (b || list_any p xs) ≡ true → (list_any p xs ≡ true → (y : A) × Has y xs × (p y ≡ true)) → (y : A) × Has y (x ∷ xs) × (p y ≡ true)
-    go true f e k = (x, inl refl, f)
-    go false f e k = let z = k e in (z.0, inr z.1, z.2)
 
 any_found : {A : Type 0} (p : A → Bool) (xs : List A) → list_any p xs ≡ true → (x : A) × (find p xs ≡ Some x)
 any_found p [] e = cc
@@ -83,10 +69,6 @@ first_too {A} p q f (x ∷ xs) y e t = go (p x) (q x) refl refl e (first_too p q
     go true false g h e k = absurd (clash t (ap q (sym (some_is e)) ∙ h))
     go false true g h e k = absurd (clash (f x h) g)
     go false false g h e k = k e t
-
-all_last : {A : Type 0} (p : A → Bool) (xs : List A) (y : A) → list_all p xs ≡ true → p y ≡ true → list_all p (xs ++ y ∷ []) ≡ true
-all_last p [] y e f = and_both (p y) true f refl
-all_last p (x ∷ xs) y e f = let z = and_true (p x) (list_all p xs) e in and_both (p x) _ z.0 (all_last p xs y z.1 f)
 
 -- one more grant that is no lesser than those of its file
 never_last : (es : List EntryGrant) (x : EntryGrant) → never_fall es ≡ true → ((e : EntryGrant) → Has e es → is_no_lesser e x ≡ true) → never_fall (es ++ x ∷ []) ≡ true
@@ -228,7 +210,7 @@ module _ (k : Config) (count : ℕ) (v : World) where
             let l = y.0 in
             let u = y.1 in
             let x = eqb-true a.server.0 s.0 z.0 in
-            numbered_is v.servers s.0 (omega (arith, l, x)) (omega (arith, u, x))
+            numbered_there v.servers s.0 (omega (arith, l, x)) (omega (arith, u, x))
 
         go : (o : Option WorldClient) → site_of v c ≡ o → lasts_at (clock_of v (nodes.Client c)) s o ≡ true → (node : ServerNode) × (node_of v (server s.0) ≡ Some node)
         go None e b = cc
@@ -249,7 +231,7 @@ module _ (k : Config) (count : ℕ) (v : World) where
         o = q.ordered.servers f.server.0 node at
 
         page : (d : DirtyPage) × Has d l.association.store.pages.dirty × (is_dirty_of f.ino p d ≡ true)
-        page = any_has (is_dirty_of f.ino p) l.association.store.pages.dirty (ap (has_dirty_page f.ino p) (sym l.found) ∙ dirty)
+        page = some_member_passes (is_dirty_of f.ino p) l.association.store.pages.dirty (ap (has_dirty_page f.ino p) (sym l.found) ∙ dirty)
 
         two : 2 ≤ ((client_in v c.0 f.server.0 ((q.ordered.servers f.server.0 node at).stands.ended c.0)).held f.ino).mode
         two = subst (λ i. 2 ≤ ((client_in v c.0 f.server.0 ((q.ordered.servers f.server.0 node at).stands.ended c.0)).held i).mode) (eqb-true page.0.ino f.ino (and_true (page.0.ino == f.ino) _ page.2).0)
@@ -306,12 +288,6 @@ module _ (k : Config) (count : ℕ) (v : World) where
   all_seen before [] h kn e q = q
   all_seen before (o ∷ os) h kn e q = let x = and_true (is_change_locked v o) _ e in all_seen before os (recall before v h o) kn x.1 (one_seen before h o kn x.0 q)
 
--- the event itself leaves the grants
-remembered : (e : Event) (h : History) → (remember e h).grants ≡ h.grants
-unfolding remember
-remembered (events.Crash (nodes.Server s)) h = refl
-remembered e h = refl
-
 -- What holds after every event.
 record Standing (k : Config) (count : ℕ) (t : Traced) : Type 0 where
   grants : GrantsStand k count t.world t.history.grants
@@ -340,11 +316,11 @@ one k count past t e sc h b taken = (grants.falls, record { grants = grants; wai
     locked : list_all (is_change_locked sc.world) sc.seen ≡ true
     locked = both_locked sc.world sc.seen cut.locked (written.locked moved.all)
 
-    start : GrantsStand k count sc.world (remember e t.history).grants
-    start = subst (GrantsStand k count sc.world) (sym (remembered e t.history)) (record { numbers = b.grants.numbers; ordered = moved; under = b.grants.under; falls = b.grants.falls })
+    start : GrantsStand k count sc.world (remember t.world e t.history).grants
+    start = subst (GrantsStand k count sc.world) (sym (remembered_grants t.world e t.history)) (record { numbers = b.grants.numbers; ordered = moved; under = b.grants.under; falls = b.grants.falls })
 
     grants : GrantsStand k count sc.world (traced_after e t sc).history.grants
-    grants = all_seen k count sc.world t.world sc.seen (remember e t.history) written.known locked start
+    grants = all_seen k count sc.world t.world sc.seen (remember t.world e t.history) written.known locked start
 
 nothing : never_fall [] ≡ true
 unfolding never_fall

@@ -1,12 +1,10 @@
 -- A number under which a file is changed is below all that is granted later, to any client.
-use Rattle.std.proofs.Common.{◌≡◌, ◌≢◌, ℕ, ◌+◌, ◌<◌, ◌≤◌, Bool, true, false, refl, arith, if◌then◌else◌}
-use Rattle.std.specs.Prelude.{nat_lt}
-use Rattle.std.proofs.lemmas.Bool.{ltb-false, ltb-true}
-use Rattle.st_base.specs.declared.ids.NodeId.TheVariants as nodes
-use Rattle.st_base.specs.declared.ids.Stamp.{Stamp}
-use Rattle.st_rules.specs.Keys.{client}
-use Rattle.st_rules.specs.Server.{ServerNode, ServerState}
-use Rattle.st_rules.specs.World.{World, clock_of, server}
+use Rattle.st_lemmas.proofs.Words
+use Words.{◌≡◌, ◌≢◌, ℕ, ◌+◌, ◌<◌, ◌≤◌, Bool, true, false, refl, arith, if◌then◌else◌, nat_lt, ltb-false, ltb-true, Stamp}
+use Words.nodes
+use Words.Keys.{client}
+use Words.Server.{ServerNode, ServerState}
+use Words.World.{World, clock_of, server}
 use Rattle.st_protocol.specs.Assoc.{Alive, Assoc, Config, ConfigOk, Moves, Rises, Stays, GoesOn, Works, upd}
 use Rattle.st_protocol.proofs.World.{invariant}
 use Rattle.st_laws_refine.specs.Views.Halves.{Ghost}

@@ -1,38 +1,30 @@
 -- The invariant of all servers and clients of a world holds again after every event, and the path of each server goes on.
-use Rattle.std.proofs.Common.{◌≡◌, ◌≢◌, ℕ, zero, suc, ◌+◌, ◌<◌, ◌≤◌, ◌⊎◌, true, false, ◌==◌, List, [], ◌∷◌, Option, Some, None, Ok, refl, sym, ap, ◌∙◌, subst, inl, inr, arith}
-use Rattle.std.specs.Prelude.{length, slice_get, slice_index, get_or, pred, nat_le}
-use Rattle.std.specs.Option.{option_or}
-use Rattle.std.proofs.lemmas.Bool.{eqb-true, leb-true}
+use Rattle.st_lemmas.proofs.Words
+use Words.{◌≡◌, ◌≢◌, ℕ, ◌+◌, ◌≤◌, ◌⊎◌, true, false, ◌==◌, List, [], Option, Some, None, Ok, refl, sym, ap, ◌∙◌, subst, inl, inr, arith}
+use Words.{length, slice_index, get_or, pred, nat_le, eqb-true, leb-true, ClientId, Life, NodeId, ServerId, Stamp, Event, Message, Output}
+use Words.{ServerInput, LeaseLife, SentMessage}
+use Words.nodes
+use Words.events
+use Words.outputs
+use Words.serving.{Tick, Control}
+use Words.Admissible as admissible
+use Words.Events as ev
+use Words.Events.{WorldTurn, counted, happens, quiet, with_node, server_says_all, server_takes, world_step}
+use Words.Keys.{server_node}
+use Words.Server as sv
+use Words.Server.{ServerNode, crash_node, start_node, is_client_node}
+use Words.World.{World, WorldClient, clock_of, ended_of, is_life_of, is_running, message_of, node_of, node_runs, numbered, receiver_of, server, site_of}
+use Words.World.{with_numbered}
+use Words.Lists.{Has}
+use Words.Lookups.{some_is}
+use Words.Numbers.{numbered_below, numbered_other, numbered_own, set_length}
+use Words.Tables.{and_true, found_at, same_or_not, not_false}
+use Words.Lengths.{numbered_there}
+use Words.Truth.{or_first}
+use Words.Worlds.{stands_not}
 use Rattle.st_base.specs.declared.config.Config as base
-use Rattle.st_base.specs.declared.ids.ClientId.{ClientId}
-use Rattle.st_base.specs.declared.ids.Life.{Life}
-use Rattle.st_base.specs.declared.ids.NodeId.{NodeId}
-use Rattle.st_base.specs.declared.ids.NodeId.TheVariants as nodes
-use Rattle.st_base.specs.declared.ids.ServerId.{ServerId}
-use Rattle.st_base.specs.declared.ids.Stamp.{Stamp}
-use Rattle.st_messages.specs.declared.event.Event.{Event}
-use Rattle.st_messages.specs.declared.event.Event.TheVariants as events
-use Rattle.st_messages.specs.declared.message.Message.{Message}
-use Rattle.st_messages.specs.declared.output.Output.{Output}
-use Rattle.st_messages.specs.declared.output.Output.TheVariants as outputs
-use Rattle.st_rules.specs.declared.input.ServerInput.{ServerInput}
-use Rattle.st_rules.specs.declared.input.ServerInput.TheVariants.{Tick, Control}
-use Rattle.st_rules.specs.declared.observation.WorldRefusal.{WorldRefusal}
-use Rattle.st_rules.specs.declared.world.LeaseLife.{LeaseLife}
-use Rattle.st_rules.specs.declared.world.SentMessage.{SentMessage}
-use Rattle.st_rules.specs.Admissible as admissible
-use Rattle.st_rules.specs.Events as ev
-use Rattle.st_rules.specs.Events.{WorldTurn, counted, happens, quiet, with_node, server_says_all, server_takes, world_step}
-use Rattle.st_rules.specs.Keys.{server_node}
-use Rattle.st_rules.specs.Server as sv
-use Rattle.st_rules.specs.Server.{ServerNode, crash_node, start_node, is_client_node}
-use Rattle.st_rules.specs.World.{World, WorldClient, clock_of, ended_of, is_life_of, is_running, message_of, node_of, node_runs, numbered, receiver_of, server, site_of, with_numbered}
 use Rattle.st_protocol.specs.Assoc.{Config, In, Msg}
-use Rattle.st_lemmas.specs.Lists.{Has}
-use Rattle.st_lemmas.proofs.Lookups.{some_is}
-use Rattle.st_lemmas.proofs.Numbers.{numbered_below, numbered_other, numbered_own}
 use Rattle.st_lemmas.proofs.Steps.{step_happens}
-use Rattle.st_lemmas.proofs.Tables.{and_true, found_at, same_or_not}
 use Rattle.st_laws_refine.specs.Views.Halves.{Ghost}
 use Rattle.st_laws_refine.proofs.Views.Moves.{Grows}
 use Rattle.st_laws_pages.specs.Disks.Obligations.{FatesHold}
@@ -54,27 +46,16 @@ use Rattle.st_laws_leases.specs.Sides.Law.ClientEvent.{ByTick, ByAsk, ByMessage,
 use Rattle.st_laws_leases.specs.Sides.Invariants.{AllPast, Standing, Both, GrantsHaveModes, Left, Unseen}
 use Rattle.st_laws_leases.specs.Sides.World.{AllStand, IsFull, ServerStands, There}
 use Rattle.st_laws_leases.proofs.Sides.Clients.{fine_from}
-use Rattle.st_laws_leases.proofs.Sides.Fold.{law, not_false, not_stands, second_none, same_leads}
-use Rattle.st_laws_leases.proofs.Sides.Pairs.{length_set}
+use Rattle.st_laws_leases.proofs.Sides.Fold.{facts_hold_along_a_run, second_none, same_leads}
 use Rattle.st_laws_leases.proofs.Sides.OtherServers.{unseen}
 use Rattle.st_protocol.specs.Assoc as net
 use Rattle.st_laws_refine.proofs.Server.Advances.{advances_stand}
 use Rattle.st_laws_refine.specs.Server.Paths.{Here}
 use Rattle.st_laws_leases.specs.Sides.Paths.{ClientPath, Led, LedServer}
 
--- A number within a list has an item.
-get_is : {A : Type 0} (xs : List A) (n : ℕ) → n < length xs → (x : A) × (slice_get xs n ≡ Some x)
-get_is [] n l = absurd (omega arith)
-get_is (x ∷ xs) zero l = (x, refl)
-get_is (x ∷ xs) (suc n) l = get_is xs n (omega arith)
-
-pub numbered_is : {A : Type 0} (xs : List A) (n : ℕ) → 1 ≤ n → n ≤ length xs → (x : A) × (numbered xs n ≡ Some x)
-numbered_is xs zero p l = absurd (omega arith)
-numbered_is xs (suc n) p l = get_is xs n (omega arith)
-
 -- the same number of items, so the same numbers have one
 numbered_too : {A B : Type 0} (xs : List A) (ys : List B) (n : ℕ) (x : A) → length ys ≡ length xs → numbered xs n ≡ Some x → (y : B) × (numbered ys n ≡ Some y)
-numbered_too xs ys n x l e = let z = numbered_below xs n x e in numbered_is ys n z.0 (omega (arith, l, z.1))
+numbered_too xs ys n x l e = let z = numbered_below xs n x e in numbered_there ys n z.0 (omega (arith, l, z.1))
 
 none_too : {A B : Type 0} (xs : List A) (ys : List B) (n : ℕ) → length ys ≡ length xs → numbered xs n ≡ None → numbered ys n ≡ None
 none_too {A} {B} xs ys n l e = go (numbered ys n) refl
@@ -125,11 +106,6 @@ both_on k s w v node next ended G H clients over grows b st =
       ends = λ c. subst (EndedBy c s (ended c)) (sym over) (b.ends c);
       few = let f = b.few in let l = ap (λ (xs : List WorldClient). length xs) clients in omega arith;
     }
-
--- From a refusal that doesn't apply.
-pub first_none : (o p : Option WorldRefusal) → option_or o p ≡ None → o ≡ None
-first_none None p e = refl
-first_none (Some x) p e = cc
 
 pub running_node : (o : Option ServerNode) → node_runs o ≡ true → (node : ServerNode) × (o ≡ Some node) × (node.running ≡ true)
 running_node None e = cc
@@ -199,7 +175,7 @@ module _ (k : Config) (count : ℕ) (H : ℕ → net.World → Type 0) (w : Worl
       v = (happens (counted w) e).world
 
       after : (s : ℕ) (node : ServerNode) (z : ServerStands k w s node) → ClientPath k s w v node z.ended z.ghosts
-      after s node z = law k s w node z.ended z.ghosts e (happens (counted w) e) z.both (modes k count w a) kind taken
+      after s node z = facts_hold_along_a_run k s w node z.ended z.ghosts e (happens (counted w) e) z.both (modes k count w a) kind taken
 
       left : Left w v
       left = (after 1 a.first.node (a.servers 1 a.first.node a.first.is)).left
@@ -269,7 +245,7 @@ module _ (k : Config) (count : ℕ) (H : ℕ → net.World → Type 0) (w : Worl
       pos = positive k count w a t q.node q.there
 
       many : length v.servers ≡ length w.servers
-      many = (λ j. length (q.servers j)) ∙ length_set w.servers (pred t) q.next
+      many = (λ j. length (q.servers j)) ∙ set_length w.servers (pred t) q.next
 
       here : node_of v (server t) ≡ Some q.next
       here = ap (λ xs. numbered xs t) q.servers ∙ numbered_own w.servers t q.next q.node q.there
@@ -379,7 +355,7 @@ module _ (k : Config) (count : ℕ) (H : ℕ → net.World → Type 0) (w : Worl
       same = some_is (sym (l.step.stands.served 0).found ∙ ap (λ xs. numbered xs t) parts.servers ∙ numbered_own w.servers t later node at)
 
       many : length sc.world.servers ≡ length w.servers
-      many = (λ j. length (parts.servers j)) ∙ length_set w.servers (pred t) later
+      many = (λ j. length (parts.servers j)) ∙ set_length w.servers (pred t) later
 
       bytes : w.net.bytes ≤ sc.world.net.bytes
       bytes = subst (λ (x : WorldTurn). w.net.bytes ≤ x.world.net.bytes) (sym says) (let b = all_bytes (server t) out (quiet w1) in omega arith)
@@ -398,7 +374,7 @@ module _ (k : Config) (count : ℕ) (H : ℕ → net.World → Type 0) (w : Worl
       world_step w (events.Tick (nodes.Server (server t))) ≡ Ok sc → After sc.world
   unfolding admissible.refusal
   server_ticks t sc lives r is e =
-      let n = running_node (node_of w (server t)) (not_false _ (not_stands _ _ (first_none _ _ (second_none _ _ r)))) in
+      let n = running_node (node_of w (server t)) (not_false _ (stands_not _ _ (or_first _ _ (second_none _ _ r)))) in
       let y = o t n.0 n.1 in
       let z = y.stands in
       by_server t sc.world lives
@@ -411,7 +387,7 @@ module _ (k : Config) (count : ℕ) (H : ℕ → net.World → Type 0) (w : Worl
   unfolding admissible.refusal admissible.refused_delivery
   server_receives n t m sc lives r em er is e =
       let q = subst (λ o. admissible.refused_delivery w n o ≡ None) em r in
-      let runs = not_false _ (not_stands _ _ (first_none _ _ (second_none _ _ (second_none _ _ q)))) in
+      let runs = not_false _ (stands_not _ _ (or_first _ _ (second_none _ _ (second_none _ _ q)))) in
       let y = running_node (node_of w (server t)) (ap (is_running w) (sym er) ∙ runs) in
       let q2 = o t y.0 y.1 in
       let z = q2.stands in
@@ -439,12 +415,12 @@ module _ (k : Config) (count : ℕ) (H : ℕ → net.World → Type 0) (w : Worl
       }
 
   many_placed : (t : ℕ) (next : ServerNode) → length (with_numbered t next w.servers) ≡ length w.servers
-  many_placed t next = length_set w.servers (pred t) next
+  many_placed t next = set_length w.servers (pred t) next
 
   server_stops : (t : ℕ) (sc : WorldTurn) → FatesHold sc.world → admissible.refusal w (events.Crash (nodes.Server (server t))) ≡ None → sc ≡ happens (counted w) (events.Crash (nodes.Server (server t))) →
       world_step w (events.Crash (nodes.Server (server t))) ≡ Ok sc → After sc.world
   unfolding admissible.refusal
-  server_stops t sc lives r is e = go (running_node (node_of w (server t)) (not_false _ (not_stands _ _ (second_none _ _ r))))
+  server_stops t sc lives r is e = go (running_node (node_of w (server t)) (not_false _ (stands_not _ _ (second_none _ _ r))))
     where
       go : (node : ServerNode) × (node_of w (server t) ≡ Some node) × (node.running ≡ true) → After sc.world
       go (node, at, runs) =
@@ -474,10 +450,10 @@ module _ (k : Config) (count : ℕ) (H : ℕ → net.World → Type 0) (w : Worl
       world_step w (events.Start (nodes.Server (server t))) ≡ Ok sc → After sc.world
   unfolding admissible.refusal
   server_starts t sc lives r is e =
-      let known = not_false _ (not_stands _ _ (first_none _ _ r)) in
+      let known = not_false _ (stands_not _ _ (or_first _ _ r)) in
       let y = and_true (nat_le 1 t) (nat_le t (length w.servers)) known in
-      let n = numbered_is w.servers t (leb-true 1 t y.0) (leb-true t (length w.servers) y.1) in
-      go n.0 n.1 (not_stands _ _ (second_none _ _ r))
+      let n = numbered_there w.servers t (leb-true 1 t y.0) (leb-true t (length w.servers) y.1) in
+      go n.0 n.1 (stands_not _ _ (second_none _ _ r))
     where
       go : (node : ServerNode) → node_of w (server t) ≡ Some node → is_running w (nodes.Server (server t)) ≡ false → After sc.world
       go node at off =

@@ -1,28 +1,20 @@
 -- Thefts and conflicts are observed at steps of servers alone.
-use Rattle.std.proofs.Common.{◌≡◌, ℕ, ◌+◌, Bool, true, false, List, [], ◌∷◌, Option, Some, None, Ok, Err, refl, sym, subst, inl, inr, if◌then◌else◌}
-use Rattle.std.specs.List.{list_all}
-use Rattle.st_base.specs.declared.ids.ClientId.{ClientId}
-use Rattle.st_base.specs.declared.ids.NodeId.{NodeId}
-use Rattle.st_base.specs.declared.ids.NodeId.TheVariants as nodes
-use Rattle.st_base.specs.declared.ids.ServerId.{ServerId}
-use Rattle.st_messages.specs.declared.ask.Ask.{Ask}
-use Rattle.st_messages.specs.declared.event.Event.TheVariants as events
-use Rattle.st_messages.specs.declared.message.Message.{Message}
-use Rattle.st_rules.specs.declared.client.ClientInput.{ClientInput}
-use Rattle.st_rules.specs.declared.client.ClientInput.TheVariants as inputs
+use Rattle.st_lemmas.proofs.Words
+use Words.{◌≡◌, ℕ, ◌+◌, Bool, true, false, List, [], ◌∷◌, Option, Some, None, Ok, Err, refl, sym, subst, inl, inr, if◌then◌else◌, list_all, ClientId, NodeId}
+use Words.{ServerId, Ask, Message, ClientInput, Observation, IssuedCommand, SentMessage}
+use Words.nodes
+use Words.events
+use Words.inputs
+use Words.seen
+use Words.Client as cl
+use Words.Disks as disks
+use Words.Events as ev
+use Words.History.{Traced}
+use Words.Safety.{is_late}
+use Words.World as world
+use Words.World.{World, WorldClient, clock_of, site_of}
+use Words.Tables.{and_both}
 use Rattle.st_rules.specs.declared.node.StepRefusal.TheVariants as refusals
-use Rattle.st_rules.specs.declared.observation.Observation.{Observation}
-use Rattle.st_rules.specs.declared.observation.Observation.TheVariants as seen
-use Rattle.st_rules.specs.declared.world.IssuedCommand.{IssuedCommand}
-use Rattle.st_rules.specs.declared.world.SentMessage.{SentMessage}
-use Rattle.st_rules.specs.Client as cl
-use Rattle.st_rules.specs.Disks as disks
-use Rattle.st_rules.specs.Events as ev
-use Rattle.st_rules.specs.History.{Traced}
-use Rattle.st_rules.specs.Safety.{is_late}
-use Rattle.st_rules.specs.World as world
-use Rattle.st_rules.specs.World.{World, WorldClient, clock_of, site_of}
-use Rattle.st_lemmas.proofs.Tables.{and_both}
 use Rattle.st_laws_leases.proofs.Dates.SentMessages.{AllCalm, Calm, client_calm, fates_calm}
 
 nothing : AllCalm []

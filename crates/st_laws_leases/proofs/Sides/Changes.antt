@@ -1,41 +1,32 @@
 -- Changes are locked: a page that a client's step changed is dirty after it, under a lease that lasts, so under an exclusive lock.
-use Rattle.std.proofs.Common.{◌≡◌, ℕ, ◌≤◌, ◌<◌, Bool, true, false, ◌==◌, List, [], ◌∷◌, ◌++◌, Option, Some, None, refl, sym, ap, ◌∙◌, subst, arith}
-use Rattle.std.specs.Prelude.{find, length, nat_le, nat_lt, unwrap_or}
-use Rattle.std.specs.List.{list_all, list_any}
-use Rattle.std.proofs.lemmas.Bool.{eqb-true, leb-false, ltb-false}
-use Rattle.st_base.specs.declared.ids.ClientId.{ClientId}
-use Rattle.st_base.specs.declared.ids.FileId.{FileId}
-use Rattle.st_base.specs.declared.ids.NodeId.TheVariants as nodes
-use Rattle.st_base.specs.declared.ids.PageNo.{PageNo}
-use Rattle.st_base.specs.declared.ids.ServerId.{ServerId}
-use Rattle.st_base.specs.declared.ids.Stamp.{Stamp}
-use Rattle.st_base.specs.declared.mode.Mode.TheVariants as modes
+use Rattle.st_lemmas.proofs.Words
+use Words.{◌≡◌, ℕ, ◌≤◌, Bool, true, ◌==◌, List, [], ◌∷◌, ◌++◌, Option, Some, None, refl, sym, ap, ◌∙◌, subst, arith, find, length}
+use Words.{unwrap_or, list_all, list_any, eqb-true, ClientId, FileId, PageNo, ServerId, Stamp, Note, Output, ClientInput, HeldLock}
+use Words.{Observation, le-leb, lt-ltb}
+use Words.nodes
+use Words.modes
+use Words.notes
+use Words.outputs
+use Words.seen
+use Words.Client as cl
+use Words.ClientLease.{end_at, end_of}
+use Words.ClientLocks.{is_lock_on, lock_of}
+use Words.ClientPages.{is_dirty_of}
+use Words.ClientState.{Association, ClientSession, ClientState, is_at}
+use Words.Events as ev
+use Words.Events.{WorldTurn}
+use Words.History.{association_at, association_of, is_exclusive_on, locks_of_session}
+use Words.Safety.{changes_alone, has_dirty_page, has_exclusive, is_before, lasts, lasts_at}
+use Words.Server.{ServerNode}
+use Words.World.{World, WorldClient, clock_of, node_of, numbered, site_of, stamp}
+use Words.Lists.{Has}
+use Words.Lookups.{some_is}
+use Words.Numbers.{numbered_own}
+use Words.Tables.{and_both, and_true, found_at, some_passes}
+use Words.Lengths.{numbered_there}
 use Rattle.st_base.specs.Mode.{covers, number_of}
-use Rattle.st_messages.specs.declared.output.Note.{Note}
-use Rattle.st_messages.specs.declared.output.Note.TheVariants as notes
-use Rattle.st_messages.specs.declared.output.Output.{Output}
-use Rattle.st_messages.specs.declared.output.Output.TheVariants as outputs
-use Rattle.st_rules.specs.declared.client.ClientInput.{ClientInput}
-use Rattle.st_rules.specs.declared.client.HeldLock.{HeldLock}
-use Rattle.st_rules.specs.declared.observation.Observation.{Observation}
-use Rattle.st_rules.specs.declared.observation.Observation.TheVariants as seen
-use Rattle.st_rules.specs.Client as cl
-use Rattle.st_rules.specs.ClientLease.{end_at, end_of}
-use Rattle.st_rules.specs.ClientLocks.{is_lock_on, lock_of}
-use Rattle.st_rules.specs.ClientPages.{is_dirty_of}
-use Rattle.st_rules.specs.ClientState.{Association, ClientSession, ClientState, is_at}
-use Rattle.st_rules.specs.Events as ev
-use Rattle.st_rules.specs.Events.{WorldTurn}
-use Rattle.st_rules.specs.History.{association_at, association_of, is_exclusive_on, locks_of_session}
-use Rattle.st_rules.specs.Safety.{changes_alone, has_dirty_page, has_exclusive, is_before, lasts, lasts_at}
-use Rattle.st_rules.specs.Server.{ServerNode}
-use Rattle.st_rules.specs.World.{World, WorldClient, clock_of, node_of, numbered, site_of, stamp}
 use Rattle.st_protocol.specs.Assoc as net
 use Rattle.st_protocol.specs.Assoc.{Config}
-use Rattle.st_lemmas.specs.Lists.{Has}
-use Rattle.st_lemmas.proofs.Lookups.{some_is}
-use Rattle.st_lemmas.proofs.Numbers.{numbered_own}
-use Rattle.st_lemmas.proofs.Tables.{and_both, and_true, found_at, some_passes}
 use Rattle.st_laws_refine.specs.Views.Halves.{held_at, held_in}
 use Rattle.st_laws_refine.specs.Client.World.{site_left, stepped, world_left}
 use Rattle.st_laws_refine.proofs.Client.Sim.{world_is}
@@ -47,7 +38,6 @@ use Rattle.st_laws_steps.proofs.Client.Noting.{step_notes}
 use Rattle.st_laws_steps.proofs.Client.Stepping.{step_lives}
 use Rattle.st_laws_steps.proofs.Client.Dirtying.{notes_map}
 use Rattle.st_laws_leases.specs.Sides.World.{AllStand}
-use Rattle.st_laws_leases.proofs.Sides.AllAssociations.{numbered_is}
 use Rattle.st_laws_leases.proofs.Sides.Known.{Known, step_known}
 use Rattle.st_laws_leases.proofs.Sides.DirtyPages.{Lasting, dirty_mode, lasting}
 
@@ -57,22 +47,8 @@ is_write_locked w (seen.Wrote index c f p bytes) = changes_alone w c f p
 is_write_locked w (seen.Patched index c f p at bytes) = changes_alone w c f p
 is_write_locked w o = true
 
-at_most : (a b : ℕ) → a ≤ b → nat_le a b ≡ true
-at_most a b h = go (nat_le a b) refl
-  where
-    go : (x : Bool) → nat_le a b ≡ x → x ≡ true
-    go true e = refl
-    go false e = let z = leb-false a b e in absurd (omega (arith, h, z))
-
-below : (a b : ℕ) → a < b → nat_lt a b ≡ true
-below a b h = go (nat_lt a b) refl
-  where
-    go : (x : Bool) → nat_lt a b ≡ x → x ≡ true
-    go true e = refl
-    go false e = let z = ltb-false a b e in absurd (omega (arith, h, z))
-
 -- an exclusive lock is listed
-exclusive_listed : (o : Option ClientSession) (ino : ℕ) → 2 ≤ (held_in o ino).mode → list_any (is_exclusive_on ino) (locks_of_session o) ≡ true
+pub exclusive_listed : (o : Option ClientSession) (ino : ℕ) → 2 ≤ (held_in o ino).mode → list_any (is_exclusive_on ino) (locks_of_session o) ≡ true
 exclusive_listed None ino h = absurd (omega (arith, h))
 exclusive_listed (Some s) ino h = go (lock_of s.locks ino) refl h
   where
@@ -80,7 +56,7 @@ exclusive_listed (Some s) ino h = go (lock_of s.locks ino) refl h
     go None e h = absurd (omega (arith, h))
     go (Some l) e h =
         let z = found_at (is_lock_on ino) s.locks.rows l e in
-        some_passes (is_exclusive_on ino) s.locks.rows l z.1 (and_both (is_lock_on ino l) (covers l.mode modes.X) z.0 (at_most 2 (number_of l.mode) h))
+        some_passes (is_exclusive_on ino) s.locks.rows l z.1 (and_both (is_lock_on ino l) (covers l.mode modes.X) z.0 (le-leb 2 (number_of l.mode) h))
 
 -- A page that is changed, at a client of a world in which everything holds.
 module _ (k : Config) (count : ℕ) (w : World) (a : AllStand k count w) (c : ClientId) (site : WorldClient) (there : site_of w c ≡ Some site) (runs : site.node.running ≡ true) where
@@ -104,7 +80,7 @@ module _ (k : Config) (count : ℕ) (w : World) (a : AllStand k count w) (c : Cl
           ap (lasts_at Now f.server) there
           ∙ and_both site.node.running _ runs
           (ap (λ o. is_before Now (end_at site.node.state.config (cl.lease_at o))) is ∙ ap (λ (o : Option ClientSession). is_before Now (end_at site.node.state.config (cl.lease_at (Some (record x { session = o }))))) z.is
-          ∙ below Now.0 (end_of site.node.state.config z.session.lease).0 z.before)
+          ∙ lt-ltb Now.0 (end_of site.node.state.config z.session.lease).0 z.before)
 
       page : (is_dirty_of f.ino p z.page ≡ true) × Has z.page x.store.pages.dirty
       page = found_at (is_dirty_of f.ino p) x.store.pages.dirty z.page z.dirty
@@ -189,7 +165,7 @@ took k count w c old site input there same runs h known all = says_locked v c si
         let e = ap (λ (y : ServerId). y.0) z.server in
         let l = r.0 in
         let u = r.1 in
-        let n = numbered_is w.servers f.server.0 (omega (arith, e, l)) (omega (arith, e, u)) in
+        let n = numbered_there w.servers f.server.0 (omega (arith, e, l)) (omega (arith, e, u)) in
         at_page k count v all c (site_left w c site input) here runs f p x i
         (subst (λ (t : Stamp). IsChanged (site_left w c site input).node.state.config t x f p) (sym clock) (subst (λ q. IsChanged q now x f p) config z)) n.0
         (ap (λ xs. numbered xs f.server.0) (world_is w c site input).servers ∙ n.1)

@@ -1,38 +1,28 @@
 -- A step of a client is one step of the law, for all clients of a server at once: moves of every association, by which the path goes on.
-use Rattle.std.proofs.Common.{◌≡◌, ◌≢◌, ℕ, ◌+◌, ◌*◌, ◌<◌, ◌≤◌, ◌⊎◌, Bool, true, false, List, [], ◌∷◌, ◌++◌, ◌==◌, refl, sym, ap, ◌∙◌, subst, inl, inr, arith}
-use Rattle.std.specs.Prelude.{length, Option, Some, None, unwrap_or, option_map, if◌then◌else◌}
-use Rattle.st_base.specs.declared.ids.ClientId.{ClientId}
-use Rattle.st_base.specs.declared.ids.ServerId.{ServerId}
-use Rattle.st_base.specs.declared.ids.Life.{Life}
-use Rattle.st_base.specs.declared.ids.Stamp.{Stamp}
-use Rattle.st_base.specs.declared.ids.NodeId.TheVariants as nodes
-use Rattle.st_messages.specs.declared.output.Note.{Note}
-use Rattle.st_messages.specs.declared.output.Note.TheVariants as notes
-use Rattle.st_messages.specs.declared.output.Output.{Output}
-use Rattle.st_messages.specs.declared.output.Output.TheVariants as outputs
-use Rattle.st_rules.specs.declared.client.ClientInput.{ClientInput}
-use Rattle.st_rules.specs.declared.world.SentMessage.{SentMessage}
-use Rattle.st_rules.specs.declared.world.LeaseLife.{LeaseLife}
-use Rattle.st_rules.specs.Keys.{client, server_node}
-use Rattle.st_rules.specs.ClientLease.{end_at}
-use Rattle.st_rules.specs.ClientPages.{empty_store}
-use Rattle.st_rules.specs.ClientState.{Association, ClientSession, ClientState, ClientTurn}
-use Rattle.st_rules.specs.Client as cl
-use Rattle.st_rules.specs.Events as ev
-use Rattle.st_rules.specs.World.{World, WorldClient, all_servers, numbered, site_of, clock_of, stamp, server}
-use Rattle.st_rules.specs.Server.{ServerNode}
-use Rattle.st_rules.specs.Client.{ClientNode}
+use Rattle.st_lemmas.proofs.Words
+use Words.{◌≡◌, ◌≢◌, ℕ, ◌+◌, ◌*◌, ◌<◌, ◌≤◌, ◌⊎◌, Bool, true, false, List, [], ◌∷◌, ◌++◌, ◌==◌, refl, sym, ap, ◌∙◌, subst, inl, inr, arith, length, Option, Some}
+use Words.{None, unwrap_or, option_map, if◌then◌else◌, ClientId, ServerId, Life, Stamp, Note, Output, ClientInput, SentMessage, LeaseLife, Message, Body}
+use Words.nodes
+use Words.notes
+use Words.outputs
+use Words.Keys.{client, server_node}
+use Words.ClientLease.{end_at}
+use Words.ClientPages.{empty_store}
+use Words.ClientState.{Association, ClientSession, ClientState, ClientTurn}
+use Words.Client as cl
+use Words.Events as ev
+use Words.World.{World, WorldClient, all_servers, numbered, site_of, clock_of, stamp, server}
+use Words.Server.{ServerNode}
+use Words.Client.{ClientNode}
+use Words.Lists.{Has}
+use Words.Tables.{has_append}
+use Words.Numbers.{numbered_own, numbered_below, set_length}
+use Words.bodies as bd
+use Words.inputs
 use Rattle.st_protocol.specs.Assoc as net
 use Rattle.st_protocol.specs.Assoc.{Config, ConfigOk, Msg, Moves, Stays, Works, upd, end_now}
 use Rattle.st_protocol.proofs.Lists.{upd_all, upd_both}
-use Rattle.st_lemmas.specs.Lists.{Has}
-use Rattle.st_lemmas.proofs.Tables.{has_append}
-use Rattle.st_lemmas.proofs.Numbers.{numbered_own}
 use Rattle.st_base.specs.Mode.{number_of}
-use Rattle.st_messages.specs.declared.message.Message.{Message}
-use Rattle.st_messages.specs.declared.message.Body.{Body}
-use Rattle.st_messages.specs.declared.message.Body.TheVariants as bd
-use Rattle.st_rules.specs.declared.client.ClientInput.TheVariants as inputs
 use Rattle.st_protocol.proofs.World.{invariant}
 use Rattle.st_laws_refine.specs.Views.Messages.{Received, Fine, Shown, Shows, shown, with_date}
 use Rattle.st_laws_refine.specs.Views.Halves.{client_at, client_of, Ghost, half_of}
@@ -49,7 +39,7 @@ use Rattle.st_laws_refine.proofs.Client.Steps.{step_losses}
 use Rattle.st_laws_refine.proofs.Client.Sim.{own_moves, others_stay, world_is}
 use Rattle.st_laws_leases.specs.Sides.Invariants.{AllPast, Standing, Both, Left}
 use Rattle.st_laws_leases.proofs.Sides.Left.{RunsOn, on_then, on_all, on_flushes}
-use Rattle.st_laws_leases.proofs.Sides.Pairs.{length_set, numbered_some, found_at_place, only_here, own_view, said_has}
+use Rattle.st_laws_leases.proofs.Sides.Pairs.{found_at_place, only_here, own_view, said_has}
 use Rattle.st_laws_leases.specs.Sides.Paths.{ClientPath}
 use Rattle.st_laws_refine.specs.Server.Paths.{WorkedOn}
 
@@ -132,13 +122,13 @@ module _ (k : Config) (s : ℕ) (w : World) (node : ServerNode) (ended : ℕ →
       G2 = upd G c y
 
       pos : (1 ≤ c) × (c ≤ length w.clients)
-      pos = numbered_some w.clients c site0 there
+      pos = numbered_below w.clients c site0 there
 
       grows : Grows x.net r.net
       grows = moves_grow r.moves
 
       many : length After.clients ≡ length w.clients
-      many = ap (λ (xs : List WorldClient). length xs) q.clients ∙ length_set w.clients _ Last
+      many = ap (λ (xs : List WorldClient). length xs) q.clients ∙ set_length w.clients _ Last
 
       few : length After.clients ≤ 16
       few = let z = b.few in omega (arith, many)

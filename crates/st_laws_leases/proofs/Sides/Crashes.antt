@@ -1,34 +1,30 @@
 -- A client that crashes, and one that starts again.
-use Rattle.std.proofs.Common.{◌≡◌, ◌≢◌, ℕ, ◌+◌, ◌*◌, ◌<◌, ◌≤◌, ◌⊎◌, true, false, List, [], ◌∷◌, ◌++◌, refl, sym, ap, ◌∙◌, subst, inl, inr, arith}
-use Rattle.std.specs.Prelude.{length, map, option_map, Option, Some, None, unwrap_or}
-use Rattle.st_base.specs.declared.ids.ServerId.{ServerId}
-use Rattle.st_base.specs.declared.ids.Stamp.{Stamp}
-use Rattle.st_base.specs.declared.ids.NodeId.TheVariants as nodes
-use Rattle.st_rules.specs.declared.world.LeaseLife.{LeaseLife}
-use Rattle.st_rules.specs.Keys.{client, server_node}
-use Rattle.st_rules.specs.ClientLease.{end_at}
-use Rattle.st_rules.specs.ClientPages.{empty_store}
-use Rattle.st_rules.specs.ClientState.{Association, ClientSession}
-use Rattle.st_rules.specs.Client as cl
-use Rattle.st_rules.specs.World.{World, WorldClient, numbered, with_numbered, site_of, clock_of, stamp, server, lives_of, life_of_association}
-use Rattle.st_rules.specs.Server.{ServerNode}
-use Rattle.st_rules.specs.Events as ev
+use Rattle.st_lemmas.proofs.Words
+use Words.{◌≡◌, ◌≢◌, ℕ, ◌+◌, ◌*◌, ◌<◌, ◌≤◌, ◌⊎◌, true, false, List, [], ◌∷◌, ◌++◌, refl, sym, ap, ◌∙◌, subst, inl, inr, arith, length, map, option_map, Option}
+use Words.{Some, None, unwrap_or, ServerId, Stamp, LeaseLife}
+use Words.nodes
+use Words.Keys.{client, server_node}
+use Words.ClientLease.{end_at}
+use Words.ClientPages.{empty_store}
+use Words.ClientState.{Association, ClientSession}
+use Words.Client as cl
+use Words.World.{World, WorldClient, numbered, with_numbered, site_of, clock_of, stamp, server, lives_of, life_of_association}
+use Words.Server.{ServerNode}
+use Words.Events as ev
+use Words.Lists.{Has}
+use Words.Tables.{has_append, has_map}
+use Words.Numbers.{numbered_own, numbered_other, numbered_below, set_length}
 use Rattle.st_protocol.specs.Assoc as net
 use Rattle.st_protocol.specs.Assoc.{Config, Msg, Moves, Stays, Works, upd, end_now, Crashes}
 use Rattle.st_protocol.proofs.Lists.{upd_all}
-use Rattle.st_lemmas.specs.Lists.{Has}
-use Rattle.st_lemmas.proofs.Tables.{has_append, has_map}
-use Rattle.st_lemmas.proofs.Numbers.{numbered_own, numbered_other}
 use Rattle.st_laws_refine.specs.Views.Halves.{client_at, client_of, Ghost, half_of}
 use Rattle.st_laws_refine.proofs.Views.Moves.{moved, one}
 use Rattle.st_laws_refine.specs.Server.View.{StandsAt}
-use Rattle.st_laws_refine.specs.Server.Pair.{life_now, client_view, client_at_site, client_in, stamp_number, EndedBy, Wires, Served}
-use Rattle.st_laws_refine.specs.Server.Pair.{pair}
+use Rattle.st_laws_refine.specs.Server.Pair.{life_now, client_view, client_at_site, client_in, stamp_number, EndedBy, Wires, Served, pair}
 use Rattle.st_laws_refine.specs.Client.Law.{Apart, Place}
-use Rattle.st_laws_refine.specs.Server.Paths.{Leads}
-use Rattle.st_laws_refine.specs.Server.Paths.{WorkedOn}
+use Rattle.st_laws_refine.specs.Server.Paths.{Leads, WorkedOn}
 use Rattle.st_laws_leases.specs.Sides.Invariants.{AllPast, Standing, Both}
-use Rattle.st_laws_leases.proofs.Sides.Pairs.{length_set, numbered_some, found_at_place, only_here, own_view}
+use Rattle.st_laws_leases.proofs.Sides.Pairs.{found_at_place, only_here, own_view}
 
 -- associations that each keep their server
 abbrev pub KeepsServer : (Association → Association) → Type 0
@@ -63,13 +59,13 @@ module _ (k : Config) (s : ℕ) (w : World) (node : ServerNode) (ended : ℕ →
       (record { stands = record { reached = Works b.stands.reached (record { each = each; table = λ x y z. z }); served = served; compat = b.stands.compat }; clients = clients; ends = ends; few = let z = b.few in omega (arith, many) }, λ H o. WorkedOn o (record { each = each; table = λ x y z. z }))
     where
       many : length v.clients ≡ length w.clients
-      many = ap (λ (xs : List WorldClient). length xs) q.clients ∙ length_set w.clients _ last
+      many = ap (λ (xs : List WorldClient). length xs) q.clients ∙ set_length w.clients _ last
 
       clock_s : clock_of v (nodes.Server (server s)) ≡ clock_of w (nodes.Server (server s))
       clock_s = λ j. unwrap_or (numbered (q.clocks j) (many j + s)) (stamp 0)
 
       site_d : (d : ℕ) → d ≢ c → site_of v (client d) ≡ site_of w (client d)
-      site_d d n = ap (λ xs. numbered xs d) q.clients ∙ numbered_other w.clients c d last (numbered_some w.clients c site there).0 n
+      site_d d n = ap (λ xs. numbered xs d) q.clients ∙ numbered_other w.clients c d last (numbered_below w.clients c site there).0 n
 
       same_view : (d : ℕ) (e : ℕ → ℕ) (o : Option WorldClient) → client_at_site w d s e o ≡ client_at_site v d s e o
       same_view d e None = λ j. client_at ((sym q.config j).den * (sym clock_s j).0) 1 None empty_store (λ l. 0)

@@ -1,33 +1,30 @@
 -- Dirty pages stand alone: an association whose lease lasts is a living client of the machine, and a dirty page makes its file busy.
-use Rattle.std.proofs.Common.{◌≡◌, ◌≢◌, ℕ, zero, suc, ◌+◌, ◌<◌, ◌≤◌, ◌⊎◌, Bool, true, false, not, ◌||◌, List, [], ◌∷◌, Option, Some, None, refl, sym, ap, ◌∙◌, subst, inl, inr, arith, if◌then◌else◌}
-use Rattle.std.specs.Prelude.{find, is_some, length, map, option_map}
-use Rattle.std.specs.List.{list_all, list_any}
-use Rattle.std.proofs.lemmas.Bool.{eq-eqb, ltb-true, ne_eqb}
-use Rattle.st_base.specs.declared.ids.ClientId.{ClientId}
-use Rattle.st_base.specs.declared.ids.FileId.{FileId}
-use Rattle.st_base.specs.declared.ids.NodeId.TheVariants as nodes
-use Rattle.st_base.specs.declared.ids.ServerId.{ServerId}
-use Rattle.st_base.specs.declared.ids.Stamp.{Stamp}
+use Rattle.st_lemmas.proofs.Words
+use Words.{◌≡◌, ◌≢◌, ℕ, ◌+◌, ◌≤◌, ◌⊎◌, Bool, true, false, not, ◌||◌, List, [], ◌∷◌, Option, Some, None, refl, sym, ap, ◌∙◌, subst, inl, inr}
+use Words.{arith, if◌then◌else◌, find, length, map, option_map, list_all, list_any, eq-eqb, ltb-true, ne_eqb, ClientId, FileId, ServerId, Stamp}
+use Words.{HeldLock, DirtyPage, false_from_ne_true}
+use Words.nodes
+use Words.Client as cl
+use Words.ClientLease.{end_at}
+use Words.ClientLocks.{is_lock_on, lock_of}
+use Words.ClientPages.{has_write_on, is_dirty_on}
+use Words.ClientState.{Association, ClientSession}
+use Words.Extents.{numbers}
+use Words.History.{association_at, association_of, locks_at, locks_of_session}
+use Words.Keys.{client, same_client}
+use Words.Locks as locks
+use Words.Safety.{all_alone, are_alone, dirty_at, dirty_files, file_of_dirty, has_row, has_row_at, holds, is_alone, is_apart, is_before, lasts, lasts_at}
+use Words.Server.{ServerNode}
+use Words.World.{World, WorldClient, all_clients, all_servers, clock_of, node_of, server, site_of}
+use Words.Lists.{Has}
+use Words.Tables.{all_pass, and_true, has_map, same_or_not, some_passes}
+use Words.Lengths.{numbered_there}
+use Words.Members.{numbers_between}
+use Words.Truth.{not_both, some_there}
 use Rattle.st_base.specs.Mode.{number_of}
-use Rattle.st_rules.specs.declared.client.HeldLock.{HeldLock}
-use Rattle.st_rules.specs.declared.pages.DirtyPage.{DirtyPage}
-use Rattle.st_rules.specs.Client as cl
-use Rattle.st_rules.specs.ClientLease.{end_at}
-use Rattle.st_rules.specs.ClientLocks.{is_lock_on, lock_of}
-use Rattle.st_rules.specs.ClientPages.{has_write_on, is_dirty_on}
-use Rattle.st_rules.specs.ClientState.{Association, ClientSession}
-use Rattle.st_rules.specs.Extents.{numbers}
-use Rattle.st_rules.specs.History.{association_at, association_of, locks_at, locks_of_session}
-use Rattle.st_rules.specs.Keys.{client, same_client}
-use Rattle.st_rules.specs.Locks as locks
-use Rattle.st_rules.specs.Safety.{all_alone, are_alone, dirty_at, dirty_files, file_of_dirty, has_row, has_row_at, holds, is_alone, is_apart, is_before, lasts, lasts_at}
-use Rattle.st_rules.specs.Server.{ServerNode}
-use Rattle.st_rules.specs.World.{World, WorldClient, all_clients, all_servers, clock_of, node_of, server, site_of}
 use Rattle.st_protocol.specs.Assoc as net
 use Rattle.st_protocol.specs.Assoc.{Alive, Config}
 use Rattle.st_protocol.proofs.World.{alone, exclusive, invariant}
-use Rattle.st_lemmas.specs.Lists.{Has}
-use Rattle.st_lemmas.proofs.Tables.{all_pass, and_true, has_map, same_or_not, some_passes}
 use Rattle.st_laws_refine.specs.Views.Halves.{client_of, date_in, held_at, held_in, leased_in, row_or, row_view}
 use Rattle.st_laws_refine.proofs.Client.Replies.{mode_found}
 use Rattle.st_laws_refine.specs.Server.Pair.{client_in}
@@ -35,27 +32,7 @@ use Rattle.st_laws_refine.specs.Server.Invariants.{pairs}
 use Rattle.st_laws_leases.specs.Sides.Invariants.{Standing}
 use Rattle.st_laws_refine.specs.Client.Invariants.{Kept}
 use Rattle.st_laws_leases.specs.Sides.World.{AllStand, ServerStands}
-use Rattle.st_laws_leases.proofs.Sides.AllAssociations.{numbered_is}
 use Rattle.st_laws_leases.proofs.Sides.Pairs.{found_at_place, own_view}
-
--- members of a list of numbers
-pub numbers_has : (a c m : ℕ) → Has m (numbers a c) → (a ≤ m) × (m < a + c)
-unfolding numbers
-numbers_has a zero m h = elim h [ ]
-numbers_has a (suc c) m (inl e) = (omega (arith, e), omega (arith, e))
-numbers_has a (suc c) m (inr h) = let z = numbers_has (a + 1) c m h in let x = z.0 in let y = z.1 in (omega (arith, x), omega (arith, y))
-
-clash : (b : Bool) → b ≡ true → b ≡ false → ⊥
-clash true e f = cc
-clash false e f = cc
-
-not_so : (b : Bool) → (b ≡ true → ⊥) → b ≡ false
-not_so true f = absurd (f refl)
-not_so false f = refl
-
-some_row : {A : Type 0} (o : Option A) → is_some o ≡ true → (x : A) × (o ≡ Some x)
-some_row None e = cc
-some_row (Some x) e = (x, refl)
 
 module _ (k : Config) (count : ℕ) (w : World) (a : AllStand k count w) (s : ℕ) (node : ServerNode) (at : node_of w (server s) ≡ Some node) where
   abbrev pub z : ServerStands k w s node
@@ -118,7 +95,7 @@ module _ (k : Config) (count : ℕ) (w : World) (a : AllStand k count w) (s : �
       rows = ap (λ o. list_any (is_lock_on i) (locks_of_session o)) (sym l.is) ∙ ap (λ o. list_any (is_lock_on i) (locks_at o)) (sym l.found) ∙ h
 
       by : (o : Option HeldLock) → lock_of l.session.locks i ≡ o → 1 ≤ (held_at (lock_of l.session.locks i)).mode
-      by None e = absurd (clash _ rows (not_so _ (λ t. missing l.session.locks.rows e t)))
+      by None e = absurd (not_both _ rows (false_from_ne_true _ (λ t. missing l.session.locks.rows e t)))
         where
           missing : (rs : List HeldLock) → find (is_lock_on i) rs ≡ None → list_any (is_lock_on i) rs ≡ true → ⊥
           missing [] e t = cc
@@ -147,7 +124,7 @@ module _ (k : Config) (count : ℕ) (w : World) (a : AllStand k count w) (s : �
 
       go : (c ≡ d) ⊎ (c ≢ d) → (same_client (client c) (client d) || not (holds w (client d) f || has_row w (client d) f)) ≡ true
       go (inl e) = ap (λ b. b || not (holds w (client d) f || has_row w (client d) f)) (eq-eqb c d e)
-      go (inr n) = ap (λ b. b || not (holds w (client d) f || has_row w (client d) f)) (ne_eqb c d n) ∙ ap (λ b. not (b || has_row w (client d) f)) (not_so (holds w (client d) f) no_lock) ∙ ap not (not_so (has_row w (client d) f) no_row)
+      go (inr n) = ap (λ b. b || not (holds w (client d) f || has_row w (client d) f)) (ne_eqb c d n) ∙ ap (λ b. not (b || has_row w (client d) f)) (false_from_ne_true (holds w (client d) f) no_lock) ∙ ap not (false_from_ne_true (has_row w (client d) f) no_row)
         where
           no_lock : holds w (client d) f ≡ true → ⊥
           no_lock e =
@@ -160,7 +137,7 @@ module _ (k : Config) (count : ℕ) (w : World) (a : AllStand k count w) (s : �
           no_row : has_row w (client d) f ≡ true → ⊥
           no_row e =
               let p = and_true node.running _ (ap (has_row_at (client d) x.ino) (sym at) ∙ e) in
-              let r = some_row (locks.row_of node.state.locks (client d) x.ino) p.1 in
+              let r = some_there (locks.row_of node.state.locks (client d) x.ino) p.1 in
               let none = alone k (pairs s z.ended w node z.ghosts) a.sound z.both.stands.reached c d x.ino n l.alive two p.0 in
               let some = z.both.stands.compat.rows (client d) x.ino r.0 r.1 in
               let is = ap (λ o. (row_or (row_view o)).mode) r.1 in
@@ -190,6 +167,6 @@ all_stand_alone k count w a = all_pass (all_alone w) (all_clients w) (λ c h. al
     one : (c : ClientId) (s : ServerId) → Has s (map server (numbers 1 (length w.servers))) → are_alone w c s ≡ true
     one c s h =
         let m = has_map server (numbers 1 (length w.servers)) s h in
-        let l = numbers_has 1 (length w.servers) m.0 m.1 in
-        let n = numbered_is w.servers m.0 l.0 (let y = l.1 in omega (arith, y)) in
+        let l = numbers_between 1 (length w.servers) m.0 m.1 in
+        let n = numbered_there w.servers m.0 l.0 (let y = l.1 in omega (arith, y)) in
         subst (λ (x : ServerId). are_alone w c x ≡ true) (sym m.2) (stand_alone k count w a m.0 n.0 n.1 c)

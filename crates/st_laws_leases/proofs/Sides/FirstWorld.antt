@@ -1,27 +1,26 @@
 -- What holds in the world of a head, before the first event.
-use Rattle.std.proofs.Common.{◌≡◌, ◌≢◌, ℕ, zero, suc, ◌+◌, ◌*◌, ◌<◌, ◌≤◌, Bool, true, false, ◌&&◌, List, [], ◌∷◌, ◌++◌, Option, Some, None, Ok, Err, refl, sym, ap, ◌∙◌, subst, arith, if◌then◌else◌}
-use Rattle.std.specs.Prelude.{get_or, length, map, nat_lt, nat_le, option_map, pred, slice_get, slice_index, ◌-◌}
-use Rattle.std.proofs.lemmas.Bool.{leb-true, ltb-true}
+use Rattle.st_lemmas.proofs.Words
+use Words.{◌≡◌, ◌≢◌, ℕ, zero, suc, ◌+◌, ◌*◌, ◌<◌, ◌≤◌, Bool, true, false, ◌&&◌, [], ◌∷◌, ◌++◌, Option, Some, None, Ok, Err, refl, sym, ap, ◌∙◌, subst}
+use Words.{arith, if◌then◌else◌, get_or, length, map, nat_lt, nat_le, option_map, pred, slice_get, slice_index, ◌-◌, leb-true, ltb-true, Config, Stamp}
+use Words.{SentMessage, length-append, map-append}
+use Words.config_refusals
+use Words.nodes
+use Words.Client as cl
+use Words.Extents.{numbers}
+use Words.Keys.{client}
+use Words.Leases.{no_drift, steal_wait}
+use Words.Safety.{IsHead}
+use Words.Server.{ServerNode, fresh_server}
+use Words.World.{World, WorldClient, client_clock, clock_of, fresh_site, fresh_world, node_at_start, node_of, numbered, server, server_clock, site_of}
+use Words.Lists.{Has}
+use Words.Numbers.{get_map, numbered_below}
+use Words.Tables.{and_true}
+use Words.Lengths.{length_map, numbers_length}
 use Rattle.std.proofs.lemmas.Grind.{div_ceil_times}
-use Rattle.st_base.specs.declared.config.Config.{Config}
-use Rattle.st_base.specs.declared.config.ConfigRefusal.TheVariants as config_refusals
-use Rattle.st_base.specs.declared.ids.NodeId.TheVariants as nodes
-use Rattle.st_base.specs.declared.ids.Stamp.{Stamp}
 use Rattle.st_base.specs.Config.{check, check_length, phases_rise, rate_is_sound}
-use Rattle.st_rules.specs.declared.world.SentMessage.{SentMessage}
-use Rattle.st_rules.specs.Client as cl
-use Rattle.st_rules.specs.Extents.{numbers}
-use Rattle.st_rules.specs.Keys.{client}
-use Rattle.st_rules.specs.Leases.{no_drift, steal_wait}
-use Rattle.st_rules.specs.Safety.{IsHead}
-use Rattle.st_rules.specs.Server.{ServerNode, fresh_server}
-use Rattle.st_rules.specs.World.{World, WorldClient, client_clock, clock_of, fresh_site, fresh_world, node_at_start, node_of, numbered, server, server_clock, site_of}
 use Rattle.st_rules.proofs.Drift.{pair_first, square_first}
 use Rattle.st_protocol.specs.Assoc as net
 use Rattle.st_protocol.specs.Assoc.{AtFirst, BeginsAt, ConfigOk, Reached}
-use Rattle.st_lemmas.specs.Lists.{Has}
-use Rattle.st_lemmas.proofs.Numbers.{get_map, numbered_below}
-use Rattle.st_lemmas.proofs.Tables.{and_true}
 use Rattle.st_laws_pages.proofs.Disks.Whole.{fresh_fates}
 use Rattle.st_laws_refine.specs.Client.Law.{Apart, Place}
 use Rattle.st_laws_refine.specs.Server.Pair.{Served, Timed, client_in, client_at_site, client_view, idle_client, pair, terms_of}
@@ -34,7 +33,6 @@ use Rattle.st_laws_refine.proofs.Server.Counts.{few_fresh}
 use Rattle.st_laws_refine.proofs.Server.Fresh.{fresh_begins, fresh_compat, fresh_sound, idle_begins, no_ghost}
 use Rattle.st_laws_leases.specs.Sides.Invariants.{Both, Standing}
 use Rattle.st_laws_leases.specs.Sides.World.{AllStand, ServerStands}
-use Rattle.st_laws_pages.proofs.Lives.Fresh.{length_map, numbers_length}
 use Rattle.st_laws_pages.proofs.Lives.Fresh.{fresh_is}
 
 -- Lists of numbers.
@@ -43,10 +41,6 @@ unfolding numbers
 numbers_is a zero i l = absurd (omega arith)
 numbers_is a (suc c) zero l = ap (λ n. Some n) (let z : a ≡ a + 0 = omega arith in z)
 numbers_is a (suc c) (suc i) l = numbers_is (a + 1) c i (omega arith) ∙ ap (λ n. Some n) (let z : (a + 1) + i ≡ a + suc i = omega arith in z)
-
-length_both : {A : Type 0} (xs ys : List A) → length (xs ++ ys) ≡ length xs + length ys
-length_both [] ys = omega arith
-length_both (x ∷ xs) ys = let z = length_both xs ys in omega (arith, z)
 
 numbered_first : {A : Type 0} (f : ℕ → A) (count : ℕ) → 1 ≤ count → numbered (map f (numbers 1 count)) 1 ≡ Some (f 1)
 numbered_first f count l = get_map f (numbers 1 count) 0 ∙ ap (option_map f) (numbers_is 1 count 0 l)
@@ -116,16 +110,12 @@ split a (suc c) d =
     ap (numbers a) (let x : suc c + suc d ≡ suc (c + suc d) = omega arith in x)
     ∙ ap (λ xs. a ∷ xs) (split (a + 1) c d ∙ (λ j. numbers (a + 1) c ++ (let z : (a + 1) + c ≡ a + suc c = omega arith in z) j ∷ numbers ((let y : (a + 1) + c + 1 ≡ a + suc c + 1 = omega arith in y) j) d))
 
-map_both : {A B : Type 0} (f : A → B) (xs ys : List A) → map f (xs ++ ys) ≡ map f xs ++ map f ys
-map_both f [] ys = refl
-map_both f (x ∷ xs) ys = ap (λ zs. f x ∷ zs) (map_both f xs ys)
-
 placed : (s servers : ℕ) → 1 ≤ s → s ≤ servers → Place (server s) (map cl.fresh_association (numbers 1 servers)) (cl.fresh_association s)
 placed s servers pos top =
     record {
       before = map cl.fresh_association (numbers 1 (pred s));
       after = map cl.fresh_association (numbers (s + 1) (servers - s));
-      is = ap (λ n. map cl.fresh_association (numbers 1 n)) all ∙ ap (map cl.fresh_association) (split 1 (pred s) (servers - s) ∙ same) ∙ map_both cl.fresh_association (numbers 1 (pred s)) (s ∷ numbers (s + 1) (servers - s));
+      is = ap (λ n. map cl.fresh_association (numbers 1 n)) all ∙ ap (map cl.fresh_association) (split 1 (pred s) (servers - s) ∙ same) ∙ map-append cl.fresh_association (numbers 1 (pred s)) (s ∷ numbers (s + 1) (servers - s));
       here = refl;
       apart_before = apart_numbers s 1 (pred s) (λ i l e. omega (arith, below));
       apart_after = apart_numbers s (s + 1) (servers - s) (λ i l e. omega arith);
@@ -267,7 +257,7 @@ module _ (kb : Config) (clients servers disks blocks form : ℕ) (head : IsHead 
   pub clocks_are : length w.clocks ≡ clients + servers
   unfolding fresh_world
   clocks_are =
-      length_both (map client_clock (numbers 1 clients)) (map server_clock (numbers 1 servers))
+      length-append (map client_clock (numbers 1 clients)) (map server_clock (numbers 1 servers))
       ∙ (λ j. (length_map client_clock (numbers 1 clients) ∙ numbers_length 1 clients) j + (length_map server_clock (numbers 1 servers) ∙ numbers_length 1 servers) j)
 
   clients_are : length w.clients ≡ clients

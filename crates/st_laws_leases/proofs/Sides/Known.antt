@@ -1,25 +1,23 @@
 -- The server of each association of a client is one of the world's.
-use Rattle.std.proofs.Common.{◌≡◌, ◌≢◌, ℕ, ◌≤◌, ◌⊎◌, List, Some, sym, ap, ◌∙◌, subst, inl, inr, arith}
-use Rattle.std.specs.Prelude.{length}
+use Rattle.st_lemmas.proofs.Words
+use Words.{◌≡◌, ◌≢◌, ℕ, ◌≤◌, ◌⊎◌, List, Some, sym, ap, ◌∙◌, subst, inl, inr, arith, length, ClientId, ClientInput}
+use Words.Client as cl
+use Words.ClientState.{Association}
+use Words.Extents.{numbers}
+use Words.World.{World, WorldClient, fresh_site, fresh_world, node_at_start, numbered, site_of, with_numbered}
+use Words.Lists.{Has}
+use Words.Lookups.{some_is}
+use Words.Numbers.{numbered_below, numbered_own, numbered_other}
+use Words.Tables.{has_map, same_or_not}
+use Words.Lengths.{length_map, numbers_length}
+use Words.Members.{numbers_between}
 use Rattle.st_base.specs.declared.config.Config as base
-use Rattle.st_base.specs.declared.ids.ClientId.{ClientId}
-use Rattle.st_rules.specs.declared.client.ClientInput.{ClientInput}
-use Rattle.st_rules.specs.Client as cl
-use Rattle.st_rules.specs.ClientState.{Association}
-use Rattle.st_rules.specs.Extents.{numbers}
-use Rattle.st_rules.specs.World.{World, WorldClient, fresh_site, fresh_world, node_at_start, numbered, site_of, with_numbered}
-use Rattle.st_lemmas.specs.Lists.{Has}
-use Rattle.st_lemmas.proofs.Lookups.{some_is}
-use Rattle.st_lemmas.proofs.Numbers.{numbered_below, numbered_own, numbered_other}
-use Rattle.st_lemmas.proofs.Tables.{has_map, same_or_not}
 use Rattle.st_laws_refine.specs.Client.World.{site_left, world_left}
 use Rattle.st_laws_refine.proofs.Client.Sim.{world_is}
 use Rattle.st_laws_steps.specs.Lives.Lives.{LivesHold}
 use Rattle.st_laws_pages.proofs.Lives.LifeSteps.{steps_so}
 use Rattle.st_laws_steps.proofs.Client.Stepping.{pairs_has}
-use Rattle.st_laws_leases.proofs.Sides.DirtyPages.{numbers_has}
 use Rattle.st_laws_pages.proofs.Lives.Fresh.{fresh_is}
-use Rattle.st_laws_pages.proofs.Lives.Fresh.{length_map, numbers_length}
 
 -- at each association of these clients
 abbrev pub Known : ℕ → List WorldClient → Type 0
@@ -60,7 +58,7 @@ pub fresh_known : (kb : base.Config) (clients servers disks blocks form : ℕ) �
 unfolding fresh_world cl.fresh_client
 fresh_known kb clients servers disks blocks form c site e a h =
     let m = has_map cl.fresh_association (numbers 1 servers) a (subst (λ (s : WorldClient). Has a s.node.state.associations) (fresh_is (fresh_site kb servers) clients c site e) h) in
-    let n = numbers_has 1 servers m.0 m.1 in
+    let n = numbers_between 1 servers m.0 m.1 in
     let l = n.0 in
     let u = n.1 in
     let s = ap (λ (x : Association). x.server.0) m.2 in

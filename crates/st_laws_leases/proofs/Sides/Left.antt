@@ -1,27 +1,20 @@
 -- What a client's outputs and its flush steps leave of the world: how far the clocks drifted; and no byte of the messages goes.
-use Rattle.std.proofs.Common.{◌≡◌, ◌≤◌, ◌⊎◌, List, [], ◌∷◌, Option, Some, None, refl, ◌∙◌, subst, inl, inr, arith}
-use Rattle.std.specs.Prelude.{length, pred}
-use Rattle.st_base.specs.declared.ids.ClientId.{ClientId}
-use Rattle.st_base.specs.declared.ids.ServerId.{ServerId}
-use Rattle.st_base.specs.declared.ids.Stamp.{Stamp}
-use Rattle.st_base.specs.declared.ids.NodeId.TheVariants as nodes
-use Rattle.st_messages.specs.declared.message.Message.{Message}
-use Rattle.st_messages.specs.declared.output.Note.{Note}
-use Rattle.st_messages.specs.declared.output.Note.TheVariants as notes
-use Rattle.st_messages.specs.declared.output.Output.{Output}
-use Rattle.st_messages.specs.declared.output.Output.TheVariants as outputs
-use Rattle.st_rules.specs.declared.lease.Phase.{Phase}
-use Rattle.st_rules.specs.declared.lease.Phase.TheVariants as phases
-use Rattle.st_rules.specs.declared.world.SentMessage.{SentMessage}
-use Rattle.st_rules.specs.ClientState.{ClientState}
-use Rattle.st_rules.specs.Client as cl
-use Rattle.st_rules.specs.World as world
-use Rattle.st_rules.specs.World.{World, WorldClient, site_of, with_numbered}
-use Rattle.st_rules.specs.Events as ev
-use Rattle.st_rules.specs.Events.{WorldTurn, client_says, client_says_all}
-use Rattle.st_lemmas.specs.Lists.{Has}
+use Rattle.st_lemmas.proofs.Words
+use Words.{◌≡◌, ◌≤◌, ◌⊎◌, List, [], ◌∷◌, Option, Some, None, refl, ◌∙◌, subst, inl, inr, arith, length, pred, ClientId, ServerId, Stamp, Message, Note, Output}
+use Words.{Phase, SentMessage}
+use Words.nodes
+use Words.notes
+use Words.outputs
+use Words.phases
+use Words.ClientState.{ClientState}
+use Words.Client as cl
+use Words.World as world
+use Words.World.{World, WorldClient, site_of, with_numbered}
+use Words.Events as ev
+use Words.Events.{WorldTurn, client_says, client_says_all}
+use Words.Lists.{Has}
+use Words.Numbers.{set_length}
 use Rattle.st_laws_leases.specs.Sides.Invariants.{Left}
-use Rattle.st_laws_leases.proofs.Sides.Pairs.{length_set}
 
 -- the drift stays, and no byte goes
 pub record RunsOn (w v : World) : Type 0 where
@@ -108,7 +101,7 @@ one_changed w c new v s k t d e n =
       config = k;
       clocks = t;
       drift = d;
-      many = (λ j. length (e j)) ∙ length_set w.clients (pred c.0) new;
+      many = (λ j. length (e j)) ∙ set_length w.clients (pred c.0) new;
       bytes = let b : v.net.bytes ≡ w.net.bytes = (λ j. (n j).bytes) in omega (arith, b);
       messages = λ m h. inl (m, subst (λ (x : world.Net). Has m x.messages) n h, refl);
     }

@@ -1,40 +1,27 @@
 -- Changes are locked at every event, from what holds of every server and client and of the lock tables.
-use Rattle.std.proofs.Common.{◌≡◌, ℕ, ◌+◌, Bool, true, false, List, [], ◌∷◌, ◌++◌, Option, Some, None, Ok, Err, refl, sym, ap, ◌∙◌, subst, if◌then◌else◌}
-use Rattle.std.specs.Prelude.{Result, length, pred}
-use Rattle.std.specs.List.{list_all}
-use Rattle.st_base.specs.declared.ids.ClientId.{ClientId}
-use Rattle.st_base.specs.declared.ids.NodeId.{NodeId}
-use Rattle.st_base.specs.declared.ids.NodeId.TheVariants as nodes
-use Rattle.st_base.specs.declared.ids.ServerId.{ServerId}
-use Rattle.st_messages.specs.declared.event.Event.{Event}
-use Rattle.st_messages.specs.declared.event.Event.TheVariants as events
-use Rattle.st_messages.specs.declared.message.Message.{Message}
-use Rattle.st_messages.specs.declared.output.Note.{Note}
-use Rattle.st_messages.specs.declared.output.Note.TheVariants as notes
-use Rattle.st_messages.specs.declared.output.Output.{Output}
-use Rattle.st_messages.specs.declared.output.Output.TheVariants as outputs
-use Rattle.st_rules.specs.declared.client.ClientInput.{ClientInput}
-use Rattle.st_rules.specs.declared.input.ServerInput.{ServerInput}
-use Rattle.st_rules.specs.declared.log.Fate.{Fate}
-use Rattle.st_rules.specs.declared.log.Fate.TheVariants as fates
-use Rattle.st_rules.specs.declared.log.LogEntry.{LogEntry}
-use Rattle.st_rules.specs.declared.node.StepRefusal.{StepRefusal}
+use Rattle.st_lemmas.proofs.Words
+use Words.{◌≡◌, ℕ, ◌+◌, Bool, true, false, List, [], ◌∷◌, ◌++◌, Option, Some, None, Ok, Err, refl, sym, ap, ◌∙◌, subst, if◌then◌else◌, Result, length, pred}
+use Words.{list_all, ClientId, NodeId, ServerId, Event, Message, Note, Output, ClientInput, ServerInput, Fate, LogEntry, StepRefusal, Observation}
+use Words.{IssuedCommand, SentMessage}
+use Words.nodes
+use Words.events
+use Words.notes
+use Words.outputs
+use Words.fates
+use Words.seen
+use Words.Client as cl
+use Words.Disks as disks
+use Words.Events as ev
+use Words.Events.{WorldTurn, happens}
+use Words.Safety.{is_change_locked}
+use Words.Server as sv
+use Words.Server.{ServerNode}
+use Words.World as world
+use Words.World.{World, WorldClient, clock_of, issued_of, node_of, site_of}
+use Words.Tables.{and_both, and_true}
+use Words.Numbers.{set_length}
 use Rattle.st_rules.specs.declared.node.StepRefusal.TheVariants.{Crashed}
-use Rattle.st_rules.specs.declared.observation.Observation.{Observation}
-use Rattle.st_rules.specs.declared.observation.Observation.TheVariants as seen
-use Rattle.st_rules.specs.declared.world.IssuedCommand.{IssuedCommand}
-use Rattle.st_rules.specs.declared.world.SentMessage.{SentMessage}
-use Rattle.st_rules.specs.Client as cl
-use Rattle.st_rules.specs.Disks as disks
-use Rattle.st_rules.specs.Events as ev
-use Rattle.st_rules.specs.Events.{WorldTurn, happens}
-use Rattle.st_rules.specs.Safety.{is_change_locked}
-use Rattle.st_rules.specs.Server as sv
-use Rattle.st_rules.specs.Server.{ServerNode}
-use Rattle.st_rules.specs.World as world
-use Rattle.st_rules.specs.World.{World, WorldClient, clock_of, issued_of, node_of, site_of}
 use Rattle.st_protocol.specs.Assoc.{Config}
-use Rattle.st_lemmas.proofs.Tables.{and_both, and_true}
 use Rattle.st_laws_refine.specs.Client.World.{stepped, world_left}
 use Rattle.st_laws_refine.proofs.Client.Sim.{world_is}
 use Rattle.st_laws_steps.specs.Lives.Lives.{LivesHold}
@@ -42,7 +29,6 @@ use Rattle.st_laws_pages.specs.LockedCuts.CutLocks.{is_cut_locked}
 use Rattle.st_laws_leases.specs.Sides.World.{AllStand}
 use Rattle.st_laws_leases.proofs.Sides.Changes.{is_write_locked, took}
 use Rattle.st_laws_leases.proofs.Sides.Known.{Known, crash_known, start_known, step_known}
-use Rattle.st_laws_leases.proofs.Sides.Pairs.{length_set}
 
 -- the servers of a world's clients are the world's
 abbrev pub ServersKnown : World → Type 0
@@ -135,7 +121,7 @@ module _ (k : Config) (count : ℕ) where
       go (Ok t) =
           let v = ev.with_node s t.node w in
           let z = server_all v s t.out (ev.quiet v) (record { clients = refl; servers = refl; unwritten = λ x. refl }) in
-          quietly w (ev.server_says_all s t.out (ev.quiet v)) z.unwritten z.clients (ap length z.servers ∙ length_set w.servers (pred s.0) t.node) h
+          quietly w (ev.server_says_all s t.out (ev.quiet v)) z.unwritten z.clients (ap length z.servers ∙ set_length w.servers (pred s.0) t.node) h
 
   pub happens_written : (w : World) (e : Event) → LivesHold w → ServersKnown w → Written (happens w e)
   unfolding ev.happens ev.ticks ev.asks_at ev.delivers ev.delivers_to ev.loses_message ev.advances ev.marks ev.effects ev.reports_of ev.tells ev.tells_client ev.tells_site ev.crashes ev.crashes_client ev.crashes_server ev.starts ev.starts_client ev.starts_server
@@ -192,7 +178,7 @@ module _ (k : Config) (count : ℕ) where
     where
       go : (o : Option ServerNode) → Written (ev.quiet (ev.crashes_server w s o))
       go None = still w w refl refl h
-      go (Some node) = still w (ev.crashes_server w s (Some node)) refl (length_set w.servers (pred s.0) _) h
+      go (Some node) = still w (ev.crashes_server w s (Some node)) refl (set_length w.servers (pred s.0) _) h
   happens_written w (events.Start (nodes.Client c)) l h = go (site_of w c) refl
     where
       go : (o : Option WorldClient) → site_of w c ≡ o → Written (ev.quiet (ev.starts_client w c o))
@@ -202,7 +188,7 @@ module _ (k : Config) (count : ℕ) where
     where
       go : (o : Option ServerNode) → Written (ev.quiet (ev.starts_server w s o))
       go None = still w w refl refl h
-      go (Some node) = still w (ev.starts_server w s (Some node)) refl (length_set w.servers (pred s.0) _) h
+      go (Some node) = still w (ev.starts_server w s (Some node)) refl (set_length w.servers (pred s.0) _) h
 
 -- a line whose change is locked
 locked_one : (w : World) (o : Observation) → is_cut_locked w.servers o ≡ true → is_write_locked w o ≡ true → is_change_locked w o ≡ true

@@ -1,16 +1,14 @@
 -- What the associations of a server don't see: steps of other servers, and what is lost, cut or healed on the way.
-use Rattle.std.proofs.Common.{◌≡◌, ◌≢◌, ℕ, zero, suc, ◌+◌, ◌⊎◌, true, List, [], ◌∷◌, refl, sym, ap, ◌∙◌, subst, inl, inr, arith}
-use Rattle.std.specs.Prelude.{length, set, slice_get, unwrap_or, Some}
-use Rattle.st_base.specs.declared.ids.NodeId.{NodeId}
-use Rattle.st_base.specs.declared.ids.NodeId.TheVariants as nodes
-use Rattle.st_rules.specs.declared.world.SentMessage.{SentMessage}
-use Rattle.st_rules.specs.Keys.{client}
-use Rattle.st_rules.specs.Server.{is_client_node}
-use Rattle.st_rules.specs.World.{World, WorldClient, numbered, site_of, clock_of, stamp, server}
-use Rattle.st_rules.specs.Server.{ServerNode}
-use Rattle.st_rules.specs.Events.{with_lost, with_cut, without_cut}
+use Rattle.st_lemmas.proofs.Words
+use Words.{◌≡◌, ◌≢◌, ℕ, zero, suc, ◌+◌, ◌⊎◌, true, List, [], ◌∷◌, refl, sym, ap, ◌∙◌, subst, inl, inr, arith, length, set, slice_get, unwrap_or, Some, NodeId}
+use Words.{SentMessage}
+use Words.nodes
+use Words.Keys.{client}
+use Words.Server.{is_client_node, ServerNode}
+use Words.World.{World, WorldClient, numbered, site_of, clock_of, stamp, server}
+use Words.Events.{with_lost, with_cut, without_cut}
+use Words.Lists.{Has}
 use Rattle.st_protocol.specs.Assoc.{Config, Reached}
-use Rattle.st_lemmas.specs.Lists.{Has}
 use Rattle.st_laws_refine.specs.Views.Halves.{Ghost, half_of}
 use Rattle.st_laws_refine.specs.Server.View.{StandsAt}
 use Rattle.st_laws_refine.specs.Server.Pair.{life_now, client_at_site, client_in, EndedBy, Wire, Wires, Served}

@@ -1,39 +1,21 @@
 -- Both sides of each association of one server, in the world.
-use Rattle.std.proofs.Common.{◌≡◌, ℕ, zero, suc, ◌+◌, ◌<◌, ◌≤◌, Bool, true, false, List, [], ◌∷◌, ◌++◌, ◌==◌, refl, sym, ap, ◌∙◌, subst, inl, inr, arith}
-use Rattle.std.specs.Prelude.{length, set, slice_get, find, Some, if◌then◌else◌}
-use Rattle.std.proofs.lemmas.Bool.{eq-eqb, ne_eqb}
-use Rattle.st_base.specs.declared.ids.ServerId.{ServerId}
-use Rattle.st_base.specs.declared.ids.NodeId.TheVariants as nodes
-use Rattle.st_messages.specs.declared.output.Output.{Output}
-use Rattle.st_messages.specs.declared.output.Output.TheVariants as outputs
-use Rattle.st_rules.specs.declared.world.SentMessage.{SentMessage}
-use Rattle.st_rules.specs.Keys.{client, server_node}
-use Rattle.st_rules.specs.ClientState.{Association, ClientState, is_at}
-use Rattle.st_rules.specs.Client.{association_with}
-use Rattle.st_rules.specs.World.{World, WorldClient, numbered, site_of, clock_of, server}
+use Rattle.st_lemmas.proofs.Words
+use Words.{◌≡◌, ℕ, ◌+◌, Bool, true, false, List, [], ◌∷◌, ◌++◌, ◌==◌, refl, sym, ap, ◌∙◌, subst, inl, inr}
+use Words.{find, Some, if◌then◌else◌, eq-eqb, ne_eqb, ServerId, Output, SentMessage}
+use Words.nodes
+use Words.outputs
+use Words.Keys.{client, server_node}
+use Words.ClientState.{Association, ClientState, is_at}
+use Words.Client.{association_with}
+use Words.World.{World, WorldClient, site_of, clock_of, server}
+use Words.Lists.{Has}
 use Rattle.st_protocol.specs.Assoc.{Msg}
-use Rattle.st_lemmas.specs.Lists.{Has}
 use Rattle.st_laws_refine.specs.Views.Messages.{Received}
 use Rattle.st_laws_refine.specs.Views.Halves.{client_of}
 use Rattle.st_laws_refine.specs.Server.Pair.{client_view, client_at_site, client_in}
 use Rattle.st_laws_refine.specs.Client.Invariants.{Said}
 use Rattle.st_laws_refine.specs.Client.Law.{Apart, Place}
 use Rattle.st_laws_refine.specs.Client.World.{sent}
-
--- what goes by a number
-pub length_set : {A : Type 0} (xs : List A) (n : ℕ) (x : A) → length (set xs n x) ≡ length xs
-length_set [] n x = refl
-length_set (y ∷ ys) zero x = refl
-length_set (y ∷ ys) (suc n) x = ap suc (length_set ys n x)
-
-get_below : {A : Type 0} (xs : List A) (n : ℕ) (x : A) → slice_get xs n ≡ Some x → n < length xs
-get_below [] n x e = cc
-get_below (y ∷ ys) zero x e = omega arith
-get_below (y ∷ ys) (suc n) x e = let z = get_below ys n x e in omega arith
-
-pub numbered_some : {A : Type 0} (xs : List A) (n : ℕ) (x : A) → numbered xs n ≡ Some x → (1 ≤ n) × (n ≤ length xs)
-numbered_some xs zero x e = cc
-numbered_some xs (suc n) x e = let z = get_below xs n x e in (omega arith, omega arith)
 
 -- the association is found under its server
 apart_not : (s : ℕ) (xs : List Association) (a : Association) (ys : List Association) → Apart (server s) xs → a.server ≡ server s → find (is_at (server s)) (xs ++ a ∷ ys) ≡ Some a

@@ -1,7 +1,8 @@
 -- Every event is steps of the machine of each server and its clients: each server of the world after it came from where it was.
-use Rattle.std.proofs.Common.{◌≡◌, ℕ, Some, refl, subst}
-use Rattle.st_rules.specs.Server.{ServerNode}
-use Rattle.st_rules.specs.World.{World, node_of, server}
+use Rattle.st_lemmas.proofs.Words
+use Words.{◌≡◌, ℕ, Some, refl, subst}
+use Words.Server.{ServerNode}
+use Words.World.{World, node_of, server}
 use Rattle.st_protocol.specs.Assoc as net
 use Rattle.st_protocol.specs.Assoc.{Config}
 use Rattle.st_laws_refine.specs.Server.Paths.{Path, Here}

@@ -1,22 +1,18 @@
 -- The promises that follow from what holds of every server and client: thefts come late, graces wait, servers send no conflict.
-use Rattle.std.proofs.Common.{◌≡◌, ℕ, true, List, Option, Some, None, Ok, refl, sym, ap, ◌∙◌, subst}
-use Rattle.std.specs.List.{list_all}
-use Rattle.std.proofs.lemmas.Bool.{eq-eqb}
-use Rattle.st_base.specs.declared.ids.NodeId.{NodeId}
-use Rattle.st_base.specs.declared.ids.NodeId.TheVariants as nodes
-use Rattle.st_base.specs.declared.ids.ServerId.{ServerId}
-use Rattle.st_messages.specs.declared.event.Event.{Event}
-use Rattle.st_messages.specs.declared.event.Event.TheVariants as events
-use Rattle.st_rules.specs.declared.observation.Observation.{Observation}
-use Rattle.st_rules.specs.declared.world.SentMessage.{SentMessage}
-use Rattle.st_rules.specs.Admissible as admissible
-use Rattle.st_rules.specs.Events.{counted, happens, world_step}
-use Rattle.st_rules.specs.History.{Traced}
-use Rattle.st_rules.specs.Safety.{Step, has_waited, is_late, is_no_conflict, is_receiver, node_waited}
-use Rattle.st_rules.specs.Server.{ServerNode}
-use Rattle.st_rules.specs.World.{World, all_servers, is_running, message_of, node_of, receiver_of, same_node, server}
+use Rattle.st_lemmas.proofs.Words
+use Words.{◌≡◌, ℕ, true, List, Option, Some, None, Ok, refl, sym, ap, ◌∙◌, subst, list_all, eq-eqb, NodeId, ServerId, Event, Observation, SentMessage}
+use Words.nodes
+use Words.events
+use Words.Admissible as admissible
+use Words.Events.{counted, happens, world_step}
+use Words.History.{Traced}
+use Words.Safety.{Step, has_waited, is_late, is_no_conflict, is_receiver, node_waited}
+use Words.Server.{ServerNode}
+use Words.World.{World, all_servers, is_running, message_of, node_of, receiver_of, same_node, server}
+use Words.Tables.{all_pass, not_false}
+use Words.Truth.{or_first}
+use Words.Worlds.{stands_not}
 use Rattle.st_protocol.specs.Assoc.{Config}
-use Rattle.st_lemmas.proofs.Tables.{all_pass}
 use Rattle.st_laws_leases.specs.Dates.Dates.{Dated}
 use Rattle.st_laws_leases.proofs.Dates.Calm.{happens_calm, report_calm}
 use Rattle.st_laws_leases.proofs.Dates.SentMessages.{AllCalm}
@@ -25,11 +21,12 @@ use Rattle.st_laws_refine.specs.Server.Pair.{DatesShown}
 use Rattle.st_laws_refine.proofs.Server.Runs.{delivered, ticked}
 use Rattle.st_laws_refine.proofs.Server.Waits.{server_waits}
 use Rattle.st_laws_leases.specs.Sides.World.{AllStand}
-use Rattle.st_laws_leases.proofs.Sides.Calmly.{late_all, client_receives, calm_tick, calm_ask, calm_loss, calm_advance, calm_effect, calm_report, calm_link, calm_crash, calm_stop, calm_start}
+use Rattle.st_laws_leases.proofs.Sides.Calmly.{late_all, client_receives, calm_tick, calm_ask, calm_loss, calm_advance, calm_effect, calm_report, calm_link}
+use Rattle.st_laws_leases.proofs.Sides.Calmly.{calm_crash, calm_stop, calm_start}
 use Rattle.st_laws_leases.proofs.Sides.Quietly.{quiet_advance, quiet_crash, quiet_effect, quiet_link, quiet_loss, quiet_start, quiet_stop}
-use Rattle.st_laws_leases.proofs.Sides.AllAssociations.{first_none, message_there, positive, running_node, settings}
+use Rattle.st_laws_leases.proofs.Sides.AllAssociations.{message_there, positive, running_node, settings}
 use Rattle.st_laws_leases.proofs.Sides.Shown.{dates_shown}
-use Rattle.st_laws_leases.proofs.Sides.Fold.{not_false, not_stands, second_none}
+use Rattle.st_laws_leases.proofs.Sides.Fold.{second_none}
 
 module _ (k : Config) (t : Traced) (count : ℕ) (a : AllStand k count t.world) (d : DatesStand t.world t.history.dates) where
   abbrev w : World
@@ -60,7 +57,7 @@ module _ (k : Config) (t : Traced) (count : ℕ) (a : AllStand k count t.world) 
       list_all (is_late t) (happens (counted w) (events.Tick (nodes.Server (server s)))).seen ≡ true
   unfolding admissible.refusal
   tick_late s r e =
-      let n = running_node (node_of w (server s)) (not_false _ (not_stands _ _ (first_none _ _ (second_none _ _ r)))) in
+      let n = running_node (node_of w (server s)) (not_false _ (stands_not _ _ (or_first _ _ (second_none _ _ r)))) in
       let z = a.servers s n.0 n.1 in
       (ticked k s z.ended w (happens (counted w) (events.Tick (nodes.Server (server s)))) n.0 z.ghosts a.sound n.2 (settings k count w a) z.both.ends e z.both.stands).late t refl d.placed (shown_by s n.0 n.1)
 
@@ -70,7 +67,7 @@ module _ (k : Config) (t : Traced) (count : ℕ) (a : AllStand k count t.world) 
   unfolding admissible.refusal admissible.refused_delivery
   message_late n s m r em er e =
       let q = subst (λ o. admissible.refused_delivery w n o ≡ None) em r in
-      let runs = not_false _ (not_stands _ _ (first_none _ _ (second_none _ _ (second_none _ _ q)))) in
+      let runs = not_false _ (stands_not _ _ (or_first _ _ (second_none _ _ (second_none _ _ q)))) in
       let y = running_node (node_of w (server s)) (ap (is_running w) (sym er) ∙ runs) in
       let z = a.servers s y.0 y.1 in
       (delivered k s z.ended w n m (happens (counted w) (events.Deliver n)) y.0 z.ghosts a.sound (positive k count w a s y.0 y.1) y.2 (settings k count w a) z.both.ends e em er z.both.stands).late t refl d.placed (shown_by s y.0 y.1)
@@ -108,7 +105,7 @@ module _ (k : Config) (t : Traced) (count : ℕ) (a : AllStand k count t.world) 
         list_all is_no_conflict (happens (counted w) (events.Tick (nodes.Server (server s)))).seen ≡ true
     unfolding admissible.refusal
     tick_quiet s r e =
-        let n = running_node (node_of w (server s)) (not_false _ (not_stands _ _ (first_none _ _ (second_none _ _ r)))) in
+        let n = running_node (node_of w (server s)) (not_false _ (stands_not _ _ (or_first _ _ (second_none _ _ r)))) in
         let z = a.servers s n.0 n.1 in
         (ticked k s z.ended w (happens (counted w) (events.Tick (nodes.Server (server s)))) n.0 z.ghosts a.sound n.2 (settings k count w a) z.both.ends e z.both.stands).quiet z.calm
 
@@ -117,7 +114,7 @@ module _ (k : Config) (t : Traced) (count : ℕ) (a : AllStand k count t.world) 
     unfolding admissible.refusal admissible.refused_delivery
     message_quiet n s m r em er e =
         let q = subst (λ o. admissible.refused_delivery w n o ≡ None) em r in
-        let runs = not_false _ (not_stands _ _ (first_none _ _ (second_none _ _ (second_none _ _ q)))) in
+        let runs = not_false _ (stands_not _ _ (or_first _ _ (second_none _ _ (second_none _ _ q)))) in
         let y = running_node (node_of w (server s)) (ap (is_running w) (sym er) ∙ runs) in
         let z = a.servers s y.0 y.1 in
         (delivered k s z.ended w n m (happens (counted w) (events.Deliver n)) y.0 z.ghosts a.sound (positive k count w a s y.0 y.1) y.2 (settings k count w a) z.both.ends e em er z.both.stands).quiet z.calm

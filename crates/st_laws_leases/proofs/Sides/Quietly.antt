@@ -1,20 +1,15 @@
 -- Where no node takes a step, nothing is sent, so no conflict.
-use Rattle.std.proofs.Common.{◌≡◌, ℕ, ◌+◌, true, List, [], ◌∷◌, Option, Some, None, refl, ◌∙◌}
-use Rattle.std.specs.List.{list_all}
+use Rattle.st_lemmas.proofs.Words
+use Words.{◌≡◌, ℕ, ◌+◌, true, List, [], ◌∷◌, Option, Some, None, refl, ◌∙◌, list_all, ClientId, NodeId, ServerId, Fate, LogEntry}
+use Words.nodes
+use Words.events
+use Words.fates
+use Words.Events as ev
+use Words.Safety.{is_no_conflict}
+use Words.World as world
+use Words.World.{World, WorldClient, site_of}
+use Words.Tables.{and_both}
 use Rattle.std.proofs.lemmas.List.Folds.{list_all-append}
-use Rattle.st_base.specs.declared.ids.ClientId.{ClientId}
-use Rattle.st_base.specs.declared.ids.NodeId.{NodeId}
-use Rattle.st_base.specs.declared.ids.NodeId.TheVariants as nodes
-use Rattle.st_base.specs.declared.ids.ServerId.{ServerId}
-use Rattle.st_messages.specs.declared.event.Event.TheVariants as events
-use Rattle.st_rules.specs.declared.log.Fate.{Fate}
-use Rattle.st_rules.specs.declared.log.Fate.TheVariants as fates
-use Rattle.st_rules.specs.declared.log.LogEntry.{LogEntry}
-use Rattle.st_rules.specs.Events as ev
-use Rattle.st_rules.specs.Safety.{is_no_conflict}
-use Rattle.st_rules.specs.World as world
-use Rattle.st_rules.specs.World.{World, WorldClient, site_of}
-use Rattle.st_lemmas.proofs.Tables.{and_both}
 
 fate_quiet : (n : ℕ) (a b : Fate) → list_all is_no_conflict (ev.fate_seen n a b) ≡ true
 fate_quiet n fates.Pending fates.Hard = refl

@@ -1,18 +1,15 @@
 -- Everything holds after every event of every run.
-use Rattle.std.proofs.Common.{◌≡◌, ℕ, ◌+◌, true, ◌==◌, List, [], ◌∷◌, ◌++◌, Ok, Err, refl, sym, ◌∙◌, subst, ap}
-use Rattle.std.specs.Prelude.{Result, length}
-use Rattle.std.specs.List.{list_all}
-use Rattle.std.proofs.lemmas.Bool.{eqb-true}
+use Rattle.st_lemmas.proofs.Words
+use Words.{◌≡◌, ℕ, ◌+◌, true, ◌==◌, List, [], ◌∷◌, ◌++◌, Ok, Err, refl, sym, ◌∙◌, subst, ap, Result, length, list_all, eqb-true, Event, WorldRefusal}
+use Words.events
+use Words.Events.{WorldTurn, counted, world_step}
+use Words.History.{Traced, traced, traced_after}
+use Words.Safety.{ChangesAreLocked, DirtyPagesStandAlone, GraceWaits, NoConflictIsSent, IsHead, Promise, Step, TheftsComeLate, Throughout, is_event}
+use Words.Safety.{is_increment, is_late, is_no_conflict, step, steps, steps_on}
+use Words.World.{World, fresh_world}
+use Words.Tables.{and_true}
 use Rattle.st_base.specs.declared.config.Config as base
-use Rattle.st_messages.specs.declared.event.Event.{Event}
-use Rattle.st_messages.specs.declared.event.Event.TheVariants as events
-use Rattle.st_rules.specs.declared.observation.WorldRefusal.{WorldRefusal}
-use Rattle.st_rules.specs.Events.{WorldTurn, counted, world_step}
-use Rattle.st_rules.specs.History.{Traced, traced, traced_after}
-use Rattle.st_rules.specs.Safety.{ChangesAreLocked, DirtyPagesStandAlone, GraceWaits, NoConflictIsSent, IsHead, Promise, Step, TheftsComeLate, Throughout, is_event, is_increment, is_late, is_no_conflict, step, steps, steps_on}
-use Rattle.st_rules.specs.World.{World, fresh_world}
 use Rattle.st_lemmas.proofs.Steps.{step_happens}
-use Rattle.st_lemmas.proofs.Tables.{and_true}
 use Rattle.st_laws_refine.specs.Server.Pair.{terms_of}
 use Rattle.st_protocol.specs.Assoc.{Config}
 use Rattle.st_laws_leases.specs.Sides.Law.{InEveryRun, RunsStand}
@@ -28,7 +25,7 @@ use Rattle.st_laws_leases.proofs.Sides.Locked.{ServersKnown, Written, both_locke
 use Rattle.st_laws_leases.proofs.Sides.Promised.{graces_wait, no_conflicts, thefts_late}
 use Rattle.st_laws_leases.proofs.Sides.Waiting.{waits_owed}
 use Rattle.st_laws_pages.specs.LockedCuts.CutLocks.{WaitsHold}
-use Rattle.st_laws_pages.proofs.LockedCuts.CutLaw.{law as cut_law}
+use Rattle.st_laws_pages.proofs.LockedCuts.CutLaw.{steps_lock_cuts as cut_law}
 use Rattle.st_laws_pages.proofs.Disks.Whole.{fresh_waits}
 
 -- A promise holds throughout a run over events in their ranges, if a fact of the past and the state gives it at each step and holds again after it.

@@ -1,13 +1,12 @@
 -- Each date of the history was shown to the association of its client and its server.
-use Rattle.std.proofs.Common.{◌≡◌, ℕ, ◌+◌, Bool, true, false, not, ◌==◌, List, [], ◌∷◌, refl, ap, ◌∙◌, subst, if◌then◌else◌}
+use Rattle.st_lemmas.proofs.Words
+use Words.{◌≡◌, ℕ, ◌+◌, Bool, true, false, not, ◌==◌, List, [], ◌∷◌, refl, ap, ◌∙◌, subst, if◌then◌else◌, Body, Why}
+use Words.bodies as bd
+use Words.why
+use Words.Dating.{refuses_client}
+use Words.History.{LeaseDate}
+use Words.World.{World}
 use Rattle.st_base.specs.Mode.{number_of}
-use Rattle.st_messages.specs.declared.message.Body.{Body}
-use Rattle.st_messages.specs.declared.message.Body.TheVariants as bd
-use Rattle.st_messages.specs.declared.message.Why.{Why}
-use Rattle.st_messages.specs.declared.message.Why.TheVariants as why
-use Rattle.st_rules.specs.Dating.{refuses_client}
-use Rattle.st_rules.specs.History.{LeaseDate}
-use Rattle.st_rules.specs.World.{World}
 use Rattle.st_protocol.specs.Assoc as net
 use Rattle.st_protocol.specs.Assoc.{In, Msg, msg}
 use Rattle.st_laws_refine.specs.Views.Messages.{Shows, refusal, shown, with_date}

@@ -1,30 +1,27 @@
 -- A client whose reassertion may be accepted waits for nothing: in grace it has no session yet.
-use Rattle.std.proofs.Common.{◌≡◌, ℕ, true, ◌==◌, [], Option, Some, None, refl, sym, ap, ◌∙◌, subst}
-use Rattle.std.proofs.lemmas.Bool.{eqb-true}
-use Rattle.st_base.specs.declared.ids.NodeId.{NodeId}
-use Rattle.st_base.specs.declared.ids.NodeId.TheVariants as nodes
-use Rattle.st_base.specs.declared.ids.ServerId.{ServerId}
-use Rattle.st_messages.specs.declared.event.Event.{Event}
-use Rattle.st_messages.specs.declared.event.Event.TheVariants as events
-use Rattle.st_messages.specs.declared.message.Body.{Body}
-use Rattle.st_messages.specs.declared.message.Body.TheVariants as bd
-use Rattle.st_rules.specs.declared.world.SentMessage.{SentMessage}
-use Rattle.st_rules.specs.Admissible as admissible
-use Rattle.st_rules.specs.Events.{counted}
-use Rattle.st_rules.specs.Keys.{server_node}
-use Rattle.st_rules.specs.Server.{ServerNode, is_client_node, thefts, turn}
-use Rattle.st_rules.specs.World.{World, clock_of, is_running, message_of, node_of, receiver_of, server}
+use Rattle.st_lemmas.proofs.Words
+use Words.{◌≡◌, ℕ, true, ◌==◌, [], Option, Some, None, refl, sym, ap, ◌∙◌, subst, eqb-true, NodeId, ServerId, Event, Body, SentMessage}
+use Words.nodes
+use Words.events
+use Words.bodies as bd
+use Words.Admissible as admissible
+use Words.Events.{counted}
+use Words.Keys.{server_node}
+use Words.Server.{ServerNode, is_client_node, thefts, turn}
+use Words.World.{World, clock_of, is_running, message_of, node_of, receiver_of, server}
+use Words.Lookups.{some_is}
+use Words.Tables.{and_true, not_false}
+use Words.Truth.{or_first}
+use Words.Worlds.{stands_not}
 use Rattle.st_protocol.specs.Assoc.{Config}
-use Rattle.st_lemmas.proofs.Lookups.{some_is}
-use Rattle.st_lemmas.proofs.Tables.{and_true}
 use Rattle.st_laws_refine.specs.Views.Messages.{Received}
 use Rattle.st_laws_pages.specs.LockedCuts.CutLocks.{AtMessage, AtReassertion, AtReceiver, MayAccept, WaitsForNone, WaitsOwed}
 use Rattle.st_laws_refine.specs.Server.Edits.{InGrace}
 use Rattle.st_laws_refine.proofs.Server.Conflicts.{no_waits}
 use Rattle.st_laws_refine.proofs.Server.Delivery.{message_has, to_server}
 use Rattle.st_laws_leases.specs.Sides.World.{AllStand, ServerStands}
-use Rattle.st_laws_leases.proofs.Sides.AllAssociations.{first_none, positive, running_node}
-use Rattle.st_laws_leases.proofs.Sides.Fold.{not_false, not_stands, second_none}
+use Rattle.st_laws_leases.proofs.Sides.AllAssociations.{positive, running_node}
+use Rattle.st_laws_leases.proofs.Sides.Fold.{second_none}
 
 module _ (k : Config) (count : ℕ) (w : World) (a : AllStand k count w) where
   -- at a server that runs, of a message that is delivered to it
@@ -54,7 +51,7 @@ module _ (k : Config) (count : ℕ) (w : World) (a : AllStand k count w) where
       at m em s er None e = record {}
       at m em s er (Some node) e =
           let q = subst (λ o. admissible.refused_delivery w n o ≡ None) em r in
-          let runs = not_false _ (not_stands _ _ (first_none _ _ (second_none _ _ (second_none _ _ q)))) in
+          let runs = not_false _ (stands_not _ _ (or_first _ _ (second_none _ _ (second_none _ _ q)))) in
           let y = running_node (node_of w s) (ap (is_running w) (sym er) ∙ runs) in
           at_running n s.0 m node e (subst (λ (x : ServerNode). x.running ≡ true) (some_is (sym y.1 ∙ e)) y.2) em er m.message.body refl
 

@@ -1,5 +1,5 @@
-use Rattle.st_laws_leases.proofs.History.Law.{law}
+use Rattle.st_laws_leases.proofs.History.Law.{histories_are_the_worlds}
 use Rattle.st_laws_leases.proofs.histories_are_the_worlds.Goals as goal
 
 pub returns : goal.returns
-returns c = law
+returns c = histories_are_the_worlds

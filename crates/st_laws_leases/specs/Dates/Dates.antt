@@ -21,7 +21,7 @@ use Rattle.st_rules.specs.Sessions.{Sessions}
 use Rattle.st_rules.specs.Locks.{Locks}
 use Rattle.st_rules.specs.Server.{ServerNode, ServerState, is_client_node}
 use Rattle.st_rules.specs.World.{World, WorldClient, clock_of, site_of, node_of, numbered}
-use Rattle.st_rules.specs.History.{Traced, TimerStart, is_timer_of}
+use Rattle.st_rules.specs.History.{Traced, TimerStart, client_clock, is_timer_of}
 use Rattle.st_rules.specs.Dating as dating
 use Rattle.st_rules.specs.Safety.{Step, is_conflict}
 use Rattle.st_lemmas.specs.Lists.{Has}
@@ -132,6 +132,17 @@ pub record TimerQuiet (w : World) (x : TimerStart) : Type 0 where
   pub quiet : (k : ℕ) (m : Message) → numbered (messages w) k ≡ Some m → m.header.from ≡ server_node x.server → m.header.to ≡ x.client.0
       → is_dating m ≡ true → k ≤ x.sent
 
+-- A timer of the history started in one of these steps: its server noted the suspicion then, the client's clock and the messages were as it says, and the timer
+-- that its server has of the client has that start.
+pub record Started (past : List Step) (w : World) (x : TimerStart) : Type 0 where
+  pub at : Step
+  pub among : Has at past
+  pub start : Stamp
+  pub noted : Has (seen.Suspected x.server x.client start) at.seen
+  pub clock : x.clock ≡ client_clock at.before.world x.client
+  pub sent : x.sent ≡ length at.before.world.net.messages
+  pub own : (node : ServerNode) → node_of w x.server ≡ Some node → (u : Suspect) → Has u node.state.authority.suspects → u.client ≡ x.client → u.start ≡ start
+
 -- the history has a timer of the client at the server
 pub record TimerOf (ts : List TimerStart) (s : ServerId) (c : ClientId) : Type 0 where
   pub timer : TimerStart
@@ -143,12 +154,13 @@ abbrev pub Timed : List TimerStart → ServerId → ServerState → Type 0
 Timed ts s n = (c : ClientId) → Runs n.authority c → TimerOf ts s c
 
 -- After every event: each message of a client was sent at its stamp; each message of a server that may date a lease answers a request; each lease is dated by
--- such a message; timers keep their servers quiet, and each that runs is one of the history.
+-- such a message; timers keep their servers quiet, started in a step, and each that runs is one of the history.
 pub record Dated (past : List Step) (t : Traced) : Type 0 where
   pub born : (m : Message) → Has m (messages t.world) → is_from_client m ≡ true → dating.is_request m.body ≡ true → Born past m
   pub answered : (m : Message) → Has m (messages t.world) → is_from_client m ≡ false → is_dating m ≡ true → Answer (messages t.world) m
   pub clients : (c : ClientId) (site : WorldClient) → site_of t.world c ≡ Some site → ClientDated (messages t.world) c site.node.state
   pub servers : (s : ServerId) (node : ServerNode) → node_of t.world s ≡ Some node → ServerKnown s node.state
   pub timers : (x : TimerStart) → Has x t.history.timers → TimerQuiet t.world x
+  pub started : (x : TimerStart) → Has x t.history.timers → Started past t.world x
   pub timed : (s : ServerId) (node : ServerNode) → node_of t.world s ≡ Some node → node.running ≡ true → Timed t.history.timers s node.state
   pub few : length t.world.clients ≤ 16

@@ -12,4 +12,4 @@ returns-clause-broken c = λ h. zeros_differ h.0
 
 pub returns-clause-kept : goal.returns-clause-kept
 unfolding broken_open
-returns-clause-kept c = record { alone = refl; reads = (tt, tt); causes = refl; stays = refl; hard = (refl, tt); thefts = refl; dates = refl; waits = refl; conflicts = refl; told = record { entries = through ((written 1 1 1 2 0 (filled 77) fates.Hard) ∷ []) refl refl; numbers = refl }; logged = (tt, tt); once = refl; locked = refl; order = refl; emptied = refl; history = record { timers = refl; dates = refl; grants = refl }; losses = (tt, tt); held = tt; faults = refl; numbers = record { messages = refl; commands = refl; told = refl; counts = refl }; cuts = refl; given = refl; rising = refl; acknowledged = refl; named = refl; renamed = refl; changed = refl; refused = refl }
+returns-clause-kept c = record { alone = refl; reads = (tt, tt); causes = refl; stays = refl; hard = (refl, tt); thefts = refl; dates = refl; waits = refl; conflicts = refl; told = record { entries = through ((written 1 1 1 2 0 (filled 77) fates.Hard) ∷ []) refl refl; numbers = refl }; logged = (tt, tt); once = refl; locked = refl; order = refl; emptied = refl; history = record { timers = refl; started = refl; graces = refl; begun = refl; dates = refl; grants = refl }; losses = (tt, tt); held = tt; faults = refl; numbers = record { messages = refl; commands = refl; told = refl; counts = refl }; cuts = refl; given = refl; rising = refl; acknowledged = refl; named = refl; renamed = refl; changed = refl; refused = refl }

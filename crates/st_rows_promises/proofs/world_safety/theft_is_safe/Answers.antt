@@ -26,7 +26,7 @@ returns c =
       locked = (refl, (refl, (refl, (refl, (refl, (refl, (refl, (refl, (refl, (refl, (refl, (refl, (refl, (refl, (refl, (refl, (refl, (refl, (refl, tt)))))))))))))))))));
       order = (refl, (refl, (refl, (refl, (refl, (refl, (refl, (refl, (refl, (refl, (refl, (refl, (refl, (refl, (refl, (refl, (refl, (refl, (refl, tt)))))))))))))))))));
       emptied = (refl, (refl, (refl, (refl, (refl, (refl, (refl, (refl, (refl, (refl, (refl, (refl, (refl, (refl, (refl, (refl, (refl, (refl, (refl, tt)))))))))))))))))));
-      history = (record { timers = refl; dates = refl; grants = refl }, (record { timers = refl; dates = refl; grants = refl }, (record { timers = refl; dates = refl; grants = refl }, (record { timers = refl; dates = refl; grants = refl }, (record { timers = refl; dates = refl; grants = refl }, (record { timers = refl; dates = refl; grants = refl }, (record { timers = refl; dates = refl; grants = refl }, (record { timers = refl; dates = refl; grants = refl }, (record { timers = refl; dates = refl; grants = refl }, (record { timers = refl; dates = refl; grants = refl }, (record { timers = refl; dates = refl; grants = refl }, (record { timers = refl; dates = refl; grants = refl }, (record { timers = refl; dates = refl; grants = refl }, (record { timers = refl; dates = refl; grants = refl }, (record { timers = refl; dates = refl; grants = refl }, (record { timers = refl; dates = refl; grants = refl }, (record { timers = refl; dates = refl; grants = refl }, (record { timers = refl; dates = refl; grants = refl }, (record { timers = refl; dates = refl; grants = refl }, tt)))))))))))))))))));
+      history = (record { timers = refl; started = refl; graces = refl; begun = refl; dates = refl; grants = refl }, (record { timers = refl; started = refl; graces = refl; begun = refl; dates = refl; grants = refl }, (record { timers = refl; started = refl; graces = refl; begun = refl; dates = refl; grants = refl }, (record { timers = refl; started = refl; graces = refl; begun = refl; dates = refl; grants = refl }, (record { timers = refl; started = refl; graces = refl; begun = refl; dates = refl; grants = refl }, (record { timers = refl; started = refl; graces = refl; begun = refl; dates = refl; grants = refl }, (record { timers = refl; started = refl; graces = refl; begun = refl; dates = refl; grants = refl }, (record { timers = refl; started = refl; graces = refl; begun = refl; dates = refl; grants = refl }, (record { timers = refl; started = refl; graces = refl; begun = refl; dates = refl; grants = refl }, (record { timers = refl; started = refl; graces = refl; begun = refl; dates = refl; grants = refl }, (record { timers = refl; started = refl; graces = refl; begun = refl; dates = refl; grants = refl }, (record { timers = refl; started = refl; graces = refl; begun = refl; dates = refl; grants = refl }, (record { timers = refl; started = refl; graces = refl; begun = refl; dates = refl; grants = refl }, (record { timers = refl; started = refl; graces = refl; begun = refl; dates = refl; grants = refl }, (record { timers = refl; started = refl; graces = refl; begun = refl; dates = refl; grants = refl }, (record { timers = refl; started = refl; graces = refl; begun = refl; dates = refl; grants = refl }, (record { timers = refl; started = refl; graces = refl; begun = refl; dates = refl; grants = refl }, (record { timers = refl; started = refl; graces = refl; begun = refl; dates = refl; grants = refl }, (record { timers = refl; started = refl; graces = refl; begun = refl; dates = refl; grants = refl }, tt)))))))))))))))))));
       losses = ((tt, tt), ((tt, tt), ((tt, (tt, tt)), ((tt, tt), ((tt, tt), ((tt, tt), ((tt, (tt, tt)), ((tt, tt), ((tt, tt), ((tt, (tt, tt)), ((tt, (tt, tt)), (tt, ((tt, tt), (tt, ((tt, tt), (tt, (tt, (tt, ((tt, (tt, tt)), tt)))))))))))))))))));
       held = (tt, (tt, (tt, (tt, (tt, ((through (filled 0) refl refl, tt), ((through (filled 0) refl refl, (through (filled 0) refl refl, tt)), ((through (filled 0) refl refl, (through (filled 0) refl refl, tt)), ((through (filled 0) refl refl, (through (filled 0) refl refl, tt)), ((through (filled 0) refl refl, (through (filled 0) refl refl, tt)), ((through (filled 0) refl refl, (through (filled 0) refl refl, tt)), ((through (filled 0) refl refl, (through (filled 0) refl refl, tt)), ((through (filled 0) refl refl, (through (filled 0) refl refl, tt)), ((through (filled 0) refl refl, (through (filled 0) refl refl, tt)), ((through (filled 0) refl refl, (through (filled 0) refl refl, tt)), ((through (filled 0) refl refl, (through (filled 0) refl refl, tt)), ((through (filled 0) refl refl, (through (filled 0) refl refl, tt)), ((through (filled 0) refl refl, (through (filled 0) refl refl, tt)), ((through (filled 0) refl refl, (through (filled 0) refl refl, tt)), tt)))))))))))))))))));
       faults = (refl, (refl, (refl, (refl, (refl, (refl, (refl, (refl, (refl, (refl, (refl, (refl, (refl, (refl, (refl, (refl, (refl, (refl, (refl, tt)))))))))))))))))));

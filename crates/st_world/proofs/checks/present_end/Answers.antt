@@ -1,5 +1,6 @@
-use Rattle.std.proofs.Common.{ap, ◌∙◌}
-use Rattle.st_rules.specs.World.{numbered, present_end}
+use Rattle.st_lemmas.proofs.Words
+use Words.{ap, ◌∙◌}
+use Words.World.{numbered, present_end}
 use Rattle.st_world.proofs.checks.present_end.Goals as goal
 
 pub returns : goal.returns

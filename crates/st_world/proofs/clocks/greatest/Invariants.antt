@@ -1,6 +1,7 @@
-use Rattle.std.proofs.Common.{◌≡◌, drop}
-use Rattle.std.specs.Prelude.{fold, max}
-use Rattle.st_rules.specs.Leases.{greatest_of}
+use Rattle.st_lemmas.proofs.Words
+use Words.{◌≡◌, drop, max}
+use Words.Leases.{greatest_of}
+use Rattle.std.specs.Prelude.{fold}
 use Rattle.st_world.proofs.clocks.greatest.Given as goal
 
 abbrev pub invariant-loop-step : goal.invariant-loop-step

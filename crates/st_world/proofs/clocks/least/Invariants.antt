@@ -1,6 +1,7 @@
-use Rattle.std.proofs.Common.{◌≡◌, drop}
-use Rattle.std.specs.Prelude.{fold, min}
-use Rattle.st_rules.specs.Leases.{least_of}
+use Rattle.st_lemmas.proofs.Words
+use Words.{◌≡◌, drop, min}
+use Words.Leases.{least_of}
+use Rattle.std.specs.Prelude.{fold}
 use Rattle.st_world.proofs.clocks.least.Given as goal
 
 abbrev pub invariant-loop-step : goal.invariant-loop-step

@@ -1,6 +1,7 @@
-use Rattle.std.proofs.Common.{ap}
-use Rattle.st_rules.specs.Client.{ClientNode}
-use Rattle.st_rules.specs.World.{WorldClient}
+use Rattle.st_lemmas.proofs.Words
+use Words.{ap}
+use Words.Client.{ClientNode}
+use Words.World.{WorldClient}
 use Rattle.st_world.proofs.first_parts.fresh_site.Goals as goal
 
 pub returns : goal.returns

@@ -1,7 +1,7 @@
-use Rattle.std.proofs.Common.{ap, ◌∙◌, ◌+◌, ◌-◌, ◌∷◌, ◌++◌, []}
-use Rattle.std.specs.Prelude.{map}
-use Rattle.st_rules.specs.Extents.{numbers}
-use Rattle.st_rules.specs.World.{node_at_start}
+use Rattle.st_lemmas.proofs.Words
+use Words.{ap, ◌∙◌, ◌+◌, ◌-◌, ◌∷◌, ◌++◌, [], map}
+use Words.Extents.{numbers}
+use Words.World.{node_at_start}
 use Rattle.st_world.proofs.Counted.{counted_end, counted_on}
 use Rattle.st_world.proofs.first_parts.push_nodes.Goals as goal
 

@@ -1,7 +1,7 @@
-use Rattle.std.proofs.Common.{◌≡◌, ◌+◌, ◌-◌, ◌++◌}
-use Rattle.std.specs.Prelude.{map}
-use Rattle.st_rules.specs.Extents.{numbers}
-use Rattle.st_rules.specs.World.{server_clock}
+use Rattle.st_lemmas.proofs.Words
+use Words.{◌≡◌, ◌+◌, ◌-◌, ◌++◌, map}
+use Words.Extents.{numbers}
+use Words.World.{server_clock}
 use Rattle.st_world.proofs.first_parts.push_server_clocks.Given as goal
 
 abbrev pub invariant-loop-i : goal.invariant-loop-i

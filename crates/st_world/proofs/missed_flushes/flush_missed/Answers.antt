@@ -1,4 +1,5 @@
-use Rattle.std.proofs.Common.{◌∙◌}
+use Rattle.st_lemmas.proofs.Words
+use Words.{◌∙◌}
 use Rattle.st_world.proofs.Misses.{client_end, client_none, client_some}
 use Rattle.st_world.proofs.missed_flushes.flush_missed.Goals as goal
 

@@ -1,9 +1,9 @@
-use Rattle.std.proofs.Common.{◌≡◌, ◌+◌, ◌-◌}
-use Rattle.std.specs.Prelude.{map}
-use Rattle.st_rules.specs.Admissible.{flush_missed}
-use Rattle.st_rules.specs.Extents.{numbers}
-use Rattle.st_rules.specs.Keys.{client}
-use Rattle.st_rules.specs.World.{all_clients}
+use Rattle.st_lemmas.proofs.Words
+use Words.{◌≡◌, ◌+◌, ◌-◌, map}
+use Words.Admissible.{flush_missed}
+use Words.Extents.{numbers}
+use Words.Keys.{client}
+use Words.World.{all_clients}
 use Rattle.st_world.proofs.missed_flushes.flush_missed.Given as goal
 
 abbrev pub invariant-loop-i : goal.invariant-loop-i

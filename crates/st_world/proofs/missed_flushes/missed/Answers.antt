@@ -1,6 +1,7 @@
-use Rattle.std.proofs.Common.{ap, ◌∙◌}
-use Rattle.st_rules.specs.Admissible.{missed_at}
-use Rattle.st_rules.specs.World.{numbered}
+use Rattle.st_lemmas.proofs.Words
+use Words.{ap, ◌∙◌}
+use Words.Admissible.{missed_at}
+use Words.World.{numbered}
 use Rattle.st_world.proofs.missed_flushes.missed.Goals as goal
 
 pub returns : goal.returns

@@ -1,4 +1,5 @@
-use Rattle.std.proofs.Common.{◌∙◌}
+use Rattle.st_lemmas.proofs.Words
+use Words.{◌∙◌}
 use Rattle.st_world.proofs.Misses.{server_end, server_none, server_some}
 use Rattle.st_world.proofs.missed_flushes.missed_by.Goals as goal
 

@@ -1,8 +1,8 @@
-use Rattle.std.proofs.Common.{◌≡◌, ◌+◌, ◌-◌}
-use Rattle.std.specs.Prelude.{map}
-use Rattle.st_rules.specs.Admissible.{missed_by}
-use Rattle.st_rules.specs.Extents.{numbers}
-use Rattle.st_rules.specs.World.{all_servers, server}
+use Rattle.st_lemmas.proofs.Words
+use Words.{◌≡◌, ◌+◌, ◌-◌, map}
+use Words.Admissible.{missed_by}
+use Words.Extents.{numbers}
+use Words.World.{all_servers, server}
 use Rattle.st_world.proofs.missed_flushes.missed_by.Given as goal
 
 abbrev pub invariant-loop-i : goal.invariant-loop-i

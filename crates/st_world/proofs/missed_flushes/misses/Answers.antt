@@ -1,5 +1,5 @@
-use Rattle.std.proofs.Common.{◌^◌, ◌≤◌, subst, sym}
-use Rattle.st_base.specs.declared.ids.Stamp.{Stamp}
+use Rattle.st_lemmas.proofs.Words
+use Words.{◌^◌, ◌≤◌, subst, sym, Stamp}
 use Rattle.st_world_parts.proofs.Later.{clock_low}
 use Rattle.st_world.proofs.missed_flushes.misses.Goals as goal
 

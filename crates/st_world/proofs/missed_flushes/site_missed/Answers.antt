@@ -1,6 +1,7 @@
-use Rattle.std.proofs.Common.{ap, ◌∙◌}
-use Rattle.st_rules.specs.declared.observation.WorldRefusal.TheVariants as refusals
-use Rattle.st_rules.specs.Admissible.{misses, stands, step_of}
+use Rattle.st_lemmas.proofs.Words
+use Words.{ap, ◌∙◌}
+use Words.refusals
+use Words.Admissible.{misses, stands, step_of}
 use Rattle.st_world.proofs.missed_flushes.site_missed.Goals as goal
 
 pub returns : goal.returns

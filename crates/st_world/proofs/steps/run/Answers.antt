@@ -1,5 +1,6 @@
-use Rattle.std.proofs.Common.{subst, sym}
-use Rattle.st_rules.specs.Events.{WorldTurn}
+use Rattle.st_lemmas.proofs.Words
+use Words.{subst, sym}
+use Words.Events.{WorldTurn}
 use Rattle.st_world_events.specs.Readiness.{IsMet, IsReady}
 use Rattle.st_world.proofs.Admitted.{met, still_ready}
 use Rattle.st_world.proofs.steps.run.Goals as goal

@@ -1,4 +1,5 @@
-use Rattle.std.proofs.Common.{subst}
+use Rattle.st_lemmas.proofs.Words
+use Words.{subst}
 use Rattle.st_world.specs.ReachedWorlds.{IsReached}
 use Rattle.st_world.proofs.Counters.{have_room}
 use Rattle.st_world.proofs.parts.WorldParts.counters_have_room.Goals as goal

@@ -1,6 +1,7 @@
-use Rattle.std.proofs.Common.{subst, sym}
+use Rattle.st_lemmas.proofs.Words
+use Words.{subst, sym}
+use Words.Safety.{IsHead}
 use Rattle.st_messages.specs.declared.event.Counts.{Counts}
-use Rattle.st_rules.specs.Safety.{IsHead}
 use Rattle.st_world.specs.Heads.{HasCounts, least}
 use Rattle.st_world.proofs.Goes.{quiet_fresh}
 use Rattle.st_world.proofs.Shaped.{head_counts, least_head}

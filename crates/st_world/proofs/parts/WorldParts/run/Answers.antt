@@ -1,6 +1,7 @@
-use Rattle.std.proofs.Common.{◌≡◌, ◌+◌, true, length, ap, sym, subst, ◌∙◌, arith}
-use Rattle.st_rules.specs.Safety.{is_event}
-use Rattle.st_rules.specs.World.{World}
+use Rattle.st_lemmas.proofs.Words
+use Words.{◌≡◌, ◌+◌, true, length, ap, sym, subst, ◌∙◌, arith}
+use Words.Safety.{is_event}
+use Words.World.{World}
 use Rattle.st_world.proofs.Goes.{quiet_after}
 use Rattle.st_world.proofs.Shaped.{laid}
 use Rattle.st_world.proofs.Stepped.{stepped}

@@ -1,4 +1,5 @@
-use Rattle.std.proofs.Common.{subst}
+use Rattle.st_lemmas.proofs.Words
+use Words.{subst}
 use Rattle.st_world.specs.Safe.{IsLedSafely}
 use Rattle.st_world.proofs.SafeRuns.{led_safely}
 use Rattle.st_world.proofs.parts.WorldParts.runs_here_are_safe.Goals as goal
