@@ -1,33 +1,16 @@
 -- Lists of operations by their places: which pass a test, and which are fit.
-use Rattle.std.proofs.Common.{◌≡◌, ℕ, zero, suc, ◌+◌, ◌-◌, ◌<◌, ◌≤◌, Bool, true, false, cond, List, [], ◌∷◌, ◌++◌, get_or, if◌then◌else◌, length, map, take, Some, None, refl, sym, ap, ◌∙◌, arith, append_assoc, add-one, true≢false}
-use Rattle.std.specs.Prelude.{filter, is_some, remove, slice_get, slice_set, ◌&&◌, ◌||◌, nat_lt, IfSome, Option}
-use Rattle.std.specs.Option.{option_to_list}
+use Rattle.std.proofs.Common.{◌≡◌, ℕ, zero, suc, ◌+◌, ◌-◌, ◌≤◌, Bool, true, false, cond, List, [], ◌∷◌, ◌++◌, if◌then◌else◌, length, map, take, Some, None, refl, sym, ap, ◌∙◌, arith, append_assoc, add-one, true≢false}
+use Rattle.std.specs.Prelude.{filter, remove, slice_get, ◌&&◌, ◌||◌, nat_lt, IfSome, Option}
+use Rattle.std.specs.Option.{option_copied, option_map_or, option_to_list}
 use Rattle.std.specs.List.{list_all, list_any}
-use Rattle.std.proofs.lemmas.Bool.{and_parts, lt-ltb, ltb-true}
+use Rattle.std.proofs.lemmas.Bool.{and_parts, lt-ltb}
 use denote.Ref.{Bor}
 use Rattle.st_base.specs.declared.ids.ServerId.{ServerId}
 use Rattle.st_rules.specs.declared.client.Operation.{Operation}
-use Rattle.st_rules.specs.declared.client.Stage.TheVariants.{Sent}
-use Rattle.st_rules.specs.ClientState.{at_stage, is_of}
-use Rattle.st_operations.specs.PendingOperations.{AreCounted, AreFit, asks_sync, count_syncs, is_fit, marked, may_act}
-
--- the one at a place
-pub got_at : {A : Type 0} (xs : List A) (i : ℕ) (x : A) → i < length xs → x ≡ get_or xs i x → Some x ≡ slice_get xs i
-got_at [] i x l e = absurd (omega (arith, l))
-got_at (y ∷ ys) zero x l e = ap Some e
-got_at (y ∷ ys) (suc i) x l e = got_at ys i x (omega (arith, l)) e
-
--- the one at a place is marked
-pub mark_set : (os : List Operation) (i : ℕ) (o : Operation) → i < length os → o ≡ get_or os i o → slice_set os i (at_stage Sent o) ≡ marked i os
-mark_set [] i o l e = absurd (omega (arith, l))
-mark_set (x ∷ xs) zero o l e = ap (λ y. at_stage Sent y ∷ xs) e
-mark_set (x ∷ xs) (suc i) o l e = ap (λ ys. x ∷ ys) (mark_set xs i o (omega (arith, l)) e)
-
--- there is none
-pub mark_none : (os : List Operation) (i : ℕ) → length os ≤ i → os ≡ marked i os
-mark_none [] i l = refl
-mark_none (x ∷ xs) zero l = absurd (omega (arith, l))
-mark_none (x ∷ xs) (suc i) l = ap (λ ys. x ∷ ys) (mark_none xs i (omega (arith, l)))
+use Rattle.st_messages.specs.Ranges.{is_ask}
+use Rattle.st_rules.specs.declared.client.Stage.TheVariants.{Stuck}
+use Rattle.st_rules.specs.ClientState.{at_stage, is_asked, is_of, is_sync}
+use Rattle.st_operations.specs.PendingOperations.{AreCounted, AreFit, asks_sync, count_syncs, is_fit, marked, may_act, stuck}
 
 marked_fit : (os : List Operation) (i : ℕ) → list_all is_fit (marked i os) ≡ list_all is_fit os
 marked_fit [] i = refl
@@ -46,6 +29,28 @@ counted_marked os i n new e h = record {
   count = h.count ∙ sym (marked_count os i) ∙ sym (ap count_syncs e);
 }
 
+-- the stage alone changes
+stuck_ask : (server : ServerId) (o : Operation) → (stuck server o).ask ≡ o.ask
+stuck_ask server o = by (is_asked server o)
+  where
+    by : (b : Bool) → (if b then at_stage Stuck o else o).ask ≡ o.ask
+    by true = refl
+    by false = refl
+
+stuck_fit : (server : ServerId) (os : List Operation) → list_all is_fit (map (stuck server) os) ≡ list_all is_fit os
+stuck_fit server [] = refl
+stuck_fit server (o ∷ os) = λ j. is_ask (stuck_ask server o j) && stuck_fit server os j
+
+stuck_count : (server : ServerId) (os : List Operation) → count_syncs (map (stuck server) os) ≡ count_syncs os
+stuck_count server [] = refl
+stuck_count server (o ∷ os) = λ j. (if is_sync (stuck_ask server o j) then 1 else 0) + stuck_count server os j
+
+pub counted_stuck : (server : ServerId) (os : List Operation) (n : ℕ) (new : List Operation) → new ≡ map (stuck server) os → AreCounted os n → AreCounted new n
+counted_stuck server os n new e h = record {
+  fit = ap (list_all is_fit) e ∙ stuck_fit server os ∙ h.fit;
+  count = h.count ∙ sym (stuck_count server os) ∙ sym (ap count_syncs e);
+}
+
 -- the first ones that a test picks, and one more
 picked_suc : {A : Type 0} (p : A → Bool) (xs : List A) (i : ℕ) → filter p (take i xs) ++ filter p (option_to_list (slice_get xs i)) ≡ filter p (take (suc i) xs)
 picked_suc p [] zero = refl
@@ -54,11 +59,13 @@ picked_suc p (y ∷ ys) zero = refl
 picked_suc p (y ∷ ys) (suc i) = by (p y) (picked_suc p ys i)
   where
     by : (b : Bool) → filter p (take i ys) ++ filter p (option_to_list (slice_get ys i)) ≡ filter p (take (suc i) ys) →
-        cond b (y ∷ filter p (take i ys)) (filter p (take i ys)) ++ filter p (option_to_list (slice_get ys i)) ≡ cond b (y ∷ filter p (take (suc i) ys)) (filter p (take (suc i) ys))
+        cond b (y ∷ filter p (take i ys)) (filter p (take i ys)) ++
+        filter p (option_to_list (slice_get ys i)) ≡ cond b (y ∷ filter p (take (suc i) ys)) (filter p (take (suc i) ys))
     by true h = ap (λ l. y ∷ l) h
     by false h = h
 
-pub picked_more : {A : Type 0} (p : A → Bool) (xs : List A) (i : ℕ) → filter p (take i xs) ++ filter p (option_to_list (slice_get xs i)) ≡ filter p (take (i + 1) xs)
+pub picked_more : {A : Type 0} (p : A → Bool) (xs : List A) (i : ℕ) →
+    filter p (take i xs) ++ filter p (option_to_list (slice_get xs i)) ≡ filter p (take (i + 1) xs)
 picked_more p xs i = picked_suc p xs i ∙ ap (λ n. filter p (take n xs)) (sym (add-one i))
 
 map_both : {A B : Type 0} (f : A → B) (xs ys : List A) → map f (xs ++ ys) ≡ map f xs ++ map f ys
@@ -66,13 +73,14 @@ map_both f [] ys = refl
 map_both f (x ∷ xs) ys = ap (λ l. f x ∷ l) (map_both f xs ys)
 
 -- what is reported about the first ones that a test picks, and of one more
-pub answered_more : {A B : Type 0} (f : A → B) (p : A → Bool) (xs : List A) (i : ℕ) (x : A) (first now next : List B) → i < length xs → x ≡ get_or xs i x →
-    now ≡ first ++ map f (filter p (take i xs)) → next ≡ now ++ map f (filter p (x ∷ [])) → next ≡ first ++ map f (filter p (take (i + 1) xs))
-answered_more f p xs i x first now next l e h k =
-    k ∙ ap (λ ys. ys ++ map f (filter p (x ∷ []))) h
-    ∙ append_assoc first (map f (filter p (take i xs))) (map f (filter p (x ∷ [])))
-    ∙ ap (λ ys. first ++ ys) (sym (map_both f (filter p (take i xs)) (filter p (x ∷ []))))
-    ∙ ap (λ o. first ++ map f (filter p (take i xs) ++ filter p (option_to_list o))) (got_at xs i x l e)
+pub answered_more : {A B : Type 0} (f : A → B) (p : A → Bool) (xs : List A) (i : ℕ) (first now next : List B) →
+    now ≡ first ++ map f (filter p (take i xs)) → next ≡ now ++ map f (filter p (option_to_list (slice_get xs i))) →
+    next ≡ first ++ map f (filter p (take (i + 1) xs))
+answered_more f p xs i first now next h k =
+    let one = filter p (option_to_list (slice_get xs i)) in
+    k ∙ ap (λ ys. ys ++ map f one) h
+    ∙ append_assoc first (map f (filter p (take i xs))) (map f one)
+    ∙ ap (λ ys. first ++ ys) (sym (map_both f (filter p (take i xs)) one))
     ∙ ap (λ ys. first ++ map f ys) (picked_more p xs i)
 
 -- all of a list
@@ -83,14 +91,15 @@ take_whole (x ∷ xs) zero l = absurd (omega arith)
 take_whole (x ∷ xs) (suc i) l = ap (λ l. x ∷ l) (take_whole xs i (omega arith))
 
 -- the operation at a place is fit
-fit_in : (os : List Operation) (i : ℕ) (o : Operation) → AreFit os → i < length os → o ≡ get_or os i o → is_fit o ≡ true
-fit_in [] i o h l e = absurd (omega (arith, l))
-fit_in (x ∷ xs) zero o h l e = ap is_fit e ∙ (and_parts (is_fit x) (list_all is_fit xs) h).0
-fit_in (x ∷ xs) (suc i) o h l e = fit_in xs i o (and_parts (is_fit x) (list_all is_fit xs) h).1 (omega (arith, l)) e
+fit_at : (os : List Operation) (i : ℕ) → AreFit os → option_map_or is_fit (slice_get os i) true ≡ true
+fit_at [] zero h = refl
+fit_at [] (suc i) h = refl
+fit_at (x ∷ xs) zero h = (and_parts (is_fit x) (list_all is_fit xs) h).0
+fit_at (x ∷ xs) (suc i) h = fit_at xs i (and_parts (is_fit x) (list_all is_fit xs) h).1
 
-pub fit_got : (os : List Operation) (i : ℕ) (r : Option (Bor Operation)) → AreFit os → is_some r ≡ nat_lt i (length os) → IfSome r (λ o. o.now ≡ get_or os i o.now) → IfSome r (λ o. is_fit o.now ≡ true)
-fit_got os i None h l e = tt
-fit_got os i (Some b) h l e = fit_in os i b.now h (ltb-true i (length os) (sym l)) e
+pub fit_got : (os : List Operation) (i : ℕ) (r : Option (Bor Operation)) → AreFit os → option_copied r ≡ slice_get os i → IfSome r (λ o. is_fit o.now ≡ true)
+fit_got os i None h e = tt
+fit_got os i (Some b) h e = ap (λ o. option_map_or is_fit o true) e ∙ fit_at os i h
 
 -- the operations except for the one at a place are fit
 pub fit_removed : (os : List Operation) (i : ℕ) → AreFit os → AreFit (remove os i)
@@ -133,7 +142,8 @@ fit_more (x ∷ xs) o h f =
     let r = fit_more xs o q.1 f in
     λ j. q.0 j && r j
 
-pub counted_more : (os : List Operation) (o : Operation) (n m : ℕ) (new : List Operation) → AreCounted os n → is_fit o ≡ true → m ≡ count_syncs (o ∷ []) → new ≡ os ++ o ∷ [] → AreCounted new (n + m)
+pub counted_more : (os : List Operation) (o : Operation) (n m : ℕ) (new : List Operation) → AreCounted os n → is_fit o ≡ true → m ≡ count_syncs (o ∷ []) →
+    new ≡ os ++ o ∷ [] → AreCounted new (n + m)
 counted_more os o n m new h f k e = record {
   fit = ap (list_all is_fit) e ∙ fit_more os o h.fit f;
   count = (λ j. h.count j + k j) ∙ sym (count_more os o) ∙ sym (ap count_syncs e);
@@ -145,7 +155,8 @@ counted_few os i n m r h e k =
     let t = ap (λ x. count_syncs (option_to_list x)) e in
     omega (arith, h.count, k, t, count_taken os i)
 
-pub counted_taken : (os : List Operation) (i n m : ℕ) (r : Option Operation) (new : List Operation) → AreCounted os n → r ≡ slice_get os i → m ≡ count_syncs (option_to_list r) → new ≡ remove os i → AreCounted new (n - m)
+pub counted_taken : (os : List Operation) (i n m : ℕ) (r : Option Operation) (new : List Operation) → AreCounted os n → r ≡ slice_get os i →
+    m ≡ count_syncs (option_to_list r) → new ≡ remove os i → AreCounted new (n - m)
 counted_taken os i n m r new h e k l =
     let t = ap (λ x. count_syncs (option_to_list x)) e in
     let u = ap count_syncs l in
@@ -171,6 +182,7 @@ pub none_acts : (server : ServerId) (os : List Operation) → list_any asks_sync
 none_acts server [] e = refl
 none_acts server (o ∷ os) e = by (asks_sync o) (is_of server o) e (none_acts server os)
   where
-    by : (b c : Bool) → (b || list_any asks_sync os) ≡ false → (list_any asks_sync os ≡ false → list_any (may_act server false) os ≡ false) → ((b && c) || list_any (may_act server false) os) ≡ false
+    by : (b c : Bool) → (b || list_any asks_sync os) ≡ false → (list_any asks_sync os ≡ false → list_any (may_act server false) os ≡ false) →
+        ((b && c) || list_any (may_act server false) os) ≡ false
     by true c e h = absurd (true≢false e)
     by false c e h = h e

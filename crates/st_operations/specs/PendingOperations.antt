@@ -1,11 +1,12 @@
 -- Pending operations: what is left where the first one is taken, and the operations after one was sent or is stuck.
-use Rattle.std.specs.Prelude.{◌≡◌, ℕ, zero, suc, ◌+◌, if◌then◌else◌, Bool, true, ◌&&◌, ◌||◌, List, [], ◌∷◌, Option, Some, None}
+use Rattle.std.specs.Prelude.{◌≡◌, ℕ, ◌+◌, if◌then◌else◌, Bool, true, ◌&&◌, ◌||◌, List, [], ◌∷◌, Option, Some, None}
 use Rattle.std.specs.List.{list_all}
 use Rattle.st_base.specs.declared.ids.ServerId.{ServerId}
 use Rattle.st_messages.specs.Ranges.{is_ask}
 use Rattle.st_rules.specs.declared.client.Operation.{Operation}
 use Rattle.st_rules.specs.declared.client.Stage.TheVariants.{Sent, Stuck}
 use Rattle.st_rules.specs.ClientState.{at_stage, is_asked, is_of, is_sync}
+use Rattle.st_tables.specs.Orders.{changed_at}
 
 -- the fields of the ask are in their ranges
 abbrev pub is_fit : Operation → Bool
@@ -43,6 +44,4 @@ stuck server o = if is_asked server o then at_stage Stuck o else o
 
 -- the request of the operation at a place was sent
 abbrev pub marked : ℕ → List Operation → List Operation
-marked n [] = []
-marked zero (o ∷ os) = at_stage Sent o ∷ os
-marked (suc n) (o ∷ os) = o ∷ marked n os
+marked n os = changed_at (at_stage Sent) n os

@@ -5,6 +5,7 @@
 mod asks;
 mod operations;
 mod picks;
+mod stages;
 
 pub use asks::{file_of, is_cut_or_name, is_file, is_of, is_sent, is_sync, server_of};
 pub use operations::Operations;

@@ -5,23 +5,24 @@ ghost use Rattle.st_messages.specs.Ranges.{is_ask};
 ghost use Rattle.st_rules.specs.ClientState as client_state;
 ghost use Rattle.st_operations.specs.PendingOperations.{AreFit, TakesFirst, asks_sync, count_syncs, is_fit, marked, may_act, stuck};
 
-use crate::asks::{is_asked, is_sent, is_sync};
+use crate::asks::{is_sent, is_sync};
 use crate::picks::MayAct;
+use crate::stages::{Sending, Sticking};
 use st_base::ServerId;
 use st_messages::{AppAnswer, Ask, Output};
 use st_rules::{Operation, Stage};
-use st_tables::Test;
+use st_tables::{Ordered, Test};
 use std::alloc::{AllocError, Global};
 use std::marker::Model;
 use std::mem;
 
-/// The pending operations of a client. Contracts see the list of them, in the order in which they
-/// came. A place is that of an operation in the list, from 0 on. The fields of each ask are in
-/// their ranges.
+/// The pending operations of a client, in a slab. Contracts see the list of them, in the order in
+/// which they came. A place is that of an operation in the list, from 0 on. The fields of each ask
+/// are in their ranges.
 #[derive(Drop)]
 pub struct Operations {
     alloc: Global,
-    rows: Vec<Operation>,
+    rows: Ordered<Operation>,
     /// How many of the rows are syncs.
     syncs: usize,
 }
@@ -34,9 +35,9 @@ impl Model for Operations {
 
     ghost use Rattle.st_operations.specs.PendingOperations.{AreCounted};
 
-    ghost view = { λ o. o.rows.items };
+    ghost view = { λ o. o.rows };
 
-    ghost invariant = { λ o. AreCounted o.rows.items o.syncs };
+    ghost invariant = { λ o. AreCounted o.rows o.syncs };
 }
 
 /// One for a sync, and none for another operation.
@@ -44,37 +45,6 @@ fn count_one(operation: &Operation) -> usize
     ensures { result ≡ count_syncs (operation.now ∷ []) }
 {
     if is_sync(&operation.ask) { 1 } else { 0 }
-}
-
-/// Whether one of these passes the test.
-fn any_row<T: Test<Operation>>(rows: &[Operation], test: &T) -> bool
-    ensures { result ≡ list_any (T.passes test.now) rows.now }
-{
-    rows.iter().any(|row| test.test(row))
-}
-
-/// The request of the one at a place was sent, if there is one.
-fn mark_row(rows: &mut Vec<Operation>, place: usize)
-    ensures { rows.new.items ≡ marked place rows.old.items }
-{
-    if place < rows.len() {
-        rows[place].stage = Stage::Sent;
-    }
-}
-
-/// The operation of the server's outstanding request is stuck.
-fn stick(server: ServerId, operation: Operation) -> Operation
-    ensures { result ≡ stuck server operation }
-{
-    if is_asked(server, &operation) {
-        Operation {
-            op: operation.op,
-            ask: operation.ask,
-            stage: Stage::Stuck,
-        }
-    } else {
-        operation
-    }
 }
 
 fn push_answer(op: u32, answer: &AppAnswer, out: &mut Vec<Output>) -> Result<(), AllocError>
@@ -105,9 +75,26 @@ fn answer_row<T: Test<Operation>>(
     }
 }
 
+/// Answers the operation at a place, if it passes the test.
+fn answer_at<T: Test<Operation>>(
+    rows: &Ordered<Operation>,
+    place: usize,
+    test: &T,
+    answer: &AppAnswer,
+    out: &mut Vec<Output>,
+) -> Result<(), AllocError>
+    ensures told { OnOk result (out.new.items ≡ out.old.items ++ map (client_state.answer_to answer.now) (filter (T.passes test.now) (option_to_list (slice_get rows.now place)))) }
+    ensures grows { length out.old.items ≤ length out.new.items }
+{
+    match rows.get(place) {
+        None => Ok(()),
+        Some(operation) => answer_row(operation, test, answer, out),
+    }
+}
+
 /// Answers those that pass the test, in order.
 fn answer_rows<T: Test<Operation>>(
-    rows: &[Operation],
+    rows: &Ordered<Operation>,
     test: &T,
     answer: &AppAnswer,
     out: &mut Vec<Output>,
@@ -116,7 +103,7 @@ fn answer_rows<T: Test<Operation>>(
     ensures grows { length out.old.items ≤ length out.new.items }
 {
     for i in 0..rows.len() {
-        answer_row(&rows[i], test, answer, out)?;
+        answer_at(rows, i, test, answer, out)?;
     }
     Ok(())
 }
@@ -128,7 +115,7 @@ impl Operations {
     {
         Operations {
             alloc,
-            rows: Vec::new(alloc),
+            rows: Ordered::new(alloc),
             syncs: 0,
         }
     }
@@ -165,7 +152,7 @@ impl Operations {
     }
 
     /// The operation stays pending, after the others.
-    pub fn keep(&mut self, operation: Operation) -> Result<(), AllocError>
+    fn keep(&mut self, operation: Operation) -> Result<(), AllocError>
         requires { is_fit operation ≡ true }
         ensures { OnOk result (self.new ≡ self.old ++ operation ∷ []) }
     {
@@ -192,7 +179,7 @@ impl Operations {
     pub fn any<T: Test<Operation>>(&self, test: &T) -> bool
         ensures { result ≡ list_any (T.passes test.now) self.now }
     {
-        any_row(&self.rows, test)
+        self.rows.any(test)
     }
 
     /// Whether a pending operation may do something at a server: each of its own, or its syncs
@@ -219,7 +206,7 @@ impl Operations {
         ensures left { self.new ≡ remove self.old place }
         ensures fit { AreFit self.old }
     {
-        let operation = self.rows.remove(place);
+        let operation = self.rows.take(place);
         self.syncs -= count_one(&operation);
         operation
     }
@@ -229,7 +216,7 @@ impl Operations {
         ensures taken { TakesFirst self.old result self.new }
         ensures fit { IfSome result (λ o. is_fit o ≡ true) }
     {
-        if self.rows.is_empty() {
+        if self.rows.len() == 0 {
             None
         } else {
             Some(self.take(0))
@@ -334,10 +321,7 @@ impl Operations {
     pub fn leave_stuck(&mut self, server: ServerId) -> Result<(), AllocError>
         ensures { OnOk result (self.new ≡ map (stuck server) self.old) }
     {
-        let mut rest = self.take_all();
-        while let Some(operation) = rest.take_first() {
-            self.keep(stick(server, operation))?;
-        }
+        self.rows.change_each(&Sticking { server });
         Ok(())
     }
 
@@ -345,7 +329,7 @@ impl Operations {
     pub fn mark_sent(&mut self, place: usize) -> Result<(), AllocError>
         ensures { OnOk result (self.new ≡ marked place self.old) }
     {
-        mark_row(&mut self.rows, place);
+        self.rows.change(place, &Sending);
         Ok(())
     }
 

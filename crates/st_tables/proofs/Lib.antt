@@ -8,7 +8,7 @@ pub mod ClientRows
 pub mod RisingKeys
 pub mod InOrder
 pub mod FirstPlaces
-pub mod Puts
 pub mod PassingValues
 pub mod Indexes
 pub mod Sets
+pub mod Changes

@@ -1,6 +1,6 @@
 -- Values by their places: the first one that passes a test, and those that do.
 use Rattle.std.proofs.Common.{◌≡◌, ℕ, zero, suc, ◌+◌, ◌<◌, ◌≤◌, Bool, true, false, cond, if◌then◌else◌, List, [], ◌∷◌, ◌++◌, length, take, drop, refl, sym, ap, ◌∙◌, true≢false, arith, add-one}
-use Rattle.std.specs.Prelude.{filter, not, remove, slice_get, Some, None, ◌||◌}
+use Rattle.std.specs.Prelude.{filter, is_some, not, remove, slice_get, Some, None, ◌||◌}
 use Rattle.std.specs.Option.{option_map_or}
 use Rattle.std.specs.List.{list_any, position, position_or_len}
 use Rattle.std.proofs.lemmas.Bool.{le-ltb, lt-ltb}
@@ -29,7 +29,8 @@ module _ {V : Type 0} (p : V → Bool) where
   pub none_more : (xs : List V) (i : ℕ) → list_any p (take i xs) ≡ false → passes_at xs i ≡ false → list_any p (take (i + 1) xs) ≡ false
   none_more xs i h e = ap (λ n. list_any p (take n xs)) (add-one i) ∙ any_suc xs i ∙ (λ j. h j || e j)
 
-  at_first : (x : V) (xs : List V) (i : ℕ) (b : Bool) → p x ≡ b → b || list_any p (take i xs) ≡ false → (list_any p (take i xs) ≡ false → position_or_len p xs ≡ i) → cond (not b) (1 + position_or_len p xs) 0 ≡ suc i
+  at_first : (x : V) (xs : List V) (i : ℕ) (b : Bool) → p x ≡ b → b || list_any p (take i xs) ≡ false →
+      (list_any p (take i xs) ≡ false → position_or_len p xs ≡ i) → cond (not b) (1 + position_or_len p xs) 0 ≡ suc i
   at_first x xs i true q h r = absurd (true≢false h)
   at_first x xs i false q h r = let e = r h in omega (arith, e)
 
@@ -49,7 +50,8 @@ module _ {V : Type 0} (p : V → Bool) where
       let q : position_or_len p xs ≡ i = first_place xs i h e in
       sym (ap (λ b. cond b (Some (position_or_len p xs)) None) (lt-ltb (position_or_len p xs) (length xs) (omega (arith, q, l))) ∙ ap Some q)
 
-  past_by : (x : V) (xs : List V) (b : Bool) → b || list_any p xs ≡ false → (list_any p xs ≡ false → length xs ≤ position_or_len p xs) → suc (length xs) ≤ cond (not b) (1 + position_or_len p xs) 0
+  past_by : (x : V) (xs : List V) (b : Bool) → b || list_any p xs ≡ false → (list_any p xs ≡ false → length xs ≤ position_or_len p xs) →
+      suc (length xs) ≤ cond (not b) (1 + position_or_len p xs) 0
   past_by x xs true h r = absurd (true≢false h)
   past_by x xs false h r = let l = r h in omega (arith, l)
 
@@ -68,6 +70,23 @@ module _ {V : Type 0} (p : V → Bool) where
   first_none xs i e h =
       let l : length xs ≤ position_or_len p xs = past_all xs (ap (list_any p) (sym (take_all xs i e)) ∙ h) in
       sym (ap (λ b. cond b (Some (position_or_len p xs)) None) (le-ltb (position_or_len p xs) (length xs) l))
+
+  before_by : (x : V) (xs : List V) (b : Bool) → b || list_any p xs ≡ true → (list_any p xs ≡ true → position_or_len p xs < length xs) →
+      cond (not b) (1 + position_or_len p xs) 0 < suc (length xs)
+  before_by x xs true h r = omega arith
+  before_by x xs false h r = let l = r h in omega (arith, l)
+
+  before_all : (xs : List V) → list_any p xs ≡ true → position_or_len p xs < length xs
+  before_all [] h = absurd (true≢false (sym h))
+  before_all (x ∷ xs) h = before_by x xs (p x) h (before_all xs)
+
+  -- there is a first one that passes exactly if any does
+  pub place_any : (xs : List V) → is_some (position p xs) ≡ list_any p xs
+  place_any xs = by (list_any p xs) refl
+    where
+      by : (b : Bool) → list_any p xs ≡ b → is_some (position p xs) ≡ b
+      by true e = ap (λ b. is_some (cond b (Some (position_or_len p xs)) None)) (lt-ltb (position_or_len p xs) (length xs) (before_all xs e))
+      by false e = ap (λ b. is_some (cond b (Some (position_or_len p xs)) None)) (le-ltb (position_or_len p xs) (length xs) (past_all xs e))
 
   -- Those that pass, one after another.
 
@@ -112,7 +131,8 @@ module _ {V : Type 0} (p : V → Bool) where
         ap (λ ds. passes_at (filter p (take i xs) ++ ds) (length (filter p (take i xs)))) s.1
         ∙ ap (λ o. option_map_or p o false) (get_behind (filter p (take i xs)) s.0 (drop (suc i) xs))
 
-    pub sift_list : (if passes_at (sifted i) (length (filter p (take i xs))) then sifted i else remove (sifted i) (length (filter p (take i xs)))) ≡ sifted (i + 1)
+    pub sift_list : (if passes_at (sifted i) (length (filter p (take i xs))) then sifted i else remove (sifted i) (length (filter p (take i xs)))) ≡ sifted
+        (i + 1)
     sift_list =
         let s = split_at xs i l in
         let fs = filter p (take i xs) in
@@ -120,10 +140,12 @@ module _ {V : Type 0} (p : V → Bool) where
         ∙ ap (λ rest. if p s.0 then fs ++ s.0 ∷ drop (suc i) xs else rest) (remove_behind fs s.0 (drop (suc i) xs))
         ∙ kept_list fs s.0 (drop (suc i) xs) (p s.0) ∙ ap (λ l. l ++ drop (suc i) xs) (sym next_filter) ∙ ap sifted (sym (add-one i))
 
-    pub sift_count : (if passes_at (sifted i) (length (filter p (take i xs))) then length (filter p (take i xs)) + 1 else length (filter p (take i xs))) ≡ length (filter p (take (i + 1) xs))
+    pub sift_count : (if passes_at (sifted i) (length (filter p (take i xs))) then length (filter p (take i xs)) + 1 else length (filter p (take i xs))) ≡
+        length (filter p (take (i + 1) xs))
     sift_count =
         ap (λ b. if b then length (filter p (take i xs)) + 1 else length (filter p (take i xs))) here_passes
-        ∙ kept_count (filter p (take i xs)) (split_at xs i l).0 (p (split_at xs i l).0) ∙ ap length (sym next_filter) ∙ ap (λ n. length (filter p (take n xs))) (sym (add-one i))
+        ∙ kept_count (filter p (take i xs)) (split_at xs i l).0 (p (split_at xs i l).0) ∙ ap length (sym next_filter) ∙
+        ap (λ n. length (filter p (take n xs))) (sym (add-one i))
 
   drop_all : (xs : List V) (i : ℕ) → i ≡ length xs → drop i xs ≡ []
   drop_all [] zero e = refl

@@ -1,12 +1,22 @@
 // Values of a slab in the order in which they came.
-ghost use Rattle.std.specs.Prelude.{◌≡◌, ◌<◌, ◌+◌, ◌^◌, ◌++◌, ◌∷◌, [], OnOk, OnErr, false, filter, if◌then◌else◌, length, remove, slice_get};
-ghost use Rattle.std.specs.List.{position};
-ghost use Rattle.std.specs.Option.{option_copied, option_map_or};
+ghost use Rattle.std.specs.Prelude.{◌≡◌, ◌<◌, ◌+◌, ◌^◌, ◌++◌, ◌∷◌, [], OnOk, OnErr, Some, false, filter, if◌then◌else◌, length, map, remove, slice_get};
+ghost use Rattle.std.specs.List.{list_any, position};
+ghost use Rattle.std.specs.Option.{option_copied, option_map, option_map_or};
+ghost use Rattle.slab.specs.Slab.{ContainsKey, Updates, get};
+ghost use Rattle.st_tables.specs.Orders.{changed_at};
 
-use crate::keys::Test;
+use crate::keys::{Change, Test};
 use slab::Slab;
 use std::alloc::{AllocError, Global};
 use std::marker::Model;
+
+/// Changes the value of a key, which has one.
+fn change_value<V: Drop, C: Change<V>>(slab: &mut Slab<V>, key: usize, change: &C)
+    requires { ContainsKey slab.old key }
+    ensures { Updates slab.old slab.new key (option_map (C.changed change.now) (get slab.old key)) }
+{
+    change.change(&mut slab[key]);
+}
 
 /// Values in the order in which they came: a slab, whose values are not moved when others go, and
 /// the order of its keys. Contracts see the list of the values; a place is that of a value in the
@@ -72,13 +82,32 @@ impl<V: Drop> Ordered<V> {
     }
 
     /// Takes out the value at a place. It does not allocate.
-    pub fn take(&mut self, place: usize) -> Option<V>
+    pub fn take(&mut self, place: usize) -> V
         requires { place < length self.old }
-        ensures taken { result ≡ slice_get self.old place }
+        ensures taken { Some result ≡ slice_get self.old place }
         ensures left { self.new ≡ remove self.old place }
     {
         let key = self.order.remove(place);
-        self.slab.try_remove(key)
+        self.slab.remove(key)
+    }
+
+    /// Changes the value at a place, if there is one. It is not moved.
+    pub fn change<C: Change<V>>(&mut self, place: usize, change: &C)
+        ensures { self.new ≡ changed_at (C.changed change.now) place self.old }
+    {
+        if place < self.order.len() {
+            let key = self.order[place];
+            change_value(&mut self.slab, key, change);
+        }
+    }
+
+    /// Changes each value. None is moved.
+    pub fn change_each<C: Change<V>>(&mut self, change: &C)
+        ensures { self.new ≡ map (C.changed change.now) self.old }
+    {
+        for i in 0..self.len() {
+            self.change(i, change);
+        }
     }
 
     /// Takes out all values. It does not allocate.
@@ -109,6 +138,13 @@ impl<V: Drop> Ordered<V> {
             }
         }
         None
+    }
+
+    /// Whether a value passes the test.
+    pub fn any<T: Test<V>>(&self, test: &T) -> bool
+        ensures { result ≡ list_any (T.passes test.now) self.now }
+    {
+        self.place(test).is_some()
     }
 
     /// Keeps the value at a place where it passes the test, and otherwise takes it out. Returns the

@@ -31,6 +31,15 @@ pub trait Test<V> {
         ensures { result ≡ passes self.now row.now };
 }
 
+/// A change of values.
+pub trait Change<V> {
+    ghost changed: { Self → V → V };
+
+    /// Changes the value.
+    fn change(&self, value: &mut V)
+        ensures { value.new ≡ changed self.now value.old };
+}
+
 /// Every row passes.
 #[derive(Clone, Copy)]
 pub struct Every;

@@ -12,6 +12,6 @@ mod table;
 
 pub use arrival_order::Ordered;
 pub use clients::ClientTable;
-pub use keys::{Every, Key, Row, Test};
+pub use keys::{Change, Every, Key, Row, Test};
 pub use rising_keys::{put_key, rising};
 pub use table::Table;

@@ -6,8 +6,9 @@ use Rattle.st_operations.proofs.operations.answer_rows.Goals as goal
 pub loop-i-preserved : goal.loop-i-preserved
 loop-i-preserved g c =
     let a = c.loop-i.invariant.grows in
-    let b = c.in_ok-answer_row.ensures.grows in
+    let b = c.in_ok-answer_at.ensures.grows in
     record {
-      told = answered_more (answer_to c.args.answer.now) (g.T.Test.passes c.args.test.now) c.args.rows.now c.loop-i.i c.index-rows-i.result _ _ _ c.loop-i-test.true c.index-rows-i.is c.loop-i.invariant.told c.in_ok-answer_row.ensures.told;
+      told = answered_more (answer_to c.args.answer.now) (g.T.Test.passes c.args.test.now) c.args.rows.now c.loop-i.i _ _ _ c.loop-i.invariant.told
+          c.in_ok-answer_at.ensures.told;
       grows = omega (arith, a, b);
     }

@@ -2,4 +2,4 @@ use Rattle.st_operations.proofs.Firsts.{counted_marked}
 use Rattle.st_operations.proofs.operations.Operations.mark_sent.Goals as goal
 
 pub invariant_of-self : goal.invariant_of-self
-invariant_of-self c = counted_marked c.self.inside.rows.items c.args.place c.self.inside.syncs c.mark_row.new.rows.items c.mark_row.ensures c.self.invariant
+invariant_of-self c = counted_marked c.self.inside.rows c.args.place c.self.inside.syncs c.change.new.self c.change.ensures c.self.invariant
