@@ -11,3 +11,4 @@ pub mod RemovedEntries
 pub mod Counters
 pub mod ScannedBytes
 pub mod Reached
+pub mod CheckedChanges

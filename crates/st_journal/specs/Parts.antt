@@ -35,3 +35,13 @@ abbrev pub Applies : server.Stable → server.Stable → Result Unit ChangeRefus
 Applies old new (Ok done) rule = rule ≡ Ok new
 Applies old new (Err Memory) rule = Unit {0}
 Applies old new (Err r) rule = (rule ≡ Err r) × (new ≡ old)
+
+-- a change that is only checked is refused as the rule says
+abbrev pub checked : Result server.Stable ChangeRefusal → Result Unit ChangeRefusal
+checked (Ok next) = Ok tt
+checked (Err r) = Err r
+
+-- the same, of the answer of names
+abbrev pub names_checked : Result ℕ NameRefusal → Result Unit ChangeRefusal
+names_checked (Ok ino) = Ok tt
+names_checked (Err r) = Err (refused r)

@@ -1,9 +1,9 @@
 // Changes to a server's stable part, and their bytes.
-ghost use Rattle.std.specs.Prelude.{◌≡◌, ◌≤◌, ◌<◌, ◌+◌, ◌++◌, ◌∷◌, [], true, IfOk, OnOk, length};
+ghost use Rattle.std.specs.Prelude.{◌≡◌, ◌≤◌, ◌<◌, ◌+◌, ◌++◌, ◌∷◌, [], true, OnOk, length};
 ghost use Rattle.st_journal.specs.Changes as changes;
 
 use st_base::{Name, PageNo};
-use std::alloc::{AllocError, Global};
+use std::alloc::AllocError;
 
 /// A change to a server's stable part. `ino` is the inode number of a file, `dir` and `dir2` are
 /// those of directories.
@@ -184,16 +184,5 @@ impl Change {
                 name2,
             } => put_rename(out, *dir, name, *dir2, name2),
         }
-    }
-
-    /// The bytes of the change. Names have at most 255 bytes, and the numbers of an `Allocate` or a
-    /// `Cut` are in their ranges.
-    pub fn encode(&self, alloc: Global) -> Result<Vec<u8>, AllocError>
-        requires { changes.fits self.now ≡ true }
-        ensures { IfOk result (λ b. b.items ≡ changes.bytes_of self.now) }
-    {
-        let mut out = Vec::new(alloc);
-        self.put(&mut out)?;
-        Ok(out)
     }
 }

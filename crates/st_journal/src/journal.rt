@@ -9,7 +9,7 @@ ghost use Rattle.st_journal.specs.OpenedJournal.{Appends, HasPrefix, NotAppended
 ghost use Rattle.st_journal.specs.Parts as parts;
 ghost use Rattle.st_store.specs.Plans as plans;
 ghost use Rattle.st_journal.specs.Scan as scan;
-ghost use Rattle.st_journal.specs.Stable as stable;
+ghost use Rattle.st_journal.specs.Stable as stables;
 ghost use Rattle.st_store.specs.Store.{LeavesOnly, Only, Rests};
 ghost use Rattle.st_journal.specs.Appends.{IsTornAppend};
 ghost use Rattle.st_link.specs.Causes.{HasCause};
@@ -19,7 +19,7 @@ ghost use Rattle.st_journal.specs.declared.fault.JournalFault.TheVariants.{Full}
 use crate::change::Change;
 use crate::fault::JournalFault;
 use crate::record::{put_record, record_of};
-use crate::scan::{Scanned, read_all};
+use crate::scan::{Scanned, read_on};
 use crate::stable::Stable;
 use st_base::ServerId;
 use st_link::Failed;
@@ -59,45 +59,17 @@ fn sync<D: Store>(store: &mut D) -> Result<(), Failed>
     store.sync()
 }
 
-/// Reads all changes of a store that was synced, and applies them to a fresh stable part.
-fn read_fresh<D: Store>(
-    alloc: Global,
-    store: &mut D,
-    server: ServerId,
-    servers: u16,
-    disks: u16,
-    blocks: u32,
-) -> Result<(Scanned, Stable), JournalFault>
-    requires limits { IsWithinLimits server.0 servers disks blocks }
-    requires some { 1 ≤ length (D.seen store.old) }
-    requires small { length (D.seen store.old) < 4294967296 }
-    ensures read { IfOk result (λ x. scan.ReadsAll (D.seen store.old) (opened.fresh_of server servers disks blocks) (parts.stable_of x.1) x.0) }
-    ensures fault { IfErr result (scan.NotAllRead (D.seen store.old) (opened.fresh_of server servers disks blocks) (D.faults store.old) (D.faults store.new)) }
-    ensures later { D.faults store.old ≤ D.faults store.new }
-    ensures seen { OnOk result (D.seen store.new ≡ D.seen store.old) }
-    ensures rests { Rests D.keeps D.may_leave D.moment D.left_since store.old store.new }
-{
-    let Ok(mut stable) = Stable::fresh(alloc, server, servers, disks, blocks) else {
-        return Err(JournalFault::Memory);
-    };
-    let scanned = read_all(alloc, store, &mut stable)?;
-    Ok((scanned, stable))
-}
-
-/// Syncs a store and then reads all its changes.
+/// Syncs a store, and then reads its changes after those that are known, and applies them.
 fn read_synced<D: Store>(
     alloc: Global,
     store: &mut D,
-    server: ServerId,
-    servers: u16,
-    disks: u16,
-    blocks: u32,
-) -> Result<(Scanned, Stable), JournalFault>
-    requires limits { IsWithinLimits server.0 servers disks blocks }
-    requires some { 1 ≤ length (D.seen store.old) }
+    stable: &mut Stable,
+    known: Scanned,
+) -> Result<Scanned, JournalFault>
     requires small { length (D.seen store.old) < 4294967296 }
-    ensures read { IfOk result (λ x. scan.ReadsAll (D.seen store.old) (opened.fresh_of server servers disks blocks) (parts.stable_of x.1) x.0) }
-    ensures fault { IfErr result (scan.NotAllRead (D.seen store.old) (opened.fresh_of server servers disks blocks) (D.faults store.old) (D.faults store.new)) }
+    requires known { (start : machine.Stable) × scan.IsReadTo (D.seen store.old) start (parts.stable_of stable.old) known }
+    ensures read { (start : machine.Stable) → scan.IsReadTo (D.seen store.old) start (parts.stable_of stable.old) known → IfOk result (λ s. scan.ReadsAll (D.seen store.old) start (parts.stable_of stable.new) s) }
+    ensures fault { (start : machine.Stable) → scan.IsReadTo (D.seen store.old) start (parts.stable_of stable.old) known → IfErr result (scan.NotAllRead (D.seen store.old) start (D.faults store.old) (D.faults store.new)) }
     ensures seen { OnOk result (D.seen store.new ≡ D.seen store.old) }
     ensures durable { OnOk result (Only (D.seen store.old) (D.may_leave store.new)) }
     ensures rests { Rests D.keeps D.may_leave D.moment D.left_since store.old store.new }
@@ -105,7 +77,7 @@ fn read_synced<D: Store>(
     let Ok(()) = sync(store) else {
         return Err(JournalFault::Store);
     };
-    read_fresh(alloc, store, server, servers, disks, blocks)
+    read_on(alloc, store, stable, known)
 }
 
 /// Whether the bytes after a gate are enough.
@@ -172,16 +144,49 @@ impl<D: Store + Drop> Journal<D> {
         ensures err { IfErr result (λ e. NotOpened (opened.fresh_of server servers disks blocks) (D.seen store) (D.faults store) (D.faults e.0) e.1) }
         // Of bytes whose journal is the acknowledged changes, and at most the one under way, it
         // reads what these make.
-        ensures prefix { (acked : List Change) (under_way : Option Change) (last : machine.Stable) → stable.after_changes (Some (opened.fresh_of server servers disks blocks)) (opened.all_of acked under_way) ≡ Some last
+        ensures prefix { (acked : List Change) (under_way : Option Change) (last : machine.Stable) → stables.after_changes (Some (opened.fresh_of server servers disks blocks)) (opened.all_of acked under_way) ≡ Some last
             → HasPrefix acked under_way (D.seen store) → ReadsPrefix (opened.fresh_of server servers disks blocks) acked under_way result }
         // A crash at any moment leaves what it might have left before.
         ensures rests { Rests D.keeps D.may_leave D.moment D.left_since store (opened.store_of result) }
         // At first the journal records the changes that were read.
         ensures records { IfOk result (λ x. (acked : List Change) → IsJournal (D.seen store) acked → Records D.seen D.may_leave x.0 acked None) }
     {
+        match Stable::fresh(alloc, server, servers, disks, blocks) {
+            Ok(stable) => Journal::reopen(
+                alloc,
+                store,
+                stable,
+                Scanned {
+                    gate: 0,
+                    changes: 0,
+                },
+            ),
+            Err(_) => Err((store, JournalFault::Memory)),
+        }
+    }
+
+    /// Opens a store whose first changes are known, with the stable part that they lead to: syncs
+    /// it, reads the changes after the known ones, and applies them. Its answers are those of
+    /// `open`, which reads all changes.
+    pub fn reopen(
+        alloc: Global,
+        store: D,
+        stable: Stable,
+        known: Scanned,
+    ) -> Result<(Journal<D>, Stable), (D, JournalFault)>
+        requires small { length (D.seen store) < 4294967296 }
+        requires known { (start : machine.Stable) × scan.IsReadTo (D.seen store) start (parts.stable_of stable) known }
+        ensures ok { (start : machine.Stable) → scan.IsReadTo (D.seen store) start (parts.stable_of stable) known → IfOk result (λ x. Opens D.seen D.may_leave start store x.0 (parts.stable_of x.1)) }
+        ensures err { (start : machine.Stable) → scan.IsReadTo (D.seen store) start (parts.stable_of stable) known → IfErr result (λ e. NotOpened start (D.seen store) (D.faults store) (D.faults e.0) e.1) }
+        ensures prefix { (start : machine.Stable) (acked : List Change) (under_way : Option Change) (last : machine.Stable) → scan.IsReadTo (D.seen store) start (parts.stable_of stable) known
+            → stables.after_changes (Some start) (opened.all_of acked under_way) ≡ Some last → HasPrefix acked under_way (D.seen store) → ReadsPrefix start acked under_way result }
+        ensures rests { Rests D.keeps D.may_leave D.moment D.left_since store (opened.store_of result) }
+        ensures records { IfOk result (λ x. (acked : List Change) → IsJournal (D.seen store) acked → Records D.seen D.may_leave x.0 acked None) }
+    {
         let mut store = store;
-        match read_synced(alloc, &mut store, server, servers, disks, blocks) {
-            Ok((scanned, stable)) => {
+        let mut stable = stable;
+        match read_synced(alloc, &mut store, &mut stable, known) {
+            Ok(scanned) => {
                 let journal = Journal {
                     alloc,
                     store,

@@ -20,6 +20,7 @@ pub use laws::{
     zeros_are_an_empty_journal,
 };
 pub use record::record_of;
+pub use scan::Scanned;
 pub use st_link::Failed;
 pub use st_store::{MemoryStore, Piece, Store, StoreCall};
 pub use stable::{ChangeRefusal, Stable};

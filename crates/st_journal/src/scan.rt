@@ -7,6 +7,7 @@ ghost use Rattle.st_journal.specs.Journal.{framed};
 ghost use Rattle.st_journal.specs.Parts as parts;
 ghost use Rattle.st_journal.specs.Scan as scan;
 ghost use Rattle.st_journal.specs.Stable as stables;
+ghost use Rattle.st_rules.specs.Server.{Stable as Server};
 ghost use Rattle.st_store.specs.Store.{Rests};
 
 use crate::change::Change;
@@ -200,25 +201,22 @@ fn read_one<D: Store>(
     Ok(true)
 }
 
-/// Reads all changes of a journal, and applies them.
-pub(crate) fn read_all<D: Store>(
+/// Reads all changes of a journal after those that are known, and applies them.
+pub(crate) fn read_on<D: Store>(
     alloc: Global,
     store: &mut D,
     stable: &mut Stable,
+    known: Scanned,
 ) -> Result<Scanned, JournalFault>
-    requires some { 1 ≤ length (D.seen store.old) }
     requires small { length (D.seen store.old) < 4294967296 }
-    requires low { scan.AreLow 0 (parts.stable_of stable.old) }
-    ensures read { IfOk result (λ s. scan.ReadsAll (D.seen store.old) (parts.stable_of stable.old) (parts.stable_of stable.new) s) }
-    ensures fault { IfErr result (scan.NotAllRead (D.seen store.old) (parts.stable_of stable.old) (D.faults store.old) (D.faults store.new)) }
+    requires known { (start : Server) × scan.IsReadTo (D.seen store.old) start (parts.stable_of stable.old) known }
+    ensures read { (start : Server) → scan.IsReadTo (D.seen store.old) start (parts.stable_of stable.old) known → IfOk result (λ s. scan.ReadsAll (D.seen store.old) start (parts.stable_of stable.new) s) }
+    ensures fault { (start : Server) → scan.IsReadTo (D.seen store.old) start (parts.stable_of stable.old) known → IfErr result (scan.NotAllRead (D.seen store.old) start (D.faults store.old) (D.faults store.new)) }
     ensures later { D.faults store.old ≤ D.faults store.new }
     ensures seen { OnOk result (D.seen store.new ≡ D.seen store.old) }
     ensures rests { Rests D.keeps D.may_leave D.moment D.left_since store.old store.new }
 {
-    let mut scanned = Scanned {
-        gate: 0,
-        changes: 0,
-    };
+    let mut scanned = known;
     'changes: while read_one(alloc, store, stable, &mut scanned)? {}
     Ok(scanned)
 }

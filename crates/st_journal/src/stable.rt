@@ -1,9 +1,11 @@
 // A server's stable part.
-ghost use Rattle.std.specs.Prelude.{◌≡◌, ◌≤◌, ◌<◌, ◌+◌, ◌-◌, ◌^◌, IfOk, true, if◌then◌else◌};
+ghost use Rattle.std.specs.Prelude.{◌≡◌, ◌≤◌, ◌<◌, ◌+◌, ◌-◌, ◌^◌, IfOk, true, if◌then◌else◌, length};
+ghost use Rattle.st_base.specs.declared.ids.PageNo.{PageNo};
 ghost use Rattle.st_extents.specs.Layout.{IsWithinLimits};
 ghost use Rattle.st_journal.specs.Changes.{is_ranged};
 ghost use Rattle.st_journal.specs.Parts as parts;
 ghost use Rattle.st_journal.specs.Stable as stable;
+ghost use Rattle.st_rules.specs.Extents as mapping;
 ghost use Rattle.st_rules.specs.Keys.{page_no};
 ghost use Rattle.st_rules.specs.Names as names;
 
@@ -52,6 +54,31 @@ fn unmapped(refusal: ExtentRefusal) -> ChangeRefusal
         ExtentRefusal::NoSpace { free, asked } => ChangeRefusal::NoSpace { free, asked },
         ExtentRefusal::Memory => ChangeRefusal::Memory,
     }
+}
+
+/// What a check of names told, as a check of a change tells it.
+fn checked(told: Result<u32, NameRefusal>) -> Result<(), ChangeRefusal>
+    ensures { result ≡ parts.names_checked told }
+{
+    match told {
+        Ok(_) => Ok(()),
+        Err(refusal) => Err(refused(refusal)),
+    }
+}
+
+/// How many pages of a range have no block.
+fn unmapped_pages(extents: &Extents, file: FileId, page: PageNo, count: u32) -> u32
+    requires { page.0 + count ≤ 1048576 }
+    ensures { result ≡ length (mapping.unmapped extents.now file page count) }
+{
+    let mut pages = 0;
+    for place in 0..count {
+        if extents.map(file, PageNo(page.0 + place)).is_some() {
+            continue;
+        }
+        pages += 1;
+    }
+    pages
 }
 
 impl Stable {
@@ -220,6 +247,86 @@ impl Stable {
                 dir2,
                 name2,
             } => self.rename(*dir, name, *dir2, name2),
+        }
+    }
+
+    #[tactic(auto, unfolding(crate::specs::Stable::allocate, st_rules::specs::Extents::allocate, st_rules::specs::Extents::allocate_pages))]
+    fn check_allocate(&self, ino: u32, page: PageNo, count: u16) -> Result<(), ChangeRefusal>
+        requires { page.0 + count ≤ 1048576 }
+        ensures { result ≡ parts.checked (stable.allocate (parts.stable_of self.now) ino page count) }
+    {
+        if !self.names.is_file(ino) {
+            return Err(ChangeRefusal::NoFile(ino));
+        }
+        let asked = unmapped_pages(&self.extents, self.file(ino), page, u32::from(count));
+        let free = self.extents.free();
+        if free < asked {
+            return Err(ChangeRefusal::NoSpace {
+                free: u64::from(free),
+                asked: u64::from(asked),
+            });
+        }
+        Ok(())
+    }
+
+    #[tactic(auto, unfolding(crate::specs::Stable::cut))]
+    fn check_cut(&self, ino: u32) -> Result<(), ChangeRefusal>
+        ensures { (from : PageNo) → result ≡ parts.checked (stable.cut (parts.stable_of self.now) ino from) }
+    {
+        if !self.names.is_file(ino) {
+            return Err(ChangeRefusal::NoFile(ino));
+        }
+        Ok(())
+    }
+
+    fn check_entry(&self, dir: u32, name: &Name) -> Result<(), ChangeRefusal>
+        ensures create { result ≡ parts.checked (stable.named (parts.stable_of self.now) (names.create self.now.names dir name.now)) }
+        ensures mkdir { result ≡ parts.checked (stable.named (parts.stable_of self.now) (names.mkdir self.now.names dir name.now)) }
+    {
+        checked(self.names.check_add(dir, name.as_slice()))
+    }
+
+    fn check_remove(&self, dir: u32, name: &Name) -> Result<(), ChangeRefusal>
+        ensures { result ≡ parts.checked (stable.removed (parts.stable_of self.now) (names.remove self.now.names dir name.now)) }
+    {
+        checked(self.names.check_remove(dir, name.as_slice()))
+    }
+
+    fn check_rename(
+        &self,
+        dir: u32,
+        name: &Name,
+        dir2: u32,
+        name2: &Name,
+    ) -> Result<(), ChangeRefusal>
+        ensures { result ≡ parts.checked (stable.named (parts.stable_of self.now) (names.rename self.now.names dir name.now dir2 name2.now)) }
+    {
+        checked(
+            self.names
+                .check_rename(dir, name.as_slice(), dir2, name2.as_slice()),
+        )
+    }
+
+    /// Whether `apply` would refuse a change if memory lasted, and why. It takes no memory. The
+    /// numbers of the change are in their ranges.
+    #[tactic(auto, unfolding(crate::specs::Stable::apply, crate::specs::Changes::is_ranged))]
+    pub fn check(&self, change: &Change) -> Result<(), ChangeRefusal>
+        requires { is_ranged change.now ≡ true }
+        ensures { result ≡ parts.checked (stable.apply (parts.stable_of self.now) change.now) }
+    {
+        match change {
+            Change::Epoch => Ok(()),
+            Change::Allocate { ino, page, count } => self.check_allocate(*ino, *page, *count),
+            Change::Cut { ino, .. } => self.check_cut(*ino),
+            Change::Create { dir, name } => self.check_entry(*dir, name),
+            Change::Mkdir { dir, name } => self.check_entry(*dir, name),
+            Change::Remove { dir, name } => self.check_remove(*dir, name),
+            Change::Rename {
+                dir,
+                name,
+                dir2,
+                name2,
+            } => self.check_rename(*dir, name, *dir2, name2),
         }
     }
 }

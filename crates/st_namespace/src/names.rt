@@ -1,4 +1,4 @@
-ghost use Rattle.std.specs.Prelude.{◌≡◌, ◌+◌, ◌-◌, ◌<◌, ◌≤◌, ◌^◌, IfOk, IfErr, OnOk, OnErr, ◌&&◌, length, is_some, false, option_map, Ok};
+ghost use Rattle.std.specs.Prelude.{◌≡◌, ◌+◌, ◌-◌, ◌<◌, ◌≤◌, ◌^◌, IfOk, IfErr, OnOk, OnErr, ◌&&◌, Bool, length, is_some, false, option_map, Ok};
 ghost use Rattle.std.specs.Option.{option_copied};
 ghost use Rattle.st_base.specs.declared.names.NameRefusal.TheVariants as refusals;
 ghost use Rattle.st_rules.specs.Names as names;
@@ -207,12 +207,11 @@ impl Names {
         Ok(ino)
     }
 
-    /// Adds an entry with the next inode number. An error changes nothing.
+    /// What adding an entry would answer if memory lasted: the next inode number, or why the entry
+    /// is refused. It takes no memory.
     #[tactic(auto, unfolding(st_rules::specs::Names::add, st_rules::specs::Names::add_at, st_rules::specs::Names::add_beside, st_rules::specs::Names::add_new, st_rules::specs::Names::added))]
-    fn add(&mut self, dir: u32, name: &[u8], directory: bool) -> Result<u32, NameRefusal>
-        requires { self.old.next < 2 ^ 32 - 1 }
-        ensures exact { Changes self.old self.new result (names.add self.old dir name.now directory) }
-        ensures order { IsInOrder self.new }
+    pub fn check_add(&self, dir: u32, name: &[u8]) -> Result<u32, NameRefusal>
+        ensures { (directory : Bool) → result ≡ ino_told (names.add self.now dir name.now directory) }
     {
         if let Some(refusal) = self.place_refusal(dir, name) {
             return Err(told(refusal));
@@ -223,6 +222,16 @@ impl Names {
         if self.entries.len() >= 4095 {
             return Err(NameRefusal::TooMany);
         }
+        Ok(self.next)
+    }
+
+    /// Adds an entry with the next inode number. An error changes nothing.
+    fn add(&mut self, dir: u32, name: &[u8], directory: bool) -> Result<u32, NameRefusal>
+        requires { self.old.next < 2 ^ 32 - 1 }
+        ensures exact { Changes self.old self.new result (names.add self.old dir name.now directory) }
+        ensures order { IsInOrder self.new }
+    {
+        self.check_add(dir, name)?;
         let alloc = self.entries.alloc();
         let Ok(name) = Name::from_slice(alloc, name) else {
             return Err(NameRefusal::Memory);
@@ -266,10 +275,9 @@ impl Names {
         directory && self.entries.has_entries(ino)
     }
 
-    /// Removes an entry, and returns its inode; a directory must be empty. It takes no memory.
-    pub fn remove(&mut self, dir: u32, name: &[u8]) -> Result<u32, NameRefusal>
-        ensures exact { ChangesInPlace self.old self.new result (names.remove self.old dir name.now) }
-        ensures order { IsInOrder self.new }
+    /// What `remove` would answer. It takes no memory.
+    pub fn check_remove(&self, dir: u32, name: &[u8]) -> Result<u32, NameRefusal>
+        ensures { result ≡ ino_told (names.remove self.now dir name.now) }
     {
         if let Some(refusal) = self.place_refusal(dir, name) {
             return Err(told(refusal));
@@ -280,6 +288,15 @@ impl Names {
         if self.is_full(ino, directory) {
             return Err(NameRefusal::NotEmpty);
         }
+        Ok(ino)
+    }
+
+    /// Removes an entry, and returns its inode; a directory must be empty. It takes no memory.
+    pub fn remove(&mut self, dir: u32, name: &[u8]) -> Result<u32, NameRefusal>
+        ensures exact { ChangesInPlace self.old self.new result (names.remove self.old dir name.now) }
+        ensures order { IsInOrder self.new }
+    {
+        let ino = self.check_remove(dir, name)?;
         self.entries.remove(dir, name);
         Ok(ino)
     }
@@ -308,6 +325,26 @@ impl Names {
         Ok(ino)
     }
 
+    /// What `rename` would answer if memory lasted. It takes no memory.
+    pub fn check_rename(
+        &self,
+        dir: u32,
+        name: &[u8],
+        dir2: u32,
+        name2: &[u8],
+    ) -> Result<u32, NameRefusal>
+        ensures told { result ≡ ino_told (names.rename self.now dir name.now dir2 name2.now) }
+        ensures free { OnOk result (is_some (names.entry_at self.now dir2 name2.now) ≡ false) }
+    {
+        if let Some(refusal) = self.place_refusal(dir, name) {
+            return Err(told(refusal));
+        }
+        if let Some(refusal) = self.place_refusal(dir2, name2) {
+            return Err(told(refusal));
+        }
+        self.moved(dir, name, dir2, name2)
+    }
+
     /// Gives an entry another name in another directory, and returns its inode, which stays.
     pub fn rename(
         &mut self,
@@ -319,13 +356,7 @@ impl Names {
         ensures exact { Changes self.old self.new result (names.rename self.old dir name.now dir2 name2.now) }
         ensures order { IsInOrder self.new }
     {
-        if let Some(refusal) = self.place_refusal(dir, name) {
-            return Err(told(refusal));
-        }
-        if let Some(refusal) = self.place_refusal(dir2, name2) {
-            return Err(told(refusal));
-        }
-        let ino = self.moved(dir, name, dir2, name2)?;
+        let ino = self.check_rename(dir, name, dir2, name2)?;
         let alloc = self.entries.alloc();
         let Ok(name2) = Name::from_slice(alloc, name2) else {
             return Err(NameRefusal::Memory);

@@ -4,10 +4,12 @@ use Rattle.st_store.specs.InMemory.{InMemory, MayLeave, fresh_contents, held, re
 use Rattle.st_journal.specs.Journal.{IsJournal}
 use Rattle.st_journal.specs.OpenedJournal.{Opened, Records}
 use Rattle.st_store.specs.Plans.{IsQuiet}
+use Rattle.st_journal.specs.Scan.{IsReadTo}
 use Rattle.st_journal.specs.Stable.{after_changes}
 use Rattle.st_journal.specs.declared.change.Change.{Change}
 use Rattle.st_journal.specs.declared.fault.JournalFault.{JournalFault}
 use Rattle.st_journal.specs.declared.fault.JournalFault.TheVariants.{Store, Memory}
+use Rattle.st_journal.specs.declared.scan.Scanned.{Scanned}
 use Rattle.st_store.specs.declared.plan.Plan.{Plan}
 use Rattle.st_rules.specs.Server as server
 use Rattle.st_script.specs.declared.fault.ScriptFault.{ScriptFault}
@@ -56,6 +58,10 @@ pub record IsOpen (j : Opened InMemory) (changes : List Change) (state : server.
   pub leads : Leads changes state
   pub size : j.store.contents.size ≡ STORE_SIZE
   pub sound : IsSound j.store.plan
+
+-- so many changes, up to the gate at this place, were read of the store's journal, and lead to this stable part
+abbrev pub IsKnown : InMemory → server.Stable → Scanned → Type 0
+IsKnown s state known = IsReadTo (read_as s) fresh_journal.stable state known
 
 -- an opened journal, the stable part that its changes lead to, and the stop that no append has met yet
 pub record Running : Type 0 where

@@ -8,14 +8,14 @@ ghost use Rattle.st_journal.specs.Stops.{after_stop};
 ghost use Rattle.st_journal.specs.declared.change.Change.{Change};
 ghost use Rattle.st_rules.specs.Server as server;
 ghost use Rattle.st_script_journal.specs.JournalRuns as runs;
-ghost use Rattle.st_script_journal.specs.JournalRuns.{Comes, HasJournal, Holds, IsFreshStore, IsOpen, IsWantOfMemory, Leads, Starts};
+ghost use Rattle.st_script_journal.specs.JournalRuns.{Comes, HasJournal, Holds, IsFreshStore, IsKnown, IsOpen, IsWantOfMemory, Leads, Starts};
 ghost use Rattle.st_script_journal.specs.JournalScripts as scripts;
 ghost use Rattle.st_script_journal.specs.JournalScripts.{IsAnswered, JournalState, fresh_journal};
 ghost use Rattle.st_script_journal.specs.declared.journal_run.JournalAnswer.TheVariants.{Done, Stopped};
 
 use crate::journal_event::{RangedChange, SetStop};
 use st_base::ServerId;
-use st_journal::{Change, ChangeRefusal, Journal, JournalFault, MemoryStore, Stable};
+use st_journal::{Change, ChangeRefusal, Journal, JournalFault, MemoryStore, Scanned, Stable};
 use std::alloc::{AllocError, Global};
 use std::marker::Model;
 
@@ -109,12 +109,17 @@ fn joined(journal: Journal<MemoryStore>, stable: Stable, stop: Option<SetStop>) 
     }
 }
 
-/// Opens the journal in a store.
-fn open_store(alloc: Global, store: MemoryStore) -> Result<Running, AllocError>
-    requires { (changes : List Change) × (state : server.Stable) × HasJournal store changes × Leads changes state }
+/// Opens the journal in a store again. What is known of it led to this stable part.
+fn reopen(
+    alloc: Global,
+    store: MemoryStore,
+    stable: Stable,
+    known: Scanned,
+) -> Result<Running, AllocError>
+    requires { (changes : List Change) × (state : server.Stable) × HasJournal store changes × Leads changes state × IsKnown store (stable_of stable) known }
     ensures { (changes : List Change) (state : server.Stable) → HasJournal store changes → Leads changes state → IfOk result (Starts changes state) }
 {
-    match Journal::open(alloc, store, ServerId(1), 1, 1, 64) {
+    match Journal::reopen(alloc, store, stable, known) {
         Ok((journal, stable)) => Ok(joined(journal, stable, None)),
         Err(_) => Err(AllocError),
     }
@@ -145,41 +150,28 @@ fn has_more(running: &Running, before: u64) -> bool
     before < running.journal.changes()
 }
 
-/// Appends a change that was applied while the store stops, and opens the journal again.
+/// Appends a change that isn't refused while the store stops, and opens the journal again. What was
+/// known before the append isn't read again.
 fn record_stopped(
-    alloc: Global,
-    journal: Journal<MemoryStore>,
-    change: &Change,
-    stop: SetStop,
-) -> Result<(Running, JournalAnswer), AllocError>
-    requires ranges { is_ranged change.now ≡ true }
-    requires applies { (changes : List Change) × (state : server.Stable) × (next : server.Stable) × IsOpen journal changes state × (apply state change.now ≡ Ok next) }
-    ensures { (changes : List Change) (state next : server.Stable) → IsOpen journal changes state → apply state change.now ≡ Ok next →
-        IfOk result (λ y. Starts (after_stop stop.call stop.byte change.now changes) (runs.stable_after stop state next) y.0 × (y.1 ≡ Stopped (scripts.keeps stop))) }
-{
-    let before = journal.changes();
-    let store = append_stopped(journal, change, stop)?;
-    let running = open_store(alloc, store)?;
-    let kept = has_more(&running, before);
-    Ok((running, JournalAnswer::Stopped(kept)))
-}
-
-/// Appends a change that was applied: while the store stops, where a stop is set.
-fn record_by(
     alloc: Global,
     journal: Journal<MemoryStore>,
     stable: Stable,
     change: &Change,
-    stop: Option<SetStop>,
+    stop: SetStop,
 ) -> Result<(Running, JournalAnswer), AllocError>
     requires ranges { is_ranged change.now ≡ true }
-    requires applies { (changes : List Change) × (state : server.Stable) × IsOpen journal changes state × (apply state change.now ≡ Ok (stable_of stable)) }
-    ensures { (s : JournalState) → stop ≡ s.stop → IsOpen journal s.changes s.stable → apply s.stable change.now ≡ Ok (stable_of stable) → IfOk result (Comes s change.now) }
+    requires applies { (changes : List Change) × (next : server.Stable) × IsOpen journal changes (stable_of stable) × (apply (stable_of stable) change.now ≡ Ok next) }
+    ensures { (changes : List Change) (next : server.Stable) → IsOpen journal changes (stable_of stable) → apply (stable_of stable) change.now ≡ Ok next →
+        IfOk result (λ y. Starts (after_stop stop.call stop.byte change.now changes) (runs.stable_after stop (stable_of stable) next) y.0 × (y.1 ≡ Stopped (scripts.keeps stop))) }
 {
-    match stop {
-        None => record(journal, stable, change),
-        Some(stop) => record_stopped(alloc, journal, change, stop),
-    }
+    let known = Scanned {
+        gate: journal.gate(),
+        changes: journal.changes(),
+    };
+    let store = append_stopped(journal, change, stop)?;
+    let running = reopen(alloc, store, stable, known)?;
+    let kept = has_more(&running, known.changes);
+    Ok((running, JournalAnswer::Stopped(kept)))
 }
 
 /// A refusal that isn't lack of memory.
@@ -213,13 +205,51 @@ fn refuse(
     }
 }
 
+/// Applies a change and appends it, where no stop is set.
+fn change_unstopped(
+    journal: Journal<MemoryStore>,
+    stable: Stable,
+    change: &Change,
+) -> Result<(Running, JournalAnswer), AllocError>
+    requires ranges { is_ranged change.now ≡ true }
+    requires opened { (changes : List Change) × IsOpen journal changes (stable_of stable) }
+    ensures { (s : JournalState) → s.stop ≡ None → s.stable ≡ stable_of stable → IsOpen journal s.changes s.stable → IfOk result (Comes s change.now) }
+{
+    let mut stable = stable;
+    match stable.apply(change) {
+        Ok(()) => record(journal, stable, change),
+        Err(refusal) => refuse(journal, stable, None, refusal),
+    }
+}
+
+/// Appends a change while the store stops, if it isn't refused.
+fn change_stopped(
+    alloc: Global,
+    journal: Journal<MemoryStore>,
+    stable: Stable,
+    change: &Change,
+    stop: SetStop,
+) -> Result<(Running, JournalAnswer), AllocError>
+    requires ranges { is_ranged change.now ≡ true }
+    requires opened { (changes : List Change) × IsOpen journal changes (stable_of stable) }
+    ensures { (s : JournalState) → s.stop ≡ Some stop → s.stable ≡ stable_of stable → IsOpen journal s.changes s.stable → IfOk result (Comes s change.now) }
+{
+    match stable.check(change) {
+        Ok(()) => record_stopped(alloc, journal, stable, change, stop),
+        Err(refusal) => refuse(journal, stable, Some(stop), refusal),
+    }
+}
+
 impl Running {
     /// Opens a store of zeros.
     pub(crate) fn begin(alloc: Global, store: MemoryStore) -> Result<Running, AllocError>
         requires { IsFreshStore store }
         ensures { IfOk result (Holds fresh_journal) }
     {
-        open_store(alloc, store)
+        match Journal::open(alloc, store, ServerId(1), 1, 1, 64) {
+            Ok((journal, stable)) => Ok(joined(journal, stable, None)),
+            Err(_) => Err(AllocError),
+        }
     }
 
     /// Applies a change, and appends it: while the store stops, where a stop is set.
@@ -236,10 +266,9 @@ impl Running {
             stop,
         } = self;
         let change = change.get();
-        let mut stable = stable;
-        match stable.apply(change) {
-            Ok(()) => record_by(alloc, journal, stable, change, stop),
-            Err(refusal) => refuse(journal, stable, stop, refusal),
+        match stop {
+            None => change_unstopped(journal, stable, change),
+            Some(stop) => change_stopped(alloc, journal, stable, change, stop),
         }
     }
 
