@@ -57,8 +57,9 @@ pub(crate) fn fallback_event() -> Event
     Event::Heal(NodeId::Client(ClientId(1)), NodeId::Server(ServerId(1)))
 }
 
-/// Chooses the next event, as `choose` does, and writes it into `event`.
-pub(crate) fn choose_into<J: Judge>(
+/// Chooses the next event, in a world of five nodes, and writes it into `event`: the first
+/// admissible one of 16 candidates, or else the heal of c1's messages to s1.
+pub fn choose<J: Judge>(
     draws: &mut Draws,
     event: &mut Event,
     judge: &J,
@@ -75,16 +76,4 @@ pub(crate) fn choose_into<J: Judge>(
     }
     *event = fallback_event();
     Ok(())
-}
-
-/// Chooses the next event, in a world of five nodes: the first admissible one of 16 candidates, or
-/// else the heal of c1's messages to s1.
-pub fn choose<J: Judge>(draws: &mut Draws, judge: &J, alloc: Global) -> Result<Event, AllocError>
-    requires nodes { length (J.world judge.now).clocks ≡ 5 }
-    requires room { (J.world judge.now).tally.events < 2 ^ 29 }
-    ensures { IfOk result (λ e. (e, draws.new) ≡ chosen (J.world judge.now) draws.old) }
-{
-    let mut event = fallback_event();
-    choose_into(draws, &mut event, judge, alloc)?;
-    Ok(event)
 }

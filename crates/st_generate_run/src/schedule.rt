@@ -8,7 +8,7 @@ ghost use Rattle.st_generate_run.specs.Pieces.{HasCauses, Writes};
 ghost use Rattle.st_generate_run.specs.Turns.{IsReady, IsTurn, lines};
 
 use crate::Draws;
-use crate::choice::{choose_into, fallback_event};
+use crate::choice::{choose, fallback_event};
 use crate::fault::WorkFault;
 use crate::text::{flush, flush_long, put_end, put_event, put_head};
 use crate::turn::{fresh, run_event};
@@ -33,7 +33,7 @@ fn put_next(
     ensures text { OnOk result (text.new.items ≡ text.old.items ++ event_line (chosen world.old draws.old).0) }
 {
     let mut event = fallback_event();
-    choose_into(draws, &mut event, &*world, alloc)?;
+    choose(draws, &mut event, &*world, alloc)?;
     put_event(text, &event)?;
     run_event(alloc, world, &event, seen)
 }

@@ -7,7 +7,7 @@ ghost use Rattle.st_rules.specs.Safety.{is_event};
 ghost use Rattle.st_generate_run.specs.Turns.{IsReady, IsTurn, Leads};
 
 use crate::Draws;
-use crate::choice::{choose_into, fallback_event};
+use crate::choice::{choose, fallback_event};
 use st_base::Config;
 use st_messages::{Counts, Event};
 use st_rules::Observation;
@@ -101,6 +101,6 @@ pub(crate) fn advance(
     ensures events { OnOk result (world.new.tally.events ≡ world.old.tally.events + 1) }
 {
     let mut event = fallback_event();
-    choose_into(draws, &mut event, &*world, alloc)?;
+    choose(draws, &mut event, &*world, alloc)?;
     run_event(alloc, world, &event, seen)
 }

@@ -23,9 +23,9 @@ events_fit n form others reader s begun is h =
     subst (λ (x : Schedule). list_all (is_event (nodes_of n)) x.events ≡ true) (sym is)
     (subst (λ (q : Progress). list_all (is_event (nodes_of n)) (schedule_of others 2 q).events ≡ true) (sym begun) h)
 
-pub law : EveryScheduleRunsSafely
+pub every_schedule_runs_safely : EveryScheduleRunsSafely
 unfolding replay_lines
-law ls k n form s is =
+every_schedule_runs_safely ls k n form s is =
     let head = head_fits is.first k n form is.reader is.head in
     let begun = after_head is.first k n form is.reader is.head in
     let within = events_within form n (head_nodes is.first k n form is.reader is.head) is.others 2 0 in

@@ -2,7 +2,7 @@
 use Rattle.std.proofs.Common.{◌≡◌, ℕ, ◌+◌, ◌<◌, List, [], ◌++◌, length, take, drop, refl, sym, ◌∙◌, ap, subst, arith, append-nil, take-append-drop}
 use Rattle.std.specs.Prelude.{Option, Some, None, IfSome}
 use Rattle.std.specs.Io.KnownBytes.{Appends, Consumes, Keeps}
-use Rattle.std.proofs.KnownBytes.{Consumes-trans, Consumes-kept, Appends-nil, Appends-trans}
+use Rattle.std.proofs.KnownBytes.{Consumes-nil, Consumes-trans, Consumes-kept, Appends-nil, Appends-trans}
 use Rattle.std.proofs.Math.Seq.{take-append_seam}
 use Rattle.std.proofs.lemmas.List.{append_assoc, length-append}
 use Rattle.st_link.specs.Prefixes.{AppendsPrefix}
@@ -16,7 +16,7 @@ use Rattle.st_replay.specs.declared.fault.Stop.{Stop}
 use Rattle.st_replay.specs.declared.fault.Stop.TheVariants as stops
 use Rattle.st_runs.specs.Schedule.{lines_of}
 use Rattle.st_runs.specs.Replay.{Replay, Whole, behind, last_line, text, replay_lines, replay_of, report_of}
-use Rattle.st_replay.proofs.Law.{law}
+use Rattle.st_replay.proofs.Law.{every_schedule_runs_safely}
 use Rattle.st_replay.specs.Pieces.{Passes, whole_lines}
 use Rattle.st_replay.specs.Ends.{IsCutOff}
 use Rattle.st_replay.specs.States.{AtStop, EndsAt, Feeds, Handled, HasNone, IsHere, from_here}
@@ -129,8 +129,53 @@ cut_off left now later before written pending v q next holds s empty kept =
       wrote = subst (Appends before written) (sym front) s.wrote;
       passes = subst (λ ls. Passes (length ls) (replay_lines (whole_lines s.taken)).last) (sym are) (subst (Passes (length s.handled)) (ap (λ
           (x : Replay). x.last) all) z.passes);
-      safe = law (whole_lines s.taken);
+      safe = every_schedule_runs_safely (whole_lines s.taken);
     }
+
+-- Before the first piece.
+
+nothing_read : (left before : Option (List ℕ)) → Streams left left before before [] None progress.Nothing 1 []
+nothing_read left before = record {
+  taken = [];
+  written = [];
+  handled = [];
+  took = Consumes-nil left;
+  wrote = Appends-nil before;
+  are = none_handled [];
+  goes = λ ls. refl;
+  number = omega arith;
+  here = refl;
+  none = refl;
+  few = omega arith;
+}
+
+pub nothing_begun : (left before : Option (List ℕ)) (pending : List ℕ) (v : Option World) (q : Progress) (next : ℕ) (holds : List ℕ) →
+    pending ≡ [] → v ≡ None → q ≡ progress.Nothing → next ≡ 1 → holds ≡ [] → Streams left left before before pending v q next holds
+nothing_begun left before pending v q next holds no_text no_world unread first none =
+    subst (λ t. Streams left left before before t v q next holds) (sym no_text)
+    (subst (λ w. Streams left left before before [] w q next holds) (sym no_world)
+    (subst (λ p. Streams left left before before [] None p next holds) (sym unread)
+    (subst (λ n. Streams left left before before [] None progress.Nothing n holds) (sym first)
+    (subst (λ h. Streams left left before before [] None progress.Nothing 1 h) (sym none) (nothing_read left before)))))
+
+-- No byte more.
+
+pub nothing_taken : (left now later before written : Option (List ℕ)) (pending : List ℕ) (v : Option World) (q : Progress) (next : ℕ)
+    (holds : List ℕ) → Streams left now before written pending v q next holds → Consumes now later [] →
+    Streams left later before written pending v q next holds
+nothing_taken left now later before written pending v q next holds s none = record {
+  taken = s.taken;
+  written = s.written;
+  handled = s.handled;
+  took = subst (Consumes left later) (append-nil s.taken) (Consumes-trans left now later s.taken [] s.took none);
+  wrote = s.wrote;
+  are = s.are;
+  goes = s.goes;
+  number = s.number;
+  here = s.here;
+  none = s.none;
+  few = s.few;
+}
 
 -- A piece more.
 

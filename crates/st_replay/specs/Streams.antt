@@ -1,21 +1,18 @@
 -- A replay from a source to a sink, on its way.
-use Rattle.std.specs.Prelude.{◌≡◌, ◌≤◌, ℕ, ◌+◌, List, [], ◌∷◌, ◌++◌, length, Option, Some, None, Result, Ok, Err, IfSome}
-use Rattle.std.specs.Io.KnownBytes.{Appends, Consumes, IsAtEnd}
+use Rattle.std.specs.Prelude.{◌≡◌, ◌≤◌, ℕ, ◌+◌, List, [], ◌∷◌, ◌++◌, length, Option, Some, None, IfSome}
+use Rattle.std.specs.Io.KnownBytes.{Appends, Consumes}
 use Rattle.st_link.specs.Causes.{Rose}
 use Rattle.st_link.specs.Prefixes.{AppendsPrefix}
 use Rattle.st_rules.specs.declared.observation.Summary.{Summary}
 use Rattle.st_rules.specs.Events.{summary}
 use Rattle.st_rules.specs.World.{World}
 use Rattle.st_schedule.specs.declared.reader.Progress.{Progress}
-use Rattle.st_replay.specs.declared.fault.Halt.{Halt}
-use Rattle.st_replay.specs.declared.fault.Halt.TheVariants as halts
 use Rattle.st_runs.specs.declared.fault.LineRefusal.{LineRefusal}
 use Rattle.st_replay.specs.declared.fault.ReplayFault.{ReplayFault}
 use Rattle.st_replay.specs.declared.fault.ReplayFault.TheVariants as faults
 use Rattle.st_replay.specs.declared.fault.Stop.{Stop}
 use Rattle.st_replay.specs.declared.fault.Stop.TheVariants as stops
 use Rattle.st_runs.specs.Replay.{Replay, Whole, Stopped, behind, last_line, text, replay_lines, replay_of, report_of}
-use Rattle.st_replay.specs.Ends.{IsCutOff}
 use Rattle.st_replay.specs.States.{AtStop, EndsAt, HasNone, Handled, IsHere, from_here, from_line}
 
 -- Bytes were taken and a text was written; the lines that were handled are the first ones of these bytes, and the others are
@@ -41,23 +38,6 @@ pub record Halts (left_before written_before written_now : Option (List ℕ)) (p
   pub wrote : Appends written_before written_now written
   pub front : IfSome left_before (λ bytes. (rest : List ℕ) × (report_of bytes ≡ written ++ rest))
   pub stops : AtStop s (λ n f. IfSome left_before (λ bytes. EndsAt (written ++ pending) n f (replay_of bytes)))
-
--- what holds if all was taken, or if the replay halted
-abbrev pub Plays : Result Unit Halt → Option (List ℕ) → Option (List ℕ) → Option (List ℕ) → Option (List ℕ) → List ℕ → Option World → Progress → ℕ →
-    List ℕ → Type 0
-Plays (Ok u) left left_now written written_now pending v q next holds = Streams left left_now written written_now pending v q next holds × IsAtEnd left_now
-    × (pending ≡ [])
-Plays (Err (halts.Stopped s)) left left_now written written_now pending v q next holds = Halts left written written_now pending s
-Plays (Err halts.Read) left left_now written written_now pending v q next holds =
-    IsCutOff left left_now written written_now × IfSome left (λ bytes. AppendsPrefix written written_now (report_of bytes))
-Plays (Err halts.Write) left left_now written written_now pending v q next holds = IfSome left (λ bytes. AppendsPrefix written written_now (report_of bytes))
-
--- the counts of faults then
-abbrev pub HaltCauses : Result Unit Halt → ℕ → ℕ → ℕ → ℕ → Type 0
-HaltCauses (Ok u) a b c d = (b ≡ a) × (d ≡ c)
-HaltCauses (Err (halts.Stopped s)) a b c d = (b ≡ a) × (d ≡ c)
-HaltCauses (Err halts.Read) a b c d = Rose a b × (c ≤ d)
-HaltCauses (Err halts.Write) a b c d = (a ≤ b) × Rose c d
 
 -- the line or lines of the bytes that are held at the end
 abbrev pub one : List ℕ → List (List ℕ)

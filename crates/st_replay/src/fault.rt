@@ -42,11 +42,3 @@ impl<T: Drop> From<AllocFailed<T>> for Stop {
         Stop::Memory
     }
 }
-
-/// Why a source was not taken to its end.
-#[derive(Debug, Drop)]
-pub(crate) enum Halt {
-    Stopped(Stop),
-    Read,
-    Write,
-}

@@ -1,6 +1,6 @@
 //! Replaying: a schedule is read from a source in pieces, its events are run in a world, and the
-//! report is written to a sink as the run goes on. `docs/PROTOCOL.md`, "Schedules" and "The
-//! report".
+//! report is written to a sink as the run goes on. The calls of `st_generate_run`, which make a
+//! schedule and count its run, are handed on. `docs/PROTOCOL.md`, "Schedules" and "The report".
 #![tactic(auto)]
 
 ghost use Rattle.st_runs.specs.Safe.{EveryScheduleRunsSafely};
@@ -17,6 +17,7 @@ mod source;
 
 pub use fault::ReplayFault;
 pub use source::replay;
+pub use st_generate_run::{WorkFault, generate, put_work, work};
 pub use st_laws_safe::all_is_promised;
 pub use st_rules::Summary;
 pub use st_runs::LineRefusal;

@@ -1,5 +1,4 @@
-ghost use Rattle.std.specs.Prelude.{◌≡◌, ◌+◌, ◌<◌, ◌≤◌, ◌∷◌, ◌++◌, ◌^◌, ℕ, List, None, Ok, IfOk, OnOk, true, length};
-ghost use Rattle.st_rules.specs.Admissible.{refusal};
+ghost use Rattle.std.specs.Prelude.{◌≡◌, ◌+◌, ◌<◌, ◌≤◌, ◌∷◌, ◌++◌, ◌^◌, ℕ, List, Ok, IfOk, OnOk, true, length};
 ghost use Rattle.st_rules.specs.Report.{opening};
 ghost use Rattle.st_rules.specs.Safety.{IsHead, is_event};
 ghost use Rattle.st_rules.specs.World.{fresh_world};
@@ -20,39 +19,8 @@ use st_world::{World, WorldFault};
 use std::alloc::Global;
 use std::mem;
 
-/// Runs the admissible event in the line of this number, and appends what is observed of it. What
-/// was observed of the one before makes room for that.
-fn run_event(
-    alloc: Global,
-    text: &mut Vec<u8>,
-    world: &mut World,
-    seen: &mut Vec<Observation>,
-    line: u64,
-    event: &Event,
-) -> Result<(), Stop>
-    requires event { is_event (length world.old.clocks) event.now ≡ true }
-    requires room { world.old.tally.events < 2 ^ 29 }
-    requires admissible { refusal world.old event.now ≡ None }
-    requires number { line ≡ world.old.tally.events + 2 }
-    ensures goes { OnOk result ((rest : Schedule) →
-        behind text.new.items (from_world world.new rest) ≡ behind text.old.items (from_world world.old (begin event.now rest))) }
-    ensures memory { OnStop result (λ n f. ⊥) }
-    ensures events { OnOk result (world.new.tally.events ≡ world.old.tally.events + 1) }
-    ensures clocks { OnOk result (length world.new.clocks ≡ length world.old.clocks) }
-{
-    let spare = mem::replace(seen, Vec::new(alloc));
-    match world.run(event, spare) {
-        Ok(observed) => {
-            put_lines(text, line - 1, observed.as_slice())?;
-            *seen = observed;
-            Ok(())
-        }
-        Err(WorldFault::Refused(_)) => unreachable!(),
-        Err(WorldFault::Memory) => Err(Stop::Memory),
-    }
-}
-
-/// Runs the event in the line of this number, and appends what is observed of it.
+/// Runs the event in the line of this number, and appends what is observed of it. What was observed
+/// of the event before it makes room for that.
 fn play_event(
     alloc: Global,
     text: &mut Vec<u8>,
@@ -70,9 +38,18 @@ fn play_event(
     ensures events { OnOk result (world.new.tally.events ≡ world.old.tally.events + 1) }
     ensures clocks { OnOk result (length world.new.clocks ≡ length world.old.clocks) }
 {
-    match world.refusal(event) {
-        Some(refusal) => Err(Stop::Line(line, LineRefusal::World(refusal))),
-        None => run_event(alloc, text, world, seen, line, event),
+    if let Some(refusal) = world.refusal(event) {
+        return Err(Stop::Line(line, LineRefusal::World(refusal)));
+    }
+    let spare = mem::replace(seen, Vec::new(alloc));
+    match world.run(event, spare) {
+        Ok(observed) => {
+            put_lines(text, line - 1, observed.as_slice())?;
+            *seen = observed;
+            Ok(())
+        }
+        Err(WorldFault::Refused(_)) => unreachable!(),
+        Err(WorldFault::Memory) => Err(Stop::Memory),
     }
 }
 

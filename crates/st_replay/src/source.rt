@@ -1,15 +1,13 @@
 // A whole replay: the source is taken to its end, and the report written as the run goes on.
-ghost use Rattle.std.specs.Prelude.{◌≡◌, [], None, IfOk, IfSome};
+ghost use Rattle.std.specs.Prelude.{◌≡◌, IfOk, IfSome};
 ghost use Rattle.std.specs.Io.KnownBytes.{IsAtEnd};
 ghost use Rattle.st_rules.specs.Events as rules;
 ghost use Rattle.st_replay.specs.Ends.{Completes, HasCauses, IsCutOff, OnRead, Reports};
 ghost use Rattle.st_runs.specs.Replay.{replay_of};
 ghost use Rattle.st_runs.specs.Safe.{RunsSafely};
 ghost use Rattle.st_runs.specs.Schedule.{lines_of};
-ghost use Rattle.st_schedule.specs.declared.reader.Progress.TheVariants.{Nothing};
-ghost use Rattle.st_replay.specs.Streams.{HaltCauses, Plays};
 
-use crate::fault::{Halt, ReplayFault};
+use crate::fault::ReplayFault;
 use crate::pieces::feed;
 use crate::player::Player;
 use crate::report_end::finish;
@@ -19,69 +17,6 @@ use st_link::{Sink, Source};
 use st_rules::Summary;
 use st_world::World;
 use std::alloc::Global;
-
-/// Takes the source to its end, and plays each line as soon as it is whole. What is observed is
-/// written before more is taken.
-fn play_all<I: Source, O: Sink>(
-    player: &mut Player,
-    held: &mut Vec<u8>,
-    input: &mut I,
-    out: &mut O,
-) -> Result<(), Halt>
-    requires reader { player.old.reader ≡ Nothing }
-    requires world { player.old.world ≡ None }
-    requires line { player.old.line ≡ 1 }
-    requires text { player.old.text.items ≡ [] }
-    requires held { held.old.items ≡ [] }
-    ensures plays { Plays result (I.left input.old) (I.left input.new) (O.written out.old) (O.written out.new)
-        player.new.text.items player.new.world player.new.reader player.new.line held.new.items }
-    ensures causes { HaltCauses result (I.faults input.old) (I.faults input.new) (O.faults out.old) (O.faults out.new) }
-{
-    let mut room = [0u8; 4096];
-    'pieces: loop {
-        let Ok(n) = input.take(&mut room) else {
-            return Err(Halt::Read);
-        };
-        if n == 0 {
-            return Ok(());
-        }
-        match feed(player, held, &room[..n]) {
-            Ok(()) => {}
-            Err(stop) => return Err(Halt::Stopped(stop)),
-        }
-        match flush(out, &mut player.text) {
-            Ok(()) => {}
-            Err(_) => return Err(Halt::Write),
-        }
-    }
-}
-
-/// Replays a schedule with a player that has read nothing, and no bytes held.
-fn replay_with<I: Source, O: Sink>(
-    player: &mut Player,
-    held: &mut Vec<u8>,
-    input: &mut I,
-    out: &mut O,
-) -> Result<(Summary, World), ReplayFault>
-    requires reader { player.old.reader ≡ Nothing }
-    requires world { player.old.world ≡ None }
-    requires line { player.old.line ≡ 1 }
-    requires text { player.old.text.items ≡ [] }
-    requires held { held.old.items ≡ [] }
-    ensures report { IfSome (I.left input.old) (λ bytes. Reports result (O.written out.old) (O.written out.new) (replay_of bytes)) }
-    ensures counts { IfOk result (λ r. r.0 ≡ rules.summary r.1) }
-    ensures through { IfOk result (λ r. IsAtEnd (I.left input.new)) }
-    ensures read { OnRead result (IsCutOff (I.left input.old) (I.left input.new) (O.written out.old) (O.written out.new)) }
-    ensures causes { HasCauses result (I.faults input.old) (I.faults input.new) (O.faults out.old) (O.faults out.new) }
-    ensures complete { IfSome (I.left input.old) (λ bytes. Completes result (replay_of bytes).last) }
-{
-    match play_all(player, held, input, out) {
-        Ok(()) => finish(player, held.as_slice(), out),
-        Err(Halt::Stopped(stop)) => Err(refuse(out, &mut player.text, stop)),
-        Err(Halt::Read) => Err(ReplayFault::Read),
-        Err(Halt::Write) => Err(ReplayFault::Write),
-    }
-}
 
 /// Replays a schedule: reads it from `input` in pieces of at most 4,096 bytes, runs each line as
 /// soon as it is whole, and writes the report to `out`; what is observed of the lines of a piece is
@@ -114,5 +49,21 @@ pub fn replay<I: Source, O: Sink>(
     schedules_run_safely();
     let mut player = Player::new(alloc);
     let mut held = Vec::new(alloc);
-    replay_with(&mut player, &mut held, input, out)
+    let mut room = [0u8; 4096];
+    'pieces: loop {
+        let Ok(n) = input.take(&mut room) else {
+            return Err(ReplayFault::Read);
+        };
+        if n == 0 {
+            return finish(&mut player, held.as_slice(), out);
+        }
+        match feed(&mut player, &mut held, &room[..n]) {
+            Ok(()) => {}
+            Err(stop) => return Err(refuse(out, &mut player.text, stop)),
+        }
+        match flush(out, &mut player.text) {
+            Ok(()) => {}
+            Err(_) => return Err(ReplayFault::Write),
+        }
+    }
 }

@@ -2,5 +2,6 @@ mod Prefixed
 mod Statuses
 mod Made
 mod Played
-mod Nodes
+mod TwoWords
+mod Explained
 pub mod NodeTold

@@ -1,34 +1,38 @@
--- A text that was made, and a job that was done.
-use Rattle.std.proofs.Common.{◌≡◌, ◌≤◌, ℕ, List, arith, inl, inr, refl}
-use Rattle.std.specs.Prelude.{Option, Result, Ok, Err, OnOk, OnErr}
-use Rattle.std.specs.Io.KnownBytes.{Appends}
-use Rattle.st_link.specs.Prefixes.{AppendsPrefix}
+-- A text that was made.
+use Rattle.std.proofs.Common.{◌≡◌, ℕ, List, arith, inl, inr}
+use Rattle.std.specs.Prelude.{Result, Ok, Err, OnOk, OnErr}
 use Rattle.st_generate_run.specs.declared.fault.WorkFault.{WorkFault}
 use Rattle.st_generate_run.specs.declared.fault.WorkFault.TheVariants as works
 use Rattle.st_generate_run.specs.Pieces.{HasCauses}
 use Rattle.st_tank.specs.Status.{IsMade, status_made}
+use Rattle.st_tank.specs.Uses.{StreamUse, Receives, ReceivesPrefix}
 use Rattle.st_tank.proofs.Prefixed.{whole_prefix}
 
-pub made : {T : Type 0} (r : Result T WorkFault) (before now : Option (List ℕ)) (a b : ℕ) (text : List ℕ) → OnOk r (Appends before now text) →
-    OnErr r (AppendsPrefix before now text) → HasCauses r a b → IsMade (status_made r) before now a b text
-made (Ok x) before now a b text whole front causes = record {
-  whole = λ k. (refl, whole);
+pub made : {T Input Output : Type 0} (r : Result T WorkFault) (status : ℕ) (input : StreamUse Input) (out : StreamUse Output) (text : List ℕ) →
+    status ≡ status_made r →
+    OnOk r (Receives out text) → OnErr r (ReceivesPrefix out text) → HasCauses r out.faults_before out.faults_now → input.now ≡ input.before →
+    IsMade status input out text
+made (Ok x) status input out text e whole front causes alone = record {
+  whole = λ k. (e, whole);
+  front = whole_prefix out.bytes_before out.bytes_now text whole;
   still = λ k. causes;
-  front = whole_prefix before now text whole;
-  write = λ k. absurd (omega (arith, k));
-  known = inl refl;
+  write = λ k. absurd (omega (arith, e, k));
+  known = inl e;
+  alone = alone;
 }
-made (Err works.Write) before now a b text whole front causes = record {
-  whole = λ k. absurd (omega (arith, k));
-  still = λ k. absurd (omega (arith, k));
+made (Err works.Write) status input out text e whole front causes alone = record {
+  whole = λ k. absurd (omega (arith, e, k));
   front = front;
+  still = λ k. absurd (omega (arith, e, k));
   write = λ k. causes;
-  known = inr (inl refl);
+  known = inr (inl e);
+  alone = alone;
 }
-made (Err works.Memory) before now a b text whole front causes = record {
-  whole = λ k. absurd (omega (arith, k));
-  still = λ k. absurd (omega (arith, k));
+made (Err works.Memory) status input out text e whole front causes alone = record {
+  whole = λ k. absurd (omega (arith, e, k));
   front = front;
-  write = λ k. absurd (omega (arith, k));
-  known = inr (inr refl);
+  still = λ k. absurd (omega (arith, e, k));
+  write = λ k. absurd (omega (arith, e, k));
+  known = inr (inr e);
+  alone = alone;
 }

@@ -19,8 +19,9 @@ use Rattle.st_node.specs.Runs.{Run, node_run}
 use Rattle.st_node.specs.Service.{HasCauses, OfReadings, Serves}
 use Rattle.st_node.specs.Whole.{RunsThrough, after_all, handle_all}
 use Rattle.st_node.proofs.Runs.{each_reading, map_readings}
-use Rattle.st_tank.specs.NodeEnds.{AttachesBy, Completes, IsAttached, IsTold, MayTell, Writes, end_status, end_text}
+use Rattle.st_tank.specs.NodeEnds.{AttachesBy, Completes, IsAttached, IsServed, IsTold, MayTell, Writes, end_status, end_text}
 use Rattle.st_tank.specs.NodeWords.{started, started_run}
+use Rattle.st_tank.specs.Uses.{StreamUse, LinkUse, ClockUse}
 
 -- all is a front
 all_front : (before now : Option (List ℕ)) (text : List ℕ) → Appends before now text → AppendsPrefix before now text
@@ -97,7 +98,7 @@ less_run ended (Some bytes) before now readings run h =
     (λ rs. less_written ended before now (run rs bytes)) h
 
 -- what may be told of an end
-pub told_causes : (ended told : Result Unit NodeFault) (before now : ℕ) → MayTell ended told → HasCauses ended before now → HasCauses told before now
+told_causes : (ended told : Result Unit NodeFault) (before now : ℕ) → MayTell ended told → HasCauses ended before now → HasCauses told before now
 told_causes ended told before now (inl same) h = subst (λ e. HasCauses e before now) (sym same) h
 told_causes ended told before now (inr less) h = subst (λ e. HasCauses e before now) (sym less.1) (stopped ended less.0 h)
   where
@@ -110,7 +111,7 @@ told_causes ended told before now (inr less) h = subst (λ e. HasCauses e before
     stopped (Err (faults.Cut at)) e h = omega (arith, h)
     stopped (Err faults.TooManyFrames) e h = omega (arith, h)
 
-pub told_run : (ended told : Result Unit NodeFault) (left before now : Option (List ℕ)) (readings : Option (List Stamp)) (run : List Stamp → List ℕ → Run) →
+told_run : (ended told : Result Unit NodeFault) (left before now : Option (List ℕ)) (readings : Option (List Stamp)) (run : List Stamp → List ℕ → Run) →
     MayTell ended told → IfSome left (λ bytes. OfReadings readings (λ rs. Writes ended before now (run rs bytes))) →
     IfSome left (λ bytes. OfReadings readings (λ rs. Writes told before now (run rs bytes)))
 told_run ended told left before now readings run (inl same) h =
@@ -146,7 +147,8 @@ module _ (id : NodeId) (status : ℕ) (before now : Option (List ℕ)) (x y : �
   ends_so (Err (faults.Cut at)) w c t = absurd (no_stop (Err (faults.Cut at)) (λ e. absurd cc) w.0)
   ends_so (Err faults.TooManyFrames) w c t = absurd (no_stop (Err faults.TooManyFrames) (λ e. absurd cc) w.0)
 
-pub completes : (id : NodeId) (status : ℕ) (left before now : Option (List ℕ)) (readings : Option (List Stamp)) (x y : ℕ) (told_before told_now : Option (List ℕ)) (a b : ℕ)
+completes : (id : NodeId) (status : ℕ) (left before now : Option (List ℕ)) (readings : Option (List Stamp)) (x y : ℕ)
+    (told_before told_now : Option (List ℕ)) (a b : ℕ)
     (ended : Result Unit NodeFault) → ((n : Node) (rs : List Stamp) (ms : List Message) → RunsThrough n rs ms) →
     IfSome left (λ bytes. OfReadings readings (λ rs. Writes ended before now (started_run id rs bytes))) → HasCauses ended x y →
     IsTold ended status told_before told_now a b → Completes id status left before now readings x y
@@ -158,7 +160,8 @@ completes id status left before now readings x y told_before told_now a b ended 
     (λ rs k. ends_so id status before now x y told_before told_now a b ms rs (law (started id) rs ms framed few) still ended k c t) h
 
 -- what a status says of the link
-pub link_cause : (ended : Result Unit NodeFault) (status : ℕ) (before now : Option (List ℕ)) (a b x y : ℕ) → IsTold ended status before now a b → HasCauses ended x y →
+link_cause : (ended : Result Unit NodeFault) (status : ℕ) (before now : Option (List ℕ)) (a b x y : ℕ) → IsTold ended status before now a b →
+    HasCauses ended x y →
     status ≡ 6 → Rose x y
 link_cause (Ok u) status before now a b x y t c e = absurd (omega (arith, e, sure_status (Ok u) status before now a b (λ e. omega (arith, e)) t))
 link_cause (Err faults.Read) status before now a b x y t c e = c
@@ -172,7 +175,7 @@ link_cause (Err faults.TooManyFrames) status before now a b x y (inl t) c e = ab
 link_cause (Err faults.TooManyFrames) status before now a b x y (inr t) c e = absurd (omega (arith, e, t.0))
 
 -- there is no other status
-pub few_statuses : (ended : Result Unit NodeFault) (status : ℕ) (before now : Option (List ℕ)) (a b : ℕ) → IsTold ended status before now a b → status ≤ 6
+few_statuses : (ended : Result Unit NodeFault) (status : ℕ) (before now : Option (List ℕ)) (a b : ℕ) → IsTold ended status before now a b → status ≤ 6
 few_statuses (Ok u) status before now a b t = omega (arith, sure_status (Ok u) status before now a b (λ e. omega (arith, e)) t)
 few_statuses (Err faults.Read) status before now a b t = omega (arith, sure_status (Err faults.Read) status before now a b (λ e. omega (arith, e)) t)
 few_statuses (Err faults.Write) status before now a b t = omega (arith, sure_status (Err faults.Write) status before now a b (λ e. omega (arith, e)) t)
@@ -230,7 +233,8 @@ low_told : (ended told : Result Unit NodeFault) → MayTell ended told → end_s
 low_told ended told (inl same) k = subst (λ e. end_status e ≤ 1) same k
 low_told ended told (inr less) k = omega (arith, less.0)
 
-pub names_told : (ended told : Result Unit NodeFault) (status : ℕ) (before now : Option (List ℕ)) (a b : ℕ) (names_before names_now : Option (List (List ℕ))) (name : List ℕ) →
+names_told : (ended told : Result Unit NodeFault) (status : ℕ) (before now : Option (List ℕ)) (a b : ℕ)
+    (names_before names_now : Option (List (List ℕ))) (name : List ℕ) →
     AttachesBy ended names_before names_now name → MayTell ended told → IsTold told status before now a b → IsAttached status names_before names_now name
 names_told ended told status before now a b names_before names_now name h may t = record {
   most = most_by ended names_before names_now name h;
@@ -243,7 +247,7 @@ unfolding end_text
 nothing_told before a = inl (refl, Appends-nil before, refl)
 
 -- at status 0 and 1 no count rose
-pub still_told : (told : Result Unit NodeFault) (status : ℕ) (before now : Option (List ℕ)) (a b x y : ℕ) → IsTold told status before now a b → HasCauses told x y →
+still_told : (told : Result Unit NodeFault) (status : ℕ) (before now : Option (List ℕ)) (a b x y : ℕ) → IsTold told status before now a b → HasCauses told x y →
     status ≤ 1 → (y ≡ x) × (b ≡ a)
 still_told (Ok u) status before now a b x y (inl t) c k = (c, t.2)
 still_told (Ok u) status before now a b x y (inr t) c k = absurd (omega (arith, t.3))
@@ -261,7 +265,7 @@ still_told (Err faults.TooManyFrames) status before now a b x y (inl t) c k = (c
 still_told (Err faults.TooManyFrames) status before now a b x y (inr t) c k = absurd (omega (arith, k, t.0))
 
 -- at status 4 the count of the error sink rose
-pub write_told : (told : Result Unit NodeFault) (status : ℕ) (before now : Option (List ℕ)) (a b : ℕ) → IsTold told status before now a b → status ≡ 4 → Rose a b
+write_told : (told : Result Unit NodeFault) (status : ℕ) (before now : Option (List ℕ)) (a b : ℕ) → IsTold told status before now a b → status ≡ 4 → Rose a b
 write_told (Ok u) status before now a b t k = absurd (omega (arith, k, sure_status (Ok u) status before now a b (λ e. omega (arith, e)) t))
 write_told (Err faults.Read) status before now a b t k = absurd (omega (arith, k, sure_status (Err faults.Read) status before now a b (λ e. omega (arith, e)) t))
 write_told (Err faults.Write) status before now a b t k = absurd (omega (arith, k, sure_status (Err faults.Write) status before now a b (λ e. omega (arith, e)) t))
@@ -274,7 +278,8 @@ write_told (Err faults.TooManyFrames) status before now a b (inl t) k = absurd (
 write_told (Err faults.TooManyFrames) status before now a b (inr t) k = t.2
 
 -- neither 2 nor 3 comes
-pub other_told : (told : Result Unit NodeFault) (status : ℕ) (before now : Option (List ℕ)) (a b : ℕ) → IsTold told status before now a b → (status ≤ 1) ⊎ (4 ≤ status)
+other_told : (told : Result Unit NodeFault) (status : ℕ) (before now : Option (List ℕ)) (a b : ℕ) → IsTold told status before now a b →
+    (status ≤ 1) ⊎ (4 ≤ status)
 other_told (Ok u) status before now a b t = inl (omega (arith, sure_status (Ok u) status before now a b (λ e. omega (arith, e)) t))
 other_told (Err faults.Read) status before now a b t = inr (omega (arith, sure_status (Err faults.Read) status before now a b (λ e. omega (arith, e)) t))
 other_told (Err faults.Write) status before now a b t = inr (omega (arith, sure_status (Err faults.Write) status before now a b (λ e. omega (arith, e)) t))
@@ -285,3 +290,29 @@ other_told (Err (faults.Cut at)) status before now a b (inl t) = inl (omega (ari
 other_told (Err (faults.Cut at)) status before now a b (inr t) = inr (omega (arith, t.0))
 other_told (Err faults.TooManyFrames) status before now a b (inl t) = inl (omega (arith, t.0))
 other_told (Err faults.TooManyFrames) status before now a b (inr t) = inr (omega (arith, t.0))
+
+-- a node was served, and its end was told
+pub is_served : {Err Link Clock : Type 0} (id : NodeId) (name : List ℕ) (ended told : Result Unit NodeFault) (status : ℕ) (err : StreamUse Err)
+    (link : LinkUse Link) (clock : ClockUse Clock) →
+    ((n : Node) (readings : List Stamp) (ms : List Message) → RunsThrough n readings ms) → MayTell ended told →
+    IfSome link.left (λ bytes. OfReadings clock.readings (λ rs. Writes ended link.written_before link.written_now (started_run id rs bytes))) →
+    HasCauses ended link.faults_before link.faults_now → IsTold told status err.bytes_before err.bytes_now err.faults_before err.faults_now →
+    AttachesBy ended link.attached_before link.attached_now name → IsServed id name status err link clock
+is_served id name ended told status err link clock through may run causes t names =
+    let ran = told_run ended told link.left link.written_before link.written_now clock.readings (started_run id) may run in
+    let caused = told_causes ended told link.faults_before link.faults_now may causes in
+    record {
+      ended = told;
+      run = ran;
+      causes = caused;
+      told = t;
+      complete = completes id status link.left link.written_before link.written_now clock.readings link.faults_before link.faults_now
+          err.bytes_before err.bytes_now err.faults_before err.faults_now told through ran caused t;
+      names = names_told ended told status err.bytes_before err.bytes_now err.faults_before err.faults_now
+          link.attached_before link.attached_now name names may t;
+      still = still_told told status err.bytes_before err.bytes_now err.faults_before err.faults_now link.faults_before link.faults_now t caused;
+      write = write_told told status err.bytes_before err.bytes_now err.faults_before err.faults_now t;
+      broken = link_cause told status err.bytes_before err.bytes_now err.faults_before err.faults_now link.faults_before link.faults_now t caused;
+      others = other_told told status err.bytes_before err.bytes_now err.faults_before err.faults_now t;
+      known = few_statuses told status err.bytes_before err.bytes_now err.faults_before err.faults_now t;
+    }

@@ -1,20 +1,18 @@
 -- A script that ended was played.
-use Rattle.std.proofs.Common.{◌≡◌, ◌≤◌, ℕ, List, [], false, arith, refl, sym, ap, subst}
-use Rattle.std.specs.Prelude.{Option, Some, None, Result, Ok, Err, OnOk, IfSome, Vec}
-use Rattle.std.specs.declared.alloc.Global.{Global}
+use Rattle.std.proofs.Common.{◌≡◌, ◌≤◌, ℕ, List, arith, refl, sym, ap, subst}
+use Rattle.std.specs.Prelude.{Option, Some, None, Result, Ok, Err, OnOk, IfSome}
 use Rattle.std.specs.Io.KnownBytes.{Appends, IsAtEnd}
 use Rattle.st_link.specs.Causes.{Rose}
 use Rattle.st_link.specs.Prefixes.{AppendsPrefix}
-use Rattle.st_store.specs.InMemory.{InMemory, fresh_contents}
-use Rattle.st_store.specs.Plans as plans
-use Rattle.st_script_journal.specs.JournalRuns.{HasChanges, IsFreshStore, Leaves, STORE_SIZE}
+use Rattle.st_store.specs.InMemory.{InMemory}
+use Rattle.st_script_journal.specs.JournalRuns.{HasChanges, Leaves}
 use Rattle.st_script_journal.specs.JournalScripts.{JournalState}
 use Rattle.st_script.specs.declared.fault.ScriptFault.{ScriptFault}
 use Rattle.st_script.specs.declared.fault.ScriptFault.TheVariants as faults
 use Rattle.st_script.specs.Ends.{HasCauses, IsWhole, Reports}
 use Rattle.st_script.specs.Scripts.{Ending, Whole, Stopped, Outcome}
 use Rattle.st_tank.specs.Scripts.{IsPlayed, played_of, status_at, status_scripted}
-use Rattle.st_script.proofs.Outcomes.{unwritten as nothing}
+use Rattle.st_tank.specs.Uses.{StreamUse}
 use Rattle.st_tank.proofs.Prefixed.{whole_prefix}
 
 whole_is_zero : {State : Type 0} (holds : State → Type 0) (e : Ending State) → IsWhole holds e → 0 ≡ status_at e
@@ -90,46 +88,37 @@ known_by (Err faults.Read) = omega arith
 known_by (Err faults.Write) = omega arith
 known_by (Err faults.Memory) = omega arith
 
-pub is_played : {State : Type 0} (holds : State → Type 0) (r : Result Unit ScriptFault) (left left_now before now : Option (List ℕ)) (a b m n : ℕ)
-    (o : List ℕ → Outcome State) → IfSome left (λ bytes. Reports holds r before now (o bytes)) → OnOk r (IsAtEnd left_now) → HasCauses r a b m n →
-    IsPlayed (status_scripted r) left left_now before now a b m n (λ bytes. played_of (o bytes))
-is_played holds r left left_now before now a b m n o reports through causes = record {
-  whole = whole_by holds r left before now o reports;
-  front = front_by holds r left before now o reports;
-  through = through_by r (IsAtEnd left_now) through;
-  still = still_by r a b m n causes;
-  read = read_by r a b m n causes;
-  write = write_by r a b m n causes;
-  other = other_by r;
-  known = known_by r;
-}
-
--- nothing was read and nothing written, since memory ran out
-pub unplayed : {State : Type 0} (left before : Option (List ℕ)) (a m : ℕ) (o : List ℕ → Outcome State) →
-    IsPlayed 5 left left before before a a m m (λ bytes. played_of (o bytes))
-unplayed {State} left before a m o =
-    is_played (λ (s : State). Unit {0}) (Err faults.Memory) left left before before a a m m o (unwritten left) tt (omega arith, omega arith)
-  where
-    unwritten : (l : Option (List ℕ)) → IfSome l (λ bytes. Reports (λ (s : State). Unit {0}) (Err faults.Memory) before before (o bytes))
-    unwritten None = tt
-    unwritten (Some bytes) = nothing before (o bytes).text
+pub is_played : {State Input Output : Type 0} (holds : State →
+    Type 0) (r : Result Unit ScriptFault) (status : ℕ) (input : StreamUse Input) (out : StreamUse Output)
+    (o : List ℕ → Outcome State) → status ≡ status_scripted r → IfSome input.bytes_before (λ bytes. Reports holds r out.bytes_before out.bytes_now (o bytes)) →
+    OnOk r (IsAtEnd input.bytes_now) → HasCauses r input.faults_before input.faults_now out.faults_before out.faults_now →
+    IsPlayed status input out (λ bytes. played_of (o bytes))
+is_played holds r status input out o is reports through causes =
+    subst (λ s. IsPlayed s input out (λ bytes. played_of (o bytes))) (sym is) (record {
+      whole = whole_by holds r input.bytes_before out.bytes_before out.bytes_now o reports;
+      front = front_by holds r input.bytes_before out.bytes_before out.bytes_now o reports;
+      through = through_by r (IsAtEnd input.bytes_now) through;
+      still = still_by r input.faults_before input.faults_now out.faults_before out.faults_now causes;
+      read = read_by r input.faults_before input.faults_now out.faults_before out.faults_now causes;
+      write = write_by r input.faults_before input.faults_now out.faults_before out.faults_now causes;
+      other = other_by r;
+      known = known_by r;
+    })
 
 -- a script of a journal, which gives back its store
-pub journal_is_played : (r : Result InMemory ScriptFault) (left left_now before now : Option (List ℕ)) (a b m n : ℕ) (o : List ℕ → Outcome JournalState) →
-    IfSome left (λ bytes. Leaves r before now (o bytes)) → OnOk r (IsAtEnd left_now) → HasCauses r a b m n →
-    IsPlayed (status_scripted r) left left_now before now a b m n (λ bytes. played_of (o bytes))
-journal_is_played (Ok store) left left_now before now a b m n o reports through causes =
-    is_played (λ s. HasChanges s store) (Ok tt) left left_now before now a b m n o reports through causes
-journal_is_played (Err e) left left_now before now a b m n o reports through causes = by_fault e reports causes
+pub journal_is_played : {Input Output : Type 0} (r : Result InMemory ScriptFault) (status : ℕ) (input : StreamUse Input) (out : StreamUse Output)
+    (o : List ℕ → Outcome JournalState) →
+    status ≡ status_scripted r → IfSome input.bytes_before (λ bytes. Leaves r out.bytes_before out.bytes_now (o bytes)) → OnOk r (IsAtEnd input.bytes_now) →
+    HasCauses r input.faults_before input.faults_now out.faults_before out.faults_now → IsPlayed status input out (λ bytes. played_of (o bytes))
+journal_is_played (Ok store) status input out o is reports through causes =
+    is_played (λ s. HasChanges s store) (Ok tt) status input out o is reports through causes
+journal_is_played {Input} {Output} (Err e) status input out o is reports through causes = by_fault e is reports causes
   where
-    by_fault : (e : ScriptFault) → IfSome left (λ bytes. Leaves (Err e) before now (o bytes)) → HasCauses {T = InMemory} (Err e) a b m n →
-        IsPlayed (status_scripted {T = InMemory} (Err e)) left left_now before now a b m n (λ bytes. played_of (o bytes))
-    by_fault (faults.Line l) reports causes = is_played (λ s. Unit {0}) (Err (faults.Line l)) left left_now before now a b m n o reports tt causes
-    by_fault faults.Read reports causes = is_played (λ s. Unit {0}) (Err faults.Read) left left_now before now a b m n o reports tt causes
-    by_fault faults.Write reports causes = is_played (λ s. Unit {0}) (Err faults.Write) left left_now before now a b m n o reports tt causes
-    by_fault faults.Memory reports causes = is_played (λ s. Unit {0}) (Err faults.Memory) left left_now before now a b m n o reports tt causes
-
--- a store of zeros that was made with no call to fail
-pub fresh_store : (s : InMemory) (fails : Vec ℕ Global) → fails.items ≡ [] → s ≡ record { contents = fresh_contents STORE_SIZE; plan = plans.fresh fails; starved = false } → IsFreshStore s
-fresh_store s fails none is =
-    subst IsFreshStore (sym is) (record { zeros = refl; sound = record { none = none; quiet = record { unset = refl; runs = refl } } })
+    by_fault : (e : ScriptFault) → status ≡ status_scripted {T = InMemory} (Err e) →
+        IfSome input.bytes_before (λ bytes. Leaves (Err e) out.bytes_before out.bytes_now (o bytes)) →
+        HasCauses {T = InMemory} (Err e) input.faults_before input.faults_now out.faults_before out.faults_now →
+        IsPlayed status input out (λ bytes. played_of (o bytes))
+    by_fault (faults.Line l) is reports causes = is_played (λ s. Unit {0}) (Err (faults.Line l)) status input out o is reports tt causes
+    by_fault faults.Read is reports causes = is_played (λ s. Unit {0}) (Err faults.Read) status input out o is reports tt causes
+    by_fault faults.Write is reports causes = is_played (λ s. Unit {0}) (Err faults.Write) status input out o is reports tt causes
+    by_fault faults.Memory is reports causes = is_played (λ s. Unit {0}) (Err faults.Memory) status input out o is reports tt causes

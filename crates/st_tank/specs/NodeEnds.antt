@@ -18,6 +18,7 @@ use Rattle.st_node.specs.Runs.{MOST, Run}
 use Rattle.st_node.specs.Service.{HasCauses, OfReadings}
 use Rattle.st_node.specs.Whole.{handle_all}
 use Rattle.st_tank.specs.NodeWords.{started, started_run}
+use Rattle.st_tank.specs.Uses.{StreamUse, LinkUse, ClockUse, NoneFailed, OneFailed}
 
 -- why bytes aren't a message
 abbrev pub refusal_text : CodecRefusal → List ℕ
@@ -89,17 +90,25 @@ pub record IsAttached (status : ℕ) (before now : Option (List (List ℕ))) (na
   pub most : MayAttach before now name
   pub once : status ≤ 4 → Attaches before now name
 
--- a node was served: how that ended, what was written of its run, whether the link's count rose, and the status and its text
-pub record IsServed (id : NodeId) (status : ℕ) (left written_before written_now : Option (List ℕ)) (readings : Option (List Stamp)) (link_before link_now : ℕ)
-    (err_before err_now : Option (List ℕ)) (faults_before faults_now : ℕ) : Type 0 where
-  pub ended : Result Unit NodeFault
-  pub run : IfSome left (λ bytes. OfReadings readings (λ rs. Writes ended written_before written_now (started_run id rs bytes)))
-  pub causes : HasCauses ended link_before link_now
-  pub told : IsTold ended status err_before err_now faults_before faults_now
-
 -- Whole frames, at most as many as a node takes, over a link that does not fail: each message is handled once, all that comes of it is
 -- written, and the status is 0; or memory ran out.
 abbrev pub Completes : NodeId → ℕ → Option (List ℕ) → Option (List ℕ) → Option (List ℕ) → Option (List Stamp) → ℕ → ℕ → Type 0
 Completes id status left written_before written_now readings link_before link_now =
     (ms : List Message) → left ≡ Some (flat_map message_frame ms) → AllByRecursion IsFramed ms → length ms ≤ MOST → ¬ (Rose link_before link_now) →
     OfReadings readings (λ rs. (status ≡ 5) ⊎ ((status ≡ 0) × Appends written_before written_now (handle_all ms (started id) rs).out))
+
+-- A node was served: how that ended, what was written of its run, whether a call of the link failed, and the status and its text; the link
+-- was attached at the name; and what follows of the status alone.
+pub record IsServed {Err Link Clock : Type 0} (id : NodeId) (name : List ℕ) (status : ℕ) (err : StreamUse Err) (link : LinkUse Link)
+    (clock : ClockUse Clock) : Type 0 where
+  pub ended : Result Unit NodeFault
+  pub run : IfSome link.left (λ bytes. OfReadings clock.readings (λ rs. Writes ended link.written_before link.written_now (started_run id rs bytes)))
+  pub causes : HasCauses ended link.faults_before link.faults_now
+  pub told : IsTold ended status err.bytes_before err.bytes_now err.faults_before err.faults_now
+  pub complete : Completes id status link.left link.written_before link.written_now clock.readings link.faults_before link.faults_now
+  pub names : IsAttached status link.attached_before link.attached_now name
+  pub still : status ≤ 1 → (link.faults_now ≡ link.faults_before) × NoneFailed err
+  pub write : status ≡ 4 → OneFailed err
+  pub broken : status ≡ 6 → Rose link.faults_before link.faults_now
+  pub others : (status ≤ 1) ⊎ (4 ≤ status)
+  pub known : status ≤ 6

@@ -1,5 +1,5 @@
 -- The words `node server ID NAME` and `node client ID NAME`, and the node that they start. docs/PROTOCOL.md, "The program".
-use Rattle.std.specs.Prelude.{ℕ, ◌-◌, ◌==◌, ◌&&◌, Bool, false, not, nat_le, if◌then◌else◌, List, [], ◌∷◌, length, map, codes, String, string_bytes, Option, Some, None, is_some, option_map}
+use Rattle.std.specs.Prelude.{ℕ, ◌-◌, ◌==◌, ◌&&◌, Bool, false, not, nat_le, if◌then◌else◌, List, [], ◌∷◌, length, codes, Option, Some, None, option_map}
 use Rattle.std.specs.Str.{bytes_eq}
 use Rattle.st_base.specs.declared.config.Config.{Config}
 use Rattle.st_base.specs.declared.ids.NodeId.{NodeId}
@@ -67,10 +67,6 @@ node_of words = None
 abbrev pub name_in : List (List ℕ) → List ℕ
 name_in (first ∷ (kind ∷ (id ∷ (name ∷ [])))) = name
 name_in words = []
-
--- the words of a call start a node
-abbrev pub starts_node : {A : Type 0} → List (String A) → Bool
-starts_node words = is_some (node_of (map string_bytes words))
 
 -- the settings of a node, in milliseconds
 abbrev pub node_config : Config

@@ -1,8 +1,6 @@
 -- What the commands make of the bytes of a script, and what a run of one comes to. docs/PROTOCOL.md, "Scripts".
-use Rattle.std.specs.Prelude.{◌≡◌, ◌≤◌, ℕ, List, Option, Result, Ok, Err, IfSome}
-use Rattle.std.specs.Io.KnownBytes.{Appends, IsAtEnd}
-use Rattle.st_link.specs.Causes.{Rose}
-use Rattle.st_link.specs.Prefixes.{AppendsPrefix}
+use Rattle.std.specs.Prelude.{◌≡◌, ◌≤◌, ℕ, List, Result, Ok, Err, IfSome}
+use Rattle.std.specs.Io.KnownBytes.{IsAtEnd}
 use Rattle.st_script.specs.declared.fault.ScriptFault.{ScriptFault}
 use Rattle.st_script.specs.declared.fault.ScriptFault.TheVariants as faults
 use Rattle.st_script_journal.specs.JournalScripts as journals
@@ -12,6 +10,7 @@ use Rattle.st_script_shared.specs.SharedScripts as shared
 use Rattle.st_script_containers.specs.SnapScripts as snaps
 use Rattle.st_tank.specs.declared.words.Command.{Command}
 use Rattle.st_tank.specs.declared.words.Command.TheVariants as commands
+use Rattle.st_tank.specs.Uses.{StreamUse, NoneFailed, OneFailed, Receives, ReceivesPrefix}
 
 -- all the text of a script, and the status: 0 where the script went through its end, and 1 where a line was malformed or missing
 pub record Played : Type 0 where
@@ -40,14 +39,14 @@ status_scripted (Err faults.Read) = 3
 status_scripted (Err faults.Write) = 4
 status_scripted (Err faults.Memory) = 5
 
--- A script was played: at 0 and 1 all its text was written and no count rose; at 0 all was read; at 3 and 4 the count of the source's or of the sink's faults
--- rose; and a prefix of the text was written in any case.
-pub record IsPlayed (status : ℕ) (left_before left_now before now : Option (List ℕ)) (read_before read_now write_before write_now : ℕ) (play : List ℕ → Played) : Type 0 where
-  pub whole : status ≤ 1 → IfSome left_before (λ bytes. (status ≡ (play bytes).status) × Appends before now (play bytes).text)
-  pub front : IfSome left_before (λ bytes. AppendsPrefix before now (play bytes).text)
-  pub through : status ≡ 0 → IsAtEnd left_now
-  pub still : status ≤ 1 → (read_now ≡ read_before) × (write_now ≡ write_before)
-  pub read : status ≡ 3 → Rose read_before read_now
-  pub write : status ≡ 4 → Rose write_before write_now
+-- A script was played: at 0 and 1 all its text was written, with that status, and no call failed; at 0 all was read; at 3 and 4 a call
+-- of the source or of the sink failed; and a prefix of the text was written in any case.
+pub record IsPlayed {Input Output : Type 0} (status : ℕ) (input : StreamUse Input) (out : StreamUse Output) (play : List ℕ → Played) : Type 0 where
+  pub whole : status ≤ 1 → IfSome input.bytes_before (λ bytes. (status ≡ (play bytes).status) × Receives out (play bytes).text)
+  pub front : IfSome input.bytes_before (λ bytes. ReceivesPrefix out (play bytes).text)
+  pub through : status ≡ 0 → IsAtEnd input.bytes_now
+  pub still : status ≤ 1 → NoneFailed input × NoneFailed out
+  pub read : status ≡ 3 → OneFailed input
+  pub write : status ≡ 4 → OneFailed out
   pub other : ¬ (status ≡ 2)
   pub known : status ≤ 5

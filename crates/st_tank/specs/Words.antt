@@ -1,20 +1,22 @@
--- The words of a call, the texts that a call writes to its error sink, and the causes of a failed write. docs/PROTOCOL.md, "The program".
-use Rattle.std.specs.Prelude.{ℕ, ◌≡◌, ◌≤◌, ◌⊎◌, ◌==◌, Bool, false, if◌then◌else◌, List, [], ◌∷◌, map, codes, String, string_bytes, Option, Some, None, is_some}
+-- The words of a call, and the texts that a call writes to its error sink. docs/PROTOCOL.md, "The program".
+use Rattle.std.specs.Prelude.{ℕ, ◌≤◌, ◌==◌, if◌then◌else◌, List, [], ◌∷◌, map, codes, String, string_bytes, Option, Some, None}
 use Rattle.std.specs.Str.{bytes_eq}
-use Rattle.st_generate.specs.GeneratedText.{generate_text, work_text}
-use Rattle.st_link.specs.Causes.{Rose}
+use Rattle.st_base.specs.declared.ids.NodeId.{NodeId}
 use Rattle.st_schedule_words.specs.Words.{plain}
 use Rattle.st_tank.specs.declared.words.Command.{Command}
 use Rattle.st_tank.specs.declared.words.Command.TheVariants as commands
 use Rattle.st_tank.specs.declared.words.Job.{Job}
 use Rattle.st_tank.specs.declared.words.Job.TheVariants as jobs
+use Rattle.st_tank.specs.KnownNodes.{IsKnown}
+use Rattle.st_tank.specs.NodeWords.{name_in, node_of}
 
--- a fact of the length of a schedule: it has at most 100,000 events
-abbrev pub HasFew : Job → Type 0
-HasFew jobs.Replay = Unit {0}
-HasFew (jobs.Script command) = Unit {0}
-HasFew (jobs.Generate n seed) = n ≤ 100000
-HasFew (jobs.Work n seed) = n ≤ 100000
+-- a schedule has at most 100,000 events, and a node is one of those that there are
+abbrev pub IsInRange : Job → Type 0
+IsInRange jobs.Replay = Unit {0}
+IsInRange (jobs.Script command) = Unit {0}
+IsInRange (jobs.Generate n seed) = n ≤ 100000
+IsInRange (jobs.Work n seed) = n ≤ 100000
+IsInRange (jobs.Node id) = IsKnown id
 
 -- a length and a seed: digits without a leading zero
 abbrev pub length_of : List ℕ → Option ℕ
@@ -55,37 +57,25 @@ scripted (Some command) = Some (jobs.Script command)
 abbrev pub alone : List ℕ → Option Job
 alone word = if bytes_eq word (codes "replay") then Some jobs.Replay else scripted (command_in word)
 
+abbrev pub served : Option NodeId → Option Job
+served None = None
+served (Some id) = Some (jobs.Node id)
+
 -- what the words ask for, if they are right
 abbrev pub job_in : List (List ℕ) → Option Job
 job_in (word ∷ []) = alone word
 job_in (word ∷ (n ∷ (seed ∷ []))) = numbered word (length_of n) (seed_of seed)
+job_in (first ∷ (kind ∷ (id ∷ (name ∷ [])))) = served (node_of (first ∷ (kind ∷ (id ∷ (name ∷ [])))))
 job_in words = None
 
 abbrev pub job_of : {A : Type 0} → List (String A) → Option Job
 job_of words = job_in (map string_bytes words)
 
--- the words of a call are right, and are not those of a node
-abbrev pub right : {A : Type 0} → List (String A) → Bool
-right words = is_some (job_of words)
+-- the name among the words of a node
+abbrev pub name_of : {A : Type 0} → List (String A) → List ℕ
+name_of words = name_in (map string_bytes words)
 
--- a fact of a replay
-abbrev pub OnReplay : Option Job → Type 0 → Type 0
-OnReplay (Some jobs.Replay) fact = fact
-OnReplay job fact = Unit {0}
-
--- a fact of a script
-abbrev pub OnScript : Option Job → (Command → Type 0) → Type 0
-OnScript (Some (jobs.Script command)) fact = fact command
-OnScript job fact = Unit {0}
-
--- a fact of the text that is made of a length and a seed
-abbrev pub OnMade : Option Job → (List ℕ → Type 0) → Type 0
-OnMade (Some (jobs.Generate n seed)) fact = fact (generate_text n seed)
-OnMade (Some (jobs.Work n seed)) fact = fact (work_text n seed)
-OnMade job fact = Unit {0}
-
--- The text of a status: the usage for wrong arguments; otherwise a text for a failed read, for a failed write and for running out of memory, and no text for 0
--- and 1.
+-- The usage, for wrong arguments; and the text of a status: of a failed read, of a failed write and of running out of memory, and no text for 0 and 1.
 
 unfoldable pub USAGE : List ℕ
 USAGE = codes "usage: tank replay | generate N SEED | work N SEED | node server|client ID NAME | journal | move | snap | shared\n"
@@ -98,10 +88,3 @@ write_text status = if status == 4 then codes "tank: write failed\n" else memory
 
 unfoldable pub fault_text : ℕ → List ℕ
 fault_text status = if status == 3 then codes "tank: read failed\n" else write_text status
-
-abbrev pub complaint : Bool → ℕ → List ℕ
-complaint right status = if right then fault_text status else USAGE
-
--- a failed write has its cause: the output failed, or the words were wrong and the error sink failed
-abbrev pub HasWriteCause : Bool → ℕ → ℕ → ℕ → ℕ → Type 0
-HasWriteCause right out_before out_now err_before err_now = Rose out_before out_now ⊎ ((right ≡ false) × Rose err_before err_now)

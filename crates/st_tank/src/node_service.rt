@@ -1,12 +1,12 @@
 // A node that is served over a link.
-ghost use Rattle.std.specs.Prelude.{◌≡◌, ◌≤◌, ◌⊎◌, IfSome, IfOk};
-ghost use Rattle.st_link.specs.Causes.{Rose};
+ghost use Rattle.std.specs.Prelude.{◌≡◌, IfSome, IfOk};
 ghost use Rattle.st_node.specs.Room.{HasRoomFor};
 ghost use Rattle.st_node.specs.Runs.{MOST};
 ghost use Rattle.st_node.specs.Service.{HasCauses, OfReadings};
-ghost use Rattle.st_tank.specs.NodeEnds.{AttachesBy, Completes, IsAttached, IsServed, Writes};
+ghost use Rattle.st_tank.specs.NodeEnds.{AttachesBy, IsServed, Writes};
 ghost use Rattle.st_tank.specs.KnownNodes.{IsKnown};
 ghost use Rattle.st_tank.specs.NodeWords as words_of;
+ghost use Rattle.st_tank.specs.Uses.{clock_use, link_use, stream_use};
 
 use crate::node_ends::tell;
 use st_base::{Config, NodeId};
@@ -97,21 +97,8 @@ pub fn serve_node<E: Sink, L: Link, C: Clock>(
     clock: &mut C,
 ) -> u8
     requires { IsKnown id }
-    // How the run over the stream ended, with what was written of it, and with the status and the
-    // text of that.
-    ensures served { IsServed id result (L.left link.old) (L.written link.old) (L.written link.new) (C.readings clock.old)
-        (L.Source.faults link.old) (L.Source.faults link.new) (E.written err.old) (E.written err.new) (E.faults err.old) (E.faults err.new) }
-    // Whole frames over a link that does not fail are all served, unless memory runs out.
-    ensures complete { Completes id result (L.left link.old) (L.written link.old) (L.written link.new) (C.readings clock.old)
-        (L.Source.faults link.old) (L.Source.faults link.new) }
-    // The link is attached once, at the name.
-    ensures names { IsAttached result (L.attached link.old) (L.attached link.new) name.now }
-    // At 0 and 1 no count of faults rose.
-    ensures still { result ≤ 1 → (L.Source.faults link.new ≡ L.Source.faults link.old) × (E.faults err.new ≡ E.faults err.old) }
-    ensures write { result ≡ 4 → Rose (E.faults err.old) (E.faults err.new) }
-    ensures link { result ≡ 6 → Rose (L.Source.faults link.old) (L.Source.faults link.new) }
-    ensures others { (result ≤ 1) ⊎ (4 ≤ result) }
-    ensures known { result ≤ 6 }
+    ensures { IsServed id name.now result (stream_use E.written E.faults err.old err.new)
+        (link_use L.left L.written L.attached L.Source.faults link.old link.new) (clock_use C.readings clock.old clock.new) }
 {
     whole_frames_run_through();
     let ended = start_and_serve(alloc, id, name, link, clock);

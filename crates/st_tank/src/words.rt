@@ -1,9 +1,12 @@
 // The words of a call.
 ghost use Rattle.std.specs.Prelude.{◌≡◌, ◌≤◌, IfSome, map, string_bytes};
+ghost use Rattle.st_tank.specs.NodeWords as services;
 ghost use Rattle.st_tank.specs.Words as words_of;
-ghost use Rattle.st_tank.specs.Words.{HasFew};
+ghost use Rattle.st_tank.specs.Words.{IsInRange};
 
+use crate::node_words::node_of;
 use crate::numbers::number;
+use st_base::NodeId;
 
 const REPLAY: &[u8] = b"replay";
 
@@ -31,14 +34,15 @@ pub(crate) enum Command {
     Shared,
 }
 
-/// What a call should do: replay a schedule, play a script, or write the text or the counts of the
-/// schedule that a length and a seed give.
+/// What a call should do: replay a schedule, play a script, write the text or the counts of the
+/// schedule that a length and a seed give, or serve a node.
 #[derive(Clone, Copy, Debug, PartialEq, Eq)]
 pub(crate) enum Job {
     Replay,
     Script(Command),
     Generate(u32, u64),
     Work(u32, u64),
+    Node(NodeId),
 }
 
 fn command_in(word: &[u8]) -> Option<Command>
@@ -59,7 +63,7 @@ fn command_in(word: &[u8]) -> Option<Command>
 
 fn scripted(word: &[u8]) -> Option<Job>
     ensures exact { result ≡ words_of.scripted (words_of.command_in word.now) }
-    ensures few { IfSome result HasFew }
+    ensures range { IfSome result IsInRange }
 {
     match command_in(word) {
         Some(command) => Some(Job::Script(command)),
@@ -69,7 +73,7 @@ fn scripted(word: &[u8]) -> Option<Job>
 
 fn alone(word: &[u8]) -> Option<Job>
     ensures exact { result ≡ words_of.alone word.now }
-    ensures few { IfSome result HasFew }
+    ensures range { IfSome result IsInRange }
 {
     if word == REPLAY {
         Some(Job::Replay)
@@ -81,7 +85,7 @@ fn alone(word: &[u8]) -> Option<Job>
 fn named(word: &[u8], n: u32, seed: u64) -> Option<Job>
     requires { n ≤ 100000 }
     ensures exact { result ≡ words_of.named word.now n seed }
-    ensures few { IfSome result HasFew }
+    ensures range { IfSome result IsInRange }
 {
     if word == GENERATE {
         Some(Job::Generate(n, seed))
@@ -94,7 +98,7 @@ fn named(word: &[u8], n: u32, seed: u64) -> Option<Job>
 
 fn numbered(word: &[u8], n: &[u8], seed: &[u8]) -> Option<Job>
     ensures exact { result ≡ words_of.numbered word.now (words_of.length_of n.now) (words_of.seed_of seed.now) }
-    ensures few { IfSome result HasFew }
+    ensures range { IfSome result IsInRange }
 {
     let Some(n) = number(MOST_EVENTS, n) else {
         return None;
@@ -105,14 +109,25 @@ fn numbered(word: &[u8], n: &[u8], seed: &[u8]) -> Option<Job>
     named(word, n as u32, seed)
 }
 
+fn served(words: &[String]) -> Option<Job>
+    ensures exact { result ≡ words_of.served (services.node_of (map string_bytes words.now)) }
+    ensures range { IfSome result IsInRange }
+{
+    match node_of(words) {
+        Some(id) => Some(Job::Node(id)),
+        None => None,
+    }
+}
+
 /// What these words ask for, if they are right.
 pub(crate) fn job_of(words: &[String]) -> Option<Job>
     ensures exact { result ≡ words_of.job_in (map string_bytes words.now) }
-    ensures few { IfSome result HasFew }
+    ensures range { IfSome result IsInRange }
 {
     match words {
         [word] => alone(word.as_bytes()),
         [word, n, seed] => numbered(word.as_bytes(), n.as_bytes(), seed.as_bytes()),
+        [_, _, _, _] => served(words),
         _ => None,
     }
 }

@@ -1,5 +1,5 @@
-use Rattle.st_replay.proofs.Law.{law}
+use Rattle.st_replay.proofs.Law.{every_schedule_runs_safely}
 use Rattle.st_replay.proofs.schedules_run_safely.Goals as goal
 
 pub returns : goal.returns
-returns c = law
+returns c = every_schedule_runs_safely

@@ -1,7 +1,7 @@
 use Rattle.std.proofs.Common.{◌≡◌, ◌-◌, [], length}
 use Rattle.st_replay.specs.States.{needs}
 use Rattle.st_replay.specs.Streams.{Streams}
-use Rattle.st_replay.proofs.source.play_all.Given as goal
+use Rattle.st_replay.proofs.source.replay.Given as goal
 
 abbrev pub invariant-pieces : goal.invariant-pieces
 invariant-pieces g l = record {
