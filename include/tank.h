@@ -21,12 +21,12 @@
  * Frames. A frame is a length in four bytes, the highest first, and the bytes of one message
  * ("Wire"). A call takes one whole frame. What is taken out is a sequence of whole frames, in
  * pieces as large as the caller's buffer. tank_frame_at says where the first one ends, and to which
- * node it goes. A client is 1 to 16, a server is 32768 plus its number, and 0 is the client's own
- * surroundings. These receive its answers and its disk commands, which tank_decode_answer and
- * tank_decode_command show as structs. A tick, an application's ask and the end of a disk command
- * reach a node as frames, which tank_encode_tick, tank_encode_ask and tank_encode_done make of
- * structs. A frame that isn't for the node, or isn't an input for it, is ignored: the result is
- * TANK_DONE, no step is taken, and nothing results.
+ * node it goes. A client's node number is 1 to 16, a server's is 32768 plus its number, and node 0
+ * is the client's own surroundings. These receive its answers and its disk commands, which
+ * tank_decode_answer and tank_decode_command show as structs. A tick, an application's ask and the
+ * end of a disk command reach a node as frames, which tank_encode_tick, tank_encode_ask and
+ * tank_encode_done make of structs. A frame that isn't for the node, or isn't an input for it, is
+ * ignored: the result is TANK_DONE, no step is taken, and nothing results.
  *
  * Moments. A moment is a reading of the node's own clock in ticks, at most 2^62. It never falls,
  * from call to call and from one opening to the next. Timers move only in steps: give each node a
@@ -39,7 +39,7 @@
  *
  * Demands. A server that wants a lock back sends the frame TANK_KIND_DEMAND. If it reaches a client
  * right after the grant, the client gives the lock up before it has served the ask for which it
- * wanted it, and asks for it again. Clients that use one file in turn then make slow progress,
+ * wanted it, and asks for it again. Clients that take turns with one file then make slow progress,
  * though nothing is lost. So hold a demand back until the ask that waits for its grant has been
  * answered, or for longer than a round trip and a disk read.
  *

@@ -1,30 +1,24 @@
 -- A change that is applied leaves the stable part as it was where its mark stays the same.
-use Rattle.std.proofs.Common.{◌≡◌, ℕ, suc, ◌+◌, ◌^◌, ◌<◌, ◌≤◌, Bool, true, false, ◌==◌, not, cond, List, [], ◌∷◌, length, Option, Some, None, refl, sym, ap, subst, ◌∙◌, arith}
-use Rattle.std.specs.Prelude.{◌&&◌, bytes_eq, find, filter, map, is_some, nat_lt, nat_le, Result, Ok, Err}
+use Rattle.st_lemmas.proofs.Words
+use Words.{◌≡◌, ℕ, ◌+◌, ◌^◌, ◌<◌, ◌≤◌, Bool, true, false, ◌==◌, not, cond, List, [], ◌∷◌, length, Option, Some, None, refl, sym, ap, subst, ◌∙◌, arith, ◌&&◌}
+use Words.{bytes_eq, find, filter, map, is_some, nat_lt, nat_le, Result, Ok, Err, and_parts, eqb-true, leb-true, BlockAt, FileId, PageNo, AllocateRefusal}
+use Words.{Extent, NameEntry, EntryRefusal}
+use Words.wants as space
+use Words.Extents as extents
+use Words.Extents.{Extents}
+use Words.Keys.{page_no}
+use Words.Names as names
+use Words.Names.{Names, Changed}
+use Words.Server.{Stable}
+use Words.Tables.{cond_either, find_gone}
 use Rattle.std.specs.Option.{option_or}
-use Rattle.std.proofs.lemmas.Bool.{and_parts, cases_Bool, eqb-true, leb-true}
 use Rattle.std.proofs.lemmas.Slice.Eq.{bytes_eq-Decides}
-use Rattle.st_base.specs.declared.disk.BlockAt.{BlockAt}
-use Rattle.st_base.specs.declared.ids.FileId.{FileId}
-use Rattle.st_base.specs.declared.ids.PageNo.{PageNo}
 use Rattle.st_journal.specs.Stable as journal
 use Rattle.st_journal.specs.declared.change.Change.{Change}
 use Rattle.st_journal.specs.declared.change.Change.TheVariants as changes
 use Rattle.st_journal.specs.declared.stable.ChangeRefusal.{ChangeRefusal}
 use Rattle.st_journal.specs.declared.stable.ChangeRefusal.TheVariants.{NoFile}
-use Rattle.st_rules.specs.declared.extents.AllocateRefusal.{AllocateRefusal}
-use Rattle.st_rules.specs.declared.extents.AllocateRefusal.TheVariants as space
-use Rattle.st_rules.specs.declared.extents.Extent.{Extent}
-use Rattle.st_rules.specs.declared.names.NameEntry.{NameEntry}
-use Rattle.st_rules.specs.declared.names.EntryRefusal.{EntryRefusal}
-use Rattle.st_rules.specs.declared.names.EntryRefusal.TheVariants.{Exists, TooMany, NotEmpty, NoEntry, Cycle}
-use Rattle.st_rules.specs.Extents as extents
-use Rattle.st_rules.specs.Extents.{Extents}
-use Rattle.st_rules.specs.Keys.{page_no}
-use Rattle.st_rules.specs.Names as names
-use Rattle.st_rules.specs.Names.{Names, Changed}
-use Rattle.st_rules.specs.Server.{Stable}
-use Rattle.st_lemmas.proofs.Tables.{cond_either, find_gone}
+use Rattle.st_rules.specs.declared.names.EntryRefusal.TheVariants.{Exists, TooMany, NotEmpty, Cycle}
 use Rattle.st_durable.specs.Durable.{mark, found_mark}
 
 -- Extents: births rise with each page that is mapped.

@@ -1,27 +1,20 @@
 -- A step leaves a server's stable part as it was, or changes it by the change that its input asks for.
-use Rattle.std.proofs.Common.{◌≡◌, ℕ, ◌⊎◌, Option, Some, None, refl, sym, ap, subst, ◌∙◌, inl, inr}
-use Rattle.std.specs.Prelude.{Result, Ok}
-use Rattle.st_base.specs.declared.ids.FileId.{FileId}
-use Rattle.st_base.specs.declared.ids.Stamp.{Stamp}
+use Rattle.st_lemmas.proofs.Words
+use Words.{◌≡◌, ℕ, ◌⊎◌, Option, Some, None, refl, sym, ap, subst, ◌∙◌, inl, inr, Result, Ok, FileId, Stamp, Body, Header, ServerInput, ServerId, Config}
+use Words.Extents as extents
+use Words.Keys.{page_no}
+use Words.Names as names
+use Words.Server as server
+use Words.Server.{ServerState, Stable, ServerTurn, crash}
+use Words.Tables.{cond_true, cond_false}
 use Rattle.st_journal.specs.Stable as journal
 use Rattle.st_journal.specs.declared.change.Change.{Change}
 use Rattle.st_journal.specs.declared.stable.ChangeRefusal.{ChangeRefusal}
-use Rattle.st_messages.specs.declared.message.Body.{Body}
-use Rattle.st_messages.specs.declared.message.Header.{Header}
-use Rattle.st_rules.specs.declared.input.ServerInput.{ServerInput}
-use Rattle.st_rules.specs.Extents as extents
-use Rattle.st_rules.specs.Keys.{page_no}
-use Rattle.st_rules.specs.Names as names
-use Rattle.st_rules.specs.Server as server
-use Rattle.st_rules.specs.Server.{ServerState, Stable, ServerTurn, crash}
-use Rattle.st_lemmas.proofs.Tables.{cond_true, cond_false}
 use Rattle.st_durable.specs.Durable.{IsOwn, asked, asked_of}
 use Rattle.st_trace.specs.Server.Edits.{Ruled, Tells, Acquires, Releases, Allocates, Cuts, Creates, MakesDir, Renames, RemovesDir, RemovesFile, Phase, Edit}
-use Rattle.st_trace.specs.Server.Edits.{TakesTimers, Steals, Welcomes, Begins, Replaces, PutsOff, Sees, Reasserts, Serves, Repeats, Refuses, Suspects}
-use Rattle.st_trace.specs.Server.Edits.{Grants, Demands}
+use Rattle.st_trace.specs.Server.Edits.{TakesTimers, Steals, Welcomes, Begins, Replaces, PutsOff, Sees, Reasserts, Serves, Repeats, Refuses, Suspects, Grants}
+use Rattle.st_trace.specs.Server.Edits.{Demands}
 use Rattle.st_trace.proofs.Server.Walk.{walk}
-use Rattle.st_base.specs.declared.ids.ServerId.{ServerId}
-use Rattle.st_base.specs.declared.config.Config.{Config}
 
 -- What a crash leaves is the stable part, and whose it is.
 pub kept_stable : (t u : ServerState) → crash u ≡ crash t → u.stable ≡ t.stable

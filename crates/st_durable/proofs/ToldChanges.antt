@@ -1,30 +1,23 @@
 -- What is reported after a step: the change that was made, or none if there was none.
-use Rattle.std.proofs.Common.{◌≡◌, ◌≢◌, ℕ, ◌+◌, ◌-◌, ◌^◌, ◌<◌, ◌≤◌, ◌⊎◌, Bool, true, false, ◌==◌, List, Option, Some, None, refl, sym, ap, subst, ◌∙◌, arith, inl, inr}
-use Rattle.std.specs.Prelude.{◌&&◌, length, min, nat_lt, nat_le, if◌then◌else◌, Result, Ok, Err}
-use Rattle.std.proofs.lemmas.Bool.{and_parts, and_from, eqb-true, eq-eqb, le-leb, leb-true, lt-ltb}
+use Rattle.st_lemmas.proofs.Words
+use Words.{◌≡◌, ◌≢◌, ℕ, ◌+◌, ◌-◌, ◌^◌, ◌<◌, ◌≤◌, ◌⊎◌, Bool, true, false, ◌==◌, List, Option, Some, None, refl, sym, ap, subst, ◌∙◌, arith, inl, inr, ◌&&◌}
+use Words.{length, min, nat_le, if◌then◌else◌, Result, Ok, Err, and_parts, and_from, eqb-true, eq-eqb, le-leb, leb-true, lt-ltb, Body, NameOp, Output}
+use Words.{StepFault, Config, ServerId, Stamp, ServerInput}
+use Words.bodies
+use Words.ops
+use Words.faults
+use Words.Ranges as messages
+use Words.Kinds.{kind_of_body}
+use Words.serving.{Tick, Control}
+use Words.Server as server
+use Words.Server.{ServerNode, ServerState, Stable, crash}
+use Words.Tables.{cond_either}
 use Rattle.st_journal.specs.Changes as ranges
 use Rattle.st_journal.specs.Changes.{fits}
 use Rattle.st_journal.specs.Stable as journal
 use Rattle.st_journal.specs.declared.change.Change.{Change}
 use Rattle.st_journal.specs.declared.change.Change.TheVariants as changes
-use Rattle.st_messages.specs.declared.message.Body.{Body}
-use Rattle.st_messages.specs.declared.message.Body.TheVariants as bodies
-use Rattle.st_messages.specs.declared.message.NameOp.{NameOp}
-use Rattle.st_messages.specs.declared.message.NameOp.TheVariants as ops
-use Rattle.st_messages.specs.declared.output.Output.{Output}
-use Rattle.st_messages.specs.declared.output.StepFault.{StepFault}
-use Rattle.st_messages.specs.declared.output.StepFault.TheVariants as faults
-use Rattle.st_messages.specs.Ranges as messages
-use Rattle.st_messages.specs.Kinds.{kind_of_body}
-use Rattle.st_base.specs.declared.config.Config.{Config}
-use Rattle.st_base.specs.declared.ids.ServerId.{ServerId}
-use Rattle.st_base.specs.declared.ids.Stamp.{Stamp}
-use Rattle.st_rules.specs.declared.input.ServerInput.{ServerInput}
-use Rattle.st_rules.specs.declared.input.ServerInput.TheVariants.{Tick, Control}
 use Rattle.st_rules.specs.declared.node.StepRefusal.TheVariants.{Crashed}
-use Rattle.st_rules.specs.Server as server
-use Rattle.st_rules.specs.Server.{ServerNode, ServerState, Stable, crash}
-use Rattle.st_lemmas.proofs.Tables.{cond_either}
 use Rattle.st_durable.specs.Durable.{IsAsked, IsMade, IsOwn, Tells, asked, asked_of, asked_of_names, mark}
 use Rattle.st_server.specs.RuleConditions.{comes_fit}
 use Rattle.st_server.specs.Room.{HasRoom}

@@ -1,16 +1,11 @@
 -- Lives that were kept are lives that began, and others may begin after them.
-use Rattle.std.proofs.Common.{◌≡◌, ℕ, ◌-◌, ◌^◌, true, ◌&&◌, List, [], ◌∷◌, map, refl, arith}
-use Rattle.std.specs.List.{list_all}
-use Rattle.std.proofs.lemmas.Bool.{and_from, and_parts, lt-ltb, ltb-true}
-use Rattle.st_base.specs.declared.config.Config.{Config}
-use Rattle.st_base.specs.declared.ids.ClientId.{ClientId}
-use Rattle.st_base.specs.declared.ids.Life.{Life}
-use Rattle.st_base.specs.declared.ids.ServerId.{ServerId}
+use Rattle.st_lemmas.proofs.Words
+use Words.{◌≡◌, ℕ, ◌-◌, ◌^◌, true, ◌&&◌, List, [], ◌∷◌, map, refl, arith, list_all, and_from, and_parts, lt-ltb, ltb-true, Config, ClientId, Life, ServerId}
+use Words.{length, nat_lt}
 use Rattle.st_client.specs.Nodes.{crashed_at, crashed_node, is_begun, is_low, servers_to}
 use Rattle.st_client.specs.Room.{HasRoom}
 use Rattle.st_client_association.specs.Associations.{has_room_at}
 use Rattle.st_embed.specs.Clients.{is_kept, life}
-use Rattle.std.specs.Prelude.{length, nat_lt}
 
 pub kept_begun : (ns : List ℕ) → list_all is_kept ns ≡ true → list_all is_begun (map life ns) ≡ true
 kept_begun [] e = refl

@@ -1,17 +1,14 @@
 -- A step of a server inside another program.
-use Rattle.std.proofs.Common.{◌≡◌, ℕ, ◌≤◌, Bool, true, false, List, refl, sym, ap, subst, ◌∙◌, arith}
-use Rattle.std.specs.Prelude.{if◌then◌else◌, Option, Some, None, IfSome, is_some}
-use Rattle.st_base.specs.declared.ids.Stamp.{Stamp}
+use Rattle.st_lemmas.proofs.Words
+use Words.{◌≡◌, ℕ, ◌≤◌, Bool, true, false, List, refl, sym, ap, subst, ◌∙◌, arith, if◌then◌else◌, Option, Some, None, IfSome, is_some, Stamp, Body, Message}
+use Words.Server.{Stable}
 use Rattle.st_durable.specs.Durable.{DurableServer, Tells, asked_of}
 use Rattle.st_journal.specs.Changes.{fits}
 use Rattle.st_journal.specs.OpenedJournal.{room_behind, room_for}
 use Rattle.st_journal.specs.declared.change.Change.{Change}
 use Rattle.st_journal.proofs.ScannedBytes.{bytes_few}
-use Rattle.st_messages.specs.declared.message.Body.{Body}
-use Rattle.st_messages.specs.declared.message.Message.{Message}
 use Rattle.st_node.specs.Runs.{handle}
 use Rattle.st_node.specs.declared.node.Node.TheVariants.{Server}
-use Rattle.st_rules.specs.Server.{Stable}
 use Rattle.st_embed.specs.Servers.{EmbeddedServer, IsAskedBy, MayStep, Steps}
 use Rattle.st_embed.proofs.StableParts.{record_long}
 

@@ -1,19 +1,14 @@
 -- What changes make of a fresh stable part is one that a server may have.
-use Rattle.std.proofs.Common.{◌≡◌, ℕ, ◌+◌, ◌*◌, ◌^◌, ◌<◌, ◌≤◌, true, List, [], ◌∷◌, length, Some, None, refl, subst, ◌∙◌, arith, length-append}
-use Rattle.std.specs.Prelude.{Result, Ok, Err, nat_le}
-use Rattle.std.specs.List.{list_all}
-use Rattle.std.proofs.lemmas.Bool.{and_parts, leb-true}
-use Rattle.st_base.specs.declared.ids.PageNo.{PageNo}
-use Rattle.st_base.specs.declared.ids.ServerId.{ServerId}
-use Rattle.st_lemmas.proofs.Tables.{cond_either}
-use Rattle.st_rules.specs.declared.extents.AllocateRefusal.{AllocateRefusal}
-use Rattle.st_rules.specs.declared.extents.AllocateRefusal.TheVariants.{NoSpace}
-use Rattle.st_rules.specs.declared.names.EntryRefusal.{EntryRefusal}
-use Rattle.st_rules.specs.Extents as extents
-use Rattle.st_rules.specs.Extents.{Extents}
-use Rattle.st_rules.specs.Keys.{page_no}
-use Rattle.st_rules.specs.Names as names
-use Rattle.st_rules.specs.Server.{Stable}
+use Rattle.st_lemmas.proofs.Words
+use Words.{◌≡◌, ℕ, ◌+◌, ◌*◌, ◌^◌, ◌<◌, ◌≤◌, true, List, [], ◌∷◌, length, Some, None, refl, subst, ◌∙◌, arith, length-append, Result, Ok, Err, nat_le, list_all}
+use Words.{and_parts, leb-true, PageNo, ServerId, AllocateRefusal, EntryRefusal}
+use Words.Tables.{cond_either}
+use Words.wants.{NoSpace}
+use Words.Extents as extents
+use Words.Extents.{Extents}
+use Words.Keys.{page_no}
+use Words.Names as names
+use Words.Server.{Stable}
 use Rattle.std.specs.Int.{w32, to_be_bytes}
 use Rattle.st_journal.specs.Changes.{bytes_of, fits, is_count, is_ino, is_page, word32}
 use Rattle.st_journal.specs.Journal.{StandsFor, all_opened, framed, opened}

@@ -1,5 +1,6 @@
 -- Bytes that are written over as many zeros.
-use Rattle.std.proofs.Common.{◌≡◌, ℕ, List, [], ◌∷◌, length, refl, ap}
+use Rattle.st_lemmas.proofs.Words
+use Words.{◌≡◌, ℕ, List, [], ◌∷◌, length, refl, ap}
 use Rattle.st_store.specs.InMemory.{zeros}
 use Rattle.st_store.specs.Store.{written}
 

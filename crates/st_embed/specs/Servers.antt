@@ -108,6 +108,11 @@ NotStarted s opening.Epochs = 4294967295 ≤ s.epoch.0
 NotStarted s opening.Memory = Unit {0}
 NotStarted s f = ⊥
 
+-- the same, of a server whose journal has so many changes
+abbrev pub NotStartedAfter : ℕ → Stable → ServerFault → Type 0
+NotStartedAfter n s opening.Memory = Unit {0}
+NotStartedAfter n s f = (1 ≤ n) × NotStarted s f
+
 -- the number of changes of a journal leaves too little room after its gate for a record
 pub record IsFull (start : Stable) (bytes : List ℕ) : Type 0 where
   pub changes : List Change
@@ -115,9 +120,10 @@ pub record IsFull (start : Stable) (bytes : List ℕ) : Type 0 where
   pub stands : StandsFor start bytes changes stable
   pub few : room_behind (length bytes) (length (all_opened changes)) < 526
 
--- the stable part that the journal stands for has begun no epoch, or the last one
+-- the journal has changes, and the stable part that it stands for has begun no epoch, or the last one
 pub record IsNotStarted (start : Stable) (bytes : List ℕ) (f : ServerFault) : Type 0 where
   pub changes : List Change
+  pub some : 1 ≤ length changes
   pub stable : Stable
   pub stands : StandsFor start bytes changes stable
   pub why : NotStarted stable f

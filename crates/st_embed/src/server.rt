@@ -6,7 +6,7 @@ ghost use Rattle.st_base.specs.Config as settings;
 ghost use Rattle.st_durable.specs.Durable as durable;
 ghost use Rattle.st_durable.specs.Durable.{Tells};
 ghost use Rattle.st_extents.specs.Layout.{IsWithinLimits};
-ghost use Rattle.st_embed.specs.Servers.{IsAskedBy, IsStarved, MayOpen, MayStart, MayStep, NotOpened, NotTaken, IsOfServer, NotStarted, Opens, Refuses, RefusesStep, Steps, begun, kept, len_by, record_by, start_of, to_keep};
+ghost use Rattle.st_embed.specs.Servers.{IsAskedBy, IsStarved, MayOpen, MayStart, MayStep, NotOpened, NotTaken, IsOfServer, NotStarted, NotStartedAfter, Opens, Refuses, RefusesStep, Steps, begun, kept, len_by, record_by, start_of, to_keep};
 ghost use Rattle.st_embed.specs.FramePieces.{Takes};
 ghost use Rattle.st_embed.specs.declared.fault.ServerFault.TheVariants.{Memory};
 ghost use Rattle.st_journal.specs.OpenedJournal.{room_behind};
@@ -168,7 +168,7 @@ fn opened(
     ensures changed { IfOk result (λ d. d.changed ≡ Some kinds.Epoch) }
     ensures told { IfOk result (λ d. Tells (parts.stable_of stable) d.node.state.stable (Some kinds.Epoch)) }
     ensures may { OnOk result (MayStart changes (parts.stable_of stable)) }
-    ensures err { IfErr result (NotStarted (parts.stable_of stable)) }
+    ensures err { IfErr result (NotStartedAfter changes (parts.stable_of stable)) }
 {
     if changes == 0 {
         return fresh(alloc, id, config, shape);

@@ -1,14 +1,15 @@
 -- Every image is of one moment.
-use Rattle.std.proofs.Common.{◌≡◌, ◌⊎◌, ◌≤◌, ◌<◌, ℕ, zero, suc, ◌+◌, Bool, true, false, cond, List, [], ◌∷◌, ◌++◌, Some, Result, Ok, Err, refl, sym, ap, ◌∙◌, subst, inl, inr, arith}
-use Rattle.std.specs.Prelude.{not, ◌&&◌, ◌||◌, ◌==◌, filter, length, nat_le, nat_lt, if◌then◌else◌}
-use Rattle.std.specs.List.{list_any}
+use Rattle.st_lemmas.proofs.Words
+use Words.{◌≡◌, ◌⊎◌, ◌≤◌, ◌<◌, ℕ, zero, suc, ◌+◌, Bool, true, false, cond, List, [], ◌∷◌, ◌++◌, Some, Result, Ok, Err, refl, sym, ap, ◌∙◌, subst, inl, inr}
+use Words.{eq-eqb, eqb-false, ne_eqb, true≢false}
+use Words.{arith, not, ◌&&◌, ◌||◌, ◌==◌, filter, length, nat_le, nat_lt, if◌then◌else◌, list_any, eqb-true, ltb-true, lt-ltb}
 use Rattle.std.specs.Option.{option_map}
-use Rattle.std.proofs.lemmas.Bool.{eqb-true, ltb-true, lt-ltb}
 use Rattle.st_snap.specs.Changes.{Change, Forgot, Took, Wrote, before, images, is_view, last_write, page_of, same_page, takes}
 use Rattle.st_snap.specs.Images.{bytes_of, forget, is_full, read, take, write}
 use Rattle.st_snap.specs.declared.refusal.SnapRefusal.{SnapRefusal}
 use Rattle.st_snap.specs.declared.refusal.SnapRefusal.TheVariants.{NoImage, NoSpace, TooMany}
-use Rattle.st_laws_histories.specs.ImageHistories.{Call, EveryImageIsOneMoment, Forget, IsOneMoment, Read, Take, Write, after_calls, left_by, live, live_after}
+use Rattle.st_laws_histories.specs.ImageHistories.{Call, EveryImageIsOneMoment, Forget, IsOneMoment, Read, Take, Write}
+use Rattle.st_laws_histories.specs.ImageHistories.{after_call, after_calls, drops, left_by, live, live_after}
 
 -- Lists of images.
 
@@ -194,5 +195,112 @@ live_pages blocks earlier (Read image file page) f p = refl
 live_pages blocks earlier Take f p = let xs = after_calls blocks earlier in take_leaves (λ ys. live ys f p ≡ live xs f p) xs refl (λ done. refl)
 live_pages blocks earlier (Forget image) f p = let xs = after_calls blocks earlier in forget_leaves (λ ys. live ys f p ≡ live xs f p) xs image refl refl
 
+-- An image is there from its take until it is dropped.
+
+-- the image was taken, and is there unless it was dropped
+record Stands (n : ℕ) (dropped : Bool) (xs : List Change) : Type 0 where
+  some : 1 ≤ n
+  low : n ≤ takes xs
+  there : is_in n (images xs) ≡ not dropped
+
+last_in : (n : ℕ) (ns : List ℕ) → is_in n (ns ++ n ∷ []) ≡ true
+last_in n [] = ap (λ b. b || false) (eq-eqb n n refl)
+last_in n (k ∷ ns) = later_or (n == k) (is_in n (ns ++ n ∷ [])) (last_in n ns)
+
+last_other : (n : ℕ) (ns : List ℕ) (m : ℕ) → (n == m) ≡ false → is_in n (ns ++ m ∷ []) ≡ is_in n ns
+last_other n [] m other = ap (λ b. b || false) other
+last_other n (k ∷ ns) m other = ap (λ b. (n == k) || b) (last_other n ns m other)
+
+-- one more number is filtered
+abbrev kept_or_not : Bool → ℕ → List ℕ → List ℕ
+kept_or_not b k rest = if not b then k ∷ rest else rest
+
+dropped_one : (n k : ℕ) (rest : List ℕ) (b : Bool) → (n == k) ≡ b → is_in n rest ≡ false → is_in n (kept_or_not b k rest) ≡ false
+dropped_one n k rest true e out = out
+dropped_one n k rest false e out = ap (λ b. b || is_in n rest) e ∙ out
+
+-- what is filtered out is not among the rest
+dropped_out : (n : ℕ) (ns : List ℕ) → is_in n (filter (λ other. not (n == other)) ns) ≡ false
+dropped_out n [] = refl
+dropped_out n (k ∷ ns) = dropped_one n k (filter (λ other. not (n == other)) ns) (n == k) refl (dropped_out n ns)
+
+stays_one : (n image k : ℕ) (ns rest : List ℕ) (b : Bool) → (image == k) ≡ b → (image == n) ≡ false → is_in n rest ≡ is_in n ns →
+    is_in n (kept_or_not b k rest) ≡ is_in n (k ∷ ns)
+stays_one n image k ns rest true e other same =
+    same ∙ ap (λ b. b || is_in n ns) (sym (ne_eqb n k (λ is. eqb-false image n other (eqb-true image k e ∙ sym is))))
+stays_one n image k ns rest false e other same = ap (λ b. (n == k) || b) same
+
+-- and what isn't is
+others_stay : (n image : ℕ) (ns : List ℕ) → (image == n) ≡ false → is_in n (filter (λ other. not (image == other)) ns) ≡ is_in n ns
+others_stay n image [] other = refl
+others_stay n image (k ∷ ns) other =
+    stays_one n image k ns (filter (λ o. not (image == o)) ns) (image == k) refl other (others_stay n image ns other)
+
+abbrev number_of : Result (ℕ × List Change) SnapRefusal → ℕ
+number_of (Ok r) = r.0
+number_of (Err e) = 0
+
+abbrev is_refused : Result (ℕ × List Change) SnapRefusal → Bool
+is_refused (Ok r) = false
+is_refused (Err e) = true
+
+taken_number : (xs : List Change) (n : ℕ) (b : Bool) → take xs ≡ told b xs → take xs ≡ Ok (n, Took ∷ xs) → takes xs + 1 ≡ n
+taken_number xs n true e done = absurd (true≢false (ap is_refused (sym e ∙ done)))
+taken_number xs n false e done = ap number_of (sym e ∙ done)
+
+taken_stands : (xs : List Change) (n : ℕ) → take xs ≡ Ok (n, Took ∷ xs) → Stands n false (left_by xs (take xs))
+taken_stands xs n done =
+    subst (λ r. Stands n false (left_by xs r)) (sym done)
+    (subst (λ m. Stands m false (Took ∷ xs)) (taken_number xs n (nat_le 64 (length (images xs))) (take_told xs) done) (record {
+      some = omega arith;
+      low = omega arith;
+      there = last_in (takes xs + 1) (images xs);
+    }))
+
+forget_goes : (n : ℕ) (dropped : Bool) (image : ℕ) (xs : List Change) → Stands n dropped xs → Stands n ((image == n) || dropped) (left_by xs (forget xs image))
+forget_goes n dropped image xs s =
+    subst (λ r. Stands n ((image == n) || dropped) (left_by xs r)) (sym (forgot_told xs image)) (go (is_in image (images xs)) refl)
+  where
+    refused : (b : Bool) → (image == n) ≡ b → is_in image (images xs) ≡ false → is_in n (images xs) ≡ not (b || dropped)
+    refused true e none = ap (λ m. is_in m (images xs)) (sym (eqb-true image n e)) ∙ none
+    refused false e none = s.there
+
+    done : (b : Bool) → (image == n) ≡ b → is_in n (filter (λ other. not (image == other)) (images xs)) ≡ not (b || dropped)
+    done true e = subst (λ m. is_in n (filter (λ other. not (m == other)) (images xs)) ≡ false) (sym (eqb-true image n e)) (dropped_out n (images xs))
+    done false e = others_stay n image (images xs) e ∙ s.there
+
+    go : (b : Bool) → is_in image (images xs) ≡ b → Stands n ((image == n) || dropped) (left_by xs (forgot b xs image))
+    go true e = record { some = s.some; low = s.low; there = done (image == n) refl }
+    go false e = record { some = s.some; low = s.low; there = refused (image == n) refl e }
+
+goes_on : (blocks n : ℕ) (dropped : Bool) (call : Call) (xs : List Change) → Stands n dropped xs →
+    Stands n (drops n call || dropped) (after_call blocks xs call)
+goes_on blocks n dropped (Write f p bytes) xs s =
+    write_leaves (Stands n dropped) blocks xs f p bytes s (record { some = s.some; low = s.low; there = s.there })
+goes_on blocks n dropped (Read image f p) xs s = s
+goes_on blocks n dropped Take xs s =
+    let low = s.low in
+    take_leaves (Stands n dropped) xs s (λ done. record {
+      some = s.some;
+      low = omega (arith, low);
+      there = last_other n (images xs) (takes xs + 1) (ne_eqb n (takes xs + 1) (λ e. omega (arith, low, e))) ∙ s.there;
+    })
+goes_on blocks n dropped (Forget image) xs s = forget_goes n dropped image xs s
+
+stands : (blocks : ℕ) (later earlier : List Call) (n : ℕ) → take (after_calls blocks earlier) ≡ Ok (n, Took ∷ after_calls blocks earlier) →
+    Stands n (list_any (drops n) later) (after_calls blocks (later ++ Take ∷ earlier))
+stands blocks [] earlier n done = taken_stands (after_calls blocks earlier) n done
+stands blocks (call ∷ later) earlier n done =
+    goes_on blocks n (list_any (drops n) later) call (after_calls blocks (later ++ Take ∷ earlier)) (stands blocks later earlier n done)
+
+view_of : (n : ℕ) (xs : List Change) (b : Bool) → 1 ≤ n → is_in n (images xs) ≡ b → is_view xs n ≡ b
+view_of n xs b some e = ap (λ t. t || is_in n (images xs)) (ne_eqb n 0 (λ none. omega (arith, some, none))) ∙ e
+
+until_dropped : (blocks : ℕ) (later earlier : List Call) (image : ℕ) → take (after_calls blocks earlier) ≡ Ok (image, Took ∷ after_calls blocks earlier) →
+    is_view (after_calls blocks (later ++ Take ∷ earlier)) image ≡ not (list_any (drops image) later)
+until_dropped blocks later earlier image done =
+    let s = stands blocks later earlier image done in
+    view_of image (after_calls blocks (later ++ Take ∷ earlier)) (not (list_any (drops image) later)) s.some s.there
+
 pub every_image : EveryImageIsOneMoment
-every_image = record { images = one_moment; pages = live_pages }
+every_image = record { images = one_moment; kept = until_dropped; pages = live_pages }

@@ -1,9 +1,9 @@
 -- Every history of moves, with crashes and starts of servers, keeps what is promised.
-use Rattle.std.proofs.Common.{◌≡◌, ◌+◌, ℕ, Bool, true, false, List, [], ◌∷◌, ◌++◌, length, Option, Some, None, Ok, Err, refl, ap, ◌∙◌, subst, arith}
-use Rattle.std.specs.Prelude.{if◌then◌else◌, nat_le}
-use Rattle.st_base.specs.declared.ids.ServerId.{ServerId}
-use Rattle.st_lemmas.proofs.Numbers.{length_more, numbered_own}
-use Rattle.st_rules.specs.World.{numbered}
+use Rattle.st_lemmas.proofs.Words
+use Words.{◌≡◌, ◌+◌, ℕ, Bool, true, false, List, [], ◌∷◌, ◌++◌, length, Option, Some, None, Ok, Err, refl, ap, ◌∙◌, subst, arith, if◌then◌else◌, nat_le}
+use Words.{ServerId}
+use Words.Numbers.{length_more, numbered_own}
+use Words.World.{numbered}
 use Rattle.st_move.specs.declared.record.ContainerRecord.{ContainerRecord}
 use Rattle.st_move.specs.declared.record.ContainerState.{ContainerState}
 use Rattle.st_move.specs.declared.record.ContainerState.TheVariants.{Holding, Leaving, Sent, Gone}
@@ -13,11 +13,13 @@ use Rattle.st_move.specs.declared.world.MoveAnswer.TheVariants.{Counted, Listed}
 use Rattle.st_move.specs.declared.world.MoveEvent.{MoveEvent}
 use Rattle.st_move.specs.declared.world.MoveEvent.TheVariants as events
 use Rattle.st_move.specs.Calls.{count_at, count_found}
-use Rattle.st_move.specs.Containers.{changeable, changed, containers_open, found_at, readable, unless_leaving, unless_sent, updated, updated_with, updates_of, with_record, with_records, with_updates}
+use Rattle.st_move.specs.Containers.{changeable, changed, containers_open, found_at, readable, unless_leaving, unless_sent, updated, updated_with, updates_of}
+use Rattle.st_move.specs.Containers.{with_record, with_records, with_updates}
 use Rattle.st_move.specs.Law.{MoveHistory, NoUpdateIsLost, OneHolder, fresh_history, noted, run_moves}
 use Rattle.st_move.specs.Updates.{added, bytes_of, most_bytes}
 use Rattle.st_move.specs.World.{MoveWorld, happens, list_at, list_told, move_world_open, put_at, put_told}
-use Rattle.st_laws_histories.specs.MoveHistories.{Crashes, Event, EveryMoveIsKept, Moves, Running, Starts, after_event, fresh_running, is_down, place_of, run, unlocks}
+use Rattle.st_laws_histories.specs.MoveHistories.{Crashes, Event, EveryMoveIsKept, Moves, Running, Starts, after_event, fresh_running, is_down, place_of, run}
+use Rattle.st_laws_histories.specs.MoveHistories.{unlocks}
 
 -- A history with crashes is one without.
 

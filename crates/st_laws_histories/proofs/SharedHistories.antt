@@ -1,29 +1,28 @@
 -- Each answer has its cause in the history.
-use Rattle.std.proofs.Common.{◌≡◌, ℕ, suc, ◌+◌, Bool, true, false, ◌||◌, ◌==◌, List, [], ◌∷◌, ◌++◌, Some, None, refl, sym, ap, ◌∙◌, arith, if◌then◌else◌}
-use Rattle.std.specs.Prelude.{length, nat_lt, pred, Option, option_map, Result, Ok, Err}
-use Rattle.st_base.specs.declared.ids.ClientId.{ClientId}
-use Rattle.st_base.specs.declared.ids.PageNo.{PageNo}
-use Rattle.st_base.specs.declared.disk.Command.{Command}
-use Rattle.st_base.specs.declared.disk.Command.TheVariants as commands
-use Rattle.st_lemmas.proofs.Numbers.{length_more, set_length}
-use Rattle.st_rules.specs.Keys.{same_client}
-use Rattle.st_rules.specs.World.{numbered}
-use Rattle.st_rules.specs.declared.disks.Block.{Block}
-use Rattle.st_rules.specs.declared.disks.DiskCommand.{DiskCommand}
-use Rattle.st_rules.specs.declared.disks.CommandRefusal.{CommandRefusal}
+use Rattle.st_lemmas.proofs.Words
+use Words.{◌≡◌, ℕ, suc, ◌+◌, Bool, true, false, ◌||◌, ◌==◌, List, [], ◌∷◌, ◌++◌, Some, None, refl, sym, ap, ◌∙◌, arith, if◌then◌else◌, length, nat_lt, pred}
+use Words.{Option, option_map, Result, Ok, Err, ClientId, PageNo, Command, Block, DiskCommand, CommandRefusal, Report as DiskReport}
+use Words.commands
+use Words.Numbers.{length_more, set_length}
+use Words.Keys.{same_client}
+use Words.World.{numbered}
+use Words.reports
+use Words.Disks as disks
+use Words.Disks.{Disks, command, done_at, done_once, done_unreported, effect_at, effect_of, effect_once, effect_reported, lacks_effect, new_command, sample}
+use Words.Disks.{with_command}
 use Rattle.st_rules.specs.declared.disks.CommandRefusal.TheVariants.{NotEffected, Twice}
-use Rattle.st_rules.specs.declared.disks.Report.{Report as DiskReport}
-use Rattle.st_rules.specs.declared.disks.Report.TheVariants as reports
-use Rattle.st_rules.specs.Disks as disks
-use Rattle.st_rules.specs.Disks.{Disks, command, done_at, done_once, done_unreported, effect_at, effect_of, effect_once, effect_reported, lacks_effect, new_command, sample, with_command}
 use Rattle.st_shared.specs.declared.issuers.Issuer.{Issuer}
 use Rattle.st_shared.specs.declared.members.Member.{Member}
 use Rattle.st_shared.specs.declared.refusal.SharedRefusal.{SharedRefusal}
 use Rattle.st_shared.specs.declared.refusal.SharedRefusal.TheVariants.{Busy, Held, NotIn, NoLock, NoPage, NotStopped, SharedBy, Stopped, Late}
 use Rattle.st_shared.specs.Calls.{state_after}
-use Rattle.st_shared.specs.History.{Call, Enter, Leave, Lock, Unlock, Crash, Expire, Write, Read, Effect, Report, Issued, Step, answer_of, is_issued_by, issue_of, issued, rule_of, trace}
+use Rattle.st_shared.specs.History.{Call, Enter, Leave, Lock, Unlock, Crash, Expire, Write, Read, Effect, Report, Issued, Step, answer_of, is_issued_by}
+use Rattle.st_shared.specs.History.{issue_of, issued, rule_of, trace}
 use Rattle.st_shared.specs.Shared as rules
-use Rattle.st_shared.specs.Shared.{Shared, Answer, Done, Number, Hard, Bytes, Failed, Silent, Refused, block_of, both, busy, check_page, check_running, check_submit, checked, crashed, effect_timely, ended_answer, enter_unlocked, entered, expire_issuer, expired, fresh_shared, is_expired, is_holder, is_silenced, is_stopped, issuer, leave_idle, least_member, left, lock_alone, lock_free, locked, member_of, report_answer, reported, stop_issuer, submit, submitted, tag_of, unlocked, with_disk}
+use Rattle.st_shared.specs.Shared.{Shared, Answer, Done, Number, Hard, Bytes, Failed, Silent, Refused, block_of, both, busy, check_page, check_running}
+use Rattle.st_shared.specs.Shared.{check_submit, checked, crashed, effect_timely, ended_answer, enter_unlocked, entered, expire_issuer, expired, fresh_shared}
+use Rattle.st_shared.specs.Shared.{is_expired, is_holder, is_silenced, is_stopped, issuer, leave_idle, least_member, left, lock_alone, lock_free, locked}
+use Rattle.st_shared.specs.Shared.{member_of, report_answer, reported, stop_issuer, submit, submitted, tag_of, unlocked, with_disk}
 use Rattle.st_shared.proofs.Agreeing.{client_of_issued, client_of_issuer, step_of}
 use Rattle.st_shared.proofs.Numbered.{length_map, none_numbered, numbered_map, numbered_push, same_push}
 use Rattle.st_laws_histories.specs.SharedHistories.{EveryAnswerHasItsCause, HasCause, HaveCauses, has_stopped, submissions}

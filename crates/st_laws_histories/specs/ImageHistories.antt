@@ -1,5 +1,6 @@
 -- Histories of a volume with images: writes, reads, takes and drops, and what is promised of all of them.
-use Rattle.std.specs.Prelude.{◌≡◌, ◌≤◌, ℕ, true, not, ◌&&◌, if◌then◌else◌, List, [], ◌∷◌, ◌++◌, Option, Some, Result, Ok, Err}
+use Rattle.std.specs.Prelude.{◌≡◌, ◌≤◌, ◌==◌, ℕ, Bool, true, false, not, ◌&&◌, if◌then◌else◌, List, [], ◌∷◌, ◌++◌, Option, Some, Result, Ok, Err}
+use Rattle.std.specs.List.{list_any}
 use Rattle.st_snap.specs.Changes.{Change, Took, is_view, same_page}
 use Rattle.st_snap.specs.Images.{forget, is_full, read, take, write}
 use Rattle.st_snap.specs.declared.refusal.SnapRefusal.{SnapRefusal}
@@ -45,7 +46,16 @@ live_after blocks changes (Read image file page) f p = live changes f p
 live_after blocks changes Take f p = live changes f p
 live_after blocks changes (Forget image) f p = live changes f p
 
--- Each image that is there is of one moment, and the live pages have the last writes.
+-- the call drops the image
+abbrev pub drops : ℕ → Call → Bool
+drops image (Write file page bytes) = false
+drops image (Read other file page) = false
+drops image Take = false
+drops image (Forget other) = other == image
+
+-- Each image that is there is of one moment, an image is there from its take until it is dropped, and the live pages have the last writes.
 pub record EveryImageIsOneMoment : Type 0 where
   pub images : (blocks : ℕ) (calls : List Call) (image : ℕ) → 1 ≤ image → is_view (after_calls blocks calls) image ≡ true → IsOneMoment blocks calls image
+  pub kept : (blocks : ℕ) (later earlier : List Call) (image : ℕ) → take (after_calls blocks earlier) ≡ Ok (image, Took ∷ after_calls blocks earlier) →
+      is_view (after_calls blocks (later ++ Take ∷ earlier)) image ≡ not (list_any (drops image) later)
   pub pages : (blocks : ℕ) (earlier : List Call) (call : Call) (f p : ℕ) → live (after_calls blocks (call ∷ earlier)) f p ≡ live_after blocks (after_calls blocks earlier) call f p

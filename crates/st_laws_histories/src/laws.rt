@@ -15,9 +15,9 @@ pub fn every_history_of_journals_is_kept()
     ensures kept { NothingCountedIsLost }
 {}
 
-/// Over every history of writes, takes, drops and reads of a volume: what an image answers is what
-/// its pages were at the one moment when it was taken, and what the live pages answer are the bytes
-/// of the last write that was not refused.
+/// Over every history of writes, takes, drops and reads of a volume: an image is there from its
+/// take until it is dropped, and answers what its pages were at the one moment when it was taken.
+/// What the live pages answer are the bytes of the last write that was not refused.
 pub fn every_history_of_images_reads_right()
     ensures { EveryImageIsOneMoment }
 {}
@@ -30,9 +30,9 @@ pub fn every_history_of_moves_is_kept()
     no_update_is_lost();
 }
 
-/// Over every history of a shared file: a command is numbered by how many came before it; a report
-/// gets a success or a failure as it was reported, if the client of the command has not crashed
-/// since. It gets nothing if the client has.
+/// Over every history of a shared file: only a write and a read get a number, by how many commands
+/// came before; only a report gets a success or a failure, as it was reported, if the client of the
+/// command has not crashed since. It gets nothing if the client has.
 pub fn every_answer_of_a_shared_file_has_its_cause()
     ensures { EveryAnswerHasItsCause }
 {}

@@ -1,6 +1,6 @@
-use Rattle.std.proofs.Common.{ap, ◌∙◌}
-use Rattle.std.specs.Prelude.{◌==◌}
-use Rattle.st_rules.specs.Server.{Stable}
+use Rattle.st_lemmas.proofs.Words
+use Words.{ap, ◌∙◌, ◌==◌}
+use Words.Server.{Stable}
 use Rattle.st_durable.specs.Durable.{mark}
 use Rattle.st_durable.proofs.ToldChanges.{asks, stays_own, tells}
 use Rattle.st_durable.proofs.durable.step_asked.Goals as goal

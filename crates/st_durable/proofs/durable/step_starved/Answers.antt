@@ -1,4 +1,5 @@
-use Rattle.std.proofs.Common.{inl}
+use Rattle.st_lemmas.proofs.Words
+use Words.{inl}
 use Rattle.st_durable.proofs.ToldChanges.{crashed_own, crashed_stable}
 use Rattle.st_durable.proofs.durable.step_starved.Goals as goal
 

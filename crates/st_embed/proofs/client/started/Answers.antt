@@ -1,7 +1,5 @@
-use Rattle.std.proofs.Common.{◌≡◌, ◌∙◌, map, subst, sym, true}
-use Rattle.std.specs.List.{list_all}
-use Rattle.st_base.specs.declared.ids.Life.{Life}
-use Rattle.std.specs.Prelude.{List}
+use Rattle.st_lemmas.proofs.Words
+use Words.{◌≡◌, ◌∙◌, map, subst, sym, true, list_all, Life, List}
 use Rattle.st_client.specs.Nodes.{crashed_node, is_begun}
 use Rattle.st_client.specs.Room.{HasRoom}
 use Rattle.st_embed.specs.Clients.{life}

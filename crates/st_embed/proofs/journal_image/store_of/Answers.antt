@@ -1,4 +1,5 @@
-use Rattle.std.proofs.Common.{◌∙◌, ap}
+use Rattle.st_lemmas.proofs.Words
+use Words.{◌∙◌, ap}
 use Rattle.st_store.specs.InMemory.{InMemory, held}
 use Rattle.st_store.specs.Store.{written}
 use Rattle.st_embed.proofs.Zeros.{all_written}

@@ -1,4 +1,5 @@
-use Rattle.std.proofs.Common.{◌≡◌, ◌++◌, drop, map}
+use Rattle.st_lemmas.proofs.Words
+use Words.{◌≡◌, ◌++◌, drop, map}
 use Rattle.st_embed.specs.Clients.{life}
 use Rattle.st_embed.proofs.lives.lives_of.Given as goal
 

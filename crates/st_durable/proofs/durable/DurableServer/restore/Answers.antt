@@ -1,5 +1,6 @@
-use Rattle.std.proofs.Common.{ap, sym, ◌∙◌}
-use Rattle.st_rules.specs.Server.{ServerNode}
+use Rattle.st_lemmas.proofs.Words
+use Words.{ap, sym, ◌∙◌}
+use Words.Server.{ServerNode}
 use Rattle.st_durable.proofs.durable.DurableServer.restore.Goals as goal
 
 pub invariant_of-result : goal.invariant_of-result

@@ -1,9 +1,11 @@
-use Rattle.std.proofs.Common.{ℕ, ◌∙◌, ap, arith, length, refl, rules, subst}
+use Rattle.st_lemmas.proofs.Words
+use Words.{ℕ, ◌∙◌, ap, arith, length, refl, rules, subst}
+use Rattle.std.proofs.lemmas.Result.{err_from_is_err_and}
 use Rattle.st_extents.specs.Layout.{IsWithinLimits}
 use Rattle.st_journal.specs.Parts as parts
 use Rattle.st_journal.proofs.Records.{gate_within}
-use Rattle.st_embed.specs.Servers.{MayStart, begun}
-use Rattle.st_embed.proofs.Opened.{epoch_placed, epoch_room}
+use Rattle.st_embed.specs.Servers.{MayOpen, MayStart, begun}
+use Rattle.st_embed.proofs.Opened.{epoch_placed, epoch_room, not_opened}
 use Rattle.st_embed.proofs.StableParts.{is_of_server}
 use Rattle.st_embed.proofs.server.EmbeddedServer.open.Goals as goal
 
@@ -39,3 +41,11 @@ returns-clause-ok c =
       left = c.new.ensures;
       last = refl;
     }
+
+pub returns-in_err-server-clause-err : goal.returns-in_err-server-clause-err
+returns-in_err-server-clause-err c =
+    let p = err_from_is_err_and c.from_residual.result c.from_residual.ensures.1 in
+    let reads = c.in-Ok.ensures.ok in
+    let may : MayOpen c.args.id c.args.config.now c.args.shape c.args.now (length c.args.journal.now) = search rules in
+    rw (p.1, p.2) (not_opened c.args.id c.args.config.now c.args.shape c.args.now c.args.journal.now c.in-Ok.read.changes reads.changes
+    (parts.stable_of c.in-Ok.read.stable) c.in_err-server.field-0.0 may reads.stands reads.count c.in_err-server.ensures.err)

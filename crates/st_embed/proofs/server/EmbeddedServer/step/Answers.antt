@@ -1,4 +1,5 @@
-use Rattle.std.proofs.Common.{◌∙◌, rules}
+use Rattle.st_lemmas.proofs.Words
+use Words.{◌∙◌, rules}
 use Rattle.st_embed.proofs.ServerSteps.{has_placed, has_stepped, of_some}
 use Rattle.st_embed.proofs.server.EmbeddedServer.step.Goals as goal
 
