@@ -56,7 +56,7 @@ class Asked:
         self.changes = self.kind == "cut" or self.op in ("create", "mkdir", "remove", "rename")
 
     def is_of(self, client, server):
-        """It is of this client, or of any, and for this server."""
+        """It belongs to this client, or to any, and is for this server."""
         return client in (None, self.client) and self.server == server
 
     def is_sooner(self, then):
@@ -97,7 +97,7 @@ class Possible:
         return Possible(*(new.get(it, getattr(self, it)) for it in ("trees", "marks", "orphans", "effects")))
 
     def without_orphans(self, client, server):
-        """The orphans of a client, or of all, at a server take effect no more."""
+        """The orphans of a client, or of all, at a server no longer take effect."""
         return self.but(orphans=tuple(it for it in self.orphans if not it.is_of(client, server)))
 
 

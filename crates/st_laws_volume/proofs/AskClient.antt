@@ -1,6 +1,7 @@
 -- A step of a client: what it answers is no longer pending, and the other pending operations stay in their order.
-use Rattle.std.proofs.Common.{◌≡◌, ◌≢◌, ℕ, ◌⊎◌, not, ◌==◌, List, [], ◌∷◌, ◌++◌, map, refl, sym, ap, ◌∙◌, subst, inl, inr, append_assoc}
+use Rattle.std.proofs.Common.{◌≡◌, ℕ, not, ◌==◌, List, [], ◌∷◌, ◌++◌, map, refl, sym, ap, ◌∙◌, subst, inl, inr, append_assoc}
 use Rattle.std.proofs.lemmas.Bool.{eq-eqb, ne_eqb}
+use Rattle.std.proofs.lemmas.List.{append-nil}
 use Rattle.st_base.specs.declared.ids.ClientId.{ClientId}
 use Rattle.st_base.specs.declared.ids.ServerId.{ServerId}
 use Rattle.st_base.specs.declared.ids.Stamp.{Stamp}
@@ -18,9 +19,9 @@ use Rattle.st_rules.specs.ClientState.{Association, ClientState, client_turn}
 use Rattle.st_lemmas.specs.Lists.{Has}
 use Rattle.st_lemmas.proofs.Lookups.{if_false, if_true}
 use Rattle.st_laws_steps.specs.Lives.Lives.{Once, server_number}
-use Rattle.st_laws_pages.proofs.Asks.Asks.{Apart}
+use Rattle.st_laws_pages.proofs.Asks.Asks.{Apart, map_more}
 use Rattle.st_laws_pages.proofs.Asks.Client.{Each, Lasting, Lasts, Neutral, key}
-use Rattle.st_laws_pages.proofs.Asks.Places.{Knows, none_more}
+use Rattle.st_laws_pages.proofs.Asks.Places.{Knows}
 use Rattle.st_laws_pages.proofs.Asks.Step.{Takes, TakesAsk, stepped}
 use Rattle.st_laws_pages.proofs.Causes.Placed.{InputTells}
 use Rattle.st_laws_volume.proofs.AskSteps.{without_ask}
@@ -65,10 +66,6 @@ without_mid k [] ys a =
 without_mid k (x ∷ xs) ys a =
     if_true (not (x.0 == k.0)) (x ∷ without_ask k.0 (xs ++ k ∷ ys)) (without_ask k.0 (xs ++ k ∷ ys)) (ap not (ne_eqb x.0 k.0 (a.first k (has_mid k xs ys))))
     ∙ ap (λ js. x ∷ js) (without_mid k xs ys a.rest)
-
-map_more : (xs ys : List Operation) → map key (xs ++ ys) ≡ map key xs ++ map key ys
-map_more [] ys = refl
-map_more (x ∷ xs) ys = ap (λ z. key x ∷ z) (map_more xs ys)
 
 -- The open asks so far: those at the start without those that were answered.
 record Open (start ks : List (ℕ × Ask)) (out : List Output) : Type 0 where
@@ -127,7 +124,7 @@ module _ (n : ℕ) (c : ClientId) (start : List (ℕ × Ask)) where
       record {
         enqueues =
             λ ops out h. subst (λ z. Open start z out)
-            (sym (map_more ops (cs.new_operation op ask ∷ [])) ∙ sym (none_more (map key (ops ++ cs.new_operation op ask ∷ [])))) h;
+            (sym (map_more ops (cs.new_operation op ask ∷ [])) ∙ sym (append-nil (map key (ops ++ cs.new_operation op ask ∷ [])))) h;
         at_once = λ ops out a e h.
             record {
               closed = closed_last out (outputs.Answer op a) start ∙ (ap (without_ask op) h.closed ∙ without_mid (op, ask) (map key ops) [] h.apart);
@@ -144,7 +141,7 @@ pub step_closes : (n : ℕ) (c : ClientId) (s : ClientState) (now : Stamp) (inpu
     ((a : Association) → Has a s.associations → Knows n a.server a.store.extents) → InputTells n input →
     Apart (map key s.operations ++ coming input) →
     closed_all (cl.client_step s now input).out (map key s.operations ++ coming input) ≡ map key (cl.client_step s now input).state.operations
-step_closes n c s now input id once knows told apart = ended.closed ∙ none_more (map key (cl.client_step s now input).state.operations)
+step_closes n c s now input id once knows told apart = ended.closed ∙ append-nil (map key (cl.client_step s now input).state.operations)
   where
     start : List (ℕ × Ask)
     start = map key s.operations ++ coming input

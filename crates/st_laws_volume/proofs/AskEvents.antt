@@ -1,9 +1,9 @@
 -- What is seen of an event tells what becomes of the asks of each client.
-use Rattle.std.proofs.Common.{◌≡◌, ℕ, ◌+◌, ◌≤◌, ◌⊎◌, arith, Bool, true, false, not, ◌&&◌, ◌==◌, List, [], ◌∷◌, ◌++◌, map, Option, Some, None, Ok, Err, refl, sym, ap, ◌∙◌, subst, inl, inr, if◌then◌else◌}
+use Rattle.std.proofs.Common.{◌≡◌, ℕ, ◌+◌, ◌≤◌, ◌⊎◌, arith, Bool, true, false, not, ◌==◌, List, [], ◌∷◌, ◌++◌, map, Option, Some, None, Ok, Err, refl, sym, ap, ◌∙◌, subst, inl, inr, if◌then◌else◌}
 use Rattle.std.specs.Prelude.{filter, length}
-use Rattle.std.specs.Option.{option_or}
 use Rattle.std.specs.List.{flat_map}
 use Rattle.std.proofs.lemmas.Bool.{eq-eqb, eqb-true}
+use Rattle.std.proofs.lemmas.List.{append-nil}
 use Rattle.st_base.specs.declared.ids.ClientId.{ClientId}
 use Rattle.st_base.specs.declared.ids.ServerId.{ServerId}
 use Rattle.st_base.specs.declared.ids.NodeId.{NodeId}
@@ -47,10 +47,12 @@ use Rattle.st_lemmas.proofs.Lookups.{if_false, if_true, some_is}
 use Rattle.st_lemmas.proofs.Numbers.{numbered_below, numbered_has, numbered_other, numbered_own}
 use Rattle.st_lemmas.proofs.Steps.{step_happens}
 use Rattle.st_lemmas.proofs.Tables.{has_append, has_filter, not_false}
+use Rattle.st_lemmas.proofs.Truth.{or_first, or_second}
+use Rattle.st_lemmas.proofs.Worlds.{stands_not}
 use Rattle.st_laws_steps.specs.Lives.Lives.{NodeHolds}
 use Rattle.st_laws_pages.proofs.Asks.Asks.{Apart}
 use Rattle.st_laws_pages.proofs.Asks.Client.{key}
-use Rattle.st_laws_pages.proofs.Asks.Places.{Knows, none_more}
+use Rattle.st_laws_pages.proofs.Asks.Places.{Knows}
 use Rattle.st_laws_pages.proofs.Asks.Says.{client_leaves, server_leaves}
 use Rattle.st_laws_pages.proofs.Causes.Placed.{InputTells, PlacesAt}
 use Rattle.st_laws_pages.proofs.Lives.Lasting.{flush_parts}
@@ -276,22 +278,8 @@ unfolding of_event
 report_dull w k true c a = refl
 report_dull w k false c a = failed_dull w (world.issued_of w k) c a
 
--- Refusals.
-stands_none : (b : Bool) (r : WorldRefusal) → adm.stands b r ≡ None → b ≡ false
-unfolding adm.stands
-stands_none true r q = cc
-stands_none false r q = refl
-
 runs_if : (b : Bool) (r : WorldRefusal) → adm.stands (not b) r ≡ None → b ≡ true
-runs_if b r q = not_false b (stands_none (not b) r q)
-
-or_first : (a b : Option WorldRefusal) → option_or a b ≡ None → a ≡ None
-or_first None b q = refl
-or_first (Some r) b q = cc
-
-or_second : (a b : Option WorldRefusal) → option_or a b ≡ None → b ≡ None
-or_second None b q = q
-or_second (Some r) b q = cc
+runs_if b r q = not_false b (stands_not (not b) r q)
 
 -- A client that does not run has no pending operation.
 abbrev pub Rests : World → Type 0
@@ -420,7 +408,7 @@ module _ (t : World) (e : Event) (rests : Rests t) where
         h = holds c site at
 
         none_comes : map key site.node.state.operations ++ coming i ≡ map key site.node.state.operations
-        none_comes = ap (λ ks. map key site.node.state.operations ++ ks) silent ∙ none_more (map key site.node.state.operations)
+        none_comes = ap (λ ks. map key site.node.state.operations ++ ks) silent ∙ append-nil (map key site.node.state.operations)
 
         stopped : site.node.running ≡ false → ev.client_takes v c i site ≡ ev.quiet v
         stopped r =
@@ -571,7 +559,7 @@ module _ (t : World) (e : Event) (rests : Rests t) where
         by (events.Crash (nodes.Server s)) i q = crashes_server s (dull i (λ d a. refl)) (node_of t s)
         by (events.Start (nodes.Client c)) i q =
             starts c (dull i (λ d a. refl))
-            (stands_none (site_runs (site_of t c)) _ (or_second (adm.no_node t (nodes.Client c)) (adm.still_running t (nodes.Client c)) q))
+            (stands_not (site_runs (site_of t c)) _ (or_second (adm.no_node t (nodes.Client c)) (adm.still_running t (nodes.Client c)) q))
         by (events.Start (nodes.Server s)) i q = starts_server s (dull i (λ d a. refl)) (node_of t s)
 
     pub event_leaves : (sc : WorldTurn) → world_step t e ≡ Ok sc → R sc

@@ -4,9 +4,12 @@ use Rattle.std.specs.Prelude.{length, find, option_map, slice_get}
 use Rattle.std.specs.List.{flat_map, list_any}
 use Rattle.st_base.specs.declared.config.Config.{Config}
 use Rattle.st_base.specs.declared.ids.ClientId.{ClientId}
+use Rattle.st_messages.specs.declared.message.Message.{Message}
+use Rattle.st_base.specs.declared.ids.NodeId.{NodeId}
+use Rattle.st_base.specs.declared.ids.ServerId.{ServerId}
+use Rattle.st_base.specs.declared.ids.NodeId.TheVariants as nodes
 use Rattle.st_messages.specs.declared.event.Event.{Event}
 use Rattle.st_messages.specs.declared.event.Event.TheVariants as events
-use Rattle.st_messages.specs.declared.message.Header.{Header}
 use Rattle.st_rules.specs.declared.observation.Observation.{Observation}
 use Rattle.st_rules.specs.declared.observation.Observation.TheVariants as seen
 use Rattle.st_rules.specs.declared.client.Operation.{Operation}
@@ -17,7 +20,7 @@ use Rattle.st_rules.specs.Events.{WorldTurn}
 use Rattle.st_rules.specs.History.{Traced, traced}
 use Rattle.st_rules.specs.Safety.{Promise, Step, step}
 use Rattle.st_rules.specs.Safety as safety
-use Rattle.st_rules.specs.World.{World, fresh_site, fresh_world, message_of, numbered, site_of}
+use Rattle.st_rules.specs.World.{World, fresh_site, fresh_world, message_of, node_of, numbered, receiver_of, site_of}
 use Rattle.st_lemmas.proofs.Numbers.{get_map}
 use Rattle.st_laws_pages.specs.Disks.Obligations.{FatesHold}
 use Rattle.st_laws_pages.specs.Asks.Law.{PlacesHold}
@@ -29,7 +32,7 @@ use Rattle.st_laws_volume.specs.Asks.{AsksAgree, AsksOf, HasAsksOf, at_site, in_
 use Rattle.st_laws_volume.specs.Logs.{InEveryRun}
 use Rattle.st_laws_volume.specs.Options.{OnSome}
 use Rattle.st_laws_volume.specs.Seen.{of_event, of_line}
-use Rattle.st_laws_volume.specs.Witness.{Behind, Witness, before_line, begun, if_told, is_behind, is_done_line, is_untaken, led_by, of_delivery, of_lines, of_message, requested, steps_of, takes_op, volume_after}
+use Rattle.st_laws_volume.specs.Witness.{Behind, Witness, before_line, begun, does_at, if_told, led_by, of_delivery, of_lines, of_message, steps_of, takes_op, to_node, volume_after}
 use Rattle.st_laws_volume.proofs.AskEvents.{AsksLeft, IsCounted, Rests, all_counted, event_leaves, lined}
 use Rattle.st_laws_volume.proofs.AskSteps.{run_tells, told_all, told_both}
 use Rattle.st_laws_volume.proofs.Carried.{IsKept, Led, carried}
@@ -44,33 +47,26 @@ effect_dull : (c : ClientId) (b : Bool) (x : VolumeStep) (a : AsksOf) → told_a
 effect_dull c true x a h = h
 effect_dull c false x a h = refl
 
-taking_dull : (c : ClientId) (v : Volume) (h : Header) (b : Option Behind) (a : AsksOf) → told_all c (takes_op v h b) a ≡ a
-taking_dull c v h None a = refl
-taking_dull c v h (Some b) a =
-    effect_dull c (list_any (is_untaken h.from b.op) (v.pending ++ v.orphans)) (steps.TakesEffect (record { 0 = h.from }) b.op) a refl
+node_dull : (c : ClientId) (bs : List Behind) (v : Volume) (w : World) (m : Message) (n : NodeId) (a : AsksOf) → told_all c (to_node bs v w m n) a ≡ a
+node_dull c bs v w m (nodes.Client d) a = refl
+node_dull c bs v w m (nodes.Server s) a = effect_dull c (does_at w s (node_of w s) m) (takes_op bs v s m) a refl
 
-message_dull : (c : ClientId) (t : Witness) (v : Volume) (os : List Observation) (m : Option SentMessage) (a : AsksOf) → told_all c (of_message t v os m) a ≡ a
-message_dull c t v os None a = refl
-message_dull c t v os (Some m) a = go (requested m.message.body) (list_any (is_done_line m.message.header.from) os)
-  where
-    go : (x y : Bool) → told_all c (if x then (if y then takes_op v m.message.header (find (is_behind m.message.header) t.behind) else []) else []) a ≡ a
-    go true true = taking_dull c v m.message.header (find (is_behind m.message.header) t.behind) a
-    go true false = refl
-    go false y = refl
+message_dull : (c : ClientId) (bs : List Behind) (v : Volume) (w : World) (m : Option SentMessage) (a : AsksOf) → told_all c (of_message bs v w m) a ≡ a
+message_dull c bs v w None a = refl
+message_dull c bs v w (Some m) a = node_dull c bs v w m.message (receiver_of m) a
 
-delivery_dull : (c : ClientId) (t : Witness) (v : Volume) (w : World) (os : List Observation) (e : Event) (a : AsksOf) →
-    told_all c (of_delivery t v w os e) a ≡ a
-delivery_dull c t v w os (events.Tick n) a = refl
-delivery_dull c t v w os (events.App d ask) a = refl
-delivery_dull c t v w os (events.Deliver k) a = message_dull c t v os (message_of w k) a
-delivery_dull c t v w os (events.Lose k) a = refl
-delivery_dull c t v w os (events.Cut from to) a = refl
-delivery_dull c t v w os (events.Heal from to) a = refl
-delivery_dull c t v w os (events.Advance increments) a = refl
-delivery_dull c t v w os (events.Effect k) a = refl
-delivery_dull c t v w os (events.Report k ok) a = refl
-delivery_dull c t v w os (events.Crash n) a = refl
-delivery_dull c t v w os (events.Start n) a = refl
+delivery_dull : (c : ClientId) (bs : List Behind) (v : Volume) (w : World) (e : Event) (a : AsksOf) → told_all c (of_delivery bs v w e) a ≡ a
+delivery_dull c bs v w (events.Tick n) a = refl
+delivery_dull c bs v w (events.App d ask) a = refl
+delivery_dull c bs v w (events.Deliver k) a = message_dull c bs v w (message_of w k) a
+delivery_dull c bs v w (events.Lose k) a = refl
+delivery_dull c bs v w (events.Cut from to) a = refl
+delivery_dull c bs v w (events.Heal from to) a = refl
+delivery_dull c bs v w (events.Advance increments) a = refl
+delivery_dull c bs v w (events.Effect k) a = refl
+delivery_dull c bs v w (events.Report k ok) a = refl
+delivery_dull c bs v w (events.Crash n) a = refl
+delivery_dull c bs v w (events.Start n) a = refl
 
 before_dull : (c : ClientId) (o : Observation) (os : List Observation) (a : AsksOf) → told_all c (before_line o os) a ≡ a
 unfolding before_line
@@ -97,13 +93,13 @@ lines_tell w c (o ∷ os) a =
     ∙ (lines_tell w c os (told_all c (of_line w o) a)
     ∙ sym (told_both c (of_line w o) (flat_map (of_line w) os) a))))
 
-steps_tell : (t : Witness) (v : Volume) (x : Step) (c : ClientId) (a : AsksOf) →
+pub steps_tell : (t : Witness) (v : Volume) (x : Step) (c : ClientId) (a : AsksOf) →
     told_all c (steps_of t v x) a ≡ lined x.before.world c x.seen (told_all c (of_event x.before.world x.event) a)
 steps_tell t v x c a =
     let w = x.before.world in
-    told_both c (of_event w x.event) (of_delivery t v w x.seen x.event ++ of_lines w x.seen) a
-    ∙ (told_both c (of_delivery t v w x.seen x.event) (of_lines w x.seen) (told_all c (of_event w x.event) a)
-    ∙ (ap (told_all c (of_lines w x.seen)) (delivery_dull c t v w x.seen x.event (told_all c (of_event w x.event) a))
+    told_both c (of_event w x.event) (of_delivery t.behind v w x.event ++ of_lines w x.seen) a
+    ∙ (told_both c (of_delivery t.behind v w x.event) (of_lines w x.seen) (told_all c (of_event w x.event) a)
+    ∙ (ap (told_all c (of_lines w x.seen)) (delivery_dull c t.behind v w x.event (told_all c (of_event w x.event) a))
     ∙ lines_tell w c x.seen (told_all c (of_event w x.event) a)))
 
 -- An event keeps it.
@@ -127,17 +123,17 @@ after_asks t x sc (Some v) s a l h =
     (run (steps_of t v x) v) (of_each (steps_of t v x) v (run (steps_of t v x) v) (λ c. run_tells c (steps_of t v x) v)))
 
 -- What is carried.
-record AsksHold (past : List Step) (t : Traced) (it : Witness) : Type 0 where
-  agree : OnSome (HasAsksOf t.world) it.volume
-  counted : (c : ClientId) → IsCounted (at_site (site_of t.world c))
-  rests : Rests t.world
-  fates : FatesHold t.world
-  places : PlacesHold t.world
+pub record AsksHold (past : List Step) (t : Traced) (it : Witness) : Type 0 where
+  pub agree : OnSome (HasAsksOf t.world) it.volume
+  pub counted : (c : ClientId) → IsCounted (at_site (site_of t.world c))
+  pub rests : Rests t.world
+  pub fates : FatesHold t.world
+  pub places : PlacesHold t.world
 
-abbrev Given : Promise
+abbrev pub Given : Promise
 Given past x = FatesHold x.after.world × PlacesHold x.after.world
 
-asks_kept : IsKept Given AsksHold
+pub asks_kept : IsKept Given AsksHold
 unfolding led_by
 asks_kept past t e sc it f g h =
     let x : Step = step t e sc in
@@ -157,7 +153,7 @@ unfolding fresh_client
 fresh_at k servers None = refl
 fresh_at k servers (Some n) = refl
 
-fresh_asks : (k : Config) (clients servers disks blocks form : ℕ) (c : ClientId) →
+pub fresh_asks : (k : Config) (clients servers disks blocks form : ℕ) (c : ClientId) →
     at_site (site_of (fresh_world k clients servers disks blocks form) c) ≡ record { count = 0; pending = [] }
 unfolding fresh_world
 fresh_asks k clients servers disks blocks form c = go c.0
@@ -170,11 +166,11 @@ no_operations : (os : List Operation) → map operation_key os ≡ [] → os ≡
 no_operations [] q = refl
 no_operations (o ∷ os) q = cc
 
-begins : (k : Config) (clients servers disks blocks form : ℕ) →
+pub asks_begin : (k : Config) (clients servers disks blocks form : ℕ) →
     AsksHold [] (traced (fresh_world k clients servers disks blocks form))
     (begun (fresh_world k clients servers disks blocks form) (fresh_world k clients servers disks blocks form))
 unfolding begun
-begins k clients servers disks blocks form =
+asks_begin k clients servers disks blocks form =
     record {
       agree = λ c. sym (fresh_asks k clients servers disks blocks form c);
       counted = λ c. subst IsCounted (sym (fresh_asks k clients servers disks blocks form c)) (record { below = λ j i. absurd i; apart = tt });
@@ -189,6 +185,6 @@ pub asks_agree : InEveryRun AsksAgree
 asks_agree k clients servers disks blocks form es head events =
     let t : Traced = traced (fresh_world k clients servers disks blocks form) in
     throughout_more (Led AsksHold) AsksAgree (λ past x h. h.agree) [] (safety.steps es t)
-    (carried Given AsksHold asks_kept es t (begins k clients servers disks blocks form)
+    (carried Given AsksHold asks_kept es t (asks_begin k clients servers disks blocks form)
     (throughout_both (λ past x. FatesHold x.after.world) (λ past x. PlacesHold x.after.world) [] (safety.steps es t)
     (fates_law k clients servers disks blocks form es) (places_law k clients servers disks blocks form es head)))

@@ -19,7 +19,7 @@ led_on t [] x = refl
 led_on t (y ∷ past) x = led_on (led_by t y) past x
 
 -- the witness after one more step
-led_more : (past : List Step) (x y : Step) → led_to (past ++ x ∷ []) y ≡ led_by (led_to past x) x
+pub led_more : (past : List Step) (x y : Step) → led_to (past ++ x ∷ []) y ≡ led_by (led_to past x) x
 led_more past x y =
     ap (λ (w : World). led_from (begun w w) (past ++ x ∷ [])) (first_is past x y)
     ∙ led_on (begun (first_world past x) (first_world past x)) past x

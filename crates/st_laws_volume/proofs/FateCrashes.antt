@@ -451,8 +451,8 @@ crash_marked : (t : Witness) (v : Volume) (x : Step) (c : ClientId) → x.event 
 unfolding of_event
 crash_marked t v x c q =
     let w = x.before.world in
-    subst (λ f. OnSome (λ u. AllCrashed c v.log u.log) (run (of_event w f ++ (of_delivery t v w x.seen x.event ++ of_lines w x.seen)) v)) (sym q)
-    (crash_marks c (of_delivery t v w x.seen x.event ++ of_lines w x.seen) v)
+    subst (λ f. OnSome (λ u. AllCrashed c v.log u.log) (run (of_event w f ++ (of_delivery t.behind v w x.event ++ of_lines w x.seen)) v)) (sym q)
+    (crash_marks c (of_delivery t.behind v w x.event ++ of_lines w x.seen) v)
 
 abbrev MarksOf : World → Volume → Type 0
 MarksOf w v = AreMarked w.ended w.log v.log

@@ -1,5 +1,5 @@
 -- In every run the volume takes the events at which no node takes a step and no clock advances.
-use Rattle.std.proofs.Common.{◌≡◌, ℕ, suc, ◌+◌, Bool, true, false, not, ◌&&◌, ◌||◌, ◌==◌, List, [], ◌∷◌, ◌++◌, length, map, Option, Some, None, Ok, refl, sym, ap, ◌∙◌, subst, if◌then◌else◌}
+use Rattle.std.proofs.Common.{◌≡◌, ℕ, ◌+◌, Bool, true, false, not, ◌&&◌, ◌==◌, List, [], ◌∷◌, ◌++◌, length, map, Option, Some, None, Ok, refl, sym, ap, ◌∙◌, subst, if◌then◌else◌}
 use Rattle.std.specs.Prelude.{is_some, nat_le, option_and_then}
 use Rattle.std.proofs.lemmas.Bool.{eq-eqb}
 use Rattle.st_base.specs.declared.ids.ClientId.{ClientId}
@@ -22,16 +22,17 @@ use Rattle.st_rules.specs.World.{World, WorldClient, fresh_world, issued_of, sit
 use Rattle.st_lemmas.proofs.Lookups.{if_true, or_right}
 use Rattle.st_lemmas.proofs.Steps.{step_happens}
 use Rattle.st_lemmas.proofs.Tables.{and_both, and_true}
+use Rattle.st_lemmas.proofs.Lengths.{length_map}
+use Rattle.st_lemmas.proofs.Truth.{eqb_turned}
 use Rattle.st_promises.specs.Safe.{EveryRunIsSafe}
 use Rattle.st_laws_volume.specs.Fates.{StillEventsAreTaken, is_still}
 use Rattle.st_laws_volume.specs.Logs.{AreSame, InEveryRun, IsLogOf, IsSame, fate_of}
 use Rattle.st_laws_volume.specs.Options.{OnSome}
 use Rattle.st_laws_volume.specs.Seen.{of_event}
-use Rattle.st_laws_volume.specs.Witness.{Witness, led_by, of_delivery, of_lines, steps_of, volume_after}
+use Rattle.st_laws_volume.specs.Witness.{Behind, Witness, led_by, of_delivery, of_lines, steps_of, volume_after}
 use Rattle.st_laws_volume.proofs.Carried.{IsGiven, given_in}
 use Rattle.st_laws_volume.proofs.FateLines.{IsTaken, MayEnd, MayEndAll, fates_taken, taken_is}
 use Rattle.st_laws_volume.proofs.Logs.{LogHolds, log_begins, log_kept}
-use Rattle.st_laws_volume.proofs.ReadContents.{turned}
 use Rattle.st_volume.specs.Pages.{Entry, is_by, is_open}
 use Rattle.st_volume.specs.Volume.{Volume, crash_of, crashed, restarted, run}
 
@@ -82,7 +83,7 @@ crash_may w c n picked (o ∷ os) [] k h = absurd h
 crash_may w c n picked (o ∷ os) (e ∷ es) k h = (go (picked n o.of) refl o.fate refl, crash_may w c (n + 1) picked os es k h.1)
   where
     its : picked n o.of ≡ true → o.fate ≡ old_fates.Pending → is_by c e ≡ true
-    its b p = ap (λ (d : ClientId). c.0 == d.0) (h.0.client (h.0.change (ap log.is_pending p))) ∙ (turned c.0 o.of.client.0 ∙ k n o.of b)
+    its b p = ap (λ (d : ClientId). c.0 == d.0) (h.0.client (h.0.change (ap log.is_pending p))) ∙ (eqb_turned c.0 o.of.client.0 ∙ k n o.of b)
 
     go : (b : Bool) → picked n o.of ≡ b → (f : world_fate.Fate) → o.fate ≡ f →
         MayEnd w f (if b then log.lost_entry (log.always causes.Crash) o else o).fate (crash_of c e)
@@ -103,16 +104,12 @@ effect_lines w k v h =
     fates_taken w w.log (ev.log_hard w.log (ev.carried_by (issued_of w k))) [] v.log v refl h.lines
     (effect_may w w.log v.log (ev.carried_by (issued_of w k)) h.entries)
 
-map_length : {A B : Type 0} (f : A → B) (xs : List A) → length (map f xs) ≡ length xs
-map_length f [] = refl
-map_length f (x ∷ xs) = ap suc (map_length f xs)
-
 crash_lines : (w : World) (c : ClientId) (v : Volume) → IsLogOf w.log v → (o : Option WorldClient) →
     Lines w (ev.crashes_client (counted w) c o).seen (crashed v c)
 unfolding ev.crashes_client ev.marks ev.log_crashed log.drop_picked of_lines run
-crash_lines w c v h None = h.lines ∙ sym (map_length (crash_of c) v.log)
+crash_lines w c v h None = h.lines ∙ sym (length_map (crash_of c) v.log)
 crash_lines w c v h (Some site) =
-    fates_taken w w.log (ev.log_crashed (counted w) c) [] (map (crash_of c) v.log) (crashed v c) refl (h.lines ∙ sym (map_length (crash_of c) v.log))
+    fates_taken w w.log (ev.log_crashed (counted w) c) [] (map (crash_of c) v.log) (crashed v c) refl (h.lines ∙ sym (length_map (crash_of c) v.log))
     (crash_may w c 1 (ev.is_of_crashed (counted w) c) w.log v.log (λ n o p. (and_true (log.is_of_client c o) (not (ev.is_spared (counted w) n o)) p).0)
     h.entries)
 
@@ -138,18 +135,18 @@ event_taken w (events.Deliver k) v h s = cc
 event_taken w (events.Advance increments) v h s = cc
 event_taken w (events.Report k ok) v h s = cc
 
-no_delivery : (t : Witness) (v : Volume) (w : World) (os : List Observation) (e : Event) → is_still e ≡ true → of_delivery t v w os e ≡ []
-no_delivery t v w os (events.Lose k) s = refl
-no_delivery t v w os (events.Cut from to) s = refl
-no_delivery t v w os (events.Heal from to) s = refl
-no_delivery t v w os (events.Effect k) s = refl
-no_delivery t v w os (events.Crash n) s = refl
-no_delivery t v w os (events.Start n) s = refl
-no_delivery t v w os (events.Advance increments) s = refl
-no_delivery t v w os (events.Report k ok) s = refl
-no_delivery t v w os (events.Tick n) s = refl
-no_delivery t v w os (events.App c ask) s = refl
-no_delivery t v w os (events.Deliver k) s = cc
+no_delivery : (bs : List Behind) (v : Volume) (w : World) (e : Event) → is_still e ≡ true → of_delivery bs v w e ≡ []
+no_delivery bs v w (events.Lose k) s = refl
+no_delivery bs v w (events.Cut from to) s = refl
+no_delivery bs v w (events.Heal from to) s = refl
+no_delivery bs v w (events.Effect k) s = refl
+no_delivery bs v w (events.Crash n) s = refl
+no_delivery bs v w (events.Start n) s = refl
+no_delivery bs v w (events.Advance increments) s = refl
+no_delivery bs v w (events.Report k ok) s = refl
+no_delivery bs v w (events.Tick n) s = refl
+no_delivery bs v w (events.App c ask) s = refl
+no_delivery bs v w (events.Deliver k) s = cc
 
 -- In every run.
 abbrev Taken : List Step → Step → Witness → Type 0
@@ -160,7 +157,7 @@ still_taken : (it : Witness) (t : Traced) (e : Event) (sc : WorldTurn) → world
 still_taken it t e sc f s None h q = cc
 still_taken it t e sc f s (Some v) h q =
     taken_is (run (steps_of it v (step t e sc)) v)
-    (subst (λ os. IsTaken (run (of_event t.world e ++ (os ++ of_lines t.world sc.seen)) v)) (sym (no_delivery it v t.world sc.seen e s))
+    (subst (λ os. IsTaken (run (of_event t.world e ++ (os ++ of_lines t.world sc.seen)) v)) (sym (no_delivery it.behind v t.world e s))
     (subst (λ (z : WorldTurn). IsTaken (run (of_event t.world e ++ of_lines t.world z.seen) v)) (sym (step_happens t.world e sc f).1)
     (event_taken t.world e v h s)))
 

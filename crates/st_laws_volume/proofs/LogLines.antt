@@ -1,15 +1,17 @@
 -- The lines of an event make the same of the volume's log as of the world's.
 use Rattle.std.proofs.Common.{◌≡◌, ℕ, zero, suc, ◌+◌, Bool, true, false, not, ◌&&◌, ◌==◌, List, [], ◌∷◌, ◌++◌, length, Option, Some, None, refl, sym, ap, ◌∙◌, subst, if◌then◌else◌, arith}
-use Rattle.std.specs.Prelude.{set, find, option_map, option_and_then, slice_get}
-use Rattle.std.specs.List.{list_all, list_any}
+use Rattle.std.specs.Prelude.{set, option_map, option_and_then, slice_get}
+use Rattle.std.specs.List.{list_all}
 use Rattle.std.proofs.lemmas.Bool.{eqb-true, ne_eqb}
 use Rattle.st_base.specs.declared.ids.ClientId.{ClientId}
 use Rattle.st_base.specs.declared.ids.NodeId.TheVariants as nodes
 use Rattle.st_messages.specs.declared.ask.Ask.{Ask}
 use Rattle.st_messages.specs.declared.ask.Ask.TheVariants as asks
+use Rattle.st_messages.specs.declared.message.Message.{Message}
+use Rattle.st_base.specs.declared.ids.NodeId.{NodeId}
+use Rattle.st_base.specs.declared.ids.ServerId.{ServerId}
 use Rattle.st_messages.specs.declared.event.Event.{Event}
 use Rattle.st_messages.specs.declared.event.Event.TheVariants as events
-use Rattle.st_messages.specs.declared.message.Header.{Header}
 use Rattle.st_rules.specs.declared.log.Change.TheVariants as changes
 use Rattle.st_rules.specs.declared.log.Fate as world_fate
 use Rattle.st_rules.specs.declared.log.Fate.TheVariants as old_fates
@@ -23,14 +25,15 @@ use Rattle.st_rules.specs.Events.{is_change, is_same_instance, present_life}
 use Rattle.st_rules.specs.FlatLog as log
 use Rattle.st_rules.specs.Lines as lines
 use Rattle.st_rules.specs.Safety.{Step}
-use Rattle.st_rules.specs.World.{World, WorldClient, issued_of, message_of, site_of}
+use Rattle.st_rules.specs.World.{World, WorldClient, issued_of, message_of, node_of, receiver_of, site_of}
 use Rattle.st_lemmas.proofs.Lookups.{if_false, some_is}
 use Rattle.st_lemmas.proofs.Numbers.{length_more, set_length}
 use Rattle.st_lemmas.proofs.Tables.{and_true, not_false, not_true}
+use Rattle.st_lemmas.proofs.Truth.{client_is}
 use Rattle.st_laws_volume.specs.Logs.{AreSame, IsSame, ask_of, fate_of}
 use Rattle.st_laws_volume.specs.Options.{OnSome}
 use Rattle.st_laws_volume.specs.Seen.{cause_of, failure, failure_of, failure_told, of_event, of_line}
-use Rattle.st_laws_volume.specs.Witness.{Behind, Witness, before_line, is_behind, is_done_line, is_untaken, next_op, of_delivery, of_lines, of_message, requested, steps_of, taken_by, takes_op}
+use Rattle.st_laws_volume.specs.Witness.{Behind, Witness, before_line, does_at, next_op, of_delivery, of_lines, of_message, steps_of, takes_op, to_node}
 use Rattle.st_laws_volume.proofs.LogEntries.{AtBoth, change_is, first_all, first_next, new_fate, same_at, same_first, same_set}
 use Rattle.st_laws_volume.proofs.LogSteps.{IsTold, is_quiet, quiet_run}
 use Rattle.st_laws_volume.proofs.Options.{on_if, on_map, on_more, on_then, on_true}
@@ -66,9 +69,6 @@ pub record LineOf (c : Option ClientId) (what : Ask) (o : LogEntry) : Type 0 whe
   pub whose : is_change o ≡ true → c ≡ Some o.of.client
   pub fresh : new_fate what ≡ fate_of o.fate
   pub kind : log.is_pending o.fate ≡ true → is_change o ≡ true
-
-client_is : (c d : ClientId) → (c.0 == d.0) ≡ true → c ≡ d
-client_is c d e = ap (λ (n : ℕ). record { 0 = n }) (eqb-true _ _ e)
 
 joined_is : (c : Option ClientId) (what : Ask) (o : LogEntry) (e : Entry) → LineOf c what o →
     (same_change e.what what && not (is_any (λ d. not (is_by d e)) c)) ≡ true → e.fate ≡ new_fate e.what → IsSame o e
@@ -133,7 +133,7 @@ fated_told os v (suc n) test old fate q p m h =
         }))
 
 -- One line.
-line_told : (w f : World) (os : List LogEntry) (o : Observation) (rest : List Observation) (v : Volume) → IsTold os v →
+pub line_told : (w f : World) (os : List LogEntry) (o : Observation) (rest : List Observation) (v : Volume) → IsTold os v →
     OnSome (λ u. OnSome (IsTold (lines.log_behind f os o)) (run (of_line w o) u)) (run (before_line o rest) v)
 unfolding before_line of_line lines.log_behind run log.accept log.patch log.cut
 line_told w f os (seen.Wrote i c g p bytes) rest v h =
@@ -200,7 +200,7 @@ failed_quiet : (w : World) (k : Option IssuedCommand) → list_all is_quiet (fai
 failed_quiet w None = refl
 failed_quiet w (Some k) = told_quiet k (site_of w k.client)
 
-event_quiet : (w : World) (e : Event) → list_all is_quiet (of_event w e) ≡ true
+pub event_quiet : (w : World) (e : Event) → list_all is_quiet (of_event w e) ≡ true
 unfolding of_event
 event_quiet w (events.Tick n) = refl
 event_quiet w (events.App c ask) = refl
@@ -217,38 +217,36 @@ event_quiet w (events.Crash (nodes.Server s)) = refl
 event_quiet w (events.Start (nodes.Client c)) = refl
 event_quiet w (events.Start (nodes.Server s)) = refl
 
-taking_quiet : (v : Volume) (h : Header) (b : Option Behind) → list_all is_quiet (takes_op v h b) ≡ true
-taking_quiet v h None = refl
-taking_quiet v h (Some b) = quiet_if (list_any (is_untaken h.from b.op) (v.pending ++ v.orphans)) _ refl
+node_quiet : (bs : List Behind) (v : Volume) (w : World) (m : Message) (n : NodeId) → list_all is_quiet (to_node bs v w m n) ≡ true
+node_quiet bs v w m (nodes.Client c) = refl
+node_quiet bs v w m (nodes.Server s) = quiet_if (does_at w s (node_of w s) m) (takes_op bs v s m ∷ []) refl
 
-message_quiet : (t : Witness) (v : Volume) (os : List Observation) (m : Option SentMessage) → list_all is_quiet (of_message t v os m) ≡ true
-message_quiet t v os None = refl
-message_quiet t v os (Some m) =
-    quiet_if (requested m.message.body) (taken_by t v os m.message)
-    (quiet_if (list_any (is_done_line m.message.header.from) os) _ (taking_quiet v m.message.header (find (is_behind m.message.header) t.behind)))
+message_quiet : (bs : List Behind) (v : Volume) (w : World) (m : Option SentMessage) → list_all is_quiet (of_message bs v w m) ≡ true
+message_quiet bs v w None = refl
+message_quiet bs v w (Some m) = node_quiet bs v w m.message (receiver_of m)
 
-delivery_quiet : (t : Witness) (v : Volume) (w : World) (os : List Observation) (e : Event) → list_all is_quiet (of_delivery t v w os e) ≡ true
-delivery_quiet t v w os (events.Tick n) = refl
-delivery_quiet t v w os (events.App c ask) = refl
-delivery_quiet t v w os (events.Deliver k) = message_quiet t v os (message_of w k)
-delivery_quiet t v w os (events.Lose k) = refl
-delivery_quiet t v w os (events.Cut from to) = refl
-delivery_quiet t v w os (events.Heal from to) = refl
-delivery_quiet t v w os (events.Advance increments) = refl
-delivery_quiet t v w os (events.Effect k) = refl
-delivery_quiet t v w os (events.Report k ok) = refl
-delivery_quiet t v w os (events.Crash n) = refl
-delivery_quiet t v w os (events.Start n) = refl
+pub delivery_quiet : (bs : List Behind) (v : Volume) (w : World) (e : Event) → list_all is_quiet (of_delivery bs v w e) ≡ true
+delivery_quiet bs v w (events.Tick n) = refl
+delivery_quiet bs v w (events.App c ask) = refl
+delivery_quiet bs v w (events.Deliver k) = message_quiet bs v w (message_of w k)
+delivery_quiet bs v w (events.Lose k) = refl
+delivery_quiet bs v w (events.Cut from to) = refl
+delivery_quiet bs v w (events.Heal from to) = refl
+delivery_quiet bs v w (events.Advance increments) = refl
+delivery_quiet bs v w (events.Effect k) = refl
+delivery_quiet bs v w (events.Report k ok) = refl
+delivery_quiet bs v w (events.Crash n) = refl
+delivery_quiet bs v w (events.Start n) = refl
 
 -- All steps of an event.
 pub event_told : (t : Witness) (v u : Volume) (x : Step) → IsTold x.before.world.log u →
     OnSome (IsTold (lines.log_told x.after.world x.before.world.log x.seen)) (run (steps_of t v x) u)
 event_told t v u x h =
     let w = x.before.world in
-    run_then (IsTold (lines.log_told x.after.world w.log x.seen)) (of_event w x.event) (of_delivery t v w x.seen x.event ++ of_lines w x.seen) u
-    (on_more (IsTold w.log) (λ z. OnSome (IsTold (lines.log_told x.after.world w.log x.seen)) (run (of_delivery t v w x.seen x.event ++ of_lines w x.seen) z))
-    (λ z k. run_then (IsTold (lines.log_told x.after.world w.log x.seen)) (of_delivery t v w x.seen x.event) (of_lines w x.seen) z
+    run_then (IsTold (lines.log_told x.after.world w.log x.seen)) (of_event w x.event) (of_delivery t.behind v w x.event ++ of_lines w x.seen) u
+    (on_more (IsTold w.log) (λ z. OnSome (IsTold (lines.log_told x.after.world w.log x.seen)) (run (of_delivery t.behind v w x.event ++ of_lines w x.seen) z))
+    (λ z k. run_then (IsTold (lines.log_told x.after.world w.log x.seen)) (of_delivery t.behind v w x.event) (of_lines w x.seen) z
     (on_more (IsTold w.log) (λ y. OnSome (IsTold (lines.log_told x.after.world w.log x.seen)) (run (of_lines w x.seen) y))
-    (λ y k. lines_told w x.after.world w.log x.seen y k) (run (of_delivery t v w x.seen x.event) z)
-    (quiet_run w.log (of_delivery t v w x.seen x.event) z (delivery_quiet t v w x.seen x.event) k))) (run (of_event w x.event) u)
+    (λ y k. lines_told w x.after.world w.log x.seen y k) (run (of_delivery t.behind v w x.event) z)
+    (quiet_run w.log (of_delivery t.behind v w x.event) z (delivery_quiet t.behind v w x.event) k))) (run (of_event w x.event) u)
     (quiet_run w.log (of_event w x.event) u (event_quiet w x.event) h))

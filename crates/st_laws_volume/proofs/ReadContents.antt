@@ -1,9 +1,9 @@
 -- Where the logs are the same, the pages are: entries fit their pages.
-use Rattle.std.proofs.Common.{◌≡◌, ◌≢◌, ℕ, ◌+◌, ◌≤◌, ◌⊎◌, Bool, true, false, not, ◌&&◌, ◌==◌, List, [], ◌∷◌, ◌++◌, length, refl, sym, ap, ◌∙◌, inl, inr, arith, if◌then◌else◌}
+use Rattle.std.proofs.Common.{◌≡◌, ℕ, ◌+◌, ◌≤◌, Bool, true, false, not, ◌&&◌, ◌==◌, List, [], ◌∷◌, ◌++◌, length, refl, ap, ◌∙◌, arith, if◌then◌else◌}
 use Rattle.std.specs.Prelude.{zero, suc, nat_le, take, drop}
 use Rattle.std.specs.List.{list_all}
 use Rattle.std.proofs.lemmas.List.{length-replicate}
-use Rattle.std.proofs.lemmas.Bool.{eqb-true, leb-true, ne_eqb}
+use Rattle.std.proofs.lemmas.Bool.{eqb-true, leb-true}
 use Rattle.st_base.specs.declared.ids.FileId.{FileId}
 use Rattle.st_base.specs.declared.ids.PageNo.{PageNo}
 use Rattle.st_base.specs.Page.{filled}
@@ -15,7 +15,8 @@ use Rattle.st_rules.specs.declared.log.Fate.TheVariants as old_fates
 use Rattle.st_rules.specs.declared.log.LogEntry.{LogEntry}
 use Rattle.st_rules.specs.FlatLog as log
 use Rattle.st_rules.specs.Keys as keys
-use Rattle.st_lemmas.proofs.Tables.{and_true, same_or_not}
+use Rattle.st_lemmas.proofs.Tables.{and_true}
+use Rattle.st_lemmas.proofs.Truth.{eqb_turned}
 use Rattle.st_laws_volume.specs.Logs.{AreSame, IsSame, ask_of, fate_of}
 use Rattle.st_laws_volume.specs.Reads.{HasPagesOf}
 use Rattle.st_laws_volume.proofs.ReadPatches.{patched_is}
@@ -31,20 +32,12 @@ fits changes.Cut = true
 abbrev pub fits_page : LogEntry → Bool
 fits_page o = fits o.change
 
--- It touches the same pages in both.
-pub turned : (a b : ℕ) → (a == b) ≡ (b == a)
-turned a b = go (same_or_not a b)
-  where
-    go : (a ≡ b) ⊎ (a ≢ b) → (a == b) ≡ (b == a)
-    go (inl e) = ap (λ x. x == b) e ∙ ap (λ x. b == x) (sym e)
-    go (inr ne) = ne_eqb a b ne ∙ sym (ne_eqb b a (λ q. ne (sym q)))
-
 file_turned : (f g : FileId) → same_file f g ≡ keys.same_file g f
-file_turned f g = ap (λ b. b && (f.ino == g.ino)) (turned f.server.0 g.server.0) ∙ ap (λ b. (g.server.0 == f.server.0) && b) (turned f.ino g.ino)
+file_turned f g = ap (λ b. b && (f.ino == g.ino)) (eqb_turned f.server.0 g.server.0) ∙ ap (λ b. (g.server.0 == f.server.0) && b) (eqb_turned f.ino g.ino)
 
 touches_same : (f g : FileId) (p q : PageNo) (change : Change) → touches (f, p) (ask_of g q change) ≡ (keys.same_file g f && log.reaches change q p)
-touches_same f g p q (changes.Write bytes) = ap (λ b. b && (p.0 == q.0)) (file_turned f g) ∙ ap (λ b. keys.same_file g f && b) (turned p.0 q.0)
-touches_same f g p q (changes.Patch at bytes) = ap (λ b. b && (p.0 == q.0)) (file_turned f g) ∙ ap (λ b. keys.same_file g f && b) (turned p.0 q.0)
+touches_same f g p q (changes.Write bytes) = ap (λ b. b && (p.0 == q.0)) (file_turned f g) ∙ ap (λ b. keys.same_file g f && b) (eqb_turned p.0 q.0)
+touches_same f g p q (changes.Patch at bytes) = ap (λ b. b && (p.0 == q.0)) (file_turned f g) ∙ ap (λ b. keys.same_file g f && b) (eqb_turned p.0 q.0)
 touches_same f g p q changes.Cut = ap (λ b. b && nat_le q.0 p.0) (file_turned f g)
 
 counts_same : (fate : world_fate.Fate) → not (is_dropped (fate_of fate)) ≡ log.counts fate

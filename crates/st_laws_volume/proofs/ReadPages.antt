@@ -1,5 +1,5 @@
 -- In every run the pages of the volume are the world's.
-use Rattle.std.proofs.Common.{◌≡◌, ℕ, ◌+◌, true, ◌&&◌, List, [], ◌∷◌, ◌++◌, None, Ok, Err, refl, subst}
+use Rattle.std.proofs.Common.{◌≡◌, ℕ, ◌+◌, true, List, [], ◌∷◌, ◌++◌, None, Ok, Err, refl, subst}
 use Rattle.std.specs.Prelude.{Result}
 use Rattle.std.specs.List.{list_all}
 use Rattle.st_messages.specs.declared.event.Event.{Event}
@@ -9,6 +9,7 @@ use Rattle.st_rules.specs.History.{Traced, traced, traced_after}
 use Rattle.st_rules.specs.Safety.{AnswersAreLogged, AsksAreAnsweredOnce, Promise, Step, TheReportTellsTheLog, Throughout, all_answered_once, all_followed, is_event, step, steps, steps_on}
 use Rattle.st_rules.specs.World.{fresh_world}
 use Rattle.st_lemmas.proofs.Tables.{and_true}
+use Rattle.st_lemmas.proofs.Tests.{all_last}
 use Rattle.st_promises.specs.Safe.{EveryRunIsSafe, IsSafeRun}
 use Rattle.st_laws_volume.specs.Logs.{InEveryRun, IsLogOf}
 use Rattle.st_laws_volume.specs.Reads.{HasPagesOf, PagesAgree}
@@ -17,7 +18,7 @@ use Rattle.st_laws_volume.proofs.Carried.{IsKept, Led, carried}
 use Rattle.st_laws_volume.proofs.Logs.{LogHolds, log_begins, log_kept}
 use Rattle.st_laws_volume.proofs.Options.{on_more}
 use Rattle.st_laws_volume.proofs.ReadContents.{fits_page, pages_same}
-use Rattle.st_laws_volume.proofs.ReadRanges.{all_last, is_in_range, told_fits}
+use Rattle.st_laws_volume.proofs.ReadRanges.{is_in_range, told_fits}
 
 -- Promises that hold throughout.
 pub throughout_both : (P Q : Promise) (past xs : List Step) → Throughout P past xs → Throughout Q past xs → Throughout (λ past x. P past x × Q past x) past xs

@@ -25,19 +25,12 @@ use Rattle.st_rules.specs.Lines as lines
 use Rattle.st_rules.specs.Safety.{AreLogged, IsLogged, IsLoggedWrite, Step, all_followed, ask_in, ask_of, ask_of_client, begins_written, event_of, is_event, is_followed, is_written_to}
 use Rattle.st_rules.specs.World.{World, numbered}
 use Rattle.st_lemmas.proofs.Tables.{and_both, and_true}
+use Rattle.st_lemmas.proofs.Tests.{all_last}
 use Rattle.st_laws_volume.proofs.ReadContents.{fits, fits_page}
 
 -- the event of a step is in its ranges, in a world of so many nodes
 abbrev pub is_in_range : ℕ → Step → Bool
 is_in_range n x = is_event n x.event
-
--- Lists of which each member passes a test.
-all_append : {A : Type 0} (test : A → Bool) (xs ys : List A) → list_all test xs ≡ true → list_all test ys ≡ true → list_all test (xs ++ ys) ≡ true
-all_append test [] ys p q = q
-all_append test (x ∷ xs) ys p q = let b = and_true (test x) (list_all test xs) p in and_both (test x) _ b.0 (all_append test xs ys b.1 q)
-
-pub all_last : {A : Type 0} (test : A → Bool) (xs : List A) (x : A) → list_all test xs ≡ true → test x ≡ true → list_all test (xs ++ x ∷ []) ≡ true
-all_last test xs x p q = all_append test xs (x ∷ []) p (and_both (test x) true q refl)
 
 all_get : {A : Type 0} (test : A → Bool) (xs : List A) (n : ℕ) (x : A) → list_all test xs ≡ true → slice_get xs n ≡ Some x → test x ≡ true
 all_get test [] n x p q = cc
@@ -158,10 +151,10 @@ fated_fits es (suc n) fate h = go (slice_get es n) refl
     go (Some e) q = all_set fits_page es n (record e { fate = fate }) h (all_get fits_page es n e h q)
 
 -- The line after a write or a patch is its client's answer `written`.
-abbrev Written : Observation → Type 0
+abbrev pub Written : Observation → Type 0
 Written a = (d : ClientId) × (op : ℕ) × (a ≡ seen.Answered d op answers.Written)
 
-written_is : (c : ClientId) (a : Observation) → is_written_to c a ≡ true → Written a
+pub written_is : (c : ClientId) (a : Observation) → is_written_to c a ≡ true → Written a
 written_is c (seen.Answered d op answers.Written) h = (d, op, refl)
 written_is c (seen.Answered d op (answers.Read bytes)) h = cc
 written_is c (seen.Answered d op answers.Hard) h = cc

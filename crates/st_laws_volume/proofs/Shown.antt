@@ -4,19 +4,21 @@ use Rattle.std.proofs.lemmas.List.Elements.{filter-append}
 use Rattle.std.specs.List.{flat_map, list_any}
 use Rattle.std.specs.Prelude.{filter, find}
 use Rattle.st_base.specs.declared.ids.NodeId.TheVariants as nodes
+use Rattle.st_messages.specs.declared.message.Message.{Message}
+use Rattle.st_base.specs.declared.ids.NodeId.{NodeId}
+use Rattle.st_base.specs.declared.ids.ServerId.{ServerId}
 use Rattle.st_messages.specs.declared.event.Event.{Event}
 use Rattle.st_messages.specs.declared.event.Event.TheVariants as events
-use Rattle.st_messages.specs.declared.message.Header.{Header}
 use Rattle.st_rules.specs.declared.observation.Observation.{Observation}
 use Rattle.st_rules.specs.declared.observation.Observation.TheVariants as seen
 use Rattle.st_rules.specs.declared.world.Carried.{Carried}
 use Rattle.st_rules.specs.declared.world.IssuedCommand.{IssuedCommand}
 use Rattle.st_rules.specs.declared.world.SentMessage.{SentMessage}
 use Rattle.st_rules.specs.Events.{is_same_instance}
-use Rattle.st_rules.specs.World.{World, WorldClient, issued_of, message_of, site_of}
+use Rattle.st_rules.specs.World.{World, WorldClient, issued_of, message_of, node_of, receiver_of, site_of}
 use Rattle.st_laws_volume.specs.Laws.{StepsShowTheEvent}
 use Rattle.st_laws_volume.specs.Seen.{failure, failure_of, failure_told, is_seen, of_event, of_line}
-use Rattle.st_laws_volume.specs.Witness.{Behind, Witness, before_line, is_behind, is_done_line, is_untaken, of_delivery, of_lines, of_message, requested, taken_by, takes_op}
+use Rattle.st_laws_volume.specs.Witness.{Behind, Witness, before_line, does_at, of_delivery, of_lines, of_message, of_request, takes_op, to_node}
 use Rattle.st_volume.specs.declared.step.VolumeStep.{VolumeStep}
 use Rattle.st_volume.specs.Volume.{Volume}
 
@@ -67,28 +69,29 @@ hidden_if : (b : Bool) (xs : List VolumeStep) → filter is_seen xs ≡ [] → f
 hidden_if true xs p = p
 hidden_if false xs p = refl
 
-taking_hidden : (v : Volume) (h : Header) (b : Option Behind) → filter is_seen (takes_op v h b) ≡ []
-taking_hidden v h None = refl
-taking_hidden v h (Some b) = hidden_if (list_any (is_untaken h.from b.op) (v.pending ++ v.orphans)) _ refl
+request_hidden : (bs : List Behind) (v : Volume) (w : World) (s : ServerId) (m : Message) → filter is_seen (of_request bs v w s m) ≡ []
+request_hidden bs v w s m = hidden_if (does_at w s (node_of w s) m) (takes_op bs v s m ∷ []) refl
 
-message_hidden : (t : Witness) (v : Volume) (os : List Observation) (m : Option SentMessage) → filter is_seen (of_message t v os m) ≡ []
-message_hidden t v os None = refl
-message_hidden t v os (Some m) =
-    hidden_if (requested m.message.body) (taken_by t v os m.message)
-    (hidden_if (list_any (is_done_line m.message.header.from) os) _ (taking_hidden v m.message.header (find (is_behind m.message.header) t.behind)))
+node_hidden : (bs : List Behind) (v : Volume) (w : World) (m : Message) (n : NodeId) → filter is_seen (to_node bs v w m n) ≡ []
+node_hidden bs v w m (nodes.Client c) = refl
+node_hidden bs v w m (nodes.Server s) = request_hidden bs v w s m
 
-delivery_hidden : (t : Witness) (v : Volume) (w : World) (os : List Observation) (e : Event) → filter is_seen (of_delivery t v w os e) ≡ []
-delivery_hidden t v w os (events.Tick n) = refl
-delivery_hidden t v w os (events.App c ask) = refl
-delivery_hidden t v w os (events.Deliver k) = message_hidden t v os (message_of w k)
-delivery_hidden t v w os (events.Lose k) = refl
-delivery_hidden t v w os (events.Cut from to) = refl
-delivery_hidden t v w os (events.Heal from to) = refl
-delivery_hidden t v w os (events.Advance increments) = refl
-delivery_hidden t v w os (events.Effect k) = refl
-delivery_hidden t v w os (events.Report k ok) = refl
-delivery_hidden t v w os (events.Crash n) = refl
-delivery_hidden t v w os (events.Start n) = refl
+message_hidden : (bs : List Behind) (v : Volume) (w : World) (m : Option SentMessage) → filter is_seen (of_message bs v w m) ≡ []
+message_hidden bs v w None = refl
+message_hidden bs v w (Some m) = node_hidden bs v w m.message (receiver_of m)
+
+delivery_hidden : (bs : List Behind) (v : Volume) (w : World) (e : Event) → filter is_seen (of_delivery bs v w e) ≡ []
+delivery_hidden bs v w (events.Tick n) = refl
+delivery_hidden bs v w (events.App c ask) = refl
+delivery_hidden bs v w (events.Deliver k) = message_hidden bs v w (message_of w k)
+delivery_hidden bs v w (events.Lose k) = refl
+delivery_hidden bs v w (events.Cut from to) = refl
+delivery_hidden bs v w (events.Heal from to) = refl
+delivery_hidden bs v w (events.Advance increments) = refl
+delivery_hidden bs v w (events.Effect k) = refl
+delivery_hidden bs v w (events.Report k ok) = refl
+delivery_hidden bs v w (events.Crash n) = refl
+delivery_hidden bs v w (events.Start n) = refl
 
 -- The lines.
 before_hidden : (o : Observation) (os : List Observation) → filter is_seen (before_line o os) ≡ []
@@ -132,11 +135,11 @@ pub steps_show : StepsShowTheEvent
 steps_show t v x =
     three_shown
     (of_event x.before.world x.event)
-    (of_delivery t v x.before.world x.seen x.event)
+    (of_delivery t.behind v x.before.world x.event)
     (of_lines x.before.world x.seen)
     (of_event x.before.world x.event)
     []
     (flat_map (of_line x.before.world) x.seen)
     (event_shown x.before.world x.event)
-    (delivery_hidden t v x.before.world x.seen x.event)
+    (delivery_hidden t.behind v x.before.world x.event)
     (lines_shown x.before.world x.seen)

@@ -1,21 +1,30 @@
 -- The witness: the steps of the volume that an event of the world is, and whether the volume takes
 -- them. It is a means of proof: nobody needs to trust it.
-use Rattle.std.specs.Prelude.{◌≡◌, ℕ, ◌*◌, Bool, true, false, ◌&&◌, not, ◌==◌, if◌then◌else◌, List}
+use Rattle.std.specs.Prelude.{◌≡◌, ℕ, ◌+◌, ◌*◌, Bool, true, false, ◌&&◌, not, ◌==◌, if◌then◌else◌, List}
 use Rattle.std.specs.Prelude.{[], ◌∷◌, ◌++◌, length, filter, find, map, Option, Some, None, is_some}
 use Rattle.std.specs.Prelude.{bytes_eq, option_and_then, ⊤}
-use Rattle.std.specs.List.{list_all, list_any}
+use Rattle.std.specs.List.{flat_map, list_all, list_any}
+use Rattle.st_base.specs.declared.ids.ClientId.{ClientId}
 use Rattle.st_base.specs.declared.ids.ServerId.{ServerId}
 use Rattle.st_base.specs.declared.ids.FileId.{FileId}
 use Rattle.st_base.specs.declared.ids.PageNo.{PageNo}
+use Rattle.st_base.specs.declared.ids.Stamp.{Stamp}
 use Rattle.st_base.specs.declared.ids.NodeId.{NodeId}
 use Rattle.st_base.specs.declared.ids.NodeId.TheVariants as nodes
+use Rattle.st_base.specs.declared.names.NameAsk.{NameAsk}
+use Rattle.st_base.specs.declared.names.NameAsk.TheVariants as names
+use Rattle.st_messages.specs.declared.ask.Ask.{Ask}
+use Rattle.st_messages.specs.declared.ask.Ask.TheVariants as asks
 use Rattle.st_messages.specs.declared.event.Event.{Event}
 use Rattle.st_messages.specs.declared.event.Event.TheVariants as events
 use Rattle.st_messages.specs.declared.message.Body.{Body}
 use Rattle.st_messages.specs.declared.message.Body.TheVariants as bodies
 use Rattle.st_messages.specs.declared.message.Header.{Header}
 use Rattle.st_messages.specs.declared.message.Message.{Message}
+use Rattle.st_messages.specs.declared.message.NameOp.{NameOp}
+use Rattle.st_messages.specs.declared.message.NameOp.TheVariants as ops
 use Rattle.st_rules.specs.declared.client.Operation.{Operation}
+use Rattle.st_rules.specs.declared.client.Request.{Request}
 use Rattle.st_rules.specs.declared.extents.Extent.{Extent}
 use Rattle.st_rules.specs.declared.log.Fate.{Fate}
 use Rattle.st_rules.specs.declared.log.Fate.TheVariants as old_fates
@@ -23,26 +32,36 @@ use Rattle.st_rules.specs.declared.log.LogEntry.{LogEntry}
 use Rattle.st_rules.specs.declared.names.NameEntry.{NameEntry}
 use Rattle.st_rules.specs.declared.observation.Observation.{Observation}
 use Rattle.st_rules.specs.declared.observation.Observation.TheVariants as seen
+use Rattle.st_rules.specs.declared.sessions.Taken.{Taken}
+use Rattle.st_rules.specs.declared.sessions.Taken.TheVariants as takes
 use Rattle.st_rules.specs.declared.world.SentMessage.{SentMessage}
-use Rattle.st_rules.specs.ClientState.{is_asked}
+use Rattle.st_rules.specs.Authority.{started}
+use Rattle.st_rules.specs.ClientState.{Association, ClientSession, ClientState, is_asked}
+use Rattle.st_rules.specs.Events.{counted}
 use Rattle.st_rules.specs.Extents.{numbers}
 use Rattle.st_rules.specs.Keys.{same_server}
-use Rattle.st_rules.specs.Server.{ServerNode}
-use Rattle.st_rules.specs.World.{World, WorldClient, site_of, message_of, node_at, server_of_disk}
-use Rattle.st_rules.specs.World.{all_servers}
+use Rattle.st_rules.specs.Server as server_rules
+use Rattle.st_rules.specs.Server.{ServerNode, ServerTurn, sender}
+use Rattle.st_rules.specs.World.{World, WorldClient, all_servers, clock_of, message_of, node_of}
+use Rattle.st_rules.specs.World.{receiver_of, server_of_disk}
 use Rattle.st_rules.specs.Safety.{Promise, Step}
 use Rattle.st_laws_volume.specs.Seen.{of_event, of_line, seen_of, is_seen}
 use Rattle.st_volume.specs.declared.step.VolumeStep.{VolumeStep}
 use Rattle.st_volume.specs.declared.step.VolumeStep.TheVariants as steps
 use Rattle.st_volume.specs.declared.step.Fate as volume_fate
 use Rattle.st_volume.specs.declared.step.Fate.TheVariants as fates
-use Rattle.st_volume.specs.Pages.{Entry, same_place}
+use Rattle.st_volume.specs.Pages.{Entry, is_any, same_place}
 use Rattle.st_volume.specs.Trees.{Tree, DirEntry}
-use Rattle.st_volume.specs.Volume.{Volume, Pending, is_ask, fresh_volume, run}
+use Rattle.st_volume.specs.Volume.{Volume, Pending, fresh_volume, is_ask, run}
 
--- Requests: the ask that led to each request for a cut or a name, by the request's header.
+-- Requests: which ask a client's request for a cut or a name is of, by the key of the request. A key
+-- is a client, a server, a life, an epoch and a number.
 pub record Behind : Type 0 where
-  pub header : Header
+  pub client : ClientId
+  pub server : ServerId
+  pub life : ℕ
+  pub epoch : ℕ
+  pub number : ℕ
   pub op : ℕ
 
 pub record Witness : Type 0 where
@@ -66,89 +85,135 @@ abbrev pub first_world : List Step → Step → World
 first_world [] x = x.before.world
 first_world (y ∷ past) x = y.before.world
 
--- the same request, perhaps sent again
-abbrev pub is_same : Header → Header → Bool
-is_same a b =
-    ((a.from == b.from) && (a.to == b.to))
-    && ((a.life == b.life) && ((a.epoch == b.epoch) && (a.number == b.number)))
+-- the operation that waits for the reply to the outstanding request of a client at a server
+abbrev pub key_of : ClientState → Association → ClientSession → Request → Operation → Behind
+key_of c a x q o =
+    record {
+      client = c.id;
+      server = a.server;
+      life = a.life.0;
+      epoch = x.epoch.0;
+      number = q.number;
+      op = o.op;
+    }
 
-abbrev pub is_behind : Header → Behind → Bool
-is_behind h b = is_same b.header h
+abbrev pub asked_in :
+    ClientState → Association → ClientSession → Option Request → Option Operation → List Behind
+asked_in c a x (Some q) (Some o) = key_of c a x q o ∷ []
+asked_in c a x (Some q) None = []
+asked_in c a x None o = []
 
--- the operation whose request is outstanding
-abbrev pub server_at : NodeId → ServerId
-server_at (nodes.Server s) = s
-server_at (nodes.Client c) = record { 0 = 0 }
+abbrev pub waiting_in : ClientState → Association → Option ClientSession → List Behind
+waiting_in c a None = []
+waiting_in c a (Some x) = asked_in c a x x.requests.asked (find (is_asked a.server) c.operations)
 
-abbrev pub operations_of : Option WorldClient → List Operation
-operations_of None = []
-operations_of (Some site) = site.node.state.operations
+abbrev pub waiting_at : ClientState → Association → List Behind
+waiting_at c a = waiting_in c a a.session
 
-abbrev pub asked_in : World → Header → Option Operation
-asked_in w h =
-    find (is_asked (server_at (node_at h.to))) (operations_of (site_of w (record { 0 = h.from })))
+abbrev pub waiting_of : WorldClient → List Behind
+waiting_of site = flat_map (waiting_at site.node.state) site.node.state.associations
 
-abbrev pub with_operation : Header → List Behind → Option Operation → List Behind
-with_operation h bs None = bs
-with_operation h bs (Some o) = record { header = h; op = o.op } ∷ bs
-
-abbrev pub with_request : World → Message → List Behind → List Behind
-with_request w m bs =
-    if list_any (is_behind m.header) bs
-    then bs
-    else with_operation m.header bs (asked_in w m.header)
-
-abbrev pub with_sent : World → Body → Message → List Behind → List Behind
-with_sent w (bodies.Cut ino g from) m bs = with_request w m bs
-with_sent w (bodies.Name op) m bs = with_request w m bs
-with_sent w body m bs = bs
-
-unfoldable pub with_lines : World → List Observation → List Behind → List Behind
-with_lines w [] bs = bs
-with_lines w (seen.Sent k m ∷ os) bs = with_lines w os (with_sent w m.body m bs)
-with_lines w (o ∷ os) bs = with_lines w os bs
+-- all operations that wait so
+unfoldable pub waiting : World → List Behind
+waiting w = flat_map waiting_of w.clients
 
 -- The steps of an event.
 
--- the ask that led to a request that a server serves, if it has not taken effect
-abbrev pub is_untaken : ℕ → ℕ → Pending → Bool
-is_untaken c op a = is_ask (record { 0 = c }) op a && not (is_some a.result)
+-- a server serves a request: it is of its client's session, in its turn, and of its epoch
+abbrev pub is_fresh : Taken Body → Bool
+is_fresh takes.Fresh = true
+is_fresh taken = false
 
-abbrev pub takes_op : Volume → Header → Option Behind → List VolumeStep
-takes_op v h None = []
-takes_op v h (Some b) =
-    if list_any (is_untaken h.from b.op) (v.pending ++ v.orphans)
-    then steps.TakesEffect (record { 0 = h.from }) b.op ∷ []
-    else []
+abbrev pub is_in_turn : ServerTurn → Header → Bool
+is_in_turn t h =
+    (h.epoch == t.state.stable.epoch.0) && is_fresh (server_rules.take t h)
 
--- the event did what was requested
-abbrev pub is_named_to : ℕ → Body → ℕ → Bool
-is_named_to to (bodies.Named reply) from = to == from
-is_named_to to body from = false
+abbrev pub serves : ServerTurn → Header → Bool
+serves t h =
+    (server_rules.is_for t.state h && not (is_some (started t.state.authority (sender h))))
+    && is_in_turn t h
 
-abbrev pub is_done_line : ℕ → Observation → Bool
-is_done_line from (seen.Sent k m) = is_named_to m.header.to m.body from
-is_done_line from (seen.CutAt index f p) = true
-is_done_line from o = false
+-- and does what is requested: so its reply says
+abbrev pub is_done_as : Body → Option Body → Bool
+is_done_as (bodies.Cut ino g from) (Some bodies.Ack) = true
+is_done_as (bodies.Name op) (Some (bodies.Named reply)) = true
+is_done_as body reply = false
 
-abbrev pub taken_by : Witness → Volume → List Observation → Message → List VolumeStep
-taken_by t v os m =
-    if list_any (is_done_line m.header.from) os
-    then takes_op v m.header (find (is_behind m.header) t.behind)
-    else []
+abbrev pub does : ServerTurn → Stamp → Message → Bool
+does t now m =
+    serves t m.header
+    && is_done_as m.body (server_rules.rule t now m.header m.body).reply
 
-abbrev pub requested : Body → Bool
-requested (bodies.Cut ino g from) = true
-requested (bodies.Name op) = true
-requested body = false
+-- the server as it takes the message, after its thefts
+abbrev pub now_at : World → ServerId → Stamp
+now_at w s = clock_of (counted w) (nodes.Server s)
 
-abbrev pub of_message : Witness → Volume → List Observation → Option SentMessage → List VolumeStep
-of_message t v os None = []
-of_message t v os (Some m) = if requested m.message.body then taken_by t v os m.message else []
+abbrev pub turn_of : ServerNode → Stamp → ServerTurn
+turn_of node now = server_rules.thefts (server_rules.turn node.state []) now
 
-abbrev pub of_delivery : Witness → Volume → World → List Observation → Event → List VolumeStep
-of_delivery t v w os (events.Deliver k) = of_message t v os (message_of w k)
-of_delivery t v w os e = []
+abbrev pub does_at : World → ServerId → Option ServerNode → Message → Bool
+does_at w s None m = false
+does_at w s (Some node) m =
+    node.running && does (turn_of node (now_at w s)) (now_at w s) m
+
+-- the request of an ask: a remove of a file names a grant, and that of a directory none
+abbrev pub same_text : ℕ → List ℕ → ℕ → List ℕ → Bool
+same_text dir name dir2 name2 = (dir == dir2) && bytes_eq name name2
+
+abbrev pub is_name_for : NameAsk → NameOp → Bool
+is_name_for (names.Lookup dir name) (ops.Lookup d n) = same_text dir name d n
+is_name_for (names.Create dir name) (ops.Create d n) = same_text dir name d n
+is_name_for (names.Mkdir dir name) (ops.Mkdir d n) = same_text dir name d n
+is_name_for (names.Remove dir name ino) (ops.Remove d n g) =
+    same_text dir name d n && (if ino == 0 then g.0 == 0 else not (g.0 == 0))
+is_name_for (names.Rename dir name dir2 name2) (ops.Rename d n d2 n2) =
+    same_text dir name d n && same_text dir2 name2 d2 n2
+is_name_for (names.List dir after) (ops.List d a) = same_text dir after d a
+is_name_for ask op = false
+
+abbrev pub is_request_for : ServerId → Body → Ask → Bool
+is_request_for s (bodies.Cut ino g from) (asks.Cut f p) =
+    (f.server.0 == s.0) && ((f.ino == ino) && (p.0 == from.0))
+is_request_for s (bodies.Name op) (asks.Name r ask) = (r.0 == s.0) && is_name_for ask op
+is_request_for s body ask = false
+
+-- the ask that led to a request takes effect; where there is none, a number that no ask has
+abbrev pub is_behind : ServerId → Header → Behind → Bool
+is_behind s h b =
+    ((b.client.0 == h.from) && (b.server.0 == s.0))
+    && ((b.life == h.life) && ((b.epoch == h.epoch) && (b.number == h.number)))
+
+unfoldable pub above_all : List Pending → ℕ
+above_all [] = 0
+above_all (a ∷ rest) = a.op + 1 + above_all rest
+
+abbrev pub is_there : Volume → ServerId → Message → ℕ → Bool
+is_there v s m op =
+    is_any (λ a. is_request_for s m.body a.ask)
+    (find (is_ask (sender m.header) op) (v.pending ++ v.orphans))
+
+abbrev pub op_of : Volume → ServerId → Message → Option Behind → ℕ
+op_of v s m None = above_all (v.pending ++ v.orphans)
+op_of v s m (Some b) = if is_there v s m b.op then b.op else above_all (v.pending ++ v.orphans)
+
+abbrev pub takes_op : List Behind → Volume → ServerId → Message → VolumeStep
+takes_op bs v s m =
+    steps.TakesEffect (sender m.header) (op_of v s m (find (is_behind s m.header) bs))
+
+abbrev pub of_request : List Behind → Volume → World → ServerId → Message → List VolumeStep
+of_request bs v w s m = if does_at w s (node_of w s) m then takes_op bs v s m ∷ [] else []
+
+abbrev pub to_node : List Behind → Volume → World → Message → NodeId → List VolumeStep
+to_node bs v w m (nodes.Server s) = of_request bs v w s m
+to_node bs v w m (nodes.Client c) = []
+
+abbrev pub of_message : List Behind → Volume → World → Option SentMessage → List VolumeStep
+of_message bs v w None = []
+of_message bs v w (Some m) = to_node bs v w m.message (receiver_of m)
+
+abbrev pub of_delivery : List Behind → Volume → World → Event → List VolumeStep
+of_delivery bs v w (events.Deliver k) = of_message bs v w (message_of w k)
+of_delivery bs v w e = []
 
 -- a write or a patch takes effect before its line, and its answer is the next line
 abbrev pub next_op : List Observation → ℕ
@@ -169,7 +234,7 @@ of_lines w (o ∷ os) = before_line o os ++ (of_line w o ++ of_lines w os)
 abbrev pub steps_of : Witness → Volume → Step → List VolumeStep
 steps_of t v x =
     of_event x.before.world x.event
-    ++ (of_delivery t v x.before.world x.seen x.event ++ of_lines x.before.world x.seen)
+    ++ (of_delivery t.behind v x.before.world x.event ++ of_lines x.before.world x.seen)
 
 -- each entry that has joined the log has had its line
 abbrev pub if_told : Volume → Option Volume
@@ -184,7 +249,7 @@ unfoldable pub led_by : Witness → Step → Witness
 led_by t x =
     record {
       volume = volume_after t x t.volume;
-      behind = with_lines x.after.world x.seen t.behind;
+      behind = waiting x.after.world ++ t.behind;
     }
 
 unfoldable pub led_from : Witness → List Step → Witness
@@ -279,6 +344,6 @@ Roomy past x = has_claims x.after.world (led_by (led_to past x) x).volume ≡ tr
 
 -- opens all of this file
 unfoldable pub witness_open : ⊤
-unfolding begun with_lines before_line of_lines led_by led_from is_log are_entries are_trees
+unfolding begun waiting above_all before_line of_lines led_by led_from is_log are_entries are_trees
     are_operations
 witness_open = tt

@@ -3,12 +3,17 @@
 //! volume has taken the steps" don't say that it takes them.
 #![tactic(auto)]
 
+ghost use Rattle.st_laws_volume.specs.AskedAsks.{AsksAreAsAsked};
 ghost use Rattle.st_laws_volume.specs.Asks.{AsksAgree};
+ghost use Rattle.st_laws_volume.specs.Epochs.{EpochsAgree};
 ghost use Rattle.st_laws_volume.specs.FateMarks.{CrashesAreMarked};
 ghost use Rattle.st_laws_volume.specs.Fates.{StillEventsAreTaken};
+ghost use Rattle.st_laws_volume.specs.StepKinds.{EntriesAreTold, KindsAreEnough, StepsAreTaken, is_ask, is_change_line, is_failed_write, is_free, is_line};
 ghost use Rattle.st_laws_volume.specs.Laws.{RunsInParts, StepsShowTheEvent, TheStartAgrees};
 ghost use Rattle.st_laws_volume.specs.Logs.{InEveryRun, LogsAgree};
 ghost use Rattle.st_laws_volume.specs.Reads.{PagesAgree};
+ghost use Rattle.st_laws_volume.specs.TreeNames.{NamesStaySound, SoundNamesDoTheSame};
+ghost use Rattle.st_laws_volume.specs.Trees.{TreesAgree};
 
 /// What is seen of the steps that an event is, is what is seen of the event, in its order.
 pub fn steps_show_the_event()
@@ -50,8 +55,78 @@ pub fn asks_agree()
     ensures { InEveryRun AsksAgree }
 {}
 
+/// In every run, after every event up to which the volume has taken the steps: each open ask and
+/// each orphaned one is what its client was asked under its number.
+pub fn asks_are_as_asked()
+    ensures { InEveryRun AsksAreAsAsked }
+{}
+
 /// In every run, after every event up to which the volume has taken the steps: each write and patch
 /// of a life that a crash ended remembers that its client crashed since.
 pub fn crashes_are_marked()
     ensures { InEveryRun CrashesAreMarked }
+{}
+
+/// What an ask makes of a tree is what the names of a server do, if they are sound.
+pub fn trees_do_what_names_do()
+    ensures { SoundNamesDoTheSame }
+{}
+
+/// The names of a server are sound at the start, and each change keeps them sound.
+pub fn names_stay_sound()
+    ensures { NamesStaySound }
+{}
+
+/// In every run, after every event up to which the volume has taken the steps: its trees are the
+/// names of the servers.
+pub fn trees_agree()
+    ensures { InEveryRun TreesAgree }
+{}
+
+/// A run is a run of the volume if the steps of each kind are taken, and each entry that joins the
+/// log has its line in that event.
+pub fn kinds_are_enough()
+    ensures { KindsAreEnough }
+{}
+
+/// In every run the volume takes each crash of a client, start of a server and failed read, where
+/// it has taken all steps before it.
+pub fn free_steps_are_taken()
+    ensures { InEveryRun (StepsAreTaken is_free) }
+{}
+
+/// In every run the volume takes each ask that comes, where it has taken all steps before it: at
+/// most sixteen asks of its client are open.
+pub fn asks_are_taken()
+    ensures { InEveryRun (StepsAreTaken is_ask) }
+{}
+
+/// In every run the volume takes each line of a write or a patch, where it has taken all steps
+/// before it: it is the next one, and tells what took effect just before it.
+pub fn change_lines_are_taken()
+    ensures { InEveryRun (StepsAreTaken is_change_line) }
+{}
+
+/// In every run the volume takes the line of each entry, where it has taken all steps before it: a
+/// cut that a server tells has just taken effect, as the server served the request for it.
+pub fn lines_are_taken()
+    ensures { InEveryRun (StepsAreTaken is_line) }
+{}
+
+/// In every run each entry that joins the log of the volume has its line in that event, where the
+/// volume has taken all steps before it.
+pub fn entries_are_told()
+    ensures { InEveryRun EntriesAreTold }
+{}
+
+/// In every run the volume takes each failed write of which a client is told, where it has taken
+/// all steps before it: the write carried an entry of the log.
+pub fn failed_writes_are_taken()
+    ensures { InEveryRun (StepsAreTaken is_failed_write) }
+{}
+
+/// In every run, after every event up to which the volume has taken the steps: the epoch of each
+/// server is the one in the world.
+pub fn epochs_agree()
+    ensures { InEveryRun EpochsAgree }
 {}
