@@ -1,68 +1,50 @@
 -- A step of the client keeps what is known of its association with the server.
-use Rattle.std.proofs.Common.{◌≡◌, ◌≢◌, ℕ, ◌+◌, ◌*◌, ◌≤◌, ◌<◌, ◌⊎◌, Bool, true, false, ◌==◌, List, [], ◌∷◌, ◌++◌, Option, Some, None, refl, sym, ap, ◌∙◌, subst, inl, inr, arith}
-use Rattle.std.specs.Prelude.{◌&&◌, is_some, max, nat_le, nat_lt}
-use Rattle.std.specs.List.{list_any}
+use Rattle.st_lemmas.proofs.Words
+use Words.{◌≡◌, ◌≢◌, ℕ, ◌+◌, ◌*◌, ◌≤◌, ◌<◌, ◌⊎◌, Bool, true, false, ◌==◌, List, [], ◌∷◌, ◌++◌, Option, Some, None, refl, sym, ap, ◌∙◌, subst, inl, inr, arith}
+use Words.{◌&&◌, is_some, max, nat_lt, list_any, eq-eqb, eqb-true, lt-ltb, Config, ClientId, Epoch, Life, ServerId, Stamp, Body, Message}
+use Words.{Output, ClientInput, Request, lt-leb}
+use Words.events
+use Words.bodies as bd
+use Words.outputs
+use Words.inputs
+use Words.seen
+use Words.ClientLease.{ClientLease}
+use Words.Client as cl
+use Words.ClientReplies as cr
+use Words.ClientState as cs
+use Words.ClientState.{Association, ClientSession, ClientState, Turn}
+use Words.Dating as dating
+use Words.Keys.{server_node}
+use Words.Safety.{Step}
+use Words.Server.{ServerState}
+use Words.World.{World, numbered}
+use Words.Lists.{Has}
+use Words.Lookups.{or_left, some_is}
+use Words.Numbers.{numbered_has}
+use Words.Tables.{and_both, and_true, none_passes, same_or_not}
+use Words.Members.{some_member_passes}
+use Words.Truth.{not_both}
 use Rattle.std.proofs.Math.Nat.{le-max_left, le-max_right}
-use Rattle.std.proofs.lemmas.Bool.{eq-eqb, eqb-true, leb-true, lt-ltb}
-use Rattle.st_base.specs.declared.config.Config.{Config}
-use Rattle.st_base.specs.declared.ids.ClientId.{ClientId}
-use Rattle.st_base.specs.declared.ids.Epoch.{Epoch}
-use Rattle.st_base.specs.declared.ids.Life.{Life}
-use Rattle.st_base.specs.declared.ids.ServerId.{ServerId}
-use Rattle.st_base.specs.declared.ids.Stamp.{Stamp}
-use Rattle.st_messages.specs.declared.event.Event.TheVariants as events
-use Rattle.st_messages.specs.declared.message.Body.{Body}
-use Rattle.st_messages.specs.declared.message.Body.TheVariants as bd
-use Rattle.st_messages.specs.declared.message.Message.{Message}
-use Rattle.st_messages.specs.declared.output.Output.{Output}
-use Rattle.st_messages.specs.declared.output.Output.TheVariants as outputs
-use Rattle.st_rules.specs.declared.client.ClientInput.{ClientInput}
-use Rattle.st_rules.specs.declared.client.ClientInput.TheVariants as inputs
-use Rattle.st_rules.specs.declared.client.Request.{Request}
-use Rattle.st_rules.specs.declared.observation.Observation.TheVariants as seen
-use Rattle.st_rules.specs.ClientLease.{ClientLease}
-use Rattle.st_rules.specs.Client as cl
-use Rattle.st_rules.specs.ClientReplies as cr
-use Rattle.st_rules.specs.ClientState as cs
-use Rattle.st_rules.specs.ClientState.{Association, ClientSession, ClientState, Turn}
-use Rattle.st_rules.specs.Dating as dating
-use Rattle.st_rules.specs.Keys.{server_node}
-use Rattle.st_rules.specs.Safety.{Step}
-use Rattle.st_rules.specs.Server.{ServerState}
-use Rattle.st_rules.specs.World.{World, numbered}
-use Rattle.st_lemmas.specs.Lists.{Has}
-use Rattle.st_lemmas.proofs.Lookups.{or_left, some_is}
-use Rattle.st_lemmas.proofs.Numbers.{numbered_has}
-use Rattle.st_lemmas.proofs.Tables.{and_both, and_true, none_passes, same_or_not}
 use Rattle.st_laws_lasting.specs.Lasting.{client_clock}
 use Rattle.st_laws_leases.specs.Dates.Dates.{messages}
 use Rattle.st_laws_requests.specs.Cuts.Cuts.{Counts, Given, Numbers, Placed, SameBody, view}
 use Rattle.st_laws_steps.specs.Client.Losses.{Fit, is_ended}
-use Rattle.st_laws_waits.proofs.Tests.{any_has}
 use Rattle.st_laws_healthy.specs.Healthy.{is_between, longest}
 use Rattle.st_laws_healthy.proofs.Counting.{IsEnded, counted_ends}
 use Rattle.st_laws_healthy.proofs.Happening.{Brings, Deaf, Delivers}
 use Rattle.st_laws_healthy.proofs.Hearing.{Hears, IsReceived, Met, Unmet, counting_calm, hears, is_received, passed_by, received_from}
 use Rattle.st_laws_healthy.proofs.Passing.{After, Again, Alike, Anew, IsPassed, ByGreeting, ByRequest, IsSentBy, Requested as Asked, SentBy, Still}
+use Rattle.st_laws_healthy.proofs.Queues.{Longer}
 use Rattle.st_laws_healthy.proofs.Receiving.{Ended, Follows, Kept, Received, follows_self, is_calm, received_is, tells_epoch}
 use Rattle.st_laws_healthy.proofs.Replies.{counts_for, is_served}
-use Rattle.st_laws_healthy.proofs.Served.{From, Greets, IsAWelcome, IsAsked, IsCounted, IsEarlier, IsGood, IsKnown, IsOwn, IsReplied, IsServed, IsTold, Requests, Sees, TellsEpoch, To, known_more, served_more, told_more}
+use Rattle.st_laws_healthy.proofs.Served.{From, Greets, IsAWelcome, IsAsked, IsCounted, IsEarlier, IsGood, IsKnown, IsOwn, IsReplied, IsServed, IsTold}
+use Rattle.st_laws_healthy.proofs.Served.{Requests, Sees, TellsEpoch, To, known_more, served_more, told_more}
 use Rattle.st_laws_healthy.proofs.Stepping.{IsHeard, IsLeft, IsNoMessage, TakesIn, Told, Walks, sends, walks}
 use Rattle.st_laws_healthy.proofs.Taking.{IsSeen, SawDemand}
-use Rattle.st_laws_healthy.proofs.Talking.{Greeted, HasGreeted, HasSession, IsAsking, IsAsking2, IsCounting, IsGreeting, IsOutstanding, IsSilent, IsWelcoming, Phase, Requested, Talks, delivered_among, delivered_is, fly, not_delivered}
+use Rattle.st_laws_healthy.proofs.Talking.{Greeted, HasGreeted, HasSession, IsAsking, IsAsking2, IsCounting, IsGreeting, IsOutstanding, IsSilent, IsWelcoming}
+use Rattle.st_laws_healthy.proofs.Talking.{Phase, Requested, Talks, delivered_among, delivered_is, fly, not_delivered}
 use Rattle.st_laws_healthy.proofs.Telling.{is_unasked}
 use Rattle.st_laws_healthy.proofs.Trips.{Back, Begun, InTime, Out, Trip, flies_on, takes_off, trip_began, trip_ends}
-
-clash : (b : Bool) → b ≡ true → b ≡ false → ⊥
-clash true e f = cc
-clash false e f = cc
-
-not_le : (a b : ℕ) → b < a → nat_le a b ≡ false
-not_le a b l = go (nat_le a b) refl
-  where
-    go : (x : Bool) → nat_le a b ≡ x → x ≡ false
-    go false e = refl
-    go true e = let y = leb-true a b e in absurd (omega (arith, l, y))
 
 -- what nobody asked for condemns nothing, and tells of no epoch
 unasked_calm : (b : Body) → is_unasked b ≡ true → (is_calm b ≡ true) × (tells_epoch b ≡ false)
@@ -107,13 +89,40 @@ pub record IsNew (c : ClientId) (x : Step) (ns : List Message) (now : ℕ) (out 
   pub from : m.header.from ≡ c.0
   pub stamp : dating.is_request m.body ≡ true → m.header.stamp ≡ now
 
-module _ (k : Config) (c : ClientId) (s : ServerId) (gap d : ℕ) (fits : longest k gap d ≤ k.lease) (few : c.0 ≤ 16) where
+-- What the input leaves of a session: its next number, and its requests; or the outstanding one ended, which the server had served.
+pub record Middle (z : ClientSession) (last : ℕ) (o : Option ClientSession) : Type 0 where
+  pub session : ClientSession
+  pub is : o ≡ Some session
+  pub settled : session.due ≡ false
+  pub next : session.requests.next ≡ z.requests.next
+  pub releases : Longer z.releases session.releases
+  pub requests : (session.requests ≡ z.requests) ⊎ ((session.requests.asked ≡ None) × ((q : Request) × (z.requests.asked ≡ Some q) × (q.number ≤ last)))
+
+-- What is known of an association after a step of the client, and which one it was before it.
+module _ (k : Config) (c : ClientId) (s : ServerId) (gap d : ℕ) (read : World → ℕ) (delay : ℕ) (past past2 : List Step) (ms ns : List Message) (n : ServerState)
+    (now : Stamp) (st : ClientState) (i : ClientInput) (fit : (a : Association) → Has a st.associations → Fit a)
+    (talks : (a : Association) → Has a st.associations → a.server ≡ s → (since : ℕ) × Talks k c s gap d read delay since past ms n now.0 a) where
+  pub record TalksOn (b : Association) : Type 0 where
+    pub was : Association
+    pub among : Has was st.associations
+    pub at_was : was.server ≡ s
+    pub walk : Walks st now i fit was b
+    pub lasts : is_ended st.config now was.session ≡ false
+    pub life : b.life ≡ was.life
+    pub middle : (z : ClientSession) → was.session ≡ Some z → Middle z (talks was among at_was).1.last walk.second.session
+    pub since : ℕ
+    pub same : (z v : ClientSession) → was.session ≡ Some z → b.session ≡ Some v → v.requests.next ≡ z.requests.next → since ≡ (talks was among at_was).0
+    pub known : Talks k c s gap d read delay since past2 ns n now.0 b
+    pub last_is : known.last ≡ (talks was among at_was).1.last
+
+module _ (k : Config) (c : ClientId) (s : ServerId) (gap d : ℕ) (read : World → ℕ) (delay : ℕ) (fits : longest k gap d ≤ k.lease) (few : c.0 ≤ 16) where
   abbrev cap : ℕ
   cap = max (k.renew + gap) (2 * d + 1)
 
   module _ (past : List Step) (x : Step) (w : World) (ns : List Message) (more : (m : Message) → Has m (messages w) → Has m ns)
       (keeps : (i : ℕ) (m : Message) → numbered (messages w) i ≡ Some m → numbered ns i ≡ Some m) (now : Stamp) (clock : client_clock c x.after.world ≡ now.0)
-      (in_time : InTime c s d past (messages w) now.0) (begun : Begun c s d past now.0) (st : ClientState) (i : ClientInput)
+      (in_time : InTime (client_clock c) c s d past (messages w) now.0) (begun : Begun (client_clock c) c s d past now.0)
+      (now2 : ℕ) (clock2 : read x.after.world ≡ now2) (st : ClientState) (i : ClientInput)
       (new : (m : Message) → Has m ns → Has m (messages w) ⊎ IsNew c x ns now.0 (cl.client_step st now i).out m)
       (fit : (a : Association) → Has a st.associations → Fit a) (config : st.config ≡ k) (brings : Brings w x.event c.0 i)
       (deaf_server : Deaf w x.event (server_node s))
@@ -154,52 +163,55 @@ module _ (k : Config) (c : ClientId) (s : ServerId) (gap d : ℕ) (fits : longes
         go (inr ne) = inr (λ e. ne (number_is (sym b.0.event ∙ e)))
 
     -- No lease is lost.
-    module _ (a b : Association) (walk : Walks st now i fit a b) (t : Talks k c s gap d past ms n now.0 a)
+    module _ (since : ℕ) (a b : Association) (walk : Walks st now i fit a b) (t : Talks k c s gap d read delay since past ms n now.0 a)
         (young : (z : ClientSession) → a.session ≡ Some z → z.lease.condemned ≡ false → z.requests.asked ≡ None → now.0 < z.lease.date.0 + k.renew + gap) where
       -- the age of a lease
-      age : (z : ClientSession) → a.session ≡ Some z → HasSession k c s gap d past ms n.sessions a.life.0 epoch t.last z → now.0 < z.lease.date.0 + k.lease
+      age : (z : ClientSession) → a.session ≡ Some z → HasSession k c s gap d read delay since past ms n.sessions a.life.0 epoch t.last z → now.0 < z.lease.date.0 + k.lease
       age z e p = go z.requests.asked refl p.requests
         where
-          go : (o : Option Request) → z.requests.asked ≡ o → Requested k c s gap d past ms a.life.0 epoch t.last z.lease.date.0 z.requests.next o →
+          go : (o : Option Request) → z.requests.asked ≡ o → Requested k c s gap d read delay since past ms a.life.0 epoch t.last z.lease.date.0 z.requests.next o →
               now.0 < z.lease.date.0 + k.lease
           go None q r = let y = young z e p.sound q in let l = le-max_left (k.renew + gap) (2 * d + 1) in omega (arith, y, l, fits)
           go (Some q) f r =
               let y = r.first.young in
-              let l = trip_ends c s d past ms now.0 (IsAsking k c s gap d a.life.0 epoch q.number q.body)
+              let l = trip_ends (client_clock c) c s d past ms now.0 (IsAsking k c s gap d a.life.0 epoch q.number q.body)
               (IsCounting k c s gap d a.life.0 epoch q.number q.body) r.first.from in_time r.first.trip in
               omega (arith, y, l, fits)
 
       -- so nothing is lost
-      lasts_at : walk.first ≡ a
-      lasts_at = sym (walk.loses.lasts (subst (λ kb. is_ended kb now a.session ≡ false) (sym config) (go a.session refl t.phase)))
+      not_ended : is_ended st.config now a.session ≡ false
+      not_ended = subst (λ kb. is_ended kb now a.session ≡ false) (sym config) (go a.session refl t.phase)
         where
-          go : (o : Option ClientSession) → a.session ≡ o → Phase k c s gap d past ms n.sessions a.life.0 epoch t.last o → is_ended k now o ≡ false
+          go : (o : Option ClientSession) → a.session ≡ o → Phase k c s gap d read delay since past ms n.sessions a.life.0 epoch t.last o → is_ended k now o ≡ false
           go None e p = refl
-          go (Some z) e p = not_le (z.lease.date.0 + k.lease) now.0 (age z e p)
+          go (Some z) e p = lt-leb (z.lease.date.0 + k.lease) now.0 (age z e p)
 
-    module _ (a b : Association) (walk : Walks st now i fit a b) (at : a.server ≡ s) (t : Talks k c s gap d past ms n now.0 a)
+      lasts_at : walk.first ≡ a
+      lasts_at = sym (walk.loses.lasts not_ended)
+
+    module _ (since : ℕ) (a b : Association) (walk : Walks st now i fit a b) (at : a.server ≡ s) (t : Talks k c s gap d read delay since past ms n now.0 a)
         (young : (z : ClientSession) → a.session ≡ Some z → z.lease.condemned ≡ false → z.requests.asked ≡ None → now.0 < z.lease.date.0 + k.renew + gap)
         (numbers : Numbers (λ m. Has m ms) c s a.life.0 (view a.session)) (numbers2 : Numbers (λ m. Has m ns) c s a.life.0 (view b.session)) where
       abbrev life : ℕ
       life = a.life.0
 
       abbrev S : ClientSession → Type 0
-      S z = HasSession k c s gap d past ms n.sessions life epoch t.last z
+      S z = HasSession k c s gap d read delay since past ms n.sessions life epoch t.last z
 
       abbrev S2 : ClientSession → Type 0
-      S2 z = HasSession k c s gap d past2 ns n.sessions life epoch t.last z
+      S2 z = HasSession k c s gap d read delay since past2 ns n.sessions life epoch t.last z
 
       -- a session, and its lease, is young where nothing is asked
       abbrev Ready : ClientSession → Type 0
       Ready z = z.requests.asked ≡ None → now.0 < z.lease.date.0 + cap
 
       lasts : walk.first ≡ a
-      lasts = lasts_at a b walk t young
+      lasts = lasts_at since a b walk t young
 
       -- a session with the same requests and lease
-      carries : (P : List Step) (M : List Message) (z u : ClientSession) → HasSession k c s gap d P M n.sessions life epoch t.last z → u.epoch ≡ z.epoch →
+      carries : (P : List Step) (M : List Message) (z u : ClientSession) → HasSession k c s gap d read delay since P M n.sessions life epoch t.last z → u.epoch ≡ z.epoch →
           u.due ≡ z.due → u.lease ≡ z.lease → u.requests ≡ z.requests →
-          HasSession k c s gap d P M n.sessions life epoch t.last u
+          HasSession k c s gap d read delay since P M n.sessions life epoch t.last u
       carries P M z u p e f l r =
           record {
             epoch_is = ap (λ (y : Epoch). y.0) e ∙ p.epoch_is;
@@ -207,8 +219,8 @@ module _ (k : Config) (c : ClientId) (s : ServerId) (gap d : ℕ) (fits : longes
             sound = ap (λ (y : ClientLease). y.condemned) l ∙ p.sound;
             served = p.served;
             below = subst (λ (y : cs.Requests). t.last < y.next) (sym r) p.below;
-            requests = subst (λ (y : cs.Requests). Requested k c s gap d P M life epoch t.last u.lease.date.0 y.next y.asked) (sym r)
-                (subst (λ (y : ClientLease). Requested k c s gap d P M life epoch t.last y.date.0 z.requests.next z.requests.asked) (sym l) p.requests);
+            requests = subst (λ (y : cs.Requests). Requested k c s gap d read delay since P M life epoch t.last u.lease.date.0 y.next y.asked) (sym r)
+                (subst (λ (y : ClientLease). Requested k c s gap d read delay since P M life epoch t.last y.date.0 z.requests.next z.requests.asked) (sym l) p.requests);
           }
 
       -- What the message that is heard may be: one that the server sent.
@@ -233,7 +245,7 @@ module _ (k : Config) (c : ClientId) (s : ServerId) (gap d : ℕ) (fits : longes
         -- the message condemns nothing, and tells of no later epoch
         calm : (m : Message) → IsTold c s ms n.sessions life epoch t.last m → m.header.life ≡ life →
             (is_calm m.body ≡ true) × (tells_epoch m.body ≡ true → m.header.epoch ≤ z.epoch.0)
-        calm m (IsOwn u) l = let y = unasked_calm m.body u.body in (y.0, λ f. absurd (clash (tells_epoch m.body) f y.1))
+        calm m (IsOwn u) l = let y = unasked_calm m.body u.body in (y.0, λ f. absurd (not_both (tells_epoch m.body) f y.1))
         calm m (IsEarlier q) l = absurd (omega (arith, q, l))
         calm m (IsReplied q e g) l = (by g, λ f. let y = p.epoch_is in omega (arith, y, e))
           where
@@ -246,8 +258,8 @@ module _ (k : Config) (c : ClientId) (s : ServerId) (gap d : ℕ) (fits : longes
         given : (q : Request) → z.requests.asked ≡ Some q → 1 ≤ q.number
         given q e = (subst (Given z.requests.next) e (subst (λ o. Counts (view o)) with_it numbers.counts).1).0
 
-        asking : (q : Request) → z.requests.asked ≡ Some q → IsAsking2 k c s gap d past ms life epoch t.last z.lease.date.0 z.requests.next q
-        asking q e = subst (Requested k c s gap d past ms life epoch t.last z.lease.date.0 z.requests.next) e p.requests
+        asking : (q : Request) → z.requests.asked ≡ Some q → IsAsking2 k c s gap d read delay since past ms life epoch t.last z.lease.date.0 z.requests.next q
+        asking q e = subst (Requested k c s gap d read delay since past ms life epoch t.last z.lease.date.0 z.requests.next) e p.requests
 
         -- A reply to the outstanding request was sent for a message that asked it.
         record Origin (q : Request) (m : Message) : Type 0 where
@@ -262,8 +274,8 @@ module _ (k : Config) (c : ClientId) (s : ServerId) (gap d : ℕ) (fits : longes
         origin m told present q e number counts = by told
           where
             good : IsGood c s ms n.sessions life epoch t.last m → Origin q m
-            good (IsAWelcome f sv r h w o j g) = absurd (clash (counts_for q.body m.body) counts (ap (counts_for q.body) f))
-            good (TellsEpoch y v f) = absurd (clash (counts_for q.body m.body) counts (ap (counts_for q.body) f))
+            good (IsAWelcome f sv r h w o j g) = absurd (not_both (counts_for q.body m.body) counts (ap (counts_for q.body) f))
+            good (TellsEpoch y v f) = absurd (not_both (counts_for q.body m.body) counts (ap (counts_for q.body) f))
             good (IsCounted f l r g j v) =
                 let placed = subst (λ o. Placed life (view o) r) with_it (numbers.placed r g.among.among (g.from, g.among.to)) g.of_life
                 (let u = g.under in omega (arith, u, f)) in
@@ -300,11 +312,11 @@ module _ (k : Config) (c : ClientId) (s : ServerId) (gap d : ℕ) (fits : longes
 
             by : IsAsked c s now.0 o.asked → m.header.stamp ≤ now.0
             by (Greets f l) = let j = o.stamp in omega (arith, l, j)
-            by (Sees f) = absurd (clash (is_served o.asked.body) (ap is_served o.is.says ∙ (asking q e).served) (seen_not o.asked.body f))
+            by (Sees f) = absurd (not_both (is_served o.asked.body) (ap is_served o.is.says ∙ (asking q e).served) (seen_not o.asked.body f))
             by (Requests f g l) = let j = o.stamp in omega (arith, l, j)
 
         -- requests under the number are old, or sent now
-        stamps : (q : Request) (o : IsOutstanding k c s gap d past ms life epoch z.lease.date.0 q.number q.body) → is_served q.body ≡ true → (m : Message) →
+        stamps : (q : Request) (o : IsOutstanding k c s gap d read delay since past ms life epoch z.lease.date.0 q.number q.body) → is_served q.body ≡ true → (m : Message) →
             Has m ns →
             IsAsking k c s gap d life epoch q.number q.body m → o.from ≤ m.header.stamp
         stamps q o served m h y = go (new m h)
@@ -313,45 +325,58 @@ module _ (k : Config) (c : ClientId) (s : ServerId) (gap d : ℕ) (fits : longes
             go (inl j) = o.stamps m j y
             go (inr j) =
                 let v = j.stamp (subst (λ b. dating.is_request b ≡ true) (sym y.says) (served_request q.body served)) in
-                let l = trip_began c s d past ms now.0 (IsAsking k c s gap d life epoch q.number q.body) (IsCounting k c s gap d life epoch q.number q.body)
+                let l = trip_began (client_clock c) c s d past ms now.0 (IsAsking k c s gap d life epoch q.number q.body) (IsCounting k c s gap d life epoch q.number q.body)
                 o.from begun o.trip in
                 omega (arith, v, l)
 
         -- after the input: the session holds, and where nothing is asked its lease is young
-        abbrev Held : Option ClientSession → Type 0
-        Held o = (u : ClientSession) × (o ≡ Some u) × S2 u × Ready u × (u.requests.next ≡ z.requests.next)
+        record Held (o : Option ClientSession) : Type 0 where
+          session : ClientSession
+          is : o ≡ Some session
+          holds : S2 session
+          ready : Ready session
+          next : session.requests.next ≡ z.requests.next
+          releases : Longer z.releases session.releases
+          requests : (session.requests ≡ z.requests) ⊎ ((session.requests.asked ≡ None) × ((q : Request) × (z.requests.asked ≡ Some q) × (q.number ≤ t.last)))
 
         -- it is as it was, and no reply to its request was delivered
         module _ (o : Option ClientSession) (follows : Follows z o)
             (unanswered : (q : Request) → z.requests.asked ≡ Some q → (f : ℕ) (y : Message) → numbered ms f ≡ Some y →
             IsCounting k c s gap d life epoch q.number q.body y → x.event ≢ events.Deliver f) where
-          trip_on : (q : Request) → z.requests.asked ≡ Some q → (from : ℕ) → Trip c s d past ms (IsAsking k c s gap d life epoch q.number q.body)
-              (IsCounting k c s gap d life epoch q.number q.body) from →
-              Trip c s d past2 ns (IsAsking k c s gap d life epoch q.number q.body) (IsCounting k c s gap d life epoch q.number q.body) from
-          trip_on q e from (Out f) =
-              Out (fly k c s gap d past x w ns more keeps (IsAsking k c s gap d life epoch q.number q.body) (IsAsking k c s gap d life epoch q.number q.body)
-              from (server_node s) f (λ y. y) f.like.way.to deaf_server)
-          trip_on q e from (Back y l r f) =
-              Back y l r (flies_on c s d past x ms ns keeps (IsCounting k c s gap d life epoch q.number q.body)
-              (IsCounting k c s gap d life epoch q.number q.body) y f (λ y. y)
-              (unanswered q e f.number f.message f.there f.like))
+          trip_on : (f : World → ℕ) (g : ℕ) (q : Request) → z.requests.asked ≡ Some q → (from : ℕ) →
+              Trip f c s g past ms (IsAsking k c s gap d life epoch q.number q.body) (IsCounting k c s gap d life epoch q.number q.body) from →
+              Trip f c s g past2 ns (IsAsking k c s gap d life epoch q.number q.body) (IsCounting k c s gap d life epoch q.number q.body) from
+          trip_on f g q e from (Out p) =
+              Out (fly k c s gap d past x w ns more keeps f g (IsAsking k c s gap d life epoch q.number q.body) (IsAsking k c s gap d life epoch q.number q.body)
+              from (server_node s) p (λ y. y) p.like.way.to deaf_server)
+          trip_on f g q e from (Back y l r p) =
+              Back y l r (flies_on f c s g past x ms ns keeps (IsCounting k c s gap d life epoch q.number q.body)
+              (IsCounting k c s gap d life epoch q.number q.body) y p (λ y. y)
+              (unanswered q e p.number p.message p.there p.like))
 
-          went_on : (r : Option Request) → z.requests.asked ≡ r → Requested k c s gap d past ms life epoch t.last z.lease.date.0 z.requests.next r →
-              Requested k c s gap d past2 ns life epoch t.last z.lease.date.0 z.requests.next r
+          went_on : (r : Option Request) → z.requests.asked ≡ r → Requested k c s gap d read delay since past ms life epoch t.last z.lease.date.0 z.requests.next r →
+              Requested k c s gap d read delay since past2 ns life epoch t.last z.lease.date.0 z.requests.next r
           went_on None e r = r
           went_on (Some q) e r =
               record {
                 served = r.served;
                 number = r.number;
                 follows = r.follows;
-                first = record { from = r.first.from; young = r.first.young; stamps = stamps q r.first r.served; trip = trip_on q e r.first.from r.first.trip };
+                first =
+                    record {
+                      from = r.first.from;
+                      young = r.first.young;
+                      stamps = stamps q r.first r.served;
+                      trip = trip_on (client_clock c) d q e r.first.from r.first.trip;
+                      also = trip_on read delay q e since r.first.also;
+                    };
               }
 
           same_held : Held o
-          same_held = (
-            follows.session,
-            follows.is,
-            carries past2 ns z follows.session
+          same_held = record {
+            session = follows.session;
+            is = follows.is;
+            holds = carries past2 ns z follows.session
                 (record {
                   epoch_is = p.epoch_is;
                   settled = p.settled;
@@ -359,32 +384,36 @@ module _ (k : Config) (c : ClientId) (s : ServerId) (gap d : ℕ) (fits : longes
                   served = served_more c s ms ns more n.sessions life epoch t.last p.served;
                   below = p.below;
                   requests = went_on z.requests.asked refl p.requests;
-                }) follows.epoch follows.due follows.lease follows.requests,
-            λ e. let y = young z with_it p.sound (ap (λ (v : cs.Requests). v.asked) (sym follows.requests) ∙ e) in
+                }) follows.epoch follows.due follows.lease follows.requests;
+            ready = λ e. let y = young z with_it p.sound (ap (λ (v : cs.Requests). v.asked) (sym follows.requests) ∙ e) in
                 let g = ap (λ (v : ClientLease). v.date.0) follows.lease in
-                let l = le-max_left (k.renew + gap) (2 * d + 1) in omega (arith, y, g, l),
-            ap (λ (v : cs.Requests). v.next) follows.requests,
-          )
+                let l = le-max_left (k.renew + gap) (2 * d + 1) in omega (arith, y, g, l);
+            next = ap (λ (v : cs.Requests). v.next) follows.requests;
+            releases = follows.releases;
+            requests = inl follows.requests;
+          }
 
         -- its request was answered
         ended_held : (m : Message) → IsTold c s ms n.sessions life epoch t.last m → m.header.life ≡ life → (q : Request) → z.requests.asked ≡ Some q →
             q.number ≡ m.header.number → counts_for q.body m.body ≡ true →
             (o : Option ClientSession) → IsEnded z m.header.stamp o → Held o
-        ended_held m told present q asked number counts o e = (
-          e.session,
-          e.is,
-          record {
+        ended_held m told present q asked number counts o e = record {
+          session = e.session;
+          is = e.is;
+          holds = record {
             epoch_is = ap (λ (y : Epoch). y.0) e.epoch ∙ p.epoch_is;
             settled = not_due;
             sound = e.sound;
             served = served_more c s ms ns more n.sessions life epoch t.last p.served;
             below = subst (λ y. t.last < y) (sym e.next) p.below;
-            requests = subst (Requested k c s gap d past2 ns life epoch t.last e.session.lease.date.0 e.session.requests.next) (sym e.rests)
+            requests = subst (Requested k c s gap d read delay since past2 ns life epoch t.last e.session.lease.date.0 e.session.requests.next) (sym e.rests)
                 (let y = from.served in let r = (asking q asked).number in let v = e.next in omega (arith, y, r, v, number));
-          },
-          λ f. let y = dated in let l = le-max_right (k.renew + gap) (2 * d + 1) in let v = e.date in omega (arith, y, l, v),
-          e.next,
-        )
+          };
+          ready = λ f. let y = dated in let l = le-max_right (k.renew + gap) (2 * d + 1) in let v = e.date in omega (arith, y, l, v);
+          next = e.next;
+          releases = e.releases;
+          requests = inr (e.rests, (q, asked, let y = from.served in omega (arith, y, number)));
+        }
           where
             from : Origin q m
             from = origin m told present q asked (sym number) counts
@@ -394,12 +423,12 @@ module _ (k : Config) (c : ClientId) (s : ServerId) (gap d : ℕ) (fits : longes
               where
                 go : (b : Bool) → e.session.due ≡ b → e.session.due ≡ false
                 go false f = f
-                go true f = absurd (clash z.due (e.due f) p.settled)
+                go true f = absurd (not_both z.due (e.due f) p.settled)
 
             dated : now.0 < m.header.stamp + (2 * d + 1)
             dated =
                 let first = (asking q asked).first.stamps from.asked from.among from.is in
-                let over = trip_ends c s d past ms now.0 (IsAsking k c s gap d life epoch q.number q.body) (IsCounting k c s gap d life epoch q.number q.body)
+                let over = trip_ends (client_clock c) c s d past ms now.0 (IsAsking k c s gap d life epoch q.number q.body) (IsCounting k c s gap d life epoch q.number q.body)
                 (asking q asked).first.from in_time (asking q asked).first.trip in
                 let j = from.stamp in
                 omega (arith, first, over, j)
@@ -434,7 +463,7 @@ module _ (k : Config) (c : ClientId) (s : ServerId) (gap d : ℕ) (fits : longes
                     IsCounting k c s gap d life epoch q.number q.body y → (m ≡ y) ⊎ (x.event ≢ events.Deliver f) →
                     x.event ≢ events.Deliver f
                 undelivered q e f y g v (inr ne) = ne
-                undelivered q e f y g v (inl same) = absurd (clash (cr.is_received tn now m.header) (is_received tn now m.header (in_place q e v same)) r)
+                undelivered q e f y g v (inl same) = absurd (not_both (cr.is_received tn now m.header) (is_received tn now m.header (in_place q e v same)) r)
                   where
                     past_stamp : (q : Request) → z.requests.asked ≡ Some q → IsCounting k c s gap d life epoch q.number q.body y → m ≡ y →
                         m.header.stamp ≤ now.0
@@ -488,7 +517,7 @@ module _ (k : Config) (c : ClientId) (s : ServerId) (gap d : ℕ) (fits : longes
 
                         decide : (b : Bool) → counts_for q.body m.body ≡ b → (m.header.number ≡ q.number) ⊎ (m.header.number ≢ q.number) →
                             Held (cr.receive_at now m.header m.body tn).here.session
-                        decide false g number = others (λ y v same. clash (counts_for q.body m.body)
+                        decide false g number = others (λ y v same. not_both (counts_for q.body m.body)
                             (ap (λ (u : Message). counts_for q.body u.body) same ∙ v.counts) g)
                         decide true g (inr ne) = others (λ y v same. ne (ap (λ (u : Message). u.header.number) same ∙ v.under))
                         decide true g (inl number) = in_epoch (same_or_not m.header.epoch epoch)
@@ -526,48 +555,72 @@ module _ (k : Config) (c : ClientId) (s : ServerId) (gap d : ℕ) (fits : longes
           go (inl j) = absurd (none m j y l e u)
           go (inr j) = j
 
+      -- What is known after the passes, and that the outstanding request was sent first at the same reading, where no request was asked anew.
+      record Passed (next : ℕ) : Type 0 where
+        since2 : ℕ
+        phase : Phase k c s gap d read delay since2 past2 ns n.sessions life epoch t.last b.session
+        same : (v : ClientSession) → b.session ≡ Some v → v.requests.next ≡ next → since2 ≡ since
+
       -- no request was sent under the next number
       module _ (u : ClientSession) (held : S2 u) (next : ℕ) (none : (m : Message) → Has m ms → To c s m → m.header.life ≡ life → m.header.epoch ≡ epoch →
           m.header.number ≡ u.requests.next → ⊥) where
-        passed : Ready u → (o : Option ClientSession) → b.session ≡ o → IsPassed now u o → Phase k c s gap d past2 ns n.sessions life epoch t.last o
-        passed ready o at_b y = subst (Phase k c s gap d past2 ns n.sessions life epoch t.last) (sym y.is) (go y.requests)
+        passed : Ready u → IsPassed now u b.session → Passed u.requests.next
+        passed ready y = record {
+          since2 = z.0;
+          phase = subst (Phase k c s gap d read delay z.0 past2 ns n.sessions life epoch t.last) (sym y.is) z.1;
+          same = λ w at e. z.2 (ap (λ (x : ClientSession). x.requests.next) (some_is (sym y.is ∙ at)) ∙ e);
+        }
           where
             v : ClientSession
             v = y.session
 
             at_v : b.session ≡ Some v
-            at_v = at_b ∙ y.is
+            at_v = y.is
+
+            -- with requests that were sent first at this reading
+            At : ℕ → Type 0
+            At since2 = HasSession k c s gap d read delay since2 past2 ns n.sessions life epoch t.last v
 
             -- with these requests
-            with_requests : Requested k c s gap d past2 ns life epoch t.last u.lease.date.0 v.requests.next v.requests.asked → t.last < v.requests.next → S2 v
-            with_requests r below =
+            with_requests : (since2 : ℕ) → Requested k c s gap d read delay since2 past2 ns life epoch t.last u.lease.date.0 v.requests.next v.requests.asked →
+                t.last < v.requests.next → At since2
+            with_requests since2 r below =
                 record {
                   epoch_is = ap (λ (y : Epoch). y.0) y.epoch ∙ held.epoch_is;
                   settled = y.due ∙ held.settled;
                   sound = ap (λ (y : ClientLease). y.condemned) y.lease ∙ held.sound;
                   served = held.served;
                   below = below;
-                  requests = subst (λ (l : ClientLease). Requested k c s gap d past2 ns life epoch t.last l.date.0 v.requests.next v.requests.asked)
+                  requests = subst (λ (l : ClientLease). Requested k c s gap d read delay since2 past2 ns life epoch t.last l.date.0 v.requests.next v.requests.asked)
                       (sym y.lease) r;
                 }
 
-            go : Asked now u v.requests → S2 v
-            go (Still r) =
-                with_requests (subst (λ (w : cs.Requests). Requested k c s gap d past2 ns life epoch t.last u.lease.date.0 w.next w.asked) (sym r)
-                held.requests)
-                (subst (λ (w : cs.Requests). t.last < w.next) (sym r) held.below)
-            go (Again q e r) =
-                with_requests (subst (λ (w : cs.Requests). Requested k c s gap d past2 ns life epoch t.last u.lease.date.0 w.next w.asked) (sym r) again)
-                (subst (λ (w : cs.Requests). t.last < w.next) (sym r) held.below)
+            go : Asked now u v.requests → (since2 : ℕ) × At since2 × (v.requests.next ≡ u.requests.next → since2 ≡ since)
+            go (Still r) = (
+              since,
+              with_requests since (subst (λ (w : cs.Requests). Requested k c s gap d read delay since past2 ns life epoch t.last u.lease.date.0 w.next w.asked) (sym r)
+                  held.requests)
+                  (subst (λ (w : cs.Requests). t.last < w.next) (sym r) held.below),
+              λ e. refl,
+            )
+            go (Again q e r) = (
+              since,
+              with_requests since (subst (λ (w : cs.Requests). Requested k c s gap d read delay since past2 ns life epoch t.last u.lease.date.0 w.next w.asked) (sym r) again)
+                  (subst (λ (w : cs.Requests). t.last < w.next) (sym r) held.below),
+              λ e. refl,
+            )
               where
-                f : IsAsking2 k c s gap d past2 ns life epoch t.last u.lease.date.0 u.requests.next q
-                f = subst (Requested k c s gap d past2 ns life epoch t.last u.lease.date.0 u.requests.next) e held.requests
+                f : IsAsking2 k c s gap d read delay since past2 ns life epoch t.last u.lease.date.0 u.requests.next q
+                f = subst (Requested k c s gap d read delay since past2 ns life epoch t.last u.lease.date.0 u.requests.next) e held.requests
 
-                again : IsAsking2 k c s gap d past2 ns life epoch t.last u.lease.date.0 u.requests.next (record q { sent = now })
+                again : IsAsking2 k c s gap d read delay since past2 ns life epoch t.last u.lease.date.0 u.requests.next (record q { sent = now })
                 again = record { served = f.served; number = f.number; follows = f.follows; first = f.first }
-            go (Anew body e served r) =
-                with_requests (subst (λ (w : cs.Requests). Requested k c s gap d past2 ns life epoch t.last u.lease.date.0 w.next w.asked) (sym r) anew)
-                (subst (λ (w : cs.Requests). t.last < w.next) (sym r) (let l = held.below in omega (arith, l)))
+            go (Anew body e served r) = (
+              now2,
+              with_requests now2 (subst (λ (w : cs.Requests). Requested k c s gap d read delay now2 past2 ns life epoch t.last u.lease.date.0 w.next w.asked) (sym r) anew)
+                  (subst (λ (w : cs.Requests). t.last < w.next) (sym r) (let l = held.below in omega (arith, l))),
+              λ g. absurd (let f = ap (λ (w : cs.Requests). w.next) r in omega (arith, f, g)),
+            )
               where
                 q : Request
                 q = record { number = u.requests.next; body = body; sent = now }
@@ -614,34 +667,43 @@ module _ (k : Config) (c : ClientId) (s : ServerId) (gap d : ℕ) (fits : longes
                 between0 = or_left _ _ (and_both (m0.header.from == c.0) (m0.header.to == server_node s) (eq-eqb m0.header.from c.0 way0.from)
                     (eq-eqb m0.header.to (server_node s) way0.to))
 
-                first : IsOutstanding k c s gap d past2 ns life epoch u.lease.date.0 u.requests.next body
+                sets_out : (f : World → ℕ) (g shown : ℕ) → f x.after.world ≡ shown →
+                    Trip f c s g past2 ns (IsAsking k c s gap d life epoch u.requests.next body) (IsCounting k c s gap d life epoch u.requests.next body) shown
+                sets_out f g shown shows =
+                    subst (Trip f c s g past2 ns (IsAsking k c s gap d life epoch u.requests.next body) (IsCounting k c s gap d life epoch u.requests.next body))
+                    shows
+                    (Out (takes_off f c s g past x ns (IsAsking k c s gap d life epoch u.requests.next body) is_new.number m0 is_new.sent is_new.there
+                    between0 asks0))
+
+                first : IsOutstanding k c s gap d read delay now2 past2 ns life epoch u.lease.date.0 u.requests.next body
                 first =
                     record {
                       from = now.0;
                       young = ready e;
                       stamps = λ m h g. let z = new_request u.requests.next none m h g.way g.of_life g.of_epoch g.under in
                           let l = z.stamp (subst (λ b. dating.is_request b ≡ true) (sym g.says) (served_request body is_served_body)) in omega (arith, l);
-                      trip = subst (Trip c s d past2 ns (IsAsking k c s gap d life epoch u.requests.next body)
-                          (IsCounting k c s gap d life epoch u.requests.next body)) clock
-                          (Out (takes_off c s d past x ns (IsAsking k c s gap d life epoch u.requests.next body) is_new.number m0 is_new.sent is_new.there
-                          between0 asks0));
+                      trip = sets_out (client_clock c) d now.0 clock;
+                      also = sets_out read delay now2 clock2;
                     }
 
-                anew : IsAsking2 k c s gap d past2 ns life epoch t.last u.lease.date.0 (u.requests.next + 1) q
+                anew : IsAsking2 k c s gap d read delay now2 past2 ns life epoch t.last u.lease.date.0 (u.requests.next + 1) q
                 anew = record {
                   served = is_served_body;
                   number = refl;
                   follows = let l : u.requests.next ≤ t.last + 1 = subst
-                      (Requested k c s gap d past2 ns life epoch t.last u.lease.date.0 u.requests.next) e held.requests in omega (arith, l);
+                      (Requested k c s gap d read delay since past2 ns life epoch t.last u.lease.date.0 u.requests.next) e held.requests in omega (arith, l);
                   first = first;
                 }
 
+            z : (since2 : ℕ) × At since2 × (v.requests.next ≡ u.requests.next → since2 ≡ since)
+            z = go y.requests
+
       -- With a session before.
-      with_session : (z : ClientSession) → a.session ≡ Some z → Phase k c s gap d past2 ns n.sessions life epoch t.last b.session
+      with_session : (z : ClientSession) → a.session ≡ Some z → Passed z.requests.next
       with_session z e = go (second_held z e p walk.takes)
         where
           p : S z
-          p = subst (Phase k c s gap d past ms n.sessions life epoch t.last) e t.phase
+          p = subst (Phase k c s gap d read delay since past ms n.sessions life epoch t.last) e t.phase
 
           none : (u : ClientSession) → u.requests.next ≡ z.requests.next → (m : Message) → Has m ms → To c s m → m.header.life ≡ life →
               m.header.epoch ≡ epoch → m.header.number ≡ u.requests.next → ⊥
@@ -651,21 +713,31 @@ module _ (k : Config) (c : ClientId) (s : ServerId) (gap d : ℕ) (fits : longes
               (ep ∙ sym p.epoch_is) in
               omega (arith, below, nu, q)
 
-          go : Held z e p walk.second.session → Phase k c s gap d past2 ns n.sessions life epoch t.last b.session
-          go (u, is, held, ready, q) = passed u held u.requests.next (none u q) ready b.session refl (subst (λ o. After now o b.session) is walk.works.session)
+          go : Held z e p walk.second.session → Passed z.requests.next
+          go y =
+              subst Passed y.next
+              (passed y.session y.holds y.session.requests.next (none y.session y.next) y.ready (subst (λ o. After now o b.session) y.is walk.works.session))
+
+      -- what the input leaves of it
+      middle : (z : ClientSession) → a.session ≡ Some z → Middle z t.last walk.second.session
+      middle z e = go (second_held z e (subst (Phase k c s gap d read delay since past ms n.sessions life epoch t.last) e t.phase) walk.takes)
+        where
+          go : Held z e (subst (Phase k c s gap d read delay since past ms n.sessions life epoch t.last) e t.phase) walk.second.session →
+              Middle z t.last walk.second.session
+          go y = record { session = y.session; is = y.is; settled = y.holds.settled; next = y.next; releases = y.releases; requests = y.requests }
 
       -- and it stays
       stays_session : (z : ClientSession) → a.session ≡ Some z → (y : ClientSession) × (b.session ≡ Some y)
-      stays_session z e = go (second_held z e (subst (Phase k c s gap d past ms n.sessions life epoch t.last) e t.phase) walk.takes)
+      stays_session z e = go (second_held z e (subst (Phase k c s gap d read delay since past ms n.sessions life epoch t.last) e t.phase) walk.takes)
         where
-          go : Held z e (subst (Phase k c s gap d past ms n.sessions life epoch t.last) e t.phase) walk.second.session →
+          go : Held z e (subst (Phase k c s gap d read delay since past ms n.sessions life epoch t.last) e t.phase) walk.second.session →
               (y : ClientSession) × (b.session ≡ Some y)
-          go (u, is, held, ready, q) = let p = subst (λ o. After now o b.session) is walk.works.session in (p.session, p.is)
+          go y = let p = subst (λ o. After now o b.session) y.is walk.works.session in (p.session, p.is)
 
       -- Without a session before.
       module _ (without : a.session ≡ None) where
         before : Greeted k c s gap d past ms life × (t.last ≡ 0)
-        before = subst (Phase k c s gap d past ms n.sessions life epoch t.last) without t.phase
+        before = subst (Phase k c s gap d read delay since past ms n.sessions life epoch t.last) without t.phase
 
         no_requests : (m : Message) → Has m ms → To c s m → m.header.life ≡ life → m.header.number ≡ 0
         no_requests m h y l = subst (λ o. Placed life (view o) m) without (numbers.placed m h (y.from, y.to)) l
@@ -715,7 +787,7 @@ module _ (k : Config) (c : ClientId) (s : ServerId) (gap d : ℕ) (fits : longes
                 no g = cc
 
             by : IsTold c s ms n.sessions life epoch t.last m → Answers m
-            by (IsOwn u) = absurd (clash (is_unasked m.body) u.body (ap is_unasked e))
+            by (IsOwn u) = absurd (not_both (is_unasked m.body) u.body (ap is_unasked e))
             by (IsEarlier l) = absurd (omega (arith, l, present))
             by (IsReplied l y g) = good y g
 
@@ -723,18 +795,18 @@ module _ (k : Config) (c : ClientId) (s : ServerId) (gap d : ℕ) (fits : longes
         data Second (o : Option ClientSession) : Type 0 where
           IsNone : o ≡ None → (is_some a.greeting ≡ true → is_some walk.second.greeting ≡ true) →
               ((from : ℕ) → ((m : Message) → Has m ms → IsGreeting k c s gap d life m → from ≤ m.header.stamp) →
-              Trip c s d past ms (IsGreeting k c s gap d life) (IsWelcoming k c s gap d life) from →
-              Trip c s d past2 ns (IsGreeting k c s gap d life) (IsWelcoming k c s gap d life) from) → Second o
+              Trip (client_clock c) c s d past ms (IsGreeting k c s gap d life) (IsWelcoming k c s gap d life) from →
+              Trip (client_clock c) c s d past2 ns (IsGreeting k c s gap d life) (IsWelcoming k c s gap d life) from) → Second o
           IsBegun : (u : ClientSession) → o ≡ Some u → S2 u → Ready u → u.requests.next ≡ 1 → Second o
 
         -- the trip goes on, where no welcome was delivered
         trip_kept : (from : ℕ) → ((f : ℕ) (y : Message) → numbered ms f ≡ Some y → IsWelcoming k c s gap d life y → x.event ≢ events.Deliver f) →
-            Trip c s d past ms (IsGreeting k c s gap d life) (IsWelcoming k c s gap d life) from →
-            Trip c s d past2 ns (IsGreeting k c s gap d life) (IsWelcoming k c s gap d life) from
-        trip_kept from ne (Out f) = Out (fly k c s gap d past x w ns more keeps (IsGreeting k c s gap d life) (IsGreeting k c s gap d life) from (server_node s)
+            Trip (client_clock c) c s d past ms (IsGreeting k c s gap d life) (IsWelcoming k c s gap d life) from →
+            Trip (client_clock c) c s d past2 ns (IsGreeting k c s gap d life) (IsWelcoming k c s gap d life) from
+        trip_kept from ne (Out f) = Out (fly k c s gap d past x w ns more keeps (client_clock c) d (IsGreeting k c s gap d life) (IsGreeting k c s gap d life) from (server_node s)
             f (λ y. y) f.like.way.to deaf_server)
         trip_kept from ne (Back y l r f) =
-            Back y l r (flies_on c s d past x ms ns keeps (IsWelcoming k c s gap d life) (IsWelcoming k c s gap d life) y f (λ y. y)
+            Back y l r (flies_on (client_clock c) c s d past x ms ns keeps (IsWelcoming k c s gap d life) (IsWelcoming k c s gap d life) y f (λ y. y)
             (ne f.number f.message f.there f.like))
 
         heard_none : (m : Message) → i ≡ inputs.Control m → (tn : Turn) → tn.config ≡ k → tn.here ≡ a →
@@ -757,11 +829,11 @@ module _ (k : Config) (c : ClientId) (s : ServerId) (gap d : ℕ) (fits : longes
                     same2 q = cc
 
                 unheard : (from : ℕ) → ((m : Message) → Has m ms → IsGreeting k c s gap d life m → from ≤ m.header.stamp) →
-                    Trip c s d past ms (IsGreeting k c s gap d life) (IsWelcoming k c s gap d life) from → (f : ℕ) (y : Message) → numbered ms f ≡ Some y →
+                    Trip (client_clock c) c s d past ms (IsGreeting k c s gap d life) (IsWelcoming k c s gap d life) from → (f : ℕ) (y : Message) → numbered ms f ≡ Some y →
                     IsWelcoming k c s gap d life y →
                     (i ≡ inputs.Control y) ⊎ (x.event ≢ events.Deliver f) → x.event ≢ events.Deliver f
                 unheard from first trip f y h v (inr ne) = ne
-                unheard from first trip f y h v (inl e) = absurd (clash (cr.is_timely tn now (record { 0 = m.header.stamp })) timely
+                unheard from first trip f y h v (inl e) = absurd (not_both (cr.is_timely tn now (record { 0 = m.header.stamp })) timely
                     (untimely (is_received tn now m.header got) welcome))
                   where
                     it : m ≡ y
@@ -787,7 +859,7 @@ module _ (k : Config) (c : ClientId) (s : ServerId) (gap d : ℕ) (fits : longes
                         and_both (is_some tn.here.greeting) (nat_lt now.0 (m.header.stamp + tn.config.lease))
                         (ap (λ (u : Association). is_some u.greeting) here ∙ t.greets without z.greeting z.among z.is)
                         (lt-ltb now.0 (m.header.stamp + tn.config.lease)
-                        (let over = trip_ends c s d past ms now.0 (IsGreeting k c s gap d life) (IsWelcoming k c s gap d life) from in_time trip in
+                        (let over = trip_ends (client_clock c) c s d past ms now.0 (IsGreeting k c s gap d life) (IsWelcoming k c s gap d life) from in_time trip in
                         let l = first z.greeting z.among z.is in
                         let j = z.stamp in
                         let g = ap (λ (u : Message). u.header.stamp) it in
@@ -817,7 +889,7 @@ module _ (k : Config) (c : ClientId) (s : ServerId) (gap d : ℕ) (fits : longes
                 young_from : Greeted k c s gap d past ms life → now.0 < m.header.stamp + cap
                 young_from (IsSilent f) = absurd (f z.greeting z.among z.is)
                 young_from (HasGreeted from first trip) =
-                    let over = trip_ends c s d past ms now.0 (IsGreeting k c s gap d life) (IsWelcoming k c s gap d life) from in_time trip in
+                    let over = trip_ends (client_clock c) c s d past ms now.0 (IsGreeting k c s gap d life) (IsWelcoming k c s gap d life) from in_time trip in
                     let l = first z.greeting z.among z.is in
                     let j = z.stamp in
                     let q = le-max_right (k.renew + gap) (2 * d + 1) in
@@ -851,7 +923,7 @@ module _ (k : Config) (c : ClientId) (s : ServerId) (gap d : ℕ) (fits : longes
 
         none_greets : (m : Message) → is_greeting m ≡ false → IsGreeting k c s gap d life m → ⊥
         none_greets m e g =
-            clash (is_greeting m)
+            not_both (is_greeting m)
             (and_both (m.header.from == c.0) _ (eq-eqb m.header.from c.0 g.way.from)
             (and_both (m.header.to == server_node s) _ (eq-eqb m.header.to (server_node s) g.way.to)
             (and_both (m.header.life == life) _ (eq-eqb m.header.life life g.of_life) (ap is_hello g.body)))) e
@@ -862,8 +934,8 @@ module _ (k : Config) (c : ClientId) (s : ServerId) (gap d : ℕ) (fits : longes
 
         greeted2 : Greeted k c s gap d past ms life →
             ((from : ℕ) → ((m : Message) → Has m ms → IsGreeting k c s gap d life m → from ≤ m.header.stamp) →
-            Trip c s d past ms (IsGreeting k c s gap d life) (IsWelcoming k c s gap d life) from →
-            Trip c s d past2 ns (IsGreeting k c s gap d life) (IsWelcoming k c s gap d life) from) → Greeted k c s gap d past2 ns life
+            Trip (client_clock c) c s d past ms (IsGreeting k c s gap d life) (IsWelcoming k c s gap d life) from →
+            Trip (client_clock c) c s d past2 ns (IsGreeting k c s gap d life) (IsWelcoming k c s gap d life) from) → Greeted k c s gap d past2 ns life
         greeted2 (HasGreeted from first trip) on =
             HasGreeted from (λ m h g. by m g (new m h)) (on from first trip)
           where
@@ -871,7 +943,7 @@ module _ (k : Config) (c : ClientId) (s : ServerId) (gap d : ℕ) (fits : longes
             by m g (inl h) = first m h g
             by m g (inr z) =
                 let e = greets_now m z g in
-                let l = trip_began c s d past ms now.0 (IsGreeting k c s gap d life) (IsWelcoming k c s gap d life) from begun trip in
+                let l = trip_began (client_clock c) c s d past ms now.0 (IsGreeting k c s gap d life) (IsWelcoming k c s gap d life) from begun trip in
                 omega (arith, e, l)
         greeted2 (IsSilent f) on = go (list_any is_greeting ns) refl
           where
@@ -885,25 +957,28 @@ module _ (k : Config) (c : ClientId) (s : ServerId) (gap d : ℕ) (fits : longes
             go : (b : Bool) → list_any is_greeting ns ≡ b → Greeted k c s gap d past2 ns life
             go false e = IsSilent (λ m h g. none_greets m (none_passes is_greeting ns e m h) g)
             go true e =
-                let y = any_has is_greeting ns e in
+                let y = some_member_passes is_greeting ns e in
                 let g = greets_by y.0 y.2 in
                 let z = is_new y.0 y.1 g in
                 HasGreeted now.0 (λ m h v. let q = greets_now m (is_new m h v) v in omega (arith, q))
-                (subst (Trip c s d past2 ns (IsGreeting k c s gap d life) (IsWelcoming k c s gap d life)) clock
-                (Out (takes_off c s d past x ns (IsGreeting k c s gap d life) z.number y.0 z.sent z.there
+                (subst (Trip (client_clock c) c s d past2 ns (IsGreeting k c s gap d life) (IsWelcoming k c s gap d life)) clock
+                (Out (takes_off (client_clock c) c s d past x ns (IsGreeting k c s gap d life) z.number y.0 z.sent z.there
                 (or_left _ _ (and_both (y.0.header.from == c.0) (y.0.header.to == server_node s) (eq-eqb y.0.header.from c.0 g.way.from)
                 (eq-eqb y.0.header.to (server_node s) g.way.to))) g)))
 
-        without_session : Phase k c s gap d past2 ns n.sessions life epoch t.last b.session
+        without_session : (since2 : ℕ) × Phase k c s gap d read delay since2 past2 ns n.sessions life epoch t.last b.session
         without_session = go (second walk.takes)
           where
-            go : Second walk.second.session → Phase k c s gap d past2 ns n.sessions life epoch t.last b.session
-            go (IsNone e g on) =
-                subst (Phase k c s gap d past2 ns n.sessions life epoch t.last) (sym (subst (λ o. After now o b.session) e walk.works.session))
-                (greeted2 before.0 on, before.1)
+            go : Second walk.second.session → (since2 : ℕ) × Phase k c s gap d read delay since2 past2 ns n.sessions life epoch t.last b.session
+            go (IsNone e g on) = (
+              since,
+              subst (Phase k c s gap d read delay since past2 ns n.sessions life epoch t.last) (sym (subst (λ o. After now o b.session) e walk.works.session))
+                  (greeted2 before.0 on, before.1),
+            )
             go (IsBegun u e held ready q) =
-                passed u held u.requests.next (λ m h y l ep nu. let z = no_requests m h y l in omega (arith, z, nu, q)) ready b.session refl
-                (subst (λ o. After now o b.session) e walk.works.session)
+                let z = passed u held u.requests.next (λ m h y l ep nu. let z = no_requests m h y l in omega (arith, z, nu, q)) ready
+                (subst (λ o. After now o b.session) e walk.works.session) in
+                (z.since2, z.phase)
 
         -- whoever greeted remembers it, until its session begins
         greets_on : b.session ≡ None → is_some a.greeting ≡ true → is_some b.greeting ≡ true
@@ -920,7 +995,7 @@ module _ (k : Config) (c : ClientId) (s : ServerId) (gap d : ℕ) (fits : longes
                     no2 r = cc
 
     -- All associations with the server.
-    module _ (told : Told st now i fit i) (talks : (a : Association) → Has a st.associations → a.server ≡ s → Talks k c s gap d past ms n now.0 a)
+    module _ (told : Told st now i fit i) (talks : (a : Association) → Has a st.associations → a.server ≡ s → (since : ℕ) × Talks k c s gap d read delay since past ms n now.0 a)
         (young : (a : Association) → Has a st.associations → (z : ClientSession) → a.session ≡ Some z → z.lease.condemned ≡ false → z.requests.asked ≡ None →
         now.0 < z.lease.date.0 + k.renew + gap)
         (numbers : (a : Association) → Has a st.associations → Numbers (λ m. Has m ms) c a.server a.life.0 (view a.session))
@@ -929,12 +1004,22 @@ module _ (k : Config) (c : ClientId) (s : ServerId) (gap d : ℕ) (fits : longes
         a.server.0 ≡ b.server.0 → a ≡ b) where
       -- what is known of one
       record Phased (b : Association) : Type 0 where
+        was : Association
+        among : Has was st.associations
+        at_was : was.server ≡ s
+        walk : Walks st now i fit was b
+        lasts : is_ended st.config now was.session ≡ false
+        life : b.life ≡ was.life
+        middle : (z : ClientSession) → was.session ≡ Some z → Middle z (talks was among at_was).1.last walk.second.session
+        since : ℕ
+        same : (z v : ClientSession) → was.session ≡ Some z → b.session ≡ Some v → v.requests.next ≡ z.requests.next → since ≡ (talks was among at_was).0
         last : ℕ
+        last_is : last ≡ (talks was among at_was).1.last
         known : IsKnown c s ns n.sessions b.life.0 epoch last
         told_of : (m : Message) → Has m ns → From c s m → IsTold c s ns n.sessions b.life.0 epoch last m
         asked : (m : Message) → Has m ms → To c s m → m.header.life ≡ b.life.0 → IsAsked c s now.0 m
         greets : b.session ≡ None → (m : Message) → Has m ms → IsGreeting k c s gap d b.life.0 m → is_some b.greeting ≡ true
-        phase : Phase k c s gap d past2 ns n.sessions b.life.0 epoch last b.session
+        phase : Phase k c s gap d read delay since past2 ns n.sessions b.life.0 epoch last b.session
 
       phased : (b : Association) → Has b (cl.client_step st now i).state.associations → b.server ≡ s → Phased b
       phased b h at_b = go (walks st now i fit told b h)
@@ -942,7 +1027,17 @@ module _ (k : Config) (c : ClientId) (s : ServerId) (gap d : ℕ) (fits : longes
           go : (a : Association) × Has a st.associations × Walks st now i fit a b → Phased b
           go (a, j, walk) =
               record {
+                was = a;
+                among = j;
+                at_was = at_a;
+                walk = walk;
+                lasts = not_ended since a b walk t (young a j);
+                life = life_same;
+                middle = middle since a b walk at_a t (young a j) numbers_a numbers_b;
+                since = (phase a.session refl).0;
+                same = (phase a.session refl).2;
                 last = t.last;
+                last_is = refl;
                 known = subst (λ (l : Life). IsKnown c s ns n.sessions l.0 epoch t.last) (sym life_same)
                     (known_more c s ms ns more n.sessions a.life.0 epoch t.last t.known);
                 told_of = λ m h f. subst (λ (l : Life). IsTold c s ns n.sessions l.0 epoch t.last m) (sym life_same)
@@ -950,7 +1045,8 @@ module _ (k : Config) (c : ClientId) (s : ServerId) (gap d : ℕ) (fits : longes
                     (λ y. served_more c s ms ns more n.sessions a.life.0 epoch t.last y) m (t.told m (old_from m h f) f));
                 asked = λ m h f l. t.asked m h f (l ∙ ap (λ (y : Life). y.0) life_same);
                 greets = λ e m h g. greets e m h (subst (λ (l : Life). IsGreeting k c s gap d l.0 m) life_same g);
-                phase = subst (λ (l : Life). Phase k c s gap d past2 ns n.sessions l.0 epoch t.last b.session) (sym life_same) (phase a.session refl);
+                phase = subst (λ (l : Life). Phase k c s gap d read delay (phase a.session refl).0 past2 ns n.sessions l.0 epoch t.last b.session) (sym life_same)
+                    (phase a.session refl).1;
               }
             where
               server_first : walk.first.server ≡ a.server
@@ -963,15 +1059,18 @@ module _ (k : Config) (c : ClientId) (s : ServerId) (gap d : ℕ) (fits : longes
               at_a : a.server ≡ s
               at_a = sym (walk.works.server ∙ (taken walk.takes).0 ∙ server_first) ∙ at_b
 
-              t : Talks k c s gap d past ms n now.0 a
-              t = talks a j at_a
+              since : ℕ
+              since = (talks a j at_a).0
+
+              t : Talks k c s gap d read delay since past ms n now.0 a
+              t = (talks a j at_a).1
 
               numbers_a : Numbers (λ m. Has m ms) c s a.life.0 (view a.session)
               numbers_a = subst (λ y. Numbers (λ m. Has m ms) c y a.life.0 (view a.session)) at_a (numbers a j)
 
               -- nothing is lost, so the life stays
               kept : walk.first ≡ a
-              kept = lasts_at a b walk t (young a j)
+              kept = lasts_at since a b walk t (young a j)
 
               life_same : b.life ≡ a.life
               life_same = walk.works.life ∙ (taken walk.takes).1 ∙ ap (λ (y : Association). y.life) kept
@@ -980,9 +1079,20 @@ module _ (k : Config) (c : ClientId) (s : ServerId) (gap d : ℕ) (fits : longes
               numbers_b = subst (λ y. Numbers (λ m. Has m ns) c y a.life.0 (view b.session)) at_b
                   (subst (λ (l : Life). Numbers (λ m. Has m ns) c b.server l.0 (view b.session)) life_same (numbers2 b h))
 
-              phase : (o : Option ClientSession) → a.session ≡ o → Phase k c s gap d past2 ns n.sessions a.life.0 epoch t.last b.session
-              phase None e = without_session a b walk at_a t (young a j) numbers_a numbers_b e
-              phase (Some z) e = with_session a b walk at_a t (young a j) numbers_a numbers_b z e
+              phase : (o : Option ClientSession) → a.session ≡ o → (since2 : ℕ) ×
+                  Phase k c s gap d read delay since2 past2 ns n.sessions a.life.0 epoch t.last b.session ×
+                  ((z v : ClientSession) → a.session ≡ Some z → b.session ≡ Some v → v.requests.next ≡ z.requests.next → since2 ≡ since)
+              phase None e =
+                  let y = without_session since a b walk at_a t (young a j) numbers_a numbers_b e in (y.0, y.1, λ z v f. absurd (no (sym e ∙ f)))
+                where
+                  no : {z : ClientSession} → ◌≡◌ {A = Option ClientSession} None (Some z) → ⊥
+                  no r = cc
+              phase (Some z) e =
+                  let y = with_session since a b walk at_a t (young a j) numbers_a numbers_b z e in (
+                    y.since2,
+                    y.phase,
+                    λ w v f g h. y.same v g (h ∙ ap (λ (x : ClientSession). x.requests.next) (some_is (sym f ∙ e))),
+                  )
 
               greets : b.session ≡ None → (m : Message) → Has m ms → IsGreeting k c s gap d a.life.0 m → is_some b.greeting ≡ true
               greets e m h g = by a.session refl
@@ -994,8 +1104,8 @@ module _ (k : Config) (c : ClientId) (s : ServerId) (gap d : ℕ) (fits : longes
                       no r = cc
 
                   by : (o : Option ClientSession) → a.session ≡ o → is_some b.greeting ≡ true
-                  by None f = greets_on a b walk at_a t (young a j) numbers_a numbers_b f e (t.greets f m h g)
-                  by (Some z) f = absurd (none_of e (stays_session a b walk at_a t (young a j) numbers_a numbers_b z f).1)
+                  by None f = greets_on since a b walk at_a t (young a j) numbers_a numbers_b f e (t.greets f m h g)
+                  by (Some z) f = absurd (none_of e (stays_session since a b walk at_a t (young a j) numbers_a numbers_b z f).1)
 
       -- why the step sent a message to the server
       asked_new : (b : Association) → Has b (cl.client_step st now i).state.associations → b.server ≡ s → (m : Message) →
@@ -1014,8 +1124,8 @@ module _ (k : Config) (c : ClientId) (s : ServerId) (gap d : ℕ) (fits : longes
               cause : SentBy r m → IsAsked c s now.0 m
               cause (ByGreeting e none g) = Greets e (let u = z.stamp (ap dating.is_request e) in omega (arith, u))
               cause (ByRequest u o e f number body) =
-                  let p = subst (Phase k c s gap d past2 ns n.sessions r.life.0 epoch ph.last) e ph.phase in
-                  let a = subst (Requested k c s gap d past2 ns r.life.0 epoch ph.last u.lease.date.0 u.requests.next) f p.requests in
+                  let p = subst (Phase k c s gap d read delay ph.since past2 ns n.sessions r.life.0 epoch ph.last) e ph.phase in
+                  let a = subst (Requested k c s gap d read delay ph.since past2 ns r.life.0 epoch ph.last u.lease.date.0 u.requests.next) f p.requests in
                   let served : is_served m.body ≡ true = ap is_served body ∙ a.served in
                   let pos = (subst (Given u.requests.next) f (subst (λ o. Counts (view o)) e (numbers2 r j).counts).1).0 in
                   Requests (omega (arith, number, pos)) served (let v = z.stamp (served_request m.body served) in omega (arith, v))
@@ -1025,15 +1135,28 @@ module _ (k : Config) (c : ClientId) (s : ServerId) (gap d : ℕ) (fits : longes
           go (inr (r, j, q)) = by r j q
 
       -- what is known after the step
-      pub client_talks : (b : Association) → Has b (cl.client_step st now i).state.associations → b.server ≡ s → Talks k c s gap d past2 ns n now.0 b
+      pub client_talks : (b : Association) → Has b (cl.client_step st now i).state.associations → b.server ≡ s →
+          TalksOn k c s gap d read delay past past2 ms ns n now st i fit talks b
       client_talks b h at_b =
           record {
-            last = p.last;
-            known = p.known;
-            told = p.told_of;
-            asked = λ m j f l. asked m f l (new m j);
-            greets = λ e m j g. greets e m g (new m j);
-            phase = p.phase;
+            was = p.was;
+            among = p.among;
+            at_was = p.at_was;
+            walk = p.walk;
+            lasts = p.lasts;
+            life = p.life;
+            middle = p.middle;
+            since = p.since;
+            same = p.same;
+            known = record {
+              last = p.last;
+              known = p.known;
+              told = p.told_of;
+              asked = λ m j f l. asked m f l (new m j);
+              greets = λ e m j g. greets e m g (new m j);
+              phase = p.phase;
+            };
+            last_is = p.last_is;
           }
         where
           p : Phased b
@@ -1063,9 +1186,9 @@ module _ (k : Config) (c : ClientId) (s : ServerId) (gap d : ℕ) (fits : longes
                   let at_r : r.server ≡ s = ap (λ i. record { 0 = i }) (let u1 = q.to in let w = g.way.to in let y : r.server.0 ≡ s.0 = omega (arith, u1, w)
                   in y) in
                   let ph = phased r j at_r in
-                  let p2 = subst (Phase k c s gap d past2 ns n.sessions r.life.0 epoch ph.last) f ph.phase in
-                  let a = subst (Requested k c s gap d past2 ns r.life.0 epoch ph.last u.lease.date.0 u.requests.next) e2 p2.requests in
-                  absurd (clash (is_served o.body) a.served (ap is_served (sym body ∙ g.body)))
+                  let p2 = subst (Phase k c s gap d read delay ph.since past2 ns n.sessions r.life.0 epoch ph.last) f ph.phase in
+                  let a = subst (Requested k c s gap d read delay ph.since past2 ns r.life.0 epoch ph.last u.lease.date.0 u.requests.next) e2 p2.requests in
+                  absurd (not_both (is_served o.body) a.served (ap is_served (sym body ∙ g.body)))
 
               go : IsSeen m.body ⊎ ((r : Association) × Has r (cl.client_step st now i).state.associations × IsSentBy r m) → is_some b.greeting ≡ true
               go (inl f) = absurd (hello_seen m.body g.body f)

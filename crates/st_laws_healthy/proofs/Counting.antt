@@ -1,36 +1,23 @@
 -- A reply that counts ends the outstanding request, and the lease is dated no earlier than its stamp.
-use Rattle.std.proofs.Common.{◌≡◌, ℕ, ◌≤◌, Bool, true, false, ◌==◌, refl, sym, ap, ◌∙◌, subst, arith}
-use Rattle.std.specs.Prelude.{◌&&◌, if◌then◌else◌, not, nat_lt, Option, Some, None}
-use Rattle.std.proofs.lemmas.Bool.{eq-eqb, eqb-true, ltb-false, ltb-true}
-use Rattle.st_base.specs.declared.ids.GrantNo.{GrantNo}
-use Rattle.st_base.specs.declared.ids.Stamp.{Stamp}
-use Rattle.st_base.specs.declared.mode.Mode.{Mode}
+use Rattle.st_lemmas.proofs.Words
+use Words.{◌≡◌, ℕ, ◌≤◌, Bool, true, false, ◌==◌, refl, sym, ap, ◌∙◌, subst, arith, ◌&&◌, if◌then◌else◌, not, nat_lt, Option, Some, None, eq-eqb, eqb-true}
+use Words.{ltb-false, ltb-true, GrantNo, Stamp, Mode, PageNo, AppAnswer, NameReply, Header, Body, Why, HeldLock, Request}
+use Words.modes
+use Words.answers
+use Words.replies.{Ino}
+use Words.bodies
+use Words.why
+use Words.ClientLease as lease
+use Words.ClientReplies as cr
+use Words.ClientLocks as locks
+use Words.ClientState.{ClientSession, Requests, Turn, answer_each, asks_cut_or_remove, file_asked, fits, forget_wait, is_asked, is_refusal, page_asked}
+use Words.ClientState.{reasserts, with_cache, with_release}
+use Words.Lookups.{some_is}
+use Words.Tables.{and_both, and_true, cond_either}
+use Words.Truth.{not_both}
 use Rattle.st_base.specs.Mode.{covers}
-use Rattle.st_base.specs.declared.ids.PageNo.{PageNo}
-use Rattle.st_base.specs.declared.mode.Mode.TheVariants as modes
-use Rattle.st_messages.specs.declared.answer.AppAnswer.{AppAnswer}
-use Rattle.st_messages.specs.declared.answer.AppAnswer.TheVariants as answers
-use Rattle.st_messages.specs.declared.message.NameReply.{NameReply}
-use Rattle.st_messages.specs.declared.message.NameReply.TheVariants.{Ino}
-use Rattle.st_messages.specs.declared.message.Header.{Header}
-use Rattle.st_messages.specs.declared.message.Body.{Body}
-use Rattle.st_messages.specs.declared.message.Body.TheVariants as bodies
-use Rattle.st_messages.specs.declared.message.Why.{Why}
-use Rattle.st_messages.specs.declared.message.Why.TheVariants as why
-use Rattle.st_rules.specs.declared.client.HeldLock.{HeldLock}
-use Rattle.st_rules.specs.declared.client.Request.{Request}
-use Rattle.st_rules.specs.ClientLease as lease
-use Rattle.st_rules.specs.ClientReplies as cr
-use Rattle.st_rules.specs.ClientLocks as locks
-use Rattle.st_rules.specs.ClientState.{ClientSession, Requests, Turn, answer_each, asks_cut_or_remove, file_asked, fits, forget_wait, is_asked, is_refusal, page_asked, reasserts, with_cache, with_release}
-use Rattle.st_lemmas.proofs.Lookups.{some_is}
-use Rattle.st_lemmas.proofs.Tables.{and_both, and_true, cond_either}
+use Rattle.st_laws_healthy.proofs.Queues.{Longer, More, Same, longer_then}
 use Rattle.st_laws_healthy.proofs.Replies.{counts_for, is_mild}
-
--- a test does not pass and fail
-pub clash : (b : Bool) → b ≡ true → b ≡ false → ⊥
-clash true e f = cc
-clash false e f = cc
 
 -- a renewed lease is dated no earlier than the stamp, where it is not condemned, and no earlier than before
 pub renewed_date : (stamp : Stamp) (l : lease.ClientLease) → l.condemned ≡ false →
@@ -58,6 +45,7 @@ pub record IsEnded (s : ClientSession) (stamp : ℕ) (o : Option ClientSession) 
   pub later : s.lease.date.0 ≤ session.lease.date.0
   pub sound : session.lease.condemned ≡ false
   pub due : session.due ≡ true → s.due ≡ true
+  pub releases : Longer s.releases session.releases
 
 ended_is : (s : ClientSession) (stamp : Stamp) → s.lease.condemned ≡ false → IsEnded s stamp.0 (Some (cr.ended_by stamp s))
 ended_is s stamp c = let z = renewed_date stamp s.lease c in record {
@@ -70,6 +58,7 @@ ended_is s stamp c = let z = renewed_date stamp s.lease c in record {
   later = z.1;
   sound = z.2;
   due = λ e. e;
+  releases = Same;
 }
 
 -- The effects of a reply beside ending the request leave the epoch, the requests and the lease.
@@ -78,9 +67,9 @@ module _ (s : ClientSession) (stamp : Stamp) where
   E t = IsEnded s stamp.0 t.here.session
 
   -- a session that differs elsewhere
-  same : (u v : ClientSession) → v.epoch ≡ u.epoch → v.requests ≡ u.requests → v.lease ≡ u.lease → (v.due ≡ true → u.due ≡ true) → IsEnded s stamp.0 (Some u) →
-      IsEnded s stamp.0 (Some v)
-  same u v e r l d x =
+  same : (u v : ClientSession) → v.epoch ≡ u.epoch → v.requests ≡ u.requests → v.lease ≡ u.lease → (v.due ≡ true → u.due ≡ true) →
+      Longer u.releases v.releases → IsEnded s stamp.0 (Some u) → IsEnded s stamp.0 (Some v)
+  same u v e r l d n x =
       let q : x.session ≡ u = some_is (sym x.is) in
       record {
         session = v;
@@ -92,6 +81,7 @@ module _ (s : ClientSession) (stamp : Stamp) where
         later = subst (λ (z : lease.ClientLease). s.lease.date.0 ≤ z.date.0) (sym (l ∙ ap (λ (z : ClientSession). z.lease) (sym q))) x.later;
         sound = ap (λ (z : lease.ClientLease). z.condemned) l ∙ ap (λ (z : ClientSession). z.lease.condemned) (sym q) ∙ x.sound;
         due = λ f. x.due (ap (λ (z : ClientSession). z.due) q ∙ d f);
+        releases = longer_then s.releases u.releases v.releases (subst (λ (z : ClientSession). Longer s.releases z.releases) q x.releases) n;
       }
 
   granted_session : (u : ClientSession) (ino : ℕ) (g : GrantNo) (mode : Mode) → IsEnded s stamp.0 (Some u) → IsEnded s stamp.0 (Some (cr.grant u ino g mode))
@@ -99,23 +89,25 @@ module _ (s : ClientSession) (stamp : Stamp) where
   granted_session u ino g mode x =
       cond_either (λ z. IsEnded s stamp.0 (Some z)) (locks.is_above_seen u.locks ino g) (cr.grant_new u ino g mode) u
       (λ e. cond_either (λ z. IsEnded s stamp.0 (Some z)) (locks.has_place u.locks ino) (cr.accept_grant u ino g mode) (cr.decline u ino g)
-      (λ f. same u (cr.accept_grant u ino g mode) refl refl refl (λ f. f) x) (λ f. same u (cr.decline u ino g) refl refl refl (λ f. f) x)) (λ e. x)
+      (λ f. same u (cr.accept_grant u ino g mode) refl refl refl (λ f. f) Same x)
+      (λ f. same u (cr.decline u ino g) refl refl refl (λ f. f) (More u.releases (record { ino = ino; g = g; to = modes.None }) Same) x)) (λ e. x)
 
   waits_session : (u : ClientSession) (ino : ℕ) (mode : Mode) (now : Stamp) → IsEnded s stamp.0 (Some u) →
       IsEnded s stamp.0 (Some (cr.wait_unless_held u ino mode now))
   unfolding cr.wait_unless_held cr.wait_told
   waits_session u ino mode now x =
       cond_either (λ z. IsEnded s stamp.0 (Some z)) (covers (locks.mode_of u.locks ino) mode) u (cr.wait_told u ino mode now) (λ e. x)
-      (λ e. same u (cr.wait_told u ino mode now) refl refl refl (λ f. f) x)
+      (λ e. same u (cr.wait_told u ino mode now) refl refl refl (λ f. f) Same x)
 
   module _ (now : Stamp) where
     stays : (t : Turn) (u : ClientSession) → t.here.session ≡ Some u → IsEnded s stamp.0 (Some u) → E t
     stays t u e x = subst (IsEnded s stamp.0) (sym e) x
 
-    c_refused : (t : Turn) (u : ClientSession) → t.here.session ≡ Some u → IsEnded s stamp.0 (Some u) → (w : Why) (a b : ℕ) (file : Option ℕ) (asked : Body) →
+    ended_after_refused : (t : Turn) (u : ClientSession) → t.here.session ≡ Some u → IsEnded s stamp.0 (Some u) →
+        (w : Why) (a b : ℕ) (file : Option ℕ) (asked : Body) →
         E (cr.refused t w a b file asked)
     unfolding cr.refused cr.leave_stuck cr.refuse_as cr.refuse_file cr.refuse_page cr.refuse_holder answer_each
-    c_refused t u e x w a b file asked = stays (cr.leave_stuck (cr.refuse_as t w a b file asked)) u (same_session w ∙ e) x
+    ended_after_refused t u e x w a b file asked = stays (cr.leave_stuck (cr.refuse_as t w a b file asked)) u (same_session w ∙ e) x
       where
         on_file : (answer : AppAnswer) (o : Option ℕ) → (cr.refuse_file t answer o).here.session ≡ t.here.session
         on_file answer None = refl
@@ -135,14 +127,15 @@ module _ (s : ClientSession) (stamp : Stamp) where
             t (λ f. refl) (λ f. refl)
         same_session w = refl
 
-    c_named : (t : Turn) (u : ClientSession) → t.here.session ≡ Some u → IsEnded s stamp.0 (Some u) → (file : Option ℕ) (reply : NameReply) →
+    ended_after_named : (t : Turn) (u : ClientSession) → t.here.session ≡ Some u → IsEnded s stamp.0 (Some u) → (file : Option ℕ) (reply : NameReply) →
         E (cr.named t u file reply)
     unfolding cr.named cr.named_as cr.removed cr.drop_held cr.drop_lock answer_each
-    c_named t u e x file reply = go (answer_each (is_asked t.here.server) (cr.name_answer reply) t) e reply
+    ended_after_named t u e x file reply = go (answer_each (is_asked t.here.server) (cr.name_answer reply) t) e reply
       where
         held : (v : Turn) (ino : ℕ) → v.here.session ≡ Some u → (o : Option HeldLock) → E (cr.drop_held v u ino o)
         held v ino f None = stays v u f x
-        held v ino f (Some l) = same u (with_release ino l.g modes.None (with_cache (locks.drop_lock u.locks ino) u)) refl refl refl (λ f. f) x
+        held v ino f (Some l) = same u (with_release ino l.g modes.None (with_cache (locks.drop_lock u.locks ino) u)) refl refl refl (λ f. f)
+            (More u.releases (record { ino = ino; g = l.g; to = modes.None }) Same) x
 
         of : (v : Turn) → v.here.session ≡ Some u → (o : Option ℕ) → E (cr.removed v u o)
         of v f None = stays v u f x
@@ -156,17 +149,17 @@ module _ (s : ClientSession) (stamp : Stamp) where
         E (cr.effect t u now reply file asked)
     unfolding cr.effect cr.granted cr.queued cr.extents cr.learn cr.acknowledged cr.reasserted answer_each
     effect_ends t u e x (bodies.Granted ino g mode) file asked = granted_session (forget_wait ino u) ino g mode
-        (same u (forget_wait ino u) refl refl refl (λ f. f) x)
+        (same u (forget_wait ino u) refl refl refl (λ f. f) Same x)
     effect_ends t u e x (bodies.Queued ino mode) file asked = waits_session u ino mode now x
     effect_ends t u e x (bodies.Extents ino rows) file asked =
         cond_either E (cr.is_current u.locks asked) (cr.learn t ino rows asked) t (λ f. stays (cr.learn t ino rows asked) u e x) (λ f. stays t u e x)
     effect_ends t u e x bodies.Ack file asked = stays (cr.acknowledged t) u e x
-    effect_ends t u e x (bodies.Named reply) file asked = c_named t u e x file reply
-    effect_ends t u e x bodies.Reasserted file asked = same u (record u { due = false }) refl refl refl (λ f. no f) x
+    effect_ends t u e x (bodies.Named reply) file asked = ended_after_named t u e x file reply
+    effect_ends t u e x bodies.Reasserted file asked = same u (record u { due = false }) refl refl refl (λ f. no f) Same x
       where
         no : ◌≡◌ {A = Bool} false true → u.due ≡ true
         no f = cc
-    effect_ends t u e x (bodies.Nack w a b) file asked = c_refused t u e x w a b file asked
+    effect_ends t u e x (bodies.Nack w a b) file asked = ended_after_refused t u e x w a b file asked
     effect_ends t u e x reply file asked = stays t u e x
 
 -- A reply under the number of the outstanding request that counts for it ends it.
@@ -190,11 +183,11 @@ module _ (t : Turn) (s : ClientSession) (now : Stamp) (h : Header) (q : Request)
 
       counts : (z : Bool) → cr.refuses_reassertion b q.body ≡ z → Ended (if z then cr.condemn t s else cr.reply_to t s now stamp_of b q.body)
       counts false e = ends
-      counts true e = absurd (clash (reasserts q.body) (and_true (is_refusal b) (reasserts q.body) e).1 plain)
+      counts true e = absurd (not_both (reasserts q.body) (and_true (is_refusal b) (reasserts q.body) e).1 plain)
 
       counting : (z : Bool) → cr.is_counting h.number b q ≡ z → Ended (if z then cr.count_reply t s now stamp_of b q.body else t)
       counting true e = counts (cr.refuses_reassertion b q.body) refl
-      counting false e = absurd (clash (cr.is_counting h.number b q) (and_both (q.number == h.number) (fits b q.body) (eq-eqb q.number h.number number) f) e)
+      counting false e = absurd (not_both (cr.is_counting h.number b q) (and_both (q.number == h.number) (fits b q.body) (eq-eqb q.number h.number number) f) e)
 
   of_epoch_ends : (b : Body) → 1 ≤ h.number → counts_for q.body b ≡ true → Ended (cr.of_epoch t s now h b)
   unfolding cr.of_epoch cr.grant_or_reply
@@ -221,4 +214,4 @@ module _ (t : Turn) (s : ClientSession) (now : Stamp) (h : Header) (q : Request)
       cond_either Ended (cr.is_received t now h) (cr.by_session t now h b t.here.session) t
       (λ f. subst (λ o. Ended (cr.by_session t now h b o)) (sym e)
       (cond_either Ended (h.epoch == s.epoch.0) (cr.of_epoch t s now h b) (cr.of_other_epoch t s (record { 0 = h.epoch }) b) (λ g. of_epoch_ends b l k)
-      (λ g. absurd (clash (h.epoch == s.epoch.0) (eq-eqb h.epoch s.epoch.0 ep) g)))) (λ f. absurd (clash (cr.is_received t now h) r f))
+      (λ g. absurd (not_both (h.epoch == s.epoch.0) (eq-eqb h.epoch s.epoch.0 ep) g)))) (λ f. absurd (not_both (cr.is_received t now h) r f))

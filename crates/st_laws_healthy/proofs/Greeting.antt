@@ -1,28 +1,22 @@
 -- A greeting in a client's present life, outside grace, at a server that does not suspect the client: it is welcome, and its session lives. And a demand
 -- that was seen changes no session, and is not answered.
-use Rattle.std.proofs.Common.{◌≡◌, ℕ, ◌<◌, ◌⊎◌, Bool, true, false, [], ◌∷◌, ◌++◌, ◌==◌, refl, sym, ap, subst, inl, inr, arith}
-use Rattle.std.specs.Prelude.{nat_le, nat_lt, not, is_some, Option, Some, None}
-use Rattle.std.proofs.lemmas.Bool.{eq-eqb, leb-true, ltb-true}
-use Rattle.st_base.specs.declared.ids.ClientId.{ClientId}
-use Rattle.st_base.specs.declared.ids.GrantNo.{GrantNo}
-use Rattle.st_base.specs.declared.ids.Stamp.{Stamp}
-use Rattle.st_messages.specs.declared.message.Header.{Header}
-use Rattle.st_messages.specs.declared.message.Body.TheVariants as bd
-use Rattle.st_rules.specs.declared.authority.Suspect.{Suspect}
-use Rattle.st_rules.specs.declared.sessions.Session.{Session}
-use Rattle.st_rules.specs.declared.sessions.SessionState.TheVariants.{Live}
-use Rattle.st_rules.specs.declared.sessions.Hello.TheVariants as hellos
-use Rattle.st_rules.specs.Authority as authority
-use Rattle.st_rules.specs.Authority.{Authority, may_ack}
-use Rattle.st_rules.specs.Locks as locks
-use Rattle.st_rules.specs.Server as sv
-use Rattle.st_rules.specs.Server.{ServerTurn}
-use Rattle.st_rules.specs.Sessions as sessions
-use Rattle.st_lemmas.proofs.Tables.{cond_either}
+use Rattle.st_lemmas.proofs.Words
+use Words.{◌≡◌, ℕ, ◌<◌, ◌⊎◌, Bool, true, false, [], ◌∷◌, ◌++◌, ◌==◌, refl, sym, ap, subst, inl, inr, arith, nat_le, nat_lt, not, is_some, Option, Some, None}
+use Words.{eq-eqb, leb-true, ltb-true, ClientId, GrantNo, Stamp, Header, Suspect, Session}
+use Words.bodies as bd
+use Words.states.{Live}
+use Words.hellos
+use Words.Authority as authority
+use Words.Authority.{Authority, may_ack}
+use Words.Locks as locks
+use Words.Server as sv
+use Words.Server.{ServerTurn}
+use Words.Sessions as sessions
+use Words.Tables.{cond_either}
+use Words.Truth.{not_both}
 use Rattle.st_laws_refine.proofs.Server.Changes.{session_own}
-use Rattle.st_laws_healthy.proofs.Sparing.{not_free}
-use Rattle.st_laws_healthy.proofs.Counting.{clash}
 use Rattle.st_laws_healthy.proofs.Serving.{reply_in}
+use Rattle.st_laws_waits.proofs.Robbing.{not_free}
 
 -- whoever isn't a suspect has no timer
 pub no_timer : (a : Authority) (c : ClientId) → may_ack a c ≡ true → authority.started a c ≡ None
@@ -30,7 +24,7 @@ no_timer a c e = go (authority.suspect_of a c) refl
   where
     go : (o : Option Suspect) → authority.suspect_of a c ≡ o → authority.started a c ≡ None
     go None q = ap (λ (o : Option Suspect). Rattle.std.specs.Prelude.option_map authority.start_of o) q
-    go (Some x) q = absurd (clash (not (is_some (authority.suspect_of a c))) e (ap (λ (o : Option Suspect). not (is_some o)) q))
+    go (Some x) q = absurd (not_both (not (is_some (authority.suspect_of a c))) e (ap (λ (o : Option Suspect). not (is_some o)) q))
 
 module _ (now : Stamp) (h : Header) (t : ServerTurn) where
   -- What a welcome greeting leaves: only the welcome is said, and the sender's session is of the greeting's life, anew or as it was.
@@ -113,7 +107,7 @@ module _ (now : Stamp) (h : Header) (t : ServerTurn) where
           (λ f. replaced))))
           (λ a. cond_either G (sessions.is_past (sv.life_in h) y) (sessions.greeted hellos.Old t.state.sessions)
           (sessions.greeted hellos.Welcome (sessions.with_new_session (sv.sender h) (sv.life_in h) t.state.sessions))
-          (λ b. absurd (clash (nat_le h.life y.life.0) b (not_le h.life y.life.0 l))) (λ b. begun))
+          (λ b. absurd (not_both (nat_le h.life y.life.0) b (not_le h.life y.life.0 l))) (λ b. begun))
       old y e (inr (same, live)) =
           cond_either G (sessions.is_live y) (sessions.hello_live t.state.sessions (sv.sender h) (sv.life_in h) rows y)
           (sessions.hello_ended t.state.sessions (sv.sender h) (sv.life_in h) y)
@@ -122,8 +116,8 @@ module _ (now : Stamp) (h : Header) (t : ServerTurn) where
           (λ b. let z = ltb-true h.life y.life.0 b in absurd (omega (arith, z, same)))
           (λ b. cond_either G (h.life == y.life.0) (sessions.greeted hellos.Welcome t.state.sessions)
           (sessions.hello_higher t.state.sessions (sv.sender h) (sv.life_in h) rows)
-          (λ d. stays y e same) (λ d. absurd (clash (h.life == y.life.0) (eq-eqb h.life y.life.0 (sym same)) d))))
-          (λ a. absurd (clash (sessions.is_live y) live a))
+          (λ d. stays y e same) (λ d. absurd (not_both (h.life == y.life.0) (eq-eqb h.life y.life.0 (sym same)) d))))
+          (λ a. absurd (not_both (sessions.is_live y) live a))
 
       go : (o : Option Session) → sessions.session_of t.state.sessions (sv.sender h) ≡ o →
           G (sessions.hello_at t.state.sessions (sv.sender h) (sv.life_in h) rows o)
@@ -138,8 +132,8 @@ module _ (now : Stamp) (h : Header) (t : ServerTurn) where
   welcomed for m off below =
       cond_either F (sv.is_for t.state h) (sv.receive_from t now h bd.Hello) t
       (λ e. subst (λ o. F (sv.by_suspicion t now h bd.Hello o)) (sym (no_timer t.state.authority (sv.sender h) m))
-      (cond_either F (sv.in_grace t now) (sv.refuse_in_grace t h) (sv.greet t now h) (λ g. absurd (clash (sv.in_grace t now) g off))
-      (λ g. at_sessions m below (locks.has_rows t.state.locks (sv.sender h))))) (λ e. absurd (clash (sv.is_for t.state h) for e))
+      (cond_either F (sv.in_grace t now) (sv.refuse_in_grace t h) (sv.greet t now h) (λ g. absurd (not_both (sv.in_grace t now) g off))
+      (λ g. at_sessions m below (locks.has_rows t.state.locks (sv.sender h))))) (λ e. absurd (not_both (sv.is_for t.state h) for e))
     where
       F : ServerTurn → Type 0
       F u = Free u → IsWelcome u

@@ -1,52 +1,41 @@
 -- What an event does to one client and one server: one of the two steps, or neither does, or one of them does not run before it or after it.
-use Rattle.std.proofs.Common.{◌≡◌, ◌≢◌, ℕ, ◌+◌, ◌≤◌, ◌⊎◌, Bool, true, false, List, Option, Some, None, Ok, Err, refl, sym, ap, ◌∙◌, subst, inl, inr, arith, if◌then◌else◌}
-use Rattle.std.specs.Prelude.{◌-◌, map, nat_le, length}
-use Rattle.std.proofs.lemmas.Bool.{le-leb, leb-true}
-use Rattle.st_base.specs.declared.ids.ClientId.{ClientId}
-use Rattle.st_base.specs.declared.ids.ServerId.{ServerId}
-use Rattle.st_base.specs.declared.ids.Stamp.{Stamp}
-use Rattle.st_base.specs.declared.ids.NodeId.{NodeId}
-use Rattle.st_base.specs.declared.ids.NodeId.TheVariants as nodes
-use Rattle.st_messages.specs.declared.ask.Ask.{Ask}
-use Rattle.st_messages.specs.declared.message.Message.{Message}
-use Rattle.st_messages.specs.declared.event.Event.{Event}
-use Rattle.st_messages.specs.declared.event.Event.TheVariants as events
-use Rattle.st_messages.specs.declared.output.Output.{Output}
-use Rattle.st_messages.specs.declared.output.Output.TheVariants as outputs
-use Rattle.st_rules.specs.declared.client.ClientInput.{ClientInput}
-use Rattle.st_rules.specs.declared.client.ClientInput.TheVariants as inputs
-use Rattle.st_rules.specs.declared.input.ServerInput.{ServerInput}
-use Rattle.st_rules.specs.declared.input.ServerInput.TheVariants as serving
+use Rattle.st_lemmas.proofs.Words
+use Words.{◌≡◌, ◌≢◌, ℕ, ◌+◌, ◌≤◌, ◌⊎◌, Bool, true, false, List, Option, Some, None, Ok, Err, refl, sym, ap, ◌∙◌, subst, inl, inr, arith, if◌then◌else◌, ◌-◌}
+use Words.{length, map, pred, nat_le, le-leb, leb-true, ClientId, ServerId, Stamp, NodeId, Ask, Message, Event, Output, ClientInput, ServerInput, IssuedCommand, SentMessage}
+use Words.nodes
+use Words.events
+use Words.outputs
+use Words.inputs
+use Words.serving
+use Words.seen
+use Words.refusals
+use Words.Keys.{client, server_node}
+use Words.Admissible as adm
+use Words.Client as cl
+use Words.ClientState.{ClientTurn}
+use Words.Events as ev
+use Words.Events.{WorldTurn, world_step}
+use Words.History.{Traced}
+use Words.Server as server
+use Words.Server.{ServerNode}
+use Words.Safety.{Step}
+use Words.World as world
+use Words.World.{World, WorldClient, clock_of, node_of, numbered, site_of, with_numbered}
+use Words.Lists.{Has}
+use Words.Lookups.{some_is}
+use Words.Numbers.{numbered_below, numbered_has, numbered_other, numbered_own, set_length}
+use Words.Tables.{has_map_in, same_or_not}
+use Words.Worlds.{stands_not}
 use Rattle.st_rules.specs.declared.node.StepRefusal.TheVariants.{Crashed}
-use Rattle.st_rules.specs.declared.observation.Observation.TheVariants as seen
-use Rattle.st_rules.specs.declared.observation.WorldRefusal.TheVariants as refusals
-use Rattle.st_rules.specs.declared.world.IssuedCommand.{IssuedCommand}
-use Rattle.st_rules.specs.declared.world.SentMessage.{SentMessage}
-use Rattle.st_rules.specs.Keys.{client, server_node}
-use Rattle.st_rules.specs.Admissible as adm
-use Rattle.st_rules.specs.Client as cl
-use Rattle.st_rules.specs.ClientState.{ClientTurn}
-use Rattle.st_rules.specs.Events as ev
-use Rattle.st_rules.specs.Events.{WorldTurn, world_step}
-use Rattle.st_rules.specs.History.{Traced}
-use Rattle.st_rules.specs.Server as server
-use Rattle.st_rules.specs.Server.{ServerNode}
-use Rattle.st_rules.specs.Safety.{Step}
-use Rattle.st_rules.specs.World as world
-use Rattle.st_rules.specs.World.{World, WorldClient, clock_of, node_of, numbered, site_of, with_numbered}
-use Rattle.st_lemmas.specs.Lists.{Has}
-use Rattle.st_lemmas.proofs.Lookups.{some_is}
-use Rattle.st_lemmas.proofs.Numbers.{numbered_below, numbered_has, numbered_other, numbered_own}
 use Rattle.st_lemmas.proofs.Steps.{step_happens}
-use Rattle.st_lemmas.proofs.Tables.{has_map_in, same_or_not}
 use Rattle.st_laws_refine.proofs.Server.Delivery.{all_parts}
 use Rattle.st_laws_pages.proofs.Lives.Lasting.{flush_parts}
 use Rattle.st_laws_leases.specs.Dates.Dates.{Dated, Runs, message_in, messages}
 use Rattle.st_laws_leases.proofs.Dates.Leaving.{Leaves, client_leaves, leaves_from, lost_same, server_leaves, server_not_client}
 use Rattle.st_laws_leases.proofs.Dates.Receiving.{Comes, Ever, Held, ever_on, step_held}
-use Rattle.st_laws_leases.proofs.Dates.SentMessages.{server_said}
+use Rattle.st_laws_leases.proofs.Dates.SentMessages.{client_said, server_said}
 use Rattle.st_laws_leases.proofs.Dates.Serving.{AnswersTo, P, step_good}
-use Rattle.st_laws_leases.proofs.Sides.Fold.{not_stands, second_none}
+use Rattle.st_laws_leases.proofs.Sides.Fold.{second_none}
 use Rattle.st_laws_lasting.specs.Lasting.{client_clock}
 use Rattle.st_laws_lasting.proofs.Young.{after_clocks, later_at}
 
@@ -140,12 +129,15 @@ module _ (past : List Step) (t : Traced) (d : Dated past t) (c : ClientId) (s : 
         site_of t.world c ≡ Some old →
         Brings t.world e c.0 i → Deaf t.world e (server_node s) → site_of sc.world c ≡ Some
         (ev.at_node (record site.node { state = (cl.client_step site.node.state now i).state }) site) →
-        node_of sc.world s ≡ node_of t.world s → client_clock c sc.world ≡ client_clock c t.world → NewFrom sc (cl.client_step site.node.state now i).out →
-        ((m : Message) → Has (outputs.Send m) (cl.client_step site.node.state now i).out → m.header.from ≡ c.0) → Happened sc
+        node_of sc.world s ≡ node_of t.world s → sc.world.clocks ≡ t.world.clocks → length sc.world.clients ≡ length t.world.clients →
+        NewFrom sc (cl.client_step site.node.state now i).out →
+        ((m : Message) → Has (outputs.Send m) (cl.client_step site.node.state now i).out → m.header.from ≡ c.0) →
+        ((m : Message) → Has (outputs.Send m) (cl.client_step site.node.state now i).out → (n : ℕ) × Has (seen.Sent n m) sc.seen) → Happened sc
     ServerSteps : (old : ServerNode) (i : ServerInput) → node_of t.world s ≡ Some old → BringsServer t.world e (server_node s) i → Deaf t.world e c.0 →
         node_of sc.world s ≡ Some (record old { state = (server.server_step old.state (clock_of t.world (nodes.Server s)) i).state }) →
         site_of sc.world c ≡ site_of t.world c →
-        client_clock c sc.world ≡ client_clock c t.world → NewFrom sc (server.server_step old.state (clock_of t.world (nodes.Server s)) i).out →
+        sc.world.clocks ≡ t.world.clocks → length sc.world.clients ≡ length t.world.clients →
+        NewFrom sc (server.server_step old.state (clock_of t.world (nodes.Server s)) i).out →
         ((m : Message) → Has (outputs.Send m) (server.server_step old.state (clock_of t.world (nodes.Server s)) i).out → m.header.from ≡ server_node s) →
         ((m : Message) → Has (outputs.Send m) (server.server_step old.state (clock_of t.world (nodes.Server s)) i).out →
         (n : ℕ) × Has (seen.Sent n m) sc.seen) → Happened sc
@@ -206,10 +198,19 @@ module _ (past : List Step) (t : Traced) (d : Dated past t) (c : ClientId) (s : 
       l : Leaves (messages t.world) a.world last u.out
       l = client_leaves (messages t.world) x site.node.state node.state u.out a before
 
+      same_clocks : last.clocks ≡ t.world.clocks
+      same_clocks = (flush_parts x node.state (world.all_servers b.world) b.world).clocks ∙ after_clocks x site.node.state u.out a ∙ clocks
+
       clock : client_clock c last ≡ client_clock c t.world
-      clock =
-          ap (λ ts. (Rattle.std.specs.Prelude.unwrap_or (numbered ts c.0) (world.stamp 0)).0)
-          ((flush_parts x node.state (world.all_servers b.world) b.world).clocks ∙ after_clocks x site.node.state u.out a ∙ clocks)
+      clock = ap (λ ts. (Rattle.std.specs.Prelude.unwrap_or (numbered ts c.0) (world.stamp 0)).0) same_clocks
+
+      many : length last.clients ≡ length t.world.clients
+      many =
+          ap (λ z. length z) (l.clients ∙ ap (λ z. with_numbered x.0 (ev.at_node node site) z) cs)
+          ∙ set_length t.world.clients (pred x.0) (ev.at_node node site)
+
+      told : (m : Message) → Has (outputs.Send m) u.out → (n : ℕ) × Has (seen.Sent n m) b.seen
+      told m h = (client_said x site.node.state u.out a).told m h
 
       sites : (y : ℕ) → numbered last.clients y ≡ numbered (with_numbered x.0 (ev.at_node node site) t.world.clients) y
       sites y = ap (λ z. numbered z y) (l.clients ∙ ap (λ z. with_numbered x.0 (ev.at_node node site) z) cs)
@@ -226,7 +227,7 @@ module _ (past : List Step) (t : Traced) (d : Dated past t) (c : ClientId) (s : 
           (λ n. (Rattle.std.specs.Prelude.unwrap_or (numbered t.world.clocks n) (world.stamp 0)).0) q) same
           (ap (numbered t.world.clients) (sym q) ∙ at) (subst (λ n. Brings t.world e n i) q brings) deaf_server
           (sites c.0 ∙ ap (λ n. numbered (with_numbered x.0 (ev.at_node node site) t.world.clients) n) (sym q) ∙ numbered_own t.world.clients x.0
-          (ev.at_node node site) old at) servers clock new (λ m h. from_client x now i old site same at k m h ∙ q)
+          (ev.at_node node site) old at) servers same_clocks many new (λ m h. from_client x now i old site same at k m h ∙ q) told
 
       other : x.0 ≢ c.0 → Happened (ev.world_turn last b.seen)
       other ne =
@@ -274,8 +275,11 @@ module _ (past : List Step) (t : Traced) (d : Dated past t) (c : ClientId) (s : 
     leaves : Leaves (messages t.world) left.world b.world took.out
     leaves = server_leaves x took.out left
 
+    clocks2 : b.world.clocks ≡ t.world.clocks
+    clocks2 = (all_parts x took.out left).clocks
+
     clock2 : client_clock c b.world ≡ client_clock c t.world
-    clock2 = ap (λ ts. (Rattle.std.specs.Prelude.unwrap_or (numbered ts c.0) (world.stamp 0)).0) (all_parts x took.out left).clocks
+    clock2 = ap (λ ts. (Rattle.std.specs.Prelude.unwrap_or (numbered ts c.0) (world.stamp 0)).0) clocks2
 
     sites2 : site_of b.world c ≡ site_of t.world c
     sites2 = ap (λ z. numbered z c.0) leaves.clients
@@ -286,7 +290,7 @@ module _ (past : List Step) (t : Traced) (d : Dated past t) (c : ClientId) (s : 
     -- what it sends is from it
     from_server : old.running ≡ true → (m : Message) → Has (outputs.Send m) took.out → m.header.from ≡ server_node x
     from_server run m h =
-        let good : P t.world x t.history.timers (AnswersTo i) took =
+        let good : P t.world x t.history.timers old.state.authority (clock_of t.world (nodes.Server x)) (AnswersTo i) took =
         step_good t.world x t.history.timers old.state (clock_of t.world (nodes.Server x)) i (d.servers x old at)
         (λ y j q. let z = d.timers y j in
         subst (λ (n : ServerNode). Runs n.state.authority y.client) (some_is (sym z.is ∙ ap (numbered t.world.servers) q ∙ at)) z.on)
@@ -328,7 +332,7 @@ module _ (past : List Step) (t : Traced) (d : Dated past t) (c : ClientId) (s : 
       go : (r : Bool) → old.running ≡ r → Happened (ev.server_took w s (if r then Ok (server.node_turn old (took s i old at)) else Err Crashed))
       go true r =
           ServerSteps old i at brings deaf (ap (λ z. numbered z s.0) (leaves s i old at).servers ∙ numbered_own t.world.servers s.0 next old at)
-          (sites2 s i old at) (clock2 s i old at)
+          (sites2 s i old at) (clocks2 s i old at) (ap length (leaves s i old at).clients)
           (new2 s i old at) (from_server s i old at r) (λ m h. (server_said s (took s i old at).out (left s i old at)).told m h)
       go false r = IsBroken (λ p z. clash old.running (p.servers old at) r)
         where
@@ -591,7 +595,7 @@ module _ (past : List Step) (t : Traced) (d : Dated past t) (c : ClientId) (s : 
   -- what is frozen may start
   off : (x : NodeId) → adm.refusal t.world (events.Start x) ≡ None → world.is_running t.world x ≡ false
   unfolding adm.refusal
-  off x r = not_stands (world.is_running t.world x) (refusals.Running x) (second_none (adm.no_node t.world x) (adm.still_running t.world x) r)
+  off x r = stands_not (world.is_running t.world x) (refusals.Running x) (second_none (adm.no_node t.world x) (adm.still_running t.world x) r)
 
   happens : (x : Event) → e ≡ x → adm.refusal t.world x ≡ None → Happened (ev.happens w x)
   unfolding ev.happens ev.ticks ev.crashes ev.starts ev.advances ev.effects ev.marks

@@ -1,17 +1,12 @@
 -- An association without a session hears a message: a welcome that is in time begins a session, and all else passes it by.
-use Rattle.std.proofs.Common.{◌≡◌, ◌≤◌, Bool, true, false, ◌==◌, Some, None, refl, sym, subst}
-use Rattle.std.specs.Prelude.{◌&&◌, nat_le}
-use Rattle.std.proofs.lemmas.Bool.{eq-eqb, eqb-true, leb-true, le-leb}
-use Rattle.st_base.specs.declared.ids.Stamp.{Stamp}
-use Rattle.st_messages.specs.declared.message.Header.{Header}
-use Rattle.st_messages.specs.declared.message.Body.{Body}
-use Rattle.st_messages.specs.declared.message.Body.TheVariants as bodies
-use Rattle.st_messages.specs.declared.message.Why.{Why}
-use Rattle.st_messages.specs.declared.message.Why.TheVariants as why
-use Rattle.st_rules.specs.ClientReplies as cr
-use Rattle.st_rules.specs.ClientState.{Turn}
-use Rattle.st_rules.specs.Keys.{server_node}
-use Rattle.st_lemmas.proofs.Tables.{and_both, and_true, cond_either}
+use Rattle.st_lemmas.proofs.Words
+use Words.{◌≡◌, ◌≤◌, Bool, true, false, ◌==◌, Some, None, refl, sym, subst, ◌&&◌, nat_le, eq-eqb, eqb-true, leb-true, le-leb, Stamp, Header, Body, Why}
+use Words.bodies
+use Words.why
+use Words.ClientReplies as cr
+use Words.ClientState.{Turn}
+use Words.Keys.{server_node}
+use Words.Tables.{and_both, and_true, cond_either}
 use Rattle.st_laws_healthy.proofs.Receiving.{is_calm}
 use Rattle.st_laws_healthy.proofs.Replies.{counts_for}
 

@@ -1,40 +1,31 @@
 -- Leases last, over whole runs: what is known of a healthy client's associations with its server holds after every event, so a lease is never as old as the
 -- bound.
-use Rattle.std.proofs.Common.{◌≡◌, ℕ, ◌+◌, ◌*◌, ◌≤◌, ◌<◌, ◌⊎◌, Bool, true, false, List, [], ◌∷◌, ◌++◌, Option, Some, None, Ok, refl, sym, ap, ◌∙◌, subst, inl, inr, arith}
-use Rattle.std.specs.Prelude.{is_some, map, max}
-use Rattle.std.specs.List.{list_all}
+use Rattle.st_lemmas.proofs.Words
+use Words.{◌≡◌, ℕ, ◌+◌, ◌*◌, ◌≤◌, ◌<◌, ◌⊎◌, Bool, true, false, List, [], ◌∷◌, ◌++◌, Option, Some, None, Ok, refl, sym, ap, ◌∙◌, subst, inl, inr, arith, is_some}
+use Words.{length, map, unwrap_or, eqb-true, lt-ltb, Config, ClientId, ServerId, Stamp, Event, Message, ClientInput, Request, ServerInput, Session}
+use Words.nodes
+use Words.outputs
+use Words.seen
+use Words.inputs
+use Words.Authority.{may_ack}
+use Words.Client as cl
+use Words.ClientState.{Association, ClientSession, ClientState}
+use Words.Events.{WorldTurn, world_step}
+use Words.Extents.{numbers}
+use Words.History.{Traced, traced, traced_after}
+use Words.Keys.{server_node}
+use Words.Safety.{IsHead, Step, is_event, step}
+use Words.Server as server
+use Words.Server.{ServerNode}
+use Words.Sessions as sessions
+use Words.World.{World, WorldClient, clock_of, fresh_site, fresh_world, node_at_start, node_of, numbered, site_of, stamp}
+use Words.Lists.{Has}
+use Words.Lookups.{some_is}
+use Words.Numbers.{numbered_below}
+use Words.Tables.{has_map, has_map_in}
+use Words.Truth.{not_both}
 use Rattle.std.proofs.Math.Nat.{le-max_left}
-use Rattle.std.proofs.lemmas.Bool.{eqb-true, lt-ltb}
-use Rattle.st_base.specs.declared.config.Config.{Config}
-use Rattle.st_base.specs.declared.ids.ClientId.{ClientId}
-use Rattle.st_base.specs.declared.ids.ServerId.{ServerId}
-use Rattle.st_base.specs.declared.ids.Stamp.{Stamp}
-use Rattle.st_base.specs.declared.ids.NodeId.TheVariants as nodes
-use Rattle.st_messages.specs.declared.event.Event.{Event}
-use Rattle.st_messages.specs.declared.message.Message.{Message}
-use Rattle.st_messages.specs.declared.output.Output.TheVariants as outputs
-use Rattle.st_rules.specs.declared.client.ClientInput.{ClientInput}
-use Rattle.st_rules.specs.declared.client.ClientInput.TheVariants as inputs
-use Rattle.st_rules.specs.declared.client.Request.{Request}
-use Rattle.st_rules.specs.declared.input.ServerInput.{ServerInput}
-use Rattle.st_rules.specs.declared.sessions.Session.{Session}
-use Rattle.st_rules.specs.Authority.{may_ack}
-use Rattle.st_rules.specs.Client as cl
-use Rattle.st_rules.specs.ClientState.{Association, ClientSession, ClientState}
-use Rattle.st_rules.specs.Events.{WorldTurn, world_step}
-use Rattle.st_rules.specs.Extents.{numbers}
-use Rattle.st_rules.specs.History.{Traced, traced, traced_after}
-use Rattle.st_rules.specs.Keys.{server_node}
-use Rattle.st_rules.specs.Safety.{IsHead, Step, is_event, step}
-use Rattle.st_rules.specs.Server as server
-use Rattle.st_rules.specs.Server.{ServerNode}
-use Rattle.st_rules.specs.Sessions as sessions
-use Rattle.st_rules.specs.World.{World, WorldClient, clock_of, fresh_site, fresh_world, node_at_start, node_of, numbered, site_of}
-use Rattle.st_lemmas.specs.Lists.{Has}
-use Rattle.st_lemmas.proofs.Lookups.{some_is}
-use Rattle.st_lemmas.proofs.Numbers.{numbered_below}
 use Rattle.st_lemmas.proofs.Steps.{step_happens}
-use Rattle.st_lemmas.proofs.Tables.{has_map, has_map_in}
 use Rattle.st_laws_refine.specs.Server.Pair.{terms_of}
 use Rattle.st_laws_refine.specs.Server.View.{Sound}
 use Rattle.st_laws_refine.proofs.Server.Delivery.{sound_of}
@@ -51,23 +42,19 @@ use Rattle.st_laws_waits.proofs.Events.{Done, stepped}
 use Rattle.st_laws_waits.proofs.Events.Done.{Ticks, Receives, Waits, Stops, Starts}
 use Rattle.st_laws_waits.proofs.Sending.{step_same}
 use Rattle.st_laws_waits.proofs.Standing as standing
-use Rattle.st_laws_waits.proofs.Standing.{Basic, basic2, change, step_grace}
+use Rattle.st_laws_waits.proofs.Standing.{Basic, basic2, change, step_grace, node_is}
 use Rattle.st_laws_lasting.specs.Lasting.{client_clock, client_last_tick}
 use Rattle.st_laws_lasting.proofs.Young as young_ones
 use Rattle.st_laws_lasting.proofs.Young.{Ok_in, WasYoung, stand2, throughout_under}
-use Rattle.st_laws_healthy.specs.Healthy.{InHealthyRuns, IsHealthy, LeasesLast, longest}
-use Rattle.st_laws_healthy.proofs.ClientStanding.{IsNew, client_talks}
-use Rattle.st_laws_healthy.proofs.Happening.{AllRun, BothRun, Brings, ClientSteps, Delivers, Happened, IsBroken, NeitherSteps, ServerSteps, happened}
+use Rattle.st_laws_healthy.specs.Healthy.{ComeInTime, InHealthyRuns, IsHealthy, LeasesLast, longest}
+use Rattle.st_laws_healthy.proofs.ClientStanding.{IsNew, TalksOn, client_talks}
+use Rattle.st_laws_healthy.proofs.Happening.{AllRun, BothRun, Brings, BringsServer, ClientSteps, Happened, IsBroken, NeitherSteps, ServerSteps, happened}
 use Rattle.st_laws_healthy.proofs.Numbers.{keeps_number, tells_number}
 use Rattle.st_laws_healthy.proofs.Served.{IsBefore}
-use Rattle.st_laws_healthy.proofs.ServerStanding.{IsSaid, serves_on}
+use Rattle.st_laws_healthy.proofs.ServerStanding.{IsSaid, TalksNext, serves_on}
 use Rattle.st_laws_healthy.proofs.Stepping.{Told}
 use Rattle.st_laws_healthy.proofs.Talking.{HasSession, IsAsking, IsCounting, IsSilent, Phase, Requested, Talks, talks_on}
 use Rattle.st_laws_healthy.proofs.Trips.{Begun, InTime, in_time, more_began, none_began, none_flies, trip_ends}
-
-clash : (b : Bool) → b ≡ true → b ≡ false → ⊥
-clash true e f = cc
-clash false e f = cc
 
 -- associations with one server are one
 once_same : (al : List Association) → Once (map server_number al) → (a b : Association) → Has a al → Has b al → a.server.0 ≡ b.server.0 → a ≡ b
@@ -77,9 +64,10 @@ once_same (x ∷ xs) o a b (inl p) (inr j) e = absurd (o.first (server_number b)
 once_same (x ∷ xs) o a b (inr j) (inl q) e = absurd (o.first (server_number a) (has_map_in server_number xs a j) (ap server_number (sym q) ∙ sym e))
 once_same (x ∷ xs) o a b (inr i) (inr j) e = once_same xs o.rest a b i j e
 
-module _ (k : Config) (count : ℕ) (c : ClientId) (s : ServerId) (gap d : ℕ) (fits : longest k gap d ≤ k.lease) where
-  -- what holds after every event
-  pub record Stand (past : List Step) (t : Traced) : Type 0 where
+module _ (k : Config) (count : ℕ) (c : ClientId) (s : ServerId) (gap d : ℕ) (read : World → ℕ) (delay : ℕ)
+    (same_read : (v w : World) → v.clocks ≡ w.clocks → length v.clients ≡ length w.clients → read v ≡ read w) (fits : longest k gap d ≤ k.lease) where
+  -- what holds after every event, but for what is known of the client's associations
+  pub record Base (past : List Step) (t : Traced) : Type 0 where
     pub cuts : CutsHold past t
     pub dated : Dated past t
     pub basic : Basic k count s past t
@@ -90,13 +78,18 @@ module _ (k : Config) (count : ℕ) (c : ClientId) (s : ServerId) (gap d : ℕ) 
     pub ticks : (site : WorldClient) (a : Association) (z : ClientSession) → site_of t.world c ≡ Some site → Has a site.node.state.associations →
         a.session ≡ Some z →
         client_clock c t.world ≤ client_last_tick c 0 past + gap
-    pub in_time : InTime c s d past (messages t.world) (client_clock c t.world)
-    pub begun : Begun c s d past (client_clock c t.world)
-    pub talks : (site : WorldClient) (node : ServerNode) → site_of t.world c ≡ Some site → node_of t.world s ≡ Some node → (a : Association) →
-        Has a site.node.state.associations → a.server ≡ s →
-        Talks k c s gap d past (messages t.world) node.state (client_clock c t.world) a
+    pub in_time : InTime (client_clock c) c s d past (messages t.world) (client_clock c t.world)
+    pub begun : Begun (client_clock c) c s d past (client_clock c t.world)
+    pub in_time2 : InTime read c s delay past (messages t.world) (read t.world)
+    pub begun2 : Begun read c s delay past (read t.world)
 
-  module _ (past : List Step) (t : Traced) (e : Event) (sc : WorldTurn) (o : Stand past t) (ok : is_event count e ≡ true) (h : world_step t.world e ≡ Ok sc)
+  -- what is known of the client's associations with the server
+  abbrev pub AllTalk : List Step → World → Type 0
+  AllTalk past w =
+      (site : WorldClient) (node : ServerNode) → site_of w c ≡ Some site → node_of w s ≡ Some node → (a : Association) → Has a site.node.state.associations →
+      a.server ≡ s → (since : ℕ) × Talks k c s gap d read delay since past (messages w) node.state (client_clock c w) a
+
+  module _ (past : List Step) (t : Traced) (e : Event) (sc : WorldTurn) (o : Base past t) (ok : is_event count e ≡ true) (h : world_step t.world e ≡ Ok sc)
       (g : IsHealthy c s gap d past (step t e sc)) where
     abbrev x : Step
     x = step t e sc
@@ -107,33 +100,33 @@ module _ (k : Config) (count : ℕ) (c : ClientId) (s : ServerId) (gap d : ℕ) 
     abbrev M2 : List Message
     M2 = messages sc.world
 
-    cuts2 : CutsHold past2 (traced_after e t sc)
+    pub cuts2 : CutsHold past2 (traced_after e t sc)
     cuts2 = (cuts_law.one past t e sc o.cuts h).1
 
-    dated2 : Dated past2 (traced_after e t sc)
+    pub dated2 : Dated past2 (traced_after e t sc)
     dated2 = (dating_law.one past t e sc o.dated h).1
 
-    place : (1 ≤ c.0) × (c.0 ≤ 16)
+    pub place : (1 ≤ c.0) × (c.0 ≤ 16)
     place = let z = numbered_below sc.world.clients c.0 g.site g.there in let y = z.1 in let w = dated2.few in (z.0, omega (arith, y, w))
 
-    both : BothRun c s sc.world
+    pub both : BothRun c s sc.world
     both = record { site = g.site; there = g.there; runs = g.runs; node = g.node; is = g.is; up = g.up }
 
-    it : Happened past t o.dated c s place.1 e sc
+    pub it : Happened past t o.dated c s place.1 e sc
     it = happened past t o.dated c s place.1 e sc h
 
     -- what became of the messages
     next : dating_steps.Next t e sc
     next = let z = step_happens t.world e sc h in subst (λ (y : WorldTurn). dating_steps.Next t e y) (sym z.1) (dating_steps.happens past t o.dated e z.0)
 
-    more : (m : Message) → Has m (messages t.world) → Has m M2
-    more m i = next.old m i
+    pub stays_sent : (m : Message) → Has m (messages t.world) → Has m M2
+    stays_sent m i = next.old m i
 
-    keeps : (i : ℕ) (m : Message) → numbered (messages t.world) i ≡ Some m → numbered M2 i ≡ Some m
+    pub keeps : (i : ℕ) (m : Message) → numbered (messages t.world) i ≡ Some m → numbered M2 i ≡ Some m
     keeps i m q = keeps_number t.world e sc h i m q
 
     -- the server's epochs agree, and it keeps its number
-    sepoch : (node : ServerNode) → node_of t.world s ≡ Some node → node.state.sessions.epoch ≡ node.state.stable.epoch
+    pub sepoch : (node : ServerNode) → node_of t.world s ≡ Some node → node.state.sessions.epoch ≡ node.state.stable.epoch
     sepoch node at = so.sepoch
       where
         z : ServerStands (terms_of k) t.world s.0 node
@@ -144,11 +137,11 @@ module _ (k : Config) (count : ℕ) (c : ClientId) (s : ServerId) (gap d : ℕ) 
             (z.both.stands.served 1).stands
 
     -- what a step of the server leaves: its epoch, and no grace
-    record Left (node : ServerNode) : Type 0 where
-      grace : node.state.grace ≡ None
-      epoch : (old : ServerNode) → node_of t.world s ≡ Some old → node.state.stable.epoch ≡ old.state.stable.epoch
+    pub record Left (node : ServerNode) : Type 0 where
+      pub grace : node.state.grace ≡ None
+      pub epoch : (old : ServerNode) → node_of t.world s ≡ Some old → node.state.stable.epoch ≡ old.state.stable.epoch
 
-    left : (node : ServerNode) → node_of sc.world s ≡ Some node → Left node
+    pub left : (node : ServerNode) → node_of sc.world s ≡ Some node → Left node
     left node f = go (change k count s past t e sc o.basic ok h)
       where
         up : node.running ≡ true
@@ -173,8 +166,8 @@ module _ (k : Config) (count : ℕ) (c : ClientId) (s : ServerId) (gap d : ℕ) 
           epoch = λ y z. ap (λ (n : ServerNode). n.state.stable.epoch)
               (some_is (sym f ∙ same ∙ z));
         }
-        go (Stops old at q) = absurd (clash node.running up (sym (ap (λ (n : ServerNode). n.running) (some_is (sym q ∙ f)))))
-        go (Starts old at off is q clock) = absurd (clash old.running (o.runs.servers old at) off)
+        go (Stops old at q) = absurd (not_both node.running up (sym (ap (λ (n : ServerNode). n.running) (some_is (sym q ∙ f)))))
+        go (Starts old at off is q clock) = absurd (not_both old.running (o.runs.servers old at) off)
 
     young2 : Ok_in k c (client_last_tick c 0 past2) sc.world
     young2 = stand2 k c gap past t e sc o.young h
@@ -182,7 +175,7 @@ module _ (k : Config) (count : ℕ) (c : ClientId) (s : ServerId) (gap d : ℕ) 
     -- a lease without an outstanding request is young
     is_young : (last now : ℕ) → now ≤ last + gap → (z : ClientSession) → WasYoung k last (Some z) → z.lease.condemned ≡ false → z.requests.asked ≡ None →
         now < z.lease.date.0 + k.renew + gap
-    is_young last now l z (inl (inl b)) n q = absurd (clash z.lease.condemned b n)
+    is_young last now l z (inl (inl b)) n q = absurd (not_both z.lease.condemned b n)
     is_young last now l z (inl (inr b)) n q = absurd (no (sym (ap is_some q) ∙ b))
       where
         no : ◌≡◌ {A = Bool} false true → ⊥
@@ -201,28 +194,36 @@ module _ (k : Config) (count : ℕ) (c : ClientId) (s : ServerId) (gap d : ℕ) 
         (deaf_server : Rattle.st_laws_healthy.proofs.Happening.Deaf t.world e (server_node s))
         (there : site_of sc.world c ≡ Some (Rattle.st_rules.specs.Events.at_node (record site.node
         { state = (cl.client_step site.node.state now i).state }) site))
-        (nodes_same : node_of sc.world s ≡ node_of t.world s) (clock : after ≡ before)
+        (nodes_same : node_of sc.world s ≡ node_of t.world s) (clocks : sc.world.clocks ≡ t.world.clocks)
+        (many : length sc.world.clients ≡ length t.world.clients)
         (new : (m : Message) → Has m M2 → Has m (messages t.world) ⊎ Has (outputs.Send m) (cl.client_step site.node.state now i).out)
-        (from : (m : Message) → Has (outputs.Send m) (cl.client_step site.node.state now i).out → m.header.from ≡ c.0) where
-      abbrev st : ClientState
+        (from : (m : Message) → Has (outputs.Send m) (cl.client_step site.node.state now i).out → m.header.from ≡ c.0)
+        (said : (m : Message) → Has (outputs.Send m) (cl.client_step site.node.state now i).out → (n : ℕ) × Has (seen.Sent n m) sc.seen) where
+      pub clock : after ≡ before
+      clock = ap (λ ts. (unwrap_or (numbered ts c.0) (stamp 0)).0) clocks
+
+      pub other_clock1 : read sc.world ≡ read t.world
+      other_clock1 = same_read sc.world t.world clocks many
+
+      abbrev pub st : ClientState
       st = site.node.state
 
-      of_old : (P : cl.ClientNode → Type 0) → P old.node → P site.node
+      pub of_old : (P : cl.ClientNode → Type 0) → P old.node → P site.node
       of_old P p = subst P (sym same) p
 
-      running : old.node.running ≡ true
+      pub running : old.node.running ≡ true
       running = o.runs.clients old at
 
-      fit : (a : Association) → Has a st.associations → Fit a
+      pub fit : (a : Association) → Has a st.associations → Fit a
       fit = of_old (λ n. (a : Association) → Has a n.state.associations → Fit a) (o.young.stands old at).fits
 
-      config : st.config ≡ k
+      pub config : st.config ≡ k
       config = of_old (λ n. n.state.config ≡ k) (o.young.stands old at).config
 
       id_is : st.id ≡ c
       id_is = of_old (λ n. n.state.id ≡ c) (o.dated.clients c old at).id
 
-      told : Told st now i fit i
+      pub told : Told st now i fit i
       told = by i brings
         where
           by : (j : ClientInput) → Brings t.world e c.0 j → Told st now i fit j
@@ -231,13 +232,13 @@ module _ (k : Config) (count : ℕ) (c : ClientId) (s : ServerId) (gap d : ℕ) 
           by (inputs.Control m) b = b.1 ∙ ap (λ (y : ClientId). y.0) (sym id_is)
           by (inputs.Done n r) b = tt
 
-      new_one : (m : Message) → Has m M2 → Has m (messages t.world) ⊎ IsNew c x M2 now.0 (cl.client_step st now i).out m
+      pub new_one : (m : Message) → Has m M2 → Has m (messages t.world) ⊎ IsNew c x M2 now.0 (cl.client_step st now i).out m
       new_one m j = by (new m j)
         where
-          said : Has (outputs.Send m) (cl.client_step st now i).out → Has m (messages t.world) ⊎ dating_steps.New t sc m →
+          say : Has (outputs.Send m) (cl.client_step st now i).out → Has m (messages t.world) ⊎ dating_steps.New t sc m →
               Has m (messages t.world) ⊎ IsNew c x M2 now.0 (cl.client_step st now i).out m
-          said q (inl y) = inl y
-          said q (inr y) =
+          say q (inl y) = inl y
+          say q (inr y) =
               inr (record {
                 among = q;
                 number = y.number;
@@ -253,19 +254,18 @@ module _ (k : Config) (count : ℕ) (c : ClientId) (s : ServerId) (gap d : ℕ) 
           by : Has m (messages t.world) ⊎ Has (outputs.Send m) (cl.client_step st now i).out →
               Has m (messages t.world) ⊎ IsNew c x M2 now.0 (cl.client_step st now i).out m
           by (inl y) = inl y
-          by (inr q) = said q (next.new m j)
+          by (inr q) = say q (next.new m j)
 
-      client_talks2 : (node : ServerNode) → node_of t.world s ≡ Some node → (b : Association) → Has b (cl.client_step st now i).state.associations →
-          b.server ≡ s →
-          Talks k c s gap d past2 M2 node.state after b
-      client_talks2 node f b j at_b =
-          subst (λ n. Talks k c s gap d past2 M2 node.state n b) (is_now ∙ sym clock)
-          (client_talks k c s gap d fits place.1 past x t.world M2 more keeps now (clock ∙ sym is_now)
-          (subst (InTime c s d past (messages t.world)) (sym is_now) o.in_time)
-          (subst (Begun c s d past) (sym is_now) o.begun) st i new_one fit config brings deaf_server node.state told
-          (λ a l q. subst (λ n. Talks k c s gap d past (messages t.world) node.state n a) (sym is_now)
-          (of_old (λ n. (a : Association) → Has a n.state.associations → a.server ≡ s → Talks k c s gap d past (messages t.world) node.state before a)
-          (o.talks old node at f) a l q))
+      pub client_talks2 : (node : ServerNode)
+          (talks : (a : Association) → Has a st.associations → a.server ≡ s →
+          (since : ℕ) × Talks k c s gap d read delay since past (messages t.world) node.state now.0 a)
+          (b : Association) → Has b (cl.client_step st now i).state.associations → b.server ≡ s →
+          TalksOn k c s gap d read delay past past2 (messages t.world) M2 node.state now st i fit talks b
+      client_talks2 node talks b j at_b =
+          client_talks k c s gap d read delay fits place.1 past x t.world M2 stays_sent keeps now (clock ∙ sym is_now)
+          (subst (InTime (client_clock c) c s d past (messages t.world)) (sym is_now) o.in_time)
+          (subst (Begun (client_clock c) c s d past) (sym is_now) o.begun) (read sc.world) refl st i new_one fit config brings deaf_server node.state told
+          talks
           (λ a l z q n r. is_young (client_last_tick c 0 past) now.0
           (let y = of_old (λ n. (a : Association) → Has a n.state.associations → a.session ≡ Some z → before ≤ client_last_tick c 0 past + gap)
           (λ a l q. o.ticks old a z at l q) a l q in omega (arith, y, is_now)) z
@@ -274,92 +274,133 @@ module _ (k : Config) (count : ℕ) (c : ClientId) (s : ServerId) (gap d : ℕ) 
           (of_old (λ n. (a : Association) → Has a n.state.associations → Numbers (λ m. Has m (messages t.world)) c a.server a.life.0 (view a.session))
           (λ a l. ((o.cuts.clients c old at).all running a l).numbers))
           (λ a l. ((cuts2.clients c _ there).all (ap (λ (n : cl.ClientNode). n.running) same ∙ running) a l).numbers)
-          (λ a y l r q. once_same (cl.client_step st now i).state.associations (cuts2.fates.lives.lives.sites c _ there).once a y l r q) b j at_b)
+          (λ a y l r q. once_same (cl.client_step st now i).state.associations (cuts2.fates.lives.lives.sites c _ there).once a y l r q) b j at_b
+
+    -- A step of the server.
+    module _ (old : ServerNode) (i : ServerInput) (at : node_of t.world s ≡ Some old) (brings : BringsServer t.world e (server_node s) i)
+        (deaf : Rattle.st_laws_healthy.proofs.Happening.Deaf t.world e c.0)
+        (there : node_of sc.world s ≡ Some (record old { state = (server.server_step old.state (clock_of t.world (nodes.Server s)) i).state }))
+        (clocks : sc.world.clocks ≡ t.world.clocks) (many : length sc.world.clients ≡ length t.world.clients)
+        (new : (m : Message) → Has m M2 → Has m (messages t.world) ⊎
+        Has (outputs.Send m) (server.server_step old.state (clock_of t.world (nodes.Server s)) i).out)
+        (from : (m : Message) → Has (outputs.Send m) (server.server_step old.state (clock_of t.world (nodes.Server s)) i).out → m.header.from ≡ server_node s)
+        (told : (m : Message) → Has (outputs.Send m) (server.server_step old.state (clock_of t.world (nodes.Server s)) i).out →
+        (n : ℕ) × Has (seen.Sent n m) sc.seen) where
+      abbrev pub when : Stamp
+      when = clock_of t.world (nodes.Server s)
+
+      own_clock : after ≡ before
+      own_clock = ap (λ ts. (unwrap_or (numbered ts c.0) (stamp 0)).0) clocks
+
+      pub other_clock : read sc.world ≡ read t.world
+      other_clock = same_read sc.world t.world clocks many
+
+      still : may_ack (server.server_step old.state when i).state.authority c ≡ true
+      still = subst (λ (y : ServerNode). may_ack y.state.authority c ≡ true) (some_is (sym g.is ∙ there)) g.free
+
+      pub says : (m : Message) → Has (outputs.Send m) (server.server_step old.state when i).out → IsSaid s x M2 (server.server_step old.state when i).out m
+      says m l = let z = told m l in record { among = l; number = z.0; sent = z.1; there = tells_number t.world e sc h z.0 m z.1; from = from m l }
+
+      new_said : (m : Message) → Has m M2 → Has m (messages t.world) ⊎ IsSaid s x M2 (server.server_step old.state when i).out m
+      new_said m l = by (new m l)
+        where
+          by : Has m (messages t.world) ⊎ Has (outputs.Send m) (server.server_step old.state when i).out →
+              Has m (messages t.world) ⊎ IsSaid s x M2 (server.server_step old.state when i).out m
+          by (inl y) = inl y
+          by (inr y) = inr (says m y)
+
+      pub server_talks2 : (site : WorldClient) → site_of t.world c ≡ Some site → (a : Association) → Has a site.node.state.associations → a.server ≡ s →
+          (since : ℕ) (z : Talks k c s gap d read delay since past (messages t.world) old.state before a) →
+          TalksNext k c s gap d read delay since past2 M2 i (server.server_step old.state when i).state after a z.last
+      server_talks2 site f a j at_a since z =
+          subst (λ n. TalksNext k c s gap d read delay since past2 M2 i (server.server_step old.state when i).state n a z.last) (sym own_clock)
+          (serves_on k c s gap d read delay place.1 place.0 past x t.world M2 stays_sent keeps before own_clock o.in_time o.begun (read t.world) other_clock o.in_time2
+          o.begun2 old.state when i (o.free old at) still
+          (sepoch old at) (o.off old at) (o.cuts.servers s old at).id
+          ((left _ there).epoch old at) brings deaf new_said says since a z
+          (subst (λ y. Numbers (λ m. Has m (messages t.world)) c y a.life.0 (view a.session)) at_a
+          ((o.cuts.clients c site f).all (o.runs.clients site f) a j).numbers))
 
     -- what is known after the event
-    talks2 : Happened past t o.dated c s place.1 e sc → (site : WorldClient) (node : ServerNode) → site_of sc.world c ≡ Some site →
-        node_of sc.world s ≡ Some node → (a : Association) →
-        Has a site.node.state.associations → a.server ≡ s → Talks k c s gap d past2 M2 node.state after a
-    talks2 (ClientSteps site0 old i now is_now same at brings deaf_server there nodes_same clock new from) site node f q a j at_a =
-        client_talks2 site0 old i now is_now same at brings deaf_server there nodes_same clock new from node (sym nodes_same ∙ q) a
-        (subst (λ (y : WorldClient). Has a y.node.state.associations) (some_is (sym f ∙ there)) j) at_a
-    talks2 (ServerSteps old i at brings deaf there sites clock new from told) site node f q a j at_a =
-        subst (λ (y : ServerNode). Talks k c s gap d past2 M2 y.state after a) (some_is (sym there ∙ q))
-        (subst (λ n. Talks k c s gap d past2 M2 (server.server_step old.state now i).state n a) (sym clock)
-        (serves_on k c s gap d place.1 place.0 past x t.world M2 more keeps before clock o.in_time o.begun old.state now i (o.free old at) still
-        (sepoch old at) (o.off old at) (o.cuts.servers s old at).id
-        ((left _ there).epoch old at) brings deaf new_one says a (o.talks site old (sym sites ∙ f) at a j at_a)
-        (subst (λ y. Numbers (λ m. Has m (messages t.world)) c y a.life.0 (view a.session)) at_a
-        ((o.cuts.clients c site (sym sites ∙ f)).all (o.runs.clients site (sym sites ∙ f)) a j).numbers)))
-      where
-        now : Stamp
-        now = clock_of t.world (nodes.Server s)
+    pub talks2 : AllTalk past t.world → Happened past t o.dated c s place.1 e sc → AllTalk past2 sc.world
+    talks2 talks (ClientSteps site0 old i now is_now same at brings deaf_server there nodes_same clocks many new from said) site node f q a j at_a =
+        let z = client_talks2 site0 old i now is_now same at brings deaf_server there nodes_same clocks many new from said node
+        (λ b l at_b. subst (λ n. (since : ℕ) × Talks k c s gap d read delay since past (messages t.world) node.state n b) (sym is_now)
+        (of_old site0 old i now is_now same at brings deaf_server there nodes_same clocks many new from said
+        (λ n. (a : Association) → Has a n.state.associations → a.server ≡ s →
+        (since : ℕ) × Talks k c s gap d read delay since past (messages t.world) node.state before a)
+        (talks old node at (sym nodes_same ∙ q)) b l at_b)) a (subst (λ (y : WorldClient). Has a y.node.state.associations) (some_is (sym f ∙ there)) j) at_a in (
+          z.since,
+          subst (λ n. Talks k c s gap d read delay z.since past2 M2 node.state n a)
+              (is_now ∙ sym (ap (λ ts. (unwrap_or (numbered ts c.0) (stamp 0)).0) clocks)) z.known,
+        )
+    talks2 talks (ServerSteps old i at brings deaf there sites clocks many new from told) site node f q a j at_a =
+        let y = talks site old (sym sites ∙ f) at a j at_a in (
+          y.0,
+          subst (λ (v : ServerNode). Talks k c s gap d read delay y.0 past2 M2 v.state after a) (some_is (sym there ∙ q))
+              (server_talks2 old i at brings deaf there clocks many new from told site (sym sites ∙ f) a j at_a y.0 y.1).known,
+        )
+    talks2 talks (NeitherSteps same nodes_same later2 deaf deaf_server new) site node f q a j at_a =
+        let y = talks site node (sym same ∙ f) (sym nodes_same ∙ q) a j at_a in
+        (y.0, (talks_on k c s gap d past x t.world M2 stays_sent keeps read delay y.0 node.state before after later2 deaf_server deaf new a y.1).0)
+    talks2 talks (IsBroken b) site node f q a j at_a = absurd (b o.runs both)
 
-        still : may_ack (server.server_step old.state now i).state.authority c ≡ true
-        still = subst (λ (y : ServerNode). may_ack y.state.authority c ≡ true) (some_is (sym g.is ∙ there)) g.free
-
-        says : (m : Message) → Has (outputs.Send m) (server.server_step old.state now i).out → IsSaid s x M2 (server.server_step old.state now i).out m
-        says m l = let z = told m l in record { among = l; number = z.0; sent = z.1; there = tells_number t.world e sc h z.0 m z.1; from = from m l }
-
-        new_one : (m : Message) → Has m M2 → Has m (messages t.world) ⊎ IsSaid s x M2 (server.server_step old.state now i).out m
-        new_one m l = by (new m l)
-          where
-            by : Has m (messages t.world) ⊎ Has (outputs.Send m) (server.server_step old.state now i).out →
-                Has m (messages t.world) ⊎ IsSaid s x M2 (server.server_step old.state now i).out m
-            by (inl y) = inl y
-            by (inr y) = inr (says m y)
-    talks2 (NeitherSteps same nodes_same later deaf deaf_server new) site node f q a j at_a =
-        talks_on k c s gap d past x t.world M2 more keeps node.state before after later deaf_server deaf new a
-        (o.talks site node (sym same ∙ f) (sym nodes_same ∙ q) a j at_a)
-    talks2 (IsBroken b) site node f q a j at_a = absurd (b o.runs both)
-
-    goes_on : Happened past t o.dated c s place.1 e sc → before ≤ after
-    goes_on (ClientSteps site old i now is_now same at brings deaf_server there nodes_same clock new from) = omega (arith, clock)
-    goes_on (ServerSteps old i at brings deaf there sites clock new from told) = omega (arith, clock)
-    goes_on (NeitherSteps same nodes_same later deaf deaf_server new) = later
+    pub goes_on : Happened past t o.dated c s place.1 e sc → before ≤ after
+    goes_on (ClientSteps site old i now is_now same at brings deaf_server there nodes_same clocks many new from said) =
+        let z : after ≡ before = ap (λ ts. (unwrap_or (numbered ts c.0) (stamp 0)).0) clocks in omega (arith, z)
+    goes_on (ServerSteps old i at brings deaf there sites clocks many new from told) =
+        let z : after ≡ before = ap (λ ts. (unwrap_or (numbered ts c.0) (stamp 0)).0) clocks in omega (arith, z)
+    goes_on (NeitherSteps same nodes_same later2 deaf deaf_server new) = later2
     goes_on (IsBroken b) = absurd (b o.runs both)
 
-    pub stands : Stand past2 (traced_after e t sc)
-    stands =
+    runs2 : AllRun c s sc.world
+    runs2 = record {
+      clients = λ site f. ap (λ (y : WorldClient). y.node.running) (some_is (sym f ∙ g.there)) ∙ g.runs;
+      servers = λ node f. ap (λ (y : ServerNode). y.running) (some_is (sym f ∙ g.is)) ∙ g.up;
+    }
+
+    pub base2 : ComeInTime read c s delay past x → read t.world ≤ read sc.world → Base past2 (traced_after e t sc)
+    base2 g2 later =
         record {
           cuts = cuts2;
           dated = dated2;
           basic = basic2 k count s past t e sc o.basic ok h;
           young = young2;
-          runs = record {
-            clients = λ site f. ap (λ (y : WorldClient). y.node.running) (some_is (sym f ∙ g.there)) ∙ g.runs;
-            servers = λ node f. ap (λ (y : ServerNode). y.running) (some_is (sym f ∙ g.is)) ∙ g.up;
-          };
+          runs = runs2;
           free = λ node f. subst (λ (y : ServerNode). may_ack y.state.authority c ≡ true) (some_is (sym g.is ∙ f)) g.free;
           off = λ node f. (left node f).grace;
           ticks = λ site a z f j q. g.ticks;
-          in_time = in_time c s d past x M2 g.come;
-          begun = more_began c s d past x before o.begun (goes_on it);
-          talks = talks2 it;
+          in_time = in_time (client_clock c) c s d past x M2 g.come;
+          begun = more_began (client_clock c) c s d past x before o.begun (goes_on it);
+          in_time2 = in_time read c s delay past x M2 g2;
+          begun2 = more_began read c s delay past x (read t.world) o.begun2 later;
         }
 
     -- so the lease lasts
-    pub lasts : LeasesLast k c s gap d past x
-    lasts site a z f j at_a q = (by z.requests.asked refl p.requests, p.sound)
+    pub lasts : AllTalk past2 sc.world → LeasesLast k c s gap d past x
+    lasts talks site a z f j at_a q = (by z.requests.asked refl p.requests, p.sound)
       where
-        t2 : Talks k c s gap d past2 M2 g.node.state after a
-        t2 = stands.talks site g.node f g.is a j at_a
+        since : ℕ
+        since = (talks site g.node f g.is a j at_a).0
 
-        p : HasSession k c s gap d past2 M2 g.node.state.sessions a.life.0 g.node.state.stable.epoch.0 t2.last z
-        p = subst (Phase k c s gap d past2 M2 g.node.state.sessions a.life.0 g.node.state.stable.epoch.0 t2.last) q t2.phase
+        t2 : Talks k c s gap d read delay since past2 M2 g.node.state after a
+        t2 = (talks site g.node f g.is a j at_a).1
+
+        p : HasSession k c s gap d read delay since past2 M2 g.node.state.sessions a.life.0 g.node.state.stable.epoch.0 t2.last z
+        p = subst (Phase k c s gap d read delay since past2 M2 g.node.state.sessions a.life.0 g.node.state.stable.epoch.0 t2.last) q t2.phase
 
         by : (r : Rattle.std.specs.Prelude.Option Request) → z.requests.asked ≡ r →
-            Requested k c s gap d past2 M2 a.life.0 g.node.state.stable.epoch.0 t2.last z.lease.date.0 z.requests.next r →
+            Requested k c s gap d read delay since past2 M2 a.life.0 g.node.state.stable.epoch.0 t2.last z.lease.date.0 z.requests.next r →
             after < z.lease.date.0 + longest k gap d
         by None e r =
             let y = is_young (client_last_tick c 0 past2) after g.ticks z
-            (subst (WasYoung k (client_last_tick c 0 past2)) q ((young2.stands site f).young (stands.runs.clients site f) a j)) p.sound e in
+            (subst (WasYoung k (client_last_tick c 0 past2)) q ((young2.stands site f).young (runs2.clients site f) a j)) p.sound e in
             let l = le-max_left (k.renew + gap) (2 * d + 1) in
             omega (arith, y, l)
         by (Some v) e r =
             let y = r.first.young in
-            let l = trip_ends c s d past2 M2 after (IsAsking k c s gap d a.life.0 g.node.state.stable.epoch.0 v.number v.body)
-            (IsCounting k c s gap d a.life.0 g.node.state.stable.epoch.0 v.number v.body) r.first.from stands.in_time r.first.trip in
+            let l = trip_ends (client_clock c) c s d past2 M2 after (IsAsking k c s gap d a.life.0 g.node.state.stable.epoch.0 v.number v.body)
+            (IsCounting k c s gap d a.life.0 g.node.state.stable.epoch.0 v.number v.body) r.first.from (in_time (client_clock c) c s d past x M2 g.come) r.first.trip in
             omega (arith, y, l)
 
 -- The start of a run.
@@ -371,7 +412,7 @@ no_grace : (k : Config) (servers disks blocks n : ℕ) → (node_at_start k serv
 unfolding server.fresh_server
 no_grace k servers disks blocks n = refl
 
-no_sessions : (k : Config) (servers disks blocks n : ℕ) (c : ClientId) → sessions.session_of (node_at_start k servers disks blocks n).state.sessions c ≡ None
+pub no_sessions : (k : Config) (servers disks blocks n : ℕ) (c : ClientId) → sessions.session_of (node_at_start k servers disks blocks n).state.sessions c ≡ None
 unfolding server.fresh_server
 no_sessions k servers disks blocks n c = refl
 
@@ -382,13 +423,13 @@ no_messages : (k : Config) (clients servers disks blocks form : ℕ) (m : Messag
 unfolding fresh_world
 no_messages k clients servers disks blocks form m h = absurd h
 
-fresh_node : (k : Config) (clients servers disks blocks form : ℕ) (s : ServerId) (node : ServerNode) →
+pub fresh_node : (k : Config) (clients servers disks blocks form : ℕ) (s : ServerId) (node : ServerNode) →
     node_of (fresh_world k clients servers disks blocks form) s ≡ Some node →
     node ≡ node_at_start k servers disks blocks s.0
 unfolding fresh_world
 fresh_node k clients servers disks blocks form s node e = fresh_is (node_at_start k servers disks blocks) servers s.0 node e
 
-fresh_client : (k : Config) (clients servers disks blocks form : ℕ) (c : ClientId) (site : WorldClient) →
+pub fresh_client : (k : Config) (clients servers disks blocks form : ℕ) (c : ClientId) (site : WorldClient) →
     site_of (fresh_world k clients servers disks blocks form) c ≡ Some site →
     site ≡ fresh_site k servers c.0
 unfolding fresh_world
@@ -403,60 +444,82 @@ fresh_association k servers n a h = let z = has_map cl.fresh_association (number
 fresh_runs : (k : Config) (servers n : ℕ) → (fresh_site k servers n).node.running ≡ true
 fresh_runs k servers n = refl
 
-starts : (k : Config) (clients servers disks blocks form : ℕ) (c : ClientId) (s : ServerId) (gap d : ℕ) (fits : longest k gap d ≤ k.lease) →
-    IsHead k clients servers disks blocks form →
-    Stand k (clients + servers) c s gap d fits [] (traced (fresh_world k clients servers disks blocks form))
-starts k clients servers disks blocks form c s gap d fits head =
+module _ (k : Config) (clients servers disks blocks form : ℕ) (c : ClientId) (s : ServerId) (gap d : ℕ) (read : World → ℕ) (delay : ℕ)
+    (same_read : (v w : World) → v.clocks ≡ w.clocks → length v.clients ≡ length w.clients → read v ≡ read w) (fits : longest k gap d ≤ k.lease)
+    (head : IsHead k clients servers disks blocks form) where
+  abbrev w : World
+  w = fresh_world k clients servers disks blocks form
+
+  fresh : (site : WorldClient) (a : Association) → site_of w c ≡ Some site → Has a site.node.state.associations → (a.session ≡ None) × (a.greeting ≡ None)
+  fresh site a f j = fresh_association k servers c.0 a (subst (λ (y : WorldClient). Has a y.node.state.associations)
+      (fresh_client k clients servers disks blocks form c site f) j)
+
+  pub starts : Base k (clients + servers) c s gap d read delay same_read fits [] (traced w)
+  starts =
+      record {
+        cuts = cuts_law.fresh_holds k clients servers disks blocks form head;
+        dated = dating_law.fresh_dated k clients servers disks blocks form head;
+        basic = standing.begins k clients servers disks blocks form s head;
+        young = young_ones.begins k clients servers disks blocks form c;
+        runs = record {
+          clients = λ site f. subst (λ (y : WorldClient). y.node.running ≡ true) (sym (fresh_client k clients servers disks blocks form c site f))
+              (fresh_runs k servers c.0);
+          servers = λ node f. subst (λ (y : ServerNode). y.running ≡ true) (sym (fresh_node k clients servers disks blocks form s node f))
+              (starts_running k servers disks blocks s.0);
+        };
+        free = λ node f. subst (λ (y : ServerNode). may_ack y.state.authority c ≡ true) (sym (fresh_node k clients servers disks blocks form s node f))
+            (no_timer k servers disks blocks s.0 c);
+        off = λ node f. subst (λ (y : ServerNode). y.state.grace ≡ None) (sym (fresh_node k clients servers disks blocks form s node f))
+            (no_grace k servers disks blocks s.0);
+        ticks = λ site a z f j q. absurd (no_session z (sym (fresh site a f j).0 ∙ q));
+        in_time = none_flies (client_clock c) c s d (messages w) (client_clock c w);
+        begun = none_began (client_clock c) c s d (client_clock c w);
+        in_time2 = none_flies read c s delay (messages w) (read w);
+        begun2 = none_began read c s delay (read w);
+      }
+    where
+      no_session : (z : ClientSession) → ◌≡◌ {A = Option ClientSession} None (Some z) → ⊥
+      no_session z e = cc
+
+  pub starts_talks : AllTalk k (clients + servers) c s gap d read delay same_read fits [] w
+  starts_talks site node f q a j at_a = (
+    0,
     record {
-      cuts = cuts_law.fresh_holds k clients servers disks blocks form head;
-      dated = dating_law.fresh_dated k clients servers disks blocks form head;
-      basic = standing.begins k clients servers disks blocks form s head;
-      young = young_ones.begins k clients servers disks blocks form c;
-      runs = record {
-        clients = λ site f. subst (λ (y : WorldClient). y.node.running ≡ true) (sym (fresh_client k clients servers disks blocks form c site f))
-            (fresh_runs k servers c.0);
-        servers = λ node f. subst (λ (y : ServerNode). y.running ≡ true) (sym (fresh_node k clients servers disks blocks form s node f))
-            (starts_running k servers disks blocks s.0);
-      };
-      free = λ node f. subst (λ (y : ServerNode). may_ack y.state.authority c ≡ true) (sym (fresh_node k clients servers disks blocks form s node f))
-          (no_timer k servers disks blocks s.0 c);
-      off = λ node f. subst (λ (y : ServerNode). y.state.grace ≡ None) (sym (fresh_node k clients servers disks blocks form s node f))
-          (no_grace k servers disks blocks s.0);
-      ticks = λ site a z f j q. absurd (no_session z (sym (fresh site a f j).0 ∙ q));
-      in_time = none_flies c s d (messages w) (client_clock c w);
-      begun = none_began c s d (client_clock c w);
-      talks = λ site node f q a j at_a. record {
-        last = 0;
-        known = IsBefore (λ y v. absurd (none y (sym (subst (λ (n : ServerNode). sessions.session_of n.state.sessions c ≡ None)
-            (sym (fresh_node k clients servers disks blocks form s node q)) (no_sessions k servers disks blocks s.0 c)) ∙ v))) refl;
-        told = λ m v l. absurd (no_messages k clients servers disks blocks form m v);
-        asked = λ m v l r. absurd (no_messages k clients servers disks blocks form m v);
-        greets = λ r m v l. absurd (no_messages k clients servers disks blocks form m v);
-        phase = subst (Phase k c s gap d [] (messages w) node.state.sessions a.life.0 node.state.stable.epoch.0 0) (sym (fresh site a f j).0)
-            (IsSilent (λ m v l. no_messages k clients servers disks blocks form m v), refl);
-      };
-    }
-  where
-    w : World
-    w = fresh_world k clients servers disks blocks form
+      last = 0;
+      known = IsBefore (λ y v. absurd (none y (sym (subst (λ (n : ServerNode). sessions.session_of n.state.sessions c ≡ None)
+          (sym (fresh_node k clients servers disks blocks form s node q)) (no_sessions k servers disks blocks s.0 c)) ∙ v))) refl;
+      told = λ m v l. absurd (no_messages k clients servers disks blocks form m v);
+      asked = λ m v l r. absurd (no_messages k clients servers disks blocks form m v);
+      greets = λ r m v l. absurd (no_messages k clients servers disks blocks form m v);
+      phase = subst (Phase k c s gap d read delay 0 [] (messages w) node.state.sessions a.life.0 node.state.stable.epoch.0 0) (sym (fresh site a f j).0)
+          (IsSilent (λ m v l. no_messages k clients servers disks blocks form m v), refl);
+    },
+  )
+    where
+      none : (y : Session) → ◌≡◌ {A = Option Session} None (Some y) → ⊥
+      none y e = cc
 
-    fresh : (site : WorldClient) (a : Association) → site_of w c ≡ Some site → Has a site.node.state.associations → (a.session ≡ None) × (a.greeting ≡ None)
-    fresh site a f j = fresh_association k servers c.0 a (subst (λ (y : WorldClient). Has a y.node.state.associations)
-        (fresh_client k clients servers disks blocks form c site f) j)
-
-    no_session : (z : ClientSession) → ◌≡◌ {A = Option ClientSession} None (Some z) → ⊥
-    no_session z e = cc
-
-    none : (y : Session) → ◌≡◌ {A = Option Session} None (Some y) → ⊥
-    none y e = cc
+-- a client's clock is read at its place
+own_read : (c : ClientId) (v w : World) → v.clocks ≡ w.clocks → length v.clients ≡ length w.clients → client_clock c v ≡ client_clock c w
+own_read c v w e f = ap (λ ts. (unwrap_or (numbered ts c.0) (stamp 0)).0) e
 
 -- In every run in which a client is healthy.
 pub leases_law : InHealthyRuns LeasesLast
 leases_law k clients servers disks blocks form es c s gap d head all fits =
-    throughout_under (clients + servers) (IsHealthy c s gap d) (LeasesLast k c s gap d) (Stand k (clients + servers) c s gap d fits)
-    (λ past t e sc ok o h g. (
-      lasts k (clients + servers) c s gap d fits past t e sc o ok h g,
-      stands k (clients + servers) c s gap d fits past t e sc o ok h
-          g,
+    throughout_under (clients + servers) (IsHealthy c s gap d) (LeasesLast k c s gap d) Stand
+    (λ past t e sc ok o h g.
+    let does = it k (clients + servers) c s gap d (client_clock c) d (own_read c) fits past t e sc o.0 ok h g in
+    let z = talks2 k (clients + servers) c s gap d (client_clock c) d (own_read c) fits past t e sc o.0 ok h g o.1 does in
+    let later = goes_on k (clients + servers) c s gap d (client_clock c) d (own_read c) fits past t e sc o.0 ok h g does in (
+      lasts k (clients + servers) c s gap d (client_clock c) d (own_read c) fits past t e sc o.0 ok h g z,
+      (base2 k (clients + servers) c s gap d (client_clock c) d (own_read c) fits past t e sc o.0 ok h g g.come later, z),
     )) es all []
-    (traced (fresh_world k clients servers disks blocks form)) (starts k clients servers disks blocks form c s gap d fits head)
+    (traced (fresh_world k clients servers disks blocks form)) (
+      starts k clients servers disks blocks form c s gap d (client_clock c) d (own_read c) fits head,
+      starts_talks k clients servers disks blocks form c s gap d (client_clock c) d (own_read c) fits head,
+    )
+  where
+    Stand : List Step → Traced → Type 0
+    Stand past t =
+        Base k (clients + servers) c s gap d (client_clock c) d (own_read c) fits past t ×
+        AllTalk k (clients + servers) c s gap d (client_clock c) d (own_read c) fits past t.world

@@ -1,16 +1,11 @@
 -- The life of a client's session at a server, through the rule for a message: it stays, or it is that of a message of the client.
-use Rattle.std.proofs.Common.{◌≡◌, ◌≢◌, ℕ, ◌⊎◌, refl, sym, ap, ◌∙◌, inl, inr}
-use Rattle.std.specs.Prelude.{Option, Some, None, option_map}
-use Rattle.st_base.specs.declared.ids.ClientId.{ClientId}
-use Rattle.st_base.specs.declared.ids.Stamp.{Stamp}
-use Rattle.st_messages.specs.declared.message.Header.{Header}
-use Rattle.st_messages.specs.declared.message.Body.{Body}
-use Rattle.st_rules.specs.declared.sessions.Session.{Session}
-use Rattle.st_rules.specs.Server as sv
-use Rattle.st_rules.specs.Server.{ServerTurn}
-use Rattle.st_rules.specs.Sessions as sessions
-use Rattle.st_lemmas.proofs.Lookups.{some_is}
-use Rattle.st_lemmas.proofs.Tables.{cond_either, same_or_not}
+use Rattle.st_lemmas.proofs.Words
+use Words.{◌≡◌, ◌≢◌, ℕ, ◌⊎◌, refl, sym, ap, ◌∙◌, inl, inr, Option, Some, None, option_map, ClientId, Stamp, Header, Body, Session}
+use Words.Server as sv
+use Words.Server.{ServerTurn}
+use Words.Sessions as sessions
+use Words.Lookups.{some_is}
+use Words.Tables.{cond_either, same_or_not}
 use Rattle.st_laws_refine.proofs.Server.Changes.{session_other, session_own}
 use Rattle.st_laws_healthy.proofs.Serving.{Accepts, Does, Passes, Refuses, Repeats, Serves, Welcomes}
 use Rattle.st_laws_healthy.proofs.Sessions.{kept_of}

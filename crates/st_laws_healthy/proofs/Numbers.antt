@@ -1,30 +1,23 @@
 -- Messages keep their numbers, and the line of a message tells its number.
-use Rattle.std.proofs.Common.{◌≡◌, ℕ, ◌+◌, List, [], ◌∷◌, ◌++◌, Option, Some, None, Ok, refl, sym, ap, ◌∙◌, subst, arith, inl, inr, append_assoc, length-append}
-use Rattle.std.specs.List.{cons_option}
-use Rattle.std.specs.Prelude.{length, filter_map, slice_get, suc, zero}
-use Rattle.st_messages.specs.declared.event.Event.{Event}
-use Rattle.st_messages.specs.declared.message.Message.{Message}
+use Rattle.st_lemmas.proofs.Words
+use Words.{◌≡◌, ℕ, ◌+◌, List, [], ◌∷◌, ◌++◌, Some, Ok, refl, sym, ap, ◌∙◌, subst, arith, inl, inr, append_assoc, length-append}
+use Words.{length, slice_get, suc, zero, Event, Message}
+use Words.seen
+use Words.Events.{WorldTurn, counted, world_step}
+use Words.World.{World, numbered}
+use Words.Lists.{Has}
+use Words.Numbers.{get_last}
+use Words.Lengths.{get_longer}
+use Words.Members.{has_filter_map}
 use Rattle.st_promises.specs.Counts.{message_told, under_numbers}
-use Rattle.st_rules.specs.declared.observation.Observation.{Observation}
-use Rattle.st_rules.specs.declared.observation.Observation.TheVariants as seen
-use Rattle.st_rules.specs.Events.{WorldTurn, counted, world_step}
-use Rattle.st_rules.specs.World.{World, numbered}
-use Rattle.st_lemmas.specs.Lists.{Has}
-use Rattle.st_lemmas.proofs.Numbers.{get_last}
 use Rattle.st_lemmas.proofs.Steps.{step_happens}
 use Rattle.st_laws_leases.specs.Dates.Dates.{messages}
 use Rattle.st_laws_lines.proofs.Counting.{tells_event}
 use Rattle.st_laws_lines.proofs.Growing.{Grows}
 
--- what a list has stays where it is when more follows
-front : {A : Type 0} (xs ys : List A) (n : ℕ) (v : A) → slice_get xs n ≡ Some v → slice_get (xs ++ ys) n ≡ Some v
-front [] ys n v e = cc
-front (x ∷ xs) ys zero v e = e
-front (x ∷ xs) ys (suc n) v e = front xs ys n v e
-
 numbered_front : {A : Type 0} (xs ys : List A) (k : ℕ) (v : A) → numbered xs k ≡ Some v → numbered (xs ++ ys) k ≡ Some v
 numbered_front xs ys zero v e = cc
-numbered_front xs ys (suc n) v e = front xs ys n v e
+numbered_front xs ys (suc n) v e = get_longer xs ys n v e
 
 -- what is given a number is there
 is_there : {A : Type 0} (xs ys : List A) (k : ℕ) (v : A) → Has (k, v) (under_numbers (length xs + 1) ys) → numbered (xs ++ ys) k ≡ Some v
@@ -33,23 +26,12 @@ is_there xs [] k v h = absurd h
 is_there xs (y ∷ ys) k v (inl e) =
     let n : k ≡ length xs + 1 = ap (λ (p : ℕ × _). p.0) e in
     let z : length xs + 1 ≡ suc (length xs) = omega arith in
-    let there : slice_get ((xs ++ y ∷ []) ++ ys) (length xs) ≡ Some y = front (xs ++ y ∷ []) ys (length xs) y (get_last xs y) in
+    let there : slice_get ((xs ++ y ∷ []) ++ ys) (length xs) ≡ Some y = get_longer (xs ++ y ∷ []) ys (length xs) y (get_last xs y) in
     ap (numbered (xs ++ y ∷ ys)) (n ∙ z) ∙ ap (λ zs. slice_get zs (length xs)) (sym (append_assoc xs (y ∷ []) ys)) ∙ there ∙ ap (λ (p : ℕ × _). Some p.1)
     (sym e)
 is_there xs (y ∷ ys) k v (inr h) =
     let z : length xs + 1 + 1 ≡ length (xs ++ y ∷ []) + 1 = ap (λ n. n + 1) (sym (length-append xs (y ∷ []))) in
     ap (λ zs. numbered zs k) (sym (append_assoc xs (y ∷ []) ys)) ∙ is_there (xs ++ y ∷ []) ys k v (subst (λ n. Has (k, v) (under_numbers n ys)) z h)
-
--- what a line tells is among what the lines tell
-told_has : {A : Type 0} (line : Observation → Option A) (os : List Observation) (o : Observation) (x : A) → Has o os → line o ≡ Some x →
-    Has x (filter_map line os)
-told_has line [] o x h e = absurd h
-told_has line (p ∷ os) o x (inl q) e = subst (λ z. Has x (cons_option z (filter_map line os))) (sym (ap line (sym q) ∙ e)) (inl refl)
-told_has line (p ∷ os) o x (inr h) e = go (line p) (told_has line os o x h e)
-  where
-    go : (z : Option _) → Has x (filter_map line os) → Has x (cons_option z (filter_map line os))
-    go None i = i
-    go (Some y) i = inr i
 
 module _ (w : World) (e : Event) (sc : WorldTurn) (h : world_step w e ≡ Ok sc) where
   grows : Grows message_told (messages w) sc.seen (messages sc.world)
@@ -62,4 +44,4 @@ module _ (w : World) (e : Event) (sc : WorldTurn) (h : world_step w e ≡ Ok sc)
   pub tells_number : (k : ℕ) (m : Message) → Has (seen.Sent k m) sc.seen → numbered (messages sc.world) k ≡ Some m
   tells_number k m i =
       ap (λ zs. numbered zs k) grows.is
-      ∙ is_there (messages w) grows.new k m (subst (Has (k, m)) grows.lines (told_has message_told sc.seen (seen.Sent k m) (k, m) i refl))
+      ∙ is_there (messages w) grows.new k m (subst (Has (k, m)) grows.lines (has_filter_map message_told sc.seen (seen.Sent k m) (k, m) i refl))

@@ -1,29 +1,23 @@
 -- What a client's passes at a server do to its session there, and what they send: a greeting, where there is no session; the outstanding request once more;
 -- or a new one, where none is outstanding.
-use Rattle.std.proofs.Common.{◌≡◌, ℕ, ◌+◌, ◌⊎◌, Bool, true, false, List, [], ◌∷◌, ◌++◌, Option, Some, None, refl, sym, ap, ◌∙◌, subst, inl, inr}
-use Rattle.std.specs.Prelude.{is_some}
-use Rattle.st_base.specs.declared.ids.PageNo.{PageNo}
-use Rattle.st_base.specs.declared.ids.Stamp.{Stamp}
-use Rattle.st_messages.specs.declared.ask.Ask.{Ask}
-use Rattle.st_messages.specs.declared.message.Body.{Body}
-use Rattle.st_messages.specs.declared.message.Body.TheVariants as bodies
-use Rattle.st_messages.specs.declared.message.Message.{Message}
-use Rattle.st_messages.specs.declared.output.Output.{Output}
-use Rattle.st_messages.specs.declared.output.Output.TheVariants as outputs
-use Rattle.st_rules.specs.declared.client.Operation.{Operation}
-use Rattle.st_rules.specs.declared.client.Request.{Request}
-use Rattle.st_rules.specs.ClientPasses as cp
-use Rattle.st_rules.specs.ClientState.{Association, ClientSession, Requests, Turn, asking, send, with_operations, with_store}
-use Rattle.st_rules.specs.Keys.{server_node}
-use Rattle.st_lemmas.specs.Lists.{Has}
-use Rattle.st_lemmas.proofs.Tables.{has_append}
+use Rattle.st_lemmas.proofs.Words
+use Words.{◌≡◌, ℕ, ◌+◌, ◌⊎◌, Bool, true, false, List, [], ◌∷◌, ◌++◌, Option, Some, None, refl, sym, ap, ◌∙◌, subst, inl, inr, is_some, PageNo, Stamp, Ask, Body}
+use Words.{Message, Output, Operation, Release, Request}
+use Words.bodies
+use Words.outputs
+use Words.ClientPasses as cp
+use Words.ClientState.{Association, ClientSession, Requests, Turn, asking, send, with_operations, with_store}
+use Words.Keys.{server_node}
+use Words.Lists.{Has}
+use Words.Tables.{has_append}
 use Rattle.st_trace.specs.Client.Operations as operating
 use Rattle.st_trace.specs.Client.Operations.{Operated}
 use Rattle.st_trace.specs.Client.Passes as passing
 use Rattle.st_trace.specs.Client.Passes.{Passed, Reduced, WritesOut, places_of}
 use Rattle.st_trace.specs.Client.Requests as asks
-use Rattle.st_trace.specs.Client.Requests.{Greets, MayAsk, Wants}
+use Rattle.st_trace.specs.Client.Requests.{Greets, Wants}
 use Rattle.st_trace.proofs.Client.Walk.{each_lasts, passes}
+use Rattle.st_laws_healthy.proofs.Queues.{Longer, More, Same, longer_then}
 use Rattle.st_laws_healthy.proofs.Receiving.{Follows, follows_self}
 use Rattle.st_laws_healthy.proofs.Replies.{is_served}
 
@@ -39,7 +33,15 @@ alike_self (Some s) = follows_self s
 pub follows_then : (s : ClientSession) (o p : Option ClientSession) (f : Follows s o) → Alike o p → Follows s p
 follows_then s o p f a =
     let z = subst (λ q. Alike q p) f.is a in
-    record { session = z.session; is = z.is; epoch = z.epoch ∙ f.epoch; requests = z.requests ∙ f.requests; lease = z.lease ∙ f.lease; due = z.due ∙ f.due }
+    record {
+      session = z.session;
+      is = z.is;
+      epoch = z.epoch ∙ f.epoch;
+      requests = z.requests ∙ f.requests;
+      lease = z.lease ∙ f.lease;
+      due = z.due ∙ f.due;
+      releases = longer_then s.releases f.session.releases z.session.releases f.releases z.releases;
+    }
 
 pub alike_then : (a b c : Option ClientSession) → Alike a b → Alike b c → Alike a c
 alike_then None b c e f = subst (λ o. Alike o c) e f
@@ -135,7 +137,15 @@ reduced_idle ino t u (passing.IsReduced s g to e m q) =
       server = refl;
       life = refl;
       greeting = refl;
-      session = subst (λ o. Alike o u.here.session) (sym e) (record { session = _; is = refl; epoch = refl; requests = refl; lease = refl; due = refl });
+      session = subst (λ o. Alike o u.here.session) (sym e) (record {
+        session = _;
+        is = refl;
+        epoch = refl;
+        requests = refl;
+        lease = refl;
+        due = refl;
+        releases = More s.releases (record { ino = ino; g = g; to = to }) Same;
+      });
       quiet = λ m h. h;
     }
 
@@ -150,6 +160,13 @@ pub data Requested (now : Stamp) (s : ClientSession) (r : Requests) : Type 0 whe
   Anew : (b : Body) → s.requests.asked ≡ None → (s.due ≡ false → is_served b ≡ true) →
       r ≡ record { next = s.requests.next + 1; asked = Some (record { number = s.requests.next; body = b; sent = now }) } → Requested now s r
 
+-- What becomes of the releases that wait: no request is asked, or the first release is, or none waits.
+pub data Queued (s v : ClientSession) : Type 0 where
+  Stays : v.requests.next ≡ s.requests.next → Longer s.releases v.releases → Queued s v
+  Sends : (r : Release) (q : Request) → Longer s.releases (r ∷ v.releases) → v.requests.asked ≡ Some q → q.body ≡ bodies.Released r.ino r.g r.to → Queued s v
+  Empties : Longer s.releases v.releases → v.releases ≡ [] → Queued s v
+  Reasserts : s.due ≡ true → Queued s v
+
 -- What becomes of a session.
 pub record IsPassed (now : Stamp) (s : ClientSession) (o : Option ClientSession) : Type 0 where
   pub session : ClientSession
@@ -158,6 +175,7 @@ pub record IsPassed (now : Stamp) (s : ClientSession) (o : Option ClientSession)
   pub lease : session.lease ≡ s.lease
   pub due : session.due ≡ s.due
   pub requests : Requested now s session.requests
+  pub queue : Queued s session
 
 -- with a session, or without
 abbrev pub After : Stamp → Option ClientSession → Option ClientSession → Type 0
@@ -186,7 +204,15 @@ pub record Works (now : Stamp) (t u : Turn) : Type 0 where
 -- alike sessions have requests as they were
 after_alike : (now : Stamp) (a b : Option ClientSession) → Alike a b → After now a b
 after_alike now None b e = e
-after_alike now (Some s) b f = record { session = f.session; is = f.is; epoch = f.epoch; lease = f.lease; due = f.due; requests = Still f.requests }
+after_alike now (Some s) b f = record {
+  session = f.session;
+  is = f.is;
+  epoch = f.epoch;
+  lease = f.lease;
+  due = f.due;
+  requests = Still f.requests;
+  queue = Stays (ap (λ (y : Requests). y.next) f.requests) f.releases;
+}
 
 sent_is : (os : List Output) (x m : Message) (P : Type 0) → (m ≡ x → P) → Has (outputs.Send m) (os ++ outputs.Send x ∷ []) → Has (outputs.Send m) os ⊎ P
 sent_is os x m P f h = go (has_append os (outputs.Send x ∷ []) (outputs.Send m) h)
@@ -225,12 +251,13 @@ module _ (now : Stamp) (t g : Turn) (idle : IsIdle t g) where
     -- a session whose requests are these, after one that is alike
     behind : (z : ClientSession) → z.epoch ≡ s.epoch → z.lease ≡ s.lease → z.due ≡ s.due →
         ((x : ClientSession) → s.requests ≡ x.requests → s.due ≡ x.due → Requested now x z.requests) →
+        ((x : ClientSession) → s.requests ≡ x.requests → s.due ≡ x.due → Longer x.releases s.releases → Queued x z) →
         (o : Option ClientSession) → Alike o (Some s) → After now o (Some z)
-    behind z e l d f None a = no a
+    behind z e l d f w None a = no a
       where
         no : ◌≡◌ {A = Option ClientSession} (Some s) None → ◌≡◌ {A = Option ClientSession} (Some z) None
         no q = cc
-    behind z e l d f (Some x) a =
+    behind z e l d f w (Some x) a =
         let same : a.session ≡ s = Rattle.st_lemmas.proofs.Lookups.some_is (sym a.is) in
         record {
           session = z;
@@ -239,6 +266,8 @@ module _ (now : Stamp) (t g : Turn) (idle : IsIdle t g) where
           lease = l ∙ ap (λ (y : ClientSession). y.lease) (sym same) ∙ a.lease;
           due = d ∙ ap (λ (y : ClientSession). y.due) (sym same) ∙ a.due;
           requests = f x (ap (λ (y : ClientSession). y.requests) (sym same) ∙ a.requests) (ap (λ (y : ClientSession). y.due) (sym same) ∙ a.due);
+          queue = w x (ap (λ (y : ClientSession). y.requests) (sym same) ∙ a.requests) (ap (λ (y : ClientSession). y.due) (sym same) ∙ a.due)
+              (subst (λ (y : ClientSession). Longer x.releases y.releases) same a.releases);
         }
 
     alike : Alike t.here.session (Some s)
@@ -252,7 +281,7 @@ module _ (now : Stamp) (t g : Turn) (idle : IsIdle t g) where
           life = idle.life;
           session = behind (cp.again_session s now q) refl refl refl
               (λ x r d. Again q (ap (λ (y : Requests). y.asked) (sym r) ∙ e) (ap (λ (y : Requests). record y { asked = Some (record q { sent = now }) }) r))
-              t.here.session alike;
+              (λ x r d w. Stays (ap (λ (y : Requests). y.next) r) w) t.here.session alike;
           greeting = λ e. ap is_some idle.greeting ∙ e;
           sends = λ m h. earlier m (sent_is g.out _ m (IsSentBy (cp.ask_again g s now q).here m)
               (λ f. subst (IsSentBy (cp.ask_again g s now q).here) (sym f) (record {
@@ -270,16 +299,17 @@ module _ (now : Stamp) (t g : Turn) (idle : IsIdle t g) where
 
     anew : (v : Turn) (z : ClientSession) (b : Body) (cut : Option ℕ) → v.here.server ≡ g.here.server → v.here.life ≡ g.here.life →
         v.here.greeting ≡ g.here.greeting → v.out ≡ g.out → z.epoch ≡ s.epoch → z.lease ≡ s.lease →
-        z.due ≡ s.due → z.requests ≡ s.requests → s.requests.asked ≡ None → (s.due ≡ false → is_served b ≡ true) → Works now t (cp.ask v z now b cut)
+        z.due ≡ s.due → z.requests ≡ s.requests → s.requests.asked ≡ None → (s.due ≡ false → is_served b ≡ true) →
+        ((x : ClientSession) → s.due ≡ x.due → Longer x.releases s.releases → Queued x (cp.asking_session z now b cut)) → Works now t (cp.ask v z now b cut)
     unfolding cp.ask send asking
-    anew v z b cut server life greeting out e l d r n served =
+    anew v z b cut server life greeting out e l d r n served queue =
         record {
           server = server ∙ idle.server;
           life = life ∙ idle.life;
           session = behind (cp.asking_session z now b cut) e l d
               (λ x y w. Anew b (ap (λ (y : Requests). y.asked) (sym y) ∙ n) (λ f. served (w ∙ f))
               (ap (λ (y : Requests). record { next = y.next + 1; asked = Some (record { number = y.next; body = b; sent = now }) }) (r ∙ y)))
-              t.here.session alike;
+              (λ x y w l. queue x w l) t.here.session alike;
           greeting = λ f. ap is_some (greeting ∙ idle.greeting) ∙ f;
           sends = λ m h. earlier m (sent_is v.out _ m (IsSentBy (cp.ask v z now b cut).here m)
               (λ f. subst (IsSentBy (cp.ask v z now b cut).here) (sym f) (record {
@@ -296,20 +326,22 @@ module _ (now : Stamp) (t g : Turn) (idle : IsIdle t g) where
         earlier m (inr p) = inr p
 
   requested : (tick : Bool) (u : Turn) → asks.Requests now tick g u → Works now t u
-  unfolding cp.ask_again cp.ask send
+  unfolding cp.ask_again cp.ask send asking
   requested tick _ asks.AsksNothing = quiet g refl
   requested tick _ (asks.AsksAgain s q e c a o) = again s e q a
   requested tick _ (asks.Reasserts s may d) = anew s may.session g s _ None refl refl refl refl refl refl refl refl may.none (λ f. no (sym d ∙ f))
+      (λ x f l. Reasserts (sym f ∙ d))
     where
       no : {P : Type 0} → ◌≡◌ {A = Bool} true false → P
       no f = cc
   requested tick _ (asks.Releases s r rs may d e) = anew s may.session g (record s { releases = rs }) _ None refl refl refl refl refl refl refl refl may.none
-      (λ f. refl)
+      (λ f. refl) (λ x f l. Sends r (record { number = s.requests.next; body = bodies.Released r.ino r.g r.to; sent = now }) (subst (Longer x.releases) e l) refl refl)
   requested tick _ (asks.AsksFor s xs o ys w free serving first) =
       anew s free.may.session (with_store (cp.cut_store w.cut g.here.store) (with_operations (xs ++ cp.sent_if w.own o ∷ ys) g)) s w.body (cp.file_cut w.cut)
       refl refl refl refl refl refl refl refl free.may.none (λ f. wants_served g s now o.ask w first.wants)
+      (λ x f l. Empties l free.released)
   requested tick _ (asks.KeepsAlive s free e) = anew s free.may.session g s bodies.KeepAlive None refl refl refl refl refl refl refl refl free.may.none
-      (λ f. refl)
+      (λ f. refl) (λ x f l. Empties l free.released)
 
 -- After a greeting nothing is asked, for there is no session.
 greeted : (now : Stamp) (tick : Bool) (t w u : Turn) → IsIdle t w → w.here.session ≡ None →

@@ -1,25 +1,18 @@
 -- What a message of the server does to a session that is not condemned and not due: it ends the outstanding request, where it counts for it, or it leaves
 -- the epoch, the requests and the lease.
-use Rattle.std.proofs.Common.{◌≡◌, ℕ, ◌≤◌, Bool, true, false, ◌==◌, refl, sym, ap, ◌∙◌, subst, arith}
-use Rattle.std.specs.Prelude.{if◌then◌else◌, not, nat_lt, Option, Some, None}
-use Rattle.std.proofs.lemmas.Bool.{eqb-true, ltb-true}
-use Rattle.st_base.specs.declared.ids.GrantNo.{GrantNo}
-use Rattle.st_base.specs.declared.ids.Stamp.{Stamp}
-use Rattle.st_base.specs.declared.mode.Mode.{Mode}
-use Rattle.st_base.specs.declared.mode.Mode.TheVariants as modes
-use Rattle.st_messages.specs.declared.message.Header.{Header}
-use Rattle.st_messages.specs.declared.message.Body.{Body}
-use Rattle.st_messages.specs.declared.message.Body.TheVariants as bodies
-use Rattle.st_messages.specs.declared.message.Why.{Why}
-use Rattle.st_messages.specs.declared.message.Why.TheVariants as why
-use Rattle.st_rules.specs.declared.client.Asked.{Asked}
+use Rattle.st_lemmas.proofs.Words
+use Words.{◌≡◌, ℕ, ◌≤◌, Bool, true, false, ◌==◌, refl, sym, ap, ◌∙◌, subst, arith, if◌then◌else◌, not, nat_lt, Option, Some, None, eqb-true, ltb-true, GrantNo}
+use Words.{Stamp, Mode, Header, Body, Why, Asked, Request}
+use Words.modes
+use Words.bodies
+use Words.why
+use Words.ClientLocks as locks
+use Words.ClientReplies as cr
+use Words.ClientState.{ClientSession, Turn, fits, forget_wait, reasserts, send, with_cache, with_release}
+use Words.Tables.{and_true, cond_either}
 use Rattle.st_rules.specs.declared.client.Asked.TheVariants.{Reduce, NotHeld, Stale}
-use Rattle.st_rules.specs.declared.client.Request.{Request}
-use Rattle.st_rules.specs.ClientLocks as locks
-use Rattle.st_rules.specs.ClientReplies as cr
-use Rattle.st_rules.specs.ClientState.{ClientSession, Turn, fits, forget_wait, reasserts, send, with_cache, with_release}
-use Rattle.st_lemmas.proofs.Tables.{and_true, cond_either}
 use Rattle.st_laws_healthy.proofs.Counting.{IsEnded, replied_ends}
+use Rattle.st_laws_healthy.proofs.Queues.{Longer, More, Same}
 use Rattle.st_laws_healthy.proofs.Replies.{counts_for}
 
 -- a session whose epoch, requests and lease are these, and that is not due anew
@@ -30,9 +23,10 @@ pub record Follows (s : ClientSession) (o : Option ClientSession) : Type 0 where
   pub requests : session.requests ≡ s.requests
   pub lease : session.lease ≡ s.lease
   pub due : session.due ≡ s.due
+  pub releases : Longer s.releases session.releases
 
 pub follows_self : (s : ClientSession) → Follows s (Some s)
-follows_self s = record { session = s; is = refl; epoch = refl; requests = refl; lease = refl; due = refl }
+follows_self s = record { session = s; is = refl; epoch = refl; requests = refl; lease = refl; due = refl; releases = Same }
 
 follows_grant : (s : ClientSession) (ino : ℕ) (g : GrantNo) (mode : Mode) → Follows s (Some (cr.grant (forget_wait ino s) ino g mode))
 unfolding cr.grant cr.grant_new cr.accept_grant cr.decline
@@ -40,9 +34,17 @@ follows_grant s ino g mode =
     let u = forget_wait ino s in
     cond_either (λ (z : ClientSession). Follows s (Some z)) (locks.is_above_seen u.locks ino g) (cr.grant_new u ino g mode) u
     (λ e. cond_either (λ (z : ClientSession). Follows s (Some z)) (locks.has_place u.locks ino) (cr.accept_grant u ino g mode) (cr.decline u ino g)
-    (λ f. record { session = cr.accept_grant u ino g mode; is = refl; epoch = refl; requests = refl; lease = refl; due = refl })
-    (λ f. record { session = cr.decline u ino g; is = refl; epoch = refl; requests = refl; lease = refl; due = refl }))
-    (λ e. record { session = u; is = refl; epoch = refl; requests = refl; lease = refl; due = refl })
+    (λ f. record { session = cr.accept_grant u ino g mode; is = refl; epoch = refl; requests = refl; lease = refl; due = refl; releases = Same })
+    (λ f. record {
+      session = cr.decline u ino g;
+      is = refl;
+      epoch = refl;
+      requests = refl;
+      lease = refl;
+      due = refl;
+      releases = More s.releases (record { ino = ino; g = g; to = modes.None }) Same;
+    }))
+    (λ e. record { session = u; is = refl; epoch = refl; requests = refl; lease = refl; due = refl; releases = Same })
 
 follows_demand : (t : Turn) (s : ClientSession) (ino : ℕ) (g : GrantNo) (to : Mode) → t.here.session ≡ Some s → Follows s (cr.demand t s ino g to).here.session
 unfolding cr.demand cr.demand_by cr.demand_as cr.observe_demand cr.release_unheld send
@@ -52,12 +54,20 @@ follows_demand t s ino g to e = go d d.asked
     d = locks.demand s.locks ino g to
 
     go : (d : locks.Demanding) (k : Asked) → Follows s (cr.demand_as t (with_cache d.locks s) ino g k).here.session
-    go d Reduce = record { session = with_cache d.locks s; is = refl; epoch = refl; requests = refl; lease = refl; due = refl }
+    go d Reduce = record { session = with_cache d.locks s; is = refl; epoch = refl; requests = refl; lease = refl; due = refl; releases = Same }
     go d NotHeld =
         cond_either (λ (z : ClientSession). Follows s (Some z)) (cr.has_release (with_cache d.locks s) ino g) (with_cache d.locks s)
         (with_release ino g modes.None (with_cache d.locks s))
-        (λ f. record { session = with_cache d.locks s; is = refl; epoch = refl; requests = refl; lease = refl; due = refl })
-        (λ f. record { session = with_release ino g modes.None (with_cache d.locks s); is = refl; epoch = refl; requests = refl; lease = refl; due = refl })
+        (λ f. record { session = with_cache d.locks s; is = refl; epoch = refl; requests = refl; lease = refl; due = refl; releases = Same })
+        (λ f. record {
+          session = with_release ino g modes.None (with_cache d.locks s);
+          is = refl;
+          epoch = refl;
+          requests = refl;
+          lease = refl;
+          due = refl;
+          releases = More s.releases (record { ino = ino; g = g; to = modes.None }) Same;
+        })
     go d Stale = subst (Follows s) (sym e) (follows_self s)
 
 -- a refusal that condemns no lease

@@ -1,16 +1,11 @@
 -- A reply that counts: what a client with an outstanding request takes for an answer, and that a rule gives it.
-use Rattle.std.proofs.Common.{◌≡◌, ◌⊎◌, Bool, true, false, [], ◌∷◌, ◌++◌, inl}
-use Rattle.std.specs.Prelude.{Option, Some, None}
-use Rattle.st_base.specs.declared.ids.Stamp.{Stamp}
-use Rattle.st_messages.specs.declared.message.Header.{Header}
-use Rattle.st_messages.specs.declared.message.Body.{Body}
-use Rattle.st_messages.specs.declared.message.Body.TheVariants as bd
-use Rattle.st_messages.specs.declared.message.Why.{Why}
-use Rattle.st_messages.specs.declared.message.Why.TheVariants as why
-use Rattle.st_rules.specs.ClientState.{fits}
-use Rattle.st_rules.specs.Server.{Replied, ServerTurn}
-use Rattle.st_messages.specs.declared.output.Note.{Note}
-use Rattle.st_messages.specs.declared.output.Output.TheVariants as outputs
+use Rattle.st_lemmas.proofs.Words
+use Words.{◌≡◌, ◌⊎◌, Bool, true, false, [], ◌∷◌, ◌++◌, inl, Option, Some, None, Stamp, Header, Body, Why, Note}
+use Words.bodies as bd
+use Words.why
+use Words.ClientState.{fits}
+use Words.Server.{Replied, ServerTurn}
+use Words.outputs
 
 -- the requests that a session serves one after another
 abbrev pub is_served : Body → Bool

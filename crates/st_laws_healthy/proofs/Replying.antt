@@ -1,38 +1,25 @@
 -- A server replies to each request that is a session's next one, with a reply that fits, and keeps it; and it replies to the last one with the kept reply.
-use Rattle.std.proofs.Common.{◌≡◌, ℕ, ◌⊎◌, true, List, [], ◌∷◌, ◌++◌, refl, sym, ap, ◌∙◌, subst, inl, inr}
-use Rattle.std.specs.Prelude.{Option, Some, None, Result, Ok, Err}
-use Rattle.std.proofs.lemmas.Bool.{eq-eqb}
-use Rattle.st_base.specs.declared.ids.GrantNo.{GrantNo}
-use Rattle.st_base.specs.declared.ids.PageNo.{PageNo}
-use Rattle.st_base.specs.declared.ids.Stamp.{Stamp}
-use Rattle.st_base.specs.declared.mode.Mode.{Mode}
-use Rattle.st_base.specs.declared.mode.Mode.TheVariants as modes
-use Rattle.st_messages.specs.declared.message.Header.{Header}
-use Rattle.st_messages.specs.declared.message.Body.{Body}
-use Rattle.st_messages.specs.declared.message.Body.TheVariants as bd
-use Rattle.st_messages.specs.declared.message.Why.TheVariants as why
-use Rattle.st_rules.specs.declared.extents.AllocateRefusal.{AllocateRefusal}
-use Rattle.st_rules.specs.declared.extents.AllocateRefusal.TheVariants as wants
-use Rattle.st_rules.specs.declared.locks.AcquireRefusal.{AcquireRefusal}
-use Rattle.st_rules.specs.declared.locks.Verdict.{Verdict}
-use Rattle.st_rules.specs.declared.locks.Verdict.TheVariants as verdicts
-use Rattle.st_rules.specs.Extents as extents
-use Rattle.st_rules.specs.Extents.{Extents}
-use Rattle.st_rules.specs.Locks as locks
-use Rattle.st_rules.specs.Server as sv
-use Rattle.st_rules.specs.Server.{Replied, ServerTurn, serve}
-use Rattle.st_rules.specs.declared.sessions.Taken.{Taken}
-use Rattle.st_rules.specs.declared.sessions.Taken.TheVariants as takes
-use Rattle.st_rules.specs.Keys.{server_node}
-use Rattle.st_rules.specs.Sessions as sessions
-use Rattle.st_messages.specs.declared.output.Note.TheVariants as notes
-use Rattle.st_messages.specs.declared.output.Output.{Output}
-use Rattle.st_messages.specs.declared.output.Output.TheVariants as outputs
-use Rattle.st_base.specs.declared.ids.Epoch.{Epoch}
-use Rattle.st_base.specs.declared.ids.ServerId.{ServerId}
-use Rattle.st_lemmas.specs.Lists.{Has}
-use Rattle.st_lemmas.proofs.Tables.{cond_either}
-use Rattle.st_laws_healthy.proofs.Naming.{r_name}
+use Rattle.st_lemmas.proofs.Words
+use Words.{◌≡◌, ℕ, ◌⊎◌, true, List, [], ◌∷◌, ◌++◌, refl, sym, ap, ◌∙◌, subst, inl, inr, Option, Some, None, Result, Ok, Err, eq-eqb, GrantNo, PageNo, Stamp}
+use Words.{Mode, Header, Body, AllocateRefusal, AcquireRefusal, Verdict, Taken, Output, Epoch, ServerId}
+use Words.modes
+use Words.bodies as bd
+use Words.why
+use Words.wants
+use Words.verdicts
+use Words.Extents as extents
+use Words.Extents.{Extents}
+use Words.Locks as locks
+use Words.Server as sv
+use Words.Server.{Replied, ServerTurn, serve}
+use Words.takes
+use Words.Keys.{server_node}
+use Words.Sessions as sessions
+use Words.notes
+use Words.outputs
+use Words.Lists.{Has}
+use Words.Tables.{cond_either}
+use Rattle.st_laws_healthy.proofs.Naming.{gets_reply_name}
 use Rattle.st_laws_healthy.proofs.Replies.{Counts, GetsReply, counts_for, gives, is_served}
 
 -- the last of a list
@@ -41,9 +28,9 @@ has_end [] x y e = inl e
 has_end (z ∷ zs) x y e = inr (has_end zs x y e)
 
 module _ (now : Stamp) (h : Header) where
-  r_acquire : (t : ServerTurn) (ino : ℕ) (mode : Mode) → GetsReply now h t (bd.Acquire ino mode) (sv.acquire t now h ino mode)
+  gets_reply_acquire : (t : ServerTurn) (ino : ℕ) (mode : Mode) → GetsReply now h t (bd.Acquire ino mode) (sv.acquire t now h ino mode)
   unfolding sv.acquire sv.acquire_lock sv.acquire_by sv.no_file
-  r_acquire t ino mode =
+  gets_reply_acquire t ino mode =
       cond_either (GetsReply now h t (bd.Acquire ino mode)) (sv.is_file t ino) (sv.acquire_lock t now h ino mode) (sv.no_file t ino)
       (λ e. go (locks.acquire t.state.locks (sv.sender h) (sv.life_in h) ino mode (sv.grants_now t now)))
       (λ e. gives now h t t (bd.Acquire ino mode) (bd.Nack why.NoFile ino 0) refl refl refl refl refl)
@@ -56,18 +43,18 @@ module _ (now : Stamp) (h : Header) where
       go (Ok a) = gives now h t (sv.with_locks a.locks t) (bd.Acquire ino mode) (sv.verdict_body ino mode a.verdict) refl refl refl refl (by a.verdict)
       go (Err r) = gives now h t t (bd.Acquire ino mode) (bd.Nack why.TooManyLocks 1024 0) refl refl refl refl refl
 
-  r_map : (t : ServerTurn) (ino : ℕ) (g : GrantNo) (p : PageNo) → GetsReply now h t (bd.Map ino g p) (sv.map t h ino g p)
+  gets_reply_map : (t : ServerTurn) (ino : ℕ) (g : GrantNo) (p : PageNo) → GetsReply now h t (bd.Map ino g p) (sv.map t h ino g p)
   unfolding sv.map sv.map_held sv.map_page sv.not_holder sv.no_file
-  r_map t ino g p =
+  gets_reply_map t ino g p =
       cond_either (GetsReply now h t (bd.Map ino g p)) (sv.is_file t ino) (sv.map_held t h ino g p) (sv.no_file t ino)
       (λ e. cond_either (GetsReply now h t (bd.Map ino g p)) (sv.holds t h ino g modes.S) (sv.map_page t ino p) (sv.not_holder t ino g)
       (λ e. record { counts = eq-eqb ino ino refl; id = refl; epoch = refl; sessions = refl; out = inl refl })
       (λ e. record { counts = refl; id = refl; epoch = refl; sessions = refl; out = inl refl }))
       (λ e. record { counts = refl; id = refl; epoch = refl; sessions = refl; out = inl refl })
 
-  r_allocate : (t : ServerTurn) (ino : ℕ) (g : GrantNo) (p : PageNo) (n : ℕ) → GetsReply now h t (bd.Allocate ino g p n) (sv.allocate t h ino g p n)
+  gets_reply_allocate : (t : ServerTurn) (ino : ℕ) (g : GrantNo) (p : PageNo) (n : ℕ) → GetsReply now h t (bd.Allocate ino g p n) (sv.allocate t h ino g p n)
   unfolding sv.allocate sv.allocate_held sv.allocate_pages sv.allocate_by sv.with_extents_told sv.not_holder sv.no_file
-  r_allocate t ino g p n =
+  gets_reply_allocate t ino g p n =
       cond_either (GetsReply now h t (bd.Allocate ino g p n)) (sv.is_file t ino) (sv.allocate_held t h ino g p n) (sv.no_file t ino)
       (λ e. cond_either (GetsReply now h t (bd.Allocate ino g p n)) (sv.holds t h ino g modes.X) (sv.allocate_pages t ino p n) (sv.not_holder t ino g)
       (λ e. go (extents.allocate t.state.stable.extents (sv.file t ino) p n)) (λ e. record
@@ -78,9 +65,9 @@ module _ (now : Stamp) (h : Header) where
       go (Ok x) = record { counts = eq-eqb ino ino refl; id = refl; epoch = refl; sessions = refl; out = inl refl }
       go (Err (wants.NoSpace free asked)) = record { counts = refl; id = refl; epoch = refl; sessions = refl; out = inl refl }
 
-  r_cut : (t : ServerTurn) (ino : ℕ) (g : GrantNo) (p : PageNo) → GetsReply now h t (bd.Cut ino g p) (sv.cut t h ino g p)
+  gets_reply_cut : (t : ServerTurn) (ino : ℕ) (g : GrantNo) (p : PageNo) → GetsReply now h t (bd.Cut ino g p) (sv.cut t h ino g p)
   unfolding sv.cut sv.cut_held sv.cut_from sv.cut_pages sv.not_holder sv.no_file
-  r_cut t ino g p =
+  gets_reply_cut t ino g p =
       cond_either (GetsReply now h t (bd.Cut ino g p)) (sv.is_file t ino) (sv.cut_held t h ino g p) (sv.no_file t ino)
       (λ e. cond_either (GetsReply now h t (bd.Cut ino g p)) (sv.holds t h ino g modes.X) (sv.cut_from t ino p) (sv.not_holder t ino g)
       (λ e. record { counts = refl; id = refl; epoch = refl; sessions = refl; out = inr (notes.CutDone (sv.file t ino) p, refl) })
@@ -91,12 +78,12 @@ module _ (now : Stamp) (h : Header) where
   pub rule_replies : (t : ServerTurn) (b : Body) → is_served b ≡ true → GetsReply now h t b (sv.rule t now h b)
   unfolding sv.rule sv.keep_alive sv.released sv.released_by
   rule_replies t bd.KeepAlive e = record { counts = refl; id = refl; epoch = refl; sessions = refl; out = inl refl }
-  rule_replies t (bd.Acquire ino mode) e = r_acquire t ino mode
+  rule_replies t (bd.Acquire ino mode) e = gets_reply_acquire t ino mode
   rule_replies t (bd.Released ino g to) e = record { counts = refl; id = refl; epoch = refl; sessions = refl; out = inl refl }
-  rule_replies t (bd.Map ino g p) e = r_map t ino g p
-  rule_replies t (bd.Allocate ino g p n) e = r_allocate t ino g p n
-  rule_replies t (bd.Cut ino g p) e = r_cut t ino g p
-  rule_replies t (bd.Name op) e = r_name now h t op
+  rule_replies t (bd.Map ino g p) e = gets_reply_map t ino g p
+  rule_replies t (bd.Allocate ino g p n) e = gets_reply_allocate t ino g p n
+  rule_replies t (bd.Cut ino g p) e = gets_reply_cut t ino g p
+  rule_replies t (bd.Name op) e = gets_reply_name now h t op
   rule_replies t b e = cc
 
   -- a reply to the request is among these outputs

@@ -1,20 +1,12 @@
 -- Requests of a client among messages, and which of them a server's session has a reply for.
-use Rattle.std.proofs.Common.{◌≡◌, ℕ, ◌+◌, ◌==◌, refl, sym, subst, arith}
-use Rattle.std.specs.Prelude.{nat_lt, Option, Some, None}
-use Rattle.std.proofs.lemmas.Bool.{eqb-true, ltb-true}
-use Rattle.st_base.specs.declared.ids.ClientId.{ClientId}
-use Rattle.st_messages.specs.declared.message.Header.{Header}
-use Rattle.st_messages.specs.declared.message.Body.{Body}
-use Rattle.st_messages.specs.declared.message.Message.{Message}
-use Rattle.st_rules.specs.declared.sessions.Session.{Session}
-use Rattle.st_rules.specs.declared.sessions.SessionState.{SessionState}
-use Rattle.st_rules.specs.declared.sessions.SessionState.TheVariants.{Live, Ended}
-use Rattle.st_rules.specs.declared.sessions.Taken.{Taken}
-use Rattle.st_rules.specs.declared.sessions.Taken.TheVariants as takes
-use Rattle.st_rules.specs.Server as sv
-use Rattle.st_rules.specs.Server.{ServerTurn}
-use Rattle.st_rules.specs.Sessions as sessions
-use Rattle.st_lemmas.proofs.Tables.{cond_either}
+use Rattle.st_lemmas.proofs.Words
+use Words.{◌≡◌, ℕ, ◌+◌, ◌==◌, refl, sym, subst, arith, nat_lt, Option, Some, None, eqb-true, ltb-true, ClientId, Header, Body, Message, Session, SessionState}
+use Words.{Taken}
+use Words.states.{Live, Ended}
+use Words.takes
+use Words.Server as sv
+use Words.Sessions as sessions
+use Words.Tables.{cond_either}
 
 -- a request of this client, life and epoch, under this number, among these messages
 pub record IsRequest (S : Message → Type 0) (c : ClientId) (life epoch number : ℕ) (m : Message) : Type 0 where

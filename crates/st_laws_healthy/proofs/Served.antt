@@ -1,47 +1,39 @@
 -- What a step of a server does for one life of a client that it does not suspect: how far the session of that life is served after it.
 -- Each message to the client is one that nobody asked for, or of an earlier life, or a welcome, or a reply that counts, or tells of another epoch.
-use Rattle.std.proofs.Common.{◌≡◌, ◌≢◌, ℕ, ◌+◌, ◌≤◌, ◌<◌, ◌⊎◌, true, false, ◌==◌, List, [], ◌∷◌, refl, sym, ap, ◌∙◌, subst, inl, inr, arith}
-use Rattle.std.specs.Prelude.{nat_lt, Option, Some, None, option_map}
-use Rattle.std.proofs.lemmas.Bool.{eq-eqb, eqb-true, ltb-true}
-use Rattle.st_base.specs.declared.ids.ClientId.{ClientId}
-use Rattle.st_base.specs.declared.ids.Epoch.{Epoch}
-use Rattle.st_base.specs.declared.ids.ServerId.{ServerId}
-use Rattle.st_base.specs.declared.ids.Stamp.{Stamp}
-use Rattle.st_messages.specs.declared.message.Header.{Header}
-use Rattle.st_messages.specs.declared.message.Body.{Body}
-use Rattle.st_messages.specs.declared.message.Body.TheVariants as bd
-use Rattle.st_messages.specs.declared.message.Message.{Message}
-use Rattle.st_messages.specs.declared.message.Why.{Why}
-use Rattle.st_messages.specs.declared.message.Why.TheVariants as why
-use Rattle.st_messages.specs.declared.output.Output.{Output}
-use Rattle.st_messages.specs.declared.output.Output.TheVariants as outputs
-use Rattle.st_rules.specs.declared.input.ServerInput.TheVariants.{Tick, Control}
-use Rattle.st_rules.specs.declared.sessions.Session.{Session}
-use Rattle.st_rules.specs.declared.sessions.SessionState.{SessionState}
-use Rattle.st_rules.specs.declared.sessions.SessionState.TheVariants.{Live}
-use Rattle.st_rules.specs.declared.sessions.Taken.{Taken}
-use Rattle.st_rules.specs.declared.sessions.Taken.TheVariants as takes
-use Rattle.st_rules.specs.Authority as authority
-use Rattle.st_rules.specs.Authority.{may_ack}
-use Rattle.st_rules.specs.Keys.{client, server_node}
-use Rattle.st_rules.specs.Server as sv
-use Rattle.st_rules.specs.Server.{ServerState, ServerTurn, server_step, thefts, turn}
-use Rattle.st_rules.specs.Sessions as sessions
-use Rattle.st_rules.specs.Sessions.{Sessions}
-use Rattle.st_lemmas.specs.Lists.{Has}
-use Rattle.st_lemmas.proofs.Lookups.{some_is}
-use Rattle.st_lemmas.proofs.Tables.{cond_either, found_at, has_append, same_or_not}
+use Rattle.st_lemmas.proofs.Words
+use Words.{◌≡◌, ◌≢◌, ℕ, ◌+◌, ◌≤◌, ◌<◌, ◌⊎◌, true, false, ◌==◌, List, [], ◌∷◌, refl, sym, ap, ◌∙◌, subst, inl, inr, arith, nat_lt, Option, Some, None}
+use Words.{option_map, eq-eqb, eqb-true, ltb-true, ClientId, Epoch, ServerId, Stamp, Header, Body, Message, Why, Output, ServerInput, Session, SessionState}
+use Words.{Taken}
+use Words.bodies as bd
+use Words.why
+use Words.outputs
+use Words.serving.{Tick, Control}
+use Words.states.{Live}
+use Words.takes
+use Words.Authority as authority
+use Words.Authority.{may_ack}
+use Words.Keys.{client, server_node}
+use Words.Server as sv
+use Words.Server.{ServerState, ServerTurn, server_step, thefts, turn}
+use Words.Sessions as sessions
+use Words.Sessions.{Sessions}
+use Words.Lists.{Has}
+use Words.Lookups.{some_is}
+use Words.Members.{has_right}
+use Words.Tables.{cond_either, found_at}
+use Words.Truth.{not_both}
 use Rattle.st_laws_refine.proofs.Server.Reasserting.{TakeOk, taken_ok}
-use Rattle.st_laws_healthy.proofs.Counting.{clash}
 use Rattle.st_laws_healthy.proofs.Greeting.{IsQuiet, IsWelcome, no_timer, seen_quiet, welcomed}
 use Rattle.st_laws_healthy.proofs.Lives.{ComesFrom, IsOf, IsOlder, comes_from}
 use Rattle.st_laws_healthy.proofs.Replies.{counts_for, is_served}
 use Rattle.st_laws_healthy.proofs.Requests.{IsRequest, in_epoch, not_unknown}
-use Rattle.st_laws_healthy.proofs.Serving.{Accepts, Alone, Answers, Does, Ground, OfEpoch, OfGrace, OfGreeting, OfLocks, OfSession, OfSuspect, Passes, Refuses, Repeats, Serves, Welcomes, does, reply_in, said_is}
+use Rattle.st_laws_healthy.proofs.Serving.{Accepts, Alone, Answers, Does, Ground, OfEpoch, OfGrace, OfGreeting, OfLocks, OfSession, OfSuspect, Passes, Refuses}
+use Rattle.st_laws_healthy.proofs.Serving.{Repeats, Serves, Welcomes, does, reply_in, said_is}
 use Rattle.st_laws_healthy.proofs.Sessions.{Is_later, LivesOn, Serves_next, Stays, kept_of, kept_own, lives_on}
 use Rattle.st_laws_healthy.proofs.Sparing.{IsSpared, spared}
 use Rattle.st_laws_healthy.proofs.Taking.{IsSeen, SawDemand}
-use Rattle.st_laws_healthy.proofs.Telling.{IsUnasked, quiet, step_answers, step_free, step_grows, step_says, step_sends, step_sessions, tick_sends, tick_sessions}
+use Rattle.st_laws_healthy.proofs.Telling.{IsUnasked, quiet, step_answers, step_free, step_grows, step_says, step_sends, step_sessions, tick_sends}
+use Rattle.st_laws_healthy.proofs.Telling.{tick_sessions}
 
 module _ (c : ClientId) (s : ServerId) where
   -- a message from the client to the server, and one back
@@ -141,12 +133,12 @@ module _ (c : ClientId) (s : ServerId) where
   no_before v life ms epoch last f z = let l = f z.session z.is in let e = z.of_life in omega (arith, l, e)
 
   -- What a step does for a life.
-  pub record Goes (ms ns : List Message) (v w : Sessions) (life epoch last : ℕ) (out : List Output) : Type 0 where
+  pub record Goes (ms ns : List Message) (v w : Sessions) (life epoch last : ℕ) (i : ServerInput) (out : List Output) : Type 0 where
     pub next : ℕ
     pub grows : last ≤ next
     pub known : IsKnown ns w life epoch next
     pub served : IsServed ms v life epoch last → IsServed ns w life epoch next
-    pub given : (next ≡ last) ⊎ ((r : Message) × IsRequest (Comes ns) c life epoch next r)
+    pub given : (next ≡ last) ⊎ ((r : Message) × (i ≡ Control r) × (next ≡ last + 1) × IsRequest (Comes ns) c life epoch next r)
     pub told : (r : Message) → Has (outputs.Send r) out → From r → IsTold ns w life epoch next r
 
   module _ (ms ns : List Message) (more : (m : Message) → Has m ms → Has m ns) (n : ServerState) (now : Stamp) (life last : ℕ)
@@ -181,14 +173,14 @@ module _ (c : ClientId) (s : ServerId) where
     known_as w e (IsBefore f q) = IsBefore (λ y h. f y (sym e ∙ h)) q
     known_as w e (IsLiving k) = IsLiving (served_as w e k)
 
-    same : (w : Sessions) (out : List Output) → sessions.session_of w c ≡ sessions.session_of n.sessions c →
-        ((r : Message) → Has (outputs.Send r) out → From r → IsTold ns w life epoch last r) → Goes ms ns n.sessions w life epoch last out
-    same w out e f = record { next = last; grows = omega arith; known = known_as w e known; served = served_as w e; given = inl refl; told = f }
+    same : (w : Sessions) (i : ServerInput) (out : List Output) → sessions.session_of w c ≡ sessions.session_of n.sessions c →
+        ((r : Message) → Has (outputs.Send r) out → From r → IsTold ns w life epoch last r) → Goes ms ns n.sessions w life epoch last i out
+    same w i out e f = record { next = last; grows = omega arith; known = known_as w e known; served = served_as w e; given = inl refl; told = f }
 
     -- A tick.
-    pub tick_goes : Goes ms ns n.sessions (server_step n now Tick).state.sessions life epoch last (server_step n now Tick).out
+    pub tick_goes : Goes ms ns n.sessions (server_step n now Tick).state.sessions life epoch last Tick (server_step n now Tick).out
     tick_goes =
-        same (server_step n now Tick).state.sessions (server_step n now Tick).out (ap (λ v. sessions.session_of v c) (tick_sessions n now) ∙ z.session)
+        same (server_step n now Tick).state.sessions Tick (server_step n now Tick).out (ap (λ v. sessions.session_of v c) (tick_sessions n now) ∙ z.session)
         (λ r h f. IsOwn (tick_sends n now r h))
 
     -- A message to the server.
@@ -202,11 +194,11 @@ module _ (c : ClientId) (s : ServerId) where
       abbrev w : Sessions
       w = (server_step n now (Control m)).state.sessions
 
-      w_is : w ≡ v.state.sessions
-      w_is = step_sessions n now m
+      sessions_stay : w ≡ v.state.sessions
+      sessions_stay = step_sessions n now m
 
-      v_same : sessions.session_of w c ≡ sessions.session_of v.state.sessions c
-      v_same = ap (λ x. sessions.session_of x c) w_is
+      session_stays : sessions.session_of w c ≡ sessions.session_of v.state.sessions c
+      session_stays = ap (λ x. sessions.session_of x c) sessions_stay
 
       -- what a reply is from and to
       its_life : (r : Message) → Answers now h u m.body r → (r.header.life ≡ h.life) × (r.header.to ≡ h.from)
@@ -222,7 +214,7 @@ module _ (c : ClientId) (s : ServerId) where
             go (inr l) = l
 
         other_served : IsServed ms n.sessions life epoch last → sessions.session_of w c ≡ sessions.session_of n.sessions c
-        other_served k = v_same ∙ subst (λ (x : ClientId). sessions.session_of v.state.sessions x ≡ Some k.session) own
+        other_served k = session_stays ∙ subst (λ (x : ClientId). sessions.session_of v.state.sessions x ≡ Some k.session) own
             (by (lives_on now h u v m.body k.session last k.kept there k.state (does now h u m.body))) ∙ sym k.is
           where
             own : k.session.client ≡ c
@@ -239,7 +231,7 @@ module _ (c : ClientId) (s : ServerId) where
 
         other_before : ((y : Session) → sessions.session_of n.sessions c ≡ Some y → y.life.0 < life) → (y : Session) → sessions.session_of w c ≡ Some y →
             y.life.0 < life
-        other_before f y q = by (comes_from now h u v m.body c (does now h u m.body) y (sym v_same ∙ q))
+        other_before f y q = by (comes_from now h u v m.body c (does now h u m.body) y (sym session_stays ∙ q))
           where
             by : ComesFrom now h u v m.body c y → y.life.0 < life
             by (IsOlder x e l) = let o = f x (sym z.session ∙ e) in let k = ap (λ (i : Rattle.st_base.specs.declared.ids.Life.Life). i.0) l in omega
@@ -253,10 +245,10 @@ module _ (c : ClientId) (s : ServerId) where
             by (inl q) = IsOwn q
             by (inr a) = let y = its_life r a in let l = not_its (sym y.1 ∙ f.to) in let e = y.0 in IsEarlier (omega (arith, l, e))
 
-        pub other_goes : Goes ms ns n.sessions w life epoch last (server_step n now (Control m)).out
+        pub other_goes : Goes ms ns n.sessions w life epoch last (Control m) (server_step n now (Control m)).out
         other_goes = go known
           where
-            go : IsKnown ms n.sessions life epoch last → Goes ms ns n.sessions w life epoch last (server_step n now (Control m)).out
+            go : IsKnown ms n.sessions life epoch last → Goes ms ns n.sessions w life epoch last (Control m) (server_step n now (Control m)).out
             go (IsBefore f q) =
                 record {
                   next = last;
@@ -266,7 +258,7 @@ module _ (c : ClientId) (s : ServerId) where
                   given = inl refl;
                   told = other_told;
                 }
-            go (IsLiving k) = same w (server_step n now (Control m)).out (other_served k) other_told
+            go (IsLiving k) = same w (Control m) (server_step n now (Control m)).out (other_served k) other_told
 
       -- A message of the client, in this life.
       module _ (mine : h.from ≡ c.0) (present : h.life ≡ life) where
@@ -308,13 +300,13 @@ module _ (c : ClientId) (s : ServerId) where
             go (inr q) = IsOwn q
 
         -- a message that says nothing and leaves the sessions
-        passed : v.state.sessions ≡ u.state.sessions → v.out ≡ u.out → Goes ms ns n.sessions w life epoch last (server_step n now (Control m)).out
+        passed : v.state.sessions ≡ u.state.sessions → v.out ≡ u.out → Goes ms ns n.sessions w life epoch last (Control m) (server_step n now (Control m)).out
         passed e o =
-            same w (server_step n now (Control m)).out (v_same ∙ ap (λ x. sessions.session_of x c) e ∙ z.session)
+            same w (Control m) (server_step n now (Control m)).out (session_stays ∙ ap (λ x. sessions.session_of x c) e ∙ z.session)
             (told_by last (λ r j. absurd (quiet n now r (subst (Has (outputs.Send r)) o j))))
 
         -- That a demand was seen.
-        pub seen_goes : IsSeen m.body → Goes ms ns n.sessions w life epoch last (server_step n now (Control m)).out
+        pub seen_goes : IsSeen m.body → Goes ms ns n.sessions w life epoch last (Control m) (server_step n now (Control m)).out
         seen_goes q = let k = by m.body q in passed k.sessions k.out
           where
             by : (b : Body) → IsSeen b → IsQuiet now h u (sv.receive u now h b)
@@ -352,7 +344,7 @@ module _ (c : ClientId) (s : ServerId) where
           lives = go known welcome.begins
             where
               its : sessions.session_of w c ≡ Some welcome.session
-              its = v_same ∙ ap (λ x. sessions.session_of v.state.sessions x) (sym sender_is) ∙ welcome.is
+              its = session_stays ∙ ap (λ x. sessions.session_of v.state.sessions x) (sym sender_is) ∙ welcome.is
 
               no_reply : (x : Body) → ◌≡◌ {A = Option Body} None (Some x) → ⊥
               no_reply x f = cc
@@ -374,7 +366,7 @@ module _ (c : ClientId) (s : ServerId) where
                   let l = f welcome.session (sym z.session ∙ ap (λ x. sessions.session_of u.state.sessions x) (sym sender_is) ∙ there) in
                   let k = welcome.life in
                   absurd (omega (arith, l, k, present))
-              go (IsLiving k) b = served_as w (v_same ∙ subst (λ (x : ClientId). sessions.session_of v.state.sessions x ≡ Some k.session) own
+              go (IsLiving k) b = served_as w (session_stays ∙ subst (λ (x : ClientId). sessions.session_of v.state.sessions x ≡ Some k.session) own
                   (by (lives_on now h u v m.body k.session last k.kept there k.state (does now h u m.body))) ∙ sym k.is) k
                 where
                   own : k.session.client ≡ c
@@ -386,10 +378,10 @@ module _ (c : ClientId) (s : ServerId) where
                   by : LivesOn h m.body k.session last (sessions.session_of v.state.sessions k.session.client) →
                       sessions.session_of v.state.sessions k.session.client ≡ Some k.session
                   by (Stays q) = q
-                  by (Serves_next x from l number f g q) = absurd (clash (is_served m.body) f (ap is_served e))
+                  by (Serves_next x from l number f g q) = absurd (not_both (is_served m.body) f (ap is_served e))
                   by (Is_later from l) = let o = k.of_life in absurd (omega (arith, l, o, present))
 
-          pub hello_goes : Goes ms ns n.sessions w life epoch last (server_step n now (Control m)).out
+          pub hello_goes : Goes ms ns n.sessions w life epoch last (Control m) (server_step n now (Control m)).out
           hello_goes =
               record {
                 next = last;
@@ -407,7 +399,7 @@ module _ (c : ClientId) (s : ServerId) where
           hello_answered = (
             record { header = sv.reply_header u.state h; body = bd.Welcome },
             step_grows n now m (reply_in now h u bd.Welcome) (subst (Has (reply_in now h u bd.Welcome)) (sym welcome.out)
-                (Rattle.st_trace.proofs.Client.Lists.has_right u.out (reply_in now h u bd.Welcome ∷ []) (reply_in now h u bd.Welcome) (inl refl))),
+                (has_right u.out (reply_in now h u bd.Welcome ∷ []) (reply_in now h u bd.Welcome) (inl refl))),
             record { from = ap (λ i. server_node i) (z.id ∙ id); to = mine },
             present,
             refl,
@@ -455,19 +447,19 @@ module _ (c : ClientId) (s : ServerId) where
           refused : (top : ℕ) (y : Why) (a b : ℕ) → Ground now h u m.body y → IsGood ns w life epoch top
               (record { header = sv.reply_header u.state h; body = bd.Nack y a b })
           refused top y a b (OfEpoch q) = TellsEpoch a b (ap (λ x. bd.Nack x a b) q)
-          refused top y a b (OfGrace q f) = absurd (clash (is_served m.body) serves (ap is_served q))
+          refused top y a b (OfGrace q f) = absurd (not_both (is_served m.body) serves (ap is_served q))
           refused top y a b (OfSession q) = absurd (not_unknown u.state.sessions h k.session there (k.of_life ∙ sym present) q)
-          refused top y a b (OfLocks rows q) = absurd (clash (is_served m.body) serves (ap is_served q))
+          refused top y a b (OfLocks rows q) = absurd (not_both (is_served m.body) serves (ap is_served q))
           refused top y a b (OfSuspect start q) = absurd (no_timer_runs start q)
-          refused top y a b (OfGreeting q) = absurd (clash (is_served m.body) serves (ap is_served q))
+          refused top y a b (OfGreeting q) = absurd (not_both (is_served m.body) serves (ap is_served q))
 
-          by_rule : Does now h u m.body v → Goes ms ns n.sessions w life epoch last (server_step n now (Control m)).out
+          by_rule : Does now h u m.body v → Goes ms ns n.sessions w life epoch last (Control m) (server_step n now (Control m)).out
           by_rule (Passes e o) = passed e o
           by_rule (Refuses y a b g e says) =
-              same w (server_step n now (Control m)).out (v_same ∙ ap (λ x. sessions.session_of x c) e ∙ z.session)
+              same w (Control m) (server_step n now (Control m)).out (session_stays ∙ ap (λ x. sessions.session_of x c) e ∙ z.session)
               (told_by last (λ r j. answered last (bd.Nack y a b) r (said_is now h u v (bd.Nack y a b) says r j) (refused last y a b g)))
           by_rule (Repeats x e t says) =
-              same w (server_step n now (Control m)).out (v_same ∙ ap (λ x. sessions.session_of x c) e ∙ z.session)
+              same w (Control m) (server_step n now (Control m)).out (session_stays ∙ ap (λ x. sessions.session_of x c) e ∙ z.session)
               (told_by last (λ r j. answered last x r (said_is now h u v x says r j) good))
             where
               ok : TakeOk (sessions.session_of u.state.sessions (sv.sender h)) h.life h.number (takes.Again x)
@@ -494,7 +486,7 @@ module _ (c : ClientId) (s : ServerId) where
                 grows = let l = number_is in omega (arith, l);
                 known = IsLiving served;
                 served = λ y. served;
-                given = inr (m, comes_more ms ns more life epoch h.number m its);
+                given = inr (m, refl, number_is, comes_more ms ns more life epoch h.number m its);
                 told = told_by h.number (λ r j. answered h.number x r (said_is now h u v x says r j)
                     (IsCounted pos (omega arith) m (comes_more ms ns more life epoch h.number m its) refl cnt));
               }
@@ -520,7 +512,7 @@ module _ (c : ClientId) (s : ServerId) where
                   record {
                     session = record k.session { state = Live h.number (Some x) };
                     is =
-                        v_same ∙ ap (λ y. sessions.session_of y c) e ∙ kept_of u.state.sessions (sv.sender h) c h.number x ∙ ap
+                        session_stays ∙ ap (λ y. sessions.session_of y c) e ∙ kept_of u.state.sessions (sv.sender h) c h.number x ∙ ap
                         (option_map (sessions.keep_of (sv.sender h) h.number x)) (z.session ∙ k.is)
                         ∙ ap (λ (y : Session). Some y) (kept_own (sv.sender h) h.number x k.session last k.kept (k.own ∙ sym mine) k.state);
                     own = k.own;
@@ -530,10 +522,10 @@ module _ (c : ClientId) (s : ServerId) where
                     first = never;
                     counts = λ y q. (m, comes_more ms ns more life epoch h.number m its, subst (λ b. counts_for m.body b ≡ true) (kept_some y q) cnt);
                   }
-          by_rule (Welcomes q e says) = absurd (clash (is_served m.body) serves (ap is_served q))
-          by_rule (Accepts rows q l e says) = absurd (clash (is_served m.body) serves (ap is_served q))
+          by_rule (Welcomes q e says) = absurd (not_both (is_served m.body) serves (ap is_served q))
+          by_rule (Accepts rows q l e says) = absurd (not_both (is_served m.body) serves (ap is_served q))
 
-          pub request_goes : Goes ms ns n.sessions w life epoch last (server_step n now (Control m)).out
+          pub request_goes : Goes ms ns n.sessions w life epoch last (Control m) (server_step n now (Control m)).out
           request_goes = by_rule (does now h u m.body)
 
           -- The next request, and the last one, are answered.
@@ -550,7 +542,7 @@ module _ (c : ClientId) (s : ServerId) where
               (λ b. cond_either T (nat_lt h.life k.session.life.0) takes.Stale (sessions.take_state k.session.state h.number)
               (λ d. let l = ltb-true h.life k.session.life.0 d in let o = k.of_life in absurd (omega (arith, l, o, present)))
               (λ d. subst (λ st. T (sessions.take_state st h.number)) (sym k.state) numbered))))
-              (λ a. absurd (clash (h.epoch == u.state.sessions.epoch.0) (eq-eqb h.epoch u.state.sessions.epoch.0 (e ∙ sym epoch_u)) a))
+              (λ a. absurd (not_both (h.epoch == u.state.sessions.epoch.0) (eq-eqb h.epoch u.state.sessions.epoch.0 (e ∙ sym epoch_u)) a))
             where
               T : Taken Body → Type 0
               T t = (t ≡ takes.Fresh) ⊎ ((x : Body) × (t ≡ takes.Again x) × (counts_for m.body x ≡ true))
@@ -575,7 +567,7 @@ module _ (c : ClientId) (s : ServerId) where
 
               next_or : (h.number ≡ last + 1) ⊎ (h.number ≡ last) → (h.number == last) ≡ false → h.number ≡ last + 1
               next_or (inl f) g = f
-              next_or (inr f) g = absurd (clash (h.number == last) (eq-eqb h.number last f) g)
+              next_or (inr f) g = absurd (not_both (h.number == last) (eq-eqb h.number last f) g)
 
               at_least : (h.number ≡ last + 1) ⊎ (h.number ≡ last) → last ≤ h.number
               at_least (inl f) = omega (arith, f)
@@ -588,7 +580,7 @@ module _ (c : ClientId) (s : ServerId) where
                   (λ a. cond_either T (h.number == last) (sessions.again k.kept) (sessions.take_next last h.number)
                   (λ b. again k.kept refl (eqb-true h.number last b))
                   (λ b. cond_either T (h.number == last + 1) takes.Fresh takes.OutOfOrder (λ d. inl refl)
-                  (λ d. absurd (clash (h.number == last + 1) (eq-eqb h.number (last + 1) (next_or q b)) d))))
+                  (λ d. absurd (not_both (h.number == last + 1) (eq-eqb h.number (last + 1) (next_or q b)) d))))
 
           pub request_answered : h.epoch ≡ epoch → (h.number ≡ last + 1) ⊎ (h.number ≡ last) →
               (r : Message) × Has (outputs.Send r) (server_step n now (Control m)).out × From r × (r.header.life ≡ life) × (r.header.epoch ≡ epoch) ×

@@ -1,38 +1,31 @@
 -- A step of the server keeps what is known of its healthy client's association.
-use Rattle.std.proofs.Common.{◌≡◌, ◌≢◌, ℕ, ◌+◌, ◌≤◌, ◌<◌, ◌⊎◌, Bool, true, false, ◌==◌, List, [], ◌∷◌, ◌++◌, Option, Some, None, refl, sym, ap, ◌∙◌, subst, inl, inr, arith}
-use Rattle.std.specs.Prelude.{suc, zero}
-use Rattle.std.proofs.lemmas.Bool.{eq-eqb}
-use Rattle.st_base.specs.declared.config.Config.{Config}
-use Rattle.st_base.specs.declared.ids.ClientId.{ClientId}
-use Rattle.st_base.specs.declared.ids.Epoch.{Epoch}
-use Rattle.st_base.specs.declared.ids.ServerId.{ServerId}
-use Rattle.st_base.specs.declared.ids.Stamp.{Stamp}
-use Rattle.st_messages.specs.declared.event.Event.TheVariants as events
-use Rattle.st_messages.specs.declared.message.Body.TheVariants as bd
-use Rattle.st_messages.specs.declared.message.Message.{Message}
-use Rattle.st_messages.specs.declared.output.Output.{Output}
-use Rattle.st_messages.specs.declared.output.Output.TheVariants as outputs
-use Rattle.st_rules.specs.declared.client.Request.{Request}
-use Rattle.st_rules.specs.declared.input.ServerInput.{ServerInput}
-use Rattle.st_rules.specs.declared.input.ServerInput.TheVariants as serving
-use Rattle.st_rules.specs.declared.observation.Observation.TheVariants as seen
-use Rattle.st_rules.specs.Authority.{may_ack}
-use Rattle.st_rules.specs.ClientState.{Association, ClientSession}
-use Rattle.st_rules.specs.Keys.{server_node}
-use Rattle.st_rules.specs.Safety.{Step}
-use Rattle.st_rules.specs.Server.{ServerState, server_step}
-use Rattle.st_rules.specs.World.{World, numbered}
-use Rattle.st_lemmas.specs.Lists.{Has}
-use Rattle.st_lemmas.proofs.Lookups.{or_right}
-use Rattle.st_lemmas.proofs.Tables.{and_both, same_or_not}
+use Rattle.st_lemmas.proofs.Words
+use Words.{◌≡◌, ◌≢◌, ℕ, ◌+◌, ◌≤◌, ◌<◌, ◌⊎◌, Bool, true, false, ◌==◌, List, [], ◌∷◌, ◌++◌, Option, Some, None, refl, sym, ap, ◌∙◌, subst, inl, inr, arith, suc}
+use Words.{zero, eq-eqb, Config, ClientId, Epoch, ServerId, Stamp, Message, Output, Request, ServerInput}
+use Words.events
+use Words.bodies as bd
+use Words.outputs
+use Words.serving
+use Words.seen
+use Words.Authority.{may_ack}
+use Words.ClientState.{Association, ClientSession}
+use Words.Keys.{server_node}
+use Words.Safety.{Step}
+use Words.Server.{ServerState, server_step}
+use Words.World.{World, numbered}
+use Words.Lists.{Has}
+use Words.Lookups.{or_right}
+use Words.Tables.{and_both, same_or_not}
 use Rattle.st_laws_lasting.specs.Lasting.{client_clock}
 use Rattle.st_laws_leases.specs.Dates.Dates.{messages}
 use Rattle.st_laws_requests.specs.Cuts.Cuts.{Counts, Given, Numbers, Placed, view}
 use Rattle.st_laws_healthy.proofs.Happening.{BringsServer, Deaf}
 use Rattle.st_laws_healthy.proofs.Replies.{counts_for, is_served}
 use Rattle.st_laws_healthy.proofs.Requests.{IsRequest}
-use Rattle.st_laws_healthy.proofs.Served.{Comes, From, Goes, Greets, IsAsked, IsKnown, IsServed, IsTold, Requests, Sees, To, hello_answered, hello_goes, other_goes, request_answered, request_goes, seen_goes, tick_goes, told_more}
-use Rattle.st_laws_healthy.proofs.Talking.{Greeted, HasGreeted, HasSession, IsAsking, IsAsking2, IsCounting, IsGreeting, IsSilent, IsWelcoming, Phase, Requested, Talks, delivered_among, delivered_is, fly, not_delivered}
+use Rattle.st_laws_healthy.proofs.Served.{Comes, From, Goes, Greets, IsAsked, IsKnown, IsServed, IsTold, Requests, Sees, To, hello_answered, hello_goes}
+use Rattle.st_laws_healthy.proofs.Served.{other_goes, request_answered, request_goes, seen_goes, tick_goes, told_more}
+use Rattle.st_laws_healthy.proofs.Talking.{Greeted, HasGreeted, HasSession, IsAsking, IsAsking2, IsCounting, IsGreeting, IsSilent, IsWelcoming, Phase}
+use Rattle.st_laws_healthy.proofs.Talking.{Requested, Talks, delivered_among, delivered_is, fly, not_delivered}
 use Rattle.st_laws_healthy.proofs.Trips.{Back, Begun, Flying, InTime, Out, Trip, flies_on, goes_out, takes_off, trip_began}
 
 -- A message that the server's step sent.
@@ -43,10 +36,18 @@ pub record IsSaid (s : ServerId) (x : Step) (ns : List Message) (out : List Outp
   pub there : numbered ns number ≡ Some m
   pub from : m.header.from ≡ server_node s
 
-module _ (k : Config) (c : ClientId) (s : ServerId) (gap d : ℕ) (few : c.0 ≤ 16) (some : 1 ≤ c.0) where
+-- What is known of an association after a step of the server with this input: its requests are served as far as before, or the input was the next of them.
+pub record TalksNext (k : Config) (c : ClientId) (s : ServerId) (gap d : ℕ) (read : World → ℕ) (delay since : ℕ) (past : List Step) (ms : List Message)
+    (i : ServerInput) (n : ServerState) (now : ℕ) (a : Association) (last : ℕ) : Type 0 where
+  pub known : Talks k c s gap d read delay since past ms n now a
+  pub moves : (known.last ≡ last) ⊎ ((r : Message) × (i ≡ serving.Control r) × (known.last ≡ last + 1) ×
+      IsRequest (Comes c s ms) c a.life.0 n.stable.epoch.0 known.last r)
+
+module _ (k : Config) (c : ClientId) (s : ServerId) (gap d : ℕ) (read : World → ℕ) (delay : ℕ) (few : c.0 ≤ 16) (some : 1 ≤ c.0) where
   module _ (past : List Step) (x : Step) (w : World) (ns : List Message) (more : (m : Message) → Has m (messages w) → Has m ns)
       (keeps : (i : ℕ) (m : Message) → numbered (messages w) i ≡ Some m → numbered ns i ≡ Some m) (now : ℕ) (clock : client_clock c x.after.world ≡ now)
-      (in_time : InTime c s d past (messages w) now) (begun : Begun c s d past now)
+      (in_time : InTime (client_clock c) c s d past (messages w) now) (begun : Begun (client_clock c) c s d past now)
+      (now2 : ℕ) (clock2 : read x.after.world ≡ now2) (in_time2 : InTime read c s delay past (messages w) now2) (begun2 : Begun read c s delay past now2)
       (n : ServerState) (at : Stamp) (i : ServerInput) (free : may_ack n.authority c ≡ true) (still : may_ack (server_step n at i).state.authority c ≡ true)
       (sepoch : n.sessions.epoch ≡ n.stable.epoch) (off : n.grace ≡ None) (id : n.id ≡ s) (epoch_same : (server_step n at i).state.stable.epoch ≡
       n.stable.epoch)
@@ -74,17 +75,19 @@ module _ (k : Config) (c : ClientId) (s : ServerId) (gap d : ℕ) (few : c.0 ≤
         go (inr z) = let y = z.from in let q = f.from in absurd (omega (arith, y, q, few))
 
     -- what flies back to the client flies on
-    flies_back : (P : Message → Type 0) (from : ℕ) (f : Flying c s d past ms P from) → ((m : Message) → P m → From c s m) → Flying c s d past2 ns P from
-    flies_back P from f way = fly k c s gap d past x w ns more keeps P P from c.0 f (λ y. y) (way f.message f.like).to deaf
+    flies_back : (f : World → ℕ) (g : ℕ) (P : Message → Type 0) (from : ℕ) → Flying f c s g past ms P from → ((m : Message) → P m → From c s m) →
+        Flying f c s g past2 ns P from
+    flies_back f g P from y way = fly k c s gap d past x w ns more keeps f g P P from c.0 y (λ h. h) (way y.message y.like).to deaf
 
     -- a message of the server to the client that the step sent takes off
-    back : (P : Message → Type 0) (m : Message) → Has (outputs.Send m) (server_step n at i).out → From c s m → P m → Flying c s d past2 ns P now
-    back P m h f y =
+    back : (f : World → ℕ) (g shown : ℕ) → f x.after.world ≡ shown → (P : Message → Type 0) (m : Message) → Has (outputs.Send m) (server_step n at i).out →
+        From c s m → P m → Flying f c s g past2 ns P shown
+    back f g shown shows P m h y p =
         let z = says m h in
-        subst (Flying c s d past2 ns P) clock
-        (takes_off c s d past x ns P z.number m z.sent z.there
-        (or_right _ _ (and_both (m.header.from == server_node s) (m.header.to == c.0) (eq-eqb m.header.from (server_node s) f.from)
-        (eq-eqb m.header.to c.0 f.to))) y)
+        subst (Flying f c s g past2 ns P) shows
+        (takes_off f c s g past x ns P z.number m z.sent z.there
+        (or_right _ _ (and_both (m.header.from == server_node s) (m.header.to == c.0) (eq-eqb m.header.from (server_node s) y.from)
+        (eq-eqb m.header.to c.0 y.to))) p)
 
     -- a message that is delivered is the input
     brought : (j : ServerInput) → BringsServer w x.event (server_node s) j → (f : ℕ) (y : Message) → numbered ms f ≡ Some y → y.header.to ≡ server_node s →
@@ -99,12 +102,12 @@ module _ (k : Config) (c : ClientId) (s : ServerId) (gap d : ℕ) (few : c.0 ≤
         go (inl e) = inl (ap (λ z. serving.Control z) (delivered_is k c s gap d past x w ns more keeps m b.0 y (ap (λ z. numbered ms z) e ∙ q)))
         go (inr ne) = inr (λ e. ne (number_is (sym b.0.event ∙ e)))
 
-    module _ (a : Association) (t : Talks k c s gap d past ms n now a) (numbers : Numbers (λ m. Has m ms) c s a.life.0 (view a.session)) where
+    module _ (since : ℕ) (a : Association) (t : Talks k c s gap d read delay since past ms n now a) (numbers : Numbers (λ m. Has m ms) c s a.life.0 (view a.session)) where
       abbrev life : ℕ
       life = a.life.0
 
       abbrev G : Type 0
-      G = Goes c s ms ns n.sessions n2.sessions life epoch t.last (server_step n at i).out
+      G = Goes c s ms ns n.sessions n2.sessions life epoch t.last i (server_step n at i).out
 
       -- two requests under one number are one
       one : (y z : Message) (number : ℕ) → 1 ≤ number → IsRequest (Comes c s ms) c life epoch number y → IsRequest (Comes c s ms) c life epoch number z →
@@ -118,21 +121,21 @@ module _ (k : Config) (c : ClientId) (s : ServerId) (gap d : ℕ) (few : c.0 ≤
       has_served : (m : Message) → Has m ms → To c s m → m.header.life ≡ life → 1 ≤ m.header.number → IsServed c s ms n.sessions life epoch t.last
       has_served m h y l pos = go a.session refl t.phase
         where
-          go : (o : Option ClientSession) → a.session ≡ o → Phase k c s gap d past ms n.sessions life epoch t.last o →
+          go : (o : Option ClientSession) → a.session ≡ o → Phase k c s gap d read delay since past ms n.sessions life epoch t.last o →
               IsServed c s ms n.sessions life epoch t.last
           go None e p = let z = subst (λ o. Placed life (view o) m) e (numbers.placed m h (y.from, y.to)) l in absurd (omega (arith, z, pos))
           go (Some z) e p = p.served
 
       -- what the step does for the life
       goes_by : (j : ServerInput) → i ≡ j → BringsServer w x.event (server_node s) j → G
-      goes_by serving.Tick is b = subst (λ j. Goes c s ms ns n.sessions (server_step n at j).state.sessions life epoch t.last (server_step n at j).out)
+      goes_by serving.Tick is b = subst (λ j. Goes c s ms ns n.sessions (server_step n at j).state.sessions life epoch t.last j (server_step n at j).out)
           (sym is) (tick_goes c s ms ns more n at life t.last free sepoch t.known)
       goes_by (serving.Control m) is b =
-          subst (λ j. Goes c s ms ns n.sessions (server_step n at j).state.sessions life epoch t.last (server_step n at j).out) (sym is)
+          subst (λ j. Goes c s ms ns n.sessions (server_step n at j).state.sessions life epoch t.last j (server_step n at j).out) (sym is)
           (go (same_or_not m.header.from c.0))
         where
           GM : Type 0
-          GM = Goes c s ms ns n.sessions (server_step n at (serving.Control m)).state.sessions life epoch t.last (server_step n at (serving.Control m)).out
+          GM = Goes c s ms ns n.sessions (server_step n at (serving.Control m)).state.sessions life epoch t.last (serving.Control m) (server_step n at (serving.Control m)).out
 
           among : Has m ms
           among = delivered_among k c s gap d past x w ns more keeps m b.0
@@ -171,17 +174,19 @@ module _ (k : Config) (c : ClientId) (s : ServerId) (gap d : ℕ) (few : c.0 ≤
       goes = goes_by i refl brings
 
       -- A trip goes on, or turns back.
-      module _ (A B : Message → Type 0) (from : ℕ) (to : (m : Message) → A m → To c s m) (way : (m : Message) → B m → From c s m)
+      module _ (f : World → ℕ) (g shown : ℕ) (shows : f x.after.world ≡ shown) (timely : InTime f c s g past ms shown) (past_it : Begun f c s g past shown)
+          (A B : Message → Type 0) (from : ℕ) (to : (m : Message) → A m → To c s m) (way : (m : Message) → B m → From c s m)
           (turns : (m : Message) → Has m ms → A m → i ≡ serving.Control m → (r : Message) × Has (outputs.Send r) (server_step n at i).out × B r) where
-        goes_on : Trip c s d past ms A B from → Trip c s d past2 ns A B from
-        goes_on (Back y l r f) = Back y l r (flies_back B y f way)
-        goes_on (Out f) = go (brought i brings f.number f.message f.there (to f.message f.like).to)
+        goes_on : Trip f c s g past ms A B from → Trip f c s g past2 ns A B from
+        goes_on (Back y l r p) = Back y l r (flies_back f g B y p way)
+        goes_on (Out p) = go (brought i brings p.number p.message p.there (to p.message p.like).to)
           where
-            go : (i ≡ serving.Control f.message) ⊎ (x.event ≢ events.Deliver f.number) → Trip c s d past2 ns A B from
-            go (inr ne) = Out (flies_on c s d past x ms ns keeps A A from f (λ y. y) ne)
+            go : (i ≡ serving.Control p.message) ⊎ (x.event ≢ events.Deliver p.number) → Trip f c s g past2 ns A B from
+            go (inr ne) = Out (flies_on f c s g past x ms ns keeps A A from p (λ y. y) ne)
             go (inl is) =
-                let z = turns f.message (Rattle.st_lemmas.proofs.Numbers.numbered_has ms f.number f.message f.there) f.like is in
-                Back now (trip_began c s d past ms now A B from begun (Out f)) (goes_out c s d past ms now A from in_time f) (back B z.0 z.1 (way z.0 z.2) z.2)
+                let z = turns p.message (Rattle.st_lemmas.proofs.Numbers.numbered_has ms p.number p.message p.there) p.like is in
+                Back shown (trip_began f c s g past ms shown A B from past_it (Out p)) (goes_out f c s g past ms shown A from timely p)
+                (back f g shown shows B z.0 z.1 (way z.0 z.2) z.2)
 
       -- a greeting is answered with a welcome
       welcomes : (m : Message) → Has m ms → IsGreeting k c s gap d life m → i ≡ serving.Control m →
@@ -199,14 +204,14 @@ module _ (k : Config) (c : ClientId) (s : ServerId) (gap d : ℕ) (few : c.0 ≤
       greeted (IsSilent f) = IsSilent (λ m h g. f m (old_to m h g.way) g)
       greeted (HasGreeted from first trip) =
           HasGreeted from (λ m h g. first m (old_to m h g.way) g)
-          (goes_on (IsGreeting k c s gap d life) (IsWelcoming k c s gap d life) from (λ m y. y.way) (λ m y. y.way) welcomes trip)
+          (goes_on (client_clock c) d now clock in_time begun (IsGreeting k c s gap d life) (IsWelcoming k c s gap d life) from (λ m y. y.way) (λ m y. y.way) welcomes trip)
 
       -- With a session.
-      module _ (z : ClientSession) (e : a.session ≡ Some z) (p : HasSession k c s gap d past ms n.sessions life epoch t.last z) where
+      module _ (z : ClientSession) (there : a.session ≡ Some z) (p : HasSession k c s gap d read delay since past ms n.sessions life epoch t.last z) where
         given : (q : Request) → z.requests.asked ≡ Some q → 1 ≤ q.number
-        given q f = (subst (Given z.requests.next) f (subst (λ o. Counts (view o)) e numbers.counts).1).0
+        given q f = (subst (Given z.requests.next) f (subst (λ o. Counts (view o)) there numbers.counts).1).0
 
-        answers : (q : Request) → z.requests.asked ≡ Some q → IsAsking2 k c s gap d past ms life epoch t.last z.lease.date.0 z.requests.next q →
+        answers : (q : Request) → z.requests.asked ≡ Some q → IsAsking2 k c s gap d read delay since past ms life epoch t.last z.lease.date.0 z.requests.next q →
             (m : Message) → Has m ms →
             IsAsking k c s gap d life epoch q.number q.body m → i ≡ serving.Control m → (r : Message) × Has (outputs.Send r) (server_step n at i).out ×
             IsCounting k c s gap d life epoch q.number q.body r
@@ -259,9 +264,10 @@ module _ (k : Config) (c : ClientId) (s : ServerId) (gap d : ℕ) (few : c.0 ≤
         below : goes.next < z.requests.next
         below = go goes.given
           where
-            go : (goes.next ≡ t.last) ⊎ ((r : Message) × IsRequest (Comes c s ns) c life epoch goes.next r) → goes.next < z.requests.next
+            go : (goes.next ≡ t.last) ⊎ ((r : Message) × (i ≡ serving.Control r) × (goes.next ≡ t.last + 1) × IsRequest (Comes c s ns) c life epoch goes.next r) →
+                goes.next < z.requests.next
             go (inl q) = let l = p.below in omega (arith, l, q)
-            go (inr (r, q)) = by (same_or_not goes.next 0)
+            go (inr (r, is, up, q)) = by (same_or_not goes.next 0)
               where
                 way : To c s r
                 way = record { from = q.from; to = q.among.to }
@@ -269,7 +275,7 @@ module _ (k : Config) (c : ClientId) (s : ServerId) (gap d : ℕ) (few : c.0 ≤
                 by : (goes.next ≡ 0) ⊎ (goes.next ≢ 0) → goes.next < z.requests.next
                 by (inl u) = let l = p.below in omega (arith, l, u)
                 by (inr ne) =
-                    let placed = subst (λ o. Placed life (view o) r) e (numbers.placed r (old_to r q.among.among way) (q.from, q.among.to)) q.of_life
+                    let placed = subst (λ o. Placed life (view o) r) there (numbers.placed r (old_to r q.among.among way) (q.from, q.among.to)) q.of_life
                     (let u = q.under in some_number r u ne) in
                     let l = placed.below (q.of_epoch ∙ sym p.epoch_is) in
                     let u = q.under in
@@ -282,8 +288,8 @@ module _ (k : Config) (c : ClientId) (s : ServerId) (gap d : ℕ) (few : c.0 ≤
                         only zero g = absurd (ne (sym g))
                         only (suc v) g = omega arith
 
-        requested : (o : Option Request) → z.requests.asked ≡ o → Requested k c s gap d past ms life epoch t.last z.lease.date.0 z.requests.next o →
-            Requested k c s gap d past2 ns life epoch goes.next z.lease.date.0 z.requests.next o
+        requested : (o : Option Request) → z.requests.asked ≡ o → Requested k c s gap d read delay since past ms life epoch t.last z.lease.date.0 z.requests.next o →
+            Requested k c s gap d read delay since past2 ns life epoch goes.next z.lease.date.0 z.requests.next o
         requested None f r = let l = goes.grows in omega (arith, l, r)
         requested (Some q) f r =
             record {
@@ -294,12 +300,14 @@ module _ (k : Config) (c : ClientId) (s : ServerId) (gap d : ℕ) (few : c.0 ≤
                 from = r.first.from;
                 young = r.first.young;
                 stamps = λ m h g. r.first.stamps m (old_to m h g.way) g;
-                trip = goes_on (IsAsking k c s gap d life epoch q.number q.body) (IsCounting k c s gap d life epoch q.number q.body) r.first.from
-                    (λ m y. y.way) (λ m y. y.way) (answers q f r) r.first.trip;
+                trip = goes_on (client_clock c) d now clock in_time begun (IsAsking k c s gap d life epoch q.number q.body)
+                    (IsCounting k c s gap d life epoch q.number q.body) r.first.from (λ m y. y.way) (λ m y. y.way) (answers q f r) r.first.trip;
+                also = goes_on read delay now2 clock2 in_time2 begun2 (IsAsking k c s gap d life epoch q.number q.body)
+                    (IsCounting k c s gap d life epoch q.number q.body) since (λ m y. y.way) (λ m y. y.way) (answers q f r) r.first.also;
               };
             }
 
-        has_session : HasSession k c s gap d past2 ns n2.sessions life epoch goes.next z
+        has_session : HasSession k c s gap d read delay since past2 ns n2.sessions life epoch goes.next z
         has_session = record {
           epoch_is = p.epoch_is;
           settled = p.settled;
@@ -314,27 +322,33 @@ module _ (k : Config) (c : ClientId) (s : ServerId) (gap d : ℕ) (few : c.0 ≤
       none_served : a.session ≡ None → t.last ≡ 0 → goes.next ≡ 0
       none_served e l = go goes.given
         where
-          go : (goes.next ≡ t.last) ⊎ ((r : Message) × IsRequest (Comes c s ns) c life epoch goes.next r) → goes.next ≡ 0
+          go : (goes.next ≡ t.last) ⊎ ((r : Message) × (i ≡ serving.Control r) × (goes.next ≡ t.last + 1) × IsRequest (Comes c s ns) c life epoch goes.next r) →
+              goes.next ≡ 0
           go (inl q) = q ∙ l
-          go (inr (r, q)) =
+          go (inr (r, is, up, q)) =
               let way : To c s r = record { from = q.from; to = q.among.to } in
               sym q.under ∙ subst (λ o. Placed life (view o) r) e (numbers.placed r (old_to r q.among.among way) (q.from, q.among.to)) q.of_life
 
-      phase : (o : Option ClientSession) → a.session ≡ o → Phase k c s gap d past ms n.sessions life epoch t.last o →
-          Phase k c s gap d past2 ns n2.sessions life epoch goes.next o
+      phase : (o : Option ClientSession) → a.session ≡ o → Phase k c s gap d read delay since past ms n.sessions life epoch t.last o →
+          Phase k c s gap d read delay since past2 ns n2.sessions life epoch goes.next o
       phase None e p = (greeted p.0, none_served e p.1)
       phase (Some z) e p = has_session z e p
 
       -- what is known after the step
-      pub serves_on : Talks k c s gap d past2 ns n2 now a
+      pub serves_on : TalksNext k c s gap d read delay since past2 ns i n2 now a t.last
       serves_on =
           record {
-            last = goes.next;
-            known = subst (λ (y : Epoch). IsKnown c s ns n2.sessions life y.0 goes.next) (sym epoch_same) goes.known;
-            told = λ m h f. subst (λ (y : Epoch). IsTold c s ns n2.sessions life y.0 goes.next m) (sym epoch_same) (told m f (new m h));
-            asked = λ m h f l. t.asked m (old_to m h f) f l;
-            greets = λ e m h g. t.greets e m (old_to m h g.way) g;
-            phase = subst (λ (y : Epoch). Phase k c s gap d past2 ns n2.sessions life y.0 goes.next a.session) (sym epoch_same) (phase a.session refl t.phase);
+            known = record {
+              last = goes.next;
+              known = subst (λ (y : Epoch). IsKnown c s ns n2.sessions life y.0 goes.next) (sym epoch_same) goes.known;
+              told = λ m h f. subst (λ (y : Epoch). IsTold c s ns n2.sessions life y.0 goes.next m) (sym epoch_same) (told m f (new m h));
+              asked = λ m h f l. t.asked m (old_to m h f) f l;
+              greets = λ e m h g. t.greets e m (old_to m h g.way) g;
+              phase = subst (λ (y : Epoch). Phase k c s gap d read delay since past2 ns n2.sessions life y.0 goes.next a.session) (sym epoch_same)
+                  (phase a.session refl t.phase);
+            };
+            moves = subst (λ (y : Epoch). (goes.next ≡ t.last) ⊎ ((r : Message) × (i ≡ serving.Control r) × (goes.next ≡ t.last + 1) ×
+                IsRequest (Comes c s ns) c life y.0 goes.next r)) (sym epoch_same) goes.given;
           }
         where
           told : (m : Message) → From c s m → Has m ms ⊎ IsSaid s x ns (server_step n at i).out m → IsTold c s ns n2.sessions life epoch goes.next m

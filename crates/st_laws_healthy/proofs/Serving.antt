@@ -1,43 +1,28 @@
 -- What a message does to the sessions of a server, and what it is answered: nothing, a refusal of its client, the kept reply once more, or a reply that
 -- counts for it and is kept; a greeting and a reassertion begin a session.
-use Rattle.std.proofs.Common.{◌≡◌, ℕ, ◌<◌, ◌⊎◌, arith, Bool, true, false, List, [], ◌∷◌, ◌++◌, ◌==◌, refl, sym, ap, ◌∙◌, subst, inl, inr}
-use Rattle.std.proofs.lemmas.Bool.{eq-eqb, ltb-true, ltb-false}
-use Rattle.std.specs.Prelude.{◌&&◌, ◌||◌, find, nat_lt, Option, Some, None, Result, Ok, Err}
-use Rattle.st_base.specs.declared.ids.ClientId.{ClientId}
-use Rattle.st_base.specs.declared.ids.Epoch.{Epoch}
-use Rattle.st_base.specs.declared.ids.GrantNo.{GrantNo}
-use Rattle.st_base.specs.declared.ids.ServerId.{ServerId}
-use Rattle.st_base.specs.declared.ids.Stamp.{Stamp}
-use Rattle.st_base.specs.declared.mode.Mode.{Mode}
-use Rattle.st_messages.specs.declared.message.Header.{Header}
-use Rattle.st_messages.specs.declared.message.Body.{Body}
-use Rattle.st_messages.specs.declared.message.Body.TheVariants as bd
-use Rattle.st_messages.specs.declared.message.Message.{Message}
-use Rattle.st_messages.specs.declared.message.Why.{Why}
-use Rattle.st_messages.specs.declared.message.Why.TheVariants as why
-use Rattle.st_messages.specs.declared.output.Note.{Note}
-use Rattle.st_messages.specs.declared.output.Note.TheVariants as notes
-use Rattle.st_messages.specs.declared.output.Output.{Output}
-use Rattle.st_messages.specs.declared.output.Output.TheVariants as outputs
-use Rattle.st_rules.specs.declared.authority.AcceptRefusal.{AcceptRefusal}
+use Rattle.st_lemmas.proofs.Words
+use Words.{◌≡◌, ℕ, ◌<◌, ◌⊎◌, arith, Bool, true, false, List, [], ◌∷◌, ◌++◌, ◌==◌, refl, sym, ap, ◌∙◌, subst, inl, inr, eq-eqb, ltb-true, ltb-false, ◌&&◌, ◌||◌}
+use Words.{find, nat_lt, Option, Some, None, Result, Ok, Err, ClientId, Epoch, GrantNo, ServerId, Stamp, Mode, Header, Body, Message, Why, Note, Output}
+use Words.{AcceptRefusal, Session, Hello, Taken}
+use Words.bodies as bd
+use Words.why
+use Words.notes
+use Words.outputs
+use Words.hellos
+use Words.takes
+use Words.Authority as authority
+use Words.Grace as grace
+use Words.Keys.{server_node}
+use Words.Locks as locks
+use Words.Server as sv
+use Words.Server.{Replied, ServerTurn, serve}
+use Words.Sessions as sessions
+use Words.Sessions.{Sessions}
+use Words.Lists.{Has}
+use Words.Lookups.{some_is}
+use Words.Tables.{cond_either, has_append}
+use Words.Truth.{not_both}
 use Rattle.st_rules.specs.declared.authority.AcceptRefusal.TheVariants as refusals
-use Rattle.st_rules.specs.declared.sessions.Session.{Session}
-use Rattle.st_rules.specs.declared.sessions.Hello.{Hello}
-use Rattle.st_rules.specs.declared.sessions.Hello.TheVariants as hellos
-use Rattle.st_rules.specs.declared.sessions.Taken.{Taken}
-use Rattle.st_rules.specs.declared.sessions.Taken.TheVariants as takes
-use Rattle.st_rules.specs.Authority as authority
-use Rattle.st_rules.specs.Grace as grace
-use Rattle.st_rules.specs.Keys.{server_node}
-use Rattle.st_rules.specs.Locks as locks
-use Rattle.st_rules.specs.Server as sv
-use Rattle.st_rules.specs.Server.{Replied, ServerTurn, serve}
-use Rattle.st_rules.specs.Sessions as sessions
-use Rattle.st_rules.specs.Sessions.{Sessions}
-use Rattle.st_lemmas.specs.Lists.{Has}
-use Rattle.st_lemmas.proofs.Lookups.{some_is}
-use Rattle.st_lemmas.proofs.Tables.{cond_either, has_append}
-use Rattle.st_laws_healthy.proofs.Counting.{clash}
 use Rattle.st_laws_healthy.proofs.Replies.{Counts, GetsReply, Noted, counts_for, is_served}
 use Rattle.st_laws_healthy.proofs.Replying.{rule_replies}
 
@@ -50,7 +35,7 @@ lower a b p r = go (nat_lt b a) refl
     go false q =
         let u = ltb-false a b p in
         let v = ltb-false b a q in
-        absurd (clash (a == b) (eq-eqb a b (omega (arith, u, v))) r)
+        absurd (not_both (a == b) (eq-eqb a b (omega (arith, u, v))) r)
 
 -- a message that a session serves, or not
 served_or_not : (b : Body) → (is_served b ≡ true) ⊎ (is_served b ≡ false)
@@ -169,27 +154,27 @@ module _ (now : Stamp) (h : Header) where
   unserved t (bd.Name op) e = cc
   unserved t b e = refl
 
-  d_request_by : (t : ServerTurn) (b : Body) (k : Taken Body) → sv.take t h ≡ k → Does t b (sv.request_by t now h b k)
+  does_request_by : (t : ServerTurn) (b : Body) (k : Taken Body) → sv.take t h ≡ k → Does t b (sv.request_by t now h b k)
   unfolding sv.request_by sv.refuse_epoch sv.reply
-  d_request_by t b takes.OtherEpoch e = Refuses why.OtherEpoch h.epoch t.state.stable.epoch.0 (OfEpoch refl) refl (Alone refl)
-  d_request_by t b takes.NoSession e = Refuses why.NoSession 0 0 (OfSession e) refl (Alone refl)
-  d_request_by t b takes.Stale e = Passes refl refl
-  d_request_by t b (takes.Again x) e = Repeats x refl e (Alone refl)
-  d_request_by t b takes.OutOfOrder e = Passes refl refl
-  d_request_by t b takes.Fresh e = go (served_or_not b)
+  does_request_by t b takes.OtherEpoch e = Refuses why.OtherEpoch h.epoch t.state.stable.epoch.0 (OfEpoch refl) refl (Alone refl)
+  does_request_by t b takes.NoSession e = Refuses why.NoSession 0 0 (OfSession e) refl (Alone refl)
+  does_request_by t b takes.Stale e = Passes refl refl
+  does_request_by t b (takes.Again x) e = Repeats x refl e (Alone refl)
+  does_request_by t b takes.OutOfOrder e = Passes refl refl
+  does_request_by t b takes.Fresh e = go (served_or_not b)
     where
       go : (is_served b ≡ true) ⊎ (is_served b ≡ false) → Does t b (serve h (sv.rule t now h b))
       go (inl s) = serves t b (sv.rule t now h b) s e (rule_replies now h t b s)
       go (inr s) = subst (Does t b) (sym (unserved t b s)) (Passes refl refl)
 
-  d_reassert_again : (t : ServerTurn) (b : Body) (k : Taken Body) → sv.take t h ≡ k → Does t b (sv.reassert_again t h k)
+  does_reassert_again : (t : ServerTurn) (b : Body) (k : Taken Body) → sv.take t h ≡ k → Does t b (sv.reassert_again t h k)
   unfolding sv.reassert_again sv.reply
-  d_reassert_again t b (takes.Again x) e = Repeats x refl e (Alone refl)
-  d_reassert_again t b takes.OtherEpoch e = Passes refl refl
-  d_reassert_again t b takes.NoSession e = Passes refl refl
-  d_reassert_again t b takes.Stale e = Passes refl refl
-  d_reassert_again t b takes.OutOfOrder e = Passes refl refl
-  d_reassert_again t b takes.Fresh e = Passes refl refl
+  does_reassert_again t b (takes.Again x) e = Repeats x refl e (Alone refl)
+  does_reassert_again t b takes.OtherEpoch e = Passes refl refl
+  does_reassert_again t b takes.NoSession e = Passes refl refl
+  does_reassert_again t b takes.Stale e = Passes refl refl
+  does_reassert_again t b takes.OutOfOrder e = Passes refl refl
+  does_reassert_again t b takes.Fresh e = Passes refl refl
 
   -- an accepted reassertion begins a session
   abbrev Begins : ServerTurn → Result grace.Accepted AcceptRefusal → Type 0
@@ -216,13 +201,13 @@ module _ (now : Stamp) (h : Header) where
       earlier None = own (grace.own_older t.state.locks (sv.sender h) (sv.life_in h))
       earlier (Some x) = tt
 
-  d_reassert_by : (t : ServerTurn) (rs : List (ℕ × GrantNo × Mode)) (r : Result grace.Accepted AcceptRefusal) → Later t → Begins t r →
+  does_reassert_by : (t : ServerTurn) (rs : List (ℕ × GrantNo × Mode)) (r : Result grace.Accepted AcceptRefusal) → Later t → Begins t r →
       Does t (bd.Reassert rs) (sv.reassert_by t h r)
   unfolding sv.reassert_by sv.reply
-  d_reassert_by t rs (Ok a) l e = Accepts rs refl l e (Alone refl)
-  d_reassert_by t rs (Err (refusals.GraceOver start n)) l e = Refuses why.GraceOver start.0 n.0 (OfLocks rs refl) refl (Alone refl)
-  d_reassert_by t rs (Err (refusals.Conflict ino holder)) l e = Refuses why.Conflict ino holder.0 (OfLocks rs refl) refl (Alone refl)
-  d_reassert_by t rs (Err (refusals.NotHolder ino g)) l e = Refuses why.NotHolder ino g.0 (OfLocks rs refl) refl (Alone refl)
+  does_reassert_by t rs (Ok a) l e = Accepts rs refl l e (Alone refl)
+  does_reassert_by t rs (Err (refusals.GraceOver start n)) l e = Refuses why.GraceOver start.0 n.0 (OfLocks rs refl) refl (Alone refl)
+  does_reassert_by t rs (Err (refusals.Conflict ino holder)) l e = Refuses why.Conflict ino holder.0 (OfLocks rs refl) refl (Alone refl)
+  does_reassert_by t rs (Err (refusals.NotHolder ino g)) l e = Refuses why.NotHolder ino g.0 (OfLocks rs refl) refl (Alone refl)
 
   -- a session that is not known is of a lower life, where it lives
   unknown_later : (t : ServerTurn) → sessions.knows t.state.sessions (sv.sender h) (sv.life_in h) ≡ false → Later t
@@ -235,30 +220,31 @@ module _ (now : Stamp) (h : Header) where
         where
           by : (a : Bool) → nat_lt h.life y.life.0 ≡ a → (b : Bool) → (h.life == y.life.0) ≡ b →
               (nat_lt h.life y.life.0 || (sessions.is_live y && (h.life == y.life.0))) ≡ false → y.life.0 < h.life
-          by true p b r k = absurd (clash true refl (sym (ap (λ z. z || (sessions.is_live y && (h.life == y.life.0))) p) ∙ k))
-          by false p true r k = absurd (clash true refl (sym (ap (λ z. z || (sessions.is_live y && (h.life == y.life.0))) p ∙ ap
+          by true p b r k = absurd (not_both true refl (sym (ap (λ z. z || (sessions.is_live y && (h.life == y.life.0))) p) ∙ k))
+          by false p true r k = absurd (not_both true refl (sym (ap (λ z. z || (sessions.is_live y && (h.life == y.life.0))) p ∙ ap
               (λ z. z && (h.life == y.life.0)) live ∙ r) ∙ k))
           by false p false r k = lower h.life y.life.0 p r
 
-  d_request : (t : ServerTurn) (b : Body) → Does t b (sv.request t now h b)
+  does_request : (t : ServerTurn) (b : Body) → Does t b (sv.request t now h b)
   unfolding sv.request sv.reassert sv.reassert_new
-  d_request t (bd.Reassert rs) =
+  does_request t (bd.Reassert rs) =
       cond_either (Does t (bd.Reassert rs)) (sessions.knows t.state.sessions (sv.sender h) (sv.life_in h)) (sv.reassert_again t h (sv.take t h))
       (sv.reassert_new t now h rs)
-      (λ e. d_reassert_again t (bd.Reassert rs) (sv.take t h) refl)
-      (λ e. d_reassert_by t rs (grace.accept t.state.grace now (sv.sender h) (sv.life_in h) rs t.state.locks t.state.sessions) (unknown_later t e)
+      (λ e. does_reassert_again t (bd.Reassert rs) (sv.take t h) refl)
+      (λ e. does_reassert_by t rs (grace.accept t.state.grace now (sv.sender h) (sv.life_in h) rs t.state.locks t.state.sessions) (unknown_later t e)
       (accepted t rs))
-  d_request t b = d_request_by t b (sv.take t h) refl
+  does_request t b = does_request_by t b (sv.take t h) refl
 
-  d_of_epoch : (t : ServerTurn) (b : Body) → Does t b (sv.of_epoch t now h b)
+  does_of_epoch : (t : ServerTurn) (b : Body) → Does t b (sv.of_epoch t now h b)
   unfolding sv.of_epoch sv.refuse_epoch
-  d_of_epoch t b =
-      cond_either (Does t b) (h.epoch == t.state.stable.epoch.0) (sv.request t now h b) (sv.refuse_epoch t h) (λ e. d_request t b)
+  does_of_epoch t b =
+      cond_either (Does t b) (h.epoch == t.state.stable.epoch.0) (sv.request t now h b) (sv.refuse_epoch t h) (λ e. does_request t b)
       (λ e. refuses t b why.OtherEpoch h.epoch t.state.stable.epoch.0 (OfEpoch refl))
 
-  d_seen : (t : ServerTurn) (ino : ℕ) (g : GrantNo) → Does t (bd.DemandSeen ino g) (sv.demand_seen t h ino g)
+  does_seen : (t : ServerTurn) (ino : ℕ) (g : GrantNo) → Does t (bd.DemandSeen ino g) (sv.demand_seen t h ino g)
   unfolding sv.demand_seen sv.observe_demand
-  d_seen t ino g = cond_either (Does t (bd.DemandSeen ino g)) (sv.is_served t h) (sv.observe_demand t h ino g) t (λ e. Passes refl refl) (λ e. Passes refl refl)
+  does_seen t ino g = cond_either (Does t (bd.DemandSeen ino g)) (sv.is_served t h) (sv.observe_demand t h ino g) t (λ e. Passes refl refl)
+      (λ e. Passes refl refl)
 
   -- what becomes of the sessions at a greeting
   abbrev Greets : ServerTurn → sessions.Greeted → Type 0
@@ -290,66 +276,66 @@ module _ (now : Stamp) (h : Header) where
           (λ f. inr (refl, (λ y q live. subst (λ (z : Session). z.life.0 < h.life) (some_is (sym e ∙ q)) (lower h.life s.life.0 b d)), inr refl)))))
           (λ a. cond_either (Greets t) (sessions.is_past (sv.life_in h) s) (sessions.greeted hellos.Old t.state.sessions)
           (sessions.begin_session hellos.Welcome (sv.sender h) (sv.life_in h) t.state.sessions) (λ b. inl refl)
-          (λ b. inr (refl, (λ y q live. absurd (clash (sessions.is_live s) (ap sessions.is_live (some_is (sym e ∙ q)) ∙ live) a)), inl refl)))
+          (λ b. inr (refl, (λ y q live. absurd (not_both (sessions.is_live s) (ap sessions.is_live (some_is (sym e ∙ q)) ∙ live) a)), inl refl)))
 
   -- a greeting, by what became of it
-  d_greet_as : (t : ServerTurn) (g : sessions.Greeted) (x : Hello) → g.hello ≡ x → Greets t g →
+  does_greet_as : (t : ServerTurn) (g : sessions.Greeted) (x : Hello) → g.hello ≡ x → Greets t g →
       Does t bd.Hello (sv.greet_as (sv.with_sessions g.sessions t) now h x)
   unfolding sv.greet_as sv.suspect_client sv.reply
-  d_greet_as t g hellos.Welcome e z = Welcomes refl (began z) (Alone refl)
+  does_greet_as t g hellos.Welcome e z = Welcomes refl (began z) (Alone refl)
     where
       began : Greets t g → (g.sessions ≡ t.state.sessions) ⊎ ((g.sessions ≡ sessions.with_new_session (sv.sender h) (sv.life_in h) t.state.sessions) × Later t)
       began (inl q) = inl q
       began (inr q) = inr (q.0, q.1)
-  d_greet_as t g hellos.Replaced e z = Welcomes refl (began z) (Alone refl)
+  does_greet_as t g hellos.Replaced e z = Welcomes refl (began z) (Alone refl)
     where
       began : Greets t g → (g.sessions ≡ t.state.sessions) ⊎ ((g.sessions ≡ sessions.with_new_session (sv.sender h) (sv.life_in h) t.state.sessions) × Later t)
       began (inl q) = inl q
       began (inr q) = inr (q.0, q.1)
-  d_greet_as t g hellos.Old e (inl q) = Passes q refl
-  d_greet_as t g hellos.Old e (inr q) = absurd (no q.2)
+  does_greet_as t g hellos.Old e (inl q) = Passes q refl
+  does_greet_as t g hellos.Old e (inr q) = absurd (no q.2)
     where
       no : (g.hello ≡ hellos.Welcome) ⊎ (g.hello ≡ hellos.Replaced) → ⊥
       no (inl f) = cc
       no (inr f) = cc
-  d_greet_as t g hellos.Wait e (inl q) = Refuses why.Suspect now.0 0 (OfGreeting refl) q (Noting (notes.Suspected (sv.sender h) now) refl)
-  d_greet_as t g hellos.Wait e (inr q) = absurd (no q.2)
+  does_greet_as t g hellos.Wait e (inl q) = Refuses why.Suspect now.0 0 (OfGreeting refl) q (Noting (notes.Suspected (sv.sender h) now) refl)
+  does_greet_as t g hellos.Wait e (inr q) = absurd (no q.2)
     where
       no : (g.hello ≡ hellos.Welcome) ⊎ (g.hello ≡ hellos.Replaced) → ⊥
       no (inl f) = cc
       no (inr f) = cc
 
-  d_hello : (t : ServerTurn) → Does t bd.Hello (sv.hello t now h)
+  does_hello : (t : ServerTurn) → Does t bd.Hello (sv.hello t now h)
   unfolding sv.hello sv.refuse_in_grace sv.greet sv.greet_by
-  d_hello t =
+  does_hello t =
       cond_either (Does t bd.Hello) (sv.in_grace t now) (sv.refuse_in_grace t h) (sv.greet t now h)
       (λ e. refuses t bd.Hello why.Grace (grace.grace_start t.state.grace).0 0 (OfGrace refl refl))
       (λ e. let g = sessions.hello t.state.sessions (sv.sender h) (sv.life_in h) (locks.has_rows t.state.locks (sv.sender h)) in
-      d_greet_as t g g.hello refl (greets t (locks.has_rows t.state.locks (sv.sender h))))
+      does_greet_as t g g.hello refl (greets t (locks.has_rows t.state.locks (sv.sender h))))
 
-  d_by_body : (t : ServerTurn) (b : Body) → Does t b (sv.by_body t now h b)
+  does_by_body : (t : ServerTurn) (b : Body) → Does t b (sv.by_body t now h b)
   unfolding sv.by_body
-  d_by_body t bd.Hello = d_hello t
-  d_by_body t (bd.DemandSeen ino g) = d_seen t ino g
-  d_by_body t b = d_of_epoch t b
+  does_by_body t bd.Hello = does_hello t
+  does_by_body t (bd.DemandSeen ino g) = does_seen t ino g
+  does_by_body t b = does_of_epoch t b
 
-  d_refuse : (t : ServerTurn) (start : Stamp) (b : Body) → authority.started t.state.authority (sv.sender h) ≡ Some start →
+  does_refuse : (t : ServerTurn) (start : Stamp) (b : Body) → authority.started t.state.authority (sv.sender h) ≡ Some start →
       Does t b (sv.refuse_suspect t h start b)
   unfolding sv.refuse_suspect
-  d_refuse t start (bd.DemandSeen ino g) e = Passes refl refl
-  d_refuse t start b e = refuses t b why.Suspect start.0 0 (OfSuspect start e)
+  does_refuse t start (bd.DemandSeen ino g) e = Passes refl refl
+  does_refuse t start b e = refuses t b why.Suspect start.0 0 (OfSuspect start e)
 
-  d_by_suspicion : (t : ServerTurn) (b : Body) (o : Option Stamp) → authority.started t.state.authority (sv.sender h) ≡ o →
+  does_by_suspicion : (t : ServerTurn) (b : Body) (o : Option Stamp) → authority.started t.state.authority (sv.sender h) ≡ o →
       Does t b (sv.by_suspicion t now h b o)
   unfolding sv.by_suspicion
-  d_by_suspicion t b None e = d_by_body t b
-  d_by_suspicion t b (Some start) e = d_refuse t start b e
+  does_by_suspicion t b None e = does_by_body t b
+  does_by_suspicion t b (Some start) e = does_refuse t start b e
 
   -- what any message does
   pub does : (t : ServerTurn) (b : Body) → Does t b (sv.receive t now h b)
   unfolding sv.receive sv.receive_from
   does t b =
-      cond_either (Does t b) (sv.is_for t.state h) (sv.receive_from t now h b) t (λ e. d_by_suspicion t b (authority.started t.state.authority (sv.sender h))
+      cond_either (Does t b) (sv.is_for t.state h) (sv.receive_from t now h b) t (λ e. does_by_suspicion t b (authority.started t.state.authority (sv.sender h))
       refl) (λ e. Passes refl refl)
 
   -- What is sent in answer.

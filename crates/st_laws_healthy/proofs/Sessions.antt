@@ -1,22 +1,16 @@
 -- A living session through the rule for a message: it stays; or its client's next request is served, and the reply that is kept counts for it; or its client
 -- comes in a later life.
-use Rattle.std.proofs.Common.{◌≡◌, ◌≢◌, ℕ, ◌+◌, ◌<◌, ◌⊎◌, Bool, true, false, refl, sym, ap, ◌∙◌, subst, inl, inr}
-use Rattle.std.specs.Prelude.{Option, Some, option_map}
-use Rattle.std.proofs.lemmas.Bool.{eq-eqb, eqb-true}
-use Rattle.st_base.specs.declared.ids.ClientId.{ClientId}
-use Rattle.st_base.specs.declared.ids.Stamp.{Stamp}
-use Rattle.st_messages.specs.declared.message.Header.{Header}
-use Rattle.st_messages.specs.declared.message.Body.{Body}
-use Rattle.st_rules.specs.declared.sessions.Session.{Session}
-use Rattle.st_rules.specs.declared.sessions.SessionState.{SessionState}
-use Rattle.st_rules.specs.declared.sessions.SessionState.TheVariants.{Live}
-use Rattle.st_rules.specs.Keys.{client}
-use Rattle.st_rules.specs.Server as sv
-use Rattle.st_rules.specs.Server.{ServerTurn}
-use Rattle.st_rules.specs.Sessions as sessions
-use Rattle.st_rules.specs.Sessions.{Sessions}
-use Rattle.st_lemmas.proofs.Lookups.{some_is}
-use Rattle.st_lemmas.proofs.Tables.{cond_either, find_map, same_or_not}
+use Rattle.st_lemmas.proofs.Words
+use Words.{◌≡◌, ◌≢◌, ℕ, ◌+◌, ◌<◌, ◌⊎◌, Bool, true, false, refl, sym, ap, ◌∙◌, subst, inl, inr, Option, Some, option_map, eq-eqb, eqb-true, ClientId, Stamp}
+use Words.{Header, Body, Session, SessionState}
+use Words.states.{Live}
+use Words.Keys.{client}
+use Words.Server as sv
+use Words.Server.{ServerTurn}
+use Words.Sessions as sessions
+use Words.Sessions.{Sessions}
+use Words.Lookups.{some_is}
+use Words.Tables.{cond_either, find_map, same_or_not}
 use Rattle.st_laws_refine.proofs.Server.Changes.{session_other}
 use Rattle.st_laws_refine.proofs.Server.Reasserting.{TakeOk, taken_ok}
 use Rattle.st_laws_healthy.proofs.Replies.{counts_for, is_served}

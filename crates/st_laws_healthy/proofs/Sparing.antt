@@ -1,21 +1,16 @@
 -- What the thefts at the start of a server's step leave of a client that isn't a suspect: its session, and that it isn't one.
-use Rattle.std.proofs.Common.{◌≡◌, ◌≢◌, ◌⊎◌, true, List, [], ◌∷◌, refl, sym, ap, ◌∙◌, subst, inl, inr}
-use Rattle.std.specs.Prelude.{filter, is_some, not, Option, Some, None}
-use Rattle.std.proofs.lemmas.Bool.{eq-eqb, eqb-true}
-use Rattle.st_base.specs.declared.ids.ClientId.{ClientId}
-use Rattle.st_base.specs.declared.ids.Stamp.{Stamp}
-use Rattle.st_rules.specs.declared.authority.Suspect.{Suspect}
-use Rattle.st_rules.specs.declared.sessions.Session.{Session}
-use Rattle.st_rules.specs.Authority as authority
-use Rattle.st_rules.specs.Authority.{Authority, is_suspect, may_ack, suspect_of}
-use Rattle.st_rules.specs.Keys.{client}
-use Rattle.st_rules.specs.Server as sv
-use Rattle.st_rules.specs.Server.{ServerState, ServerTurn, Stable, steal_at, steal_each, thefts, turn, with_authority}
-use Rattle.st_rules.specs.Sessions as sessions
-use Rattle.st_lemmas.specs.Lists.{Has}
-use Rattle.st_lemmas.proofs.Tables.{cond_either, found_at, has_filter, has_map, none_has, same_or_not}
-use Rattle.st_laws_refine.proofs.Server.Changes.{end_other, suspect_other, suspect_own}
-use Rattle.st_laws_healthy.proofs.Counting.{clash}
+use Rattle.st_lemmas.proofs.Words
+use Words.{◌≡◌, ◌≢◌, true, List, [], ◌∷◌, refl, sym, ap, ◌∙◌, subst, inl, inr, filter, is_some, not, Option, Some, None, eq-eqb, eqb-true, ClientId, Stamp}
+use Words.{Suspect, Session}
+use Words.Authority as authority
+use Words.Authority.{Authority, is_suspect, may_ack, suspect_of}
+use Words.Server as sv
+use Words.Server.{ServerState, ServerTurn, steal_at, steal_each, thefts, turn, with_authority}
+use Words.Sessions as sessions
+use Words.Lists.{Has}
+use Words.Tables.{found_at, has_filter, has_map, none_has}
+use Words.Truth.{not_both}
+use Rattle.st_laws_refine.proofs.Server.Changes.{end_other}
 
 -- no timer runs for whoever may be answered
 pub no_suspect : (a : Authority) (c : ClientId) → may_ack a c ≡ true → suspect_of a c ≡ None
@@ -23,37 +18,14 @@ no_suspect a c e = go (suspect_of a c) refl
   where
     go : (o : Option Suspect) → suspect_of a c ≡ o → suspect_of a c ≡ None
     go None q = q
-    go (Some x) q = absurd (clash (not (is_some (suspect_of a c))) e (ap (λ (o : Option Suspect). not (is_some o)) q))
+    go (Some x) q = absurd (not_both (not (is_some (suspect_of a c))) e (ap (λ (o : Option Suspect). not (is_some o)) q))
 
 free_is : (a : Authority) (c : ClientId) → suspect_of a c ≡ None → may_ack a c ≡ true
 free_is a c e = ap (λ (o : Option Suspect). not (is_some o)) e
 
 -- none of these timers is the client's
 not_among : (a : Authority) (c : ClientId) → may_ack a c ≡ true → (x : Suspect) → Has x a.suspects → x.client.0 ≢ c.0
-not_among a c e x h q = clash (is_suspect c x) (eq-eqb x.client.0 c.0 q) (none_has (is_suspect c) a.suspects (no_suspect a c e) x h)
-
--- a client that is suspected now isn't free any longer
-pub not_free : (a : Authority) (c : ClientId) (now : Stamp) → may_ack a c ≡ true → may_ack (authority.suspect a c now) c ≡ true → ⊥
-unfolding authority.suspect authority.start_timer
-not_free a c now e =
-    cond_either (λ (z : Authority). may_ack z c ≡ true → ⊥) (may_ack a c) (record a {
-      suspects = authority.with_suspect (authority.new_suspect c now)
-          a.suspects;
-    }) a
-    (λ f h. clash _ h (ap (λ o. not (is_some o)) (suspect_own (authority.new_suspect c now) c.0 refl a.suspects (no_suspect a c e)))) (λ f h. clash _ e f)
-
--- a suspicion makes no suspect free
-pub more_suspects : (a : Authority) (c : ClientId) (now : Stamp) (d : ClientId) → may_ack (authority.suspect a c now) d ≡ true → may_ack a d ≡ true
-unfolding authority.suspect authority.start_timer
-more_suspects a c now d =
-    cond_either (λ (z : Authority). may_ack z d ≡ true → may_ack a d ≡ true) (may_ack a c)
-    (record a { suspects = authority.with_suspect (authority.new_suspect c now) a.suspects }) a
-    (λ e h. by (same_or_not c.0 d.0) e h) (λ e h. h)
-  where
-    by : (c.0 ≡ d.0) ⊎ (c.0 ≢ d.0) → may_ack a c ≡ true → may_ack (record a { suspects = authority.with_suspect (authority.new_suspect c now) a.suspects })
-        d ≡ true → may_ack a d ≡ true
-    by (inl q) e h = subst (λ n. may_ack a (client n) ≡ true) q e
-    by (inr n) e h = ap (λ o. not (is_some o)) (sym (suspect_other (authority.new_suspect c now) d.0 n a.suspects)) ∙ h
+not_among a c e x h q = not_both (is_suspect c x) (eq-eqb x.client.0 c.0 q) (none_has (is_suspect c) a.suspects (no_suspect a c e) x h)
 
 module _ (c : ClientId) where
   -- what stays of a client that isn't a suspect

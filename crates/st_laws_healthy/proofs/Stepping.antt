@@ -1,28 +1,23 @@
 -- A whole step of a client: what becomes of each of its associations, from one part of the step to the next, and why each message is sent.
-use Rattle.std.proofs.Common.{◌≡◌, ℕ, ◌⊎◌, Bool, true, false, ◌==◌, List, [], ◌∷◌, refl, sym, ap, ◌∙◌, subst, inl, inr}
-use Rattle.std.proofs.lemmas.Bool.{eq-eqb}
-use Rattle.st_base.specs.declared.config.Config.{Config}
-use Rattle.st_base.specs.declared.ids.ClientId.{ClientId}
-use Rattle.st_base.specs.declared.ids.Stamp.{Stamp}
-use Rattle.st_messages.specs.declared.answer.AppAnswer.{AppAnswer}
-use Rattle.st_messages.specs.declared.answer.AppAnswer.TheVariants as answers
-use Rattle.st_messages.specs.declared.message.Message.{Message}
-use Rattle.st_messages.specs.declared.output.Output.{Output}
-use Rattle.st_messages.specs.declared.output.Output.TheVariants as outputs
-use Rattle.st_rules.specs.declared.client.ClientInput.{ClientInput}
-use Rattle.st_rules.specs.declared.client.ClientInput.TheVariants as inputs
-use Rattle.st_rules.specs.Client as cl
-use Rattle.st_rules.specs.ClientPasses as cp
-use Rattle.st_rules.specs.ClientReplies as cr
-use Rattle.st_rules.specs.ClientState.{Association, ClientState, ClientTurn, Turn, at_each, at_these, client_turn, enter, leave, only_at, server_of, with_associations}
-use Rattle.st_lemmas.specs.Lists.{Has}
-use Rattle.st_lemmas.proofs.Tables.{cond_either, has_append}
-use Rattle.st_trace.proofs.Client.Lists.{has_left, has_right}
+use Rattle.st_lemmas.proofs.Words
+use Words.{◌≡◌, ℕ, ◌⊎◌, Bool, true, false, ◌==◌, List, [], ◌∷◌, refl, sym, ap, ◌∙◌, subst, inl, inr, eq-eqb, Config, ClientId, Stamp, AppAnswer, Message}
+use Words.{Output, ClientInput}
+use Words.answers
+use Words.outputs
+use Words.inputs
+use Words.Client as cl
+use Words.ClientPasses as cp
+use Words.ClientReplies as cr
+use Words.ClientState.{Association, ClientState, ClientTurn, Turn, at_each, at_these, client_turn, enter, leave, only_at, server_of, with_associations}
+use Words.Lists.{Has}
+use Words.Tables.{cond_either, has_append}
+use Words.Members.{has_left, has_right}
 use Rattle.st_laws_steps.specs.Client.Losses.{Fit}
 use Rattle.st_laws_steps.specs.Lives.Lives.{Pairwise}
 use Rattle.st_laws_steps.proofs.Client.Nexts.{changes_next}
-use Rattle.st_laws_steps.proofs.Client.Replying.{c_receive}
+use Rattle.st_laws_steps.proofs.Client.Replying.{changes_by_receive}
 use Rattle.st_laws_steps.proofs.Client.Stepping.{Left, LossesLeft, LostOrNot, each, losses_left, pairs_has, pairs_same, pairs_then}
+use Rattle.st_laws_healthy.proofs.Emptying.{NoneWaits, passes_empty}
 use Rattle.st_laws_healthy.proofs.Passing.{After, Alike, IsIdle, IsSentBy, alike_self, passes_work}
 use Rattle.st_laws_healthy.proofs.Taking.{IsSeen, ask_idle, end_idle, lose_quiet, receive_seen}
 
@@ -76,6 +71,7 @@ pub record WorksAt (now : Stamp) (a b : Association) : Type 0 where
   pub life : b.life ≡ a.life
   pub session : After now a.session b.session
   pub greeting : Rattle.std.specs.Prelude.is_some a.greeting ≡ true → Rattle.std.specs.Prelude.is_some b.greeting ≡ true
+  pub none_waits : NoneWaits b.session
 
 left_of : (R : Association → Association → Type 0) (t u : Turn) → R t.here u.here → Left R (λ a. []) (λ os. []) t u
 left_of R t u r = record { one = r; said = refl }
@@ -130,7 +126,8 @@ module _ (s : ClientState) (now : Stamp) (i : ClientInput) (fit : (a : Associati
       cond_either (Pairs t) (m.header.to == t.state.id.0) (at_each (cr.receive_at now m.header m.body) t) t
       (λ f. (each Fit (TakesIn s.config now i) (λ a. []) (λ os. []) (cr.receive_at now m.header m.body) t
       (λ u q p. left_of (TakesIn s.config now i) u (cr.receive_at now m.header m.body u)
-      (let z = changes_next now u (cr.receive_at now m.header m.body u) (c_receive now m.header m.body u p.fresh) in IsHeard u m e (q ∙ config) refl refl
+      (let z = changes_next now u (cr.receive_at now m.header m.body u) (changes_by_receive now m.header m.body u p.fresh) in
+      IsHeard u m e (q ∙ config) refl refl
       (sym z.server) (sym z.life))) fits).pairs)
       (λ f. absurd (clash (m.header.to == t.state.id.0) (eq-eqb m.header.to t.state.id.0 (told ∙ ap (λ (x : ClientId). x.0) (sym id))) f))
     where
@@ -145,7 +142,13 @@ module _ (s : ClientState) (now : Stamp) (i : ClientInput) (fit : (a : Associati
   works_pairs =
       (each (λ a. Unit {0}) (WorksAt now) (λ a. []) (λ os. []) (cp.passes now (cl.is_tick i)) t2
       (λ u e p. left_of (WorksAt now) u (cp.passes now (cl.is_tick i) u)
-      (let z = passes_work now (cl.is_tick i) u in record { server = z.server; life = z.life; session = z.session; greeting = z.greeting })) (λ a h. tt)).pairs
+      (let z = passes_work now (cl.is_tick i) u in record {
+        server = z.server;
+        life = z.life;
+        session = z.session;
+        greeting = z.greeting;
+        none_waits = passes_empty now (cl.is_tick i) u;
+      })) (λ a h. tt)).pairs
 
   pub walks : Told i → (b : Association) → Has b (cl.client_step s now i).state.associations → (a : Association) × Has a s.associations × Walks a b
   unfolding cl.client_step

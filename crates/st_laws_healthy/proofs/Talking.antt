@@ -1,25 +1,20 @@
 -- What is known of a healthy client's association with its server, between events: how far the server served it, what each message between the two says, and
 -- when the request that is outstanding, or the greeting, was sent first.
-use Rattle.std.proofs.Common.{◌≡◌, ◌≢◌, ℕ, ◌+◌, ◌*◌, ◌≤◌, ◌<◌, ◌⊎◌, true, false, List, [], ◌∷◌, ◌++◌, Option, Some, None, refl, sym, ap, ◌∙◌, subst, inl, inr, arith}
-use Rattle.std.specs.Prelude.{is_some, max, option_map, suc, zero}
-use Rattle.st_base.specs.declared.config.Config.{Config}
-use Rattle.st_base.specs.declared.ids.ClientId.{ClientId}
-use Rattle.st_base.specs.declared.ids.ServerId.{ServerId}
-use Rattle.st_messages.specs.declared.event.Event.TheVariants as events
-use Rattle.st_messages.specs.declared.message.Body.{Body}
-use Rattle.st_messages.specs.declared.message.Body.TheVariants as bd
-use Rattle.st_messages.specs.declared.message.Message.{Message}
-use Rattle.st_rules.specs.declared.client.Request.{Request}
-use Rattle.st_rules.specs.declared.world.SentMessage.{SentMessage}
-use Rattle.st_rules.specs.ClientState.{Association, ClientSession}
-use Rattle.st_rules.specs.Keys.{server_node}
-use Rattle.st_rules.specs.Safety.{Step}
-use Rattle.st_rules.specs.Server.{ServerState}
-use Rattle.st_rules.specs.Sessions.{Sessions}
-use Rattle.st_rules.specs.World.{World, message_of, numbered}
-use Rattle.st_lemmas.specs.Lists.{Has}
-use Rattle.st_lemmas.proofs.Lookups.{some_is}
-use Rattle.st_lemmas.proofs.Numbers.{get_map, numbered_has}
+use Rattle.st_lemmas.proofs.Words
+use Words.{◌≡◌, ◌≢◌, ℕ, ◌+◌, ◌*◌, ◌≤◌, ◌<◌, ◌⊎◌, true, false, List, [], ◌∷◌, ◌++◌, Option, Some, None, refl, sym, ap, ◌∙◌, subst, inl, inr, arith, is_some, max}
+use Words.{option_map, suc, zero, Config, ClientId, ServerId, Body, Message, Request, SentMessage}
+use Words.events
+use Words.bodies as bd
+use Words.ClientState.{Association, ClientSession}
+use Words.Keys.{server_node}
+use Words.Safety.{Step}
+use Words.Server.{ServerState}
+use Words.Sessions.{Sessions}
+use Words.World.{World, message_of, numbered}
+use Words.Lists.{Has}
+use Words.Lookups.{some_is}
+use Words.Numbers.{get_map, numbered_has}
+use Rattle.st_laws_lasting.specs.Lasting.{client_clock}
 use Rattle.st_laws_leases.specs.Dates.Dates.{messages}
 use Rattle.st_laws_healthy.proofs.Happening.{Deaf, Delivers}
 use Rattle.st_laws_healthy.proofs.Replies.{counts_for, is_served}
@@ -57,47 +52,50 @@ module _ (k : Config) (c : ClientId) (s : ServerId) (gap d : ℕ) where
   pub data Greeted (past : List Step) (ms : List Message) (life : ℕ) : Type 0 where
     IsSilent : ((m : Message) → Has m ms → IsGreeting life m → ⊥) → Greeted past ms life
     HasGreeted : (from : ℕ) → ((m : Message) → Has m ms → IsGreeting life m → from ≤ m.header.stamp) →
-        Trip c s d past ms (IsGreeting life) (IsWelcoming life) from → Greeted past ms life
+        Trip (client_clock c) c s d past ms (IsGreeting life) (IsWelcoming life) from → Greeted past ms life
 
-  -- The outstanding request was asked first at this reading, at an age below this; it or a reply that counts for it is on its way.
-  pub record IsOutstanding (past : List Step) (ms : List Message) (life epoch date number : ℕ) (body : Body) : Type 0 where
-    pub from : ℕ
-    pub young : from < date + max (k.renew + gap) (2 * d + 1)
-    pub stamps : (m : Message) → Has m ms → IsAsking life epoch number body m → from ≤ m.header.stamp
-    pub trip : Trip c s d past ms (IsAsking life epoch number body) (IsCounting life epoch number body) from
+  -- With another clock, and what messages take by it; and the reading of it at which the outstanding request was sent first.
+  module _ (read : World → ℕ) (delay since : ℕ) where
+    -- The outstanding request was asked first at this reading, at an age below this; it or a reply that counts for it is on its way.
+    pub record IsOutstanding (past : List Step) (ms : List Message) (life epoch date number : ℕ) (body : Body) : Type 0 where
+      pub from : ℕ
+      pub young : from < date + max (k.renew + gap) (2 * d + 1)
+      pub stamps : (m : Message) → Has m ms → IsAsking life epoch number body m → from ≤ m.header.stamp
+      pub trip : Trip (client_clock c) c s d past ms (IsAsking life epoch number body) (IsCounting life epoch number body) from
+      pub also : Trip read c s delay past ms (IsAsking life epoch number body) (IsCounting life epoch number body) since
 
-  -- with a request outstanding, or none
-  pub record IsAsking2 (past : List Step) (ms : List Message) (life epoch last date next : ℕ) (q : Request) : Type 0 where
-    pub served : is_served q.body ≡ true
-    pub number : q.number + 1 ≡ next
-    pub follows : next ≤ last + 2
-    pub first : IsOutstanding past ms life epoch date q.number q.body
+    -- with a request outstanding, or none
+    pub record IsAsking2 (past : List Step) (ms : List Message) (life epoch last date next : ℕ) (q : Request) : Type 0 where
+      pub served : is_served q.body ≡ true
+      pub number : q.number + 1 ≡ next
+      pub follows : next ≤ last + 2
+      pub first : IsOutstanding past ms life epoch date q.number q.body
 
-  abbrev pub Requested : List Step → List Message → ℕ → ℕ → ℕ → ℕ → ℕ → Option Request → Type 0
-  Requested past ms life epoch last date next None = next ≤ last + 1
-  Requested past ms life epoch last date next (Some q) = IsAsking2 past ms life epoch last date next q
+    abbrev pub Requested : List Step → List Message → ℕ → ℕ → ℕ → ℕ → ℕ → Option Request → Type 0
+    Requested past ms life epoch last date next None = next ≤ last + 1
+    Requested past ms life epoch last date next (Some q) = IsAsking2 past ms life epoch last date next q
 
-  -- With a session.
-  pub record HasSession (past : List Step) (ms : List Message) (v : Sessions) (life epoch last : ℕ) (z : ClientSession) : Type 0 where
-    pub epoch_is : z.epoch.0 ≡ epoch
-    pub settled : z.due ≡ false
-    pub sound : z.lease.condemned ≡ false
-    pub served : IsServed c s ms v life epoch last
-    pub below : last < z.requests.next
-    pub requests : Requested past ms life epoch last z.lease.date.0 z.requests.next z.requests.asked
+    -- With a session.
+    pub record HasSession (past : List Step) (ms : List Message) (v : Sessions) (life epoch last : ℕ) (z : ClientSession) : Type 0 where
+      pub epoch_is : z.epoch.0 ≡ epoch
+      pub settled : z.due ≡ false
+      pub sound : z.lease.condemned ≡ false
+      pub served : IsServed c s ms v life epoch last
+      pub below : last < z.requests.next
+      pub requests : Requested past ms life epoch last z.lease.date.0 z.requests.next z.requests.asked
 
-  abbrev pub Phase : List Step → List Message → Sessions → ℕ → ℕ → ℕ → Option ClientSession → Type 0
-  Phase past ms v life epoch last None = Greeted past ms life × (last ≡ 0)
-  Phase past ms v life epoch last (Some z) = HasSession past ms v life epoch last z
+    abbrev pub Phase : List Step → List Message → Sessions → ℕ → ℕ → ℕ → Option ClientSession → Type 0
+    Phase past ms v life epoch last None = Greeted past ms life × (last ≡ 0)
+    Phase past ms v life epoch last (Some z) = HasSession past ms v life epoch last z
 
-  -- What is known of an association, where the client's clock shows this.
-  pub record Talks (past : List Step) (ms : List Message) (n : ServerState) (now : ℕ) (a : Association) : Type 0 where
-    pub last : ℕ
-    pub known : IsKnown c s ms n.sessions a.life.0 n.stable.epoch.0 last
-    pub told : (m : Message) → Has m ms → From c s m → IsTold c s ms n.sessions a.life.0 n.stable.epoch.0 last m
-    pub asked : (m : Message) → Has m ms → To c s m → m.header.life ≡ a.life.0 → IsAsked c s now m
-    pub greets : a.session ≡ None → (m : Message) → Has m ms → IsGreeting a.life.0 m → is_some a.greeting ≡ true
-    pub phase : Phase past ms n.sessions a.life.0 n.stable.epoch.0 last a.session
+    -- What is known of an association, where the client's clock shows this.
+    pub record Talks (past : List Step) (ms : List Message) (n : ServerState) (now : ℕ) (a : Association) : Type 0 where
+      pub last : ℕ
+      pub known : IsKnown c s ms n.sessions a.life.0 n.stable.epoch.0 last
+      pub told : (m : Message) → Has m ms → From c s m → IsTold c s ms n.sessions a.life.0 n.stable.epoch.0 last m
+      pub asked : (m : Message) → Has m ms → To c s m → m.header.life ≡ a.life.0 → IsAsked c s now m
+      pub greets : a.session ≡ None → (m : Message) → Has m ms → IsGreeting a.life.0 m → is_some a.greeting ≡ true
+      pub phase : Phase past ms n.sessions a.life.0 n.stable.epoch.0 last a.session
 
   -- A step with these messages after it.
   module _ (past : List Step) (x : Step) (w : World) (ns : List Message) (more : (m : Message) → Has m (messages w) → Has m ns)
@@ -129,20 +127,19 @@ module _ (k : Config) (c : ClientId) (s : ServerId) (gap d : ℕ) where
             no z = cc
         go (Some y) g h = deaf n y f g (ap (λ (z : Message). z.header.to) (some_is (ap (option_map (λ (y : SentMessage). y.message)) (sym g) ∙ h)) ∙ e)
 
-    pub fly : (P Q : Message → Type 0) (at to : ℕ) (f : Flying c s d past ms P at) → (P f.message → Q f.message) → f.message.header.to ≡ to →
-        Deaf w x.event to →
-        Flying c s d (past ++ x ∷ []) ns Q at
-    fly P Q at to f g e deaf = flies_on c s d past x ms ns keeps P Q at f g (not_delivered to deaf f.number f.message f.there e)
+    pub fly : (read : World → ℕ) (delay : ℕ) (P Q : Message → Type 0) (at to : ℕ) (f : Flying read c s delay past ms P at) → (P f.message → Q f.message) →
+        f.message.header.to ≡ to → Deaf w x.event to → Flying read c s delay (past ++ x ∷ []) ns Q at
+    fly read delay P Q at to f g t deaf = flies_on read c s delay past x ms ns keeps P Q at f g (not_delivered to deaf f.number f.message f.there t)
 
     -- a trip goes on where neither end hears
-    pub travels : (A B A2 B2 : Message → Type 0) (from : ℕ) → ((m : Message) → A m → A2 m) → ((m : Message) → B m → B2 m) → ((m : Message) → A m → To c s m) →
-        ((m : Message) → B m → From c s m) →
-        Deaf w x.event (server_node s) → Deaf w x.event c.0 → Trip c s d past ms A B from → Trip c s d (past ++ x ∷ []) ns A2 B2 from
-    travels A B A2 B2 from f g to back deaf_server deaf (Out y) = Out (fly A A2 from (server_node s) y (f y.message) (to y.message y.like).to deaf_server)
-    travels A B A2 B2 from f g to back deaf_server deaf (Back at b l y) = Back at b l (fly B B2 at c.0 y (g y.message) (back y.message y.like).to deaf)
+    pub travels : (read : World → ℕ) (delay : ℕ) (A B : Message → Type 0) (from : ℕ) → ((m : Message) → A m → To c s m) → ((m : Message) → B m → From c s m) →
+        Deaf w x.event (server_node s) → Deaf w x.event c.0 → Trip read c s delay past ms A B from → Trip read c s delay (past ++ x ∷ []) ns A B from
+    travels read delay A B from to back deaf_server deaf (Out y) =
+        Out (fly read delay A A from (server_node s) y (λ h. h) (to y.message y.like).to deaf_server)
+    travels read delay A B from to back deaf_server deaf (Back at b l y) = Back at b l (fly read delay B B at c.0 y (λ h. h) (back y.message y.like).to deaf)
 
     -- Neither of the two steps.
-    module _ (n : ServerState) (before now : ℕ) (later : before ≤ now) (deaf_server : Deaf w x.event (server_node s)) (deaf : Deaf w x.event c.0)
+    module _ (read : World → ℕ) (delay since : ℕ) (n : ServerState) (before now : ℕ) (later : before ≤ now) (deaf_server : Deaf w x.event (server_node s)) (deaf : Deaf w x.event c.0)
         (new : (m : Message) → Has m ns → Has m ms ⊎ ((m.header.from ≢ c.0) × (m.header.from ≢ server_node s))) where
       old_to : (m : Message) → Has m ns → To c s m → Has m ms
       old_to m h t = go (new m h)
@@ -158,8 +155,8 @@ module _ (k : Config) (c : ClientId) (s : ServerId) (gap d : ℕ) where
           go (inl i) = i
           go (inr ne) = absurd (ne.1 t.from)
 
-      requested : (life epoch last date next : ℕ) (o : Option Request) → Requested past ms life epoch last date next o →
-          Requested (past ++ x ∷ []) ns life epoch last date next o
+      requested : (life epoch last date next : ℕ) (o : Option Request) → Requested read delay since past ms life epoch last date next o →
+          Requested read delay since (past ++ x ∷ []) ns life epoch last date next o
       requested life epoch last date next None r = r
       requested life epoch last date next (Some q) r =
           record {
@@ -170,9 +167,10 @@ module _ (k : Config) (c : ClientId) (s : ServerId) (gap d : ℕ) where
               from = r.first.from;
               young = r.first.young;
               stamps = λ m h a. r.first.stamps m (old_to m h a.way) a;
-              trip = travels (IsAsking life epoch q.number q.body) (IsCounting life epoch q.number q.body) (IsAsking life epoch q.number q.body)
-                  (IsCounting life epoch q.number q.body) r.first.from
-                  (λ m y. y) (λ m y. y) (λ m y. y.way) (λ m y. y.way) deaf_server deaf r.first.trip;
+              trip = travels (client_clock c) d (IsAsking life epoch q.number q.body) (IsCounting life epoch q.number q.body) r.first.from
+                  (λ m y. y.way) (λ m y. y.way) deaf_server deaf r.first.trip;
+              also = travels read delay (IsAsking life epoch q.number q.body) (IsCounting life epoch q.number q.body) since
+                  (λ m y. y.way) (λ m y. y.way) deaf_server deaf r.first.also;
             };
           }
 
@@ -180,12 +178,11 @@ module _ (k : Config) (c : ClientId) (s : ServerId) (gap d : ℕ) where
       greeted life (IsSilent f) = IsSilent (λ m h g. f m (old_to m h g.way) g)
       greeted life (HasGreeted from f t) =
           HasGreeted from (λ m h g. f m (old_to m h g.way) g)
-          (travels (IsGreeting life) (IsWelcoming life) (IsGreeting life) (IsWelcoming life) from (λ m y. y) (λ m y. y) (λ m y. y.way) (λ m y. y.way)
-          deaf_server deaf t)
+          (travels (client_clock c) d (IsGreeting life) (IsWelcoming life) from (λ m y. y.way) (λ m y. y.way) deaf_server deaf t)
 
-      phase : (v : Sessions) (life epoch last : ℕ) (o : Option ClientSession) → Phase past ms v life epoch last o →
-          Phase (past ++ x ∷ []) ns v life epoch last o
-      phase v life epoch last None (g, e) = (greeted life g, e)
+      phase : (v : Sessions) (life epoch last : ℕ) (o : Option ClientSession) → Phase read delay since past ms v life epoch last o →
+          Phase read delay since (past ++ x ∷ []) ns v life epoch last o
+      phase v life epoch last None (g, q) = (greeted life g, q)
       phase v life epoch last (Some z) p =
           record {
             epoch_is = p.epoch_is;
@@ -196,14 +193,17 @@ module _ (k : Config) (c : ClientId) (s : ServerId) (gap d : ℕ) where
             requests = requested life epoch last z.lease.date.0 z.requests.next z.requests.asked p.requests;
           }
 
-      pub talks_on : (a : Association) → Talks past ms n before a → Talks (past ++ x ∷ []) ns n now a
-      talks_on a t =
-          record {
-            last = t.last;
-            known = known_more c s ms ns more n.sessions a.life.0 n.stable.epoch.0 t.last t.known;
-            told = λ m h f. told_more c s ms ns more n.sessions n.sessions a.life.0 n.stable.epoch.0 t.last t.last (omega arith)
-                (λ y. served_more c s ms ns more n.sessions a.life.0 n.stable.epoch.0 t.last y) m (t.told m (old_from m h f) f);
-            asked = λ m h f l. asked_later c s before now later m (t.asked m (old_to m h f) f l);
-            greets = λ e m h g. t.greets e m (old_to m h g.way) g;
-            phase = phase n.sessions a.life.0 n.stable.epoch.0 t.last a.session t.phase;
-          }
+      pub talks_on : (a : Association) (t : Talks read delay since past ms n before a) → (u : Talks read delay since (past ++ x ∷ []) ns n now a) ×
+          (u.last ≡ t.last)
+      talks_on a t = (
+        record {
+          last = t.last;
+          known = known_more c s ms ns more n.sessions a.life.0 n.stable.epoch.0 t.last t.known;
+          told = λ m h f. told_more c s ms ns more n.sessions n.sessions a.life.0 n.stable.epoch.0 t.last t.last (omega arith)
+              (λ y. served_more c s ms ns more n.sessions a.life.0 n.stable.epoch.0 t.last y) m (t.told m (old_from m h f) f);
+          asked = λ m h f l. asked_later c s before now later m (t.asked m (old_to m h f) f l);
+          greets = λ q m h g. t.greets q m (old_to m h g.way) g;
+          phase = phase n.sessions a.life.0 n.stable.epoch.0 t.last a.session t.phase;
+        },
+        refl,
+      )

@@ -1,41 +1,27 @@
 -- A whole step of a server: what it sends under a number answers the message of this step, for all else that it sends has number 0; and its passes leave the
 -- sessions.
-use Rattle.std.proofs.Common.{◌≡◌, ◌==◌, ℕ, ◌⊎◌, Bool, true, false, List, [], ◌∷◌, ◌++◌, refl, sym, ◌∙◌, subst, inl, inr}
-use Rattle.std.specs.Prelude.{Option, Some, None}
-use Rattle.st_base.specs.declared.ids.ClientId.{ClientId}
-use Rattle.st_base.specs.declared.ids.GrantNo.{GrantNo}
-use Rattle.st_base.specs.declared.ids.Life.{Life}
-use Rattle.st_base.specs.declared.ids.Stamp.{Stamp}
-use Rattle.st_base.specs.declared.mode.Mode.{Mode}
-use Rattle.st_messages.specs.declared.message.Header.{Header}
-use Rattle.st_messages.specs.declared.message.Body.{Body}
-use Rattle.st_messages.specs.declared.message.Body.TheVariants as bodies
-use Rattle.st_messages.specs.declared.message.Message.{Message}
-use Rattle.st_messages.specs.declared.output.Note.{Note}
-use Rattle.st_messages.specs.declared.output.Note.TheVariants as notes
-use Rattle.st_messages.specs.declared.output.Output.{Output}
-use Rattle.st_messages.specs.declared.output.Output.TheVariants as outputs
-use Rattle.st_rules.specs.declared.input.ServerInput.{ServerInput}
-use Rattle.st_rules.specs.declared.input.ServerInput.TheVariants.{Tick, Control}
-use Rattle.st_rules.specs.declared.sessions.Session.{Session}
-use Rattle.st_rules.specs.declared.sessions.Taken.TheVariants as takes
-use Rattle.st_rules.specs.Authority as authority
-use Rattle.st_rules.specs.Locks as locks
-use Rattle.st_rules.specs.Server as sv
-use Rattle.st_rules.specs.Server.{ServerState, ServerTurn, demanding, granting, server_step, steal_at, steal_each, suspecting, suspecting_on, take_input, tell, tell_demanded, tell_granted, thefts, turn, with_locks}
-use Rattle.st_rules.specs.Sessions as sessions
-use Rattle.st_lemmas.specs.Lists.{Has}
-use Rattle.st_lemmas.proofs.Tables.{cond_either, has_append}
-use Rattle.st_laws_healthy.proofs.Counting.{clash}
+use Rattle.st_lemmas.proofs.Words
+use Words.{◌≡◌, ◌==◌, ℕ, ◌⊎◌, Bool, true, false, List, [], ◌∷◌, ◌++◌, refl, sym, ◌∙◌, subst, inl, inr, Option, Some, None, ClientId, GrantNo, Life, Stamp, Mode}
+use Words.{Header, Body, Message, Note, Output, ServerInput, Session}
+use Words.bodies
+use Words.notes
+use Words.outputs
+use Words.serving.{Tick, Control}
+use Words.takes
+use Words.Authority as authority
+use Words.Locks as locks
+use Words.Server as sv
+use Words.Server.{ServerState, ServerTurn, demanding, granting, server_step, steal_at, steal_each, suspecting, suspecting_on, take_input, tell, tell_demanded}
+use Words.Server.{tell_granted, thefts, turn, with_locks}
+use Words.Sessions as sessions
+use Words.Lists.{Has}
+use Words.Tables.{cond_either, has_append}
+use Words.Members.{has_left}
+use Words.Truth.{not_both}
 use Rattle.st_laws_healthy.proofs.Replies.{counts_for, is_served}
 use Rattle.st_laws_healthy.proofs.Replying.{IsAnswered, taken_answered}
 use Rattle.st_laws_healthy.proofs.Serving.{Answers, does, no_note, sent_is, sent_same}
-use Rattle.st_laws_healthy.proofs.Sparing.{more_suspects}
-
-has_left : {A : Type 0} (xs ys : List A) (x : A) → Has x xs → Has x (xs ++ ys)
-has_left [] ys x h = elim h [ ]
-has_left (y ∷ xs) ys x (inl e) = inl e
-has_left (y ∷ xs) ys x (inr h) = inr (has_left xs ys x h)
+use Rattle.st_laws_waits.proofs.Edits.{more_suspects}
 
 -- a grant or a demand
 abbrev pub is_unasked : Body → Bool
@@ -266,13 +252,13 @@ step_answers n now m for free epoch served k =
     asked =
         cond_either A (m.header.epoch == u.state.stable.epoch.0) (sv.request u now m.header m.body) (sv.refuse_epoch u m.header)
         (λ e. subst A (sym (request_served u now m.header m.body served)) (taken_answered now m.header u m.body served (sv.take u m.header) k))
-        (λ e. absurd (clash (m.header.epoch == u.state.stable.epoch.0) epoch e))
+        (λ e. absurd (not_both (m.header.epoch == u.state.stable.epoch.0) epoch e))
 
     received : A (sv.receive u now m.header m.body)
     received =
         cond_either A (sv.is_for u.state m.header) (sv.receive_from u now m.header m.body) u
         (λ e. subst (λ o. A (sv.by_suspicion u now m.header m.body o)) (sym free) (subst A (sym (by_served u now m.header m.body served)) asked))
-        (λ e. absurd (clash (sv.is_for u.state m.header) for e))
+        (λ e. absurd (not_both (sv.is_for u.state m.header) for e))
 
 -- whoever isn't a suspect after a step wasn't one after its message's rule
 pub step_free : (n : ServerState) (now : Stamp) (m : Message) (c : ClientId) → authority.may_ack (server_step n now (Control m)).state.authority c ≡ true →

@@ -1,23 +1,17 @@
 -- A trip to the server and back: a message that was sent and not delivered since was sent at most d ticks ago, so a request is answered within two such times.
-use Rattle.std.proofs.Common.{◌≡◌, ◌≢◌, ℕ, ◌+◌, ◌*◌, ◌≤◌, ◌⊎◌, true, List, [], ◌∷◌, ◌++◌, Some, refl, ap, ◌∙◌, subst, sym, inl, inr, arith}
-use Rattle.st_base.specs.declared.ids.ClientId.{ClientId}
-use Rattle.st_base.specs.declared.ids.ServerId.{ServerId}
-use Rattle.st_messages.specs.declared.event.Event.TheVariants as events
-use Rattle.st_messages.specs.declared.message.Message.{Message}
-use Rattle.st_rules.specs.declared.observation.Observation.TheVariants as seen
-use Rattle.st_rules.specs.Safety.{Step}
-use Rattle.st_rules.specs.World.{numbered}
-use Rattle.st_lemmas.specs.Lists.{Has}
-use Rattle.st_lemmas.proofs.Tables.{has_append}
-use Rattle.st_laws_lasting.specs.Lasting.{client_clock}
+use Rattle.st_lemmas.proofs.Words
+use Words.{◌≡◌, ◌≢◌, ℕ, ◌+◌, ◌*◌, ◌≤◌, ◌⊎◌, true, List, [], ◌∷◌, ◌++◌, Some, refl, ap, ◌∙◌, subst, sym, inl, inr, arith, ClientId, ServerId, Message}
+use Words.events
+use Words.seen
+use Words.Safety.{Step}
+use Words.World.{World, numbered}
+use Words.Lists.{Has}
+use Words.Tables.{has_append}
 use Rattle.st_laws_healthy.specs.Healthy.{ComeInTime, is_between}
+use Words.{append_assoc}
 
-assoc : {A : Type 0} (xs ys zs : List A) → (xs ++ ys) ++ zs ≡ xs ++ (ys ++ zs)
-assoc [] ys zs = refl
-assoc (x ∷ xs) ys zs = ap (λ l. x ∷ l) (assoc xs ys zs)
-
-module _ (c : ClientId) (s : ServerId) (d : ℕ) where
-  -- a message of a kind, between the two, that was sent at this reading of the client's clock and was not delivered since
+module _ (read : World → ℕ) (c : ClientId) (s : ServerId) (d : ℕ) where
+  -- a message of a kind, between the two, that was sent at this reading of a clock and was not delivered since
   pub record Flying (past : List Step) (ms : List Message) (P : Message → Type 0) (at : ℕ) : Type 0 where
     pub before : List Step
     pub sending : Step
@@ -29,13 +23,13 @@ module _ (c : ClientId) (s : ServerId) (d : ℕ) where
     pub there : numbered ms number ≡ Some message
     pub between : is_between c s message.header ≡ true
     pub like : P message
-    pub clock : client_clock c sending.after.world ≡ at
+    pub clock : read sending.after.world ≡ at
     pub none : (y : Step) → Has y during → y.event ≢ events.Deliver number
 
   -- it is sent at the last step
   pub takes_off : (past : List Step) (x : Step) (ms : List Message) (P : Message → Type 0) (n : ℕ) (m : Message) → Has (seen.Sent n m) x.seen →
       numbered ms n ≡ Some m →
-      is_between c s m.header ≡ true → P m → Flying (past ++ x ∷ []) ms P (client_clock c x.after.world)
+      is_between c s m.header ≡ true → P m → Flying (past ++ x ∷ []) ms P (read x.after.world)
   takes_off past x ms P n m h t b p =
       record {
         before = past;
@@ -61,7 +55,7 @@ module _ (c : ClientId) (s : ServerId) (d : ℕ) where
         before = f.before;
         sending = f.sending;
         during = f.during ++ x ∷ [];
-        split = ap (λ p. p ++ x ∷ []) f.split ∙ assoc f.before (f.sending ∷ f.during) (x ∷ []);
+        split = ap (λ p. p ++ x ∷ []) f.split ∙ append_assoc f.before (f.sending ∷ f.during) (x ∷ []);
         number = f.number;
         message = f.message;
         sent = f.sent;
@@ -81,7 +75,7 @@ module _ (c : ClientId) (s : ServerId) (d : ℕ) where
   abbrev pub InTime : List Step → List Message → ℕ → Type 0
   InTime past ms now = (at : ℕ) → Flying past ms (λ m. Unit {0}) at → now ≤ at + d
 
-  pub in_time : (past : List Step) (x : Step) (ms : List Message) → ComeInTime c s d past x → InTime (past ++ x ∷ []) ms (client_clock c x.after.world)
+  pub in_time : (past : List Step) (x : Step) (ms : List Message) → ComeInTime read c s d past x → InTime (past ++ x ∷ []) ms (read x.after.world)
   in_time past x ms g at f = let z = g f.before f.sending f.during f.number f.message f.split f.sent f.between f.none in let e = f.clock in omega (arith, z, e)
 
   pub none_flies : (ms : List Message) (now : ℕ) → InTime [] ms now
@@ -127,7 +121,7 @@ module _ (c : ClientId) (s : ServerId) (d : ℕ) where
 
   -- each of these steps was no later than this reading
   abbrev pub Begun : List Step → ℕ → Type 0
-  Begun past now = (y : Step) → Has y past → client_clock c y.after.world ≤ now
+  Begun past now = (y : Step) → Has y past → read y.after.world ≤ now
 
   middle : (before : List Step) (i : Step) (during : List Step) → Has i (before ++ i ∷ during)
   middle [] i during = inl refl
@@ -145,11 +139,11 @@ module _ (c : ClientId) (s : ServerId) (d : ℕ) where
   pub none_began : (now : ℕ) → Begun [] now
   none_began now y h = absurd h
 
-  pub more_began : (past : List Step) (x : Step) (before : ℕ) → Begun past before → before ≤ client_clock c x.after.world →
-      Begun (past ++ x ∷ []) (client_clock c x.after.world)
+  pub more_began : (past : List Step) (x : Step) (before : ℕ) → Begun past before → before ≤ read x.after.world →
+      Begun (past ++ x ∷ []) (read x.after.world)
   more_began past x before g l y h = go (has_append past (x ∷ []) y h)
     where
-      go : Has y past ⊎ Has y (x ∷ []) → client_clock c y.after.world ≤ client_clock c x.after.world
+      go : Has y past ⊎ Has y (x ∷ []) → read y.after.world ≤ read x.after.world
       go (inl i) = let z = g y i in omega (arith, z, l)
-      go (inr (inl e)) = let z = ap (λ (i : Step). client_clock c i.after.world) e in omega (arith, z)
+      go (inr (inl e)) = let z = ap (λ (i : Step). read i.after.world) e in omega (arith, z)
       go (inr (inr i)) = absurd i

@@ -1,10 +1,9 @@
 -- Healthy clients: a client that ticks in time at a server that runs and does not suspect it, where each message between the two comes in time. Its lease
--- at that server lasts.
-use Rattle.std.specs.Prelude.{◌≡◌, ◌≢◌, ◌≤◌, ◌<◌, ◌+◌, ◌*◌, ◌&&◌, ◌||◌, ◌==◌, ℕ, Bool, true, false, max, List, [], ◌∷◌, ◌++◌, Some, None}
+-- at that server lasts, and if few of its releases wait, the server does not come to suspect it.
+use Rattle.std.specs.Prelude.{◌≡◌, ◌≢◌, ◌≤◌, ◌<◌, ◌+◌, ◌*◌, ◌&&◌, ◌||◌, ◌==◌, ℕ, Bool, true, false, length, max, List, [], ◌∷◌, ◌++◌, Some}
 use Rattle.std.specs.List.{list_all}
 use Rattle.st_base.specs.declared.config.Config.{Config}
 use Rattle.st_base.specs.declared.ids.ClientId.{ClientId}
-use Rattle.st_base.specs.declared.ids.Life.{Life}
 use Rattle.st_base.specs.declared.ids.ServerId.{ServerId}
 use Rattle.st_messages.specs.declared.event.Event.{Event}
 use Rattle.st_messages.specs.declared.event.Event.TheVariants as events
@@ -17,20 +16,20 @@ use Rattle.st_rules.specs.History.{traced}
 use Rattle.st_rules.specs.Keys.{server_node}
 use Rattle.st_rules.specs.Safety.{IsHead, Promise, Step, Throughout, is_event, steps}
 use Rattle.st_rules.specs.Server.{ServerNode}
-use Rattle.st_rules.specs.World.{WorldClient, fresh_world, node_of, site_of}
+use Rattle.st_rules.specs.World.{World, WorldClient, fresh_world, node_of, site_of}
 use Rattle.st_lemmas.specs.Lists.{Has}
 use Rattle.st_laws_lasting.specs.Lasting.{client_clock, client_last_tick}
+use Rattle.st_laws_waits.specs.Waits.{server_clock}
 
 -- a message from one of the two to the other
 abbrev pub is_between : ClientId → ServerId → Header → Bool
 is_between c s h = ((h.from == c.0) && (h.to == server_node s)) || ((h.from == server_node s) && (h.to == c.0))
 
--- Messages between the two come in time: a message that was sent more than this many ticks of the client's clock ago was delivered since.
-abbrev pub ComeInTime : ClientId → ServerId → ℕ → Promise
-ComeInTime c s d past x =
+-- Messages between the two come in time, by a clock: a message that was sent more than this many of its ticks ago was delivered since.
+abbrev pub ComeInTime : (World → ℕ) → ClientId → ServerId → ℕ → Promise
+ComeInTime clock c s d past x =
     (before : List Step) (i : Step) (during : List Step) (n : ℕ) (m : Message) → past ++ x ∷ [] ≡ before ++ i ∷ during → Has (seen.Sent n m) i.seen →
-    is_between c s m.header ≡ true → ((y : Step) → Has y during → y.event ≢ events.Deliver n) →
-    client_clock c x.after.world ≤ client_clock c i.after.world + d
+    is_between c s m.header ≡ true → ((y : Step) → Has y during → y.event ≢ events.Deliver n) → clock x.after.world ≤ clock i.after.world + d
 
 -- After a step the client runs, the server runs and does not suspect it, the client ticked in time, and the messages between them came in time.
 pub record IsHealthy (c : ClientId) (s : ServerId) (gap d : ℕ) (past : List Step) (x : Step) : Type 0 where
@@ -42,7 +41,7 @@ pub record IsHealthy (c : ClientId) (s : ServerId) (gap d : ℕ) (past : List St
   pub up : node.running ≡ true
   pub free : may_ack node.state.authority c ≡ true
   pub ticks : client_clock c x.after.world ≤ client_last_tick c 0 (past ++ x ∷ []) + gap
-  pub come : ComeInTime c s d past x
+  pub come : ComeInTime (client_clock c) c s d past x
 
 -- The age that a lease never reaches: a request is asked at an age below the renewal age and a gap, or right after the reply to the one before it; and it
 -- takes one trip to the server and one back.
@@ -63,3 +62,37 @@ InHealthyRuns promise =
     IsHead k clients servers disks blocks form → list_all (is_event (clients + servers)) es ≡ true → longest k gap d ≤ k.lease →
     Throughout (IsHealthy c s gap d) [] (steps es (traced (fresh_world k clients servers disks blocks form))) →
     Throughout (promise k c s gap d) [] (steps es (traced (fresh_world k clients servers disks blocks form)))
+
+-- At most this many releases of the client wait to be sent to the server.
+abbrev pub FewWait : ClientId → ServerId → ℕ → World → Type 0
+FewWait c s most w =
+    (site : WorldClient) (a : Association) (z : ClientSession) → site_of w c ≡ Some site → Has a site.node.state.associations → a.server ≡ s →
+    a.session ≡ Some z → length z.releases ≤ most
+
+-- After a step the client runs, and ticked in time. The server runs. The messages between them came in time by both clocks, and few releases wait. That
+-- the server doesn't suspect the client isn't among these.
+pub record IsPrompt (c : ClientId) (s : ServerId) (gap d delay most : ℕ) (past : List Step) (x : Step) : Type 0 where
+  pub site : WorldClient
+  pub there : site_of x.after.world c ≡ Some site
+  pub runs : site.node.running ≡ true
+  pub node : ServerNode
+  pub is : node_of x.after.world s ≡ Some node
+  pub up : node.running ≡ true
+  pub ticks : client_clock c x.after.world ≤ client_last_tick c 0 (past ++ x ∷ []) + gap
+  pub come : ComeInTime (client_clock c) c s d past x
+  pub come_by_server : ComeInTime (server_clock s) c s delay past x
+  pub few : FewWait c s most x.after.world
+
+-- Healthy clients aren't suspected.
+abbrev pub HealthyClientsAreNotSuspected : ClientId → ServerId → Promise
+HealthyClientsAreNotSuspected c s past x = (node : ServerNode) → node_of x.after.world s ≡ Some node → may_ack node.state.authority c ≡ true
+
+-- What holds in every run in which a client is prompt at a server after each step. A lease that is younger than the bound must not be over. The releases
+-- that wait and one request before them must take less than the demand time, by the server's clock.
+abbrev pub InPromptRuns : (ClientId → ServerId → Promise) → Type 0
+InPromptRuns promise =
+    (k : Config) (clients servers disks blocks form : ℕ) (es : List Event) (c : ClientId) (s : ServerId) (gap d delay most : ℕ) →
+    IsHead k clients servers disks blocks form → list_all (is_event (clients + servers)) es ≡ true → longest k gap d ≤ k.lease →
+    2 * delay * (most + 1) < k.demand →
+    Throughout (IsPrompt c s gap d delay most) [] (steps es (traced (fresh_world k clients servers disks blocks form))) →
+    Throughout (promise c s) [] (steps es (traced (fresh_world k clients servers disks blocks form)))
