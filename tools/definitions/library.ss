@@ -61,3 +61,4 @@
 (define (|std.decimal| n) (map char->integer (string->list (number->string n))))
 (define (|std.bytes_eq| a b) (equal? a b))
 (define (|std.reverse| xs) (reverse xs))
+(define (|std.to_be_bytes| count n) (if (eqv? count 0) '() (append (|std.to_be_bytes| (- count 1) (quotient n 256)) (list (remainder n 256)))))

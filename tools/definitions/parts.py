@@ -72,7 +72,7 @@ def add_words(parser, lengths):
     """The words that the tools with parts share."""
     parser.add_argument("seconds", type=float, nargs="?", metavar="SECONDS")
     parser.add_argument("seed", nargs="?", metavar="SEED", help="any word")
-    parser.add_argument("--processors", type=int, default=1, metavar="N", help="how many work at the same time (1)")
+    parser.add_argument("--processors", type=int, default=1, metavar="N", help="how many processes work at the same time (1)")
     parser.add_argument("--lengths", type=lambda text: tuple(map(int, text.split(","))), default=lengths, metavar="N,..",
                         help=f"how many events a run may have: one of these is drawn ({','.join(map(str, lengths))})")
     parser.add_argument("--until", type=int, default=20, metavar="N", help="a processor ends where it found so many (20)")

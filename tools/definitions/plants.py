@@ -1,6 +1,6 @@
-"""Wrong rules, each a change of the definitions: its name; the promises that may refuse it, the
-first of which must; its changes, each a file of st_rules/specs, a text that occurs there once, and
-what replaces it; and what its runs ask, one of ASKS in running.py."""
+"""Wrong rules, each a change of the definitions. Each has its name; the promises that may refuse
+it, the first of which must; its changes; and what its runs ask, one of ASKS in running.py. A change
+names a file of st_rules/specs, a text that occurs there once, and what replaces it."""
 from typing import NamedTuple
 
 
@@ -17,6 +17,7 @@ AGAIN = "request_by t now h body (takes.Again kept) = reply t h kept"
 KEPT = "keep_and_reply t h body = reply (with_sessions (sessions.store t.state.sessions (sender h) h.number body) t) h body"
 KEPT_OTHER = "keep_and_reply t h body = reply (with_sessions (sessions.store t.state.sessions (sender h) h.number (kept_for body)) t) h body\n"
 CHANGED = "name_changed t (Ok d) = replied (with_names d.names t) (bodies.Named (Ino d.ino))"
+BEGIN_GRACE = "begin_grace now k = Some (record { start = now; wait = steal_wait k })"
 RAISED = "record { 0 = first_after l.epoch + l.grants + 1 }"
 TAKE_FROM = "take_from last reply number = if number == last then again reply else take_next last number"
 SENT_ANEW = (
@@ -138,11 +139,21 @@ PLANTS = (
     # Leases, timers and grace.
     Plant("a theft comes one tick early", "TheftsComeLate DirtyPagesStandAlone ReadsReturnLastWrites", (
         ("Authority", "is_over wait now s = nat_le (s.start.0 + wait) now.0", "is_over wait now s = nat_le (s.start.0 + wait) (now.0 + 1)"),)),
-    Plant("the steal wait is the lease alone", "TheftsComeLate GraceWaits DirtyPagesStandAlone ReadsReturnLastWrites", (
+    Plant("the steal wait is only the lease", "TheftsComeLate GraceWaits DirtyPagesStandAlone ReadsReturnLastWrites", (
         ("Leases", "div_ceil (k.lease * k.num + k.den * k.grain) k.den", "k.lease"),)),
     Plant("the steal wait leaves out the grain", "TheftsComeLate GraceWaits DirtyPagesStandAlone ReadsReturnLastWrites", (
         ("Leases", "div_ceil (k.lease * k.num + k.den * k.grain) k.den", "div_ceil (k.lease * k.num) k.den"),)),
-    Plant("a server has no grace", "GraceWaits", (("Grace", "begin_grace now k = Some (record { start = now; wait = steal_wait k })", "begin_grace now k = None"),)),
+    Plant("a server has no grace", "TheHistoryIsTheWorlds GraceWaits DirtyPagesStandAlone", (
+        ("Grace", BEGIN_GRACE, "begin_grace now k = None"),)),
+    Plant("a grace begins one tick late", "TheHistoryIsTheWorlds", (
+        ("Grace", BEGIN_GRACE, "begin_grace now k = Some (record { start = record { 0 = now.0 + 1 }; wait = steal_wait k })"),)),
+    Plant("a timer begins one tick late", "TheHistoryIsTheWorlds", (
+        ("Authority", "new_suspect c now = record { client = c; start = now }", "new_suspect c now = record { client = c; start = record { 0 = now.0 + 1 } }"),)),
+    Plant("a timer that runs begins anew at each tick", "TheHistoryIsTheWorlds", (
+        ("Authority", "suspect a c now = if may_ack a c then start_timer a c now else a",
+         "use Rattle.st_rules.specs.Keys.{put}\n"
+         "suspect a c now = record a { suspects = put (is_suspect c) (new_suspect c now) a.suspects }"),
+        ("Server", "suspect_unless t now c = if authority.may_ack t.state.authority c then suspect_client t now c else t", "suspect_unless t now c = suspect_client t now c"))),
     Plant("grace is one tick short", "GraceWaits", (("Grace", "nat_lt now.0 (g.start.0 + g.wait)", "nat_lt (now.0 + 1) (g.start.0 + g.wait)"),)),
     Plant("a server grants in grace", "DirtyPagesStandAlone ReadsReturnLastWrites ChangesAreLocked NoConflictIsSent ChangesGoInTheOrderOfLocks", (
         ("Server", "grants_now t now = not (in_grace t now)", "grants_now t now = true"),)),
@@ -183,7 +194,7 @@ PLANTS = (
     Plant("a patch is over zeros", "ReadsReturnLastWrites DisksHoldWhatIsHard", (
         ("ClientPasses", "patch_at t o f p at bytes None = fetch t o f p", "patch_at t o f p at bytes None = patch_bytes t o f p at bytes (filled 0)"),)),
     # The log.
-    Plant("one entry hardens alone", "HardIsHard DisksHoldWhatIsHard DropsHaveACause", (
+    Plant("one entry hardens without the earlier ones", "HardIsHard DisksHoldWhatIsHard DropsHaveACause", (
         ("FlatLog", "if nat_le number index && same_owner e.of o then harder_entry e else e", "if (number == index) && same_owner e.of o then harder_entry e else e"),)),
     Plant("a crash spares nothing", "DisksHoldWhatIsHard HardIsHard DropsHaveACause ReadsReturnLastWrites", (
         ("Events", "is_of_crashed w c number o = log.is_of_client c o && not (is_spared w number o)", "is_of_crashed w c number o = log.is_of_client c o"),)),

@@ -16,19 +16,25 @@ import comparing  # noqa: E402
 from antt import NotUnderstood, Sources  # noqa: E402
 from reference.report import lines_of  # noqa: E402
 from reference.schedule import Head, LineRefused, ScheduleReader, event_line  # noqa: E402
-from reference.settings import Settings  # noqa: E402
+from reference.settings import Limits, Settings  # noqa: E402
 from scheme import Translator, symbol  # noqa: E402
 
-RULES, PROMISES = "Rattle.st_rules.specs.", "Rattle.st_promises.specs."
+RULES, PROMISES, THIRD = "Rattle.st_rules.specs.", "Rattle.st_promises.specs.", "Rattle.st_third.specs."
 ROOTS = (("Run", "run"), ("Report", "report"), ("Report", "ending"), ("World", "fresh_world"), ("Events", "world_step"), ("Safety", "IsHead"), ("Safety", "is_event"),
          ("Safety", "steps"), ("Safety", "is_old"), ("Safety", "is_of_other_epoch"), ("Safety", "is_of_past_life"), ("History", "traced"))
-ENUMS = (("st_rules", "disks", "Report"), ("st_messages", "event", "Event"), ("st_messages", "ask", "Ask"), ("st_base", "names", "NameAsk"), ("st_base", "ids", "NodeId"),
+THIRD_ROOTS = (("Run", "run"), ("Run", "third_report"), ("World", "third_world"), ("Events", "world_step"), ("Limits", "IsHead"), ("Steps", "steps"),
+               ("Steps", "third_traced"), ("Steps", "plain_step"), ("State", "third_turn"), ("Client", "take_input"), ("Server", "take_input"), ("Messages", "spelling"), ("Messages", "fits"), ("Messages", "head_line"),
+               ("Messages", "leave_line"))
+ENUMS = (("st_third", "event", "ThirdEvent"), ("st_third", "message", "ThirdMessage"), ("st_third", "event", "ThirdInput"), ("st_rules", "disks", "Report"), ("st_messages", "event", "Event"), ("st_messages", "ask", "Ask"), ("st_base", "names", "NameAsk"), ("st_base", "ids", "NodeId"),
          ("core", "result", "Result"))
-RECORDS = (("0",), ("server", "ino"), ("lease", "renew", "quiesce", "flush", "demand", "retry", "num", "den", "grain"))
+RECORDS = (("0",), ("server", "ino"), ("lease", "renew", "quiesce", "flush", "demand", "retry", "num", "den", "grain"),
+           ("inodes", "locks", "dirty", "clean", "operations"), ("from", "to", "life", "epoch", "number", "stamp"))
 # What a run's asks are like: of all kinds; six of ten for names; half of them cuts and removals,
-# whose replies are often lost.
+# whose replies are often lost. `third` are runs of the third form, of all kinds.
 ASKS = ("all", "names", "cuts")
+THIRD_ASKS = "third"
 MOST_MEMORY = 4 << 30
+FORMS = (1, 2, 3)
 # Where this variable is set, only the promises that are named besides are judged; the compiled
 # program reads it too.
 ONLY_MORE = "TANK_ONLY_MORE"
@@ -51,19 +57,30 @@ def promises_of(translator, more):
     return {one[1].name: symbol(one[1].module.path, one[1].name) for one in found}
 
 
+def third_promises_of(translator):
+    """The promises of the third form by name, each as its symbol: the fields of IsThirdSafe."""
+    module = translator.sources.module(THIRD + "Promises")
+    names = [text.split()[1] for _, text in module.records["IsThirdSafe"][1]]
+    return {name: symbol(module.path, translator.root(module.path, name)[1].name) for name in names}
+
+
 def translated(sources, more, numbers=None):
-    """The translated definitions, and the promises by name, each as its symbol."""
+    """The translated definitions, and the promises by name, each as its symbol: those of all forms,
+    and those of the third.
+    """
     translator = Translator(sources, numbers)
     for file, name in ROOTS:
         translator.root(RULES + file, name)
-    promises = promises_of(translator, more)
+    for file, name in THIRD_ROOTS:
+        translator.root(THIRD + file, name)
+    promises, third = promises_of(translator, more), third_promises_of(translator)
     for enum in ENUMS:
         for variant in ("Ok", "Err") if enum[2] == "Result" else sources.variants(*enum):
             translator.variant((*enum, variant))
     for names in RECORDS:
         translator.layout(names)
     translator.run()
-    return translator, promises
+    return translator, promises, third
 
 
 @functools.cache
@@ -75,17 +92,18 @@ def base(crates, more):
 
 def program_text(crates, more):
     """The definitions of these crates, with these promises more, as a program of Chez Scheme."""
-    _, translator, promises = base(crates, more)
-    table = " ".join(f"(cons '{name} (lambda (past) (lambda (step) ({at} past step))))" for name, at in promises.items())
+    _, translator, *promises = base(crates, more)
+    tables = [" ".join(f"(cons '{name} (lambda (past) (lambda (step) ({at} past step))))" for name, at in those.items()) for those in promises]
     library, scheduler, worlds = ((HERE / f"{name}.ss").read_text() for name in ("library", "scheduler", "worlds"))
-    return "\n".join([library, translator.text(), f"(define promises (list {table}))", scheduler, worlds])
+    named = [f"(define {name} (list {table}))" for name, table in zip(("promises", "third-promises"), tables)]
+    return "\n".join([library, translator.text(), *named, scheduler, worlds])
 
 
 def changed_text(crates, more, texts):
     """What a program of these crates is to evaluate so that some modules, of st_rules or as
     CRATE:MODULE, have these texts.
     """
-    sources, before, _ = base(str(crates), tuple(more))
+    sources, before, *_ = base(str(crates), tuple(more))
     return translated(sources.with_texts({module_path(file, RULES): text for file, text in texts.items()}), more, before)[0].changes(before)
 
 
@@ -128,9 +146,9 @@ def ended(why):
 # Data for the program: reference/'s tuples as lists.
 
 def datum(it):
-    """What the program reads for a value of reference/. The definitions have no third form."""
+    """What the program reads for a value of reference/."""
     if isinstance(it, Head):
-        return datum(tuple(it[:6]))
+        return datum((*it[:6], tuple(it.limits[:5])))
     if isinstance(it, bool):
         return "#t" if it else "#f"
     if isinstance(it, bytes):
@@ -155,15 +173,15 @@ def of_datum(text):
 
 def schedule_of(head, events):
     """The text of a schedule."""
-    numbers = [*head.settings[: 7 + head.form], *head[2:6]]
+    numbers = [*head.settings[: 8 if head.form == 1 else 9], *head[2:6], *(head.limits[:5] if head.form == 3 else ())]
     return "\n".join([f"tank {head.form} {' '.join(map(str, numbers))}", *map(event_line, events), "end", ""]).encode("latin-1")
 
 
-def read(schedule):
+def read(schedule, forms=FORMS):
     """The head and the events of a schedule, up to what its reader refuses, and whether it refuses
     nothing. The head is None where it is refused.
     """
-    reader, items = ScheduleReader(), []
+    reader, items = ScheduleReader(forms), []
     try:
         for line in lines_of([schedule]):
             items.append(reader.line(line))
@@ -211,18 +229,23 @@ class Definitions:
         return self.process.stdout.read(int(count))
 
     def report(self, head, events):
+        """The report by the definitions of the first two forms."""
         return self.ask("report", head, events)
+
+    def third_report(self, head, events):
+        """The report by the definitions of all forms."""
+        return self.ask("third-report", head, events)
 
     def drawn(self, seed, length, asks="all"):
         """The head and the events of a random run by the definitions' own scheduler, with asks of
         one of ASKS.
         """
         head, events = of_datum(self.ask("draw", seed, length, asks).decode())
-        return Head(head[0], Settings(*head[1]), *head[2:]), list(events)
+        return Head(head[0], Settings(*head[1]), *head[2:6], *(Limits(*numbers, True) for numbers in head[6:])), list(events)
 
     def judged(self, head, events):
         """How many steps a run has, and what is broken in it: pairs of a promise and a step."""
-        said = self.ask("judge", head, events).decode()
+        said = self.ask("third-judge" if head.form == 3 else "judge", head, events).decode()
         if said.startswith("error"):
             return 0, [(said.strip(), 0)]
         steps, sound, broken = of_datum(said)

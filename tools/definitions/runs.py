@@ -5,6 +5,7 @@ import compare_schedules
 import comparing
 import parts
 import running
+import third_form
 
 
 class Runs(parts.Part):
@@ -17,7 +18,9 @@ class Runs(parts.Part):
     def turn(self, number):
         rng = random.Random(f"{self.words.seed} {self.place} {number}")
         length = rng.choice(self.words.lengths)
-        if number % 8 or not self.words.driven:
+        if self.words.asks == running.THIRD_ASKS and number % 8 == 0 and self.words.driven:
+            head, events = third(f"{self.words.seed} {self.place}", number, length)
+        elif number % 8 or not self.words.driven:
             head, events = self.definitions.drawn(rng.randrange(2**32), length, self.words.asks or rng.choice(("all", "all", "names", "cuts")))
         else:
             head, events = driven(rng, length)
@@ -31,6 +34,13 @@ class Runs(parts.Part):
         if broken:
             path = comparing.kept(name, schedule=running.schedule_of(head, events))
             self.found.append((f"{path}.schedule", broken))
+
+
+def third(seed, number, length):
+    """The head and the events of a run of the third form that the world of reference/ drives."""
+    driver, _, _ = third_form.hostile(seed, number)
+    driver.run(length)
+    return running.read(driver.finish(None)[0])[:2]
 
 
 def driven(rng, length):

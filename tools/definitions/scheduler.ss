@@ -10,7 +10,13 @@
 ; inodes and pages of its asks; how likely a quick disk answers well, and a message is held back; the client whose messages are held back, or #f; how
 ; many commands of a thousand are slow; what its asks are like: `all`, `names` or `cuts`.
 (define-record-type drawn
-  (fields head (mutable world) (mutable events) (mutable fresh) slow inodes pages care held (mutable muted) lazy asks))
+  (fields head (mutable state) (mutable events) (mutable fresh) slow inodes pages care held (mutable muted) lazy asks))
+; A run of the third form has a world of st_third, in which the world of st_rules is.
+(define (third? run) (= (car (drawn-head run)) 3))
+(define (drawn-world run) (if (third? run) (field |field world| (drawn-state run)) (drawn-state run)))
+(define (step-of run it)
+  (if (third? run) (|st_third.Events.world_step| (drawn-state run) (third-event it)) (|st_rules.Events.world_step| (drawn-state run) (event it))))
+(define (state-after run turn) (if (third? run) (field |field third| turn) (field |field world| turn)))
 (define (settings-of run) (cadr (drawn-head run)))
 (define (lease-of run) (car (settings-of run)))
 (define (client-count run) (list-ref (drawn-head run) 2))
@@ -25,20 +31,23 @@
 (define (commands-of run) (field |field commands| (field |field disks| (drawn-world run))))
 (define (sites-of run) (field |field clients| (drawn-world run)))
 (define (clock-of run place) (number-of (list-ref (field |field clocks| (drawn-world run)) place)))
-(define (draw-head)
-  (let* ([form (one-of '(1 1 2))] [lease (one-of '(12 20 60 1000))] [early (if (chance 0.3) 1 (quotient lease 3))]
+(define (draw-limits)
+  (list (one-of '(10 12 4096)) (one-of '(1 2 2 3 4 1024)) (one-of '(1 2 2 3 64)) (one-of '(2 2 3 256)) (one-of '(1 3 6 16 128))))
+(define (draw-head asks)
+  (let* ([form (if (eq? asks 'third) 3 (one-of '(1 1 2)))] [lease (one-of '(12 20 60 1000))] [early (if (chance 0.3) 1 (quotient lease 3))]
          [phases (let go () (let ([it (list-sort < (map (lambda (i) (from-to early (- lease 1))) '(1 2 3)))]) (if (< (car it) (cadr it) (caddr it)) it (go))))]
          [demand (from-to 1 (one-of (list 3 lease)))] [rate (one-of '((1 1) (101 100) (11 10) (5 4) (3 2) (2 1)))]
          [grain (if (= form 1) 0 (one-of (list 0 1 (from-to 0 lease) lease)))] [servers (one-of '(1 1 1 2))])
-    (list form (append (list lease) phases (list demand (from-to 1 demand)) rate (list grain))
-          (one-of '(2 2 2 3 4)) servers (from-to servers (* 2 servers)) (from-to 1 6))))
+    (append (list form (append (list lease) phases (list demand (from-to 1 demand)) rate (list grain))
+                  (one-of '(2 2 2 3 4)) servers (from-to servers (* 2 servers)) (from-to 1 6))
+            (if (= form 3) (list (draw-limits)) '()))))
 
 ; An event happens where it is admissible; the answer says whether.
 (define (put run it)
-  (let ([result (|st_rules.Events.world_step| (drawn-world run) (event it))] [sent (length (messages-of run))])
+  (let ([result (step-of run it)] [sent (length (messages-of run))])
     (and (is? result "Result.Ok")
          (begin
-           (drawn-world-set! run (field |field world| (vector-ref result 1)))
+           (drawn-state-set! run (state-after run (vector-ref result 1)))
            (drawn-events-set! run (cons it (drawn-events run)))
            (when (eq? (car it) 'deliver) (drawn-fresh-set! run (remv (cadr it) (drawn-fresh run))))
            (drawn-fresh-set! run (append (drawn-fresh run) (filter (lambda (k) (not (or (chance (drawn-held run)) (muted? run k))))
@@ -72,7 +81,7 @@
       [(and (eq? (drawn-asks run) 'names) (chance 0.6)) (a-name-ask run)]
       [(and (eq? (drawn-asks run) 'cuts) (chance 0.5)) (a-cut run (car f))]
       [else
-        (case (random (if (= (car (drawn-head run)) 2) 20 16))
+        (case (random (if (= (car (drawn-head run)) 1) 16 20))
           [(0 1 2 3 4 5) (list 'write f p (a-page))]
           [(6 7 8 9 10) (list 'read f p)]
           [(11 12 13) (list 'sync f)]
@@ -247,6 +256,45 @@
           [else (go (cdr messages) (+ k 1) (cons (list (vector-ref (field |field body| (field |field message| (car messages))) 0) k) kinds))])))
 (define (a-link run) (let ([c (a-client run)] [s (server-node (a-server run))]) (if (chance 0.5) (list c s) (list s c))))
 
+; A client is asked to leave, and is served until it left, or its leave fails.
+(define (leave run)
+  (let ([c (a-client run)] [s (a-server run)])
+    (put run (list 'app c (list 'leave s)))
+    (for-each (lambda (i) (drain run)) (range 0 (one-of '(1 2 6))))
+    (when (chance 0.3) (put run (list 'app c (an-ask run))) (drain run))))
+; Clients want more files than they may have locks of.
+(define (crowd run)
+  (let ([c (a-client run)])
+    (for-each (lambda (i) (put run (list 'app (if (chance 0.8) c (a-client run)) (an-ask run))) (when (chance 0.4) (drain run))) (range 0 (from-to 2 6)))
+    (drain run)
+    (put run (list 'tick c))
+    (drain run)))
+
+; A file grows by many pages at once.
+(define (grow run)
+  (let ([c (a-client run)] [f (list (a-server run) (one-of (drawn-inodes run)))] [most (list-ref (list-ref (drawn-head run) 6) 4)])
+    (for-each (lambda (p) (put run (list 'app c (list 'write f p (a-page))))) (range 0 (min most (one-of '(2 5 66 70)))))
+    (drain run)))
+
+; A client loses a page: its write fails in flush, and its lease ends. Then it is asked to leave.
+(define (lease-date run c s)
+  (let* ([site (list-ref (sites-of run) (- c 1))] [session (field |field session| (list-ref (field |field associations| (field |field state| (field |field node| site))) (- s 1)))])
+    (and (some? session) (number-of (field |field date| (field |field lease| (vector-ref session 1)))))))
+(define (lose-page run)
+  (let* ([c (a-client run)] [s (a-server run)] [f (list s (one-of (drawn-inodes run)))]
+         [go (lambda (age) (let ([date (lease-date run c s)]) (when date (advance run (- c 1) (max 0 (- (+ date age) (clock-of run (- c 1))))))))])
+    (put run (list 'app c (list 'write f 0 (a-page))))
+    (drain run)
+    (drain run)
+    (go (list-ref (settings-of run) 3))
+    (put run (list 'tick c))
+    (for-each (lambda (k) (put run (list 'report k #f))) (open-commands run))
+    (go (lease-of run))
+    (put run (list 'tick c))
+    (put run (list 'app c (list 'leave s)))
+    (drain run)
+    (drain run)))
+
 ; What may be done next, and how often. Where many asks are for names or cuts, what serves them is done more often.
 (define (work run) (put run (list 'app (a-client run) (an-ask run))) (drain run))
 (define deeds
@@ -275,14 +323,16 @@
     (3 . ,mute)
     (1 . ,(lambda (run) (drawn-muted-set! run #f)))
     (3 . ,repeat)))
+(define third-deeds `((4 . ,leave) (12 . ,crowd) (2 . ,grow) (3 . ,lose-page)))
 ; A run of at most so many events, as (head events).
 (define (draw seed length-of-run asks)
   (random-seed (+ 1 (modulo seed 4294967290)))
-  (let* ([head (draw-head)] [nodes (+ (caddr head) (cadddr head))]
-         [run (make-drawn head (world-of head) '() '() (filter (lambda (place) (chance 0.5)) (range 0 nodes)) (one-of '((2) (2) (2 3) (2 10))) (one-of '(1 1 2))
+  (let* ([head (draw-head asks)] [nodes (+ (caddr head) (cadddr head))] [is-third (= (car head) 3)]
+         [run (make-drawn head (if is-third (third-world-of head) (world-of head)) '() '() (filter (lambda (place) (chance 0.5)) (range 0 nodes))
+                          (one-of (if is-third '((2) (2 3) (2 3 4 5) (2 3 4 5 6 7)) '((2) (2) (2 3) (2 10)))) (one-of (if is-third '(1 2 4 80) '(1 1 2)))
                           (one-of '(0.3 0.8 0.95)) (one-of '(0 0 0.05 0.2)) #f (one-of '(0 0 200 600)) asks)]
-         [often (lambda (deed) (if (and (not (eq? asks 'all)) (memq (cdr deed) (list drain work repeat))) 4 1))]
-         [weighted (map (lambda (deed) (cons (* (often deed) (car deed) (one-of '(1 5 5 20))) (cdr deed))) deeds)] [total (apply + (map car weighted))])
+         [often (lambda (deed) (if (and (memq asks '(names cuts)) (memq (cdr deed) (list drain work repeat))) 4 1))]
+         [weighted (map (lambda (deed) (cons (* (often deed) (car deed) (one-of '(1 5 5 20))) (cdr deed))) (if is-third (append deeds third-deeds) deeds))] [total (apply + (map car weighted))])
     (let go ([tries (* 10 length-of-run)])
       (when (and (> tries 0) (< (length (drawn-events run)) length-of-run))
         (let find-deed ([n (random total)] [left weighted])

@@ -15,15 +15,15 @@ from antt import NotUnderstood, Parser, tokens_of
 LIBRARY = {"suc": 1, "pred": 1, "min": 2, "max": 2, "not": 1, "nat_lt": 2, "nat_le": 2, "nat_eq": 2, "div_ceil": 2, "map": 2, "filter": 2, "find": 2,
            "filter_map": 2, "flat_map": 2, "list_any": 2, "list_all": 2, "length": 1, "take": 2, "drop": 2, "set": 3, "replicate": 2, "slice_get": 2,
            "slice_index": 2, "zip": 2, "fold": 3, "sum_by": 2, "is_some": 1, "is_none": 1, "unwrap_or": 2, "option_map": 2, "option_and_then": 2, "option_or": 2, "decimal": 1,
-           "codes": 1, "bytes_eq": 2, "reverse": 1}
+           "codes": 1, "bytes_eq": 2, "reverse": 1, "to_be_bytes": 2}
 SIGNS = {"≡": "equal?", "==": "=", "<": "<", "≤": "<=", "+": "+", "-": "minus", "++": "append", "∷": "cons", "*": "*", "/": "divided", "%": "modulus",
          "^": "expt", "||": "or", "&&": "and", "×": "and"}
-# For their time alone: definitions of two arguments whose values are kept for the same two objects,
+# Only to save time: definitions of two arguments whose values are kept for the same two objects,
 # and modules in which a list with one more element is. Promises say the same of the same steps
 # again and again.
 REMEMBERED = {"st_volume.Pages.changed", "st_laws_volume.Witness.led_by", "st_laws_volume.Witness.begun", "st_rules.FlatLog.changed", "st_promises.NameAnswers.same_names", "st_promises.NameAnswers.says"}
-GROWING = ("Rattle.st_promises.", "Rattle.st_rules.specs.Safety")
-CONSTANTS = {"[]": "'()", "zero": "0", "true": "#t", "false": "#f", "tt": "'tt", "⊤": "#t", "⊥": "#f"}
+GROWING = ("Rattle.st_promises.", "Rattle.st_rules.specs.Safety", "Rattle.st_third.specs.Promises")
+CONSTANTS = {"w16": "2", "w32": "4", "w64": "8", "[]": "'()", "zero": "0", "true": "#t", "false": "#f", "tt": "'tt", "⊤": "#t", "⊥": "#f"}
 OPTION, RESULT = ("core", "option", "Option"), ("core", "result", "Result")
 LIBRARY_VARIANTS = {"None": (*OPTION, "None"), "Some": (*OPTION, "Some"), "Ok": (*RESULT, "Ok"), "Err": (*RESULT, "Err")}
 LIBRARY_ENUMS = {OPTION: {"None": 0, "Some": 1}, RESULT: {"Ok": 1, "Err": 1}}

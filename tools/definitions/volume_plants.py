@@ -1,5 +1,5 @@
-"""Wrong machines that users could see, in the form of plants.py: the volume alone must refuse each.
-`Accepted` is that the volume takes the steps of a run, and that these show what is seen of it
+"""Wrong machines that users could see, in the form of plants.py: the volume by itself must refuse
+each. `Accepted` is that the volume takes the steps of a run, and that these show what is seen of it
 (st_laws_volume/specs/Witness.antt)."""
 from plants import PLANTS as OTHERS, Plant
 
@@ -123,7 +123,6 @@ SEEN_BY_USERS = {
     "`hard` for ever: every sync is answered so at once",
     "reads answer `diskfault` without a failed report",
     "a client answers `opsfull` at two operations",
-    "a message is sent without its line in the report",
     "a dropped entry is reported as hard",
     "what a crash drops is reported as failed",
     "what is answered `quiesced` stays pending",

@@ -216,6 +216,9 @@ def third_head(rng, profile):
     limits = [rng.choice((10, 12, 20, 4096)), rng.choice((1, 2, 2, 3, 4, 6, 1024)), rng.choice((1, 2, 2, 3, 4, 8, 64)), rng.choice((2, 2, 3, 8, 256)),
               rng.choice((1, 3, 3, 6, 16, 64))]
     words[1] = "3"
+    if profile is None and rng.random() < 0.15:
+        servers = rng.randint(1, 8)
+        words[11:14] = [str(rng.choice((17, 20, 64))), str(servers), str(rng.randint(servers, 16))]
     return " ".join(words + list(map(str, limits)))
 
 

@@ -1,0 +1,6 @@
+mod FirstServers
+mod FirstWorlds
+mod FirstRuns
+mod FirstSteps
+mod FirstHeads
+mod Pairs

@@ -1,0 +1,27 @@
+ghost use Rattle.st_laws_third.specs.FirstForms.{FirstHeadsStay, FirstRunsStay, FirstStepsStay};
+ghost use Rattle.st_laws_third.specs.Pairs.{ClientsStayPaired};
+
+/// With a head of form 1 or 2, a run by the definitions of every form is the run by those of the
+/// first two forms: it has the same worlds, observations and refusal, and the same report.
+pub fn first_runs_stay()
+    ensures { FirstRunsStay }
+{}
+
+/// The steps of such a run are the same by both definitions, as promises see them. So what is
+/// proved of the steps of every run of the first two forms also holds by the definitions of every
+/// form.
+pub fn first_steps_stay()
+    ensures { FirstStepsStay }
+{}
+
+/// The heads of form 1 and 2 are the same by both definitions; each of them has the limits of the
+/// first two forms.
+pub fn first_heads_stay()
+    ensures { FirstHeadsStay }
+{}
+
+/// A client of the third form has something beside each of its associations. So it has after each
+/// step, with as many associations as before, and after a crash and a start.
+pub fn clients_stay_paired()
+    ensures { ClientsStayPaired }
+{}

@@ -1,0 +1,17 @@
+pub mod Limits
+pub mod Messages
+pub mod State
+pub mod UsedOnce
+pub mod Room
+pub mod GiveBack
+pub mod Leave
+pub mod Runs
+pub mod Replies
+pub mod Client
+pub mod Server
+pub mod World
+pub mod Events
+pub mod Run
+pub mod Steps
+pub mod Promises
+pub mod Third
