@@ -1,0 +1,5 @@
+pub mod Numbers
+pub mod Parts
+pub mod Scans
+pub mod Headers
+pub mod Marks

@@ -1,0 +1,6 @@
+pub mod Words
+pub mod Plain
+pub mod Reading
+pub mod Headers
+pub mod Areas
+pub mod Files

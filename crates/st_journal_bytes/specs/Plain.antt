@@ -1,0 +1,7 @@
+-- A journal whose states and changes are plain bytes, as a program reads and writes them.
+use Rattle.std.specs.Prelude.{ℕ, List, Some}
+use Rattle.st_crc32c.specs.Crc.{crc32c}
+use Rattle.st_journal_file.specs.Layout.{Format}
+
+abbrev pub plain : Format (List ℕ) (List ℕ)
+plain = record { snapshot = λ s. s; spelled = λ x. x; apply = λ s x. Some s; sum = crc32c }

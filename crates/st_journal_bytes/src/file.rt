@@ -1,0 +1,133 @@
+// A journal's file: its header, two marks, and two areas.
+ghost use Rattle.std.specs.Prelude.{◌≡◌, ◌≤◌, ◌<◌, ◌^◌, true, false, IfErr, IfOk, IfSome, IfNone, length};
+ghost use Rattle.st_journal_bytes.specs.Files.{IsMadeFile, IsRefused, IsUnmade, MayBegin};
+ghost use Rattle.st_journal_bytes.specs.Headers.{IsHeaded};
+ghost use Rattle.st_journal_bytes.specs.declared.header.Identity.{Identity};
+ghost use Rattle.st_journal_file.specs.Histories.{IsEither};
+ghost use Rattle.st_journal_file.specs.Layout as layout;
+
+use crate::area::{CLOSED, OPEN};
+use crate::header::{Header, HeaderFault, Identity, check_identity, read_header};
+use thiserror::Error;
+
+/// The place of the mark that says that the file was made.
+pub const MADE_PLACE: u64 = 110;
+
+/// The place of the switch: the mark that says which area counts.
+pub const SWITCH_PLACE: u64 = 111;
+
+/// The place of the first area.
+pub const AREAS_PLACE: u64 = 112;
+
+/// The first bytes of a header, which are those of every header.
+const START: [u8; 12] = [84, 65, 78, 75, 74, 82, 78, 76, 0, 0, 0, 1];
+
+/// A file that was made: its header, and whether the second area counts.
+#[derive(Clone, Copy, Debug, PartialEq, Eq)]
+pub struct Current {
+    pub second: bool,
+    pub header: Header,
+}
+
+/// Why a file is not opened, in the order of the checks.
+#[derive(Clone, Copy, Debug, PartialEq, Eq, Error)]
+pub enum FileFault {
+    #[error("the file of the journal is too short")]
+    Short,
+    #[error("{0}")]
+    BadHeader(HeaderFault),
+    #[error("the journal is damaged at {at}")]
+    Damaged { at: u64 },
+}
+
+/// Whether a byte is 0 or this one.
+fn is_zero_or(byte: u8, other: u8) -> bool
+    ensures yes { result ≡ true → IsEither 0 other byte }
+    ensures no { result ≡ false → IsEither 0 other byte → ⊥ }
+{
+    byte == 0 || byte == other
+}
+
+/// Whether the first bytes are zeros or bytes of a header, each for itself.
+fn may_begin(front: &[u8]) -> bool
+    requires { 12 ≤ length front.now }
+    ensures yes { result ≡ true → MayBegin front.now }
+    ensures no { result ≡ false → MayBegin front.now → ⊥ }
+{
+    for place in 0..12 {
+        if !is_zero_or(front[place], START[place]) {
+            return false;
+        }
+    }
+    true
+}
+
+/// Whether a mark is open, if it is a mark.
+fn read_mark(mark: u8) -> Option<bool>
+    ensures some { IfSome result (λ b. mark ≡ layout.switch_of b) }
+    ensures none { IfNone result ((mark ≡ layout.CLOSED → ⊥) × (mark ≡ layout.OPEN → ⊥)) }
+{
+    if mark == CLOSED {
+        return Some(false);
+    }
+    if mark == OPEN { Some(true) } else { None }
+}
+
+/// The header of a file, which must be the journal that is wanted.
+fn read_wanted(bytes: &[u8], wanted: &Identity) -> Result<Header, FileFault>
+    ensures found { IfOk result (IsHeaded bytes.now) }
+    ensures wanted { IfOk result (λ h. h.identity ≡ wanted.now) }
+    ensures err { IfErr result (IsRefused bytes.now wanted.now) }
+{
+    let header = match read_header(bytes) {
+        Ok(header) => header,
+        Err(fault) => return Err(FileFault::BadHeader(fault)),
+    };
+    match check_identity(&header.identity, wanted) {
+        Ok(()) => Ok(header),
+        Err(fault) => Err(FileFault::BadHeader(fault)),
+    }
+}
+
+/// Reads the header and the marks of the file of the journal that is wanted; `None` if the file was
+/// not made yet: nothing was ever kept in it.
+#[tactic(auto, using(crate::proofs::Marks::made_file))]
+pub fn read_file(bytes: &[u8], wanted: &Identity) -> Result<Option<Current>, FileFault>
+    ensures made { IfOk result (λ o. IfSome o (IsMadeFile bytes.now wanted.now)) }
+    ensures unmade { IfOk result (λ o. IfNone o (IsUnmade bytes.now)) }
+    ensures err { IfErr result (IsRefused bytes.now wanted.now) }
+{
+    if bytes.len() < 112 {
+        return Err(FileFault::Short);
+    }
+    let made = bytes[110];
+    if made == CLOSED && may_begin(bytes) {
+        return Ok(None);
+    }
+    let header = read_wanted(bytes, wanted)?;
+    if made != OPEN {
+        return Err(FileFault::Damaged { at: MADE_PLACE });
+    }
+    if ((bytes.len() - 112) as u64) < 2 * u64::from(header.area) {
+        return Err(FileFault::Short);
+    }
+    match read_mark(bytes[111]) {
+        Some(second) => Ok(Some(Current { second, header })),
+        None => Err(FileFault::Damaged { at: SWITCH_PLACE }),
+    }
+}
+
+/// The bytes of the area that counts.
+pub fn current_area<'a>(bytes: &'a [u8], current: &Current) -> &'a [u8]
+    requires { (wanted : Identity) × IsMadeFile bytes.now wanted current.now }
+    ensures area { (wanted : Identity) (m : IsMadeFile bytes.now wanted current.now) → result.now ≡ layout.area_of current.now.second m.file }
+    ensures size { length result.now ≡ current.now.header.area }
+    ensures small { length result.now < 2 ^ 32 }
+{
+    let size = current.header.area as usize;
+    if current.second {
+        &bytes[112 + size..112 + 2 * size]
+    } else {
+        &bytes[112..112 + size]
+    }
+}
