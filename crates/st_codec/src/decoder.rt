@@ -7,7 +7,6 @@ ghost use Rattle.st_codec_fields.specs.Decoder as fields;
 use crate::kind_bytes::kind_of;
 use crate::local_decoder::{read_answer, read_ask, read_command, read_disk_result, read_patch};
 use crate::refusal::{CodecRefusal, refusal_of};
-use st_base::PageNo;
 use st_codec_fields::{
     Fault, ReadError, out_of_range, read_any_block, read_byte, read_extents, read_grant, read_ino,
     read_locks, read_mode, read_name_op, read_name_reply, read_page, read_word16, read_word32,
@@ -17,42 +16,26 @@ use st_messages::range::is_count;
 use st_messages::{Body, Header, Kind, Message, Need, Party, Why};
 use std::alloc::Global;
 
-fn why_numbered(number: u8) -> Option<Why>
-    ensures { result ≡ reading.why_numbered number }
-{
-    match number {
-        1 => Some(Why::Suspect),
-        2 => Some(Why::NoSession),
-        3 => Some(Why::OtherEpoch),
-        4 => Some(Why::Grace),
-        5 => Some(Why::GraceOver),
-        6 => Some(Why::Conflict),
-        7 => Some(Why::NotHolder),
-        8 => Some(Why::NoFile),
-        9 => Some(Why::NoSpace),
-        10 => Some(Why::TooManyLocks),
-        _ => None,
-    }
-}
-
+/// A reason, by its number.
 #[tactic(auto, unfolding(crate::specs::Decoder::why_at))]
 fn read_why(bytes: &[u8]) -> Result<(Why, &[u8]), ReadError>
     ensures { fields.Gives (λ x. (x.0, x.1.now)) result (reading.why_at bytes.now) }
 {
     let (number, rest) = read_byte(bytes)?;
-    match why_numbered(number) {
-        Some(why) => Ok((why, rest)),
-        None => Err(out_of_range(bytes)),
-    }
-}
-
-#[tactic(auto, unfolding(crate::specs::Decoder::acquire_at))]
-fn read_acquire(bytes: &[u8]) -> Result<(Body, &[u8]), ReadError>
-    ensures { fields.Gives (λ x. (x.0, x.1.now)) result (reading.acquire_at bytes.now) }
-{
-    let (ino, rest) = read_ino(bytes)?;
-    let (mode, rest) = read_mode(1, 2, rest)?;
-    Ok((Body::Acquire { ino, mode }, rest))
+    let why = match number {
+        1 => Why::Suspect,
+        2 => Why::NoSession,
+        3 => Why::OtherEpoch,
+        4 => Why::Grace,
+        5 => Why::GraceOver,
+        6 => Why::Conflict,
+        7 => Why::NotHolder,
+        8 => Why::NoFile,
+        9 => Why::NoSpace,
+        10 => Why::TooManyLocks,
+        _ => return Err(out_of_range(bytes)),
+    };
+    Ok((why, rest))
 }
 
 #[tactic(auto, unfolding(crate::specs::Decoder::released_at))]
@@ -75,25 +58,17 @@ fn read_map(bytes: &[u8]) -> Result<(Body, &[u8]), ReadError>
     Ok((Body::Map { ino, g, page }, rest))
 }
 
-#[tactic(auto, unfolding(crate::specs::Decoder::count_at))]
-fn read_count(page: PageNo, bytes: &[u8]) -> Result<(u16, &[u8]), ReadError>
-    ensures { fields.Gives (λ x. (x.0, x.1.now)) result (reading.count_at page bytes.now) }
-{
-    let (count, rest) = read_word16(bytes)?;
-    if !is_count(page.0, count) {
-        return Err(out_of_range(bytes));
-    }
-    Ok((count, rest))
-}
-
-#[tactic(auto, unfolding(crate::specs::Decoder::allocate_at))]
+#[tactic(auto, unfolding(crate::specs::Decoder::allocate_at, crate::specs::Decoder::count_at))]
 fn read_allocate(bytes: &[u8]) -> Result<(Body, &[u8]), ReadError>
     ensures { fields.Gives (λ x. (x.0, x.1.now)) result (reading.allocate_at bytes.now) }
 {
     let (ino, rest) = read_ino(bytes)?;
     let (g, rest) = read_grant(rest)?;
-    let (page, rest) = read_page(0, rest)?;
-    let (count, rest) = read_count(page, rest)?;
+    let (page, counted) = read_page(0, rest)?;
+    let (count, rest) = read_word16(counted)?;
+    if !is_count(page.0, count) {
+        return Err(out_of_range(counted));
+    }
     let body = Body::Allocate {
         ino,
         g,
@@ -111,22 +86,6 @@ fn read_cut(bytes: &[u8]) -> Result<(Body, &[u8]), ReadError>
     let (g, rest) = read_grant(rest)?;
     let (from, rest) = read_page(0, rest)?;
     Ok((Body::Cut { ino, g, from }, rest))
-}
-
-#[tactic(auto, unfolding(crate::specs::Decoder::name_body_at))]
-fn read_name_body(alloc: Global, bytes: &[u8]) -> Result<(Body, &[u8]), ReadError>
-    ensures { fields.Gives (λ x. (x.0, x.1.now)) result (reading.name_body_at bytes.now) }
-{
-    let (op, rest) = read_name_op(alloc, bytes)?;
-    Ok((Body::Name(op), rest))
-}
-
-#[tactic(auto, unfolding(crate::specs::Decoder::reassert_at))]
-fn read_reassert(alloc: Global, bytes: &[u8]) -> Result<(Body, &[u8]), ReadError>
-    ensures { fields.Gives (λ x. (x.0, x.1.now)) result (reading.reassert_at bytes.now) }
-{
-    let (rows, rest) = read_locks(alloc, bytes)?;
-    Ok((Body::Reassert(rows), rest))
 }
 
 #[tactic(auto, unfolding(crate::specs::Decoder::demand_seen_at))]
@@ -158,15 +117,6 @@ fn read_granted(bytes: &[u8]) -> Result<(Body, &[u8]), ReadError>
     Ok((Body::Granted { ino, g, mode }, rest))
 }
 
-#[tactic(auto, unfolding(crate::specs::Decoder::queued_at))]
-fn read_queued(bytes: &[u8]) -> Result<(Body, &[u8]), ReadError>
-    ensures { fields.Gives (λ x. (x.0, x.1.now)) result (reading.queued_at bytes.now) }
-{
-    let (ino, rest) = read_ino(bytes)?;
-    let (mode, rest) = read_mode(1, 2, rest)?;
-    Ok((Body::Queued { ino, mode }, rest))
-}
-
 #[tactic(auto, unfolding(crate::specs::Decoder::demand_at))]
 fn read_demand(bytes: &[u8]) -> Result<(Body, &[u8]), ReadError>
     ensures { fields.Gives (λ x. (x.0, x.1.now)) result (reading.demand_at bytes.now) }
@@ -184,14 +134,6 @@ fn read_extents_body(alloc: Global, bytes: &[u8]) -> Result<(Body, &[u8]), ReadE
     let (ino, rest) = read_ino(bytes)?;
     let (rows, rest) = read_extents(alloc, rest)?;
     Ok((Body::Extents { ino, rows }, rest))
-}
-
-#[tactic(auto, unfolding(crate::specs::Decoder::named_at))]
-fn read_named(alloc: Global, bytes: &[u8]) -> Result<(Body, &[u8]), ReadError>
-    ensures { fields.Gives (λ x. (x.0, x.1.now)) result (reading.named_at bytes.now) }
-{
-    let (reply, rest) = read_name_reply(alloc, bytes)?;
-    Ok((Body::Named(reply), rest))
 }
 
 #[tactic(auto, unfolding(crate::specs::Decoder::app_at))]
@@ -240,29 +182,46 @@ fn read_done(alloc: Global, bytes: &[u8]) -> Result<(Body, &[u8]), ReadError>
     Ok((Body::Done { command, result }, rest))
 }
 
-#[tactic(auto, unfolding(crate::specs::Decoder::body_at))]
+#[tactic(auto, unfolding(crate::specs::Decoder::body_at, crate::specs::Decoder::acquire_at, crate::specs::Decoder::name_body_at, crate::specs::Decoder::reassert_at, crate::specs::Decoder::queued_at, crate::specs::Decoder::named_at))]
 fn read_body(alloc: Global, kind: Kind, bytes: &[u8]) -> Result<(Body, &[u8]), ReadError>
     ensures { fields.Gives (λ x. (x.0, x.1.now)) result (reading.body_at kind bytes.now) }
 {
     match kind {
         Kind::Hello => Ok((Body::Hello, bytes)),
         Kind::KeepAlive => Ok((Body::KeepAlive, bytes)),
-        Kind::Acquire => read_acquire(bytes),
+        Kind::Acquire => {
+            let (ino, rest) = read_ino(bytes)?;
+            let (mode, rest) = read_mode(1, 2, rest)?;
+            Ok((Body::Acquire { ino, mode }, rest))
+        }
         Kind::Released => read_released(bytes),
         Kind::Map => read_map(bytes),
         Kind::Allocate => read_allocate(bytes),
         Kind::Cut => read_cut(bytes),
-        Kind::Name => read_name_body(alloc, bytes),
-        Kind::Reassert => read_reassert(alloc, bytes),
+        Kind::Name => {
+            let (op, rest) = read_name_op(alloc, bytes)?;
+            Ok((Body::Name(op), rest))
+        }
+        Kind::Reassert => {
+            let (rows, rest) = read_locks(alloc, bytes)?;
+            Ok((Body::Reassert(rows), rest))
+        }
         Kind::DemandSeen => read_demand_seen(bytes),
         Kind::Welcome => Ok((Body::Welcome, bytes)),
         Kind::Ack => Ok((Body::Ack, bytes)),
         Kind::Nack => read_nack(bytes),
         Kind::Granted => read_granted(bytes),
-        Kind::Queued => read_queued(bytes),
+        Kind::Queued => {
+            let (ino, rest) = read_ino(bytes)?;
+            let (mode, rest) = read_mode(1, 2, rest)?;
+            Ok((Body::Queued { ino, mode }, rest))
+        }
         Kind::Demand => read_demand(bytes),
         Kind::Extents => read_extents_body(alloc, bytes),
-        Kind::Named => read_named(alloc, bytes),
+        Kind::Named => {
+            let (reply, rest) = read_name_reply(alloc, bytes)?;
+            Ok((Body::Named(reply), rest))
+        }
         Kind::Reasserted => Ok((Body::Reasserted, bytes)),
         Kind::Tick => Ok((Body::Tick, bytes)),
         Kind::App => read_app(alloc, bytes),
@@ -273,22 +232,15 @@ fn read_body(alloc: Global, kind: Kind, bytes: &[u8]) -> Result<(Body, &[u8]), R
     }
 }
 
-#[tactic(auto, unfolding(crate::specs::Decoder::version_at))]
-fn read_version(bytes: &[u8]) -> Result<(u8, &[u8]), ReadError>
-    ensures { fields.Gives (λ x. (x.0, x.1.now)) result (reading.version_at bytes.now) }
+/// The version and the kind of a message.
+#[tactic(auto, unfolding(crate::specs::Decoder::kind_at, crate::specs::Decoder::version_at))]
+fn read_kind(bytes: &[u8]) -> Result<(Kind, &[u8]), ReadError>
+    ensures { fields.Gives (λ x. (x.0, x.1.now)) result (reading.kind_at bytes.now) }
 {
     let (version, rest) = read_byte(bytes)?;
     if version < 1 || 2 < version {
         return Err(ReadError::Fault(Fault::Version));
     }
-    Ok((version, rest))
-}
-
-#[tactic(auto, unfolding(crate::specs::Decoder::kind_at))]
-fn read_kind(bytes: &[u8]) -> Result<(Kind, &[u8]), ReadError>
-    ensures { fields.Gives (λ x. (x.0, x.1.now)) result (reading.kind_at bytes.now) }
-{
-    let (version, rest) = read_version(bytes)?;
     let (number, rest) = read_byte(rest)?;
     match kind_of(version, number) {
         Some(kind) => Ok((kind, rest)),
@@ -318,40 +270,16 @@ fn read_needed(need: Need, bytes: &[u8]) -> Result<(u64, &[u8]), ReadError>
     Ok((number, rest))
 }
 
-#[tactic(auto, unfolding(crate::specs::Decoder::nodes_at))]
-fn read_nodes(kind: Kind, bytes: &[u8]) -> Result<((u16, u16), &[u8]), ReadError>
-    ensures { fields.Gives (λ x. (x.0, x.1.now)) result (reading.nodes_at kind bytes.now) }
-{
-    let (from, rest) = read_party(kind.sender(), bytes)?;
-    let (to, rest) = read_party(kind.receiver(), rest)?;
-    Ok(((from, to), rest))
-}
-
-#[tactic(auto, unfolding(crate::specs::Decoder::ages_at))]
-fn read_ages(kind: Kind, bytes: &[u8]) -> Result<((u64, u64), &[u8]), ReadError>
-    ensures { fields.Gives (λ x. (x.0, x.1.now)) result (reading.ages_at kind bytes.now) }
-{
-    let (life, rest) = read_needed(kind.life(), bytes)?;
-    let (epoch, rest) = read_needed(kind.epoch(), rest)?;
-    Ok(((life, epoch), rest))
-}
-
-#[tactic(auto, unfolding(crate::specs::Decoder::marks_at))]
-fn read_marks(kind: Kind, bytes: &[u8]) -> Result<((u64, u64), &[u8]), ReadError>
-    ensures { fields.Gives (λ x. (x.0, x.1.now)) result (reading.marks_at kind bytes.now) }
-{
-    let (number, rest) = read_needed(kind.request(), bytes)?;
-    let (stamp, rest) = read_needed(kind.stamp(), rest)?;
-    Ok(((number, stamp), rest))
-}
-
-#[tactic(auto, unfolding(crate::specs::Decoder::header_at))]
+#[tactic(auto, unfolding(crate::specs::Decoder::header_at, crate::specs::Decoder::nodes_at, crate::specs::Decoder::ages_at, crate::specs::Decoder::marks_at))]
 fn read_header(kind: Kind, bytes: &[u8]) -> Result<(Header, &[u8]), ReadError>
     ensures { fields.Gives (λ x. (x.0, x.1.now)) result (reading.header_at kind bytes.now) }
 {
-    let ((from, to), rest) = read_nodes(kind, bytes)?;
-    let ((life, epoch), rest) = read_ages(kind, rest)?;
-    let ((number, stamp), rest) = read_marks(kind, rest)?;
+    let (from, rest) = read_party(kind.sender(), bytes)?;
+    let (to, rest) = read_party(kind.receiver(), rest)?;
+    let (life, rest) = read_needed(kind.life(), rest)?;
+    let (epoch, rest) = read_needed(kind.epoch(), rest)?;
+    let (number, rest) = read_needed(kind.request(), rest)?;
+    let (stamp, rest) = read_needed(kind.stamp(), rest)?;
     let header = Header {
         from,
         to,

@@ -6,12 +6,12 @@ ghost use Rattle.st_codec_fields.specs.Spelling as field_spells;
 
 use crate::kind_bytes::{number_of, version_of};
 use crate::local_encoder::{put_answer, put_ask, put_command, put_disk_result};
-use st_base::{BlockAt, Command, ExtentRows, GrantNo, Mode, PageNo};
+use st_base::{BlockAt, Command, GrantNo, Mode, PageNo};
 use st_codec_fields::{
     put_block, put_byte, put_extents, put_grant, put_locks, put_mode, put_name_op, put_name_reply,
     put_word16, put_word32, put_word64,
 };
-use st_messages::{AppAnswer, Ask, Body, DiskResult, Header, Kind, Message, Why};
+use st_messages::{Body, Header, Message, Why};
 use std::alloc::{AllocError, Global};
 
 /// Returns the number of the reason on the wire.
@@ -36,16 +36,7 @@ fn put_wish(out: &mut Vec<u8>, ino: u32, mode: Mode) -> Result<(), AllocError>
     ensures { OnOk result (out.new.items ≡ out.old.items ++ (field_spells.word32 ino ++ field_spells.mode mode)) }
 {
     put_word32(out, ino)?;
-    put_mode(out, mode)?;
-    Ok(())
-}
-
-fn put_held(out: &mut Vec<u8>, ino: u32, g: GrantNo) -> Result<(), AllocError>
-    ensures { OnOk result (out.new.items ≡ out.old.items ++ (field_spells.word32 ino ++ field_spells.grant g)) }
-{
-    put_word32(out, ino)?;
-    put_grant(out, g)?;
-    Ok(())
+    put_mode(out, mode)
 }
 
 fn put_lock(out: &mut Vec<u8>, ino: u32, g: GrantNo, mode: Mode) -> Result<(), AllocError>
@@ -53,8 +44,7 @@ fn put_lock(out: &mut Vec<u8>, ino: u32, g: GrantNo, mode: Mode) -> Result<(), A
 {
     put_word32(out, ino)?;
     put_grant(out, g)?;
-    put_mode(out, mode)?;
-    Ok(())
+    put_mode(out, mode)
 }
 
 fn put_place(out: &mut Vec<u8>, ino: u32, g: GrantNo, page: PageNo) -> Result<(), AllocError>
@@ -62,8 +52,7 @@ fn put_place(out: &mut Vec<u8>, ino: u32, g: GrantNo, page: PageNo) -> Result<()
 {
     put_word32(out, ino)?;
     put_grant(out, g)?;
-    put_word32(out, page.0)?;
-    Ok(())
+    put_word32(out, page.0)
 }
 
 fn put_run(
@@ -78,8 +67,7 @@ fn put_run(
     put_word32(out, ino)?;
     put_grant(out, g)?;
     put_word32(out, page.0)?;
-    put_word16(out, count)?;
-    Ok(())
+    put_word16(out, count)
 }
 
 fn put_nack(out: &mut Vec<u8>, why: Why, a: u64, b: u64) -> Result<(), AllocError>
@@ -87,35 +75,7 @@ fn put_nack(out: &mut Vec<u8>, why: Why, a: u64, b: u64) -> Result<(), AllocErro
 {
     put_byte(out, why_number(why))?;
     put_word64(out, a)?;
-    put_word64(out, b)?;
-    Ok(())
-}
-
-fn put_mapped(out: &mut Vec<u8>, ino: u32, rows: &ExtentRows) -> Result<(), AllocError>
-    requires { fits.are_extents rows.now ≡ true }
-    ensures { OnOk result (out.new.items ≡ out.old.items ++ (field_spells.word32 ino ++ field_spells.rows field_spells.extent_row rows.now)) }
-{
-    put_word32(out, ino)?;
-    put_extents(out, rows)?;
-    Ok(())
-}
-
-fn put_app(out: &mut Vec<u8>, op: u32, ask: &Ask) -> Result<(), AllocError>
-    requires { fits.is_ask ask.now ≡ true }
-    ensures { OnOk result (out.new.items ≡ out.old.items ++ (field_spells.word32 op ++ spells.ask ask.now)) }
-{
-    put_word32(out, op)?;
-    put_ask(out, ask)?;
-    Ok(())
-}
-
-fn put_app_done(out: &mut Vec<u8>, op: u32, answer: &AppAnswer) -> Result<(), AllocError>
-    requires { fits.is_answer answer.now ≡ true }
-    ensures { OnOk result (out.new.items ≡ out.old.items ++ (field_spells.word32 op ++ spells.answer answer.now)) }
-{
-    put_word32(out, op)?;
-    put_answer(out, answer)?;
-    Ok(())
+    put_word64(out, b)
 }
 
 fn put_submit(out: &mut Vec<u8>, number: u64, at: BlockAt, what: &Command) -> Result<(), AllocError>
@@ -123,16 +83,7 @@ fn put_submit(out: &mut Vec<u8>, number: u64, at: BlockAt, what: &Command) -> Re
 {
     put_word64(out, number)?;
     put_block(out, at)?;
-    put_command(out, what)?;
-    Ok(())
-}
-
-fn put_done(out: &mut Vec<u8>, number: u64, ending: &DiskResult) -> Result<(), AllocError>
-    ensures { OnOk result (out.new.items ≡ out.old.items ++ (field_spells.word64 number ++ spells.disk_result ending.now)) }
-{
-    put_word64(out, number)?;
-    put_disk_result(out, ending)?;
-    Ok(())
+    put_command(out, what)
 }
 
 #[tactic(auto, unfolding(crate::specs::Spelling::body, st_messages::specs::Ranges::is_body))]
@@ -153,82 +104,60 @@ fn put_body(out: &mut Vec<u8>, body: &Body) -> Result<(), AllocError>
         Body::Cut { ino, g, from } => put_place(out, *ino, *g, *from),
         Body::Name(op) => put_name_op(out, op),
         Body::Reassert(rows) => put_locks(out, rows),
-        Body::DemandSeen { ino, g } => put_held(out, *ino, *g),
+        Body::DemandSeen { ino, g } => {
+            put_word32(out, *ino)?;
+            put_grant(out, *g)
+        }
         Body::Nack { why, a, b } => put_nack(out, *why, *a, *b),
         Body::Granted { ino, g, mode } => put_lock(out, *ino, *g, *mode),
         Body::Queued { ino, mode } => put_wish(out, *ino, *mode),
         Body::Demand { ino, g, to } => put_lock(out, *ino, *g, *to),
-        Body::Extents { ino, rows } => put_mapped(out, *ino, rows),
+        Body::Extents { ino, rows } => {
+            put_word32(out, *ino)?;
+            put_extents(out, rows)
+        }
         Body::Named(reply) => put_name_reply(out, reply),
-        Body::App { op, ask } => put_app(out, *op, ask),
-        Body::AppDone { op, answer } => put_app_done(out, *op, answer),
+        Body::App { op, ask } => {
+            put_word32(out, *op)?;
+            put_ask(out, ask)
+        }
+        Body::AppDone { op, answer } => {
+            put_word32(out, *op)?;
+            put_answer(out, answer)
+        }
         Body::Submit { command, at, what } => put_submit(out, *command, *at, what),
-        Body::Done { command, result } => put_done(out, *command, result),
-        Body::Hello => Ok(()),
-        Body::KeepAlive => Ok(()),
-        Body::Welcome => Ok(()),
-        Body::Ack => Ok(()),
-        Body::Reasserted => Ok(()),
-        Body::Tick => Ok(()),
+        Body::Done { command, result } => {
+            put_word64(out, *command)?;
+            put_disk_result(out, result)
+        }
+        Body::Hello | Body::KeepAlive | Body::Welcome => Ok(()),
+        Body::Ack | Body::Reasserted | Body::Tick => Ok(()),
     }
 }
 
-#[tactic(auto, unfolding(crate::specs::Spelling::nodes))]
-fn put_nodes(out: &mut Vec<u8>, header: &Header) -> Result<(), AllocError>
-    ensures { OnOk result (out.new.items ≡ out.old.items ++ spells.nodes header.now) }
-{
-    put_word16(out, header.from)?;
-    put_word16(out, header.to)?;
-    Ok(())
-}
-
-#[tactic(auto, unfolding(crate::specs::Spelling::ages))]
-fn put_ages(out: &mut Vec<u8>, header: &Header) -> Result<(), AllocError>
-    ensures { OnOk result (out.new.items ≡ out.old.items ++ spells.ages header.now) }
-{
-    put_word64(out, header.life)?;
-    put_word64(out, header.epoch)?;
-    Ok(())
-}
-
-#[tactic(auto, unfolding(crate::specs::Spelling::marks))]
-fn put_marks(out: &mut Vec<u8>, header: &Header) -> Result<(), AllocError>
-    ensures { OnOk result (out.new.items ≡ out.old.items ++ spells.marks header.now) }
-{
-    put_word64(out, header.number)?;
-    put_word64(out, header.stamp)?;
-    Ok(())
-}
-
-#[tactic(auto, unfolding(crate::specs::Spelling::header))]
+#[tactic(auto, unfolding(crate::specs::Spelling::header, crate::specs::Spelling::nodes, crate::specs::Spelling::ages, crate::specs::Spelling::marks))]
 fn put_header(out: &mut Vec<u8>, header: &Header) -> Result<(), AllocError>
     ensures { OnOk result (out.new.items ≡ out.old.items ++ spells.header header.now) }
 {
-    put_nodes(out, header)?;
-    put_ages(out, header)?;
-    put_marks(out, header)?;
-    Ok(())
-}
-
-#[tactic(auto, unfolding(crate::specs::Spelling::kind))]
-fn put_kind(out: &mut Vec<u8>, kind: Kind) -> Result<(), AllocError>
-    ensures { OnOk result (out.new.items ≡ out.old.items ++ spells.kind kind) }
-{
-    put_byte(out, version_of(kind))?;
-    put_byte(out, number_of(kind))?;
-    Ok(())
+    put_word16(out, header.from)?;
+    put_word16(out, header.to)?;
+    put_word64(out, header.life)?;
+    put_word64(out, header.epoch)?;
+    put_word64(out, header.number)?;
+    put_word64(out, header.stamp)
 }
 
 /// Appends the bytes of a message, as `docs/PROTOCOL.md`, "Wire", gives them table by table.
-#[tactic(auto, unfolding(crate::specs::Spelling::spelling, st_messages::specs::Ranges::fits))]
+#[tactic(auto, unfolding(crate::specs::Spelling::spelling, crate::specs::Spelling::kind, st_messages::specs::Ranges::fits))]
 pub fn put_message(out: &mut Vec<u8>, message: &Message) -> Result<(), AllocError>
     requires { fits.fits message.now ≡ true }
     ensures { OnOk result (out.new.items ≡ out.old.items ++ spells.spelling message.now) }
 {
-    put_kind(out, message.body.kind())?;
+    let kind = message.body.kind();
+    put_byte(out, version_of(kind))?;
+    put_byte(out, number_of(kind))?;
     put_header(out, &message.header)?;
-    put_body(out, &message.body)?;
-    Ok(())
+    put_body(out, &message.body)
 }
 
 /// Returns the bytes of a message, as `put_message` appends them.

@@ -2,8 +2,6 @@
 ghost use Rattle.std.specs.Prelude.{◌≡◌};
 ghost use Rattle.st_codec.specs.Decoder as reading;
 ghost use Rattle.st_codec_fields.specs.Decoder as fields;
-ghost use Rattle.st_messages.specs.declared.answer.AppAnswer.TheVariants as answers;
-ghost use Rattle.st_messages.specs.declared.ask.Ask.TheVariants as asks;
 
 use st_base::{BlockAt, Command, FileId, PageBytes, PageNo, ServerId, Tag};
 use st_codec_fields::{
@@ -32,97 +30,49 @@ fn read_write(alloc: Global, bytes: &[u8]) -> Result<(Ask, &[u8]), ReadError>
     Ok((Ask::Write(file, page, text), rest))
 }
 
-fn read_read(bytes: &[u8]) -> Result<(Ask, &[u8]), ReadError>
-    ensures { fields.Gives (λ x. (x.0, x.1.now)) result (fields.made (λ t. asks.Read t.0 t.1) reading.file_page_at bytes.now) }
-{
-    let ((file, page), rest) = read_file_page(bytes)?;
-    Ok((Ask::Read(file, page), rest))
-}
-
-fn read_sync(bytes: &[u8]) -> Result<(Ask, &[u8]), ReadError>
-    ensures { fields.Gives (λ x. (x.0, x.1.now)) result (fields.made asks.Sync (fields.file_at 1) bytes.now) }
-{
-    let (file, rest) = read_file(1, bytes)?;
-    Ok((Ask::Sync(file), rest))
-}
-
-fn read_cut(bytes: &[u8]) -> Result<(Ask, &[u8]), ReadError>
-    ensures { fields.Gives (λ x. (x.0, x.1.now)) result (fields.made (λ t. asks.Cut t.0 t.1) reading.file_page_at bytes.now) }
-{
-    let ((file, page), rest) = read_file_page(bytes)?;
-    Ok((Ask::Cut(file, page), rest))
-}
-
-#[tactic(auto, unfolding(crate::specs::Decoder::ask_names_at))]
-fn read_ask_names(alloc: Global, bytes: &[u8]) -> Result<(Ask, &[u8]), ReadError>
-    ensures { fields.Gives (λ x. (x.0, x.1.now)) result (reading.ask_names_at bytes.now) }
-{
-    let (server, rest) = read_word16_in(1, 65_535, bytes)?;
-    let (ask, rest) = read_name_ask(alloc, rest)?;
-    Ok((Ask::Name(ServerId(server), ask), rest))
-}
-
-#[tactic(auto, unfolding(crate::specs::Decoder::ask_numbered))]
-fn read_ask_numbered(
-    alloc: Global,
-    number: u8,
-    left: usize,
-    bytes: &[u8],
-) -> Result<(Ask, &[u8]), ReadError>
-    ensures { fields.Gives (λ x. (x.0, x.1.now)) result (reading.ask_numbered number left bytes.now) }
-{
-    match number {
-        1 => read_write(alloc, bytes),
-        2 => read_read(bytes),
-        3 => read_sync(bytes),
-        4 => read_cut(bytes),
-        5 => read_ask_names(alloc, bytes),
-        _ => Err(ReadError::Fault(Fault::Value(left))),
-    }
-}
-
 /// A request of version 1.
-#[tactic(auto, unfolding(crate::specs::Decoder::ask_at))]
+#[tactic(auto, unfolding(crate::specs::Decoder::ask_at, crate::specs::Decoder::ask_numbered, crate::specs::Decoder::ask_names_at))]
 pub(crate) fn read_ask(alloc: Global, bytes: &[u8]) -> Result<(Ask, &[u8]), ReadError>
     ensures { fields.Gives (λ x. (x.0, x.1.now)) result (reading.ask_at bytes.now) }
 {
     let (number, rest) = read_byte(bytes)?;
-    read_ask_numbered(alloc, number, bytes.len(), rest)
-}
-
-#[tactic(auto, unfolding(crate::specs::Decoder::patch_fields_at))]
-fn read_patch_fields(alloc: Global, bytes: &[u8]) -> Result<(Ask, &[u8]), ReadError>
-    ensures { fields.Gives (λ x. (x.0, x.1.now)) result (reading.patch_fields_at bytes.now) }
-{
-    let (file, rest) = read_file(1, bytes)?;
-    let (page, rest) = read_page(0, rest)?;
-    let (at, rest) = read_word16_in(0, 4_095, rest)?;
-    let (text, rest) = read_patch_bytes(alloc, at, rest)?;
-    Ok((Ask::Patch(file, page, at, text), rest))
-}
-
-#[tactic(auto, unfolding(crate::specs::Decoder::patch_numbered))]
-fn read_patch_numbered(
-    alloc: Global,
-    number: u8,
-    left: usize,
-    bytes: &[u8],
-) -> Result<(Ask, &[u8]), ReadError>
-    ensures { fields.Gives (λ x. (x.0, x.1.now)) result (reading.patch_numbered number left bytes.now) }
-{
     match number {
-        6 => read_patch_fields(alloc, bytes),
-        _ => Err(ReadError::Fault(Fault::Value(left))),
+        1 => read_write(alloc, rest),
+        2 => {
+            let ((file, page), rest) = read_file_page(rest)?;
+            Ok((Ask::Read(file, page), rest))
+        }
+        3 => {
+            let (file, rest) = read_file(1, rest)?;
+            Ok((Ask::Sync(file), rest))
+        }
+        4 => {
+            let ((file, page), rest) = read_file_page(rest)?;
+            Ok((Ask::Cut(file, page), rest))
+        }
+        5 => {
+            let (server, rest) = read_word16_in(1, 65_535, rest)?;
+            let (ask, rest) = read_name_ask(alloc, rest)?;
+            Ok((Ask::Name(ServerId(server), ask), rest))
+        }
+        _ => Err(ReadError::Fault(Fault::Value(bytes.len()))),
     }
 }
 
 /// The request of version 2.
-#[tactic(auto, unfolding(crate::specs::Decoder::patch_at))]
+#[tactic(auto, unfolding(crate::specs::Decoder::patch_at, crate::specs::Decoder::patch_numbered, crate::specs::Decoder::patch_fields_at))]
 pub(crate) fn read_patch(alloc: Global, bytes: &[u8]) -> Result<(Ask, &[u8]), ReadError>
     ensures { fields.Gives (λ x. (x.0, x.1.now)) result (reading.patch_at bytes.now) }
 {
     let (number, rest) = read_byte(bytes)?;
-    read_patch_numbered(alloc, number, bytes.len(), rest)
+    if number != 6 {
+        return Err(ReadError::Fault(Fault::Value(bytes.len())));
+    }
+    let (file, rest) = read_file(1, rest)?;
+    let (page, rest) = read_page(0, rest)?;
+    let (at, rest) = read_word16_in(0, 4_095, rest)?;
+    let (text, rest) = read_patch_bytes(alloc, at, rest)?;
+    Ok((Ask::Patch(file, page, at, text), rest))
 }
 
 #[tactic(auto, unfolding(crate::specs::Decoder::two_words_at))]
@@ -152,90 +102,46 @@ fn read_plain_answer(number: u8, left: usize, bytes: &[u8]) -> Result<(AppAnswer
     }
 }
 
-fn read_page_answer(alloc: Global, bytes: &[u8]) -> Result<(AppAnswer, &[u8]), ReadError>
-    ensures { fields.Gives (λ x. (x.0, x.1.now)) result (fields.made answers.Read fields.whole_page_at bytes.now) }
-{
-    let (text, rest) = read_whole_page(alloc, bytes)?;
-    Ok((AppAnswer::Read(text), rest))
-}
-
-fn read_named(bytes: &[u8]) -> Result<(AppAnswer, &[u8]), ReadError>
-    ensures { fields.Gives (λ x. (x.0, x.1.now)) result (fields.made answers.Named fields.ino_at bytes.now) }
-{
-    let (ino, rest) = read_ino(bytes)?;
-    Ok((AppAnswer::Named(ino), rest))
-}
-
-fn read_listed(alloc: Global, bytes: &[u8]) -> Result<(AppAnswer, &[u8]), ReadError>
-    ensures { fields.Gives (λ x. (x.0, x.1.now)) result (fields.made answers.Listed fields.names_at bytes.now) }
-{
-    let (rows, rest) = read_names(alloc, bytes)?;
-    Ok((AppAnswer::Listed(rows), rest))
-}
-
-fn read_refused(bytes: &[u8]) -> Result<(AppAnswer, &[u8]), ReadError>
-    ensures { fields.Gives (λ x. (x.0, x.1.now)) result (fields.made answers.Refused fields.byte_at bytes.now) }
-{
-    let (code, rest) = read_byte(bytes)?;
-    Ok((AppAnswer::Refused(code), rest))
-}
-
-fn read_no_space(bytes: &[u8]) -> Result<(AppAnswer, &[u8]), ReadError>
-    ensures { fields.Gives (λ x. (x.0, x.1.now)) result (fields.made (λ t. answers.NoSpace t.0 t.1) reading.two_words_at bytes.now) }
-{
-    let ((free, asked), rest) = read_two_words(bytes)?;
-    Ok((AppAnswer::NoSpace(free, asked), rest))
-}
-
-fn read_disk_fault(bytes: &[u8]) -> Result<(AppAnswer, &[u8]), ReadError>
-    ensures { fields.Gives (λ x. (x.0, x.1.now)) result (fields.made answers.DiskFault fields.word64_at bytes.now) }
-{
-    let (command, rest) = read_word64(bytes)?;
-    Ok((AppAnswer::DiskFault(command), rest))
-}
-
-fn read_uncertain(bytes: &[u8]) -> Result<(AppAnswer, &[u8]), ReadError>
-    ensures { fields.Gives (λ x. (x.0, x.1.now)) result (fields.made (λ t. answers.Uncertain t.0 t.1) reading.two_words_at bytes.now) }
-{
-    let ((old, new), rest) = read_two_words(bytes)?;
-    Ok((AppAnswer::Uncertain(old, new), rest))
-}
-
-fn read_lost_pages(alloc: Global, bytes: &[u8]) -> Result<(AppAnswer, &[u8]), ReadError>
-    ensures { fields.Gives (λ x. (x.0, x.1.now)) result (fields.made answers.Lost fields.lost_at bytes.now) }
-{
-    let (rows, rest) = read_lost(alloc, bytes)?;
-    Ok((AppAnswer::Lost(rows), rest))
-}
-
-#[tactic(auto, unfolding(crate::specs::Decoder::answer_numbered))]
-fn read_answer_numbered(
-    alloc: Global,
-    number: u8,
-    left: usize,
-    bytes: &[u8],
-) -> Result<(AppAnswer, &[u8]), ReadError>
-    ensures { fields.Gives (λ x. (x.0, x.1.now)) result (reading.answer_numbered number left bytes.now) }
-{
-    match number {
-        1 => read_page_answer(alloc, bytes),
-        4 => read_named(bytes),
-        5 => read_listed(alloc, bytes),
-        6 => read_refused(bytes),
-        19 => read_no_space(bytes),
-        20 => read_disk_fault(bytes),
-        22 => read_uncertain(bytes),
-        23 => read_lost_pages(alloc, bytes),
-        _ => read_plain_answer(number, left, bytes),
-    }
-}
-
-#[tactic(auto, unfolding(crate::specs::Decoder::answer_at))]
+#[tactic(auto, unfolding(crate::specs::Decoder::answer_at, crate::specs::Decoder::answer_numbered))]
 pub(crate) fn read_answer(alloc: Global, bytes: &[u8]) -> Result<(AppAnswer, &[u8]), ReadError>
     ensures { fields.Gives (λ x. (x.0, x.1.now)) result (reading.answer_at bytes.now) }
 {
     let (number, rest) = read_byte(bytes)?;
-    read_answer_numbered(alloc, number, bytes.len(), rest)
+    match number {
+        1 => {
+            let (text, rest) = read_whole_page(alloc, rest)?;
+            Ok((AppAnswer::Read(text), rest))
+        }
+        4 => {
+            let (ino, rest) = read_ino(rest)?;
+            Ok((AppAnswer::Named(ino), rest))
+        }
+        5 => {
+            let (rows, rest) = read_names(alloc, rest)?;
+            Ok((AppAnswer::Listed(rows), rest))
+        }
+        6 => {
+            let (code, rest) = read_byte(rest)?;
+            Ok((AppAnswer::Refused(code), rest))
+        }
+        19 => {
+            let ((free, asked), rest) = read_two_words(rest)?;
+            Ok((AppAnswer::NoSpace(free, asked), rest))
+        }
+        20 => {
+            let (command, rest) = read_word64(rest)?;
+            Ok((AppAnswer::DiskFault(command), rest))
+        }
+        22 => {
+            let ((old, new), rest) = read_two_words(rest)?;
+            Ok((AppAnswer::Uncertain(old, new), rest))
+        }
+        23 => {
+            let (rows, rest) = read_lost(alloc, rest)?;
+            Ok((AppAnswer::Lost(rows), rest))
+        }
+        _ => read_plain_answer(number, bytes.len(), rest),
+    }
 }
 
 #[tactic(auto, unfolding(crate::specs::Decoder::tagged_page_at))]
@@ -251,28 +157,8 @@ fn read_tagged_page(
     Ok(((tag, text), rest))
 }
 
-#[tactic(auto, unfolding(crate::specs::Decoder::command_numbered))]
-fn read_command_numbered(
-    alloc: Global,
-    at: BlockAt,
-    number: u8,
-    left: usize,
-    bytes: &[u8],
-) -> Result<(Command, &[u8]), ReadError>
-    ensures { fields.Gives (λ x. (x.0, x.1.now)) result (reading.command_numbered at number left bytes.now) }
-{
-    match number {
-        0 => Ok((Command::Read { at }, bytes)),
-        1 => {
-            let ((tag, bytes), rest) = read_tagged_page(alloc, 1, bytes)?;
-            Ok((Command::Write { at, tag, bytes }, rest))
-        }
-        _ => Err(ReadError::Fault(Fault::Value(left))),
-    }
-}
-
-/// Returns whether the command is on this block.
-#[tactic(auto, unfolding(crate::specs::Decoder::command_at))]
+/// A command on this block.
+#[tactic(auto, unfolding(crate::specs::Decoder::command_at, crate::specs::Decoder::command_numbered))]
 pub(crate) fn read_command(
     alloc: Global,
     at: BlockAt,
@@ -281,30 +167,17 @@ pub(crate) fn read_command(
     ensures { fields.Gives (λ x. (x.0, x.1.now)) result (reading.command_at at bytes.now) }
 {
     let (number, rest) = read_byte(bytes)?;
-    read_command_numbered(alloc, at, number, bytes.len(), rest)
-}
-
-#[tactic(auto, unfolding(crate::specs::Decoder::result_numbered))]
-fn read_result_numbered(
-    alloc: Global,
-    number: u8,
-    left: usize,
-    bytes: &[u8],
-) -> Result<(DiskResult, &[u8]), ReadError>
-    ensures { fields.Gives (λ x. (x.0, x.1.now)) result (reading.result_numbered number left bytes.now) }
-{
     match number {
-        0 => Ok((DiskResult::Failed, bytes)),
-        1 => Ok((DiskResult::WriteDone, bytes)),
-        2 => {
-            let ((tag, text), rest) = read_tagged_page(alloc, 0, bytes)?;
-            Ok((DiskResult::ReadDone(tag, text), rest))
+        0 => Ok((Command::Read { at }, rest)),
+        1 => {
+            let ((tag, bytes), rest) = read_tagged_page(alloc, 1, rest)?;
+            Ok((Command::Write { at, tag, bytes }, rest))
         }
-        _ => Err(ReadError::Fault(Fault::Value(left))),
+        _ => Err(ReadError::Fault(Fault::Value(bytes.len()))),
     }
 }
 
-#[tactic(auto, unfolding(crate::specs::Decoder::disk_result_at))]
+#[tactic(auto, unfolding(crate::specs::Decoder::disk_result_at, crate::specs::Decoder::result_numbered))]
 pub(crate) fn read_disk_result(
     alloc: Global,
     bytes: &[u8],
@@ -312,5 +185,13 @@ pub(crate) fn read_disk_result(
     ensures { fields.Gives (λ x. (x.0, x.1.now)) result (reading.disk_result_at bytes.now) }
 {
     let (number, rest) = read_byte(bytes)?;
-    read_result_numbered(alloc, number, bytes.len(), rest)
+    match number {
+        0 => Ok((DiskResult::Failed, rest)),
+        1 => Ok((DiskResult::WriteDone, rest)),
+        2 => {
+            let ((tag, text), rest) = read_tagged_page(alloc, 0, rest)?;
+            Ok((DiskResult::ReadDone(tag, text), rest))
+        }
+        _ => Err(ReadError::Fault(Fault::Value(bytes.len()))),
+    }
 }

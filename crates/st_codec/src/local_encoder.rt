@@ -17,21 +17,7 @@ fn put_ask_place(out: &mut Vec<u8>, ask: u8, file: FileId, page: PageNo) -> Resu
 {
     put_byte(out, ask)?;
     put_file(out, file)?;
-    put_word32(out, page.0)?;
-    Ok(())
-}
-
-fn put_write(
-    out: &mut Vec<u8>,
-    file: FileId,
-    page: PageNo,
-    bytes: &PageBytes,
-) -> Result<(), AllocError>
-    ensures { OnOk result (out.new.items ≡ out.old.items ++ (field_spells.byte 1 ++ field_spells.file file ++ field_spells.word32 page.0 ++ bytes.now)) }
-{
-    put_ask_place(out, 1, file, page)?;
-    bytes.put(out)?;
-    Ok(())
+    put_word32(out, page.0)
 }
 
 fn put_patch(
@@ -45,17 +31,9 @@ fn put_patch(
 {
     put_ask_place(out, 6, file, page)?;
     put_word16(out, at)?;
-    put_patch_bytes(out, bytes)?;
-    Ok(())
-}
-
-fn put_patch_bytes(out: &mut Vec<u8>, bytes: &PatchBytes) -> Result<(), AllocError>
-    ensures { OnOk result (out.new.items ≡ out.old.items ++ (field_spells.word16 (length bytes.now) ++ bytes.now)) }
-{
     let piece = bytes.as_slice();
     put_word16(out, piece.len() as u16)?;
-    out.extend_from_slice(piece)?;
-    Ok(())
+    out.extend_from_slice(piece)
 }
 
 #[tactic(auto, unfolding(crate::specs::Spelling::ask, st_messages::specs::Ranges::is_ask))]
@@ -64,19 +42,20 @@ pub(crate) fn put_ask(out: &mut Vec<u8>, ask: &Ask) -> Result<(), AllocError>
     ensures { OnOk result (out.new.items ≡ out.old.items ++ spells.ask ask.now) }
 {
     match ask {
-        Ask::Write(file, page, bytes) => put_write(out, *file, *page, bytes),
+        Ask::Write(file, page, bytes) => {
+            put_ask_place(out, 1, *file, *page)?;
+            bytes.put(out)
+        }
         Ask::Read(file, page) => put_ask_place(out, 2, *file, *page),
         Ask::Sync(file) => {
             put_byte(out, 3)?;
-            put_file(out, *file)?;
-            Ok(())
+            put_file(out, *file)
         }
         Ask::Cut(file, page) => put_ask_place(out, 4, *file, *page),
         Ask::Name(server, ask) => {
             put_byte(out, 5)?;
             put_word16(out, server.0)?;
-            put_name_ask(out, ask)?;
-            Ok(())
+            put_name_ask(out, ask)
         }
         Ask::Patch(file, page, at, bytes) => put_patch(out, *file, *page, *at, bytes),
     }
@@ -87,8 +66,7 @@ fn put_two(out: &mut Vec<u8>, tag: u8, a: u64, b: u64) -> Result<(), AllocError>
 {
     put_byte(out, tag)?;
     put_word64(out, a)?;
-    put_word64(out, b)?;
-    Ok(())
+    put_word64(out, b)
 }
 
 #[tactic(auto, unfolding(crate::specs::Spelling::answer, st_messages::specs::Ranges::is_answer))]
@@ -100,40 +78,34 @@ pub(crate) fn put_answer(out: &mut Vec<u8>, answer: &AppAnswer) -> Result<(), Al
         AppAnswer::Written => put_byte(out, 0),
         AppAnswer::Read(bytes) => {
             put_byte(out, 1)?;
-            bytes.put(out)?;
-            Ok(())
+            bytes.put(out)
         }
         AppAnswer::Hard => put_byte(out, 2),
         AppAnswer::Cut => put_byte(out, 3),
         AppAnswer::Named(ino) => {
             put_byte(out, 4)?;
-            put_word32(out, *ino)?;
-            Ok(())
+            put_word32(out, *ino)
         }
         AppAnswer::Listed(rows) => {
             put_byte(out, 5)?;
-            put_names(out, rows)?;
-            Ok(())
+            put_names(out, rows)
         }
         AppAnswer::Refused(code) => {
             put_byte(out, 6)?;
-            put_byte(out, *code)?;
-            Ok(())
+            put_byte(out, *code)
         }
         AppAnswer::Quiesced => put_byte(out, 17),
         AppAnswer::NoFile => put_byte(out, 18),
         AppAnswer::NoSpace(free, asked) => put_two(out, 19, *free, *asked),
         AppAnswer::DiskFault(command) => {
             put_byte(out, 20)?;
-            put_word64(out, *command)?;
-            Ok(())
+            put_word64(out, *command)
         }
         AppAnswer::OpsFull => put_byte(out, 21),
         AppAnswer::Uncertain(old, new) => put_two(out, 22, *old, *new),
         AppAnswer::Lost(rows) => {
             put_byte(out, 23)?;
-            put_lost(out, rows)?;
-            Ok(())
+            put_lost(out, rows)
         }
         AppAnswer::DirtyFull => put_byte(out, 24),
         AppAnswer::NotHolder => put_byte(out, 25),
@@ -146,8 +118,7 @@ fn put_tagged(out: &mut Vec<u8>, kind: u8, tag: Tag, bytes: &PageBytes) -> Resul
 {
     put_byte(out, kind)?;
     put_tag(out, tag)?;
-    bytes.put(out)?;
-    Ok(())
+    bytes.put(out)
 }
 
 #[tactic(auto, unfolding(crate::specs::Spelling::command))]

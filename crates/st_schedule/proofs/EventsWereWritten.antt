@@ -324,8 +324,8 @@ start_found form nodes ws y h =
     let e : (events.Start n.0.0, n.0.1) ≡ y = let k = n.2 in cc in
     subst (Tells form nodes (codes "start") ws) e (λ done. (N.fits, inl (node_only (codes "start") ws n.0.1 n.0.0 N.text done)))
 
-k_only : (w : List ℕ) (ws rest : List (List ℕ)) (k : ℕ) → ws ≡ decimal k ∷ rest → rest ≡ [] → w ∷ ws ≡ w ∷ decimal k ∷ []
-k_only w ws rest k h e = ap (λ (vs : List (List ℕ)). w ∷ vs) (h ∙ ap (λ (vs : List (List ℕ)). decimal k ∷ vs) e)
+only_a_number : (w : List ℕ) (ws rest : List (List ℕ)) (k : ℕ) → ws ≡ decimal k ∷ rest → rest ≡ [] → w ∷ ws ≡ w ∷ decimal k ∷ []
+only_a_number w ws rest k h e = ap (λ (vs : List (List ℕ)). w ∷ vs) (h ∙ ap (λ (vs : List (List ℕ)). decimal k ∷ vs) e)
 
 deliver_found : (form nodes : ℕ) (ws : List (List ℕ)) (y : Event × List (List ℕ)) → deliver_at ws ≡ Ok y → Tells form nodes (codes "deliver") ws y
 unfolding deliver_at words_after
@@ -333,7 +333,7 @@ deliver_found form nodes ws y h =
     let n = bind_ok _ _ _ h in
     let N = number_found 1 MOST_NUMBER ws n.0 small_number n.1 in
     let e : (events.Deliver n.0.0, n.0.1) ≡ y = let k = n.2 in cc in
-    subst (Tells form nodes (codes "deliver") ws) e (λ done. (N.fits, inl (k_only (codes "deliver") ws n.0.1 n.0.0 N.text done)))
+    subst (Tells form nodes (codes "deliver") ws) e (λ done. (N.fits, inl (only_a_number (codes "deliver") ws n.0.1 n.0.0 N.text done)))
 
 lose_found : (form nodes : ℕ) (ws : List (List ℕ)) (y : Event × List (List ℕ)) → lose_at ws ≡ Ok y → Tells form nodes (codes "lose") ws y
 unfolding lose_at words_after
@@ -341,7 +341,7 @@ lose_found form nodes ws y h =
     let n = bind_ok _ _ _ h in
     let N = number_found 1 MOST_NUMBER ws n.0 small_number n.1 in
     let e : (events.Lose n.0.0, n.0.1) ≡ y = let k = n.2 in cc in
-    subst (Tells form nodes (codes "lose") ws) e (λ done. (N.fits, inl (k_only (codes "lose") ws n.0.1 n.0.0 N.text done)))
+    subst (Tells form nodes (codes "lose") ws) e (λ done. (N.fits, inl (only_a_number (codes "lose") ws n.0.1 n.0.0 N.text done)))
 
 effect_found : (form nodes : ℕ) (ws : List (List ℕ)) (y : Event × List (List ℕ)) → effect_at ws ≡ Ok y → Tells form nodes (codes "effect") ws y
 unfolding effect_at words_after
@@ -349,7 +349,7 @@ effect_found form nodes ws y h =
     let n = bind_ok _ _ _ h in
     let N = number_found 1 MOST_NUMBER ws n.0 small_number n.1 in
     let e : (events.Effect n.0.0, n.0.1) ≡ y = let k = n.2 in cc in
-    subst (Tells form nodes (codes "effect") ws) e (λ done. (N.fits, inl (k_only (codes "effect") ws n.0.1 n.0.0 N.text done)))
+    subst (Tells form nodes (codes "effect") ws) e (λ done. (N.fits, inl (only_a_number (codes "effect") ws n.0.1 n.0.0 N.text done)))
 
 report_found : (form nodes : ℕ) (ws : List (List ℕ)) (y : Event × List (List ℕ)) → report_at ws ≡ Ok y → Tells form nodes (codes "report") ws y
 unfolding report_at words_after

@@ -194,8 +194,8 @@ steps_words_take least steps some few all =
 node_take : (n : NodeId) → IsNode n → Take 240 (node_text n ∷ [])
 node_take n fits = wider _ _ _ (then 3 0 _ [] (node_fills n fits) nothing) (omega arith)
 
-k_take : (k : ℕ) → IsWithin 1 MOST_NUMBER k → Take 240 (decimal k ∷ [])
-k_take k fits = wider _ _ _ (then 10 0 _ [] (long_number k fits.1) nothing) (omega arith)
+take_of_a_number : (k : ℕ) → IsWithin 1 MOST_NUMBER k → Take 240 (decimal k ∷ [])
+take_of_a_number k fits = wider _ _ _ (then 10 0 _ [] (long_number k fits.1) nothing) (omega arith)
 
 link_take : (n m : NodeId) → IsNode n → IsNode m → Take 240 (link_words n m)
 link_take n m from to = wider _ _ _ (then 3 4 _ _ (node_fills n from) (then 3 0 _ [] (node_fills m to) nothing)) (omega arith)
@@ -204,12 +204,12 @@ after_take : (form count : ℕ) (e : Event) → Fits form count e → count ≤ 
 unfolding words_after
 after_take form count (events.Tick n) fits few = wider _ _ _ (node_take n fits) (omega arith)
 after_take form count (events.App c ask) fits few = wider _ _ _ (then 3 240 _ _ (node_number 99 c.0 refl fits.0) (ask_take form ask fits.1)) (omega arith)
-after_take form count (events.Deliver k) fits few = wider _ _ _ (k_take k fits) (omega arith)
-after_take form count (events.Lose k) fits few = wider _ _ _ (k_take k fits) (omega arith)
+after_take form count (events.Deliver k) fits few = wider _ _ _ (take_of_a_number k fits) (omega arith)
+after_take form count (events.Lose k) fits few = wider _ _ _ (take_of_a_number k fits) (omega arith)
 after_take form count (events.Cut n m) fits few = wider _ _ _ (link_take n m fits.0 fits.1) (omega arith)
 after_take form count (events.Heal n m) fits few = wider _ _ _ (link_take n m fits.0 fits.1) (omega arith)
 after_take form count (events.Advance steps) fits few = wider _ _ _ (steps_words_take (least_step form) steps (omega arith) (omega arith) fits.2) (omega arith)
-after_take form count (events.Effect k) fits few = wider _ _ _ (k_take k fits) (omega arith)
+after_take form count (events.Effect k) fits few = wider _ _ _ (take_of_a_number k fits) (omega arith)
 after_take form count (events.Report k ok) fits few = wider _ _ _ (then 10 5 _ _ (long_number k fits.1) (then 4 0 _ [] (result_fills ok) nothing)) (omega arith)
 after_take form count (events.Crash n) fits few = wider _ _ _ (node_take n fits) (omega arith)
 after_take form count (events.Start n) fits few = wider _ _ _ (node_take n fits) (omega arith)

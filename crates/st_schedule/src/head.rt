@@ -27,49 +27,6 @@ fn three_at(rest: &[u8]) -> Result<((u64, u64, u64), &[u8]), ReadError>
     Ok(((first, second, third), rest))
 }
 
-/// The grain: a word of the second form, and 0 under the first form, which has no such word.
-#[tactic(auto, unfolding(crate::specs::Parser::grain_at))]
-fn grain_at(form: u8, rest: &[u8]) -> Result<(u64, &[u8]), ReadError>
-    ensures { Gives (λ x. (x.0, words_behind x.1.now)) result (reading.grain_at form (words_behind rest.now)) }
-{
-    if form == 2 {
-        setting_at(rest)
-    } else {
-        Ok((0, rest))
-    }
-}
-
-#[tactic(auto, unfolding(crate::specs::Parser::rate_at))]
-fn rate_at(form: u8, rest: &[u8]) -> Result<((u64, u64, u64), &[u8]), ReadError>
-    ensures { Gives (λ x. (x.0, words_behind x.1.now)) result (reading.rate_at form (words_behind rest.now)) }
-{
-    let (num, rest) = setting_at(rest)?;
-    let (den, rest) = setting_at(rest)?;
-    let (grain, rest) = grain_at(form, rest)?;
-    Ok(((num, den, grain), rest))
-}
-
-#[tactic(auto, unfolding(crate::specs::Parser::config_at))]
-fn config_at(form: u8, rest: &[u8]) -> Result<(Config, &[u8]), ReadError>
-    ensures { Gives (λ x. (x.0, words_behind x.1.now)) result (reading.config_at form (words_behind rest.now)) }
-{
-    let ((lease, renew, quiesce), rest) = three_at(rest)?;
-    let ((flush, demand, retry), rest) = three_at(rest)?;
-    let ((num, den, grain), rest) = rate_at(form, rest)?;
-    let config = Config {
-        lease,
-        renew,
-        quiesce,
-        flush,
-        demand,
-        retry,
-        num,
-        den,
-        grain,
-    };
-    Ok((config, rest))
-}
-
 #[tactic(auto, unfolding(crate::specs::Parser::counts_at))]
 fn counts_at(rest: &[u8]) -> Result<(Counts, &[u8]), ReadError>
     ensures { Gives (λ x. (x.0, words_behind x.1.now)) result (reading.counts_at (words_behind rest.now)) }
@@ -87,14 +44,34 @@ fn counts_at(rest: &[u8]) -> Result<(Counts, &[u8]), ReadError>
     Ok((counts, rest))
 }
 
-/// The settings, the counts and the form of a head, read from the words after `tank`.
-#[tactic(auto, unfolding(crate::specs::Parser::head_at))]
+/// The settings, the counts and the form of a head, read from the words after `tank`. The grain is
+/// a word of the second form; under the first form it is 0.
+#[tactic(auto, unfolding(crate::specs::Parser::head_at, crate::specs::Parser::config_at, crate::specs::Parser::rate_at, crate::specs::Parser::grain_at))]
 pub(crate) fn head_at(rest: &[u8]) -> Result<(Config, Counts, u8), ReadError>
     ensures { Gives (λ x. x) result (reading.head_at (words_behind rest.now)) }
 {
     let (form, rest) = form_at(rest)?;
-    let (config, rest) = config_at(form, rest)?;
+    let ((lease, renew, quiesce), rest) = three_at(rest)?;
+    let ((flush, demand, retry), rest) = three_at(rest)?;
+    let (num, rest) = setting_at(rest)?;
+    let (den, rest) = setting_at(rest)?;
+    let (grain, rest) = if form == 2 {
+        setting_at(rest)?
+    } else {
+        (0, rest)
+    };
     let (counts, rest) = counts_at(rest)?;
     ends(rest)?;
+    let config = Config {
+        lease,
+        renew,
+        quiesce,
+        flush,
+        demand,
+        retry,
+        num,
+        den,
+        grain,
+    };
     Ok((config, counts, form))
 }

@@ -40,12 +40,6 @@ pub fn unknown_word(line: &[u8]) -> ReadError
     ReadError::Fault(Fault::Syntax(line.len()))
 }
 
-fn number_fault(rest: &[u8]) -> ReadError
-    ensures { result ≡ ReadError.Fault (Fault.Number (words.left (words_behind rest.now))) }
-{
-    ReadError::Fault(Fault::Number(left(rest)))
-}
-
 /// The next word of a line, and what follows it. `rest` is what follows a word: nothing, or a space
 /// and more. A line without another word is `Syntax`.
 pub fn word_at(rest: &[u8]) -> Result<(&[u8], &[u8]), ReadError>
@@ -70,7 +64,7 @@ pub fn number_at(least: u64, most: u64, rest: &[u8]) -> Result<(u64, &[u8]), Rea
     }
     match in_range(least, most, word) {
         Some(n) => Ok((n, after)),
-        None => Err(number_fault(rest)),
+        None => Err(ReadError::Fault(Fault::Number(left(rest)))),
     }
 }
 
@@ -121,12 +115,6 @@ pub fn name_at(alloc: Global, rest: &[u8]) -> Result<(Name, &[u8]), ReadError>
     Ok((name, after))
 }
 
-fn after_of(word: &[u8]) -> &[u8]
-    ensures { result.now ≡ reading.after_of word.now }
-{
-    if is(word, b"-") { &[] } else { word }
-}
-
 /// A name, or `-`, which stands for the empty name at the beginning of a directory.
 #[tactic(auto, unfolding(crate::specs::Parser::after_at))]
 pub(crate) fn after_at(alloc: Global, rest: &[u8]) -> Result<(Name, &[u8]), ReadError>
@@ -136,7 +124,7 @@ pub(crate) fn after_at(alloc: Global, rest: &[u8]) -> Result<(Name, &[u8]), Read
     if !is_name(word) {
         return Err(syntax(rest));
     }
-    let name = Name::from_slice(alloc, after_of(word))?;
+    let name = Name::from_slice(alloc, if is(word, b"-") { &[] } else { word })?;
     Ok((name, after))
 }
 

@@ -21,26 +21,18 @@ fn put_word(out: &mut Vec<u8>, word: &[u8]) -> Result<(), AllocError>
     out.extend_from_slice(word)
 }
 
-fn put_client(out: &mut Vec<u8>, client: ClientId) -> Result<(), AllocError>
-    ensures { OnOk result (out.new.items ≡ out.old.items ++ 32 ∷ grammar.client_text client) }
-{
-    put_word(out, b"c")?;
-    put_number(out, u64::from(client.0))
-}
-
-fn put_server(out: &mut Vec<u8>, server: ServerId) -> Result<(), AllocError>
-    ensures { OnOk result (out.new.items ≡ out.old.items ++ 32 ∷ grammar.server_text server) }
-{
-    put_word(out, b"s")?;
-    put_number(out, u64::from(server.0))
-}
-
 fn put_node(out: &mut Vec<u8>, node: NodeId) -> Result<(), AllocError>
     ensures { OnOk result (out.new.items ≡ out.old.items ++ 32 ∷ grammar.node_text node) }
 {
     match node {
-        NodeId::Client(client) => put_client(out, client),
-        NodeId::Server(server) => put_server(out, server),
+        NodeId::Client(client) => {
+            put_word(out, b"c")?;
+            put_number(out, u64::from(client.0))
+        }
+        NodeId::Server(server) => {
+            put_word(out, b"s")?;
+            put_number(out, u64::from(server.0))
+        }
     }
 }
 
@@ -66,24 +58,6 @@ fn byte_of(bytes: &[u8]) -> u8
     match bytes {
         [] => 0,
         [b, ..] => *b,
-    }
-}
-
-/// The first byte of a page.
-fn page_byte(bytes: &PageBytes) -> u8
-    ensures { result ≡ grammar.byte_of bytes.now }
-{
-    // For its clause `page`: there are 4,096 bytes, so there is a first one.
-    let _len = bytes.len();
-    *bytes.get(0)
-}
-
-fn put_after(out: &mut Vec<u8>, after: &[u8]) -> Result<(), AllocError>
-    ensures { OnOk result (out.new.items ≡ out.old.items ++ 32 ∷ grammar.after_text after.now) }
-{
-    match after {
-        [] => put_word(out, b"-"),
-        _ => put_word(out, after),
     }
 }
 
@@ -127,7 +101,10 @@ fn put_name(out: &mut Vec<u8>, server: u16, ask: &NameAsk) -> Result<(), AllocEr
         NameAsk::List { dir, after } => {
             put_word(out, b"list")?;
             put_file(out, server, *dir)?;
-            put_after(out, after.as_slice())
+            match after.as_slice() {
+                [] => put_word(out, b"-"),
+                after => put_word(out, after),
+            }
         }
     }
 }
@@ -140,7 +117,9 @@ fn put_ask(out: &mut Vec<u8>, ask: &Ask) -> Result<(), AllocError>
         Ask::Write(file, page, bytes) => {
             put_word(out, b"write")?;
             put_place(out, *file, *page)?;
-            put_field(out, u64::from(page_byte(bytes)))
+            // For its clause `page`: there are 4,096 bytes, so there is a first one.
+            let _len = bytes.len();
+            put_field(out, u64::from(*bytes.get(0)))
         }
         Ask::Read(file, page) => {
             put_word(out, b"read")?;
@@ -201,27 +180,35 @@ fn put_steps(out: &mut Vec<u8>, steps: &[u64]) -> Result<(), AllocError>
     }
 }
 
-fn put_result(out: &mut Vec<u8>, ok: bool) -> Result<(), AllocError>
-    ensures { OnOk result (out.new.items ≡ out.old.items ++ 32 ∷ grammar.result_text ok) }
+/// Appends the words after the verb.
+#[tactic(auto, unfolding(crate::specs::Grammar::words_after))]
+fn put_rest(out: &mut Vec<u8>, event: &Event) -> Result<(), AllocError>
+    ensures { OnOk result (out.new.items ≡ out.old.items ++ spaced (grammar.words_after event.now)) }
 {
-    if ok {
-        put_word(out, b"ok")
-    } else {
-        put_word(out, b"fail")
+    match event {
+        Event::Tick(node) | Event::Crash(node) | Event::Start(node) => put_node(out, *node),
+        Event::App { client, ask } => {
+            put_node(out, NodeId::Client(*client))?;
+            put_ask(out, ask)
+        }
+        Event::Deliver(k) | Event::Lose(k) | Event::Effect(k) => put_field(out, *k),
+        Event::Cut(from, to) | Event::Heal(from, to) => {
+            put_node(out, *from)?;
+            put_node(out, *to)
+        }
+        Event::Advance(steps) => put_steps(out, steps.as_slice()),
+        Event::Report { k, ok } => {
+            put_field(out, *k)?;
+            put_word(out, if *ok { b"ok" } else { b"fail" })
+        }
     }
 }
 
-fn put_link(out: &mut Vec<u8>, from: NodeId, to: NodeId) -> Result<(), AllocError>
-    ensures { OnOk result (out.new.items ≡ out.old.items ++ spaced (grammar.link_words from to)) }
+/// Appends the line that spells this event, as `print` gives it.
+pub fn put_line(out: &mut Vec<u8>, event: &Event) -> Result<(), AllocError>
+    ensures { OnOk result (out.new.items ≡ out.old.items ++ line_of (grammar.words event.now)) }
 {
-    put_node(out, from)?;
-    put_node(out, to)
-}
-
-fn verb(event: &Event) -> &'static [u8]
-    ensures { result.now ≡ grammar.verb event.now }
-{
-    match event {
+    let verb: &[u8] = match event {
         Event::Tick(_) => b"tick",
         Event::App { .. } => b"app",
         Event::Deliver(_) => b"deliver",
@@ -233,35 +220,8 @@ fn verb(event: &Event) -> &'static [u8]
         Event::Report { .. } => b"report",
         Event::Crash(_) => b"crash",
         Event::Start(_) => b"start",
-    }
-}
-
-/// Appends the words after the first one.
-#[tactic(auto, unfolding(crate::specs::Grammar::words_after))]
-fn put_rest(out: &mut Vec<u8>, event: &Event) -> Result<(), AllocError>
-    ensures { OnOk result (out.new.items ≡ out.old.items ++ spaced (grammar.words_after event.now)) }
-{
-    match event {
-        Event::Tick(node) | Event::Crash(node) | Event::Start(node) => put_node(out, *node),
-        Event::App { client, ask } => {
-            put_client(out, *client)?;
-            put_ask(out, ask)
-        }
-        Event::Deliver(k) | Event::Lose(k) | Event::Effect(k) => put_field(out, *k),
-        Event::Cut(from, to) | Event::Heal(from, to) => put_link(out, *from, *to),
-        Event::Advance(steps) => put_steps(out, steps.as_slice()),
-        Event::Report { k, ok } => {
-            put_field(out, *k)?;
-            put_result(out, *ok)
-        }
-    }
-}
-
-/// Appends the line that spells this event, as `print` gives it.
-pub fn put_line(out: &mut Vec<u8>, event: &Event) -> Result<(), AllocError>
-    ensures { OnOk result (out.new.items ≡ out.old.items ++ line_of (grammar.words event.now)) }
-{
-    out.extend_from_slice(verb(event))?;
+    };
+    out.extend_from_slice(verb)?;
     put_rest(out, event)
 }
 

@@ -76,9 +76,20 @@ fn refused(line: &[u8], error: ReadError) -> ScheduleRefusal
     }
 }
 
-fn checked(config: Config, counts: Counts, form: u8) -> Result<(Line, Progress), ScheduleRefusal>
-    ensures { result ≡ reader.checked (config, counts, form) (check config) }
+/// The head, the first line of a schedule.
+#[tactic(auto, unfolding(crate::specs::Reader::first_line, crate::specs::Reader::head_of_words))]
+fn first_line(line: &[u8]) -> Result<(Line, Progress), ScheduleRefusal>
+    requires { length line.now ≤ 256 }
+    ensures { IsTold result (reader.first_line line.now) }
 {
+    let (word, rest) = split_word(line);
+    if !is(word, b"tank") {
+        return Err(ScheduleRefusal::NoHead);
+    }
+    let (config, counts, form) = match head_at(rest) {
+        Ok(head) => head,
+        Err(error) => return Err(refused(line, error)),
+    };
     match config.check() {
         Ok(()) => {
             let next = Progress::Reading {
@@ -92,41 +103,7 @@ fn checked(config: Config, counts: Counts, form: u8) -> Result<(Line, Progress),
     }
 }
 
-#[tactic(auto, unfolding(crate::specs::Reader::first_line, crate::specs::Reader::head_of_words))]
-fn first_line(line: &[u8]) -> Result<(Line, Progress), ScheduleRefusal>
-    requires { length line.now ≤ 256 }
-    ensures { IsTold result (reader.first_line line.now) }
-{
-    let (word, rest) = split_word(line);
-    if !is(word, b"tank") {
-        return Err(ScheduleRefusal::NoHead);
-    }
-    match head_at(rest) {
-        Ok((config, counts, form)) => checked(config, counts, form),
-        Err(error) => Err(refused(line, error)),
-    }
-}
-
-fn counted(
-    form: u8,
-    counts: Counts,
-    events: u32,
-    event: Event,
-) -> Result<(Line, Progress), ScheduleRefusal>
-    ensures { result ≡ reader.counted form counts events event }
-{
-    if events < MOST_EVENTS {
-        let next = Progress::Reading {
-            form,
-            counts,
-            events: events + 1,
-        };
-        Ok((Line::Event(event), next))
-    } else {
-        Err(ScheduleRefusal::TooMany)
-    }
-}
-
+/// A line after the head: an event, or the end.
 #[tactic(auto, unfolding(crate::specs::Reader::later_line))]
 fn later_line(
     alloc: Global,
@@ -140,42 +117,18 @@ fn later_line(
 {
     let nodes = usize::from(counts.clients) + usize::from(counts.servers);
     match line_event(alloc, form, nodes, line) {
-        Ok(Some(event)) => counted(form, counts, events, event),
+        Ok(Some(event)) if events < MOST_EVENTS => {
+            let next = Progress::Reading {
+                form,
+                counts,
+                events: events + 1,
+            };
+            Ok((Line::Event(event), next))
+        }
+        Ok(Some(_)) => Err(ScheduleRefusal::TooMany),
         Ok(None) => Ok((Line::End, Progress::Ended)),
         Err(error) => Err(refused(line, error)),
     }
-}
-
-fn short_line(
-    alloc: Global,
-    progress: Progress,
-    line: &[u8],
-) -> Result<(Line, Progress), ScheduleRefusal>
-    requires { length line.now ≤ 256 }
-    ensures { IsTold result (reader.short_line progress line.now) }
-{
-    match progress {
-        Progress::Nothing => first_line(line),
-        Progress::Reading {
-            form,
-            counts,
-            events,
-        } => later_line(alloc, form, counts, events, line),
-        Progress::Ended => Err(ScheduleRefusal::AfterEnd),
-    }
-}
-
-fn read_line(
-    alloc: Global,
-    progress: Progress,
-    line: &[u8],
-) -> Result<(Line, Progress), ScheduleRefusal>
-    ensures { IsTold result (reader.read_line progress line.now) }
-{
-    if is_long(line) {
-        return Err(ScheduleRefusal::LineTooLong);
-    }
-    short_line(alloc, progress, line)
 }
 
 impl ScheduleReader {
@@ -189,16 +142,25 @@ impl ScheduleReader {
         }
     }
 
+    /// Reads a line. It is a function of its own since the other clauses of `line` follow from this
+    /// one.
     fn step(&mut self, bytes: &[u8]) -> Result<Line, ScheduleRefusal>
         ensures { Answers self.old self.new result (reader.read_line self.old bytes.now) }
     {
-        match read_line(self.alloc, self.progress, bytes) {
-            Ok((line, next)) => {
-                self.progress = next;
-                Ok(line)
-            }
-            Err(refusal) => Err(refusal),
+        if is_long(bytes) {
+            return Err(ScheduleRefusal::LineTooLong);
         }
+        let (line, next) = match self.progress {
+            Progress::Nothing => first_line(bytes)?,
+            Progress::Reading {
+                form,
+                counts,
+                events,
+            } => later_line(self.alloc, form, counts, events, bytes)?,
+            Progress::Ended => return Err(ScheduleRefusal::AfterEnd),
+        };
+        self.progress = next;
+        Ok(line)
     }
 
     /// Reads the next line, given without its newline. A refusal leaves the reader as it was, and

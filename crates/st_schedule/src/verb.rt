@@ -36,34 +36,6 @@ pub enum AskVerb {
     List,
 }
 
-fn crash_or_start(word: &[u8]) -> Option<Verb>
-    ensures { result ≡ reading.crash_or_start word.now }
-{
-    if is(word, b"crash") {
-        Some(Verb::Crash)
-    } else if is(word, b"start") {
-        Some(Verb::Start)
-    } else {
-        None
-    }
-}
-
-fn link_or_later(word: &[u8]) -> Option<Verb>
-    ensures { result ≡ reading.link_or_later word.now }
-{
-    if is(word, b"cut") {
-        Some(Verb::Cut)
-    } else if is(word, b"heal") {
-        Some(Verb::Heal)
-    } else if is(word, b"effect") {
-        Some(Verb::Effect)
-    } else if is(word, b"report") {
-        Some(Verb::Report)
-    } else {
-        crash_or_start(word)
-    }
-}
-
 pub(crate) fn verb_of(word: &[u8]) -> Option<Verb>
     ensures { result ≡ reading.verb_of word.now }
 {
@@ -77,38 +49,20 @@ pub(crate) fn verb_of(word: &[u8]) -> Option<Verb>
         Some(Verb::Deliver)
     } else if is(word, b"lose") {
         Some(Verb::Lose)
-    } else {
-        link_or_later(word)
-    }
-}
-
-fn name_verb_of(word: &[u8]) -> Option<AskVerb>
-    ensures { result ≡ reading.name_verb_of word.now }
-{
-    if is(word, b"lookup") {
-        Some(AskVerb::Lookup)
-    } else if is(word, b"create") {
-        Some(AskVerb::Create)
-    } else if is(word, b"mkdir") {
-        Some(AskVerb::Mkdir)
-    } else if is(word, b"remove") {
-        Some(AskVerb::Remove)
-    } else if is(word, b"rename") {
-        Some(AskVerb::Rename)
-    } else if is(word, b"list") {
-        Some(AskVerb::List)
+    } else if is(word, b"cut") {
+        Some(Verb::Cut)
+    } else if is(word, b"heal") {
+        Some(Verb::Heal)
+    } else if is(word, b"effect") {
+        Some(Verb::Effect)
+    } else if is(word, b"report") {
+        Some(Verb::Report)
+    } else if is(word, b"crash") {
+        Some(Verb::Crash)
+    } else if is(word, b"start") {
+        Some(Verb::Start)
     } else {
         None
-    }
-}
-
-fn patch_or_name(form: u8, word: &[u8]) -> Option<AskVerb>
-    ensures { result ≡ reading.patch_or_name form word.now }
-{
-    if form == 2 && is(word, b"patch") {
-        Some(AskVerb::Patch)
-    } else {
-        name_verb_of(word)
     }
 }
 
@@ -124,8 +78,22 @@ pub(crate) fn ask_verb_of(form: u8, word: &[u8]) -> Option<AskVerb>
         Some(AskVerb::Sync)
     } else if is(word, b"cut") {
         Some(AskVerb::Cut)
+    } else if form == 2 && is(word, b"patch") {
+        Some(AskVerb::Patch)
+    } else if is(word, b"lookup") {
+        Some(AskVerb::Lookup)
+    } else if is(word, b"create") {
+        Some(AskVerb::Create)
+    } else if is(word, b"mkdir") {
+        Some(AskVerb::Mkdir)
+    } else if is(word, b"remove") {
+        Some(AskVerb::Remove)
+    } else if is(word, b"rename") {
+        Some(AskVerb::Rename)
+    } else if is(word, b"list") {
+        Some(AskVerb::List)
     } else {
-        patch_or_name(form, word)
+        None
     }
 }
 
