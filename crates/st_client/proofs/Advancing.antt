@@ -1,12 +1,10 @@
 -- The steps of a rule: nothing is done, an output is added, one step after another, one of two steps.
-use Rattle.std.proofs.Common.{◌≡◌, ℕ, ◌+◌, ◌≤◌, Bool, true, false, List, [], ◌∷◌, ◌++◌, length, refl, ◌∙◌, arith}
-use Rattle.std.specs.Prelude.{if◌then◌else◌, map, filter, Result, Ok, Err, IfOk, OnOk}
+use Rattle.st_lemmas.proofs.Words
+use Words.{◌≡◌, ℕ, ◌+◌, ◌≤◌, Bool, true, false, List, [], ◌∷◌, ◌++◌, length, refl, ◌∙◌, arith, if◌then◌else◌, map, filter, Result, Ok, Err, IfOk, OnOk}
+use Words.{AppAnswer, Output, Operation}
+use Words.ClientState.{Turn, answer_each, answer_to, say}
 use Rattle.std.proofs.lemmas.List.{length-append}
 use Rattle.st_client.specs.Machines.{Advances}
-use Rattle.st_messages.specs.declared.answer.AppAnswer.{AppAnswer}
-use Rattle.st_messages.specs.declared.output.Output.{Output}
-use Rattle.st_rules.specs.declared.client.Operation.{Operation}
-use Rattle.st_rules.specs.ClientState.{Turn, answer_each, answer_to, say}
 
 pub more_out : (out outs : List Output) → length out ≤ length (out ++ outs)
 more_out out outs = omega (arith, length-append out outs)

@@ -1,32 +1,22 @@
 -- Through the losses and the rule for the input: no lease of the client is over.
-use Rattle.std.proofs.Common.{◌≡◌, ℕ, ◌≤◌, Bool, true, false, List, [], ◌∷◌, ◌++◌, refl, sym, ap, ◌∙◌, arith}
-use Rattle.std.specs.Prelude.{Option, Some, None, if◌then◌else◌, not, ◌&&◌, nat_le}
-use Rattle.std.specs.List.{list_all}
-use Rattle.st_base.specs.declared.config.Config.{Config}
-use Rattle.st_base.specs.declared.ids.ServerId.{ServerId}
-use Rattle.st_base.specs.declared.ids.Stamp.{Stamp}
+use Rattle.st_lemmas.proofs.Words
+use Words.{◌≡◌, ℕ, ◌≤◌, Bool, true, false, List, [], ◌∷◌, ◌++◌, refl, sym, ap, ◌∙◌, arith, Option, Some, None, if◌then◌else◌, not, ◌&&◌, nat_le, list_all}
+use Words.{Config, ServerId, Stamp, Tag, FileId, Ask, Body, Header, Ended, IoKind, PageCommand}
+use Words.Tables.{and_true}
+use Words.asks
+use Words.ends.{Unknown, Filled, Hard, Redirty, Failed}
+use Words.io.{Read, Write}
+use Words.Client as rules
+use Words.Client.{filled_by, hardened, mark_failed, failed_as, finish_as, ended_by, finish_command, done_by, finish_by, finish_at, finish, tell_lost}
+use Words.Client.{lose_session, lose_over, lose_by, lose, enqueue, take_sync, take_by, take_ask}
+use Words.ClientInvariants.{all_last, lasts_here, lasts_in}
+use Words.ClientPages as pages
+use Words.ClientReplies.{receive_at}
+use Words.ClientState.{Association, ClientSession, ClientTurn, Turn, answer_each, at_each, at_these, enter, is_at, leave, only_at}
 use Rattle.st_client.proofs.ReceiveGrows.{receive_grows}
 use Rattle.st_client.proofs.ReceiveLasts.{Here, receive_lasts}
 use Rattle.st_client.proofs.InputsGrow.{finish_grows, lose_grows, take_ask_grows}
 use Rattle.st_client.specs.Machines.{Advances}
-use Rattle.st_base.specs.declared.disk.Tag.{Tag}
-use Rattle.st_base.specs.declared.ids.FileId.{FileId}
-use Rattle.st_lemmas.proofs.Tables.{and_true}
-use Rattle.st_messages.specs.declared.ask.Ask.{Ask}
-use Rattle.st_messages.specs.declared.ask.Ask.TheVariants as asks
-use Rattle.st_messages.specs.declared.message.Body.{Body}
-use Rattle.st_messages.specs.declared.message.Header.{Header}
-use Rattle.st_rules.specs.declared.client.Ended.{Ended}
-use Rattle.st_rules.specs.declared.client.Ended.TheVariants.{Unknown, Filled, Hard, Redirty, Failed}
-use Rattle.st_rules.specs.declared.client.IoKind.{IoKind}
-use Rattle.st_rules.specs.declared.client.IoKind.TheVariants.{Read, Write}
-use Rattle.st_rules.specs.declared.client.PageCommand.{PageCommand}
-use Rattle.st_rules.specs.Client as rules
-use Rattle.st_rules.specs.Client.{filled_by, hardened, mark_failed, failed_as, finish_as, ended_by, finish_command, done_by, finish_by, finish_at, finish, tell_lost, lose_session, lose_over, lose_by, lose, enqueue, take_sync, take_by, take_ask}
-use Rattle.st_rules.specs.ClientInvariants.{all_last, lasts_here, lasts_in}
-use Rattle.st_rules.specs.ClientPages as pages
-use Rattle.st_rules.specs.ClientReplies.{receive_at}
-use Rattle.st_rules.specs.ClientState.{Association, ClientSession, ClientTurn, Turn, answer_each, at_each, at_these, enter, is_at, leave, only_at}
 
 both_true : (a b : Bool) → a ≡ true → b ≡ true → (a && b) ≡ true
 both_true true true p q = refl

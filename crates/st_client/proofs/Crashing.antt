@@ -1,22 +1,17 @@
 -- What a crash leaves of a client: its servers and its lives.
-use Rattle.std.proofs.Common.{◌≡◌, ℕ, ◌+◌, ◌<◌, Bool, true, false, ◌&&◌, List, [], ◌∷◌, length, map, drop, get_or, refl, sym, ap, ◌∙◌, arith}
-use Rattle.std.proofs.lemmas.Bool.{ne_eqb}
+use Rattle.st_lemmas.proofs.Words
+use Words.{◌≡◌, ℕ, ◌+◌, ◌<◌, Bool, true, false, ◌&&◌, List, [], ◌∷◌, length, map, drop, get_or, refl, sym, ap, ◌∙◌, arith, ne_eqb, Option, Some, None, is_some}
+use Words.{cond, find, list_all, list_any, Config, ClientId, Life, ServerId, Stamp}
+use Words.Tables.{cond_either, cond_false}
+use Words.Client.{association_of, crash, crashed_association, has_dirty_with, has_write_with, is_any, lease_at, lease_end_with, life_of_association, phase_with}
+use Words.Client.{store_at}
+use Words.ClientLease.{ClientLease, end_at, phase_at}
+use Words.ClientPages.{Store, empty_store, is_any_write}
+use Words.ClientState.{Association, ClientState, is_at}
+use Words.Keys.{same_server}
+use Words.World as world
 use Rattle.std.proofs.lemmas.List.{drop_more}
-use Rattle.std.specs.Prelude.{Option, Some, None, is_some, cond, find, Result, Ok, Err, OnOk}
-use Rattle.std.specs.List.{list_all, list_any}
-use Rattle.st_lemmas.proofs.Tables.{cond_either, cond_false}
 use Rattle.st_client_association.specs.Associations.{has_room_at}
-use Rattle.st_base.specs.declared.config.Config.{Config}
-use Rattle.st_base.specs.declared.ids.ClientId.{ClientId}
-use Rattle.st_base.specs.declared.ids.Life.{Life}
-use Rattle.st_base.specs.declared.ids.ServerId.{ServerId}
-use Rattle.st_base.specs.declared.ids.Stamp.{Stamp}
-use Rattle.st_rules.specs.Client.{association_of, crash, crashed_association, has_dirty_with, has_write_with, is_any, lease_at, lease_end_with, life_of_association, phase_with, store_at}
-use Rattle.st_rules.specs.ClientLease.{ClientLease, end_at, phase_at}
-use Rattle.st_rules.specs.ClientPages.{Store, empty_store, is_any_write}
-use Rattle.st_rules.specs.ClientState.{Association, ClientState, is_at}
-use Rattle.st_rules.specs.Keys.{same_server}
-use Rattle.st_rules.specs.World as world
 use Rattle.st_client.specs.Nodes.{RunsAs, crashed_at, crashed_client, crashed_lives, is_low, life_in, server_at, state_of}
 use Rattle.st_client.specs.Room.{has_room}
 

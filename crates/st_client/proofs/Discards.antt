@@ -1,14 +1,12 @@
 -- Where a step of a client begins with the lease of a server over, nothing of the server is left but its next life, and nothing of it goes out.
-use Rattle.std.proofs.Common.{◌≡◌, Bool, true, false, not, ◌||◌, Some}
-use Rattle.st_base.specs.declared.ids.ServerId.{ServerId}
-use Rattle.st_base.specs.declared.ids.Stamp.{Stamp}
+use Rattle.st_lemmas.proofs.Words
+use Words.{◌≡◌, Bool, true, false, not, ◌||◌, Some, ServerId, Stamp, ClientInput}
+use Words.Tables.{each_passes, found_at}
+use Words.Client.{association_with, client_step}
+use Words.ClientState.{Association, ClientState, is_at}
 use Rattle.st_client.proofs.Emptied.{step_emptied}
 use Rattle.st_client.proofs.Unused.{step_unused}
 use Rattle.st_client.specs.Losses.{Discards, IsOver, is_ended, is_over_at}
-use Rattle.st_lemmas.proofs.Tables.{each_passes, found_at}
-use Rattle.st_rules.specs.declared.client.ClientInput.{ClientInput}
-use Rattle.st_rules.specs.Client.{association_with, client_step}
-use Rattle.st_rules.specs.ClientState.{Association, ClientState, is_at}
 
 -- the lease of the association that is found is over
 found_over : (v : ServerId) (c : ClientState) (now : Stamp) (a : Association) → IsOver v c now → association_with c v ≡ Some a → is_ended c.config now a.session ≡ true

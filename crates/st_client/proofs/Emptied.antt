@@ -1,34 +1,27 @@
 -- A step of a client, at an association whose lease is over: the loss empties it, and neither the input nor the passes fill it again.
-use Rattle.std.proofs.Common.{◌≡◌, ℕ, ◌+◌, Bool, true, false, ◌&&◌, ◌==◌, not, List, [], ◌∷◌, ◌++◌, Option, Some, None, refl, sym, ap, ◌∙◌, subst, if◌then◌else◌}
-use Rattle.std.specs.Prelude.{cond, filter, find, is_some, nat_lt}
-use Rattle.st_base.specs.declared.config.Config.{Config}
-use Rattle.st_base.specs.declared.disk.Tag.{Tag}
-use Rattle.st_base.specs.declared.ids.ServerId.{ServerId}
-use Rattle.st_base.specs.declared.ids.Stamp.{Stamp}
+use Rattle.st_lemmas.proofs.Words
+use Words.{◌≡◌, ℕ, ◌+◌, Bool, true, false, ◌&&◌, ◌==◌, not, List, [], ◌∷◌, ◌++◌, Option, Some, None, refl, sym, ap, ◌∙◌, subst, if◌then◌else◌, cond, filter}
+use Words.{find, is_some, nat_lt, Config, Tag, ServerId, Stamp, Ask, Body, Header, ClientInput, Operation}
+use Words.Tables.{find_before, find_last}
+use Words.answers
+use Words.asks
+use Words.bodies
+use Words.notes
+use Words.inputs.{Tick, App, Control, Done}
+use Words.Client as cl
+use Words.Client.{association_with, client_step, next_life}
+use Words.ClientPages as pages
+use Words.ClientPages.{Store, empty_store}
+use Words.ClientPasses as cp
+use Words.ClientReplies as cr
+use Words.ClientState as cs
+use Words.ClientState.{Association, ClientSession, ClientState, ClientTurn, Turn, at_each, at_these, client_turn, enter, is_at, leave, only_at, server_of}
+use Words.ClientState.{with_associations}
 use Rattle.st_client.proofs.ReceiveGrows.{receive_grows}
 use Rattle.st_client.proofs.InputsGrow.{finish_grows, lose_grows, take_ask_grows}
 use Rattle.st_client.proofs.PassesGrow.{passes_grow}
 use Rattle.st_client.proofs.SoundLists.{one_of}
 use Rattle.st_client.specs.Losses.{IsEmptied, IsEmptiedIn, is_ended}
-use Rattle.st_lemmas.proofs.Tables.{find_before, find_last}
-use Rattle.st_messages.specs.declared.answer.AppAnswer.TheVariants as answers
-use Rattle.st_messages.specs.declared.ask.Ask.{Ask}
-use Rattle.st_messages.specs.declared.ask.Ask.TheVariants as asks
-use Rattle.st_messages.specs.declared.message.Body.{Body}
-use Rattle.st_messages.specs.declared.message.Body.TheVariants as bodies
-use Rattle.st_messages.specs.declared.message.Header.{Header}
-use Rattle.st_messages.specs.declared.output.Note.TheVariants as notes
-use Rattle.st_rules.specs.declared.client.ClientInput.{ClientInput}
-use Rattle.st_rules.specs.declared.client.ClientInput.TheVariants.{Tick, App, Control, Done}
-use Rattle.st_rules.specs.declared.client.Operation.{Operation}
-use Rattle.st_rules.specs.Client as cl
-use Rattle.st_rules.specs.Client.{association_with, client_step, next_life}
-use Rattle.st_rules.specs.ClientPages as pages
-use Rattle.st_rules.specs.ClientPages.{Store, empty_store}
-use Rattle.st_rules.specs.ClientPasses as cp
-use Rattle.st_rules.specs.ClientReplies as cr
-use Rattle.st_rules.specs.ClientState as cs
-use Rattle.st_rules.specs.ClientState.{Association, ClientSession, ClientState, ClientTurn, Turn, at_each, at_these, client_turn, enter, is_at, leave, only_at, server_of, with_associations}
 
 -- A rule at each association in turn: the first one of a server.
 

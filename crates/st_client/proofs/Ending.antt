@@ -1,24 +1,16 @@
 -- The ends of the leases at all servers, found from the last association to the first.
-use Rattle.std.proofs.Common.{◌≡◌, ℕ, zero, suc, ◌+◌, ◌-◌, ◌<◌, ◌≤◌, ◌≢◌, ◌⊎◌, Bool, true, false, List, [], ◌∷◌, length, map, drop, set, get_or, refl, sym, ap, subst, ◌∙◌, inl, inr, arith, eqb}
-use Rattle.std.specs.Prelude.{Option, Some, None, ◌==◌, cond, find, nat_le, unwrap_or}
-use Rattle.std.specs.List.{list_all}
-use Rattle.std.proofs.lemmas.Bool.{and_parts, leb-true}
-use Rattle.std.proofs.lemmas.Bool.Decides.{eqb_tells}
-use Rattle.std.proofs.lemmas.List.{drop_more, get_or-set_same, get_or-set_other, length-map}
+use Rattle.st_lemmas.proofs.Words
+use Words.{◌≡◌, ℕ, zero, suc, ◌+◌, ◌-◌, ◌<◌, ◌≤◌, ◌≢◌, ◌⊎◌, Bool, true, false, List, [], ◌∷◌, length, map, drop, set, get_or, refl, sym, ap, subst, ◌∙◌, arith}
+use Words.{Option, Some, None, ◌==◌, cond, find, nat_le, list_all, and_parts, leb-true, length-map, Config, ClientId, ServerId, Stamp}
+use Words.Tables.{and_true}
+use Words.Kinds.{between}
+use Words.Client.{lease_at}
+use Words.ClientLease.{end_at}
+use Words.ClientState.{Association, is_at}
+use Words.Keys.{same_server}
+use Rattle.std.proofs.lemmas.List.{drop_more}
 use Rattle.std.proofs.Math.ListN.{get_or-map}
-use Rattle.std.proofs.lemmas.Option.{unwrap_or-slice_get}
-use Rattle.st_lemmas.proofs.Tables.{and_true, cond_false, cond_true}
 use Rattle.st_client_association.specs.Associations.{ClientAssociation}
-use Rattle.st_base.specs.declared.config.Config.{Config}
-use Rattle.st_base.specs.declared.ids.ClientId.{ClientId}
-use Rattle.st_base.specs.declared.ids.ServerId.{ServerId}
-use Rattle.st_base.specs.declared.ids.Stamp.{Stamp}
-use Rattle.st_messages.specs.Kinds.{between}
-use Rattle.st_rules.specs.Client.{lease_at}
-use Rattle.st_rules.specs.ClientLease.{end_at}
-use Rattle.st_rules.specs.ClientState.{Association, is_at}
-use Rattle.st_rules.specs.Keys.{same_server}
-use Rattle.st_rules.specs.World.{numbered}
 use Rattle.st_client.specs.declared.ends.LeaseEnds.{LeaseEnds}
 use Rattle.st_client.specs.Ends.{end_in}
 use Rattle.st_client.specs.Machines.{here_of}

@@ -1,15 +1,13 @@
 -- The invariant of associations still holds when numbers of commands and outputs grow.
-use Rattle.std.proofs.Common.{◌≡◌, ℕ, suc, zero, ◌+◌, ◌<◌, ◌≤◌, List, [], ◌∷◌, ◌++◌, get_or, length, map, sym, ap, subst, ◌∙◌, arith}
-use Rattle.std.specs.Prelude.{Option, Some, None, insert, remove}
+use Rattle.st_lemmas.proofs.Words
+use Words.{◌≡◌, ℕ, suc, zero, ◌+◌, ◌<◌, ◌≤◌, List, [], ◌∷◌, ◌++◌, get_or, length, map, sym, ap, subst, ◌∙◌, arith, Option, Some, None, insert, remove, Config}
+use Words.{ClientId, Output}
+use Words.Client.{fresh_association}
+use Words.Extents.{numbers}
+use Words.ClientState.{Association, ClientSession}
 use Rattle.st_client_association.proofs.TurnInvariants.{below_more}
 use Rattle.st_client_association.specs.Associations.{ClientAssociation, IsCounted, RequestsBelow}
 use Rattle.st_client_association.specs.Turns.{most_of}
-use Rattle.st_base.specs.declared.config.Config.{Config}
-use Rattle.st_base.specs.declared.ids.ClientId.{ClientId}
-use Rattle.st_messages.specs.declared.output.Output.{Output}
-use Rattle.st_rules.specs.Client.{fresh_association}
-use Rattle.st_rules.specs.Extents.{numbers}
-use Rattle.st_rules.specs.ClientState.{Association, ClientSession}
 use Rattle.st_client.proofs.Advancing.{more_out, same_number}
 use Rattle.st_client.specs.Machines.{AreIn, IsIn, IsMachine}
 

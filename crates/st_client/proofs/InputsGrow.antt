@@ -1,22 +1,15 @@
 -- Through the rules for inputs numbers of commands only rise, and outputs only become more.
-use Rattle.std.proofs.Common.{ℕ, Bool, true, false, not, List, [], ◌∷◌, Option, Some, None}
-use Rattle.std.specs.Prelude.{filter}
-use Rattle.st_base.specs.declared.disk.Tag.{Tag}
-use Rattle.st_base.specs.declared.ids.FileId.{FileId}
-use Rattle.st_base.specs.declared.ids.Stamp.{Stamp}
-use Rattle.st_messages.specs.declared.ask.Ask.{Ask}
-use Rattle.st_messages.specs.declared.ask.Ask.TheVariants as asks
-use Rattle.st_messages.specs.declared.output.Note.TheVariants as notes
-use Rattle.st_rules.specs.declared.client.Ended.{Ended}
-use Rattle.st_rules.specs.declared.client.Ended.TheVariants.{Unknown, Filled, Hard, Redirty, Failed}
-use Rattle.st_rules.specs.declared.client.IoKind.{IoKind}
-use Rattle.st_rules.specs.declared.client.IoKind.TheVariants.{Read, Write}
-use Rattle.st_rules.specs.declared.client.Operation.{Operation}
-use Rattle.st_rules.specs.declared.client.PageCommand.{PageCommand}
-use Rattle.st_rules.specs.Client as rules
-use Rattle.st_rules.specs.Client.{filled_by, hardened, mark_failed, failed_as, finish_as, ended_by, finish_command, done_by, finish_by, finish_at, finish, tell_lost, end_sync, end_unsent, end_operation, end_each, end_operations, lose_session, lose_over, lose_by, lose, enqueue, take_sync, take_by, take_ask}
-use Rattle.st_rules.specs.ClientPages as pages
-use Rattle.st_rules.specs.ClientState.{ClientSession, Turn, is_of, is_sent, note, with_operations}
+use Rattle.st_lemmas.proofs.Words
+use Words.{ℕ, Bool, true, false, not, List, [], ◌∷◌, Option, Some, None, filter, Tag, FileId, Stamp, Ask, Ended, IoKind, Operation, PageCommand}
+use Words.asks
+use Words.notes
+use Words.ends.{Unknown, Filled, Hard, Redirty, Failed}
+use Words.io.{Read, Write}
+use Words.Client as rules
+use Words.Client.{filled_by, hardened, mark_failed, failed_as, finish_as, ended_by, finish_command, done_by, finish_by, finish_at, finish, tell_lost, end_sync}
+use Words.Client.{end_unsent, end_operation, end_each, end_operations, lose_session, lose_over, lose_by, lose, enqueue, take_sync, take_by, take_ask}
+use Words.ClientPages as pages
+use Words.ClientState.{ClientSession, Turn, is_of, is_sent, note, with_operations}
 use Rattle.st_client.proofs.Advancing.{either, says, stays, then_more, told}
 use Rattle.st_client.specs.Machines.{Advances}
 

@@ -1,22 +1,17 @@
 -- A node's step: all that goes out is in the ranges of messages, and what it discards of a server whose lease is over.
-use Rattle.std.proofs.Common.{◌≡◌, ◌^◌, ◌≤◌, Bool, true, false, List, Result, Ok, Err, ap, subst, ◌∙◌, if◌then◌else◌}
-use Rattle.std.specs.Prelude.{IfOk}
-use Rattle.std.specs.List.{list_all}
-use Rattle.st_lemmas.proofs.Tables.{cond_true}
-use Rattle.st_base.specs.declared.ids.ServerId.{ServerId}
-use Rattle.st_base.specs.declared.ids.Stamp.{Stamp}
+use Rattle.st_lemmas.proofs.Words
+use Words.{◌≡◌, ◌^◌, ◌≤◌, Bool, true, false, List, Result, Ok, Err, ap, subst, ◌∙◌, if◌then◌else◌, IfOk, list_all, ServerId, Stamp, Output, StepFault}
+use Words.{ClientInput}
+use Words.Tables.{cond_true}
+use Words.faults
+use Words.Client.{ClientNode, NodeTurn, client_step, node_step, node_turn}
 use Rattle.st_client.proofs.Discards.{step_discards}
 use Rattle.st_client.proofs.Sends.{step_sends}
 use Rattle.st_client.specs.Losses.{Discards, IsOver}
 use Rattle.st_client.specs.Inputs.{Runs, Steps, comes_fit, is_sent}
 use Rattle.st_client.specs.Room.{HasRoom}
 use Rattle.st_client.specs.Invariants.{IsSound}
-use Rattle.st_messages.specs.declared.output.Output.{Output}
-use Rattle.st_messages.specs.declared.output.StepFault.{StepFault}
-use Rattle.st_messages.specs.declared.output.StepFault.TheVariants as faults
-use Rattle.st_rules.specs.declared.client.ClientInput.{ClientInput}
 use Rattle.st_rules.specs.declared.node.StepRefusal.TheVariants.{Crashed}
-use Rattle.st_rules.specs.Client.{ClientNode, NodeTurn, client_step, node_step, node_turn}
 
 -- where a step returns outputs, it is the step of the machine
 steps_ok : (P : NodeTurn → Type 0) (old new : ClientNode) (r : Result (List Output) StepFault) (now : Stamp) (input : ClientInput) → Steps old new r (node_step old now input) →

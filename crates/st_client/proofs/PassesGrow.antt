@@ -1,33 +1,24 @@
 -- Through the passes at a server numbers of commands only rise, and outputs only become more.
-use Rattle.std.proofs.Common.{ℕ, Bool, List, [], ◌∷◌, Option, Some, None, Ok, Err}
-use Rattle.std.specs.Prelude.{Result}
-use Rattle.st_base.specs.declared.ids.FileId.{FileId}
-use Rattle.st_base.specs.declared.ids.GrantNo.{GrantNo}
-use Rattle.st_base.specs.declared.ids.PageNo.{PageNo}
-use Rattle.st_base.specs.declared.ids.Stamp.{Stamp}
-use Rattle.st_base.specs.declared.mode.Mode.{Mode}
-use Rattle.st_base.specs.declared.mode.Mode.TheVariants as modes
-use Rattle.st_messages.specs.declared.ask.Ask.{Ask}
-use Rattle.st_messages.specs.declared.ask.Ask.TheVariants as asks
-use Rattle.st_messages.specs.declared.message.Body.{Body}
-use Rattle.st_messages.specs.declared.message.Body.TheVariants as bodies
-use Rattle.st_messages.specs.declared.output.Note.{Note}
-use Rattle.st_messages.specs.declared.output.Note.TheVariants as notes
-use Rattle.st_rules.specs.declared.client.KnownExtent.{KnownExtent}
-use Rattle.st_rules.specs.declared.client.MappedBlock.{MappedBlock}
-use Rattle.st_rules.specs.declared.client.Operation.{Operation}
-use Rattle.st_rules.specs.declared.client.Release.{Release}
-use Rattle.st_rules.specs.declared.client.Request.{Request}
-use Rattle.st_rules.specs.declared.client.WriteRefusal.{WriteRefusal}
-use Rattle.st_rules.specs.declared.pages.DirtyPage.{DirtyPage}
-use Rattle.st_rules.specs.FlatLog.{overlay}
-use Rattle.st_rules.specs.ClientLease as lease
-use Rattle.st_rules.specs.ClientLocks as locks
-use Rattle.st_rules.specs.ClientPages as pages
-use Rattle.st_rules.specs.ClientPages.{Pages}
-use Rattle.st_rules.specs.ClientPasses as passes
-use Rattle.st_rules.specs.ClientPasses.{Asking, submit_command, submit_read, submit_write, sync, quiesce, change, change_by, change_page, write, fetch_mapped, fetch_at, fetch, patch_bytes, patch_at, patch, read_cached, read_known, read_uncached, read_at, read, serve_open, serve, operate_under, operate_by, operate_on, operate, operate_each, operations, reduce_to, reduce_given, reduce_by, reduce_idle, reduce, reduce_each, reductions, write_out_at, write_out, write_due, write_page, write_each, writes_by, writes, hello, greet, greeting_by, greeting, ask, ask_again, repeat, keep_alive, ask_for, ask_for_or, ask_next, ask_release, ask_by, reassert, ask_new, requests_at, requests_under, requests_by, requests}
-use Rattle.st_rules.specs.ClientState.{ClientSession, Turn, file_of, is_of, is_open_file, is_sent, is_serving, send, with_operations}
+use Rattle.st_lemmas.proofs.Words
+use Words.{ℕ, Bool, List, [], ◌∷◌, Option, Some, None, Ok, Err, Result, FileId, GrantNo, PageNo, Stamp, Mode, Ask, Body, Note, KnownExtent, MappedBlock}
+use Words.{Operation, Release, Request, WriteRefusal, DirtyPage}
+use Words.modes
+use Words.asks
+use Words.bodies
+use Words.notes
+use Words.FlatLog.{overlay}
+use Words.ClientLease as lease
+use Words.ClientLocks as locks
+use Words.ClientPages as pages
+use Words.ClientPages.{Pages}
+use Words.ClientPasses as passes
+use Words.ClientPasses.{Asking, submit_command, submit_read, submit_write, sync, quiesce, change, change_by, change_page, write, fetch_mapped, fetch_at, fetch}
+use Words.ClientPasses.{patch_bytes, patch_at, patch, read_cached, read_known, read_uncached, read_at, read, serve_open, serve, operate_under, operate_by}
+use Words.ClientPasses.{operate_on, operate, operate_each, operations, reduce_to, reduce_given, reduce_by, reduce_idle, reduce, reduce_each, reductions}
+use Words.ClientPasses.{write_out_at, write_out, write_due, write_page, write_each, writes_by, writes, hello, greet, greeting_by, greeting, ask, ask_again}
+use Words.ClientPasses.{repeat, keep_alive, ask_for, ask_for_or, ask_next, ask_release, ask_by, reassert, ask_new, requests_at, requests_under, requests_by}
+use Words.ClientPasses.{requests}
+use Words.ClientState.{ClientSession, Turn, file_of, is_of, is_open_file, is_sent, is_serving, send, with_operations}
 use Rattle.st_client.proofs.Advancing.{either, says, says_both, stays, submitted, then_more}
 use Rattle.st_client.specs.Machines.{Advances}
 

@@ -1,14 +1,12 @@
 -- A rule at each association in turn, each in its place: those before it are done, and those after it are left.
-use Rattle.std.proofs.Common.{◌≡◌, ℕ, zero, suc, ◌+◌, ◌<◌, ◌≤◌, Bool, true, List, [], ◌∷◌, ◌++◌, Some, get_or, length, map, refl, sym, ap, ◌∙◌, append_assoc, append-nil, arith}
-use Rattle.std.specs.Prelude.{insert, remove, slice_get}
-use Rattle.std.specs.List.{list_all}
+use Rattle.st_lemmas.proofs.Words
+use Words.{◌≡◌, ℕ, zero, suc, ◌+◌, ◌<◌, ◌≤◌, Bool, true, List, [], ◌∷◌, ◌++◌, Some, get_or, length, map, refl, sym, ap, ◌∙◌, append_assoc, arith, insert}
+use Words.{remove, slice_get, list_all, Config, Output, Operation}
+use Words.Tables.{and_true}
+use Words.ClientState.{Association, ClientTurn, Turn, at_each, at_these, enter, with_associations}
+use Rattle.std.proofs.Common.{append-nil}
 use Rattle.std.specs.Option.{option_map_or}
-use Rattle.st_lemmas.proofs.Tables.{and_true}
-use Rattle.st_base.specs.declared.config.Config.{Config}
-use Rattle.st_rules.specs.ClientState.{Association, ClientTurn, Turn, at_each, at_these, enter, with_associations}
 use Rattle.st_client_association.specs.Associations.{ClientAssociation, left_as}
-use Rattle.st_messages.specs.declared.output.Output.{Output}
-use Rattle.st_rules.specs.declared.client.Operation.{Operation}
 use Rattle.st_client.specs.IdleRules.{IsIdle}
 use Rattle.st_client.specs.Machines.{at_place, here_of, is_ready_at, leave_at, without_at}
 

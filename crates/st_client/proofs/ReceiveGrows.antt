@@ -1,30 +1,21 @@
 -- A message lets numbers of commands and outputs only grow.
-use Rattle.std.proofs.Common.{ℕ}
-use Rattle.std.specs.Prelude.{Option, Some, None}
+use Rattle.st_lemmas.proofs.Words
+use Words.{ℕ, Option, Some, None, Epoch, GrantNo, PageNo, Stamp, Mode, AppAnswer, Body, Header, NameReply, Why, Asked, HeldLock, Request}
+use Words.answers
+use Words.bodies
+use Words.replies.{Ino, Listed, Refused}
+use Words.why
+use Words.ClientLease.{ClientLease, is_renewal, new_lease, renewed}
+use Words.ClientReplies.{acknowledged, begin_here, begin_session, ended_by, in_epoch, name_answer, new_session, by_request, by_session, condemn, count_reply}
+use Words.ClientReplies.{counted, demand, demand_as, demand_by, drop_held, drop_lock, effect, end_request, extents, follow_epoch, grant_or_reply, granted}
+use Words.ClientReplies.{receive_at, is_counting, is_current, is_received, is_newer, is_timely, learn, leave_stuck, nack, named, named_as, newer_epoch}
+use Words.ClientReplies.{note_lease, note_renewal, of_epoch, of_other_epoch, queued, reasserted, refuse_as, refuse_file, refuse_holder, refuse_page, refused}
+use Words.ClientReplies.{refused_in, refuses_reassertion, removed, reply_of, reply_to, observe_demand, welcome, with_a_session, without_session}
+use Words.ClientState.{ClientSession, Turn, answer_each, asks_cut_or_remove, file_asked, is_asked, send, with_session}
+use Words.ClientLocks as locks
 use Rattle.st_client.proofs.Advancing.{either, says, stays, then_more, told}
 use Rattle.st_client.specs.Machines.{Advances}
-use Rattle.st_base.specs.declared.ids.Epoch.{Epoch}
-use Rattle.st_base.specs.declared.ids.GrantNo.{GrantNo}
-use Rattle.st_base.specs.declared.ids.PageNo.{PageNo}
-use Rattle.st_base.specs.declared.ids.Stamp.{Stamp}
-use Rattle.st_base.specs.declared.mode.Mode.{Mode}
-use Rattle.st_messages.specs.declared.answer.AppAnswer.{AppAnswer}
-use Rattle.st_messages.specs.declared.answer.AppAnswer.TheVariants as answers
-use Rattle.st_messages.specs.declared.message.Body.{Body}
-use Rattle.st_messages.specs.declared.message.Body.TheVariants as bodies
-use Rattle.st_messages.specs.declared.message.Header.{Header}
-use Rattle.st_messages.specs.declared.message.NameReply.{NameReply}
-use Rattle.st_messages.specs.declared.message.NameReply.TheVariants.{Ino, Listed, Refused}
-use Rattle.st_messages.specs.declared.message.Why.{Why}
-use Rattle.st_messages.specs.declared.message.Why.TheVariants as why
-use Rattle.st_rules.specs.declared.client.Asked.{Asked}
 use Rattle.st_rules.specs.declared.client.Asked.TheVariants.{Reduce, NotHeld, Stale}
-use Rattle.st_rules.specs.declared.client.HeldLock.{HeldLock}
-use Rattle.st_rules.specs.declared.client.Request.{Request}
-use Rattle.st_rules.specs.ClientLease.{ClientLease, is_renewal, new_lease, renewed}
-use Rattle.st_rules.specs.ClientReplies.{acknowledged, begin_here, begin_session, ended_by, in_epoch, name_answer, new_session, by_request, by_session, condemn, count_reply, counted, demand, demand_as, demand_by, drop_held, drop_lock, effect, end_request, extents, follow_epoch, grant_or_reply, granted, receive_at, is_counting, is_current, is_received, is_newer, is_timely, learn, leave_stuck, nack, named, named_as, newer_epoch, note_lease, note_renewal, of_epoch, of_other_epoch, queued, reasserted, refuse_as, refuse_file, refuse_holder, refuse_page, refused, refused_in, refuses_reassertion, removed, reply_of, reply_to, observe_demand, welcome, with_a_session, without_session}
-use Rattle.st_rules.specs.ClientState.{ClientSession, Turn, answer_each, asks_cut_or_remove, file_asked, is_asked, send, with_session}
-use Rattle.st_rules.specs.ClientLocks as locks
 
 lease_grows : (l : ClientLease) (t : Turn) → Advances t (note_lease l t)
 unfolding note_lease

@@ -1,39 +1,25 @@
 -- A message leaves a lease that lasts.
-use Rattle.std.proofs.Common.{◌≡◌, ℕ, ◌+◌, Bool, true, false, refl}
-use Rattle.std.specs.Prelude.{Option, Some, None, if◌then◌else◌}
+use Rattle.st_lemmas.proofs.Words
+use Words.{◌≡◌, ℕ, ◌+◌, Bool, true, false, refl, Option, Some, None, if◌then◌else◌, ◌<◌, ap, sym, ◌∙◌, subst, ltb-true, not, nat_lt, is_some, Config, Epoch}
+use Words.{GrantNo, PageNo, Stamp, Mode, AppAnswer, Body, Header, NameReply, Why, Asked, HeldLock, Operation, Request}
+use Words.Tables.{and_true}
+use Words.ClientInvariants.{lasts_here, lasts_in}
+use Words.ClientLease.{must_discard, standing_of}
+use Words.ClientReplies.{accept_grant, decline, grant, grant_new, release_unheld, wait_unless_held, wait_told, acknowledged, begin_session, ended_by, in_epoch}
+use Words.ClientReplies.{name_answer, by_request, by_session, condemn, count_reply, counted, demand, demand_as, demand_by, drop_held, drop_lock, effect}
+use Words.ClientReplies.{end_request, extents, follow_epoch, grant_or_reply, granted, receive_at, is_counting, is_current, is_received, is_newer, is_timely}
+use Words.ClientReplies.{learn, leave_stuck, nack, named, named_as, newer_epoch, note_lease, of_epoch, of_other_epoch, queued, reasserted, refuse_as}
+use Words.ClientReplies.{refuse_file, refuse_holder, refuse_page, refused, refused_in, refuses_reassertion, removed, reply_of, reply_to, observe_demand}
+use Words.ClientReplies.{welcome, with_a_session, without_session}
+use Words.ClientState.{forget_wait, ClientSession, Turn, answer_each, asks_cut_or_remove, file_asked, is_asked, send, with_session}
+use Words.answers
+use Words.bodies
+use Words.replies.{Ino, Listed, Refused}
+use Words.why
+use Words.ClientLocks as locks
 use Rattle.st_client.proofs.ReceiveGrows.{end_grows}
 use Rattle.st_client_session.proofs.Lasting.{condemned_lasts, new_lasts, renewed_lasts}
-use Rattle.st_lemmas.proofs.Tables.{and_true}
-use Rattle.std.proofs.Common.{◌<◌, ap, sym, ◌∙◌, subst}
-use Rattle.std.proofs.lemmas.Bool.{ltb-true}
-use Rattle.std.specs.Prelude.{not, nat_lt, is_some}
-use Rattle.st_base.specs.declared.config.Config.{Config}
-use Rattle.st_rules.specs.ClientInvariants.{lasts_here, lasts_in}
-use Rattle.st_rules.specs.ClientLease.{must_discard, standing_of}
-use Rattle.st_rules.specs.ClientReplies.{accept_grant, decline, grant, grant_new, release_unheld, wait_unless_held, wait_told}
-use Rattle.st_rules.specs.ClientState.{forget_wait}
-use Rattle.st_base.specs.declared.ids.Epoch.{Epoch}
-use Rattle.st_base.specs.declared.ids.GrantNo.{GrantNo}
-use Rattle.st_base.specs.declared.ids.PageNo.{PageNo}
-use Rattle.st_base.specs.declared.ids.Stamp.{Stamp}
-use Rattle.st_base.specs.declared.mode.Mode.{Mode}
-use Rattle.st_messages.specs.declared.answer.AppAnswer.{AppAnswer}
-use Rattle.st_messages.specs.declared.answer.AppAnswer.TheVariants as answers
-use Rattle.st_messages.specs.declared.message.Body.{Body}
-use Rattle.st_messages.specs.declared.message.Body.TheVariants as bodies
-use Rattle.st_messages.specs.declared.message.Header.{Header}
-use Rattle.st_messages.specs.declared.message.NameReply.{NameReply}
-use Rattle.st_messages.specs.declared.message.NameReply.TheVariants.{Ino, Listed, Refused}
-use Rattle.st_messages.specs.declared.message.Why.{Why}
-use Rattle.st_messages.specs.declared.message.Why.TheVariants as why
-use Rattle.st_rules.specs.declared.client.Asked.{Asked}
 use Rattle.st_rules.specs.declared.client.Asked.TheVariants.{Reduce, NotHeld, Stale}
-use Rattle.st_rules.specs.declared.client.HeldLock.{HeldLock}
-use Rattle.st_rules.specs.declared.client.Operation.{Operation}
-use Rattle.st_rules.specs.declared.client.Request.{Request}
-use Rattle.st_rules.specs.ClientReplies.{acknowledged, begin_session, ended_by, in_epoch, name_answer, by_request, by_session, condemn, count_reply, counted, demand, demand_as, demand_by, drop_held, drop_lock, effect, end_request, extents, follow_epoch, grant_or_reply, granted, receive_at, is_counting, is_current, is_received, is_newer, is_timely, learn, leave_stuck, nack, named, named_as, newer_epoch, note_lease, of_epoch, of_other_epoch, queued, reasserted, refuse_as, refuse_file, refuse_holder, refuse_page, refused, refused_in, refuses_reassertion, removed, reply_of, reply_to, observe_demand, welcome, with_a_session, without_session}
-use Rattle.st_rules.specs.ClientState.{ClientSession, Turn, answer_each, asks_cut_or_remove, file_asked, is_asked, send, with_session}
-use Rattle.st_rules.specs.ClientLocks as locks
 
 -- the lease at the server is not over
 abbrev pub Here : Stamp → Turn → Type 0

@@ -1,17 +1,11 @@
 -- A client that crashed in given lives.
-use Rattle.std.proofs.Common.{◌≡◌, ℕ, zero, suc, ◌+◌, ◌≤◌, true, List, [], ◌∷◌, length, map, refl, sym, ap, subst, ◌∙◌}
-use Rattle.std.specs.Prelude.{None, Ok, nat_le}
-use Rattle.std.specs.List.{list_all}
-use Rattle.std.proofs.lemmas.Bool.{and_from, and_parts, le-leb, leb-true}
-use Rattle.std.proofs.lemmas.List.{length-map}
+use Rattle.st_lemmas.proofs.Words
+use Words.{◌≡◌, ℕ, zero, suc, ◌+◌, ◌≤◌, true, List, [], ◌∷◌, length, map, refl, sym, ap, subst, ◌∙◌, None, Ok, nat_le, list_all, and_from, and_parts, le-leb}
+use Words.{leb-true, length-map, Config, ClientId, Life, ServerId}
+use Words.Client.{fresh_association, fresh_client}
+use Words.ClientState.{ClientState}
+use Words.Extents.{numbers}
 use Rattle.st_base.specs.Config.{check}
-use Rattle.st_base.specs.declared.config.Config.{Config}
-use Rattle.st_base.specs.declared.ids.ClientId.{ClientId}
-use Rattle.st_base.specs.declared.ids.Life.{Life}
-use Rattle.st_base.specs.declared.ids.ServerId.{ServerId}
-use Rattle.st_rules.specs.Client.{fresh_association, fresh_client}
-use Rattle.st_rules.specs.ClientState.{ClientState}
-use Rattle.st_rules.specs.Extents.{numbers}
 use Rattle.st_client.proofs.Running.{known_from}
 use Rattle.st_client.proofs.Sends.{fresh_sound}
 use Rattle.st_client.specs.Nodes.{IsNode, crashed_at, is_begun, is_server, node_of, crashed_node, server_at, servers_to}

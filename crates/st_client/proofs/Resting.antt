@@ -1,18 +1,12 @@
 -- A step begins where counters have room, and what it leaves rests.
-use Rattle.std.proofs.Common.{◌≡◌, ℕ, ◌<◌, ◌^◌, Bool, true, List, [], ◌∷◌, ◌++◌, map, refl, sym, ◌∙◌, arith}
-use Rattle.std.specs.Prelude.{Option, Some, None, nat_lt, IsTrue, ◌↔◌}
-use Rattle.std.specs.List.{list_all}
-use Rattle.std.proofs.lemmas.Bool.{and_parts, and_from, lt-ltb, ltb-true}
+use Rattle.st_lemmas.proofs.Words
+use Words.{◌≡◌, ℕ, ◌<◌, ◌^◌, Bool, true, List, [], ◌∷◌, ◌++◌, map, refl, sym, ◌∙◌, arith, Option, Some, None, nat_lt, IsTrue, ◌↔◌, list_all, and_parts}
+use Words.{and_from, lt-ltb, ltb-true, Config, ClientId, Life, ServerId, Output}
+use Words.Client.{association_of}
+use Words.ClientInvariants.{is_below}
+use Words.ClientState.{Association, ClientSession, ClientState}
 use Rattle.st_client_association.specs.Associations.{ClientAssociation, IsCounted, RequestsBelow, has_room_at, may_ask}
 use Rattle.st_client_association.specs.Turns.{most_of}
-use Rattle.st_base.specs.declared.config.Config.{Config}
-use Rattle.st_base.specs.declared.ids.ClientId.{ClientId}
-use Rattle.st_base.specs.declared.ids.Life.{Life}
-use Rattle.st_base.specs.declared.ids.ServerId.{ServerId}
-use Rattle.st_messages.specs.declared.output.Output.{Output}
-use Rattle.st_rules.specs.Client.{association_of}
-use Rattle.st_rules.specs.ClientInvariants.{is_below}
-use Rattle.st_rules.specs.ClientState.{Association, ClientSession, ClientState}
 use Rattle.st_client.specs.Machines.{AreIn, IsMachine, here_of}
 use Rattle.st_client.specs.Nodes.{AreGiven}
 use Rattle.st_client.specs.Room.{HasRoom, has_room}

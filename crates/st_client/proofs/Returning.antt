@@ -1,6 +1,7 @@
 -- A list from which one was taken out, the last one coming to its place, and one that is put back there.
-use Rattle.std.proofs.Common.{◌≡◌, ℕ, zero, suc, ◌+◌, ◌-◌, ◌<◌, ◌≤◌, List, [], ◌∷◌, ◌++◌, get_or, length, take, refl, sym, ap, ◌∙◌, arith}
-use Rattle.std.specs.Prelude.{insert, remove, slice_set, swap_remove}
+use Rattle.st_lemmas.proofs.Words
+use Words.{◌≡◌, ℕ, zero, suc, ◌+◌, ◌-◌, ◌<◌, ◌≤◌, List, [], ◌∷◌, ◌++◌, get_or, length, take, refl, ap, ◌∙◌, arith, insert, remove}
+use Rattle.std.specs.Prelude.{slice_set, swap_remove}
 
 all_but_last : {A : Type 0} (y : A) (ys : List A) (a : A) → take (length ys) (y ∷ ys) ++ get_or (y ∷ ys) (length ys) a ∷ [] ≡ y ∷ ys
 all_but_last y [] a = refl

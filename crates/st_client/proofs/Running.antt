@@ -1,23 +1,14 @@
 -- A node that runs: where it begins, and what its steps leave.
-use Rattle.std.proofs.Common.{◌≡◌, ℕ, zero, suc, ◌≤◌, ◌^◌, true, false, List, [], ◌∷◌, length, map, refl, sym, ap, subst, ◌∙◌, arith}
-use Rattle.std.specs.Prelude.{Option, Some, None, find, Ok}
-use Rattle.std.specs.List.{list_all}
-use Rattle.std.proofs.lemmas.Bool.{and_parts, and_from, eqb-true, lt-leb}
-use Rattle.std.proofs.lemmas.List.{length-map}
-use Rattle.st_lemmas.proofs.Tables.{and_right, cond_either}
+use Rattle.st_lemmas.proofs.Words
+use Words.{◌≡◌, ℕ, zero, suc, ◌≤◌, ◌^◌, true, false, List, [], ◌∷◌, length, map, refl, sym, ap, subst, ◌∙◌, arith, Option, Some, None, find, Ok, list_all}
+use Words.{and_parts, and_from, eqb-true, lt-leb, length-map, Config, ClientId, Life, ServerId, Stamp, Output, ClientInput}
+use Words.Tables.{and_right, cond_either}
+use Words.Kinds.{between}
+use Words.Client.{ClientNode, client_step, crash_node, fresh_client, lease_at, lease_end_with, life_of_association, lives, start, started_association}
+use Words.ClientLease.{end_at}
+use Words.ClientState.{Association, ClientState, ClientTurn, client_turn, is_at}
+use Words.Keys.{same_server}
 use Rattle.st_base.specs.Config.{check}
-use Rattle.st_base.specs.declared.config.Config.{Config}
-use Rattle.st_base.specs.declared.ids.ClientId.{ClientId}
-use Rattle.st_base.specs.declared.ids.Life.{Life}
-use Rattle.st_base.specs.declared.ids.ServerId.{ServerId}
-use Rattle.st_base.specs.declared.ids.Stamp.{Stamp}
-use Rattle.st_messages.specs.Kinds.{between}
-use Rattle.st_messages.specs.declared.output.Output.{Output}
-use Rattle.st_rules.specs.declared.client.ClientInput.{ClientInput}
-use Rattle.st_rules.specs.Client.{ClientNode, client_step, crash_node, fresh_client, lease_at, lease_end_with, life_of_association, lives, start, started_association}
-use Rattle.st_rules.specs.ClientLease.{end_at}
-use Rattle.st_rules.specs.ClientState.{Association, ClientState, ClientTurn, client_turn, is_at}
-use Rattle.st_rules.specs.Keys.{same_server}
 use Rattle.st_client.proofs.Crashing.{crashes}
 use Rattle.st_client.proofs.Sends.{crash_sound, fresh_sound, step_sound}
 use Rattle.st_client.proofs.Servers.{step_keeps}

@@ -1,12 +1,20 @@
 -- The invariant of a client holds after each of its steps, and all that it sends has every field in its range.
-use Rattle.std.proofs.Common.{◌≡◌, ℕ, suc, zero, ◌+◌, ◌^◌, ◌<◌, ◌≤◌, Bool, true, ◌==◌, List, [], ◌∷◌, ◌++◌, refl, arith}
-use Rattle.std.specs.Prelude.{◌&&◌, map, nat_lt, Option, Some, None, ⊤}
-use Rattle.std.specs.List.{list_all}
-use Rattle.std.proofs.lemmas.Bool.{ltb-true}
+use Rattle.st_lemmas.proofs.Words
+use Words.{◌≡◌, ℕ, suc, zero, ◌+◌, ◌^◌, ◌<◌, ◌≤◌, Bool, true, ◌==◌, List, [], ◌∷◌, ◌++◌, refl, arith, ◌&&◌, map, nat_lt, Option, Some, None, ⊤, list_all}
+use Words.{ltb-true, Config, ClientId, Stamp, AppAnswer, ClientInput}
+use Words.Tables.{and_true}
+use Words.answers
+use Words.outputs
+use Words.Kinds.{between}
+use Words.inputs.{Tick, App, Control, Done}
+use Words.Client.{answered_at_once, app, app_known, client_step, crash, crashed_association, done, finish, fresh_association, fresh_client, is_configured}
+use Words.Client.{is_full, is_tick, lose, losses, start, started_association, take_ask, take_input, work}
+use Words.ClientPasses as passes
+use Words.ClientReplies.{receive_at, receive, receive_here}
+use Words.ClientState.{Association, ClientSession, ClientState, ClientTurn, Turn, at_each, at_these, client_turn, enter, leave, only_at, server_of}
+use Words.ClientState.{with_associations}
+use Words.Extents.{numbers}
 use Rattle.st_client_association.specs.Associations.{has_room_at, may_ask}
-use Rattle.st_base.specs.declared.config.Config.{Config}
-use Rattle.st_base.specs.declared.ids.ClientId.{ClientId}
-use Rattle.st_base.specs.declared.ids.Stamp.{Stamp}
 use Rattle.st_client.proofs.SoundReceives.{receive_fit}
 use Rattle.st_client.proofs.SoundInputs.{asked_fit, finish_fit, lose_fit}
 use Rattle.st_client.proofs.SoundLists.{all_last, one_of}
@@ -16,18 +24,6 @@ use Rattle.st_client.proofs.SoundRequests.{requests_fit}
 use Rattle.st_client.specs.Inputs.{comes_fit, is_sent}
 use Rattle.st_client.specs.Room.{HasRoom}
 use Rattle.st_client.specs.Invariants.{AreSound, IsSound, IsSoundIn, is_sound_operation}
-use Rattle.st_lemmas.proofs.Tables.{and_true}
-use Rattle.st_messages.specs.declared.answer.AppAnswer.{AppAnswer}
-use Rattle.st_messages.specs.declared.answer.AppAnswer.TheVariants as answers
-use Rattle.st_messages.specs.declared.output.Output.TheVariants as outputs
-use Rattle.st_messages.specs.Kinds.{between}
-use Rattle.st_rules.specs.declared.client.ClientInput.{ClientInput}
-use Rattle.st_rules.specs.declared.client.ClientInput.TheVariants.{Tick, App, Control, Done}
-use Rattle.st_rules.specs.Client.{answered_at_once, app, app_known, client_step, crash, crashed_association, done, finish, fresh_association, fresh_client, is_configured, is_full, is_tick, lose, losses, start, started_association, take_ask, take_input, work}
-use Rattle.st_rules.specs.ClientPasses as passes
-use Rattle.st_rules.specs.ClientReplies.{receive_at, receive, receive_here}
-use Rattle.st_rules.specs.ClientState.{Association, ClientSession, ClientState, ClientTurn, Turn, at_each, at_these, client_turn, enter, leave, only_at, server_of, with_associations}
-use Rattle.st_rules.specs.Extents.{numbers}
 
 -- A client within a step.
 

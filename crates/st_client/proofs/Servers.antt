@@ -1,19 +1,15 @@
 -- A step keeps the client, its settings and the order of its servers.
-use Rattle.std.proofs.Common.{◌≡◌, ℕ, Bool, true, false, List, [], ◌∷◌, ◌++◌, map, append-nil, refl, sym, ap, ◌∙◌}
-use Rattle.std.specs.Prelude.{◌==◌, if◌then◌else◌}
-use Rattle.std.proofs.lemmas.List.{append_assoc, map-append}
-use Rattle.st_base.specs.declared.ids.Stamp.{Stamp}
-use Rattle.st_base.specs.declared.ids.ServerId.{ServerId}
-use Rattle.st_messages.specs.declared.ask.Ask.{Ask}
-use Rattle.st_messages.specs.declared.message.Body.{Body}
-use Rattle.st_messages.specs.declared.message.Header.{Header}
-use Rattle.st_rules.specs.declared.client.ClientInput.{ClientInput}
-use Rattle.st_rules.specs.declared.client.ClientInput.TheVariants.{Tick, App, Control, Done}
-use Rattle.st_rules.specs.Client as client
-use Rattle.st_rules.specs.Client.{app, app_known, client_step, done, finish, is_configured, is_full, losses, lose, take_ask, take_input, work}
-use Rattle.st_rules.specs.ClientPasses as passes
-use Rattle.st_rules.specs.ClientReplies.{receive_at, receive, receive_here}
-use Rattle.st_rules.specs.ClientState.{Association, ClientState, ClientTurn, Turn, at_each, at_these, client_turn, enter, is_at, leave, only_at, server_of, with_associations}
+use Rattle.st_lemmas.proofs.Words
+use Words.{◌≡◌, ℕ, Bool, true, false, List, [], ◌∷◌, ◌++◌, map, refl, sym, ap, ◌∙◌, ◌==◌, if◌then◌else◌, map-append, Stamp, ServerId, Ask, Body, Header}
+use Words.{ClientInput}
+use Words.inputs.{Tick, App, Control, Done}
+use Words.Client as client
+use Words.Client.{app, app_known, client_step, done, finish, is_configured, is_full, losses, lose, take_ask, take_input, work}
+use Words.ClientPasses as passes
+use Words.ClientReplies.{receive_at, receive, receive_here}
+use Words.ClientState.{Association, ClientState, ClientTurn, Turn, at_each, at_these, client_turn, enter, is_at, leave, only_at, server_of, with_associations}
+use Rattle.std.proofs.Common.{append-nil}
+use Rattle.std.proofs.lemmas.List.{append_assoc}
 use Rattle.st_client.proofs.Advancing.{either, stays}
 use Rattle.st_client.proofs.ReceiveGrows.{receive_grows}
 use Rattle.st_client.proofs.InputsGrow.{finish_grows, lose_grows, take_ask_grows}

@@ -1,31 +1,25 @@
 -- Where nothing waits and nothing is due, rules do nothing.
-use Rattle.std.proofs.Common.{◌≡◌, ℕ, Bool, true, false, ◌&&◌, ◌||◌, List, [], ◌∷◌, ◌++◌, refl, sym, ap, ◌∙◌, append_assoc, append-nil}
-use Rattle.std.specs.Prelude.{Option, Some, None, ◌==◌, cond, is_some, not}
-use Rattle.std.specs.List.{list_any}
-use Rattle.st_lemmas.proofs.Tables.{and_left, and_right, cond_false, not_false, not_true}
+use Rattle.st_lemmas.proofs.Words
+use Words.{◌≡◌, ℕ, Bool, true, false, ◌&&◌, ◌||◌, List, [], ◌∷◌, ◌++◌, refl, sym, ap, ◌∙◌, append_assoc, Option, Some, None, ◌==◌, cond, is_some, not, list_any}
+use Words.{ServerId, Stamp, Ask, Body, Header, Operation, Release, Request, DirtyPage}
+use Words.Tables.{and_left, and_right, cond_false, not_false, not_true}
+use Words.asks
+use Words.Client.{is_any, is_over, lose, lose_by, lose_over, take_ask}
+use Words.ClientInvariants.{lasts_here, lasts_in}
+use Words.ClientLease.{is_renewing, phase_of}
+use Words.ClientLocks.{demanded_files}
+use Words.ClientPages.{Pages, dirty_places}
+use Words.ClientPasses as passes
+use Words.ClientPasses.{ask_by, ask_new, ask_next, asked_by, asks_or, first_asking, greet, greeting, greeting_by, is_greeting_due, is_old, keep_alive}
+use Words.ClientPasses.{ask_for_or, may_ask, must_greet, operate, operate_by, operate_each, operate_on, operations, reduce_each, reductions, repeat, requests}
+use Words.ClientPasses.{requests_at, requests_by, requests_under, write_each, writes, writes_by}
+use Words.ClientReplies.{receive_at, is_received}
+use Words.ClientState.{ClientSession, Turn, is_at, is_of, is_serving, is_sync, keep, only_at, with_operations}
+use Words.Keys.{rising, server_node}
+use Rattle.std.proofs.Common.{append-nil}
 use Rattle.st_client_association.specs.Associations.{ClientAssociation}
 use Rattle.st_client_association.specs.Activity.{is_awake, is_awake_by, may_send, takes_all}
-use Rattle.st_base.specs.declared.ids.ServerId.{ServerId}
-use Rattle.st_base.specs.declared.ids.Stamp.{Stamp}
-use Rattle.st_messages.specs.declared.ask.Ask.{Ask}
-use Rattle.st_messages.specs.declared.ask.Ask.TheVariants as asks
-use Rattle.st_messages.specs.declared.message.Body.{Body}
-use Rattle.st_messages.specs.declared.message.Header.{Header}
 use Rattle.st_operations.specs.PendingOperations.{may_act}
-use Rattle.st_rules.specs.declared.client.Operation.{Operation}
-use Rattle.st_rules.specs.declared.client.Release.{Release}
-use Rattle.st_rules.specs.declared.client.Request.{Request}
-use Rattle.st_rules.specs.declared.pages.DirtyPage.{DirtyPage}
-use Rattle.st_rules.specs.Client.{is_any, is_over, lose, lose_by, lose_over, take_ask}
-use Rattle.st_rules.specs.ClientInvariants.{lasts_here, lasts_in}
-use Rattle.st_rules.specs.ClientLease.{is_renewing, phase_of}
-use Rattle.st_rules.specs.ClientLocks.{demanded_files}
-use Rattle.st_rules.specs.ClientPages.{Pages, dirty_places}
-use Rattle.st_rules.specs.ClientPasses as passes
-use Rattle.st_rules.specs.ClientPasses.{ask_by, ask_new, ask_next, asked_by, asks_or, first_asking, greet, greeting, greeting_by, is_greeting_due, is_old, keep_alive, ask_for_or, may_ask, must_greet, operate, operate_by, operate_each, operate_on, operations, reduce_each, reductions, repeat, requests, requests_at, requests_by, requests_under, write_each, writes, writes_by}
-use Rattle.st_rules.specs.ClientReplies.{receive_at, is_received}
-use Rattle.st_rules.specs.ClientState.{ClientSession, Turn, is_at, is_of, is_serving, is_sync, keep, only_at, with_operations}
-use Rattle.st_rules.specs.Keys.{rising, server_node}
 use Rattle.st_client.specs.IdleRules.{IsIdle}
 
 or_parts : (a b : Bool) → (a || b) ≡ false → (a ≡ false) × (b ≡ false)

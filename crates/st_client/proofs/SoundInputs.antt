@@ -1,29 +1,22 @@
 -- Losses, asks and ends of commands leave all that a client keeps and sends in the ranges of messages.
-use Rattle.std.proofs.Common.{◌≡◌, ℕ, ◌+◌, Bool, true, false, not, List, [], ◌∷◌, refl, arith}
-use Rattle.std.specs.Prelude.{filter, Option, Some, None}
-use Rattle.st_base.specs.declared.disk.Tag.{Tag}
-use Rattle.st_base.specs.declared.ids.FileId.{FileId}
-use Rattle.st_base.specs.declared.ids.ServerId.{ServerId}
-use Rattle.st_base.specs.declared.ids.Stamp.{Stamp}
+use Rattle.st_lemmas.proofs.Words
+use Words.{◌≡◌, ℕ, ◌+◌, Bool, true, false, not, List, [], ◌∷◌, refl, arith, filter, Option, Some, None, Tag, FileId, ServerId, Stamp, Ask, Ended, IoKind}
+use Words.{Operation, PageCommand}
+use Words.answers
+use Words.asks
+use Words.notes
+use Words.outputs
+use Words.Ranges.{is_ask}
+use Words.ends.{Unknown, Filled, Hard, Redirty, Failed}
+use Words.io.{Read, Write}
+use Words.Client as rules
+use Words.Client.{filled_by, hardened, mark_failed, failed_as, finish_as, ended_by, finish_command, done_by, finish_by, finish_at, finish, tell_lost, end_sync}
+use Words.Client.{end_unsent, end_operation, end_each, end_operations, lose_session, lose_over, lose_by, lose, enqueue, take_sync, take_by, take_ask}
+use Words.ClientPages as pages
+use Words.ClientState.{ClientSession, Turn, is_at, is_of, is_sent, new_operation, note, only_at, with_operations}
 use Rattle.st_client.proofs.SoundLists.{all_filter, all_last, one_of}
 use Rattle.st_client.proofs.SoundMessages.{Fit, FitIn, says_fit, told_fit}
 use Rattle.st_client.specs.Invariants.{is_sound_operation}
-use Rattle.st_messages.specs.declared.answer.AppAnswer.TheVariants as answers
-use Rattle.st_messages.specs.declared.ask.Ask.{Ask}
-use Rattle.st_messages.specs.declared.ask.Ask.TheVariants as asks
-use Rattle.st_messages.specs.declared.output.Note.TheVariants as notes
-use Rattle.st_messages.specs.declared.output.Output.TheVariants as outputs
-use Rattle.st_messages.specs.Ranges.{is_ask}
-use Rattle.st_rules.specs.declared.client.Ended.{Ended}
-use Rattle.st_rules.specs.declared.client.Ended.TheVariants.{Unknown, Filled, Hard, Redirty, Failed}
-use Rattle.st_rules.specs.declared.client.IoKind.{IoKind}
-use Rattle.st_rules.specs.declared.client.IoKind.TheVariants.{Read, Write}
-use Rattle.st_rules.specs.declared.client.Operation.{Operation}
-use Rattle.st_rules.specs.declared.client.PageCommand.{PageCommand}
-use Rattle.st_rules.specs.Client as rules
-use Rattle.st_rules.specs.Client.{filled_by, hardened, mark_failed, failed_as, finish_as, ended_by, finish_command, done_by, finish_by, finish_at, finish, tell_lost, end_sync, end_unsent, end_operation, end_each, end_operations, lose_session, lose_over, lose_by, lose, enqueue, take_sync, take_by, take_ask}
-use Rattle.st_rules.specs.ClientPages as pages
-use Rattle.st_rules.specs.ClientState.{ClientSession, Turn, is_at, is_of, is_sent, new_operation, note, only_at, with_operations}
 
 -- Ends of commands.
 

@@ -1,11 +1,11 @@
 -- Lists of which each element passes a test: appended, filtered, changed, and after a row was put.
-use Rattle.std.proofs.Common.{◌≡◌, ℕ, ◌+◌, ◌≤◌, Bool, true, false, ◌||◌, List, [], ◌∷◌, ◌++◌, length, refl, if◌then◌else◌, arith}
-use Rattle.std.specs.Prelude.{filter, find, map, nat_lt, is_some, Option, Some, None, cond}
-use Rattle.std.specs.List.{list_all, filter_map, cons_option}
-use Rattle.std.proofs.lemmas.Bool.{ltb-true}
-use Rattle.st_lemmas.proofs.Tables.{and_true, and_both}
+use Rattle.st_lemmas.proofs.Words
+use Words.{◌≡◌, ℕ, ◌+◌, ◌≤◌, Bool, true, false, ◌||◌, List, [], ◌∷◌, ◌++◌, length, refl, if◌then◌else◌, arith, filter, find, map, nat_lt, is_some, Option, Some}
+use Words.{None, cond, list_all, cons_option, ltb-true}
+use Words.Tables.{and_true, and_both}
+use Words.Keys.{put, past, placed, with_key, rising}
+use Rattle.std.specs.List.{filter_map}
 use Rattle.st_lemmas.proofs.Puts.{length_put}
-use Rattle.st_rules.specs.Keys.{put, past, placed, with_key, rising}
 
 -- what holds of each of two holds of either
 pub one_of : {A : Type 0} (P : A → Type 0) (b : Bool) (x y : A) → P x → P y → P (if b then x else y)

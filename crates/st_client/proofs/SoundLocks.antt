@@ -1,23 +1,18 @@
 -- The locks and the releases of a session stay in the ranges of messages: a grant, a demand, a reduction, a lock that is dropped.
-use Rattle.std.proofs.Common.{◌≡◌, ℕ, ◌≤◌, true, ◌&&◌, ◌||◌, not, length, refl, sym, ap, subst, ◌∙◌, arith}
-use Rattle.std.specs.Prelude.{nat_lt, is_some, Option, Some, None, ⊤}
-use Rattle.std.specs.List.{list_all}
-use Rattle.std.proofs.lemmas.Bool.{eqb-true}
-use Rattle.st_base.specs.declared.ids.GrantNo.{GrantNo}
-use Rattle.st_base.specs.declared.mode.Mode.{Mode}
-use Rattle.st_base.specs.declared.mode.Mode.TheVariants as modes
+use Rattle.st_lemmas.proofs.Words
+use Words.{◌≡◌, ℕ, ◌≤◌, true, ◌&&◌, ◌||◌, not, length, refl, sym, ap, subst, ◌∙◌, arith, nat_lt, is_some, Option, Some, None, ⊤, list_all, eqb-true, GrantNo}
+use Words.{Mode, DemandedFile, HeldLock}
+use Words.modes
+use Words.Tables.{and_true, and_both, cond_either, each_passes, found_at}
+use Words.Ranges.{is_grant, is_ino, is_mode}
+use Words.ClientLocks as locks
+use Words.ClientLocks.{LockCache, is_demand_on, is_lock_on}
+use Words.ClientReplies.{accept_grant, decline, grant, grant_new, release_unheld, has_release}
+use Words.ClientState.{ClientSession, with_cache, with_release}
 use Rattle.st_base.specs.Mode.{covers}
 use Rattle.st_client.proofs.SoundLists.{all_filter, all_last, all_put, filter_fits, one_of, put_fits}
 use Rattle.st_client.proofs.SoundMessages.{FitSession, held_sound}
 use Rattle.st_client.specs.Invariants.{AreSoundLocks, is_sound_demand, is_sound_lock, is_sound_release}
-use Rattle.st_lemmas.proofs.Tables.{and_true, and_both, cond_either, each_passes, found_at}
-use Rattle.st_messages.specs.Ranges.{is_grant, is_ino, is_mode}
-use Rattle.st_rules.specs.declared.client.DemandedFile.{DemandedFile}
-use Rattle.st_rules.specs.declared.client.HeldLock.{HeldLock}
-use Rattle.st_rules.specs.ClientLocks as locks
-use Rattle.st_rules.specs.ClientLocks.{LockCache, is_demand_on, is_lock_on}
-use Rattle.st_rules.specs.ClientReplies.{accept_grant, decline, grant, grant_new, release_unheld, has_release}
-use Rattle.st_rules.specs.ClientState.{ClientSession, with_cache, with_release}
 
 -- an inode, a grant and a mode in their ranges
 pub lock_is : (ino : ℕ) (g : GrantNo) (mode : Mode) → is_ino ino ≡ true → is_grant g ≡ true → is_mode 1 2 mode ≡ true → is_sound_lock (locks.held_lock ino g mode) ≡ true

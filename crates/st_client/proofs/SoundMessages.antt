@@ -1,30 +1,23 @@
 -- Messages that a client sends have every field in its range; and the locks that it reasserts.
-use Rattle.std.proofs.Common.{◌≡◌, ℕ, ◌+◌, ◌^◌, ◌<◌, ◌≤◌, Bool, true, ◌&&◌, List, [], ◌∷◌, length, refl, arith, inl, inr}
-use Rattle.std.specs.Prelude.{map, filter, not, nat_le, nat_lt, option_map, Option, Some, None, ⊤}
-use Rattle.std.specs.List.{list_all, filter_map, cons_option}
-use Rattle.std.proofs.lemmas.Bool.{eqb-true, leb-true, le-leb, lt-ltb}
+use Rattle.st_lemmas.proofs.Words
+use Words.{◌≡◌, ℕ, ◌+◌, ◌^◌, ◌<◌, ◌≤◌, Bool, true, ◌&&◌, List, [], ◌∷◌, length, refl, arith, inl, inr, map, filter, not, nat_le, nat_lt, option_map, Option}
+use Words.{Some, None, ⊤, list_all, cons_option, eqb-true, leb-true, le-leb, lt-ltb, AppAnswer, Kind, Body, Header, Output, HeldLock, Operation}
+use Words.Lists.{Has, Rises}
+use Words.Tables.{and_true, and_both, each_passes, found_at, has_map}
+use Words.bodies
+use Words.outputs
+use Words.Ranges.{after_lock, are_ages, are_locks, are_marks, are_nodes, are_rows, fits, is_body, is_header, is_lock_row}
+use Words.Kinds.{allows, between, epoch_of, kind_of_body, life_of, request_of, stamp_of}
+use Words.ClientLocks.{LockCache, all_locks, ino_of_lock, is_lock_on, lock_in_list, lock_of, lock_row_at}
+use Words.ClientState.{Association, ClientSession, Turn, answer_each, answer_to, header_of, say, send, with_session}
+use Words.Keys.{rising, server_node}
+use Rattle.std.specs.List.{filter_map}
 use Rattle.st_client.specs.Inputs.{is_sent}
 use Rattle.st_client.specs.Invariants.{AreSoundLocks, IsSoundSession, is_asking, is_sound_lock, is_sound_operation}
 use Rattle.st_client.proofs.SoundLists.{all_append, all_filter, all_last, all_made, filter_map_fits, rising_fits}
-use Rattle.st_lemmas.specs.Lists.{Has, Rises}
 use Rattle.st_lemmas.proofs.Keys.{rising_has, rising_rises}
-use Rattle.st_lemmas.proofs.Tables.{and_true, and_both, each_passes, found_at, has_map}
-use Rattle.st_messages.specs.declared.answer.AppAnswer.{AppAnswer}
-use Rattle.st_messages.specs.declared.kind.Kind.{Kind}
 use Rattle.st_messages.specs.declared.kind.Kind.TheVariants as kinds
 use Rattle.st_messages.specs.declared.kind.Need.TheVariants.{Positive}
-use Rattle.st_messages.specs.declared.message.Body.{Body}
-use Rattle.st_messages.specs.declared.message.Body.TheVariants as bodies
-use Rattle.st_messages.specs.declared.message.Header.{Header}
-use Rattle.st_messages.specs.declared.output.Output.{Output}
-use Rattle.st_messages.specs.declared.output.Output.TheVariants as outputs
-use Rattle.st_messages.specs.Ranges.{after_lock, are_ages, are_locks, are_marks, are_nodes, are_rows, fits, is_body, is_header, is_lock_row}
-use Rattle.st_messages.specs.Kinds.{allows, between, epoch_of, kind_of_body, life_of, request_of, stamp_of}
-use Rattle.st_rules.specs.declared.client.HeldLock.{HeldLock}
-use Rattle.st_rules.specs.declared.client.Operation.{Operation}
-use Rattle.st_rules.specs.ClientLocks.{LockCache, all_locks, ino_of_lock, is_lock_on, lock_in_list, lock_of, lock_row_at}
-use Rattle.st_rules.specs.ClientState.{Association, ClientSession, Turn, answer_each, answer_to, header_of, say, send, with_session}
-use Rattle.st_rules.specs.Keys.{rising, server_node}
 
 -- What holds of a step at one server: the life and the number of the next request are at most this.
 

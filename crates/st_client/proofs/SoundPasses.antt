@@ -1,42 +1,32 @@
 -- The passes at a server leave all that a client keeps and sends in the ranges of messages.
-use Rattle.std.proofs.Common.{◌≡◌, ℕ, ◌+◌, ◌-◌, ◌^◌, ◌<◌, Bool, true, ◌&&◌, List, [], ◌∷◌, length, refl, arith}
-use Rattle.std.specs.Prelude.{Option, Some, None, Result, Ok, Err}
-use Rattle.std.specs.List.{list_all}
-use Rattle.std.proofs.lemmas.Bool.{le-leb}
-use Rattle.st_base.specs.declared.disk.Command.TheVariants as commands
-use Rattle.st_base.specs.declared.ids.FileId.{FileId}
-use Rattle.st_base.specs.declared.ids.GrantNo.{GrantNo}
-use Rattle.st_base.specs.declared.ids.PageNo.{PageNo}
-use Rattle.st_base.specs.declared.ids.Stamp.{Stamp}
-use Rattle.st_base.specs.declared.mode.Mode.{Mode}
-use Rattle.st_base.specs.declared.mode.Mode.TheVariants as modes
+use Rattle.st_lemmas.proofs.Words
+use Words.{◌≡◌, ℕ, ◌+◌, ◌-◌, ◌^◌, ◌<◌, Bool, true, ◌&&◌, List, [], ◌∷◌, length, refl, arith, Option, Some, None, Result, Ok, Err, list_all, le-leb, FileId}
+use Words.{GrantNo, PageNo, Stamp, Mode, Ask, Note, KnownExtent, MappedBlock, Operation, WriteRefusal, DirtyPage}
+use Words.commands
+use Words.modes
+use Words.Tables.{and_true}
+use Words.asks
+use Words.bodies
+use Words.answers
+use Words.notes
+use Words.outputs
+use Words.Ranges.{has_length, is_ask, is_body, is_file, is_grant, is_ino, is_mode, is_page}
+use Words.Kinds.{between}
+use Words.FlatLog.{overlay}
+use Words.ClientLocks as locks
+use Words.ClientPages as pages
+use Words.ClientPages.{Pages}
+use Words.ClientPasses as passes
+use Words.ClientPasses.{submit_command, submit_read, submit_write, sync, quiesce, change, change_by, change_page, write, fetch_mapped, fetch_at, fetch}
+use Words.ClientPasses.{patch_bytes, patch_at, patch, read_cached, read_known, read_uncached, read_at, read, serve_open, serve, operate_under, operate_by}
+use Words.ClientPasses.{operate_on, operate, operate_each, operations, reduce_to, reduce_given, reduce_by, reduce_idle, reduce, reduce_each, reductions}
+use Words.ClientPasses.{write_out_at, write_out, write_due, write_page, write_each, writes_by, writes, hello, greet, greeting_by, greeting}
+use Words.ClientState.{ClientSession, Turn, file_of, is_of, is_open_file, is_sent, is_serving, keep, note, with_cache, with_operations}
 use Rattle.st_client.proofs.SoundLists.{all_last, one_of}
 use Rattle.st_client.proofs.SoundLocks.{FitGiven, cache_fit, reduce_fit, release_fit}
 use Rattle.st_client.proofs.SoundMessages.{Fit, FitIn, FitSession, hello_header, in_between, puts_fit, says_fit, sends_fit}
 use Rattle.st_client.specs.Inputs.{is_noted}
 use Rattle.st_client.specs.Invariants.{is_sound_operation}
-use Rattle.st_lemmas.proofs.Tables.{and_true}
-use Rattle.st_messages.specs.declared.ask.Ask.{Ask}
-use Rattle.st_messages.specs.declared.ask.Ask.TheVariants as asks
-use Rattle.st_messages.specs.declared.message.Body.TheVariants as bodies
-use Rattle.st_messages.specs.declared.answer.AppAnswer.TheVariants as answers
-use Rattle.st_messages.specs.declared.output.Note.{Note}
-use Rattle.st_messages.specs.declared.output.Note.TheVariants as notes
-use Rattle.st_messages.specs.declared.output.Output.TheVariants as outputs
-use Rattle.st_messages.specs.Ranges.{has_length, is_ask, is_body, is_file, is_grant, is_ino, is_mode, is_page}
-use Rattle.st_messages.specs.Kinds.{between}
-use Rattle.st_rules.specs.declared.client.KnownExtent.{KnownExtent}
-use Rattle.st_rules.specs.declared.client.MappedBlock.{MappedBlock}
-use Rattle.st_rules.specs.declared.client.Operation.{Operation}
-use Rattle.st_rules.specs.declared.client.WriteRefusal.{WriteRefusal}
-use Rattle.st_rules.specs.declared.pages.DirtyPage.{DirtyPage}
-use Rattle.st_rules.specs.FlatLog.{overlay}
-use Rattle.st_rules.specs.ClientLocks as locks
-use Rattle.st_rules.specs.ClientPages as pages
-use Rattle.st_rules.specs.ClientPages.{Pages}
-use Rattle.st_rules.specs.ClientPasses as passes
-use Rattle.st_rules.specs.ClientPasses.{submit_command, submit_read, submit_write, sync, quiesce, change, change_by, change_page, write, fetch_mapped, fetch_at, fetch, patch_bytes, patch_at, patch, read_cached, read_known, read_uncached, read_at, read, serve_open, serve, operate_under, operate_by, operate_on, operate, operate_each, operations, reduce_to, reduce_given, reduce_by, reduce_idle, reduce, reduce_each, reductions, write_out_at, write_out, write_due, write_page, write_each, writes_by, writes, hello, greet, greeting_by, greeting}
-use Rattle.st_rules.specs.ClientState.{ClientSession, Turn, file_of, is_of, is_open_file, is_sent, is_serving, keep, note, with_cache, with_operations}
 
 -- a patch lies in its page
 patch_lies : (f : FileId) (p : PageNo) (at : ℕ) (bytes : List ℕ) → is_ask (asks.Patch f p at bytes) ≡ true → is_noted (notes.Patched f p at bytes) ≡ true

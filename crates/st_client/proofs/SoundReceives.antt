@@ -1,39 +1,32 @@
 -- A message leaves all that a client keeps and sends in the ranges of messages.
-use Rattle.std.proofs.Common.{◌≡◌, ℕ, ◌^◌, ◌<◌, ◌≤◌, true, false, ◌&&◌, ◌==◌, refl, sym, ap, ◌∙◌, arith}
-use Rattle.std.specs.Prelude.{Option, Some, None}
-use Rattle.st_base.specs.declared.ids.Epoch.{Epoch}
-use Rattle.st_base.specs.declared.ids.GrantNo.{GrantNo}
-use Rattle.st_base.specs.declared.ids.PageNo.{PageNo}
-use Rattle.st_base.specs.declared.ids.Stamp.{Stamp}
-use Rattle.st_base.specs.declared.mode.Mode.{Mode}
-use Rattle.st_base.specs.declared.mode.Mode.TheVariants as modes
+use Rattle.st_lemmas.proofs.Words
+use Words.{◌≡◌, ℕ, ◌^◌, ◌<◌, ◌≤◌, true, false, ◌&&◌, ◌==◌, refl, sym, ap, ◌∙◌, arith, Option, Some, None, Epoch, GrantNo, PageNo, Stamp, Mode, AppAnswer, Body}
+use Words.{Header, NameReply, Why, Asked, HeldLock, Operation, Request}
+use Words.modes
+use Words.Tables.{and_true, and_both}
+use Words.answers
+use Words.bodies
+use Words.replies.{Ino}
+use Words.why
+use Words.Ranges.{is_body, is_grant, is_header, is_ino, is_mode}
+use Words.Kinds.{allows, kind_of_body}
+use Words.stages.{Stuck}
+use Words.ClientLease.{ClientLease, condemned, is_renewal, new_lease, renewed}
+use Words.ClientLocks as locks
+use Words.ClientReplies.{acknowledged, begin_here, begin_session, by_request, by_session, condemn, count_reply, counted, demand, demand_as, demand_by}
+use Words.ClientReplies.{drop_held, drop_lock, effect, end_request, ended_by, extents, follow_epoch, grant, grant_or_reply, granted, receive_at, in_epoch}
+use Words.ClientReplies.{is_counting, is_current, is_received, is_newer, is_timely, learn, leave_stuck, nack, name_answer, named, named_as, new_session}
+use Words.ClientReplies.{newer_epoch, note_lease, note_renewal, of_epoch, of_other_epoch, queued, reasserted, refuse_as, refuse_file, refuse_holder}
+use Words.ClientReplies.{refuse_page, refused, refused_in, refuses_reassertion, release_unheld, removed, reply_of, reply_to, observe_demand, stuck, wait_told}
+use Words.ClientReplies.{wait_unless_held, welcome, with_a_session, without_session}
+use Words.ClientState.{ClientSession, Turn, answer_each, asks_cut_or_remove, at_stage, file_asked, forget_wait, is_asked, with_cache, with_lease, with_release}
+use Words.ClientState.{with_session}
 use Rattle.st_client.proofs.SoundLists.{all_map, one_of}
 use Rattle.st_client.proofs.SoundLocks.{cache_fit, demand_sound, drop_sound, grant_fit, lock_parts, release_fit, unheld_fit}
 use Rattle.st_client.proofs.SoundMessages.{Fit, FitIn, FitSession, epoch_in, held_sound, puts_fit, says_fit, seen_header, sends_fit, told_fit}
 use Rattle.st_client.specs.Invariants.{is_sound_operation}
-use Rattle.st_lemmas.proofs.Tables.{and_true, and_both}
-use Rattle.st_messages.specs.declared.answer.AppAnswer.{AppAnswer}
-use Rattle.st_messages.specs.declared.answer.AppAnswer.TheVariants as answers
 use Rattle.st_messages.specs.declared.kind.Need.TheVariants.{Positive}
-use Rattle.st_messages.specs.declared.message.Body.{Body}
-use Rattle.st_messages.specs.declared.message.Body.TheVariants as bodies
-use Rattle.st_messages.specs.declared.message.Header.{Header}
-use Rattle.st_messages.specs.declared.message.NameReply.{NameReply}
-use Rattle.st_messages.specs.declared.message.NameReply.TheVariants.{Ino}
-use Rattle.st_messages.specs.declared.message.Why.{Why}
-use Rattle.st_messages.specs.declared.message.Why.TheVariants as why
-use Rattle.st_messages.specs.Ranges.{is_body, is_grant, is_header, is_ino, is_mode}
-use Rattle.st_messages.specs.Kinds.{allows, kind_of_body}
-use Rattle.st_rules.specs.declared.client.Asked.{Asked}
 use Rattle.st_rules.specs.declared.client.Asked.TheVariants.{Reduce, NotHeld, Stale}
-use Rattle.st_rules.specs.declared.client.HeldLock.{HeldLock}
-use Rattle.st_rules.specs.declared.client.Operation.{Operation}
-use Rattle.st_rules.specs.declared.client.Request.{Request}
-use Rattle.st_rules.specs.declared.client.Stage.TheVariants.{Stuck}
-use Rattle.st_rules.specs.ClientLease.{ClientLease, condemned, is_renewal, new_lease, renewed}
-use Rattle.st_rules.specs.ClientLocks as locks
-use Rattle.st_rules.specs.ClientReplies.{acknowledged, begin_here, begin_session, by_request, by_session, condemn, count_reply, counted, demand, demand_as, demand_by, drop_held, drop_lock, effect, end_request, ended_by, extents, follow_epoch, grant, grant_or_reply, granted, receive_at, in_epoch, is_counting, is_current, is_received, is_newer, is_timely, learn, leave_stuck, nack, name_answer, named, named_as, new_session, newer_epoch, note_lease, note_renewal, of_epoch, of_other_epoch, queued, reasserted, refuse_as, refuse_file, refuse_holder, refuse_page, refused, refused_in, refuses_reassertion, release_unheld, removed, reply_of, reply_to, observe_demand, stuck, wait_told, wait_unless_held, welcome, with_a_session, without_session}
-use Rattle.st_rules.specs.ClientState.{ClientSession, Turn, answer_each, asks_cut_or_remove, at_stage, file_asked, forget_wait, is_asked, with_cache, with_lease, with_release, with_session}
 
 module _ (most : ℕ) (low : 1 ≤ most) (high : most < 2 ^ 64) where
   lease_fit : (l : ClientLease) (t : Turn) → Fit most t → Fit most (note_lease l t)

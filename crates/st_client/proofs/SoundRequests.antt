@@ -1,39 +1,29 @@
 -- The requests of a client have every field in its range, and so has what it keeps of them.
-use Rattle.std.proofs.Common.{◌≡◌, ℕ, ◌+◌, ◌-◌, ◌^◌, ◌<◌, ◌≤◌, Bool, true, false, ◌&&◌, ◌==◌, List, [], ◌∷◌, refl, arith}
-use Rattle.std.specs.Prelude.{Option, Some, None, min, nat_le, nat_lt, ⊤}
-use Rattle.std.specs.List.{list_all}
-use Rattle.std.proofs.lemmas.Bool.{eqb-false, le-leb, leb-true, lt-ltb, ltb-true}
-use Rattle.st_base.specs.declared.ids.FileId.{FileId}
-use Rattle.st_base.specs.declared.ids.GrantNo.{GrantNo}
-use Rattle.st_base.specs.declared.ids.PageNo.{PageNo}
-use Rattle.st_base.specs.declared.ids.Stamp.{Stamp}
-use Rattle.st_base.specs.declared.mode.Mode.{Mode}
+use Rattle.st_lemmas.proofs.Words
+use Words.{◌≡◌, ℕ, ◌+◌, ◌-◌, ◌^◌, ◌<◌, ◌≤◌, Bool, true, false, ◌&&◌, ◌==◌, List, [], ◌∷◌, refl, arith, Option, Some, None, min, nat_le, nat_lt, ⊤, list_all}
+use Words.{eqb-false, le-leb, leb-true, lt-ltb, ltb-true, FileId, GrantNo, PageNo, Stamp, Mode, NameAsk, Ask, Body, HeldLock, Operation, Release, Request}
+use Words.names
+use Words.Tables.{and_true, and_both, cond_either}
+use Words.asks
+use Words.bodies
+use Words.Ranges.{has_length, is_ask, is_body, is_count, is_file, is_grant, is_ino, is_mode, is_name_ask, is_name_op, is_page, is_whole_page, is_word32}
+use Words.Kinds.{between}
+use Words.ClientLease as lease
+use Words.ClientLocks as locks
+use Words.ClientPages as pages
+use Words.ClientPasses as passes
+use Words.ClientPasses.{Asking, Wanted, ask, ask_again, repeat, keep_alive, name_op, need, want_lock, want_map, want_block, want_cut, want_held, want_under}
+use Words.ClientPasses.{want_by, want_on, want_name, want_at, want, asked_by, asks_or, first_asking, ask_for, ask_for_or, ask_next, ask_release, ask_by}
+use Words.ClientPasses.{reassert, ask_new, requests_at, requests_under, requests_by, requests}
+use Words.ClientState.{ClientSession, Turn, asking, file_of, is_serving, meant, with_operations, with_session, with_store}
+use Words.Keys.{page_no}
 use Rattle.st_base.specs.Mode.{covers}
-use Rattle.st_base.specs.declared.names.NameAsk.{NameAsk}
-use Rattle.st_base.specs.declared.names.NameAsk.TheVariants as names
 use Rattle.st_client.proofs.SoundInputs.{more_fit}
 use Rattle.st_client.proofs.SoundLists.{one_of}
 use Rattle.st_client.proofs.SoundLocks.{lock_parts}
-use Rattle.st_client.proofs.SoundMessages.{Fit, FitIn, FitSession, asking_header, between_is, held_sound, in_between, locks_sound, positive_is, puts_fit, sends_fit}
+use Rattle.st_client.proofs.SoundMessages.{Fit, FitIn, FitSession, asking_header, between_is, held_sound, in_between, locks_sound, positive_is, puts_fit}
+use Rattle.st_client.proofs.SoundMessages.{sends_fit}
 use Rattle.st_client.specs.Invariants.{is_asking, is_sound_asked, is_sound_operation, is_sound_release}
-use Rattle.st_lemmas.proofs.Tables.{and_true, and_both, cond_either}
-use Rattle.st_messages.specs.declared.ask.Ask.{Ask}
-use Rattle.st_messages.specs.declared.ask.Ask.TheVariants as asks
-use Rattle.st_messages.specs.declared.message.Body.{Body}
-use Rattle.st_messages.specs.declared.message.Body.TheVariants as bodies
-use Rattle.st_messages.specs.Ranges.{has_length, is_ask, is_body, is_count, is_file, is_grant, is_ino, is_mode, is_name_ask, is_name_op, is_page, is_whole_page, is_word32}
-use Rattle.st_messages.specs.Kinds.{between}
-use Rattle.st_rules.specs.declared.client.HeldLock.{HeldLock}
-use Rattle.st_rules.specs.declared.client.Operation.{Operation}
-use Rattle.st_rules.specs.declared.client.Release.{Release}
-use Rattle.st_rules.specs.declared.client.Request.{Request}
-use Rattle.st_rules.specs.ClientLease as lease
-use Rattle.st_rules.specs.ClientLocks as locks
-use Rattle.st_rules.specs.ClientPages as pages
-use Rattle.st_rules.specs.ClientPasses as passes
-use Rattle.st_rules.specs.ClientPasses.{Asking, Wanted, ask, ask_again, repeat, keep_alive, name_op, need, want_lock, want_map, want_block, want_cut, want_held, want_under, want_by, want_on, want_name, want_at, want, asked_by, asks_or, first_asking, ask_for, ask_for_or, ask_next, ask_release, ask_by, reassert, ask_new, requests_at, requests_under, requests_by, requests}
-use Rattle.st_rules.specs.ClientState.{ClientSession, Turn, asking, file_of, is_serving, meant, with_operations, with_session, with_store}
-use Rattle.st_rules.specs.Keys.{page_no}
 
 -- What is asked.
 

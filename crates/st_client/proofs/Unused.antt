@@ -1,41 +1,30 @@
 -- Nothing of a server whose lease is over goes out of a client's step.
-use Rattle.std.proofs.Common.{◌≡◌, ℕ, Bool, true, false, ◌||◌, ◌==◌, not, List, [], ◌∷◌, ◌++◌, Option, Some, None, refl, sym, ap, ◌∙◌, inl, inr, if◌then◌else◌, arith}
-use Rattle.std.specs.Prelude.{filter, is_some, ⊤}
-use Rattle.std.specs.List.{list_all, list_any}
-use Rattle.std.proofs.lemmas.Bool.{eq-eqb, eqb-false, eqb-true, ne_eqb}
-use Rattle.st_base.specs.declared.config.Config.{Config}
-use Rattle.st_base.specs.declared.disk.BlockAt.{BlockAt}
-use Rattle.st_base.specs.declared.ids.FileId.{FileId}
-use Rattle.st_base.specs.declared.ids.ServerId.{ServerId}
-use Rattle.st_base.specs.declared.ids.Stamp.{Stamp}
-use Rattle.st_client.proofs.ExpiredAssociations.{Begun, FineBody, Stands, Usable, g_receive, is_fine, is_placed, is_row_placed, lies, s_passes, w_finish, w_take}
+use Rattle.st_lemmas.proofs.Words
+use Words.{◌≡◌, ℕ, Bool, true, false, ◌||◌, ◌==◌, not, List, [], ◌∷◌, ◌++◌, Option, Some, None, refl, sym, ap, ◌∙◌, inl, inr, if◌then◌else◌, arith, filter}
+use Words.{is_some, ⊤, list_all, list_any, eq-eqb, eqb-false, eqb-true, ne_eqb, Config, BlockAt, FileId, ServerId, Stamp, AppAnswer, Ask, Body, Message, Output}
+use Words.{ClientInput, KnownExtent, MappedBlock, Operation}
+use Words.Lists.{Has}
+use Words.Tables.{all_pass, and_both, and_true, some_passes}
+use Words.answers
+use Words.asks
+use Words.bodies
+use Words.notes
+use Words.outputs
+use Words.inputs.{Tick, App, Control, Done}
+use Words.Client as cl
+use Words.Client.{client_step}
+use Words.ClientPages as pages
+use Words.ClientPasses as cp
+use Words.ClientReplies as cr
+use Words.ClientState as cs
+use Words.ClientState.{Association, ClientSession, ClientState, ClientTurn, Turn, at_each, at_these, client_turn, enter, is_at, leave, only_at, server_of}
+use Words.ClientState.{with_associations}
+use Words.Keys.{same_block, same_server, server_node}
+use Rattle.st_client.proofs.ExpiredAssociations.{Begun, FineBody, Stands, Usable, begins_usable_after_receive, is_fine, is_placed, is_row_placed, lies, usable_after_passes, stands_after_finish}
+use Rattle.st_client.proofs.ExpiredAssociations.{stands_after_take}
 use Rattle.st_client.proofs.SoundLists.{all_filter, all_last, one_of}
-use Rattle.st_client.specs.Losses.{IsOver, coming, comes_at, is_block_elsewhere, is_elsewhere, is_ended, is_known_at, is_other_operation, is_over_at, is_row_at, knows_at, tells_at}
-use Rattle.st_lemmas.specs.Lists.{Has}
-use Rattle.st_lemmas.proofs.Tables.{all_pass, and_both, and_true, some_passes}
-use Rattle.st_messages.specs.declared.answer.AppAnswer.{AppAnswer}
-use Rattle.st_messages.specs.declared.answer.AppAnswer.TheVariants as answers
-use Rattle.st_messages.specs.declared.ask.Ask.{Ask}
-use Rattle.st_messages.specs.declared.ask.Ask.TheVariants as asks
-use Rattle.st_messages.specs.declared.message.Body.{Body}
-use Rattle.st_messages.specs.declared.message.Body.TheVariants as bodies
-use Rattle.st_messages.specs.declared.message.Message.{Message}
-use Rattle.st_messages.specs.declared.output.Note.TheVariants as notes
-use Rattle.st_messages.specs.declared.output.Output.{Output}
-use Rattle.st_messages.specs.declared.output.Output.TheVariants as outputs
-use Rattle.st_rules.specs.declared.client.ClientInput.{ClientInput}
-use Rattle.st_rules.specs.declared.client.ClientInput.TheVariants.{Tick, App, Control, Done}
-use Rattle.st_rules.specs.declared.client.KnownExtent.{KnownExtent}
-use Rattle.st_rules.specs.declared.client.MappedBlock.{MappedBlock}
-use Rattle.st_rules.specs.declared.client.Operation.{Operation}
-use Rattle.st_rules.specs.Client as cl
-use Rattle.st_rules.specs.Client.{client_step}
-use Rattle.st_rules.specs.ClientPages as pages
-use Rattle.st_rules.specs.ClientPasses as cp
-use Rattle.st_rules.specs.ClientReplies as cr
-use Rattle.st_rules.specs.ClientState as cs
-use Rattle.st_rules.specs.ClientState.{Association, ClientSession, ClientState, ClientTurn, Turn, at_each, at_these, client_turn, enter, is_at, leave, only_at, server_of, with_associations}
-use Rattle.st_rules.specs.Keys.{same_block, same_server, server_node}
+use Rattle.st_client.specs.Losses.{IsOver, coming, comes_at, is_block_elsewhere, is_elsewhere, is_ended, is_known_at, is_other_operation, is_over_at, is_row_at}
+use Rattle.st_client.specs.Losses.{knows_at, tells_at}
 
 -- Members.
 
@@ -95,7 +84,8 @@ module _ (v : ServerId) (known : BlockAt → Bool) (os : List Operation) where
     these_hold [] t c p h = h
     these_hold (x ∷ xs) t c p h =
         let u = one (enter t x) c p.0 (h.operations, h.out) in
-        these_hold xs (leave t (f (enter t x))) c p.1 (record { each = each_last Q t.state.associations (f (enter t x)).here h.each u.0; operations = u.1.0; out = u.1.1 })
+        these_hold xs (leave t (f (enter t x))) c p.1
+        (record { each = each_last Q t.state.associations (f (enter t x)).here h.each u.0; operations = u.1.0; out = u.1.1 })
 
     each_holds : (t : ClientTurn) → t.state.config ≡ k → Holds P t → Holds Q (at_each f t)
     unfolding at_each
@@ -113,7 +103,8 @@ module _ (v : ServerId) (known : BlockAt → Bool) (os : List Operation) where
   end_sync_fine : (t : Turn) (o : Operation) (f : FileId) → Fine t → Fine (cl.end_sync t o f)
   unfolding cl.end_sync cl.tell_lost
   end_sync_fine t o f w =
-      one_of Fine (pages.has_lost t.here.lost f.ino) (cl.tell_lost t o.op f.ino) _ (says_fine t (outputs.Answer o.op (answers.Lost (pages.told_rows t.here.lost f.ino))) refl w)
+      one_of Fine (pages.has_lost t.here.lost f.ino) (cl.tell_lost t o.op f.ino) _
+      (says_fine t (outputs.Answer o.op (answers.Lost (pages.told_rows t.here.lost f.ino))) refl w)
       (says_fine t (outputs.Answer o.op answers.Quiesced) refl w)
 
   end_unsent_fine : (t : Turn) (o : Operation) (a : Ask) → Fine t → Fine (cl.end_unsent t o a)
@@ -126,7 +117,8 @@ module _ (v : ServerId) (known : BlockAt → Bool) (os : List Operation) where
   ends_fine s [] t w = w
   ends_fine s (o ∷ xs) t w =
       ends_fine s xs (cl.end_operation t s o)
-      (one_of Fine (cs.is_sent o) _ (cl.end_unsent t o o.ask) (says_fine t (outputs.Answer o.op (answers.Uncertain s.epoch.0 0)) refl w) (end_unsent_fine t o o.ask w))
+      (one_of Fine (cs.is_sent o) _ (cl.end_unsent t o o.ask) (says_fine t (outputs.Answer o.op (answers.Uncertain s.epoch.0 0)) refl w)
+      (end_unsent_fine t o o.ask w))
 
   lost_fine : (t : Turn) (s : ClientSession) → Fine t → Fine (cl.lose_session t s)
   unfolding cl.lose_session cl.end_operations
@@ -136,7 +128,8 @@ module _ (v : ServerId) (known : BlockAt → Bool) (os : List Operation) where
       ends_fine s (filter (cs.is_of u.here.server) u.operations) (cs.with_operations (filter (λ o. not (cs.is_of u.here.server o)) u.operations) u)
       (all_filter (is_fine v known os) (λ o. not (cs.is_of u.here.server o)) t.operations w.0, r.1)
 
-  lose_holds : (k : Config) (now : Stamp) (t : Turn) → t.config ≡ k → Before k now t.here → Fine t → At (Begun v known os) (cl.lose now t).here × Fine (cl.lose now t)
+  lose_holds : (k : Config) (now : Stamp) (t : Turn) → t.config ≡ k → Before k now t.here → Fine t →
+      At (Begun v known os) (cl.lose now t).here × Fine (cl.lose now t)
   unfolding cl.lose cl.lose_by cl.lose_over cl.lose_session
   lose_holds k now t c b w = by t.here.session refl
     where
@@ -147,12 +140,14 @@ module _ (v : ServerId) (known : BlockAt → Bool) (os : List Operation) where
       by None e = other (left_of (is_at v t.here) (is_ended k now t.here.session) (ap (is_ended k now) e) b.0)
       by (Some s) e = go (cl.is_over t s now) refl
         where
-          go : (z : Bool) → cl.is_over t s now ≡ z → At (Begun v known os) (if z then cl.lose_session t s else t).here × Fine (if z then cl.lose_session t s else t)
+          go : (z : Bool) → cl.is_over t s now ≡ z → At (Begun v known os) (if z then cl.lose_session t s else t).here ×
+              Fine (if z then cl.lose_session t s else t)
           go true q = ((refl, λ n. absurd (no n)), lost_fine t s w)
             where
               no : false ≡ true → ⊥
               no n = cc
-          go false q = other (left_of (is_at v t.here) (is_ended k now t.here.session) (ap (is_ended k now) e ∙ ap (λ y. is_ended y now (Some s)) (sym c) ∙ q) b.0)
+          go false q =
+              other (left_of (is_at v t.here) (is_ended k now t.here.session) (ap (is_ended k now) e ∙ ap (λ y. is_ended y now (Some s)) (sym c) ∙ q) b.0)
 
   -- The input and the passes.
 
@@ -162,10 +157,12 @@ module _ (v : ServerId) (known : BlockAt → Bool) (os : List Operation) where
   abbrev S : ServerId → Option ClientSession → Option Stamp → Type 0
   S s o g = Usable v known os s o g
 
-  at_once : (C : Association → Type 0) (t : ClientTurn) (op : ℕ) (a : AppAnswer) → is_elsewhere v known os (outputs.Answer op a) ≡ true → Holds C t → Holds C (cl.answered_at_once t op a)
+  at_once : (C : Association → Type 0) (t : ClientTurn) (op : ℕ) (a : AppAnswer) → is_elsewhere v known os (outputs.Answer op a) ≡ true → Holds C t →
+      Holds C (cl.answered_at_once t op a)
   at_once C t op a e h = record { each = h.each; operations = h.operations; out = all_last (is_elsewhere v known os) t.out (outputs.Answer op a) h.out e }
 
-  by_stands : (C D : ServerId → Option ClientSession → Option Stamp → Type 0) (f : Turn → Turn) → ((t : Turn) → Stands v known os C t → Stands v known os D (f t)) →
+  by_stands : (C D : ServerId → Option ClientSession → Option Stamp → Type 0) (f : Turn → Turn) →
+      ((t : Turn) → Stands v known os C t → Stands v known os D (f t)) →
       (t : Turn) → At C t.here → Fine t → At D (f t).here × Fine (f t)
   by_stands C D f one t a w =
       let r = one t (record { placed = a.0; operations = w.0; out = w.1; cond = a.1 }) in
@@ -190,27 +187,33 @@ module _ (v : ServerId) (known : BlockAt → Bool) (os : List Operation) where
   input_holds t now Tick e h = usable_all t h
   input_holds t now (App op ask) e h =
       usable_all (cl.app t op ask)
-      (one_of (Holds (At G)) (cl.is_full t.state) (cl.answered_at_once t op answers.OpsFull) (cl.app_known t op ask) (at_once (At G) t op answers.OpsFull refl h)
-      (one_of (Holds (At G)) (cl.is_configured t.state (server_of ask)) (at_each (only_at (server_of ask) (cl.take_ask op ask)) t) (cl.answered_at_once t op answers.NoFile)
+      (one_of (Holds (At G)) (cl.is_full t.state) (cl.answered_at_once t op answers.OpsFull) (cl.app_known t op ask)
+      (at_once (At G) t op answers.OpsFull refl h)
+      (one_of (Holds (At G)) (cl.is_configured t.state (server_of ask)) (at_each (only_at (server_of ask) (cl.take_ask op ask)) t)
+      (cl.answered_at_once t op answers.NoFile)
       (each_holds t.state.config (At G) (At G) (only_at (server_of ask) (cl.take_ask op ask))
-      (λ u c a w. by_stands G G (only_at (server_of ask) (cl.take_ask op ask)) (w_take v known os G (server_of ask) op ask e) u a w) t refl h)
+      (λ u c a w. by_stands G G (only_at (server_of ask) (cl.take_ask op ask)) (stands_after_take v known os G (server_of ask) op ask e) u a w) t refl h)
       (at_once (At G) t op answers.NoFile refl h)))
   input_holds t now (Control m) e h =
       one_of (Holds (At S)) (m.header.to == t.state.id.0) (at_each (cr.receive_at now m.header m.body) t) t
-      (each_holds t.state.config (At G) (At S) (cr.receive_at now m.header m.body) (λ u c a w. by_stands G S (cr.receive_at now m.header m.body) (g_receive v known os now m.header m.body e) u a w) t refl h)
+      (each_holds t.state.config (At G) (At S) (cr.receive_at now m.header m.body)
+      (λ u c a w. by_stands G S (cr.receive_at now m.header m.body) (begins_usable_after_receive v known os now m.header m.body e) u a w) t refl h)
       (usable_all t h)
   input_holds t now (Done number result) e h =
       usable_all (cl.done t number result)
-      (each_holds t.state.config (At G) (At G) (cl.finish number result) (λ u c a w. by_stands G G (cl.finish number result) (w_finish v known os G number result) u a w) t refl h)
+      (each_holds t.state.config (At G) (At G) (cl.finish number result)
+      (λ u c a w. by_stands G G (cl.finish number result) (stands_after_finish v known os G number result) u a w) t refl h)
 
-  step_holds : (c : ClientState) (now : Stamp) (input : ClientInput) → Comes input → Holds (Before c.config now) (client_turn c []) → Holds (At S) (client_step c now input)
+  step_holds : (c : ClientState) (now : Stamp) (input : ClientInput) → Comes input → Holds (Before c.config now) (client_turn c []) →
+      Holds (At S) (client_step c now input)
   unfolding client_step cl.work cl.losses
   step_holds c now input e h =
       let t = at_each (cl.lose now) (client_turn c []) in
       let a : Holds (At G) t = each_holds c.config (Before c.config now) (At G) (cl.lose now) (lose_holds c.config now) (client_turn c []) refl h in
       let u = cl.take_input t now input in
       each_holds u.state.config (At S) (At S) (cp.passes now (cl.is_tick input))
-      (λ x k b w. by_stands S S (cp.passes now (cl.is_tick input)) (s_passes v known os now (cl.is_tick input)) x b w) u refl (input_holds t now input e a)
+      (λ x k b w. by_stands S S (cp.passes now (cl.is_tick input)) (usable_after_passes v known os now (cl.is_tick input)) x b w) u refl
+      (input_holds t now input e a)
 
 -- The step begins: what is known elsewhere, and which operations are pending.
 
@@ -243,7 +246,8 @@ module _ (v : ServerId) (c : ClientState) (input : ClientInput) where
       or_else (cs.is_of v o) (list_any (is_other_operation v o.op) pending)
       (λ q. some_passes (is_other_operation v o.op) pending o i (and_both (o.op == o.op) (not (cs.is_of v o)) (same_self o.op) (ap not q)))
 
-  fine_rows : (m : Message) → input ≡ Control m → (s : ServerId) → (m.header.from == server_node s) ≡ true → same_server s v ≡ false → FineBody v Known pending m.body
+  fine_rows : (m : Message) → input ≡ Control m → (s : ServerId) → (m.header.from == server_node s) ≡ true → same_server s v ≡ false →
+      FineBody v Known pending m.body
   fine_rows m i s f n = by m.body refl
     where
       from : (m.header.from == server_node v) ≡ false
@@ -267,7 +271,8 @@ module _ (v : ServerId) (c : ClientState) (input : ClientInput) where
   comes (Control m) e = fine_rows m e
   comes (Done number result) e = tt
 
-  before_each : (now : Stamp) → IsOver v c now → (xs : List Association) → ((a : Association) → Has a xs → Has a c.associations) → list_all (is_over_at v c.config now) xs ≡ true →
+  before_each : (now : Stamp) → IsOver v c now → (xs : List Association) → ((a : Association) → Has a xs → Has a c.associations) →
+      list_all (is_over_at v c.config now) xs ≡ true →
       Each (Before v Known pending c.config now) xs
   before_each now over [] i h = tt
   before_each now over (a ∷ xs) i h =

@@ -1,16 +1,10 @@
 -- Commands that end: which they are, and what stays.
-use Rattle.std.proofs.Common.{◌≡◌, ℕ, Bool, true, not, List, Option, Some, None, refl, sym, ap}
-use Rattle.std.specs.Prelude.{option_map, unwrap_or}
-use Rattle.std.specs.List.{list_all}
-use Rattle.std.proofs.lemmas.Bool.{eqb-true}
-use Rattle.st_base.specs.declared.ids.PageNo.{PageNo}
+use Rattle.st_lemmas.proofs.Words
+use Words.{◌≡◌, ℕ, Bool, true, not, List, Option, Some, None, refl, sym, ap, option_map, unwrap_or, list_all, eqb-true, PageNo, IoKind, PageCommand, DirtyPage}
+use Words.Tables.{found_at}
+use Words.ClientInvariants.{is_below}
+use Words.ClientPages.{Pages, command_of, dirty_of, end_at, end_command, fail, fill, harden, harden_at, harden_page, is_numbered}
 use Rattle.st_flush.specs.Calls.{told}
-use Rattle.st_lemmas.proofs.Tables.{found_at}
-use Rattle.st_rules.specs.ClientInvariants.{is_below}
-use Rattle.st_rules.specs.ClientPages.{Pages, command_of, dirty_of, end_at, end_command, fail, fill, harden, harden_at, harden_page, is_numbered}
-use Rattle.st_rules.specs.declared.client.IoKind.{IoKind}
-use Rattle.st_rules.specs.declared.client.PageCommand.{PageCommand}
-use Rattle.st_rules.specs.declared.pages.DirtyPage.{DirtyPage}
 use Rattle.st_client_association.proofs.TurnInvariants.{below_fewer}
 
 -- the command that is told

@@ -1,11 +1,9 @@
 -- Whether anything is in a list.
-use Rattle.std.proofs.Common.{◌≡◌, ℕ, List, [], ◌∷◌, if◌then◌else◌, length, map, refl, sym, arith}
-use Rattle.std.specs.Prelude.{◌==◌, Bool, true, false, is_some, nat_lt, slice_get}
-use Rattle.std.proofs.lemmas.Bool.{lt-ltb}
-use Rattle.st_rules.specs.declared.client.DemandedFile.{DemandedFile}
-use Rattle.st_rules.specs.Client.{is_any}
-use Rattle.st_rules.specs.ClientLocks.{ino_of_demand}
-use Rattle.st_rules.specs.Keys.{past, placed, rising, with_key}
+use Rattle.st_lemmas.proofs.Words
+use Words.{◌≡◌, ℕ, List, [], ◌∷◌, if◌then◌else◌, length, map, refl, sym, arith, ◌==◌, Bool, true, false, is_some, nat_lt, slice_get, lt-ltb, DemandedFile}
+use Words.Client.{is_any}
+use Words.ClientLocks.{ino_of_demand}
+use Words.Keys.{past, placed, rising, with_key}
 
 pub any_is : {A : Type 0} (xs : List A) → nat_lt 0 (length xs) ≡ is_any xs
 any_is [] = refl

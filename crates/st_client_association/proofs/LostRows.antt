@@ -1,10 +1,7 @@
 -- Dirty pages join the lost ones, one after another.
-use Rattle.std.proofs.Common.{◌≡◌, ℕ, zero, suc, ◌+◌, List, [], ◌∷◌, ◌++◌, take, refl, sym, ap, ◌∙◌, arith}
-use Rattle.std.specs.Prelude.{Some, slice_get}
-use Rattle.st_rules.specs.declared.client.LostPage.{LostPage}
-use Rattle.st_rules.specs.declared.client.PageCommand.{PageCommand}
-use Rattle.st_rules.specs.declared.pages.DirtyPage.{DirtyPage}
-use Rattle.st_rules.specs.ClientPages.{lost_page, with_lost, with_lost_pages}
+use Rattle.st_lemmas.proofs.Words
+use Words.{◌≡◌, ℕ, zero, suc, ◌+◌, List, [], ◌∷◌, ◌++◌, take, refl, sym, ap, ◌∙◌, arith, Some, slice_get, LostPage, PageCommand, DirtyPage}
+use Words.ClientPages.{lost_page, with_lost, with_lost_pages}
 
 lost_last : (cs : List PageCommand) (ds : List DirtyPage) (d : DirtyPage) (lost : List LostPage) → with_lost_pages cs (ds ++ d ∷ []) lost ≡ with_lost (lost_page cs d) (with_lost_pages cs ds lost)
 unfolding with_lost_pages

@@ -1,11 +1,8 @@
 -- What a read of a page leaves.
-use Rattle.std.proofs.Common.{◌≡◌, ℕ, List, refl, sym, ap, ◌∙◌}
-use Rattle.std.specs.Prelude.{Option, Some, None, option_map, Result, Ok, Err, IfOk}
-use Rattle.st_base.specs.declared.ids.PageNo.{PageNo}
-use Rattle.st_rules.specs.declared.client.CleanPage.{CleanPage}
-use Rattle.st_rules.specs.declared.pages.DirtyPage.{DirtyPage}
-use Rattle.st_rules.specs.ClientPages.{Pages, bytes_of_clean, cached, cached_at, clean_of, dirty_of, use_at, use_clean, use_page}
-use Rattle.st_rules.specs.ClientState.{Turn}
+use Rattle.st_lemmas.proofs.Words
+use Words.{◌≡◌, ℕ, List, refl, sym, ap, ◌∙◌, Option, Some, None, option_map, Result, Ok, Err, IfOk, PageNo, CleanPage, DirtyPage}
+use Words.ClientPages.{Pages, bytes_of_clean, cached, cached_at, clean_of, dirty_of, use_at, use_clean, use_page}
+use Words.ClientState.{Turn}
 use Rattle.st_client_association.specs.Turns.{Reads, with_pages}
 
 -- a page that is neither dirty nor clean is not used

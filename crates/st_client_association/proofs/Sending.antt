@@ -1,20 +1,14 @@
 -- The outstanding request is sent once more; and the page of a dirty page that is found.
-use Rattle.std.proofs.Common.{◌≡◌, ℕ, Bool, true, false, List, sym, ap, ◌∙◌}
-use Rattle.std.specs.Prelude.{Option, Some, None, find, if◌then◌else◌}
-use Rattle.st_base.specs.declared.ids.PageNo.{PageNo}
-use Rattle.st_base.specs.declared.ids.Stamp.{Stamp}
+use Rattle.st_lemmas.proofs.Words
+use Words.{◌≡◌, ℕ, Bool, true, false, List, sym, ap, ◌∙◌, Option, Some, None, find, if◌then◌else◌, PageNo, Stamp, Header, Message, Request, DirtyPage}
+use Words.Tables.{found_at}
+use Words.outputs
+use Words.Keys.{server_node}
+use Words.ClientPages.{is_dirty_of}
+use Words.ClientPasses as passes
+use Words.ClientState.{Turn, header_of, is_again_due, say, send, with_session}
 use Rattle.st_client_session.specs.Sessions.{Again, Parties, ServerSession}
 use Rattle.st_lemmas.proofs.Contents.{one_place}
-use Rattle.st_lemmas.proofs.Tables.{found_at}
-use Rattle.st_messages.specs.declared.message.Header.{Header}
-use Rattle.st_messages.specs.declared.message.Message.{Message}
-use Rattle.st_messages.specs.declared.output.Output.TheVariants as outputs
-use Rattle.st_rules.specs.declared.client.Request.{Request}
-use Rattle.st_rules.specs.declared.pages.DirtyPage.{DirtyPage}
-use Rattle.st_rules.specs.Keys.{server_node}
-use Rattle.st_rules.specs.ClientPages.{is_dirty_of}
-use Rattle.st_rules.specs.ClientPasses as passes
-use Rattle.st_rules.specs.ClientState.{Turn, header_of, is_again_due, say, send, with_session}
 use Rattle.st_client_association.specs.Turns.{SendsAgain, parties_of}
 
 pub sends_again : (t : Turn) (s new : ServerSession) (m : Option Message) (now : Stamp) (o : Option Request) → s.of ≡ parties_of t.id t.here.server t.here.life t.config →

@@ -1,26 +1,15 @@
 -- The invariant of a step at a server holds after its changes.
-use Rattle.std.proofs.Common.{◌≡◌, ℕ, ◌⊎◌, ◌+◌, ◌<◌, ◌≤◌, Bool, true, false, List, [], ◌∷◌, ◌++◌, refl, sym, ap, ◌∙◌, subst, inl, inr, arith}
-use Rattle.std.specs.Prelude.{Option, Some, None, filter, Result, Ok, Err, if◌then◌else◌, not}
-use Rattle.std.specs.List.{list_all}
-use Rattle.std.proofs.lemmas.Bool.{ltb-true, lt-ltb}
-use Rattle.st_base.specs.declared.config.Config.{Config}
-use Rattle.st_base.specs.declared.ids.ClientId.{ClientId}
-use Rattle.st_base.specs.declared.ids.ServerId.{ServerId}
-use Rattle.st_base.specs.declared.ids.Life.{Life}
-use Rattle.st_base.specs.declared.ids.PageNo.{PageNo}
+use Rattle.st_lemmas.proofs.Words
+use Words.{◌≡◌, ℕ, ◌⊎◌, ◌+◌, ◌<◌, ◌≤◌, Bool, true, false, List, [], ◌∷◌, ◌++◌, refl, sym, ap, ◌∙◌, subst, inl, inr, arith, Option, Some, None, filter, Result}
+use Words.{Ok, Err, if◌then◌else◌, not, list_all, ltb-true, lt-ltb, Config, ClientId, ServerId, Life, PageNo, Output, CleanPage, IoKind, PageCommand}
+use Words.{WriteRefusal, DirtyPage}
+use Words.Lists.{Has}
+use Words.Numbers.{length_more}
+use Words.Tables.{all_pass, each_passes, has_append, has_filter}
+use Words.ClientInvariants.{is_below}
+use Words.ClientPages.{Pages, begin_command, clean_of, dirty_of, is_full_for, page_command, use_at, use_clean, use_page, write, written}
+use Words.writing
 use Rattle.st_client_session.specs.Sessions.{ServerSession}
-use Rattle.st_lemmas.specs.Lists.{Has}
-use Rattle.st_lemmas.proofs.Numbers.{length_more}
-use Rattle.st_lemmas.proofs.Tables.{all_pass, each_passes, has_append, has_filter}
-use Rattle.st_messages.specs.declared.output.Output.{Output}
-use Rattle.st_rules.specs.ClientInvariants.{is_below}
-use Rattle.st_rules.specs.ClientPages.{Pages, begin_command, clean_of, command_of, dirty_of, end_at, end_command, harden, harden_at, harden_page, is_full_for, is_numbered, page_command, use_at, use_clean, use_page, write, written}
-use Rattle.st_rules.specs.declared.client.CleanPage.{CleanPage}
-use Rattle.st_rules.specs.declared.client.IoKind.{IoKind}
-use Rattle.st_rules.specs.declared.client.PageCommand.{PageCommand}
-use Rattle.st_rules.specs.declared.client.WriteRefusal.{WriteRefusal}
-use Rattle.st_rules.specs.declared.client.WriteRefusal.TheVariants as writing
-use Rattle.st_rules.specs.declared.pages.DirtyPage.{DirtyPage}
 use Rattle.st_client_store.specs.Stores.{ServerStore}
 use Rattle.st_client_association.specs.Turns.{IsTurn, most_of}
 use Rattle.st_client_association.specs.declared.association.AssociationParts.{AssociationParts}

@@ -1,7 +1,7 @@
 // The pending operations.
 ghost use Rattle.std.specs.Prelude.{◌≡◌, [], true, IfOk, OnOk, filter, not};
 ghost use Rattle.st_messages.specs.Ranges.{is_ask};
-ghost use Rattle.st_operations.specs.PendingOperations.{is_fit, marked};
+ghost use Rattle.st_operations.specs.PendingOperations.{marked};
 ghost use Rattle.st_rules.specs.ClientReplies as replies;
 ghost use Rattle.st_rules.specs.ClientState as client;
 
@@ -50,14 +50,6 @@ impl Turn {
         ensures { OnOk result (self.new ≡ client.keep (client.new_operation op ask) self.old) }
     {
         self.operations.push(op, ask)
-    }
-
-    /// An operation stays pending, after the others.
-    pub fn keep(&mut self, operation: Operation) -> Result<(), AllocError>
-        requires { is_fit operation ≡ true }
-        ensures { OnOk result (self.new ≡ client.keep operation self.old) }
-    {
-        self.operations.keep(operation)
     }
 
     /// The request of the operation at a place was sent.

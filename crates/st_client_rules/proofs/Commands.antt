@@ -1,22 +1,18 @@
 -- A command that ends: its page is not dirty where it read, and has no other command.
-use Rattle.std.proofs.Common.{◌≡◌, ℕ, Bool, true, false, ◌&&◌, ◌==◌, not, List, Option, Some, None, refl, sym, ap, ◌∙◌, arith}
-use Rattle.std.specs.Prelude.{find, is_some, if◌then◌else◌}
-use Rattle.std.proofs.lemmas.Bool.{and_from, and_parts, eq-eqb, eqb-true}
+use Rattle.st_lemmas.proofs.Words
+use Words.{◌≡◌, ℕ, Bool, true, false, ◌&&◌, ◌==◌, not, List, Option, Some, None, refl, sym, ap, ◌∙◌, arith, find, is_some, if◌then◌else◌, and_from, and_parts}
+use Words.{eq-eqb, eqb-true, IoKind, PageCommand, DirtyPage, ServerId}
+use Words.Tables.{each_passes, find_gone_in, found_at}
+use Words.Keys.{same_page}
+use Words.ClientInvariants.{same_page_command}
+use Words.ClientPages.{command_of, command_on, done_as, end_at, end_command, ended_as, is_command_of, is_dirty_of, is_numbered, is_write, without_command}
+use Words.ends
+use Words.io.{Read, Write}
+use Words.answers
+use Words.Client.{failed_as, is_present, mark_failed, with_failed}
+use Words.ClientState.{Turn, answer_each, is_on, is_sync, reads_page}
 use Rattle.st_flush.specs.Calls.{AreApart}
 use Rattle.st_lemmas.proofs.Once.{found_once}
-use Rattle.st_lemmas.proofs.Tables.{each_passes, find_gone_in, found_at}
-use Rattle.st_rules.specs.Keys.{same_page}
-use Rattle.st_rules.specs.ClientInvariants.{same_page_command}
-use Rattle.st_rules.specs.ClientPages.{command_of, command_on, done_as, end_at, end_command, ended_as, is_command_of, is_dirty_of, is_numbered, is_write, without_command}
-use Rattle.st_rules.specs.declared.client.Ended.TheVariants as ends
-use Rattle.st_rules.specs.declared.client.IoKind.{IoKind}
-use Rattle.st_rules.specs.declared.client.IoKind.TheVariants.{Read, Write}
-use Rattle.st_rules.specs.declared.client.PageCommand.{PageCommand}
-use Rattle.st_rules.specs.declared.pages.DirtyPage.{DirtyPage}
-use Rattle.st_base.specs.declared.ids.ServerId.{ServerId}
-use Rattle.st_messages.specs.declared.answer.AppAnswer.TheVariants as answers
-use Rattle.st_rules.specs.Client.{failed_as, is_present, mark_failed, with_failed}
-use Rattle.st_rules.specs.ClientState.{Turn, answer_each, is_on, is_sync, reads_page}
 use Rattle.st_client_store.specs.Stores.{AreMatched, agree, is_matched}
 
 same_flip : (a b : ℕ) → (a == b) ≡ (b == a)

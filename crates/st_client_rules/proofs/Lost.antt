@@ -1,15 +1,13 @@
 -- Operations are answered before or after the rest is emptied: what is left is the same.
-use Rattle.std.proofs.Common.{◌≡◌, ℕ, Bool, true, false, List, [], ◌∷◌, refl, ap, ◌∙◌}
-use Rattle.std.specs.Prelude.{if◌then◌else◌, filter, not, Some, None}
-use Rattle.st_base.specs.declared.ids.FileId.{FileId}
-use Rattle.st_messages.specs.declared.answer.AppAnswer.TheVariants as answers
-use Rattle.st_messages.specs.declared.ask.Ask.{Ask}
-use Rattle.st_messages.specs.declared.ask.Ask.TheVariants as asks
-use Rattle.st_messages.specs.declared.output.Note.TheVariants as notes
-use Rattle.st_rules.specs.declared.client.Operation.{Operation}
-use Rattle.st_rules.specs.Client.{empty_here, end_each, end_operation, end_operations, end_sync, end_unsent, lose_session, enqueue, take_ask, take_by, take_sync, tell_lost, with_lost_pages}
-use Rattle.st_rules.specs.ClientPages.{has_lost}
-use Rattle.st_rules.specs.ClientState.{ClientSession, Turn, answered, is_of, is_sent, note, with_operations}
+use Rattle.st_lemmas.proofs.Words
+use Words.{◌≡◌, ℕ, Bool, true, false, List, [], ◌∷◌, refl, ap, ◌∙◌, if◌then◌else◌, filter, not, Some, None, FileId, Ask, Operation}
+use Words.answers
+use Words.asks
+use Words.notes
+use Words.Client.{empty_here, end_each, end_operation, end_operations, end_sync, end_unsent, lose_session, enqueue, take_ask, take_by, take_sync, tell_lost}
+use Words.Client.{with_lost_pages}
+use Words.ClientPages.{has_lost}
+use Words.ClientState.{ClientSession, Turn, answered, is_of, is_sent, note, with_operations}
 use Rattle.st_client_rules.specs.Inputs.{session_in, synced}
 
 sync_empty : (t : Turn) (o : Operation) (f : FileId) → end_sync (empty_here t) o f ≡ empty_here (end_sync t o f)

@@ -1,21 +1,14 @@
 -- Replies and demands: what the steps of the code leave is what the definitions say.
-use Rattle.std.proofs.Common.{◌≡◌, ℕ, Bool, true, false, refl, sym, ap, ◌∙◌}
-use Rattle.std.specs.Prelude.{Option, Some, None, is_some, option_map, unwrap_or, if◌then◌else◌, nat_le}
-use Rattle.st_base.specs.declared.ids.GrantNo.{GrantNo}
-use Rattle.st_base.specs.declared.ids.Stamp.{Stamp}
-use Rattle.st_base.specs.declared.mode.Mode.{Mode}
-use Rattle.st_messages.specs.declared.message.Body.{Body}
-use Rattle.st_messages.specs.declared.message.Header.{Header}
+use Rattle.st_lemmas.proofs.Words
+use Words.{◌≡◌, ℕ, Bool, true, false, refl, sym, ap, ◌∙◌, Option, Some, None, is_some, option_map, unwrap_or, if◌then◌else◌, nat_le, GrantNo, Stamp, Mode, Body}
+use Words.{Header, Asked, HeldLock, Request}
+use Words.ClientLease.{condemned, is_renewal, renewed}
+use Words.ClientLocks as locks
+use Words.ClientLocks.{LockCache}
+use Words.ClientReplies as replies
+use Words.ClientState.{ClientSession, Turn, file_asked, with_cache, with_lease, with_session, without_request}
 use Rattle.st_requests.specs.ServerRequests.{body_of}
-use Rattle.st_rules.specs.declared.client.Asked.{Asked}
 use Rattle.st_rules.specs.declared.client.Asked.TheVariants.{Reduce, NotHeld, Stale}
-use Rattle.st_rules.specs.declared.client.HeldLock.{HeldLock}
-use Rattle.st_rules.specs.declared.client.Request.{Request}
-use Rattle.st_rules.specs.ClientLease.{condemned, is_renewal, renewed}
-use Rattle.st_rules.specs.ClientLocks as locks
-use Rattle.st_rules.specs.ClientLocks.{Demanding, LockCache}
-use Rattle.st_rules.specs.ClientReplies as replies
-use Rattle.st_rules.specs.ClientState.{ClientSession, Turn, file_asked, with_cache, with_lease, with_session, without_request}
 use Rattle.st_client_association.specs.Turns.{has_session, session_of}
 use Rattle.st_client_rules.specs.Replies.{count_reply, counts, demanded, refuses, replied}
 

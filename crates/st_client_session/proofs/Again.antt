@@ -1,17 +1,11 @@
 -- The outstanding request is sent once more.
-use Rattle.std.proofs.Common.{◌≡◌, ℕ, Bool, true, false, refl, sym, ap, subst, ◌∙◌}
-use Rattle.std.specs.Prelude.{Option, Some, None, if◌then◌else◌}
-use Rattle.st_base.specs.declared.config.Config.{Config}
-use Rattle.st_base.specs.declared.ids.Epoch.{Epoch}
-use Rattle.st_base.specs.declared.ids.Life.{Life}
-use Rattle.st_base.specs.declared.ids.Stamp.{Stamp}
+use Rattle.st_lemmas.proofs.Words
+use Words.{◌≡◌, Bool, true, false, refl, sym, ap, subst, ◌∙◌, Option, Some, None, if◌then◌else◌, Epoch, Life, Stamp, Message, Request}
+use Words.ClientState.{ClientSession, asked_again, is_again_due}
 use Rattle.st_lease_client.specs.ServerLease.{ServerLease}
 use Rattle.st_lock_cache.specs.Calls.{ServerLocks}
-use Rattle.st_messages.specs.declared.message.Message.{Message}
 use Rattle.st_requests.specs.ServerRequests as shown
-use Rattle.st_requests.specs.ServerRequests.{ServerRequests, Under, again, again_if_due, again_of, leaves_again, not_again, sent_again}
-use Rattle.st_rules.specs.declared.client.Request.{Request}
-use Rattle.st_rules.specs.ClientState.{ClientSession, asked_again, is_again_due}
+use Rattle.st_requests.specs.ServerRequests.{ServerRequests, again, again_if_due, again_of, leaves_again, not_again, sent_again}
 use Rattle.st_client_session.specs.Sessions.{Again, IsSession, Parties, ServerSession, under_of}
 
 some_is : {x y : Message} → Some x ≡ Some y → x ≡ y

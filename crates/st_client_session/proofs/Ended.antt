@@ -1,15 +1,8 @@
 -- The outstanding request is ended by its own number.
-use Rattle.std.proofs.Common.{◌≡◌, ℕ, Bool, true, false, refl, sym, ap, ◌∙◌}
-use Rattle.std.specs.Prelude.{◌==◌, Option, Some, None, option_map, if◌then◌else◌}
-use Rattle.std.proofs.lemmas.Bool.{eq-eqb}
-use Rattle.st_base.specs.declared.ids.Epoch.{Epoch}
-use Rattle.st_base.specs.declared.ids.Life.{Life}
-use Rattle.st_messages.specs.declared.message.Body.{Body}
-use Rattle.st_requests.specs.declared.requests.Reply.{Reply}
+use Rattle.st_lemmas.proofs.Words
+use Words.{◌≡◌, ℕ, Bool, true, sym, ap, ◌∙◌, ◌==◌, Option, Some, None, option_map, if◌then◌else◌, eq-eqb, Body, Request}
 use Rattle.st_requests.specs.declared.requests.Reply.TheVariants.{Match, Other}
-use Rattle.st_requests.specs.ServerRequests.{Replied, ServerRequests, body_of, ended, leaves_reply, matched, not_matched, reply, reply_to, shown}
-use Rattle.st_rules.specs.declared.client.Request.{Request}
-use Rattle.st_client_session.specs.Sessions.{under_of}
+use Rattle.st_requests.specs.ServerRequests.{ServerRequests, body_of, ended, leaves_reply, matched, not_matched, reply, reply_to, shown}
 
 told_is : {t b : Body} → Match t ≡ Match b → t ≡ b
 told_is e = cc

@@ -1,17 +1,13 @@
 -- Leases that last: a lease that begins, that is renewed and that is condemned; and what a standing shows.
-use Rattle.std.proofs.Common.{◌≡◌, ℕ, ◌+◌, ◌<◌, ◌≤◌, Bool, true, false, refl, sym, ap, ◌∙◌, arith}
-use Rattle.std.specs.Prelude.{nat_le, nat_lt, not, ◌&&◌, ◌||◌, if◌then◌else◌}
-use Rattle.std.proofs.lemmas.Bool.{ltb-true}
-use Rattle.st_base.specs.declared.config.Config.{Config}
-use Rattle.st_base.specs.declared.ids.Stamp.{Stamp}
+use Rattle.st_lemmas.proofs.Words
+use Words.{◌≡◌, ℕ, ◌+◌, ◌<◌, ◌≤◌, Bool, true, false, refl, sym, ◌∙◌, arith, nat_le, nat_lt, not, ◌&&◌, ◌||◌, if◌then◌else◌, ltb-true, Config, Stamp}
+use Words.ClientLease.{ClientLease, condemned, dated, must_discard, new_lease, renewed, standing_by, standing_of}
+use Words.Leases.{phase, phase_living, phase_serving, phase_young}
+use Words.phases.{Valid, Renewal, Quiesce, Flush, Expired}
 use Rattle.st_lease_client.specs.declared.permits.SettledAt.{SettledAt}
-use Rattle.st_lease_client.specs.Standings.{at_of, kind_of, standing_as}
-use Rattle.st_rules.specs.ClientLease.{ClientLease, condemned, dated, may_renew, must_discard, new_lease, phase_of, renewed, standing_by, standing_of}
-use Rattle.st_rules.specs.Leases.{phase, phase_living, phase_serving, phase_young}
+use Rattle.st_lease_client.specs.Standings.{kind_of, standing_as}
 use Rattle.st_rules.specs.declared.client.StandingKind.{StandingKind}
 use Rattle.st_rules.specs.declared.client.StandingKind.TheVariants.{Idle, Serve, Hold, Drain, Lost}
-use Rattle.st_rules.specs.declared.lease.Phase.{Phase}
-use Rattle.st_rules.specs.declared.lease.Phase.TheVariants.{Valid, Renewal, Quiesce, Flush, Expired}
 
 pub kind_settled : (k : StandingKind) (at : SettledAt) → kind_of (standing_as k at) ≡ k
 kind_settled Idle at = refl

@@ -1,21 +1,18 @@
 -- Outstanding commands match the dirty pages after each change.
-use Rattle.std.proofs.Common.{◌≡◌, ℕ, ◌⊎◌, Bool, true, false, List, [], ◌∷◌, ◌++◌, refl, sym, ap, ◌∙◌, subst, inl, inr}
-use Rattle.std.specs.Prelude.{not, find, filter, map, ◌&&◌, Option, Some, None, is_some, option_map, Result, Ok, Err, if◌then◌else◌}
-use Rattle.st_base.specs.declared.ids.PageNo.{PageNo}
-use Rattle.st_lemmas.specs.Lists.{Has}
+use Rattle.st_lemmas.proofs.Words
+use Words.{◌≡◌, ℕ, ◌⊎◌, Bool, true, false, List, [], ◌∷◌, ◌++◌, refl, sym, ap, ◌∙◌, subst, inl, inr, not, find, filter, map, ◌&&◌, Option, Some, None, is_some}
+use Words.{option_map, Result, Ok, Err, if◌then◌else◌, PageNo, CleanPage, IoKind, PageCommand, WriteRefusal, DirtyPage}
+use Words.Lists.{Has}
+use Words.Tables.{and_true, not_true, all_pass, each_passes, has_filter, has_append, find_kept, find_map, found_at, none_has}
+use Words.Keys.{put}
+use Words.ClientPages.{Pages, begin_command, command_on, dirty_of, end_at, end_command, fail, fail_of, failed_by, forget_read, is_being_read, is_being_written}
+use Words.ClientPages.{is_write_of, harden, harden_at, harden_page, is_command_of, is_dirty_of, is_full_for, is_numbered, is_read_of, is_write, new_dirty}
+use Words.ClientPages.{page_command, use_at, use_clean, use_page, without_dirty, write, written, clean_of}
+use Words.writing
 use Rattle.st_lemmas.proofs.Contents.{Place_is, one_place, other_place}
 use Rattle.st_flush.proofs.Places.{no_command}
 use Rattle.st_lemmas.proofs.Once.{none_any}
-use Rattle.st_lemmas.proofs.Tables.{and_true, not_true, all_pass, each_passes, has_filter, has_append, find_kept, find_map, found_at, none_has}
 use Rattle.st_lemmas.proofs.Puts.{find_put_by, find_put_other}
-use Rattle.st_rules.specs.Keys.{put}
-use Rattle.st_rules.specs.ClientPages.{Pages, begin_command, command_on, dirty_of, end_at, end_command, fail, fail_of, failed_by, forget_read, is_being_read, is_being_written, is_write_of, harden, harden_at, harden_page, is_command_of, is_dirty_of, is_full_for, is_numbered, is_read_of, is_write, new_dirty, page_command, use_at, use_clean, use_page, without_command, without_dirty, write, written, clean_of}
-use Rattle.st_rules.specs.declared.client.CleanPage.{CleanPage}
-use Rattle.st_rules.specs.declared.client.IoKind.{IoKind}
-use Rattle.st_rules.specs.declared.client.PageCommand.{PageCommand}
-use Rattle.st_rules.specs.declared.client.WriteRefusal.{WriteRefusal}
-use Rattle.st_rules.specs.declared.client.WriteRefusal.TheVariants as writing
-use Rattle.st_rules.specs.declared.pages.DirtyPage.{DirtyPage}
 use Rattle.st_client_store.specs.Stores.{AreMatched, agree, is_matched}
 
 -- where a command of a page isn't a read of it

@@ -1,22 +1,19 @@
 -- In the flush phase the writes that go out page by page are those that go out at once.
-use Rattle.std.proofs.Common.{◌≡◌, ℕ, suc, ◌+◌, ◌<◌, Bool, true, false, ◌&&◌, ◌||◌, ◌==◌, not, cond, if◌then◌else◌, List, [], ◌∷◌, ◌++◌, map, length, Option, Some, None, refl, sym, ap, subst, ◌∙◌, arith, add-zero, append_assoc, append-nil}
-use Rattle.std.specs.Prelude.{find, filter, filter_map, flat_map}
-use Rattle.std.specs.List.{list_any, cons_option, AllByRecursion}
-use Rattle.std.proofs.lemmas.Bool.{eqb-true, ne_eqb, and_parts}
+use Rattle.st_lemmas.proofs.Words
+use Words.{◌≡◌, ℕ, suc, ◌+◌, ◌<◌, Bool, true, false, ◌&&◌, ◌||◌, ◌==◌, not, cond, if◌then◌else◌, List, [], ◌∷◌, ◌++◌, map, length, Option, Some, None, refl}
+use Words.{sym, ap, subst, ◌∙◌, arith, append_assoc, find, filter, filter_map, list_any, cons_option, AllByRecursion, eqb-true, ne_eqb, and_parts, PageNo}
+use Words.{Stamp, MappedBlock, PageCommand, DirtyPage}
+use Words.Keys.{page_no, same_page, rising}
+use Words.io.{Write}
+use Words.ClientLease.{may_drain, standing_of}
+use Words.ClientPages as pages
+use Words.ClientPages.{Pages, Store, begin_command, begin_writes, dirty_places, is_dirty_of, is_write_of, page_command}
+use Words.ClientPasses as passes
+use Words.ClientPasses.{is_due, is_unfailed, submit_command, submit_write, write_out_at, write_out, write_due, write_page, write_each, writes_by, writes}
+use Words.ClientState.{ClientSession, Turn}
+use Rattle.std.proofs.Common.{add-zero, append-nil}
+use Rattle.std.specs.Prelude.{flat_map}
 use Rattle.std.proofs.lemmas.List.Folds.{list_any-append}
-use Rattle.st_base.specs.declared.ids.PageNo.{PageNo}
-use Rattle.st_base.specs.declared.ids.Stamp.{Stamp}
-use Rattle.st_rules.specs.Keys.{page_no, same_page, rising}
-use Rattle.st_rules.specs.declared.client.IoKind.TheVariants.{Write}
-use Rattle.st_rules.specs.declared.client.MappedBlock.{MappedBlock}
-use Rattle.st_rules.specs.declared.client.PageCommand.{PageCommand}
-use Rattle.st_rules.specs.declared.pages.DirtyPage.{DirtyPage}
-use Rattle.st_rules.specs.ClientLease.{may_drain, standing_of}
-use Rattle.st_rules.specs.ClientPages as pages
-use Rattle.st_rules.specs.ClientPages.{Pages, Store, begin_command, begin_writes, dirty_places, is_dirty_of, is_write_of, page_command}
-use Rattle.st_rules.specs.ClientPasses as passes
-use Rattle.st_rules.specs.ClientPasses.{is_due, is_unfailed, submit_command, submit_write, write_out_at, write_out, write_due, write_page, write_each, writes_by, writes}
-use Rattle.st_rules.specs.ClientState.{ClientSession, Turn}
 use Rattle.st_tables.proofs.RisingKeys.{IsRising, rising_rises}
 use Rattle.st_flush.specs.FlushWrites.{Draining, is_drained, drained_to, drained_of, drained_at, drained, submit_of, submits, with_writes, drain_out, drain}
 

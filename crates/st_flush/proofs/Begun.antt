@@ -1,20 +1,18 @@
 -- Outstanding commands stay apart, as one more begins and as some end; writes that may begin, one after another.
-use Rattle.std.proofs.Common.{◌≡◌, ℕ, zero, suc, ◌+◌, ◌<◌, ◌≤◌, ◌⊎◌, Bool, true, false, ◌&&◌, ◌||◌, ◌==◌, not, cond, List, [], ◌∷◌, ◌++◌, length, get_or, drop, add-one, drop-cons, Option, Some, None, refl, sym, ap, subst, ◌∙◌, inl, inr, arith}
-use Rattle.std.specs.Prelude.{find, filter, is_some, nat_le, nat_lt}
-use Rattle.std.specs.List.{list_any}
-use Rattle.std.proofs.lemmas.Bool.{and_parts, and_from, not-true, eqb-true, leb-true, ltb-true, le-leb, lt-ltb}
-use Rattle.st_base.specs.declared.ids.PageNo.{PageNo}
-use Rattle.st_rules.specs.Keys.{same_page}
-use Rattle.st_rules.specs.ServerInvariants.{are_once}
-use Rattle.st_rules.specs.ClientInvariants.{same_page_command, same_command_number}
-use Rattle.st_rules.specs.declared.client.IoKind.{IoKind}
-use Rattle.st_rules.specs.declared.client.IoKind.TheVariants.{Write}
-use Rattle.st_rules.specs.declared.client.PageCommand.{PageCommand}
-use Rattle.st_rules.specs.ClientPages.{begin_command, begin_writes, command_of, command_on, is_command_of, is_numbered, page_command}
-use Rattle.st_lemmas.specs.Lists.{Has}
+use Rattle.st_lemmas.proofs.Words
+use Words.{◌≡◌, ℕ, zero, suc, ◌+◌, ◌<◌, ◌≤◌, ◌⊎◌, Bool, true, false, ◌&&◌, ◌||◌, ◌==◌, not, cond, List, [], ◌∷◌, ◌++◌, length, get_or, drop, add-one, Some}
+use Words.{None, refl, sym, ap, subst, ◌∙◌, inl, inr, arith, find, filter, is_some, nat_le, nat_lt, list_any, and_parts, and_from, not-true, eqb-true, leb-true}
+use Words.{ltb-true, le-leb, lt-ltb, PageNo, IoKind, PageCommand}
+use Words.Keys.{same_page}
+use Words.ServerInvariants.{are_once}
+use Words.ClientInvariants.{same_page_command, same_command_number}
+use Words.io.{Write}
+use Words.ClientPages.{begin_command, begin_writes, command_of, command_on, is_command_of, is_numbered, page_command}
+use Words.Lists.{Has}
+use Words.Tables.{none_has}
+use Rattle.std.proofs.Common.{drop-cons}
 use Rattle.st_lemmas.proofs.Once.{once_append, once_both, once_filter, once_none}
-use Rattle.st_lemmas.proofs.Tables.{none_has}
-use Rattle.st_flush.specs.Calls.{AreApart, is_in_range, is_taken_in, may_begin, same_page_write}
+use Rattle.st_flush.specs.Calls.{AreApart, is_in_range, is_taken_in, same_page_write}
 
 eq_turn : (a b : ℕ) → (a == b) ≡ (b == a)
 eq_turn a b = grind arith

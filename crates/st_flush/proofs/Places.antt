@@ -1,25 +1,18 @@
 -- Where commands may begin: at a page of which no read and no write is outstanding, under a number above all that were given.
-use Rattle.std.proofs.Common.{◌≡◌, ℕ, ◌+◌, ◌<◌, ◌≤◌, Bool, true, false, ◌&&◌, ◌||◌, ◌==◌, not, cond, if◌then◌else◌, List, [], ◌∷◌, map, length, Option, Some, None, refl, sym, ap, ◌∙◌, inl, inr, arith}
-use Rattle.std.specs.Prelude.{find, filter_map, is_some, nat_le, nat_lt}
-use Rattle.std.specs.List.{list_all, list_any, cons_option, AllByRecursion}
-use Rattle.std.proofs.lemmas.Bool.{and_from, and_parts, leb-true, ltb-true, not-true, eqb-true}
-use Rattle.st_base.specs.declared.ids.PageNo.{PageNo}
-use Rattle.st_rules.specs.Keys.{same_page}
-use Rattle.st_rules.specs.ServerInvariants.{are_once}
-use Rattle.st_rules.specs.ClientInvariants.{is_below}
-use Rattle.st_rules.specs.declared.client.MappedBlock.{MappedBlock}
-use Rattle.st_rules.specs.declared.client.PageCommand.{PageCommand}
-use Rattle.st_rules.specs.declared.pages.DirtyPage.{DirtyPage}
-use Rattle.st_rules.specs.ClientPages as pages
-use Rattle.st_rules.specs.ClientPages.{Store, command_of, command_on, is_command_of, is_numbered, is_read_of, is_write, is_write_of}
-use Rattle.st_rules.specs.ClientPasses.{is_unfailed}
-use Rattle.st_lemmas.specs.Lists.{Has}
-use Rattle.st_lemmas.proofs.Lookups.{or_false}
-use Rattle.st_lemmas.proofs.Once.{once_both, once_none}
-use Rattle.st_lemmas.proofs.Tables.{found_at}
-use Rattle.st_flush.specs.Calls.{is_in_range, is_taken_in, may_begin, same_page_write}
+use Rattle.st_lemmas.proofs.Words
+use Words.{◌≡◌, ℕ, ◌+◌, ◌<◌, ◌≤◌, Bool, true, false, ◌&&◌, ◌||◌, ◌==◌, not, cond, if◌then◌else◌, List, [], ◌∷◌, map, Option, Some, None, refl, sym, ap, ◌∙◌}
+use Words.{arith, find, filter_map, is_some, list_all, list_any, cons_option, and_parts, ltb-true, not-true, eqb-true, PageNo, MappedBlock, PageCommand}
+use Words.{DirtyPage}
+use Words.Keys.{same_page}
+use Words.ClientInvariants.{is_below}
+use Words.ClientPages as pages
+use Words.ClientPages.{Store, command_of, command_on, is_command_of, is_numbered, is_read_of, is_write, is_write_of}
+use Words.ClientPasses.{is_unfailed}
+use Words.Lists.{Has}
+use Words.Lookups.{or_false}
+use Words.Tables.{found_at}
+use Rattle.st_flush.specs.Calls.{is_taken_in}
 use Rattle.st_flush.specs.FlushWrites.{Draining, drained, drained_at, drained_by, drained_of, drained_to, is_drained, version_of}
-use Rattle.st_flush.proofs.Batch.{Apart, draining_place, places_apart, same_place}
 
 -- a command of a page reads or writes it
 read_or_write : (c : PageCommand) (ino : ℕ) (p : PageNo) → is_read_of ino p c ≡ false → is_write_of ino p c ≡ false → is_command_of ino p c ≡ false

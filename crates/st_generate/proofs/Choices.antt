@@ -1,15 +1,13 @@
 -- The event that is chosen is admissible and in its ranges.
-use Rattle.std.proofs.Common.{◌≡◌, ℕ, zero, suc, length, Option, Some, None, refl, ap, ◌∙◌, arith}
-use Rattle.std.specs.Prelude.{not, ◌&&◌, nat_le}
+use Rattle.st_lemmas.proofs.Words
+use Words.{◌≡◌, ℕ, zero, suc, length, Option, Some, None, refl, ap, ◌∙◌, arith, not, ◌&&◌, nat_le, Event, WorldRefusal}
+use Words.nodes
+use Words.refusals
+use Words.Keys.{client}
+use Words.World.{World, server}
+use Words.Admissible.{refusal, stands}
+use Words.Generator as g
 use Rattle.std.specs.Option.{option_or}
-use Rattle.st_base.specs.declared.ids.NodeId.TheVariants as nodes
-use Rattle.st_messages.specs.declared.event.Event.{Event}
-use Rattle.st_rules.specs.declared.observation.WorldRefusal.{WorldRefusal}
-use Rattle.st_rules.specs.declared.observation.WorldRefusal.TheVariants as refusals
-use Rattle.st_rules.specs.Keys.{client}
-use Rattle.st_rules.specs.World.{World, server}
-use Rattle.st_rules.specs.Admissible.{refusal, stands}
-use Rattle.st_rules.specs.Generator as g
 use Rattle.st_generate.proofs.Drawn.{Good, GoodDrawn, candidate_good}
 
 -- what the fallback's test is, by the numbers of clients and servers

@@ -1,17 +1,17 @@
 -- What is drawn is in its ranges.
-use Rattle.std.proofs.Common.{◌≡◌, ℕ, zero, suc, ◌+◌, ◌-◌, ◌/◌, ◌^◌, ◌<◌, ◌≤◌, Bool, true, false, ◌&&◌, ◌==◌, [], ◌∷◌, length, Option, Some, None, refl, sym, ap, arith, mod-lt, if◌then◌else◌}
-use Rattle.std.specs.Prelude.{min, nat_le, option_map}
-use Rattle.std.proofs.lemmas.Bool.{eqb-false, le-leb}
+use Rattle.st_lemmas.proofs.Words
+use Words.{◌≡◌, ℕ, zero, suc, ◌+◌, ◌-◌, ◌/◌, ◌^◌, ◌<◌, ◌≤◌, Bool, true, false, ◌&&◌, ◌==◌, [], ◌∷◌, length, Option, Some, None, refl, sym, ap, arith}
+use Words.{if◌then◌else◌, min, nat_le, option_map, eqb-false, le-leb, Event}
+use Words.Page.{filled}
+use Words.Ranges.{is_ask}
+use Words.events
+use Words.Safety.{is_event, is_increment}
+use Words.Tables.{and_both}
+use Words.Generator as g
+use Rattle.std.proofs.Common.{mod-lt}
 use Rattle.std.proofs.lemmas.List.{length-replicate}
-use Rattle.st_base.specs.Page.{filled}
-use Rattle.st_messages.specs.Ranges.{is_ask}
-use Rattle.st_messages.specs.declared.event.Event.{Event}
-use Rattle.st_messages.specs.declared.event.Event.TheVariants as events
-use Rattle.st_rules.specs.Safety.{is_event, is_increment}
 use Rattle.st_schedule_words.specs.Words.{MOST_NUMBER}
 use Rattle.st_schedule.specs.Grammar.{Fits, IsNode, IsFile, IsEven, IsStep, byte_of}
-use Rattle.st_lemmas.proofs.Tables.{and_both}
-use Rattle.st_rules.specs.Generator as g
 
 -- a draw is below its bound
 below_lt : (n x : ℕ) → 0 < n → g.below n x < n

@@ -1,26 +1,21 @@
 -- Where the network is full nothing is sent, so that a run sends few messages, and as many as one event may.
-use Rattle.std.proofs.Common.{◌≡◌, ◌*◌, ◌+◌, ◌<◌, ◌≤◌, ◌⊎◌, inl, inr, ℕ, Bool, true, false, List, [], ◌∷◌, length, Option, Some, None, Ok, Err, refl, sym, subst, arith, if◌then◌else◌}
-use Rattle.std.specs.Prelude.{Result, nat_le, pred}
+use Rattle.st_lemmas.proofs.Words
+use Words.{◌≡◌, ◌*◌, ◌+◌, ◌<◌, ◌≤◌, ◌⊎◌, inl, inr, ℕ, Bool, true, false, List, [], ◌∷◌, length, Option, Some, None, Ok, Err, refl, sym, subst, arith}
+use Words.{if◌then◌else◌, Result, nat_le, pred, cases_lt, le-leb, NodeId, Event, DiskCommand, WorldRefusal, SentMessage}
+use Words.nodes
+use Words.events
+use Words.refusals
+use Words.Admissible as adm
+use Words.Disks.{command}
+use Words.Events as ev
+use Words.Events.{WorldTurn, counted, happens, summary, world_step}
+use Words.Run.{run, go_on}
+use Words.Server.{ServerNode}
+use Words.World.{World, WorldClient, fresh_world, message_of, node_of, receiver_of, site_of}
+use Words.Numbers.{set_length}
+use Words.Generator as g
 use Rattle.std.specs.Option.{option_or}
-use Rattle.std.proofs.lemmas.Bool.{cases_lt, le-leb}
-use Rattle.st_base.specs.declared.ids.NodeId.{NodeId}
-use Rattle.st_base.specs.declared.ids.NodeId.TheVariants as nodes
-use Rattle.st_messages.specs.declared.event.Event.{Event}
-use Rattle.st_messages.specs.declared.event.Event.TheVariants as events
-use Rattle.st_rules.specs.declared.disks.DiskCommand.{DiskCommand}
-use Rattle.st_rules.specs.declared.observation.WorldRefusal.{WorldRefusal}
-use Rattle.st_rules.specs.declared.observation.WorldRefusal.TheVariants as refusals
-use Rattle.st_rules.specs.declared.world.SentMessage.{SentMessage}
-use Rattle.st_rules.specs.Admissible as adm
-use Rattle.st_rules.specs.Disks.{command}
-use Rattle.st_rules.specs.Events as ev
-use Rattle.st_rules.specs.Events.{WorldTurn, counted, happens, summary, world_step}
-use Rattle.st_rules.specs.Run.{run, go_on}
-use Rattle.st_rules.specs.Server.{ServerNode}
-use Rattle.st_rules.specs.World.{World, WorldClient, fresh_world, message_of, node_of, receiver_of, site_of}
-use Rattle.st_lemmas.proofs.Numbers.{set_length}
 use Rattle.st_lemmas.proofs.Steps.{step_happens}
-use Rattle.st_rules.specs.Generator as g
 use Rattle.st_generate.specs.Law.{SendsFew, SendsFewOn, Sent_is_bounded}
 use Rattle.st_generate.proofs.Sizes.{step_sized}
 

@@ -1,19 +1,19 @@
 -- The run of the chosen events reaches its end, and each event is in its ranges.
-use Rattle.std.proofs.Common.{◌≡◌, ℕ, zero, suc, ◌+◌, ◌≤◌, true, List, [], ◌∷◌, ◌++◌, length, Option, Some, None, Ok, Err, refl, sym, ap, ◌∙◌, subst, arith}
-use Rattle.std.specs.List.{list_all, AllByRecursion}
-use Rattle.st_messages.specs.declared.event.Event.{Event}
-use Rattle.st_rules.specs.declared.observation.WorldRefusal.{WorldRefusal}
-use Rattle.st_rules.specs.Admissible.{refusal}
-use Rattle.st_rules.specs.Events.{world_step, world_by, happens, counted, summary}
+use Rattle.st_lemmas.proofs.Words
+use Words.{◌≡◌, ℕ, zero, suc, ◌+◌, ◌≤◌, true, List, [], ◌∷◌, ◌++◌, length, Option, Some, None, Ok, refl, sym, ap, ◌∙◌, subst, arith, list_all, AllByRecursion}
+use Words.{Event, WorldRefusal}
+use Words.Admissible.{refusal}
+use Words.Events.{world_step, world_by, happens, counted, summary}
+use Words.Run.{Run, run, go_on}
+use Words.Safety.{is_event}
+use Words.World.{World, fresh_world}
+use Words.Tables.{and_both}
+use Words.Generator as g
 use Rattle.st_rules.specs.Report as report
-use Rattle.st_rules.specs.Run.{Run, run, go_on}
-use Rattle.st_rules.specs.Safety.{is_event}
-use Rattle.st_rules.specs.World.{World, fresh_world}
 use Rattle.st_schedule_words.specs.Words.{MOST_NUMBER}
 use Rattle.st_schedule.specs.Grammar.{Fits}
-use Rattle.st_lemmas.proofs.Tables.{and_both}
-use Rattle.st_rules.specs.Generator as g
-use Rattle.st_generate.specs.Law.{Begins_with_a_head, Has_length, Each_is_admissible, Each_is_in_range, Runs_to_the_end, Is_reported_whole, Head_has_a_line, Each_has_a_line, run_of}
+use Rattle.st_generate.specs.Law.{Begins_with_a_head, Has_length, Each_is_admissible, Each_is_in_range, Runs_to_the_end, Is_reported_whole, Head_has_a_line}
+use Rattle.st_generate.specs.Law.{Each_has_a_line, run_of}
 use Rattle.st_generate.proofs.Sizes.{Sized, step_sized, sized_then}
 use Rattle.st_generate.proofs.Choices.{chosen_stands, chosen_good}
 

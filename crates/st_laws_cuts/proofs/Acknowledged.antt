@@ -1,37 +1,25 @@
 -- In the event in which a server cuts a file it says that this was done, and refuses nothing.
-use Rattle.std.proofs.Common.{◌≡◌, ℕ, ◌+◌, ◌⊎◌, Bool, true, false, not, ◌&&◌, ◌||◌, List, [], ◌∷◌, ◌++◌, Ok, refl, sym, ap}
-use Rattle.std.proofs.Common.{◌∙◌, subst, inl, inr}
-use Rattle.std.specs.List.{list_any}
-use Rattle.st_base.specs.declared.ids.FileId.{FileId}
-use Rattle.st_base.specs.declared.ids.NodeId.TheVariants as nodes
-use Rattle.st_base.specs.declared.ids.PageNo.{PageNo}
-use Rattle.st_base.specs.declared.ids.ServerId.{ServerId}
-use Rattle.st_base.specs.declared.ids.Stamp.{Stamp}
-use Rattle.st_messages.specs.declared.event.Event.{Event}
-use Rattle.st_messages.specs.declared.message.Body.{Body}
-use Rattle.st_messages.specs.declared.message.Header.{Header}
-use Rattle.st_messages.specs.declared.message.Message.{Message}
-use Rattle.st_messages.specs.declared.output.Note.{Note}
-use Rattle.st_messages.specs.declared.output.Note.TheVariants as notes
-use Rattle.st_messages.specs.declared.output.Output.{Output}
-use Rattle.st_messages.specs.declared.output.Output.TheVariants as outputs
-use Rattle.st_rules.specs.declared.input.ServerInput.{ServerInput}
-use Rattle.st_rules.specs.declared.observation.Observation.{Observation}
-use Rattle.st_rules.specs.declared.observation.Observation.TheVariants as seen
-use Rattle.st_rules.specs.Events as ev
-use Rattle.st_rules.specs.Events.{WorldTurn, world_step}
-use Rattle.st_rules.specs.History.{Traced, traced, traced_after}
-use Rattle.st_rules.specs.Safety.{Step, is_event, step}
-use Rattle.st_rules.specs.Server as sv
-use Rattle.st_rules.specs.Server.{ServerState, ServerTurn, reply, tell, steal_from, suspect_client, keep_and_reply, server_step}
-use Rattle.st_rules.specs.World.{clock_of, fresh_world}
+use Rattle.st_lemmas.proofs.Words
+use Words.{◌≡◌, ℕ, ◌+◌, ◌⊎◌, Bool, true, false, not, ◌&&◌, ◌||◌, List, [], ◌∷◌, ◌++◌, Ok, refl, sym, ap, ◌∙◌, subst, inl, inr, list_any, FileId, PageNo}
+use Words.{ServerId, Stamp, Event, Body, Header, Message, Note, Output, ServerInput, Observation}
+use Words.nodes
+use Words.notes
+use Words.outputs
+use Words.seen
+use Words.Events as ev
+use Words.Events.{WorldTurn, world_step}
+use Words.History.{Traced, traced, traced_after}
+use Words.Safety.{Step, is_event, step}
+use Words.Server as sv
+use Words.Server.{ServerState, ServerTurn, reply, tell, steal_from, suspect_client, keep_and_reply, server_step}
+use Words.World.{clock_of, fresh_world}
+use Words.Lists.{Has}
+use Words.Tables.{and_both, has_append, some_passes}
+use Words.Members.{has_left, has_right}
 use Rattle.st_protocol.specs.Assoc.{Config}
-use Rattle.st_lemmas.specs.Lists.{Has}
 use Rattle.st_lemmas.proofs.Once.{none_any}
-use Rattle.st_lemmas.proofs.Tables.{and_both, has_append, some_passes}
 use Rattle.st_laws_refine.specs.Server.Pair.{terms_of}
 use Rattle.st_laws_leases.specs.Sides.Law.{InEveryRun}
-use Rattle.st_laws_leases.proofs.Dates.Known.{has_left, has_right}
 use Rattle.st_laws_leases.proofs.Sides.Runs.{throughout_events}
 use Rattle.st_laws_extents.proofs.CutRequests.Law.{Hold, first, same_all}
 use Rattle.st_laws_extents.proofs.CutRequests.Seen.{ServedStep, cuts_served, none, server_all}
@@ -169,8 +157,8 @@ module _ (x : ServerState) (now : Stamp) (i : ServerInput) where
 abbrev Lines : List Observation → Type 0
 Lines os = (o : Observation) → Has o os → is_refusal_line o ≡ false
 
-more : (os : List Observation) (o : Observation) → is_refusal_line o ≡ false → Lines os → Lines (os ++ o ∷ [])
-more os o k n x h = go (has_append os (o ∷ []) x h)
+lines_with_last : (os : List Observation) (o : Observation) → is_refusal_line o ≡ false → Lines os → Lines (os ++ o ∷ [])
+lines_with_last os o k n x h = go (has_append os (o ∷ []) x h)
   where
     go : Has x os ⊎ Has x (o ∷ []) → is_refusal_line x ≡ false
     go (inl i) = n x i
@@ -179,13 +167,13 @@ more os o k n x h = go (has_append os (o ∷ []) x h)
 
 line_one : (s : ServerId) (o : Output) (sc : WorldTurn) → Kind o → Lines sc.seen → Lines (ev.server_says sc s o).seen
 unfolding ev.server_says ev.server_notes ev.cuts ev.sends
-line_one s (outputs.Send m) sc k n = more sc.seen _ k n
+line_one s (outputs.Send m) sc k n = lines_with_last sc.seen _ k n
 line_one s (outputs.Note x) sc k n = note x
   where
     note : (x : Note) → Lines (ev.server_notes sc s x).seen
-    note (notes.Suspected d start) = more sc.seen _ refl n
-    note (notes.Stolen d life) = more sc.seen _ refl n
-    note (notes.CutDone f p) = more sc.seen _ refl n
+    note (notes.Suspected d start) = lines_with_last sc.seen _ refl n
+    note (notes.Stolen d life) = lines_with_last sc.seen _ refl n
+    note (notes.CutDone f p) = lines_with_last sc.seen _ refl n
     note x = n
 line_one s o sc k n = n
 
@@ -236,7 +224,7 @@ says s (o ∷ os) sc m (inl e) d = said_all s os (ev.server_says sc s o) (subst 
 says s (o ∷ os) sc m (inr h) d = says s os (ev.server_says sc s o) m h d
 
 -- the line of a cut
-there : (os : List Observation) → list_any is_cut_line os ≡ true → (index : ℕ) × (f : FileId) × (p : PageNo) × Has (seen.CutAt index f p) os
+pub there : (os : List Observation) → list_any is_cut_line os ≡ true → (index : ℕ) × (f : FileId) × (p : PageNo) × Has (seen.CutAt index f p) os
 there [] e = cc e
 there (o ∷ os) e = go o refl (is_cut_line o) refl e (there os)
   where
@@ -286,8 +274,8 @@ one k count past t e sc r h taken = (go (list_any is_cut_line sc.seen) refl, (sa
     go true q = let z = there sc.seen q in
         acknowledged (ev.counted t.world) e sc z.0 z.1 z.2 (cuts_served t.world e sc (λ s n at. (h.cuts.servers s n at).id) taken z.0 z.1 z.2 z.3) z.3
 
-pub law : InEveryRun CutsAreAcknowledged
-law k clients servers disks blocks form es head events =
+pub cuts_are_acknowledged : InEveryRun CutsAreAcknowledged
+cuts_are_acknowledged k clients servers disks blocks form es head events =
     throughout_events (clients + servers) CutsAreAcknowledged (Hold (terms_of k) (clients + servers))
     (one (terms_of k) (clients + servers)) es events [] (traced (fresh_world k clients servers disks blocks form))
     (first k clients servers disks blocks form head)

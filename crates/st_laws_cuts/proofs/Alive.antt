@@ -1,39 +1,30 @@
 -- A request to cut a file or for a name, of the present life of a client that runs: its server serves it no more, or a pending operation
 -- waits for its reply.
-use Rattle.std.proofs.Common.{◌≡◌, ◌≢◌, ◌⊎◌, ℕ, ◌≤◌, ◌<◌, zero, suc, List, true, Option, Some, None, refl, sym, ap, ◌∙◌, subst, inl, inr, arith}
-use Rattle.std.proofs.lemmas.Bool.{eqb-true}
-use Rattle.st_base.specs.declared.ids.ClientId.{ClientId}
-use Rattle.st_base.specs.declared.ids.GrantNo.{GrantNo}
-use Rattle.st_base.specs.declared.names.NameAsk.{NameAsk}
-use Rattle.st_base.specs.declared.names.NameAsk.TheVariants as names
-use Rattle.st_messages.specs.declared.ask.Ask.{Ask}
-use Rattle.st_messages.specs.declared.ask.Ask.TheVariants as asks
-use Rattle.st_messages.specs.declared.message.Body.{Body}
-use Rattle.st_messages.specs.declared.message.Body.TheVariants as bodies
-use Rattle.st_messages.specs.declared.message.Message.{Message}
-use Rattle.st_messages.specs.declared.message.NameOp.{NameOp}
-use Rattle.st_rules.specs.declared.client.Request.{Request}
-use Rattle.st_rules.specs.declared.sessions.Session.{Session}
-use Rattle.st_rules.specs.declared.sessions.SessionState.{SessionState}
-use Rattle.st_rules.specs.declared.sessions.SessionState.TheVariants as states
-use Rattle.st_rules.specs.ClientPasses.{name_op}
-use Rattle.st_rules.specs.ClientState.{Association, ClientSession, asks_cut_or_name, is_of, server_of}
-use Rattle.st_rules.specs.History.{Traced}
-use Rattle.st_rules.specs.Safety.{Step}
-use Rattle.st_rules.specs.Server.{ServerNode}
-use Rattle.st_rules.specs.Sessions as sessions
-use Rattle.st_rules.specs.World.{WorldClient, node_of}
+use Rattle.st_lemmas.proofs.Words
+use Words.{◌≡◌, ◌≢◌, ◌⊎◌, ℕ, ◌≤◌, ◌<◌, zero, suc, List, true, Option, Some, None, refl, sym, ap, ◌∙◌, subst, inl, inr, arith, eqb-true, ClientId, GrantNo}
+use Words.{NameAsk, Ask, Body, Message, NameOp, Request}
+use Words.names
+use Words.asks
+use Words.bodies
+use Words.ClientPasses.{name_op}
+use Words.ClientState.{Association, ClientSession, asks_cut_or_name, is_of, server_of}
+use Words.History.{Traced}
+use Words.Safety.{Step}
+use Words.Server.{ServerNode}
+use Words.Sessions as sessions
+use Words.World.{WorldClient, node_of}
+use Words.Lists.{Has}
+use Words.Lookups.{some_is}
+use Words.Tables.{and_true, same_or_not}
+use Words.Truth.{below_or_not}
 use Rattle.st_protocol.specs.Assoc.{Config}
 use Rattle.st_protocol.proofs.World.{invariant}
 use Rattle.st_protocol.specs.Assoc as net
-use Rattle.st_lemmas.specs.Lists.{Has}
-use Rattle.st_lemmas.proofs.Lookups.{some_is}
-use Rattle.st_lemmas.proofs.Tables.{and_true, same_or_not}
 use Rattle.st_laws_refine.specs.Views.Halves.{epoch_in}
 use Rattle.st_laws_refine.specs.Server.Invariants.{pairs}
 use Rattle.st_laws_leases.specs.Dates.Dates.{messages}
 use Rattle.st_laws_reads.specs.AllClients.Law.{Running}
-use Rattle.st_laws_requests.specs.Replies.ServedRequests.{IsBehind, Reached}
+use Rattle.st_laws_requests.specs.Replies.ServedRequests.{IsBehind}
 use Rattle.st_laws_requests.specs.Cuts.Cuts.{Between, Numbers, Numbered, SameBody}
 use Rattle.st_laws_requests.specs.Cuts.Cuts as cuts
 use Rattle.st_laws_extents.specs.CutRequests.Asks.{AsksStand, Of, RemoveNamed, first_open, open_from}
@@ -44,25 +35,7 @@ use Rattle.st_laws_extents.proofs.CutRequests.Law.{Hold}
 use Rattle.st_laws_extents.proofs.CutRequests.Standing.{whole}
 use Rattle.st_laws_cuts.specs.Owners.{AllOwned, Means, MeansCut, MeansName, Owned, OwnedBy, Owner, view}
 use Rattle.st_laws_cuts.specs.EndedRequests.{AllPast, IsPending, MeansGrant, MeansOf, MeansTo}
-
--- a session that reached a number reached those below it
-behind_less : (o : Option Session) (life k j : ℕ) → j ≤ k → IsBehind o life k → IsBehind o life j
-behind_less None life k j l h = h
-behind_less (Some s) life k j l (inl h) = inl h
-behind_less (Some s) life k j l (inr h) = inr (h.0, go s.state h.1)
-  where
-    go : (x : SessionState) → Reached k x → Reached j x
-    go (states.Live last reply) r = omega (arith, l, r)
-    go states.Ended r = tt
-
-less : (u v : ℕ) → (u < v) ⊎ (v ≤ u)
-less u zero = inr (omega arith)
-less zero (suc v) = inl (omega arith)
-less (suc u) (suc v) = up (less u v)
-  where
-    up : (u < v) ⊎ (v ≤ u) → (suc u < suc v) ⊎ (suc v ≤ suc u)
-    up (inl l) = inl (omega (arith, l))
-    up (inr l) = inr (omega (arith, l))
+use Rattle.st_laws_extents.proofs.CutRequests.EndedLives.{behind_less}
 
 module _ (k : Config) (count : ℕ) (past : List Step) (t : Traced) (h : Hold k count past t) (owned : AllOwned t.world)
     (c : ClientId) (site : WorldClient) (run : Running t.world c.0 site) (a : Association) (i : Has a site.node.state.associations)
@@ -142,7 +115,7 @@ module _ (k : Config) (count : ℕ) (past : List Step) (t : Traced) (h : Hold k 
         by e (inr l) = last e l x.requests.asked refl
 
         go : (m.header.epoch ≡ x.epoch.0) ⊎ (m.header.epoch ≢ x.epoch.0) → Result
-        go (inl e) = by e (less m.header.number (first_open x.requests))
+        go (inl e) = by e (below_or_not m.header.number (first_open x.requests))
         go (inr ne) = inl (earlier ne)
 
   pub alive : AllPast t.world c a.server m ⊎ IsPending (gifts k count t.world h.all c a.server) a.server site.node.state.operations m

@@ -1,30 +1,23 @@
 -- Names change as asked: after every event, and over whole runs.
-use Rattle.std.proofs.Common.{◌≡◌, ◌≢◌, ◌⊎◌, ℕ, ◌+◌, Bool, true, false, not, ◌||◌, List, [], ◌∷◌, ◌++◌, Option, Some, None, Ok, refl, sym, ap, ◌∙◌, subst, inl, inr}
-use Rattle.std.specs.List.{list_any}
-use Rattle.std.proofs.lemmas.Bool.{eq-eqb}
-use Rattle.st_base.specs.declared.ids.ClientId.{ClientId}
-use Rattle.st_base.specs.declared.ids.ServerId.{ServerId}
-use Rattle.st_base.specs.declared.ids.NodeId.TheVariants as nodes
-use Rattle.st_base.specs.declared.ids.Stamp.{Stamp}
-use Rattle.st_messages.specs.declared.ask.Ask.{Ask}
-use Rattle.st_messages.specs.declared.ask.Ask.TheVariants as asks
-use Rattle.st_messages.specs.declared.event.Event.{Event}
-use Rattle.st_messages.specs.declared.message.Body.TheVariants as bodies
-use Rattle.st_messages.specs.declared.message.Message.{Message}
-use Rattle.st_rules.specs.declared.input.ServerInput.{ServerInput}
-use Rattle.st_rules.specs.declared.input.ServerInput.TheVariants as serving
-use Rattle.st_rules.specs.ClientState.{asks_cut_or_name}
-use Rattle.st_rules.specs.Events as ev
-use Rattle.st_rules.specs.Events.{WorldTurn, world_step}
-use Rattle.st_rules.specs.History.{Traced, traced, traced_after}
-use Rattle.st_rules.specs.Keys.{client}
-use Rattle.st_rules.specs.Safety.{Step, is_event, step}
-use Rattle.st_rules.specs.Server as server
-use Rattle.st_rules.specs.Server.{ServerNode}
-use Rattle.st_rules.specs.World.{World, WorldClient, all_clients, all_servers, clock_of, fresh_world, node_of, numbered, site_of, with_numbered}
+use Rattle.st_lemmas.proofs.Words
+use Words.{◌≡◌, ◌≢◌, ◌⊎◌, ℕ, ◌+◌, Bool, true, false, not, ◌||◌, List, [], ◌∷◌, ◌++◌, Option, Some, None, Ok, refl, sym, ap, ◌∙◌, subst, inl, inr, list_any}
+use Words.{eq-eqb, ClientId, ServerId, Stamp, Ask, Event, Message, ServerInput}
+use Words.nodes
+use Words.asks
+use Words.bodies
+use Words.serving
+use Words.ClientState.{asks_cut_or_name}
+use Words.Events as ev
+use Words.Events.{WorldTurn, world_step}
+use Words.History.{Traced, traced, traced_after}
+use Words.Keys.{client}
+use Words.Safety.{Step, is_event, step}
+use Words.Server as server
+use Words.Server.{ServerNode}
+use Words.World.{World, WorldClient, all_clients, all_servers, clock_of, fresh_world, node_of, numbered, site_of, with_numbered}
+use Words.Lists.{Has}
+use Words.Tables.{all_pass, and_both, some_passes}
 use Rattle.st_protocol.specs.Assoc.{Config}
-use Rattle.st_lemmas.specs.Lists.{Has}
-use Rattle.st_lemmas.proofs.Tables.{all_pass, and_both, some_passes}
 use Rattle.st_laws_refine.specs.Server.Pair.{terms_of}
 use Rattle.st_laws_leases.specs.Sides.Law.{InEveryRun}
 use Rattle.st_laws_leases.specs.Dates.Dates.{messages}
@@ -78,11 +71,11 @@ one_other t v s old new at q how y n there = go (set_cases t.servers s.0 y.0 old
     go (inl z) = subst (CameFrom t y) (sym z.1) (subst (λ k. CameFrom t (record { 0 = k }) new) (sym z.0) own)
     go (inr z) = record { old = n; was = z.1; how = inl refl }
 
-crashed_names : (node : ServerNode) → (server.crash_node node).state.stable.names ≡ node.state.stable.names
+pub crashed_names : (node : ServerNode) → (server.crash_node node).state.stable.names ≡ node.state.stable.names
 unfolding server.crash
 crashed_names node = refl
 
-started_names : (node : ServerNode) (now : Stamp) → (server.start_node node now).state.stable.names ≡ node.state.stable.names
+pub started_names : (node : ServerNode) (now : Stamp) → (server.start_node node now).state.stable.names ≡ node.state.stable.names
 unfolding server.start server.begin_epoch
 started_names node now = refl
 
@@ -174,6 +167,6 @@ module _ (k : Config) (count : ℕ) (past : List Step) (t : Traced) (e : Event) 
 one : (k : Config) (count : ℕ) (past : List Step) (t : Traced) (e : Event) (sc : WorldTurn) → is_event count e ≡ true → AllHold k count past t → world_step t.world e ≡ Ok sc → NamesChangeAsAsked past (step t e sc) × AllHold k count (past ++ step t e sc ∷ []) (traced_after e t sc)
 one k count past t e sc r h taken = (changes_asked k count past t e sc h.base h.owners (owed k count past t e sc r h.base taken) taken, (cuts.one k count past t e sc r h taken).1)
 
-pub law : InEveryRun NamesChangeAsAsked
-law k clients servers disks blocks form es head events =
+pub names_change_as_asked : InEveryRun NamesChangeAsAsked
+names_change_as_asked k clients servers disks blocks form es head events =
     throughout_events (clients + servers) NamesChangeAsAsked (AllHold (terms_of k) (clients + servers)) (one (terms_of k) (clients + servers)) es events [] (traced (fresh_world k clients servers disks blocks form)) (begins k clients servers disks blocks form head)

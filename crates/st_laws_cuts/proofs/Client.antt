@@ -1,51 +1,35 @@
 -- What a client's rules leave of what is pending, answered and sent, and whose request is outstanding.
-use Rattle.std.proofs.Common.{◌≡◌, ℕ, ◌+◌, ◌≤◌, ◌⊎◌, Bool, true, false, ◌==◌, List, [], ◌∷◌, ◌++◌, Option, Some, None, refl, sym, ap, ◌∙◌, subst}
-use Rattle.std.proofs.Common.{inl, inr, arith, if◌then◌else◌, append_assoc}
-use Rattle.std.proofs.lemmas.Bool.{eqb-true, eq-eqb}
-use Rattle.st_base.specs.declared.disk.Tag.{Tag}
-use Rattle.st_base.specs.declared.disk.Command.TheVariants as commands
-use Rattle.st_base.specs.declared.ids.ClientId.{ClientId}
-use Rattle.st_base.specs.declared.ids.FileId.{FileId}
-use Rattle.st_base.specs.declared.ids.GrantNo.{GrantNo}
-use Rattle.st_base.specs.declared.ids.PageNo.{PageNo}
-use Rattle.st_base.specs.declared.ids.ServerId.{ServerId}
-use Rattle.st_base.specs.declared.ids.Stamp.{Stamp}
-use Rattle.st_base.specs.declared.mode.Mode.{Mode}
-use Rattle.st_base.specs.declared.names.NameAsk.{NameAsk}
-use Rattle.st_base.specs.declared.names.NameAsk.TheVariants as names
-use Rattle.st_messages.specs.declared.answer.AppAnswer.{AppAnswer}
-use Rattle.st_messages.specs.declared.answer.AppAnswer.TheVariants as answers
-use Rattle.st_messages.specs.declared.ask.Ask.{Ask}
-use Rattle.st_messages.specs.declared.ask.Ask.TheVariants as asks
-use Rattle.st_messages.specs.declared.message.Body.{Body}
-use Rattle.st_messages.specs.declared.message.Body.TheVariants as bodies
-use Rattle.st_messages.specs.declared.message.Header.{Header}
-use Rattle.st_messages.specs.declared.output.Note.{Note}
-use Rattle.st_messages.specs.declared.output.Output.{Output}
-use Rattle.st_messages.specs.declared.output.Output.TheVariants as outputs
-use Rattle.st_rules.specs.declared.client.IoKind.TheVariants as io
-use Rattle.st_rules.specs.declared.client.Operation.{Operation}
-use Rattle.st_rules.specs.declared.client.PageCommand.{PageCommand}
-use Rattle.st_rules.specs.declared.client.Request.{Request}
-use Rattle.st_rules.specs.declared.client.Stage.{Stage}
-use Rattle.st_rules.specs.declared.client.Stage.TheVariants as stages
-use Rattle.st_rules.specs.Client as cl
-use Rattle.st_rules.specs.ClientLocks as locks
-use Rattle.st_rules.specs.ClientPages as pages
-use Rattle.st_rules.specs.ClientPasses as cp
-use Rattle.st_rules.specs.ClientReplies as cr
-use Rattle.st_rules.specs.ClientState as cs
-use Rattle.st_rules.specs.ClientState.{ClientSession, Turn, server_of, say, with_session, with_store, with_operations}
-use Rattle.st_lemmas.specs.Lists.{Has}
-use Rattle.st_lemmas.proofs.Lookups.{some_is}
-use Rattle.st_lemmas.proofs.Tables.{and_both, and_left, and_right, and_true, has_append}
+use Rattle.st_lemmas.proofs.Words
+use Words.{◌≡◌, ℕ, ◌+◌, ◌≤◌, ◌⊎◌, Bool, true, false, ◌==◌, List, [], ◌∷◌, ◌++◌, Option, Some, None, refl, sym, ap, ◌∙◌, subst, inl, inr, arith, if◌then◌else◌}
+use Words.{append_assoc, eqb-true, eq-eqb, Tag, ClientId, FileId, GrantNo, PageNo, ServerId, Stamp, Mode, NameAsk, AppAnswer, Ask, Body, Header, Note, Output}
+use Words.{Operation, PageCommand, Request, Stage, append-nil}
+use Words.commands
+use Words.names
+use Words.answers
+use Words.asks
+use Words.bodies
+use Words.outputs
+use Words.io
+use Words.stages
+use Words.Client as cl
+use Words.ClientLocks as locks
+use Words.ClientPages as pages
+use Words.ClientPasses as cp
+use Words.ClientReplies as cr
+use Words.ClientState as cs
+use Words.ClientState.{ClientSession, Turn, server_of, say, with_session, with_store, with_operations}
+use Words.Lists.{Has}
+use Words.Lookups.{some_is}
+use Words.Tables.{and_both, and_left, and_right, and_true, has_append}
+use Words.Keys.{page_no}
+use Words.Members.{has_left, has_right}
+use Words.Truth.{clash}
 use Rattle.st_laws_requests.specs.Cuts.Cuts.{MeansNone}
 use Rattle.st_laws_cuts.specs.Owners.{Means, MeansCut, Owned, OwnedBy, Owner, view}
 use Rattle.st_laws_cuts.proofs.Losing.{Silent, silent_more}
 use Rattle.st_laws_cuts.proofs.Counts.{one_if, pending, pending_more, told, told_more}
-use Rattle.st_rules.specs.Keys.{page_no}
-use Rattle.st_laws_cuts.proofs.Owning.{Base, C, Fine, W, b_more, b_operations, b_say, one_good, c_answers, c_say, clash, into, means_other, o_answers}
-use Rattle.st_laws_cuts.proofs.Owning.{o_free, w_asked, w_refused, w_say, w_view}
+use Rattle.st_laws_cuts.proofs.Owning.{Base, C, Fine, W, base_after_longer_list, base_after_operations, base_after_say, one_good, turn_base_after_answers, turn_base_after_say, into, means_other, owned_after_answers, owned_after_free}
+use Rattle.st_laws_cuts.proofs.Owning.{whole_after_asked, whole_after_refused, whole_after_say, whole_after_view}
 use Rattle.st_trace.specs.Client.Commands as ending
 use Rattle.st_trace.specs.Client.Commands.{Finishes, Takes}
 use Rattle.st_trace.specs.Client.Losses as losing
@@ -58,7 +42,6 @@ use Rattle.st_trace.specs.Client.Passes.{Reduced, StaysHeld, IsReduced, WritesOu
 use Rattle.st_trace.specs.Client.Requests as asking
 use Rattle.st_trace.specs.Client.Requests.{AsksFirst, Greets, Requests, Wants}
 use Rattle.st_trace.proofs.Client.Finishing.{finishes, takes}
-use Rattle.st_trace.proofs.Client.Lists.{has_left, has_right, none_more}
 use Rattle.st_trace.proofs.Client.Losing.{loses}
 use Rattle.st_trace.proofs.Client.Receiving.{receives}
 use Rattle.st_trace.proofs.Client.Walk.{each_lasts, passes}
@@ -76,11 +59,11 @@ module _ (c : ClientId) (K : ℕ → Type 0) (G : List Output) (s : ServerId) (B
   sent_fine t epoch number stamp body e = ((ap (λ (y : ClientId). y.0) e, refl), refl)
 
   -- A new request, where none is outstanding.
-  w_ask : (t : Turn) (x : ClientSession) (now : Stamp) (body : Body) (cutting : Option ℕ) →
+  whole_after_ask : (t : Turn) (x : ClientSession) (now : Stamp) (body : Body) (cutting : Option ℕ) →
       (cs.asks_cut_or_name body ≡ true → Owner t.here.server cutting body t.operations) → CC t → WW (asking.asked t x now body cutting)
   unfolding cs.send cs.asking
-  w_ask t x now body cutting f w = (
-    c_say c K G s B out0 (with_session (cp.asking_session x now body cutting) t) _
+  whole_after_ask t x now body cutting f w = (
+    turn_base_after_say c K G s B out0 (with_session (cp.asking_session x now body cutting) t) _
         (sent_fine (with_session (cp.asking_session x now body cutting) t) x.epoch.0 x.requests.next now.0 body w.id_) w,
     f,
   )
@@ -196,25 +179,26 @@ module _ (c : ClientId) (K : ℕ → Type 0) (G : List Output) (s : ServerId) (B
           })
 
   -- Requests.
-  w_plain_ask : (t : Turn) (x : ClientSession) (now : Stamp) (body : Body) → cs.asks_cut_or_name body ≡ false → CC t → WW (asking.asked t x now body None)
-  w_plain_ask t x now body n w = w_ask t x now body None (λ e. clash e n) w
+  whole_after_plain_ask : (t : Turn) (x : ClientSession) (now : Stamp) (body : Body) → cs.asks_cut_or_name body ≡ false → CC t →
+      WW (asking.asked t x now body None)
+  whole_after_plain_ask t x now body n w = whole_after_ask t x now body None (λ e. clash e n) w
 
-  w_requested : (now : Stamp) (tick : Bool) (t u : Turn) → Requests now tick t u → WW t → WW u
+  whole_after_requested : (now : Stamp) (tick : Bool) (t u : Turn) → Requests now tick t u → WW t → WW u
   unfolding cs.send
-  w_requested now tick t _ asking.AsksNothing w = w
-  w_requested now tick t _ (asking.AsksAgain x q e n a d) w = (
-    c_say c K G s B out0 (with_session (cp.again_session x now q) t) _ (sent_fine
+  whole_after_requested now tick t _ asking.AsksNothing w = w
+  whole_after_requested now tick t _ (asking.AsksAgain x q e n a d) w = (
+    turn_base_after_say c K G s B out0 (with_session (cp.again_session x now q) t) _ (sent_fine
         (with_session (cp.again_session x now q) t) x.epoch.0 q.number now.0 q.body w.0.id_) w.0,
     subst (OwnedBy t.here.server x.cutting t.operations) a (into c K G s B out0 t x e w.1),
   )
-  w_requested now tick t _ (asking.Reasserts x m d) w = w_plain_ask t x now _ refl w.0
-  w_requested now tick t _ (asking.Releases x r rs m d e) w = w_plain_ask t (record x { releases = rs }) now _ refl w.0
-  w_requested now tick t _ (asking.AsksFor x xs o ys a f e i) w =
+  whole_after_requested now tick t _ (asking.Reasserts x m d) w = whole_after_plain_ask t x now _ refl w.0
+  whole_after_requested now tick t _ (asking.Releases x r rs m d e) w = whole_after_plain_ask t (record x { releases = rs }) now _ refl w.0
+  whole_after_requested now tick t _ (asking.AsksFor x xs o ys a f e i) w =
       let k = asking_is t x now xs o ys t.operations a i in let qs = xs ++ cp.sent_if a.own o ∷ ys in
-      w_ask (with_store (cp.cut_store a.cut t.here.store) (with_operations qs t)) x now a.body (cp.file_cut a.cut) k.owner
-      (b_operations c K G s B out0 t.id t.here.server t.here.life.0 t.operations qs t.out (k.known w.0.known) k.others
+      whole_after_ask (with_store (cp.cut_store a.cut t.here.store) (with_operations qs t)) x now a.body (cp.file_cut a.cut) k.owner
+      (base_after_operations c K G s B out0 t.id t.here.server t.here.life.0 t.operations qs t.out (k.known w.0.known) k.others
       (λ n. let z = k.count n in omega (arith, z)) w.0)
-  w_requested now tick t _ (asking.KeepsAlive x f e) w = w_plain_ask t x now _ refl w.0
+  whole_after_requested now tick t _ (asking.KeepsAlive x f e) w = whole_after_plain_ask t x now _ refl w.0
 
   -- Messages.
   granted_view : (x : ClientSession) (ino : ℕ) (g : GrantNo) (mode : Mode) (v : ClientSession) → Grants (cs.forget_wait ino x) ino g mode v → view
@@ -223,52 +207,54 @@ module _ (c : ClientId) (K : ℕ → Type 0) (G : List Output) (s : ServerId) (B
   granted_view x ino g mode _ (trace.Declines a p) = refl
   granted_view x ino g mode _ (trace.IsOld a) = refl
 
-  w_effect : (now : Stamp) (t u : Turn) (x : ClientSession) (file : Option ℕ) (asked b : Body) → t.here.session ≡ Some x → x.requests.asked ≡ None →
+  whole_after_effect : (now : Stamp) (t u : Turn) (x : ClientSession) (file : Option ℕ) (asked b : Body) → t.here.session ≡ Some x → x.requests.asked ≡ None →
       Effect now t x file asked b u → CC t → WW u
   unfolding cs.answer_each
-  w_effect now t u x file asked b e n f w = go b u f
+  whole_after_effect now t u x file asked b e n f w = go b u f
     where
       all : WW t
-      all = (w, o_free c K G s B out0 t x e n)
+      all = (w, owned_after_free c K G s B out0 t x e n)
 
       go : (b : Body) (u : Turn) → Effect now t x file asked b u → WW u
-      go _ _ (trace.IsGranted ino g mode v k) = w_view c K G s B out0 t x v e (granted_view x ino g mode v k) all
+      go _ _ (trace.IsGranted ino g mode v k) = whole_after_view c K G s B out0 t x v e (granted_view x ino g mode v k) all
       go _ _ (trace.IsQueued ino mode q) = (w, into c K G s B out0 t x e all.1)
-      go _ _ (trace.HoldsAlready ino mode q) = w_view c K G s B out0 t x x e refl all
+      go _ _ (trace.HoldsAlready ino mode q) = whole_after_view c K G s B out0 t x x e refl all
       go _ _ (trace.IsToldExtents ino rows q) = all
       go _ _ (trace.IsToldLate ino rows q) = all
-      go _ _ trace.IsAcknowledged = w_asked c K G s B out0 t x answers.Cut e n w
-      go _ _ (trace.IsNamed r k) = w_asked c K G s B out0 t x (cr.name_answer r) e n w
+      go _ _ trace.IsAcknowledged = whole_after_asked c K G s B out0 t x answers.Cut e n w
+      go _ _ (trace.IsNamed r k) = whole_after_asked c K G s B out0 t x (cr.name_answer r) e n w
       go _ _ (trace.IsRemoved ino removed l q k) = let v = cs.answer_each (cs.is_asked t.here.server)
-          (answers.Named ino) t in let z = w_asked c K G s B out0 t x (answers.Named ino) e n w in (z.0, into c K G s B out0 v x e z.1)
+          (answers.Named ino) t in let z = whole_after_asked c K G s B out0 t x (answers.Named ino) e n w in (z.0, into c K G s B out0 v x e z.1)
       go _ _ trace.IsReasserted = (w, into c K G s B out0 t x e all.1)
-      go _ _ (trace.Effect.IsRefused z a b v r) = w_refused c K G s B out0 t v x z a b file asked e n r w
+      go _ _ (trace.Effect.IsRefused z a b v r) = whole_after_refused c K G s B out0 t v x z a b file asked e n r w
 
   renewed : (t : Turn) (x : ClientSession) (stamp : Stamp) (u : Turn) → Renews t x stamp u → CC t → CC u
-  renewed t x stamp _ (trace.IsLater e) w = c_say c K G s B out0 t _ tt w
+  renewed t x stamp _ (trace.IsLater e) w = turn_base_after_say c K G s B out0 t _ tt w
   renewed t x stamp _ (trace.IsNoLater e) w = w
 
-  w_heard : (now : Stamp) (h : Header) (t : Turn) (b : Body) (u : Turn) → Receives now h t b u → WW t → WW u
+  whole_after_heard : (now : Stamp) (h : Header) (t : Turn) (b : Body) (u : Turn) → Receives now h t b u → WW t → WW u
   unfolding cs.send
-  w_heard now h t _ _ (trace.PassesOver b) w = w
-  w_heard now h t _ _ (trace.Begins r e i) w = (c_say c K G s B out0 (cr.begin_here (cr.new_session (trace.epoch_of h) (trace.stamp_of h)) t) _ tt w.0, tt)
-  w_heard now h t _ _ (trace.FollowsEpoch x a b m e) w = w_asked c K G s B out0 (with_session (cr.in_epoch (trace.epoch_of h) x) t)
+  whole_after_heard now h t _ _ (trace.PassesOver b) w = w
+  whole_after_heard now h t _ _ (trace.Begins r e i) w =
+      (turn_base_after_say c K G s B out0 (cr.begin_here (cr.new_session (trace.epoch_of h) (trace.stamp_of h)) t) _ tt w.0, tt)
+  whole_after_heard now h t _ _ (trace.FollowsEpoch x a b m e) w = whole_after_asked c K G s B out0 (with_session (cr.in_epoch (trace.epoch_of h) x) t)
       (cr.in_epoch (trace.epoch_of h) x) _ refl refl w.0
-  w_heard now h t _ _ (trace.IsCondemned b x m k) w = (w.0, into c K G s B out0 t x m.session w.1)
-  w_heard now h t _ _ (trace.IsGrantedLater ino g mode x v m e k) w = w_view c K G s B out0 t x v m.session (granted_view x ino g mode v k) w
-  w_heard now h t _ _ (trace.SeesDemand ino g to x m e) w =
+  whole_after_heard now h t _ _ (trace.IsCondemned b x m k) w = (w.0, into c K G s B out0 t x m.session w.1)
+  whole_after_heard now h t _ _ (trace.IsGrantedLater ino g mode x v m e k) w =
+      whole_after_view c K G s B out0 t x v m.session (granted_view x ino g mode v k) w
+  whole_after_heard now h t _ _ (trace.SeesDemand ino g to x m e) w =
       let l = cs.with_cache (locks.demand x.locks ino g to).locks x in
-      w_say c K G s B out0 (with_session l t) (outputs.Send
+      whole_after_say c K G s B out0 (with_session l t) (outputs.Send
       (record { header = cs.header_of (with_session l t) x.epoch.0 0 0; body = bodies.DemandSeen ino g }))
-      (sent_fine (with_session l t) x.epoch.0 0 0 (bodies.DemandSeen ino g) w.0.id_) (w_view c K G s B out0 t x l m.session refl w)
-  w_heard now h t _ _ (trace.GivesUp ino g to x m e k) w = (w.0, into c K G s B out0 t x m.session w.1)
-  w_heard now h t _ _ (trace.HasGivenUp ino g to x m e k) w = (w.0, into c K G s B out0 t x m.session w.1)
-  w_heard now h t _ u (trace.IsAnswered b x q v _ r n f) w =
+      (sent_fine (with_session l t) x.epoch.0 0 0 (bodies.DemandSeen ino g) w.0.id_) (whole_after_view c K G s B out0 t x l m.session refl w)
+  whole_after_heard now h t _ _ (trace.GivesUp ino g to x m e k) w = (w.0, into c K G s B out0 t x m.session w.1)
+  whole_after_heard now h t _ _ (trace.HasGivenUp ino g to x m e k) w = (w.0, into c K G s B out0 t x m.session w.1)
+  whole_after_heard now h t _ u (trace.IsAnswered b x q v _ r n f) w =
       let y = cr.ended_by (trace.stamp_of h) x in
-      w_effect now (with_session y v) u y (cs.file_asked x.cutting q.body) q.body b refl refl f (renewed t x (trace.stamp_of h) v n w.0)
+      whole_after_effect now (with_session y v) u y (cs.file_asked x.cutting q.body) q.body b refl refl f (renewed t x (trace.stamp_of h) v n w.0)
 
-  pub w_receive : (now : Stamp) (h : Header) (b : Body) (t : Turn) → WW t → WW (cr.receive_at now h b t)
-  w_receive now h b t w = w_heard now h t b (cr.receive_at now h b t) (receives now h t b) w
+  pub whole_after_receive : (now : Stamp) (h : Header) (b : Body) (t : Turn) → WW t → WW (cr.receive_at now h b t)
+  whole_after_receive now h b t w = whole_after_heard now h t b (cr.receive_at now h b t) (receives now h t b) w
 
   -- An operation is answered.
   more_has : (o p : Operation) (xs os : List Operation) → Has p xs ⊎ Has p os → Has p (xs ++ o ∷ os)
@@ -280,11 +266,12 @@ module _ (c : ClientId) (K : ℕ → Type 0) (G : List Output) (s : ServerId) (B
   less_has o p xs os n (inr (inl q)) = absurd (n q)
   less_has o p xs os n (inr (inr h)) = has_right xs os p h
 
-  b_answer : (id : ClientId) (sv : ServerId) (life : ℕ) (xs os : List Operation) (out : List Output) (o : Operation) (a : AppAnswer) → cs.is_of sv o ≡ true →
+  base_after_answer : (id : ClientId) (sv : ServerId) (life : ℕ) (xs os : List Operation) (out : List Output) (o : Operation) (a : AppAnswer) →
+      cs.is_of sv o ≡ true →
       Base c K G s B out0 id sv life (xs ++ o ∷ os) out →
       Base c K G s B out0 id sv life (xs ++ os) (out ++ outputs.Answer o.op a ∷ [])
-  b_answer id sv life xs os out o a here b =
-      b_more c K G s B out0 id sv life (xs ++ o ∷ os) (xs ++ os) out (outputs.Answer o.op a ∷ [])
+  base_after_answer id sv life xs os out o a here b =
+      base_after_longer_list c K G s B out0 id sv life (xs ++ o ∷ os) (xs ++ os) out (outputs.Answer o.op a ∷ [])
       (one_good c K G s B out0 sv life (outputs.Answer o.op a) (b.known o (has_right xs (o ∷ os) o (inl refl))))
       (λ p h. b.known p (more_has o p xs os (has_append xs os p h)))
       (λ p h e. less_has o p xs os (λ q. clash here (subst (λ z. cs.is_of sv z ≡ false) q e)) (has_append xs (o ∷ os) p h))
@@ -304,22 +291,22 @@ module _ (c : ClientId) (K : ℕ → Type 0) (G : List Output) (s : ServerId) (B
       go (asks.Patch f q at bytes) e = and_left _ _ e
       go a e = refl
 
-  pub w_finish : (number : ℕ) (r : Option (Option (Tag × List ℕ))) (t : Turn) → WW t → WW (cl.finish number r t)
-  w_finish number r t w = go (cl.finish number r t) (finishes number r t)
+  pub whole_after_finish : (number : ℕ) (r : Option (Option (Tag × List ℕ))) (t : Turn) → WW t → WW (cl.finish number r t)
+  whole_after_finish number r t w = go (cl.finish number r t) (finishes number r t)
     where
       reads : (x : PageCommand) (u : Turn) → WW u → u.here.server ≡ t.here.server → WW (cs.answer_each (cl.waits_for_read t x) (answers.DiskFault x.number) u)
       reads x u k e = (
-        c_answers c K G s B out0 u (cl.waits_for_read t x) _ (λ o q. own_reads t.here.server x.ino x.page o
+        turn_base_after_answers c K G s B out0 u (cl.waits_for_read t x) _ (λ o q. own_reads t.here.server x.ino x.page o
             (subst (λ (z : ServerId). cs.is_of z o ≡ false) e q)) k.0,
-        o_answers c K G s B out0 u (cl.waits_for_read t x) (answers.DiskFault x.number)
+        owned_after_answers c K G s B out0 u (cl.waits_for_read t x) (answers.DiskFault x.number)
             (λ o cutting body m. means_other (cs.reads_page t.here.server x.ino x.page) (λ f p. refl) (λ sv n. refl) o.ask cutting body m) k.1,
       )
 
       syncs : (x : PageCommand) (u : Turn) → WW u → u.here.server ≡ t.here.server → WW (cs.answer_each (cl.waits_for_write t x) (answers.DiskFault x.number) u)
       syncs x u k e = (
-        c_answers c K G s B out0 u (cl.waits_for_write t x) _ (λ o q. and_left _ _
+        turn_base_after_answers c K G s B out0 u (cl.waits_for_write t x) _ (λ o q. and_left _ _
             (and_left (cs.is_of t.here.server o) _ (subst (λ (z : ServerId). cs.is_of z o ≡ false) e q))) k.0,
-        o_answers c K G s B out0 u (cl.waits_for_write t x) (answers.DiskFault x.number)
+        owned_after_answers c K G s B out0 u (cl.waits_for_write t x) (answers.DiskFault x.number)
             (λ o cutting body m. and_right _ _ (means_other cs.is_sync (λ f p. refl) (λ sv n. refl) o.ask cutting body m)) k.1,
       )
 
@@ -337,8 +324,8 @@ module _ (c : ClientId) (K : ℕ → Type 0) (G : List Output) (s : ServerId) (B
   abbrev R : List Operation → Turn → Type 0
   R os t = Base c K G s B out0 t.id t.here.server t.here.life.0 (t.operations ++ os) t.out × Owned t.here.server (view t.here.session) (t.operations ++ os)
 
-  r_keep : (os : List Operation) (o : Operation) (t : Turn) → R (o ∷ os) t → R os (cs.keep o t)
-  r_keep os o t r = subst (λ x. Base c K G s B out0 t.id t.here.server t.here.life.0 x t.out × Owned t.here.server (view t.here.session) x)
+  rest_whole_after_keeping : (os : List Operation) (o : Operation) (t : Turn) → R (o ∷ os) t → R os (cs.keep o t)
+  rest_whole_after_keeping os o t r = subst (λ x. Base c K G s B out0 t.id t.here.server t.here.life.0 x t.out × Owned t.here.server (view t.here.session) x)
       (sym (append_assoc t.operations (o ∷ []) os)) r
 
   -- an answer to an operation of this server that waits for no reply
@@ -346,8 +333,8 @@ module _ (c : ClientId) (K : ℕ → Type 0) (G : List Output) (s : ServerId) (B
     pub here : cs.is_of sv o ≡ true
     pub idle : (cutting : Option ℕ) (body : Body) → cs.is_asked sv o ≡ true → Means o.ask cutting body → ⊥
 
-  r_answer : (os : List Operation) (o : Operation) (a : AppAnswer) (t : Turn) → Drops t.here.server o → R (o ∷ os) t → R os (cp.answer o a t)
-  r_answer os o a t d r = (b_answer t.id t.here.server t.here.life.0 t.operations os t.out o a d.here r.0, go (view t.here.session) r.1)
+  rest_whole_after_answer : (os : List Operation) (o : Operation) (a : AppAnswer) (t : Turn) → Drops t.here.server o → R (o ∷ os) t → R os (cp.answer o a t)
+  rest_whole_after_answer os o a t d r = (base_after_answer t.id t.here.server t.here.life.0 t.operations os t.out o a d.here r.0, go (view t.here.session) r.1)
     where
       by : (cutting : Option ℕ) (q : Option Request) → OwnedBy t.here.server cutting (t.operations ++ o ∷ os) q → OwnedBy t.here.server cutting
           (t.operations ++ os) q
@@ -365,8 +352,8 @@ module _ (c : ClientId) (K : ℕ → Type 0) (G : List Output) (s : ServerId) (B
       go None w = tt
       go (Some v) w = by v.1 v.0 w
 
-  r_say : (os : List Operation) (t : Turn) (o : Output) → Fine c K G t.here.server t.here.life.0 o → R os t → R os (say t o)
-  r_say os t o k r = (b_say c K G s B out0 t.id t.here.server t.here.life.0 (t.operations ++ os) t.out o k r.0, r.1)
+  rest_whole_after_say : (os : List Operation) (t : Turn) (o : Output) → Fine c K G t.here.server t.here.life.0 o → R os t → R os (say t o)
+  rest_whole_after_say os t o k r = (base_after_say c K G s B out0 t.id t.here.server t.here.life.0 (t.operations ++ os) t.out o k r.0, r.1)
 
   -- an operation that is neither a cut nor a name
   works : (sv : ServerId) (o : Operation) (a : Ask) → o.ask ≡ a → ((cutting : Option ℕ) (body : Body) → Means a cutting body → ⊥) → cs.is_of sv o ≡ true →
@@ -387,53 +374,58 @@ module _ (c : ClientId) (K : ℕ → Type 0) (G : List Output) (s : ServerId) (B
       sent stages.Unsent e = cc e
       sent stages.Stuck e = refl
 
-  r_operated : (now : Stamp) (all os : List Operation) (o : Operation) (t u : Turn) → Operated now all o t u → R (o ∷ os) t → R os u
-  r_operated now all os o t _ pass.Waits r = r_keep os o t r
-  r_operated now all os o t _ (pass.IsHard f h e q) r = r_answer os o _ t (works t.here.server o _ e (λ cutting body m. m) h) r
-  r_operated now all os o t _ (pass.IsQuiesced x h n a b d) r = r_answer os o _ t (unsent t.here.server o h d) r
-  r_operated now all os o t _ (pass.ChangesPage x f p bytes n v d m e) r =
-      r_answer os o answers.Written (cp.with_pages_changed (pages.written t.here.store.pages f.ino p bytes) f.ino p (cs.note t n))
-      (changed_works t.here.server o t f p bytes n d v.own) (r_say (o ∷ os) t (outputs.Note n) tt r)
-  r_operated now all os o t _ (pass.IsDirtyFull x f p bytes n v d m e) r = r_answer os o _ t (changed_works t.here.server o t f p bytes n d v.own) r
-  r_operated now all os o t _ (pass.Fetches x f p m v n a e b) r = r_keep os o
+  rest_whole_after_operated : (now : Stamp) (all os : List Operation) (o : Operation) (t u : Turn) → Operated now all o t u → R (o ∷ os) t → R os u
+  rest_whole_after_operated now all os o t _ pass.Waits r = rest_whole_after_keeping os o t r
+  rest_whole_after_operated now all os o t _ (pass.IsHard f h e q) r = rest_whole_after_answer os o _ t (works t.here.server o _ e (λ cutting body m. m) h) r
+  rest_whole_after_operated now all os o t _ (pass.IsQuiesced x h n a b d) r = rest_whole_after_answer os o _ t (unsent t.here.server o h d) r
+  rest_whole_after_operated now all os o t _ (pass.ChangesPage x f p bytes n v d m e) r =
+      rest_whole_after_answer os o answers.Written (cp.with_pages_changed (pages.written t.here.store.pages f.ino p bytes) f.ino p (cs.note t n))
+      (changed_works t.here.server o t f p bytes n d v.own) (rest_whole_after_say (o ∷ os) t (outputs.Note n) tt r)
+  rest_whole_after_operated now all os o t _ (pass.IsDirtyFull x f p bytes n v d m e) r =
+      rest_whole_after_answer os o _ t (changed_works t.here.server o t f p bytes n d v.own) r
+  rest_whole_after_operated now all os o t _ (pass.Fetches x f p m v n a e b) r = rest_whole_after_keeping os o
       (say (cp.with_command f.ino p io.Read t) (outputs.Submit t.next_command m.at (commands.Read m.at)))
-      (r_say (o ∷ os) (cp.with_command f.ino p io.Read t) _ tt r)
-  r_operated now all os o t _ (pass.ReadsCached x f p bytes v e h q) r =
-      r_answer os o _ (with_store (record t.here.store { pages = pages.use_page t.here.store.pages f.ino p }) t)
+      (rest_whole_after_say (o ∷ os) (cp.with_command f.ino p io.Read t) _ tt r)
+  rest_whole_after_operated now all os o t _ (pass.ReadsCached x f p bytes v e h q) r =
+      rest_whole_after_answer os o _ (with_store (record t.here.store { pages = pages.use_page t.here.store.pages f.ino p }) t)
       (works t.here.server o _ e (λ cutting body m. m) v.own) r
-  r_operated now all os o t _ (pass.ReadsZeros x f p e v a h q k m) r = r_answer os o _ t (works t.here.server o _ a (λ cutting body m. m) v.own) r
+  rest_whole_after_operated now all os o t _ (pass.ReadsZeros x f p e v a h q k m) r =
+      rest_whole_after_answer os o _ t (works t.here.server o _ a (λ cutting body m. m) v.own) r
 
   -- Reductions, writes and greeting.
-  w_reduced : (ino : ℕ) (t u : Turn) → Reduced ino t u → WW t → WW u
-  w_reduced ino t _ StaysHeld w = w
-  w_reduced ino t _ (IsReduced x g to e m q) w = (w.0, into c K G s B out0 t x e w.1)
+  whole_after_reduced : (ino : ℕ) (t u : Turn) → Reduced ino t u → WW t → WW u
+  whole_after_reduced ino t _ StaysHeld w = w
+  whole_after_reduced ino t _ (IsReduced x g to e m q) w = (w.0, into c K G s B out0 t x e w.1)
 
-  w_written : (now : Stamp) (tick : Bool) (y : ℕ × PageNo) (t u : Turn) → WritesOut now tick y t u → WW t → WW u
-  w_written now tick y t _ StaysDirty w = w
-  w_written now tick y t _ (IsWritten x d m e q k i) w = w_say c K G s B out0 (cp.with_command d.ino d.page (io.Write d.version) t) _ tt w
+  whole_after_written : (now : Stamp) (tick : Bool) (y : ℕ × PageNo) (t u : Turn) → WritesOut now tick y t u → WW t → WW u
+  whole_after_written now tick y t _ StaysDirty w = w
+  whole_after_written now tick y t _ (IsWritten x d m e q k i) w = whole_after_say c K G s B out0 (cp.with_command d.ino d.page (io.Write d.version) t) _ tt w
 
-  w_greeted : (now : Stamp) (tick : Bool) (t u : Turn) → Greets now tick t u → WW t → WW u
+  whole_after_greeted : (now : Stamp) (tick : Bool) (t u : Turn) → Greets now tick t u → WW t → WW u
   unfolding cs.send
-  w_greeted now tick t _ asking.IsSilent w = w
-  w_greeted now tick t _ (asking.SaysHello e m) w =
-      w_say c K G s B out0 (cp.with_greeting now t) (outputs.Send (record { header = cs.header_of (cp.with_greeting now t) 0 0 now.0; body = bodies.Hello }))
+  whole_after_greeted now tick t _ asking.IsSilent w = w
+  whole_after_greeted now tick t _ (asking.SaysHello e m) w =
+      whole_after_say c K G s B out0 (cp.with_greeting now t)
+      (outputs.Send (record { header = cs.header_of (cp.with_greeting now t) 0 0 now.0; body = bodies.Hello }))
       (sent_fine (cp.with_greeting now t) 0 0 now.0 bodies.Hello w.0.id_) w
 
-  pub w_passes : (now : Stamp) (tick : Bool) (t : Turn) → WW t → WW (cp.passes now tick t)
-  w_passes now tick t w =
+  pub whole_after_passes : (now : Stamp) (tick : Bool) (t : Turn) → WW t → WW (cp.passes now tick t)
+  whole_after_passes now tick t w =
       let r = passes now tick t in let o = r.operated in
-      let z = each_lasts (Operated now t.operations) (λ os v. R os v) (λ o os v u step y. r_operated now t.operations os o v u step y) t.operations
+      let z = each_lasts (Operated now t.operations) (λ os v. R os v) (λ o os v u step y. rest_whole_after_operated now t.operations os o v u step y)
+      t.operations
       (with_operations [] t) o r.operations w in
-      w_requested now tick r.greeted (cp.passes now tick t) r.requests
-      (w_greeted now tick r.written r.greeted r.greeting
-      (each_lasts (WritesOut now tick) (λ xs v. WW v) (λ x xs v u step y. w_written now tick x v u step y)
+      whole_after_requested now tick r.greeted (cp.passes now tick t) r.requests
+      (whole_after_greeted now tick r.written r.greeted r.greeting
+      (each_lasts (WritesOut now tick) (λ xs v. WW v) (λ x xs v u step y. whole_after_written now tick x v u step y)
       (places_of r.reduced.here.session r.reduced.here.store.pages) r.reduced r.written r.writes
-      (each_lasts Reduced (λ inos v. WW v) (λ ino inos v u step y. w_reduced ino v u step y) (cp.files_demanded o.here.session) o r.reduced r.reductions
-      (subst (λ os. Base c K G s B out0 o.id o.here.server o.here.life.0 os o.out × Owned o.here.server (view o.here.session) os) (none_more o.operations) z))))
+      (each_lasts Reduced (λ inos v. WW v) (λ ino inos v u step y. whole_after_reduced ino v u step y) (cp.files_demanded o.here.session) o r.reduced
+      r.reductions
+      (subst (λ os. Base c K G s B out0 o.id o.here.server o.here.life.0 os o.out × Owned o.here.server (view o.here.session) os) (append-nil o.operations) z))))
 
   -- Asks of applications, under a number that is new.
-  pub w_take : (op : ℕ) (ask : Ask) → K op → (t : Turn) → pending op t.operations + told op t.out ≡ 0 → WW t → WW (cl.take_ask op ask t)
-  w_take op ask k t zero w = by (cl.take_ask op ask t) (takes op ask t)
+  pub whole_after_take : (op : ℕ) (ask : Ask) → K op → (t : Turn) → pending op t.operations + told op t.out ≡ 0 → WW t → WW (cl.take_ask op ask t)
+  whole_after_take op ask k t zero w = by (cl.take_ask op ask t) (takes op ask t)
     where
       new : Operation
       new = cs.new_operation op ask
@@ -479,7 +471,7 @@ module _ (c : ClientId) (K : ℕ → Type 0) (G : List Output) (s : ServerId) (B
 
       lost : (f : FileId) → WW (cs.answered (cs.with_lost_rows (pages.untold t.here.lost f.ino) t) op (answers.Lost (pages.told_rows t.here.lost f.ino)))
       lost f = (
-        b_more c K G s B out0 t.id t.here.server t.here.life.0 t.operations t.operations t.out
+        base_after_longer_list c K G s B out0 t.id t.here.server t.here.life.0 t.operations t.operations t.out
             (outputs.Answer op (answers.Lost (pages.told_rows t.here.lost f.ino)) ∷ []) (one_good c K G s B out0 t.here.server t.here.life.0 _ k) w.0.known
             (λ o h e. h)
             (λ n. let z = told_more n t.out (outputs.Answer op (answers.Lost (pages.told_rows t.here.lost f.ino)) ∷ []) in let y = one n
@@ -504,25 +496,25 @@ module _ (c : ClientId) (K : ℕ → Type 0) (G : List Output) (s : ServerId) (B
         quiet = w.quiet;
       }
   ended x o os t _ (losing.IsUncertain h e) w = record {
-    base = b_answer t.id t.here.server t.here.life.0 t.operations os t.out o _ h w.base;
+    base = base_after_answer t.id t.here.server t.here.life.0 t.operations os t.out o _ h w.base;
     quiet = silent_more t.out _ (λ n e. cc e) w.quiet;
   }
   ended x o os t _ (losing.IsToldLost f h e q l) w = record {
-    base = b_answer t.id t.here.server t.here.life.0 t.operations os t.out o _ h w.base;
+    base = base_after_answer t.id t.here.server t.here.life.0 t.operations os t.out o _ h w.base;
     quiet = silent_more t.out _ (λ n e. cc e) w.quiet;
   }
   ended x o os t _ (losing.LostNothing f h e q l) w = record {
-    base = b_answer t.id t.here.server t.here.life.0 t.operations os t.out o _ h w.base;
+    base = base_after_answer t.id t.here.server t.here.life.0 t.operations os t.out o _ h w.base;
     quiet = silent_more t.out _ (λ n e. cc e) w.quiet;
   }
   ended x o os t _ (losing.IsQuiesced h e q) w = record {
-    base = b_answer t.id t.here.server t.here.life.0 t.operations os t.out o _ h w.base;
+    base = base_after_answer t.id t.here.server t.here.life.0 t.operations os t.out o _ h w.base;
     quiet = silent_more t.out _ (λ n e. cc e) w.quiet;
   }
 
   -- a lease that may be over, where nothing was sent yet in the step
-  pub w_lose : (now : Stamp) (t : Turn) → Silent t.out → WW t → WW (cl.lose now t)
-  w_lose now t quiet w = go (cl.lose now t) (loses now t)
+  pub whole_after_lose : (now : Stamp) (t : Turn) → Silent t.out → WW t → WW (cl.lose now t)
+  whole_after_lose now t quiet w = go (cl.lose now t) (loses now t)
     where
       lost : (u : Turn) → Losing [] u → WW (cl.empty_here u)
       lost u r = (
@@ -542,7 +534,7 @@ module _ (c : ClientId) (K : ℕ → Type 0) (G : List Output) (s : ServerId) (B
       )
         where
           b : Base c K G s B out0 u.id u.here.server u.here.life.0 u.operations u.out
-          b = subst (λ os. Base c K G s B out0 u.id u.here.server u.here.life.0 os u.out) (none_more u.operations) r.base
+          b = subst (λ os. Base c K G s B out0 u.id u.here.server u.here.life.0 os u.out) (append-nil u.operations) r.base
 
       go : (u : Turn) → Loses now t u → WW u
       go _ (losing.HasNoSession e) = w
@@ -551,7 +543,7 @@ module _ (c : ClientId) (K : ℕ → Type 0) (G : List Output) (s : ServerId) (B
           lost u (each_lasts (Ended x) (λ os v. Losing os v) (λ o os v u step y. ended x o os v u step y) t.operations
           (with_operations [] (losing.loss_noted t)) u p
           (record {
-            base = b_say c K G s B out0 t.id t.here.server t.here.life.0 t.operations t.out _ tt w.0;
+            base = base_after_say c K G s B out0 t.id t.here.server t.here.life.0 t.operations t.out _ tt w.0;
             quiet = silent_more t.out _
                 (λ n e. cc e) quiet;
           }))

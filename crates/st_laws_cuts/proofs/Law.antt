@@ -1,39 +1,28 @@
 -- Cuts are asked: at the start, after every event, and over whole runs.
-use Rattle.std.proofs.Common.{◌≡◌, ℕ, ◌+◌, ◌≤◌, true, not, List, [], ◌∷◌, ◌++◌, Some, None, Ok, refl, sym, ap, ◌∙◌, subst, arith}
-use Rattle.std.specs.List.{list_any}
-use Rattle.std.proofs.lemmas.Bool.{eq-eqb}
+use Rattle.st_lemmas.proofs.Words
+use Words.{◌≡◌, ℕ, ◌+◌, ◌≤◌, true, not, List, [], ◌∷◌, ◌++◌, Some, None, Ok, refl, sym, ap, ◌∙◌, subst, arith, list_any, eq-eqb, ClientId, FileId, PageNo}
+use Words.{ServerId, NameAsk, Ask, Event, Body, Message, NameOp, Observation}
+use Words.names
+use Words.modes
+use Words.asks
+use Words.bodies
+use Words.ops
+use Words.seen
+use Words.Client as cl
+use Words.ClientPasses.{name_op}
+use Words.ClientState.{Association, asks_cut_or_name}
+use Words.Events as ev
+use Words.Events.{WorldTurn, world_step}
+use Words.Extents.{numbers}
+use Words.History.{Traced, traced, traced_after}
+use Words.Keys.{client}
+use Words.Safety.{IsHead, Step, is_event, step}
+use Words.World.{World, WorldClient, all_clients, fresh_world, fresh_site, node_of, site_of}
+use Words.Lists.{Has}
+use Words.Tables.{all_pass, and_both, has_map, some_passes}
 use Rattle.st_base.specs.declared.config.Config as base
-use Rattle.st_base.specs.declared.ids.ClientId.{ClientId}
-use Rattle.st_base.specs.declared.ids.FileId.{FileId}
-use Rattle.st_base.specs.declared.ids.PageNo.{PageNo}
-use Rattle.st_base.specs.declared.ids.ServerId.{ServerId}
-use Rattle.st_base.specs.declared.names.NameAsk.{NameAsk}
-use Rattle.st_base.specs.declared.names.NameAsk.TheVariants as names
 use Rattle.st_base.specs.Mode.{covers, number_of}
-use Rattle.st_base.specs.declared.mode.Mode.TheVariants as modes
-use Rattle.st_messages.specs.declared.ask.Ask.{Ask}
-use Rattle.st_messages.specs.declared.ask.Ask.TheVariants as asks
-use Rattle.st_messages.specs.declared.event.Event.{Event}
-use Rattle.st_messages.specs.declared.message.Body.{Body}
-use Rattle.st_messages.specs.declared.message.Body.TheVariants as bodies
-use Rattle.st_messages.specs.declared.message.Message.{Message}
-use Rattle.st_messages.specs.declared.message.NameOp.{NameOp}
-use Rattle.st_messages.specs.declared.message.NameOp.TheVariants as ops
-use Rattle.st_rules.specs.declared.observation.Observation.{Observation}
-use Rattle.st_rules.specs.declared.observation.Observation.TheVariants as seen
-use Rattle.st_rules.specs.Client as cl
-use Rattle.st_rules.specs.ClientPasses.{name_op}
-use Rattle.st_rules.specs.ClientState.{Association, asks_cut_or_name}
-use Rattle.st_rules.specs.Events as ev
-use Rattle.st_rules.specs.Events.{WorldTurn, world_step}
-use Rattle.st_rules.specs.Extents.{numbers}
-use Rattle.st_rules.specs.History.{Traced, traced, traced_after}
-use Rattle.st_rules.specs.Keys.{client}
-use Rattle.st_rules.specs.Safety.{IsHead, Step, is_event, step}
-use Rattle.st_rules.specs.World.{World, WorldClient, all_clients, fresh_world, fresh_site, node_of, site_of}
 use Rattle.st_protocol.specs.Assoc.{Config}
-use Rattle.st_lemmas.specs.Lists.{Has}
-use Rattle.st_lemmas.proofs.Tables.{all_pass, and_both, has_map, some_passes}
 use Rattle.st_laws_refine.specs.Server.Pair.{terms_of}
 use Rattle.st_laws_pages.proofs.Disks.Whole.{site_is}
 use Rattle.st_laws_leases.specs.Sides.Law.{InEveryRun}
@@ -180,6 +169,6 @@ begins k clients servers disks blocks form head = record { base = first k client
           few = λ c s e n. let z = ap (Rattle.st_laws_cuts.proofs.Counts.pending n) (none_asked c s e) in omega (arith, z);
         }
 
-pub law : InEveryRun CutsAreAsked
-law k clients servers disks blocks form es head events =
+pub cuts_are_asked : InEveryRun CutsAreAsked
+cuts_are_asked k clients servers disks blocks form es head events =
     throughout_events (clients + servers) CutsAreAsked (AllHold (terms_of k) (clients + servers)) (one (terms_of k) (clients + servers)) es events [] (traced (fresh_world k clients servers disks blocks form)) (begins k clients servers disks blocks form head)

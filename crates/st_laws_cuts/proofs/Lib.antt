@@ -8,6 +8,7 @@ pub mod Step
 pub mod Words
 pub mod Alive
 pub mod Events
+pub mod OverAfter
 pub mod World
 pub mod Law
 pub mod Acknowledged

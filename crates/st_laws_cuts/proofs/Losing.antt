@@ -1,23 +1,18 @@
 -- Losses of a step: what is said stays said, operations of other servers stay, and those of the server whose requests were sent are uncertain.
-use Rattle.std.proofs.Common.{◌≡◌, ℕ, ◌⊎◌, Bool, true, false, not, List, [], ◌∷◌, ◌++◌, Option, Some, None, refl, sym, ap, ◌∙◌, subst, inl, inr, if◌then◌else◌}
-use Rattle.std.specs.Prelude.{filter}
-use Rattle.st_base.specs.declared.ids.Stamp.{Stamp}
-use Rattle.st_messages.specs.declared.answer.AppAnswer.{AppAnswer}
-use Rattle.st_messages.specs.declared.answer.AppAnswer.TheVariants as answers
-use Rattle.st_messages.specs.declared.ask.Ask.{Ask}
-use Rattle.st_messages.specs.declared.ask.Ask.TheVariants as asks
-use Rattle.st_messages.specs.declared.message.Message.{Message}
-use Rattle.st_messages.specs.declared.output.Output.{Output}
-use Rattle.st_messages.specs.declared.output.Output.TheVariants as outputs
-use Rattle.st_rules.specs.declared.client.Operation.{Operation}
-use Rattle.st_rules.specs.Client as cl
-use Rattle.st_rules.specs.ClientPages as pages
-use Rattle.st_rules.specs.ClientState as cs
-use Rattle.st_rules.specs.ClientState.{Association, ClientSession, ClientTurn, Turn, at_these, enter, leave, with_operations}
-use Rattle.st_lemmas.specs.Lists.{Has}
-use Rattle.st_lemmas.proofs.Lookups.{some_is}
-use Rattle.st_lemmas.proofs.Tables.{has_append, has_filter_in}
-use Rattle.st_laws_leases.proofs.Dates.Known.{has_left, has_right}
+use Rattle.st_lemmas.proofs.Words
+use Words.{◌≡◌, ℕ, ◌⊎◌, Bool, true, false, not, List, [], ◌∷◌, ◌++◌, Option, Some, None, refl, sym, ap, ◌∙◌, subst, inl, inr, if◌then◌else◌, filter, Stamp}
+use Words.{AppAnswer, Ask, Message, Output, Operation}
+use Words.answers
+use Words.asks
+use Words.outputs
+use Words.Client as cl
+use Words.ClientPages as pages
+use Words.ClientState as cs
+use Words.ClientState.{Association, ClientSession, ClientTurn, Turn, at_these, enter, leave, with_operations}
+use Words.Lists.{Has}
+use Words.Lookups.{some_is}
+use Words.Tables.{has_append, has_filter_in}
+use Words.Members.{has_left, has_right}
 
 -- nothing was sent
 abbrev pub Silent : List Output → Type 0

@@ -1,23 +1,17 @@
 -- Why the names of a server change: its stable part stays, or a request for a name was served.
-use Rattle.std.proofs.Common.{◌≡◌, ◌⊎◌, ◌==◌, refl, sym, ap, ◌∙◌, inl, inr}
-use Rattle.st_base.specs.declared.ids.Stamp.{Stamp}
-use Rattle.st_messages.specs.declared.answer.AppAnswer.{AppAnswer}
-use Rattle.st_messages.specs.declared.answer.AppAnswer.TheVariants as answers
-use Rattle.st_messages.specs.declared.message.Body.{Body}
-use Rattle.st_messages.specs.declared.message.Body.TheVariants as bd
-use Rattle.st_messages.specs.declared.message.Header.{Header}
-use Rattle.st_messages.specs.declared.message.Message.{Message}
-use Rattle.st_messages.specs.declared.message.NameOp.{NameOp}
-use Rattle.st_messages.specs.declared.message.NameOp.TheVariants as ops
-use Rattle.st_rules.specs.declared.input.ServerInput.{ServerInput}
-use Rattle.st_rules.specs.declared.input.ServerInput.TheVariants.{Control}
-use Rattle.st_rules.specs.Keys.{server_node}
-use Rattle.st_rules.specs.Names as names
-use Rattle.st_rules.specs.Names.{Names}
-use Rattle.st_rules.specs.Sessions.{is_live_state}
-use Rattle.st_rules.specs.Server as sv
-use Rattle.st_rules.specs.Server.{ServerState, ServerTurn, Stable, sender, server_step}
-use Rattle.st_lemmas.proofs.Tables.{cond_true, cond_false}
+use Rattle.st_lemmas.proofs.Words
+use Words.{◌≡◌, ◌⊎◌, ◌==◌, refl, sym, ap, ◌∙◌, inl, inr, Stamp, AppAnswer, Body, Header, Message, NameOp, ServerInput}
+use Words.answers
+use Words.bodies as bd
+use Words.ops
+use Words.serving.{Control}
+use Words.Keys.{server_node}
+use Words.Names as names
+use Words.Names.{Names}
+use Words.Sessions.{is_live_state}
+use Words.Server as sv
+use Words.Server.{ServerState, ServerTurn, Stable, sender, server_step}
+use Words.Tables.{cond_true, cond_false}
 use Rattle.st_promises.specs.NameAnswers.{changed, said}
 use Rattle.st_laws_requests.specs.Cuts.Cuts.{does, does_remove}
 use Rattle.st_laws_cuts.specs.ServedRequests.{IsServedBy, NamesBy}

@@ -1,27 +1,21 @@
 -- A message that a server serves, to cut a file or for a name: it comes from an ask that was not settled.
-use Rattle.std.proofs.Common.{◌≡◌, ◌≢◌, ◌⊎◌, ℕ, ◌+◌, ◌≤◌, ◌<◌, zero, suc, Bool, true, false, List, ◌∷◌, Some, refl, sym, ap, ◌∙◌, subst, inl, inr, arith}
-use Rattle.std.specs.Prelude.{length, nat_le}
-use Rattle.std.specs.List.{list_any}
-use Rattle.std.proofs.lemmas.Bool.{leb-true}
-use Rattle.st_base.specs.declared.ids.ClientId.{ClientId}
-use Rattle.st_base.specs.declared.ids.GrantNo.{GrantNo}
-use Rattle.st_base.specs.declared.ids.ServerId.{ServerId}
-use Rattle.st_messages.specs.declared.ask.Ask.{Ask}
-use Rattle.st_messages.specs.declared.message.Body.{Body}
-use Rattle.st_rules.specs.ClientState.{Association, asks_cut_or_name}
-use Rattle.st_rules.specs.Extents.{numbers}
-use Rattle.st_rules.specs.History.{Traced}
-use Rattle.st_rules.specs.Keys.{client, server_node}
-use Rattle.st_rules.specs.Safety.{Step}
-use Rattle.st_rules.specs.Sessions as sessions
-use Rattle.st_rules.specs.World.{World, WorldClient, all_clients, numbered, server, site_of}
+use Rattle.st_lemmas.proofs.Words
+use Words.{◌≡◌, ◌≢◌, ◌⊎◌, ℕ, ◌≤◌, zero, suc, Bool, true, false, List, ◌∷◌, Some, refl, sym, ap, ◌∙◌, subst, inl, inr, arith, length, nat_le, list_any}
+use Words.{leb-true, ClientId, GrantNo, ServerId, Ask, Body}
+use Words.ClientState.{Association, asks_cut_or_name}
+use Words.Extents.{numbers}
+use Words.History.{Traced}
+use Words.Keys.{client, server_node}
+use Words.Safety.{Step}
+use Words.Sessions as sessions
+use Words.World.{WorldClient, all_clients, numbered, server, site_of}
+use Words.Lists.{Has}
+use Words.Tables.{and_true, has_map_in, same_or_not}
+use Words.Members.{between_in_numbers, has_right}
+use Words.Worlds.{site_there}
 use Rattle.st_protocol.specs.Assoc.{Config}
-use Rattle.st_lemmas.specs.Lists.{Has}
-use Rattle.st_lemmas.proofs.Numbers.{get_there}
-use Rattle.st_lemmas.proofs.Tables.{and_true, has_map_in, same_or_not}
 use Rattle.st_laws_refine.specs.Client.Law.{Place}
 use Rattle.st_laws_leases.specs.Sides.Invariants.{Standing}
-use Rattle.st_laws_leases.proofs.Dates.Known.{has_right}
 use Rattle.st_laws_requests.specs.Replies.ServedRequests.{IsBehind, Reached}
 use Rattle.st_laws_requests.specs.Cuts.Cuts.{Between, asks_of}
 use Rattle.st_laws_extents.specs.CutRequests.EndedLives.{IsPast}
@@ -34,25 +28,8 @@ use Rattle.st_laws_cuts.proofs.Alive.{alive}
 use Rattle.st_laws_cuts.proofs.Words.{under_has, unsettled_past}
 use Rattle.st_laws_cuts.proofs.World.{OwnersHold}
 
--- the clients of a world
-pub numbers_has : (a n i : ℕ) → a ≤ i → i < a + n → Has i (numbers a n)
-unfolding numbers
-numbers_has a zero i l h = absurd (omega (arith, l, h))
-numbers_has a (suc n) i l h = go (same_or_not i a) (λ m. numbers_has (a + 1) n i m (omega (arith, h)))
-  where
-    go : (i ≡ a) ⊎ (i ≢ a) → (a + 1 ≤ i → Has i (numbers (a + 1) n)) → Has i (numbers a (suc n))
-    go (inl e) f = inl e
-    go (inr ne) f = inr (f (omega (arith, l, ne)))
-
-numbered_there : {A : Type 0} (xs : List A) (n : ℕ) → 1 ≤ n → n ≤ length xs → (v : A) × (numbered xs n ≡ Some v)
-numbered_there xs zero l h = absurd (omega (arith, l))
-numbered_there xs (suc n) l h = get_there xs n (omega (arith, h))
-
-site_there : (w : World) (c : ClientId) → 1 ≤ c.0 → c.0 ≤ length w.clients → (site : WorldClient) × (site_of w c ≡ Some site)
-site_there w c l h = numbered_there w.clients c.0 l h
-
 -- its association with a server
-association_there : (k : Config) (s c : ℕ) (site : WorldClient) (es : List Rattle.st_rules.specs.declared.world.LeaseLife.LeaseLife) (N : List Rattle.st_protocol.specs.Assoc.Msg) → Standing k s c site es N → (a : Association) × Has a site.node.state.associations × (a.server ≡ server s)
+pub association_there : (k : Config) (s c : ℕ) (site : WorldClient) (es : List Rattle.st_rules.specs.declared.world.LeaseLife.LeaseLife) (N : List Rattle.st_protocol.specs.Assoc.Msg) → Standing k s c site es N → (a : Association) × Has a site.node.state.associations × (a.server ≡ server s)
 association_there k s c site es N z = (z.association, subst (Has z.association) (sym p.is) (has_right p.before (z.association ∷ p.after) z.association (inl refl)), p.here)
   where
     p : Place (server s) site.node.state.associations z.association
@@ -146,4 +123,4 @@ module _ (k : Config) (count : ℕ) (past : List Step) (t : Traced) (h : Hold k 
 
   -- and the client among those of the world
   pub among : Has (client z.message.header.from) (all_clients t.world)
-  among = has_map_in client (numbers 1 (length t.world.clients)) z.message.header.from (numbers_has 1 (length t.world.clients) z.message.header.from bounds.0 (let q = d.senders z.message z.among z.by.client in omega (arith, q)))
+  among = has_map_in client (numbers 1 (length t.world.clients)) z.message.header.from (between_in_numbers 1 (length t.world.clients) z.message.header.from bounds.0 (let q = d.senders z.message z.among z.by.client in omega (arith, q)))

@@ -1,36 +1,22 @@
 -- What holds within a client's rule at a server: its pending operations and the answers are of known asks, what it sends is of its life, and the operation of
 -- the outstanding request is pending. What small changes and replies leave of it.
-use Rattle.std.proofs.Common.{◌≡◌, ℕ, ◌+◌, ◌≤◌, ◌⊎◌, Bool, true, false, not, List, [], ◌∷◌, ◌++◌, Option, Some, None, refl, sym, ap, ◌∙◌, subst, inl, inr}
-use Rattle.std.proofs.Common.{arith, if◌then◌else◌}
-use Rattle.std.specs.Prelude.{filter, map}
-use Rattle.st_base.specs.declared.ids.ClientId.{ClientId}
-use Rattle.st_base.specs.declared.ids.PageNo.{PageNo}
-use Rattle.st_base.specs.declared.ids.ServerId.{ServerId}
-use Rattle.st_messages.specs.declared.answer.AppAnswer.{AppAnswer}
-use Rattle.st_messages.specs.declared.ask.Ask.{Ask}
-use Rattle.st_messages.specs.declared.ask.Ask.TheVariants as asks
-use Rattle.st_messages.specs.declared.message.Body.{Body}
-use Rattle.st_messages.specs.declared.message.Message.{Message}
-use Rattle.st_messages.specs.declared.message.Why.{Why}
-use Rattle.st_messages.specs.declared.output.Output.{Output}
-use Rattle.st_messages.specs.declared.output.Output.TheVariants as outputs
-use Rattle.st_rules.specs.declared.client.Operation.{Operation}
-use Rattle.st_rules.specs.declared.client.Request.{Request}
-use Rattle.st_rules.specs.declared.client.Stage.TheVariants as stages
-use Rattle.st_rules.specs.ClientReplies as cr
-use Rattle.st_rules.specs.ClientState as cs
-use Rattle.st_rules.specs.ClientState.{ClientSession, Turn, answer_to, server_of, say, with_session}
-use Rattle.st_lemmas.specs.Lists.{Has}
-use Rattle.st_lemmas.proofs.Tables.{and_left, has_append, has_filter, has_filter_in, has_map, has_map_in}
-use Rattle.st_laws_leases.proofs.Dates.Known.{has_left}
+use Rattle.st_lemmas.proofs.Words
+use Words.{◌≡◌, ℕ, ◌+◌, ◌≤◌, ◌⊎◌, Bool, true, false, not, List, [], ◌∷◌, ◌++◌, Option, Some, None, refl, sym, ap, ◌∙◌, subst, inl, inr, arith, if◌then◌else◌}
+use Words.{filter, map, ClientId, PageNo, ServerId, AppAnswer, Ask, Body, Message, Why, Output, Operation, Request}
+use Words.asks
+use Words.outputs
+use Words.stages
+use Words.ClientReplies as cr
+use Words.ClientState as cs
+use Words.ClientState.{ClientSession, Turn, answer_to, server_of, say, with_session}
+use Words.Lists.{Has}
+use Words.Tables.{and_left, has_append, has_filter, has_filter_in, has_map, has_map_in}
+use Words.Members.{has_left}
 use Rattle.st_laws_requests.specs.Cuts.Cuts.{Between}
 use Rattle.st_laws_cuts.proofs.Counts.{pending, pending_map, pending_split, told, told_answers, told_more}
 use Rattle.st_laws_cuts.specs.Owners.{Means, Owned, OwnedBy, view}
 use Rattle.st_trace.specs.Client.Messages as trace
 use Rattle.st_trace.specs.Client.Messages.{Refusal}
-
-pub clash : {A : Type 0} {b : Bool} → b ≡ true → b ≡ false → A
-clash x y = cc
 
 -- a test that skips cuts and names skips the ask of such a request
 pub means_other : (P : Ask → Bool) → ((f : Rattle.st_base.specs.declared.ids.FileId.FileId) (p : PageNo) → P (asks.Cut f p) ≡ false) →
@@ -100,10 +86,11 @@ module _ (c : ClientId) (K : ℕ → Type 0) (G : List Output) where
     fine_good sv life (outputs.Submit n at what) f = tt
     fine_good sv life (outputs.Note n) f = tt
 
-    pub b_more : (id : ClientId) (sv : ServerId) (life : ℕ) (ops qs : List Operation) (out os : List Output) → ((o : Output) → Has o os → Good sv life o) →
+    pub base_after_longer_list : (id : ClientId) (sv : ServerId) (life : ℕ) (ops qs : List Operation) (out os : List Output) →
+        ((o : Output) → Has o os → Good sv life o) →
         ((o : Operation) → Has o qs → K o.op) → ((o : Operation) → Has o ops → cs.is_of sv o ≡ false → Has o qs) →
         Few qs (out ++ os) → Base s B out0 id sv life ops out → Base s B out0 id sv life qs (out ++ os)
-    b_more id sv life ops qs out os f g h few b =
+    base_after_longer_list id sv life ops qs out os f g h few b =
         record {
           id_ = b.id_;
           server = b.server;
@@ -132,23 +119,24 @@ module _ (c : ClientId) (K : ℕ → Type 0) (G : List Output) where
     one_good sv life o k x (inl e) = subst (Good sv life) (sym e) k
     one_good sv life o k x (inr i) = absurd i
 
-    pub b_say : (id : ClientId) (sv : ServerId) (life : ℕ) (ops : List Operation) (out : List Output) (o : Output) → Fine sv life o →
+    pub base_after_say : (id : ClientId) (sv : ServerId) (life : ℕ) (ops : List Operation) (out : List Output) (o : Output) → Fine sv life o →
         Base s B out0 id sv life ops out → Base s B out0 id sv life ops (out ++ o ∷ [])
-    b_say id sv life ops out o k b =
-        b_more id sv life ops ops out (o ∷ []) (one_good sv life o (fine_good sv life o k)) b.known (λ p h e. h)
+    base_after_say id sv life ops out o k b =
+        base_after_longer_list id sv life ops ops out (o ∷ []) (one_good sv life o (fine_good sv life o k)) b.known (λ p h e. h)
         (λ n. let z = told_more n out (o ∷ []) in let y = fine_told n sv life o k in let x = b.few n in omega (arith, z, y, x)) b
 
-    pub c_say : (t : Turn) (o : Output) → Fine t.here.server t.here.life.0 o → C t → C (say t o)
-    c_say t o k w = b_say t.id t.here.server t.here.life.0 t.operations t.out o k w
+    pub turn_base_after_say : (t : Turn) (o : Output) → Fine t.here.server t.here.life.0 o → C t → C (say t o)
+    turn_base_after_say t o k w = base_after_say t.id t.here.server t.here.life.0 t.operations t.out o k w
 
-    pub w_say : (t : Turn) (o : Output) → Fine t.here.server t.here.life.0 o → W t → W (say t o)
-    w_say t o k w = (c_say t o k w.0, w.1)
+    pub whole_after_say : (t : Turn) (o : Output) → Fine t.here.server t.here.life.0 o → W t → W (say t o)
+    whole_after_say t o k w = (turn_base_after_say t o k w.0, w.1)
 
     -- other operations
-    pub b_operations : (id : ClientId) (sv : ServerId) (life : ℕ) (ops qs : List Operation) (out : List Output) → ((o : Operation) → Has o qs → K o.op) →
+    pub base_after_operations : (id : ClientId) (sv : ServerId) (life : ℕ) (ops qs : List Operation) (out : List Output) →
+        ((o : Operation) → Has o qs → K o.op) →
         ((o : Operation) → Has o ops → cs.is_of sv o ≡ false → Has o qs) → ((k : ℕ) → pending k qs ≤ pending k ops) →
         Base s B out0 id sv life ops out → Base s B out0 id sv life qs out
-    b_operations id sv life ops qs out f g l b =
+    base_after_operations id sv life ops qs out f g l b =
         record {
           id_ = b.id_;
           server = b.server;
@@ -166,10 +154,10 @@ module _ (c : ClientId) (K : ℕ → Type 0) (G : List Output) where
     abbrev pub Own : ServerId → (Operation → Bool) → Type 0
     Own sv picked = (o : Operation) → cs.is_of sv o ≡ false → picked o ≡ false
 
-    pub c_answers : (t : Turn) (picked : Operation → Bool) (a : AppAnswer) → Own t.here.server picked → C t → C (cs.answer_each picked a t)
+    pub turn_base_after_answers : (t : Turn) (picked : Operation → Bool) (a : AppAnswer) → Own t.here.server picked → C t → C (cs.answer_each picked a t)
     unfolding cs.answer_each
-    c_answers t picked a own b =
-        b_more t.id t.here.server t.here.life.0 t.operations (filter (λ o. not (picked o)) t.operations) t.out
+    turn_base_after_answers t picked a own b =
+        base_after_longer_list t.id t.here.server t.here.life.0 t.operations (filter (λ o. not (picked o)) t.operations) t.out
         (map (answer_to a) (filter picked t.operations)) good (λ o h. b.known o (has_filter (λ o. not (picked o)) t.operations o h).0)
         (λ o h e. has_filter_in (λ o. not (picked o)) t.operations o h (ap not (own o e))) few b
       where
@@ -186,10 +174,10 @@ module _ (c : ClientId) (K : ℕ → Type 0) (G : List Output) where
             omega (arith, x, y, z, w)
 
     -- the owner is not picked
-    pub o_answers : (t : Turn) (picked : Operation → Bool) (a : AppAnswer) →
+    pub owned_after_answers : (t : Turn) (picked : Operation → Bool) (a : AppAnswer) →
         ((o : Operation) (cutting : Option ℕ) (body : Body) → Means o.ask cutting body → picked o ≡ false) → O t → O (cs.answer_each picked a t)
     unfolding cs.answer_each
-    o_answers t picked a f w = go (view t.here.session) w
+    owned_after_answers t picked a f w = go (view t.here.session) w
       where
         by : (cutting : Option ℕ) (q : Option Request) → OwnedBy t.here.server cutting t.operations q → OwnedBy t.here.server cutting
             (filter (λ o. not (picked o)) t.operations) q
@@ -208,13 +196,13 @@ module _ (c : ClientId) (K : ℕ → Type 0) (G : List Output) where
         go (Some v) w = by v.1 v.0 w
 
     -- with no outstanding request nothing is owed
-    pub o_free : (t : Turn) (x : ClientSession) → t.here.session ≡ Some x → x.requests.asked ≡ None → O t
-    o_free t x e n = subst (λ o. Owned t.here.server (view o) t.operations) (sym e) (subst (OwnedBy t.here.server x.cutting t.operations) (sym n) tt)
+    pub owned_after_free : (t : Turn) (x : ClientSession) → t.here.session ≡ Some x → x.requests.asked ≡ None → O t
+    owned_after_free t x e n = subst (λ o. Owned t.here.server (view o) t.operations) (sym e) (subst (OwnedBy t.here.server x.cutting t.operations) (sym n) tt)
 
     -- Sessions that go on.
     -- another session with the same view
-    pub w_view : (t : Turn) (x y : ClientSession) → t.here.session ≡ Some x → view (Some y) ≡ view (Some x) → W t → W (with_session y t)
-    w_view t x y e v w = (w.0, subst (λ z. Owned t.here.server z t.operations) (sym v) (into t x e w.1))
+    pub whole_after_view : (t : Turn) (x y : ClientSession) → t.here.session ≡ Some x → view (Some y) ≡ view (Some x) → W t → W (with_session y t)
+    whole_after_view t x y e v w = (w.0, subst (λ z. Owned t.here.server z t.operations) (sym v) (into t x e w.1))
 
     -- Refusals.
     own_asked : (sv : ServerId) → Own sv (cs.is_asked sv)
@@ -228,25 +216,28 @@ module _ (c : ClientId) (K : ℕ → Type 0) (G : List Output) where
         go (asks.Patch f q at bytes) e = and_left _ _ e
         go a e = refl
 
-    c_refused : (t : Turn) (y : Why) (a b : ℕ) (file : Option ℕ) (asked : Body) (u : Turn) → Refusal t file asked y a b u → C t → C u ×
+    turn_base_after_refused : (t : Turn) (y : Why) (a b : ℕ) (file : Option ℕ) (asked : Body) (u : Turn) → Refusal t file asked y a b u → C t → C u ×
         (u.here.session ≡ t.here.session)
     unfolding cs.answer_each
-    c_refused t _ a b file asked _ (trace.NoFile _ _ ino e) w = (
-      c_answers t (cr.works_on t ino) _
+    turn_base_after_refused t _ a b file asked _ (trace.NoFile _ _ ino e) w = (
+      turn_base_after_answers t (cr.works_on t ino) _
           (λ o e. and_left _ _ (and_left (cs.is_of t.here.server o) _ e)) w,
       refl,
     )
-    c_refused t _ a b file asked _ (trace.TooManyLocks _ _ ino e) w = (
-      c_answers t (cr.works_on t ino) _
+    turn_base_after_refused t _ a b file asked _ (trace.TooManyLocks _ _ ino e) w = (
+      turn_base_after_answers t (cr.works_on t ino) _
           (λ o e. and_left _ _ (and_left (cs.is_of t.here.server o) _ e)) w,
       refl,
     )
-    c_refused t _ a b file asked _ (trace.NoSpace _ _ ino p e q) w = (c_answers t (cr.writes_on t ino p) _ (λ o e. own_changes t.here.server ino p o e) w, refl)
-    c_refused t _ a b file asked _ (trace.NotHolder _ _ e) w = (c_answers t (cs.is_asked t.here.server) _ (own_asked t.here.server) w, refl)
-    c_refused t y a b file asked _ (trace.AnswersNone _ _ _) w = (w, refl)
+    turn_base_after_refused t _ a b file asked _ (trace.NoSpace _ _ ino p e q) w =
+        (turn_base_after_answers t (cr.writes_on t ino p) _ (λ o e. own_changes t.here.server ino p o e) w, refl)
+    turn_base_after_refused t _ a b file asked _ (trace.NotHolder _ _ e) w =
+        (turn_base_after_answers t (cs.is_asked t.here.server) _ (own_asked t.here.server) w, refl)
+    turn_base_after_refused t y a b file asked _ (trace.AnswersNone _ _ _) w = (w, refl)
 
-    c_stuck : (t : Turn) → C t → C (trace.left_stuck t)
-    c_stuck t b = b_operations t.id t.here.server t.here.life.0 t.operations _ t.out (λ o h. known o (has_map (cr.stuck t) t.operations o h))
+    turn_base_after_stuck : (t : Turn) → C t → C (trace.left_stuck t)
+    turn_base_after_stuck t b = base_after_operations t.id t.here.server t.here.life.0 t.operations _ t.out
+        (λ o h. known o (has_map (cr.stuck t) t.operations o h))
         (λ o h e. subst (λ y. Has y (map (cr.stuck t) t.operations)) (same o e) (has_map_in (cr.stuck t) t.operations o h))
         (λ k. let z = pending_map k (cr.stuck t) (λ o. op_of o (cs.is_asked t.here.server o)) t.operations in omega (arith, z)) b
       where
@@ -268,15 +259,17 @@ module _ (c : ClientId) (K : ℕ → Type 0) (G : List Output) where
     unfolding cs.answer_each
     answers_here t picked a = refl
 
-    pub w_refused : (t u : Turn) (x : ClientSession) (y : Why) (a b : ℕ) (file : Option ℕ) (asked : Body) → t.here.session ≡ Some x → x.requests.asked ≡ None →
+    pub whole_after_refused : (t u : Turn) (x : ClientSession) (y : Why) (a b : ℕ) (file : Option ℕ) (asked : Body) → t.here.session ≡ Some x →
+        x.requests.asked ≡ None →
         Refusal t file asked y a b u → C t → W (trace.left_stuck u)
-    w_refused t u x y a b file asked e n r w = let z = c_refused t y a b file asked u r w in (c_stuck u z.0, o_free (trace.left_stuck u) x (z.1 ∙ e) n)
+    whole_after_refused t u x y a b file asked e n r w = let z = turn_base_after_refused t y a b file asked u r w in
+        (turn_base_after_stuck u z.0, owned_after_free (trace.left_stuck u) x (z.1 ∙ e) n)
 
     -- Answers to who waits.
-    pub w_asked : (t : Turn) (x : ClientSession) (a : AppAnswer) → t.here.session ≡ Some x → x.requests.asked ≡ None → C t → W
+    pub whole_after_asked : (t : Turn) (x : ClientSession) (a : AppAnswer) → t.here.session ≡ Some x → x.requests.asked ≡ None → C t → W
         (cs.answer_each (cs.is_asked t.here.server) a t)
-    w_asked t x a e n w = (
-      c_answers t (cs.is_asked t.here.server) a (own_asked t.here.server) w,
-      o_free (cs.answer_each (cs.is_asked t.here.server) a t) x
+    whole_after_asked t x a e n w = (
+      turn_base_after_answers t (cs.is_asked t.here.server) a (own_asked t.here.server) w,
+      owned_after_free (cs.answer_each (cs.is_asked t.here.server) a t) x
           (answers_here t _ a ∙ e) n,
     )

@@ -1,54 +1,31 @@
 -- A whole step of a client: what is pending and answered is of known asks, what is sent is of the life that the step leaves, and the
 -- operation of each outstanding request is pending.
-use Rattle.std.proofs.Common.{◌≡◌, ℕ, ◌+◌, ◌≤◌, ◌⊎◌, Bool, true, false, ◌==◌, List, [], ◌∷◌, ◌++◌, Option, Some, None, refl, sym, ap, ◌∙◌, subst, inl, inr, arith, if◌then◌else◌}
-use Rattle.std.specs.Prelude.{map}
-use Rattle.std.proofs.lemmas.Bool.{eqb-true}
-use Rattle.st_base.specs.declared.ids.ClientId.{ClientId}
-use Rattle.st_base.specs.declared.ids.ServerId.{ServerId}
-use Rattle.st_base.specs.declared.ids.Stamp.{Stamp}
-use Rattle.st_messages.specs.declared.answer.AppAnswer.{AppAnswer}
-use Rattle.st_messages.specs.declared.answer.AppAnswer.TheVariants as answers
-use Rattle.st_messages.specs.declared.ask.Ask.{Ask}
-use Rattle.st_messages.specs.declared.message.Message.{Message}
-use Rattle.st_messages.specs.declared.output.Output.{Output}
-use Rattle.st_messages.specs.declared.output.Output.TheVariants as outputs
-use Rattle.st_rules.specs.declared.client.ClientInput.{ClientInput}
-use Rattle.st_rules.specs.declared.client.ClientInput.TheVariants as inputs
-use Rattle.st_rules.specs.declared.client.Operation.{Operation}
-use Rattle.st_rules.specs.declared.client.Request.{Request}
-use Rattle.st_rules.specs.Client as cl
-use Rattle.st_rules.specs.ClientPasses as cp
-use Rattle.st_rules.specs.ClientReplies as cr
-use Rattle.st_rules.specs.ClientState as cs
-use Rattle.st_rules.specs.ClientState.{Association, ClientSession, ClientState, ClientTurn, Turn, at_each, at_these, client_turn, enter, leave, server_of, with_associations}
-use Rattle.st_lemmas.specs.Lists.{Has}
-use Rattle.st_lemmas.proofs.Tables.{and_true, has_append, has_map_in}
-use Rattle.st_laws_steps.specs.Lives.Lives.{Once, server_number}
-use Rattle.st_laws_leases.proofs.Dates.Known.{has_left}
+use Rattle.st_lemmas.proofs.Words
+use Words.{◌≡◌, ℕ, ◌+◌, ◌≤◌, ◌⊎◌, Bool, true, false, ◌==◌, List, [], ◌∷◌, Option, Some, None, refl, sym, ap, ◌∙◌, subst, inl, inr, arith, if◌then◌else◌}
+use Words.{eqb-true, ClientId, ServerId, Stamp, AppAnswer, Ask, Message, Output, ClientInput, Operation, Request}
+use Words.answers
+use Words.outputs
+use Words.inputs
+use Words.Client as cl
+use Words.ClientPasses as cp
+use Words.ClientReplies as cr
+use Words.ClientState as cs
+use Words.ClientState.{Association, ClientSession, ClientState, ClientTurn, Turn, at_each, at_these, client_turn, enter, leave, server_of, with_associations}
+use Words.Lists.{Has}
+use Words.Tables.{and_true, has_append}
+use Words.Members.{has_left}
 use Rattle.st_laws_requests.specs.Cuts.Cuts.{Between}
 use Rattle.st_laws_cuts.specs.Owners.{Owned, OwnedBy, view}
 use Rattle.st_laws_cuts.proofs.Counts.{one_if, pending, told, told_more}
-use Rattle.st_laws_cuts.proofs.Client.{w_finish, w_receive, w_lose, w_passes, w_take}
+use Rattle.st_laws_cuts.proofs.Client.{whole_after_finish, whole_after_receive, whole_after_lose, whole_after_passes, whole_after_take}
 use Rattle.st_laws_cuts.proofs.Losing.{Silent, left, lose_tells}
 use Rattle.st_laws_cuts.proofs.Owning.{W}
+use Rattle.st_laws_requests.proofs.Cuts.Step.{onces_last}
 
 -- associations of servers that differ
 abbrev pub Onces : List Association → Type 0
 Onces [] = Unit {0}
 Onces (a ∷ al) = record { first : (b : Association) → Has b al → a.server.0 ≡ b.server.0 → ⊥; rest : Onces al }
-
-pub onces : (al : List Association) → Once (map server_number al) → Onces al
-onces [] o = tt
-onces (a ∷ al) o = record { first = λ b h e. o.first (server_number b) (has_map_in server_number al b h) e; rest = onces al o.rest }
-
-onces_last : (xs : List Association) (a : Association) → Onces xs → ((b : Association) → Has b xs → b.server.0 ≡ a.server.0 → ⊥) → Onces (xs ++ a ∷ [])
-onces_last [] a o f = record { first = λ b h e. absurd h; rest = tt }
-onces_last (x ∷ xs) a o f = record { first = λ b h e. first b (has_append xs (a ∷ []) b h) e; rest = onces_last xs a o.rest (λ b h e. f b (inr h) e) }
-  where
-    first : (b : Association) → Has b xs ⊎ Has b (a ∷ []) → x.server.0 ≡ b.server.0 → ⊥
-    first b (inl h) e = o.first b h e
-    first b (inr (inl q)) e = f x (inl refl) (e ∙ ap (λ (z : Association). z.server.0) q)
-    first b (inr (inr i)) e = i
 
 -- one of these, or of another server
 pub apart_from : (al : List Association) → Onces al → (a : Association) → Has a al → (b : Association) → Has b al → (b ≡ a) ⊎ (b.server.0 ≡ a.server.0 → ⊥)
@@ -202,7 +179,7 @@ module _ (c : ClientId) (K : ℕ → Type 0) (G : List Output) where
         go : (b : Bool) → cs.is_at (server_of ask) a ≡ b → Held [] (at_these (cs.only_at (server_of ask) (cl.take_ask op ask)) rest (leave t (enter t a))) → Held [] (at_these (cs.only_at (server_of ask) (cl.take_ask op ask)) rest (leave t (if b then cl.take_ask op ask (enter t a) else enter t a)))
         go true e w =
             passes_over rest (others e) (leave t (cl.take_ask op ask (enter t a)))
-            (passed a rest t (cl.take_ask op ask (enter t a)) k (w_take c K G a.server t.state.operations t.out op ask known_ask (enter t a) z (begins a rest t k)))
+            (passed a rest t (cl.take_ask op ask (enter t a)) k (whole_after_take c K G a.server t.state.operations t.out op ask known_ask (enter t a) z (begins a rest t k)))
         go false e w = w
 
     takes : (t : ClientTurn) → pending op t.state.operations + told op t.out ≡ 0 → Held [] t → Held [] (at_each (cs.only_at (server_of ask) (cl.take_ask op ask)) t)
@@ -265,17 +242,17 @@ module _ (c : ClientId) (K : ℕ → Type 0) (G : List Output) where
       if_held (cl.is_full t.state) _ _ (at_once t op answers.OpsFull g.0 g.1 k)
       (if_held (cl.is_configured t.state (server_of ask)) _ _ (takes op ask g.0 t g.1 k) (at_once t op answers.NoFile g.0 g.1 k))
   taken t now (inputs.Control m) g k =
-      if_held (m.header.to == t.state.id.0) _ _ (any (cr.receive_at now m.header m.body) (λ s B out0 u w. w_receive c K G s B out0 now m.header m.body u w) t k) k
-  taken t now (inputs.Done number result) g k = any (cl.finish number result) (λ s B out0 u w. w_finish c K G s B out0 number result u w) t k
+      if_held (m.header.to == t.state.id.0) _ _ (any (cr.receive_at now m.header m.body) (λ s B out0 u w. whole_after_receive c K G s B out0 now m.header m.body u w) t k) k
+  taken t now (inputs.Done number result) g k = any (cl.finish number result) (λ s B out0 u w. whole_after_finish c K G s B out0 number result u w) t k
 
   -- after the losses
   worked : (t : ClientTurn) (now : Stamp) (i : ClientInput) → InputOk t i → Held [] t → Held [] (cl.work (cl.take_input t now i) now i)
   unfolding cl.work
-  worked t now i g k = any (cp.passes now (cl.is_tick i)) (λ s B out0 u w. w_passes c K G s B out0 now (cl.is_tick i) u w) _ (taken t now i g k)
+  worked t now i g k = any (cp.passes now (cl.is_tick i)) (λ s B out0 u w. whole_after_passes c K G s B out0 now (cl.is_tick i) u w) _ (taken t now i g k)
 
   lost : (t : ClientTurn) (now : Stamp) → Silent t.out → Held [] t → Held [] (cl.losses t now)
   unfolding cl.losses
-  lost t now q k = (each Silent (cl.lose now) (λ s B out0 u p w. (w_lose c K G s B out0 now u p w, (left now u).quiet p)) t q k).0
+  lost t now q k = (each Silent (cl.lose now) (λ s B out0 u p w. (whole_after_lose c K G s B out0 now u p w, (left now u).quiet p)) t q k).0
 
 -- the losses of a step
 abbrev pub Losses : ClientState → Stamp → ClientTurn

@@ -1,64 +1,27 @@
 -- Small facts: of answers among lines, of asks that were made, and of what asks mean.
-use Rattle.std.proofs.Common.{◌≡◌, ℕ, ◌+◌, ◌≤◌, ◌⊎◌, Bool, true, false, not, ◌&&◌, ◌||◌, ◌==◌, List, [], ◌∷◌, ◌++◌, Option, Some, None, refl, sym, ap, ◌∙◌, subst, inl, inr, arith, zero, suc}
-use Rattle.std.specs.Prelude.{length, slice_get}
-use Rattle.std.specs.List.{cons_option, list_any}
-use Rattle.std.proofs.lemmas.Bool.{eqb-true}
-use Rattle.st_base.specs.declared.ids.ClientId.{ClientId}
-use Rattle.st_base.specs.declared.ids.GrantNo.{GrantNo}
-use Rattle.st_base.specs.declared.ids.ServerId.{ServerId}
-use Rattle.st_base.specs.declared.names.NameAsk.{NameAsk}
-use Rattle.st_base.specs.declared.names.NameAsk.TheVariants as names
-use Rattle.st_messages.specs.declared.answer.AppAnswer.{AppAnswer}
-use Rattle.st_messages.specs.declared.ask.Ask.{Ask}
-use Rattle.st_messages.specs.declared.ask.Ask.TheVariants as asks
-use Rattle.st_messages.specs.declared.message.Body.{Body}
-use Rattle.st_messages.specs.declared.message.Body.TheVariants as bodies
-use Rattle.st_messages.specs.declared.message.NameOp.{NameOp}
-use Rattle.st_rules.specs.declared.observation.Observation.{Observation}
-use Rattle.st_rules.specs.declared.observation.Observation.TheVariants as seen
-use Rattle.st_rules.specs.World.{numbered}
-use Rattle.st_rules.specs.Safety.{Step, answers_in, ask_in, is_answer_to}
-use Rattle.st_lemmas.specs.Lists.{Has}
-use Rattle.st_lemmas.proofs.Lookups.{some_is}
-use Rattle.st_lemmas.proofs.Numbers.{numbered_old}
-use Rattle.st_lemmas.proofs.Tables.{and_true, has_append}
+use Rattle.st_lemmas.proofs.Words
+use Rattle.st_lemmas.proofs.Once.{none_any}
+use Words.{◌≡◌, ℕ, ◌+◌, ◌≤◌, Bool, true, false, not, ◌&&◌, ◌==◌, List, [], ◌∷◌, ◌++◌, Option, Some, None, refl, sym, ap, ◌∙◌, subst, inl, inr, arith}
+use Words.{zero, suc, length, slice_get, cons_option, list_any, eqb-true, ClientId, GrantNo, ServerId, NameAsk, AppAnswer, Ask, Body, NameOp, Observation}
+use Words.names
+use Words.asks
+use Words.bodies
+use Words.seen
+use Words.World.{numbered}
+use Words.Safety.{Step, answers_in, ask_in, is_answer_to}
+use Words.Lists.{Has}
+use Words.Lookups.{some_is}
+use Words.Numbers.{numbered_old}
+use Words.Tables.{and_true, none_passes}
 use Rattle.st_laws_pages.proofs.Asks.World.{asks_more}
 use Rattle.st_laws_requests.specs.Cuts.Cuts.{asks_of}
 use Rattle.st_promises.specs.Counts.{under_numbers}
 use Rattle.st_promises.specs.CutAsks.{is_uncertain, settles, settles_in}
 use Rattle.st_laws_cuts.specs.EndedRequests.{MeansGrant, MeansOf, MeansTo}
-
-pub clash : {A : Type 0} {b : Bool} → b ≡ true → b ≡ false → A
-clash x y = cc
-
--- a test that nothing passes
-pub none_any : {A : Type 0} (p : A → Bool) (xs : List A) → ((x : A) → Has x xs → p x ≡ false) → list_any p xs ≡ false
-none_any p [] f = refl
-none_any p (x ∷ xs) f = go (p x) (list_any p xs) (f x (inl refl)) (none_any p xs (λ y h. f y (inr h)))
-  where
-    go : (a b : Bool) → a ≡ false → b ≡ false → (a || b) ≡ false
-    go true b e f = cc e
-    go false b e f = f
-
-or_none : (a b : Bool) → (a || b) ≡ false → (a ≡ false) × (b ≡ false)
-or_none true b e = cc e
-or_none false b e = (refl, e)
-
-pub any_none : {A : Type 0} (p : A → Bool) (xs : List A) → list_any p xs ≡ false → (x : A) → Has x xs → p x ≡ false
-any_none p (y ∷ xs) e x (inl i) = ap p i ∙ (or_none (p y) (list_any p xs) e).0
-any_none p (y ∷ xs) e x (inr i) = any_none p xs (or_none (p y) (list_any p xs) e).1 x i
-any_none p [] e x h = absurd h
-
-pub any_last : {A : Type 0} (p : A → Bool) (xs : List A) (y : A) → list_any p xs ≡ false → p y ≡ false → list_any p (xs ++ y ∷ []) ≡ false
-any_last {A} p xs y e f = none_any p (xs ++ y ∷ []) (λ x h. go x (has_append xs (y ∷ []) x h))
-  where
-    go : (x : A) → Has x xs ⊎ Has x (y ∷ []) → p x ≡ false
-    go x (inl h) = any_none p xs e x h
-    go x (inr (inl q)) = ap p q ∙ f
-    go x (inr (inr h)) = absurd h
+use Words.{append-nil}
 
 -- Answers among lines.
-same_as : (d c : ClientId) (n op : ℕ) (a : AppAnswer) → ((d.0 == c.0) && (n == op)) ≡ true → seen.Answered c op a ≡ seen.Answered d n a
+pub same_as : (d c : ClientId) (n op : ℕ) (a : AppAnswer) → ((d.0 == c.0) && (n == op)) ≡ true → seen.Answered c op a ≡ seen.Answered d n a
 same_as d c n op a e =
     let z = and_true (d.0 == c.0) (n == op) e in
     let x = eqb-true d.0 c.0 z.0 in
@@ -90,10 +53,10 @@ unsettled_in c op os f = none_any (settles c op) os one
 
 -- an ask that was not answered was not settled
 pub unsettled_past : (c : ClientId) (op : ℕ) (past : List Step) → list_any (answers_in c op) past ≡ false → list_any (settles_in c op) past ≡ false
-unsettled_past c op past e = none_any (settles_in c op) past (λ x h. by x (any_none (answers_in c op) past e x h))
+unsettled_past c op past e = none_any (settles_in c op) past (λ x h. by x (none_passes (answers_in c op) past e x h))
   where
     by : (x : Step) → answers_in c op x ≡ false → settles_in c op x ≡ false
-    by x q = none_any (settles c op) x.seen (λ o h. one o (any_none (is_answer_to c op) x.seen q o h))
+    by x q = none_any (settles c op) x.seen (λ o h. one o (none_passes (is_answer_to c op) x.seen q o h))
       where
         three : (x y z : Bool) → (x && y) ≡ false → (x && (y && z)) ≡ false
         three true true z f = cc f
@@ -104,16 +67,11 @@ unsettled_past c op past e = none_any (settles_in c op) past (λ x h. by x (any_
         one (seen.Answered d n a) f = three (d.0 == c.0) (n == op) _ f
         one o f = refl
 
--- Asks that were made.
-none_behind : {A : Type 0} (xs : List A) → xs ++ [] ≡ xs
-none_behind [] = refl
-none_behind (x ∷ xs) = ap (λ z. x ∷ z) (none_behind xs)
-
 pub asked_more : (past : List Step) (x : Step) (c : ClientId) (op : ℕ) (ask : Ask) → numbered (asks_of past c) op ≡ Some ask → numbered (asks_of (past ++ x ∷ []) c) op ≡ Some ask
 asked_more past x c op ask e = ap (λ z. numbered z op) (asks_more past x c) ∙ go (ask_in c x.event)
   where
     go : (o : Option Ask) → numbered (asks_of past c ++ cons_option o []) op ≡ Some ask
-    go None = ap (λ z. numbered z op) (none_behind (asks_of past c)) ∙ e
+    go None = ap (λ z. numbered z op) (append-nil (asks_of past c)) ∙ e
     go (Some a) = numbered_old (asks_of past c) a op ask e
 
 pub asks_longer : (past : List Step) (x : Step) (c : ClientId) → length (asks_of past c) ≤ length (asks_of (past ++ x ∷ []) c)

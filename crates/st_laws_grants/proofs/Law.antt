@@ -1,30 +1,23 @@
 -- Grant numbers are given once: at the start, after every event, and over whole runs.
-use Rattle.std.proofs.Common.{◌≡◌, ℕ, ◌+◌, ◌<◌, ◌⊎◌, Bool, true, false, not, ◌==◌, ◌&&◌, ◌||◌, List, [], ◌∷◌, ◌++◌, Option, Some, None, Ok, refl, sym, ap, ◌∙◌, subst, inl, inr, arith, lt-ltb}
-use Rattle.std.specs.List.{list_all, list_any}
-use Rattle.std.proofs.lemmas.Bool.{eq-eqb, eqb-true}
+use Rattle.st_lemmas.proofs.Words
+use Words.{◌≡◌, ℕ, ◌+◌, ◌<◌, ◌⊎◌, Bool, true, false, not, ◌==◌, ◌&&◌, ◌||◌, List, [], ◌∷◌, ◌++◌, Option, Some, None, Ok, refl, sym, ap, ◌∙◌, subst, inl, inr}
+use Words.{arith, lt-ltb, list_all, list_any, eq-eqb, eqb-true, GrantNo, ServerId, Mode, Event, Body, Message, SentMessage}
+use Words.bodies
+use Words.Client as cl
+use Words.ClientState.{Association}
+use Words.Events.{WorldTurn, world_step}
+use Words.Extents.{numbers}
+use Words.History.{Traced, traced, traced_after}
+use Words.Keys.{server_node}
+use Words.Safety.{IsHead, Step, is_event, step}
+use Words.Server as server
+use Words.Server.{ServerNode}
+use Words.World.{World, WorldClient, all_servers, fresh_site, fresh_world, node_at_start, node_of}
+use Words.Lists.{Has}
+use Words.Lookups.{or_left, or_right, some_is}
+use Words.Tables.{all_pass, and_both, has_map, some_passes}
 use Rattle.st_base.specs.declared.config.Config as base
-use Rattle.st_base.specs.declared.ids.GrantNo.{GrantNo}
-use Rattle.st_base.specs.declared.ids.ServerId.{ServerId}
-use Rattle.st_base.specs.declared.mode.Mode.{Mode}
-use Rattle.st_messages.specs.declared.event.Event.{Event}
-use Rattle.st_messages.specs.declared.message.Body.{Body}
-use Rattle.st_messages.specs.declared.message.Body.TheVariants as bodies
-use Rattle.st_messages.specs.declared.message.Message.{Message}
-use Rattle.st_rules.specs.declared.world.SentMessage.{SentMessage}
-use Rattle.st_rules.specs.Client as cl
-use Rattle.st_rules.specs.ClientState.{Association}
-use Rattle.st_rules.specs.Events.{WorldTurn, world_step}
-use Rattle.st_rules.specs.Extents.{numbers}
-use Rattle.st_rules.specs.History.{Traced, traced, traced_after}
-use Rattle.st_rules.specs.Keys.{server_node}
-use Rattle.st_rules.specs.Safety.{IsHead, Step, is_event, step}
-use Rattle.st_rules.specs.Server as server
-use Rattle.st_rules.specs.Server.{ServerNode}
-use Rattle.st_rules.specs.World.{World, WorldClient, all_servers, fresh_site, fresh_world, node_at_start, node_of}
 use Rattle.st_protocol.specs.Assoc.{Config}
-use Rattle.st_lemmas.specs.Lists.{Has}
-use Rattle.st_lemmas.proofs.Lookups.{or_left, or_right, some_is}
-use Rattle.st_lemmas.proofs.Tables.{all_pass, and_both, has_map, some_passes}
 use Rattle.st_laws_pages.proofs.Lives.Fresh.{fresh_is}
 use Rattle.st_laws_refine.specs.Client.Invariants.{Kept}
 use Rattle.st_laws_refine.specs.Server.Pair.{terms_of}
@@ -34,7 +27,8 @@ use Rattle.st_laws_leases.specs.Sides.Law.{InEveryRun}
 use Rattle.st_laws_leases.specs.Sides.World.{AllStand}
 use Rattle.st_laws_leases.proofs.Sides.Runs.{throughout_events}
 use Rattle.st_laws_extents.proofs.CutRequests.Law.{Hold, first, followed, owed, same_all}
-use Rattle.st_promises.specs.Grants.{GrantNumbersAreGivenOnce, GrantNumbersRise, agrees, gives_below, gives_rising, gives_once, grants_once, has_number, is_given_once, is_number_below, is_number_of, is_of_file, is_risen, rises}
+use Rattle.st_promises.specs.Grants.{GrantNumbersAreGivenOnce, GrantNumbersRise, agrees, gives_below, gives_rising, gives_once, grants_once, has_number}
+use Rattle.st_promises.specs.Grants.{is_given_once, is_number_below, is_number_of, is_of_file, is_risen, rises}
 use Rattle.st_laws_grants.specs.Owners.{AllGiveOnce, GivesOnce, RiseFrom, Side, WasSent}
 use Rattle.st_laws_grants.proofs.Nets.{granted_owned}
 use Rattle.st_laws_grants.proofs.World.{goes_on}
@@ -183,8 +177,8 @@ begins k clients servers disks blocks form head = record { base = first k client
     gives : AllGiveOnce w
     gives s node e = subst (GivesOnce w s) (sym (fresh_is (node_at_start k servers disks blocks) servers s.0 node e)) (fresh s)
 
-pub law : InEveryRun GrantNumbersAreGivenOnce
-law k clients servers disks blocks form es head events =
+pub grant_numbers_are_given_once : InEveryRun GrantNumbersAreGivenOnce
+grant_numbers_are_given_once k clients servers disks blocks form es head events =
     throughout_events (clients + servers) GrantNumbersAreGivenOnce (AllOnce (terms_of k) (clients + servers)) (λ past t e sc r h taken. let z = both (terms_of k) (clients + servers) past t e sc r h taken in (z.0.0, z.1)) es events []
     (traced (fresh_world k clients servers disks blocks form)) (begins k clients servers disks blocks form head)
 

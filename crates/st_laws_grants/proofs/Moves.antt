@@ -1,6 +1,10 @@
 -- Numbers of owners in the association machine, while the server is down: a client tells and holds only numbers that it received.
-use Rattle.std.proofs.Common.{◌≡◌, ℕ, ◌≤◌, true, false, List, ◌∷◌, subst, arith}
-use Rattle.st_protocol.specs.Assoc.{Config, Lock, Msg, Assoc, Move, Moves, Stays, GoesOn, steady, Advance, Greets, Asks, Loses, Crashes, Begins, Renews, Installs, AskedOfNone, Asked, Declines, Repeats, Works, Rests, Reduces, Adopts, Reasserts, Settles, Welcomes, WelcomesAgain, Acks, Again, Refuses, Accepts, Suspects, Steals, GraceEnds, Grants, GrantsAgain, Demands, Releases, Sweeps, Rises, Stops, Starts}
+use Rattle.st_lemmas.proofs.Words
+use Words.{◌≡◌, ℕ, ◌≤◌, true, false, List, ◌∷◌, subst, arith}
+use Rattle.st_protocol.specs.Assoc.{Config, Lock, Msg, Assoc, Move, Moves, Stays, GoesOn, steady, Advance, Greets, Asks, Loses, Crashes, Begins, Renews}
+use Rattle.st_protocol.specs.Assoc.{Installs, AskedOfNone, Asked, Declines, Repeats, Works, Rests, Reduces, Adopts, Reasserts, Settles, Welcomes, WelcomesAgain}
+use Rattle.st_protocol.specs.Assoc.{Acks, Again, Refuses, Accepts, Suspects, Steals, GraceEnds, Grants, GrantsAgain, Demands, Releases, Sweeps, Rises, Stops}
+use Rattle.st_protocol.specs.Assoc.{Starts}
 use Rattle.st_protocol.proofs.Lists.{in_cons, upd_all}
 use Rattle.st_trace.proofs.Server.Taking.{clash}
 use Rattle.st_laws_grants.specs.Owners.{AllTell, Tells}

@@ -1,22 +1,18 @@
 -- What a server tells a client, among the messages of the association machine: all of it tells numbers of the client.
-use Rattle.std.proofs.Common.{◌≡◌, ℕ, Bool, true, false, ◌==◌, List, [], ◌∷◌, Some, refl, sym, ap, ◌∙◌, subst, inl, inr, if◌then◌else◌}
-use Rattle.std.proofs.lemmas.Bool.{eq-eqb, eqb-true}
+use Rattle.st_lemmas.proofs.Words
+use Words.{◌≡◌, ℕ, Bool, true, false, ◌==◌, List, [], ◌∷◌, Some, refl, sym, ap, ◌∙◌, subst, inl, inr, if◌then◌else◌, eq-eqb, eqb-true, GrantNo, Mode, Body}
+use Words.{Message, Why, Output}
+use Words.bodies as bd
+use Words.why
+use Words.outputs
+use Words.Lists.{Has}
+use Words.Truth.{if_either}
 use Rattle.st_base.specs.Mode.{number_of}
-use Rattle.st_base.specs.declared.ids.GrantNo.{GrantNo}
-use Rattle.st_base.specs.declared.mode.Mode.{Mode}
-use Rattle.st_messages.specs.declared.message.Body.{Body}
-use Rattle.st_messages.specs.declared.message.Body.TheVariants as bd
-use Rattle.st_messages.specs.declared.message.Message.{Message}
-use Rattle.st_messages.specs.declared.message.Why.{Why}
-use Rattle.st_messages.specs.declared.message.Why.TheVariants as why
-use Rattle.st_messages.specs.declared.output.Output.{Output}
-use Rattle.st_messages.specs.declared.output.Output.TheVariants as outputs
 use Rattle.st_protocol.specs.Assoc as net
 use Rattle.st_protocol.specs.Assoc.{In, Msg, msg}
-use Rattle.st_lemmas.specs.Lists.{Has}
 use Rattle.st_laws_refine.specs.Views.Messages.{Shown, Shows, refusal, shown, with_date}
 use Rattle.st_laws_refine.proofs.Views.Moves.{Grows, shows_more, shown_more}
-use Rattle.st_trace.proofs.Server.Taking.{if_cases, if_either}
+use Rattle.st_trace.proofs.Server.Taking.{if_cases}
 use Rattle.st_laws_grants.specs.Owners.{AllTell, Fits, Owned, Owner, Tells}
 
 -- these in the network

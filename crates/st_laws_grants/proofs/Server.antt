@@ -1,43 +1,31 @@
 -- Each number that a server tells a client, keeps for it, or has in a row of it, is the client's.
-use Rattle.std.proofs.Common.{◌≡◌, ℕ, ◌+◌, ◌≤◌, ◌<◌, ◌⊎◌, ◌==◌, true, List, [], ◌∷◌, ◌++◌, Some, refl, sym, ap, ◌∙◌, subst, inl, inr, arith}
-use Rattle.std.proofs.lemmas.Bool.{eqb-true}
-use Rattle.st_base.specs.declared.ids.ClientId.{ClientId}
-use Rattle.st_base.specs.declared.ids.GrantNo.{GrantNo}
-use Rattle.st_base.specs.declared.ids.Life.{Life}
-use Rattle.st_base.specs.declared.ids.ServerId.{ServerId}
-use Rattle.st_base.specs.declared.ids.Stamp.{Stamp}
-use Rattle.st_base.specs.declared.mode.Mode.{Mode}
-use Rattle.st_messages.specs.declared.message.Header.{Header}
-use Rattle.st_messages.specs.declared.message.Message.{Message}
-use Rattle.st_messages.specs.declared.message.Body.{Body}
-use Rattle.st_messages.specs.declared.message.Body.TheVariants as bd
-use Rattle.st_messages.specs.declared.output.Note.{Note}
-use Rattle.st_messages.specs.declared.output.Note.TheVariants as notes
-use Rattle.st_messages.specs.declared.output.Output.{Output}
-use Rattle.st_messages.specs.declared.output.Output.TheVariants as outputs
-use Rattle.st_rules.specs.declared.authority.AcceptRefusal.{AcceptRefusal}
+use Rattle.st_lemmas.proofs.Words
+use Words.{◌≡◌, ℕ, ◌≤◌, ◌<◌, ◌⊎◌, ◌==◌, true, List, [], ◌∷◌, ◌++◌, Some, refl, sym, ap, ◌∙◌, subst, inl, inr, arith, eqb-true, ClientId, GrantNo, Life}
+use Words.{ServerId, Stamp, Mode, Header, Message, Body, Note, Output, AcceptRefusal, ServerInput, LockRow}
+use Words.bodies as bd
+use Words.notes
+use Words.outputs
+use Words.serving.{Control}
+use Words.Authority as authority
+use Words.Keys.{server_node}
+use Words.Locks as locks
+use Words.Locks.{Locks}
+use Words.Sessions as sessions
+use Words.Server as sv
+use Words.Server.{ServerState, ServerTurn, turn, with_locks, with_sessions, sender, life_in, note, reply, say, tell, steal_from, suspect_client, keep_and_reply}
+use Words.Server.{server_step, is_client_node}
+use Words.Lists.{Has}
+use Words.Tables.{and_true, found_at, has_append}
+use Words.Members.{has_left, has_right}
 use Rattle.st_rules.specs.declared.authority.AcceptRefusal.TheVariants as refusals
-use Rattle.st_rules.specs.declared.input.ServerInput.{ServerInput}
-use Rattle.st_rules.specs.declared.input.ServerInput.TheVariants.{Control}
-use Rattle.st_rules.specs.declared.locks.LockRow.{LockRow}
-use Rattle.st_rules.specs.Authority as authority
-use Rattle.st_rules.specs.Keys.{server_node}
-use Rattle.st_rules.specs.Locks as locks
-use Rattle.st_rules.specs.Locks.{Locks}
-use Rattle.st_rules.specs.Sessions as sessions
-use Rattle.st_rules.specs.Server as sv
-use Rattle.st_rules.specs.Server.{ServerState, ServerTurn, turn, with_locks, with_sessions, sender, life_in, note, reply, say, tell, steal_from}
-use Rattle.st_rules.specs.Server.{suspect_client, keep_and_reply, server_step, is_client_node}
-use Rattle.st_lemmas.specs.Lists.{Has}
-use Rattle.st_lemmas.proofs.Tables.{and_true, found_at, has_append}
-use Rattle.st_laws_leases.proofs.Dates.Known.{client_is, has_left, has_right}
+use Rattle.st_laws_leases.proofs.Dates.Known.{client_is}
 use Rattle.st_laws_grants.specs.Owners.{Fits, FitsState, Grows, Keeps, LocksOk, Owner}
 use Rattle.st_laws_grants.proofs.Locking.{Part, extend, extend_from, extend_own, grant_ok, grows_grant, installed_ok, more_top, over_top, part_demand}
 use Rattle.st_laws_grants.proofs.Locking.{part_file_waits, part_forget, part_ok, part_queue, part_seen, part_to, part_up, part_waits, top}
 use Rattle.st_laws_grants.proofs.Sessions.{fits_more, keeps_more, kept_ended, kept_new, kept_reasserted, kept_stored}
 use Rattle.st_trace.specs.Server.Edits as edits
-use Rattle.st_trace.specs.Server.Edits.{Phase, Told, AtOnce, InTurn, Ruled, Edit, TakesTimers, Steals, Welcomes, Begins, Replaces, PutsOff, Sees}
-use Rattle.st_trace.specs.Server.Edits.{Reasserts, Serves, Repeats, Refuses, Suspects, Grants, Demands}
+use Rattle.st_trace.specs.Server.Edits.{Phase, Told, AtOnce, InTurn, Ruled, Edit, TakesTimers, Steals, Welcomes, Begins, Replaces, PutsOff, Sees, Reasserts}
+use Rattle.st_trace.specs.Server.Edits.{Serves, Repeats, Refuses, Suspects, Grants, Demands}
 use Rattle.st_trace.proofs.Server.Walk.{walk}
 
 -- rows of a reassertion are the client's
@@ -56,7 +44,7 @@ pub record IsTold (s : ServerId) (out : List Output) (g : ℕ) (y : ℕ × ℕ) 
 told_more : (s : ServerId) (out os : List Output) (g : ℕ) (y : ℕ × ℕ) → IsTold s out g y → IsTold s (out ++ os) g y
 told_more s out os g y z = record { message = z.message; among = has_left out os _ z.among; from = z.from; to = z.to; mode = z.mode; body = z.body }
 
-under : (a b c : ℕ) → a ≤ b → b < c → a < c
+pub under : (a b c : ℕ) → a ≤ b → b < c → a < c
 under a b c x y = omega (arith, x, y)
 
 -- a step of a server, with the numbers that were given before, up to the last one
@@ -81,9 +69,9 @@ module _ (s : ServerId) (o : Owner) (n : ℕ) (i : ServerInput)
   still_told out os g y (inr (l, z)) = inr (l, told_more s out os g y z)
 
   -- other parts of the state
-  o_state : (t : ServerTurn) (x : ServerState) → x.id ≡ t.state.id → Part t.state.locks x.locks → x.sessions ≡ t.state.sessions → Gives t →
+  gives_after_state : (t : ServerTurn) (x : ServerState) → x.id ≡ t.state.id → Part t.state.locks x.locks → x.sessions ≡ t.state.sessions → Gives t →
       Gives (record t { state = x })
-  o_state t x a p c k = record {
+  gives_after_state t x a p c k = record {
     owner = k.owner;
     grows = k.grows;
     id = a ∙ k.id;
@@ -94,9 +82,9 @@ module _ (s : ServerId) (o : Owner) (n : ℕ) (i : ServerInput)
     up = part_up t.state.locks x.locks n p k.up;
   }
 
-  o_same : (t : ServerTurn) (x : ServerState) → x.id ≡ t.state.id → x.locks ≡ t.state.locks → x.sessions ≡ t.state.sessions → Gives t →
+  gives_after_same : (t : ServerTurn) (x : ServerState) → x.id ≡ t.state.id → x.locks ≡ t.state.locks → x.sessions ≡ t.state.sessions → Gives t →
       Gives (record t { state = x })
-  o_same t x a p c k = record {
+  gives_after_same t x a p c k = record {
     owner = k.owner;
     grows = k.grows;
     id = a ∙ k.id;
@@ -107,8 +95,8 @@ module _ (s : ServerId) (o : Owner) (n : ℕ) (i : ServerInput)
     up = subst (λ l. n ≤ top l) (sym p) k.up;
   }
 
-  o_sessions : (t : ServerTurn) (x : sessions.Sessions) → ((p : Owner) → Keeps p t.state.sessions → Keeps p x) → Gives t → Gives (with_sessions x t)
-  o_sessions t x f k = record {
+  gives_after_sessions : (t : ServerTurn) (x : sessions.Sessions) → ((p : Owner) → Keeps p t.state.sessions → Keeps p x) → Gives t → Gives (with_sessions x t)
+  gives_after_sessions t x f k = record {
     owner = k.owner;
     grows = k.grows;
     id = k.id;
@@ -120,9 +108,9 @@ module _ (s : ServerId) (o : Owner) (n : ℕ) (i : ServerInput)
   }
 
   -- one more output
-  o_say : (t : ServerTurn) (x : Output) (k : Gives t) → ((m : Message) → outputs.Send m ≡ x →
+  gives_after_say : (t : ServerTurn) (x : Output) (k : Gives t) → ((m : Message) → outputs.Send m ≡ x →
       (m.header.from ≡ server_node s) × Fits k.owner m.header.to m.body) → Gives (say t x)
-  o_say t x k f =
+  gives_after_say t x k f =
       record {
         owner = k.owner;
         grows = k.grows;
@@ -139,39 +127,39 @@ module _ (s : ServerId) (o : Owner) (n : ℕ) (i : ServerInput)
       go m (inr (inl e)) = f m e
       go m (inr (inr e)) = absurd e
 
-  o_note : (t : ServerTurn) (x : Note) → Gives t → Gives (note t x)
-  o_note t x k = o_say t (outputs.Note x) k (λ y q. cc q)
+  gives_after_note : (t : ServerTurn) (x : Note) → Gives t → Gives (note t x)
+  gives_after_note t x k = gives_after_say t (outputs.Note x) k (λ y q. cc q)
 
   same_sent : (x m : Message) → outputs.Send x ≡ outputs.Send m → x ≡ m
   same_sent x m q = cc
 
-  o_send : (t : ServerTurn) (h : Header) (b : Body) (k : Gives t) → h.from ≡ server_node s → Fits k.owner h.to b → Gives (sv.send t h b)
-  o_send t h b k f w =
-      o_say t (outputs.Send (record { header = h; body = b })) k
+  gives_after_send : (t : ServerTurn) (h : Header) (b : Body) (k : Gives t) → h.from ≡ server_node s → Fits k.owner h.to b → Gives (sv.send t h b)
+  gives_after_send t h b k f w =
+      gives_after_say t (outputs.Send (record { header = h; body = b })) k
       (λ x e. subst (λ (y : Message). (y.header.from ≡ server_node s) × Fits k.owner y.header.to y.body)
       (sym (same_sent x (record { header = h; body = b }) e)) (f, w))
 
-  o_reply : (t : ServerTurn) (h : Header) (b : Body) (k : Gives t) → Fits k.owner h.from b → Gives (reply t h b)
+  gives_after_reply : (t : ServerTurn) (h : Header) (b : Body) (k : Gives t) → Fits k.owner h.from b → Gives (reply t h b)
   unfolding reply
-  o_reply t h b k w = o_send t (sv.reply_header t.state h) b k (ap server_node k.id) w
+  gives_after_reply t h b k w = gives_after_send t (sv.reply_header t.state h) b k (ap server_node k.id) w
 
-  o_tell : (t : ServerTurn) (c : ClientId) (life : Life) (b : Body) (k : Gives t) → Fits k.owner c.0 b → Gives (tell t c life b)
+  gives_after_tell : (t : ServerTurn) (c : ClientId) (life : Life) (b : Body) (k : Gives t) → Fits k.owner c.0 b → Gives (tell t c life b)
   unfolding tell
-  o_tell t c life b k w = o_send t (sv.own_header t.state c life) b k (ap server_node k.id) w
+  gives_after_tell t c life b k w = gives_after_send t (sv.own_header t.state c life) b k (ap server_node k.id) w
 
-  o_suspect : (t : ServerTurn) (now : Stamp) (c : ClientId) → Gives t → Gives (suspect_client t now c)
+  gives_after_suspect : (t : ServerTurn) (now : Stamp) (c : ClientId) → Gives t → Gives (suspect_client t now c)
   unfolding suspect_client
-  o_suspect t now c k = o_state (sv.with_authority (authority.suspect t.state.authority c now) (note t (notes.Suspected c now))) _ refl
-      (part_waits t.state.locks c) refl (o_same (note t (notes.Suspected c now)) _ refl refl refl (o_note t (notes.Suspected c now) k))
+  gives_after_suspect t now c k = gives_after_state (sv.with_authority (authority.suspect t.state.authority c now) (note t (notes.Suspected c now))) _ refl
+      (part_waits t.state.locks c) refl (gives_after_same (note t (notes.Suspected c now)) _ refl refl refl (gives_after_note t (notes.Suspected c now) k))
 
   -- a grant, with the message that tells it
-  o_grants : (t : ServerTurn) (x : ServerState) (c : ClientId) (life : Life) (ino : ℕ) (mode : Mode) (h : Header) → x.id ≡ t.state.id →
+  gives_after_grants : (t : ServerTurn) (x : ServerState) (c : ClientId) (life : Life) (ino : ℕ) (mode : Mode) (h : Header) → x.id ≡ t.state.id →
       x.locks ≡ locks.grant t.state.locks c life ino mode →
       ((p : Owner) → p (locks.next_grant t.state.locks).0 ≡ Some (c.0, ino) → Keeps p t.state.sessions → Keeps p x.sessions) →
       h.from ≡ server_node s → h.to ≡ c.0 → Gives t →
       Gives (record { state = x; out = t.out ++ outputs.Send (record { header = h; body = bd.Granted ino (locks.next_grant t.state.locks) mode }) ∷ [] })
   unfolding locks.grant
-  o_grants t x c life ino mode h a e f from to k =
+  gives_after_grants t x c life ino mode h a e f from to k =
       record {
         owner = p;
         grows = λ g y q. more g y (k.grows g y q);
@@ -253,7 +241,7 @@ module _ (s : ServerId) (o : Owner) (n : ℕ) (i : ServerInput)
   keeps : (u : ServerTurn) (h : Header) (b : Body) (k : Gives u) → Fits k.owner h.from b → Gives (keep_and_reply u h b)
   unfolding keep_and_reply
   keeps u h b k w =
-      o_reply (with_sessions (sessions.store u.state.sessions (sender h) h.number b) u) h b
+      gives_after_reply (with_sessions (sessions.store u.state.sessions (sender h) h.number b) u) h b
       (record {
         owner = k.owner;
         grows = k.grows;
@@ -269,20 +257,20 @@ module _ (s : ServerId) (o : Owner) (n : ℕ) (i : ServerInput)
   unfolding keep_and_reply reply sv.cut_pages sv.cut_whole
   serves now t h m u b (edits.Tells _ _ r) k = keeps t h b k (told_fits t h m b r k)
   serves now t h m u b (edits.Acquires ino mode a f l (AtOnce g x y)) k =
-      o_grants t _ (sender h) (life_in h) ino mode _ refl refl
+      gives_after_grants t _ (sender h) (life_in h) ino mode _ refl refl
       (λ p q z. kept_stored p t.state.sessions (sender h) h.number (bd.Granted ino (locks.next_grant t.state.locks) mode) q z) (ap server_node k.id) refl k
   serves now t h m u b (edits.Acquires ino mode a f l (InTurn g)) k =
-      keeps u h b (o_state t _ refl (part_queue t.state.locks (sender h) (life_in h) ino mode) refl k) tt
-  serves now t h m u b (edits.Releases ino g to r e f) k = keeps u h b (o_state t _ refl (part_to t.state.locks (sender h) ino to) refl k) tt
-  serves now t h m u b (edits.Allocates ino g p count x f q e) k = keeps u h b (o_same t _ refl refl refl k) tt
-  serves now t h m u b (edits.Cuts ino g p f q) k = keeps u h b (o_note (sv.with_extents _ t) _ (o_same t _ refl refl refl k)) tt
-  serves now t h m u b (edits.Creates dir x d e) k = keeps u h b (o_same t _ refl refl refl k) tt
-  serves now t h m u b (edits.MakesDir dir x d e) k = keeps u h b (o_same t _ refl refl refl k) tt
-  serves now t h m u b (edits.Renames dir x dir2 x2 d e) k = keeps u h b (o_same t _ refl refl refl k) tt
-  serves now t h m u b (edits.RemovesDir dir x g ino d l f z e q) k = keeps u h b (o_same t _ refl refl refl k) tt
+      keeps u h b (gives_after_state t _ refl (part_queue t.state.locks (sender h) (life_in h) ino mode) refl k) tt
+  serves now t h m u b (edits.Releases ino g to r e f) k = keeps u h b (gives_after_state t _ refl (part_to t.state.locks (sender h) ino to) refl k) tt
+  serves now t h m u b (edits.Allocates ino g p count x f q e) k = keeps u h b (gives_after_same t _ refl refl refl k) tt
+  serves now t h m u b (edits.Cuts ino g p f q) k = keeps u h b (gives_after_note (sv.with_extents _ t) _ (gives_after_same t _ refl refl refl k)) tt
+  serves now t h m u b (edits.Creates dir x d e) k = keeps u h b (gives_after_same t _ refl refl refl k) tt
+  serves now t h m u b (edits.MakesDir dir x d e) k = keeps u h b (gives_after_same t _ refl refl refl k) tt
+  serves now t h m u b (edits.Renames dir x dir2 x2 d e) k = keeps u h b (gives_after_same t _ refl refl refl k) tt
+  serves now t h m u b (edits.RemovesDir dir x g ino d l f z e q) k = keeps u h b (gives_after_same t _ refl refl refl k) tt
   serves now t h m u b (edits.RemovesFile dir x g ino d l f z e q) k =
-      keeps u h b (o_note (sv.with_extents _ (with_locks (locks.drop_file_waits t.state.locks d.ino) (sv.with_names d.names t))) _
-      (o_state t _ refl (part_file_waits t.state.locks d.ino) refl k)) tt
+      keeps u h b (gives_after_note (sv.with_extents _ (with_locks (locks.drop_file_waits t.state.locks d.ino) (sv.with_names d.names t))) _
+      (gives_after_state t _ refl (part_file_waits t.state.locks d.ino) refl k)) tt
 
   module _ (x : ServerState) (now : Stamp) where
     refused_fits : (t : ServerTurn) (m : Message) (b : Body) → edits.Refused x now i t m b → (p : Owner) (c : ℕ) → Fits p c b
@@ -298,7 +286,7 @@ module _ (s : ServerId) (o : Owner) (n : ℕ) (i : ServerInput)
         none (refusals.NotHolder a b) = tt
 
     begins : (t : ServerTurn) (c : ClientId) (life : Life) → Gives t → Gives (with_sessions (sessions.with_new_session c life t.state.sessions) t)
-    begins t c life k = o_sessions t _ (λ p q. kept_new p t.state.sessions (sessions.new_session c life) tt q) k
+    begins t c life k = gives_after_sessions t _ (λ p q. kept_new p t.state.sessions (sessions.new_session c life) tt q) k
 
     reasserts : (t : ServerTurn) (m : Message) (rows : List (ℕ × GrantNo × Mode)) → edits.Reasserted x now i t m rows → Gives t →
         Gives (with_sessions (sessions.reasserted t.state.sessions (sender m.header) (life_in m.header))
@@ -322,28 +310,28 @@ module _ (s : ServerId) (o : Owner) (n : ℕ) (i : ServerInput)
 
     gives_edit : (a : Phase) (t u : ServerTurn) → Edit x now i a t u → Gives t → Gives u
     unfolding steal_from tell
-    gives_edit a t u (TakesTimers _ e) k = o_same t _ refl refl refl k
+    gives_edit a t u (TakesTimers _ e) k = gives_after_same t _ refl refl refl k
     gives_edit a t u (Steals _ c y h e) k =
-        o_sessions (with_locks (locks.forget t.state.locks c) (note t (notes.Stolen c y.life))) _ (λ p q. kept_ended p t.state.sessions c q)
-        (o_state (note t (notes.Stolen c y.life)) _ refl (part_forget t.state.locks c) refl (o_note t (notes.Stolen c y.life) k))
-    gives_edit a t u (Welcomes _ m y g e z f) k = o_reply t m.header _ k tt
-    gives_edit a t u (Begins _ m g f) k = o_reply _ m.header _ (begins t (sender m.header) (life_in m.header) k) tt
+        gives_after_sessions (with_locks (locks.forget t.state.locks c) (note t (notes.Stolen c y.life))) _ (λ p q. kept_ended p t.state.sessions c q)
+        (gives_after_state (note t (notes.Stolen c y.life)) _ refl (part_forget t.state.locks c) refl (gives_after_note t (notes.Stolen c y.life) k))
+    gives_edit a t u (Welcomes _ m y g e z f) k = gives_after_reply t m.header _ k tt
+    gives_edit a t u (Begins _ m g f) k = gives_after_reply _ m.header _ (begins t (sender m.header) (life_in m.header) k) tt
     gives_edit a t u (Replaces _ m y g e z f r) k =
-        o_reply _ m.header _
-        (o_state (with_sessions (sessions.with_new_session (sender m.header) (life_in m.header) t.state.sessions) t) _ refl
+        gives_after_reply _ m.header _
+        (gives_after_state (with_sessions (sessions.with_new_session (sender m.header) (life_in m.header) t.state.sessions) t) _ refl
         (part_waits t.state.locks (sender m.header)) refl
         (begins t (sender m.header) (life_in m.header) k)) tt
-    gives_edit a t u (PutsOff _ m y g e z f r) k = o_reply _ m.header _ (o_suspect t now (sender m.header) k) tt
-    gives_edit a t u (Sees _ m ino g h b e) k = o_state t _ refl (part_seen t.state.locks (sender m.header) ino g) refl k
-    gives_edit a t u (Reasserts _ m rows r on f) k = o_reply _ m.header _ (reasserts t m rows r k) tt
+    gives_edit a t u (PutsOff _ m y g e z f r) k = gives_after_reply _ m.header _ (gives_after_suspect t now (sender m.header) k) tt
+    gives_edit a t u (Sees _ m ino g h b e) k = gives_after_state t _ refl (part_seen t.state.locks (sender m.header) ino g) refl k
+    gives_edit a t u (Reasserts _ m rows r on f) k = gives_after_reply _ m.header _ (reasserts t m rows r k) tt
     gives_edit a t u (Serves _ m v b y e r) k = serves now t m.header m.body v b r k
-    gives_edit a t u (Repeats _ m y b z e f g q) k = o_reply t m.header b k (subst (FitsState k.owner m.header.from) q (k.kept (sender m.header) y f))
-    gives_edit a t u (Refuses _ m b r) k = o_reply t m.header b k (refused_fits t m b r k.owner m.header.from)
-    gives_edit a t u (Suspects _ c r is q f h e z) k = o_suspect t now c k
-    gives_edit a t u (Grants _ w off h e f) k = o_grants t _ w.client w.life w.ino w.mode _ refl refl (λ p q z. z) (ap server_node k.id) refl k
+    gives_edit a t u (Repeats _ m y b z e f g q) k = gives_after_reply t m.header b k (subst (FitsState k.owner m.header.from) q (k.kept (sender m.header) y f))
+    gives_edit a t u (Refuses _ m b r) k = gives_after_reply t m.header b k (refused_fits t m b r k.owner m.header.from)
+    gives_edit a t u (Suspects _ c r is q f h e z) k = gives_after_suspect t now c k
+    gives_edit a t u (Grants _ w off h e f) k = gives_after_grants t _ w.client w.life w.ino w.mode _ refl refl (λ p q z. z) (ap server_node k.id) refl k
     gives_edit a t u (Demands _ w r d e h f row z) k =
         let p = part_demand r d t.state.locks in
-        o_send (with_locks (locks.with_demand r d t.state.locks) t) _ _
+        gives_after_send (with_locks (locks.with_demand r d t.state.locks) t) _ _
         (record {
           owner = k.owner;
           grows = k.grows;

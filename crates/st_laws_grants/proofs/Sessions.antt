@@ -1,18 +1,13 @@
 -- Sessions: what is kept of a client has numbers of it, after each change of the table.
-use Rattle.std.proofs.Common.{◌≡◌, ℕ, Bool, true, false, ◌==◌, Option, Some, None, refl, sym, ap, ◌∙◌, subst, if◌then◌else◌}
-use Rattle.std.specs.Prelude.{option_map, map}
-use Rattle.std.proofs.lemmas.Bool.{eqb-true, eq-eqb}
-use Rattle.st_base.specs.declared.ids.ClientId.{ClientId}
-use Rattle.st_base.specs.declared.ids.Life.{Life}
-use Rattle.st_messages.specs.declared.message.Body.{Body}
-use Rattle.st_messages.specs.declared.message.Body.TheVariants as bd
-use Rattle.st_rules.specs.declared.sessions.Session.{Session}
-use Rattle.st_rules.specs.declared.sessions.SessionState.{SessionState}
-use Rattle.st_rules.specs.declared.sessions.SessionState.TheVariants as states
-use Rattle.st_rules.specs.Sessions as sessions
-use Rattle.st_lemmas.proofs.Lookups.{some_is}
+use Rattle.st_lemmas.proofs.Words
+use Words.{◌≡◌, ℕ, Bool, true, false, ◌==◌, Option, Some, None, refl, sym, ap, ◌∙◌, subst, if◌then◌else◌, option_map, map, eqb-true, eq-eqb, ClientId, Life}
+use Words.{Body, Session, SessionState}
+use Words.bodies as bd
+use Words.states
+use Words.Sessions as sessions
+use Words.Lookups.{some_is}
+use Words.Tables.{find_map, found_at}
 use Rattle.st_lemmas.proofs.Puts.{find_put_by, find_put_other}
-use Rattle.st_lemmas.proofs.Tables.{find_map, found_at}
 use Rattle.st_trace.proofs.Server.Taking.{clash}
 use Rattle.st_laws_grants.specs.Owners.{Fits, FitsState, Grows, Keeps, Owner}
 

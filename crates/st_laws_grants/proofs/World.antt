@@ -1,43 +1,31 @@
 -- Every event leaves each number of a server with its client and its file.
-use Rattle.std.proofs.Common.{◌≡◌, ◌≢◌, ℕ, ◌+◌, ◌*◌, ◌^◌, ◌≤◌, ◌<◌, ◌⊎◌, Bool, true, false, List, [], ◌∷◌, Option, Some, None, Ok, refl, sym, ap, ◌∙◌, subst, inl, inr, arith}
-use Rattle.std.specs.Prelude.{nat_le}
-use Rattle.std.proofs.lemmas.Bool.{leb-true}
-use Rattle.st_base.specs.declared.ids.ClientId.{ClientId}
-use Rattle.st_base.specs.declared.ids.Epoch.{Epoch}
-use Rattle.st_base.specs.declared.ids.GrantNo.{GrantNo}
-use Rattle.st_base.specs.declared.ids.ServerId.{ServerId}
-use Rattle.st_base.specs.declared.ids.NodeId.TheVariants as nodes
-use Rattle.st_base.specs.declared.mode.Mode.{Mode}
-use Rattle.st_messages.specs.declared.message.Body.TheVariants as bd
-use Rattle.st_messages.specs.declared.message.Message.{Message}
-use Rattle.st_messages.specs.declared.output.Output.{Output}
-use Rattle.st_messages.specs.declared.output.Output.TheVariants as outputs
-use Rattle.st_messages.specs.declared.event.Event.{Event}
-use Rattle.st_rules.specs.declared.client.ClientInput.{ClientInput}
-use Rattle.st_rules.specs.declared.client.ClientInput.TheVariants as inputs
-use Rattle.st_rules.specs.declared.input.ServerInput.{ServerInput}
-use Rattle.st_rules.specs.declared.input.ServerInput.TheVariants as serving
-use Rattle.st_rules.specs.declared.sessions.Session.{Session}
-use Rattle.st_rules.specs.declared.world.SentMessage.{SentMessage}
-use Rattle.st_rules.specs.Client as cl
-use Rattle.st_rules.specs.Client.{ClientNode}
-use Rattle.st_rules.specs.ClientState.{Association}
-use Rattle.st_rules.specs.Events as ev
-use Rattle.st_rules.specs.Events.{WorldTurn, world_step}
-use Rattle.st_rules.specs.Keys.{client, server_node}
-use Rattle.st_rules.specs.Locks as locks
-use Rattle.st_rules.specs.Server as sv
-use Rattle.st_rules.specs.Server.{ServerNode, ServerState, is_client_node, next_epoch, turn}
-use Rattle.st_rules.specs.World.{World, WorldClient, clock_of, node_of, numbered, server, site_of, with_numbered}
+use Rattle.st_lemmas.proofs.Words
+use Words.{◌≡◌, ◌≢◌, ℕ, ◌+◌, ◌*◌, ◌^◌, ◌≤◌, ◌<◌, ◌⊎◌, Bool, true, false, List, [], ◌∷◌, Option, Some, None, Ok, refl, sym, ap, ◌∙◌, subst, inl, inr, arith}
+use Words.{nat_le, leb-true, ClientId, Epoch, GrantNo, ServerId, Mode, Message, Output, Event, ClientInput, ServerInput, Session, SentMessage}
+use Words.nodes
+use Words.bodies as bd
+use Words.outputs
+use Words.inputs
+use Words.serving
+use Words.Client as cl
+use Words.Client.{ClientNode}
+use Words.ClientState.{Association}
+use Words.Events as ev
+use Words.Events.{WorldTurn, world_step}
+use Words.Keys.{client, server_node}
+use Words.Locks as locks
+use Words.Server as sv
+use Words.Server.{ServerNode, ServerState, is_client_node, next_epoch}
+use Words.World.{World, WorldClient, clock_of, node_of, numbered, server, site_of, with_numbered}
+use Words.Lists.{Has}
+use Words.Numbers.{numbered_below}
+use Words.Tables.{and_true, has_map, same_or_not}
+use Words.Members.{has_right}
 use Rattle.st_protocol.specs.Assoc as net
 use Rattle.st_protocol.specs.Assoc.{Config, Msg, In}
-use Rattle.st_lemmas.specs.Lists.{Has}
-use Rattle.st_lemmas.proofs.Numbers.{numbered_below}
-use Rattle.st_lemmas.proofs.Tables.{and_true, has_map, same_or_not}
 use Rattle.st_laws_leases.specs.Dates.Dates.{message_in, messages}
 use Rattle.st_laws_leases.specs.Sides.Invariants.{Standing}
 use Rattle.st_laws_leases.specs.Sides.World.{AllStand, ServerStands}
-use Rattle.st_laws_leases.proofs.Dates.Known.{has_right}
 use Rattle.st_laws_leases.proofs.Dates.Leaving.{Leaves, leaves_from, server_not_client, set_cases}
 use Rattle.st_laws_leases.proofs.Sides.Clients.{fine_from}
 use Rattle.st_laws_leases.proofs.Sides.Pairs.{only_here}
@@ -56,11 +44,12 @@ use Rattle.st_laws_requests.specs.Replies.ServedRequests.{NewOwed}
 use Rattle.st_laws_requests.proofs.Cuts.Seen.{server_sends}
 use Rattle.st_laws_requests.proofs.Replies.EachEvent as each
 use Rattle.st_laws_requests.proofs.Replies.EachEvent.{ClientTook, NodeAfter, ServerLeft, ServerTook, SiteAfter}
-use Rattle.st_laws_grants.specs.Owners.{AllGiveOnce, AllTell, Fits, GivesOnce, Grows, Keeps, LocksOk, Owned, Owner, Pair, RiseFrom, Side, StateOk, Tells, WasSent}
+use Rattle.st_laws_grants.specs.Owners.{AllGiveOnce, AllTell, Fits, GivesOnce, Grows, Keeps, LocksOk, Owned, Owner, Pair, RiseFrom, Side, StateOk, Tells}
+use Rattle.st_laws_grants.specs.Owners.{WasSent}
 use Rattle.st_laws_grants.proofs.Moves.{Down, stays_down}
 use Rattle.st_laws_grants.proofs.Locking.{top}
 use Rattle.st_laws_grants.proofs.Nets.{add, add_grows, add_shows, add_tells, granted_owned}
-use Rattle.st_laws_grants.proofs.Server.{Gives, IsTold, RowsOwned, served}
+use Rattle.st_laws_grants.proofs.Server.{Gives, IsTold, RowsOwned, served, under}
 
 -- a client's message is its own, and its server can receive it
 said_out : (id : ℕ) (own : ServerId) (os : List Output) (N : List Msg) (m : Message) → Said id own os N → Has (outputs.Send m) os → (m.header.from ≡ id) × (m.header.to ≡ server_node own → Received m.header m.body N)
@@ -139,9 +128,6 @@ pair_on o c s w v f at q =
     receives : (m : Message) → Has m (messages w) ⊎ Foreign c s m → m.header.to ≡ server_node s → is_client_node m.header.from ≡ true → m.header.from ≡ c → Received m.header m.body q.net
     receives m (inl h) to of from = q.receives m h to of from
     receives m (inr n) to of from = absurd (n.1 of from)
-
-below_that : (a b c : ℕ) → a ≤ b → b < c → a < c
-below_that a b c x y = omega (arith, x, y)
 
 -- no server has the number of a client
 of_no_client : (s : ServerId) (n : ℕ) → n ≡ server_node s → is_client_node n ≡ true → ⊥
@@ -407,7 +393,7 @@ module _ (k : Config) (count : ℕ) (w : World) (all : AllStand k count w) (g : 
         low : x ≡ s → top node.state.locks < b.0 → (y : Message) → Has y (messages w) → y.header.from ≡ server_node x → (j : ℕ) (c : GrantNo) (by : Mode) → y.body ≡ bd.Granted j c by → c.0 < b.0
         low q up y k r j c by p =
             let pair = was.pairs y.header.to in
-            below_that c.0 (top node.state.locks) b.0 (before.0.low c.0 (y.header.to, j) (granted_owned was.owner y.header.to y pair.net j c by p pair.tells (pair.shows y k (r ∙ ap server_node q) refl))) up
+            under c.0 (top node.state.locks) b.0 (before.0.low c.0 (y.header.to, j) (granted_owned was.owner y.header.to y pair.net j c by p pair.tells (pair.shows y k (r ∙ ap server_node q) refl))) up
 
         new : x ≡ s → (y : ℕ × ℕ) → (was.owner b.0 ≡ Some y) ⊎ ((top node.state.locks < b.0) × IsTold s (ServerTook w s i node).out b.0 y) →
             WasSent x (messages w) b.0 ⊎ ((y : Message) → Has y (messages w) → y.header.from ≡ server_node x → (j : ℕ) (c : GrantNo) (by : Mode) → y.body ≡ bd.Granted j c by → c.0 < b.0)

@@ -1,31 +1,20 @@
 -- Where a client answers `diskfault`, `opsfull` and what a server refused: only at the end of a command that failed, only where 16 operations are
 -- pending, and only where a refusal comes.
-use Rattle.std.proofs.Common.{◌≡◌, ℕ, ◌+◌, ◌⊎◌, Bool, true, false, ◌≤◌, List, [], ◌∷◌, ◌++◌, Option, None, refl, sym, subst, arith, inl, inr}
-use Rattle.std.proofs.Common.{if◌then◌else◌}
-use Rattle.std.specs.Prelude.{filter, length, map}
-use Rattle.std.proofs.lemmas.Bool.{le-leb, leb-true}
-use Rattle.st_base.specs.declared.disk.Tag.{Tag}
-use Rattle.st_base.specs.declared.ids.Stamp.{Stamp}
-use Rattle.st_messages.specs.declared.answer.AppAnswer.{AppAnswer}
-use Rattle.st_messages.specs.declared.answer.AppAnswer.TheVariants as answers
-use Rattle.st_messages.specs.declared.ask.Ask.{Ask}
-use Rattle.st_messages.specs.declared.message.Body.{Body}
-use Rattle.st_messages.specs.declared.message.Header.{Header}
-use Rattle.st_messages.specs.declared.output.Output.{Output}
-use Rattle.st_messages.specs.declared.output.Output.TheVariants as outputs
-use Rattle.st_rules.specs.declared.client.ClientInput.{ClientInput}
-use Rattle.st_rules.specs.declared.client.ClientInput.TheVariants as inputs
-use Rattle.st_rules.specs.declared.client.Operation.{Operation}
-use Rattle.st_rules.specs.declared.client.PageCommand.{PageCommand}
-use Rattle.st_rules.specs.Client as cl
-use Rattle.st_rules.specs.ClientPages as pages
-use Rattle.st_rules.specs.ClientPasses as cp
-use Rattle.st_rules.specs.ClientReplies as cr
-use Rattle.st_rules.specs.ClientState as cs
-use Rattle.st_rules.specs.ClientState.{Association, ClientSession, ClientState, ClientTurn, Turn, answer_to, at_each, at_these, client_turn, enter, leave}
-use Rattle.st_rules.specs.ClientState.{only_at, say, with_associations, with_operations}
-use Rattle.st_lemmas.specs.Lists.{Has}
-use Rattle.st_lemmas.proofs.Tables.{has_append, has_map}
+use Rattle.st_lemmas.proofs.Words
+use Words.{◌≡◌, ℕ, ◌+◌, ◌⊎◌, Bool, true, false, ◌≤◌, List, [], ◌∷◌, ◌++◌, Option, None, refl, sym, subst, arith, inl, inr, if◌then◌else◌, filter, length, map}
+use Words.{le-leb, leb-true, Tag, Stamp, AppAnswer, Ask, Body, Header, Output, ClientInput, Operation, PageCommand, length-append}
+use Words.answers
+use Words.outputs
+use Words.inputs
+use Words.Client as cl
+use Words.ClientPages as pages
+use Words.ClientPasses as cp
+use Words.ClientReplies as cr
+use Words.ClientState as cs
+use Words.ClientState.{Association, ClientSession, ClientState, ClientTurn, Turn, answer_to, at_each, at_these, client_turn, enter, leave, only_at, say}
+use Words.ClientState.{with_associations, with_operations}
+use Words.Lists.{Has}
+use Words.Tables.{has_append, has_map}
 use Rattle.st_promises.specs.Faults.{refuses}
 use Rattle.st_laws_lines.proofs.Walking as walk
 use Rattle.st_trace.specs.Client.Commands as ends
@@ -37,7 +26,6 @@ use Rattle.st_trace.specs.Client.Operations.{Operated}
 use Rattle.st_trace.specs.Client.Requests as asking
 use Rattle.st_trace.specs.Client.Requests.{Requests}
 use Rattle.st_trace.proofs.Client.Finishing.{at_server, finishes, takes}
-use Rattle.st_trace.proofs.Client.Lists.{length_both}
 use Rattle.st_trace.proofs.Client.Losing.{loses}
 use Rattle.st_trace.proofs.Client.Operating.{operations}
 use Rattle.st_trace.proofs.Client.Requesting.{requests}
@@ -66,7 +54,7 @@ All_free Failed Full Told os = (o : Output) → Has o os → Free Failed Full To
 -- what ends is pending no more, and nothing else joins it
 fewer_ended : (s : ClientSession) (n : ℕ) (o : Operation) (os : List Operation) (t u : Turn) → Ended s o t u → length t.operations + length (o ∷ os) ≤ n →
     length u.operations + length os ≤ n
-fewer_ended s n o os t _ (losing.IsElsewhere e) h = let z = length_both t.operations (o ∷ []) in omega (arith, h, z)
+fewer_ended s n o os t _ (losing.IsElsewhere e) h = let z = length-append t.operations (o ∷ []) in omega (arith, h, z)
 fewer_ended s n o os t _ (losing.IsUncertain e q) h = omega (arith, h)
 fewer_ended s n o os t _ (losing.IsToldLost f e q a l) h = omega (arith, h)
 fewer_ended s n o os t _ (losing.LostNothing f e q a l) h = omega (arith, h)

@@ -1,50 +1,30 @@
 -- What each event adds to what its lines count.
-use Rattle.std.proofs.Common.{◌≡◌, ℕ, ◌+◌, Bool, true, false, List, [], ◌∷◌, ◌++◌, Option, Some, None, Ok, Err, refl, sym, ap, ◌∙◌, subst, arith, if◌then◌else◌}
+use Rattle.st_lemmas.proofs.Words
+use Words.{◌≡◌, ℕ, ◌+◌, Bool, true, false, List, [], ◌∷◌, ◌++◌, Option, Some, None, Ok, Err, refl, sym, ap, ◌∙◌, subst, arith, if◌then◌else◌, cons_option}
+use Words.{Result, length, filter_map, map, pred, set, suc, zero, Command, ClientId, NodeId, ServerId, Stamp, AppAnswer, Event, Message, Note, Output}
+use Words.{ClientInput, Phase, DiskCommand, CommandRefusal, Report, ServerInput, Fate, LogEntry, StepRefusal, Observation, IssuedCommand, SentMessage}
+use Words.commands
+use Words.nodes
+use Words.answers
+use Words.events
+use Words.notes
+use Words.outputs
+use Words.phases
+use Words.reports
+use Words.fates
+use Words.seen
+use Words.Client as cl
+use Words.ClientState.{ClientState}
+use Words.Disks as disks
+use Words.Disks.{Disks}
+use Words.Events as ev
+use Words.Events.{WorldTurn}
+use Words.Server as server
+use Words.Server.{ServerNode}
+use Words.World as world
+use Words.World.{World, WorldClient, clock_of, issued_of, node_of, numbered, site_of}
+use Words.Lengths.{length_map, map_last}
 use Rattle.std.proofs.lemmas.List.Elements.{filter_map-append}
-use Rattle.std.specs.List.{cons_option}
-use Rattle.std.specs.Prelude.{Result, length, filter_map, map, pred, set, suc, zero}
-use Rattle.st_base.specs.declared.disk.Command.{Command}
-use Rattle.st_base.specs.declared.disk.Command.TheVariants as commands
-use Rattle.st_base.specs.declared.ids.ClientId.{ClientId}
-use Rattle.st_base.specs.declared.ids.NodeId.{NodeId}
-use Rattle.st_base.specs.declared.ids.NodeId.TheVariants as nodes
-use Rattle.st_base.specs.declared.ids.ServerId.{ServerId}
-use Rattle.st_base.specs.declared.ids.Stamp.{Stamp}
-use Rattle.st_messages.specs.declared.answer.AppAnswer.{AppAnswer}
-use Rattle.st_messages.specs.declared.answer.AppAnswer.TheVariants as answers
-use Rattle.st_messages.specs.declared.event.Event.{Event}
-use Rattle.st_messages.specs.declared.event.Event.TheVariants as events
-use Rattle.st_messages.specs.declared.message.Message.{Message}
-use Rattle.st_messages.specs.declared.output.Note.{Note}
-use Rattle.st_messages.specs.declared.output.Note.TheVariants as notes
-use Rattle.st_messages.specs.declared.output.Output.{Output}
-use Rattle.st_messages.specs.declared.output.Output.TheVariants as outputs
-use Rattle.st_rules.specs.declared.client.ClientInput.{ClientInput}
-use Rattle.st_rules.specs.declared.lease.Phase.{Phase}
-use Rattle.st_rules.specs.declared.lease.Phase.TheVariants as phases
-use Rattle.st_rules.specs.declared.disks.DiskCommand.{DiskCommand}
-use Rattle.st_rules.specs.declared.disks.CommandRefusal.{CommandRefusal}
-use Rattle.st_rules.specs.declared.disks.Report.{Report}
-use Rattle.st_rules.specs.declared.disks.Report.TheVariants as reports
-use Rattle.st_rules.specs.declared.input.ServerInput.{ServerInput}
-use Rattle.st_rules.specs.declared.log.Fate.{Fate}
-use Rattle.st_rules.specs.declared.log.Fate.TheVariants as fates
-use Rattle.st_rules.specs.declared.log.LogEntry.{LogEntry}
-use Rattle.st_rules.specs.declared.node.StepRefusal.{StepRefusal}
-use Rattle.st_rules.specs.declared.observation.Observation.{Observation}
-use Rattle.st_rules.specs.declared.observation.Observation.TheVariants as seen
-use Rattle.st_rules.specs.declared.world.IssuedCommand.{IssuedCommand}
-use Rattle.st_rules.specs.declared.world.SentMessage.{SentMessage}
-use Rattle.st_rules.specs.Client as cl
-use Rattle.st_rules.specs.ClientState.{ClientState}
-use Rattle.st_rules.specs.Disks as disks
-use Rattle.st_rules.specs.Disks.{Disks}
-use Rattle.st_rules.specs.Events as ev
-use Rattle.st_rules.specs.Events.{WorldTurn}
-use Rattle.st_rules.specs.Server as server
-use Rattle.st_rules.specs.Server.{ServerNode}
-use Rattle.st_rules.specs.World as world
-use Rattle.st_rules.specs.World.{World, WorldClient, clock_of, issued_of, node_of, numbered, site_of}
 use Rattle.st_promises.specs.Counts.{command_in, command_told, count_lines, is_read_line, is_theft_line, message_in, message_told, what_in, what_told}
 use Rattle.st_laws_lines.proofs.Growing.{Adds, Grows, adds_none, adds_then, count_more, grows_none, grows_then, map_set}
 
@@ -103,21 +83,13 @@ alike_tells w v a = silent_tells w v [] no_lines a
 self : (w : World) → Alike w w
 self w = record { messages = refl; commands = refl; whats = refl; tally = refl }
 
-map_last : {A B : Type 0} (f : A → B) (xs : List A) (x : A) → map f (xs ++ x ∷ []) ≡ map f xs ++ f x ∷ []
-map_last f [] x = refl
-map_last f (y ∷ xs) x = ap (λ z. f y ∷ z) (map_last f xs x)
-
-map_length : {A B : Type 0} (f : A → B) (xs : List A) → length (map f xs) ≡ length xs
-map_length f [] = refl
-map_length f (y ∷ xs) = ap suc (map_length f xs)
-
 -- one more member, and its line
 one_grows : {A B : Type 0} (line : Observation → Option (ℕ × A)) (f : B → A) (xs : List B) (x : B) (o : Observation) → line o ≡ Some (length xs + 1, f x) → Grows line (map f xs) (o ∷ []) (map f (xs ++ x ∷ []))
 unfolding Rattle.st_promises.specs.Counts.under_numbers
 one_grows line f xs x o e =
     record {
       new = f x ∷ [];
-      lines = ap (λ z. cons_option z []) (e ∙ ap (λ n. Some (n + 1, f x)) (sym (map_length f xs)));
+      lines = ap (λ z. cons_option z []) (e ∙ ap (λ n. Some (n + 1, f x)) (sym (length_map f xs)));
       is = map_last f xs x;
     }
 

@@ -1,60 +1,35 @@
 -- Faults have a cause, in every run.
-use Rattle.std.proofs.Common.{◌≡◌, ℕ, ◌+◌, ◌⊎◌, Bool, true, false, List, [], ◌∷◌, ◌++◌, Option, Some, None, Ok, Err, refl, sym, ap, ◌∙◌, subst, inl, inr, if◌then◌else◌}
-use Rattle.std.specs.Prelude.{Result, not, nat_le, ◌-◌}
-use Rattle.std.proofs.lemmas.Bool.{eq-eqb}
-use Rattle.st_base.specs.declared.ids.ClientId.{ClientId}
-use Rattle.st_base.specs.declared.ids.NodeId.{NodeId}
-use Rattle.st_base.specs.declared.ids.NodeId.TheVariants as nodes
-use Rattle.st_base.specs.declared.ids.ServerId.{ServerId}
-use Rattle.st_messages.specs.declared.answer.AppAnswer.{AppAnswer}
-use Rattle.st_messages.specs.declared.answer.AppAnswer.TheVariants as answers
-use Rattle.st_messages.specs.declared.event.Event.{Event}
-use Rattle.st_messages.specs.declared.event.Event.TheVariants as events
-use Rattle.st_messages.specs.declared.output.Note.{Note}
-use Rattle.st_messages.specs.declared.output.Note.TheVariants as notes
-use Rattle.st_messages.specs.declared.output.Output.{Output}
-use Rattle.st_messages.specs.declared.output.Output.TheVariants as outputs
-use Rattle.st_rules.specs.declared.client.ClientInput.{ClientInput}
-use Rattle.st_rules.specs.declared.client.ClientInput.TheVariants as inputs
-use Rattle.st_rules.specs.declared.disks.Block.{Block}
-use Rattle.st_rules.specs.declared.input.ServerInput.{ServerInput}
-use Rattle.st_rules.specs.declared.log.Fate.{Fate}
-use Rattle.st_rules.specs.declared.log.Fate.TheVariants as fates
-use Rattle.st_rules.specs.declared.log.LogEntry.{LogEntry}
+use Rattle.st_lemmas.proofs.Words
+use Words.{◌≡◌, ℕ, ◌+◌, ◌⊎◌, Bool, true, false, List, [], ◌∷◌, ◌++◌, Option, Some, None, Ok, Err, refl, sym, ap, ◌∙◌, subst, inl, inr, if◌then◌else◌, Result}
+use Words.{not, eq-eqb, ClientId, NodeId, ServerId, AppAnswer, Event, Note, Output, ClientInput, Block, ServerInput, Fate, LogEntry, Observation}
+use Words.{IssuedCommand, SentMessage}
+use Words.nodes
+use Words.answers
+use Words.events
+use Words.notes
+use Words.outputs
+use Words.inputs
+use Words.fates
+use Words.seen
+use Words.Client as cl
+use Words.ClientState.{ClientState}
+use Words.Disks as disks
+use Words.Events as ev
+use Words.Events.{WorldTurn, world_step}
+use Words.History.{Traced, traced}
+use Words.Safety.{Step, step}
+use Words.Server as server
+use Words.Server.{ServerNode}
+use Words.World as world
+use Words.World.{World, WorldClient, clock_of, fresh_world, issued_of, node_of, site_of}
+use Words.Lists.{Has}
+use Words.Tables.{all_pass, and_both, has_append}
+use Words.Worlds.{client_at_node}
 use Rattle.st_rules.specs.declared.node.StepRefusal.TheVariants.{Crashed}
-use Rattle.st_rules.specs.declared.observation.Observation.{Observation}
-use Rattle.st_rules.specs.declared.observation.Observation.TheVariants as seen
-use Rattle.st_rules.specs.declared.world.IssuedCommand.{IssuedCommand}
-use Rattle.st_rules.specs.declared.world.SentMessage.{SentMessage}
-use Rattle.st_rules.specs.Client as cl
-use Rattle.st_rules.specs.ClientState.{ClientState}
-use Rattle.st_rules.specs.Disks as disks
-use Rattle.st_rules.specs.Events as ev
-use Rattle.st_rules.specs.Events.{WorldTurn, world_step}
-use Rattle.st_rules.specs.History.{Traced, traced}
-use Rattle.st_rules.specs.Safety.{Step, step}
 use Rattle.st_promises.specs.Faults.{delivers_refusal, fails_command, FaultsHaveACause, is_fault_caused, is_full_at, is_refusal_to, refuses}
-use Rattle.st_rules.specs.Server as server
-use Rattle.st_rules.specs.Server.{ServerNode}
-use Rattle.st_rules.specs.World as world
-use Rattle.st_rules.specs.World.{World, WorldClient, clock_of, fresh_world, issued_of, node_of, site_of}
-use Rattle.st_lemmas.specs.Lists.{Has}
 use Rattle.st_lemmas.proofs.Steps.{step_happens, throughout_all}
-use Rattle.st_lemmas.proofs.Tables.{all_pass, and_both, has_append}
 use Rattle.st_laws_pages.specs.Asks.Law.{InEveryRun}
 use Rattle.st_laws_lines.proofs.Answering.{All_free, Fails_as, Free, Fault_free, stepped}
-
--- a message that comes to a client has its number
-to_client : (n : ℕ) (c : ClientId) → world.node_at n ≡ nodes.Client c → n ≡ c.0
-unfolding world.node_at
-to_client n c = at (nat_le n 16)
-  where
-    at : (b : Bool) → (if b then nodes.Client (record { 0 = n }) else nodes.Server (record { 0 = n - 32768 })) ≡ nodes.Client c → n ≡ c.0
-    at true e = same (record { 0 = n }) c e
-      where
-        same : (d c : ClientId) → nodes.Client d ≡ nodes.Client c → d.0 ≡ c.0
-        same d c e = cc
-    at false e = cc e
 
 -- a line of no fault, but of a command of this client that failed, or of this client where it was full
 abbrev Fine : (ClientId → ℕ → Type 0) → (ClientId → Type 0) → (ClientId → Type 0) → Observation → Type 0
@@ -191,7 +166,7 @@ module _ (Failed : ClientId → ℕ → Type 0) (Full : ClientId → Type 0) (To
   event_fine w (events.Deliver k) f = go (world.message_of w k) refl
     where
       to : (m : SentMessage) → world.message_of w k ≡ Some m → (n : NodeId) → world.receiver_of m ≡ n → AllFine Failed Full Told (ev.delivers_to w m.message n).seen
-      to m e (nodes.Client c) q = at_client w c (inputs.Control m.message) (site_of w c) (λ s r. f m c e (to_client m.message.header.to c q) r)
+      to m e (nodes.Client c) q = at_client w c (inputs.Control m.message) (site_of w c) (λ s r. f m c e (client_at_node m.message.header.to c q) r)
       to m e (nodes.Server s) q = at_server w s _ (node_of w s)
 
       go : (m : Option SentMessage) → world.message_of w k ≡ m → AllFine Failed Full Told (ev.delivers w m).seen

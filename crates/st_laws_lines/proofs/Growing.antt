@@ -1,9 +1,8 @@
 -- What the lines of a step add to lists that only grow, and to counts: line by line, and one step after another.
-use Rattle.std.proofs.Common.{◌≡◌, ℕ, ◌+◌, Bool, List, [], ◌∷◌, ◌++◌, Option, Some, refl, sym, ap, ◌∙◌, arith, append_assoc, length-append}
-use Rattle.std.proofs.lemmas.List.{append-nil}
+use Rattle.st_lemmas.proofs.Words
+use Words.{◌≡◌, ℕ, ◌+◌, Bool, List, [], ◌∷◌, ◌++◌, Option, Some, refl, sym, ap, ◌∙◌, arith, append_assoc, length-append, append-nil, length, filter, filter_map}
+use Words.{map, set, slice_get, suc, zero, Observation}
 use Rattle.std.proofs.lemmas.List.Elements.{filter_map-append, filter-append}
-use Rattle.std.specs.Prelude.{length, filter, filter_map, map, set, slice_get, suc, zero}
-use Rattle.st_rules.specs.declared.observation.Observation.{Observation}
 use Rattle.st_promises.specs.Counts.{count_lines, under_numbers}
 
 -- the numbers go on

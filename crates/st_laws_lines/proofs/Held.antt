@@ -1,15 +1,11 @@
 -- Disks hold what is hard, where the pages hold.
-use Rattle.std.proofs.Common.{◌≡◌, ℕ, List, [], ◌∷◌, ◌++◌, Option, Some, None, refl, ◌∙◌}
-use Rattle.st_base.specs.declared.ids.FileId.{FileId}
-use Rattle.st_base.specs.declared.ids.PageNo.{PageNo}
-use Rattle.st_rules.specs.declared.extents.Extent.{Extent}
-use Rattle.st_rules.specs.declared.log.LogEntry.{LogEntry}
-use Rattle.st_promises.specs.Held.{all_pages, AreHeld, extent_at, hard_after, hard_from, held_at, IsHeld}
-use Rattle.st_rules.specs.ClientPages.{found_under}
-use Rattle.st_rules.specs.Safety.{Step, Throughout}
-use Rattle.st_promises.specs.Held.{DisksHoldWhatIsHard}
-use Rattle.st_rules.specs.Server.{ServerNode}
-use Rattle.st_rules.specs.World.{World, node_of}
+use Rattle.st_lemmas.proofs.Words
+use Words.{◌≡◌, ℕ, List, [], ◌∷◌, ◌++◌, Option, Some, None, refl, ◌∙◌, FileId, PageNo, Extent, LogEntry}
+use Words.ClientPages.{found_under}
+use Words.Safety.{Step, Throughout}
+use Words.Server.{ServerNode}
+use Words.World.{World, node_of}
+use Rattle.st_promises.specs.Held.{all_pages, AreHeld, extent_at, hard_after, hard_from, held_at, IsHeld, DisksHoldWhatIsHard}
 use Rattle.st_laws_pages.specs.Disks.Folds as folds
 use Rattle.st_laws_pages.specs.Disks.Pages.{standing}
 use Rattle.st_laws_pages.specs.Disks.Runs.{PagesAfter}

@@ -1,19 +1,18 @@
 -- The counts are true, in every run.
-use Rattle.std.proofs.Common.{◌≡◌, ℕ, ◌+◌, Bool, true, false, List, [], ◌∷◌, ◌++◌, Option, Some, None, Ok, refl, sym, ap, ◌∙◌, subst, arith, length-append, if◌then◌else◌}
-use Rattle.std.specs.List.{cons_option}
-use Rattle.std.specs.Prelude.{length, drop, filter, filter_map, is_some, map, suc, take}
-use Rattle.st_messages.specs.declared.event.Event.{Event}
-use Rattle.st_rules.specs.declared.observation.Observation.{Observation}
-use Rattle.st_rules.specs.declared.observation.Observation.TheVariants as seen
+use Rattle.st_lemmas.proofs.Words
+use Words.{◌≡◌, ℕ, ◌+◌, Bool, true, false, List, [], ◌∷◌, ◌++◌, Option, Some, None, Ok, refl, sym, ap, ◌∙◌, subst, arith, length-append, if◌then◌else◌}
+use Words.{cons_option, length, drop, filter, filter_map, is_some, map, suc, take, Event, Observation}
+use Words.seen
+use Words.Events as ev
+use Words.Events.{WorldTurn, summary, world_step}
+use Words.History.{Traced, traced, traced_after}
+use Words.Lines.{IsLogTold}
+use Words.Safety.{Step, step}
+use Words.World.{World, fresh_world}
+use Words.Lengths.{length_map}
 use Rattle.st_rules.specs.declared.observation.Summary.{Summary}
-use Rattle.st_rules.specs.Events as ev
-use Rattle.st_rules.specs.Events.{WorldTurn, is_change, is_gone, is_hard, summary, world_step}
-use Rattle.st_rules.specs.History.{Traced, traced, traced_after}
-use Rattle.st_rules.specs.Lines.{IsLogTold}
-use Rattle.st_promises.specs.Counts.{IsCounted, command_in, command_told, count_lines, is_command_line, is_message_line, message_in, message_told, under_numbers}
-use Rattle.st_rules.specs.Safety.{Step, step}
-use Rattle.st_promises.specs.Counts.{TheCountsAreTrue}
-use Rattle.st_rules.specs.World.{World, fresh_world}
+use Rattle.st_promises.specs.Counts.{IsCounted, command_in, command_told, count_lines, is_command_line, is_message_line, message_in, message_told}
+use Rattle.st_promises.specs.Counts.{under_numbers, TheCountsAreTrue}
 use Rattle.st_lemmas.proofs.Steps.{step_happens, throughout}
 use Rattle.st_laws_pages.specs.Asks.Law.{InEveryRun}
 use Rattle.st_laws_pages.proofs.Disks.Told.{step_told}
@@ -30,20 +29,16 @@ take_front : {A : Type 0} (xs ys : List A) → take (length xs) (xs ++ ys) ≡ x
 take_front [] ys = refl
 take_front (x ∷ xs) ys = ap (λ z. x ∷ z) (take_front xs ys)
 
-map_length : {A B : Type 0} (f : A → B) (xs : List A) → length (map f xs) ≡ length xs
-map_length f [] = refl
-map_length f (y ∷ xs) = ap suc (map_length f xs)
-
 -- what lines add to a list
 module _ {A B : Type 0} (line : Observation → Option (ℕ × A)) (f : B → A) (xs : List B) (os : List Observation) (ys : List A) (g : Grows line (map f xs) os ys) where
   added : drop (length xs) ys ≡ g.new
-  added = ap (λ n. drop n ys) (sym (map_length f xs)) ∙ ap (λ z. drop (length (map f xs)) z) g.is ∙ drop_front (map f xs) g.new
+  added = ap (λ n. drop n ys) (sym (length_map f xs)) ∙ ap (λ z. drop (length (map f xs)) z) g.is ∙ drop_front (map f xs) g.new
 
   pub adds : filter_map line os ≡ under_numbers (length xs + 1) (drop (length xs) ys)
-  adds = g.lines ∙ ap (λ n. under_numbers (n + 1) g.new) (map_length f xs) ∙ ap (λ z. under_numbers (length xs + 1) z) (sym added)
+  adds = g.lines ∙ ap (λ n. under_numbers (n + 1) g.new) (length_map f xs) ∙ ap (λ z. under_numbers (length xs + 1) z) (sym added)
 
   pub keeps : take (length xs) ys ≡ map f xs
-  keeps = ap (λ n. take n ys) (sym (map_length f xs)) ∙ ap (λ z. take (length (map f xs)) z) g.is ∙ take_front (map f xs) g.new
+  keeps = ap (λ n. take n ys) (sym (length_map f xs)) ∙ ap (λ z. take (length (map f xs)) z) g.is ∙ take_front (map f xs) g.new
 
 -- how many lines tell something
 told_count : {A : Type 0} (line : Observation → Option A) (p : Observation → Bool) → ((o : Observation) → is_some (line o) ≡ p o) → (os : List Observation) → length (filter_map line os) ≡ count_lines p os
@@ -65,8 +60,8 @@ longer : {A B : Type 0} (line : Observation → Option (ℕ × A)) (p : Observat
 longer line p same f xs zs os g =
     let a : length (map f zs) ≡ length (map f xs ++ g.new) = ap (λ z. length z) g.is in
     let b = length-append (map f xs) g.new in
-    let c = map_length f zs in
-    let d = map_length f xs in
+    let c = length_map f zs in
+    let d = length_map f xs in
     let e : length (filter_map line os) ≡ length (under_numbers (length (map f xs) + 1) g.new) = ap (λ z. length z) g.lines in
     let h = numbers_length (length (map f xs) + 1) g.new in
     let i = told_count line p same os in

@@ -1,17 +1,15 @@
 -- What the lines of fates and entries count_lines of the log.
-use Rattle.std.proofs.Common.{◌≡◌, ℕ, ◌+◌, Bool, true, false, ◌&&◌, List, [], ◌∷◌, ◌++◌, Option, Some, None, refl, sym, ap, ◌∙◌, arith, if◌then◌else◌, length-append}
+use Rattle.st_lemmas.proofs.Words
+use Words.{◌≡◌, ℕ, ◌+◌, Bool, true, false, ◌&&◌, List, [], ◌∷◌, ◌++◌, Option, Some, None, refl, sym, ap, ◌∙◌, arith, if◌then◌else◌, length-append, length}
+use Words.{filter, not, set, slice_get, suc, zero, Fate, LogEntry, Observation}
+use Words.fates
+use Words.seen
+use Words.Events.{is_change, is_gone, is_hard}
+use Words.FlatLog as log
+use Words.Lines as lines
+use Words.World.{World}
+use Words.Tables.{and_true}
 use Rattle.std.proofs.lemmas.List.Elements.{filter-append}
-use Rattle.std.specs.Prelude.{length, filter, not, set, slice_get, suc, zero}
-use Rattle.st_rules.specs.declared.log.Fate.{Fate}
-use Rattle.st_rules.specs.declared.log.Fate.TheVariants as fates
-use Rattle.st_rules.specs.declared.log.LogEntry.{LogEntry}
-use Rattle.st_rules.specs.declared.observation.Observation.{Observation}
-use Rattle.st_rules.specs.declared.observation.Observation.TheVariants as seen
-use Rattle.st_rules.specs.Events.{is_change, is_gone, is_hard}
-use Rattle.st_rules.specs.FlatLog as log
-use Rattle.st_rules.specs.Lines as lines
-use Rattle.st_rules.specs.World.{World}
-use Rattle.st_lemmas.proofs.Tables.{and_true}
 use Rattle.st_promises.specs.Counts.{count_lines, is_change_line, is_drop_line, is_hard_line}
 
 -- 1 where a test passes

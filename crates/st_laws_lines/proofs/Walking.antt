@@ -1,26 +1,16 @@
 -- What a client makes of a message, and its passes that neither serve operations nor send requests, walked for facts of what it says and of the operations that
 -- it leaves: such a fact holds again, where it does so after a message, a command or a note, after operations that are answered, and where operations are
 -- stuck.
-use Rattle.std.proofs.Common.{◌≡◌, ℕ, Bool, true, List, [], ◌∷◌, ◌++◌, Option, refl}
-use Rattle.st_base.specs.declared.ids.PageNo.{PageNo}
-use Rattle.st_base.specs.declared.ids.ServerId.{ServerId}
-use Rattle.st_base.specs.declared.ids.Stamp.{Stamp}
-use Rattle.st_messages.specs.declared.answer.AppAnswer.{AppAnswer}
-use Rattle.st_messages.specs.declared.answer.AppAnswer.TheVariants as answers
-use Rattle.st_messages.specs.declared.message.Body.{Body}
-use Rattle.st_messages.specs.declared.message.Header.{Header}
-use Rattle.st_messages.specs.declared.message.NameReply.{NameReply}
-use Rattle.st_messages.specs.declared.message.NameReply.TheVariants as replies
-use Rattle.st_messages.specs.declared.message.Why.{Why}
-use Rattle.st_messages.specs.declared.output.Note.TheVariants as notes
-use Rattle.st_messages.specs.declared.output.Output.{Output}
-use Rattle.st_messages.specs.declared.output.Output.TheVariants as outputs
-use Rattle.st_rules.specs.declared.client.LostPage.{LostPage}
-use Rattle.st_rules.specs.declared.client.Operation.{Operation}
-use Rattle.st_rules.specs.ClientPasses as cp
-use Rattle.st_rules.specs.ClientReplies as cr
-use Rattle.st_rules.specs.ClientState as cs
-use Rattle.st_rules.specs.ClientState.{ClientSession, Turn, with_session}
+use Rattle.st_lemmas.proofs.Words
+use Words.{◌≡◌, ℕ, Bool, true, List, [], ◌∷◌, ◌++◌, Option, refl, PageNo, ServerId, Stamp, AppAnswer, Body, Header, NameReply, Why, Output, LostPage, Operation}
+use Words.answers
+use Words.replies
+use Words.notes
+use Words.outputs
+use Words.ClientPasses as cp
+use Words.ClientReplies as cr
+use Words.ClientState as cs
+use Words.ClientState.{ClientSession, Turn, with_session}
 use Rattle.st_promises.specs.Faults.{refuses, refuses_name}
 use Rattle.st_trace.specs.Client.Messages as trace
 use Rattle.st_trace.specs.Client.Messages.{Refusal, Effect, Renews, Receives}

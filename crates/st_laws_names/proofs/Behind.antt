@@ -1,30 +1,21 @@
 -- The operation that led to a request to cut a file or for a name that a server serves next: it waited under the key of the request.
-use Rattle.std.proofs.Common.{◌≡◌, ◌≢◌, ◌⊎◌, ℕ, ◌≤◌, zero, suc, arith, Bool, true, false, List, ◌∷◌, Some, refl, sym, ap, ◌∙◌, subst, inl, inr}
-use Rattle.std.specs.Prelude.{length, nat_le}
-use Rattle.std.specs.List.{list_any}
-use Rattle.std.proofs.lemmas.Bool.{eqb-true, leb-true}
-use Rattle.st_base.specs.declared.ids.ClientId.{ClientId}
-use Rattle.st_base.specs.declared.ids.GrantNo.{GrantNo}
-use Rattle.st_base.specs.declared.ids.ServerId.{ServerId}
-use Rattle.st_messages.specs.declared.ask.Ask.{Ask}
-use Rattle.st_messages.specs.declared.message.Message.{Message}
-use Rattle.st_rules.specs.ClientState.{Association, asks_cut_or_name}
-use Rattle.st_rules.specs.ClientState as cs
-use Rattle.st_rules.specs.History.{Traced}
-use Rattle.st_rules.specs.Keys.{client, server_node}
-use Rattle.st_rules.specs.Safety.{Step}
-use Rattle.st_rules.specs.Server.{ServerNode}
-use Rattle.st_rules.specs.Sessions as sessions
-use Rattle.st_rules.specs.World as world
-use Rattle.st_rules.specs.World.{World, WorldClient, node_of, numbered, site_of}
+use Rattle.st_lemmas.proofs.Words
+use Words.{◌≡◌, ◌≢◌, ◌⊎◌, ℕ, ◌≤◌, arith, Bool, true, false, List, Some, refl, sym, ap, ◌∙◌, subst, inl, inr, nat_le, list_any, eqb-true}
+use Words.{leb-true, ClientId, GrantNo, ServerId, Ask, Message}
+use Words.ClientState.{Association, asks_cut_or_name}
+use Words.ClientState as cs
+use Words.History.{Traced}
+use Words.Keys.{client, server_node}
+use Words.Safety.{Step}
+use Words.Server.{ServerNode}
+use Words.Sessions as sessions
+use Words.World as world
+use Words.World.{World, WorldClient, node_of, numbered, site_of}
+use Words.Lists.{Has}
+use Words.Tables.{and_true, same_or_not}
+use Words.Worlds.{site_there}
 use Rattle.st_protocol.specs.Assoc.{Config}
-use Rattle.st_lemmas.specs.Lists.{Has}
-use Rattle.st_lemmas.proofs.Numbers.{get_there}
-use Rattle.st_lemmas.proofs.Tables.{and_true, same_or_not}
-use Rattle.st_laws_refine.specs.Client.Law.{Place}
 use Rattle.st_laws_leases.specs.Dates.Dates.{messages}
-use Rattle.st_laws_leases.specs.Sides.Invariants.{Standing}
-use Rattle.st_laws_leases.proofs.Dates.Known.{has_right}
 use Rattle.st_laws_requests.specs.Replies.ServedRequests.{IsBehind, Reached}
 use Rattle.st_laws_requests.specs.Cuts.Cuts.{AsksFor, Between, asks_of}
 use Rattle.st_laws_extents.specs.CutRequests.EndedLives.{IsPast}
@@ -36,20 +27,7 @@ use Rattle.st_laws_cuts.proofs.Law.{AllHold}
 use Rattle.st_laws_cuts.proofs.Words.{unsettled_past}
 use Rattle.st_laws_names.proofs.Rows.{Over, RowsHold}
 use Rattle.st_laws_names.proofs.Waiting.{Pending, Row, alive}
-
-numbered_there : {A : Type 0} (xs : List A) (n : ℕ) → 1 ≤ n → n ≤ length xs → (v : A) × (numbered xs n ≡ Some v)
-numbered_there xs zero l h = absurd (omega (arith, l))
-numbered_there xs (suc n) l h = get_there xs n (omega (arith, h))
-
-site_there : (w : World) (c : ClientId) → 1 ≤ c.0 → c.0 ≤ length w.clients → (site : WorldClient) × (site_of w c ≡ Some site)
-site_there w c l h = numbered_there w.clients c.0 l h
-
--- its association with a server
-association_there : (k : Config) (s c : ℕ) (site : WorldClient) (es : List Rattle.st_rules.specs.declared.world.LeaseLife.LeaseLife) (N : List Rattle.st_protocol.specs.Assoc.Msg) → Standing k s c site es N → (a : Association) × Has a site.node.state.associations × (a.server ≡ world.server s)
-association_there k s c site es N z = (z.association, subst (Has z.association) (sym p.is) (has_right p.before (z.association ∷ p.after) z.association (inl refl)), p.here)
-  where
-    p : Place (world.server s) site.node.state.associations z.association
-    p = z.sim.place
+use Rattle.st_laws_cuts.proofs.Open.{association_there}
 
 -- a message that a server serves next is not past
 pub not_past : (c : ClientId) (n : ServerNode) (m : Message) (served : IsServedBy n.state m) → n.running ≡ true → m.header.from ≡ c.0 → IsPast c n m → ⊥

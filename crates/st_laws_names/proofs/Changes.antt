@@ -1,55 +1,44 @@
 -- Asks change names once: after every event, and over whole runs.
-use Rattle.std.proofs.Common.{◌≡◌, ◌≢◌, ◌⊎◌, ℕ, ◌+◌, ◌≤◌, arith, true, not, List, [], ◌∷◌, ◌++◌, Option, Some, None, Ok, refl, sym, ap, ◌∙◌, subst, inl, inr}
-use Rattle.std.specs.List.{list_any}
-use Rattle.st_base.specs.declared.ids.ClientId.{ClientId}
-use Rattle.st_base.specs.declared.ids.ServerId.{ServerId}
-use Rattle.st_base.specs.declared.ids.NodeId.TheVariants as nodes
-use Rattle.st_base.specs.declared.ids.Stamp.{Stamp}
-use Rattle.st_messages.specs.declared.ask.Ask.{Ask}
-use Rattle.st_messages.specs.declared.ask.Ask.TheVariants as asks
-use Rattle.st_messages.specs.declared.event.Event.{Event}
-use Rattle.st_messages.specs.declared.message.Body.TheVariants as bodies
-use Rattle.st_messages.specs.declared.message.Message.{Message}
-use Rattle.st_rules.specs.declared.input.ServerInput.{ServerInput}
-use Rattle.st_rules.specs.declared.input.ServerInput.TheVariants as serving
-use Rattle.st_rules.specs.ClientState.{asks_cut_or_name}
-use Rattle.st_rules.specs.Events as ev
-use Rattle.st_rules.specs.Events.{WorldTurn, world_step}
-use Rattle.st_rules.specs.History.{Traced, traced, traced_after}
-use Rattle.st_rules.specs.Keys.{client}
-use Rattle.st_rules.specs.Safety.{Step, is_event, step}
-use Rattle.st_rules.specs.Server as server
-use Rattle.st_rules.specs.Server.{ServerNode}
-use Rattle.st_rules.specs.World.{World, WorldClient, clock_of, fresh_world, node_of, numbered, site_of, with_numbered}
+use Rattle.st_lemmas.proofs.Words
+use Words.{◌≡◌, ◌≢◌, ◌⊎◌, ℕ, ◌+◌, ◌≤◌, arith, true, not, List, [], ◌∷◌, ◌++◌, Option, Some, None, Ok, refl, sym, ap, ◌∙◌, subst, inl, inr, list_any, ClientId}
+use Words.{ServerId, Ask, Event, Message, ServerInput}
+use Words.nodes
+use Words.asks
+use Words.bodies
+use Words.serving
+use Words.ClientState.{asks_cut_or_name}
+use Words.Events as ev
+use Words.Events.{WorldTurn, world_step}
+use Words.History.{Traced, traced, traced_after}
+use Words.Keys.{client}
+use Words.Safety.{Step, is_event, step, IsHead}
+use Words.Server as server
+use Words.Server.{ServerNode}
+use Words.World.{World, WorldClient, clock_of, fresh_world, node_of, numbered, site_of, with_numbered}
+use Words.Lists.{Has}
+use Words.Tables.{some_passes, has_append, same_or_not}
+use Words.ClientState as cs
+use Words.Sessions as sessions
+use Words.Lookups.{some_is}
+use Words.Truth.{clash}
 use Rattle.st_protocol.specs.Assoc.{Config}
-use Rattle.st_lemmas.specs.Lists.{Has}
-use Rattle.st_lemmas.proofs.Tables.{some_passes}
 use Rattle.st_laws_refine.specs.Server.Pair.{terms_of}
 use Rattle.st_laws_leases.specs.Sides.Law.{InEveryRun}
 use Rattle.st_laws_leases.specs.Dates.Dates.{messages}
 use Rattle.st_laws_leases.proofs.Dates.Leaving.{set_cases}
 use Rattle.st_laws_leases.proofs.Sides.Runs.{throughout_events}
-use Rattle.st_laws_requests.specs.Replies.ServedRequests.{NewOwed}
+use Rattle.st_laws_requests.specs.Replies.ServedRequests.{NewOwed, IsBehind}
 use Rattle.st_laws_requests.proofs.Replies.EachEvent.{Brings, NodeAfter, ServerLeft, ServerTook, event_leaves}
 use Rattle.st_laws_requests.proofs.Cuts.Names.{names_same, says_it}
-use Rattle.st_laws_requests.specs.Cuts.Cuts.{does}
+use Rattle.st_laws_requests.specs.Cuts.Cuts.{does, AsksFor, asks_of}
 use Rattle.st_laws_extents.proofs.CutRequests.Law.{owed}
-use Rattle.st_promises.specs.NameAnswers.{becomes_at, changes_at, leaves, said, same_names, says}
+use Rattle.st_promises.specs.NameAnswers.{becomes_at, changes_at, leaves, said, same_names, says, changes_in}
 use Rattle.st_laws_cuts.specs.ServedRequests.{NamesBy}
 use Rattle.st_laws_cuts.proofs.Naming.{step_names}
 use Rattle.st_base.specs.declared.config.Config as base
-use Rattle.st_rules.specs.Safety.{IsHead}
-use Rattle.st_rules.specs.ClientState as cs
-use Rattle.st_rules.specs.Sessions as sessions
-use Rattle.st_lemmas.proofs.Tables.{has_append, same_or_not}
-use Rattle.st_lemmas.proofs.Lookups.{some_is}
-use Rattle.st_laws_requests.specs.Replies.ServedRequests.{IsBehind}
-use Rattle.st_laws_requests.specs.Cuts.Cuts.{AsksFor, asks_of}
 use Rattle.st_laws_extents.specs.CutRequests.EndedLives.{Goes, IsPast}
 use Rattle.st_laws_extents.proofs.CutRequests.ServersGoOn.{event_goes}
-use Rattle.st_promises.specs.NameAnswers.{changes_in}
 use Rattle.st_laws_cuts.specs.EndedRequests.{AllPast}
-use Rattle.st_laws_cuts.proofs.Words.{clash}
 use Rattle.st_laws_names.specs.OutstandingKeys.{SameKey, WaitsUnder}
 use Rattle.st_laws_names.specs.Changes.{AskChanges, AsksChangeOnce, ChangedBy, IsBefore}
 use Rattle.st_laws_names.proofs.World.{Asked, NamesHold, Worlds, names_begin, now_key}
@@ -57,8 +46,12 @@ use Rattle.st_laws_names.proofs.World as once
 use Rattle.st_laws_names.proofs.Serving.{step_serves}
 use Rattle.st_laws_extents.specs.CutRequests.Law.{gifts}
 use Rattle.st_laws_names.proofs.Waiting.{Row}
-use Rattle.st_laws_names.proofs.Rows.{Known, RowsHold, past_on, rows_on}
+use Rattle.st_laws_cuts.proofs.OverAfter.{past_on}
+use Rattle.st_laws_names.proofs.Rows.{Known, RowsHold, rows_on}
 use Rattle.st_laws_names.proofs.Behind.{Behind, behind, not_past}
+use Rattle.st_laws_cuts.proofs.Changes.{crashed_names, started_names}
+use Rattle.st_laws_names.proofs.Keys.{key_back}
+use Rattle.st_laws_names.proofs.Owners.{waits_as}
 
 -- a server that runs serves a message of its world, by which its names become another one's
 record ByRequest (t : World) (old new : ServerNode) : Type 0 where
@@ -90,14 +83,6 @@ one_other t v s old new at q how y n there = go (set_cases t.servers s.0 y.0 old
     go : ((y.0 ≡ s.0) × (n ≡ new)) ⊎ ((y.0 ≢ s.0) × (node_of t y ≡ Some n)) → CameFrom t y n
     go (inl z) = subst (CameFrom t y) (sym z.1) (subst (λ k. CameFrom t (record { 0 = k }) new) (sym z.0) own)
     go (inr z) = record { old = n; was = z.1; how = inl refl }
-
-pub crashed_names : (node : ServerNode) → (server.crash_node node).state.stable.names ≡ node.state.stable.names
-unfolding server.crash
-crashed_names node = refl
-
-pub started_names : (node : ServerNode) (now : Stamp) → (server.start_node node now).state.stable.names ≡ node.state.stable.names
-unfolding server.start server.begin_epoch
-started_names node now = refl
 
 came : (t : World) (e : Event) (sc : WorldTurn) → NewOwed (ev.counted t) e → world_step t e ≡ Ok sc → AllCame t sc.world
 unfolding ev.crashes_client ev.marks ev.starts_client ev.crashes_server ev.starts_server
@@ -139,31 +124,6 @@ pub record PairsHold (past : List Step) (w : World) : Type 0 where
   pub pairs : (c : ClientId) (op : ℕ) (a b : Asked past w c op) → SameKey a.server b.server a.life_ a.epoch_ a.number_ b.life_ b.epoch_ b.number_
   pub pasts : (y : Step) → Has y past → (c : ClientId) (s : ServerId) (m : Message) → AllPast y.after.world c s m → AllPast w c s m
 
-same_back : (s u : ServerId) (life epoch number life2 epoch2 number2 : ℕ) → SameKey s u life epoch number life2 epoch2 number2 → SameKey u s life2 epoch2 number2 life epoch number
-same_back s u life epoch number life2 epoch2 number2 k = record { server = sym k.server; life_ = sym k.life_; epoch_ = sym k.epoch_; number_ = sym k.number_ }
-
--- what waits under a key waits under the same one
-waits_same : (v : World) (c : ClientId) (op : ℕ) (s u : ServerId) (life epoch number life2 epoch2 number2 : ℕ) → SameKey s u life epoch number life2 epoch2 number2 → WaitsUnder v c s life epoch number op → WaitsUnder v c u life2 epoch2 number2 op
-waits_same v c op s u life epoch number life2 epoch2 number2 k w =
-    record {
-      site = w.site;
-      at = w.at;
-      operation = w.operation;
-      there = w.there;
-      is = w.is;
-      asked = subst (λ s. cs.is_asked s w.operation ≡ true) k.server w.asked;
-      association = w.association;
-      among = w.among;
-      server = w.server ∙ k.server;
-      of_life = w.of_life ∙ k.life_;
-      session = w.session;
-      has = w.has;
-      of_epoch = w.of_epoch ∙ k.epoch_;
-      request = w.request;
-      outstanding = w.outstanding;
-      under = w.under ∙ k.number_;
-    }
-
 -- past under one key is past under the same
 pub past_same : (c : ClientId) (n : ServerNode) (m p : Message) → m.header.life ≡ p.header.life → m.header.epoch ≡ p.header.epoch → m.header.number ≡ p.header.number → IsPast c n m → IsPast c n p
 past_same c n m p a b d (inl l) = inl (omega (arith, l, b))
@@ -192,14 +152,14 @@ module _ (k : Config) (count : ℕ) (past : List Step) (t : Traced) (e : Event) 
     where
       go : Worlds past t.world a.at ⊎ (a.at ≡ sc.world) → Worlds past t.world b.at ⊎ (b.at ≡ sc.world) → SameKey a.server b.server a.life_ a.epoch_ a.number_ b.life_ b.epoch_ b.number_
       go x (inr q) = now_key past2 sc.world n.once c op b.server b.life_ b.epoch_ b.number_ (subst (λ v. WaitsUnder v c b.server b.life_ b.epoch_ b.number_ op) q b.waits) a
-      go (inr q) (inl y) = same_back b.server a.server b.life_ b.epoch_ b.number_ a.life_ a.epoch_ a.number_ (now_key past2 sc.world n.once c op a.server a.life_ a.epoch_ a.number_ (subst (λ v. WaitsUnder v c a.server a.life_ a.epoch_ a.number_ op) q a.waits) b)
+      go (inr q) (inl y) = key_back b.server a.server b.life_ b.epoch_ b.number_ a.life_ a.epoch_ a.number_ (now_key past2 sc.world n.once c op a.server a.life_ a.epoch_ a.number_ (subst (λ v. WaitsUnder v c a.server a.life_ a.epoch_ a.number_ op) q a.waits) b)
       go (inl x) (inl y) = p.pairs c op (record { at = a.at; among = x; server = a.server; life_ = a.life_; epoch_ = a.epoch_; number_ = a.number_; waits = a.waits }) (record { at = b.at; among = y; server = b.server; life_ = b.life_; epoch_ = b.epoch_; number_ = b.number_; waits = b.waits })
 
   pasts_on : (y : Step) → Has y past2 → (c : ClientId) (s : ServerId) (m : Message) → AllPast y.after.world c s m → AllPast sc.world c s m
   pasts_on y i c s m z = go (has_append past _ y i)
     where
       go : Has y past ⊎ Has y (step t e sc ∷ []) → AllPast sc.world c s m
-      go (inl j) = past_on k count past t e sc ranges h.all n.all taken d c s m (p.pasts y j c s m z)
+      go (inl j) = past_on k count past t e sc ranges h.all.base taken c s m (p.pasts y j c s m z)
       go (inr (inl q)) = subst (λ (w : Step). AllPast w.after.world c s m) q z
       go (inr (inr j)) = absurd j
 
@@ -281,7 +241,7 @@ module _ (k : Config) (count : ℕ) (past : List Step) (t : Traced) (e : Event) 
           gone = gone;
           before = w.asked.at;
           is_before = w.asked.among;
-          waits = waits_same w.asked.at (client r.message.header.from) op w.asked.server s w.asked.life_ w.asked.epoch_ w.asked.number_ r.message.header.life r.message.header.epoch r.message.header.number w.same w.asked.waits;
+          waits = waits_as w.asked.at (client r.message.header.from) op w.asked.server s w.asked.life_ w.asked.epoch_ w.asked.number_ r.message.header.life r.message.header.epoch r.message.header.number w.same w.asked.waits;
         }
 
     ask_changes : AskChanges past (step t e sc) s
@@ -361,6 +321,6 @@ changes_begin k clients servers disks blocks form head =
         go (inl z) = absurd z.1
         go (inr q) = nobody c a.server a.life_ a.epoch_ a.number_ op (subst (λ v. WaitsUnder v c a.server a.life_ a.epoch_ a.number_ op) q a.waits)
 
-pub law : InEveryRun AsksChangeOnce
-law k clients servers disks blocks form es head events =
+pub asks_change_once : InEveryRun AsksChangeOnce
+asks_change_once k clients servers disks blocks form es head events =
     throughout_events (clients + servers) AsksChangeOnce (ChangesHold (terms_of k) (clients + servers)) (one (terms_of k) (clients + servers)) es events [] (traced (fresh_world k clients servers disks blocks form)) (changes_begin k clients servers disks blocks form head)

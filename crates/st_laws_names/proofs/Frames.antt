@@ -1,21 +1,13 @@
 -- Small facts of a client's rules: the outstanding request of a session, and what some rules leave as it was.
-use Rattle.std.proofs.Common.{◌≡◌, ℕ, Bool, true, false, List, [], ◌∷◌, ◌++◌, Option, Some, None, inl, inr}
-use Rattle.st_base.specs.declared.ids.FileId.{FileId}
-use Rattle.st_base.specs.declared.ids.PageNo.{PageNo}
-use Rattle.st_base.specs.declared.ids.ServerId.{ServerId}
-use Rattle.st_messages.specs.declared.ask.Ask.{Ask}
-use Rattle.st_messages.specs.declared.ask.Ask.TheVariants as asks
-use Rattle.st_messages.specs.declared.message.Body.{Body}
-use Rattle.st_messages.specs.declared.message.Body.TheVariants as bodies
-use Rattle.st_rules.specs.declared.client.Request.{Request}
-use Rattle.st_rules.specs.ClientState as cs
-use Rattle.st_rules.specs.ClientState.{ClientSession}
-use Rattle.st_lemmas.specs.Lists.{Has}
+use Rattle.st_lemmas.proofs.Words
+use Words.{◌≡◌, ℕ, Bool, true, false, List, [], ◌∷◌, ◌++◌, Option, Some, None, inl, inr, FileId, PageNo, ServerId, Ask, Body, Request, NameAsk}
+use Words.asks
+use Words.bodies
+use Words.ClientState as cs
+use Words.ClientState.{ClientSession}
+use Words.Lists.{Has}
+use Words.Truth.{clash}
 use Rattle.st_laws_requests.specs.Replies.ServedRequests.{KeptWhy}
-use Rattle.st_base.specs.declared.names.NameAsk.{NameAsk}
-
-pub clash : {A : Type 0} {b : Bool} → b ≡ true → b ≡ false → A
-clash x y = cc
 
 -- the epoch and the outstanding request of a session
 abbrev pub view : Option ClientSession → Option (ℕ × Option Request)

@@ -1,25 +1,13 @@
 -- Asks can be given to events, where each event has an ask that is its own.
-use Rattle.std.proofs.Common.{◌≡◌, ◌⊎◌, ℕ, Bool, true, false, not, ◌==◌, List, [], ◌∷◌, ◌++◌, refl, sym, ap, subst, inl, inr, if◌then◌else◌}
-use Rattle.std.proofs.lemmas.Bool.{eqb-true}
-use Rattle.std.specs.List.{list_any}
-use Rattle.st_base.specs.declared.ids.ClientId.{ClientId}
-use Rattle.st_messages.specs.declared.ask.Ask.{Ask}
-use Rattle.st_rules.specs.Safety.{Step}
-use Rattle.st_lemmas.specs.Lists.{Has}
+use Rattle.st_lemmas.proofs.Words
+use Words.{◌≡◌, ◌⊎◌, ℕ, Bool, true, false, not, ◌==◌, List, [], ◌∷◌, ◌++◌, refl, sym, ap, subst, inl, inr, if◌then◌else◌, eqb-true, list_any, ClientId, Ask}
+use Words.Safety.{Step}
+use Words.Lists.{Has}
+use Words.Tables.{and_both, and_true, has_append, some_passes}
+use Words.Members.{has_last, has_left}
 use Rattle.st_lemmas.proofs.Once.{none_any}
-use Rattle.st_lemmas.proofs.Tables.{and_both, and_true, has_append, some_passes}
 use Rattle.st_promises.specs.CutAsks.{numbered_asks}
 use Rattle.st_promises.specs.Given.{are_given, given_by, given_for, is_given}
-
--- a member of the front
-has_front : {A : Type 0} (xs ys : List A) (x : A) → Has x xs → Has x (xs ++ ys)
-has_front (z ∷ xs) ys x (inl e) = inl e
-has_front (z ∷ xs) ys x (inr i) = inr (has_front xs ys x i)
-has_front [] ys x i = absurd i
-
-has_last : {A : Type 0} (xs : List A) (x : A) → Has x (xs ++ x ∷ [])
-has_last [] x = inl refl
-has_last (z ∷ xs) x = inr (has_last xs x)
 
 module _ (did : Step → Bool) (fits : List Step → Step → ClientId → ℕ × Ask → Bool) (last : List (ClientId × ℕ) → Bool) (cs : List ClientId) (Owns : Step → ClientId → ℕ → Type 0) where
   -- an ask of its own for an event, which no earlier event has
@@ -50,12 +38,12 @@ module _ (did : Step → Bool) (fits : List Step → Step → ClientId → ℕ �
     pub each : (g : ClientId × ℕ) → Has g given → Event past g.0 g.1
     pub every : (z : Step) → Has z past → did z ≡ true → (g : ClientId × ℕ) × Has g given × Owns z g.0 g.1
 
-  more : (past : List Step) (y : Step) (c : ClientId) (op : ℕ) → Event past c op → Event (past ++ y ∷ []) c op
-  more past y c op e = record { at = e.at; among = has_front past (y ∷ []) e.at e.among; did_ = e.did_; owns = e.owns }
+  event_stays : (past : List Step) (y : Step) (c : ClientId) (op : ℕ) → Event past c op → Event (past ++ y ∷ []) c op
+  event_stays past y c op e = record { at = e.at; among = has_left past (y ∷ []) e.at e.among; did_ = e.did_; owns = e.owns }
 
   -- an event of another kind
   passed : (past : List Step) (y : Step) (given : List (ClientId × ℕ)) → did y ≡ false → Giving past given → Giving (past ++ y ∷ []) given
-  passed past y given f g = record { each = λ d i. more past y d.0 d.1 (g.each d i); every = λ z i q. by z q (has_append past (y ∷ []) z i) }
+  passed past y given f g = record { each = λ d i. event_stays past y d.0 d.1 (g.each d i); every = λ z i q. by z q (has_append past (y ∷ []) z i) }
     where
       clash : {A : Type 0} {b : Bool} → b ≡ true → b ≡ false → A
       clash x y = cc
@@ -74,7 +62,7 @@ module _ (did : Step → Bool) (fits : List Step → Step → ClientId → ℕ �
 
       each : (d : ClientId × ℕ) → (d ≡ (k.c, k.op)) ⊎ Has d given → Event (past ++ y ∷ []) d.0 d.1
       each d (inl e) = subst (λ (d : ClientId × ℕ). Event (past ++ y ∷ []) d.0 d.1) (sym e) own
-      each d (inr i) = more past y d.0 d.1 (g.each d i)
+      each d (inr i) = event_stays past y d.0 d.1 (g.each d i)
 
       by : (z : Step) → did z ≡ true → Has z past ⊎ Has z (y ∷ []) → (d : ClientId × ℕ) × Has d ((k.c, k.op) ∷ given) × Owns z d.0 d.1
       by z q (inl i) = let w = g.every z i q in (w.0, inr w.1, w.2)

@@ -1,45 +1,29 @@
 -- The operations of a client that asked before: none asks again, and each that is answered was told so under its own key.
-use Rattle.std.proofs.Common.{◌≡◌, ℕ, ◌⊎◌, Bool, true, false, not, ◌&&◌, List, [], ◌∷◌, ◌++◌, Option, Some, None, refl, sym, ap, ◌∙◌, subst}
-use Rattle.std.proofs.Common.{inl, inr, if◌then◌else◌, append_assoc}
-use Rattle.std.specs.Prelude.{filter, map}
-use Rattle.std.proofs.lemmas.Bool.{eqb-true, eq-eqb}
-use Rattle.st_base.specs.declared.disk.Tag.{Tag}
-use Rattle.st_base.specs.declared.disk.Command.TheVariants as commands
-use Rattle.st_base.specs.declared.ids.FileId.{FileId}
-use Rattle.st_base.specs.declared.ids.GrantNo.{GrantNo}
-use Rattle.st_base.specs.declared.ids.PageNo.{PageNo}
-use Rattle.st_base.specs.declared.ids.ServerId.{ServerId}
-use Rattle.st_base.specs.declared.ids.Stamp.{Stamp}
-use Rattle.st_base.specs.declared.mode.Mode.{Mode}
-use Rattle.st_messages.specs.declared.answer.AppAnswer.{AppAnswer}
-use Rattle.st_messages.specs.declared.answer.AppAnswer.TheVariants as answers
-use Rattle.st_messages.specs.declared.ask.Ask.{Ask}
-use Rattle.st_messages.specs.declared.message.Body.{Body}
-use Rattle.st_messages.specs.declared.message.Header.{Header}
-use Rattle.st_messages.specs.declared.message.Why.{Why}
-use Rattle.st_messages.specs.declared.message.Why.TheVariants as why
-use Rattle.st_messages.specs.declared.output.Note.{Note}
-use Rattle.st_messages.specs.declared.output.Output.{Output}
-use Rattle.st_messages.specs.declared.output.Output.TheVariants as outputs
-use Rattle.st_rules.specs.declared.client.IoKind.TheVariants as io
-use Rattle.st_rules.specs.declared.client.Operation.{Operation}
-use Rattle.st_rules.specs.declared.client.PageCommand.{PageCommand}
-use Rattle.st_rules.specs.declared.client.Request.{Request}
-use Rattle.st_rules.specs.Dating.{may_date, refuses_client}
-use Rattle.st_rules.specs.Client as cl
-use Rattle.st_rules.specs.ClientLocks as locks
-use Rattle.st_rules.specs.ClientPages as pages
-use Rattle.st_rules.specs.ClientPasses as cp
-use Rattle.st_rules.specs.ClientReplies as cr
-use Rattle.st_rules.specs.ClientState as cs
-use Rattle.st_rules.specs.ClientState.{ClientSession, Turn, answer_to, server_of, say, with_session, with_store, with_operations}
-use Rattle.st_lemmas.specs.Lists.{Has}
-use Rattle.st_lemmas.proofs.Tables.{and_both, and_true, has_append, has_filter, has_map, not_true}
-use Rattle.st_rules.specs.declared.client.Stage.{Stage}
-use Rattle.st_rules.specs.declared.client.Stage.TheVariants as stages
-use Rattle.st_rules.specs.Keys.{server_node}
+use Rattle.st_lemmas.proofs.Words
+use Words.{◌≡◌, ℕ, ◌⊎◌, Bool, true, false, not, ◌&&◌, List, [], ◌∷◌, ◌++◌, Option, Some, None, refl, sym, ap, ◌∙◌, subst, inl, inr, if◌then◌else◌, append_assoc}
+use Words.{filter, map, eqb-true, eq-eqb, Tag, FileId, GrantNo, PageNo, ServerId, Stamp, Mode, AppAnswer, Ask, Body, Header, Why, Note, Output, Operation}
+use Words.{PageCommand, Request, Stage}
+use Words.commands
+use Words.answers
+use Words.why
+use Words.outputs
+use Words.io
+use Words.Dating.{may_date, refuses_client}
+use Words.Client as cl
+use Words.ClientLocks as locks
+use Words.ClientPages as pages
+use Words.ClientPasses as cp
+use Words.ClientReplies as cr
+use Words.ClientState as cs
+use Words.ClientState.{ClientSession, Turn, answer_to, server_of, say, with_session, with_store, with_operations}
+use Words.Lists.{Has}
+use Words.Tables.{and_both, and_true, has_append, has_filter, has_map, not_true}
+use Words.stages
+use Words.Keys.{server_node}
+use Words.Members.{has_left, has_middle, has_right}
+use Words.Truth.{clash}
 use Rattle.st_laws_requests.proofs.Cuts.Keeping.{Answers, asked_of, no_acquire, no_map, no_reassert}
-use Rattle.st_laws_names.proofs.Frames.{IsKeptRefusal, Own, clash, has_none, other, view}
+use Rattle.st_laws_names.proofs.Frames.{IsKeptRefusal, Own, has_none, other, view}
 use Rattle.st_trace.specs.Client.Commands as ending
 use Rattle.st_trace.specs.Client.Commands.{Finishes, Takes}
 use Rattle.st_trace.specs.Client.Losses as losing
@@ -52,7 +36,6 @@ use Rattle.st_trace.specs.Client.Passes.{Reduced, StaysHeld, IsReduced, WritesOu
 use Rattle.st_trace.specs.Client.Requests as asking
 use Rattle.st_trace.specs.Client.Requests.{AsksFirst, Greets}
 use Rattle.st_trace.proofs.Client.Finishing.{at_server, finishes, takes}
-use Rattle.st_trace.proofs.Client.Lists.{has_left, has_middle, has_right}
 use Rattle.st_trace.proofs.Client.Losing.{loses}
 use Rattle.st_trace.proofs.Client.Receiving.{receives}
 use Rattle.st_trace.proofs.Client.Walk.{each_lasts, passes}
@@ -129,40 +112,45 @@ module _ (S : ℕ → Type 0) (Key : ServerId → ℕ → ℕ → ℕ → ℕ �
     free_all sv life v ops out f b = record { base = b; asked = λ o h z e. absurd (f o h z e) }
 
     -- fewer operations
-    b_fewer : (sv : ServerId) (ops qs : List Operation) (out : List Output) → ((o : Operation) → Has o qs → Has o ops) → Base sv ops out → Base sv qs out
-    b_fewer sv ops qs out f b = record { server = b.server; fine = λ o h. b.fine o (f o h); said = b.said }
+    base_after_fewer : (sv : ServerId) (ops qs : List Operation) (out : List Output) → ((o : Operation) → Has o qs → Has o ops) → Base sv ops out →
+        Base sv qs out
+    base_after_fewer sv ops qs out f b = record { server = b.server; fine = λ o h. b.fine o (f o h); said = b.said }
 
-    w_fewer : (sv : ServerId) (life : ℕ) (v : Option (ℕ × Option Request)) (ops qs : List Operation) (out : List Output) →
+    whole_after_fewer : (sv : ServerId) (life : ℕ) (v : Option (ℕ × Option Request)) (ops qs : List Operation) (out : List Output) →
         ((o : Operation) → Has o qs → Has o ops) → Whole sv life v ops out → Whole sv life v qs out
-    w_fewer sv life v ops qs out f w = record { base = b_fewer sv ops qs out f w.base; asked = λ o h. w.asked o (f o h) }
+    whole_after_fewer sv life v ops qs out f w = record { base = base_after_fewer sv ops qs out f w.base; asked = λ o h. w.asked o (f o h) }
 
     -- more outputs
     abbrev Okay : Output → Type 0
     Okay (outputs.Answer op a) = S op → Ended op a
     Okay o = Unit {0}
 
-    b_more : (sv : ServerId) (ops : List Operation) (out os : List Output) → ((x : Output) → Has x os → Okay x) → Base sv ops out → Base sv ops (out ++ os)
-    b_more sv ops out os k b = record { server = b.server; fine = b.fine; said = λ op a h. says op a (has_append out os (outputs.Answer op a) h) }
+    base_after_longer_list : (sv : ServerId) (ops : List Operation) (out os : List Output) → ((x : Output) → Has x os → Okay x) → Base sv ops out →
+        Base sv ops (out ++ os)
+    base_after_longer_list sv ops out os k b =
+        record { server = b.server; fine = b.fine; said = λ op a h. says op a (has_append out os (outputs.Answer op a) h) }
       where
         says : (op : ℕ) (a : AppAnswer) → Has (outputs.Answer op a) out ⊎ Has (outputs.Answer op a) os → S op → Ended op a
         says op a (inl h) = b.said op a h
         says op a (inr h) = k (outputs.Answer op a) h
 
-    b_say : (sv : ServerId) (ops : List Operation) (out : List Output) (o : Output) → Okay o → Base sv ops out → Base sv ops (out ++ o ∷ [])
-    b_say sv ops out o k b = b_more sv ops out (o ∷ []) one b
+    base_after_say : (sv : ServerId) (ops : List Operation) (out : List Output) (o : Output) → Okay o → Base sv ops out → Base sv ops (out ++ o ∷ [])
+    base_after_say sv ops out o k b = base_after_longer_list sv ops out (o ∷ []) one b
       where
         one : (x : Output) → Has x (o ∷ []) → Okay x
         one x (inl e) = subst Okay (sym e) k
         one x (inr i) = absurd i
 
-    w_say : (t : Turn) (o : Output) → Okay o → W t → W (say t o)
-    w_say t o k w = record { base = b_say t.here.server t.operations t.out o k w.base; asked = w.asked }
+    whole_after_say : (t : Turn) (o : Output) → Okay o → W t → W (say t o)
+    whole_after_say t o k w = record { base = base_after_say t.here.server t.operations t.out o k w.base; asked = w.asked }
 
     -- operations are answered
-    b_answers : (t : Turn) (picked : Operation → Bool) (a : AppAnswer) → ((o : Operation) → Has o t.operations → S o.op → picked o ≡ true → Ended o.op a) →
+    base_after_answers : (t : Turn) (picked : Operation → Bool) (a : AppAnswer) →
+        ((o : Operation) → Has o t.operations → S o.op → picked o ≡ true → Ended o.op a) →
         C t → C (cs.answer_each picked a t)
     unfolding cs.answer_each
-    b_answers t picked a k b = b_more t.here.server _ t.out _ okay (b_fewer t.here.server t.operations _ t.out (λ o h. (has_filter _ t.operations o h).0) b)
+    base_after_answers t picked a k b = base_after_longer_list t.here.server _ t.out _ okay
+        (base_after_fewer t.here.server t.operations _ t.out (λ o h. (has_filter _ t.operations o h).0) b)
       where
         okay : (x : Output) → Has x (map (answer_to a) (filter picked t.operations)) → Okay x
         okay x h =
@@ -170,10 +158,11 @@ module _ (S : ℕ → Type 0) (Key : ServerId → ℕ → ℕ → ℕ → ℕ �
             let y = has_filter picked t.operations z.0 z.1 in
             subst Okay (sym z.2) (λ q. k z.0 y.0 q y.1)
 
-    w_answers : (t : Turn) (picked : Operation → Bool) (a : AppAnswer) → ((o : Operation) → Has o t.operations → S o.op → picked o ≡ true → Ended o.op a) →
+    whole_after_answers : (t : Turn) (picked : Operation → Bool) (a : AppAnswer) →
+        ((o : Operation) → Has o t.operations → S o.op → picked o ≡ true → Ended o.op a) →
         W t → W (cs.answer_each picked a t)
     unfolding cs.answer_each
-    w_answers t picked a k w = record { base = b_answers t picked a k w.base; asked = λ o h. w.asked o (has_filter _ t.operations o h).0 }
+    whole_after_answers t picked a k w = record { base = base_after_answers t picked a k w.base; asked = λ o h. w.asked o (has_filter _ t.operations o h).0 }
 
     -- the operations that wait are answered, and nobody waits
     freed : (t : Turn) (a : AppAnswer) → Free t.here.server (cs.answer_each (cs.is_asked t.here.server) a t).operations
@@ -181,8 +170,8 @@ module _ (S : ℕ → Type 0) (Key : ServerId → ℕ → ℕ → ℕ → ℕ �
     freed t a o h z e = clash e (not_true _ (has_filter (λ o. not (cs.is_asked t.here.server o)) t.operations o h).1)
 
     -- Sessions that go on.
-    w_view : (t : Turn) (x y : ClientSession) → view (Some y) ≡ view (Some x) → WIn t x → WIn t y
-    w_view t x y e w = subst (λ v. Whole t.here.server t.here.life.0 v t.operations t.out) (sym e) w
+    whole_after_view : (t : Turn) (x y : ClientSession) → view (Some y) ≡ view (Some x) → WIn t x → WIn t y
+    whole_after_view t x y e w = subst (λ v. Whole t.here.server t.here.life.0 v t.operations t.out) (sym e) w
 
     granted_view : (x : ClientSession) (ino : ℕ) (g : GrantNo) (mode : Mode) (v : ClientSession) → Grants (cs.forget_wait ino x) ino g mode v → view
         (Some v) ≡ view (Some x)
@@ -191,10 +180,11 @@ module _ (S : ℕ → Type 0) (Key : ServerId → ℕ → ℕ → ℕ → ℕ �
     granted_view x ino g mode _ (trace.IsOld a) = refl
 
     -- Requests.
-    w_ask : (t : Turn) (x : ClientSession) (now : Stamp) (body : Body) (cutting : Option ℕ) → Free t.here.server t.operations → C t → W
+    whole_after_ask : (t : Turn) (x : ClientSession) (now : Stamp) (body : Body) (cutting : Option ℕ) → Free t.here.server t.operations → C t → W
         (asking.asked t x now body cutting)
     unfolding cs.send cs.asking
-    w_ask t x now body cutting f b = w_say (with_session (cp.asking_session x now body cutting) t) _ tt (free_all _ _ _ t.operations t.out f b)
+    whole_after_ask t x now body cutting f b = whole_after_say (with_session (cp.asking_session x now body cutting) t) _ tt
+        (free_all _ _ _ t.operations t.out f b)
 
     none_waits : (t : Turn) (x : ClientSession) → x.requests.asked ≡ None → WIn t x → Free t.here.server t.operations
     none_waits t x e w o h z a = subst (λ q. AtRequest t.here.server t.here.life.0 x.epoch.0 q o.op) e (w.asked o h z a)
@@ -249,24 +239,26 @@ module _ (S : ℕ → Type 0) (Key : ServerId → ℕ → ℕ → ℕ → ℕ �
         free p (inr (inl q)) z r = new_it w.own (subst (λ (r : Operation). S r.op) q z)
         free p (inr (inr h)) z r = g p (there p (has_right xs (o ∷ ys) p (inr h))) z r
 
-    w_plain_ask : (t : Turn) (x : ClientSession) (now : Stamp) (body : Body) → x.requests.asked ≡ None → WIn t x → W (asking.asked t x now body None)
-    w_plain_ask t x now body e w = w_ask t x now body None (none_waits t x e w) w.base
+    whole_after_plain_ask : (t : Turn) (x : ClientSession) (now : Stamp) (body : Body) → x.requests.asked ≡ None → WIn t x → W (asking.asked t x now body None)
+    whole_after_plain_ask t x now body e w = whole_after_ask t x now body None (none_waits t x e w) w.base
 
-    w_requested : (now : Stamp) (tick : Bool) (t u : Turn) → asking.Requests now tick t u → W t → W u
+    whole_after_requested : (now : Stamp) (tick : Bool) (t u : Turn) → asking.Requests now tick t u → W t → W u
     unfolding cs.send
-    w_requested now tick t _ asking.AsksNothing w = w
-    w_requested now tick t _ (asking.AsksAgain x q e c n o) w =
+    whole_after_requested now tick t _ asking.AsksNothing w = w
+    whole_after_requested now tick t _ (asking.AsksAgain x q e c n o) w =
         let v = into t x e w in
-        w_say (with_session (cp.again_session x now q) t) _ tt
+        whole_after_say (with_session (cp.again_session x now q) t) _ tt
         (record { base = v.base; asked = λ o h z a. subst (λ r. AtRequest t.here.server t.here.life.0 x.epoch.0 r o.op) n (v.asked o h z a) })
-    w_requested now tick t _ (asking.Reasserts x m d) w = w_plain_ask t x now _ m.none (into t x m.session w)
-    w_requested now tick t _ (asking.Releases x r rs m d e) w = w_plain_ask t (record x { releases = rs }) now _ m.none (into t x m.session w)
-    w_requested now tick t _ (asking.AsksFor x xs o ys a f e i) w =
+    whole_after_requested now tick t _ (asking.Reasserts x m d) w = whole_after_plain_ask t x now _ m.none (into t x m.session w)
+    whole_after_requested now tick t _ (asking.Releases x r rs m d e) w =
+        whole_after_plain_ask t (record x { releases = rs }) now _ m.none (into t x m.session w)
+    whole_after_requested now tick t _ (asking.AsksFor x xs o ys a f e i) w =
         let v = into t x f.may.session w in
         let k = asking_is t x now xs o ys t.operations a i v.base.fine (none_waits t x f.may.none v) in
-        w_ask (with_store (cp.cut_store a.cut t.here.store) (with_operations (xs ++ cp.sent_if a.own o ∷ ys) t)) x now a.body (cp.file_cut a.cut) k.free
+        whole_after_ask (with_store (cp.cut_store a.cut t.here.store) (with_operations (xs ++ cp.sent_if a.own o ∷ ys) t)) x now a.body (cp.file_cut a.cut)
+        k.free
         (record { server = v.base.server; fine = k.fine; said = v.base.said })
-    w_requested now tick t _ (asking.KeepsAlive x f e) w = w_plain_ask t x now _ f.may.none (into t x f.may.session w)
+    whole_after_requested now tick t _ (asking.KeepsAlive x f e) w = whole_after_plain_ask t x now _ f.may.none (into t x f.may.session w)
 
     -- Replies.
     module _ (now : Stamp) (h : Header) (m : Body)
@@ -290,41 +282,45 @@ module _ (S : ℕ → Type 0) (Key : ServerId → ℕ → ℕ → ℕ → ℕ �
           go stages.Sent e k = refuses t.here.server o.op from (w.meant o i z (and_both (cs.is_of t.here.server o) _ of (ap cs.is_asked_at e))) n
           go stages.Stuck e k = k
 
-      w_told : (t : Turn) (a : AppAnswer) → h.from ≡ server_node t.here.server → Answers m a → MM t → W (cs.answer_each (cs.is_asked t.here.server) a t)
+      whole_after_told : (t : Turn) (a : AppAnswer) → h.from ≡ server_node t.here.server → Answers m a → MM t →
+          W (cs.answer_each (cs.is_asked t.here.server) a t)
       unfolding cs.answer_each
-      w_told t a from its w = free_all _ _ _ _ _ (freed t a) (b_answers t (cs.is_asked t.here.server) a
+      whole_after_told t a from its w = free_all _ _ _ _ _ (freed t a) (base_after_answers t (cs.is_asked t.here.server) a
           (λ o i z p. told t.here.server o.op a from (w.meant o i z p) its) w.base)
 
       -- refusals
-      m_answers : (t : Turn) (picked : Operation → Bool) (a : AppAnswer) → ((o : Operation) → Has o t.operations → S o.op → picked o ≡ true → Ended o.op a) →
+      both_after_answers : (t : Turn) (picked : Operation → Bool) (a : AppAnswer) →
+          ((o : Operation) → Has o t.operations → S o.op → picked o ≡ true → Ended o.op a) →
           MM t → MM (cs.answer_each picked a t)
       unfolding cs.answer_each
-      m_answers t picked a k w = record { base = b_answers t picked a k w.base; meant = λ o i. w.meant o (has_filter _ t.operations o i).0 }
+      both_after_answers t picked a k w = record { base = base_after_answers t picked a k w.base; meant = λ o i. w.meant o (has_filter _ t.operations o i).0 }
 
-      m_refused : (t : Turn) (y : Why) (a b : ℕ) (file : Option ℕ) (asked : Body) (u : Turn) → h.from ≡ server_node t.here.server → IsKeptRefusal m →
+      both_after_refused : (t : Turn) (y : Why) (a b : ℕ) (file : Option ℕ) (asked : Body) (u : Turn) → h.from ≡ server_node t.here.server → IsKeptRefusal m →
           Refusal t file asked y a b u → MM t → MM u × (u.here.server ≡ t.here.server)
       unfolding cs.answer_each
-      m_refused t _ a b file asked _ from n (trace.NoFile _ _ ino e) w = (
-        m_answers t _ answers.NoFile (λ o i z p. gone_ o.op answers.NoFile
+      both_after_refused t _ a b file asked _ from n (trace.NoFile _ _ ino e) w = (
+        both_after_answers t _ answers.NoFile (λ o i z p. gone_ o.op answers.NoFile
             (refused_all t from n w o i z (and_true (cs.is_of t.here.server o) _ (and_true (cs.is_on t.here.server ino o) _ p).0).0)) w,
         refl,
       )
-      m_refused t _ a b file asked _ from n (trace.TooManyLocks _ _ ino e) w = (
-        m_answers t _ answers.TooManyLocks (λ o i z p. gone_ o.op answers.TooManyLocks
+      both_after_refused t _ a b file asked _ from n (trace.TooManyLocks _ _ ino e) w = (
+        both_after_answers t _ answers.TooManyLocks (λ o i z p. gone_ o.op answers.TooManyLocks
             (refused_all t from n w o i z (and_true (cs.is_of t.here.server o) _ (and_true (cs.is_on t.here.server ino o) _ p).0).0)) w,
         refl,
       )
-      m_refused t _ a b file asked _ from n (trace.NoSpace _ _ ino p e q) w = (
-        m_answers t _ (answers.NoSpace a b) (λ o i z q. other (cs.changes_page t.here.server ino p) (λ f r. refl) (λ sv k. refl) o.ask
+      both_after_refused t _ a b file asked _ from n (trace.NoSpace _ _ ino p e q) w = (
+        both_after_answers t _ (answers.NoSpace a b) (λ o i z q. other (cs.changes_page t.here.server ino p) (λ f r. refl) (λ sv k. refl) o.ask
             ((w.base.fine o i).kind z) q) w,
         refl,
       )
-      m_refused t _ a b file asked _ from n (trace.NotHolder _ _ e) w =
-          (m_answers t _ answers.NotHolder (λ o i z q. gone_ o.op answers.NotHolder (refused_all t from n w o i z (asked_of t.here.server o q).0)) w, refl)
-      m_refused t y a b file asked _ from n (trace.AnswersNone _ _ _) w = (w, refl)
+      both_after_refused t _ a b file asked _ from n (trace.NotHolder _ _ e) w = (
+        both_after_answers t _ answers.NotHolder (λ o i z q. gone_ o.op answers.NotHolder (refused_all t from n w o i z (asked_of t.here.server o q).0)) w,
+        refl,
+      )
+      both_after_refused t y a b file asked _ from n (trace.AnswersNone _ _ _) w = (w, refl)
 
-      w_stuck : (t : Turn) → h.from ≡ server_node t.here.server → IsKeptRefusal m → MM t → W (trace.left_stuck t)
-      w_stuck t from n w = record {
+      whole_after_stuck : (t : Turn) → h.from ≡ server_node t.here.server → IsKeptRefusal m → MM t → W (trace.left_stuck t)
+      whole_after_stuck t from n w = record {
         base = record { server = w.base.server; fine = λ o i. fine o (has_map (cr.stuck t) t.operations o i); said = w.base.said };
         asked = λ o i z e. absurd (free o (has_map (cr.stuck t) t.operations o i) e);
       }
@@ -357,38 +353,44 @@ module _ (S : ℕ → Type 0) (Key : ServerId → ℕ → ℕ → ℕ → ℕ �
           free o (p, i, e) q = free_of p (cs.is_asked t.here.server p) refl (subst (λ r. cs.is_asked t.here.server r ≡ true) e q)
 
       -- what a reply does, besides ending the request
-      w_effect : (t : Turn) (y : ClientSession) (q : Request) (file : Option ℕ) (b : Body) (u : Turn) → m ≡ b → h.from ≡ server_node t.here.server → MM t →
+      whole_after_effect : (t : Turn) (y : ClientSession) (q : Request) (file : Option ℕ) (b : Body) (u : Turn) → m ≡ b → h.from ≡ server_node t.here.server →
+          MM t →
           ((cs.asks_cut_or_name q.body ≡ true → ⊥) → Free t.here.server t.operations) → cs.fits b q.body ≡ true → may_date h.number b ≡ true →
           Effect now t y file q.body b u → W u
       unfolding cs.answer_each
-      w_effect t y q file _ _ e from w f fit kept (trace.IsGranted ino g mode v k) = free_all _ _ _ t.operations t.out (f (no_acquire ino q.body fit)) w.base
-      w_effect t y q file _ _ e from w f fit kept (trace.IsQueued ino mode c) = free_all _ _ _ t.operations t.out (f (no_acquire ino q.body fit)) w.base
-      w_effect t y q file _ _ e from w f fit kept (trace.HoldsAlready ino mode c) = free_all _ _ _ t.operations t.out (f (no_acquire ino q.body fit)) w.base
-      w_effect t y q file _ _ e from w f fit kept (trace.IsToldExtents ino rows c) = free_all _ _ _ t.operations t.out (f (no_map ino q.body fit)) w.base
-      w_effect t y q file _ _ e from w f fit kept (trace.IsToldLate ino rows c) = free_all _ _ _ t.operations t.out (f (no_map ino q.body fit)) w.base
-      w_effect t y q file _ _ e from w f fit kept trace.IsAcknowledged = w_told t answers.Cut from (subst (λ b. Answers b answers.Cut) (sym e) refl) w
-      w_effect t y q file _ _ e from w f fit kept (trace.IsNamed r k) = w_told t (cr.name_answer r) from
+      whole_after_effect t y q file _ _ e from w f fit kept (trace.IsGranted ino g mode v k) =
+          free_all _ _ _ t.operations t.out (f (no_acquire ino q.body fit)) w.base
+      whole_after_effect t y q file _ _ e from w f fit kept (trace.IsQueued ino mode c) =
+          free_all _ _ _ t.operations t.out (f (no_acquire ino q.body fit)) w.base
+      whole_after_effect t y q file _ _ e from w f fit kept (trace.HoldsAlready ino mode c) =
+          free_all _ _ _ t.operations t.out (f (no_acquire ino q.body fit)) w.base
+      whole_after_effect t y q file _ _ e from w f fit kept (trace.IsToldExtents ino rows c) =
+          free_all _ _ _ t.operations t.out (f (no_map ino q.body fit)) w.base
+      whole_after_effect t y q file _ _ e from w f fit kept (trace.IsToldLate ino rows c) = free_all _ _ _ t.operations t.out (f (no_map ino q.body fit)) w.base
+      whole_after_effect t y q file _ _ e from w f fit kept trace.IsAcknowledged =
+          whole_after_told t answers.Cut from (subst (λ b. Answers b answers.Cut) (sym e) refl) w
+      whole_after_effect t y q file _ _ e from w f fit kept (trace.IsNamed r k) = whole_after_told t (cr.name_answer r) from
           (subst (λ b. Answers b (cr.name_answer r)) (sym e) refl) w
-      w_effect t y q file _ _ e from w f fit kept (trace.IsRemoved ino removed l i k) =
-          let v = w_told t (answers.Named ino) from (subst (λ b. Answers b (answers.Named ino)) (sym e) refl) w in
+      whole_after_effect t y q file _ _ e from w f fit kept (trace.IsRemoved ino removed l i k) =
+          let v = whole_after_told t (answers.Named ino) from (subst (λ b. Answers b (answers.Named ino)) (sym e) refl) w in
           free_all _ _ _ _ _ (freed t (answers.Named ino)) v.base
-      w_effect t y q file _ _ e from w f fit kept trace.IsReasserted = free_all _ _ _ t.operations t.out (f (no_reassert q.body fit)) w.base
-      w_effect t y q file _ _ e from w f fit kept (trace.Effect.IsRefused z a b u r) =
+      whole_after_effect t y q file _ _ e from w f fit kept trace.IsReasserted = free_all _ _ _ t.operations t.out (f (no_reassert q.body fit)) w.base
+      whole_after_effect t y q file _ _ e from w f fit kept (trace.Effect.IsRefused z a b u r) =
           let n = subst IsKeptRefusal (sym e) (kept_why z kept) in
-          let v = m_refused t z a b file q.body u from n r w in w_stuck u (subst (λ s. h.from ≡ server_node s) (sym v.1) from) n v.0
+          let v = both_after_refused t z a b file q.body u from n r w in whole_after_stuck u (subst (λ s. h.from ≡ server_node s) (sym v.1) from) n v.0
 
       -- a note of a lease that was renewed
       noted : (t : Turn) (x : ClientSession) (stamp : Stamp) (u : Turn) → Renews t x stamp u → MM t → MM u × (u.here.server ≡ t.here.server) ×
           (u.operations ≡ t.operations)
-      noted t x stamp _ (trace.IsLater e) w = (record { base = b_say t.here.server t.operations t.out _ tt w.base; meant = w.meant }, refl, refl)
+      noted t x stamp _ (trace.IsLater e) w = (record { base = base_after_say t.here.server t.operations t.out _ tt w.base; meant = w.meant }, refl, refl)
       noted t x stamp _ (trace.IsNoLater e) w = (w, refl, refl)
 
-      w_answered : (t v u : Turn) (x : ClientSession) (q : Request) → Replied now h m t x q → Renews t x (trace.stamp_of h) v →
+      whole_after_answered : (t v u : Turn) (x : ClientSession) (q : Request) → Replied now h m t x q → Renews t x (trace.stamp_of h) v →
           Effect now (with_session (cr.ended_by (trace.stamp_of h) x) v) (cr.ended_by (trace.stamp_of h) x) (cs.file_asked x.cutting q.body) q.body m u → W t →
           W u
-      w_answered t v u x q r n f w =
+      whole_after_answered t v u x q r n f w =
           let k = noted t x (trace.stamp_of h) v n (record { base = w.base; meant = meant }) in
-          w_effect (with_session (cr.ended_by (trace.stamp_of h) x) v) (cr.ended_by (trace.stamp_of h) x) q (cs.file_asked x.cutting q.body) m u refl
+          whole_after_effect (with_session (cr.ended_by (trace.stamp_of h) x) v) (cr.ended_by (trace.stamp_of h) x) q (cs.file_asked x.cutting q.body) m u refl
           (subst (λ z. h.from ≡ server_node z) (sym k.1) r.heard.received.from) k.0
           (λ no. subst (λ z. Free z v.operations) (sym k.1) (subst (Free t.here.server) (sym k.2) (λ o i z a. no (at o i z a).0))) r.fits r.dates f
         where
@@ -402,31 +404,32 @@ module _ (S : ℕ → Type 0) (Key : ServerId → ℕ → ℕ → ℕ → ℕ �
               (subst (λ n. Key t.here.server t.here.life.0 n h.number o.op) (sym r.heard.epoch)
               (subst (λ n. Key t.here.server t.here.life.0 x.epoch.0 n o.op) r.number (at o i z a).1))
 
-      w_heard : (t : Turn) (b : Body) (u : Turn) → m ≡ b → Receives now h t b u → W t → W u
+      whole_after_heard : (t : Turn) (b : Body) (u : Turn) → m ≡ b → Receives now h t b u → W t → W u
       unfolding cs.send cs.answer_each
-      w_heard t _ _ e (trace.PassesOver b) w = w
-      w_heard t _ _ e (trace.Begins r n i) w = w_say (cr.begin_here (cr.new_session (trace.epoch_of h) (trace.stamp_of h)) t) _ tt
+      whole_after_heard t _ _ e (trace.PassesOver b) w = w
+      whole_after_heard t _ _ e (trace.Begins r n i) w = whole_after_say (cr.begin_here (cr.new_session (trace.epoch_of h) (trace.stamp_of h)) t) _ tt
           (free_all _ _ _ t.operations t.out free w.base)
         where
           free : Free t.here.server t.operations
           free o i z a = (subst (λ o. Whole t.here.server t.here.life.0 (view o) t.operations t.out) n w).asked o i z a
-      w_heard t _ _ e (trace.FollowsEpoch x a b k i) w =
+      whole_after_heard t _ _ e (trace.FollowsEpoch x a b k i) w =
           let y = with_session (cr.in_epoch (trace.epoch_of h) x) t in
           free_all _ _ _ _ _ (freed y (answers.Uncertain x.epoch.0 h.epoch))
-          (b_answers y (cs.is_asked t.here.server) (answers.Uncertain x.epoch.0 h.epoch) (λ o h2 z p. open_ o.op x.epoch.0 h.epoch) w.base)
-      w_heard t _ _ e (trace.IsCondemned b x k c) w = into t x k.session w
-      w_heard t _ _ e (trace.IsGrantedLater ino g mode x v k i j) w = w_view t x v (granted_view x ino g mode v j) (into t x k.session w)
-      w_heard t _ _ e (trace.SeesDemand ino g to x k i) w = w_say (with_session (cs.with_cache (locks.demand x.locks ino g to).locks x) t) _ tt
+          (base_after_answers y (cs.is_asked t.here.server) (answers.Uncertain x.epoch.0 h.epoch) (λ o h2 z p. open_ o.op x.epoch.0 h.epoch) w.base)
+      whole_after_heard t _ _ e (trace.IsCondemned b x k c) w = into t x k.session w
+      whole_after_heard t _ _ e (trace.IsGrantedLater ino g mode x v k i j) w = whole_after_view t x v (granted_view x ino g mode v j) (into t x k.session w)
+      whole_after_heard t _ _ e (trace.SeesDemand ino g to x k i) w =
+          whole_after_say (with_session (cs.with_cache (locks.demand x.locks ino g to).locks x) t) _ tt
           (into t x k.session w)
-      w_heard t _ _ e (trace.GivesUp ino g to x k i j) w = into t x k.session w
-      w_heard t _ _ e (trace.HasGivenUp ino g to x k i j) w = into t x k.session w
-      w_heard t _ u e (trace.IsAnswered b x q v _ r n f) w =
-          w_answered t v u x q (subst (λ b. Replied now h b t x q) (sym e) r) n
+      whole_after_heard t _ _ e (trace.GivesUp ino g to x k i j) w = into t x k.session w
+      whole_after_heard t _ _ e (trace.HasGivenUp ino g to x k i j) w = into t x k.session w
+      whole_after_heard t _ u e (trace.IsAnswered b x q v _ r n f) w =
+          whole_after_answered t v u x q (subst (λ b. Replied now h b t x q) (sym e) r) n
           (subst (λ b. Effect now (with_session (cr.ended_by (trace.stamp_of h) x) v) (cr.ended_by (trace.stamp_of h) x)
           (cs.file_asked x.cutting q.body) q.body b u) (sym e) f) w
 
-      pub w_receive : (t : Turn) → W t → W (cr.receive_at now h m t)
-      w_receive t w = w_heard t m (cr.receive_at now h m t) refl (receives now h t m) w
+      pub whole_after_receive : (t : Turn) → W t → W (cr.receive_at now h m t)
+      whole_after_receive t w = whole_after_heard t m (cr.receive_at now h m t) refl (receives now h t m) w
 
     -- Losses: the operations of the server are answered, and the next life begins.
     abbrev Said : List Output → Type 0
@@ -487,8 +490,8 @@ module _ (S : ℕ → Type 0) (Key : ServerId → ℕ → ℕ → ℕ → ℕ �
       away = w.away;
     }
 
-    pub w_lose : (now : Stamp) (t : Turn) → W t → W (cl.lose now t)
-    w_lose now t w = go (cl.lose now t) (loses now t)
+    pub whole_after_lose : (now : Stamp) (t : Turn) → W t → W (cl.lose now t)
+    whole_after_lose now t w = go (cl.lose now t) (loses now t)
       where
         sent : (o : Operation) → Has o t.operations → S o.op → cs.is_of t.here.server o ≡ true → cs.is_sent o ≡ true
         sent o h z own = sent_of o.stage o.op ((w.base.fine o h).state z own)
@@ -521,15 +524,15 @@ module _ (S : ℕ → Type 0) (Key : ServerId → ℕ → ℕ → ℕ → ℕ �
               ended t.here.server t.operations x o v u step (y.0 o (inl refl))
                   (sent o (y.0 o (inl refl))) y.1,
             )) t.operations (with_operations [] (losing.loss_noted t)) u p
-            (λ o h. h, record { server_ = refl; said = (b_say t.here.server t.operations t.out _ tt w.base).said; away = λ o h. absurd h }) in
+            (λ o h. h, record { server_ = refl; said = (base_after_say t.here.server t.operations t.out _ tt w.base).said; away = λ o h. absurd h }) in
             lost u z.1
 
     -- Ends of commands.
-    pub w_finish : (number : ℕ) (r : Option (Option (Tag × List ℕ))) (t : Turn) → W t → W (cl.finish number r t)
-    w_finish number r t w = go (cl.finish number r t) (finishes number r t)
+    pub whole_after_finish : (number : ℕ) (r : Option (Option (Tag × List ℕ))) (t : Turn) → W t → W (cl.finish number r t)
+    whole_after_finish number r t w = go (cl.finish number r t) (finishes number r t)
       where
         syncs : (x : PageCommand) (u : Turn) → W u → W (cs.answer_each (cl.waits_for_write t x) (answers.DiskFault x.number) u)
-        syncs x u k = w_answers u _ _ (λ o i z p. other cs.is_sync (λ f q. refl) (λ sv n. refl) o.ask ((k.base.fine o i).kind z)
+        syncs x u k = whole_after_answers u _ _ (λ o i z p. other cs.is_sync (λ f q. refl) (λ sv n. refl) o.ask ((k.base.fine o i).kind z)
             (and_true (cs.is_on t.here.server x.ino o) _ p).1) k
 
         go : (u : Turn) → Finishes number r t u → W u
@@ -538,7 +541,7 @@ module _ (S : ℕ → Type 0) (Key : ServerId → ℕ → ℕ → ℕ → ℕ �
         go _ (ending.Fills x block o k e) = w
         go _ (ending.Hardens x v o k e i) = w
         go _ (ending.WroteOlder x v o k e i) = w
-        go _ (ending.FailsToRead x o k e) = w_answers (ending.without x t) _ _
+        go _ (ending.FailsToRead x o k e) = whole_after_answers (ending.without x t) _ _
             (λ o i z p. other (cs.reads_page t.here.server x.ino x.page) (λ f q. refl) (λ sv n. refl) o.ask ((w.base.fine o i).kind z) p) w
         go _ (ending.FailsToWrite x v o k e i) = syncs x (ending.with_pages (pages.fail t.here.store.pages x.ino x.page x.number) (ending.without x t)) w
         go _ (ending.FailsToWriteOlder x v o k e i) = syncs x (ending.without x t) w
@@ -547,78 +550,81 @@ module _ (S : ℕ → Type 0) (Key : ServerId → ℕ → ℕ → ℕ → ℕ �
     abbrev R : List Operation → Turn → Type 0
     R os t = Whole t.here.server t.here.life.0 (view t.here.session) (t.operations ++ os) t.out
 
-    r_keep : (os : List Operation) (o : Operation) (t : Turn) → R (o ∷ os) t → R os (cs.keep o t)
-    r_keep os o t r = subst (λ x. Whole t.here.server t.here.life.0 (view t.here.session) x t.out) (sym (append_assoc t.operations (o ∷ []) os)) r
+    rest_after_keeping : (os : List Operation) (o : Operation) (t : Turn) → R (o ∷ os) t → R os (cs.keep o t)
+    rest_after_keeping os o t r = subst (λ x. Whole t.here.server t.here.life.0 (view t.here.session) x t.out) (sym (append_assoc t.operations (o ∷ []) os)) r
 
-    r_answer : (os : List Operation) (o : Operation) (a : AppAnswer) (t : Turn) → (S o.op → ⊥) → R (o ∷ os) t → R os (cp.answer o a t)
-    r_answer os o a t n r =
-        let z = w_fewer t.here.server t.here.life.0 (view t.here.session) (t.operations ++ o ∷ os) (t.operations ++ os) t.out
+    rest_after_answer : (os : List Operation) (o : Operation) (a : AppAnswer) (t : Turn) → (S o.op → ⊥) → R (o ∷ os) t → R os (cp.answer o a t)
+    rest_after_answer os o a t n r =
+        let z = whole_after_fewer t.here.server t.here.life.0 (view t.here.session) (t.operations ++ o ∷ os) (t.operations ++ os) t.out
         (λ x h. has_middle o x t.operations os h) r in
-        record { base = b_say t.here.server (t.operations ++ os) t.out (outputs.Answer o.op a) (λ q. absurd (n q)) z.base; asked = z.asked }
+        record { base = base_after_say t.here.server (t.operations ++ os) t.out (outputs.Answer o.op a) (λ q. absurd (n q)) z.base; asked = z.asked }
 
-    r_say : (os : List Operation) (t : Turn) (o : Output) → Okay o → R os t → R os (say t o)
-    r_say os t o k r = record { base = b_say t.here.server (t.operations ++ os) t.out o k r.base; asked = r.asked }
+    rest_after_say : (os : List Operation) (t : Turn) (o : Output) → Okay o → R os t → R os (say t o)
+    rest_after_say os t o k r = record { base = base_after_say t.here.server (t.operations ++ os) t.out o k r.base; asked = r.asked }
 
-    r_fine : (os : List Operation) (t : Turn) (o : Operation) → R (o ∷ os) t → Fine t.here.server B o
-    r_fine os t o r = r.base.fine o (has_right t.operations (o ∷ os) o (inl refl))
+    rest_after_fine : (os : List Operation) (t : Turn) (o : Operation) → R (o ∷ os) t → Fine t.here.server B o
+    rest_after_fine os t o r = r.base.fine o (has_right t.operations (o ∷ os) o (inl refl))
 
     -- an operation that is served is neither a cut nor for a name
-    r_none : (os : List Operation) (t : Turn) (o : Operation) (a : Ask) → o.ask ≡ a → cs.is_cut_or_name a ≡ false → R (o ∷ os) t → S o.op → ⊥
-    r_none os t o a e f r z = clash (subst Own e ((r_fine os t o r).kind z)) f
+    rest_after_nothing : (os : List Operation) (t : Turn) (o : Operation) (a : Ask) → o.ask ≡ a → cs.is_cut_or_name a ≡ false → R (o ∷ os) t → S o.op → ⊥
+    rest_after_nothing os t o a e f r z = clash (subst Own e ((rest_after_fine os t o r).kind z)) f
 
-    r_changed : (os : List Operation) (t : Turn) (o : Operation) (f : FileId) (p : PageNo) (bytes : List ℕ) (n : Note) → Changed o.ask t f p bytes n → R
+    rest_after_changed : (os : List Operation) (t : Turn) (o : Operation) (f : FileId) (p : PageNo) (bytes : List ℕ) (n : Note) → Changed o.ask t f p bytes n →
+        R
         (o ∷ os) t → S o.op → ⊥
-    r_changed os t o _ _ _ _ (pass.IsWritten f p bytes e) r = r_none os t o _ e refl r
-    r_changed os t o _ _ _ _ (pass.IsPatched f p at bytes old e q) r = r_none os t o _ e refl r
+    rest_after_changed os t o _ _ _ _ (pass.IsWritten f p bytes e) r = rest_after_nothing os t o _ e refl r
+    rest_after_changed os t o _ _ _ _ (pass.IsPatched f p at bytes old e q) r = rest_after_nothing os t o _ e refl r
 
-    r_operated : (now : Stamp) (all os : List Operation) (o : Operation) (t u : Turn) → Operated now all o t u → R (o ∷ os) t → R os u
-    r_operated now all os o t _ pass.Waits r = r_keep os o t r
-    r_operated now all os o t _ (pass.IsHard f e q h) r = r_answer os o _ t (r_none os t o _ q refl r) r
-    r_operated now all os o t _ (pass.IsQuiesced s e n a b c) r = r_answer os o _ t (λ z. clash (sent_of o.stage o.op ((r_fine os t o r).state z e)) c) r
-    r_operated now all os o t _ (pass.ChangesPage s f p bytes n v c m e) r =
-        r_answer os o answers.Written (cp.with_pages_changed (pages.written t.here.store.pages f.ino p bytes) f.ino p (cs.note t n))
-        (r_changed os t o f p bytes n c r) (r_say (o ∷ os) t (outputs.Note n) (okay n) r)
+    rest_after_operated : (now : Stamp) (all os : List Operation) (o : Operation) (t u : Turn) → Operated now all o t u → R (o ∷ os) t → R os u
+    rest_after_operated now all os o t _ pass.Waits r = rest_after_keeping os o t r
+    rest_after_operated now all os o t _ (pass.IsHard f e q h) r = rest_after_answer os o _ t (rest_after_nothing os t o _ q refl r) r
+    rest_after_operated now all os o t _ (pass.IsQuiesced s e n a b c) r =
+        rest_after_answer os o _ t (λ z. clash (sent_of o.stage o.op ((rest_after_fine os t o r).state z e)) c) r
+    rest_after_operated now all os o t _ (pass.ChangesPage s f p bytes n v c m e) r =
+        rest_after_answer os o answers.Written (cp.with_pages_changed (pages.written t.here.store.pages f.ino p bytes) f.ino p (cs.note t n))
+        (rest_after_changed os t o f p bytes n c r) (rest_after_say (o ∷ os) t (outputs.Note n) (okay n) r)
       where
         okay : (n : Note) → Okay (outputs.Note n)
         okay n = tt
-    r_operated now all os o t _ (pass.IsDirtyFull s f p bytes n v c m e) r = r_answer os o _ t (r_changed os t o f p bytes n c r) r
-    r_operated now all os o t _ (pass.Fetches s f p m v n c e b) r = r_keep os o
+    rest_after_operated now all os o t _ (pass.IsDirtyFull s f p bytes n v c m e) r = rest_after_answer os o _ t (rest_after_changed os t o f p bytes n c r) r
+    rest_after_operated now all os o t _ (pass.Fetches s f p m v n c e b) r = rest_after_keeping os o
         (say (cp.with_command f.ino p io.Read t) (outputs.Submit t.next_command m.at (commands.Read m.at)))
-        (r_say (o ∷ os) (cp.with_command f.ino p io.Read t) _ tt r)
-    r_operated now all os o t _ (pass.ReadsCached s f p bytes v e h q) r = r_answer os o _
-        (with_store (record t.here.store { pages = pages.use_page t.here.store.pages f.ino p }) t) (r_none os t o _ e refl r) r
-    r_operated now all os o t _ (pass.ReadsZeros s f p e v a h q k m) r = r_answer os o _ t (r_none os t o _ a refl r) r
+        (rest_after_say (o ∷ os) (cp.with_command f.ino p io.Read t) _ tt r)
+    rest_after_operated now all os o t _ (pass.ReadsCached s f p bytes v e h q) r = rest_after_answer os o _
+        (with_store (record t.here.store { pages = pages.use_page t.here.store.pages f.ino p }) t) (rest_after_nothing os t o _ e refl r) r
+    rest_after_operated now all os o t _ (pass.ReadsZeros s f p e v a h q k m) r = rest_after_answer os o _ t (rest_after_nothing os t o _ a refl r) r
 
     -- Reductions, writes and greeting.
-    w_reduced : (ino : ℕ) (t u : Turn) → Reduced ino t u → W t → W u
-    w_reduced ino t _ StaysHeld w = w
-    w_reduced ino t _ (IsReduced x g to e m q) w = into t x e w
+    whole_after_reduced : (ino : ℕ) (t u : Turn) → Reduced ino t u → W t → W u
+    whole_after_reduced ino t _ StaysHeld w = w
+    whole_after_reduced ino t _ (IsReduced x g to e m q) w = into t x e w
 
-    w_written : (now : Stamp) (tick : Bool) (y : ℕ × PageNo) (t u : Turn) → WritesOut now tick y t u → W t → W u
-    w_written now tick y t _ StaysDirty w = w
-    w_written now tick y t _ (IsWritten x d m e q k i) w = w_say (cp.with_command d.ino d.page (io.Write d.version) t) _ tt w
+    whole_after_written : (now : Stamp) (tick : Bool) (y : ℕ × PageNo) (t u : Turn) → WritesOut now tick y t u → W t → W u
+    whole_after_written now tick y t _ StaysDirty w = w
+    whole_after_written now tick y t _ (IsWritten x d m e q k i) w = whole_after_say (cp.with_command d.ino d.page (io.Write d.version) t) _ tt w
 
-    w_greeted : (now : Stamp) (tick : Bool) (t u : Turn) → Greets now tick t u → W t → W u
+    whole_after_greeted : (now : Stamp) (tick : Bool) (t u : Turn) → Greets now tick t u → W t → W u
     unfolding cs.send
-    w_greeted now tick t _ asking.IsSilent w = w
-    w_greeted now tick t _ (asking.SaysHello e m) w = w_say (cp.with_greeting now t) _ tt w
+    whole_after_greeted now tick t _ asking.IsSilent w = w
+    whole_after_greeted now tick t _ (asking.SaysHello e m) w = whole_after_say (cp.with_greeting now t) _ tt w
 
-    pub w_passes : (now : Stamp) (tick : Bool) (t : Turn) → W t → W (cp.passes now tick t)
-    w_passes now tick t w =
+    pub whole_after_passes : (now : Stamp) (tick : Bool) (t : Turn) → W t → W (cp.passes now tick t)
+    whole_after_passes now tick t w =
         let r = passes now tick t in
-        let z = each_lasts (Operated now t.operations) (λ os v. R os v) (λ o os v u step y. r_operated now t.operations os o v u step y) t.operations
+        let z = each_lasts (Operated now t.operations) (λ os v. R os v) (λ o os v u step y. rest_after_operated now t.operations os o v u step y) t.operations
         (with_operations [] t) r.operated r.operations w in
         let o = r.operated in
-        w_requested now tick r.greeted (cp.passes now tick t) r.requests
-        (w_greeted now tick r.written r.greeted r.greeting
-        (each_lasts (WritesOut now tick) (λ xs v. W v) (λ x xs v u step y. w_written now tick x v u step y)
+        whole_after_requested now tick r.greeted (cp.passes now tick t) r.requests
+        (whole_after_greeted now tick r.written r.greeted r.greeting
+        (each_lasts (WritesOut now tick) (λ xs v. W v) (λ x xs v u step y. whole_after_written now tick x v u step y)
         (places_of r.reduced.here.session r.reduced.here.store.pages) r.reduced r.written r.writes
-        (each_lasts Reduced (λ inos v. W v) (λ ino inos v u step y. w_reduced ino v u step y) (cp.files_demanded o.here.session) o r.reduced r.reductions
-        (w_fewer o.here.server o.here.life.0 (view o.here.session) (o.operations ++ []) o.operations o.out (λ p h. has_none o.operations p h) z))))
+        (each_lasts Reduced (λ inos v. W v) (λ ino inos v u step y. whole_after_reduced ino v u step y) (cp.files_demanded o.here.session) o r.reduced
+        r.reductions
+        (whole_after_fewer o.here.server o.here.life.0 (view o.here.session) (o.operations ++ []) o.operations o.out (λ p h. has_none o.operations p h) z))))
 
     -- Asks of applications, under a number that is new.
-    pub w_take : (op : ℕ) (ask : Ask) → (S op → ⊥) → (t : Turn) → W t → W (cs.only_at (server_of ask) (cl.take_ask op ask) t)
-    w_take op ask n t w = at_server (λ u. W u) (server_of ask) (cl.take_ask op ask) t (λ e. by e (cl.take_ask op ask t) (takes op ask t)) (λ e. w)
+    pub whole_after_take : (op : ℕ) (ask : Ask) → (S op → ⊥) → (t : Turn) → W t → W (cs.only_at (server_of ask) (cl.take_ask op ask) t)
+    whole_after_take op ask n t w = at_server (λ u. W u) (server_of ask) (cl.take_ask op ask) t (λ e. by e (cl.take_ask op ask t) (takes op ask t)) (λ e. w)
       where
         new : Operation
         new = cs.new_operation op ask
@@ -647,7 +653,7 @@ module _ (S : ℕ → Type 0) (Key : ServerId → ℕ → ℕ → ℕ → ℕ �
             asked o (inr (inr i)) z e = absurd i
 
         told_lost : (f : FileId) → W (cs.answered (cs.with_lost_rows (pages.untold t.here.lost f.ino) t) op (answers.Lost (pages.told_rows t.here.lost f.ino)))
-        told_lost f = w_say (cs.with_lost_rows (pages.untold t.here.lost f.ino) t) _ (λ z. absurd (n z)) w
+        told_lost f = whole_after_say (cs.with_lost_rows (pages.untold t.here.lost f.ino) t) _ (λ z. absurd (n z)) w
 
         by : cs.is_at (server_of ask) t.here ≡ true → (u : Turn) → Takes op ask t u → W u
         by at _ (ending.TellsLost f q h) = told_lost f

@@ -1,40 +1,31 @@
 -- One operation and one body under a key: after every event. The request of each operation that waited was sent, and is what was asked under the operation's
 -- number.
-use Rattle.std.proofs.Common.{◌≡◌, ◌≢◌, ◌⊎◌, ℕ, ◌≤◌, ◌<◌, Bool, true, List, [], ◌∷◌, ◌++◌, Option, Some, None, Ok, refl, sym, ap, ◌∙◌, subst, inl, inr, arith}
+use Rattle.st_lemmas.proofs.Words
+use Words.{◌≡◌, ◌≢◌, ◌⊎◌, ℕ, ◌≤◌, ◌<◌, Bool, true, List, [], ◌∷◌, ◌++◌, Option, Some, None, Ok, refl, sym, ap, ◌∙◌, subst, inl, inr, arith, ClientId, ServerId}
+use Words.{Stamp, AppAnswer, Ask, Event, Body, Message, ClientInput, Operation, Request}
+use Words.nodes
+use Words.answers
+use Words.outputs
+use Words.inputs
+use Words.seen
+use Words.Client as cl
+use Words.ClientState as cs
+use Words.ClientState.{Association, ClientSession, client_turn}
+use Words.Events.{WorldTurn, world_step}
+use Words.History.{Traced, traced_after}
+use Words.Keys.{server_node}
+use Words.Safety.{Step, step}
+use Words.World.{WorldClient, World, clock_of, fresh_world, numbered, site_of, with_numbered}
+use Words.Lists.{Has}
+use Words.Lookups.{some_is}
+use Words.Numbers.{numbered_below, numbered_other, numbered_own}
+use Words.Tables.{has_append, same_or_not}
+use Words.Members.{has_right}
 use Rattle.st_base.specs.declared.config.Config as base
-use Rattle.st_base.specs.declared.ids.ClientId.{ClientId}
-use Rattle.st_base.specs.declared.ids.NodeId.TheVariants as nodes
-use Rattle.st_base.specs.declared.ids.ServerId.{ServerId}
-use Rattle.st_base.specs.declared.ids.Stamp.{Stamp}
-use Rattle.st_messages.specs.declared.answer.AppAnswer.{AppAnswer}
-use Rattle.st_messages.specs.declared.answer.AppAnswer.TheVariants as answers
-use Rattle.st_messages.specs.declared.ask.Ask.{Ask}
-use Rattle.st_messages.specs.declared.event.Event.{Event}
-use Rattle.st_messages.specs.declared.message.Body.{Body}
-use Rattle.st_messages.specs.declared.message.Message.{Message}
-use Rattle.st_messages.specs.declared.output.Output.TheVariants as outputs
-use Rattle.st_rules.specs.declared.client.ClientInput.{ClientInput}
-use Rattle.st_rules.specs.declared.client.ClientInput.TheVariants as inputs
-use Rattle.st_rules.specs.declared.client.Operation.{Operation}
-use Rattle.st_rules.specs.declared.client.Request.{Request}
-use Rattle.st_rules.specs.declared.observation.Observation.TheVariants as seen
-use Rattle.st_rules.specs.Client as cl
-use Rattle.st_rules.specs.ClientState as cs
-use Rattle.st_rules.specs.ClientState.{Association, ClientSession, client_turn}
-use Rattle.st_rules.specs.Events.{WorldTurn, world_step}
-use Rattle.st_rules.specs.History.{Traced, traced_after}
-use Rattle.st_rules.specs.Keys.{server_node}
-use Rattle.st_rules.specs.Safety.{Step, step}
-use Rattle.st_rules.specs.World.{WorldClient, World, clock_of, fresh_world, numbered, site_of, with_numbered}
 use Rattle.st_protocol.specs.Assoc.{Config}
-use Rattle.st_lemmas.specs.Lists.{Has}
-use Rattle.st_lemmas.proofs.Lookups.{some_is}
-use Rattle.st_lemmas.proofs.Numbers.{numbered_below, numbered_other, numbered_own}
-use Rattle.st_lemmas.proofs.Tables.{has_append, same_or_not}
-use Rattle.st_laws_steps.specs.Lives.Lives.{LifeNext, NodeHolds, Pairwise}
+use Rattle.st_laws_steps.specs.Lives.Lives.{LifeNext, NodeHolds}
 use Rattle.st_laws_steps.proofs.Client.Stepping.{step_lives}
 use Rattle.st_laws_leases.specs.Dates.Dates.{messages}
-use Rattle.st_laws_leases.proofs.Dates.Known.{has_right}
 use Rattle.st_laws_leases.proofs.Dates.Leaving.{set_cases}
 use Rattle.st_laws_requests.specs.Cuts.Cuts.{AsksFor, AssociationOk, Between, Keyed, SentIn, Waits, WaitsAt, asks_of}
 use Rattle.st_laws_requests.specs.Cuts.Cuts as cuts
@@ -51,6 +42,7 @@ use Rattle.st_promises.specs.NameAnswers.{is_of_names}
 use Rattle.st_laws_names.specs.Keys.{RepliesTo}
 use Rattle.st_laws_names.specs.OutstandingKeys.{SameKey, WaitsUnder}
 use Rattle.st_laws_names.proofs.World.{Asked, Worlds, none_waits, waits_at}
+use Rattle.st_laws_steps.proofs.Client.Noting.{pair_has}
 
 -- Of operations that waited under one key all are one.
 abbrev pub OneOperations : List Step → World → Type 0
@@ -94,13 +86,6 @@ pub record KeysHold (past : List Step) (w : World) : Type 0 where
   pub one : OneOperations past w
   pub requested : (c : ClientId) (op : ℕ) (k : Asked past w c op) → IsRequested past w c op k.server k.life_ k.epoch_ k.number_
 
--- the association after a step
-pair_from : (R : Association → Association → Type 0) (al bl : List Association) → Pairwise R al bl → (a : Association) → Has a al → (b : Association) × Has b bl × R a b
-pair_from R [] bl p a h = absurd h
-pair_from R (x ∷ al) [] p a h = absurd p
-pair_from R (x ∷ al) (y ∷ bl) p a (inl e) = (y, inl refl, subst (λ (z : Association). R z y) (sym e) p.one)
-pair_from R (x ∷ al) (y ∷ bl) p a (inr h) = let z = pair_from R al bl p.rest a h in (z.0, inr z.1, z.2)
-
 -- Messages of one key have one body, where the client has an association with the server.
 pub one_body : (k : Config) (count : ℕ) (past : List Step) (t : Traced) → AllHold k count past t → (c : ClientId) (s : ServerId) → Place t.world c s → (life epoch number : ℕ) → 1 ≤ number → (m p : Message) → Has m (messages t.world) → Has p (messages t.world) →
     Keyed c s life epoch number m → Keyed c s life epoch number p → m.body ≡ p.body
@@ -108,7 +93,7 @@ one_body k count past t h c s z life epoch number pos m p i j a b =
     (h.base.cuts.clients c z.site z.at).one z.association z.among m p i j (subst (λ (v : ServerId). Between c v m) (sym z.server) a.between) (subst (λ (v : ServerId). Between c v p) (sym z.server) b.between)
     (a.of_life ∙ sym b.of_life) (a.of_epoch ∙ sym b.of_epoch) (a.under ∙ sym b.under) (let y = a.under in omega (arith, y, pos))
 
-key_back : (s u : ServerId) (life epoch number life2 epoch2 number2 : ℕ) → SameKey s u life epoch number life2 epoch2 number2 → SameKey u s life2 epoch2 number2 life epoch number
+pub key_back : (s u : ServerId) (life epoch number life2 epoch2 number2 : ℕ) → SameKey s u life epoch number life2 epoch2 number2 → SameKey u s life2 epoch2 number2 life epoch number
 key_back s u life epoch number life2 epoch2 number2 k = record { server = sym k.server; life_ = sym k.life_; epoch_ = sym k.epoch_; number_ = sym k.number_ }
 
 -- a message of a key is one of the same key
@@ -339,7 +324,7 @@ module _ (k : Config) (count : ℕ) (past : List Step) (t : Traced) (e : Event) 
 
           kept : (a : Association) → Has a old.node.state.associations → (b : Association) × Has b (SiteAfter v c i site).node.state.associations × (b.server ≡ a.server)
           kept a j =
-              let b = pair_from (LifeNext (clock_of v (nodes.Client c)) site.node.state) site.node.state.associations (ClientTook v c i site).state.associations (step_lives c site.node.state (clock_of v (nodes.Client c)) i node.fit).pairs a
+              let b = pair_has (LifeNext (clock_of v (nodes.Client c)) site.node.state) site.node.state.associations (ClientTook v c i site).state.associations (step_lives c site.node.state (clock_of v (nodes.Client c)) i node.fit).pairs a
               (subst (λ (m : cl.ClientNode). Has a m.state.associations) (sym same) j) in
               (b.0, b.1, sym b.2.server)
 

@@ -1,35 +1,21 @@
 -- A named inode changed names: where names say an inode to a create, mkdir, remove or rename, they are other ones then.
-use Rattle.std.proofs.Common.{◌≡◌, ℕ, ◌+◌, ◌≤◌, ◌<◌, suc, arith, Bool, true, false, not, ◌&&◌, ◌==◌, List, [], ◌∷◌, Option, Some, None, refl, sym, ap, ◌∙◌, subst, inl, inr, if◌then◌else◌}
-use Rattle.std.specs.Prelude.{cond, filter, is_some, length, map, bytes_eq, nat_lt, Result as Res, Ok, Err}
-use Rattle.std.proofs.lemmas.Bool.{eqb-true}
-use Rattle.st_base.specs.declared.ids.GrantNo.{GrantNo}
-use Rattle.st_base.specs.declared.names.NameAsk.{NameAsk}
-use Rattle.st_base.specs.declared.names.NameAsk.TheVariants.{Lookup, Create, Mkdir, Remove, Rename, List as ListFrom}
-use Rattle.st_base.specs.declared.names.NameRow.{NameRow}
-use Rattle.st_base.specs.declared.ids.ServerId.{ServerId}
-use Rattle.st_messages.specs.declared.answer.AppAnswer.TheVariants as answers
-use Rattle.st_messages.specs.declared.ask.Ask.TheVariants as asks
-use Rattle.st_messages.specs.declared.message.NameOp.{NameOp}
-use Rattle.st_messages.specs.declared.message.NameOp.TheVariants as ops
-use Rattle.st_rules.specs.declared.names.EntryRefusal.{EntryRefusal}
+use Rattle.st_lemmas.proofs.Words
+use Words.{◌≡◌, ℕ, ◌+◌, ◌≤◌, ◌<◌, suc, arith, Bool, true, false, not, ◌&&◌, ◌==◌, List, [], ◌∷◌, Option, Some, None, refl, sym, ap, ◌∙◌, subst, inl, inr}
+use Words.{if◌then◌else◌, cond, filter, is_some, length, map, bytes_eq, nat_lt, Result as Res, Ok, Err, eqb-true, GrantNo, NameAsk, ServerId, EntryRefusal}
+use Words.{NameEntry, false_from_ne_true}
+use Words.names.{Lookup, Create, Mkdir, Remove, Rename, List as ListFrom}
+use Words.answers
+use Words.asks
+use Words.ClientPasses.{name_op}
+use Words.Names as names
+use Words.Names.{Names, Changed, entry_at, is_entry_at, move_entry}
+use Words.Lists.{Has}
+use Words.Tables.{and_right, and_true, found_at, none_has}
+use Words.Truth.{clash}
 use Rattle.st_rules.specs.declared.names.EntryRefusal.TheVariants as names_refusal
-use Rattle.st_rules.specs.declared.names.NameEntry.{NameEntry}
-use Rattle.st_rules.specs.ClientPasses.{name_op}
-use Rattle.st_rules.specs.Names as names
-use Rattle.st_rules.specs.Names.{Names, Changed, entry_at, is_entry_at, move_entry}
-use Rattle.st_lemmas.specs.Lists.{Has}
-use Rattle.st_lemmas.proofs.Tables.{and_right, and_true, found_at, none_has}
-use Rattle.st_promises.specs.NameAnswers.{Saying, changed, found, is_of_names, listed, refused, said, same_entries, same_entry, same_names}
+use Rattle.st_promises.specs.NameAnswers.{Saying, changed, found, refused, said, same_entries, same_entry, same_names}
 use Rattle.st_promises.specs.NamesOnce.{is_change_of}
 use Rattle.st_laws_requests.specs.Cuts.Cuts.{does, does_remove}
-
-clash : {A : Type 0} {b : Bool} → b ≡ true → b ≡ false → A
-clash x y = cc
-
--- what is not so
-refuted : (b : Bool) → (b ≡ true → ⊥) → b ≡ false
-refuted true f = absurd (f refl)
-refuted false f = refl
 
 -- Lists of entries.
 
@@ -69,7 +55,7 @@ filter_fewer p [] x i q = absurd i
 -- the next inode number is another one
 added_other : (n : Names) (dir : ℕ) (x : List ℕ) (b : Bool) → same_names n (names.added n dir x b).names ≡ false
 unfolding names.added
-added_other n dir x b = and_right (same_entries n.entries _) _ (refuted (n.next == n.next + 1) (λ e. let q = eqb-true n.next (n.next + 1) e in absurd (omega (arith, q))))
+added_other n dir x b = and_right (same_entries n.entries _) _ (false_from_ne_true (n.next == n.next + 1) (λ e. let q = eqb-true n.next (n.next + 1) e in absurd (omega (arith, q))))
 
 abbrev Other : Names → Res Changed EntryRefusal → Type 0
 Other n (Ok d) = same_names n d.names ≡ false
@@ -94,7 +80,7 @@ add_other n dir x b = go (names.place_refusal n dir x)
 -- an entry is gone
 without_other : (n : Names) (dir : ℕ) (x : List ℕ) (e : NameEntry) → entry_at n dir x ≡ Some e → same_names n (names.without n dir x e).names ≡ false
 unfolding names.without
-without_other n dir x e q = ap (λ b. b && (n.next == n.next)) (refuted _ differ)
+without_other n dir x e q = ap (λ b. b && (n.next == n.next)) (false_from_ne_true _ differ)
   where
     at : (is_entry_at dir x e ≡ true) × Has e n.entries
     at = found_at (is_entry_at dir x) n.entries e q
@@ -121,7 +107,7 @@ remove_other n dir x = go (names.place_refusal n dir x)
 -- an entry is at a place at which none was
 renamed_other : (n : Names) (dir : ℕ) (x : List ℕ) (dir2 : ℕ) (x2 : List ℕ) (e : NameEntry) → entry_at n dir x ≡ Some e → entry_at n dir2 x2 ≡ None → same_names n (names.renamed n dir x dir2 x2 e).names ≡ false
 unfolding names.renamed names.moved
-renamed_other n dir x dir2 x2 e q free = ap (λ b. b && (n.next == n.next)) (refuted _ differ)
+renamed_other n dir x dir2 x2 e q free = ap (λ b. b && (n.next == n.next)) (false_from_ne_true _ differ)
   where
     at : (is_entry_at dir x e ≡ true) × Has e n.entries
     at = found_at (is_entry_at dir x) n.entries e q

@@ -1,32 +1,21 @@
 -- Each event that cut a file has an operation whose request it served, and no refusal answers that.
-use Rattle.std.proofs.Common.{◌≡◌, ◌⊎◌, ℕ, Bool, true, false, not, ◌&&◌, ◌||◌, ◌==◌, List, [], ◌∷◌, ◌++◌, Some, refl, sym, ap, ◌∙◌, subst, inl, inr, arith}
-use Rattle.std.specs.List.{list_all, list_any}
-use Rattle.std.proofs.lemmas.Bool.{eqb-true, eq-eqb}
-use Rattle.st_base.specs.declared.ids.ClientId.{ClientId}
-use Rattle.st_base.specs.declared.ids.FileId.{FileId}
-use Rattle.st_base.specs.declared.ids.PageNo.{PageNo}
-use Rattle.st_base.specs.declared.ids.ServerId.{ServerId}
-use Rattle.st_base.specs.declared.names.NameAsk.TheVariants as names
-use Rattle.st_messages.specs.declared.answer.AppAnswer.{AppAnswer}
-use Rattle.st_messages.specs.declared.ask.Ask.{Ask}
-use Rattle.st_messages.specs.declared.ask.Ask.TheVariants as asks
-use Rattle.st_messages.specs.declared.event.Event.TheVariants as events
-use Rattle.st_messages.specs.declared.message.Body.{Body}
-use Rattle.st_messages.specs.declared.message.Body.TheVariants as bodies
-use Rattle.st_messages.specs.declared.message.Message.{Message}
-use Rattle.st_messages.specs.declared.message.NameReply.TheVariants as replies
-use Rattle.st_messages.specs.declared.message.Why.{Why}
-use Rattle.st_messages.specs.declared.message.Why.TheVariants as why
-use Rattle.st_rules.specs.declared.observation.Observation.{Observation}
-use Rattle.st_rules.specs.declared.observation.Observation.TheVariants as seen
-use Rattle.st_rules.specs.declared.world.SentMessage.{SentMessage}
-use Rattle.st_rules.specs.ClientState.{asks_cut_or_name, reasserts}
-use Rattle.st_rules.specs.Keys.{client, server_node}
-use Rattle.st_rules.specs.Safety.{Step}
-use Rattle.st_rules.specs.World.{World, node_of, numbered}
-use Rattle.st_lemmas.specs.Lists.{Has}
-use Rattle.st_lemmas.proofs.Lookups.{some_is}
-use Rattle.st_lemmas.proofs.Tables.{all_pass, and_both, and_true}
+use Rattle.st_lemmas.proofs.Words
+use Words.{◌≡◌, ◌⊎◌, ℕ, Bool, true, false, not, ◌&&◌, ◌||◌, ◌==◌, List, [], ◌∷◌, ◌++◌, Some, refl, sym, ap, ◌∙◌, subst, inl, inr, arith, list_all, list_any}
+use Words.{eqb-true, eq-eqb, ClientId, FileId, PageNo, ServerId, AppAnswer, Ask, Body, Message, Why, Observation, SentMessage}
+use Words.names
+use Words.asks
+use Words.events
+use Words.bodies
+use Words.replies
+use Words.why
+use Words.seen
+use Words.ClientState.{asks_cut_or_name, reasserts}
+use Words.Keys.{client, server_node}
+use Words.Safety.{Step}
+use Words.World.{World, node_of, numbered}
+use Words.Lists.{Has}
+use Words.Lookups.{some_is}
+use Words.Tables.{all_pass, and_both, and_true}
 use Rattle.st_laws_leases.specs.Dates.Dates.{messages}
 use Rattle.st_laws_requests.specs.Cuts.Cuts.{Keyed, asks_of}
 use Rattle.st_laws_requests.specs.Replies.ServedRequests.{KeptWhy}
@@ -36,7 +25,7 @@ use Rattle.st_laws_names.specs.OutstandingKeys.{SameKey}
 use Rattle.st_laws_names.specs.Keys.{HasEvent, RepliesHaveEvents, ServedAt, ServedOnce, is_final, is_kept_why}
 use Rattle.st_promises.specs.Refusals.{cuts_in, is_done_answer, is_not_refused, is_not_refused_in, is_own_line}
 use Rattle.st_laws_names.proofs.Frames.{IsKeptRefusal}
-use Rattle.st_laws_names.proofs.Keys.{keyed_same}
+use Rattle.st_laws_names.proofs.Keys.{keyed_same, key_back}
 use Rattle.st_laws_names.proofs.World.{Asked, Received, RepliesUnder, TellsOrRefuses}
 
 -- An operation owns the event of a step: the server served its request then, and replied so.
@@ -81,9 +70,6 @@ pub record Grows (past : List Step) (w : World) (all : List Step) (v : World) : 
 
 pub key_then : (s u v : ServerId) (l1 e1 n1 l2 e2 n2 l3 e3 n3 : ℕ) → SameKey s u l1 e1 n1 l2 e2 n2 → SameKey u v l2 e2 n2 l3 e3 n3 → SameKey s v l1 e1 n1 l3 e3 n3
 key_then s u v l1 e1 n1 l2 e2 n2 l3 e3 n3 a b = record { server = a.server ∙ b.server; life_ = a.life_ ∙ b.life_; epoch_ = a.epoch_ ∙ b.epoch_; number_ = a.number_ ∙ b.number_ }
-
-pub key_back : (s u : ServerId) (l1 e1 n1 l2 e2 n2 : ℕ) → SameKey s u l1 e1 n1 l2 e2 n2 → SameKey u s l2 e2 n2 l1 e1 n1
-key_back s u l1 e1 n1 l2 e2 n2 k = record { server = sym k.server; life_ = sym k.life_; epoch_ = sym k.epoch_; number_ = sym k.number_ }
 
 pub owns_grow : (past : List Step) (w : World) (all : List Step) (v : World) → Grows past w all v → (y : Step) (c : ClientId) (op : ℕ) → Owns past w y c op → Owns all v y c op
 owns_grow past w all v g y c op o =

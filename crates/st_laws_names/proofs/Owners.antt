@@ -1,45 +1,35 @@
 -- Asks own changes: from what holds of keys, of requests and of replies at a step.
-use Rattle.std.proofs.Common.{◌≡◌, ◌⊎◌, ℕ, Bool, true, false, not, ◌||◌, List, [], ◌∷◌, ◌++◌, Some, refl, sym, ap, ◌∙◌, subst, inl, inr}
-use Rattle.std.specs.List.{list_any}
-use Rattle.std.proofs.lemmas.Bool.{eq-eqb}
-use Rattle.std.proofs.lemmas.Slice.Eq.{bytes_eq-Decides}
-use Rattle.std.specs.Prelude.{bytes_eq}
-use Rattle.st_base.specs.declared.ids.ClientId.{ClientId}
-use Rattle.st_base.specs.declared.ids.GrantNo.{GrantNo}
-use Rattle.st_base.specs.declared.ids.ServerId.{ServerId}
-use Rattle.st_base.specs.declared.names.NameAsk.{NameAsk}
-use Rattle.st_base.specs.declared.names.NameRow.{NameRow}
-use Rattle.st_messages.specs.declared.answer.AppAnswer.{AppAnswer}
-use Rattle.st_messages.specs.declared.answer.AppAnswer.TheVariants as answers
-use Rattle.st_messages.specs.declared.ask.Ask.{Ask}
-use Rattle.st_messages.specs.declared.ask.Ask.TheVariants as asks
-use Rattle.st_messages.specs.declared.event.Event.TheVariants as events
-use Rattle.st_messages.specs.declared.message.Body.{Body}
-use Rattle.st_messages.specs.declared.message.Body.TheVariants as bodies
-use Rattle.st_messages.specs.declared.message.Message.{Message}
-use Rattle.st_messages.specs.declared.message.NameReply.{NameReply}
-use Rattle.st_messages.specs.declared.message.NameReply.TheVariants as replies
-use Rattle.st_rules.specs.declared.observation.Observation.TheVariants as seen
-use Rattle.st_rules.specs.declared.world.SentMessage.{SentMessage}
-use Rattle.st_rules.specs.ClientPasses.{name_op}
-use Rattle.st_rules.specs.ClientReplies.{name_answer}
-use Rattle.st_rules.specs.ClientState.{reasserts}
-use Rattle.st_rules.specs.Keys.{client}
-use Rattle.st_rules.specs.Safety.{Step, answers_in, is_after_ask, is_answer_to}
-use Rattle.st_rules.specs.Server.{ServerNode}
-use Rattle.st_rules.specs.World.{World, all_clients, message_of, node_of, numbered}
-use Rattle.st_rules.specs.ClientState as cs
-use Rattle.st_lemmas.specs.Lists.{Has}
-use Rattle.st_lemmas.proofs.Lookups.{some_is}
-use Rattle.st_lemmas.proofs.Numbers.{numbered_has}
-use Rattle.st_lemmas.proofs.Tables.{and_both, has_append, has_map_in, some_passes}
+use Rattle.st_lemmas.proofs.Words
+use Words.{◌≡◌, ◌⊎◌, ℕ, Bool, true, false, not, ◌||◌, List, [], ◌∷◌, ◌++◌, Some, refl, sym, ap, ◌∙◌, subst, inl, inr, list_any, eq-eqb, ClientId}
+use Words.{GrantNo, ServerId, NameAsk, AppAnswer, Ask, Body, Message, NameReply, SentMessage}
+use Words.answers
+use Words.asks
+use Words.events
+use Words.bodies
+use Words.replies
+use Words.seen
+use Words.ClientPasses.{name_op}
+use Words.ClientReplies.{name_answer}
+use Words.ClientState.{reasserts}
+use Words.Keys.{client}
+use Words.Safety.{Step, answers_in, is_after_ask, is_answer_to}
+use Words.Server.{ServerNode}
+use Words.World.{World, all_clients, message_of, node_of, numbered}
+use Words.ClientState as cs
+use Words.Lists.{Has}
+use Words.Lookups.{some_is}
+use Words.Numbers.{numbered_has}
+use Words.Tables.{and_both, has_append, has_map_in, some_passes}
+use Words.Members.{has_left, has_right}
+use Words.Truth.{clash}
 use Rattle.st_promises.specs.CutAsks.{is_uncertain, settles_in}
-use Rattle.st_promises.specs.NameAnswers.{becomes_at, changes_at, changes_in, is_of_names, is_saying, leaves, said, same_answer, same_mark, same_names, same_row, same_rows, says, says_at, says_in}
+use Rattle.st_promises.specs.NameAnswers.{becomes_at, changes_at, changes_in, is_of_names, is_saying, leaves, said, same_answer, same_names}
+use Rattle.st_promises.specs.NameAnswers.{says, says_at, says_in}
 use Rattle.st_promises.specs.NamesOnce.{is_change_of}
 use Rattle.st_laws_leases.specs.Dates.Dates.{message_in, messages}
 use Rattle.st_laws_requests.specs.Cuts.Cuts.{AsksFor, Keyed, MeansNone, asks_of, does}
 use Rattle.st_laws_requests.proofs.Cuts.Keeping.{Answers}
-use Rattle.st_laws_requests.proofs.Cuts.Names.{names_same, says_it}
+use Rattle.st_laws_requests.proofs.Cuts.Names.{names_same, says_it, rows_same}
 use Rattle.st_laws_names.specs.Keys.{HasEvent, NamesDid, RepliesHaveEvents, RepliesTo, ServedAt, is_final, is_kept_why}
 use Rattle.st_laws_names.proofs.World.{Asked, Worlds}
 use Rattle.st_laws_names.proofs.Rows.{Known}
@@ -47,9 +37,6 @@ use Rattle.st_laws_names.proofs.Keys.{IsRequested, IsTold, OneOperations}
 use Rattle.st_laws_names.specs.OutstandingKeys.{SameKey, WaitsUnder}
 use Rattle.st_laws_names.specs.Owners.{AsksOwnChanges, Owner, Owns}
 use Rattle.st_laws_names.proofs.NamedInodes.{named_changes}
-
-clash : {A : Type 0} {b : Bool} → b ≡ true → b ≡ false → A
-clash x y = cc
 
 -- A change, and the ask by whose request it was made.
 pub record Changed (past : List Step) (x : Step) (s : ServerId) : Type 0 where
@@ -98,31 +85,6 @@ pub record Facts (past : List Step) (x : Step) : Type 0 where
   pub there : (c : ClientId) (op : ℕ) → Asked (past ++ x ∷ []) x.after.world c op → Has c (all_clients x.after.world)
 
 -- Small facts.
-
-has_left : {A : Type 0} (xs ys : List A) (x : A) → Has x xs → Has x (xs ++ ys)
-has_left [] ys x h = absurd h
-has_left (y ∷ zs) ys x (inl e) = inl e
-has_left (y ∷ zs) ys x (inr i) = inr (has_left zs ys x i)
-
-has_right : {A : Type 0} (xs ys : List A) (x : A) → Has x ys → Has x (xs ++ ys)
-has_right [] ys x h = h
-has_right (y ∷ zs) ys x h = inr (has_right zs ys x h)
-
--- the same is the same
-bytes_same : (xs : List ℕ) → bytes_eq xs xs ≡ true
-bytes_same xs = (bytes_eq-Decides xs xs).1 refl
-
-mark_same : (b : Bool) → same_mark b b ≡ true
-mark_same true = refl
-mark_same false = refl
-
-row_same : (r : NameRow) → same_row r r ≡ true
-row_same r = and_both _ _ (eq-eqb r.ino r.ino refl) (and_both _ _ (mark_same r.directory) (bytes_same r.name))
-
-rows_same : (rs : List NameRow) → same_rows rs rs ≡ true
-unfolding same_rows
-rows_same [] = refl
-rows_same (r ∷ rs) = and_both _ _ (row_same r) (rows_same rs)
 
 told_same : (r : NameReply) → same_answer (name_answer r) (name_answer r) ≡ true
 told_same (replies.Ino ino) = eq-eqb ino ino refl
@@ -200,7 +162,7 @@ told_change y s ask reply ino f e z = subst (λ o. changes_at o (node_of y.after
 -- Keys.
 
 -- where an operation waited under a key, in words of the same key
-waits_as : (w : World) (c : ClientId) (op : ℕ) (s u : ServerId) (life epoch number life2 epoch2 number2 : ℕ) → SameKey s u life epoch number life2 epoch2 number2 → WaitsUnder w c s life epoch number op → WaitsUnder w c u life2 epoch2 number2 op
+pub waits_as : (w : World) (c : ClientId) (op : ℕ) (s u : ServerId) (life epoch number life2 epoch2 number2 : ℕ) → SameKey s u life epoch number life2 epoch2 number2 → WaitsUnder w c s life epoch number op → WaitsUnder w c u life2 epoch2 number2 op
 waits_as w c op s u life epoch number life2 epoch2 number2 k z =
     subst (λ n. WaitsUnder w c u life2 epoch2 n op) k.number_ (subst (λ e. WaitsUnder w c u life2 e number op) k.epoch_ (subst (λ l. WaitsUnder w c u l epoch number op) k.life_ (subst (λ v. WaitsUnder w c v life epoch number op) k.server z)))
 

@@ -1,62 +1,31 @@
 -- Each event that changed the names of a server is given the ask that owns it: from what holds of owners at each step of a run, names change once.
-use Rattle.std.proofs.Common.{◌≡◌, ◌⊎◌, ℕ, ◌+◌, zero, suc, arith, Bool, true, false, not, ◌&&◌, ◌||◌, ◌==◌, List, [], ◌∷◌, ◌++◌, Option, Some, None, refl, sym, ap, ◌∙◌, subst, inl, inr, if◌then◌else◌}
-use Rattle.std.specs.Prelude.{slice_get}
-use Rattle.std.specs.List.{cons_option, list_all, list_any}
-use Rattle.std.proofs.lemmas.Bool.{eqb-true, eq-eqb}
-use Rattle.std.proofs.lemmas.List.{append-nil, append_assoc}
-use Rattle.st_base.specs.declared.ids.ClientId.{ClientId}
-use Rattle.st_base.specs.declared.ids.ServerId.{ServerId}
-use Rattle.st_base.specs.declared.names.NameAsk.{NameAsk}
-use Rattle.st_base.specs.declared.names.NameAsk.TheVariants.{Lookup, Create, Mkdir, Remove, Rename, List as ListFrom}
-use Rattle.st_messages.specs.declared.answer.AppAnswer.{AppAnswer}
-use Rattle.st_messages.specs.declared.answer.AppAnswer.TheVariants as answers
-use Rattle.st_messages.specs.declared.ask.Ask.{Ask}
-use Rattle.st_messages.specs.declared.ask.Ask.TheVariants as asks
-use Rattle.st_rules.specs.declared.observation.Observation.{Observation}
-use Rattle.st_rules.specs.declared.observation.Observation.TheVariants as seen
-use Rattle.st_rules.specs.Safety.{Promise, Step, Throughout, ask_in, event_of}
-use Rattle.st_rules.specs.World.{all_clients, all_servers, numbered}
-use Rattle.st_lemmas.specs.Lists.{Has}
-use Rattle.st_lemmas.proofs.Lookups.{some_is}
-use Rattle.st_lemmas.proofs.Tables.{all_pass, and_both, and_true, has_append, some_passes}
+use Rattle.st_lemmas.proofs.Words
+use Words.{◌≡◌, ◌⊎◌, ℕ, ◌+◌, zero, suc, arith, Bool, true, false, not, ◌&&◌, ◌||◌, ◌==◌, List, [], ◌∷◌, ◌++◌, Option, Some, None, refl, sym, ap, ◌∙◌, subst}
+use Words.{inl, inr, if◌then◌else◌, slice_get, cons_option, list_all, list_any, eqb-true, eq-eqb, append-nil, ClientId, ServerId, NameAsk, AppAnswer, Ask}
+use Words.{Observation, false_from_ne_true}
+use Words.names.{Lookup, Create, Mkdir, Remove, Rename, List as ListFrom}
+use Words.answers
+use Words.asks
+use Words.seen
+use Words.Safety.{Promise, Step, Throughout, ask_in, event_of}
+use Words.World.{all_clients, all_servers, numbered}
+use Words.Lists.{Has}
+use Words.Lookups.{some_is}
+use Words.Tables.{all_pass, and_both, and_true, has_append, some_passes, none_passes}
+use Words.Lengths.{get_longer}
+use Words.Members.{has_left, has_right, some_member_passes}
+use Words.Truth.{clash}
+use Rattle.std.proofs.lemmas.List.{append_assoc}
 use Rattle.st_promises.specs.Counts.{under_numbers}
 use Rattle.st_promises.specs.CutAsks.{is_uncertain, numbered_asks, settles, settles_in}
 use Rattle.st_promises.specs.NameAnswers.{changes_in, says_in}
-use Rattle.st_promises.specs.NamesOnce.{NamesChangeOnce, all_have_events, answered_so, answered_so_in, are_done, has_event, is_change_of, is_changed_once, is_done_by, is_done_for, is_given, is_of_ask, names_it, names_it_in}
+use Rattle.st_promises.specs.NamesOnce.{NamesChangeOnce, all_have_events, answered_so, answered_so_in, are_done, has_event, is_change_of, is_changed_once}
+use Rattle.st_promises.specs.NamesOnce.{is_done_by, is_done_for, is_given, is_of_ask, names_it, names_it_in}
 use Rattle.st_laws_requests.specs.Cuts.Cuts.{asks_of}
 use Rattle.st_laws_names.specs.Owners.{AsksOwnChanges, Owner, Owns}
+use Rattle.st_laws_cuts.proofs.Words.{same_as, under_has}
 
 -- Small facts.
-
-clash : {A : Type 0} {b : Bool} → b ≡ true → b ≡ false → A
-clash x y = cc
-
-or_none : (a b : Bool) → (a || b) ≡ false → (a ≡ false) × (b ≡ false)
-or_none true b e = cc e
-or_none false b e = (refl, e)
-
-any_none : {A : Type 0} (p : A → Bool) (xs : List A) → list_any p xs ≡ false → (x : A) → Has x xs → p x ≡ false
-any_none p (y ∷ xs) e x (inl i) = ap p i ∙ (or_none (p y) (list_any p xs) e).0
-any_none p (y ∷ xs) e x (inr i) = any_none p xs (or_none (p y) (list_any p xs) e).1 x i
-any_none p [] e x h = absurd h
-
--- a test that some member passes
-any_has : {A : Type 0} (p : A → Bool) (xs : List A) → list_any p xs ≡ true → (x : A) × Has x xs × (p x ≡ true)
-any_has p [] e = cc e
-any_has {A} p (y ∷ xs) e = go (p y) refl e (any_has p xs)
-  where
-    go : (b : Bool) → p y ≡ b → (b || list_any p xs) ≡ true → (list_any p xs ≡ true → (x : A) × Has x xs × (p x ≡ true)) → (x : A) × Has x (y ∷ xs) × (p x ≡ true)
-    go true q f r = (y, inl refl, q)
-    go false q f r = let z = r f in (z.0, inr z.1, z.2)
-
-has_left : {A : Type 0} (xs ys : List A) (x : A) → Has x xs → Has x (xs ++ ys)
-has_left [] ys x h = absurd h
-has_left (y ∷ zs) ys x (inl e) = inl e
-has_left (y ∷ zs) ys x (inr i) = inr (has_left zs ys x i)
-
-has_right : {A : Type 0} (xs ys : List A) (x : A) → Has x ys → Has x (xs ++ ys)
-has_right [] ys x h = h
-has_right (y ∷ zs) ys x h = inr (has_right zs ys x h)
 
 -- a list after one more member, and the rest
 behind : {A : Type 0} (xs : List A) (y : A) (ys : List A) → (xs ++ y ∷ []) ++ ys ≡ xs ++ y ∷ ys
@@ -72,18 +41,6 @@ under_is {A} n (x ∷ xs) k (inl e) = (0, ap (λ (v : ℕ × A). v.0) e ∙ zero
 under_is n (x ∷ xs) k (inr i) = let z = under_is (n + 1) xs k i in (suc z.0, (let q = z.1 in omega (arith, q)), z.2)
 under_is n [] k i = absurd i
 
-under_has : {A : Type 0} (n : ℕ) (xs : List A) (k : ℕ) (v : A) → slice_get xs k ≡ Some v → Has (n + k, v) (under_numbers n xs)
-unfolding under_numbers
-under_has n [] k v e = cc e
-under_has {A} n (x ∷ xs) zero v e = inl (ap (λ j. (j, v)) zero_more ∙ ap (λ y. (n, y)) (sym (some_is e)))
-  where
-    zero_more : n + 0 ≡ n
-    zero_more = omega arith
-under_has {A} n (x ∷ xs) (suc k) v e = inr (subst (λ m. Has (m, v) (under_numbers (n + 1) xs)) same (under_has (n + 1) xs k v e))
-  where
-    same : n + 1 + k ≡ n + suc k
-    same = omega arith
-
 numbered_under : (past : List Step) (c : ClientId) (op : ℕ) (a : Ask) → numbered (asks_of past c) op ≡ Some a → Has (op, a) (numbered_asks past c)
 numbered_under past c zero a q = cc q
 numbered_under past c (suc n) a q = subst (λ j. Has (j, a) (numbered_asks past c)) (omega arith) (under_has 1 (asks_of past c) n a q)
@@ -96,14 +53,6 @@ under_numbered past c k i = subst (λ j. numbered (asks_of past c) j ≡ Some k.
 
     same : suc z.0 ≡ 1 + z.0
     same = omega arith
-
--- An answer to an ask.
-is_to : (d c : ClientId) (n op : ℕ) (a : AppAnswer) → ((d.0 == c.0) && (n == op)) ≡ true → seen.Answered c op a ≡ seen.Answered d n a
-is_to d c n op a e =
-    let z = and_true (d.0 == c.0) (n == op) e in
-    let x = eqb-true d.0 c.0 z.0 in
-    let y = eqb-true n op z.1 in
-    ap (λ m. seen.Answered (record { 0 = m }) op a) (sym x) ∙ ap (λ m. seen.Answered d m a) (sym y)
 
 -- an answer that does not settle an ask is `uncertain`
 unsettled_by : (c : ClientId) (op : ℕ) (a : AppAnswer) → settles c op (seen.Answered c op a) ≡ false → is_uncertain a ≡ true
@@ -156,14 +105,9 @@ asks_append (x ∷ past) qs c = go (ask_in c (event_of x)) (asks_of (past ++ qs)
     go None ks ls e = e
     go (Some a) ks ls e = ap (λ (l : List Ask). a ∷ l) e
 
-get_more : {A : Type 0} (xs ys : List A) (n : ℕ) (v : A) → slice_get xs n ≡ Some v → slice_get (xs ++ ys) n ≡ Some v
-get_more [] ys n v e = cc e
-get_more (x ∷ xs) ys zero v e = e
-get_more (x ∷ xs) ys (suc n) v e = get_more xs ys n v e
-
 asked_on : (past qs : List Step) (c : ClientId) (op : ℕ) (a : Ask) → numbered (asks_of past c) op ≡ Some a → numbered (asks_of (past ++ qs) c) op ≡ Some a
 asked_on past qs c zero a e = cc e
-asked_on past qs c (suc n) a e = ap (λ (l : List Ask). slice_get l n) (asks_append past qs c) ∙ get_more (asks_of past c) (asks_of qs c) n a e
+asked_on past qs c (suc n) a e = ap (λ (l : List Ask). slice_get l n) (asks_append past qs c) ∙ get_longer (asks_of past c) (asks_of qs c) n a e
 
 -- an ask that changes names is one for a name, to the server
 change_is : (s : ServerId) (a : Ask) → is_change_of s a ≡ true → (ask : NameAsk) × (a ≡ asks.Name s ask) × (is_change_of s (asks.Name s ask) ≡ true)
@@ -186,16 +130,12 @@ change_is s a e = cc e
 
 -- an answer with an inode
 named_is : (c : ClientId) (op : ℕ) (o : Observation) → names_it c op o ≡ true → (ino : ℕ) × (seen.Answered c op (answers.Named ino) ≡ o)
-named_is c op (seen.Answered d n (answers.Named ino)) e = (ino, is_to d c n op (answers.Named ino) e)
+named_is c op (seen.Answered d n (answers.Named ino)) e = (ino, same_as d c n op (answers.Named ino) e)
 named_is c op o e = cc e
 
-refuted : (b : Bool) → (b ≡ true → ⊥) → b ≡ false
-refuted true f = absurd (f refl)
-refuted false f = refl
-
 -- what owns a change goes on to
-more : (past qs : List Step) (y : Step) (s : ServerId) (c : ClientId) (op : ℕ) → Owns past y s c op → Owns (past ++ qs) y s c op
-more past qs y s c op o = record { life_ = o.life_; epoch_ = o.epoch_; number_ = o.number_; reply = o.reply; served = o.served; at = o.at; among = has_left past qs o.at o.among; waits = o.waits }
+owns_longer : (past qs : List Step) (y : Step) (s : ServerId) (c : ClientId) (op : ℕ) → Owns past y s c op → Owns (past ++ qs) y s c op
+owns_longer past qs y s c op o = record { life_ = o.life_; epoch_ = o.epoch_; number_ = o.number_; reply = o.reply; served = o.served; at = o.at; among = has_left past qs o.at o.among; waits = o.waits }
 
 module _ (all : List Step) (cs : List ClientId) (s : ServerId) (whole : Throughout AsksOwnChanges [] all)
     (alone : (y : Step) → Has y all → (c d : ClientId) (op n : ℕ) → Owns all y s c op → Owns all y s d n → (c ≡ d) × (op ≡ n))
@@ -210,14 +150,14 @@ module _ (all : List Step) (cs : List ClientId) (s : ServerId) (whole : Througho
   answered past ys y q k e o = all_pass (answered_so_in s o.ask y o.c o.op) all (λ z h. all_pass (answered_so s o.ask y o.c o.op) z.seen (λ b i. one z (subst (Has z) q h) b i))
     where
       earlier : (z : Step) → Has z past → (a : AppAnswer) → Has (seen.Answered o.c o.op a) z.seen → (is_uncertain a || says_in s o.ask a y) ≡ true
-      earlier z h a i = ap (λ b. b || says_in s o.ask a y) (unsettled_by o.c o.op a (any_none (settles o.c o.op) z.seen (any_none (settles_in o.c o.op) past o.unsettled z h) _ i))
+      earlier z h a i = ap (λ b. b || says_in s o.ask a y) (unsettled_by o.c o.op a (none_passes (settles o.c o.op) z.seen (none_passes (settles_in o.c o.op) past o.unsettled z h) _ i))
 
       later : (z : Step) → Has z (y ∷ ys) → (a : AppAnswer) → Has (seen.Answered o.c o.op a) z.seen → (is_uncertain a || says_in s o.ask a y) ≡ true
       later z h a i = by (at_each AsksOwnChanges past (y ∷ ys) k z h)
         where
           by : At AsksOwnChanges past (y ∷ ys) z → (is_uncertain a || says_in s o.ask a y) ≡ true
           by p = p.kept.told y (subst (Has y) parts (has_right past (p.mid ++ z ∷ []) y (first_in y ys p.mid p.rest z p.is))) s o.c o.op o.ask a e
-              (subst (λ (l : List Step). Owns l y s o.c o.op) parts (more past (p.mid ++ z ∷ []) y s o.c o.op o.owns))
+              (subst (λ (l : List Step). Owns l y s o.c o.op) parts (owns_longer past (p.mid ++ z ∷ []) y s o.c o.op o.owns))
               (subst (λ (l : List Step). numbered (asks_of l o.c) o.op ≡ Some (asks.Name s o.ask)) parts (asked_on past (p.mid ++ z ∷ []) o.c o.op _ o.asked)) i
             where
               parts : past ++ (p.mid ++ z ∷ []) ≡ (past ++ p.mid) ++ z ∷ []
@@ -231,7 +171,7 @@ module _ (all : List Step) (cs : List ClientId) (s : ServerId) (whole : Througho
           go true f = by (has_append past (y ∷ ys) z h)
             where
               there : Has (seen.Answered o.c o.op a) z.seen
-              there = subst (λ (b : Observation). Has b z.seen) (sym (is_to d o.c n o.op a f)) i
+              there = subst (λ (b : Observation). Has b z.seen) (sym (same_as d o.c n o.op a f)) i
 
               by : Has z past ⊎ Has z (y ∷ ys) → (is_uncertain a || says_in s o.ask a y) ≡ true
               by (inl j) = earlier z j a there
@@ -240,7 +180,7 @@ module _ (all : List Step) (cs : List ClientId) (s : ServerId) (whole : Througho
 
   -- an event that changed nothing
   passes : (past : List Step) (y : Step) (given : List (ClientId × ℕ)) → changes_in s y ≡ false → Stands past given → Stands (past ++ y ∷ []) given
-  passes past y given e st = record { each = λ z h f. each z f (has_append past (y ∷ []) z h); only = λ d h. let z = st.only d h in (z.0, has_left past (y ∷ []) z.0 z.1, z.2, more past (y ∷ []) z.0 s d.0 d.1 z.3) }
+  passes past y given e st = record { each = λ z h f. each z f (has_append past (y ∷ []) z h); only = λ d h. let z = st.only d h in (z.0, has_left past (y ∷ []) z.0 z.1, z.2, owns_longer past (y ∷ []) z.0 s d.0 d.1 z.3) }
     where
       each : (z : Step) → changes_in s z ≡ true → Has z past ⊎ Has z (y ∷ []) → (d : ClientId × ℕ) × Has d given × Owns all z s d.0 d.1
       each z f (inl i) = st.each z i f
@@ -252,7 +192,7 @@ module _ (all : List Step) (cs : List ClientId) (s : ServerId) (whole : Througho
   takes past ys y given q e o st = record { each = λ z h f. each z f (has_append past (y ∷ []) z h); only = only }
     where
       own : Owns all y s o.c o.op
-      own = subst (λ (l : List Step). Owns l y s o.c o.op) (sym q) (more past (y ∷ ys) y s o.c o.op o.owns)
+      own = subst (λ (l : List Step). Owns l y s o.c o.op) (sym q) (owns_longer past (y ∷ ys) y s o.c o.op o.owns)
 
       each : (z : Step) → changes_in s z ≡ true → Has z past ⊎ Has z (y ∷ []) → (d : ClientId × ℕ) × Has d ((o.c, o.op) ∷ given) × Owns all z s d.0 d.1
       each z f (inl i) = let d = st.each z i f in (d.0, inr d.1, d.2)
@@ -260,12 +200,12 @@ module _ (all : List Step) (cs : List ClientId) (s : ServerId) (whole : Througho
       each z f (inr (inr i)) = absurd i
 
       only : (d : ClientId × ℕ) → (d ≡ (o.c, o.op)) ⊎ Has d given → (z : Step) × Has z (past ++ y ∷ []) × (changes_in s z ≡ true) × Owns (past ++ y ∷ []) z s d.0 d.1
-      only d (inl p) = (y, has_right past (y ∷ []) y (inl refl), e, subst (λ (v : ClientId × ℕ). Owns (past ++ y ∷ []) y s v.0 v.1) (sym p) (more past (y ∷ []) y s o.c o.op o.owns))
-      only d (inr h) = let z = st.only d h in (z.0, has_left past (y ∷ []) z.0 z.1, z.2, more past (y ∷ []) z.0 s d.0 d.1 z.3)
+      only d (inl p) = (y, has_right past (y ∷ []) y (inl refl), e, subst (λ (v : ClientId × ℕ). Owns (past ++ y ∷ []) y s v.0 v.1) (sym p) (owns_longer past (y ∷ []) y s o.c o.op o.owns))
+      only d (inr h) = let z = st.only d h in (z.0, has_left past (y ∷ []) z.0 z.1, z.2, owns_longer past (y ∷ []) z.0 s d.0 d.1 z.3)
 
   -- the owner of a change is not given yet
   not_given : (past : List Step) (y : Step) (given : List (ClientId × ℕ)) → AsksOwnChanges past y → changes_in s y ≡ true → (o : Owner past y s) → Stands past given → list_any (is_given o.c o.op) given ≡ false
-  not_given past y given k e o st = refuted _ (λ f. by (any_has (is_given o.c o.op) given f))
+  not_given past y given k e o st = false_from_ne_true _ (λ f. by (some_member_passes (is_given o.c o.op) given f))
     where
       by : (d : ClientId × ℕ) × Has d given × (is_given o.c o.op d ≡ true) → ⊥
       by (d, h, g) = k.once z.0 z.1 s o.c o.op z.2 e (subst (λ n. Owns past z.0 s o.c n) op (subst (λ c. Owns past z.0 s c d.1) c z.3)) o.owns
@@ -311,7 +251,7 @@ module _ (all : List Step) (cs : List ClientId) (s : ServerId) (whole : Througho
               among = subst (Has did.0) parts (has_left (p.mid ++ z ∷ []) p.rest did.0 did.1)
 
               own : Owns all did.0 s c v.0
-              own = subst (λ (l : List Step). Owns l did.0 s c v.0) parts (more (p.mid ++ z ∷ []) p.rest did.0 s c v.0 did.3)
+              own = subst (λ (l : List Step). Owns l did.0 s c v.0) parts (owns_longer (p.mid ++ z ∷ []) p.rest did.0 s c v.0 did.3)
 
               d : (d : ClientId × ℕ) × Has d given × Owns all did.0 s d.0 d.1
               d = st.each did.0 among did.2
@@ -320,7 +260,7 @@ module _ (all : List Step) (cs : List ClientId) (s : ServerId) (whole : Througho
               same = alone did.0 among c d.0.0 v.0 d.0.1 own d.2
 
       seen_so : is_change_of s v.1 ≡ true → (z : Step) × Has z all × (names_it_in c v.0 z ≡ true) → list_any (is_given c v.0) given ≡ true
-      seen_so e (z, h, f) = by (any_has (names_it c v.0) z.seen f)
+      seen_so e (z, h, f) = by (some_member_passes (names_it c v.0) z.seen f)
         where
           by : (o : Observation) × Has o z.seen × (names_it c v.0 o ≡ true) → list_any (is_given c v.0) given ≡ true
           by (o, j, g) = let n = named_is c v.0 o g in found e z h n.0 (subst (λ (o : Observation). Has o z.seen) (sym n.1) j)
@@ -328,7 +268,7 @@ module _ (all : List Step) (cs : List ClientId) (s : ServerId) (whole : Througho
       go : (a b : Bool) → is_change_of s v.1 ≡ a → list_any (names_it_in c v.0) all ≡ b → (not (a && b) || list_any (is_given c v.0) given) ≡ true
       go false b e f = refl
       go true false e f = refl
-      go true true e f = seen_so e (any_has (names_it_in c v.0) all f)
+      go true true e f = seen_so e (some_member_passes (names_it_in c v.0) all f)
 
   -- The events from a place on.
   done : (ys past : List Step) (given : List (ClientId × ℕ)) → all ≡ past ++ ys → Throughout AsksOwnChanges past ys → Stands past given → are_done cs all s past ys given ≡ true
@@ -342,7 +282,7 @@ module _ (all : List Step) (cs : List ClientId) (s : ServerId) (whole : Througho
       go true e rest = by (k.0.each s e)
         where
           by : Owner past y s → list_any (is_done_for all past s given (are_done cs all s (past ++ y ∷ []) ys) y) cs ≡ true
-          by o = some_passes (is_done_for all past s given (are_done cs all s (past ++ y ∷ []) ys) y) cs o.c (clients y o.c o.op (subst (λ (l : List Step). Owns l y s o.c o.op) (sym q) (more past (y ∷ ys) y s o.c o.op o.owns)))
+          by o = some_passes (is_done_for all past s given (are_done cs all s (past ++ y ∷ []) ys) y) cs o.c (clients y o.c o.op (subst (λ (l : List Step). Owns l y s o.c o.op) (sym q) (owns_longer past (y ∷ ys) y s o.c o.op o.owns)))
               (some_passes (is_done_by all past s given (are_done cs all s (past ++ y ∷ []) ys) y o.c) (numbered_asks past o.c) (o.op, asks.Name s o.ask) (numbered_under past o.c o.op (asks.Name s o.ask) o.asked)
               (and_both _ _ (ap not (not_given past y given k.0 e o st)) (and_both _ _ of (rest ((o.c, o.op) ∷ given) (takes past ys y given q e o st)))))
             where

@@ -1,35 +1,26 @@
 -- Asks own changes, and names change once: after every event, and over whole runs.
-use Rattle.std.proofs.Common.{◌≡◌, ◌⊎◌, ℕ, ◌+◌, Bool, true, false, not, List, [], ◌∷◌, ◌++◌, Option, Some, None, Ok, refl, sym, ap, ◌∙◌, subst, inl, inr, arith}
-use Rattle.std.specs.Prelude.{length}
-use Rattle.std.specs.List.{list_any}
-use Rattle.std.proofs.lemmas.Bool.{le-leb}
-use Rattle.st_base.specs.declared.ids.ClientId.{ClientId}
-use Rattle.st_base.specs.declared.ids.ServerId.{ServerId}
-use Rattle.st_base.specs.declared.names.NameAsk.{NameAsk}
-use Rattle.st_messages.specs.declared.answer.AppAnswer.{AppAnswer}
-use Rattle.st_messages.specs.declared.answer.AppAnswer.TheVariants as answers
-use Rattle.st_messages.specs.declared.ask.Ask.{Ask}
-use Rattle.st_messages.specs.declared.ask.Ask.TheVariants as asks
-use Rattle.st_messages.specs.declared.event.Event.{Event}
-use Rattle.st_messages.specs.declared.message.Body.{Body}
-use Rattle.st_messages.specs.declared.message.Body.TheVariants as bodies
-use Rattle.st_messages.specs.declared.message.Message.{Message}
-use Rattle.st_messages.specs.declared.message.Why.{Why}
-use Rattle.st_messages.specs.declared.message.Why.TheVariants as why
-use Rattle.st_rules.specs.declared.observation.Observation.TheVariants as seen
-use Rattle.st_rules.specs.ClientState as cs
-use Rattle.st_rules.specs.ClientState.{asks_cut_or_name}
-use Rattle.st_rules.specs.Events.{WorldTurn, world_step}
-use Rattle.st_rules.specs.Extents.{numbers}
-use Rattle.st_rules.specs.History.{Traced, traced, traced_after}
-use Rattle.st_rules.specs.Keys.{client}
-use Rattle.st_rules.specs.Safety.{Step, answers_in, asks_at, is_after_ask, is_event, step, steps}
-use Rattle.st_rules.specs.Server.{ServerNode}
-use Rattle.st_rules.specs.World.{World, all_clients, fresh_world, node_of, numbered}
+use Rattle.st_lemmas.proofs.Words
+use Words.{◌≡◌, ◌⊎◌, ℕ, ◌+◌, Bool, true, false, not, List, [], ◌∷◌, ◌++◌, Option, Some, None, Ok, refl, sym, ap, ◌∙◌, subst, inl, inr, arith, length, list_any}
+use Words.{le-leb, ClientId, ServerId, NameAsk, AppAnswer, Ask, Event, Body, Message, Why}
+use Words.answers
+use Words.asks
+use Words.bodies
+use Words.why
+use Words.seen
+use Words.ClientState as cs
+use Words.ClientState.{asks_cut_or_name}
+use Words.Events.{WorldTurn, world_step}
+use Words.Extents.{numbers}
+use Words.History.{Traced, traced, traced_after}
+use Words.Keys.{client}
+use Words.Safety.{Step, answers_in, asks_at, is_after_ask, is_event, step, steps}
+use Words.Server.{ServerNode}
+use Words.World.{World, all_clients, fresh_world, node_of, numbered}
+use Words.Lists.{Has}
+use Words.Numbers.{numbered_below, numbered_has}
+use Words.Tables.{has_append, has_map_in}
+use Words.Members.{between_in_numbers}
 use Rattle.st_protocol.specs.Assoc.{Config}
-use Rattle.st_lemmas.specs.Lists.{Has}
-use Rattle.st_lemmas.proofs.Numbers.{numbered_below, numbered_has}
-use Rattle.st_lemmas.proofs.Tables.{has_append, has_map_in}
 use Rattle.st_laws_refine.specs.Server.Pair.{terms_of}
 use Rattle.st_laws_leases.specs.Sides.Law.{InEveryRun}
 use Rattle.st_laws_leases.specs.Dates.Dates.{message_in}
@@ -42,7 +33,6 @@ use Rattle.st_laws_extents.specs.CutRequests.Law.{gifts}
 use Rattle.st_promises.specs.CutAsks.{is_uncertain, settles_in}
 use Rattle.st_promises.specs.NameAnswers.{changes_at, changes_in, is_of_names, same_names}
 use Rattle.st_promises.specs.NamesOnce.{NamesChangeOnce}
-use Rattle.st_laws_cuts.proofs.Open.{numbers_has}
 use Rattle.st_laws_names.specs.Keys.{ServedAt, is_kept_why}
 use Rattle.st_laws_names.specs.OutstandingKeys.{SameKey, WaitsUnder}
 use Rattle.st_laws_names.specs.Owners.{AsksOwnChanges}
@@ -212,7 +202,7 @@ module _ (k : Config) (count : ℕ) (past : List Step) (t : Traced) (e : Event) 
 
   -- whoever waited is a client of the world
   there : (c : ClientId) (op : ℕ) → Asked past2 sc.world c op → Has c (all_clients sc.world)
-  there c op q = has_map_in client (numbers 1 (length sc.world.clients)) c.0 (numbers_has 1 (length sc.world.clients) c.0 low.0 (let y = low.1 in omega (arith, y)))
+  there c op q = has_map_in client (numbers 1 (length sc.world.clients)) c.0 (between_in_numbers 1 (length sc.world.clients) c.0 low.0 (let y = low.1 in omega (arith, y)))
     where
       place : Rattle.st_laws_names.proofs.Keys.Place sc.world c q.server
       place = n.keys.places c op q
@@ -258,5 +248,5 @@ owners_law k clients servers disks blocks form es head events =
     throughout_events (clients + servers) AsksOwnChanges (OwnersHold (terms_of k) (clients + servers)) (one (terms_of k) (clients + servers)) es events [] (traced (fresh_world k clients servers disks blocks form))
     (record { facts = facts_begin k clients servers disks blocks form head; one_event = λ y z i. absurd i })
 
-pub law : InEveryRun NamesChangeOnce
-law k clients servers disks blocks form es head events = names_change_once (steps es (traced (fresh_world k clients servers disks blocks form))) (owners_law k clients servers disks blocks form es head events)
+pub names_change_once_in_every_run : InEveryRun NamesChangeOnce
+names_change_once_in_every_run k clients servers disks blocks form es head events = names_change_once (steps es (traced (fresh_world k clients servers disks blocks form))) (owners_law k clients servers disks blocks form es head events)

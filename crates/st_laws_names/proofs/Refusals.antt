@@ -1,67 +1,51 @@
 -- Refusals change nothing: after every event, and over whole runs.
-use Rattle.std.proofs.Common.{◌≡◌, ◌⊎◌, ℕ, ◌+◌, ◌≤◌, zero, suc, Bool, true, false, not, ◌||◌, List, [], ◌∷◌, ◌++◌, Some, Ok, refl, sym, ap, ◌∙◌, subst, inl, inr, arith}
-use Rattle.std.specs.Prelude.{length, nat_le, ◌<◌}
-use Rattle.std.specs.List.{list_any}
-use Rattle.std.proofs.lemmas.Bool.{eq-eqb, eqb-true, leb-true}
+use Rattle.st_lemmas.proofs.Words
+use Words.{◌≡◌, ◌⊎◌, ℕ, ◌+◌, ◌≤◌, zero, suc, Bool, true, false, not, List, [], ◌∷◌, ◌++◌, Some, Ok, refl, sym, ap, ◌∙◌, subst, inl, inr, arith, length}
+use Words.{nat_le, ◌<◌, list_any, eq-eqb, eqb-true, leb-true, ClientId, Epoch, FileId, GrantNo, PageNo, ServerId, NameAsk, AppAnswer, Ask, Event, Body, Message}
+use Words.{SentMessage}
+use Words.nodes
+use Words.names
+use Words.asks
+use Words.events
+use Words.bodies
+use Words.ops
+use Words.replies
+use Words.notes
+use Words.outputs
+use Words.serving
+use Words.seen
+use Words.ClientState.{asks_cut_or_name, reasserts}
+use Words.Events as ev
+use Words.Events.{WorldTurn, world_step}
+use Words.Extents.{numbers}
+use Words.History.{Traced, traced, traced_after}
+use Words.Keys.{client, server_node}
+use Words.Safety.{Step, answers_in, is_answer_to, is_event, step}
+use Words.Server as sv
+use Words.Server.{ServerNode, server_step}
+use Words.World as world
+use Words.World.{World, all_clients, clock_of, fresh_world, node_of, numbered}
+use Words.Lists.{Has}
+use Words.Lookups.{some_is}
+use Words.Numbers.{numbered_below, numbered_has}
+use Words.Tables.{and_both, and_true, has_append, has_map_in, some_passes}
+use Words.Members.{between_in_numbers, has_right}
 use Rattle.st_base.specs.declared.config.Config as base
-use Rattle.st_base.specs.declared.ids.ClientId.{ClientId}
-use Rattle.st_base.specs.declared.ids.Epoch.{Epoch}
-use Rattle.st_base.specs.declared.ids.FileId.{FileId}
-use Rattle.st_base.specs.declared.ids.GrantNo.{GrantNo}
-use Rattle.st_base.specs.declared.ids.NodeId.TheVariants as nodes
-use Rattle.st_base.specs.declared.ids.PageNo.{PageNo}
-use Rattle.st_base.specs.declared.ids.ServerId.{ServerId}
-use Rattle.st_base.specs.declared.names.NameAsk.{NameAsk}
-use Rattle.st_base.specs.declared.names.NameAsk.TheVariants as names
-use Rattle.st_messages.specs.declared.answer.AppAnswer.{AppAnswer}
-use Rattle.st_messages.specs.declared.ask.Ask.{Ask}
-use Rattle.st_messages.specs.declared.ask.Ask.TheVariants as asks
-use Rattle.st_messages.specs.declared.event.Event.{Event}
-use Rattle.st_messages.specs.declared.event.Event.TheVariants as events
-use Rattle.st_messages.specs.declared.message.Body.{Body}
-use Rattle.st_messages.specs.declared.message.Body.TheVariants as bodies
-use Rattle.st_messages.specs.declared.message.Message.{Message}
-use Rattle.st_messages.specs.declared.message.NameOp.TheVariants as ops
-use Rattle.st_messages.specs.declared.message.NameReply.TheVariants as replies
-use Rattle.st_messages.specs.declared.output.Note.TheVariants as notes
-use Rattle.st_messages.specs.declared.output.Output.TheVariants as outputs
-use Rattle.st_rules.specs.declared.input.ServerInput.TheVariants as serving
-use Rattle.st_rules.specs.declared.observation.Observation.{Observation}
-use Rattle.st_rules.specs.declared.observation.Observation.TheVariants as seen
-use Rattle.st_rules.specs.declared.world.SentMessage.{SentMessage}
-use Rattle.st_rules.specs.ClientState.{asks_cut_or_name, reasserts}
-use Rattle.st_rules.specs.Events as ev
-use Rattle.st_rules.specs.Events.{WorldTurn, world_step}
-use Rattle.st_rules.specs.Extents.{numbers}
-use Rattle.st_rules.specs.History.{Traced, traced, traced_after}
-use Rattle.st_rules.specs.Keys.{client, server_node}
-use Rattle.st_rules.specs.Safety.{Step, answers_in, is_answer_to, is_event, step}
-use Rattle.st_rules.specs.Server as sv
-use Rattle.st_rules.specs.Server.{ServerNode, server_step}
-use Rattle.st_rules.specs.World as world
-use Rattle.st_rules.specs.World.{World, all_clients, clock_of, fresh_world, node_of, numbered}
 use Rattle.st_protocol.specs.Assoc.{Config}
-use Rattle.st_lemmas.specs.Lists.{Has}
-use Rattle.st_lemmas.proofs.Lookups.{some_is}
-use Rattle.st_lemmas.proofs.Numbers.{numbered_below, numbered_has}
-use Rattle.st_lemmas.proofs.Tables.{and_both, and_true, has_append, has_map_in, some_passes}
 use Rattle.st_laws_refine.specs.Server.Pair.{terms_of}
 use Rattle.st_laws_leases.specs.Dates.Dates.{message_in, messages}
 use Rattle.st_laws_leases.specs.Sides.Law.{InEveryRun}
-use Rattle.st_laws_leases.proofs.Dates.Known.{has_right}
 use Rattle.st_laws_leases.proofs.Sides.Runs.{throughout_events}
 use Rattle.st_laws_requests.specs.Cuts.Cuts.{KeptBy, Keyed, asks_of}
 use Rattle.st_laws_extents.specs.CutRequests.Cut.{AsksCut, CutBy, CutIn}
 use Rattle.st_laws_extents.specs.CutRequests.Law.{gifts}
 use Rattle.st_laws_extents.proofs.CutRequests.Cutting.{step_cuts}
 use Rattle.st_laws_extents.proofs.CutRequests.Seen.{ServedStep, cuts_served}
-use Rattle.st_promises.specs.Acknowledgements.{is_cut_line}
 use Rattle.st_promises.specs.CutAsks.{asks_cut, has_alone_at, is_uncertain, numbered_asks, removes_file, settles_in}
 use Rattle.st_laws_cuts.specs.EndedRequests.{MeansTo}
 use Rattle.st_laws_cuts.specs.ServedRequests.{IsServedBy}
 use Rattle.st_laws_cuts.proofs.Events.{same_epoch}
 use Rattle.st_laws_cuts.proofs.Law.{alone, asks_it}
-use Rattle.st_laws_cuts.proofs.Open.{numbers_has}
 use Rattle.st_laws_cuts.proofs.Words.{under_has}
 use Rattle.st_laws_names.specs.Keys.{HasEvent, ServedAt, is_final}
 use Rattle.st_laws_names.specs.OutstandingKeys.{SameKey, WaitsUnder}
@@ -71,27 +55,13 @@ use Rattle.st_laws_names.proofs.Changes.{past_same}
 use Rattle.st_laws_names.proofs.CutReplies.{CutKept, CutsBy, cut_kept}
 use Rattle.st_laws_names.proofs.Giving as giving
 use Rattle.st_laws_names.proofs.Facts.{FactsHold, facts_begin, facts_on}
-use Rattle.st_laws_names.proofs.Keys.{keyed_same, one_body}
-use Rattle.st_laws_names.proofs.OwnCuts.{AllOwned, CutOwner, DoneBy, Grows, Known, Owns, all_grow, all_more, key_back, key_then, never_refused, no_reassertion, own_lines, same_event}
+use Rattle.st_laws_names.proofs.Keys.{keyed_same, one_body, key_back}
+use Rattle.st_laws_names.proofs.OwnCuts.{AllOwned, CutOwner, DoneBy, Grows, Known, Owns, all_grow, all_more, key_then, never_refused, no_reassertion}
+use Rattle.st_laws_names.proofs.OwnCuts.{own_lines, same_event}
 use Rattle.st_laws_names.proofs.Rows.{worlds_on}
 use Rattle.st_laws_names.proofs.World.{Asked, Received, TellsOrRefuses, Worlds}
 use Rattle.st_laws_names.proofs.World as once
-
--- the line of a cut among these
-there : (os : List Observation) → list_any is_cut_line os ≡ true → (index : ℕ) × (f : FileId) × (p : PageNo) × Has (seen.CutAt index f p) os
-there [] e = cc e
-there (o ∷ os) e = go o refl (is_cut_line o) refl e (there os)
-  where
-    Found : Type 0
-    Found = (index : ℕ) × (f : FileId) × (p : PageNo) × Has (seen.CutAt index f p) (o ∷ os)
-
-    cut : (x : Observation) → o ≡ x → is_cut_line x ≡ true → Found
-    cut (seen.CutAt index f p) q r = (index, f, p, inl (sym q))
-    cut x q r = cc r
-
-    go : (x : Observation) → o ≡ x → (b : Bool) → is_cut_line o ≡ b → (b || list_any is_cut_line os) ≡ true → (list_any is_cut_line os ≡ true → (index : ℕ) × (f : FileId) × (p : PageNo) × Has (seen.CutAt index f p) os) → Found
-    go x q true r e k = cut x q (ap is_cut_line (sym q) ∙ r)
-    go x q false r e k = let z = k e in (z.0, z.1, z.2, inr z.3)
+use Rattle.st_laws_cuts.proofs.Acknowledged.{there}
 
 -- each answer to what asked, at one of these steps, is uncertain, or of a reply under its key
 abbrev Answered : List Step → World → Type 0
@@ -433,7 +403,7 @@ module _ (k : Config) (count : ℕ) (past : List Step) (t : Traced) (e : Event) 
       from_ = s.serves.keyed.between.0
 
       among : Has o.c (all_clients sc.world)
-      among = has_map_in client (numbers 1 (length sc.world.clients)) o.c.0 (numbers_has 1 (length sc.world.clients) o.c.0 low high)
+      among = has_map_in client (numbers 1 (length sc.world.clients)) o.c.0 (between_in_numbers 1 (length sc.world.clients) o.c.0 low high)
         where
           low : 1 ≤ o.c.0
           low = let q = leb-true 1 s.sent.message.header.from (and_true (nat_le 1 s.sent.message.header.from) (nat_le s.sent.message.header.from 16) s.serves.served.client).0 in let z = from_ in omega (arith, q, z)
@@ -486,7 +456,7 @@ one k count past t e sc r h taken = (refused_nothing k count past t e sc r h.fac
     n : FactsHold k count (past ++ step t e sc ∷ []) (traced_after e t sc)
     n = facts_on k count past t e sc r h.facts taken
 
-pub law : InEveryRun RefusalsChangeNothing
-law k clients servers disks blocks form es head events =
+pub refusals_change_nothing : InEveryRun RefusalsChangeNothing
+refusals_change_nothing k clients servers disks blocks form es head events =
     throughout_events (clients + servers) RefusalsChangeNothing (RefusalsHold (terms_of k) (clients + servers)) (one (terms_of k) (clients + servers)) es events [] (traced (fresh_world k clients servers disks blocks form))
     (record { facts = facts_begin k clients servers disks blocks form head; answered = λ c op q z i. absurd i; owned = tt })

@@ -1,54 +1,42 @@
 -- Each final reply of a server has its event, in which the request of its key was served, and a key is served once: after every event.
-use Rattle.std.proofs.Common.{◌≡◌, ◌≢◌, ◌⊎◌, ℕ, ◌+◌, ◌≤◌, Bool, true, List, [], ◌∷◌, ◌++◌, Option, Some, None, Ok, refl, sym, ap, ◌∙◌, subst, inl, inr, arith}
+use Rattle.st_lemmas.proofs.Words
+use Words.{◌≡◌, ◌≢◌, ◌⊎◌, ℕ, ◌≤◌, Bool, true, List, [], ◌∷◌, ◌++◌, Option, Some, None, Ok, refl, sym, ap, ◌∙◌, subst, inl, inr, arith, ClientId, Epoch}
+use Words.{ServerId, Stamp, Event, Body, Header, Message, NameOp, ClientInput, ServerInput, Session, SessionState, SentMessage}
+use Words.nodes
+use Words.events
+use Words.bodies
+use Words.why
+use Words.outputs
+use Words.serving
+use Words.states
+use Words.takes
+use Words.ClientReplies.{name_answer}
+use Words.ClientState.{reasserts}
+use Words.Events as ev
+use Words.Events.{WorldTurn, world_step}
+use Words.History.{Traced, traced_after}
+use Words.Keys.{client, server_node}
+use Words.Names.{Names}
+use Words.Safety.{Step, is_event, step}
+use Words.Server as server
+use Words.Server.{ServerNode}
+use Words.Sessions as sessions
+use Words.World as world
+use Words.World.{WorldClient, World, clock_of, fresh_world, node_of, numbered, site_of, with_numbered}
+use Words.Lists.{Has}
+use Words.Lookups.{some_is}
+use Words.Numbers.{numbered_below, numbered_has, numbered_own}
+use Words.Tables.{has_append, has_map_in}
+use Words.Members.{has_left, has_right}
 use Rattle.st_base.specs.declared.config.Config as base
-use Rattle.st_base.specs.declared.ids.ClientId.{ClientId}
-use Rattle.st_base.specs.declared.ids.Epoch.{Epoch}
-use Rattle.st_base.specs.declared.ids.NodeId.TheVariants as nodes
-use Rattle.st_base.specs.declared.ids.ServerId.{ServerId}
-use Rattle.st_base.specs.declared.ids.Stamp.{Stamp}
-use Rattle.st_messages.specs.declared.event.Event.{Event}
-use Rattle.st_messages.specs.declared.event.Event.TheVariants as events
-use Rattle.st_messages.specs.declared.message.Body.{Body}
-use Rattle.st_messages.specs.declared.message.Body.TheVariants as bodies
-use Rattle.st_messages.specs.declared.message.Header.{Header}
-use Rattle.st_messages.specs.declared.message.Message.{Message}
-use Rattle.st_messages.specs.declared.message.NameOp.{NameOp}
-use Rattle.st_messages.specs.declared.message.Why.TheVariants as why
-use Rattle.st_messages.specs.declared.output.Output.TheVariants as outputs
-use Rattle.st_rules.specs.declared.client.ClientInput.{ClientInput}
-use Rattle.st_rules.specs.declared.input.ServerInput.{ServerInput}
-use Rattle.st_rules.specs.declared.input.ServerInput.TheVariants as serving
-use Rattle.st_rules.specs.declared.sessions.Session.{Session}
-use Rattle.st_rules.specs.declared.sessions.SessionState.{SessionState}
-use Rattle.st_rules.specs.declared.sessions.SessionState.TheVariants as states
-use Rattle.st_rules.specs.declared.sessions.Taken.TheVariants as takes
-use Rattle.st_rules.specs.declared.world.SentMessage.{SentMessage}
-use Rattle.st_rules.specs.ClientReplies.{name_answer}
-use Rattle.st_rules.specs.ClientState.{reasserts}
-use Rattle.st_rules.specs.Events as ev
-use Rattle.st_rules.specs.Events.{WorldTurn, world_step}
-use Rattle.st_rules.specs.History.{Traced, traced_after}
-use Rattle.st_rules.specs.Keys.{client, server_node}
-use Rattle.st_rules.specs.Names.{Names}
-use Rattle.st_rules.specs.Safety.{Step, is_event, step}
-use Rattle.st_rules.specs.Server as server
-use Rattle.st_rules.specs.Server.{ServerNode}
-use Rattle.st_rules.specs.Sessions as sessions
-use Rattle.st_rules.specs.World as world
-use Rattle.st_rules.specs.World.{WorldClient, World, clock_of, fresh_world, node_of, numbered, site_of, with_numbered}
 use Rattle.st_protocol.specs.Assoc.{Config}
-use Rattle.st_lemmas.specs.Lists.{Has}
-use Rattle.st_lemmas.proofs.Lookups.{some_is}
-use Rattle.st_lemmas.proofs.Numbers.{numbered_below, numbered_has, numbered_own}
-use Rattle.st_lemmas.proofs.Tables.{has_append, has_map_in}
 use Rattle.st_laws_leases.specs.Dates.Dates.{message_in, messages}
-use Rattle.st_laws_leases.proofs.Dates.Known.{has_left, has_right}
 use Rattle.st_laws_leases.proofs.Dates.Leaving.{Leaves, leaves_from, server_not_client, set_cases}
 use Rattle.st_trace.proofs.Server.Taking.{FreshState, Found, found_for, fresh_state}
 use Rattle.st_laws_pages.proofs.Lives.Fresh.{fresh_is}
 use Rattle.st_laws_requests.specs.Cuts.Cuts.{KeptBy, Keyed, does}
 use Rattle.st_laws_requests.specs.Replies.ServedRequests.{Ends, IsBehind, Reached, Refusal}
-use Rattle.st_laws_requests.proofs.Cuts.Server.{Acks, Before, Good, IsSaid, Kind, New, Noted, O, ServesNames, before_more, good_more, o_thefts, served, t_name}
+use Rattle.st_laws_requests.proofs.Cuts.Server.{Acks, Before, Good, IsSaid, Kind, New, Noted, O, ServesNames, before_more, good_more, own_after_thefts, served, telling_name}
 use Rattle.st_laws_requests.proofs.Cuts.Seen.{server_sends}
 use Rattle.st_laws_requests.proofs.Replies.EachEvent.{ClientTook, Comes, NodeAfter, ServerLeft, ServerTook, SiteAfter, event_brings}
 use Rattle.st_laws_extents.specs.CutRequests.EndedLives.{IsPast}
@@ -63,8 +51,9 @@ use Rattle.st_laws_cuts.proofs.Law.{AllHold}
 use Rattle.st_laws_names.specs.Keys.{HasEvent, NamesDid, RepliesHaveEvents, ServedAt, ServedOnce, Serves, behind_thefts, is_final, now_at}
 use Rattle.st_laws_names.proofs.Keys.{KeysHold, sends_own}
 use Rattle.st_laws_names.proofs.Behind.{not_past}
-use Rattle.st_laws_names.proofs.Changes.{crashed_names, past_same, started_names}
+use Rattle.st_laws_names.proofs.Changes.{past_same}
 use Rattle.st_laws_names.proofs.Serving.{name_replies, step_serves}
+use Rattle.st_laws_cuts.proofs.Changes.{crashed_names, started_names}
 
 -- final replies are of a kind
 final_kind : Kind is_final
@@ -94,20 +83,25 @@ final_ends (bodies.Nack w x y) f = tt
 final_ends b f = cc f
 
 -- what the rule of a request for a name did to names, and replied
-names_said : (n m : Names) (now : Stamp) (t : server.ServerTurn) (h : Header) (op : NameOp) → t.state.stable.names ≡ n → (server.rule t now h (bodies.Name op)).turn.state.stable.names ≡ m → NamesDid n m (bodies.Name op) (name_replies t now h op).body
+names_said : (n m : Names) (now : Stamp) (t : server.ServerTurn) (h : Header) (op : NameOp) → t.state.stable.names ≡ n →
+    (server.rule t now h (bodies.Name op)).turn.state.stable.names ≡ m → NamesDid n m (bodies.Name op) (name_replies t now h op).body
 unfolding server.rule
 names_said n m now t h op at became = go (name_replies t now h op).body (name_replies t now h op).is
   where
     -- the reply is what names say, where it is theirs
-    said_by : (b : Body) → (server.name t h op).reply ≡ Some b → IsSaid is_final final_kind (record { 0 = 0 }) t.state.stable.epoch serving.Tick n (λ c life number b. Unit {0}) t.state now (does t.state.stable.names op) (server.name t h op).turn.state.stable.names b
-    said_by b q = t_name is_final final_kind (record { 0 = 0 }) t.state.stable.epoch serving.Tick n (λ c life number b. Unit {0}) t.state now t h op at b q
+    said_by : (b : Body) → (server.name t h op).reply ≡ Some b →
+        IsSaid is_final final_kind (record { 0 = 0 }) t.state.stable.epoch serving.Tick n (λ c life number b. Unit {0}) t.state now
+        (does t.state.stable.names op) (server.name t h op).turn.state.stable.names b
+    said_by b q = telling_name is_final final_kind (record { 0 = 0 }) t.state.stable.epoch serving.Tick n (λ c life number b. Unit {0}) t.state now t h op at b
+        q
 
     go : (b : Body) → (server.name t h op).reply ≡ Some b → NamesDid n m (bodies.Name op) b
     go (bodies.Named r) q = ap (λ y. does y op) (sym at) ∙ said_by (bodies.Named r) q ∙ ap (λ y. said y (name_answer r)) became
     go b q = sym became ∙ said_by b q
 
 -- a fact of kept replies, from another one
-kept_map : (Q : Body → Bool) (A B : ℕ → Body → Type 0) (x : SessionState) → ((n : ℕ) (b : Body) → x ≡ states.Live n (Some b) → Q b ≡ true → A n b → B n b) → KeptBy Q A x → KeptBy Q B x
+kept_map : (Q : Body → Bool) (A B : ℕ → Body → Type 0) (x : SessionState) → ((n : ℕ) (b : Body) → x ≡ states.Live n (Some b) → Q b ≡ true → A n b → B n b) →
+    KeptBy Q A x → KeptBy Q B x
 kept_map Q A B (states.Live last (Some b)) f k = λ q. f last b refl q (k q)
 kept_map Q A B (states.Live last None) f k = tt
 kept_map Q A B states.Ended f k = tt
@@ -119,8 +113,11 @@ pub record RepliesHold (past : List Step) (w : World) : Type 0 where
       KeptBy is_final (λ number b. HasEvent past w c s x.life.0 n.state.stable.epoch.0 number b) x.state
   pub once : ServedOnce past
 
-module _ (k : Config) (count : ℕ) (past : List Step) (t : Traced) (e : Event) (sc : WorldTurn) (ranges : is_event count e ≡ true) (h : AllHold k count past t) (n : AllHold k count (past ++ step t e sc ∷ []) (traced_after e t sc)) (taken : world_step t.world e ≡ Ok sc)
-    (keys : KeysHold past t.world) (pasts : (y : Step) → Has y past → (c : ClientId) (s : ServerId) (m : Message) → AllPast y.after.world c s m → AllPast t.world c s m) (d : RepliesHold past t.world) where
+module _ (k : Config) (count : ℕ) (past : List Step) (t : Traced) (e : Event) (sc : WorldTurn) (ranges : is_event count e ≡ true) (h : AllHold k count past t)
+    (n : AllHold k count (past ++ step t e sc ∷ []) (traced_after e t sc)) (taken : world_step t.world e ≡ Ok sc)
+    (keys : KeysHold past t.world)
+    (pasts : (y : Step) → Has y past → (c : ClientId) (s : ServerId) (m : Message) → AllPast y.after.world c s m → AllPast t.world c s m)
+    (d : RepliesHold past t.world) where
   abbrev past2 : List Step
   past2 = past ++ step t e sc ∷ []
 
@@ -134,7 +131,8 @@ module _ (k : Config) (count : ℕ) (past : List Step) (t : Traced) (e : Event) 
   w = ev.counted t.world
 
   -- what stood for fewer steps and messages stands for more
-  event_more : (v : World) → ((m : Message) → Has m M → Has m (messages v)) → (c : ClientId) (s : ServerId) (life epoch number : ℕ) (b : Body) → HasEvent past t.world c s life epoch number b → HasEvent past2 v c s life epoch number b
+  event_more : (v : World) → ((m : Message) → Has m M → Has m (messages v)) → (c : ClientId) (s : ServerId) (life epoch number : ℕ) (b : Body) →
+      HasEvent past t.world c s life epoch number b → HasEvent past2 v c s life epoch number b
   event_more v f c s life epoch number b (inl z) = inl (z.0, has_left past _ z.0 z.1, z.2)
   event_more v f c s life epoch number b (inr z) = inr (record { by = z.by; among = f z.by z.among; keyed = z.keyed; asks = z.asks })
 
@@ -147,17 +145,20 @@ module _ (k : Config) (count : ℕ) (past : List Step) (t : Traced) (e : Event) 
     pub kept : KeptIn v
 
   -- a server of which nothing happens
-  kept_more : (v : World) → ((m : Message) → Has m M → Has m (messages v)) → (s : ServerId) (p : ServerNode) → node_of t.world s ≡ Some p → (c : ClientId) (y : Session) → sessions.session_of p.state.sessions c ≡ Some y →
+  kept_more : (v : World) → ((m : Message) → Has m M → Has m (messages v)) → (s : ServerId) (p : ServerNode) → node_of t.world s ≡ Some p →
+      (c : ClientId) (y : Session) → sessions.session_of p.state.sessions c ≡ Some y →
       KeptBy is_final (λ number b. HasEvent past2 v c s y.life.0 p.state.stable.epoch.0 number b) y.state
   kept_more v f s p at c y q =
-      kept_map is_final (λ number b. HasEvent past t.world c s y.life.0 p.state.stable.epoch.0 number b) (λ number b. HasEvent past2 v c s y.life.0 p.state.stable.epoch.0 number b) y.state
+      kept_map is_final (λ number b. HasEvent past t.world c s y.life.0 p.state.stable.epoch.0 number b)
+      (λ number b. HasEvent past2 v c s y.life.0 p.state.stable.epoch.0 number b) y.state
       (λ number b is fin z. event_more v f c s y.life.0 p.state.stable.epoch.0 number b z) (d.kept s p at c y q)
 
   -- servers and messages stay
   still : (v : World) → v.servers ≡ t.world.servers → messages v ≡ messages t.world → Next v
   still v ss ms =
       record {
-        replies = λ m i s from fin. event_more v old (client m.header.to) s m.header.life m.header.epoch m.header.number m.body (d.replies m (subst (Has m) ms i) s from fin);
+        replies = λ m i s from fin. event_more v old (client m.header.to) s m.header.life m.header.epoch m.header.number m.body
+            (d.replies m (subst (Has m) ms i) s from fin);
         kept = λ s p at. kept_more v old s p (ap (λ z. numbered z s.0) (sym ss) ∙ at);
       }
     where
@@ -165,8 +166,15 @@ module _ (k : Config) (count : ℕ) (past : List Step) (t : Traced) (e : Event) 
       old m i = subst (Has m) (sym ms) i
 
   -- a server has no session
-  emptied : (s : ServerId) (old new : ServerNode) (v : World) → node_of t.world s ≡ Some old → v.servers ≡ with_numbered s.0 new t.world.servers → messages v ≡ messages t.world → ((c : ClientId) → sessions.session_of new.state.sessions c ≡ None) → Next v
-  emptied s old new v at ss ms none = record { replies = (λ m i y from fin. event_more v more (client m.header.to) y m.header.life m.header.epoch m.header.number m.body (d.replies m (subst (Has m) ms i) y from fin)); kept = kept }
+  emptied : (s : ServerId) (old new : ServerNode) (v : World) → node_of t.world s ≡ Some old → v.servers ≡ with_numbered s.0 new t.world.servers →
+      messages v ≡ messages t.world → ((c : ClientId) → sessions.session_of new.state.sessions c ≡ None) → Next v
+  emptied s old new v at ss ms none =
+      record {
+        replies =
+            (λ m i y from fin. event_more v more (client m.header.to) y m.header.life m.header.epoch m.header.number m.body
+            (d.replies m (subst (Has m) ms i) y from fin));
+        kept = kept;
+      }
     where
       more : (m : Message) → Has m M → Has m (messages v)
       more m i = subst (Has m) (sym ms) i
@@ -178,16 +186,19 @@ module _ (k : Config) (count : ℕ) (past : List Step) (t : Traced) (e : Event) 
       kept : KeptIn v
       kept y p there c z q = go (set_cases t.world.servers s.0 y.0 old new p at (ap (λ r. numbered r y.0) (sym ss) ∙ there))
         where
-          go : ((y.0 ≡ s.0) × (p ≡ new)) ⊎ ((y.0 ≢ s.0) × (node_of t.world y ≡ Some p)) → KeptBy is_final (λ number b. HasEvent past2 v c y z.life.0 p.state.stable.epoch.0 number b) z.state
+          go : ((y.0 ≡ s.0) × (p ≡ new)) ⊎ ((y.0 ≢ s.0) × (node_of t.world y ≡ Some p)) →
+              KeptBy is_final (λ number b. HasEvent past2 v c y z.life.0 p.state.stable.epoch.0 number b) z.state
           go (inl r) = no_session (sessions.session_of p.state.sessions c) z (ap (λ (u : ServerNode). sessions.session_of u.state.sessions c) r.1 ∙ none c) q
           go (inr r) = kept_more v more y p r.1 c z q
 
   -- A step of a client.
-  client_step : (v : World) → v.servers ≡ t.world.servers → (c : ClientId) (i : ClientInput) (site old : WorldClient) → site.node ≡ old.node → site.node.running ≡ true → site_of t.world c ≡ Some old → Comes t.world i →
+  client_step : (v : World) → v.servers ≡ t.world.servers → (c : ClientId) (i : ClientInput) (site old : WorldClient) → site.node ≡ old.node →
+      site.node.running ≡ true → site_of t.world c ≡ Some old → Comes t.world i →
       (last : World) → Leaves M (ev.with_site c (SiteAfter v c i site) v) last (ClientTook v c i site).out → Next last
   client_step v ss c i site old same run at comes last l =
       record {
-        replies = λ m j s from fin. event_more last l.old (client m.header.to) s m.header.life m.header.epoch m.header.number m.body (d.replies m (mine m s from (leaves_from M (ev.with_site c (SiteAfter v c i site) v) last (ClientTook v c i site).out l m j)) s from fin);
+        replies = λ m j s from fin. event_more last l.old (client m.header.to) s m.header.life m.header.epoch m.header.number m.body
+            (d.replies m (mine m s from (leaves_from M (ev.with_site c (SiteAfter v c i site) v) last (ClientTook v c i site).out l m j)) s from fin);
         kept = λ s p there. kept_more last l.old s p (ap (λ z. numbered z s.0) (sym ss) ∙ ap (λ z. numbered z s.0) (sym l.servers) ∙ there);
       }
     where
@@ -196,7 +207,10 @@ module _ (k : Config) (count : ℕ) (past : List Step) (t : Traced) (e : Event) 
 
       mine : (m : Message) (s : ServerId) → m.header.from ≡ server_node s → Has m M ⊎ Has (outputs.Send m) (ClientTook v c i site).out → Has m M
       mine m s from (inl j) = j
-      mine m s from (inr j) = absurd (server_not_client c.0 s.0 few (sym (sends_own k count past t e sc h n taken keys c i (clock_of v (nodes.Client c)) site old same comes run at m j) ∙ from))
+      mine m s from (inr j) =
+          absurd
+          (server_not_client c.0 s.0 few
+          (sym (sends_own k count past t e sc h n taken keys c i (clock_of v (nodes.Client c)) site old same comes run at m j) ∙ from))
 
   -- A message that a server takes is delivered.
   record Delivered (m : Message) : Type 0 where
@@ -223,7 +237,8 @@ module _ (k : Config) (count : ℕ) (past : List Step) (t : Traced) (e : Event) 
     pub body : at.sent.message.body ≡ bodies.Name op
 
   -- A step of a server.
-  module _ (s : ServerId) (i : ServerInput) (node : ServerNode) (at : node_of t.world s ≡ Some node) (run : node.running ≡ true) (brings : B i) (is : (ServerLeft t.world s i node).world ≡ sc.world)
+  module _ (s : ServerId) (i : ServerInput) (node : ServerNode) (at : node_of t.world s ≡ Some node) (run : node.running ≡ true) (brings : B i)
+      (is : (ServerLeft t.world s i node).world ≡ sc.world)
       (l : Leaves M (ev.with_node s (NodeAfter t.world s i node) w) (ServerLeft t.world s i node).world (ServerTook t.world s i node).out) where
     abbrev now : Stamp
     now = clock_of (ev.counted t.world) (nodes.Server s)
@@ -249,14 +264,18 @@ module _ (k : Config) (count : ℕ) (past : List Step) (t : Traced) (e : Event) 
     abbrev Old : ClientId → ℕ → ℕ → Body → Type 0
     Old c life number b = HasEvent past t.world c s life epoch.0 number b
 
-    begins : O is_final final_kind s epoch (Before is_final final_kind s epoch i names Old node.state now) (before_more is_final final_kind s epoch i names Old node.state now) names (server.turn node.state [])
+    begins : O is_final final_kind s epoch (Before is_final final_kind s epoch i names Old node.state now)
+        (before_more is_final final_kind s epoch i names Old node.state now) names (server.turn node.state [])
     begins = record { acks = record { id = id; epoch = refl; kept = λ c y q. d.kept s node at c y q; sent = λ y j. absurd j }; names = refl }
 
-    left : (m : Names) × (O is_final final_kind s epoch (Good is_final final_kind s epoch i names Old node.state now m) (good_more is_final final_kind s epoch i names Old node.state now m) m u ×
+    left : (m : Names) ×
+        (O is_final final_kind s epoch (Good is_final final_kind s epoch i names Old node.state now m)
+        (good_more is_final final_kind s epoch i names Old node.state now m) m u ×
         ((m ≡ names) ⊎ ServesNames is_final final_kind s epoch i names Old node.state now m))
     left = served is_final final_kind s epoch i names Old node.state now begins
 
-    acks : Acks is_final final_kind s epoch (Good is_final final_kind s epoch i names Old node.state now left.0) (good_more is_final final_kind s epoch i names Old node.state now left.0) u
+    acks : Acks is_final final_kind s epoch (Good is_final final_kind s epoch i names Old node.state now left.0)
+        (good_more is_final final_kind s epoch i names Old node.state now left.0) u
     acks = left.1.0.acks
 
     became : node_of last s ≡ Some next
@@ -267,7 +286,8 @@ module _ (k : Config) (count : ℕ) (past : List Step) (t : Traced) (e : Event) 
     delivered m q = subst B q brings
 
     -- what is served is of a session that lived before the thefts
-    is_served : (m : Message) → m.header.to ≡ server_node s → m.header.epoch ≡ epoch.0 → server.is_client_node m.header.from ≡ true → server.take (behind_thefts t.world s node.state) m.header ≡ takes.Fresh → IsServedBy node.state m
+    is_served : (m : Message) → m.header.to ≡ server_node s → m.header.epoch ≡ epoch.0 → server.is_client_node m.header.from ≡ true →
+        server.take (behind_thefts t.world s node.state) m.header ≡ takes.Fresh → IsServedBy node.state m
     is_served m to ep client_node fresh =
         record {
           client = client_node;
@@ -283,7 +303,8 @@ module _ (k : Config) (count : ℕ) (past : List Step) (t : Traced) (e : Event) 
         }
       where
         z : Found (behind_thefts t.world s node.state).state.sessions (server.sender m.header) (server.life_in m.header) (FreshState m.header.number)
-        z = found_for (behind_thefts t.world s node.state).state.sessions (server.sender m.header) (server.life_in m.header) (server.epoch_in m.header) m.header.number takes.Fresh (FreshState m.header.number) fresh (λ r. cc r) (λ r. cc r) (λ r. cc r) (λ y r. fresh_state m.header.number y r)
+        z = found_for (behind_thefts t.world s node.state).state.sessions (server.sender m.header) (server.life_in m.header) (server.epoch_in m.header)
+            m.header.number takes.Fresh (FreshState m.header.number) fresh (λ r. cc r) (λ r. cc r) (λ r. cc r) (λ y r. fresh_state m.header.number y r)
 
         f : Begun node.state (behind_thefts t.world s node.state)
         f = thefts_begun node.state now
@@ -296,7 +317,8 @@ module _ (k : Config) (count : ℕ) (past : List Step) (t : Traced) (e : Event) 
       keyed : Keyed c s life epoch.0 number z.by
       keyed = record { between = (z.from, z.there); of_life = z.of_life; of_epoch = z.of_epoch; under = z.under }
 
-      did : (asked b : Body) → Noted is_final final_kind s epoch i names Old node.state now asked u.out left.0 b → NamesDid names next.state.stable.names asked b
+      did : (asked b : Body) → Noted is_final final_kind s epoch i names Old node.state now asked u.out left.0 b →
+          NamesDid names next.state.stable.names asked b
       did (bodies.Name op) (bodies.Named r) q = q ∙ ap (λ m. said m (name_answer r)) (sym left.1.0.names)
       did (bodies.Name op) b q = left.1.0.names ∙ q
       did asked b q = tt
@@ -305,13 +327,19 @@ module _ (k : Config) (count : ℕ) (past : List Step) (t : Traced) (e : Event) 
       new_event behind = go z.how
         where
           gone : AllPast sc.world c s z.by
-          gone p there = subst (λ q. IsPast c q z.by) is_p (inr (z.of_epoch ∙ ap (λ (y : Epoch). y.0) (sym acks.epoch), λ r. subst (λ q. IsBehind (sessions.session_of u.state.sessions c) q z.by.header.number) (sym z.of_life) (subst (λ q. IsBehind (sessions.session_of u.state.sessions c) life q) (sym z.under) behind)))
+          gone p there = subst (λ q. IsPast c q z.by) is_p
+              (inr (
+                z.of_epoch ∙ ap (λ (y : Epoch). y.0) (sym acks.epoch),
+                λ r. subst (λ q. IsBehind (sessions.session_of u.state.sessions c) q z.by.header.number) (sym z.of_life)
+                    (subst (λ q. IsBehind (sessions.session_of u.state.sessions c) life q) (sym z.under) behind),
+              ))
             where
               is_p : next ≡ p
               is_p = some_is (sym became ∙ ap (λ v. node_of v s) is ∙ there)
 
           serves : server.is_client_node z.by.header.from ≡ true → server.take (behind_thefts t.world s node.state) z.by.header ≡ takes.Fresh →
-              (server.rule (behind_thefts t.world s node.state) (now_at t.world s) z.by.header z.by.body).reply ≡ Some b → Serves x c s life epoch.0 number b z.by
+              (server.rule (behind_thefts t.world s node.state) (now_at t.world s) z.by.header z.by.body).reply ≡ Some b →
+              Serves x c s life epoch.0 number b z.by
           serves cl fresh replied =
               record {
                 keyed = keyed;
@@ -327,32 +355,53 @@ module _ (k : Config) (count : ℕ) (past : List Step) (t : Traced) (e : Event) 
                 did = did z.by.body b z.noted;
               }
 
-          go : Rattle.st_laws_requests.proofs.Cuts.Server.Serves is_final final_kind s epoch i names Old node.state now z.by b ⊎ (reasserts z.by.body ≡ true) → HasEvent past2 sc.world c s life epoch.0 number b
+          go : Rattle.st_laws_requests.proofs.Cuts.Server.Serves is_final final_kind s epoch i names Old node.state now z.by b ⊎ (reasserts z.by.body ≡ true) →
+              HasEvent past2 sc.world c s life epoch.0 number b
           go (inl y) =
               let g = delivered z.by z.is in
-              inl (x, has_right past (x ∷ []) x (inl refl), record { index = g.index; delivers = g.delivers; sent = g.sent; is = g.is; serves = subst (Serves x c s life epoch.0 number b) g.same (serves y.client y.fresh y.replied) })
-          go (inr y) = inr (record { by = z.by; among = subst (λ v. Has z.by (messages v)) is (l.old z.by (delivered z.by z.is).among); keyed = keyed; asks = y })
+              inl (
+                x,
+                has_right past (x ∷ []) x (inl refl),
+                record {
+                  index = g.index;
+                  delivers = g.delivers;
+                  sent = g.sent;
+                  is = g.is;
+                  serves =
+                      subst (Serves x c s life epoch.0 number b) g.same (serves y.client y.fresh y.replied);
+                },
+              )
+          go (inr y) =
+              inr (record { by = z.by; among = subst (λ v. Has z.by (messages v)) is (l.old z.by (delivered z.by z.is).among); keyed = keyed; asks = y })
 
     -- a reply that is kept
-    kept_own : (c : ClientId) (y : Session) → sessions.session_of u.state.sessions c ≡ Some y → KeptBy is_final (λ number b. HasEvent past2 sc.world c s y.life.0 next.state.stable.epoch.0 number b) y.state
+    kept_own : (c : ClientId) (y : Session) → sessions.session_of u.state.sessions c ≡ Some y →
+        KeptBy is_final (λ number b. HasEvent past2 sc.world c s y.life.0 next.state.stable.epoch.0 number b) y.state
     kept_own c y q =
         subst (λ (v : Epoch). KeptBy is_final (λ number b. HasEvent past2 sc.world c s y.life.0 v.0 number b) y.state) (sym acks.epoch)
-        (kept_map is_final (Good is_final final_kind s epoch i names Old node.state now left.0 u.out c y.life.0) (λ number b. HasEvent past2 sc.world c s y.life.0 epoch.0 number b) y.state good (acks.kept c y q))
+        (kept_map is_final (Good is_final final_kind s epoch i names Old node.state now left.0 u.out c y.life.0)
+        (λ number b. HasEvent past2 sc.world c s y.life.0 epoch.0 number b) y.state good (acks.kept c y q))
       where
-        good : (number : ℕ) (b : Body) → y.state ≡ states.Live number (Some b) → is_final b ≡ true → Good is_final final_kind s epoch i names Old node.state now left.0 u.out c y.life.0 number b → HasEvent past2 sc.world c s y.life.0 epoch.0 number b
+        good : (number : ℕ) (b : Body) → y.state ≡ states.Live number (Some b) → is_final b ≡ true →
+            Good is_final final_kind s epoch i names Old node.state now left.0 u.out c y.life.0 number b → HasEvent past2 sc.world c s y.life.0 epoch.0 number b
         good number b st fin (inl z) = event_more sc.world (λ m j. subst (λ v. Has m (messages v)) is (l.old m j)) c s y.life.0 epoch.0 number b z
-        good number b st fin (inr z) = new_event c y.life.0 number b z (subst (λ o. IsBehind o y.life.0 number) (sym q) (inr (refl, subst (Reached number) (sym st) (omega arith))))
+        good number b st fin (inr z) = new_event c y.life.0 number b z
+            (subst (λ o. IsBehind o y.life.0 number) (sym q) (inr (refl, subst (Reached number) (sym st) (omega arith))))
 
     -- a reply that is sent
-    sent_own : (m : Message) → Has (outputs.Send m) u.out → (y : ServerId) → m.header.from ≡ server_node y → is_final m.body ≡ true → HasEvent past2 sc.world (client m.header.to) y m.header.life m.header.epoch m.header.number m.body
+    sent_own : (m : Message) → Has (outputs.Send m) u.out → (y : ServerId) → m.header.from ≡ server_node y → is_final m.body ≡ true →
+        HasEvent past2 sc.world (client m.header.to) y m.header.life m.header.epoch m.header.number m.body
     sent_own m j y from fin =
         subst (λ v. HasEvent past2 sc.world (client m.header.to) (record { 0 = v }) m.header.life m.header.epoch m.header.number m.body) same
         (subst (λ v. HasEvent past2 sc.world (client m.header.to) s m.header.life v m.header.number m.body) (sym z.0) (good z.1))
       where
-        own : (m.header.from ≡ server_node s) × (is_final m.body ≡ true → (m.header.epoch ≡ epoch.0) × Good is_final final_kind s epoch i names Old node.state now left.0 u.out (client m.header.to) m.header.life m.header.number m.body)
+        own : (m.header.from ≡ server_node s) ×
+            (is_final m.body ≡ true → (m.header.epoch ≡ epoch.0) ×
+            Good is_final final_kind s epoch i names Old node.state now left.0 u.out (client m.header.to) m.header.life m.header.number m.body)
         own = acks.sent m j
 
-        z : (m.header.epoch ≡ epoch.0) × Good is_final final_kind s epoch i names Old node.state now left.0 u.out (client m.header.to) m.header.life m.header.number m.body
+        z : (m.header.epoch ≡ epoch.0) × Good is_final final_kind s epoch i names Old node.state now left.0 u.out (client m.header.to) m.header.life
+            m.header.number m.body
         z = own.1 fin
 
         same : s.0 ≡ y.0
@@ -361,15 +410,20 @@ module _ (k : Config) (count : ℕ) (past : List Step) (t : Traced) (e : Event) 
         there : Has m (messages sc.world)
         there = subst (λ v. Has m (messages v)) is (server_sends s u.out (ev.quiet (ev.with_node s next w)) m j)
 
-        good : Good is_final final_kind s epoch i names Old node.state now left.0 u.out (client m.header.to) m.header.life m.header.number m.body → HasEvent past2 sc.world (client m.header.to) s m.header.life epoch.0 m.header.number m.body
-        good (inl g) = event_more sc.world (λ p q. subst (λ v. Has p (messages v)) is (l.old p q)) (client m.header.to) s m.header.life epoch.0 m.header.number m.body g
+        good : Good is_final final_kind s epoch i names Old node.state now left.0 u.out (client m.header.to) m.header.life m.header.number m.body →
+            HasEvent past2 sc.world (client m.header.to) s m.header.life epoch.0 m.header.number m.body
+        good (inl g) = event_more sc.world (λ p q. subst (λ v. Has p (messages v)) is (l.old p q)) (client m.header.to) s m.header.life epoch.0 m.header.number
+            m.body g
         good (inr g) = how g.how
           where
             -- what the replies of the server say
-            says : 1 ≤ m.header.number → IsBehind (sessions.session_of u.state.sessions (client m.header.to)) m.header.life m.header.number ⊎ Refusal (messages sc.world) s m
-            says pos = (n.base.replies.replies s next (ap (λ v. node_of v s) (sym is) ∙ became) m there own.0).behind run (z.0 ∙ ap (λ (v : Epoch). v.0) (sym acks.epoch)) (final_ends m.body fin) pos
+            says : 1 ≤ m.header.number → IsBehind (sessions.session_of u.state.sessions (client m.header.to)) m.header.life m.header.number ⊎
+                Refusal (messages sc.world) s m
+            says pos = (n.base.replies.replies s next (ap (λ v. node_of v s) (sym is) ∙ became) m there own.0).behind run
+                (z.0 ∙ ap (λ (v : Epoch). v.0) (sym acks.epoch)) (final_ends m.body fin) pos
 
-            by : IsBehind (sessions.session_of u.state.sessions (client m.header.to)) m.header.life m.header.number ⊎ Refusal (messages sc.world) s m → HasEvent past2 sc.world (client m.header.to) s m.header.life epoch.0 m.header.number m.body
+            by : IsBehind (sessions.session_of u.state.sessions (client m.header.to)) m.header.life m.header.number ⊎ Refusal (messages sc.world) s m →
+                HasEvent past2 sc.world (client m.header.to) s m.header.life epoch.0 m.header.number m.body
             by (inl r) = new_event (client m.header.to) m.header.life m.header.number m.body g r
             by (inr r) =
                 inr (record {
@@ -379,19 +433,27 @@ module _ (k : Config) (count : ℕ) (past : List Step) (t : Traced) (e : Event) 
                   asks = ap reasserts r.asks;
                 })
 
-            how : Rattle.st_laws_requests.proofs.Cuts.Server.Serves is_final final_kind s epoch i names Old node.state now g.by m.body ⊎ (reasserts g.by.body ≡ true) → HasEvent past2 sc.world (client m.header.to) s m.header.life epoch.0 m.header.number m.body
+            how : Rattle.st_laws_requests.proofs.Cuts.Server.Serves is_final final_kind s epoch i names Old node.state now g.by m.body ⊎
+                (reasserts g.by.body ≡ true) → HasEvent past2 sc.world (client m.header.to) s m.header.life epoch.0 m.header.number m.body
             how (inl y) =
                 let q = (is_served g.by g.there g.of_epoch y.client y.fresh).next in
                 let p = g.under in
                 by (says (omega (arith, q, p)))
             how (inr y) =
-                inr (record { by = g.by; among = subst (λ v. Has g.by (messages v)) is (l.old g.by (delivered g.by g.is).among); keyed = record { between = (g.from, g.there); of_life = g.of_life; of_epoch = g.of_epoch; under = g.under }; asks = y })
+                inr (record {
+                  by = g.by;
+                  among = subst (λ v. Has g.by (messages v)) is (l.old g.by (delivered g.by g.is).among);
+                  keyed =
+                      record { between = (g.from, g.there); of_life = g.of_life; of_epoch = g.of_epoch; under = g.under };
+                  asks = y;
+                })
 
     -- names that change serve a request for a name
     names_served : (next.state.stable.names ≡ names → ⊥) → ServedThere s
     names_served differ = go left.1.1
       where
-        by_request : ServesNames is_final final_kind s epoch i names Old node.state now left.0 → ((m : Message) × (i ≡ serving.Control m) × NamesBy node.state m u.state.stable.names) → ServedThere s
+        by_request : ServesNames is_final final_kind s epoch i names Old node.state now left.0 →
+            ((m : Message) × (i ≡ serving.Control m) × NamesBy node.state m u.state.stable.names) → ServedThere s
         by_request z q = pick (step_serves node.state now z.by q.2.op body)
           where
             same : q.0 ≡ z.by
@@ -410,23 +472,34 @@ module _ (k : Config) (count : ℕ) (past : List Step) (t : Traced) (e : Event) 
             g = delivered z.by z.is
 
             start_names : (behind_thefts t.world s node.state).state.stable.names ≡ names
-            start_names = (o_thefts is_final final_kind s epoch (Before is_final final_kind s epoch i names Old node.state now) (before_more is_final final_kind s epoch i names Old node.state now) names node.state now begins).names
+            start_names =
+                (own_after_thefts is_final final_kind s epoch (Before is_final final_kind s epoch i names Old node.state now)
+                (before_more is_final final_kind s epoch i names Old node.state now) names node.state now begins).names
 
             reply : Body
             reply = (name_replies (behind_thefts t.world s node.state) now z.by.header q.2.op).body
 
-            replied : (server.rule (behind_thefts t.world s node.state) now z.by.header z.by.body).reply ≡ Some (name_replies (behind_thefts t.world s node.state) now z.by.header q.2.op).body
-            replied = subst (λ b. (server.rule (behind_thefts t.world s node.state) now z.by.header b).reply ≡ Some (name_replies (behind_thefts t.world s node.state) now z.by.header q.2.op).body) (sym body)
+            replied : (server.rule (behind_thefts t.world s node.state) now z.by.header z.by.body).reply ≡ Some
+                (name_replies (behind_thefts t.world s node.state) now z.by.header q.2.op).body
+            replied =
+                subst
+                (λ b. (server.rule (behind_thefts t.world s node.state) now z.by.header b).reply ≡ Some
+                (name_replies (behind_thefts t.world s node.state) now z.by.header q.2.op).body) (sym body)
                 (name_replies (behind_thefts t.world s node.state) now z.by.header q.2.op).is
 
-            rule_names : (server.rule (behind_thefts t.world s node.state) now z.by.header (bodies.Name q.2.op)).turn.state.stable.names ≡ next.state.stable.names
-            rule_names = subst (λ b. (server.rule (behind_thefts t.world s node.state) now z.by.header b).turn.state.stable.names ≡ next.state.stable.names) body (z.names_ ∙ sym left.1.0.names)
+            rule_names : (server.rule (behind_thefts t.world s node.state) now z.by.header (bodies.Name q.2.op)).turn.state.stable.names ≡
+                next.state.stable.names
+            rule_names = subst (λ b. (server.rule (behind_thefts t.world s node.state) now z.by.header b).turn.state.stable.names ≡ next.state.stable.names)
+                body (z.names_ ∙ sym left.1.0.names)
 
             did : NamesDid names next.state.stable.names z.by.body (name_replies (behind_thefts t.world s node.state) now z.by.header q.2.op).body
-            did = subst (λ b. NamesDid names next.state.stable.names b (name_replies (behind_thefts t.world s node.state) now z.by.header q.2.op).body) (sym body)
+            did = subst (λ b. NamesDid names next.state.stable.names b (name_replies (behind_thefts t.world s node.state) now z.by.header q.2.op).body)
+                (sym body)
                 (names_said names next.state.stable.names now (behind_thefts t.world s node.state) z.by.header q.2.op start_names rule_names)
 
-            serves : IsBehind (sessions.session_of u.state.sessions (server.sender z.by.header)) z.by.header.life z.by.header.number → Serves x (client z.by.header.from) s z.by.header.life z.by.header.epoch z.by.header.number (name_replies (behind_thefts t.world s node.state) now z.by.header q.2.op).body z.by
+            serves : IsBehind (sessions.session_of u.state.sessions (server.sender z.by.header)) z.by.header.life z.by.header.number →
+                Serves x (client z.by.header.from) s z.by.header.life z.by.header.epoch z.by.header.number
+                (name_replies (behind_thefts t.world s node.state) now z.by.header q.2.op).body z.by
             serves behind =
                 record {
                   keyed = record { between = (refl, z.there); of_life = refl; of_epoch = refl; under = refl };
@@ -438,11 +511,14 @@ module _ (k : Config) (count : ℕ) (past : List Step) (t : Traced) (e : Event) 
                   replied = replied;
                   new = next;
                   became = ap (λ v. node_of v s) (sym is) ∙ became;
-                  gone = λ p there. subst (λ q. IsPast (client z.by.header.from) q z.by) (some_is (sym became ∙ ap (λ v. node_of v s) is ∙ there)) (inr (z.of_epoch ∙ ap (λ (y : Epoch). y.0) (sym acks.epoch), λ r. behind));
+                  gone = λ p there. subst (λ q. IsPast (client z.by.header.from) q z.by) (some_is (sym became ∙ ap (λ v. node_of v s) is ∙ there))
+                      (inr (z.of_epoch ∙ ap (λ (y : Epoch). y.0) (sym acks.epoch), λ r. behind));
                   did = did;
                 }
 
-            pick : ((server.server_step node.state now (serving.Control z.by)).state.stable.names ≡ names) ⊎ IsBehind (sessions.session_of (server.server_step node.state now (serving.Control z.by)).state.sessions (server.sender z.by.header)) z.by.header.life z.by.header.number → ServedThere s
+            pick : ((server.server_step node.state now (serving.Control z.by)).state.stable.names ≡ names) ⊎
+                IsBehind (sessions.session_of (server.server_step node.state now (serving.Control z.by)).state.sessions (server.sender z.by.header))
+                z.by.header.life z.by.header.number → ServedThere s
             pick (inl r) = absurd (differ (subst (λ j. (server.server_step node.state now j).state.stable.names ≡ names) (sym z.is) r))
             pick (inr r) =
                 record {
@@ -456,8 +532,12 @@ module _ (k : Config) (count : ℕ) (past : List Step) (t : Traced) (e : Event) 
                     delivers = g.delivers;
                     sent = g.sent;
                     is = g.is;
-                    serves = subst (Serves x (client z.by.header.from) s z.by.header.life z.by.header.epoch z.by.header.number (name_replies (behind_thefts t.world s node.state) now z.by.header q.2.op).body) g.same
-                        (serves (subst (λ j. IsBehind (sessions.session_of (server.server_step node.state now j).state.sessions (server.sender z.by.header)) z.by.header.life z.by.header.number) (sym z.is) r));
+                    serves = subst
+                        (Serves x (client z.by.header.from) s z.by.header.life z.by.header.epoch z.by.header.number
+                        (name_replies (behind_thefts t.world s node.state) now z.by.header q.2.op).body) g.same
+                        (serves (subst
+                        (λ j. IsBehind (sessions.session_of (server.server_step node.state now j).state.sessions (server.sender z.by.header))
+                        z.by.header.life z.by.header.number) (sym z.is) r));
                   };
                   op = q.2.op;
                   body = ap (λ (m : Message). m.body) (sym g.same) ∙ body;
@@ -478,16 +558,20 @@ module _ (k : Config) (count : ℕ) (past : List Step) (t : Traced) (e : Event) 
         replies m j y from fin = go (leaves_from M (ev.with_node s next w) last u.out l m (subst (λ v. Has m (messages v)) (sym is) j))
           where
             go : Has m M ⊎ Has (outputs.Send m) u.out → HasEvent past2 sc.world (client m.header.to) y m.header.life m.header.epoch m.header.number m.body
-            go (inl q) = event_more sc.world (λ p r. subst (λ v. Has p (messages v)) is (l.old p r)) (client m.header.to) y m.header.life m.header.epoch m.header.number m.body (d.replies m q y from fin)
+            go (inl q) = event_more sc.world (λ p r. subst (λ v. Has p (messages v)) is (l.old p r)) (client m.header.to) y m.header.life m.header.epoch
+                m.header.number m.body (d.replies m q y from fin)
             go (inr q) = sent_own m q y from fin
 
         kept : KeptIn sc.world
-        kept y p there c r q = go (set_cases t.world.servers s.0 y.0 node next p at (ap (λ z. numbered z y.0) (sym l.servers) ∙ ap (λ v. node_of v y) is ∙ there))
+        kept y p there c r q =
+            go (set_cases t.world.servers s.0 y.0 node next p at (ap (λ z. numbered z y.0) (sym l.servers) ∙ ap (λ v. node_of v y) is ∙ there))
           where
-            go : ((y.0 ≡ s.0) × (p ≡ next)) ⊎ ((y.0 ≢ s.0) × (node_of t.world y ≡ Some p)) → KeptBy is_final (λ number b. HasEvent past2 sc.world c y r.life.0 p.state.stable.epoch.0 number b) r.state
+            go : ((y.0 ≡ s.0) × (p ≡ next)) ⊎ ((y.0 ≢ s.0) × (node_of t.world y ≡ Some p)) →
+                KeptBy is_final (λ number b. HasEvent past2 sc.world c y r.life.0 p.state.stable.epoch.0 number b) r.state
             go (inl z) =
                 subst (λ (v : ServerNode). KeptBy is_final (λ number b. HasEvent past2 sc.world c y r.life.0 v.state.stable.epoch.0 number b) r.state) (sym z.1)
-                (subst (λ v. KeptBy is_final (λ number b. HasEvent past2 sc.world c (record { 0 = v }) r.life.0 next.state.stable.epoch.0 number b) r.state) (sym z.0)
+                (subst (λ v. KeptBy is_final (λ number b. HasEvent past2 sc.world c (record { 0 = v }) r.life.0 next.state.stable.epoch.0 number b) r.state)
+                (sym z.0)
                 (kept_own c r (subst (λ (v : ServerNode). sessions.session_of v.state.sessions c ≡ Some r) z.1 q)))
             go (inr z) = kept_more sc.world (λ m j. subst (λ v. Has m (messages v)) is (l.old m j)) y p z.1 c r q
 
@@ -510,21 +594,37 @@ module _ (k : Config) (count : ℕ) (past : List Step) (t : Traced) (e : Event) 
 
   event_next : Next sc.world
   event_next =
-      event_brings t.world e B (λ s q. tt) (λ i m q r. record { index = i; delivers = q; sent = m; is = r; same = refl; among = has_map_in message_in t.world.net.messages m (numbered_has t.world.net.messages i m r) }) (λ v. v ≡ sc.world → Next v)
+      event_brings t.world e B (λ s q. tt)
+      (λ i m q r. record {
+        index = i;
+        delivers = q;
+        sent = m;
+        is = r;
+        same = refl;
+        among =
+            has_map_in message_in t.world.net.messages m (numbered_has t.world.net.messages i m r);
+      }) (λ v. v ≡ sc.world → Next v)
       (λ v cs ss ms q. still v ss ms) (λ v cs ss c i site old same run at comes last l q. client_step v ss c i site old same run at comes last l)
-      (λ s i node at run brings new_ l q. subst Next (sym q) (server_step s i node at run brings q l)) (λ c site at q. stopped c site) (λ c site at q. begun c site) (λ s node at q. crashed s node at) (λ s node at q. started s node at) sc
+      (λ s i node at run brings new_ l q. subst Next (sym q) (server_step s i node at run brings q l)) (λ c site at q. stopped c site)
+      (λ c site at q. begun c site) (λ s node at q. crashed s node at) (λ s node at q. started s node at) sc
       (owed k count past t e sc ranges h.base taken) taken refl
 
   -- A key that was served is served no more.
-  pub not_again : (y : Step) → Has y past → (c : ClientId) (s : ServerId) (life epoch number : ℕ) (r q : Body) → ServedAt y c s life epoch number r → ServedAt (step t e sc) c s life epoch number q → ⊥
+  pub not_again : (y : Step) → Has y past → (c : ClientId) (s : ServerId) (life epoch number : ℕ) (r q : Body) → ServedAt y c s life epoch number r →
+      ServedAt (step t e sc) c s life epoch number q → ⊥
   not_again y i c s life epoch number r q a b =
       not_past c b.serves.old b.sent.message b.serves.served b.serves.running b.serves.keyed.between.0
-      (past_same c b.serves.old a.sent.message b.sent.message (a.serves.keyed.of_life ∙ sym b.serves.keyed.of_life) (a.serves.keyed.of_epoch ∙ sym b.serves.keyed.of_epoch) (a.serves.keyed.under ∙ sym b.serves.keyed.under)
+      (past_same c b.serves.old a.sent.message b.sent.message (a.serves.keyed.of_life ∙ sym b.serves.keyed.of_life)
+      (a.serves.keyed.of_epoch ∙ sym b.serves.keyed.of_epoch) (a.serves.keyed.under ∙ sym b.serves.keyed.under)
       (pasts y i c s a.sent.message a.serves.gone b.serves.old b.serves.was))
 
   -- In one event it is served with one reply.
-  one_reply : (c : ClientId) (s : ServerId) (life epoch number : ℕ) (r q : Body) → ServedAt (step t e sc) c s life epoch number r → ServedAt (step t e sc) c s life epoch number q → r ≡ q
-  one_reply c s life epoch number r q a b = some_is (sym a.serves.replied ∙ ap (λ (o : ServerNode). replies o a.sent.message) old ∙ ap (λ (m : SentMessage). replies b.serves.old m.message) sent ∙ b.serves.replied)
+  one_reply : (c : ClientId) (s : ServerId) (life epoch number : ℕ) (r q : Body) → ServedAt (step t e sc) c s life epoch number r →
+      ServedAt (step t e sc) c s life epoch number q → r ≡ q
+  one_reply c s life epoch number r q a b =
+      some_is
+      (sym a.serves.replied ∙ ap (λ (o : ServerNode). replies o a.sent.message) old ∙ ap (λ (m : SentMessage). replies b.serves.old m.message) sent ∙
+      b.serves.replied)
     where
       replies : ServerNode → Message → Option Body
       replies o m = (server.rule (behind_thefts t.world s o.state) (now_at t.world s) m.header m.body).reply
@@ -548,15 +648,20 @@ module _ (k : Config) (count : ℕ) (past : List Step) (t : Traced) (e : Event) 
       go (inl f) (inl g) = d.once y z f g c s life epoch number r q a b
       go (inl f) (inr (inl g)) = absurd (not_again y f c s life epoch number r q a (subst (λ (v : Step). ServedAt v c s life epoch number q) g b))
       go (inr (inl f)) (inl g) = absurd (not_again z g c s life epoch number q r b (subst (λ (v : Step). ServedAt v c s life epoch number r) f a))
-      go (inr (inl f)) (inr (inl g)) = one_reply c s life epoch number r q (subst (λ (v : Step). ServedAt v c s life epoch number r) f a) (subst (λ (v : Step). ServedAt v c s life epoch number q) g b)
+      go (inr (inl f)) (inr (inl g)) = one_reply c s life epoch number r q (subst (λ (v : Step). ServedAt v c s life epoch number r) f a)
+          (subst (λ (v : Step). ServedAt v c s life epoch number q) g b)
       go (inr (inr f)) g = absurd f
       go (inl f) (inr (inr g)) = absurd g
       go (inr (inl f)) (inr (inr g)) = absurd g
 
   -- The request that a server serves in this event has its event.
-  pub served_now : (index : ℕ) (sent : SentMessage) (s : ServerId) (old new : ServerNode) (reply : Body) → e ≡ events.Deliver index → world.message_of t.world index ≡ Some sent → node_of t.world s ≡ Some old → old.running ≡ true → IsServedBy old.state sent.message →
-      server.take (behind_thefts t.world s old.state) sent.message.header ≡ takes.Fresh → (server.rule (behind_thefts t.world s old.state) (now_at t.world s) sent.message.header sent.message.body).reply ≡ Some reply → node_of sc.world s ≡ Some new →
-      new.state.stable.epoch ≡ old.state.stable.epoch → IsBehind (sessions.session_of new.state.sessions (client sent.message.header.from)) sent.message.header.life sent.message.header.number →
+  pub served_now : (index : ℕ) (sent : SentMessage) (s : ServerId) (old new : ServerNode) (reply : Body) → e ≡ events.Deliver index →
+      world.message_of t.world index ≡ Some sent → node_of t.world s ≡ Some old → old.running ≡ true → IsServedBy old.state sent.message →
+      server.take (behind_thefts t.world s old.state) sent.message.header ≡ takes.Fresh →
+      (server.rule (behind_thefts t.world s old.state) (now_at t.world s) sent.message.header sent.message.body).reply ≡ Some reply →
+      node_of sc.world s ≡ Some new →
+      new.state.stable.epoch ≡ old.state.stable.epoch →
+      IsBehind (sessions.session_of new.state.sessions (client sent.message.header.from)) sent.message.header.life sent.message.header.number →
       NamesDid old.state.stable.names new.state.stable.names sent.message.body reply →
       ServedAt (step t e sc) (client sent.message.header.from) s sent.message.header.life sent.message.header.epoch sent.message.header.number reply
   served_now index sent s old new reply delivers is at run by fresh replied became same_epoch behind did =
@@ -575,35 +680,60 @@ module _ (k : Config) (count : ℕ) (past : List Step) (t : Traced) (e : Event) 
           replied = replied;
           new = new;
           became = became;
-          gone = λ p there. subst (λ q. IsPast (client sent.message.header.from) q sent.message) (some_is (sym became ∙ there)) (inr (by.of_epoch ∙ ap (λ (y : Epoch). y.0) (sym same_epoch), λ r. behind));
+          gone = λ p there. subst (λ q. IsPast (client sent.message.header.from) q sent.message) (some_is (sym became ∙ there))
+              (inr (by.of_epoch ∙ ap (λ (y : Epoch). y.0) (sym same_epoch), λ r. behind));
           did = did;
         };
       }
 
   -- An event in which the names of a server change serves a request.
-  pub changed_served : (s : ServerId) (old new : ServerNode) → node_of t.world s ≡ Some old → node_of sc.world s ≡ Some new → (new.state.stable.names ≡ old.state.stable.names → ⊥) → ServedThere s
+  pub changed_served : (s : ServerId) (old new : ServerNode) → node_of t.world s ≡ Some old → node_of sc.world s ≡ Some new →
+      (new.state.stable.names ≡ old.state.stable.names → ⊥) → ServedThere s
   unfolding ev.crashes_client ev.marks ev.starts_client ev.crashes_server ev.starts_server
   changed_served s old new was there differ =
-      event_brings t.world e B (λ s q. tt) (λ i m q r. record { index = i; delivers = q; sent = m; is = r; same = refl; among = has_map_in message_in t.world.net.messages m (numbered_has t.world.net.messages i m r) }) (λ v. v ≡ sc.world → ServedThere s)
+      event_brings t.world e B (λ s q. tt)
+      (λ i m q r. record {
+        index = i;
+        delivers = q;
+        sent = m;
+        is = r;
+        same = refl;
+        among =
+            has_map_in message_in t.world.net.messages m (numbered_has t.world.net.messages i m r);
+      }) (λ v. v ≡ sc.world → ServedThere s)
       (λ v cs ss ms q. same_servers v ss q) (λ v cs ss c i site old same run at comes last l q. same_servers last (l.servers ∙ ss) q)
-      (λ y i node run_at run brings new_ l q. stepped y i node run_at run brings l q) (λ c site at q. same_servers (ev.crashes_client w c (Some site)).world refl q) (λ c site at q. same_servers (ev.starts_client w c (Some site)) refl q)
+      (λ y i node run_at run brings new_ l q. stepped y i node run_at run brings l q)
+      (λ c site at q. same_servers (ev.crashes_client w c (Some site)).world refl q) (λ c site at q. same_servers (ev.starts_client w c (Some site)) refl q)
       (λ y node at q. put y node (server.crash_node node) (ev.crashes_server w y (Some node)) at refl (crashed_names node) q)
-      (λ y node at q. put y node (server.start_node node (clock_of w (nodes.Server y))) (ev.starts_server w y (Some node)) at refl (started_names node (clock_of w (nodes.Server y))) q) sc
+      (λ y node at q. put y node (server.start_node node (clock_of w (nodes.Server y))) (ev.starts_server w y (Some node)) at refl
+      (started_names node (clock_of w (nodes.Server y))) q) sc
       (owed k count past t e sc ranges h.base taken) taken refl
     where
       same_servers : (v : World) → v.servers ≡ t.world.servers → v ≡ sc.world → ServedThere s
-      same_servers v ss q = absurd (differ (ap (λ (p : ServerNode). p.state.stable.names) (some_is (sym there ∙ ap (λ u. node_of u s) (sym q) ∙ ap (λ r. numbered r s.0) ss ∙ was))))
+      same_servers v ss q =
+          absurd
+          (differ (ap (λ (p : ServerNode). p.state.stable.names) (some_is (sym there ∙ ap (λ u. node_of u s) (sym q) ∙ ap (λ r. numbered r s.0) ss ∙ was))))
 
       -- a server with the same names is put at its place
-      put : (y : ServerId) (node after : ServerNode) (v : World) → node_of t.world y ≡ Some node → v.servers ≡ with_numbered y.0 after t.world.servers → after.state.stable.names ≡ node.state.stable.names → v ≡ sc.world → ServedThere s
-      put y node after v at ss kept q = go (set_cases t.world.servers y.0 s.0 node after new at (ap (λ r. numbered r s.0) (sym ss) ∙ ap (λ u. node_of u s) q ∙ there))
+      put : (y : ServerId) (node after : ServerNode) (v : World) → node_of t.world y ≡ Some node → v.servers ≡ with_numbered y.0 after t.world.servers →
+          after.state.stable.names ≡ node.state.stable.names → v ≡ sc.world → ServedThere s
+      put y node after v at ss kept q =
+          go (set_cases t.world.servers y.0 s.0 node after new at (ap (λ r. numbered r s.0) (sym ss) ∙ ap (λ u. node_of u s) q ∙ there))
         where
           go : ((s.0 ≡ y.0) × (new ≡ after)) ⊎ ((s.0 ≢ y.0) × (node_of t.world s ≡ Some new)) → ServedThere s
-          go (inl z) = absurd (differ (ap (λ (p : ServerNode). p.state.stable.names) z.1 ∙ kept ∙ ap (λ (p : ServerNode). p.state.stable.names) (some_is (sym at ∙ ap (λ m. numbered t.world.servers m) (sym z.0) ∙ was))))
+          go (inl z) =
+              absurd
+              (differ
+              (ap (λ (p : ServerNode). p.state.stable.names) z.1 ∙ kept ∙
+              ap (λ (p : ServerNode). p.state.stable.names) (some_is (sym at ∙ ap (λ m. numbered t.world.servers m) (sym z.0) ∙ was))))
           go (inr z) = absurd (differ (ap (λ (p : ServerNode). p.state.stable.names) (some_is (sym z.1 ∙ was))))
 
-      stepped : (y : ServerId) (i : ServerInput) (node : ServerNode) → node_of t.world y ≡ Some node → node.running ≡ true → B i → Leaves M (ev.with_node y (NodeAfter t.world y i node) w) (ServerLeft t.world y i node).world (ServerTook t.world y i node).out → (ServerLeft t.world y i node).world ≡ sc.world → ServedThere s
-      stepped y i node at run brings l q = go (set_cases t.world.servers y.0 s.0 node (NodeAfter t.world y i node) new at (ap (λ r. numbered r s.0) (sym l.servers) ∙ ap (λ u. node_of u s) q ∙ there))
+      stepped : (y : ServerId) (i : ServerInput) (node : ServerNode) → node_of t.world y ≡ Some node → node.running ≡ true → B i →
+          Leaves M (ev.with_node y (NodeAfter t.world y i node) w) (ServerLeft t.world y i node).world (ServerTook t.world y i node).out →
+          (ServerLeft t.world y i node).world ≡ sc.world → ServedThere s
+      stepped y i node at run brings l q =
+          go (set_cases t.world.servers y.0 s.0 node (NodeAfter t.world y i node) new at
+          (ap (λ r. numbered r s.0) (sym l.servers) ∙ ap (λ u. node_of u s) q ∙ there))
         where
           go : ((s.0 ≡ y.0) × (new ≡ NodeAfter t.world y i node)) ⊎ ((s.0 ≢ y.0) × (node_of t.world s ≡ Some new)) → ServedThere s
           go (inr z) = absurd (differ (ap (λ (p : ServerNode). p.state.stable.names) (some_is (sym z.1 ∙ was))))
@@ -612,7 +742,10 @@ module _ (k : Config) (count : ℕ) (past : List Step) (t : Traced) (e : Event) 
               own : s ≡ y → ServedThere s
               own same =
                   subst ServedThere (sym same)
-                  (names_served y i node at run brings q l (λ r. differ (ap (λ (p : ServerNode). p.state.stable.names) z.1 ∙ r ∙ ap (λ (p : ServerNode). p.state.stable.names) (some_is (sym at ∙ ap (λ v. node_of t.world v) (sym same) ∙ was)))))
+                  (names_served y i node at run brings q l
+                  (λ r. differ
+                  (ap (λ (p : ServerNode). p.state.stable.names) z.1 ∙ r ∙
+                  ap (λ (p : ServerNode). p.state.stable.names) (some_is (sym at ∙ ap (λ v. node_of t.world v) (sym same) ∙ was)))))
 
   pub replies_on : RepliesHold (past ++ step t e sc ∷ []) sc.world
   replies_on = record { replies = event_next.replies; kept = event_next.kept; once = once_on }
@@ -625,8 +758,11 @@ replies_begin k clients servers disks blocks form = record { replies = λ m i. a
     w : World
     w = fresh_world k clients servers disks blocks form
 
-    kept : (s : ServerId) (p : ServerNode) → node_of w s ≡ Some p → (c : ClientId) (y : Session) → sessions.session_of p.state.sessions c ≡ Some y → KeptBy is_final (λ number b. HasEvent [] w c s y.life.0 p.state.stable.epoch.0 number b) y.state
-    kept s p at c y q = go (subst (λ (v : ServerNode). sessions.session_of v.state.sessions c ≡ Some y) (fresh_is (world.node_at_start k servers disks blocks) servers s.0 p at) q)
+    kept : (s : ServerId) (p : ServerNode) → node_of w s ≡ Some p → (c : ClientId) (y : Session) → sessions.session_of p.state.sessions c ≡ Some y →
+        KeptBy is_final (λ number b. HasEvent [] w c s y.life.0 p.state.stable.epoch.0 number b) y.state
+    kept s p at c y q =
+        go (subst (λ (v : ServerNode). sessions.session_of v.state.sessions c ≡ Some y) (fresh_is (world.node_at_start k servers disks blocks) servers s.0 p at)
+        q)
       where
         go : {A : Type 0} → ◌≡◌ {A = Option Session} None (Some y) → A
         go e = cc e

@@ -1,22 +1,15 @@
 -- A request for a name is answered, and served once: its client's session reaches its number.
-use Rattle.std.proofs.Common.{◌≡◌, ℕ, ◌⊎◌, Bool, true, false, List, ◌==◌, Some, refl, ap, ◌∙◌, subst, inl, inr, if◌then◌else◌}
-use Rattle.std.specs.Prelude.{Result as Res, Ok, Err}
-use Rattle.st_base.specs.declared.ids.GrantNo.{GrantNo}
-use Rattle.st_base.specs.declared.ids.Stamp.{Stamp}
-use Rattle.st_base.specs.declared.mode.Mode.TheVariants as modes
-use Rattle.st_base.specs.declared.names.NameRow.{NameRow}
-use Rattle.st_messages.specs.declared.message.Body.{Body}
-use Rattle.st_messages.specs.declared.message.Body.TheVariants as bd
-use Rattle.st_messages.specs.declared.message.Header.{Header}
-use Rattle.st_messages.specs.declared.message.Message.{Message}
-use Rattle.st_messages.specs.declared.message.NameOp.{NameOp}
-use Rattle.st_messages.specs.declared.message.NameOp.TheVariants.{Lookup, Create, Mkdir, Remove, Rename, List as ListFrom}
-use Rattle.st_rules.specs.declared.input.ServerInput.TheVariants.{Control}
-use Rattle.st_rules.specs.declared.names.EntryRefusal.{EntryRefusal}
-use Rattle.st_rules.specs.Names as names
-use Rattle.st_rules.specs.Sessions as sessions
-use Rattle.st_rules.specs.Server as sv
-use Rattle.st_rules.specs.Server.{ServerState, ServerTurn, Replied, sender, reply, tell, steal_from, suspect_client, rule, keep_and_reply, server_step}
+use Rattle.st_lemmas.proofs.Words
+use Words.{◌≡◌, ℕ, ◌⊎◌, Bool, true, false, List, ◌==◌, Some, refl, ap, ◌∙◌, subst, inl, inr, if◌then◌else◌, Result as Res, Ok, Err, GrantNo, Stamp, NameRow}
+use Words.{Body, Header, Message, NameOp, EntryRefusal}
+use Words.modes
+use Words.bodies as bd
+use Words.ops.{Lookup, Create, Mkdir, Remove, Rename, List as ListFrom}
+use Words.serving.{Control}
+use Words.Names as names
+use Words.Sessions as sessions
+use Words.Server as sv
+use Words.Server.{ServerState, ServerTurn, Replied, sender, reply, tell, steal_from, suspect_client, rule, keep_and_reply, server_step}
 use Rattle.st_laws_requests.specs.Replies.ServedRequests.{IsBehind}
 use Rattle.st_laws_requests.proofs.Replies.Served.{stored_reached}
 use Rattle.st_laws_requests.proofs.Rules.{ruled}
@@ -30,52 +23,53 @@ pub record Replies (t : ServerTurn) (a : Replied) : Type 0 where
   pub is : a.reply ≡ Some body
   pub kept : a.turn.state.sessions ≡ t.state.sessions
 
-y_refused : (t : ServerTurn) (r : EntryRefusal) → Replies t (sv.name_refused t r)
+replies_refused : (t : ServerTurn) (r : EntryRefusal) → Replies t (sv.name_refused t r)
 unfolding sv.name_refused
-y_refused t r = record { body = _; is = refl; kept = refl }
+replies_refused t r = record { body = _; is = refl; kept = refl }
 
-y_found : (t : ServerTurn) (r : Res ℕ EntryRefusal) → Replies t (sv.name_found t r)
+replies_found : (t : ServerTurn) (r : Res ℕ EntryRefusal) → Replies t (sv.name_found t r)
 unfolding sv.name_found
-y_found t (Ok ino) = record { body = _; is = refl; kept = refl }
-y_found t (Err r) = y_refused t r
+replies_found t (Ok ino) = record { body = _; is = refl; kept = refl }
+replies_found t (Err r) = replies_refused t r
 
-y_changed : (t : ServerTurn) (r : Res names.Changed EntryRefusal) → Replies t (sv.name_changed t r)
+replies_changed : (t : ServerTurn) (r : Res names.Changed EntryRefusal) → Replies t (sv.name_changed t r)
 unfolding sv.name_changed
-y_changed t (Ok d) = record { body = _; is = refl; kept = refl }
-y_changed t (Err r) = y_refused t r
+replies_changed t (Ok d) = record { body = _; is = refl; kept = refl }
+replies_changed t (Err r) = replies_refused t r
 
-y_listed : (t : ServerTurn) (r : Res (List NameRow) EntryRefusal) → Replies t (sv.names_listed t r)
+replies_listed : (t : ServerTurn) (r : Res (List NameRow) EntryRefusal) → Replies t (sv.names_listed t r)
 unfolding sv.names_listed
-y_listed t (Ok rows) = record { body = _; is = refl; kept = refl }
-y_listed t (Err r) = y_refused t r
+replies_listed t (Ok rows) = record { body = _; is = refl; kept = refl }
+replies_listed t (Err r) = replies_refused t r
 
-y_removed : (t : ServerTurn) (r : Res names.Changed EntryRefusal) → Replies t (sv.remove_by t r)
+replies_removed : (t : ServerTurn) (r : Res names.Changed EntryRefusal) → Replies t (sv.remove_by t r)
 unfolding sv.remove_by sv.cut_whole sv.cut_pages
-y_removed t (Ok d) = record { body = _; is = refl; kept = refl }
-y_removed t (Err r) = y_refused t r
+replies_removed t (Ok d) = record { body = _; is = refl; kept = refl }
+replies_removed t (Err r) = replies_refused t r
 
-y_if : (t : ServerTurn) (c : Bool) (a b : Replied) → Replies t a → Replies t b → Replies t (if c then a else b)
-y_if t true a b p q = p
-y_if t false a b p q = q
+replies_choice : (t : ServerTurn) (c : Bool) (a b : Replied) → Replies t a → Replies t b → Replies t (if c then a else b)
+replies_choice t true a b p q = p
+replies_choice t false a b p q = q
 
-y_not_holder : (t : ServerTurn) (ino : ℕ) (g : GrantNo) → Replies t (sv.not_holder t ino g)
+replies_not_holder : (t : ServerTurn) (ino : ℕ) (g : GrantNo) → Replies t (sv.not_holder t ino g)
 unfolding sv.not_holder
-y_not_holder t ino g = record { body = _; is = refl; kept = refl }
+replies_not_holder t ino g = record { body = _; is = refl; kept = refl }
 
-y_remove : (t : ServerTurn) (h : Header) (dir : ℕ) (x : List ℕ) (g : GrantNo) (r : Res ℕ EntryRefusal) → Replies t (sv.remove_found t h dir x g r)
+replies_remove : (t : ServerTurn) (h : Header) (dir : ℕ) (x : List ℕ) (g : GrantNo) (r : Res ℕ EntryRefusal) → Replies t (sv.remove_found t h dir x g r)
 unfolding sv.remove_found sv.remove_ino sv.remove_file sv.remove_dir
-y_remove t h dir x g (Err r) = y_refused t r
-y_remove t h dir x g (Ok ino) = y_if t (sv.is_file t ino) _ _ (y_if t (sv.holds t h ino g modes.X) _ _ (y_removed t _) (y_not_holder t ino g))
-    (y_if t (g.0 == 0) _ _ (y_changed t _) (y_refused t _))
+replies_remove t h dir x g (Err r) = replies_refused t r
+replies_remove t h dir x g (Ok ino) = replies_choice t (sv.is_file t ino) _ _
+    (replies_choice t (sv.holds t h ino g modes.X) _ _ (replies_removed t _) (replies_not_holder t ino g))
+    (replies_choice t (g.0 == 0) _ _ (replies_changed t _) (replies_refused t _))
 
 pub name_replies : (t : ServerTurn) (now : Stamp) (h : Header) (op : NameOp) → Replies t (rule t now h (bd.Name op))
 unfolding rule sv.name sv.remove
-name_replies t now h (Lookup dir x) = y_found t _
-name_replies t now h (Create dir x) = y_changed t _
-name_replies t now h (Mkdir dir x) = y_changed t _
-name_replies t now h (Remove dir x g) = y_remove t h dir x g _
-name_replies t now h (Rename dir x dir2 x2) = y_changed t _
-name_replies t now h (ListFrom dir after) = y_listed t _
+name_replies t now h (Lookup dir x) = replies_found t _
+name_replies t now h (Create dir x) = replies_changed t _
+name_replies t now h (Mkdir dir x) = replies_changed t _
+name_replies t now h (Remove dir x g) = replies_remove t h dir x g _
+name_replies t now h (Rename dir x dir2 x2) = replies_changed t _
+name_replies t now h (ListFrom dir after) = replies_listed t _
 
 -- The names stay, or the request that came is served, and its session reaches its number.
 module _ (x : ServerState) (now : Stamp) (m : Message) where

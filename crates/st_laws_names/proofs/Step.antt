@@ -1,44 +1,30 @@
 -- A whole step of a client keeps what holds of the operations that asked before, at all its servers.
-use Rattle.std.proofs.Common.{◌≡◌, ℕ, ◌⊎◌, Bool, true, false, ◌==◌, List, [], ◌∷◌, ◌++◌, refl, sym, ap, ◌∙◌, subst, inl, inr, if◌then◌else◌}
-use Rattle.std.proofs.lemmas.Bool.{eqb-true}
-use Rattle.st_base.specs.declared.ids.ClientId.{ClientId}
-use Rattle.st_base.specs.declared.ids.ServerId.{ServerId}
-use Rattle.st_base.specs.declared.ids.Stamp.{Stamp}
-use Rattle.st_messages.specs.declared.answer.AppAnswer.{AppAnswer}
-use Rattle.st_messages.specs.declared.answer.AppAnswer.TheVariants as answers
-use Rattle.st_messages.specs.declared.message.Message.{Message}
-use Rattle.st_messages.specs.declared.output.Output.TheVariants as outputs
-use Rattle.st_rules.specs.declared.client.ClientInput.{ClientInput}
-use Rattle.st_rules.specs.declared.client.ClientInput.TheVariants as inputs
-use Rattle.st_rules.specs.declared.client.Operation.{Operation}
-use Rattle.st_rules.specs.Client as cl
-use Rattle.st_rules.specs.ClientPasses as cp
-use Rattle.st_rules.specs.ClientReplies as cr
-use Rattle.st_rules.specs.ClientState as cs
-use Rattle.st_rules.specs.ClientState.{Association, ClientState, ClientTurn, Turn, at_each, at_these, client_turn, enter, leave, server_of, with_associations}
-use Rattle.st_rules.specs.Keys.{server_node}
-use Rattle.st_lemmas.specs.Lists.{Has}
-use Rattle.st_lemmas.proofs.Tables.{has_append}
+use Rattle.st_lemmas.proofs.Words
+use Words.{◌≡◌, ℕ, ◌⊎◌, Bool, true, false, ◌==◌, List, [], ◌∷◌, refl, sym, ap, ◌∙◌, subst, inl, inr, if◌then◌else◌, eqb-true, ClientId, ServerId, Stamp}
+use Words.{AppAnswer, Message, ClientInput, Operation}
+use Words.answers
+use Words.outputs
+use Words.inputs
+use Words.Client as cl
+use Words.ClientPasses as cp
+use Words.ClientReplies as cr
+use Words.ClientState as cs
+use Words.ClientState.{Association, ClientState, ClientTurn, Turn, at_each, at_these, client_turn, enter, leave, server_of, with_associations}
+use Words.Keys.{server_node}
+use Words.Lists.{Has}
+use Words.Tables.{has_append}
 use Rattle.st_laws_requests.proofs.Cuts.Keeping.{Answers, asked_of}
-use Rattle.st_laws_requests.proofs.Cuts.Step.{Onces}
+use Rattle.st_laws_requests.proofs.Cuts.Step.{Onces, onces_last}
 use Rattle.st_laws_names.proofs.Frames.{IsKeptRefusal, Own, view}
-use Rattle.st_laws_names.proofs.Keeping.{AtStage, Under, Whole, w_finish, w_receive, w_lose, w_passes, w_take}
-
-onces_last : (xs : List Association) (a : Association) → Onces xs → ((b : Association) → Has b xs → b.server.0 ≡ a.server.0 → ⊥) → Onces (xs ++ a ∷ [])
-onces_last [] a o f = record { first = λ b h e. absurd h; rest = tt }
-onces_last (x ∷ xs) a o f = record { first = λ b h e. first b (has_append xs (a ∷ []) b h) e; rest = onces_last xs a o.rest (λ b h e. f b (inr h) e) }
-  where
-    first : (b : Association) → Has b xs ⊎ Has b (a ∷ []) → x.server.0 ≡ b.server.0 → ⊥
-    first b (inl h) e = o.first b h e
-    first b (inr (inl q)) e = f x (inl refl) (e ∙ ap (λ (z : Association). z.server.0) q)
-    first b (inr (inr i)) e = i
+use Rattle.st_laws_names.proofs.Keeping.{AtStage, Under, Whole, whole_after_finish, whole_after_receive, whole_after_lose, whole_after_passes, whole_after_take}
 
 module _ (c : ClientId) (S : ℕ → Type 0) (Key : ServerId → ℕ → ℕ → ℕ → ℕ → Type 0) (Ended : ℕ → AppAnswer → Type 0) (Refused : ℕ → Type 0)
     (open_ : (op n m : ℕ) → Ended op (answers.Uncertain n m)) (gone_ : (op : ℕ) (a : AppAnswer) → Refused op → Ended op a) where
   -- what holds of an association, within a step
   pub record At (ops : List Operation) (a : Association) : Type 0 where
     pub state : (o : Operation) → Has o ops → S o.op → cs.is_of a.server o ≡ true → AtStage S Key Ended Refused open_ gone_ o.stage o.op
-    pub asked : (o : Operation) → Has o ops → S o.op → cs.is_asked a.server o ≡ true → Under S Key Ended Refused open_ gone_ a.server a.life.0 (view a.session) o.op
+    pub asked : (o : Operation) → Has o ops → S o.op → cs.is_asked a.server o ≡ true →
+        Under S Key Ended Refused open_ gone_ a.server a.life.0 (view a.session) o.op
 
   -- what holds of a step so far, with associations that are still to come
   pub record Held (rest : List Association) (t : ClientTurn) : Type 0 where
@@ -58,7 +44,8 @@ module _ (c : ClientId) (S : ℕ → Type 0) (Key : ServerId → ℕ → ℕ →
   RuleOk rule = (s : ServerId) (B : List Operation) (t : Turn) → WOf s B t → WOf s B (rule t)
 
   -- an association with another server than that of the rule
-  elsewhere : (t : ClientTurn) (a : Association) (u : Turn) → WOf a.server t.state.operations u → (b : Association) → (b.server.0 ≡ a.server.0 → ⊥) → At t.state.operations b → At u.operations b
+  elsewhere : (t : ClientTurn) (a : Association) (u : Turn) → WOf a.server t.state.operations u → (b : Association) → (b.server.0 ≡ a.server.0 → ⊥) →
+      At t.state.operations b → At u.operations b
   elsewhere t a u w b ne k = record { state = λ o h z e. k.state o (was o h e) z e; asked = λ o h z e. k.asked o (was o h (asked_of b.server o e).0) z e }
     where
       not_here : (o : Operation) → cs.is_of b.server o ≡ true → cs.is_of u.here.server o ≡ false
@@ -88,7 +75,11 @@ module _ (c : ClientId) (S : ℕ → Type 0) (Key : ServerId → ℕ → ℕ →
 
       w : WOf a.server t.state.operations u
       w = ok a.server t.state.operations (enter t a)
-          (record { base = record { server = refl; fine = λ o h. record { others = λ e. h; kind = k.kind o h; state = here.state o h }; said = k.said }; asked = here.asked })
+          (record {
+            base = record { server = refl; fine = λ o h. record { others = λ e. h; kind = k.kind o h; state = here.state o h }; said = k.said };
+            asked =
+                here.asked;
+          })
 
       server : u.here.server.0 ≡ a.server.0
       server = ap (λ (v : ServerId). v.0) w.base.server
@@ -120,7 +111,17 @@ module _ (c : ClientId) (S : ℕ → Type 0) (Key : ServerId → ℕ → ℕ →
   unfolding at_each
   each rule ok t k =
       these rule ok t.state.associations (with_associations [] t)
-      (record { id_ = k.id_; kind = k.kind; said = k.said; done = λ a h. absurd h; todo = k.done; once_done = tt; once_todo = k.once_done; apart = λ a b h i e. absurd h })
+      (record {
+        id_ = k.id_;
+        kind = k.kind;
+        said = k.said;
+        done = λ a h. absurd h;
+        todo = k.done;
+        once_done = tt;
+        once_todo = k.once_done;
+        apart =
+            λ a b h i e. absurd h;
+      })
 
   -- an answer at once
   at_once : (t : ClientTurn) (op : ℕ) (a : AppAnswer) → (S op → ⊥) → Held [] t → Held [] (cl.answered_at_once t op a)
@@ -146,8 +147,10 @@ module _ (c : ClientId) (S : ℕ → Type 0) (Key : ServerId → ℕ → ℕ →
 
   -- what is owed of an input: an ask is new, and a reply tells what it says
   pub record Tells (m : Message) : Type 0 where
-    pub told : (sv : ServerId) (op : ℕ) (a : AppAnswer) → m.header.from ≡ server_node sv → Key sv m.header.life m.header.epoch m.header.number op → Answers m.body a → Ended op a
-    pub refuses : (sv : ServerId) (op : ℕ) → m.header.from ≡ server_node sv → Key sv m.header.life m.header.epoch m.header.number op → IsKeptRefusal m.body → Refused op
+    pub told : (sv : ServerId) (op : ℕ) (a : AppAnswer) → m.header.from ≡ server_node sv → Key sv m.header.life m.header.epoch m.header.number op →
+        Answers m.body a → Ended op a
+    pub refuses : (sv : ServerId) (op : ℕ) → m.header.from ≡ server_node sv → Key sv m.header.life m.header.epoch m.header.number op → IsKeptRefusal m.body →
+        Refused op
 
   abbrev pub InputOk : ClientInput → Type 0
   InputOk inputs.Tick = Unit {0}
@@ -164,17 +167,22 @@ module _ (c : ClientId) (S : ℕ → Type 0) (Key : ServerId → ℕ → ℕ →
   taken t now inputs.Tick g k = k
   taken t now (inputs.App op ask) g k =
       if_held (cl.is_full t.state) _ _ (at_once t op answers.OpsFull g k)
-      (if_held (cl.is_configured t.state (server_of ask)) _ _ (each (cs.only_at (server_of ask) (cl.take_ask op ask)) (λ s B u w. w_take S Key Ended Refused open_ gone_ s B op ask g u w) t k) (at_once t op answers.NoFile g k))
+      (if_held (cl.is_configured t.state (server_of ask)) _ _
+      (each (cs.only_at (server_of ask) (cl.take_ask op ask)) (λ s B u w. whole_after_take S Key Ended Refused open_ gone_ s B op ask g u w) t k)
+      (at_once t op answers.NoFile g k))
   taken t now (inputs.Control m) g k = go (m.header.to == t.state.id.0) refl
     where
       go : (b : Bool) → (m.header.to == t.state.id.0) ≡ b → Held [] (if b then cr.receive_here t now m.header m.body else t)
-      go true e = let z = g (eqb-true m.header.to t.state.id.0 e ∙ ap (λ (x : ClientId). x.0) k.id_) in each (cr.receive_at now m.header m.body) (λ s B u w. w_receive S Key Ended Refused open_ gone_ s B now m.header m.body z.told z.refuses u w) t k
+      go true e = let z = g (eqb-true m.header.to t.state.id.0 e ∙ ap (λ (x : ClientId). x.0) k.id_) in
+          each (cr.receive_at now m.header m.body) (λ s B u w. whole_after_receive S Key Ended Refused open_ gone_ s B now m.header m.body z.told z.refuses u w)
+          t k
       go false e = k
-  taken t now (inputs.Done number result) g k = each (cl.finish number result) (λ s B u w. w_finish S Key Ended Refused open_ gone_ s B number result u w) t k
+  taken t now (inputs.Done number result) g k = each (cl.finish number result)
+      (λ s B u w. whole_after_finish S Key Ended Refused open_ gone_ s B number result u w) t k
 
   -- the whole step
   pub stepped : (x : ClientState) (now : Stamp) (i : ClientInput) → InputOk i → Held [] (client_turn x []) → Held [] (cl.client_step x now i)
   unfolding cl.client_step cl.work cl.losses
   stepped x now i g k =
-      each (cp.passes now (cl.is_tick i)) (λ s B u w. w_passes S Key Ended Refused open_ gone_ s B now (cl.is_tick i) u w) _
-      (taken _ now i g (each (cl.lose now) (λ s B u w. w_lose S Key Ended Refused open_ gone_ s B now u w) (client_turn x []) k))
+      each (cp.passes now (cl.is_tick i)) (λ s B u w. whole_after_passes S Key Ended Refused open_ gone_ s B now (cl.is_tick i) u w) _
+      (taken _ now i g (each (cl.lose now) (λ s B u w. whole_after_lose S Key Ended Refused open_ gone_ s B now u w) (client_turn x []) k))

@@ -1,32 +1,25 @@
 -- A request to cut a file or for a name, of the present life of a client that runs: its server serves it no more, or an operation waits
 -- for its reply, under its own key.
-use Rattle.std.proofs.Common.{◌≡◌, ◌≢◌, ◌⊎◌, ℕ, ◌≤◌, ◌<◌, zero, suc, List, true, Option, Some, None, refl, sym, ap, ◌∙◌, subst, inl, inr, arith}
-use Rattle.std.proofs.lemmas.Bool.{eqb-true}
-use Rattle.st_base.specs.declared.ids.ClientId.{ClientId}
-use Rattle.st_base.specs.declared.ids.GrantNo.{GrantNo}
-use Rattle.st_messages.specs.declared.message.Message.{Message}
-use Rattle.st_rules.specs.declared.client.Request.{Request}
-use Rattle.st_rules.specs.declared.sessions.Session.{Session}
-use Rattle.st_rules.specs.declared.sessions.SessionState.{SessionState}
-use Rattle.st_rules.specs.declared.sessions.SessionState.TheVariants as states
-use Rattle.st_rules.specs.ClientState.{Association, ClientSession, asks_cut_or_name, is_asked, is_of, server_of}
-use Rattle.st_rules.specs.History.{Traced}
-use Rattle.st_rules.specs.Safety.{Step}
-use Rattle.st_rules.specs.Server.{ServerNode}
-use Rattle.st_rules.specs.Sessions as sessions
-use Rattle.st_rules.specs.World.{WorldClient, World, node_of}
-use Rattle.st_rules.specs.declared.client.Operation.{Operation}
-use Rattle.st_base.specs.declared.ids.ServerId.{ServerId}
+use Rattle.st_lemmas.proofs.Words
+use Words.{◌≡◌, ◌≢◌, ◌⊎◌, ℕ, ◌≤◌, ◌<◌, zero, suc, List, true, Option, Some, None, refl, sym, ap, ◌∙◌, subst, inl, inr, arith, eqb-true, ClientId, GrantNo}
+use Words.{Message, Request, Operation, ServerId}
+use Words.ClientState.{Association, ClientSession, asks_cut_or_name, is_asked, is_of, server_of}
+use Words.History.{Traced}
+use Words.Safety.{Step}
+use Words.Server.{ServerNode}
+use Words.Sessions as sessions
+use Words.World.{WorldClient, World, node_of}
+use Words.Lists.{Has}
+use Words.Tables.{and_true, same_or_not}
+use Words.Truth.{below_or_not}
 use Rattle.st_protocol.specs.Assoc.{Config}
 use Rattle.st_protocol.proofs.World.{invariant}
 use Rattle.st_protocol.specs.Assoc as net
-use Rattle.st_lemmas.specs.Lists.{Has}
-use Rattle.st_lemmas.proofs.Tables.{and_true, same_or_not}
 use Rattle.st_laws_refine.specs.Views.Halves.{epoch_in}
 use Rattle.st_laws_refine.specs.Server.Invariants.{pairs}
 use Rattle.st_laws_leases.specs.Dates.Dates.{messages}
 use Rattle.st_laws_reads.specs.AllClients.Law.{Running}
-use Rattle.st_laws_requests.specs.Replies.ServedRequests.{IsBehind, Reached}
+use Rattle.st_laws_requests.specs.Replies.ServedRequests.{IsBehind}
 use Rattle.st_laws_requests.specs.Cuts.Cuts.{AsksFor, Between, Early, Numbers, Numbered, SameBody, Waits, WaitsAt}
 use Rattle.st_laws_requests.specs.Cuts.Cuts as cuts
 use Rattle.st_laws_extents.specs.CutRequests.Asks.{AsksStand, Of, first_open, open_from}
@@ -40,6 +33,7 @@ use Rattle.st_laws_cuts.specs.EndedRequests.{AllPast, MeansTo}
 use Rattle.st_laws_cuts.proofs.Alive.{means_to}
 use Rattle.st_laws_names.specs.OutstandingKeys.{SameKey}
 use Rattle.st_laws_names.proofs.World.{Asked, waits_at}
+use Rattle.st_laws_extents.proofs.CutRequests.EndedLives.{behind_less}
 
 -- the key of a message is one under which an operation waited
 pub record Row (past : List Step) (w : World) (c : ClientId) (s : ServerId) (m : Message) (op : ℕ) : Type 0 where
@@ -54,25 +48,6 @@ pub record Pending (past : List Step) (G : ℕ → GrantNo → Type 0) (w : Worl
   pub means : AsksFor operation.ask m.body
   pub to : MeansTo G s operation.ask m.body
   pub row : Row past w c s m operation.op
-
--- a session that reached a number reached those below it
-behind_less : (o : Option Session) (life k j : ℕ) → j ≤ k → IsBehind o life k → IsBehind o life j
-behind_less None life k j l h = h
-behind_less (Some s) life k j l (inl h) = inl h
-behind_less (Some s) life k j l (inr h) = inr (h.0, go s.state h.1)
-  where
-    go : (x : SessionState) → Reached k x → Reached j x
-    go (states.Live last reply) r = omega (arith, l, r)
-    go states.Ended r = tt
-
-less : (u v : ℕ) → (u < v) ⊎ (v ≤ u)
-less u zero = inr (omega arith)
-less zero (suc v) = inl (omega arith)
-less (suc u) (suc v) = up (less u v)
-  where
-    up : (u < v) ⊎ (v ≤ u) → (suc u < suc v) ⊎ (suc v ≤ suc u)
-    up (inl l) = inl (omega (arith, l))
-    up (inr l) = inr (omega (arith, l))
 
 module _ (k : Config) (count : ℕ) (past : List Step) (t : Traced) (h : Hold k count past t) (owned : AllOwned t.world)
     (c : ClientId) (site : WorldClient) (run : Running t.world c.0 site) (a : Association) (i : Has a site.node.state.associations)
@@ -148,7 +123,7 @@ module _ (k : Config) (count : ℕ) (past : List Step) (t : Traced) (h : Hold k 
         by e (inr l) = last e l x.requests.asked refl
 
         go : (m.header.epoch ≡ x.epoch.0) ⊎ (m.header.epoch ≢ x.epoch.0) → Result
-        go (inl e) = by e (less m.header.number (first_open x.requests))
+        go (inl e) = by e (below_or_not m.header.number (first_open x.requests))
         go (inr ne) = inl (earlier ne)
 
   pub alive : AllPast t.world c a.server m ⊎ Pending past (gifts k count t.world h.all c a.server) t.world c a.server site.node.state.operations m

@@ -1,46 +1,36 @@
 -- Operations ask once: after every event, and over whole runs.
-use Rattle.std.proofs.Common.{◌≡◌, ◌≢◌, ◌⊎◌, ℕ, ◌+◌, ◌≤◌, true, List, [], ◌∷◌, ◌++◌, Option, Some, None, Ok, refl, sym, ap, ◌∙◌, subst, inl, inr, arith}
-use Rattle.std.specs.Prelude.{length}
-use Rattle.std.proofs.lemmas.Bool.{eqb-true, eq-eqb}
-use Rattle.st_base.specs.declared.ids.ClientId.{ClientId}
-use Rattle.st_base.specs.declared.ids.ServerId.{ServerId}
-use Rattle.st_base.specs.declared.ids.NodeId.TheVariants as nodes
-use Rattle.st_messages.specs.declared.answer.AppAnswer.{AppAnswer}
-use Rattle.st_messages.specs.declared.answer.AppAnswer.TheVariants as answers
-use Rattle.st_messages.specs.declared.ask.Ask.{Ask}
-use Rattle.st_messages.specs.declared.ask.Ask.TheVariants as asks
-use Rattle.st_messages.specs.declared.event.Event.{Event}
-use Rattle.st_messages.specs.declared.message.Body.{Body}
-use Rattle.st_messages.specs.declared.message.Body.TheVariants as bodies
-use Rattle.st_messages.specs.declared.message.Message.{Message}
-use Rattle.st_messages.specs.declared.output.Output.TheVariants as outputs
-use Rattle.st_rules.specs.declared.client.ClientInput.{ClientInput}
-use Rattle.st_rules.specs.declared.client.ClientInput.TheVariants as inputs
-use Rattle.st_rules.specs.declared.client.Operation.{Operation}
-use Rattle.st_rules.specs.declared.client.Request.{Request}
-use Rattle.st_rules.specs.declared.client.Stage.{Stage}
-use Rattle.st_rules.specs.declared.client.Stage.TheVariants as stages
-use Rattle.st_rules.specs.declared.observation.Observation.TheVariants as seen
-use Rattle.st_rules.specs.Client as cl
-use Rattle.st_rules.specs.ClientState as cs
-use Rattle.st_rules.specs.ClientState.{Association, ClientSession, server_of}
-use Rattle.st_rules.specs.Events.{WorldTurn, world_step}
-use Rattle.st_rules.specs.Keys.{server_node}
-use Rattle.st_rules.specs.History.{Traced, traced, traced_after}
+use Rattle.st_lemmas.proofs.Words
+use Words.{◌≡◌, ◌≢◌, ◌⊎◌, ℕ, ◌+◌, ◌≤◌, true, List, [], ◌∷◌, ◌++◌, Option, Some, None, Ok, refl, sym, ap, ◌∙◌, subst, inl, inr, arith, length, eqb-true, eq-eqb}
+use Words.{ClientId, ServerId, AppAnswer, Ask, Event, Body, Message, ClientInput, Operation, Request, Stage}
+use Words.nodes
+use Words.answers
+use Words.asks
+use Words.bodies
+use Words.outputs
+use Words.inputs
+use Words.stages
+use Words.seen
+use Words.Client as cl
+use Words.ClientState as cs
+use Words.ClientState.{Association, ClientSession, server_of}
+use Words.Events.{WorldTurn, world_step}
+use Words.Keys.{server_node}
+use Words.History.{Traced, traced, traced_after}
+use Words.Safety.{IsHead, Step, is_event, step}
+use Words.World.{World, WorldClient, clock_of, fresh_world, numbered, site_of, with_numbered}
+use Words.Lists.{Has}
+use Words.Lookups.{some_is}
+use Words.Numbers.{numbered_below, numbered_own}
+use Words.Tables.{has_append}
+use Words.Members.{has_right}
+use Words.Truth.{clash}
 use Rattle.st_base.specs.declared.config.Config as base
-use Rattle.st_rules.specs.Safety.{IsHead, Step, is_event, step}
-use Rattle.st_rules.specs.World.{World, WorldClient, clock_of, fresh_world, numbered, site_of, with_numbered}
 use Rattle.st_protocol.specs.Assoc.{Config}
-use Rattle.st_lemmas.specs.Lists.{Has}
-use Rattle.st_lemmas.proofs.Lookups.{some_is}
-use Rattle.st_lemmas.proofs.Numbers.{numbered_below, numbered_own}
-use Rattle.st_lemmas.proofs.Tables.{has_append}
 use Rattle.st_laws_steps.specs.Lives.Lives.{NodeHolds}
 use Rattle.st_laws_refine.specs.Server.Pair.{terms_of}
 use Rattle.st_laws_pages.proofs.Disks.Whole.{site_is}
 use Rattle.st_laws_leases.specs.Dates.Dates.{messages}
 use Rattle.st_laws_leases.specs.Sides.Law.{InEveryRun}
-use Rattle.st_laws_leases.proofs.Dates.Known.{has_right}
 use Rattle.st_laws_leases.proofs.Dates.Leaving.{set_cases}
 use Rattle.st_laws_leases.proofs.Sides.Runs.{throughout_events}
 use Rattle.st_laws_requests.specs.Cuts.Cuts.{AsksFor, Waits, WaitsAt, asks_of}
@@ -57,7 +47,7 @@ use Rattle.st_laws_extents.proofs.CutRequests.Law.{followed}
 use Rattle.st_laws_cuts.proofs.Words.{asks_longer}
 use Rattle.st_laws_names.specs.OutstandingKeys.{OperationsAskOnce, SameKey, WaitsUnder}
 use Rattle.st_promises.specs.CutAsks.{is_uncertain}
-use Rattle.st_laws_names.proofs.Frames.{IsKeptRefusal, Own, clash, view}
+use Rattle.st_laws_names.proofs.Frames.{IsKeptRefusal, Own, view}
 use Rattle.st_laws_names.proofs.Keeping.{AtRequest, AtStage, Under}
 use Rattle.st_laws_names.proofs.Step.{At, Held, stepped}
 use Rattle.st_laws_names.proofs.Step as steps
@@ -605,6 +595,6 @@ names_begin k clients servers disks blocks form head = record { all = begins k c
         go (inl z) = absurd z.1
         go (inr q) = waits_none c op a.server a.life_ a.epoch_ a.number_ (subst (λ v. WaitsUnder v c a.server a.life_ a.epoch_ a.number_ op) q a.waits)
 
-pub law : InEveryRun OperationsAskOnce
-law k clients servers disks blocks form es head events =
+pub operations_ask_once : InEveryRun OperationsAskOnce
+operations_ask_once k clients servers disks blocks form es head events =
     throughout_events (clients + servers) OperationsAskOnce (NamesHold (terms_of k) (clients + servers)) (one (terms_of k) (clients + servers)) es events [] (traced (fresh_world k clients servers disks blocks form)) (names_begin k clients servers disks blocks form head)

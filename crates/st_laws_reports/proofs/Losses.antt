@@ -1,67 +1,48 @@
 -- Losses are reported, in every run.
-use Rattle.std.proofs.Common.{◌≡◌, ℕ, ◌+◌, ◌⊎◌, Bool, true, false, ◌&&◌, ◌==◌, List, [], ◌∷◌, ◌++◌, Option, Some, None, Ok, Err, refl, sym, ap, ◌∙◌, subst, inl, inr, arith, append_assoc, length-append, if◌then◌else◌}
-use Rattle.std.specs.List.{cons_option}
+use Rattle.st_lemmas.proofs.Words
+use Words.{◌≡◌, ℕ, ◌+◌, ◌⊎◌, Bool, true, false, ◌&&◌, ◌==◌, List, [], ◌∷◌, ◌++◌, Option, Some, None, Ok, Err, refl, sym, ap, ◌∙◌, subst, inl, inr, arith}
+use Words.{append_assoc, length-append, if◌then◌else◌, cons_option, Result, find, length, map, not, suc, eq-eqb, eqb-true, ClientId, NodeId, ServerId, Stamp}
+use Words.{AppAnswer, Ask, Event, Message, Note, Output, ClientInput, LostPage, Operation, ServerInput, Phase, Fate, LogEntry, Observation, WorldRefusal}
+use Words.{IssuedCommand, SentMessage}
+use Words.nodes
+use Words.answers
+use Words.asks
+use Words.events
+use Words.notes
+use Words.outputs
+use Words.inputs
+use Words.phases
+use Words.fates
+use Words.seen
+use Words.refusals
+use Words.Admissible as adm
+use Words.Client as cl
+use Words.ClientPages as pages
+use Words.ClientState as cs
+use Words.ClientState.{Association, ClientState, client_turn}
+use Words.Disks as disks
+use Words.Events as ev
+use Words.Events.{WorldTurn, world_step}
+use Words.Extents as extents
+use Words.History.{Traced, association_of, traced, traced_after}
+use Words.Keys.{same_client, same_server}
+use Words.Safety.{Step, ask_in, ask_of, ask_of_client, is_crash_of, step}
+use Words.Server as server
+use Words.Server.{ServerNode}
+use Words.World as world
+use Words.World.{World, WorldClient, clock_of, fresh_world, is_running, issued_of, node_of, numbered, site_of}
+use Words.Lists.{Has}
+use Words.Numbers.{get_last, numbered_has, numbered_old}
+use Words.Tables.{has_append, has_map}
+use Words.Truth.{or_second}
 use Rattle.std.specs.Option.{option_or}
-use Rattle.std.specs.Prelude.{Result, find, length, map, not, suc}
-use Rattle.std.proofs.lemmas.Bool.{eq-eqb, eqb-true}
-use Rattle.st_base.specs.declared.ids.ClientId.{ClientId}
-use Rattle.st_base.specs.declared.ids.NodeId.{NodeId}
-use Rattle.st_base.specs.declared.ids.NodeId.TheVariants as nodes
-use Rattle.st_base.specs.declared.ids.ServerId.{ServerId}
-use Rattle.st_base.specs.declared.ids.Stamp.{Stamp}
-use Rattle.st_messages.specs.declared.answer.AppAnswer.{AppAnswer}
-use Rattle.st_messages.specs.declared.answer.AppAnswer.TheVariants as answers
-use Rattle.st_messages.specs.declared.ask.Ask.{Ask}
-use Rattle.st_messages.specs.declared.ask.Ask.TheVariants as asks
-use Rattle.st_messages.specs.declared.event.Event.{Event}
-use Rattle.st_messages.specs.declared.event.Event.TheVariants as events
-use Rattle.st_messages.specs.declared.message.Message.{Message}
-use Rattle.st_messages.specs.declared.output.Note.{Note}
-use Rattle.st_messages.specs.declared.output.Note.TheVariants as notes
-use Rattle.st_messages.specs.declared.output.Output.{Output}
-use Rattle.st_messages.specs.declared.output.Output.TheVariants as outputs
-use Rattle.st_rules.specs.declared.client.ClientInput.{ClientInput}
-use Rattle.st_rules.specs.declared.client.ClientInput.TheVariants as inputs
-use Rattle.st_rules.specs.declared.client.LostPage.{LostPage}
-use Rattle.st_rules.specs.declared.client.Operation.{Operation}
-use Rattle.st_rules.specs.declared.input.ServerInput.{ServerInput}
-use Rattle.st_rules.specs.declared.lease.Phase.{Phase}
-use Rattle.st_rules.specs.declared.lease.Phase.TheVariants as phases
-use Rattle.st_rules.specs.declared.log.Fate.{Fate}
-use Rattle.st_rules.specs.declared.log.Fate.TheVariants as fates
-use Rattle.st_rules.specs.declared.log.LogEntry.{LogEntry}
 use Rattle.st_rules.specs.declared.node.StepRefusal.TheVariants.{Crashed}
-use Rattle.st_rules.specs.declared.observation.Observation.{Observation}
-use Rattle.st_rules.specs.declared.observation.Observation.TheVariants as seen
-use Rattle.st_rules.specs.declared.observation.WorldRefusal.{WorldRefusal}
-use Rattle.st_rules.specs.declared.observation.WorldRefusal.TheVariants as refusals
-use Rattle.st_rules.specs.declared.world.IssuedCommand.{IssuedCommand}
-use Rattle.st_rules.specs.declared.world.SentMessage.{SentMessage}
-use Rattle.st_rules.specs.Admissible as adm
-use Rattle.st_rules.specs.Client as cl
-use Rattle.st_rules.specs.ClientPages as pages
-use Rattle.st_rules.specs.ClientState as cs
-use Rattle.st_rules.specs.ClientState.{Association, ClientState, client_turn}
-use Rattle.st_rules.specs.Disks as disks
-use Rattle.st_rules.specs.Events as ev
-use Rattle.st_rules.specs.Events.{WorldTurn, world_step}
-use Rattle.st_rules.specs.Extents as extents
-use Rattle.st_rules.specs.History.{Traced, association_of, traced, traced_after}
-use Rattle.st_rules.specs.Keys.{same_client, same_server}
 use Rattle.st_promises.specs.Losses.{AreLossesTold, IsLossTold, LossesAreTold, owed, owed_after, owed_along, owed_behind, owed_from, with_dirty}
-use Rattle.st_rules.specs.Safety.{Step, ask_in, ask_of, ask_of_client, is_crash_of, step}
-use Rattle.st_rules.specs.Server as server
-use Rattle.st_rules.specs.Server.{ServerNode}
-use Rattle.st_rules.specs.World as world
-use Rattle.st_rules.specs.World.{World, WorldClient, clock_of, fresh_world, is_running, issued_of, node_of, numbered, site_of}
-use Rattle.st_lemmas.specs.Lists.{Has}
-use Rattle.st_lemmas.proofs.Numbers.{get_last, numbered_has, numbered_old}
 use Rattle.st_lemmas.proofs.Steps.{step_happens, throughout}
-use Rattle.st_lemmas.proofs.Tables.{has_append, has_map}
+use Rattle.st_laws_pages.specs.Disks.Obligations.{FatesHold}
 use Rattle.st_laws_pages.specs.Asks.Law.{InEveryRun}
 use Rattle.st_laws_pages.proofs.Asks.Says.{client_leaves}
 use Rattle.st_laws_pages.proofs.Asks.World.{asks_more, asks_of, asks_same, site_case}
-use Rattle.st_laws_pages.specs.Disks.Obligations.{FatesHold}
 use Rattle.st_laws_pages.proofs.Disks.Steps.{fates_law}
 use Rattle.st_laws_pages.proofs.Disks.Whole.{fresh_fates}
 use Rattle.st_laws_steps.specs.Lives.Lives.{Once, server_number}
@@ -485,10 +466,6 @@ crash_bare site = record { lost = bare_map cl.crashed_association (λ a. refl) s
 start_bare : (site : WorldClient) → Bare (ev.started_site site)
 unfolding cl.start
 start_bare site = record { lost = bare_map cl.started_association (λ a. refl) site.node.state.associations; ops = refl }
-
-or_second : (a b : Option WorldRefusal) → option_or a b ≡ None → b ≡ None
-or_second None b e = e
-or_second (Some x) b e = cc
 
 -- a client that takes an ask runs
 ask_runs : (w : World) (c : ClientId) (site : WorldClient) → site_of w c ≡ Some site → adm.cannot_step w (nodes.Client c) ≡ None → site.node.running ≡ true

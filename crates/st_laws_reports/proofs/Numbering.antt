@@ -1,24 +1,22 @@
 -- The lines of an event give the next numbers, and each tells of what is there under its number.
-use Rattle.std.proofs.Common.{◌≡◌, ℕ, ◌+◌, Bool, true, ◌&&◌, ◌==◌, List, [], ◌∷◌, ◌++◌, Option, Some, None, refl, sym, ap, ◌∙◌, subst, arith, inl, inr, append_assoc, length-append, take-append-drop}
-use Rattle.std.proofs.lemmas.Bool.{eq-eqb}
-use Rattle.std.specs.List.{cons_option}
-use Rattle.std.specs.Prelude.{drop, length, filter_map, map, option_map, slice_get, suc, take, zero}
-use Rattle.st_base.specs.declared.ids.ClientId.{ClientId}
-use Rattle.st_messages.specs.declared.message.Header.{Header}
-use Rattle.st_messages.specs.declared.message.Message.{Message}
-use Rattle.st_rules.specs.declared.observation.Observation.{Observation}
-use Rattle.st_rules.specs.declared.observation.Observation.TheVariants as seen
+use Rattle.st_lemmas.proofs.Words
+use Words.{◌≡◌, ℕ, ◌+◌, Bool, true, ◌&&◌, ◌==◌, List, [], ◌∷◌, ◌++◌, Option, Some, None, refl, sym, ap, ◌∙◌, subst, arith, inl, inr, append_assoc}
+use Words.{length-append, eq-eqb, cons_option, drop, length, filter_map, map, option_map, slice_get, suc, take, zero, ClientId, Header, Message, Observation}
+use Words.{IssuedCommand, SentMessage}
+use Words.seen
+use Words.Events.{summary}
+use Words.History.{traced}
+use Words.Safety.{Step, Throughout, steps}
+use Words.World.{World, fresh_world, issued_of, message_of, numbered}
+use Words.Lists.{Has}
+use Words.Numbers.{get_last, get_map}
+use Words.Tables.{all_pass, and_both}
+use Words.Lengths.{get_longer, length_map}
+use Words.Members.{has_filter_map}
+use Rattle.std.proofs.Common.{take-append-drop}
 use Rattle.st_rules.specs.declared.observation.Summary.{Summary}
-use Rattle.st_rules.specs.declared.world.IssuedCommand.{IssuedCommand}
-use Rattle.st_rules.specs.declared.world.SentMessage.{SentMessage}
-use Rattle.st_promises.specs.Numbers.{AreNumbered, LinesGiveTheNextNumbers, command_number, follow_from, is_sent_as, is_told_right, message_number, same_header, same_summary}
-use Rattle.st_rules.specs.Events.{summary}
-use Rattle.st_rules.specs.History.{traced}
-use Rattle.st_rules.specs.Safety.{Step, Throughout, steps}
-use Rattle.st_rules.specs.World.{World, fresh_world, issued_of, message_of, numbered}
-use Rattle.st_lemmas.specs.Lists.{Has}
-use Rattle.st_lemmas.proofs.Numbers.{get_last, get_map}
-use Rattle.st_lemmas.proofs.Tables.{all_pass, and_both}
+use Rattle.st_promises.specs.Numbers.{AreNumbered, LinesGiveTheNextNumbers, command_number, follow_from, is_sent_as, is_told_right, message_number, same_header}
+use Rattle.st_promises.specs.Numbers.{same_summary}
 use Rattle.st_promises.specs.Faults.{is_own_command}
 use Rattle.st_promises.specs.Counts.{IsCounted, TheCountsAreTrue, command_in, command_told, message_in, message_told, under_numbers}
 use Rattle.st_laws_lines.proofs.Growing.{Grows}
@@ -47,12 +45,6 @@ follow n (x ∷ xs) = and_both (n == n) _ (eq-eqb n n refl) (follow (n + 1) xs)
 numbers_follow : {A : Type 0} (line : Observation → Option (ℕ × A)) (number : Observation → Option ℕ) → ((o : Observation) → number o ≡ option_map first_of (line o)) → (n : ℕ) (os : List Observation) (xs : List A) → filter_map line os ≡ under_numbers n xs → follow_from n (filter_map number os) ≡ true
 numbers_follow line number same n os xs e = ap (follow_from n) (numbers_told line number same os ∙ ap (map first_of) e) ∙ follow n xs
 
--- what a list has stays where it is when more follows
-get_front : {A : Type 0} (xs ys : List A) (n : ℕ) (v : A) → slice_get xs n ≡ Some v → slice_get (xs ++ ys) n ≡ Some v
-get_front [] ys n v e = cc
-get_front (x ∷ xs) ys zero v e = e
-get_front (x ∷ xs) ys (suc n) v e = get_front xs ys n v e
-
 -- what is given a number is there
 stands_there : {A : Type 0} (xs ys : List A) (k : ℕ) (v : A) → Has (k, v) (under_numbers (length xs + 1) ys) → numbered (xs ++ ys) k ≡ Some v
 unfolding under_numbers
@@ -60,26 +52,16 @@ stands_there xs [] k v h = absurd h
 stands_there xs (y ∷ ys) k v (inl e) =
     let n : k ≡ length xs + 1 = ap first_of e in
     let z : length xs + 1 ≡ suc (length xs) = omega arith in
-    let there : slice_get ((xs ++ y ∷ []) ++ ys) (length xs) ≡ Some y = get_front (xs ++ y ∷ []) ys (length xs) y (get_last xs y) in
+    let there : slice_get ((xs ++ y ∷ []) ++ ys) (length xs) ≡ Some y = get_longer (xs ++ y ∷ []) ys (length xs) y (get_last xs y) in
     ap (numbered (xs ++ y ∷ ys)) (n ∙ z) ∙ ap (λ zs. slice_get zs (length xs)) (sym (append_assoc xs (y ∷ []) ys)) ∙ there ∙ ap (λ (p : ℕ × _). Some p.1) (sym e)
 stands_there xs (y ∷ ys) k v (inr h) =
     let z : length xs + 1 + 1 ≡ length (xs ++ y ∷ []) + 1 = ap (λ n. n + 1) (sym (length-append xs (y ∷ []))) in
     ap (λ zs. numbered zs k) (sym (append_assoc xs (y ∷ []) ys)) ∙ stands_there (xs ++ y ∷ []) ys k v (subst (λ n. Has (k, v) (under_numbers n ys)) z h)
 
--- a line that tells something is among what is reported
-told_has : {A : Type 0} (line : Observation → Option A) (os : List Observation) (o : Observation) (x : A) → Has o os → line o ≡ Some x → Has x (filter_map line os)
-told_has line [] o x h e = absurd h
-told_has line (p ∷ os) o x (inl q) e = subst (λ z. Has x (cons_option z (filter_map line os))) (sym (ap line (sym q) ∙ e)) (inl refl)
-told_has line (p ∷ os) o x (inr h) e = go (line p) (told_has line os o x h e)
-  where
-    go : (z : Option _) → Has x (filter_map line os) → Has x (cons_option z (filter_map line os))
-    go None i = i
-    go (Some y) i = inr i
-
 -- what a line tells is under its number
 is_there : {A B : Type 0} (line : Observation → Option (ℕ × A)) (f : B → A) (xs : List A) (os : List Observation) (zs : List B) → Grows line xs os (map f zs) → (o : Observation) (k : ℕ) (v : A) → Has o os → line o ≡ Some (k, v) → option_map f (numbered zs k) ≡ Some v
 is_there line f xs os zs g o k v h e =
-    mapped k ∙ ap (λ ys. numbered ys k) g.is ∙ stands_there xs g.new k v (subst (Has (k, v)) g.lines (told_has line os o (k, v) h e))
+    mapped k ∙ ap (λ ys. numbered ys k) g.is ∙ stands_there xs g.new k v (subst (Has (k, v)) g.lines (has_filter_map line os o (k, v) h e))
   where
     mapped : (n : ℕ) → option_map f (numbered zs n) ≡ numbered (map f zs) n
     mapped zero = refl
@@ -111,16 +93,11 @@ issued_right c number (Some k) e = ap (λ (z : Option (ℕ × ℕ)). pair_is z) 
     pair_is None = true
     pair_is (Some p) = (p.0 == c.0) && (p.1 == number)
 
--- what lines add comes after what was there
-map_length : {A B : Type 0} (f : A → B) (xs : List A) → length (map f xs) ≡ length xs
-map_length f [] = refl
-map_length f (x ∷ xs) = ap suc (map_length f xs)
-
 grown : {A B : Type 0} (line : Observation → Option (ℕ × A)) (f : B → A) (xs ys : List B) (os : List Observation) → filter_map line os ≡ under_numbers (length xs + 1) (drop (length xs) (map f ys)) → take (length xs) (map f ys) ≡ map f xs → Grows line (map f xs) os (map f ys)
 grown line f xs ys os lines kept =
     record {
       new = drop (length xs) (map f ys);
-      lines = lines ∙ ap (λ n. under_numbers (n + 1) (drop (length xs) (map f ys))) (sym (map_length f xs));
+      lines = lines ∙ ap (λ n. under_numbers (n + 1) (drop (length xs) (map f ys))) (sym (length_map f xs));
       is = sym (take-append-drop (length xs) (map f ys)) ∙ ap (λ z. z ++ drop (length xs) (map f ys)) kept;
     }
 

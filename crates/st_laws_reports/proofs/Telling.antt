@@ -1,40 +1,32 @@
 -- What a client tells of lost pages: what its rules answer, and what they leave of the lost pages.
-use Rattle.std.proofs.Common.{◌≡◌, ℕ, ◌⊎◌, Bool, true, false, ◌||◌, List, [], ◌∷◌, ◌++◌, Option, Some, None, refl, sym, ap, ◌∙◌, subst, inl, inr, if◌then◌else◌}
-use Rattle.std.specs.List.{cons_option, list_any}
-use Rattle.std.specs.Prelude.{drop, filter, filter_map, map, not, suc, zero}
-use Rattle.std.proofs.lemmas.Bool.{eqb-true, eq-eqb}
-use Rattle.st_base.specs.declared.disk.Tag.{Tag}
-use Rattle.st_base.specs.declared.ids.FileId.{FileId}
-use Rattle.st_base.specs.declared.ids.PageNo.{PageNo}
-use Rattle.st_base.specs.declared.ids.ServerId.{ServerId}
-use Rattle.st_base.specs.declared.ids.Stamp.{Stamp}
+use Rattle.st_lemmas.proofs.Words
+use Words.{◌≡◌, ℕ, ◌⊎◌, Bool, true, false, List, [], ◌∷◌, ◌++◌, Option, Some, None, refl, sym, ap, ◌∙◌, subst, inl, inr, if◌then◌else◌, cons_option}
+use Words.{drop, filter, filter_map, map, not, suc, zero, eqb-true, eq-eqb, Tag, FileId, PageNo, ServerId, Stamp, AppAnswer, Ask, Body, Header, Note}
+use Words.{Output, LostPage, Operation, Stage}
+use Words.answers
+use Words.asks
+use Words.notes
+use Words.outputs
+use Words.stages
+use Words.Client as cl
+use Words.ClientPages as pages
+use Words.ClientPasses as cp
+use Words.ClientReplies as cr
+use Words.ClientState as cs
+use Words.ClientState.{Association, ClientSession, Turn, answer_to, only_at, say, with_operations}
+use Words.Lists.{Has}
+use Words.Keys.{page_no, rising, same_server}
+use Words.Tables.{and_true, found_at, has_append, has_filter, has_filter_in, has_map, none_passes, not_true}
+use Words.commands
+use Words.Page.{filled}
+use Words.io
+use Words.Members.{has_left, has_right}
+use Words.Truth.{server_is}
 use Rattle.st_base.specs.declared.rows.LostRow.{LostRow}
-use Rattle.st_messages.specs.declared.answer.AppAnswer.{AppAnswer}
-use Rattle.st_messages.specs.declared.answer.AppAnswer.TheVariants as answers
-use Rattle.st_messages.specs.declared.ask.Ask.{Ask}
-use Rattle.st_messages.specs.declared.ask.Ask.TheVariants as asks
-use Rattle.st_messages.specs.declared.message.Body.{Body}
-use Rattle.st_messages.specs.declared.message.Header.{Header}
-use Rattle.st_messages.specs.declared.output.Note.{Note}
-use Rattle.st_messages.specs.declared.output.Note.TheVariants as notes
-use Rattle.st_messages.specs.declared.output.Output.{Output}
-use Rattle.st_messages.specs.declared.output.Output.TheVariants as outputs
-use Rattle.st_rules.specs.declared.client.LostPage.{LostPage}
-use Rattle.st_rules.specs.declared.client.Operation.{Operation}
-use Rattle.st_rules.specs.declared.client.Stage.{Stage}
-use Rattle.st_rules.specs.declared.client.Stage.TheVariants as stages
-use Rattle.st_rules.specs.Client as cl
-use Rattle.st_rules.specs.ClientPages as pages
-use Rattle.st_rules.specs.ClientPasses as cp
-use Rattle.st_rules.specs.ClientReplies as cr
-use Rattle.st_rules.specs.ClientState as cs
-use Rattle.st_rules.specs.ClientState.{Association, ClientSession, Turn, answer_to, only_at, say, with_operations}
-use Rattle.st_lemmas.specs.Lists.{Has}
-use Rattle.st_rules.specs.Keys.{page_no, rising, same_server}
+use Rattle.st_lemmas.proofs.Once.{none_any}
 use Rattle.st_promises.specs.Losses.{IsToldBy, IsToldTo, owed_of_file, still_owed, told_by, with_dirty}
 use Rattle.st_laws_lines.proofs.Walking as walk
 use Rattle.st_laws_reports.proofs.Words.{owing_all_is, owed_of_file_is, still_owed_is}
-use Rattle.st_lemmas.proofs.Tables.{and_true, found_at, has_append, has_filter, has_filter_in, has_map, none_passes, not_true}
 use Rattle.st_trace.specs.Client.Commands as ending
 use Rattle.st_trace.specs.Client.Commands.{Finishes, Takes}
 use Rattle.st_trace.specs.Client.Losses as losing
@@ -49,10 +41,6 @@ use Rattle.st_trace.proofs.Client.Losing.{loses}
 use Rattle.st_trace.proofs.Client.Operating.{operations}
 use Rattle.st_trace.proofs.Client.Requesting.{asks_no_sync, requests}
 use Rattle.st_trace.proofs.Client.Walk.{each_lasts}
-use Rattle.st_base.specs.declared.disk.Command.TheVariants as commands
-use Rattle.st_base.specs.Page.{filled}
-use Rattle.st_rules.specs.declared.client.IoKind.TheVariants as io
-use Rattle.st_trace.proofs.Client.Lists.{has_left, has_right}
 
 -- What is owed of each server.
 abbrev pub Rows : Type 0
@@ -82,15 +70,6 @@ SyncOk R ask o = Unit {0}
 abbrev pub SyncEnds : ServerId → Ask → Operation → Type 0
 SyncEnds s (asks.Sync f) o = record { unsent : cs.is_sent o ≡ false; of : f.server ≡ s }
 SyncEnds s ask o = Unit {0}
-
--- Rows with some fewer.
-none_any : {A : Type 0} (q : A → Bool) (xs : List A) → ((x : A) → Has x xs → q x ≡ false) → list_any q xs ≡ false
-none_any q [] f = refl
-none_any q (x ∷ xs) f = go (q x) (f x (inl refl)) (none_any q xs (λ y h. f y (inr h)))
-  where
-    go : (b : Bool) → b ≡ false → list_any q xs ≡ false → (b || list_any q xs) ≡ false
-    go true e r = cc
-    go false e r = r
 
 has_drop : {A : Type 0} (n : ℕ) (xs : List A) (x : A) → Has x (drop n xs) → Has x xs
 has_drop zero xs x h = h
@@ -140,9 +119,6 @@ pub told_same : (ask : Option Ask) (R S : Rows) (a : AppAnswer) → ((r : Server
 told_same (Some (asks.Sync f)) R S a e h = subst (λ (x : List LostPage). IsToldBy (pages.has_lost x f.ino) (owed_of_file x f.ino) a) (sym (e f.server)) h
 told_same ask R S (answers.Lost xs) e h = h
 told_same ask R S a e h = h
-
-same_number : (s t : ServerId) → s.0 ≡ t.0 → s ≡ t
-same_number s t e = ap (λ n. record { 0 = n }) e
 
 -- an ask that isn't a sync
 abbrev pub IsNoSync : Ask → Type 0
@@ -598,7 +574,7 @@ module _ (asked : ℕ → Option Ask) (had : ServerId → Option Association) wh
             by : (a : Ask) → SyncOk R a o → same_server (cs.server_of a) t.here.server ≡ true → SyncEnds s a o
             by (asks.Sync g) y q = record {
               unsent = y.unsent;
-              of = same_number g.server s
+              of = server_is g.server s
                   (eqb-true g.server.0 t.here.server.0 q ∙ ap (λ (z : ServerId). z.0) k.at);
             }
             by a y q = tt
@@ -649,5 +625,5 @@ module _ (asked : ℕ → Option Ask) (had : ServerId → Option Association) wh
       where
         go : (b : Bool) → cs.is_at (cs.server_of ask) t.here ≡ b → Moved R (if b then cl.take_ask op ask t else t)
         go true q = taken op ask known R t (cl.take_ask op ask t) (takes op ask t)
-            (same_number _ s (sym (eqb-true t.here.server.0 (cs.server_of ask).0 q) ∙ ap (λ (z : ServerId). z.0) k.at)) k
+            (server_is _ s (sym (eqb-true t.here.server.0 (cs.server_of ask).0 q) ∙ ap (λ (z : ServerId). z.0) k.at)) k
         go false q = stays R t k

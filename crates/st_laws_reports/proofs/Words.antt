@@ -1,13 +1,10 @@
 -- What is owed, in the words of the promise, is what the rules of a client keep as lost.
-use Rattle.std.proofs.Common.{◌≡◌, ℕ, Bool, true, false, ◌&&◌, ◌==◌, List, [], ◌∷◌, ◌++◌, Option, Some, None, refl, ap, ◌∙◌, if◌then◌else◌}
-use Rattle.std.specs.Prelude.{drop, filter, filter_map, find, map, nat_lt, not, take}
-use Rattle.st_rules.specs.declared.client.IoKind.{IoKind}
-use Rattle.st_rules.specs.declared.client.IoKind.TheVariants as io
-use Rattle.st_rules.specs.declared.client.LostPage.{LostPage}
-use Rattle.st_rules.specs.declared.client.PageCommand.{PageCommand}
-use Rattle.st_rules.specs.declared.pages.DirtyPage.{DirtyPage}
-use Rattle.st_rules.specs.ClientPages as pages
-use Rattle.st_rules.specs.Keys as keys
+use Rattle.st_lemmas.proofs.Words
+use Words.{◌≡◌, ℕ, Bool, ◌&&◌, ◌==◌, List, [], ◌∷◌, ◌++◌, Option, Some, None, refl, ap, ◌∙◌, if◌then◌else◌, drop, filter, filter_map, find, map, nat_lt, not}
+use Words.{take, IoKind, LostPage, PageCommand, DirtyPage}
+use Words.io
+use Words.ClientPages as pages
+use Words.Keys as keys
 use Rattle.st_promises.specs.Losses as owed
 
 -- Finding by tests that agree.

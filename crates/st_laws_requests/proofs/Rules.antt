@@ -1,11 +1,8 @@
 -- The rule of a request leaves the sessions, and whatever other parts of the state and notes leave.
-use Rattle.std.proofs.Common.{◌≡◌, refl}
-use Rattle.st_messages.specs.declared.message.Body.{Body}
-use Rattle.st_messages.specs.declared.message.Header.{Header}
-use Rattle.st_messages.specs.declared.output.Note.{Note}
-use Rattle.st_base.specs.declared.ids.Stamp.{Stamp}
-use Rattle.st_rules.specs.Server as sv
-use Rattle.st_rules.specs.Server.{ServerState, ServerTurn, note}
+use Rattle.st_lemmas.proofs.Words
+use Words.{◌≡◌, refl, Body, Header, Note, Stamp}
+use Words.Server as sv
+use Words.Server.{ServerState, ServerTurn, note}
 use Rattle.st_trace.specs.Server.Edits.{Ruled, Tells, Acquires, Releases, Allocates, Cuts, Creates, MakesDir, Renames, RemovesDir, RemovesFile}
 
 module _ (O : ServerTurn → Type 0)

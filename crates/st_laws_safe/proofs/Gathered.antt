@@ -29,7 +29,7 @@ every_run k clients servers disks blocks form es head events =
       waits = most.waits;
       conflicts = most.conflicts;
       told = most.told;
-      logged = cuts.law k clients servers disks blocks form es head events;
+      logged = cuts.runs_log_answers k clients servers disks blocks form es head events;
       once = most.once;
       locked = most.locked;
       order = order_law k clients servers disks blocks form es head events;
@@ -39,14 +39,14 @@ every_run k clients servers disks blocks form es head events =
       held = whole.held k clients servers disks blocks form es head events;
       faults = faults_law k clients servers disks blocks form es head;
       counts = counts_law k clients servers disks blocks form es head;
-      cuts = asked.law k clients servers disks blocks form es head events;
-      given = grants.law k clients servers disks blocks form es head events;
+      cuts = asked.cuts_are_asked k clients servers disks blocks form es head events;
+      given = grants.grant_numbers_are_given_once k clients servers disks blocks form es head events;
       rising = grants.rising k clients servers disks blocks form es head events;
-      acknowledged = acknowledged.law k clients servers disks blocks form es head events;
-      named = named.law k clients servers disks blocks form es head events;
-      renamed = renamed.law k clients servers disks blocks form es head events;
-      changed = changed.law k clients servers disks blocks form es head events;
-      refused = refused.law k clients servers disks blocks form es head events;
+      acknowledged = acknowledged.cuts_are_acknowledged k clients servers disks blocks form es head events;
+      named = named.names_answer_truly k clients servers disks blocks form es head events;
+      renamed = renamed.names_change_as_asked k clients servers disks blocks form es head events;
+      changed = changed.names_change_once_in_every_run k clients servers disks blocks form es head events;
+      refused = refused.refusals_change_nothing k clients servers disks blocks form es head events;
     }
 
 pub all_promised : IsAllPromised

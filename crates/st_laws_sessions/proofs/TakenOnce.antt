@@ -1,20 +1,17 @@
 -- A number that was taken is never fresh again, and gets its reply while it is the latest.
-use Rattle.std.proofs.Common.{◌≡◌, ◌≢◌, ◌+◌, ◌<◌, ℕ, Bool, true, false, List, [], ◌∷◌, find, arith, refl, sym, ap, subst, ◌∙◌, inl, inr, le-ltb, ltb-false, leb-false, eqb-true, eq-eqb, ne_eqb}
-use Rattle.std.proofs.lemmas.Bool.{eqb-false}
-use Rattle.std.specs.Prelude.{◌⊎◌, ◌==◌, nat_lt, nat_le, if◌then◌else◌, Option, Some, None, option_map}
-use Rattle.st_base.specs.declared.ids.ClientId.{ClientId}
-use Rattle.st_base.specs.declared.ids.Epoch.{Epoch}
-use Rattle.st_base.specs.declared.ids.Life.{Life}
-use Rattle.st_lemmas.proofs.Lookups.{if_true, if_false}
+use Rattle.st_lemmas.proofs.Words
+use Words.{◌≡◌, ◌≢◌, ◌+◌, ◌<◌, ℕ, Bool, true, false, List, [], ◌∷◌, find, arith, refl, sym, ap, subst, ◌∙◌, inl, inr, le-ltb, ltb-false, leb-false, eqb-true}
+use Words.{eq-eqb, ne_eqb, eqb-false, ◌⊎◌, ◌==◌, nat_lt, nat_le, if◌then◌else◌, Option, Some, None, option_map, ClientId, Epoch, Life, Body, Session}
+use Words.{SessionState}
+use Words.Lookups.{if_true, if_false}
+use Words.Tables.{same_or_not, find_other, find_own}
+use Words.hellos
+use Words.states.{Live, Ended}
+use Words.takes.{OtherEpoch, NoSession, Stale, Again, Fresh, OutOfOrder}
+use Words.Sessions.{Sessions, again, begin_session, end, ended, greeted, hello, hello_again, hello_at, hello_by, hello_ended, hello_higher, hello_live, is_live}
+use Words.Sessions.{is_session_of, keep_reply, kept_state, reasserted, reasserted_session, session_of, store, take, take_at, take_from, take_life, take_next}
+use Words.Sessions.{take_number, take_past, take_state, with_new_session, with_session}
 use Rattle.st_lemmas.proofs.Puts.{find_put, find_put_other}
-use Rattle.st_lemmas.proofs.Tables.{same_or_not, find_other, find_own}
-use Rattle.st_messages.specs.declared.message.Body.{Body}
-use Rattle.st_rules.specs.declared.sessions.Hello.TheVariants as hellos
-use Rattle.st_rules.specs.declared.sessions.Session.{Session}
-use Rattle.st_rules.specs.declared.sessions.SessionState.{SessionState}
-use Rattle.st_rules.specs.declared.sessions.SessionState.TheVariants.{Live, Ended}
-use Rattle.st_rules.specs.declared.sessions.Taken.TheVariants.{OtherEpoch, NoSession, Stale, Again, Fresh, OutOfOrder}
-use Rattle.st_rules.specs.Sessions.{Sessions, again, begin_session, end, ended, greeted, hello, hello_again, hello_at, hello_by, hello_ended, hello_higher, hello_live, is_live, is_session_of, keep_reply, kept_state, reasserted, reasserted_session, session_of, store, take, take_at, take_from, take_life, take_next, take_number, take_past, take_state, with_new_session, with_session}
 use Rattle.st_laws_sessions.specs.TakenOnce.{EachNumberIsTakenOnce, IsTaken, MayCall, MayFollow, SessionCall, Greets, Stores, Reasserts, Ends, after, called}
 
 -- the number is the next one

@@ -1,36 +1,27 @@
 -- Through a whole step while one wait is the first of its file: the demands on the rows in its way are sent again, since a tick looks at each; and where
 -- no other client answers for the file each of these rows is chased, since only an answer or a theft ends a demand.
-use Rattle.std.proofs.Common.{◌≡◌, ◌≢◌, ℕ, ◌+◌, ◌*◌, ◌≤◌, ◌<◌, ◌⊎◌, Bool, true, false, not, ◌&&◌, [], ◌==◌, refl, sym, ap, ◌∙◌, subst, inl, inr, arith}
-use Rattle.std.specs.Prelude.{find, nat_le, Option, Some, None, is_some, option_map}
-use Rattle.std.proofs.lemmas.Bool.{eq-eqb, ne_eqb}
-use Rattle.st_base.specs.declared.config.Config.{Config}
-use Rattle.st_base.specs.declared.ids.ClientId.{ClientId}
-use Rattle.st_base.specs.declared.ids.Stamp.{Stamp}
-use Rattle.st_base.specs.declared.mode.Mode.{Mode}
-use Rattle.st_base.specs.declared.mode.Mode.TheVariants as modes
+use Rattle.st_lemmas.proofs.Words
+use Words.{◌≡◌, ◌≢◌, ℕ, ◌+◌, ◌*◌, ◌≤◌, ◌<◌, ◌⊎◌, Bool, true, false, not, ◌&&◌, [], ◌==◌, refl, sym, ap, ◌∙◌, subst, inl, inr, arith, find, nat_le, Option, Some}
+use Words.{None, is_some, option_map, eq-eqb, ne_eqb, Config, ClientId, Stamp, Mode, Message, Suspect, ServerInput, LockRow, RowDemand, Waiter}
+use Words.modes
+use Words.serving.{Tick, Control}
+use Words.Authority as authority
+use Words.Authority.{Authority, is_suspect, may_ack, suspect_of}
+use Words.Grace as grace
+use Words.Keys.{client}
+use Words.Leases.{steal_wait}
+use Words.Locks as locks
+use Words.Locks.{Locks, answered_row, demand_again, demand_lower, demand_lowered, demand_now, demanded, lowered, row_of, stands_against, unless_met}
+use Words.Server.{ServerState, ServerTurn, demanding, granting, is_tick, server_step, suspecting, suspecting_on, take_input, thefts, turn}
+use Words.Lists.{Has}
+use Words.Tables.{and_both, cond_either, same_or_not}
+use Words.Truth.{none_there}
 use Rattle.st_base.specs.Mode.{conflicts, number_of}
-use Rattle.st_messages.specs.declared.message.Message.{Message}
-use Rattle.st_rules.specs.declared.authority.Suspect.{Suspect}
-use Rattle.st_rules.specs.declared.input.ServerInput.{ServerInput}
-use Rattle.st_rules.specs.declared.input.ServerInput.TheVariants.{Tick, Control}
-use Rattle.st_rules.specs.declared.locks.LockRow.{LockRow}
-use Rattle.st_rules.specs.declared.locks.RowDemand.{RowDemand}
-use Rattle.st_rules.specs.declared.locks.Waiter.{Waiter}
-use Rattle.st_rules.specs.Authority as authority
-use Rattle.st_rules.specs.Authority.{Authority, is_suspect, may_ack, suspect_of}
-use Rattle.st_rules.specs.Grace as grace
-use Rattle.st_rules.specs.Keys.{client}
-use Rattle.st_rules.specs.Leases.{steal_wait}
-use Rattle.st_rules.specs.Locks as locks
-use Rattle.st_rules.specs.Locks.{Locks, answered_row, demand_again, demand_lower, demand_lowered, demand_now, demanded, lowered, row_of, stands_against, unless_met}
-use Rattle.st_rules.specs.Server.{ServerState, ServerTurn, demanding, granting, is_tick, server_step, suspecting, suspecting_on, take_input, thefts, turn}
-use Rattle.st_lemmas.specs.Lists.{Has}
-use Rattle.st_lemmas.proofs.Tables.{and_both, cond_either, same_or_not}
 use Rattle.st_laws_refine.specs.Server.Edits.{WishInput}
 use Rattle.st_laws_refine.proofs.Server.Changes.{suspect_other, suspect_own}
 use Rattle.st_laws_refine.proofs.Server.OneRow.{row_found}
 use Rattle.st_laws_refine.proofs.Server.Thefts.{over_has}
-use Rattle.st_laws_refine.proofs.Server.Walk.{w_demanding, w_granting, w_message, w_suspecting}
+use Rattle.st_laws_refine.proofs.Server.Walk.{kept_by_demands, kept_by_grants, kept_by_message, kept_by_suspicions}
 use Rattle.st_trace.proofs.Server.Input.{thefts_begun}
 use Rattle.st_laws_waits.specs.Bounds.{DemandInTime, InTime, RowsHaveSessions, SinceInTime}
 use Rattle.st_laws_waits.specs.Chase.{ChasedBy, ChasedDemand, ChasedRow, ChasedSince, IsFirst, Others, Repeated, RepeatedRow, Silent, answers_for}
@@ -39,7 +30,6 @@ use Rattle.st_laws_waits.proofs.Demanding.{IsDue, pass_due, sent_is}
 use Rattle.st_laws_waits.proofs.Edits.{more_suspects}
 use Rattle.st_laws_waits.proofs.Robbing.{left, same_timer}
 use Rattle.st_laws_waits.proofs.Steps.{robbed}
-use Rattle.st_laws_waits.proofs.Tests.{free_none}
 
 -- a row in the way
 pub against : (w : Waiter) (r : LockRow) → r.ino ≡ w.ino → r.client.0 ≢ w.client.0 → conflicts r.mode w.mode ≡ true →
@@ -69,10 +59,10 @@ module _ (k : Config) (last : ℕ) (now : Stamp) (w : Waiter) (n : ServerState) 
     robbed_of = record { going = robbed k last now n p q rp known s; either = inr behind }
 
     granted : (t : ServerTurn) → C t → C (granting t now)
-    granted t c = w_granting n now i C (chase_edit w R k last now i kept (steal_wait k) n.grace n off p q s.past behind) t c
+    granted t c = kept_by_grants n now i C (chase_edit w R k last now i kept (steal_wait k) n.grace n off p q s.past behind) t c
 
     passes : (t : ServerTurn) → C t → C (demanding (granting t now) now i)
-    passes t c = w_demanding n now i C (chase_edit w R k last now i kept (steal_wait k) n.grace n off p q s.past behind) (granting t now) (granted t c)
+    passes t c = kept_by_demands n now i C (chase_edit w R k last now i kept (steal_wait k) n.grace n off p q s.past behind) (granting t now) (granted t c)
 
   pub message_waits : (m : Message) → WishInput (Control m) → Kept w R k last now (Control m) → Waits w R n.authority n.locks →
       IsFirst w (server_step n now (Control m)).state.locks →
@@ -81,7 +71,7 @@ module _ (k : Config) (last : ℕ) (now : Stamp) (w : Waiter) (n : ServerState) 
   message_waits m wish kept x f =
       let t = take_input (thefts (turn n []) now) now (Control m) in
       not_gone w R _ _
-      (passes (Control m) kept x t (w_message n now m (C (Control m) kept x) (chase_edit w R k last now (Control m) kept (steal_wait k) n.grace n off p q s.past (behind (Control m) kept x)) wish (robbed_of (Control m) kept x))).either f
+      (passes (Control m) kept x t (kept_by_message n now m (C (Control m) kept x) (chase_edit w R k last now (Control m) kept (steal_wait k) n.grace n off p q s.past (behind (Control m) kept x)) wish (robbed_of (Control m) kept x))).either f
 
   -- on a tick no demand on a row in the way is old
   abbrev pub AllDue : Authority → Locks → Type 0
@@ -96,7 +86,7 @@ module _ (k : Config) (last : ℕ) (now : Stamp) (w : Waiter) (n : ServerState) 
       t = suspecting (thefts (turn n []) now) now
 
       suspected : C Tick kept x t
-      suspected = w_suspecting n now (C Tick kept x) (chase_edit w R k last now Tick kept (steal_wait k) n.grace n off p q s.past (behind Tick kept x)) (thefts (turn n []) now) (thefts_begun n now).quiet (robbed_of Tick kept x)
+      suspected = kept_by_suspicions n now (C Tick kept x) (chase_edit w R k last now Tick kept (steal_wait k) n.grace n off p q s.past (behind Tick kept x)) (thefts (turn n []) now) (thefts_begun n now).quiet (robbed_of Tick kept x)
 
       u : ServerTurn
       u = demanding (granting t now) now Tick
@@ -158,7 +148,7 @@ module _ (from : ℕ) (k : Config) (gap last : ℕ) (now : Stamp) (w : Waiter) (
           ChasedBy from k gap last r.demand (find (is_suspect r.client) (authority.with_suspect (authority.new_suspect c now) a.suspects))
       go (inl q) =
           let ec : may_ack a r.client ≡ true = subst (λ n. may_ack a (client n) ≡ true) q e in
-          let nn : suspect_of a r.client ≡ None = free_none (suspect_of a r.client) ec in
+          let nn : suspect_of a r.client ≡ None = none_there (suspect_of a r.client) ec in
           subst (ChasedBy from k gap last r.demand) (sym (suspect_own (authority.new_suspect c now) r.client.0 q a.suspects nn))
           (start_soon r.demand (b ec) (subst (ChasedBy from k gap last r.demand) nn h))
       go (inr ne) = subst (ChasedBy from k gap last r.demand) (sym (suspect_other (authority.new_suspect c now) r.client.0 ne a.suspects)) h

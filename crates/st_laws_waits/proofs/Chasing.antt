@@ -1,45 +1,38 @@
 -- While one wait is the first of its file, every fact of the rows of other clients on the file that five kinds of change keep is kept by a whole step
 -- out of grace: no change puts another client's row on the file, since nobody is granted before the first waiter.
-use Rattle.std.proofs.Common.{◌≡◌, ◌≢◌, ℕ, ◌+◌, ◌≤◌, ◌⊎◌, Bool, true, false, not, ◌&&◌, List, [], ◌∷◌, ◌==◌, refl, sym, ap, ◌∙◌, subst, inl, inr, arith}
-use Rattle.std.specs.Prelude.{find, filter, map, Option, Some, None, option_map}
-use Rattle.std.specs.List.{list_any}
-use Rattle.std.proofs.lemmas.Bool.{eqb-true, eq-eqb, ne_eqb, le-leb}
-use Rattle.st_base.specs.declared.config.Config.{Config}
-use Rattle.st_base.specs.declared.ids.ClientId.{ClientId}
-use Rattle.st_base.specs.declared.ids.GrantNo.{GrantNo}
-use Rattle.st_base.specs.declared.ids.Life.{Life}
-use Rattle.st_base.specs.declared.ids.Stamp.{Stamp}
-use Rattle.st_base.specs.declared.mode.Mode.{Mode}
-use Rattle.st_base.specs.declared.mode.Mode.TheVariants as modes
+use Rattle.st_lemmas.proofs.Words
+use Words.{◌≡◌, ◌≢◌, ℕ, ◌+◌, ◌≤◌, ◌⊎◌, Bool, true, false, not, ◌&&◌, List, [], ◌∷◌, ◌==◌, refl, sym, ap, ◌∙◌, subst, inl, inr, arith, find, filter, map, Option}
+use Words.{Some, None, option_map, list_any, eqb-true, eq-eqb, ne_eqb, le-leb, Config, ClientId, GrantNo, Life, Stamp, Mode, Message, ServerInput, LockRow}
+use Words.{RowDemand, Waiter}
+use Words.modes
+use Words.bodies
+use Words.serving.{Control}
+use Words.Authority as authority
+use Words.Authority.{Authority, may_ack, suspect_of}
+use Words.Grace as grace
+use Words.Grace.{Grace}
+use Words.Keys.{client}
+use Words.Locks as locks
+use Words.Locks.{Locks, answered_row, demand_now, demand_of, demanded, grant, is_row_of, is_under, is_wait_by, is_wait_of, is_wait_on, lower, lowered, new_row}
+use Words.Locks.{new_wait, queue, queue_at, raise, release_to, row_of, observe, wait_for, wait_of, waits_besides, with_demand}
+use Words.Server.{ServerState, ServerTurn, is_tick, keep_and_reply, life_in, reply, sender, steal_from, suspect_client, tell, thefts, turn}
+use Words.ServerInvariants.{are_once, same_row}
+use Words.Lists.{Has}
+use Words.Lookups.{some_is}
+use Words.Tables.{and_both, and_true, cond_either, cond_false, cond_true, find_map, found_at, has_filter, has_map, not_true, same_or_not, some_passes}
+use Words.Tests.{find_filtered, find_longer}
+use Words.Truth.{not_both}
 use Rattle.st_base.specs.Mode.{covers, number_of}
-use Rattle.st_messages.specs.declared.message.Message.{Message}
-use Rattle.st_messages.specs.declared.message.Body.TheVariants as bodies
-use Rattle.st_rules.specs.declared.input.ServerInput.{ServerInput}
-use Rattle.st_rules.specs.declared.input.ServerInput.TheVariants.{Control}
-use Rattle.st_rules.specs.declared.locks.LockRow.{LockRow}
-use Rattle.st_rules.specs.declared.locks.RowDemand.{RowDemand}
-use Rattle.st_rules.specs.declared.locks.Waiter.{Waiter}
-use Rattle.st_rules.specs.Authority as authority
-use Rattle.st_rules.specs.Authority.{Authority, may_ack, suspect_of}
-use Rattle.st_rules.specs.Grace as grace
-use Rattle.st_rules.specs.Grace.{Grace}
-use Rattle.st_rules.specs.Keys.{client}
-use Rattle.st_rules.specs.Locks as locks
-use Rattle.st_rules.specs.Locks.{Locks, answered_row, demand_now, demand_of, demanded, grant, is_row_of, is_under, is_wait_by, is_wait_of, is_wait_on, lower, lowered, new_row, new_wait, queue, queue_at, raise, release_to, row_of, observe, wait_for, wait_of, waits_besides, with_demand}
-use Rattle.st_rules.specs.Server.{ServerState, ServerTurn, is_tick, keep_and_reply, life_in, reply, sender, steal_from, suspect_client, tell, thefts, turn}
-use Rattle.st_rules.specs.ServerInvariants.{are_once, same_row}
-use Rattle.st_lemmas.specs.Lists.{Has}
-use Rattle.st_lemmas.proofs.Lookups.{some_is}
 use Rattle.st_lemmas.proofs.Puts.{has_put}
-use Rattle.st_lemmas.proofs.Tables.{and_both, and_true, cond_either, cond_false, cond_true, find_map, found_at, has_filter, has_map, not_true, same_or_not, some_passes}
-use Rattle.st_laws_refine.specs.Server.Edits.{Acquired, AtOnce, InTurn, Edit, TakesTimers, Steals, Suspects, Begins, DropsWaits, Keeps, Reasserts, Sees, Acquires, Releases, DropsFile, Grants, Demands, NamesChange, ExtentsChange, Cuts, Replies, Repeats, Refuses, TellsGrant, TellsDemand}
+use Rattle.st_laws_refine.specs.Server.Edits.{Acquired, AtOnce, InTurn, Edit, TakesTimers, Steals, Suspects, Begins, DropsWaits, Keeps, Reasserts, Sees}
+use Rattle.st_laws_refine.specs.Server.Edits.{Acquires, Releases, DropsFile, Grants, Demands, NamesChange, ExtentsChange, Cuts, Replies, Repeats, Refuses}
+use Rattle.st_laws_refine.specs.Server.Edits.{TellsGrant, TellsDemand}
 use Rattle.st_laws_refine.proofs.Server.OneRow.{demanded_once, forget_once, granted_once, released_once, row_found, seen_once}
 use Rattle.st_laws_waits.specs.Bounds.{DemandInTime}
 use Rattle.st_laws_waits.specs.Chase.{IsFirst}
 use Rattle.st_laws_waits.specs.WithinStep.{WithinStep}
 use Rattle.st_laws_waits.proofs.Demanding.{demand_keys}
 use Rattle.st_laws_waits.proofs.Edits.{edit, taken_out}
-use Rattle.st_laws_waits.proofs.Tests.{clash, find_filter, find_longer}
 
 -- a row of this client and file is the one that is found
 found_is : (l : Locks) → are_once same_row l.rows ≡ true → (c : ClientId) (ino : ℕ) (q r : LockRow) → Has q l.rows → is_row_of c ino q ≡ true →
@@ -53,13 +46,13 @@ module _ (w : Waiter) where
   -- a wait that is raised is another one, or covers the mode already
   pub raised_other : (c : ClientId) (ino : ℕ) (mode : Mode) → covers w.mode mode ≡ false → is_wait_of c ino w ≡ true → (v : Waiter) → w ≡ raise c ino mode v → ⊥
   unfolding wait_for
-  raised_other c ino mode lacks own v = cond_either (λ (y : Waiter). w ≡ y → ⊥) (is_wait_of c ino v) (wait_for mode v) v (λ e z. in_place z) (λ e z. clash (is_wait_of c ino v) (subst (λ y. is_wait_of c ino y ≡ true) z own) e)
+  raised_other c ino mode lacks own v = cond_either (λ (y : Waiter). w ≡ y → ⊥) (is_wait_of c ino v) (wait_for mode v) v (λ e z. in_place z) (λ e z. not_both (is_wait_of c ino v) (subst (λ y. is_wait_of c ino y ≡ true) z own) e)
     where
       covers_self : (m : Mode) → covers m m ≡ true
       covers_self m = le-leb (number_of m) (number_of m) (omega arith)
 
       in_place : w ≡ wait_for mode v → ⊥
-      in_place z = cond_either (λ m. w.mode ≡ m → ⊥) (covers v.mode mode) v.mode mode (λ e y. clash (covers w.mode mode) (ap (λ m. covers m mode) y ∙ e) lacks) (λ e y. clash (covers w.mode mode) (ap (λ m. covers m mode) y ∙ covers_self mode) lacks) (ap (λ (y : Waiter). y.mode) z)
+      in_place z = cond_either (λ m. w.mode ≡ m → ⊥) (covers v.mode mode) v.mode mode (λ e y. not_both (covers w.mode mode) (ap (λ m. covers m mode) y ∙ e) lacks) (λ e y. not_both (covers w.mode mode) (ap (λ m. covers m mode) y ∙ covers_self mode) lacks) (ap (λ (y : Waiter). y.mode) z)
 
   -- or the same one
   pub raised_same : (c : ClientId) (ino : ℕ) (mode : Mode) → covers w.mode mode ≡ true → raise c ino mode w ≡ w
@@ -98,13 +91,13 @@ module _ (w : Waiter) (R : Authority → LockRow → Type 0) where
   left_out a l q (inr x) = go (q w) refl
     where
       go : (b : Bool) → q w ≡ b → Either a (record l { waiters = filter q l.waiters })
-      go true e = inr (record { once = x.once; first = find_filter (is_wait_on w.ino) q w l.waiters x.first e; rows = x.rows })
-      go false e = inl (λ h. clash (q w) (has_filter q l.waiters w h).1 e)
+      go true e = inr (record { once = x.once; first = find_filtered (is_wait_on w.ino) q w l.waiters x.first e; rows = x.rows })
+      go false e = inl (λ h. not_both (q w) (has_filter q l.waiters w h).1 e)
 
   -- fewer rows
-  fewer : (a : Authority) (l : Locks) (rows : List LockRow) → are_once same_row rows ≡ true → ((r : LockRow) → Has r rows → Has r l.rows) → Waits a l →
+  waits_with_fewer_rows : (a : Authority) (l : Locks) (rows : List LockRow) → are_once same_row rows ≡ true → ((r : LockRow) → Has r rows → Has r l.rows) → Waits a l →
       Waits a (record l { rows = rows })
-  fewer a l rows o h x = record { once = o; first = x.first; rows = λ r j. x.rows r (h r j) }
+  waits_with_fewer_rows a l rows o h x = record { once = o; first = x.first; rows = λ r j. x.rows r (h r j) }
 
   -- other timers
   timed : (a b : Authority) (l : Locks) → ((r : LockRow) → Has r l.rows → R a r → R b r) → Either a l → Either b l
@@ -139,12 +132,12 @@ module _ (w : Waiter) (R : Authority → LockRow → Type 0) where
   -- the wait is taken out of its queue
   taken : (l : Locks) (rows : List LockRow) (grants : ℕ) →
       Gone (record l { grants = grants; rows = rows; waiters = locks.without_wait w.client w.ino l.waiters })
-  taken l rows grants h = clash (is_wait_of w.client w.ino w) (and_both _ _ (eq-eqb w.client.0 w.client.0 refl) (eq-eqb w.ino w.ino refl)) (not_true _ (has_filter (λ v. not (is_wait_of w.client w.ino v)) l.waiters w h).1)
+  taken l rows grants h = not_both (is_wait_of w.client w.ino w) (and_both _ _ (eq-eqb w.client.0 w.client.0 refl) (eq-eqb w.ino w.ino refl)) (not_true _ (has_filter (λ v. not (is_wait_of w.client w.ino v)) l.waiters w h).1)
 
   -- whoever else is granted the file at once had nobody waiting
   at_once : (a : Authority) (l : Locks) (c : ClientId) (life : Life) (ino : ℕ) (mode : Mode) → list_any (waits_besides c ino) l.waiters ≡ false → Waits a l →
       Either a (grant l c life ino mode)
-  at_once a l c life ino mode none x = put_row a l c life ino mode (λ f o. clash (list_any (waits_besides c ino) l.waiters) (some_passes (waits_besides c ino) l.waiters w (found_at (is_wait_on w.ino) l.waiters w x.first).1 (and_both (w.ino == ino) (not (w.client.0 == c.0)) (eq-eqb w.ino ino (sym f)) (ap not (ne_eqb w.client.0 c.0 (λ z. o (sym z)))))) none) x
+  at_once a l c life ino mode none x = put_row a l c life ino mode (λ f o. not_both (list_any (waits_besides c ino) l.waiters) (some_passes (waits_besides c ino) l.waiters w (found_at (is_wait_on w.ino) l.waiters w x.first).1 (and_both (w.ino == ino) (not (w.client.0 == c.0)) (eq-eqb w.ino ino (sym f)) (ap not (ne_eqb w.client.0 c.0 (λ z. o (sym z)))))) none) x
 
   queued : (a : Authority) (l : Locks) (c : ClientId) (life : Life) (ino : ℕ) (mode : Mode) → Waits a l → Either a (queue l c life ino mode)
   unfolding queue queue_at
@@ -243,7 +236,7 @@ module _ (w : Waiter) (R : Authority → LockRow → Type 0) where
         m.body ≡ bodies.Released ino g to →
         row_of l (sender m.header) ino ≡ Some found → is_under (life_in m.header) g found ≡ true → Waits a l → Waits a (release_to l (sender m.header) ino to)
     unfolding release_to
-    releases a l m ino g modes.None found is b fo un x = fewer a l (locks.without_row (sender m.header) ino l.rows) (released_once l (sender m.header) ino modes.None x.once) (λ r j. (has_filter (λ r. not (is_row_of (sender m.header) ino r)) l.rows r j).0) x
+    releases a l m ino g modes.None found is b fo un x = waits_with_fewer_rows a l (locks.without_row (sender m.header) ino l.rows) (released_once l (sender m.header) ino modes.None x.once) (λ r j. (has_filter (λ r. not (is_row_of (sender m.header) ino r)) l.rows r j).0) x
     releases a l m ino g modes.S found is b fo un x = lower_rows a l (release_to l (sender m.header) ino modes.S) m ino g modes.S found is b fo un refl refl (released_once l (sender m.header) ino modes.S x.once) x
     releases a l m ino g modes.X found is b fo un x = lower_rows a l (release_to l (sender m.header) ino modes.X) m ino g modes.X found is b fo un refl refl (released_once l (sender m.header) ino modes.X x.once) x
 
@@ -278,14 +271,14 @@ module _ (w : Waiter) (R : Authority → LockRow → Type 0) where
           robs (inl y) = left_out t.state.authority (record t.state.locks { rows = rows }) (λ v. not (is_wait_by c v)) (inl y)
           robs (inr y) =
               left_out t.state.authority (record t.state.locks { rows = rows }) (λ v. not (is_wait_by c v))
-              (inr (fewer t.state.authority t.state.locks rows (forget_once t.state.locks c y.once) (λ r j. (has_filter (λ r. not (locks.is_row_by c r)) t.state.locks.rows r j).0) y))
+              (inr (waits_with_fewer_rows t.state.authority t.state.locks rows (forget_once t.state.locks c y.once) (λ r j. (has_filter (λ r. not (locks.is_row_by c r)) t.state.locks.rows r j).0) y))
       either_edit t u (Suspects _ c z f y) o x =
           left_out (authority.suspect t.state.authority c now) t.state.locks (λ v. not (is_wait_by c v))
           (timed t.state.authority (authority.suspect t.state.authority c now) t.state.locks (λ r h v. kept.suspects t.state.authority c r f (o.rows r h) v) x)
       either_edit t u (Begins _ c life) o x = x
       either_edit t u (DropsWaits _ m s is b e f) o x = left_out t.state.authority t.state.locks (λ v. not (is_wait_by (sender m.header) v)) x
       either_edit t u (Keeps _ c number b e) o x = x
-      either_edit t u (Reasserts _ m rows is y gr f) o x = absurd (clash (grace.is_on t.state.grace now) gr.on (ap (λ z. grace.is_on z now) o.grace ∙ off))
+      either_edit t u (Reasserts _ m rows is y gr f) o x = absurd (not_both (grace.is_on t.state.grace now) gr.on (ap (λ z. grace.is_on z now) o.grace ∙ off))
       either_edit t u (Sees _ m ino gr is fi b) o (inl x) = inl (gone_seen t.state.locks (sender m.header) ino gr x)
       either_edit t u (Sees _ m ino gr is fi b) o (inr x) = inr (sees t.state.authority t.state.locks m ino gr is b x)
       either_edit t u (Acquires _ m ino mode v b y is fi by hs hl ok kb a) o x = acquired t.state.authority _ t.state.locks (sender m.header) (life_in m.header) ino mode v a (behind_thefts t fi)

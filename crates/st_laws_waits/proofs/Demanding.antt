@@ -1,33 +1,26 @@
 -- After a demanding pass each row in the way of a first waiter, of a client that isn't a suspect, is demanded, and on a tick none of these demands is old: the
 -- pass comes to each such row, and what it sends changes no client, file or mode.
-use Rattle.std.proofs.Common.{◌≡◌, ℕ, ◌+◌, ◌≤◌, ◌<◌, ◌⊎◌, Bool, true, false, not, ◌&&◌, ◌||◌, List, [], ◌∷◌, ◌==◌, refl, sym, ap, ◌∙◌, subst, inl, inr, arith}
-use Rattle.std.specs.Prelude.{cond, find, filter, map, nat_le, Option, Some, None, is_some, option_map}
-use Rattle.std.specs.List.{list_any}
-use Rattle.std.proofs.lemmas.Bool.{eqb-true, eq-eqb, leb-false}
-use Rattle.st_base.specs.declared.config.Config.{Config}
-use Rattle.st_base.specs.declared.ids.ClientId.{ClientId}
-use Rattle.st_base.specs.declared.ids.GrantNo.{GrantNo}
-use Rattle.st_base.specs.declared.ids.Life.{Life}
-use Rattle.st_base.specs.declared.ids.Stamp.{Stamp}
-use Rattle.st_base.specs.declared.mode.Mode.{Mode}
+use Rattle.st_lemmas.proofs.Words
+use Words.{◌≡◌, ℕ, ◌+◌, ◌≤◌, ◌<◌, ◌⊎◌, Bool, true, false, not, ◌&&◌, List, [], ◌∷◌, ◌==◌, refl, sym, ap, ◌∙◌, subst, inl, inr, arith, cond, find, filter}
+use Words.{map, nat_le, Option, Some, None, is_some, option_map, list_any, eqb-true, eq-eqb, leb-false, Config, ClientId, GrantNo, Life, Stamp, Mode}
+use Words.{ServerInput, LockRow, RowDemand, Waiter}
+use Words.bodies
+use Words.Authority as authority
+use Words.Authority.{Authority, is_suspect, may_ack, suspect_of, suspects_of}
+use Words.Keys.{client, rising, same_client}
+use Words.Locks as locks
+use Words.Locks.{Demanding, Locks, demand_again, demand_clients, demand_files, demand_for, demand_lower, demand_now, demand_of, demand_row, demand_with}
+use Words.Locks.{demanded, demands_due, is_among, is_row_of, is_wait_on, row_of, stands_against, to_demand, waited_files, wish, with_demand}
+use Words.Server.{ServerState, ServerTurn, demand_by, demanding, is_tick, tell, tell_demanded, with_locks}
+use Words.Lists.{Has}
+use Words.Lookups.{some_is}
+use Words.Tables.{and_both, and_true, cond_either, find_map, found_at, has_filter_in, has_map, has_map_in, none_has}
+use Words.Members.{some_member_passes}
+use Words.Tests.{any_map}
+use Words.Truth.{none_there, not_both}
 use Rattle.st_base.specs.Mode.{conflicts}
-use Rattle.st_messages.specs.declared.message.Body.TheVariants as bodies
-use Rattle.st_rules.specs.declared.input.ServerInput.{ServerInput}
-use Rattle.st_rules.specs.declared.locks.LockRow.{LockRow}
-use Rattle.st_rules.specs.declared.locks.RowDemand.{RowDemand}
-use Rattle.st_rules.specs.declared.locks.Waiter.{Waiter}
-use Rattle.st_rules.specs.Authority as authority
-use Rattle.st_rules.specs.Authority.{Authority, is_suspect, may_ack, suspect_of, suspects_of}
-use Rattle.st_rules.specs.Keys.{client, rising, same_client}
-use Rattle.st_rules.specs.Locks as locks
-use Rattle.st_rules.specs.Locks.{Demanding, Locks, demand_again, demand_clients, demand_files, demand_for, demand_lower, demand_now, demand_of, demand_row, demand_with, demanded, demands_due, is_among, is_row_of, is_wait_on, row_of, stands_against, to_demand, waited_files, wish, with_demand}
-use Rattle.st_rules.specs.Server.{ServerState, ServerTurn, demand_by, demanding, is_tick, tell, tell_demanded, with_locks}
-use Rattle.st_lemmas.specs.Lists.{Has}
 use Rattle.st_lemmas.proofs.Keys.{rising_has_in}
-use Rattle.st_lemmas.proofs.Lookups.{some_is}
-use Rattle.st_lemmas.proofs.Tables.{and_both, and_true, cond_either, find_map, found_at, has_filter_in, has_map, has_map_in, none_has}
 use Rattle.st_laws_waits.specs.Bounds.{AllBlocked, AllDemanded}
-use Rattle.st_laws_waits.proofs.Tests.{any_has, clash, free_none}
 
 -- a demand that was sent now
 abbrev pub SentNow : Stamp → Option RowDemand → Type 0
@@ -52,10 +45,6 @@ pub record SameTable (now : Stamp) (l v : Locks) : Type 0 where
   pub waits : v.waiters ≡ l.waiters
   pub found : (c : ClientId) (ino : ℕ) → FoundSame now (row_of l c ino) (row_of v c ino)
   pub against : (c : ClientId) (ino : ℕ) (m : Mode) → list_any (stands_against c ino m) v.rows ≡ list_any (stands_against c ino m) l.rows
-
-any_map : {A : Type 0} (q : A → Bool) (f : A → A) → ((x : A) → q (f x) ≡ q x) → (xs : List A) → list_any q (map f xs) ≡ list_any q xs
-any_map q f h [] = refl
-any_map q f h (x ∷ xs) = ap (λ b. b || list_any q (map f xs)) (h x) ∙ ap (λ b. q x || b) (any_map q f h xs)
 
 -- a row that is demanded keeps client, file and mode, whatever the demand
 pub record SameKeys (r q : LockRow) : Type 0 where
@@ -239,7 +228,7 @@ module _ (k : Config) (now : Stamp) (tick : Bool) (rp : 1 ≤ k.retry) where
   with_has p c ino to r (Some x) e d q f =
       subst (λ (y : LockRow). IsDue k now tick y.demand) (some_is (sym (ap (option_map (demand_of r.client r.ino x)) e) ∙ sym (found_row x r p.locks c ino) ∙ f))
       (cond_either (λ (y : LockRow). IsDue k now tick y.demand) (is_row_of r.client r.ino r) (demanded x r) r (λ y t. let z = ap (λ (v : Stamp). v.0) (subst (MaybeSent now) d (sent_some to r.demand)) in omega (arith, z, rp))
-      (λ y. absurd (clash (is_row_of r.client r.ino r) (and_both _ _ (eq-eqb r.client.0 r.client.0 refl) (eq-eqb r.ino r.ino refl)) y)))
+      (λ y. absurd (not_both (is_row_of r.client r.ino r) (and_both _ _ (eq-eqb r.client.0 r.client.0 refl) (eq-eqb r.ino r.ino refl)) y)))
 
   none_has_demand : (l : Locks) (c : ClientId) (ino : ℕ) → row_of l c ino ≡ None → Has_demand l c ino
   none_has_demand l c ino e q f = no (sym e ∙ f)
@@ -277,9 +266,9 @@ module _ (k : Config) (now : Stamp) (tick : Bool) (rp : 1 ≤ k.retry) where
         go : (b : Bool) → is_among (suspects_of a) c ≡ b → not b ≡ true
         go false e = refl
         go true e =
-            let x = any_has (same_client c) (suspects_of a) e in
+            let x = some_member_passes (same_client c) (suspects_of a) e in
             let m = has_map authority.client_of_suspect a.suspects x.0 x.1 in
-            absurd (clash (is_suspect c m.0) (eq-eqb m.0.client.0 c.0 (sym (ap (λ (z : ClientId). z.0) m.2) ∙ sym (eqb-true c.0 x.0.0 x.2))) (none_has (is_suspect c) a.suspects (free_none (suspect_of a c) f) m.0 m.1))
+            absurd (not_both (is_suspect c m.0) (eq-eqb m.0.client.0 c.0 (sym (ap (λ (z : ClientId). z.0) m.2) ∙ sym (eqb-true c.0 x.0.0 x.2))) (none_has (is_suspect c) a.suspects (none_there (suspect_of a c) f) m.0 m.1))
 
     asked : (l : Locks) (w : Waiter) (c : ClientId) (r : LockRow) → row_of l c w.ino ≡ Some r → stands_against w.client w.ino w.mode r ≡ true →
         may_ack a c ≡ true → Has c (to_demand l (suspects_of a) w)

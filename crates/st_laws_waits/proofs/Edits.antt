@@ -1,32 +1,26 @@
 -- Each change of a step keeps the bounds on demands and timers: a demand that is sent counts from now, a timer that starts does so now, and no change
 -- makes a suspect free.
-use Rattle.std.proofs.Common.{◌≡◌, ℕ, ◌+◌, ◌≤◌, ◌<◌, ◌⊎◌, Bool, true, false, not, ◌&&◌, List, ◌==◌, refl, sym, ap, ◌∙◌, subst, inl, inr, arith}
-use Rattle.std.specs.Prelude.{map, nat_le, Option, Some, None, is_some, option_map}
-use Rattle.std.proofs.lemmas.Bool.{eqb-true, eq-eqb, leb-true}
-use Rattle.st_base.specs.declared.config.Config.{Config}
-use Rattle.st_base.specs.declared.ids.ClientId.{ClientId}
-use Rattle.st_base.specs.declared.ids.GrantNo.{GrantNo}
-use Rattle.st_base.specs.declared.ids.Life.{Life}
-use Rattle.st_base.specs.declared.ids.Stamp.{Stamp}
-use Rattle.st_base.specs.declared.mode.Mode.{Mode}
-use Rattle.st_base.specs.declared.mode.Mode.TheVariants as modes
+use Rattle.st_lemmas.proofs.Words
+use Words.{◌≡◌, ℕ, ◌+◌, ◌≤◌, ◌<◌, ◌⊎◌, Bool, true, false, not, ◌&&◌, List, ◌==◌, refl, sym, ap, ◌∙◌, subst, inl, inr, arith, map, nat_le, Option, Some, None}
+use Words.{is_some, option_map, eqb-true, eq-eqb, leb-true, Config, ClientId, GrantNo, Life, Stamp, Mode, Suspect, ServerInput, LockRow, RowDemand}
+use Words.modes
+use Words.Authority as authority
+use Words.Authority.{Authority, is_over, is_suspect, may_ack, suspect_of}
+use Words.Grace.{Grace}
+use Words.Keys.{client}
+use Words.Locks as locks
+use Words.Locks.{Locks, answered_demand, answered_row, demand_again, demand_lower, demand_lowered, demand_now, demand_of, demanded, grant, installed, is_row_of}
+use Words.Locks.{lower, lowered, new_row, queue, release_to, observe, unless_met, wait_of, with_demand, with_rows}
+use Words.Server.{ServerState, ServerTurn, is_tick, keep_and_reply, life_in, reply, sender, steal_from, suspect_client, tell}
+use Words.Lists.{Has}
+use Words.Tables.{and_true, cond_either, find_kept_in, found_at, has_append, has_filter, has_map}
+use Words.Serving.{has_suspect, suspect_wait}
 use Rattle.st_base.specs.Mode.{number_of}
-use Rattle.st_rules.specs.declared.authority.Suspect.{Suspect}
-use Rattle.st_rules.specs.declared.input.ServerInput.{ServerInput}
-use Rattle.st_rules.specs.declared.locks.LockRow.{LockRow}
-use Rattle.st_rules.specs.declared.locks.RowDemand.{RowDemand}
-use Rattle.st_rules.specs.Authority as authority
-use Rattle.st_rules.specs.Authority.{Authority, is_over, is_suspect, may_ack, suspect_of}
-use Rattle.st_rules.specs.Grace.{Grace}
-use Rattle.st_rules.specs.Keys.{client}
-use Rattle.st_rules.specs.Locks as locks
-use Rattle.st_rules.specs.Locks.{Locks, answered_demand, answered_row, demand_again, demand_lower, demand_lowered, demand_now, demand_of, demanded, grant, installed, is_row_of, lower, lowered, new_row, queue, release_to, observe, unless_met, wait_of, with_demand, with_rows}
-use Rattle.st_rules.specs.Server.{ServerState, ServerTurn, is_tick, keep_and_reply, life_in, reply, sender, steal_from, suspect_client, tell}
-use Rattle.st_lemmas.specs.Lists.{Has}
 use Rattle.st_lemmas.proofs.Puts.{has_put}
-use Rattle.st_lemmas.proofs.Tables.{and_true, cond_either, find_kept_in, found_at, has_append, has_filter, has_map}
-use Rattle.st_laws_refine.specs.Server.Edits.{Acquired, AtOnce, InTurn, Edit, TakesTimers, Steals, Suspects, Begins, DropsWaits, Keeps, Reasserts, Sees, Acquires, Releases, DropsFile, Grants, Demands, NamesChange, ExtentsChange, Cuts, Replies, Repeats, Refuses, TellsGrant, TellsDemand}
-use Rattle.st_laws_refine.proofs.Server.Changes.{has_suspect, suspect_other}
+use Rattle.st_laws_refine.specs.Server.Edits.{Acquired, AtOnce, InTurn, Edit, TakesTimers, Steals, Suspects, Begins, DropsWaits, Keeps, Reasserts, Sees}
+use Rattle.st_laws_refine.specs.Server.Edits.{Acquires, Releases, DropsFile, Grants, Demands, NamesChange, ExtentsChange, Cuts, Replies, Repeats, Refuses}
+use Rattle.st_laws_refine.specs.Server.Edits.{TellsGrant, TellsDemand}
+use Rattle.st_laws_refine.proofs.Server.Changes.{suspect_other}
 use Rattle.st_laws_refine.proofs.Server.Locking.{queue_rows}
 use Rattle.st_laws_waits.specs.Bounds.{DemandInTime, RowsInTime, SinceInTime}
 use Rattle.st_laws_waits.specs.WithinStep.{WithinStep, TimersRun}
@@ -56,9 +50,11 @@ module _ (last now demand : ℕ) where
 
     -- each row in place of one of the same client, whose demand is in bounds if the old one is
     rows_map : (f : LockRow → LockRow) (l v : Locks) → v.rows ≡ map f l.rows →
-        ((r : LockRow) → Has r l.rows → DemandInTime last now demand (may_ack a r.client) r.demand → DemandInTime last now demand (may_ack a (f r).client) (f r).demand) →
+        ((r : LockRow) → Has r l.rows → DemandInTime last now demand (may_ack a r.client) r.demand →
+        DemandInTime last now demand (may_ack a (f r).client) (f r).demand) →
         RowsInTime last now demand a l → RowsInTime last now demand a v
-    rows_map f l v e h k r i = let m = has_map f l.rows r (subst (Has r) e i) in subst (λ (y : LockRow). DemandInTime last now demand (may_ack a y.client) y.demand) (sym m.2) (h m.0 m.1 (k m.0 m.1))
+    rows_map f l v e h k r i = let m = has_map f l.rows r (subst (Has r) e i) in
+        subst (λ (y : LockRow). DemandInTime last now demand (may_ack a y.client) y.demand) (sym m.2) (h m.0 m.1 (k m.0 m.1))
 
     answered : (free : Bool) (o : Option RowDemand) → DemandInTime last now demand free o → DemandInTime last now demand free (option_map answered_demand o)
     answered free None b = b
@@ -72,51 +68,56 @@ module _ (last now demand : ℕ) where
     lowers free None b = b
     lowers free (Some d) b = met free d b
 
-    pub b_seen : (l : Locks) (c : ClientId) (ino : ℕ) (g : GrantNo) → RowsInTime last now demand a l →
+    pub in_time_after_seen : (l : Locks) (c : ClientId) (ino : ℕ) (g : GrantNo) → RowsInTime last now demand a l →
         RowsInTime last now demand a (locks.demand_seen l c ino g)
     unfolding locks.demand_seen answered_row
-    b_seen l c ino g k =
+    in_time_after_seen l c ino g k =
         rows_map (observe c ino g) l (locks.demand_seen l c ino g) refl
-        (λ r i b. cond_either (λ (y : LockRow). DemandInTime last now demand (may_ack a y.client) y.demand) (is_row_of c ino r && (r.g.0 == g.0)) (answered_row r) r (λ e. answered (may_ack a r.client) r.demand b) (λ e. b)) k
+        (λ r i b. cond_either (λ (y : LockRow). DemandInTime last now demand (may_ack a y.client) y.demand) (is_row_of c ino r && (r.g.0 == g.0))
+        (answered_row r) r (λ e. answered (may_ack a r.client) r.demand b) (λ e. b)) k
 
     lower_bound : (c : ClientId) (ino : ℕ) (r : LockRow) → DemandInTime last now demand (may_ack a r.client) r.demand →
         DemandInTime last now demand (may_ack a (lower c ino r).client) (lower c ino r).demand
     unfolding lowered
-    lower_bound c ino r b = cond_either (λ (y : LockRow). DemandInTime last now demand (may_ack a y.client) y.demand) (is_row_of c ino r) (lowered r) r (λ e. lowers (may_ack a r.client) r.demand b) (λ e. b)
+    lower_bound c ino r b = cond_either (λ (y : LockRow). DemandInTime last now demand (may_ack a y.client) y.demand) (is_row_of c ino r) (lowered r) r
+        (λ e. lowers (may_ack a r.client) r.demand b) (λ e. b)
 
-    pub b_released : (l : Locks) (c : ClientId) (ino : ℕ) (to : Mode) → RowsInTime last now demand a l → RowsInTime last now demand a (release_to l c ino to)
+    pub in_time_after_released : (l : Locks) (c : ClientId) (ino : ℕ) (to : Mode) → RowsInTime last now demand a l →
+        RowsInTime last now demand a (release_to l c ino to)
     unfolding release_to
-    b_released l c ino modes.None k = rows_part l (release_to l c ino modes.None) (λ r i. (has_filter (λ r. not (is_row_of c ino r)) l.rows r i).0) k
-    b_released l c ino modes.S k = rows_map (lower c ino) l (release_to l c ino modes.S) refl (λ r i b. lower_bound c ino r b) k
-    b_released l c ino modes.X k = rows_map (lower c ino) l (release_to l c ino modes.X) refl (λ r i b. lower_bound c ino r b) k
+    in_time_after_released l c ino modes.None k = rows_part l (release_to l c ino modes.None) (λ r i. (has_filter (λ r. not (is_row_of c ino r)) l.rows r i).0)
+        k
+    in_time_after_released l c ino modes.S k = rows_map (lower c ino) l (release_to l c ino modes.S) refl (λ r i b. lower_bound c ino r b) k
+    in_time_after_released l c ino modes.X k = rows_map (lower c ino) l (release_to l c ino modes.X) refl (λ r i b. lower_bound c ino r b) k
 
-    pub b_granted : (l : Locks) (c : ClientId) (life : Life) (ino : ℕ) (mode : Mode) → RowsInTime last now demand a l →
+    pub in_time_after_granted : (l : Locks) (c : ClientId) (life : Life) (ino : ℕ) (mode : Mode) → RowsInTime last now demand a l →
         RowsInTime last now demand a (grant l c life ino mode)
     unfolding grant
-    b_granted l c life ino mode k r i = go (has_put (is_row_of c ino) (new_row l c life ino mode) l.rows r i)
+    in_time_after_granted l c life ino mode k r i = go (has_put (is_row_of c ino) (new_row l c life ino mode) l.rows r i)
       where
         go : (r ≡ new_row l c life ino mode) ⊎ Has r l.rows → DemandInTime last now demand (may_ack a r.client) r.demand
         go (inl e) = subst (λ (y : LockRow). DemandInTime last now demand (may_ack a y.client) y.demand) (sym e) tt
         go (inr j) = k r j
 
-    pub b_queued : (l : Locks) (c : ClientId) (life : Life) (ino : ℕ) (mode : Mode) → RowsInTime last now demand a l →
+    pub in_time_after_queued : (l : Locks) (c : ClientId) (life : Life) (ino : ℕ) (mode : Mode) → RowsInTime last now demand a l →
         RowsInTime last now demand a (queue l c life ino mode)
     unfolding queue
-    b_queued l c life ino mode k = rows_are l (queue l c life ino mode) (queue_rows l c life ino mode (wait_of l c ino)) k
+    in_time_after_queued l c life ino mode k = rows_are l (queue l c life ino mode) (queue_rows l c life ino mode (wait_of l c ino)) k
 
-    b_acquired : (g : Bool) (l : Locks) (c : ClientId) (life : Life) (ino : ℕ) (mode : Mode) (v : Locks) → Acquired g l c life ino mode v →
+    in_time_after_acquired : (g : Bool) (l : Locks) (c : ClientId) (life : Life) (ino : ℕ) (mode : Mode) (v : Locks) → Acquired g l c life ino mode v →
         RowsInTime last now demand a l → RowsInTime last now demand a v
-    b_acquired g l c life ino mode v (AtOnce off w f q) k = b_granted l c life ino mode k
-    b_acquired g l c life ino mode v (InTurn w) k = b_queued l c life ino mode k
+    in_time_after_acquired g l c life ino mode v (AtOnce off w f q) k = in_time_after_granted l c life ino mode k
+    in_time_after_acquired g l c life ino mode v (InTurn w) k = in_time_after_queued l c life ino mode k
 
-    b_installed : (l : Locks) (c : ClientId) (life : Life) (rs : List (ℕ × GrantNo × Mode)) → RowsInTime last now demand a l →
+    in_time_after_installed : (l : Locks) (c : ClientId) (life : Life) (rs : List (ℕ × GrantNo × Mode)) → RowsInTime last now demand a l →
         RowsInTime last now demand a (with_rows l c life rs)
     unfolding with_rows
-    b_installed l c life rs k r i = go (has_append l.rows (map (installed c life) rs) r i)
+    in_time_after_installed l c life rs k r i = go (has_append l.rows (map (installed c life) rs) r i)
       where
         go : Has r l.rows ⊎ Has r (map (installed c life) rs) → DemandInTime last now demand (may_ack a r.client) r.demand
         go (inl j) = k r j
-        go (inr j) = let m = has_map (installed c life) rs r j in subst (λ (y : LockRow). DemandInTime last now demand (may_ack a y.client) y.demand) (sym m.2) tt
+        go (inr j) = let m = has_map (installed c life) rs r j in
+            subst (λ (y : LockRow). DemandInTime last now demand (may_ack a y.client) y.demand) (sym m.2) tt
 
     -- a demand that is sent now is in bounds, if the one before it is
     fresh : (free : Bool) → last ≤ now → 1 ≤ demand → (at : Stamp) → at.0 ≡ now → (to : Mode) →
@@ -138,8 +139,10 @@ module _ (last now demand : ℕ) where
     sent kb free l p at e tick to None x q b = subst (DemandInTime last now demand free) q (fresh free l p at e to)
     sent kb free l p at e tick to (Some d) x q b =
         subst (DemandInTime last now demand free) q
-        (cond_either (DemandInTime last now demand free) (locks.is_below to d.to) (Some (locks.sent_again at to d)) (demand_again kb at tick d) (λ f. again free l p at e to d b)
-        (λ f. cond_either (DemandInTime last now demand free) (tick && nat_le (d.sent.0 + kb.retry) at.0) (Some (locks.sent_again at d.to d)) None (λ g. again free l p at e d.to d b) (λ g. tt)))
+        (cond_either (DemandInTime last now demand free) (locks.is_below to d.to) (Some (locks.sent_again at to d)) (demand_again kb at tick d)
+        (λ f. again free l p at e to d b)
+        (λ f. cond_either (DemandInTime last now demand free) (tick && nat_le (d.sent.0 + kb.retry) at.0) (Some (locks.sent_again at d.to d)) None
+        (λ g. again free l p at e d.to d b) (λ g. tt)))
 
 -- the timers' changes
 
@@ -147,7 +150,8 @@ module _ (last now demand : ℕ) where
 pub taken_out : (wait : ℕ) (now : Stamp) (a : Authority) → a.wait ≡ wait → TimersRun now.0 a → (c : ClientId) →
     suspect_of (authority.still_running a now) c ≡ suspect_of a c
 unfolding authority.still_running
-taken_out wait now a e run c = find_kept_in (is_suspect c) (λ s. not (is_over a.wait now s)) a.suspects (λ x i q. ap not (not_over x (run x i).1 (is_over a.wait now x) refl))
+taken_out wait now a e run c = find_kept_in (is_suspect c) (λ s. not (is_over a.wait now s)) a.suspects
+    (λ x i q. ap not (not_over x (run x i).1 (is_over a.wait now x) refl))
   where
     not_over : (x : Suspect) → now.0 < x.start.0 + a.wait → (b : Bool) → is_over a.wait now x ≡ b → b ≡ false
     not_over x l false q = refl
@@ -156,24 +160,25 @@ taken_out wait now a e run c = find_kept_in (is_suspect c) (λ s. not (is_over a
 -- a suspicion makes no suspect free
 pub more_suspects : (a : Authority) (c : ClientId) (now : Stamp) (d : ClientId) → may_ack (authority.suspect a c now) d ≡ true → may_ack a d ≡ true
 unfolding authority.suspect authority.start_timer
-more_suspects a c now d = cond_either (λ (z : Authority). may_ack z d ≡ true → may_ack a d ≡ true) (may_ack a c) (record a { suspects = authority.with_suspect (authority.new_suspect c now) a.suspects }) a (λ e h. by (c.0 == d.0) refl e h) (λ e h. h)
+more_suspects a c now d = cond_either (λ (z : Authority). may_ack z d ≡ true → may_ack a d ≡ true) (may_ack a c)
+    (record a { suspects = authority.with_suspect (authority.new_suspect c now) a.suspects }) a (λ e h. by (c.0 == d.0) refl e h) (λ e h. h)
   where
     by : (b : Bool) → (c.0 == d.0) ≡ b → may_ack a c ≡ true →
         may_ack (record a { suspects = authority.with_suspect (authority.new_suspect c now) a.suspects }) d ≡ true → may_ack a d ≡ true
     by true q e h = subst (λ n. may_ack a (client n) ≡ true) (eqb-true c.0 d.0 q) e
-    by false q e h = ap (λ o. not (is_some o)) (sym (suspect_other (authority.new_suspect c now) d.0 (λ z. let y = eq-eqb c.0 d.0 z in clash (c.0 == d.0) y q) a.suspects)) ∙ h
+    by false q e h =
+        ap (λ o. not (is_some o)) (sym (suspect_other (authority.new_suspect c now) d.0 (λ z. let y = eq-eqb c.0 d.0 z in clash (c.0 == d.0) y q) a.suspects)) ∙
+        h
       where
         clash : (b : Bool) → b ≡ true → b ≡ false → ⊥
         clash true e f = cc
         clash false e f = cc
 
-pub suspect_wait : (a : Authority) (c : ClientId) (now : Stamp) → (authority.suspect a c now).wait ≡ a.wait
-unfolding authority.suspect authority.start_timer
-suspect_wait a c now = cond_either (λ (z : Authority). z.wait ≡ a.wait) (may_ack a c) (record a { suspects = authority.with_suspect (authority.new_suspect c now) a.suspects }) a (λ e. refl) (λ e. refl)
-
 suspect_runs : (a : Authority) (c : ClientId) (now : Stamp) → 1 ≤ a.wait → TimersRun now.0 a → TimersRun now.0 (authority.suspect a c now)
 unfolding authority.suspect authority.start_timer
-suspect_runs a c now p run = cond_either (TimersRun now.0) (may_ack a c) (record a { suspects = authority.with_suspect (authority.new_suspect c now) a.suspects }) a (λ e x i. go x (has_suspect (authority.new_suspect c now) a.suspects x i)) (λ e. run)
+suspect_runs a c now p run = cond_either (TimersRun now.0) (may_ack a c)
+    (record a { suspects = authority.with_suspect (authority.new_suspect c now) a.suspects }) a
+    (λ e x i. go x (has_suspect (authority.new_suspect c now) a.suspects x i)) (λ e. run)
   where
     go : (x : Suspect) → (x ≡ authority.new_suspect c now) ⊎ Has x a.suspects → (x.start.0 ≤ now.0) × (now.0 < x.start.0 + a.wait)
     go x (inl e) = subst (λ (y : Suspect). (y.start.0 ≤ now.0) × (now.0 < y.start.0 + a.wait)) (sym e) (omega arith, omega (arith, p))
@@ -212,30 +217,80 @@ module _ (k : Config) (wait last : ℕ) (now : Stamp) (g : Option Grace) (n : Se
         config = o.config;
         wait_is = taken_wait now t.state.authority ∙ o.wait_is;
         grace = o.grace;
-        rows = rows_less last now.0 k.demand t.state.authority (authority.still_running t.state.authority now) (λ c h. ap (λ x. not (is_some x)) (sym (taken_out wait now t.state.authority o.wait_is o.timers c)) ∙ h) t.state.locks o.rows;
+        rows = rows_less last now.0 k.demand t.state.authority (authority.still_running t.state.authority now)
+            (λ c h. ap (λ x. not (is_some x)) (sym (taken_out wait now t.state.authority o.wait_is o.timers c)) ∙ h) t.state.locks o.rows;
         timers = timers_taken now t.state.authority o.timers;
       }
-  edit t u p q l (Steals _ c s h e) o = record { config = o.config; wait_is = o.wait_is; grace = o.grace; rows = λ r j. o.rows r (has_filter _ t.state.locks.rows r j).0; timers = o.timers }
+  edit t u p q l (Steals _ c s h e) o =
+      record { config = o.config; wait_is = o.wait_is; grace = o.grace; rows = λ r j. o.rows r (has_filter _ t.state.locks.rows r j).0; timers = o.timers }
   edit t u p q l (Suspects _ c z f y) o =
       record {
         config = o.config;
         wait_is = suspect_wait t.state.authority c now ∙ o.wait_is;
         grace = o.grace;
-        rows = rows_less last now.0 k.demand t.state.authority (authority.suspect t.state.authority c now) (more_suspects t.state.authority c now) t.state.locks o.rows;
+        rows = rows_less last now.0 k.demand t.state.authority (authority.suspect t.state.authority c now) (more_suspects t.state.authority c now) t.state.locks
+            o.rows;
         timers = suspect_runs t.state.authority c now (let e = o.wait_is in omega (arith, q, e)) o.timers;
       }
   edit t u p q l (Begins _ c life) o = record { config = o.config; wait_is = o.wait_is; grace = o.grace; rows = o.rows; timers = o.timers }
   edit t u p q l (DropsWaits _ m s is b e f) o = record { config = o.config; wait_is = o.wait_is; grace = o.grace; rows = o.rows; timers = o.timers }
   edit t u p q l (Keeps _ c number b e) o = record { config = o.config; wait_is = o.wait_is; grace = o.grace; rows = o.rows; timers = o.timers }
   edit t u p q l (Reasserts _ m rows is w x f) o =
-      record { config = o.config; wait_is = o.wait_is; grace = o.grace; rows = b_installed last now.0 k.demand t.state.authority t.state.locks (sender m.header) (life_in m.header) rows o.rows; timers = o.timers }
-  edit t u p q l (Sees _ m ino gr is fi b) o = record { config = o.config; wait_is = o.wait_is; grace = o.grace; rows = b_seen last now.0 k.demand t.state.authority t.state.locks (sender m.header) ino gr o.rows; timers = o.timers }
+      record {
+        config = o.config;
+        wait_is = o.wait_is;
+        grace = o.grace;
+        rows =
+            in_time_after_installed last now.0 k.demand t.state.authority t.state.locks (sender m.header) (life_in m.header) rows o.rows;
+        timers = o.timers;
+      }
+  edit t u p q l (Sees _ m ino gr is fi b) o =
+      record {
+        config = o.config;
+        wait_is = o.wait_is;
+        grace = o.grace;
+        rows =
+            in_time_after_seen last now.0 k.demand t.state.authority t.state.locks (sender m.header) ino gr o.rows;
+        timers = o.timers;
+      }
   edit t u p q l (Acquires _ m ino mode v b y is fi by hs hl ok kb a) o =
-      record { config = o.config; wait_is = o.wait_is; grace = o.grace; rows = b_acquired last now.0 k.demand t.state.authority _ t.state.locks (sender m.header) (life_in m.header) ino mode v a o.rows; timers = o.timers }
-  edit t u p q l (Releases _ m ino gr to r is fi b e f) o = record { config = o.config; wait_is = o.wait_is; grace = o.grace; rows = b_released last now.0 k.demand t.state.authority t.state.locks (sender m.header) ino to o.rows; timers = o.timers }
+      record {
+        config = o.config;
+        wait_is = o.wait_is;
+        grace = o.grace;
+        rows =
+            in_time_after_acquired last now.0 k.demand t.state.authority _ t.state.locks (sender m.header) (life_in m.header) ino mode v a o.rows;
+        timers =
+            o.timers;
+      }
+  edit t u p q l (Releases _ m ino gr to r is fi b e f) o =
+      record {
+        config = o.config;
+        wait_is = o.wait_is;
+        grace = o.grace;
+        rows =
+            in_time_after_released last now.0 k.demand t.state.authority t.state.locks (sender m.header) ino to o.rows;
+        timers = o.timers;
+      }
   edit t u p q l (DropsFile _ m dir nm gr ino is b e) o = record { config = o.config; wait_is = o.wait_is; grace = o.grace; rows = o.rows; timers = o.timers }
-  edit t u p q l (Grants _ w off h e f) o = record { config = o.config; wait_is = o.wait_is; grace = o.grace; rows = b_granted last now.0 k.demand t.state.authority t.state.locks w.client w.life w.ino w.mode o.rows; timers = o.timers }
-  edit t u p q l (Demands _ r x to e d) o = record { config = o.config; wait_is = o.wait_is; grace = o.grace; rows = demands t.state.authority t.state.config t.state.locks r x to p l e d o.rows; timers = o.timers }
+  edit t u p q l (Grants _ w off h e f) o =
+      record {
+        config = o.config;
+        wait_is = o.wait_is;
+        grace = o.grace;
+        rows =
+            in_time_after_granted last now.0 k.demand t.state.authority t.state.locks w.client w.life w.ino w.mode o.rows;
+        timers = o.timers;
+      }
+  edit t u p q l (Demands _ r x to e d) o =
+      record {
+        config = o.config;
+        wait_is = o.wait_is;
+        grace = o.grace;
+        rows = demands t.state.authority t.state.config t.state.locks r x to p l e d o.rows;
+        timers =
+            o.timers;
+      }
   edit t u p q l (NamesChange _ v) o = record { config = o.config; wait_is = o.wait_is; grace = o.grace; rows = o.rows; timers = o.timers }
   edit t u p q l (ExtentsChange _ v) o = record { config = o.config; wait_is = o.wait_is; grace = o.grace; rows = o.rows; timers = o.timers }
   edit t u p q l (Cuts _ f y) o = record { config = o.config; wait_is = o.wait_is; grace = o.grace; rows = o.rows; timers = o.timers }

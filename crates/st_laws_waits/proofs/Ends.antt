@@ -1,50 +1,42 @@
 -- A wait that is the first of its file goes on through each change of a step, except for a grant to it, a suspicion of its client, and the three messages that
 -- end it; and what ended it is still there at the end of the step, since a step grants no client twice and no timer of it ends.
-use Rattle.std.proofs.Common.{◌≡◌, ◌≢◌, ℕ, ◌<◌, ◌⊎◌, Bool, true, false, not, List, [], ◌∷◌, refl, sym, ap, ◌∙◌, subst, inl, inr, arith}
-use Rattle.std.specs.Prelude.{cond, find, filter, map, Option, Some, None, Ok, is_some, option_map}
-use Rattle.std.proofs.lemmas.Bool.{eq-eqb, le-leb, ne_eqb}
-use Rattle.st_base.specs.declared.ids.ClientId.{ClientId}
-use Rattle.st_base.specs.declared.ids.GrantNo.{GrantNo}
-use Rattle.st_base.specs.declared.ids.Life.{Life}
-use Rattle.st_base.specs.declared.ids.Stamp.{Stamp}
-use Rattle.st_base.specs.declared.mode.Mode.{Mode}
-use Rattle.st_base.specs.declared.mode.Mode.TheVariants as modes
+use Rattle.st_lemmas.proofs.Words
+use Words.{◌≡◌, ◌≢◌, ℕ, ◌<◌, ◌⊎◌, Bool, true, false, not, List, [], ◌∷◌, refl, sym, ap, ◌∙◌, subst, inl, inr, arith, cond, find, filter, map, Option, Some}
+use Words.{None, Ok, is_some, option_map, eq-eqb, le-leb, ne_eqb, ClientId, GrantNo, Life, Stamp, Mode, Message, Suspect, ServerInput, LockRow, RowDemand}
+use Words.{Waiter, Session}
+use Words.modes
+use Words.bodies
+use Words.ops.{Remove}
+use Words.serving.{Tick, Control}
+use Words.Authority as authority
+use Words.Authority.{Authority, may_ack, over, suspect_of}
+use Words.Keys.{client}
+use Words.Locks as locks
+use Words.Locks.{Locks, demand_of, demanded, grant, installed, is_row_of, is_wait_by, is_wait_of, is_wait_on, new_row, new_wait, queue, queue_at, raise}
+use Words.Locks.{release_to, row_of, wait_of, with_demand, with_rows}
+use Words.Names as names
+use Words.Server.{ServerState, Stable, ServerTurn, keep_and_reply, life_in, reply, sender, server_step, steal_from, suspect_client, tell, thefts, turn}
+use Words.Sessions as sessions
+use Words.Lists.{Has}
+use Words.Lookups.{some_is}
+use Words.Tables.{and_both, and_left, and_right, cond_either, find_map, none_has, same_or_not}
+use Words.Serving.{released_waits}
+use Words.Tests.{find_filtered, find_longer}
+use Words.Truth.{not_both}
 use Rattle.st_base.specs.Mode.{number_of}
-use Rattle.st_messages.specs.declared.message.Body.TheVariants as bodies
-use Rattle.st_messages.specs.declared.message.Message.{Message}
-use Rattle.st_messages.specs.declared.message.NameOp.TheVariants.{Remove}
-use Rattle.st_rules.specs.declared.authority.Suspect.{Suspect}
-use Rattle.st_rules.specs.declared.input.ServerInput.{ServerInput}
-use Rattle.st_rules.specs.declared.input.ServerInput.TheVariants.{Tick, Control}
-use Rattle.st_rules.specs.declared.locks.LockRow.{LockRow}
-use Rattle.st_rules.specs.declared.locks.RowDemand.{RowDemand}
-use Rattle.st_rules.specs.declared.locks.Waiter.{Waiter}
-use Rattle.st_rules.specs.declared.sessions.Session.{Session}
-use Rattle.st_rules.specs.Authority as authority
-use Rattle.st_rules.specs.Authority.{Authority, may_ack, over, suspect_of}
-use Rattle.st_rules.specs.Keys.{client}
-use Rattle.st_rules.specs.Locks as locks
-use Rattle.st_rules.specs.Locks.{Locks, demand_of, demanded, grant, installed, is_row_of, is_wait_by, is_wait_of, is_wait_on, new_row, new_wait, queue, queue_at, raise, release_to, row_of, wait_of, with_demand, with_rows}
-use Rattle.st_rules.specs.Names as names
-use Rattle.st_rules.specs.Server.{ServerState, Stable, ServerTurn, keep_and_reply, life_in, reply, sender, server_step, steal_from, suspect_client, tell, thefts, turn}
-use Rattle.st_rules.specs.Sessions as sessions
-use Rattle.st_lemmas.specs.Lists.{Has}
-use Rattle.st_lemmas.proofs.Lookups.{some_is}
-use Rattle.st_lemmas.proofs.Tables.{and_both, and_left, and_right, cond_either, find_map, none_has, same_or_not}
-use Rattle.st_laws_refine.specs.Server.Edits.{WishInput}
+use Rattle.st_laws_refine.specs.Server.Edits.{WishInput, Acquired, AtOnce, InTurn, Edit, TakesTimers, Steals, Suspects, DropsWaits, Reasserts, Sees, Acquires}
+use Rattle.st_laws_refine.specs.Server.Edits.{Releases, DropsFile, Grants, Demands}
 use Rattle.st_laws_refine.proofs.Server.Changes.{forget_row, grant_elsewhere, grant_other, grant_own}
 use Rattle.st_laws_refine.proofs.Server.Thefts.{over_has}
 use Rattle.st_laws_waits.specs.Bounds.{RowsHaveSessions}
 use Rattle.st_laws_waits.specs.Chase.{IsFirst}
-use Rattle.st_laws_refine.specs.Server.Edits.{Acquired, AtOnce, InTurn, Edit, TakesTimers, Steals, Suspects, Begins, DropsWaits, Keeps, Reasserts, Sees, Acquires, Releases, DropsFile, Grants, Demands, NamesChange, ExtentsChange, Cuts, Replies, Repeats, Refuses, TellsGrant, TellsDemand}
 use Rattle.st_laws_waits.specs.Ends.{GoesOnOrEnds, IsGranted}
 use Rattle.st_laws_waits.specs.Ends.EndsBy.{Granted, Suspected, Greeted, Asked, Removed}
 use Rattle.st_laws_waits.proofs.Chasing.{on_file, raised_alone, raised_same}
 use Rattle.st_laws_waits.proofs.Demanding.{demand_keys, found_row}
-use Rattle.st_laws_waits.proofs.Edits.{more_suspects}
 use Rattle.st_laws_waits.proofs.Robbing.{left, not_free}
-use Rattle.st_laws_waits.proofs.Tests.{clash, find_filter, find_longer}
 use Rattle.st_laws_refine.proofs.Server.Walk.{walk}
+use Rattle.st_laws_refine.proofs.Server.Dating.{suspect_stays}
 
 -- what is not found is not found among fewer
 fewer_none : {A : Type 0} (p q : A → Bool) (xs : List A) → find p xs ≡ None → find p (filter q xs) ≡ None
@@ -55,15 +47,6 @@ fewer_none {A} p q (x ∷ xs) e = go (p x) refl e (λ f. fewer_none p q xs f)
         find p (cond (q x) (x ∷ filter q xs) (filter q xs)) ≡ None
     go true f e r = cc
     go false f e r = cond_either (λ ys. find p ys ≡ None) (q x) (x ∷ filter q xs) (filter q xs) (λ g. ap (λ b. cond b (Some x) (find p (filter q xs))) f ∙ r e) (λ g. r e)
-
--- a suspect stays one, and whoever is suspected is one
-still_suspect : (a : Authority) (c : ClientId) (now : Stamp) (d : ClientId) → is_some (suspect_of a d) ≡ true →
-    is_some (suspect_of (authority.suspect a c now) d) ≡ true
-still_suspect a c now d e = go (is_some (suspect_of (authority.suspect a c now) d)) refl
-  where
-    go : (b : Bool) → is_some (suspect_of (authority.suspect a c now) d) ≡ b → b ≡ true
-    go true q = refl
-    go false q = absurd (clash (may_ack a d) (more_suspects a c now d (ap not q)) (ap not e))
 
 now_suspect : (a : Authority) (c : ClientId) (now : Stamp) → may_ack a c ≡ true → is_some (suspect_of (authority.suspect a c now) c) ≡ true
 now_suspect a c now e = go (is_some (suspect_of (authority.suspect a c now) c)) refl
@@ -84,16 +67,10 @@ same_mode modes.X modes.None = inr (λ e. cc)
 same_mode modes.X modes.S = inr (λ e. cc)
 same_mode modes.X modes.X = inl refl
 
-released_waits : (l : Locks) (c : ClientId) (ino : ℕ) (to : Mode) → (release_to l c ino to).waiters ≡ l.waiters
-unfolding release_to
-released_waits l c ino modes.None = refl
-released_waits l c ino modes.S = refl
-released_waits l c ino modes.X = refl
-
 module _ (w : Waiter) where
   -- waits that are left out: those that pass the test stay
   first_among : (l : Locks) (q : Waiter → Bool) → q w ≡ true → IsFirst w l → find (is_wait_on w.ino) (filter q l.waiters) ≡ Some w
-  first_among l q e f = find_filter (is_wait_on w.ino) q w l.waiters f e
+  first_among l q e f = find_filtered (is_wait_on w.ino) q w l.waiters f e
 
   other_client : (c : ClientId) → c.0 ≢ w.client.0 → not (is_wait_by c w) ≡ true
   other_client c ne = ap not (ne_eqb w.client.0 c.0 (λ e. ne (sym e)))
@@ -187,7 +164,7 @@ module _ (w : Waiter) where
 
       row : (v.client.0 ≡ w.client.0) ⊎ (v.client.0 ≢ w.client.0) → row_of (grant l v.client v.life v.ino v.mode) w.client w.ino ≡ row_of l w.client w.ino
       row (inr ne) = grant_other l v.client v.life v.ino v.mode w.client.0 w.ino ne
-      row (inl e) = grant_elsewhere l v.client v.life v.ino v.mode w.client.0 w.ino (λ f. clash (is_wait_of w.client w.ino v) (and_both _ _ (eq-eqb v.client.0 w.client.0 e) (eq-eqb v.ino w.ino (sym f))) (none_has (is_wait_of w.client w.ino) l.waiters g.waits_not v h))
+      row (inl e) = grant_elsewhere l v.client v.life v.ino v.mode w.client.0 w.ino (λ f. not_both (is_wait_of w.client w.ino v) (and_both _ _ (eq-eqb v.client.0 w.client.0 e) (eq-eqb v.ino w.ino (sym f))) (none_has (is_wait_of w.client w.ino) l.waiters g.waits_not v h))
 
   granted_demanded : (l : Locks) (r : LockRow) (x : RowDemand) → IsGranted w l → IsGranted w (with_demand r x l)
   unfolding demanded
@@ -334,7 +311,7 @@ module _ (w : Waiter) (n : ServerState) (now : Stamp) (i : ServerInput) (known :
       go (inr ne) =
           carried t.state.authority (authority.suspect t.state.authority c now) t.state.locks (locks.drop_waits t.state.locks c)
           (λ y. inl (first_among w t.state.locks (λ v. not (is_wait_by c v)) (other_client w c ne) y)) (granted_among w t.state.locks (λ v. not (is_wait_by c v)))
-          (still_suspect t.state.authority c now w.client) x
+          (suspect_stays t.state.authority c now w.client) x
   ends_edit t u (DropsWaits _ m s is b e f) x = greeted t.state.authority t.state.locks m s is b e f (same_or_not m.header.from w.client.0) x
   ends_edit t u (Reasserts _ m rows is y gr f) x =
       carried t.state.authority t.state.authority t.state.locks (with_rows t.state.locks (sender m.header) (life_in m.header) rows)

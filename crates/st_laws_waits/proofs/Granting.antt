@@ -1,37 +1,28 @@
 -- After a granting pass each first waiter has a row of another client in its way: each grant takes a waiter, so the pass has as many turns as there are
 -- waiters, and a grant leaves the other files as they are.
-use Rattle.std.proofs.Common.{◌≡◌, ◌≢◌, ℕ, zero, suc, ◌≤◌, ◌<◌, ◌⊎◌, Bool, true, false, not, List, [], ◌∷◌, ◌==◌, refl, sym, ap, ◌∙◌, subst, inl, inr, arith}
-use Rattle.std.specs.Prelude.{cond, find, filter, length, map, Option, Some, None}
-use Rattle.std.specs.List.{list_any}
-use Rattle.std.proofs.lemmas.Bool.{eqb-true, eq-eqb, ne_eqb}
-use Rattle.st_base.specs.declared.ids.ClientId.{ClientId}
-use Rattle.st_base.specs.declared.ids.GrantNo.{GrantNo}
-use Rattle.st_base.specs.declared.ids.Life.{Life}
-use Rattle.st_base.specs.declared.mode.Mode.{Mode}
-use Rattle.st_rules.specs.declared.locks.LockRow.{LockRow}
-use Rattle.st_rules.specs.declared.locks.Waiter.{Waiter}
-use Rattle.st_rules.specs.Locks as locks
-use Rattle.st_rules.specs.Locks.{Granting, Locks, grant, grant_and, grant_file, grant_files, grant_waiter, grantable, is_row_of, is_wait_of, is_wait_on, new_row, next_grants, next_waiter, stands_against, waited_files}
-use Rattle.st_rules.specs.Server.{ServerTurn, grant_by, grant_waiting, tell, tell_granted, with_locks}
-use Rattle.st_lemmas.specs.Lists.{Has}
+use Rattle.st_lemmas.proofs.Words
+use Words.{◌≡◌, ◌≢◌, ℕ, zero, suc, ◌≤◌, ◌<◌, ◌⊎◌, Bool, true, false, not, List, [], ◌∷◌, ◌==◌, refl, sym, ap, ◌∙◌, subst, inl, inr, arith, cond, find, filter}
+use Words.{length, map, Option, Some, None, list_any, eqb-true, ne_eqb, ClientId, GrantNo, Life, Mode, LockRow, Waiter}
+use Words.Locks as locks
+use Words.Locks.{Granting, Locks, grant, grant_and, grant_file, grant_files, grant_waiter, grantable, is_row_of, is_wait_of, is_wait_on, new_row, next_grants}
+use Words.Locks.{next_waiter, stands_against, waited_files}
+use Words.Server.{ServerTurn, grant_by, grant_waiting, tell, tell_granted, with_locks}
+use Words.Lists.{Has}
+use Words.Tables.{and_right, and_true, cond_either, find_kept, found_at, has_map_in, same_or_not, some_passes}
+use Words.Members.{some_member_passes}
+use Words.Serving.{own_wait}
+use Words.Tests.{filtered_no_longer}
 use Rattle.st_lemmas.proofs.Keys.{rising_has_in}
 use Rattle.st_lemmas.proofs.Puts.{has_put_other}
-use Rattle.st_lemmas.proofs.Tables.{and_both, and_right, and_true, cond_either, find_kept, found_at, has_map_in, same_or_not, some_passes}
 use Rattle.st_laws_waits.specs.Bounds.{AllBlocked}
-use Rattle.st_laws_waits.proofs.Tests.{any_has}
 
 -- the first waiter of this file has a row in its way
 abbrev pub BlockedOn : ℕ → Locks → Type 0
 BlockedOn ino l = (w : Waiter) → find (is_wait_on ino) l.waiters ≡ Some w → list_any (stands_against w.client w.ino w.mode) l.rows ≡ true
 
--- fewer waits are left
-shorter : {A : Type 0} (q : A → Bool) (xs : List A) → length (filter q xs) ≤ length xs
-shorter q [] = omega arith
-shorter q (x ∷ xs) = let r = shorter q xs in cond_either (λ ys. length ys ≤ suc (length xs)) (q x) (x ∷ filter q xs) (filter q xs) (λ e. omega (arith, r)) (λ e. omega (arith, r))
-
 one_less : {A : Type 0} (q : A → Bool) (x : A) (xs : List A) → Has x xs → q x ≡ false → length (filter q xs) < length xs
 one_less q x [] h e = elim h [ ]
-one_less {A} q x (y ∷ ys) h e = cond_either (λ zs. length zs < suc (length ys)) (q y) (y ∷ filter q ys) (filter q ys) (λ f. by f h (λ i. one_less q x ys i e)) (λ f. let r = shorter q ys in omega (arith, r))
+one_less {A} q x (y ∷ ys) h e = cond_either (λ zs. length zs < suc (length ys)) (q y) (y ∷ filter q ys) (filter q ys) (λ f. by f h (λ i. one_less q x ys i e)) (λ f. let r = filtered_no_longer q ys in omega (arith, r))
   where
     clash : (b : Bool) → b ≡ true → b ≡ false → ⊥
     clash true e f = cc
@@ -40,9 +31,6 @@ one_less {A} q x (y ∷ ys) h e = cond_either (λ zs. length zs < suc (length ys
     by : q y ≡ true → (x ≡ y) ⊎ Has x ys → (Has x ys → length (filter q ys) < length ys) → length (y ∷ filter q ys) < suc (length ys)
     by f (inl g) r = absurd (clash (q y) f (sym (ap q g) ∙ e))
     by f (inr i) r = let z = r i in omega (arith, z)
-
-own_wait : (w : Waiter) → is_wait_of w.client w.ino w ≡ true
-own_wait w = and_both _ _ (eq-eqb w.client.0 w.client.0 refl) (eq-eqb w.ino w.ino refl)
 
 granted_less : (l : Locks) (w : Waiter) → Has w l.waiters → length (grant l w.client w.life w.ino w.mode).waiters < length l.waiters
 unfolding grant
@@ -103,7 +91,7 @@ elsewhere l c life ino j mode ne b w e =
     first = sym same ∙ e
 
     z : (x : LockRow) × Has x l.rows × (stands_against w.client w.ino w.mode x ≡ true)
-    z = any_has (stands_against w.client w.ino w.mode) l.rows (b w first)
+    z = some_member_passes (stands_against w.client w.ino w.mode) l.rows (b w first)
 
     file : z.0.ino ≡ j
     file = eqb-true z.0.ino w.ino (and_true (z.0.ino == w.ino) _ z.2).0 ∙ eqb-true w.ino j (found_at (is_wait_on j) l.waiters w first).0

@@ -1,16 +1,13 @@
 -- What a law over whole runs needs of lists: a list with one more item is split at its last item or earlier, so a fact of all moments since an
 -- earlier one is carried from step to step.
-use Rattle.std.proofs.Common.{◌≡◌, ℕ, true, List, [], ◌∷◌, ◌++◌, Ok, Err, refl, sym, ap, subst, inl, inr}
-use Rattle.std.specs.Prelude.{Result}
-use Rattle.std.specs.List.{list_all}
-use Rattle.st_base.specs.declared.ids.ServerId.{ServerId}
-use Rattle.st_messages.specs.declared.event.Event.{Event}
-use Rattle.st_rules.specs.declared.observation.WorldRefusal.{WorldRefusal}
-use Rattle.st_rules.specs.Events.{WorldTurn, world_step}
-use Rattle.st_rules.specs.History.{Traced, traced_after}
-use Rattle.st_rules.specs.Safety.{Promise, Step, Throughout, is_event, step, steps, steps_on}
-use Rattle.st_lemmas.specs.Lists.{Has}
-use Rattle.st_lemmas.proofs.Tables.{and_true}
+use Rattle.st_lemmas.proofs.Words
+use Words.{◌≡◌, ℕ, true, List, [], ◌∷◌, ◌++◌, Ok, Err, refl, sym, ap, subst, inl, inr, Result, list_all, ServerId, Event, WorldRefusal}
+use Words.Events.{WorldTurn, world_step}
+use Words.History.{Traced, traced_after}
+use Words.Safety.{Promise, Step, Throughout, is_event, step, steps, steps_on}
+use Words.Lists.{Has}
+use Words.Tables.{and_true}
+use Words.Members.{has_last}
 use Rattle.st_laws_waits.specs.Waits.{last_tick, ticked}
 
 -- a list with one more, split
@@ -41,10 +38,6 @@ split (p ∷ ps) x (b ∷ bs) i during e = go (split ps x bs i during (tail_is p
     go : Split ps x bs i during → Split (p ∷ ps) x (b ∷ bs) i during
     go (At_last f g h) = At_last ((λ j. sym same j ∷ f j)) g h
     go (Earlier d f g) = Earlier d f (λ j. same j ∷ g j)
-
-pub has_last : {A : Type 0} (xs : List A) (x : A) → Has x (xs ++ x ∷ [])
-has_last [] x = inl refl
-has_last (y ∷ ys) x = inr (has_last ys x)
 
 pub has_more : {A : Type 0} (xs : List A) (y x : A) → Has y xs → Has y (xs ++ x ∷ [])
 has_more [] y x h = elim h [ ]

@@ -1,19 +1,15 @@
 -- A whole step of a server that ticks in time keeps what holds of it since its last tick, and a tick makes it hold since now: the thefts and the suspicions
 -- look at every timer and every demand.
-use Rattle.std.proofs.Common.{◌≡◌, ℕ, ◌+◌, ◌≤◌, ◌⊎◌, Bool, true, false, [], refl, sym, ap, ◌∙◌, subst, inl, inr, arith}
-use Rattle.std.specs.Prelude.{cond, Option, Some, None}
-use Rattle.std.proofs.lemmas.Bool.{ltb-true, lt-ltb}
-use Rattle.st_base.specs.declared.config.Config.{Config}
-use Rattle.st_base.specs.declared.ids.Stamp.{Stamp}
-use Rattle.st_messages.specs.declared.message.Message.{Message}
-use Rattle.st_rules.specs.declared.input.ServerInput.{ServerInput}
-use Rattle.st_rules.specs.declared.input.ServerInput.TheVariants.{Tick, Control}
-use Rattle.st_rules.specs.Grace as grace
-use Rattle.st_rules.specs.Grace.{Grace}
-use Rattle.st_rules.specs.Leases.{steal_wait}
-use Rattle.st_rules.specs.Server.{ServerState, ServerTurn, demanding, granting, grant_waiting, in_grace, server_step, suspecting, suspecting_on, take_input, thefts, turn}
+use Rattle.st_lemmas.proofs.Words
+use Words.{◌≡◌, ℕ, ◌+◌, ◌≤◌, ◌⊎◌, Bool, true, false, [], refl, sym, ap, ◌∙◌, subst, inl, inr, arith, cond, Option, Some, None, ltb-true, lt-ltb, Config, Stamp}
+use Words.{Message, ServerInput}
+use Words.serving.{Tick, Control}
+use Words.Grace as grace
+use Words.Grace.{Grace}
+use Words.Leases.{steal_wait}
+use Words.Server.{ServerState, ServerTurn, demanding, granting, grant_waiting, in_grace, server_step, suspecting, suspecting_on, take_input, thefts, turn}
 use Rattle.st_laws_refine.specs.Server.Edits.{WishInput}
-use Rattle.st_laws_refine.proofs.Server.Walk.{w_demanding, w_granting, w_message, w_suspecting}
+use Rattle.st_laws_refine.proofs.Server.Walk.{kept_by_demands, kept_by_grants, kept_by_message, kept_by_suspicions}
 use Rattle.st_trace.proofs.Server.Input.{thefts_begun}
 use Rattle.st_laws_waits.specs.Bounds.{AllBlocked, InTime, RowsHaveSessions}
 use Rattle.st_laws_waits.specs.WithinStep.{WithinStep}
@@ -41,14 +37,18 @@ module _ (k : Config) (now : Stamp) (n : ServerState) (i : ServerInput) (p : 1 �
   passes : (last : ℕ) (t : ServerTurn) → last ≤ now.0 → WithinStep k (steal_wait k) last now n.grace t →
       WithinStep k (steal_wait k) last now n.grace (demanding (granting t now) now i)
   passes last t l o =
-      w_demanding n now i (WithinStep k (steal_wait k) last now n.grace) (λ t u e o. edit k (steal_wait k) last now n.grace n i t u p q l e o) (granting t now)
-      (w_granting n now i (WithinStep k (steal_wait k) last now n.grace) (λ t u e o. edit k (steal_wait k) last now n.grace n i t u p q l e o) t o)
+      kept_by_demands n now i (WithinStep k (steal_wait k) last now n.grace) (λ t u e o. edit k (steal_wait k) last now n.grace n i t u p q l e o)
+      (granting t now)
+      (kept_by_grants n now i (WithinStep k (steal_wait k) last now n.grace) (λ t u e o. edit k (steal_wait k) last now n.grace n i t u p q l e o) t o)
 
-  granted : (last : ℕ) (t : ServerTurn) → last ≤ now.0 → WithinStep k (steal_wait k) last now n.grace t → WithinStep k (steal_wait k) last now n.grace (granting t now)
-  granted last t l o = w_granting n now i (WithinStep k (steal_wait k) last now n.grace) (λ t u e o. edit k (steal_wait k) last now n.grace n i t u p q l e o) t o
+  granted : (last : ℕ) (t : ServerTurn) → last ≤ now.0 → WithinStep k (steal_wait k) last now n.grace t →
+      WithinStep k (steal_wait k) last now n.grace (granting t now)
+  granted last t l o = kept_by_grants n now i (WithinStep k (steal_wait k) last now n.grace)
+      (λ t u e o. edit k (steal_wait k) last now n.grace n i t u p q l e o) t o
 
   -- what holds after the passes
-  behind : (last : ℕ) (t : ServerTurn) → last ≤ now.0 → WithinStep k (steal_wait k) last now n.grace t → InTime k last now.0 (demanding (granting t now) now i).state
+  behind : (last : ℕ) (t : ServerTurn) → last ≤ now.0 → WithinStep k (steal_wait k) last now n.grace t →
+      InTime k last now.0 (demanding (granting t now) now i).state
   behind last t l o =
       record {
         config = z.config;
@@ -71,7 +71,8 @@ module _ (k : Config) (now : Stamp) (n : ServerState) (i : ServerInput) (p : 1 �
       by (inl e) = inl (graced_before _ last now.0 l (ap (λ g. grace.is_on g now) (z.grace ∙ sym o.grace) ∙ e))
       by (inr b) = inr (pass_blocked (granting t now) now i retries b)
 
-module _ (k : Config) (last : ℕ) (now : Stamp) (n : ServerState) (p : 1 ≤ k.demand) (q : 1 ≤ steal_wait k) (rp : 1 ≤ k.retry) (known : RowsHaveSessions n) (s : InTime k last now.0 n) where
+module _ (k : Config) (last : ℕ) (now : Stamp) (n : ServerState) (p : 1 ≤ k.demand) (q : 1 ≤ steal_wait k) (rp : 1 ≤ k.retry) (known : RowsHaveSessions n)
+    (s : InTime k last now.0 n) where
   -- after the thefts
   pub robbed : WithinStep k (steal_wait k) last now n.grace (thefts (turn n []) now)
   robbed = stolen k (steal_wait k) last now n known s.config s.wait s.rows s.timers
@@ -80,11 +81,13 @@ module _ (k : Config) (last : ℕ) (now : Stamp) (n : ServerState) (p : 1 ≤ k.
   pub suspected : WithinStep k (steal_wait k) now.0 now n.grace (suspecting (thefts (turn n []) now) now)
   suspected =
       ticked k (steal_wait k) last now n.grace (thefts (turn n []) now) robbed.config
-      (w_suspecting n now (WithinStep k (steal_wait k) last now n.grace) (λ t u e o. edit k (steal_wait k) last now n.grace n Tick t u p q s.past e o) (thefts (turn n []) now) (thefts_begun n now).quiet robbed)
+      (kept_by_suspicions n now (WithinStep k (steal_wait k) last now n.grace) (λ t u e o. edit k (steal_wait k) last now n.grace n Tick t u p q s.past e o)
+      (thefts (turn n []) now) (thefts_begun n now).quiet robbed)
 
   -- after a message's rule
   pub received : (m : Message) → WishInput (Control m) → WithinStep k (steal_wait k) last now n.grace (take_input (thefts (turn n []) now) now (Control m))
-  received m w = w_message n now m (WithinStep k (steal_wait k) last now n.grace) (λ t u e o. edit k (steal_wait k) last now n.grace n (Control m) t u p q s.past e o) w robbed
+  received m w = kept_by_message n now m (WithinStep k (steal_wait k) last now n.grace)
+      (λ t u e o. edit k (steal_wait k) last now n.grace n (Control m) t u p q s.past e o) w robbed
 
   pub tick_in_time : InTime k now.0 now.0 (server_step n now Tick).state
   unfolding server_step take_input suspecting_on

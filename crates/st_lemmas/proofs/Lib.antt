@@ -7,3 +7,12 @@ pub mod Numbers
 pub mod Contents
 pub mod Marks
 pub mod Steps
+pub mod Members
+pub mod Tests
+pub mod Lengths
+pub mod Truth
+pub mod Worlds
+pub mod Versions
+pub mod Serving
+pub mod PutPlaces
+pub mod Words

@@ -1,20 +1,16 @@
 -- The invariant of a lock cache holds after each of its changes.
-use Rattle.std.proofs.Common.{◌≡◌, ℕ, ◌<◌, ◌≤◌, ◌⊎◌, Bool, true, false, ◌==◌, not, if◌then◌else◌, List, [], ◌∷◌, Option, Some, None, refl, sym, ap, ◌∙◌, inl, inr, arith, le-leb}
-use Rattle.std.specs.Prelude.{find, is_some, nat_le, unwrap_or, option_map}
-use Rattle.std.specs.List.{list_all}
-use Rattle.std.proofs.lemmas.Bool.{eqb-true, eqb-false, leb-true, ltb-true, not-true}
-use Rattle.st_base.specs.declared.ids.GrantNo.{GrantNo}
-use Rattle.st_base.specs.declared.mode.Mode.{Mode}
-use Rattle.st_base.specs.declared.mode.Mode.TheVariants as modes
-use Rattle.st_rules.specs.declared.client.HeldLock.{HeldLock}
-use Rattle.st_rules.specs.declared.client.SeenGrant.{SeenGrant}
-use Rattle.st_rules.specs.declared.client.DemandedFile.{DemandedFile}
-use Rattle.st_rules.specs.ServerInvariants.{are_once}
-use Rattle.st_rules.specs.ClientInvariants.{same_lock, same_demand}
-use Rattle.st_rules.specs.ClientLocks.{LockCache, lock_of, seen_of, is_lock_on, is_seen_on, is_demand_on, g_seen, no_grant, ino_of_lock, ino_of_demand, seen_grant, held_lock, demanded_file, with_lock, without_lock, with_seen, with_demand, without_demand, is_above_seen, greater_grant, lowered_rows}
-use Rattle.st_lemmas.specs.Lists.{Has}
-use Rattle.st_lemmas.proofs.Tables.{all_pass, each_passes, found_at, has_append, has_filter}
-use Rattle.st_lemmas.proofs.Lookups.{find_without, found_ino, if_ap, if_false}
+use Rattle.st_lemmas.proofs.Words
+use Words.{◌≡◌, ℕ, ◌<◌, ◌≤◌, ◌⊎◌, Bool, true, false, ◌==◌, not, if◌then◌else◌, List, [], ◌∷◌, Option, Some, None, refl, sym, ap, ◌∙◌, inl, inr, arith, le-leb}
+use Words.{find, is_some, nat_le, unwrap_or, option_map, list_all, eqb-true, eqb-false, leb-true, ltb-true, not-true, GrantNo, Mode, HeldLock, SeenGrant}
+use Words.{DemandedFile}
+use Words.modes
+use Words.ServerInvariants.{are_once}
+use Words.ClientInvariants.{same_lock, same_demand}
+use Words.ClientLocks.{LockCache, lock_of, seen_of, is_lock_on, is_seen_on, is_demand_on, g_seen, no_grant, ino_of_lock, ino_of_demand, seen_grant, held_lock}
+use Words.ClientLocks.{demanded_file, with_lock, without_lock, with_seen, with_demand, without_demand, is_above_seen, greater_grant, lowered_rows}
+use Words.Lists.{Has}
+use Words.Tables.{all_pass, each_passes, found_at, has_append, has_filter}
+use Words.Lookups.{find_without, found_ino, if_ap, if_false}
 use Rattle.st_lemmas.proofs.Puts.{find_put_at, has_put}
 use Rattle.st_lock_cache.specs.Calls.{IsCached, tables}
 use Rattle.st_lemmas.proofs.Once.{once_filter}

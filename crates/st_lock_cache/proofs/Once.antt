@@ -1,13 +1,12 @@
 -- Rows of which no two have one key: after one was put in place of another, and after one went last in place of another.
-use Rattle.std.proofs.Common.{◌≡◌, ℕ, ◌⊎◌, Bool, true, false, ◌==◌, not, List, [], ◌∷◌, ◌++◌, Some, refl, sym, ap, ◌∙◌, inl, inr, arith}
-use Rattle.std.specs.Prelude.{find, filter}
-use Rattle.std.proofs.lemmas.Bool.{eqb-true, eq-eqb, not-true}
-use Rattle.st_rules.specs.Keys.{put}
-use Rattle.st_rules.specs.ServerInvariants.{are_once}
-use Rattle.st_lemmas.specs.Lists.{Has}
-use Rattle.st_lemmas.proofs.Lookups.{some_is}
+use Rattle.st_lemmas.proofs.Words
+use Words.{◌≡◌, ℕ, ◌⊎◌, Bool, true, false, ◌==◌, not, List, [], ◌∷◌, ◌++◌, Some, refl, sym, ap, ◌∙◌, inl, inr, arith, find, filter, eqb-true, eq-eqb, not-true}
+use Words.Keys.{put}
+use Words.ServerInvariants.{are_once}
+use Words.Lists.{Has}
+use Words.Lookups.{some_is}
+use Words.Tables.{has_filter}
 use Rattle.st_lemmas.proofs.Once as lists
-use Rattle.st_lemmas.proofs.Tables.{has_filter}
 
 -- the row has this key
 abbrev pub has_key : {A : Type 0} → (A → ℕ) → ℕ → A → Bool

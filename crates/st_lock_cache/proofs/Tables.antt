@@ -1,10 +1,9 @@
 -- A row that is put over the one of its key, and one that is put and taken out again.
-use Rattle.std.proofs.Common.{◌≡◌, ℕ, zero, suc, ◌-◌, ◌<◌, ◌≤◌, Bool, true, false, ◌||◌, not, cond, if◌then◌else◌, List, [], ◌∷◌, ◌++◌, length, map, drop, get_or, Some, None, refl, sym, ap, ◌∙◌, arith}
-use Rattle.std.specs.Prelude.{find, filter, is_some}
-use Rattle.std.specs.List.{list_any}
-use Rattle.std.proofs.lemmas.Bool.{and_parts, not-true, eqb-true}
-use Rattle.st_rules.specs.Keys.{put, rising, with_key}
-use Rattle.st_rules.specs.ServerInvariants.{are_once}
+use Rattle.st_lemmas.proofs.Words
+use Words.{◌≡◌, ℕ, zero, suc, ◌-◌, ◌<◌, ◌≤◌, Bool, true, false, ◌||◌, not, cond, if◌then◌else◌, List, [], ◌∷◌, ◌++◌, length, map, drop, get_or, Some, None}
+use Words.{refl, sym, ap, ◌∙◌, arith, find, filter, is_some, list_any, and_parts, not-true, eqb-true}
+use Words.Keys.{put, rising, with_key}
+use Words.ServerInvariants.{are_once}
 use Rattle.st_tables.proofs.RowLists.{put_last}
 use Rattle.st_lock_cache.proofs.Once.{has_key, same_key}
 

@@ -1,13 +1,12 @@
 -- What the calls of a server need holds after every list of events.
-use Rattle.std.proofs.Common.{◌≡◌, ◌≢◌, ℕ, suc, ◌+◌, ◌≤◌, ◌<◌, ◌⊎◌, Bool, true, false, List, [], ◌∷◌, ◌++◌, length, map, Option, Some, None, refl, sym, ap, ◌∙◌, subst, inl, inr, arith, lt-ltb}
-use Rattle.std.specs.Prelude.{zero, pred, if◌then◌else◌, ◌==◌, Result, Ok, Err}
-use Rattle.std.specs.List.{list_all}
-use Rattle.st_base.specs.declared.ids.ServerId.{ServerId}
-use Rattle.st_rules.specs.Locks.{Locks}
-use Rattle.st_rules.specs.World.{numbered, with_numbered}
-use Rattle.st_lemmas.specs.Lists.{Has}
-use Rattle.st_lemmas.proofs.Numbers.{get_below, get_has, numbered_below, numbered_has, set_length}
-use Rattle.st_lemmas.proofs.Tables.{and_both, has_append, has_map}
+use Rattle.st_lemmas.proofs.Words
+use Words.{◌≡◌, ◌≢◌, ℕ, suc, ◌+◌, ◌≤◌, ◌<◌, ◌⊎◌, Bool, true, false, List, [], ◌∷◌, ◌++◌, length, map, Option, Some, None, refl, sym, ap, ◌∙◌, subst, inl, inr}
+use Words.{arith, lt-ltb, zero, pred, if◌then◌else◌, ◌==◌, Result, Ok, Err, list_all, ServerId}
+use Words.Locks.{Locks}
+use Words.World.{numbered, with_numbered}
+use Words.Lists.{Has}
+use Words.Numbers.{get_below, get_has, numbered_below, numbered_has, set_length}
+use Words.Tables.{and_both, has_append, has_map}
 use Rattle.st_move.specs.declared.record.ContainerRecord.{ContainerRecord}
 use Rattle.st_move.specs.declared.record.MoveMessage.{MoveMessage}
 use Rattle.st_move.specs.declared.record.MoveMessage.TheVariants.{Image, Taken}
@@ -19,10 +18,14 @@ use Rattle.st_move.specs.declared.world.MoveEvent.TheVariants as events
 use Rattle.st_move.specs.declared.world.SentMove.{SentMove}
 use Rattle.st_move.specs.declared.site.MoveSite.{MoveSite}
 use Rattle.st_move.specs.declared.world.MoveAnswer.TheVariants.{Done, LostMessage, NoLock}
-use Rattle.st_move.specs.Containers.{after_order, after_put, after_take, after_tick, answer_to, answered, beginning, beginnings, begins_at, container_of, gone_by, has_next, held, images, is_below, leaves, listed, recorded, sent_from, sent_if, sent_on, taken_at, taken_in, with_image, with_records, with_state, with_updates}
+use Rattle.st_move.specs.Containers.{after_order, after_put, after_take, after_tick, answer_to, answered, beginning, beginnings, begins_at, container_of}
+use Rattle.st_move.specs.Containers.{gone_by, has_next, held, images, is_below, leaves, listed, recorded, sent_from, sent_if, sent_on, taken_at, taken_in}
+use Rattle.st_move.specs.Containers.{with_image, with_records, with_state, with_updates}
 use Rattle.st_move.specs.Conditions.{CanGoOn, MovesGoOn}
 use Rattle.st_move.specs.Law.{MoveHistory, fresh_history, known, noted, record_at, record_in, run_moves}
-use Rattle.st_move.specs.World.{MoveWorld, answer_sent, deliver_at, fresh_world, happens, has_lock, list_at, list_told, lock_at, lock_told, locked, lose_at, lost_move, order_at, order_for, order_told, put_at, put_told, sent_move, server, sites_behind, taken_by, tick_at, ticked, told, unlock_at, unlocked, with_locks, with_lost}
+use Rattle.st_move.specs.World.{MoveWorld, answer_sent, deliver_at, fresh_world, happens, has_lock, list_at, list_told, lock_at, lock_told, locked, lose_at}
+use Rattle.st_move.specs.World.{lost_move, order_at, order_for, order_told, put_at, put_told, sent_move, server, sites_behind, taken_by, tick_at, ticked, told}
+use Rattle.st_move.specs.World.{unlock_at, unlocked, with_locks, with_lost}
 use Rattle.st_move.proofs.Loops.{beginnings_length}
 use Rattle.st_move.proofs.Ones.{AreOnes, ones_can, ones_fresh, ones_later, ones_locked, ones_unlocked}
 use Rattle.st_move.proofs.CallAnswers.{IsHeldAt, IsImageAt, held_says, images_at, numbered_set_has, order_says, put_says, sent_length, with_changed}

@@ -1,9 +1,8 @@
 -- How many bytes updates have.
-use Rattle.std.proofs.Common.{◌≡◌, ℕ, ◌+◌, ◌≤◌, true, List, [], ◌∷◌, length, ap, ◌∙◌, arith, leb-true}
-use Rattle.std.specs.Prelude.{nat_le}
-use Rattle.std.specs.List.{list_all}
+use Rattle.st_lemmas.proofs.Words
+use Words.{◌≡◌, ℕ, ◌+◌, ◌≤◌, true, List, [], ◌∷◌, length, ap, ◌∙◌, arith, leb-true, nat_le, list_all}
+use Words.Tables.{and_true}
 use Rattle.std.proofs.lemmas.List.Sums.{sum_by-append}
-use Rattle.st_lemmas.proofs.Tables.{and_true}
 use Rattle.st_move.specs.Updates.{bytes_of, is_update}
 
 bytes_one : (u : List ℕ) → bytes_of (u ∷ []) ≡ length u

@@ -1,17 +1,16 @@
 -- What the calls on containers say, case by case.
-use Rattle.std.proofs.Common.{◌≡◌, ◌≢◌, ℕ, suc, ◌+◌, ◌⊎◌, Bool, true, false, List, [], ◌∷◌, ◌++◌, length, Option, Some, None, refl, sym, ap, ◌∙◌, subst, inl, inr, arith, eqb}
-use Rattle.std.specs.Prelude.{zero, pred, set, if◌then◌else◌, not, ◌==◌, nat_le, slice_get, option_map, Ok, Err}
-use Rattle.std.specs.List.{list_any}
+use Rattle.st_lemmas.proofs.Words
+use Words.{◌≡◌, ◌≢◌, ℕ, suc, ◌+◌, ◌⊎◌, Bool, true, false, List, [], ◌∷◌, ◌++◌, length, Option, Some, None, refl, sym, ap, ◌∙◌, subst, inl, inr, arith, eqb}
+use Words.{zero, pred, set, if◌then◌else◌, not, ◌==◌, nat_le, slice_get, option_map, Ok, Err, list_any, ServerId}
+use Words.modes
+use Words.Keys.{same_server}
+use Words.Locks.{Locks, grant, is_row_of, is_row_on, new_row}
+use Words.World.{numbered, with_numbered}
+use Words.Lists.{Has}
+use Words.Lookups.{any_filter}
+use Words.Tables.{cond_true, cond_false, has_append}
 use Rattle.std.proofs.lemmas.Bool.Decides.{eqb_tells}
-use Rattle.st_base.specs.declared.ids.ServerId.{ServerId}
-use Rattle.st_base.specs.declared.mode.Mode.TheVariants as modes
-use Rattle.st_rules.specs.Keys.{same_server}
-use Rattle.st_rules.specs.Locks.{Locks, grant, is_row_of, is_row_on, new_row}
-use Rattle.st_rules.specs.World.{numbered, with_numbered}
-use Rattle.st_lemmas.specs.Lists.{Has}
-use Rattle.st_lemmas.proofs.Lookups.{any_filter}
 use Rattle.st_lemmas.proofs.Puts.{any_put}
-use Rattle.st_lemmas.proofs.Tables.{cond_true, cond_false, has_append}
 use Rattle.st_move.specs.declared.record.ContainerRecord.{ContainerRecord}
 use Rattle.st_move.specs.declared.record.MoveMessage.{MoveMessage}
 use Rattle.st_move.specs.declared.record.MoveMessage.TheVariants.{Image, Taken}
@@ -19,7 +18,9 @@ use Rattle.st_move.specs.declared.record.ContainerState.{ContainerState}
 use Rattle.st_move.specs.declared.record.ContainerState.TheVariants.{Holding, Leaving, Sent, Gone}
 use Rattle.st_move.specs.declared.refusal.MoveRefusal.{MoveRefusal}
 use Rattle.st_move.specs.declared.refusal.MoveRefusal.TheVariants as refusals
-use Rattle.st_move.specs.Containers.{Containers, after_order, after_put, changeable, changed, found, found_at, held, image_by, image_of, images_from, is_locked, leaves, listed, ordered, readable, sent_from, sent_if, unless_leaving, unless_sent, updated, updated_with, updates_of, with_record, with_records, with_state, with_updates}
+use Rattle.st_move.specs.Containers.{Containers, after_order, after_put, changeable, changed, found, found_at, held, image_by, image_of, images_from, is_locked}
+use Rattle.st_move.specs.Containers.{leaves, listed, ordered, readable, sent_from, sent_if, unless_leaving, unless_sent, updated, updated_with, updates_of}
+use Rattle.st_move.specs.Containers.{with_record, with_records, with_state, with_updates}
 use Rattle.st_move.specs.Updates.{added, bytes_of, most_bytes}
 use Rattle.st_move.specs.Law.{is_held, known}
 use Rattle.st_move.specs.World.{has_lock, locked, one, unlocked}

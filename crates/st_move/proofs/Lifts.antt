@@ -1,18 +1,17 @@
 -- From the record of a container to the containers of a server.
-use Rattle.std.proofs.Common.{◌≡◌, ℕ, suc, ◌+◌, List, [], ◌∷◌, Option, Some, None, refl, sym, ap, ◌∙◌, subst, arith}
-use Rattle.std.specs.Prelude.{zero, set, slice_get, Result, Ok, Err, OnOk, true}
-use Rattle.st_base.specs.declared.ids.ServerId.{ServerId}
-use Rattle.st_rules.specs.World.{numbered, with_numbered}
-use Rattle.st_lemmas.proofs.Lookups.{some_is}
-use Rattle.st_lemmas.proofs.Numbers.{set_own}
+use Rattle.st_lemmas.proofs.Words
+use Words.{◌≡◌, ℕ, suc, ◌+◌, List, [], ◌∷◌, Option, Some, None, refl, sym, ap, ◌∙◌, subst, arith, zero, set, slice_get, Result, Ok, Err, OnOk, true, ServerId}
+use Words.World.{numbered, with_numbered}
+use Words.Lookups.{some_is}
+use Words.Numbers.{set_own}
 use Rattle.st_move.specs.declared.record.ContainerRecord.{ContainerRecord}
-use Rattle.st_move.specs.declared.record.MoveMessage.{MoveMessage}
 use Rattle.st_move.specs.declared.refusal.MoveRefusal.{MoveRefusal}
 use Rattle.st_move.specs.declared.refusal.MoveRefusal.TheVariants as refusals
 use Rattle.st_move.specs.declared.record.ContainerState.{ContainerState}
 use Rattle.st_move.specs.declared.record.ContainerState.TheVariants.{Holding, Leaving, Sent, Gone}
 use Rattle.st_move.specs.Calls.{Answers, Counts, allowed, count_at, count_found, count_of, there}
-use Rattle.st_move.specs.Containers.{Containers, after_order, after_put, after_take, changeable, changed, container_of, found, found_at, is_holding, ordered, serves_by, taken_at, taken_in, unless_leaving, unless_sent, updated, with_records}
+use Rattle.st_move.specs.Containers.{Containers, after_order, after_put, changeable, changed, found, found_at, is_holding, ordered, serves_by, unless_leaving}
+use Rattle.st_move.specs.Containers.{unless_sent, updated, with_records}
 
 -- the record of a number is at the place below it
 pub at_place : (rs : List (Option ContainerRecord)) (c p : ℕ) (old : Option ContainerRecord) → c ≡ p + 1 → slice_get rs p ≡ Some old → numbered rs c ≡ Some old

@@ -1,18 +1,14 @@
 -- A file has holders exactly where it has a row.
-use Rattle.std.proofs.Common.{◌≡◌, ℕ, ◌<◌, ◌⊎◌, Bool, true, false, List, [], ◌∷◌, length, map, filter, Option, Some, None, refl, sym, ap, ◌∙◌, subst, inl, inr, arith, eqb, lt-ltb, le-ltb}
-use Rattle.std.specs.Prelude.{filter_map, option_map, not, ◌==◌, nat_lt}
-use Rattle.std.specs.List.{list_any, cons_option}
+use Rattle.st_lemmas.proofs.Words
+use Words.{◌≡◌, ℕ, ◌<◌, ◌⊎◌, Bool, true, false, List, [], ◌∷◌, length, map, filter, Option, Some, None, refl, sym, ap, ◌∙◌, subst, inl, inr, arith, eqb, lt-ltb}
+use Words.{le-ltb, filter_map, option_map, not, ◌==◌, nat_lt, list_any, cons_option, ClientId, GrantNo, Mode, LockRow}
+use Words.Keys.{client, rising, same_client}
+use Words.Locks.{Locks, client_of_row, holder_at, holder_in_list, holders, is_row_of, is_row_on, row_of}
+use Words.Lists.{Has}
+use Words.Lookups.{or_cases, or_false}
+use Words.Tables.{and_both, cond_false, has_filter_in, has_map_in, none_has}
 use Rattle.std.proofs.lemmas.Bool.Decides.{eqb_tells}
-use Rattle.st_base.specs.declared.ids.ClientId.{ClientId}
-use Rattle.st_base.specs.declared.ids.GrantNo.{GrantNo}
-use Rattle.st_base.specs.declared.mode.Mode.{Mode}
-use Rattle.st_rules.specs.declared.locks.LockRow.{LockRow}
-use Rattle.st_rules.specs.Keys.{client, rising, same_client}
-use Rattle.st_rules.specs.Locks.{Locks, client_of_row, holder_at, holder_in_list, holders, is_row_of, is_row_on, row_of}
-use Rattle.st_lemmas.specs.Lists.{Has}
 use Rattle.st_lemmas.proofs.Keys.{rising_has_in}
-use Rattle.st_lemmas.proofs.Lookups.{or_cases, or_false}
-use Rattle.st_lemmas.proofs.Tables.{and_both, cond_false, has_filter_in, has_map_in, none_has}
 use Rattle.st_move.specs.Containers.{is_locked}
 
 any_has : {A : Type 0} (p : A → Bool) (xs : List A) → list_any p xs ≡ true → (x : A) × Has x xs × (p x ≡ true)

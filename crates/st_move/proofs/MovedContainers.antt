@@ -1,11 +1,11 @@
 -- What holds of one container through ticks and messages.
-use Rattle.std.proofs.Common.{◌≡◌, ◌≢◌, ℕ, ◌+◌, ◌≤◌, ◌<◌, ◌⊎◌, Bool, true, false, List, Option, Some, None, refl, sym, ap, ◌∙◌, subst, inl, inr, arith, eqb, lt-ltb, le-ltb}
-use Rattle.std.specs.Prelude.{if◌then◌else◌, ◌&&◌, not, ◌==◌, nat_lt}
+use Rattle.st_lemmas.proofs.Words
+use Words.{◌≡◌, ◌≢◌, ℕ, ◌+◌, ◌≤◌, ◌<◌, ◌⊎◌, Bool, true, false, List, Option, Some, None, refl, sym, ap, ◌∙◌, subst, inl, inr, arith, eqb, lt-ltb, le-ltb}
+use Words.{if◌then◌else◌, ◌&&◌, not, ◌==◌, nat_lt, ServerId}
+use Words.Lists.{Has}
+use Words.Lookups.{some_is}
+use Words.Tables.{same_or_not, cond_true, cond_false}
 use Rattle.std.proofs.lemmas.Bool.Decides.{eqb_tells}
-use Rattle.st_base.specs.declared.ids.ServerId.{ServerId}
-use Rattle.st_lemmas.specs.Lists.{Has}
-use Rattle.st_lemmas.proofs.Lookups.{some_is}
-use Rattle.st_lemmas.proofs.Tables.{same_or_not, cond_true, cond_false}
 use Rattle.st_move.specs.declared.record.ContainerRecord.{ContainerRecord}
 use Rattle.st_move.specs.declared.record.MoveMessage.{MoveMessage}
 use Rattle.st_move.specs.declared.record.MoveMessage.TheVariants.{Image, Taken}

@@ -1,20 +1,17 @@
 -- What an event does at one server, and so to all.
-use Rattle.std.proofs.Common.{◌≡◌, ◌≢◌, ℕ, suc, ◌+◌, ◌≤◌, ◌<◌, ◌^◌, ◌⊎◌, Bool, true, false, List, [], ◌∷◌, ◌++◌, length, map, Option, Some, None, refl, sym, ap, ◌∙◌, subst, inl, inr, arith, append_assoc, length-append, eqb}
-use Rattle.std.specs.Prelude.{zero, set, slice_get, if◌then◌else◌, ◌==◌, is_some, IfOk, OnOk, Result, Ok, Err}
+use Rattle.st_lemmas.proofs.Words
+use Words.{◌≡◌, ◌≢◌, ℕ, suc, ◌+◌, ◌≤◌, ◌<◌, ◌^◌, ◌⊎◌, Bool, true, false, List, [], ◌∷◌, ◌++◌, length, map, Option, Some, None, refl, sym, ap, ◌∙◌, subst, inl}
+use Words.{inr, arith, append_assoc, length-append, eqb, zero, set, slice_get, if◌then◌else◌, ◌==◌, is_some, IfOk, OnOk, Result, Ok, Err, GrantNo, ServerId}
+use Words.{Mode, LockRow, Verdict}
+use Words.modes
+use Words.Locks.{Acquired, Locks, Released, acquire, is_under, release, release_to, released, released_at, row_of}
+use Words.World.{numbered, with_numbered}
+use Words.Lookups.{if_true, if_false, some_is}
+use Words.Tables.{and_both}
 use Rattle.std.proofs.lemmas.Bool.Decides.{eqb_tells}
-use Rattle.st_base.specs.declared.ids.GrantNo.{GrantNo}
-use Rattle.st_base.specs.declared.ids.ServerId.{ServerId}
-use Rattle.st_base.specs.declared.mode.Mode.{Mode}
-use Rattle.st_base.specs.declared.mode.Mode.TheVariants as modes
-use Rattle.st_rules.specs.declared.locks.LockRow.{LockRow}
-use Rattle.st_rules.specs.declared.locks.Verdict.{Verdict}
-use Rattle.st_rules.specs.Locks.{Acquired, Locks, Released, acquire, is_under, release, release_to, released, released_at, row_of}
-use Rattle.st_rules.specs.World.{numbered, with_numbered}
 use Rattle.st_locks.specs.Calls as locks
 use Rattle.st_lock_tables.specs.declared.refusal.LockRefusal.{LockRefusal}
 use Rattle.st_lock_tables.specs.declared.refusal.LockRefusal.TheVariants as lock_refusals
-use Rattle.st_lemmas.proofs.Lookups.{if_true, if_false, some_is}
-use Rattle.st_lemmas.proofs.Tables.{and_both}
 use Rattle.st_move.specs.declared.record.ContainerRecord.{ContainerRecord}
 use Rattle.st_move.specs.declared.record.MoveMessage.{MoveMessage}
 use Rattle.st_move.specs.declared.record.ContainerState.{ContainerState}
@@ -28,10 +25,13 @@ use Rattle.st_move.specs.declared.world.MoveEvent.{MoveEvent}
 use Rattle.st_move.specs.declared.world.SentMove.{SentMove}
 use Rattle.st_move.specs.Calls.{Answers, Counts, count_at}
 use Rattle.st_move.specs.Conditions.{CanGoOn, CanLock}
-use Rattle.st_move.specs.Containers.{Containers, after_order, after_put, after_take, after_tick, answer_to, changeable, container_of, found, held, images, is_holding, listed, serves, serves_by, unless_leaving, unless_sent}
+use Rattle.st_move.specs.Containers.{Containers, after_order, after_put, after_take, after_tick, answer_to, changeable, container_of, found, held, images}
+use Rattle.st_move.specs.Containers.{is_holding, listed, serves, serves_by, unless_leaving, unless_sent}
 use Rattle.st_move.specs.Law.{MoveHistory, fresh_history, noted, run_moves}
 use Rattle.st_move.specs.Network.{AreKept, CanHappen, DoesAt, IsReached, MoveNetwork, Refuses, addressed, turned, with_containers}
-use Rattle.st_move.specs.World.{MoveTurn, MoveWorld, answer_sent, deliver_at, first, happens, has_lock, list_at, list_told, lock_at, lock_told, locked, lose_at, lost_move, one, order_at, order_for, order_told, put_at, put_told, sends_behind, sent_move, taken_by, tick_at, ticked, told, unlock_at, unlocked, with_site}
+use Rattle.st_move.specs.World.{MoveTurn, MoveWorld, answer_sent, deliver_at, first, happens, has_lock, list_at, list_told, lock_at, lock_told, locked, lose_at}
+use Rattle.st_move.specs.World.{lost_move, one, order_at, order_for, order_told, put_at, put_told, sends_behind, sent_move, taken_by, tick_at, ticked, told}
+use Rattle.st_move.specs.World.{unlock_at, unlocked, with_site}
 use Rattle.st_move.proofs.Bounds.{moves_go_on}
 use Rattle.st_move.proofs.Runs.{no_update_is_lost}
 

@@ -1,19 +1,18 @@
 -- Client 1 may always lock: each row is an exclusive lock of its own, of a container that is there, and nobody waits.
-use Rattle.std.proofs.Common.{◌≡◌, ℕ, ◌+◌, ◌≤◌, ◌<◌, ◌^◌, ◌⊎◌, Bool, true, false, List, [], ◌∷◌, ◌++◌, length, map, filter, Option, Some, None, refl, sym, ap, ◌∙◌, subst, inl, inr, arith, lt-ltb}
-use Rattle.std.specs.Prelude.{if◌then◌else◌, ◌&&◌, ◌||◌, ◌==◌, not, is_some, Ok}
-use Rattle.std.specs.List.{list_any}
-use Rattle.st_base.specs.declared.ids.Epoch.{Epoch}
-use Rattle.st_base.specs.declared.mode.Mode.TheVariants as modes
+use Rattle.st_lemmas.proofs.Words
+use Words.{◌≡◌, ℕ, ◌+◌, ◌≤◌, ◌<◌, ◌^◌, ◌⊎◌, Bool, true, false, List, [], ◌∷◌, ◌++◌, length, map, filter, Option, Some, None, refl, sym, ap, ◌∙◌, subst, inl}
+use Words.{inr, arith, lt-ltb, if◌then◌else◌, ◌&&◌, ◌||◌, ◌==◌, not, is_some, Ok, list_any, Epoch, LockRow, Verdict}
+use Words.modes
+use Words.verdicts.{Granted}
+use Words.Keys.{put, rising, same_client}
+use Words.Locks.{Locks, acquire, acquire_at, acquire_granted, acquire_held, acquire_more, acquire_new, acquire_over, files_of, grant, has_place, ino_of_row}
+use Words.Locks.{ino_of_wait, is_row_by, is_row_of, is_wait_by, may_grant, new_row, next_grant, no_locks, row_of, stands_against, wait_of, waits_besides}
+use Words.Locks.{without_wait}
+use Words.Lists.{Has, Rises}
+use Words.Lookups.{if_true, or_right}
+use Words.Tables.{found_at, has_filter, has_map}
 use Rattle.st_base.specs.Mode.{conflicts, covers}
-use Rattle.st_rules.specs.declared.locks.LockRow.{LockRow}
-use Rattle.st_rules.specs.declared.locks.Verdict.{Verdict}
-use Rattle.st_rules.specs.declared.locks.Verdict.TheVariants.{Granted}
-use Rattle.st_rules.specs.Keys.{put, rising, same_client}
-use Rattle.st_rules.specs.Locks.{Locks, acquire, acquire_at, acquire_granted, acquire_held, acquire_more, acquire_new, acquire_over, files_of, grant, has_place, ino_of_row, ino_of_wait, is_row_by, is_row_of, is_wait_by, may_grant, new_row, next_grant, no_locks, row_of, stands_against, wait_of, waits_besides, without_wait}
-use Rattle.st_lemmas.specs.Lists.{Has, Rises}
 use Rattle.st_lemmas.proofs.Keys.{rising_has, rising_rises}
-use Rattle.st_lemmas.proofs.Lookups.{if_true, or_right}
-use Rattle.st_lemmas.proofs.Tables.{found_at, has_filter, has_map}
 use Rattle.st_locks.specs.Calls.{acquired}
 use Rattle.st_move.specs.Conditions.{CanLock}
 use Rattle.st_move.specs.World.{first, has_lock, locked, one, unlocked}

@@ -1,13 +1,13 @@
 -- Every list of events keeps the invariant, and from that follows the law.
-use Rattle.std.proofs.Common.{◌≡◌, ◌≢◌, ℕ, suc, ◌+◌, ◌%◌, ◌≤◌, ◌<◌, ◌⊎◌, Bool, true, false, List, [], ◌∷◌, ◌++◌, length, Option, Some, None, refl, sym, ap, ◌∙◌, subst, inl, inr, arith, eqb, true≢false}
-use Rattle.std.specs.Prelude.{zero, if◌then◌else◌, slice_get, Result, Ok, Err}
+use Rattle.st_lemmas.proofs.Words
+use Words.{◌≡◌, ◌≢◌, ℕ, suc, ◌+◌, ◌%◌, ◌≤◌, ◌<◌, ◌⊎◌, Bool, true, false, List, [], ◌∷◌, ◌++◌, length, Option, Some, None, refl, sym, ap, ◌∙◌, subst, inl, inr}
+use Words.{arith, eqb, true≢false, zero, if◌then◌else◌, slice_get, Result, Ok, Err, ServerId}
+use Words.World.{numbered, with_numbered}
+use Words.Lists.{Has}
+use Words.Lookups.{some_is}
+use Words.Numbers.{get_below, numbered_below, numbered_has}
+use Words.Tables.{cond_true, cond_false, same_or_not}
 use Rattle.std.proofs.lemmas.Bool.Decides.{eqb_tells}
-use Rattle.st_base.specs.declared.ids.ServerId.{ServerId}
-use Rattle.st_rules.specs.World.{numbered, with_numbered}
-use Rattle.st_lemmas.specs.Lists.{Has}
-use Rattle.st_lemmas.proofs.Lookups.{some_is}
-use Rattle.st_lemmas.proofs.Numbers.{get_below, numbered_below, numbered_has}
-use Rattle.st_lemmas.proofs.Tables.{cond_true, cond_false, same_or_not}
 use Rattle.st_move.specs.declared.record.ContainerRecord.{ContainerRecord}
 use Rattle.st_move.specs.declared.record.ContainerState.{ContainerState}
 use Rattle.st_move.specs.declared.record.ContainerState.TheVariants.{Holding, Leaving, Sent, Gone}
@@ -19,10 +19,14 @@ use Rattle.st_move.specs.declared.site.MoveSite.{MoveSite}
 use Rattle.st_move.specs.declared.world.MoveAnswer.{MoveAnswer}
 use Rattle.st_move.specs.declared.world.MoveAnswer.TheVariants.{Done, Listed, LostMessage, NoLock}
 use Rattle.st_move.specs.Containers.{after_order, after_put, beginning, beginnings, begins_at, held, listed, recorded, with_state, with_updates}
-use Rattle.st_move.specs.Law.{IsKeptBy, MoveHistory, NoUpdateIsLost, OneHolder, accepts, fresh_history, has_row, holds, holds_by, is_held, known, locked_in, noted, record_at, record_in, run_moves}
-use Rattle.st_move.specs.World.{MoveWorld, deliver_at, fresh_site, fresh_world, happens, has_lock, list_at, list_told, lock_at, lock_told, lose_at, lost_move, order_at, order_for, order_told, put_at, put_told, server, sites_behind, taken_by, tick_at, ticked, told, unlock_at, unlocked, with_locks, with_lost}
+use Rattle.st_move.specs.Law.{IsKeptBy, MoveHistory, NoUpdateIsLost, OneHolder, accepts, fresh_history, has_row, holds, holds_by, is_held, known, locked_in}
+use Rattle.st_move.specs.Law.{noted, record_at, record_in, run_moves}
+use Rattle.st_move.specs.World.{MoveWorld, deliver_at, fresh_site, fresh_world, happens, has_lock, list_at, list_told, lock_at, lock_told, lose_at, lost_move}
+use Rattle.st_move.specs.World.{order_at, order_for, order_told, put_at, put_told, server, sites_behind, taken_by, tick_at, ticked, told, unlock_at, unlocked}
+use Rattle.st_move.specs.World.{with_locks, with_lost}
 use Rattle.st_move.proofs.CallAnswers.{IsHeldAt, held_says, listed_says, numbered_set_has, order_says, put_says, with_changed}
-use Rattle.st_move.proofs.Stands.{IsContainer, IsSite, Stands, TokenOf, accepts_other, accepts_own, received_more, lock_stands, replaced, take_stands, tick_stands, unlock_stands}
+use Rattle.st_move.proofs.Stands.{IsContainer, IsSite, Stands, TokenOf, accepts_other, accepts_own, received_more, lock_stands, replaced, take_stands}
+use Rattle.st_move.proofs.Stands.{tick_stands, unlock_stands}
 use Rattle.st_move.proofs.Token.{IsGoing, IsNewest, IsOlder, held_here}
 
 module _ (containers : ℕ) (h : MoveHistory) (st : Stands containers h) where

@@ -1,14 +1,14 @@
 -- What holds of every container in every run, event by event.
-use Rattle.std.proofs.Common.{◌≡◌, ◌≢◌, ℕ, suc, ◌≤◌, ◌⊎◌, Bool, true, false, List, [], ◌∷◌, ◌++◌, length, map, Option, Some, None, refl, sym, ap, ◌∙◌, subst, inl, inr, arith, eqb}
-use Rattle.std.specs.Prelude.{zero, ◌==◌}
+use Rattle.st_lemmas.proofs.Words
+use Words.{◌≡◌, ◌≢◌, ℕ, suc, ◌≤◌, ◌⊎◌, Bool, true, false, List, [], ◌∷◌, ◌++◌, length, map, Option, Some, None, refl, sym, ap, ◌∙◌, subst, inl, inr, arith, eqb}
+use Words.{zero, ◌==◌, ServerId}
+use Words.Locks.{Locks}
+use Words.World.{numbered, with_numbered}
+use Words.Lists.{Has}
+use Words.Lookups.{some_is}
+use Words.Numbers.{get_there, numbered_below, numbered_other, numbered_own, set_length}
+use Words.Tables.{cond_true, cond_false, has_append, has_map, same_or_not}
 use Rattle.std.proofs.lemmas.Bool.Decides.{eqb_tells}
-use Rattle.st_base.specs.declared.ids.ServerId.{ServerId}
-use Rattle.st_rules.specs.Locks.{Locks}
-use Rattle.st_rules.specs.World.{numbered, with_numbered}
-use Rattle.st_lemmas.specs.Lists.{Has}
-use Rattle.st_lemmas.proofs.Lookups.{some_is}
-use Rattle.st_lemmas.proofs.Numbers.{get_there, numbered_below, numbered_other, numbered_own, set_length}
-use Rattle.st_lemmas.proofs.Tables.{cond_true, cond_false, has_append, has_map, same_or_not}
 use Rattle.st_move.specs.declared.record.ContainerRecord.{ContainerRecord}
 use Rattle.st_move.specs.declared.record.MoveMessage.{MoveMessage}
 use Rattle.st_move.specs.declared.record.MoveMessage.TheVariants.{Image, Taken}

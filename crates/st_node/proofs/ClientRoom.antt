@@ -1,19 +1,15 @@
 -- A step of a client takes away one of the steps for which its counters have room.
-use Rattle.std.proofs.Common.{◌≡◌, ℕ, ◌+◌, ◌*◌, ◌^◌, ◌<◌, ◌≤◌, Bool, true, false, Ok, Err, if◌then◌else◌, refl, arith}
-use Rattle.std.specs.Prelude.{nat_lt, ◌&&◌, Option, Some, None}
-use Rattle.std.proofs.lemmas.Bool.{lt-ltb}
-use Rattle.st_base.specs.declared.config.Config.{Config}
-use Rattle.st_base.specs.declared.ids.ClientId.{ClientId}
-use Rattle.st_base.specs.declared.ids.Stamp.{Stamp}
+use Rattle.st_lemmas.proofs.Words
+use Words.{◌≡◌, ℕ, ◌+◌, ◌*◌, ◌^◌, ◌<◌, ◌≤◌, Bool, true, false, Ok, Err, if◌then◌else◌, refl, arith, nat_lt, ◌&&◌, Option, Some, None, lt-ltb, Config, ClientId}
+use Words.{Stamp, ClientInput}
+use Words.Tables.{all_pass, and_both}
+use Words.Client as client
+use Words.Client.{ClientNode, client_step, node_step}
+use Words.ClientState.{Association, ClientSession}
 use Rattle.st_client.specs.Room.{HasRoom}
 use Rattle.st_client_association.specs.Associations.{has_room_at, may_ask}
 use Rattle.st_laws_bounds.specs.Counters.Counts.{AsksLow}
 use Rattle.st_laws_bounds.specs.Counters.Rises.{FreshClientsBegin, IsWithinAt, StepsRaiseLittle}
-use Rattle.st_lemmas.proofs.Tables.{all_pass, and_both}
-use Rattle.st_rules.specs.Client as client
-use Rattle.st_rules.specs.Client.{ClientNode, client_step, node_step}
-use Rattle.st_rules.specs.ClientState.{Association, ClientSession}
-use Rattle.st_rules.specs.declared.client.ClientInput.{ClientInput}
 use Rattle.st_rules.specs.declared.node.StepRefusal.TheVariants.{Crashed}
 use Rattle.st_node.specs.Room.{ClientHasRoom, HasRoomFor}
 use Rattle.st_node.specs.Runs.{MOST, client_stepped}

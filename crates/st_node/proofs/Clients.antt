@@ -1,12 +1,9 @@
 -- The inputs of a client that messages are.
-use Rattle.std.proofs.Common.{◌≡◌, ap, sym, ◌∙◌}
-use Rattle.std.specs.Prelude.{Some}
-use Rattle.st_messages.specs.declared.kind.Kind.{Kind}
+use Rattle.st_lemmas.proofs.Words
+use Words.{◌≡◌, ap, sym, ◌∙◌, Some, Kind, Message, ClientInput}
+use Words.parties
+use Words.Kinds.{kind_of_body, receiver}
 use Rattle.st_messages.specs.declared.kind.Party.{Party}
-use Rattle.st_messages.specs.declared.kind.Party.TheVariants as parties
-use Rattle.st_messages.specs.declared.message.Message.{Message}
-use Rattle.st_messages.specs.Kinds.{kind_of_body, receiver}
-use Rattle.st_rules.specs.declared.client.ClientInput.{ClientInput}
 use Rattle.st_node.specs.Runs.{client_input, client_input_by, client_own}
 
 -- a message that goes to a client is the input that its body says

@@ -1,10 +1,10 @@
 -- A reader of frames that holds more bytes gives the same.
-use Rattle.std.proofs.Common.{◌≡◌, ℕ, ◌+◌, ◌-◌, ◌^◌, ◌<◌, ◌≤◌, false, true, ltb, List, [], ◌++◌, length, take, drop, Option, Some, None, Result, Ok, Err, refl, sym, ap, ◌∙◌, append-nil, arith, inl, inr}
-use Rattle.std.specs.Prelude.{min}
+use Rattle.st_lemmas.proofs.Words
+use Words.{◌≡◌, ℕ, ◌+◌, ◌-◌, ◌^◌, ◌<◌, ◌≤◌, false, true, List, [], ◌++◌, length, take, drop, Option, Some, None, Result, Ok, Err, refl, sym, ap, ◌∙◌, arith}
+use Words.{inl, inr, min, cases_lt, lt-ltb, le-ltb, Message}
+use Rattle.std.proofs.Common.{ltb, append-nil}
 use Rattle.std.specs.Int.{w32, from_be_bytes}
-use Rattle.std.proofs.lemmas.Bool.{cases_lt, lt-ltb, le-ltb}
 use Rattle.std.proofs.lemmas.List.{take-append-le, drop-append-le, length-append, length-drop}
-use Rattle.st_messages.specs.declared.message.Message.{Message}
 use Rattle.st_codec.specs.declared.frames.Front.{Front}
 use Rattle.st_codec.specs.declared.frames.Front.TheVariants.{Partial, TooLong, Whole}
 use Rattle.st_codec.specs.declared.refusal.CodecRefusal.{CodecRefusal}

@@ -1,20 +1,15 @@
 -- A step of a node takes away one of the steps for which its counters have room.
-use Rattle.std.proofs.Common.{◌≡◌, ℕ, ◌+◌, ◌-◌, ◌^◌, ◌≤◌, Bool, true, [], Ok, Err, if◌then◌else◌, refl, sym, subst, arith}
-use Rattle.std.specs.Prelude.{min, nat_le, ◌&&◌}
-use Rattle.std.proofs.lemmas.Bool.{and_parts, leb-true}
-use Rattle.st_base.specs.declared.config.Config.{Config}
-use Rattle.st_base.specs.declared.ids.ServerId.{ServerId}
-use Rattle.st_base.specs.declared.ids.Stamp.{Stamp}
-use Rattle.st_messages.specs.declared.message.Body.{Body}
-use Rattle.st_messages.specs.declared.message.Body.TheVariants as bodies
-use Rattle.st_messages.specs.Ranges.{fits, is_body, is_count, is_grant, is_header, is_ino, is_page}
-use Rattle.st_messages.specs.Kinds.{kind_of_body}
-use Rattle.st_rules.specs.declared.input.ServerInput.{ServerInput}
-use Rattle.st_rules.specs.declared.input.ServerInput.TheVariants.{Tick, Control}
+use Rattle.st_lemmas.proofs.Words
+use Words.{◌≡◌, ℕ, ◌+◌, ◌-◌, ◌^◌, ◌≤◌, Bool, true, [], Ok, Err, if◌then◌else◌, refl, sym, subst, arith, min, nat_le, ◌&&◌, and_parts, leb-true, Config}
+use Words.{ServerId, Stamp, Body, ServerInput}
+use Words.bodies
+use Words.Ranges.{fits, is_body, is_count, is_grant, is_header, is_ino, is_page}
+use Words.Kinds.{kind_of_body}
+use Words.serving.{Tick, Control}
+use Words.Names as names
+use Words.Server as server
+use Words.Server.{ServerNode, turn, node_step, server_step}
 use Rattle.st_rules.specs.declared.node.StepRefusal.TheVariants.{Crashed}
-use Rattle.st_rules.specs.Names as names
-use Rattle.st_rules.specs.Server as server
-use Rattle.st_rules.specs.Server.{ServerNode, ServerState, turn, node_step, server_step}
 use Rattle.st_server.specs.RuleConditions.{comes_fit}
 use Rattle.st_server.specs.Room.{HasRoom, taken_locks}
 use Rattle.st_server.specs.Invariants.{IsSound}

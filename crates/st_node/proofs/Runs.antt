@@ -1,16 +1,15 @@
 -- The run of a node, frame by frame, whatever bytes follow.
-use Rattle.std.proofs.Common.{◌≡◌, ℕ, zero, suc, ◌-◌, ◌<◌, ◌≤◌, List, [], ◌∷◌, ◌++◌, length, Option, Some, None, Ok, Err, refl, sym, ap, subst, ◌∙◌, append_assoc, append-nil, arith}
-use Rattle.std.specs.Prelude.{slice_get}
-use Rattle.st_base.specs.declared.ids.Stamp.{Stamp}
+use Rattle.st_lemmas.proofs.Words
+use Words.{◌≡◌, ℕ, zero, suc, ◌-◌, ◌<◌, ◌≤◌, List, [], ◌∷◌, ◌++◌, length, Option, Some, None, Ok, Err, refl, sym, ap, subst, ◌∙◌, append_assoc, arith}
+use Words.{slice_get, Stamp, Message}
+use Rattle.std.proofs.Common.{append-nil}
 use Rattle.st_clock.specs.Readings.{after, Tells}
 use Rattle.st_codec.specs.declared.refusal.CodecRefusal.{CodecRefusal}
 use Rattle.st_codec.specs.Frames.{Frames, fed, next}
-use Rattle.st_messages.specs.declared.message.Message.{Message}
 use Rattle.st_node.specs.declared.node.Node.{Node}
-use Rattle.st_node.specs.declared.fault.NodeFault.{NodeFault}
 use Rattle.st_node.specs.declared.fault.NodeFault.TheVariants as faults
 use Rattle.st_node.specs.Runs.{Run, handle, run, go_on, then_rest, behind, ended, end_at, full_at, reading}
-use Rattle.st_node.specs.Service.{AreReadings, Carries, GoesOn, IsIdle, OfReadings, StopsAt}
+use Rattle.st_node.specs.Service.{AreReadings, Carries, GoesOn, IsIdle, OfReadings}
 use Rattle.st_node.proofs.Reading.{next_more}
 
 -- ---- pieces

@@ -1,6 +1,6 @@
 -- Why a run stops follows from its bytes.
-use Rattle.std.proofs.Common.{◌≡◌, ℕ, zero, suc, List, Some, None, Ok, Err, refl}
-use Rattle.st_base.specs.declared.ids.Stamp.{Stamp}
+use Rattle.st_lemmas.proofs.Words
+use Words.{◌≡◌, ℕ, zero, suc, List, Some, None, Ok, Err, refl, Stamp}
 use Rattle.st_clock.specs.Readings.{after}
 use Rattle.st_codec.specs.Frames.{Frames, Answer, fed, fresh, next}
 use Rattle.st_node.specs.declared.node.Node.{Node}

@@ -1,17 +1,19 @@
 -- What holds while a link is taken piece by piece, and what is known when that stops.
-use Rattle.std.proofs.Common.{◌≡◌, ℕ, zero, suc, ◌+◌, ◌-◌, ◌<◌, ◌≤◌, List, [], ◌∷◌, ◌++◌, length, take, drop, refl, sym, ◌∙◌, ap, subst, arith, append-nil, take-append-drop, append_assoc}
-use Rattle.std.specs.Prelude.{Option, Some, None, IfSome, Result, Ok, Err}
+use Rattle.st_lemmas.proofs.Words
+use Words.{◌≡◌, ℕ, zero, suc, ◌+◌, ◌-◌, ◌<◌, ◌≤◌, List, [], ◌∷◌, ◌++◌, length, take, drop, refl, sym, ◌∙◌, ap, subst, arith, append_assoc, Option, Some, None}
+use Words.{IfSome, Result, Ok, Err, Stamp}
+use Rattle.std.proofs.Common.{append-nil, take-append-drop}
 use Rattle.std.specs.Io.KnownBytes.{Appends, Consumes, IsAtEnd, Keeps}
 use Rattle.std.proofs.KnownBytes.{Consumes-trans, Consumes-kept, Consumes-nil, Appends-nil, Appends-trans}
 use Rattle.std.proofs.Math.Seq.{take-append_seam}
-use Rattle.st_base.specs.declared.ids.Stamp.{Stamp}
 use Rattle.st_codec.specs.Frames.{Frames, fed, fresh, next, front}
 use Rattle.st_link.specs.Prefixes.{AppendsPrefix}
 use Rattle.st_node.specs.declared.node.Node.{Node}
 use Rattle.st_node.specs.declared.fault.NodeFault.{NodeFault}
 use Rattle.st_node.specs.declared.fault.NodeFault.TheVariants as faults
 use Rattle.st_node.specs.Runs.{Run, MOST, behind, end_at, node_run, run}
-use Rattle.st_node.specs.Service.{AreReadings, Breaks, Carries, GoesOn, IsCutOff, IsCutShort, IsFront, IsHalted, IsHandled, IsIdle, IsTorn, OfReadings, Pieces, Serves, StopsAt, room_for}
+use Rattle.st_node.specs.Service.{AreReadings, Breaks, Carries, GoesOn, IsCutOff, IsCutShort, IsFront, IsHalted, IsHandled, IsIdle, IsTorn, OfReadings, Pieces}
+use Rattle.st_node.specs.Service.{Serves, StopsAt, room_for}
 use Rattle.st_node.proofs.Reading.{part_few}
 use Rattle.st_node.proofs.Runs.{behind_both, fed_nothing, fed_twice, from_both, from_first, idle_ends, some_readings}
 

@@ -1,15 +1,14 @@
 -- One turn: a frame, a stop, or nothing.
-use Rattle.std.proofs.Common.{◌≡◌, ℕ, ◌+◌, ◌-◌, ◌<◌, ◌≤◌, List, [], length, refl, sym, ◌∙◌, ap, subst, arith, append-nil}
-use Rattle.std.specs.Prelude.{Option, Some, None, Result, Ok, Err, OnOk}
-use Rattle.st_base.specs.declared.ids.Stamp.{Stamp}
+use Rattle.st_lemmas.proofs.Words
+use Words.{◌≡◌, ℕ, ◌+◌, ◌-◌, ◌<◌, ◌≤◌, List, [], length, refl, sym, ◌∙◌, ap, subst, arith, Option, Some, None, Result, Ok, Err, OnOk, Stamp, Message}
+use Rattle.std.proofs.Common.{append-nil}
 use Rattle.st_codec.specs.declared.refusal.CodecRefusal.{CodecRefusal}
 use Rattle.st_codec.specs.Frames.{Frames, Answer, fed, next}
-use Rattle.st_messages.specs.declared.message.Message.{Message}
 use Rattle.st_node.specs.declared.node.Node.{Node}
 use Rattle.st_node.specs.declared.fault.NodeFault.{NodeFault}
 use Rattle.st_node.specs.declared.fault.NodeFault.TheVariants as faults
 use Rattle.st_node.specs.Runs.{behind, ended, run}
-use Rattle.st_node.specs.Service.{Carries, GoesOn, HasCauses, IsIdle, IsTorn, OnStop, Pieces, StopsAt, room_for}
+use Rattle.st_node.specs.Service.{Carries, GoesOn, IsIdle, IsTorn, OnStop, StopsAt, room_for}
 use Rattle.st_link.specs.Prefixes.{AppendsPrefix}
 use Rattle.std.specs.Io.KnownBytes.{Appends}
 use Rattle.st_node.proofs.Reading.{next_few, none_stays}

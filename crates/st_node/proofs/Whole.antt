@@ -1,14 +1,12 @@
 -- A stream of whole frames is run through.
-use Rattle.std.proofs.Common.{◌≡◌, ℕ, zero, suc, ◌≤◌, List, [], ◌∷◌, length, Some, None, Ok, refl, ap, ◌∙◌, arith}
-use Rattle.std.specs.List.{flat_map, AllByRecursion}
+use Rattle.st_lemmas.proofs.Words
+use Words.{◌≡◌, ℕ, zero, suc, ◌≤◌, List, [], ◌∷◌, length, Some, None, Ok, refl, ap, ◌∙◌, arith, flat_map, AllByRecursion, Stamp, Message}
 use Rattle.std.proofs.lemmas.List.Concat.{flat_map-cons}
-use Rattle.st_base.specs.declared.ids.Stamp.{Stamp}
 use Rattle.st_clock.specs.Readings.{after}
 use Rattle.st_codec.specs.Frames.{Frames, behind as left_behind, fed, fresh, front, next, next_at, next_by}
 use Rattle.st_codec.specs.Spelling.{spelling}
 use Rattle.st_codec.specs.Stream.{IsFramed, message_frame}
 use Rattle.st_codec.proofs.Streams.{gives_frame}
-use Rattle.st_messages.specs.declared.message.Message.{Message}
 use Rattle.st_node.specs.declared.node.Node.{Node}
 use Rattle.st_node.specs.Runs.{Handled, Run, MOST, behind, ended, go_on, handle, reading, run}
 use Rattle.st_node.specs.Whole.{RunsThrough, after_all, handle_all}

@@ -6,6 +6,7 @@ use crate::rows::ROWS;
 use st_base::{ClientId, Config, ServerId, Stamp};
 use st_clock::Clock;
 use st_codec::{CodecRefusal, decode, encode};
+use st_embed::{EmbeddedClient, EmbeddedServer, Shape};
 use st_link::{Failed, Link, MemoryLink, Sink, Source, UnixLink};
 use st_messages::{Output, Outputs};
 use st_node::{Node, NodeFault, serve};
@@ -432,5 +433,33 @@ fn a_node_is_served_over_a_socket(rt: HostRuntime) -> Result<(), Fail> {
     let want = bytes_of(rt.alloc(), WELCOME)?;
     assert_eq!(rt; answer.as_slice(), want.as_slice());
     fs::remove_file(&rt, path)?;
+    Ok(())
+}
+
+/// How many bytes must be taken out of a client inside another program that was just opened.
+fn left_of_client(alloc: Global) -> Result<usize, AllocError> {
+    match EmbeddedClient::open(alloc, ClientId(1), &CONFIG, &[0]) {
+        Ok(mut client) => client.left(),
+        Err(_) => Err(AllocError),
+    }
+}
+
+/// How many bytes must be taken out of a server inside another program that was just opened.
+fn left_of_server(alloc: Global) -> Result<usize, AllocError> {
+    let shape = Shape {
+        servers: 1,
+        disks: 1,
+        blocks: 64,
+    };
+    match EmbeddedServer::open(alloc, ServerId(1), &CONFIG, shape, Stamp(0), &[0; 1024]) {
+        Ok(mut server) => server.left(),
+        Err(_) => Err(AllocError),
+    }
+}
+
+#[test]
+fn nothing_must_be_taken_out_at_first(rt: HostRuntime) -> Result<(), Fail> {
+    assert_eq!(rt; left_of_client(rt.alloc())?, 0);
+    assert_eq!(rt; left_of_server(rt.alloc())?, 0);
     Ok(())
 }

@@ -1,18 +1,15 @@
 -- What a page cache keeps through each of its changes.
-use Rattle.std.proofs.Common.{◌≡◌, ℕ, suc, ◌+◌, ◌<◌, ◌≤◌, ◌⊎◌, Bool, true, false, List, [], ◌∷◌, map, length, take, zero, if◌then◌else◌, refl, sym, ap, ◌∙◌, subst, inl, inr, arith}
-use Rattle.std.specs.Prelude.{find, filter, not, Option, Some, None, ◌&&◌, ◌==◌}
-use Rattle.std.specs.List.{list_any}
-use Rattle.std.proofs.lemmas.List.{length-map}
-use Rattle.std.proofs.lemmas.Bool.{and_parts, eqb-true, ltb-true, lt-ltb, or_from}
-use Rattle.st_base.specs.declared.ids.PageNo.{PageNo}
-use Rattle.st_lemmas.specs.Lists.{Has}
-use Rattle.st_lemmas.proofs.Tables.{all_pass, each_passes, none_passes, has_filter, has_map, none_has, found_at}
+use Rattle.st_lemmas.proofs.Words
+use Words.{◌≡◌, ℕ, suc, ◌+◌, ◌<◌, ◌≤◌, ◌⊎◌, Bool, true, false, List, [], ◌∷◌, map, length, take, zero, if◌then◌else◌, refl, sym, ap, ◌∙◌, subst, inl, inr}
+use Words.{arith, find, filter, not, Option, Some, None, ◌&&◌, ◌==◌, list_any, length-map, and_parts, eqb-true, ltb-true, lt-ltb, or_from, PageNo, CleanPage}
+use Words.{DirtyPage}
+use Words.Lists.{Has}
+use Words.Tables.{all_pass, each_passes, none_passes, has_filter, has_map, none_has, found_at}
+use Words.Keys.{put}
+use Words.ClientInvariants.{is_only_dirty, has_version}
+use Words.ClientPages.{Pages, is_clean_of, is_dirty_of, without_clean, without_dirty, with_newest, new_dirty, fail_of, failed_by, clean_page, dirty_of, harden}
+use Words.ClientPages.{harden_at, harden_page}
 use Rattle.st_lemmas.proofs.Puts.{has_put}
-use Rattle.st_rules.specs.Keys.{put}
-use Rattle.st_rules.specs.ClientInvariants.{is_only_dirty, has_version}
-use Rattle.st_rules.specs.ClientPages.{Pages, is_clean_of, is_dirty_of, without_clean, without_dirty, with_newest, new_dirty, fail_of, failed_by, clean_page, dirty_of, harden, harden_at, harden_page}
-use Rattle.st_rules.specs.declared.client.CleanPage.{CleanPage}
-use Rattle.st_rules.specs.declared.pages.DirtyPage.{DirtyPage}
 use Rattle.st_page_cache.specs.Caches.{IsSound, pages_of}
 use Rattle.st_page_cache.specs.KeyedPages.{touched}
 use Rattle.st_page_cache.proofs.Dropping.{filter_at_most}

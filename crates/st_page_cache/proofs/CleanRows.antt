@@ -1,18 +1,15 @@
 -- The look-up, the use and the removal of a page in a cache.
-use Rattle.std.proofs.Common.{◌≡◌, ℕ, zero, suc, ◌+◌, ◌-◌, ◌≤◌, Bool, true, false, cond, List, [], ◌∷◌, length, take, refl, sym, ap, subst, ◌∙◌, ⊎_elim, arith}
-use Rattle.std.specs.Prelude.{find, Option, Some, None, ◌&&◌, ◌==◌}
-use Rattle.std.specs.List.{IsDistinct, AllByRecursion}
+use Rattle.st_lemmas.proofs.Words
+use Words.{◌≡◌, ℕ, zero, suc, ◌+◌, ◌-◌, ◌≤◌, Bool, true, false, cond, List, [], ◌∷◌, length, take, refl, sym, ap, subst, ◌∙◌, ⊎_elim, arith, find, Option, Some}
+use Words.{None, ◌&&◌, ◌==◌, AllByRecursion, cases_Bool, and_parts, eqb-true, take_all, length-map, PageNo, CleanPage}
+use Words.Tables.{found_at}
+use Words.ClientInvariants.{same_clean}
+use Words.ClientPages.{is_clean_of, without_clean}
+use Words.ServerInvariants.{are_once}
+use Rattle.std.specs.List.{IsDistinct}
 use Rattle.std.specs.Option.{option_map, option_map_or}
 use Rattle.std.specs.Map.{keys_of, values_of, lookup, lookup_entry, remove_entry}
-use Rattle.std.proofs.lemmas.Bool.{cases_Bool, and_parts, eqb-true}
-use Rattle.std.proofs.lemmas.List.{take_all, length-map}
 use Rattle.lru.specs.LruCache.{LruCache, lru_cache, promoted}
-use Rattle.st_base.specs.declared.ids.PageNo.{PageNo}
-use Rattle.st_rules.specs.declared.client.CleanPage.{CleanPage}
-use Rattle.st_lemmas.proofs.Tables.{found_at}
-use Rattle.st_rules.specs.ClientInvariants.{same_clean}
-use Rattle.st_rules.specs.ClientPages.{is_clean_of, without_clean}
-use Rattle.st_rules.specs.ServerInvariants.{are_once}
 use Rattle.st_page_cache.specs.declared.key.PageKey.{PageKey}
 use Rattle.st_page_cache.specs.KeyedPages.{IsKeyed, IsCache, clean_key, same_key, touched}
 use Rattle.st_page_cache.proofs.Keyed.{lookup_is_find, remove_is_filter, none_found, keyed_remove, keyed_cons, keyed_head, keyed_tail, once}

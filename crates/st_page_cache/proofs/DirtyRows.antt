@@ -1,22 +1,20 @@
 -- The dirty pages by their keys: look-up, change and removal.
-use Rattle.std.proofs.Common.{◌≡◌, ℕ, suc, ◌+◌, Bool, true, false, cond, List, [], ◌∷◌, map, length, refl, sym, ap, subst, ◌∙◌, ⊎_elim, arith}
-use Rattle.std.specs.Prelude.{find, is_some, Option, Some, None, ◌&&◌, ◌==◌}
-use Rattle.std.specs.List.{IsDistinct, AllByRecursion}
+use Rattle.st_lemmas.proofs.Words
+use Words.{◌≡◌, ℕ, suc, ◌+◌, Bool, true, false, cond, List, [], ◌∷◌, map, length, refl, sym, ap, subst, ◌∙◌, ⊎_elim, arith, find, is_some, Option, Some, None}
+use Words.{◌&&◌, ◌==◌, AllByRecursion, cases_Bool, and_parts, eqb-true, length-map, PageNo, DirtyPage}
+use Words.Tables.{found_at}
+use Words.ClientInvariants.{same_dirty}
+use Words.ClientPages.{is_dirty_of, without_dirty, fail_of, failed_by}
+use Words.Keys.{put}
+use Words.ServerInvariants.{are_once}
+use Rattle.std.specs.List.{IsDistinct}
 use Rattle.std.specs.Map.{keys_of, values_of, lookup, remove_entry, set_value}
-use Rattle.std.proofs.lemmas.Bool.{cases_Bool, and_parts, eqb-true}
-use Rattle.std.proofs.lemmas.List.{length-map}
 use Rattle.indexmap.specs.IndexMap.{insert_entry}
-use Rattle.st_base.specs.declared.ids.PageNo.{PageNo}
-use Rattle.st_lemmas.proofs.Tables.{found_at}
-use Rattle.st_rules.specs.ClientInvariants.{same_dirty}
-use Rattle.st_rules.specs.ClientPages.{is_dirty_of, without_dirty, fail_of, failed_by}
-use Rattle.st_rules.specs.Keys.{put}
-use Rattle.st_rules.specs.ServerInvariants.{are_once}
-use Rattle.st_rules.specs.declared.pages.DirtyPage.{DirtyPage}
 use Rattle.st_page_cache.specs.declared.key.PageKey.{PageKey}
 use Rattle.st_page_cache.specs.KeyedPages.{IsKeyed, IsTable, dirty_key, same_key}
 use Rattle.st_page_cache.specs.DirtyPlaces.{place_of, same_place}
-use Rattle.st_page_cache.proofs.Keyed.{lookup_is_find, remove_is_filter, none_found, keyed_remove, keyed_insert, keyed_set, insert_is_put, set_is_map, absent_is_map, once, distinct_as}
+use Rattle.st_page_cache.proofs.Keyed.{lookup_is_find, remove_is_filter, none_found, keyed_remove, keyed_insert, keyed_set, insert_is_put, set_is_map}
+use Rattle.st_page_cache.proofs.Keyed.{absent_is_map, once, distinct_as}
 
 eq_symm : (a b : ℕ) → (a == b) ≡ (b == a)
 eq_symm a b = grind arith

@@ -1,13 +1,11 @@
 -- Pages that are dropped one after another.
-use Rattle.std.proofs.Common.{◌≡◌, ℕ, ◌<◌, ◌≤◌, Bool, true, false, cond, List, [], ◌∷◌, length, refl, sym, ap, ◌∙◌, subst, inl, inr, ⊎_elim, arith}
-use Rattle.std.specs.Prelude.{find, filter, not, option_map, Option, Some, None, ◌&&◌, ◌==◌, nat_le}
-use Rattle.std.proofs.lemmas.Bool.{cases_Bool, and_parts, and_from, eqb-true, eq-eqb}
-use Rattle.st_base.specs.declared.ids.PageNo.{PageNo}
-use Rattle.st_lemmas.specs.Lists.{Has}
-use Rattle.st_lemmas.proofs.Tables.{found_at, none_has}
-use Rattle.st_rules.specs.ClientPages.{is_clean_of, is_clean_behind, without_clean}
-use Rattle.st_rules.specs.Keys.{page_no}
-use Rattle.st_rules.specs.declared.client.CleanPage.{CleanPage}
+use Rattle.st_lemmas.proofs.Words
+use Words.{◌≡◌, ℕ, ◌<◌, ◌≤◌, Bool, true, false, cond, List, [], ◌∷◌, length, refl, sym, ap, ◌∙◌, subst, inl, inr, ⊎_elim, arith, find, filter, not, option_map}
+use Words.{Option, Some, None, ◌&&◌, ◌==◌, nat_le, cases_Bool, and_parts, and_from, eqb-true, eq-eqb, PageNo, CleanPage}
+use Words.Lists.{Has}
+use Words.Tables.{found_at, none_has}
+use Words.ClientPages.{is_clean_of, is_clean_behind, without_clean}
+use Words.Keys.{page_no}
 use Rattle.st_page_cache.specs.KeyedPages.{clean_key}
 use Rattle.st_page_cache.specs.declared.key.PageKey.{PageKey}
 

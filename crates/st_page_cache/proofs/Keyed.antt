@@ -1,13 +1,12 @@
 -- What the operations of a map do to the list of its values, where each key follows from its value and keys differ.
-use Rattle.std.proofs.Common.{◌≡◌, Bool, true, false, cond, if◌then◌else◌, List, [], ◌∷◌, ◌++◌, map, refl, sym, ap, ◌∙◌, ⊎_elim}
-use Rattle.std.specs.Prelude.{find, filter, not, ◌&&◌, Some, None}
-use Rattle.std.specs.List.{IsDistinct, AllByRecursion, list_any}
+use Rattle.st_lemmas.proofs.Words
+use Words.{◌≡◌, Bool, true, false, cond, if◌then◌else◌, List, [], ◌∷◌, ◌++◌, map, refl, sym, ap, ◌∙◌, ⊎_elim, find, filter, not, ◌&&◌, Some, None}
+use Words.{AllByRecursion, list_any, cases_Bool, or_from}
+use Words.Keys.{put}
+use Words.ServerInvariants.{are_once}
+use Rattle.std.specs.List.{IsDistinct}
 use Rattle.std.specs.Map.{keys_of, values_of, lookup, remove_entry, set_value}
-use Rattle.std.proofs.lemmas.Bool.{cases_Bool}
-use Rattle.std.proofs.lemmas.Bool.{or_from}
 use Rattle.indexmap.specs.IndexMap.{insert_entry}
-use Rattle.st_rules.specs.Keys.{put}
-use Rattle.st_rules.specs.ServerInvariants.{are_once}
 use Rattle.st_page_cache.specs.KeyedPages.{IsKeyed}
 
 module _ {K X : Type 0} (key : X → K) where

@@ -1,17 +1,14 @@
 -- What is known of pages by their keys: look-up, change and removal.
-use Rattle.std.proofs.Common.{◌≡◌, ℕ, ◌+◌, ◌<◌, Bool, true, List, [], ◌∷◌, length, drop, refl, sym, ap, subst, ◌∙◌, ⊎_elim, arith, get_or}
-use Rattle.std.specs.Prelude.{filter, slice_get, Some, ◌&&◌, ◌==◌}
+use Rattle.st_lemmas.proofs.Words
+use Words.{◌≡◌, ℕ, ◌+◌, ◌<◌, Bool, true, List, [], ◌∷◌, length, drop, refl, sym, ap, subst, ◌∙◌, ⊎_elim, arith, get_or, filter, slice_get, Some, ◌&&◌, ◌==◌}
+use Words.{cases_Bool, PageNo, ExtentRow, KnownExtent}
+use Words.ClientInvariants.{same_known}
+use Words.ClientPages.{is_known_of, known_of, known_row, with_known, with_known_rows}
+use Words.ServerInvariants.{are_once}
 use Rattle.std.specs.List.{IsDistinct}
 use Rattle.std.specs.Map.{keys_of, values_of, lookup}
-use Rattle.std.proofs.lemmas.Bool.{cases_Bool}
 use Rattle.std.proofs.lemmas.Option.{slice_get-get_or}
 use Rattle.indexmap.specs.IndexMap.{insert_entry}
-use Rattle.st_base.specs.declared.ids.PageNo.{PageNo}
-use Rattle.st_base.specs.declared.rows.ExtentRow.{ExtentRow}
-use Rattle.st_rules.specs.ClientInvariants.{same_known}
-use Rattle.st_rules.specs.ClientPages.{is_known_of, known_of, known_row, with_known, with_known_rows}
-use Rattle.st_rules.specs.ServerInvariants.{are_once}
-use Rattle.st_rules.specs.declared.client.KnownExtent.{KnownExtent}
 use Rattle.st_page_cache.specs.declared.key.PageKey.{PageKey}
 use Rattle.st_page_cache.specs.KeyedPages.{IsKeyed, IsKnown, known_key, same_key}
 use Rattle.st_page_cache.proofs.DirtyRows.{same_is}

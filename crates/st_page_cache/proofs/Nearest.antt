@@ -1,10 +1,9 @@
 -- The nearest place after another is the first one after it in rising order.
-use Rattle.std.proofs.Common.{◌≡◌, ℕ, ◌⊎◌, Bool, true, false, cond, List, [], ◌∷◌, refl, sym, ap, ◌∙◌, subst, inl, inr, ⊎_elim, true≢false}
-use Rattle.std.specs.Prelude.{find, ◌&&◌, ◌==◌, Option, Some, None}
-use Rattle.std.proofs.lemmas.Bool.{cases_Bool, eqb-true, and_parts}
-use Rattle.st_base.specs.declared.ids.PageNo.{PageNo}
-use Rattle.st_lemmas.specs.Lists.{Has}
-use Rattle.st_rules.specs.ClientPages.{is_place_after}
+use Rattle.st_lemmas.proofs.Words
+use Words.{◌≡◌, ℕ, ◌⊎◌, Bool, true, false, cond, List, [], ◌∷◌, refl, sym, ap, ◌∙◌, subst, inl, inr, ⊎_elim, true≢false, find, ◌&&◌, ◌==◌, Option, Some, None}
+use Words.{cases_Bool, eqb-true, and_parts, PageNo}
+use Words.Lists.{Has}
+use Words.ClientPages.{is_place_after}
 use Rattle.st_page_cache.specs.DirtyPlaces.{AreRising, is_before, is_nearer, nearer, nearest, same_place}
 use Rattle.st_page_cache.proofs.Lexical.{chained, either_way, one_way}
 

@@ -1,12 +1,9 @@
 -- A page that is read shows the same bytes once it is used.
-use Rattle.std.proofs.Common.{◌≡◌, ℕ, take, refl, sym, ap, ◌∙◌}
-use Rattle.std.specs.Prelude.{find, Option, Some, None}
+use Rattle.st_lemmas.proofs.Words
+use Words.{◌≡◌, ℕ, take, refl, sym, ap, ◌∙◌, find, Option, Some, None, PageNo, CleanPage, DirtyPage}
+use Words.Tables.{found_at}
+use Words.ClientPages.{Pages, cached, cached_at, clean_of, dirty_of, is_clean_of, use_at, use_clean, use_page, without_clean}
 use Rattle.std.proofs.lemmas.Bool.{cond-true}
-use Rattle.st_base.specs.declared.ids.PageNo.{PageNo}
-use Rattle.st_lemmas.proofs.Tables.{found_at}
-use Rattle.st_rules.specs.ClientPages.{Pages, cached, cached_at, clean_of, dirty_of, is_clean_of, use_at, use_clean, use_page, without_clean}
-use Rattle.st_rules.specs.declared.client.CleanPage.{CleanPage}
-use Rattle.st_rules.specs.declared.pages.DirtyPage.{DirtyPage}
 
 module _ (ps : Pages) (ino : ℕ) (page : PageNo) where
   at_clean : (o : Option CleanPage) → clean_of ps ino page ≡ o → cached (use_at ps o) ino page ≡ cached ps ino page

@@ -16,7 +16,7 @@ pub record All (k : Config) (w : World) : Type 0 where
   pub rows : InService (w.at 0).s → RowsCompat w
   pub claims : Frozen (w.at 0).s → ClaimsCompat k w
 
-frozen_or_not : (s : Server) → Frozen s ⊎ InService s
+pub frozen_or_not : (s : Server) → Frozen s ⊎ InService s
 frozen_or_not s = go (bool_cases s.up) (bool_cases s.grace)
   where
     go : (s.up ≡ true) ⊎ (s.up ≡ false) → (s.grace ≡ true) ⊎ (s.grace ≡ false) → Frozen s ⊎ InService s

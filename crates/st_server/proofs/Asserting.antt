@@ -1,30 +1,21 @@
 -- An accepted reassertion keeps a server sound, and a refused one names numbers that can be told.
-use Rattle.std.proofs.Common.{◌≡◌, ℕ, ◌+◌, ◌^◌, ◌≤◌, Bool, true, false, ◌&&◌, List, [], ◌∷◌, Option, Some, None, refl, sym, subst, arith}
-use Rattle.std.specs.Prelude.{filter, find, map, option_map, nat_le, Result, Ok, Err}
-use Rattle.std.specs.List.{list_all}
-use Rattle.std.proofs.lemmas.Bool.{and_parts, and_from, le-leb, leb-true, lt-ltb}
-use Rattle.st_base.specs.declared.ids.ClientId.{ClientId}
-use Rattle.st_base.specs.declared.ids.Epoch.{Epoch}
-use Rattle.st_base.specs.declared.ids.GrantNo.{GrantNo}
-use Rattle.st_base.specs.declared.ids.Life.{Life}
-use Rattle.st_base.specs.declared.ids.Stamp.{Stamp}
-use Rattle.st_base.specs.declared.mode.Mode.{Mode}
-use Rattle.st_messages.specs.Kinds.{allows, between, is_word64}
+use Rattle.st_lemmas.proofs.Words
+use Words.{◌≡◌, ℕ, ◌+◌, ◌^◌, ◌≤◌, Bool, true, false, ◌&&◌, List, [], ◌∷◌, Option, Some, None, refl, sym, subst, arith, filter, find, map, option_map, nat_le}
+use Words.{Result, Ok, Err, list_all, and_parts, and_from, le-leb, leb-true, lt-ltb, ClientId, Epoch, GrantNo, Life, Stamp, Mode, AcceptRefusal, LockRow}
+use Words.Kinds.{allows, between, is_word64}
+use Words.Ranges.{are_locks, are_rows, after_lock, is_body, is_grant, is_ino, is_lock_row, is_mode}
+use Words.Grace as grace
+use Words.Grace.{Grace, Accepted}
+use Words.Keys.{client, least}
+use Words.Locks as locks
+use Words.Locks.{Locks}
+use Words.Sessions as sessions
+use Words.Sessions.{Sessions}
+use Words.Server.{is_client_node}
+use Words.Lists.{Has}
+use Words.Tables.{cond_either, each_passes, has_filter, has_map}
 use Rattle.st_messages.specs.declared.kind.Need.TheVariants.{Positive}
-use Rattle.st_messages.specs.Ranges.{are_locks, are_rows, after_lock, is_body, is_grant, is_ino, is_lock_row, is_mode}
-use Rattle.st_rules.specs.declared.authority.AcceptRefusal.{AcceptRefusal}
 use Rattle.st_rules.specs.declared.authority.AcceptRefusal.TheVariants as refusals
-use Rattle.st_rules.specs.declared.locks.LockRow.{LockRow}
-use Rattle.st_rules.specs.Grace as grace
-use Rattle.st_rules.specs.Grace.{Grace, Accepted}
-use Rattle.st_rules.specs.Keys.{client, least}
-use Rattle.st_rules.specs.Locks as locks
-use Rattle.st_rules.specs.Locks.{Locks}
-use Rattle.st_rules.specs.Sessions as sessions
-use Rattle.st_rules.specs.Sessions.{Sessions, session_of}
-use Rattle.st_rules.specs.Server.{is_client_node}
-use Rattle.st_lemmas.specs.Lists.{Has}
-use Rattle.st_lemmas.proofs.Tables.{cond_either, each_passes, has_filter, has_map}
 use Rattle.st_lemmas.proofs.Keys.{least_some}
 use Rattle.st_server.specs.Invariants.{AreHeld, is_good_row, is_good_session}
 use Rattle.st_server.proofs.Every.{every_append, every_found, every_map}

@@ -1,14 +1,10 @@
 -- A server is sound when it begins, after a crash, and when it is started.
-use Rattle.std.proofs.Common.{◌≡◌, ℕ, ◌+◌, ◌-◌, ◌^◌, ◌<◌, ◌≤◌, true, refl, arith}
-use Rattle.std.specs.Prelude.{nat_le}
-use Rattle.std.proofs.lemmas.Bool.{and_from, le-leb}
-use Rattle.st_base.specs.declared.config.Config.{Config}
-use Rattle.st_base.specs.declared.ids.ServerId.{ServerId}
-use Rattle.st_base.specs.declared.ids.Stamp.{Stamp}
-use Rattle.st_messages.specs.Kinds.{is_word64}
+use Rattle.st_lemmas.proofs.Words
+use Words.{◌≡◌, ℕ, ◌+◌, ◌-◌, ◌^◌, ◌<◌, ◌≤◌, true, refl, arith, nat_le, and_from, le-leb, Config, ServerId, Stamp}
+use Words.Kinds.{is_word64}
+use Words.Names.{fresh_names}
+use Words.Server.{ServerState, Stable, fresh_server, crash, start, begin_epoch}
 use Rattle.st_extents.specs.Layout.{IsWithinLimits}
-use Rattle.st_rules.specs.Names.{fresh_names}
-use Rattle.st_rules.specs.Server.{ServerState, Stable, fresh_server, crash, start, begin_epoch}
 use Rattle.st_server.specs.Restart.{IsStable, crashed_server}
 use Rattle.st_server.specs.Invariants.{IsSound, IsSoundTo}
 

@@ -1,8 +1,7 @@
 -- The test of a server's counters.
-use Rattle.std.proofs.Common.{◌≡◌, ◌+◌, ◌-◌, ◌^◌, ◌≤◌, Bool, true, sym, ◌∙◌, arith}
-use Rattle.std.specs.Prelude.{IsTrue, ◌↔◌, nat_le, nat_lt}
-use Rattle.std.proofs.lemmas.Bool.{and_parts, and_from, le-leb, leb-true, lt-ltb, ltb-true}
-use Rattle.st_rules.specs.Server.{ServerState}
+use Rattle.st_lemmas.proofs.Words
+use Words.{◌≡◌, ◌+◌, ◌-◌, ◌^◌, ◌≤◌, Bool, true, sym, ◌∙◌, arith, IsTrue, ◌↔◌, nat_le, nat_lt, and_parts, and_from, le-leb, leb-true, lt-ltb, ltb-true}
+use Words.Server.{ServerState}
 use Rattle.st_server.specs.Room.{HasRoom, has_room, taken_locks}
 
 room_from : (s : ServerState) → has_room s ≡ true → HasRoom s

@@ -1,25 +1,16 @@
 -- What a crash leaves after rules that leave the stable part as it was.
-use Rattle.std.proofs.Common.{◌≡◌, ℕ, List, [], ◌∷◌, Option, Some, None, refl, sym, ap, ◌∙◌, inl, inr}
-use Rattle.std.specs.Prelude.{option_map, Result, Ok, Err, OnErr}
-use Rattle.st_base.specs.declared.ids.ClientId.{ClientId}
-use Rattle.st_base.specs.declared.ids.GrantNo.{GrantNo}
-use Rattle.st_base.specs.declared.ids.Life.{Life}
-use Rattle.st_base.specs.declared.ids.Stamp.{Stamp}
-use Rattle.st_base.specs.declared.mode.Mode.{Mode}
-use Rattle.st_messages.specs.declared.message.Header.{Header}
-use Rattle.st_messages.specs.declared.message.Body.{Body}
-use Rattle.st_messages.specs.declared.message.Body.TheVariants as bodies
-use Rattle.st_rules.specs.declared.input.ServerInput.{ServerInput}
-use Rattle.st_rules.specs.declared.input.ServerInput.TheVariants.{Tick, Control}
-use Rattle.st_rules.specs.declared.sessions.Hello.{Hello}
-use Rattle.st_rules.specs.declared.sessions.Session.{Session}
-use Rattle.st_rules.specs.Authority as authority
-use Rattle.st_rules.specs.Locks as locks
-use Rattle.st_rules.specs.Sessions as sessions
-use Rattle.st_rules.specs.Sessions.{Sessions, session_of, life_of}
-use Rattle.st_rules.specs.Server as server
-use Rattle.st_rules.specs.Server.{ServerState, ServerTurn, Replied, crash, sender, life_in}
-use Rattle.st_lemmas.proofs.Tables.{cond_either}
+use Rattle.st_lemmas.proofs.Words
+use Words.{◌≡◌, ℕ, List, [], ◌∷◌, Option, Some, None, refl, sym, ap, ◌∙◌, inl, inr, option_map, Result, Ok, Err, OnErr, ClientId, GrantNo, Life, Stamp, Mode}
+use Words.{Header, Body, ServerInput, Hello, Session}
+use Words.bodies
+use Words.serving.{Tick, Control}
+use Words.Authority as authority
+use Words.Locks as locks
+use Words.Sessions as sessions
+use Words.Sessions.{Sessions, session_of, life_of}
+use Words.Server as server
+use Words.Server.{ServerTurn, Replied, crash, sender, life_in}
+use Words.Tables.{cond_either}
 use Rattle.st_server.specs.Steps.{Fails, Keeps, stolen}
 
 -- a fact that always holds

@@ -1,11 +1,9 @@
 -- The rows of a reassertion are locks of different files.
-use Rattle.std.proofs.Common.{◌≡◌, ℕ, ◌+◌, ◌<◌, ◌≤◌, true, false, ◌==◌, List, [], ◌∷◌, refl, arith}
-use Rattle.std.specs.List.{AllByRecursion, IsDistinct, list_all}
-use Rattle.std.proofs.lemmas.Bool.{leb-true, and_parts, and_from, ne_eqb}
-use Rattle.st_base.specs.declared.ids.GrantNo.{GrantNo}
-use Rattle.st_base.specs.declared.mode.Mode.{Mode}
-use Rattle.st_base.specs.declared.mode.Mode.TheVariants as modes
-use Rattle.st_messages.specs.Ranges.{are_locks, are_rows, after_lock, is_lock_row, is_mode}
+use Rattle.st_lemmas.proofs.Words
+use Words.{◌≡◌, ℕ, ◌+◌, ◌<◌, ◌≤◌, true, false, ◌==◌, List, [], ◌∷◌, refl, arith, AllByRecursion, list_all, leb-true, and_parts, and_from, ne_eqb, GrantNo, Mode}
+use Words.modes
+use Words.Ranges.{are_locks, are_rows, after_lock, is_lock_row, is_mode}
+use Rattle.std.specs.List.{IsDistinct}
 use Rattle.st_locks.specs.Calls.{is_lock, same_file}
 use Rattle.st_locks.specs.Calls as locks
 

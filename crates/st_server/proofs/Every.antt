@@ -1,10 +1,8 @@
 -- What each row of a list passes, after the changes of tables.
-use Rattle.std.proofs.Common.{◌≡◌, Bool, true, false, cond, List, [], ◌∷◌, ◌++◌, Option, Some, refl, subst}
-use Rattle.std.specs.Prelude.{filter, find, map}
-use Rattle.std.specs.List.{list_all}
-use Rattle.std.proofs.lemmas.Bool.{and_parts, and_from}
-use Rattle.st_rules.specs.Keys.{put}
-use Rattle.st_lemmas.proofs.Tables.{cond_either}
+use Rattle.st_lemmas.proofs.Words
+use Words.{◌≡◌, Bool, true, false, cond, List, [], ◌∷◌, ◌++◌, Option, Some, refl, subst, filter, find, map, list_all, and_parts, and_from}
+use Words.Keys.{put}
+use Words.Tables.{cond_either}
 
 module _ {A : Type 0} (p : A → Bool) where
   pub every_filter : (q : A → Bool) (xs : List A) → list_all p xs ≡ true → list_all p (filter q xs) ≡ true

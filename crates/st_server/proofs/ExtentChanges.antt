@@ -1,21 +1,16 @@
 -- What the changes of extents keep, and that the rows of a range can be told.
-use Rattle.std.proofs.Common.{◌≡◌, ℕ, zero, suc, ◌+◌, ◌*◌, ◌^◌, ◌<◌, ◌≤◌, Bool, true, not, List, [], ◌∷◌, ◌++◌, length, Option, Some, None, refl, sym, ap, subst, ◌∙◌, arith, length-append}
-use Rattle.std.specs.Prelude.{filter, filter_map, flat_map, map, option_map, nat_lt, nat_le, Result, Ok, Err}
-use Rattle.std.specs.List.{cons_option, list_all}
-use Rattle.std.proofs.lemmas.Bool.{and_parts, and_from, eqb-true, le-leb, leb-true, lt-ltb, ltb-true}
-use Rattle.st_base.specs.declared.ids.FileId.{FileId}
-use Rattle.st_base.specs.declared.ids.PageNo.{PageNo}
-use Rattle.st_base.specs.declared.disk.BlockAt.{BlockAt}
-use Rattle.st_base.specs.declared.rows.ExtentRow.{ExtentRow}
-use Rattle.st_messages.specs.Kinds.{between, is_word64}
-use Rattle.st_messages.specs.Ranges.{are_extents, are_rows, after_extent, is_block, is_extent_row, is_page}
-use Rattle.st_rules.specs.declared.extents.Extent.{Extent}
-use Rattle.st_rules.specs.declared.extents.AllocateRefusal.{AllocateRefusal}
-use Rattle.st_rules.specs.declared.extents.AllocateRefusal.TheVariants.{NoSpace}
-use Rattle.st_rules.specs.Extents as extents
-use Rattle.st_rules.specs.Extents.{Extents, numbers}
-use Rattle.st_rules.specs.Keys.{page_no, same_file, same_page}
-use Rattle.st_lemmas.proofs.Tables.{cond_either, found_at}
+use Rattle.st_lemmas.proofs.Words
+use Words.{◌≡◌, ℕ, zero, suc, ◌+◌, ◌*◌, ◌^◌, ◌<◌, ◌≤◌, Bool, true, not, List, [], ◌∷◌, ◌++◌, length, Option, Some, None, refl, sym, ap, subst, ◌∙◌, arith}
+use Words.{length-append, filter, filter_map, map, option_map, nat_lt, nat_le, Result, Ok, Err, cons_option, list_all, and_parts, and_from, eqb-true, le-leb}
+use Words.{leb-true, lt-ltb, ltb-true, FileId, PageNo, BlockAt, ExtentRow, Extent, AllocateRefusal}
+use Words.Kinds.{between, is_word64}
+use Words.Ranges.{are_extents, are_rows, after_extent, is_block, is_extent_row, is_page}
+use Words.wants.{NoSpace}
+use Words.Extents as extents
+use Words.Extents.{Extents, numbers}
+use Words.Keys.{page_no, same_file, same_page}
+use Words.Tables.{cond_either, found_at}
+use Rattle.std.specs.Prelude.{flat_map}
 use Rattle.st_server.specs.Invariants.{AreMapped, is_good_extent}
 use Rattle.st_server.proofs.Every.{every_append, every_filter, every_found, every_last, every_map}
 use Rattle.st_server.proofs.Holding.{length_filter, length_map}

@@ -1,26 +1,16 @@
 -- What the changes of a lock table keep of its rows and waits.
-use Rattle.std.proofs.Common.{◌≡◌, ℕ, suc, ◌+◌, ◌*◌, ◌^◌, ◌<◌, ◌≤◌, Bool, true, false, ◌&&◌, ◌==◌, not, cond, List, [], ◌∷◌, ◌++◌, length, Option, Some, None, refl, sym, ap, subst, ◌∙◌, arith, length-append}
-use Rattle.std.specs.Prelude.{filter, find, map, option_map, Result, Ok, Err}
-use Rattle.std.specs.List.{list_all}
-use Rattle.std.proofs.lemmas.Bool.{and_parts, and_from, lt-ltb}
-use Rattle.st_base.specs.declared.ids.ClientId.{ClientId}
-use Rattle.st_base.specs.declared.ids.Epoch.{Epoch}
-use Rattle.st_base.specs.declared.ids.GrantNo.{GrantNo}
-use Rattle.st_base.specs.declared.ids.Life.{Life}
-use Rattle.st_base.specs.declared.mode.Mode.{Mode}
-use Rattle.st_base.specs.declared.mode.Mode.TheVariants as modes
+use Rattle.st_lemmas.proofs.Words
+use Words.{◌≡◌, ℕ, suc, ◌+◌, ◌*◌, ◌^◌, ◌<◌, ◌≤◌, Bool, true, false, ◌&&◌, ◌==◌, not, cond, List, [], ◌∷◌, ◌++◌, length, Option, Some, None, refl, sym, ap}
+use Words.{subst, ◌∙◌, arith, length-append, filter, find, map, option_map, Result, Ok, Err, list_all, and_parts, and_from, lt-ltb, ClientId, Epoch, GrantNo}
+use Words.{Life, Mode, LockRow, RowDemand, Waiter, Verdict, AcquireRefusal}
+use Words.modes
+use Words.Ranges.{is_grant, is_mode}
+use Words.verdicts
+use Words.Locks as locks
+use Words.Locks.{Locks, Acquired, Released}
+use Words.Sessions.{Sessions, session_of}
+use Words.Tables.{cond_either}
 use Rattle.st_base.specs.Mode.{covers, number_of}
-use Rattle.st_messages.specs.Ranges.{is_grant, is_mode}
-use Rattle.st_rules.specs.declared.locks.LockRow.{LockRow}
-use Rattle.st_rules.specs.declared.locks.RowDemand.{RowDemand}
-use Rattle.st_rules.specs.declared.locks.Waiter.{Waiter}
-use Rattle.st_rules.specs.declared.locks.Verdict.{Verdict}
-use Rattle.st_rules.specs.declared.locks.Verdict.TheVariants as verdicts
-use Rattle.st_rules.specs.declared.locks.AcquireRefusal.{AcquireRefusal}
-use Rattle.st_rules.specs.Locks as locks
-use Rattle.st_rules.specs.Locks.{Locks, Acquired, Granting, Demanding, Released}
-use Rattle.st_rules.specs.Sessions.{Sessions, session_of}
-use Rattle.st_lemmas.proofs.Tables.{cond_either}
 use Rattle.st_server.specs.RuleConditions.{is_lived}
 use Rattle.st_server.specs.Invariants.{AreHeld, is_good_row, is_good_wait, is_told, is_told_lock, is_told_demand}
 use Rattle.st_server.proofs.Every.{every_filter, every_last, every_put, every_found, every_map}

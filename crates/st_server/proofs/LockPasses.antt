@@ -1,25 +1,18 @@
 -- What the granting and the demanding pass keep of a lock table, and that what they tell can be told.
-use Rattle.std.proofs.Common.{◌≡◌, ℕ, zero, suc, ◌+◌, ◌^◌, ◌<◌, ◌≤◌, Bool, true, ◌&&◌, ◌==◌, not, List, [], ◌∷◌, length, Option, Some, None, refl, arith}
-use Rattle.std.specs.Prelude.{find, nat_le}
-use Rattle.std.specs.List.{list_all, list_any}
-use Rattle.std.proofs.lemmas.Bool.{and_from, eq-eqb, not_from_true}
-use Rattle.st_base.specs.declared.ids.ClientId.{ClientId}
-use Rattle.st_base.specs.declared.ids.Epoch.{Epoch}
-use Rattle.st_base.specs.declared.ids.Stamp.{Stamp}
-use Rattle.st_base.specs.declared.config.Config.{Config}
-use Rattle.st_base.specs.declared.mode.Mode.{Mode}
-use Rattle.st_base.specs.declared.mode.Mode.TheVariants as modes
-use Rattle.st_messages.specs.Ranges.{is_grant, is_mode}
-use Rattle.st_rules.specs.declared.locks.LockRow.{LockRow}
-use Rattle.st_rules.specs.declared.locks.RowDemand.{RowDemand}
-use Rattle.st_rules.specs.declared.locks.Waiter.{Waiter}
-use Rattle.st_rules.specs.Locks as locks
-use Rattle.st_rules.specs.Locks.{Locks, Granting, Demanding}
-use Rattle.st_rules.specs.Sessions.{Sessions}
-use Rattle.st_lemmas.proofs.Tables.{cond_either}
+use Rattle.st_lemmas.proofs.Words
+use Words.{◌≡◌, ℕ, zero, suc, ◌+◌, ◌^◌, ◌<◌, ◌≤◌, Bool, true, ◌&&◌, ◌==◌, not, List, [], ◌∷◌, length, Option, Some, None, refl, arith, find, nat_le, list_all}
+use Words.{list_any, and_from, eq-eqb, ClientId, Epoch, Stamp, Config, Mode, LockRow, RowDemand, Waiter}
+use Words.modes
+use Words.Ranges.{is_grant, is_mode}
+use Words.Locks as locks
+use Words.Locks.{Locks, Granting, Demanding}
+use Words.Sessions.{Sessions}
+use Words.Tables.{cond_either}
+use Rattle.std.proofs.lemmas.Bool.{not_from_true}
 use Rattle.st_server.specs.Invariants.{AreHeld, is_good_row, is_good_wait, is_told, is_told_demand}
 use Rattle.st_server.proofs.Every.{every_last, every_found, every_map}
-use Rattle.st_server.proofs.Holding.{length_gone, is_good_sent, row_of_good, good_row, told_lock, lock_parts, wait_of_good, next_grant_fits, grant_rows, grant_waits, rows_changed}
+use Rattle.st_server.proofs.Holding.{length_gone, is_good_sent, row_of_good, good_row, told_lock, lock_parts, wait_of_good, next_grant_fits, grant_rows}
+use Rattle.st_server.proofs.Holding.{grant_waits, rows_changed}
 
 own_wait : (w : Waiter) → locks.is_wait_of w.client w.ino w ≡ true
 own_wait w = and_from (w.client.0 == w.client.0) (w.ino == w.ino) (eq-eqb w.client.0 w.client.0 refl) (eq-eqb w.ino w.ino refl)

@@ -1,20 +1,16 @@
 -- What the changes of names keep, and that what they answer can be told.
-use Rattle.std.proofs.Common.{◌≡◌, ℕ, zero, suc, ◌-◌, ◌^◌, ◌<◌, ◌≤◌, Bool, true, false, not, cond, List, [], ◌∷◌, length, take, Option, Some, None, refl, arith}
-use Rattle.std.specs.Prelude.{filter, map, is_some, nat_lt, nat_le, Result, Ok, Err}
+use Rattle.st_lemmas.proofs.Words
+use Words.{◌≡◌, ℕ, zero, suc, ◌-◌, ◌^◌, ◌<◌, ◌≤◌, Bool, true, false, not, cond, List, [], ◌∷◌, length, take, Option, Some, None, refl, arith, filter, map}
+use Words.{is_some, nat_lt, nat_le, Result, Ok, Err, list_all, and_parts, and_from, le-leb, NameRow, NameEntry, EntryRefusal}
+use Words.bodies
+use Words.replies.{Ino, Listed, Refused}
+use Words.Kinds.{between}
+use Words.Ranges.{are_names, are_rows, after_name, has_length, is_body, is_ino, is_name_reply, is_name_row}
+use Words.Names as names
+use Words.Names.{Names, Changed}
+use Words.Tables.{cond_either}
 use Rattle.std.specs.Option.{option_or}
-use Rattle.std.specs.List.{list_all}
-use Rattle.std.proofs.lemmas.Bool.{and_parts, and_from, le-leb}
-use Rattle.st_base.specs.declared.names.NameRow.{NameRow}
-use Rattle.st_messages.specs.declared.message.Body.TheVariants as bodies
-use Rattle.st_messages.specs.declared.message.NameReply.TheVariants.{Ino, Listed, Refused}
-use Rattle.st_messages.specs.Kinds.{between}
-use Rattle.st_messages.specs.Ranges.{are_names, are_rows, after_name, has_length, is_body, is_ino, is_name_reply, is_name_row}
-use Rattle.st_rules.specs.declared.names.NameEntry.{NameEntry}
-use Rattle.st_rules.specs.declared.names.EntryRefusal.{EntryRefusal}
 use Rattle.st_rules.specs.declared.names.EntryRefusal.TheVariants.{NoEntry, Exists, NotDir, IsDir, NotEmpty, Cycle, BadName, TooMany}
-use Rattle.st_rules.specs.Names as names
-use Rattle.st_rules.specs.Names.{Names, Changed}
-use Rattle.st_lemmas.proofs.Tables.{cond_either}
 use Rattle.st_server.specs.Invariants.{AreNamed, is_good_entry, is_reply}
 use Rattle.st_server.proofs.Every.{every_filter, every_found, every_last, every_map}
 

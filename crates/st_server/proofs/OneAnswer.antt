@@ -1,43 +1,28 @@
 -- The rule for a message adds at most one message, an answer to its sender.
-use Rattle.std.proofs.Common.{◌≡◌, ℕ, ◌+◌, ◌-◌, ◌^◌, ◌<◌, ◌≤◌, true, ◌==◌, List, [], ◌∷◌, ◌++◌, Option, Some, None, refl, sym, ap, ◌∙◌, arith, append_assoc}
-use Rattle.std.specs.Prelude.{Result, Ok, Err}
-use Rattle.std.proofs.lemmas.Bool.{and_parts, and_from, eq-eqb}
-use Rattle.std.proofs.lemmas.List.{append-nil}
-use Rattle.st_base.specs.declared.ids.GrantNo.{GrantNo}
-use Rattle.st_base.specs.declared.ids.PageNo.{PageNo}
-use Rattle.st_base.specs.declared.ids.Stamp.{Stamp}
-use Rattle.st_base.specs.declared.mode.Mode.{Mode}
-use Rattle.st_base.specs.declared.mode.Mode.TheVariants as modes
-use Rattle.st_base.specs.declared.names.NameRow.{NameRow}
-use Rattle.st_messages.specs.declared.message.Header.{Header}
-use Rattle.st_messages.specs.declared.message.Body.{Body}
-use Rattle.st_messages.specs.declared.message.Body.TheVariants as bodies
-use Rattle.st_messages.specs.declared.message.NameOp.{NameOp}
-use Rattle.st_messages.specs.declared.message.NameOp.TheVariants.{Lookup, Create, Mkdir, Remove, Rename, List as ListFrom}
-use Rattle.st_messages.specs.declared.message.Why.TheVariants as why
-use Rattle.st_messages.specs.declared.output.Output.{Output}
-use Rattle.st_messages.specs.declared.output.Output.TheVariants as outputs
-use Rattle.st_messages.specs.Ranges.{is_body}
-use Rattle.st_rules.specs.declared.authority.AcceptRefusal.{AcceptRefusal}
+use Rattle.st_lemmas.proofs.Words
+use Words.{◌≡◌, ℕ, ◌+◌, ◌-◌, ◌^◌, ◌<◌, ◌≤◌, true, ◌==◌, List, [], ◌∷◌, ◌++◌, Option, Some, None, refl, sym, ap, ◌∙◌, arith, append_assoc, Result, Ok, Err}
+use Words.{and_parts, and_from, eq-eqb, append-nil, GrantNo, PageNo, Stamp, Mode, NameRow, Header, Body, NameOp, Output, AcceptRefusal, AllocateRefusal}
+use Words.{EntryRefusal, AcquireRefusal, Hello, Taken}
+use Words.modes
+use Words.bodies
+use Words.ops.{Lookup, Create, Mkdir, Remove, Rename, List as ListFrom}
+use Words.why
+use Words.outputs
+use Words.Ranges.{is_body}
+use Words.hellos
+use Words.takes
+use Words.Authority as authority
+use Words.Extents as extents
+use Words.Extents.{Extents}
+use Words.Grace as grace
+use Words.Locks as locks
+use Words.Names as names
+use Words.Sessions as sessions
+use Words.Server as server
+use Words.Server.{ServerTurn, Replied, sender, life_in}
+use Words.Tables.{cond_either}
 use Rattle.st_rules.specs.declared.authority.AcceptRefusal.TheVariants as refusals
-use Rattle.st_rules.specs.declared.extents.AllocateRefusal.{AllocateRefusal}
-use Rattle.st_rules.specs.declared.names.EntryRefusal.{EntryRefusal}
 use Rattle.st_rules.specs.declared.names.EntryRefusal.TheVariants.{IsDir}
-use Rattle.st_rules.specs.declared.locks.AcquireRefusal.{AcquireRefusal}
-use Rattle.st_rules.specs.declared.sessions.Hello.{Hello}
-use Rattle.st_rules.specs.declared.sessions.Hello.TheVariants as hellos
-use Rattle.st_rules.specs.declared.sessions.Taken.{Taken}
-use Rattle.st_rules.specs.declared.sessions.Taken.TheVariants as takes
-use Rattle.st_rules.specs.Authority as authority
-use Rattle.st_rules.specs.Extents as extents
-use Rattle.st_rules.specs.Extents.{Extents}
-use Rattle.st_rules.specs.Grace as grace
-use Rattle.st_rules.specs.Locks as locks
-use Rattle.st_rules.specs.Names as names
-use Rattle.st_rules.specs.Sessions as sessions
-use Rattle.st_rules.specs.Server as server
-use Rattle.st_rules.specs.Server.{ServerTurn, Replied, sender, life_in}
-use Rattle.st_lemmas.proofs.Tables.{cond_either}
 use Rattle.st_server.specs.Answers.{Adds, is_answer, is_answer_to, sends}
 use Rattle.st_server.specs.Room.{HasRoom}
 use Rattle.st_server.specs.Invariants.{keeps_reply, may_keep}

@@ -1,17 +1,11 @@
 -- The rows of a range of pages, one page after another.
-use Rattle.std.proofs.Common.{◌≡◌, ℕ, suc, ◌+◌, ◌-◌, ◌<◌, ◌≤◌, List, [], ◌++◌, Option, Some, None, refl, sym, ap, subst, ◌∙◌, append_assoc, arith}
-use Rattle.std.specs.Prelude.{filter_map, map, option_map}
-use Rattle.std.specs.List.{cons_option}
+use Rattle.st_lemmas.proofs.Words
+use Words.{◌≡◌, ℕ, suc, ◌+◌, ◌-◌, ◌<◌, ◌≤◌, List, [], ◌++◌, Option, Some, None, refl, sym, ap, subst, ◌∙◌, append_assoc, arith, filter_map, map, option_map}
+use Words.{cons_option, append-nil, and_parts, eqb-true, FileId, PageNo, ExtentRow, Extent}
+use Words.Extents.{Extents, extent_of, extent_row, extent_row_at, extent_rows, is_extent_of, map_page, numbers, place_and_birth}
+use Words.Keys.{page_no, same_file, same_page}
+use Words.Tables.{found_at}
 use Rattle.std.specs.Option.{option_to_list}
-use Rattle.std.proofs.lemmas.List.{append-nil}
-use Rattle.std.proofs.lemmas.Bool.{and_parts, eqb-true}
-use Rattle.st_base.specs.declared.ids.FileId.{FileId}
-use Rattle.st_base.specs.declared.ids.PageNo.{PageNo}
-use Rattle.st_base.specs.declared.rows.ExtentRow.{ExtentRow}
-use Rattle.st_rules.specs.declared.extents.Extent.{Extent}
-use Rattle.st_rules.specs.Extents.{Extents, extent_of, extent_row, extent_row_at, extent_rows, is_extent_of, map_page, numbers, place_and_birth}
-use Rattle.st_rules.specs.Keys.{page_no, same_file, same_page}
-use Rattle.st_lemmas.proofs.Tables.{found_at}
 use Rattle.st_server.specs.RefusalReplies.{row_told}
 
 cons_front : {A : Type 0} (o : Option A) (xs : List A) → cons_option o xs ≡ option_to_list o ++ xs

@@ -1,21 +1,16 @@
 -- What a message of a client to a server has in its header, by its kind.
-use Rattle.std.proofs.Common.{◌≡◌, ℕ, ◌+◌, ◌^◌, ◌≤◌, true, ◌&&◌, ◌==◌, arith}
-use Rattle.std.specs.Prelude.{nat_le}
-use Rattle.std.proofs.lemmas.Bool.{and_parts, eqb-true, leb-true, lt-ltb}
-use Rattle.st_messages.specs.declared.ask.Ask.{Ask}
-use Rattle.st_messages.specs.declared.ask.Ask.TheVariants as asks
-use Rattle.st_messages.specs.declared.kind.Kind.{Kind}
+use Rattle.st_lemmas.proofs.Words
+use Words.{◌≡◌, ℕ, ◌+◌, ◌^◌, ◌≤◌, true, ◌&&◌, ◌==◌, arith, nat_le, and_parts, eqb-true, leb-true, lt-ltb, Ask, Kind, Header, Body}
+use Words.asks
+use Words.parties
+use Words.bodies
+use Words.Kinds.{allows, includes, is_word64, kind_of_ask, kind_of_body, sender, receiver, life_of, epoch_of, request_of, stamp_of}
+use Words.Ranges.{is_header}
+use Words.Keys.{server_node}
+use Words.Server.{ServerState, is_client_node, is_for}
 use Rattle.st_messages.specs.declared.kind.Kind.TheVariants as kinds
 use Rattle.st_messages.specs.declared.kind.Need.{Need}
 use Rattle.st_messages.specs.declared.kind.Need.TheVariants.{Zero, Positive, Any}
-use Rattle.st_messages.specs.declared.kind.Party.TheVariants as parties
-use Rattle.st_messages.specs.declared.message.Header.{Header}
-use Rattle.st_messages.specs.declared.message.Body.{Body}
-use Rattle.st_messages.specs.declared.message.Body.TheVariants as bodies
-use Rattle.st_messages.specs.Kinds.{allows, includes, is_word64, kind_of_ask, kind_of_body, sender, receiver, life_of, epoch_of, request_of, stamp_of}
-use Rattle.st_messages.specs.Ranges.{is_header}
-use Rattle.st_rules.specs.Keys.{server_node}
-use Rattle.st_rules.specs.Server.{ServerState, is_client_node, is_for}
 use Rattle.st_server.proofs.Sending.{IsAsked}
 use Rattle.st_server.proofs.SoundMessages.{IsNumbered}
 

@@ -1,47 +1,34 @@
 -- The rules of requests keep a server sound, and their replies can be told.
-use Rattle.std.proofs.Common.{◌≡◌, ℕ, ◌+◌, ◌*◌, ◌-◌, ◌^◌, ◌<◌, ◌≤◌, true, ◌&&◌, ◌==◌, List, refl, sym, subst, arith}
-use Rattle.std.specs.Prelude.{min, nat_le, Result, Ok, Err}
-use Rattle.std.proofs.lemmas.Bool.{and_parts, and_from, leb-true, lt-ltb}
-use Rattle.st_base.specs.declared.ids.Epoch.{Epoch}
-use Rattle.st_base.specs.declared.ids.GrantNo.{GrantNo}
-use Rattle.st_base.specs.declared.ids.PageNo.{PageNo}
-use Rattle.st_base.specs.declared.ids.Stamp.{Stamp}
-use Rattle.st_base.specs.declared.mode.Mode.{Mode}
-use Rattle.st_base.specs.declared.mode.Mode.TheVariants as modes
-use Rattle.st_base.specs.declared.names.NameRow.{NameRow}
+use Rattle.st_lemmas.proofs.Words
+use Words.{◌≡◌, ℕ, ◌+◌, ◌*◌, ◌-◌, ◌^◌, ◌<◌, ◌≤◌, true, ◌&&◌, ◌==◌, List, refl, sym, subst, arith, min, nat_le, Result, Ok, Err, and_parts, and_from, leb-true}
+use Words.{lt-ltb, Epoch, GrantNo, PageNo, Stamp, Mode, NameRow, Header, Body, NameOp, Why, AllocateRefusal, EntryRefusal, AcquireRefusal, Verdict}
+use Words.modes
+use Words.bodies
+use Words.ops.{Lookup, Create, Mkdir, Remove, Rename, List as ListFrom}
+use Words.why
+use Words.notes
+use Words.Kinds.{allows, is_word64}
+use Words.Ranges.{is_body, is_count, is_grant, is_ino, is_mode, is_name_op, is_page}
+use Words.wants.{NoSpace}
+use Words.verdicts
+use Words.Extents as extents
+use Words.Extents.{Extents}
+use Words.Locks as locks
+use Words.Locks.{Locks}
+use Words.Names as names
+use Words.Names.{Names}
+use Words.Sessions as sessions
+use Words.Server as server
+use Words.Server.{ServerTurn, Replied, sender, life_in}
+use Words.Tables.{cond_either}
 use Rattle.st_messages.specs.declared.kind.Need.TheVariants.{Positive}
-use Rattle.st_messages.specs.declared.message.Header.{Header}
-use Rattle.st_messages.specs.declared.message.Body.{Body}
-use Rattle.st_messages.specs.declared.message.Body.TheVariants as bodies
-use Rattle.st_messages.specs.declared.message.NameOp.{NameOp}
-use Rattle.st_messages.specs.declared.message.NameOp.TheVariants.{Lookup, Create, Mkdir, Remove, Rename, List as ListFrom}
-use Rattle.st_messages.specs.declared.message.Why.{Why}
-use Rattle.st_messages.specs.declared.message.Why.TheVariants as why
-use Rattle.st_messages.specs.declared.output.Note.TheVariants as notes
-use Rattle.st_messages.specs.Kinds.{allows, is_word64}
-use Rattle.st_messages.specs.Ranges.{is_body, is_count, is_grant, is_ino, is_mode, is_name_op, is_page}
-use Rattle.st_rules.specs.declared.extents.AllocateRefusal.{AllocateRefusal}
-use Rattle.st_rules.specs.declared.extents.AllocateRefusal.TheVariants.{NoSpace}
-use Rattle.st_rules.specs.declared.names.EntryRefusal.{EntryRefusal}
 use Rattle.st_rules.specs.declared.names.EntryRefusal.TheVariants.{IsDir}
-use Rattle.st_rules.specs.declared.locks.AcquireRefusal.{AcquireRefusal}
-use Rattle.st_rules.specs.declared.locks.Verdict.{Verdict}
-use Rattle.st_rules.specs.declared.locks.Verdict.TheVariants as verdicts
-use Rattle.st_rules.specs.Extents as extents
-use Rattle.st_rules.specs.Extents.{Extents}
-use Rattle.st_rules.specs.Locks as locks
-use Rattle.st_rules.specs.Locks.{Locks}
-use Rattle.st_rules.specs.Names as names
-use Rattle.st_rules.specs.Names.{Names}
-use Rattle.st_rules.specs.Sessions as sessions
-use Rattle.st_rules.specs.Server as server
-use Rattle.st_rules.specs.Server.{ServerState, ServerTurn, Replied, sender, life_in}
-use Rattle.st_lemmas.proofs.Tables.{cond_either}
 use Rattle.st_server.specs.RuleConditions.{is_lived}
 use Rattle.st_server.specs.Room.{HasRoom, taken_locks}
 use Rattle.st_server.specs.Invariants.{keeps_reply, is_reply}
 use Rattle.st_server.proofs.Holding.{IsFrom, is_good_verdict, AcquiresBy, acquire_held, released_held, drop_file_held}
-use Rattle.st_server.proofs.NameChanges.{Finds, finds, ChangesBy, create_changes, mkdir_changes, remove_changes, rename_changes, Lists, lists, code_fits, ino_fits}
+use Rattle.st_server.proofs.NameChanges.{Finds, finds, ChangesBy, create_changes, mkdir_changes, remove_changes, rename_changes, Lists, lists, code_fits}
+use Rattle.st_server.proofs.NameChanges.{ino_fits}
 use Rattle.st_server.proofs.ExtentChanges.{rows_fit, release_mapped, Allocated, allocated}
 use Rattle.st_server.proofs.Sending.{IsTurn, IsAsked, note_turn}
 use Rattle.st_server.proofs.SoundRules.{locks_turn, names_turn, extents_turn, more_turn, epoch_below}

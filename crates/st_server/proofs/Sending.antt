@@ -1,26 +1,16 @@
 -- The messages that a server sends fit.
-use Rattle.std.proofs.Common.{◌≡◌, ℕ, ◌+◌, ◌-◌, ◌^◌, ◌≤◌, Bool, true, ◌&&◌, ◌==◌, refl, arith}
-use Rattle.std.specs.Prelude.{nat_le}
-use Rattle.std.specs.List.{list_all}
-use Rattle.std.proofs.lemmas.Bool.{and_parts, and_from, le-leb, leb-true, lt-ltb}
-use Rattle.st_base.specs.declared.ids.ClientId.{ClientId}
-use Rattle.st_base.specs.declared.ids.GrantNo.{GrantNo}
-use Rattle.st_base.specs.declared.ids.Life.{Life}
-use Rattle.st_base.specs.declared.mode.Mode.{Mode}
+use Rattle.st_lemmas.proofs.Words
+use Words.{◌≡◌, ℕ, ◌+◌, ◌-◌, ◌^◌, ◌≤◌, Bool, true, ◌&&◌, ◌==◌, refl, arith, nat_le, list_all, and_parts, and_from, le-leb, leb-true, lt-ltb, ClientId, GrantNo}
+use Words.{Life, Mode, Header, Body, Why, Note, Output}
+use Words.parties
+use Words.bodies
+use Words.outputs
+use Words.Kinds.{allows, includes, is_word64}
+use Words.Ranges.{fits, is_body, is_header, is_grant, is_ino, is_mode}
+use Words.Keys.{server_node}
+use Words.Server as server
+use Words.Server.{ServerState, ServerTurn, is_client_node, reply_header}
 use Rattle.st_messages.specs.declared.kind.Need.TheVariants.{Positive}
-use Rattle.st_messages.specs.declared.kind.Party.TheVariants as parties
-use Rattle.st_messages.specs.declared.message.Header.{Header}
-use Rattle.st_messages.specs.declared.message.Body.{Body}
-use Rattle.st_messages.specs.declared.message.Body.TheVariants as bodies
-use Rattle.st_messages.specs.declared.message.Why.{Why}
-use Rattle.st_messages.specs.declared.output.Note.{Note}
-use Rattle.st_messages.specs.declared.output.Output.{Output}
-use Rattle.st_messages.specs.declared.output.Output.TheVariants as outputs
-use Rattle.st_messages.specs.Kinds.{allows, includes, is_word64}
-use Rattle.st_messages.specs.Ranges.{fits, is_body, is_header, is_grant, is_ino, is_mode}
-use Rattle.st_rules.specs.Keys.{server_node}
-use Rattle.st_rules.specs.Server as server
-use Rattle.st_rules.specs.Server.{ServerState, ServerTurn, is_client_node, reply_header, own_header}
 use Rattle.st_server.specs.Invariants.{IsSoundTo, is_reply, is_sent, is_told}
 use Rattle.st_server.proofs.Every.{every_last}
 use Rattle.st_server.proofs.Holding.{is_good_sent}

@@ -1,14 +1,10 @@
 -- A client whose session does not know a life has no row of that life or a later one.
-use Rattle.std.proofs.Common.{◌≡◌, ℕ, ◌<◌, ◌≤◌, ◌⊎◌, Bool, true, false, ◌&&◌, ◌||◌, ◌==◌, not, List, [], ◌∷◌, Option, Some, None, refl, ap, subst, arith, inl, inr}
-use Rattle.std.specs.Prelude.{nat_lt, nat_le}
-use Rattle.std.specs.List.{list_all, list_any}
-use Rattle.std.proofs.lemmas.Bool.{eqb-true, eqb-false, leb-true, ltb-false, lt-leb, and_parts, or_parts, or_from, cases_lt}
-use Rattle.st_base.specs.declared.ids.ClientId.{ClientId}
-use Rattle.st_base.specs.declared.ids.Life.{Life}
-use Rattle.st_rules.specs.declared.locks.LockRow.{LockRow}
-use Rattle.st_rules.specs.declared.sessions.Session.{Session}
-use Rattle.st_rules.specs.Locks.{Locks}
-use Rattle.st_rules.specs.Sessions.{Sessions, session_of, knows, knows_at, is_live}
+use Rattle.st_lemmas.proofs.Words
+use Words.{◌≡◌, ℕ, ◌<◌, ◌≤◌, ◌⊎◌, Bool, true, false, ◌&&◌, ◌||◌, ◌==◌, not, List, [], ◌∷◌, Option, Some, None, refl, ap, subst, arith, inl, inr, nat_lt, nat_le}
+use Words.{list_all, list_any, eqb-true, eqb-false, leb-true, ltb-false, lt-leb, and_parts, or_from, cases_lt, ClientId, Life, LockRow, Session}
+use Words.Locks.{Locks}
+use Words.Sessions.{Sessions, session_of, knows, knows_at, is_live}
+use Rattle.std.proofs.lemmas.Bool.{or_parts}
 use Rattle.st_reassert.specs.Acceptance.{is_row_from, is_older}
 use Rattle.st_server.specs.RuleConditions.{is_lived, is_row_lived}
 

@@ -1,24 +1,16 @@
 -- What the changes of sessions keep: which lives live, and that each kept reply can be told.
-use Rattle.std.proofs.Common.{◌≡◌, ℕ, ◌+◌, ◌<◌, ◌≤◌, Bool, true, false, ◌&&◌, ◌==◌, not, List, [], ◌∷◌, length, Option, Some, None, refl, sym, ap, subst, ◌∙◌, arith}
-use Rattle.std.specs.Prelude.{filter, option_map, nat_lt}
-use Rattle.std.specs.List.{list_all}
-use Rattle.std.proofs.lemmas.Bool.{and_parts, and_from, eqb-true, eq-eqb, ltb-false, leb-true, leb-false, le-leb}
-use Rattle.st_base.specs.declared.ids.ClientId.{ClientId}
-use Rattle.st_base.specs.declared.ids.Epoch.{Epoch}
-use Rattle.st_base.specs.declared.ids.Life.{Life}
-use Rattle.st_messages.specs.declared.message.Body.{Body}
-use Rattle.st_rules.specs.declared.sessions.Hello.{Hello}
-use Rattle.st_rules.specs.declared.sessions.Hello.TheVariants as hellos
-use Rattle.st_rules.specs.declared.sessions.Session.{Session}
-use Rattle.st_rules.specs.declared.sessions.SessionState.{SessionState}
-use Rattle.st_rules.specs.declared.sessions.SessionState.TheVariants.{Live, Ended}
-use Rattle.st_rules.specs.declared.sessions.Taken.{Taken}
-use Rattle.st_rules.specs.declared.sessions.Taken.TheVariants as takes
-use Rattle.st_rules.specs.Locks as locks
-use Rattle.st_rules.specs.Locks.{Locks}
-use Rattle.st_rules.specs.Sessions as sessions
-use Rattle.st_rules.specs.Sessions.{Sessions, Greeted, session_of, is_session_of, is_live, is_past}
-use Rattle.st_lemmas.proofs.Tables.{cond_either, find_map, find_other}
+use Rattle.st_lemmas.proofs.Words
+use Words.{◌≡◌, ℕ, ◌+◌, ◌<◌, ◌≤◌, Bool, true, false, ◌&&◌, ◌==◌, not, List, [], ◌∷◌, length, Option, Some, None, refl, sym, ap, subst, ◌∙◌, arith, filter}
+use Words.{option_map, nat_lt, list_all, and_parts, and_from, eqb-true, eq-eqb, ltb-false, leb-true, leb-false, le-leb, ClientId, Epoch, Life, Body, Hello}
+use Words.{Session, SessionState, Taken}
+use Words.hellos
+use Words.states.{Live, Ended}
+use Words.takes
+use Words.Locks as locks
+use Words.Locks.{Locks}
+use Words.Sessions as sessions
+use Words.Sessions.{Sessions, Greeted, session_of, is_session_of, is_live, is_past}
+use Words.Tables.{cond_either, find_map, find_other}
 use Rattle.st_lemmas.proofs.Puts.{find_put_by, find_put_other}
 use Rattle.st_server.specs.RuleConditions.{is_lived}
 use Rattle.st_server.specs.Invariants.{AreHeld, is_good_row, is_good_wait, is_reply, keeps_reply, has_reply, is_good_session}

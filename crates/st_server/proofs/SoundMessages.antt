@@ -1,30 +1,21 @@
 -- The rule for a message keeps a server sound.
-use Rattle.std.proofs.Common.{◌≡◌, ℕ, ◌+◌, ◌-◌, ◌^◌, ◌<◌, ◌≤◌, true, false, ◌==◌, List, Option, Some, None, refl, sym, subst, arith}
-use Rattle.std.specs.Prelude.{option_map, nat_le, Result, Ok, Err}
-use Rattle.std.specs.List.{list_all}
-use Rattle.std.proofs.lemmas.Bool.{and_parts, leb-true, lt-ltb}
-use Rattle.st_base.specs.declared.ids.GrantNo.{GrantNo}
-use Rattle.st_base.specs.declared.ids.Stamp.{Stamp}
-use Rattle.st_base.specs.declared.mode.Mode.{Mode}
+use Rattle.st_lemmas.proofs.Words
+use Words.{◌≡◌, ℕ, ◌+◌, ◌-◌, ◌^◌, ◌<◌, ◌≤◌, true, false, ◌==◌, List, Option, Some, None, refl, sym, subst, arith, option_map, nat_le, Result, Ok, Err, list_all}
+use Words.{and_parts, leb-true, lt-ltb, GrantNo, Stamp, Mode, Header, Body, Suspect, AcceptRefusal, Taken}
+use Words.bodies
+use Words.why
+use Words.Kinds.{allows, is_word64}
+use Words.Ranges.{are_locks, is_body, is_lock_row}
+use Words.takes
+use Words.Authority as authority
+use Words.Grace as grace
+use Words.Locks as locks
+use Words.Sessions as sessions
+use Words.Server as server
+use Words.Server.{ServerTurn, sender, life_in}
+use Words.Tables.{cond_either}
 use Rattle.st_messages.specs.declared.kind.Need.TheVariants.{Positive}
-use Rattle.st_messages.specs.declared.message.Header.{Header}
-use Rattle.st_messages.specs.declared.message.Body.{Body}
-use Rattle.st_messages.specs.declared.message.Body.TheVariants as bodies
-use Rattle.st_messages.specs.declared.message.Why.TheVariants as why
-use Rattle.st_messages.specs.Kinds.{allows, is_word64}
-use Rattle.st_messages.specs.Ranges.{are_locks, is_body, is_lock_row}
-use Rattle.st_rules.specs.declared.authority.Suspect.{Suspect}
-use Rattle.st_rules.specs.declared.authority.AcceptRefusal.{AcceptRefusal}
 use Rattle.st_rules.specs.declared.authority.AcceptRefusal.TheVariants as refusals
-use Rattle.st_rules.specs.declared.sessions.Taken.{Taken}
-use Rattle.st_rules.specs.declared.sessions.Taken.TheVariants as takes
-use Rattle.st_rules.specs.Authority as authority
-use Rattle.st_rules.specs.Grace as grace
-use Rattle.st_rules.specs.Locks as locks
-use Rattle.st_rules.specs.Sessions as sessions
-use Rattle.st_rules.specs.Server as server
-use Rattle.st_rules.specs.Server.{ServerState, ServerTurn, Replied, is_client_node, sender, life_in}
-use Rattle.st_lemmas.proofs.Tables.{cond_either}
 use Rattle.st_server.specs.Room.{HasRoom}
 use Rattle.st_server.specs.Invariants.{has_start, keeps_reply}
 use Rattle.st_server.proofs.Asserting.{AcceptsBy, is_told_refusal, accepts, installed_held, reasserted_good, lock_rows_each}

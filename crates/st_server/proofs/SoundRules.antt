@@ -1,34 +1,24 @@
 -- Each rule of a server keeps it sound, and sends what fits.
-use Rattle.std.proofs.Common.{◌≡◌, ℕ, ◌-◌, ◌^◌, ◌<◌, ◌≤◌, Bool, true, ◌==◌, not, List, [], ◌∷◌, Option, Some, None, refl, arith}
-use Rattle.std.specs.Prelude.{nat_lt, nat_le}
-use Rattle.std.specs.List.{list_all}
-use Rattle.std.proofs.lemmas.Bool.{and_parts, and_from, leb-true}
-use Rattle.st_base.specs.declared.ids.ClientId.{ClientId}
-use Rattle.st_base.specs.declared.ids.GrantNo.{GrantNo}
-use Rattle.st_base.specs.declared.ids.Life.{Life}
-use Rattle.st_base.specs.declared.ids.Stamp.{Stamp}
-use Rattle.st_base.specs.declared.mode.Mode.{Mode}
-use Rattle.st_messages.specs.declared.message.Header.{Header}
-use Rattle.st_messages.specs.declared.message.Body.TheVariants as bodies
-use Rattle.st_messages.specs.declared.message.Why.TheVariants as why
-use Rattle.st_messages.specs.declared.output.Note.TheVariants as notes
-use Rattle.st_messages.specs.Kinds.{is_word64}
-use Rattle.st_rules.specs.declared.authority.Suspect.{Suspect}
-use Rattle.st_rules.specs.declared.sessions.Hello.{Hello}
-use Rattle.st_rules.specs.declared.sessions.Hello.TheVariants as hellos
-use Rattle.st_rules.specs.declared.sessions.Session.{Session}
-use Rattle.st_rules.specs.Authority as authority
-use Rattle.st_rules.specs.Authority.{Authority}
-use Rattle.st_rules.specs.Extents.{Extents}
-use Rattle.st_rules.specs.Grace as grace
-use Rattle.st_rules.specs.Locks as locks
-use Rattle.st_rules.specs.Locks.{Locks}
-use Rattle.st_rules.specs.Names.{Names}
-use Rattle.st_rules.specs.Sessions as sessions
-use Rattle.st_rules.specs.Sessions.{Sessions}
-use Rattle.st_rules.specs.Server as server
-use Rattle.st_rules.specs.Server.{ServerState, ServerTurn, Replied, sender, life_in}
-use Rattle.st_lemmas.proofs.Tables.{cond_either}
+use Rattle.st_lemmas.proofs.Words
+use Words.{◌≡◌, ℕ, ◌-◌, ◌^◌, ◌<◌, ◌≤◌, Bool, true, ◌==◌, not, List, [], ◌∷◌, Option, Some, None, refl, arith, nat_lt, nat_le, list_all, and_parts, and_from}
+use Words.{leb-true, ClientId, GrantNo, Life, Stamp, Mode, Header, Suspect, Hello, Session}
+use Words.bodies
+use Words.why
+use Words.notes
+use Words.Kinds.{is_word64}
+use Words.hellos
+use Words.Authority as authority
+use Words.Authority.{Authority}
+use Words.Extents.{Extents}
+use Words.Grace as grace
+use Words.Locks as locks
+use Words.Locks.{Locks}
+use Words.Names.{Names}
+use Words.Sessions as sessions
+use Words.Sessions.{Sessions}
+use Words.Server as server
+use Words.Server.{ServerState, ServerTurn, sender, life_in}
+use Words.Tables.{cond_either}
 use Rattle.st_server.specs.Invariants.{AreHeld, AreNamed, AreMapped, IsSoundTo, has_start, is_good_session}
 use Rattle.st_server.proofs.Every.{every_filter}
 use Rattle.st_server.proofs.Holding.{is_good_sent, held_more, drop_waits_held, seen_held}

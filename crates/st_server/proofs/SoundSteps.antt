@@ -1,25 +1,18 @@
 -- A whole step keeps a server sound, and sends what fits.
-use Rattle.std.proofs.Common.{◌≡◌, ℕ, ◌+◌, ◌-◌, ◌^◌, ◌<◌, ◌≤◌, ◌⊎◌, Bool, true, false, ◌&&◌, List, [], ◌∷◌, Option, Some, None, refl, sym, ap, subst, ◌∙◌, arith, inl, inr}
-use Rattle.std.specs.Prelude.{if◌then◌else◌, Result, Ok, Err, OnOk, IfErr}
-use Rattle.std.specs.List.{list_all}
-use Rattle.std.proofs.lemmas.Bool.{and_parts, lt-ltb}
-use Rattle.st_base.specs.declared.ids.ClientId.{ClientId}
-use Rattle.st_base.specs.declared.ids.Stamp.{Stamp}
-use Rattle.st_messages.specs.declared.message.Message.{Message}
-use Rattle.st_messages.specs.Kinds.{is_word64, kind_of_body}
-use Rattle.st_messages.specs.Ranges.{fits, is_body, is_header}
-use Rattle.st_rules.specs.declared.input.ServerInput.{ServerInput}
-use Rattle.st_rules.specs.declared.input.ServerInput.TheVariants.{Tick, Control}
-use Rattle.st_rules.specs.declared.sessions.Session.{Session}
-use Rattle.st_rules.specs.Authority as authority
-use Rattle.st_rules.specs.Sessions as sessions
-use Rattle.st_rules.specs.Server as server
-use Rattle.st_messages.specs.declared.output.Output.{Output}
-use Rattle.st_messages.specs.declared.output.StepFault.{StepFault}
-use Rattle.st_messages.specs.declared.output.StepFault.TheVariants as faults
+use Rattle.st_lemmas.proofs.Words
+use Words.{◌≡◌, ℕ, ◌+◌, ◌-◌, ◌^◌, ◌<◌, ◌≤◌, ◌⊎◌, Bool, true, false, ◌&&◌, List, [], ◌∷◌, Option, Some, None, refl, sym, ap, subst, ◌∙◌, arith, inl, inr}
+use Words.{if◌then◌else◌, Result, Ok, Err, OnOk, list_all, and_parts, lt-ltb, ClientId, Stamp, Message, ServerInput, Session, Output, StepFault}
+use Words.Kinds.{is_word64, kind_of_body}
+use Words.Ranges.{fits, is_body, is_header}
+use Words.serving.{Tick, Control}
+use Words.Authority as authority
+use Words.Sessions as sessions
+use Words.Server as server
+use Words.faults
+use Words.Server.{ServerNode, ServerState, Stable, ServerTurn, turn, crash}
+use Words.Tables.{cond_either}
+use Rattle.std.specs.Prelude.{IfErr}
 use Rattle.st_rules.specs.declared.node.StepRefusal.TheVariants.{Crashed}
-use Rattle.st_rules.specs.Server.{ServerNode, ServerState, Stable, ServerTurn, turn, crash}
-use Rattle.st_lemmas.proofs.Tables.{cond_either}
 use Rattle.st_server.specs.RuleConditions.{AreServed, comes_fit, has_body, is_row_lived}
 use Rattle.st_server.specs.Room.{HasRoom, taken_locks}
 use Rattle.st_server.specs.Invariants.{IsSound, IsSoundTo, is_good_row, is_sent, is_told, is_told_lock}

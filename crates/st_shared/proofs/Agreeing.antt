@@ -1,14 +1,11 @@
 -- A state that agrees with a history.
-use Rattle.std.proofs.Common.{◌≡◌, ℕ, Bool, true, false, ◌&&◌, ◌||◌, ◌==◌, List, [], ◌∷◌, Some, None, refl, sym, ap, ◌∙◌}
-use Rattle.std.specs.Prelude.{find, is_some, is_none, length, Option, option_map, Result}
-use Rattle.st_base.specs.declared.ids.ClientId.{ClientId}
-use Rattle.st_base.specs.declared.ids.PageNo.{PageNo}
-use Rattle.st_base.specs.declared.disk.Command.{Command}
-use Rattle.st_base.specs.declared.disk.Command.TheVariants as commands
-use Rattle.st_rules.specs.declared.disks.Block.{Block}
-use Rattle.st_rules.specs.declared.disks.DiskCommand.{DiskCommand}
-use Rattle.st_rules.specs.Disks.{block}
-use Rattle.st_rules.specs.World.{numbered}
+use Rattle.st_lemmas.proofs.Words
+use Words.{◌≡◌, ℕ, Bool, true, false, ◌&&◌, ◌||◌, ◌==◌, List, [], ◌∷◌, Some, None, refl, sym, ap, ◌∙◌, find, is_some, length, Option, option_map, Result}
+use Words.{ClientId, PageNo, Command, Block, DiskCommand}
+use Words.commands
+use Words.Disks.{block}
+use Words.World.{numbered}
+use Rattle.std.specs.Prelude.{is_none}
 use Rattle.st_disk.specs.Calls.{place}
 use Rattle.st_shared.specs.declared.issuers.Issuer.{Issuer}
 use Rattle.st_shared.specs.declared.refusal.SharedRefusal.{SharedRefusal}

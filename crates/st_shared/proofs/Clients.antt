@@ -1,16 +1,18 @@
 -- Entering, leaving, locking, unlocking, crashing and expiring keep that a state agrees with its history.
-use Rattle.std.proofs.Common.{◌≡◌, ℕ, Bool, true, false, not, ◌&&◌, ◌||◌, List, [], ◌∷◌, Some, None, refl, sym, ap, ◌∙◌, if◌then◌else◌}
-use Rattle.std.specs.Prelude.{is_some, map, Option, option_map, Result, Ok, Err}
-use Rattle.st_base.specs.declared.ids.ClientId.{ClientId}
-use Rattle.st_rules.specs.Keys.{same_client}
-use Rattle.st_rules.specs.World.{numbered}
+use Rattle.st_lemmas.proofs.Words
+use Words.{◌≡◌, ℕ, Bool, true, false, not, ◌&&◌, ◌||◌, List, [], ◌∷◌, Some, None, refl, sym, ap, ◌∙◌, if◌then◌else◌, is_some, map, Option, option_map, Result}
+use Words.{Ok, Err, ClientId}
+use Words.Keys.{same_client}
+use Words.World.{numbered}
 use Rattle.st_shared.specs.declared.issuers.Issuer.{Issuer}
 use Rattle.st_shared.specs.declared.members.Member.{Member}
 use Rattle.st_shared.specs.declared.refusal.SharedRefusal.{SharedRefusal}
 use Rattle.st_shared.specs.declared.refusal.SharedRefusal.TheVariants.{Held, NotIn, Busy, SharedBy, Stopped, NotStopped, NoLock}
 use Rattle.st_shared.specs.History.{Call, Step, Enter, Leave, Lock, Unlock, Crash, Expire, Issued, has_expired, is_in, is_issued_by, issued}
 use Rattle.st_shared.specs.Shared as rules
-use Rattle.st_shared.specs.Shared.{Shared, Done, busy, check_running, checked, crashed, enter_unlocked, entered, expire_issuer, expired, is_expired, is_holder, is_member, is_stopped, leave_idle, least_member, left, lock_alone, lock_free, locked, member_of, stop_issuer, stop_member, unlocked, without_member}
+use Rattle.st_shared.specs.Shared.{Shared, Done, busy, check_running, checked, crashed, enter_unlocked, entered, expire_issuer, expired, is_expired, is_holder}
+use Rattle.st_shared.specs.Shared.{is_stopped, leave_idle, least_member, left, lock_alone, lock_free, locked, member_of, stop_issuer, stop_member, unlocked}
+use Rattle.st_shared.specs.Shared.{without_member}
 use Rattle.st_shared.proofs.Agreeing.{Agrees, Keeps, client_of_issued, client_of_issuer, refused}
 use Rattle.st_shared.proofs.InAndOut.{in_entered, in_left, in_stopped, is_client, nobody}
 use Rattle.st_shared.proofs.Numbered.{length_map, numbered_map}

@@ -1,34 +1,28 @@
 -- An effect keeps that a state agrees with its history, and comes in time.
-use Rattle.std.proofs.Common.{◌≡◌, ◌≢◌, ℕ, ◌⊎◌, Bool, true, false, ◌&&◌, ◌||◌, ◌==◌, List, ◌∷◌, Some, None, refl, sym, ap, ◌∙◌, inl, inr, if◌then◌else◌}
-use Rattle.std.specs.Prelude.{find, is_none, is_some, pred, unwrap_or, Option, option_map, Ok, Err}
-use Rattle.std.proofs.lemmas.Bool.{eqb-true, eq-eqb, ne_eqb}
-use Rattle.st_base.specs.declared.disk.BlockAt.{BlockAt}
-use Rattle.st_base.specs.declared.disk.Tag.{Tag}
-use Rattle.st_base.specs.declared.disk.Command.{Command}
-use Rattle.st_base.specs.declared.disk.Command.TheVariants as commands
-use Rattle.st_base.specs.declared.ids.ClientId.{ClientId}
-use Rattle.st_base.specs.declared.ids.PageNo.{PageNo}
-use Rattle.st_rules.specs.declared.disks.Block.{Block}
-use Rattle.st_rules.specs.declared.disks.Report.{Report}
-use Rattle.st_rules.specs.declared.disks.Report.TheVariants as reports
-use Rattle.st_rules.specs.declared.disks.DiskCommand.{DiskCommand}
+use Rattle.st_lemmas.proofs.Words
+use Words.{◌≡◌, ◌≢◌, ℕ, ◌⊎◌, Bool, true, false, ◌&&◌, ◌||◌, ◌==◌, List, ◌∷◌, Some, None, refl, sym, ap, ◌∙◌, inl, inr, if◌then◌else◌, find, is_some, pred}
+use Words.{unwrap_or, Option, option_map, Ok, Err, eqb-true, eq-eqb, ne_eqb, BlockAt, Tag, Command, ClientId, PageNo, Block, Report, DiskCommand}
+use Words.commands
+use Words.reports
+use Words.Disks as disks
+use Words.Disks.{block, command, effect_at, effect_of, effect_once, effect_reported, effected, fresh_block, is_block_at, sampled}
+use Words.Keys.{put, same_block, same_page}
+use Words.World.{numbered, with_numbered}
+use Words.Lookups.{if_true, if_false, some_is}
+use Words.Numbers.{set_length}
+use Words.Tables.{same_or_not}
+use Rattle.std.specs.Prelude.{is_none}
 use Rattle.st_rules.specs.declared.disks.CommandRefusal.TheVariants.{NoCommand, Twice, Reported}
-use Rattle.st_rules.specs.Disks as disks
-use Rattle.st_rules.specs.Disks.{Disks, block, command, effect_at, effect_of, effect_once, effect_reported, effected, fresh_block, is_block_at, sampled, with_block, with_command}
-use Rattle.st_rules.specs.Keys.{put, same_block, same_page}
-use Rattle.st_rules.specs.World.{numbered, with_numbered}
-use Rattle.st_lemmas.proofs.Lookups.{if_true, if_false, some_is}
-use Rattle.st_lemmas.proofs.Numbers.{set_length}
 use Rattle.st_lemmas.proofs.Puts.{find_put, find_put_other}
-use Rattle.st_lemmas.proofs.Tables.{same_or_not}
 use Rattle.st_disk.specs.Calls.{as_told, place}
 use Rattle.st_shared.specs.declared.issuers.Issuer.{Issuer}
 use Rattle.st_shared.specs.declared.refusal.SharedRefusal.{SharedRefusal}
 use Rattle.st_shared.specs.declared.refusal.SharedRefusal.TheVariants.{Disk, Late}
 use Rattle.st_shared.specs.History.{Step, Effect, Issued, effects, has_lock, issued, last_write, told_by, told_of, with_effect, written_over}
 use Rattle.st_shared.specs.Shared as rules
-use Rattle.st_shared.specs.Shared.{Shared, Answer, Done, Hard, Bytes, block_of, effect_timely, found_answer, is_expired, is_holder, is_member, is_report_open, with_disk}
-use Rattle.st_shared.proofs.Agreeing.{Agrees, Keeps, client_of_issued, client_of_issuer, is_placed, is_unsampled, page_of, refused, told_at, told_with, what_of_command, what_of_issued, writes_of}
+use Rattle.st_shared.specs.Shared.{Shared, Done, Bytes, block_of, effect_timely, found_answer, is_expired, is_holder, is_member, is_report_open, with_disk}
+use Rattle.st_shared.proofs.Agreeing.{Agrees, Keeps, client_of_issued, client_of_issuer, is_placed, is_unsampled, page_of, refused, told_at, told_with}
+use Rattle.st_shared.proofs.Agreeing.{what_of_command, what_of_issued, writes_of}
 use Rattle.st_shared.proofs.Numbered.{command_is, each_with, numbered_with, same_with}
 use Rattle.st_shared.proofs.Owned.{is_owned, owned_with, owner_in}
 

@@ -1,8 +1,9 @@
 -- Every history is right.
-use Rattle.std.proofs.Common.{◌≡◌, ℕ, List, [], ◌∷◌, refl, ap, subst}
-use Rattle.std.specs.Prelude.{length, option_map}
-use Rattle.st_rules.specs.World.{numbered}
-use Rattle.st_shared.specs.History.{Call, Enter, Leave, Lock, Unlock, Crash, Expire, Write, Read, Effect, Report, Step, Traced, AreRight, EveryHistoryIsRight, IsLedTo, rule_of, trace}
+use Rattle.st_lemmas.proofs.Words
+use Words.{◌≡◌, ℕ, List, [], ◌∷◌, refl, ap, subst, length, option_map}
+use Words.World.{numbered}
+use Rattle.st_shared.specs.History.{Call, Enter, Leave, Lock, Unlock, Crash, Expire, Write, Read, Effect, Report, Step, Traced, AreRight, EveryHistoryIsRight}
+use Rattle.st_shared.specs.History.{IsLedTo, rule_of, trace}
 use Rattle.st_shared.specs.Shared.{Shared, fresh_shared, is_expired}
 use Rattle.st_shared.proofs.Agreeing.{Agrees, Keeps, are_apart, client_of_issuer, is_placed, is_unsampled, step_of, told_at, what_of_command}
 use Rattle.st_shared.proofs.Clients.{enter_keeps, leave_keeps, lock_keeps, unlock_keeps, crash_keeps, expire_keeps}

@@ -1,11 +1,10 @@
 -- Who is in, after a client came, went or stopped.
-use Rattle.std.proofs.Common.{◌≡◌, ◌≢◌, ◌⊎◌, Bool, true, false, not, ◌&&◌, ◌||◌, List, [], ◌∷◌, ◌++◌, ◌==◌, Some, None, refl, sym, ap, ◌∙◌, inl, inr, if◌then◌else◌}
-use Rattle.std.specs.Prelude.{find, map, is_some, Option}
-use Rattle.std.proofs.lemmas.Bool.{eqb-true, eq-eqb, ne_eqb}
-use Rattle.st_base.specs.declared.ids.ClientId.{ClientId}
-use Rattle.st_rules.specs.Keys.{same_client}
-use Rattle.st_lemmas.proofs.Lookups.{find_without}
-use Rattle.st_lemmas.proofs.Tables.{same_or_not}
+use Rattle.st_lemmas.proofs.Words
+use Words.{◌≡◌, ◌≢◌, ◌⊎◌, Bool, true, false, not, ◌&&◌, ◌||◌, List, [], ◌∷◌, ◌++◌, ◌==◌, Some, None, refl, sym, ap, ◌∙◌, inl, inr, if◌then◌else◌, find, map}
+use Words.{is_some, Option, eqb-true, eq-eqb, ne_eqb, ClientId}
+use Words.Keys.{same_client}
+use Words.Lookups.{find_without}
+use Words.Tables.{same_or_not}
 use Rattle.st_shared.specs.declared.members.Member.{Member}
 use Rattle.st_shared.specs.Shared.{is_member, least_member, running, stop_member, without_member}
 

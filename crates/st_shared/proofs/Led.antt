@@ -1,10 +1,10 @@
 -- Calls lead on.
-use Rattle.std.proofs.Common.{◌≡◌, ℕ, [], ◌∷◌, refl, sym, ap, ◌∙◌, subst}
-use Rattle.std.specs.Prelude.{Result, Ok, Err}
+use Rattle.st_lemmas.proofs.Words
+use Words.{◌≡◌, ℕ, [], ◌∷◌, refl, sym, ap, ◌∙◌, subst, Result, Ok, Err}
 use Rattle.st_shared.specs.declared.refusal.SharedRefusal.{SharedRefusal}
 use Rattle.st_shared.specs.declared.refusal.SharedRefusal.TheVariants.{Memory}
 use Rattle.st_shared.specs.Calls.{Does, DoesOrLacks, Numbers, state_after}
-use Rattle.st_shared.specs.History.{Call, EveryHistoryIsRight, GoesOnRightly, IsLedRightly, IsLedTo, rule_of, trace}
+use Rattle.st_shared.specs.History.{Call, EveryHistoryIsRight, IsLedRightly, IsLedTo, rule_of, trace}
 use Rattle.st_shared.specs.Shared.{Shared, fresh_shared}
 
 pub fresh_led : (blocks : ℕ) → IsLedTo (fresh_shared blocks)

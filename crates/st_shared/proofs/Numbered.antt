@@ -1,13 +1,12 @@
 -- What goes by a number from 1: after one more, a change of one, and a change of all.
-use Rattle.std.proofs.Common.{◌≡◌, ◌≢◌, ℕ, ◌⊎◌, Bool, true, false, List, [], ◌∷◌, ◌++◌, ◌==◌, Some, None, refl, sym, ap, ◌∙◌, subst, inl, inr, if◌then◌else◌}
-use Rattle.std.specs.Prelude.{zero, suc, length, map, option_map, Option, slice_get}
-use Rattle.std.proofs.lemmas.Bool.{eqb-true, eq-eqb, ne_eqb}
-use Rattle.st_rules.specs.Disks.{command_at}
-use Rattle.st_rules.specs.World.{numbered, with_numbered}
-use Rattle.st_rules.specs.declared.disks.DiskCommand.{DiskCommand}
-use Rattle.st_lemmas.proofs.Lookups.{if_true, if_false}
-use Rattle.st_lemmas.proofs.Numbers.{get_last, get_map, length_more, numbered_below, numbered_other, numbered_own}
-use Rattle.st_lemmas.proofs.Tables.{same_or_not}
+use Rattle.st_lemmas.proofs.Words
+use Words.{◌≡◌, ◌≢◌, ℕ, ◌⊎◌, Bool, true, false, List, [], ◌∷◌, ◌++◌, ◌==◌, Some, None, refl, sym, ap, ◌∙◌, subst, inl, inr, if◌then◌else◌, zero, suc, length}
+use Words.{map, option_map, Option, slice_get, eqb-true, eq-eqb, ne_eqb, DiskCommand}
+use Words.Disks.{command_at}
+use Words.World.{numbered, with_numbered}
+use Words.Lookups.{if_true, if_false}
+use Words.Numbers.{get_last, get_map, length_more, numbered_below, numbered_other, numbered_own}
+use Words.Tables.{same_or_not}
 
 pub command_is : (cs : List DiskCommand) (n : ℕ) → command_at cs n ≡ numbered cs n
 command_is cs zero = refl

@@ -1,18 +1,13 @@
 -- The lock table of the file: no row, or one exclusive row.
-use Rattle.std.proofs.Common.{◌≡◌, ℕ, ◌+◌, ◌<◌, ◌≤◌, Bool, true, false, not, ◌||◌, ◌==◌, List, [], ◌∷◌, Some, None, refl, sym, ap, ◌∙◌, subst, arith, if◌then◌else◌}
-use Rattle.std.specs.Prelude.{filter, Result, Ok, Err, is_ok}
+use Rattle.st_lemmas.proofs.Words
+use Words.{◌≡◌, ℕ, ◌+◌, ◌<◌, ◌≤◌, Bool, true, false, not, ◌||◌, ◌==◌, List, [], ◌∷◌, Some, None, refl, sym, ap, ◌∙◌, subst, arith, if◌then◌else◌, filter}
+use Words.{Result, Ok, Err, list_any, and_parts, eq-eqb, leb-true, ClientId, Life, LockRow, Verdict, AcquireRefusal}
+use Words.modes
+use Words.verdicts
+use Words.Keys.{client}
+use Words.Locks.{Acquired, Locks, acquire, forget, is_row_by, is_wait_by, locks_open, new_row, next_grant}
+use Rattle.std.specs.Prelude.{is_ok}
 use Rattle.std.specs.Bool.{OnTrue, OnFalse}
-use Rattle.std.specs.List.{list_any}
-use Rattle.std.proofs.lemmas.Bool.{and_parts, eq-eqb, leb-true}
-use Rattle.st_base.specs.declared.ids.ClientId.{ClientId}
-use Rattle.st_base.specs.declared.ids.Life.{Life}
-use Rattle.st_base.specs.declared.mode.Mode.TheVariants as modes
-use Rattle.st_rules.specs.declared.locks.LockRow.{LockRow}
-use Rattle.st_rules.specs.declared.locks.Verdict.{Verdict}
-use Rattle.st_rules.specs.declared.locks.Verdict.TheVariants as verdicts
-use Rattle.st_rules.specs.declared.locks.AcquireRefusal.{AcquireRefusal}
-use Rattle.st_rules.specs.Keys.{client}
-use Rattle.st_rules.specs.Locks.{Acquired, Locks, acquire, forget, is_row_by, is_wait_by, locks_open, new_row, next_grant}
 use Rattle.st_locks.specs.Calls.{Answers, acquired}
 use Rattle.st_locks.specs.DemandStarts.{IsClient}
 use Rattle.st_lock_tables.specs.declared.refusal.LockRefusal.{LockRefusal}

@@ -1,16 +1,15 @@
 -- A command that was not reported is of a client that expired since, or of one that is in.
-use Rattle.std.proofs.Common.{◌≡◌, ℕ, ◌+◌, Bool, true, false, not, ◌&&◌, ◌||◌, ◌==◌, List, [], ◌∷◌, ◌++◌, Some, None, refl, sym, ap, ◌∙◌, arith, if◌then◌else◌}
-use Rattle.std.specs.Prelude.{zero, suc, find, is_some, length, map, Option, option_map, slice_get}
-use Rattle.std.proofs.lemmas.Bool.{eqb-true}
-use Rattle.st_base.specs.declared.ids.ClientId.{ClientId}
-use Rattle.st_rules.specs.declared.disks.DiskCommand.{DiskCommand}
-use Rattle.st_rules.specs.Disks.{Disks}
-use Rattle.st_rules.specs.Keys.{same_client}
-use Rattle.st_rules.specs.World.{numbered, with_numbered}
-use Rattle.st_lemmas.proofs.Lookups.{some_is}
+use Rattle.st_lemmas.proofs.Words
+use Words.{◌≡◌, ℕ, ◌+◌, Bool, true, false, not, ◌&&◌, ◌||◌, ◌==◌, List, [], ◌∷◌, ◌++◌, Some, None, refl, sym, ap, ◌∙◌, arith, if◌then◌else◌, zero, suc, find}
+use Words.{is_some, length, map, Option, option_map, slice_get, eqb-true, ClientId, DiskCommand}
+use Words.Disks.{Disks}
+use Words.Keys.{same_client}
+use Words.World.{numbered, with_numbered}
+use Words.Lookups.{some_is}
 use Rattle.st_shared.specs.declared.issuers.Issuer.{Issuer}
 use Rattle.st_shared.specs.declared.members.Member.{Member}
-use Rattle.st_shared.specs.Shared.{Shared, busy, busy_above, expire_issuer, is_busy, is_member, is_open, is_report_open, issuer, running, stop_issuer, stop_member, without_member}
+use Rattle.st_shared.specs.Shared.{Shared, busy, busy_above, expire_issuer, is_busy, is_member, is_open, is_report_open, issuer, running, stop_issuer}
+use Rattle.st_shared.specs.Shared.{stop_member, without_member}
 use Rattle.st_shared.proofs.InAndOut.{flip_client, in_entered, in_left, in_stopped}
 use Rattle.st_shared.proofs.Numbered.{numbered_map, numbered_push, numbered_with}
 

@@ -1,19 +1,17 @@
 -- A rule's refusals are never that memory ran out.
-use Rattle.std.proofs.Common.{◌≡◌, ℕ, Bool, true, false, Some, None, refl, ap, ◌∙◌, subst, if◌then◌else◌}
-use Rattle.std.specs.Prelude.{nat_lt, Option, Result, Ok, Err}
-use Rattle.st_base.specs.declared.ids.ClientId.{ClientId}
-use Rattle.st_base.specs.declared.ids.PageNo.{PageNo}
-use Rattle.st_base.specs.declared.disk.Command.{Command}
-use Rattle.st_rules.specs.declared.disks.CommandRefusal.{CommandRefusal}
-use Rattle.st_rules.specs.Disks as disks
-use Rattle.st_rules.specs.Disks.{Disks}
-use Rattle.st_rules.specs.World.{numbered}
+use Rattle.st_lemmas.proofs.Words
+use Words.{◌≡◌, ℕ, Bool, true, false, Some, None, refl, ap, ◌∙◌, subst, if◌then◌else◌, nat_lt, Option, Result, Ok, Err, ClientId, PageNo, Command}
+use Words.{CommandRefusal}
+use Words.Disks as disks
+use Words.Disks.{Disks}
+use Words.World.{numbered}
 use Rattle.st_shared.specs.declared.members.Member.{Member}
 use Rattle.st_shared.specs.declared.refusal.SharedRefusal.{SharedRefusal}
 use Rattle.st_shared.specs.declared.refusal.SharedRefusal.TheVariants.{Late, Stopped, NoPage, Memory}
 use Rattle.st_shared.specs.Calls.{Checks, DoesOrLacks, Numbers}
 use Rattle.st_shared.specs.Shared as rules
-use Rattle.st_shared.specs.Shared.{Shared, both, check_page, check_running, check_submit, checked, effect_timely, is_expired, member_of, submit, submitted, with_disk}
+use Rattle.st_shared.specs.Shared.{Shared, both, check_page, check_running, check_submit, checked, effect_timely, is_expired, member_of, submit, submitted}
+use Rattle.st_shared.specs.Shared.{with_disk}
 
 -- where a rule has a refusal that isn't lack of memory, a call that returns it does what the rule says
 does_refused : (s : Shared) (rule : Result Shared SharedRefusal) (r : SharedRefusal) → rule ≡ Err r → (rule ≡ Err Memory → ⊥) → DoesOrLacks s s (Err r) rule

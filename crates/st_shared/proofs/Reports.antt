@@ -1,21 +1,20 @@
 -- A report keeps that a state agrees with its history, and tells what is right.
-use Rattle.std.proofs.Common.{◌≡◌, ℕ, Bool, true, false, not, List, ◌∷◌, Some, None, refl, sym, ap, ◌∙◌, if◌then◌else◌}
-use Rattle.std.specs.Prelude.{pred, Option, option_map, Ok, Err}
-use Rattle.st_rules.specs.declared.disks.Block.{Block}
-use Rattle.st_rules.specs.declared.disks.Report.{Report}
-use Rattle.st_rules.specs.declared.disks.Report.TheVariants as reports
-use Rattle.st_rules.specs.declared.disks.DiskCommand.{DiskCommand}
+use Rattle.st_lemmas.proofs.Words
+use Words.{◌≡◌, ℕ, Bool, true, false, not, List, ◌∷◌, Some, None, refl, sym, ap, ◌∙◌, if◌then◌else◌, pred, Option, option_map, Ok, Err, Block, Report}
+use Words.{DiskCommand}
+use Words.reports
+use Words.Disks as disks
+use Words.Disks.{command, done_at, done_once, done_unreported, lacks_effect, sample, sample_of, with_command}
+use Words.World.{numbered}
+use Words.Numbers.{numbered_own, set_length}
 use Rattle.st_rules.specs.declared.disks.CommandRefusal.TheVariants.{NoCommand, Twice, NotEffected}
-use Rattle.st_rules.specs.Disks as disks
-use Rattle.st_rules.specs.Disks.{command, done_at, done_once, done_unreported, lacks_effect, sample, sample_of, with_command}
-use Rattle.st_rules.specs.World.{numbered}
-use Rattle.st_lemmas.proofs.Numbers.{numbered_own, set_length}
 use Rattle.st_disk.specs.Calls.{as_told}
 use Rattle.st_shared.specs.declared.refusal.SharedRefusal.{SharedRefusal}
 use Rattle.st_shared.specs.declared.refusal.SharedRefusal.TheVariants.{Disk}
 use Rattle.st_shared.specs.History.{Step, Report as Reports, AnswersRight, effects, told_by}
 use Rattle.st_shared.specs.Shared as rules
-use Rattle.st_shared.specs.Shared.{Shared, Answer, Done, Number, Hard, Bytes, Failed, Silent, Refused, ended_answer, found_answer, is_report_open, is_silenced, report_answer, reported, with_disk}
+use Rattle.st_shared.specs.Shared.{Shared, Answer, Done, Number, Failed, Silent, ended_answer, found_answer, is_report_open, is_silenced, report_answer}
+use Rattle.st_shared.specs.Shared.{reported, with_disk}
 use Rattle.st_shared.proofs.Agreeing.{Agrees, Keeps, is_placed, is_unsampled, refused, told_at, told_with, what_of_command}
 use Rattle.st_shared.proofs.Numbered.{command_is, same_with}
 use Rattle.st_shared.proofs.Owned.{owned_with}

@@ -1,21 +1,21 @@
 -- Submitting a write or a read keeps that a state agrees with its history.
-use Rattle.std.proofs.Common.{◌≡◌, ℕ, Bool, true, false, List, [], ◌∷◌, ◌++◌, ◌==◌, Some, None, refl, sym, ap, ◌∙◌, if◌then◌else◌}
-use Rattle.std.specs.Prelude.{suc, is_some, length, nat_lt, Option, option_map, Ok, Err}
-use Rattle.st_base.specs.declared.ids.ClientId.{ClientId}
-use Rattle.st_base.specs.declared.ids.PageNo.{PageNo}
-use Rattle.st_base.specs.declared.disk.Command.{Command}
-use Rattle.st_base.specs.declared.disk.Command.TheVariants as commands
-use Rattle.st_rules.specs.Disks.{new_command}
-use Rattle.st_rules.specs.World.{numbered}
-use Rattle.st_lemmas.proofs.Numbers.{length_more}
+use Rattle.st_lemmas.proofs.Words
+use Words.{◌≡◌, ℕ, Bool, true, false, List, [], ◌∷◌, ◌++◌, ◌==◌, Some, None, refl, sym, ap, ◌∙◌, if◌then◌else◌, suc, is_some, length, nat_lt, Option}
+use Words.{option_map, Ok, Err, ClientId, PageNo, Command}
+use Words.commands
+use Words.Disks.{new_command}
+use Words.World.{numbered}
+use Words.Numbers.{length_more}
 use Rattle.st_disk.specs.Calls.{place}
 use Rattle.st_shared.specs.declared.members.Member.{Member}
 use Rattle.st_shared.specs.declared.refusal.SharedRefusal.{SharedRefusal}
 use Rattle.st_shared.specs.declared.refusal.SharedRefusal.TheVariants.{NotIn, Stopped, NoPage}
 use Rattle.st_shared.specs.History.{Call, Step, Write, Read, Issued, issue_of, issued}
 use Rattle.st_shared.specs.Shared as rules
-use Rattle.st_shared.specs.Shared.{Shared, Number, block_of, both, check_page, check_running, check_submit, checked, is_expired, issuer, member_of, submit, submitted, tag_of}
-use Rattle.st_shared.proofs.Agreeing.{Agrees, Keeps, client_of_issued, client_of_issuer, is_placed, is_unsampled, refused, told_at, what_of_command, what_of_issued}
+use Rattle.st_shared.specs.Shared.{Shared, Number, block_of, both, check_page, check_running, check_submit, checked, is_expired, issuer, member_of, submit}
+use Rattle.st_shared.specs.Shared.{submitted, tag_of}
+use Rattle.st_shared.proofs.Agreeing.{Agrees, Keeps, client_of_issued, client_of_issuer, is_placed, is_unsampled, refused, told_at, what_of_command}
+use Rattle.st_shared.proofs.Agreeing.{what_of_issued}
 use Rattle.st_shared.proofs.Numbered.{numbered_push, same_push}
 use Rattle.st_shared.proofs.Owned.{owned_pushed}
 

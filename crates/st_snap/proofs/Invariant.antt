@@ -1,6 +1,6 @@
 -- What always holds of a volume stays.
-use Rattle.std.proofs.Common.{◌≡◌, ℕ, ◌+◌, ◌<◌, ◌≤◌, ◌^◌, Bool, true, false, List, [], ◌∷◌, ◌++◌, filter, length, arith, ap, sym, ◌∙◌}
-use Rattle.std.specs.Prelude.{if◌then◌else◌, is_some}
+use Rattle.st_lemmas.proofs.Words
+use Words.{◌≡◌, ℕ, ◌+◌, ◌<◌, ◌≤◌, ◌^◌, Bool, true, false, List, [], ◌∷◌, ◌++◌, filter, length, arith, ap, sym, ◌∙◌, if◌then◌else◌, is_some}
 use Rattle.st_snap.specs.declared.versions.VersionKey.{VersionKey}
 use Rattle.st_snap.specs.Versions.{Versions, has_version, version}
 use Rattle.st_snap.specs.Volumes.{Volume, IsHeld, IsTaken}

@@ -1,9 +1,8 @@
 -- Views, and what is seen in them, after images are taken and forgotten.
-use Rattle.std.proofs.Common.{◌≡◌, ℕ, zero, suc, ◌+◌, ◌<◌, ◌≤◌, Bool, true, false, List, [], ◌∷◌, ◌++◌, Option, Some, None, filter, arith, refl, sym, ap, subst, ◌∙◌, ⊎_elim, inl, inr, true≢false}
-use Rattle.std.specs.Prelude.{◌⊎◌, ◌==◌, is_some, not}
-use Rattle.std.specs.List.{list_any}
+use Rattle.st_lemmas.proofs.Words
+use Words.{◌≡◌, ℕ, zero, suc, ◌+◌, ◌<◌, ◌≤◌, Bool, true, false, List, [], ◌∷◌, ◌++◌, Option, Some, None, filter, arith, refl, sym, ap, subst, ◌∙◌, ⊎_elim, inl}
+use Words.{inr, true≢false, ◌⊎◌, ◌==◌, is_some, not, list_any, or_cases, or_right, eqb-true, false_from_ne_true}
 use Rattle.std.specs.Option.{option_map}
-use Rattle.std.proofs.lemmas.Bool.{or_cases, or_right, eqb-true, false_from_ne_true}
 use Rattle.st_snap.specs.declared.versions.VersionKey.{VersionKey}
 use Rattle.st_snap.specs.Changes.{Change, Took, Forgot, page_of}
 use Rattle.st_snap.specs.Versions.{Versions, has_version, key_of, latest, version}

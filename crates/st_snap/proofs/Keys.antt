@@ -1,11 +1,11 @@
 -- The order of the keys of versions.
-use Rattle.std.proofs.Common.{◌≡◌, ℕ, ◌<◌, true, false, arith, refl, sym, ap, ◌∙◌, ⊎_elim, inl, inr, true≢false}
-use Rattle.std.specs.Prelude.{◌⊎◌}
+use Rattle.st_lemmas.proofs.Words
+use Words.{◌≡◌, ℕ, ◌<◌, true, false, arith, refl, sym, ap, ◌∙◌, ⊎_elim, inl, inr, true≢false, ◌⊎◌, eq-eqb, ne_eqb, lt-ltb, le-ltb, cases_order}
+use Words.{false_from_ne_true}
 use Rattle.std.specs.declared.cmp.Ordering.{Ordering}
 use Rattle.std.specs.declared.cmp.Ordering.TheVariants.{Less, Equal, Greater}
 use Rattle.std.specs.Ordering.{nat_cmp, ordering_then, is_eq, is_lt}
 use Rattle.std.specs.Cmp.{IsTotalOrder, Equal-is, nat_cmp_total, on_total, then_total, tied_itself}
-use Rattle.std.proofs.lemmas.Bool.{eq-eqb, ne_eqb, lt-ltb, le-ltb, cases_order, false_from_ne_true}
 use Rattle.std.proofs.lemmas.Map.Lookups.{exact_unsigned}
 use Rattle.st_snap.specs.declared.versions.VersionKey.{VersionKey}
 use Rattle.st_snap.specs.Versions.{key_order, same_key}

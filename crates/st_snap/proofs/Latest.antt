@@ -1,7 +1,7 @@
 -- The last version of a page before a take.
-use Rattle.std.proofs.Common.{◌≡◌, ℕ, zero, suc, ◌<◌, Bool, true, false, Some, None, arith, refl, sym, ap, ◌∙◌, ⊎_elim}
-use Rattle.std.specs.Prelude.{if◌then◌else◌}
-use Rattle.std.proofs.lemmas.Bool.{cases_Bool, cases_eq, cases_lt}
+use Rattle.st_lemmas.proofs.Words
+use Words.{◌≡◌, ℕ, zero, suc, ◌<◌, Bool, true, false, Some, None, arith, refl, sym, ap, ◌∙◌, ⊎_elim, if◌then◌else◌, cases_Bool, cases_lt}
+use Rattle.std.proofs.lemmas.Bool.{cases_eq}
 use Rattle.std.proofs.lemmas.Option.{same_Some, none-some}
 use Rattle.st_snap.specs.declared.versions.VersionKey.{VersionKey}
 use Rattle.st_snap.specs.Versions.{key_of, latest}

@@ -1,8 +1,7 @@
 -- Lists of numbers and tests.
-use Rattle.std.proofs.Common.{◌≡◌, ℕ, ◌<◌, ◌≤◌, Bool, true, false, List, [], ◌∷◌, ◌++◌, Some, None, filter, arith, refl, sym, ap, subst, ◌∙◌, ⊎_elim, inl, inr, true≢false}
-use Rattle.std.specs.Prelude.{◌⊎◌, ◌||◌, ◌==◌, if◌then◌else◌, nat_lt, find}
-use Rattle.std.specs.List.{AllByRecursion, list_any}
-use Rattle.std.proofs.lemmas.Bool.{cases_Bool, eqb-true, eq-eqb, ltb-true, ltb-false, or_cases, or_right}
+use Rattle.st_lemmas.proofs.Words
+use Words.{◌≡◌, ℕ, ◌<◌, ◌≤◌, Bool, true, false, List, [], ◌∷◌, ◌++◌, Some, None, filter, arith, refl, sym, ap, subst, ◌∙◌, ⊎_elim, inl, inr, true≢false, ◌⊎◌}
+use Words.{◌||◌, ◌==◌, if◌then◌else◌, nat_lt, find, AllByRecursion, list_any, cases_Bool, eqb-true, eq-eqb, ltb-true, ltb-false, or_cases, or_right}
 use Rattle.std.proofs.lemmas.Option.{same_Some}
 use Rattle.st_snap.specs.Volumes.{AreRising}
 

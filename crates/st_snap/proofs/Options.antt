@@ -1,6 +1,6 @@
 -- What an option has.
-use Rattle.std.proofs.Common.{◌≡◌, true, Option, Some, None, refl, sym, true≢false}
-use Rattle.std.specs.Prelude.{is_some}
+use Rattle.st_lemmas.proofs.Words
+use Words.{◌≡◌, true, Option, Some, None, refl, sym, true≢false, is_some}
 
 pub some_is : {A : Type 0} (o : Option A) → is_some o ≡ true → (x : A) × (o ≡ Some x)
 some_is None h = absurd (true≢false (sym h))

@@ -1,9 +1,9 @@
 -- What the calls of a volume answer.
-use Rattle.std.proofs.Common.{◌≡◌, ℕ, ◌+◌, ◌<◌, ◌≤◌, true, false, List, ◌∷◌, length, Option, Some, None, Ok, Err, Result, arith, refl, sym, ap, subst, ◌∙◌}
-use Rattle.std.specs.Prelude.{◌==◌, ◌&&◌, ◌-◌, is_some, if◌then◌else◌, nat_le, OnOk, IfErr}
-use Rattle.std.specs.List.{list_any}
+use Rattle.st_lemmas.proofs.Words
+use Words.{◌≡◌, ℕ, ◌+◌, ◌<◌, ◌≤◌, true, false, List, ◌∷◌, length, Option, Some, None, Ok, Err, Result, arith, refl, sym, ap, subst, ◌∙◌, ◌==◌, ◌&&◌, ◌-◌}
+use Words.{is_some, if◌then◌else◌, nat_le, OnOk, list_any, eq-eqb, ne_eqb, le-leb, lt-leb, false_from_ne_true}
+use Rattle.std.specs.Prelude.{IfErr}
 use Rattle.std.specs.Option.{option_map}
-use Rattle.std.proofs.lemmas.Bool.{eq-eqb, ne_eqb, le-leb, lt-leb, false_from_ne_true}
 use Rattle.st_snap.specs.declared.refusal.SnapRefusal.{SnapRefusal}
 use Rattle.st_snap.specs.declared.refusal.SnapRefusal.TheVariants.{NoSpace, NoImage, TooMany, Memory}
 use Rattle.st_snap.specs.Changes.{Change, Wrote, Took, Forgot, images, is_shared, is_view, is_write, last_write, page_of, shown, takes, takes_block}

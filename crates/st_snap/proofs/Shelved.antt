@@ -1,12 +1,13 @@
 -- Versions with their slots, and look-ups among them.
-use Rattle.std.proofs.Common.{◌≡◌, ℕ, ◌+◌, Bool, true, false, cond, List, length, Option, Some, None, arith, refl, sym, ap, ◌∙◌, ⊎_elim, inl, inr, true≢false}
-use Rattle.std.specs.Prelude.{◌==◌, is_some, IsSome}
+use Rattle.st_lemmas.proofs.Words
+use Words.{◌≡◌, ℕ, ◌+◌, Bool, true, false, cond, List, length, Option, Some, None, arith, refl, sym, ap, ◌∙◌, ⊎_elim, inl, inr, true≢false, ◌==◌, is_some}
+use Words.{cases_Bool, eqb-true, eq-eqb, ne_eqb, false_from_ne_true}
+use Rattle.std.specs.Prelude.{IsSome}
 use Rattle.std.specs.Map.{keys_of}
 use Rattle.std.specs.List.Sorted.{IsStrictlySortedBy}
 use Rattle.std.specs.declared.cmp.Ordering.{Ordering}
 use Rattle.std.specs.declared.cmp.Ordering.TheVariants.{Less, Equal, Greater}
 use Rattle.std.specs.Ordering.{is_lt}
-use Rattle.std.proofs.lemmas.Bool.{cases_Bool, eqb-true, eq-eqb, ne_eqb, false_from_ne_true}
 use Rattle.std.proofs.lemmas.Option.{none-some, same_Some}
 use Rattle.st_snap.specs.declared.versions.VersionKey.{VersionKey}
 use Rattle.st_snap.specs.Slots.{slot_at}

@@ -1,28 +1,23 @@
 -- Slots on the blocks of one disk.
-use Rattle.std.proofs.Common.{◌≡◌, ℕ, zero, suc, ◌+◌, ◌<◌, ◌≤◌, ◌%◌, ◌^◌, Bool, true, false, cond, List, [], ◌∷◌, ◌++◌, length, map, filter, Option, Some, None, Ok, Err, Result, arith, refl, sym, ap, subst, ◌∙◌, ⊎_elim, true≢false}
-use Rattle.std.specs.Prelude.{OnOk, OnErr, is_err, ◌==◌, ◌&&◌, ◌||◌, not, is_some, if◌then◌else◌, find, nat_le, flat_map, unwrap_or}
-use Rattle.std.specs.List.{AllByRecursion, IsDistinct, list_any}
+use Rattle.st_lemmas.proofs.Words
+use Words.{◌≡◌, ℕ, zero, suc, ◌+◌, ◌<◌, ◌≤◌, ◌%◌, ◌^◌, Bool, true, false, cond, List, [], ◌∷◌, ◌++◌, length, map, filter, Option, Some, None, Ok, Err, Result}
+use Words.{arith, refl, sym, ap, subst, ◌∙◌, ⊎_elim, true≢false, OnOk, OnErr, ◌==◌, ◌&&◌, ◌||◌, not, is_some, if◌then◌else◌, find, nat_le, unwrap_or}
+use Words.{AllByRecursion, list_any, cases_Bool, eqb-true, eq-eqb, le-leb, ne_eqb, or_cases, and_parts, and_from, false_from_ne_true, length-map, FileId}
+use Words.{PageNo, BlockAt, Block, Extent, AllocateRefusal}
+use Words.wants as refusals
+use Words.Keys.{page_no, put, same_block, same_file, same_page}
+use Words.Extents as extents
+use Words.Extents.{Extents, is_at_or_behind, is_extent_of, lies_at, own_blocks}
+use Words.Disks.{Disks, block, fresh_block, is_block_at}
+use Rattle.std.specs.Prelude.{is_err, flat_map}
+use Rattle.std.specs.List.{IsDistinct}
 use Rattle.std.specs.Option.{option_map}
-use Rattle.std.proofs.lemmas.Bool.{cases_Bool, eqb-true, eq-eqb, le-leb, ne_eqb, or_cases, and_parts, and_from, false_from_ne_true}
-use Rattle.std.proofs.lemmas.List.{length-map}
 use Rattle.std.proofs.lemmas.List.Elements.{recursion_from_All}
 use Rattle.std.proofs.lemmas.Map.Keys.{IsDistinct-head, IsDistinct-tail}
 use Rattle.std.proofs.lemmas.Option.{none-some, same_Some}
-use Rattle.st_base.specs.declared.ids.FileId.{FileId}
-use Rattle.st_base.specs.declared.ids.PageNo.{PageNo}
-use Rattle.st_base.specs.declared.disk.BlockAt.{BlockAt}
-use Rattle.st_rules.specs.declared.disks.Block.{Block}
-use Rattle.st_rules.specs.declared.extents.Extent.{Extent}
-use Rattle.st_rules.specs.declared.extents.AllocateRefusal.{AllocateRefusal}
-use Rattle.st_rules.specs.declared.extents.AllocateRefusal.TheVariants as refusals
-use Rattle.st_rules.specs.Keys.{page_no, put, same_block, same_file, same_page}
-use Rattle.st_rules.specs.Extents as extents
-use Rattle.st_rules.specs.Extents.{Extents, is_at_or_behind, is_extent_of, lies_at, own_blocks}
-use Rattle.st_rules.specs.Disks.{Disks, block, fresh_block, fresh_disks, is_block_at}
 use Rattle.st_disk.specs.Calls.{HasBlock}
 use Rattle.st_extents.specs.Ownership.{IsOwned, is_own_block, of_one_page, on_one_block}
 use Rattle.st_lemmas.proofs.Puts.{find_put_by, find_put_other}
-use Rattle.st_base.specs.declared.ids.ServerId.{ServerId}
 use Rattle.st_extents.specs.declared.refusal.ExtentRefusal.{ExtentRefusal}
 use Rattle.st_extents.specs.Layout.{Allocates}
 use Rattle.st_snap.specs.Slots.{AreSlots, HasOneMore, IsSlot, slot_at, slot_file, slot_of, slots_of}

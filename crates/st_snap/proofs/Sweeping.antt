@@ -1,10 +1,9 @@
 -- Versions are gone through from the last one to the first, and those that no view has are taken out.
-use Rattle.std.proofs.Common.{◌≡◌, ℕ, suc, ◌+◌, ◌<◌, ◌≤◌, Bool, true, false, cond, List, [], ◌∷◌, length, filter, Option, Some, None, arith, refl, sym, ap, subst, ◌∙◌, ⊎_elim, inl, inr, true≢false}
-use Rattle.std.specs.Prelude.{◌⊎◌, not, is_some, unwrap_or, if◌then◌else◌, ⊤}
-use Rattle.std.specs.List.{AllByRecursion}
+use Rattle.st_lemmas.proofs.Words
+use Words.{◌≡◌, ℕ, suc, ◌+◌, ◌<◌, ◌≤◌, Bool, true, false, cond, List, [], ◌∷◌, length, filter, Option, Some, None, arith, refl, sym, ap, subst, ◌∙◌, ⊎_elim}
+use Words.{inl, inr, true≢false, ◌⊎◌, not, is_some, unwrap_or, if◌then◌else◌, ⊤, AllByRecursion, cases_Bool, cases_order, eqb-true, eq-eqb, false_from_ne_true}
 use Rattle.std.specs.Cmp.{tied_itself}
 use Rattle.std.specs.Ordering.{is_lt}
-use Rattle.std.proofs.lemmas.Bool.{cases_Bool, cases_order, eqb-true, eq-eqb, false_from_ne_true}
 use Rattle.st_snap.specs.declared.versions.VersionKey.{VersionKey}
 use Rattle.st_snap.specs.Versions.{IsLast, IsLastBelow, Versions, has_version, key_of, key_order, latest, same_key, slot_under, version}
 use Rattle.st_snap.specs.Volumes.{AreRising, IsSeen, IsTaken, first_after, is_among, is_seen, option_is, take_of}

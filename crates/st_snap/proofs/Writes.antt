@@ -1,9 +1,8 @@
 -- What is seen after a page is written.
-use Rattle.std.proofs.Common.{◌≡◌, ℕ, ◌+◌, ◌<◌, true, false, cond, List, ◌∷◌, length, Option, Some, None, arith, refl, sym, ap, subst, ◌∙◌, ⊎_elim, true≢false}
-use Rattle.std.specs.Prelude.{◌==◌, is_some, if◌then◌else◌}
-use Rattle.std.specs.List.{list_any}
+use Rattle.st_lemmas.proofs.Words
+use Words.{◌≡◌, ℕ, ◌+◌, ◌<◌, true, false, cond, List, ◌∷◌, length, Option, Some, None, arith, refl, sym, ap, subst, ◌∙◌, ⊎_elim, true≢false, ◌==◌, is_some}
+use Words.{if◌then◌else◌, list_any, cases_Bool, false_from_ne_true}
 use Rattle.std.specs.Option.{option_map}
-use Rattle.std.proofs.lemmas.Bool.{cases_Bool, false_from_ne_true}
 use Rattle.st_snap.specs.declared.versions.VersionKey.{VersionKey}
 use Rattle.st_snap.specs.Changes.{Change, Wrote, last_write, page_of, same_page}
 use Rattle.st_snap.specs.Versions.{has_version, key_of, latest, same_key, version}

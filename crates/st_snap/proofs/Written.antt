@@ -1,17 +1,14 @@
 -- A block that is written in one call.
-use Rattle.std.proofs.Common.{◌≡◌, ℕ, suc, Bool, true, false, List, [], ◌∷◌, ◌++◌, length, Option, Some, None, Ok, Err, Result, refl, sym, ap, ◌∙◌, true≢false}
-use Rattle.std.specs.Prelude.{OnErr, is_err, slice_get, if◌then◌else◌}
-use Rattle.st_base.specs.declared.disk.BlockAt.{BlockAt}
-use Rattle.st_base.specs.declared.disk.Tag.{Tag}
-use Rattle.st_base.specs.declared.disk.Command.TheVariants as commands
-use Rattle.st_rules.specs.declared.disks.CommandRefusal.{CommandRefusal}
+use Rattle.st_lemmas.proofs.Words
+use Words.{◌≡◌, ℕ, suc, Bool, true, false, List, [], ◌∷◌, ◌++◌, length, Option, Some, None, Ok, Err, Result, refl, sym, ap, ◌∙◌, true≢false, OnErr, slice_get}
+use Words.{if◌then◌else◌, BlockAt, Tag, CommandRefusal, DiskCommand, Report}
+use Words.commands
+use Words.reports
+use Words.Keys.{put}
+use Words.Disks as disks
+use Words.Disks.{Disks, is_block_at}
+use Rattle.std.specs.Prelude.{is_err}
 use Rattle.st_rules.specs.declared.disks.CommandRefusal.TheVariants.{NotEffected}
-use Rattle.st_rules.specs.declared.disks.DiskCommand.{DiskCommand}
-use Rattle.st_rules.specs.declared.disks.Report.{Report}
-use Rattle.st_rules.specs.declared.disks.Report.TheVariants as reports
-use Rattle.st_rules.specs.Keys.{put}
-use Rattle.st_rules.specs.Disks as disks
-use Rattle.st_rules.specs.Disks.{Disks, is_block_at}
 use Rattle.st_disk.specs.Calls.{Answers, ended, told}
 use Rattle.st_disk.specs.declared.refusal.DiskRefusal.{DiskRefusal}
 

@@ -1,5 +1,4 @@
 pub mod Finishing
-pub mod Lists
 pub mod Losing
 pub mod Operating
 pub mod Receiving

@@ -5,7 +5,6 @@ pub mod Dispatched
 pub mod Flushed
 pub mod Logged
 pub mod Numbers
-pub mod Puts
 pub mod Reached
 pub mod Submits
 pub mod Takings

@@ -1,29 +1,23 @@
 -- The reads that were answered and the operations that are pending are no more than the events: through a client's step and after every event.
-use Rattle.std.proofs.Common.{◌≡◌, ◌≢◌, ◌⊎◌, ℕ, zero, suc, ◌+◌, ◌≤◌, Bool, true, false, List, [], ◌∷◌, ◌++◌, ◌==◌, Some, Ok, refl, sym, ap, ◌∙◌, subst, inl, inr, arith, if◌then◌else◌}
-use Rattle.std.specs.Prelude.{length, map, set, slice_get}
-use Rattle.std.proofs.lemmas.Bool.{eqb-true}
-use Rattle.st_base.specs.declared.config.Config.{Config}
-use Rattle.st_base.specs.declared.ids.ClientId.{ClientId}
-use Rattle.st_base.specs.declared.ids.NodeId.TheVariants as nodes
-use Rattle.st_base.specs.declared.ids.ServerId.{ServerId}
-use Rattle.st_base.specs.declared.ids.Stamp.{Stamp}
-use Rattle.st_messages.specs.declared.answer.AppAnswer.{AppAnswer}
-use Rattle.st_messages.specs.declared.answer.AppAnswer.TheVariants as answers
-use Rattle.st_messages.specs.declared.output.Output.TheVariants as outputs
-use Rattle.st_rules.specs.declared.client.ClientInput.{ClientInput}
-use Rattle.st_rules.specs.Client as cl
-use Rattle.st_rules.specs.ClientPasses as cp
-use Rattle.st_rules.specs.ClientReplies as cr
-use Rattle.st_rules.specs.ClientState.{Association, ClientState, ClientTurn, Turn, at_each, at_these, client_turn, enter, is_at, leave, only_at, server_of, with_associations}
-use Rattle.st_rules.specs.Events as ev
-use Rattle.st_rules.specs.Events.{reads_in}
-use Rattle.st_rules.specs.Extents.{numbers}
-use Rattle.st_rules.specs.Keys.{same_server}
-use Rattle.st_rules.specs.World as world
-use Rattle.st_rules.specs.World.{Tally, World, WorldClient, clock_of, fresh_site, fresh_world, numbered, site_of, with_numbered}
-use Rattle.st_lemmas.proofs.Lookups.{some_is}
-use Rattle.st_lemmas.proofs.Numbers.{numbered_below, numbered_has, numbered_other, numbered_own}
-use Rattle.st_lemmas.proofs.Tables.{has_map, same_or_not}
+use Rattle.st_lemmas.proofs.Words
+use Words.{◌≡◌, ◌≢◌, ◌⊎◌, ℕ, zero, suc, ◌+◌, ◌≤◌, Bool, true, false, List, [], ◌∷◌, ◌++◌, ◌==◌, Some, Ok, refl, sym, ap, ◌∙◌, subst, inl, inr, arith}
+use Words.{if◌then◌else◌, length, map, set, slice_get, eqb-true, Config, ClientId, ServerId, Stamp, AppAnswer, ClientInput}
+use Words.nodes
+use Words.answers
+use Words.outputs
+use Words.Client as cl
+use Words.ClientPasses as cp
+use Words.ClientReplies as cr
+use Words.ClientState.{Association, ClientState, ClientTurn, Turn, at_each, at_these, client_turn, enter, is_at, leave, only_at, server_of, with_associations}
+use Words.Events as ev
+use Words.Events.{reads_in}
+use Words.Extents.{numbers}
+use Words.Keys.{same_server}
+use Words.World as world
+use Words.World.{Tally, World, WorldClient, clock_of, fresh_site, fresh_world, numbered, site_of, with_numbered}
+use Words.Lookups.{some_is}
+use Words.Numbers.{numbered_below, numbered_has, numbered_other, numbered_own}
+use Words.Tables.{has_map, same_or_not}
 use Rattle.st_laws_steps.specs.Client.Inputs as taking
 use Rattle.st_laws_steps.specs.Client.Inputs.{Taken}
 use Rattle.st_laws_steps.proofs.Client.Taking.{taken}
@@ -31,8 +25,9 @@ use Rattle.st_laws_bounds.proofs.Counters.Weights.{weigh, weigh_both}
 use Rattle.st_laws_bounds.proofs.Counters.Events.{Cases, ClientSteps, ServerSteps, Takes}
 use Rattle.st_laws_bounds.proofs.Counters.Clients.{Said, SameRows, flush_rows, said_all, served_all}
 use Rattle.st_laws_bounds.proofs.Counters.Tallies.{Told, of_read, told_all}
-use Rattle.st_laws_bounds.proofs.Counters.Reading.{R, r_none, r_passes}
-use Rattle.st_laws_bounds.proofs.Counters.Answering.{r_finish, r_receive, r_lose, r_take}
+use Rattle.st_laws_bounds.proofs.Counters.Reading.{R, few_reads_in_nothing, few_reads_in_passes}
+use Rattle.st_laws_bounds.proofs.Counters.Answering.{few_reads_in_finish, few_reads_in_receive, few_reads_in_lose, few_reads_in_take}
+use Words.{append-nil, append_assoc, map-append}
 
 -- the server of an association
 abbrev pub server_at : Association → ServerId
@@ -60,21 +55,9 @@ abbrev pub cost : (ServerId → ℕ) → List Association → ℕ
 cost f [] = 0
 cost f (a ∷ al) = f a.server + cost f al
 
-assoc : {A : Type 0} (xs ys zs : List A) → (xs ++ ys) ++ zs ≡ xs ++ (ys ++ zs)
-assoc [] ys zs = refl
-assoc (x ∷ xs) ys zs = ap (λ l. x ∷ l) (assoc xs ys zs)
-
-none_after : {A : Type 0} (xs : List A) → xs ++ [] ≡ xs
-none_after [] = refl
-none_after (x ∷ xs) = ap (λ l. x ∷ l) (none_after xs)
-
-map_both : {A B : Type 0} (f : A → B) (xs ys : List A) → map f (xs ++ ys) ≡ map f xs ++ map f ys
-map_both f [] ys = refl
-map_both f (x ∷ xs) ys = ap (λ l. f x ∷ l) (map_both f xs ys)
-
 these_low : (f : ServerId → ℕ) (rule : Turn → Turn) → ((t : Turn) → R (f t.here.server) t (rule t)) → (al : List Association) (t : ClientTurn) → LeftLow (cost f al) (map server_at al) t (at_these rule al t)
 unfolding at_these
-these_low f rule k [] t = record { servers = sym (none_after (map server_at t.state.associations)); low = omega arith }
+these_low f rule k [] t = record { servers = sym (append-nil (map server_at t.state.associations)); low = omega arith }
 these_low f rule k (a ∷ al) t =
     let u = rule (enter t a) in
     let x = k (enter t a) in
@@ -82,8 +65,8 @@ these_low f rule k (a ∷ al) t =
     let b = x.low in let c = y.low in
     record {
       servers =
-          y.servers ∙ ap (λ l. l ++ map server_at al) (map_both server_at t.state.associations (u.here ∷ []) ∙ ap (λ s. map server_at t.state.associations ++ s ∷ []) x.server) ∙
-          assoc (map server_at t.state.associations) (a.server ∷ []) (map server_at al);
+          y.servers ∙ ap (λ l. l ++ map server_at al) (map-append server_at t.state.associations (u.here ∷ []) ∙ ap (λ s. map server_at t.state.associations ++ s ∷ []) x.server) ∙
+          append_assoc (map server_at t.state.associations) (a.server ∷ []) (map server_at al);
       low = omega (arith, b, c);
     }
 
@@ -113,7 +96,7 @@ asked_low s rule k t = each_low (one_of s) (only_at s rule) (λ u. one u (is_at 
   where
     one : (u : Turn) (b : Bool) → R (if b then 1 else 0) u (if b then rule u else u)
     one u true = k u
-    one u false = r_none 0 u
+    one u false = few_reads_in_nothing 0 u
 
 cost_is : (s : ServerId) (al : List Association) → cost (one_of s) al ≡ count_of s (map server_at al)
 cost_is s [] = refl
@@ -131,9 +114,9 @@ input_low now t _ _ (taking.Full op ask e) h = goes_more 0 1 t (cl.answered_at_o
 input_low now t _ _ (taking.Unknown op ask e f) h = goes_more 0 1 t (cl.answered_at_once t op answers.NoFile) (omega arith) (said_low t op answers.NoFile refl)
 input_low now t _ _ (taking.Takes op ask g f) h =
     let at = server_of ask in let e = cost_is at t.state.associations in let l = h at in
-    goes_more (cost (one_of at) t.state.associations) 1 t (at_each (only_at at (cl.take_ask op ask)) t) (omega (arith, e, l)) (asked_low at (cl.take_ask op ask) (r_take op ask) t)
-input_low now t _ _ (taking.Receives m e) h = goes_more 0 1 t (at_each (cr.receive_at now m.header m.body) t) (omega arith) (free_low (cr.receive_at now m.header m.body) (r_receive now m.header m.body) t)
-input_low now t _ _ (taking.Finishes number result) h = goes_more 0 1 t (at_each (cl.finish number result) t) (omega arith) (free_low (cl.finish number result) (r_finish number result) t)
+    goes_more (cost (one_of at) t.state.associations) 1 t (at_each (only_at at (cl.take_ask op ask)) t) (omega (arith, e, l)) (asked_low at (cl.take_ask op ask) (few_reads_in_take op ask) t)
+input_low now t _ _ (taking.Receives m e) h = goes_more 0 1 t (at_each (cr.receive_at now m.header m.body) t) (omega arith) (free_low (cr.receive_at now m.header m.body) (few_reads_in_receive now m.header m.body) t)
+input_low now t _ _ (taking.Finishes number result) h = goes_more 0 1 t (at_each (cl.finish number result) t) (omega arith) (free_low (cl.finish number result) (few_reads_in_finish number result) t)
 
 -- the whole step
 pub step_low : (s : ClientState) (now : Stamp) (input : ClientInput) → Apart (map server_at s.associations) → GoesLow 1 (client_turn s []) (cl.client_step s now input)
@@ -141,9 +124,9 @@ unfolding cl.client_step cl.work cl.losses
 step_low s now input h =
     let t = cl.losses (client_turn s []) now in
     let u = cl.take_input t now input in
-    let a = free_low (cl.lose now) (r_lose now) (client_turn s []) in
+    let a = free_low (cl.lose now) (few_reads_in_lose now) (client_turn s []) in
     let b = input_low now t u input (taken t now input) (subst Apart (sym a.servers) h) in
-    let c = free_low (cp.passes now (cl.is_tick input)) (r_passes now (cl.is_tick input)) u in
+    let c = free_low (cp.passes now (cl.is_tick input)) (few_reads_in_passes now (cl.is_tick input)) u in
     let x = a.low in let y = b.low in let z = c.low in
     record { servers = c.servers ∙ b.servers ∙ a.servers; low = omega (arith, x, y, z) }
 

@@ -1,33 +1,25 @@
 -- Clients' counters are no further than the rows of the world: after every event.
-use Rattle.std.proofs.Common.{◌≡◌, ◌≢◌, ◌⊎◌, ℕ, ◌+◌, ◌≤◌, List, [], ◌∷◌, ◌++◌, Option, Some, None, Ok, refl, sym, ap, ◌∙◌, subst, inl, inr, arith}
-use Rattle.std.specs.Prelude.{length, map}
-use Rattle.st_base.specs.declared.config.Config.{Config}
-use Rattle.st_base.specs.declared.ids.ClientId.{ClientId}
-use Rattle.st_base.specs.declared.ids.NodeId.TheVariants as nodes
-use Rattle.st_base.specs.declared.ids.ServerId.{ServerId}
-use Rattle.st_base.specs.declared.ids.Stamp.{Stamp}
-use Rattle.st_messages.specs.declared.output.Note.{Note}
-use Rattle.st_messages.specs.declared.output.Note.TheVariants as notes
-use Rattle.st_messages.specs.declared.output.Output.{Output}
-use Rattle.st_messages.specs.declared.output.Output.TheVariants as outputs
-use Rattle.st_rules.specs.declared.client.ClientInput.{ClientInput}
-use Rattle.st_rules.specs.declared.lease.Phase.{Phase}
-use Rattle.st_rules.specs.declared.lease.Phase.TheVariants as phases
-use Rattle.st_rules.specs.declared.log.LogEntry.{LogEntry}
-use Rattle.st_rules.specs.Client as cl
-use Rattle.st_rules.specs.ClientState.{Association, ClientState, client_turn}
-use Rattle.st_rules.specs.Events as ev
-use Rattle.st_rules.specs.Events.{WorldTurn}
-use Rattle.st_rules.specs.Extents.{numbers}
-use Rattle.st_rules.specs.FlatLog as log
-use Rattle.st_rules.specs.Server as sv
-use Rattle.st_rules.specs.Server.{ServerNode}
-use Rattle.st_rules.specs.World as world
-use Rattle.st_rules.specs.World.{World, WorldClient, clock_of, fresh_world, numbered, site_of, with_numbered}
-use Rattle.st_lemmas.specs.Lists.{Has}
-use Rattle.st_lemmas.proofs.Lookups.{some_is}
-use Rattle.st_lemmas.proofs.Numbers.{length_more, numbered_below, numbered_other, numbered_own}
-use Rattle.st_lemmas.proofs.Tables.{has_map, same_or_not}
+use Rattle.st_lemmas.proofs.Words
+use Words.{◌≡◌, ◌≢◌, ◌⊎◌, ℕ, ◌+◌, ◌≤◌, List, [], ◌∷◌, ◌++◌, Option, Some, None, Ok, refl, sym, ap, ◌∙◌, subst, inl, inr, arith, length, map, Config, ClientId}
+use Words.{ServerId, Stamp, Note, Output, ClientInput, Phase, LogEntry}
+use Words.nodes
+use Words.notes
+use Words.outputs
+use Words.phases
+use Words.Client as cl
+use Words.ClientState.{Association, ClientState, client_turn}
+use Words.Events as ev
+use Words.Events.{WorldTurn}
+use Words.Extents.{numbers}
+use Words.FlatLog as log
+use Words.Server as sv
+use Words.Server.{ServerNode}
+use Words.World as world
+use Words.World.{World, WorldClient, clock_of, fresh_world, numbered, site_of, with_numbered}
+use Words.Lists.{Has}
+use Words.Lookups.{some_is}
+use Words.Numbers.{length_more, numbered_below, numbered_other, numbered_own}
+use Words.Tables.{has_map, same_or_not}
 use Rattle.st_laws_pages.proofs.Disks.Whole.{site_is}
 use Rattle.st_laws_bounds.specs.Counters.Counts.{AsksLow, FewAt}
 use Rattle.st_laws_bounds.proofs.Counters.Weights.{asks_more, of_change, of_command, of_loss, of_message, weigh}

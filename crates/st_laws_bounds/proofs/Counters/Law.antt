@@ -1,16 +1,12 @@
 -- The laws, in every world that a run reaches.
-use Rattle.std.proofs.Common.{◌≡◌, ℕ, ◌+◌, true, List, [], ◌∷◌, Ok, Err, refl, sym, subst, arith}
-use Rattle.std.specs.Prelude.{Result}
-use Rattle.std.specs.List.{list_all}
-use Rattle.st_base.specs.declared.config.Config.{Config}
-use Rattle.st_messages.specs.declared.event.Event.{Event}
-use Rattle.st_rules.specs.declared.observation.WorldRefusal.{WorldRefusal}
-use Rattle.st_rules.specs.Events as ev
-use Rattle.st_rules.specs.Events.{WorldTurn, counted, world_step}
-use Rattle.st_rules.specs.Safety.{IsHead, is_event}
-use Rattle.st_rules.specs.Run.{run, go_on}
-use Rattle.st_rules.specs.World.{World, fresh_world}
-use Rattle.st_lemmas.proofs.Tables.{and_true}
+use Rattle.st_lemmas.proofs.Words
+use Words.{◌≡◌, ℕ, ◌+◌, true, List, [], ◌∷◌, Ok, Err, refl, sym, subst, arith, Result, list_all, Config, Event, WorldRefusal}
+use Words.Events as ev
+use Words.Events.{WorldTurn, counted, world_step}
+use Words.Safety.{IsHead, is_event}
+use Words.Run.{run, go_on}
+use Words.World.{World, fresh_world}
+use Words.Tables.{and_true}
 use Rattle.st_lemmas.proofs.Steps.{run_keeps, step_happens}
 use Rattle.st_protocol.specs.Assoc.{Config as Terms}
 use Rattle.st_laws_leases.specs.Sides.World.{AllStand}

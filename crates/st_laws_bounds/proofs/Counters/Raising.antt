@@ -1,16 +1,16 @@
 -- A step of a client raises no counter by more than 2^15.
-use Rattle.std.proofs.Common.{◌≡◌, ℕ, ◌+◌, ◌^◌, [], sym, subst, arith}
-use Rattle.std.proofs.lemmas.List.{length-map}
-use Rattle.st_rules.specs.Client as cl
-use Rattle.st_rules.specs.ClientState.{Association, ClientState, ClientTurn, client_turn}
-use Rattle.st_rules.specs.Extents.{numbers}
-use Rattle.st_lemmas.specs.Lists.{Has}
-use Rattle.st_lemmas.proofs.Tables.{has_map}
-use Rattle.st_laws_pages.proofs.Lives.Fresh.{numbers_length}
+use Rattle.st_lemmas.proofs.Words
+use Words.{◌≡◌, ℕ, ◌+◌, ◌^◌, [], sym, subst, arith, length-map}
+use Words.Client as cl
+use Words.ClientState.{Association, ClientTurn}
+use Words.Extents.{numbers}
+use Words.Lists.{Has}
+use Words.Tables.{has_map}
+use Words.Lengths.{numbers_length}
 use Rattle.st_laws_bounds.specs.Counters.Rises.{FreshClientsBegin, IsWithin, IsWithinAt, StepsRaiseLittle}
 use Rattle.st_laws_bounds.proofs.Counters.Stepping.{AllLow, LowAt, step_low}
 use Rattle.st_laws_bounds.proofs.Counters.Weights.{asks_more, changes_rise, commands_rise, losses_rise, of_message, weigh}
-use Rattle.st_laws_bounds.proofs.FewMessages.Stepping.{Few, Steps, step_costs}
+use Rattle.st_laws_bounds.proofs.FewMessages.Stepping.{Steps, step_costs}
 
 begin_at : (most : ℕ) (a : Association) → IsWithinAt most a → LowAt most most most [] a
 begin_at most a h =

@@ -1,19 +1,17 @@
 -- Thefts are no more than sixteen for each event: after every event.
-use Rattle.std.proofs.Common.{◌≡◌, ◌≢◌, ◌⊎◌, ℕ, ◌+◌, ◌*◌, ◌≤◌, [], Some, refl, sym, ap, ◌∙◌, subst, inl, inr, arith}
-use Rattle.st_base.specs.declared.config.Config.{Config}
-use Rattle.st_base.specs.declared.ids.NodeId.TheVariants as nodes
-use Rattle.st_base.specs.declared.ids.ServerId.{ServerId}
-use Rattle.st_base.specs.declared.ids.Stamp.{Stamp}
-use Rattle.st_rules.specs.Events as ev
-use Rattle.st_rules.specs.Extents.{numbers}
-use Rattle.st_rules.specs.Server as sv
-use Rattle.st_rules.specs.Server.{ServerNode, ServerState}
-use Rattle.st_rules.specs.World as world
-use Rattle.st_rules.specs.World.{Tally, World, all_servers, clock_of, fresh_world, node_of, numbered, with_numbered}
-use Rattle.st_lemmas.specs.Lists.{Has}
-use Rattle.st_lemmas.proofs.Lookups.{some_is}
-use Rattle.st_lemmas.proofs.Numbers.{numbered_below, numbered_has, numbered_other, numbered_own}
-use Rattle.st_lemmas.proofs.Tables.{has_map, same_or_not}
+use Rattle.st_lemmas.proofs.Words
+use Words.{◌≡◌, ◌≢◌, ◌⊎◌, ℕ, ◌+◌, ◌*◌, ◌≤◌, [], Some, refl, sym, ap, ◌∙◌, subst, inl, inr, arith, Config, ServerId, Stamp}
+use Words.nodes
+use Words.Events as ev
+use Words.Extents.{numbers}
+use Words.Server as sv
+use Words.Server.{ServerNode, ServerState}
+use Words.World as world
+use Words.World.{Tally, World, all_servers, clock_of, fresh_world, node_of, numbered, with_numbered}
+use Words.Lists.{Has}
+use Words.Lookups.{some_is}
+use Words.Numbers.{numbered_below, numbered_has, numbered_other, numbered_own}
+use Words.Tables.{has_map, same_or_not}
 use Rattle.st_laws_bounds.proofs.Counters.Clients.{flush_rows, served_all}
 use Rattle.st_laws_bounds.proofs.Counters.Events.{Cases, ClientSteps, ServerSteps}
 use Rattle.st_laws_bounds.proofs.Counters.Tallies.{told_all}

@@ -1,29 +1,28 @@
 -- Servers' counters are no further than events: after every event.
-use Rattle.std.proofs.Common.{◌≡◌, ◌≢◌, ◌⊎◌, ℕ, zero, suc, ◌+◌, ◌*◌, ◌≤◌, true, List, [], ◌∷◌, Some, refl, sym, ap, ◌∙◌, subst, inl, inr, arith, leb-true}
-use Rattle.std.specs.Prelude.{length, map, filter, flat_map, nat_le}
-use Rattle.st_base.specs.declared.config.Config.{Config}
-use Rattle.st_base.specs.declared.disk.BlockAt.{BlockAt}
-use Rattle.st_base.specs.declared.ids.NodeId.TheVariants as nodes
-use Rattle.st_base.specs.declared.ids.ServerId.{ServerId}
-use Rattle.st_rules.specs.declared.input.ServerInput.{ServerInput}
-use Rattle.st_rules.specs.Events as ev
-use Rattle.st_rules.specs.Extents as extents
-use Rattle.st_rules.specs.Extents.{numbers}
-use Rattle.st_rules.specs.Names as names
-use Rattle.st_rules.specs.Safety.{IsHead}
-use Rattle.st_rules.specs.Server as sv
-use Rattle.st_rules.specs.Server.{ServerNode}
-use Rattle.st_rules.specs.World as world
-use Rattle.st_rules.specs.World.{World, all_servers, clock_of, fresh_world, node_of, numbered, with_numbered}
-use Rattle.st_lemmas.specs.Lists.{Has}
-use Rattle.st_lemmas.proofs.Lookups.{some_is}
-use Rattle.st_lemmas.proofs.Numbers.{numbered_below, numbered_has, numbered_other, numbered_own}
-use Rattle.st_lemmas.proofs.Tables.{and_true, has_map, same_or_not}
+use Rattle.st_lemmas.proofs.Words
+use Words.{◌≡◌, ◌≢◌, ◌⊎◌, ℕ, suc, ◌+◌, ◌*◌, ◌≤◌, List, [], ◌∷◌, Some, refl, sym, ap, ◌∙◌, subst, inl, inr, arith, leb-true, length, filter}
+use Words.{nat_le, Config, BlockAt, ServerId, ServerInput, length-append}
+use Words.nodes
+use Words.Events as ev
+use Words.Extents as extents
+use Words.Extents.{numbers}
+use Words.Names as names
+use Words.Safety.{IsHead}
+use Words.Server as sv
+use Words.Server.{ServerNode}
+use Words.World as world
+use Words.World.{World, all_servers, clock_of, fresh_world, node_of, numbered, with_numbered}
+use Words.Lists.{Has}
+use Words.Lookups.{some_is}
+use Words.Numbers.{numbered_below, numbered_has, numbered_other, numbered_own}
+use Words.Tables.{and_true, has_map, same_or_not}
+use Words.Lengths.{length_map, numbers_length}
+use Words.Tests.{filtered_no_longer}
+use Rattle.std.specs.Prelude.{flat_map}
 use Rattle.st_laws_bounds.proofs.Counters.Events.{Cases, ClientSteps, ServerSteps}
 use Rattle.st_laws_bounds.proofs.Counters.Clients.{flush_rows, served_all}
-use Rattle.st_trace.proofs.Server.Growth.{picked_are_fewer, step_grows}
+use Rattle.st_trace.proofs.Server.Growth.{step_grows}
 use Rattle.st_laws_bounds.proofs.Counters.Tallies.{told_all}
-use Rattle.st_laws_bounds.proofs.Counters.Reading.{length_both, same_many}
 
 -- what holds of a server when there were n events
 pub record NodeLow (n : ℕ) (node : ServerNode) : Type 0 where
@@ -86,16 +85,10 @@ cases n =
           (record { epochs = omega (arith, x); inodes = z.inodes; births = z.births; blocks = z.blocks }) h;
     }
 
--- A server has no more blocks than eight disks have.
-how_many : (a n : ℕ) → length (numbers a n) ≡ n
-unfolding numbers
-how_many a zero = refl
-how_many a (suc n) = ap suc (how_many (a + 1) n)
-
 pub flat_many : {A B : Type 0} (f : A → List B) (n : ℕ) → ((x : A) → length (f x) ≤ n) → (xs : List A) → length (flat_map f xs) ≤ n * length xs
 flat_many f n h [] = omega arith
 flat_many f n h (x ∷ xs) =
-    let a = length_both (f x) (flat_map f xs) in let b = h x in let c = flat_many f n h xs in
+    let a = length-append (f x) (flat_map f xs) in let b = h x in let c = flat_many f n h xs in
     let d : n * length (x ∷ xs) ≡ n + n * length xs = more_by_one n (length xs) in
     omega (arith, a, b, c, d)
   where
@@ -107,13 +100,13 @@ product m n k l a b = grind arith
 
 few_blocks : (id : ServerId) (servers disks blocks : ℕ) → disks ≤ 8 → blocks ≤ 4096 → length (extents.own_blocks (extents.no_extents id servers disks blocks)) ≤ 32768
 unfolding extents.own_blocks
-few_blocks id servers disks blocks d b = total (flat_many (extents.blocks_of x) blocks (λ p. one p) (filter (extents.is_own_disk x) (numbers 0 disks))) (picked_are_fewer (extents.is_own_disk x) (numbers 0 disks)) (how_many 0 disks)
+few_blocks id servers disks blocks d b = total (flat_many (extents.blocks_of x) blocks (λ p. one p) (filter (extents.is_own_disk x) (numbers 0 disks))) (filtered_no_longer (extents.is_own_disk x) (numbers 0 disks)) (numbers_length 0 disks)
   where
     x : extents.Extents
     x = extents.no_extents id servers disks blocks
 
     one : (p : ℕ) → length (extents.blocks_of x p) ≤ blocks
-    one p = let a = same_many (extents.block_at p) (numbers 0 blocks) in let c = how_many 0 blocks in omega (arith, a, c)
+    one p = let a = length_map (extents.block_at p) (numbers 0 blocks) in let c = numbers_length 0 blocks in omega (arith, a, c)
 
     total : {l m n : ℕ} → l ≤ blocks * m → m ≤ n → n ≡ disks → l ≤ 32768
     total {l} {m} {n} e f g =

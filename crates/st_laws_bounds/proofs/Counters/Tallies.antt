@@ -1,14 +1,12 @@
 -- How many events were counted: no event counts another one. What a client's outputs count.
-use Rattle.std.proofs.Common.{◌≡◌, ℕ, ◌+◌, List, [], ◌∷◌, Option, Some, None, refl, ap, ◌∙◌, arith}
-use Rattle.st_base.specs.declared.ids.ClientId.{ClientId}
-use Rattle.st_messages.specs.declared.output.Note.{Note}
-use Rattle.st_messages.specs.declared.output.Note.TheVariants as notes
-use Rattle.st_messages.specs.declared.output.Output.{Output}
-use Rattle.st_messages.specs.declared.output.Output.TheVariants as outputs
-use Rattle.st_rules.specs.ClientState.{ClientState}
-use Rattle.st_rules.specs.Events as ev
-use Rattle.st_rules.specs.Events.{WorldTurn}
-use Rattle.st_rules.specs.World.{Tally, World, WorldClient, all_servers, site_of}
+use Rattle.st_lemmas.proofs.Words
+use Words.{◌≡◌, ℕ, ◌+◌, List, [], ◌∷◌, Option, Some, None, refl, ap, ◌∙◌, arith, ClientId, Note, Output}
+use Words.notes
+use Words.outputs
+use Words.ClientState.{ClientState}
+use Words.Events as ev
+use Words.Events.{WorldTurn}
+use Words.World.{Tally, World, WorldClient, all_servers, site_of}
 use Rattle.st_laws_bounds.proofs.Counters.Weights.{weigh}
 use Rattle.st_laws_bounds.proofs.Counters.Events.{Cases, ClientSteps, ServerSteps}
 use Rattle.st_laws_bounds.proofs.Counters.Clients.{flush_rows, served_all}

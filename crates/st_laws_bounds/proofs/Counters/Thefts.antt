@@ -1,48 +1,34 @@
 -- The clients of which a server has locks, waits and timers are sixteen at most, and no rule but thefts notes a theft.
-use Rattle.std.proofs.Common.{◌≡◌, ◌≢◌, ◌⊎◌, ℕ, ◌+◌, ◌≤◌, ◌<◌, ◌==◌, Bool, true, false, List, [], ◌∷◌, ◌++◌, length, refl, sym, ap, ◌∙◌, subst}
-use Rattle.std.proofs.Common.{inl, inr, arith, leb-true, if◌then◌else◌, ◌&&◌}
-use Rattle.std.specs.Prelude.{not, filter, find, map, nat_le, nat_lt, is_some, Option, Some, None}
-use Rattle.std.proofs.lemmas.Bool.{eq-eqb, ltb-true, ltb-false}
-use Rattle.st_base.specs.declared.config.Config.{Config}
-use Rattle.st_base.specs.declared.ids.ClientId.{ClientId}
-use Rattle.st_base.specs.declared.ids.GrantNo.{GrantNo}
-use Rattle.st_base.specs.declared.ids.Life.{Life}
-use Rattle.st_base.specs.declared.ids.Stamp.{Stamp}
-use Rattle.st_base.specs.declared.mode.Mode.{Mode}
-use Rattle.st_base.specs.declared.mode.Mode.TheVariants as modes
-use Rattle.st_messages.specs.declared.message.Body.{Body}
-use Rattle.st_messages.specs.declared.message.Body.TheVariants as bodies
-use Rattle.st_messages.specs.declared.message.Header.{Header}
-use Rattle.st_messages.specs.declared.output.Note.TheVariants as notes
-use Rattle.st_messages.specs.declared.output.Output.{Output}
-use Rattle.st_messages.specs.declared.output.Output.TheVariants as outputs
-use Rattle.st_rules.specs.declared.authority.Suspect.{Suspect}
-use Rattle.st_rules.specs.declared.input.ServerInput.{ServerInput}
-use Rattle.st_rules.specs.declared.input.ServerInput.TheVariants.{Tick, Control}
-use Rattle.st_rules.specs.declared.locks.LockRow.{LockRow}
-use Rattle.st_rules.specs.declared.locks.RowDemand.{RowDemand}
-use Rattle.st_rules.specs.declared.locks.Waiter.{Waiter}
-use Rattle.st_rules.specs.declared.sessions.Session.{Session}
-use Rattle.st_rules.specs.Authority as authority
-use Rattle.st_rules.specs.Authority.{Authority}
-use Rattle.st_rules.specs.Keys.{page_no}
-use Rattle.st_rules.specs.Locks as locks
-use Rattle.st_rules.specs.Locks.{Locks}
-use Rattle.st_rules.specs.Sessions as sessions
-use Rattle.st_rules.specs.Server as sv
-use Rattle.st_rules.specs.Server.{ServerState, ServerTurn}
-use Rattle.st_lemmas.specs.Lists.{Has}
+use Rattle.st_lemmas.proofs.Words
+use Words.{◌≡◌, ◌≢◌, ◌⊎◌, ℕ, ◌+◌, ◌≤◌, ◌<◌, ◌==◌, Bool, true, false, List, [], ◌∷◌, ◌++◌, length, refl, sym, ap, ◌∙◌, subst, inl, inr, arith, leb-true}
+use Words.{if◌then◌else◌, ◌&&◌, not, filter, find, map, nat_le, nat_lt, is_some, Option, Some, None, eq-eqb, ltb-true, ltb-false, Config, ClientId, GrantNo}
+use Words.{Life, Stamp, Mode, Body, Header, Output, Suspect, ServerInput, LockRow, RowDemand, Waiter, Session}
+use Words.modes
+use Words.bodies
+use Words.notes
+use Words.outputs
+use Words.serving.{Tick, Control}
+use Words.Authority as authority
+use Words.Authority.{Authority}
+use Words.Keys.{page_no}
+use Words.Locks as locks
+use Words.Locks.{Locks}
+use Words.Sessions as sessions
+use Words.Server as sv
+use Words.Server.{ServerState, ServerTurn}
+use Words.Lists.{Has}
+use Words.Tables.{and_true, has_append, has_filter, has_map, not_true}
+use Words.Lengths.{length_map}
+use Words.Serving.{has_suspect}
+use Words.Tests.{filtered_no_longer}
 use Rattle.st_lemmas.proofs.Puts.{has_put}
-use Rattle.st_lemmas.proofs.Tables.{and_true, has_append, has_filter, has_map}
 use Rattle.st_laws_bounds.proofs.Counters.Weights.{weigh, weigh_both}
 use Rattle.st_laws_bounds.proofs.Counters.Clients.{of_theft}
-use Rattle.st_laws_bounds.proofs.Counters.Reading.{same_many}
 use Rattle.st_trace.specs.Server.Edits as edits
 use Rattle.st_trace.specs.Server.Edits.{AtInput, AtSuspicion, AtGrants, AtDemands, AtOnce, InTurn, Ruled, Edit, Welcomes, Begins, Replaces, PutsOff, Sees}
 use Rattle.st_trace.specs.Server.Edits.{Reasserts, Serves, Repeats, Refuses, Suspects, Grants, Demands}
-use Rattle.st_trace.proofs.Server.Growth.{picked_are_fewer}
 use Rattle.st_trace.proofs.Server.Input.{thefts_begun}
-use Rattle.st_trace.proofs.Server.Walk.{w_demanding, w_granting, w_input, w_suspecting}
+use Rattle.st_trace.proofs.Server.Walk.{walk_of_demanding, walk_of_granting, walk_of_input, walk_of_suspecting}
 
 -- a client's number
 pub record InRange (n : ℕ) : Type 0 where
@@ -73,28 +59,29 @@ pub record Safe (l : Locks) (a : Authority) (out : List Output) (l2 : Locks) (a2
 abbrev pub G : ServerTurn → ServerTurn → Type 0
 G t u = Safe t.state.locks t.state.authority t.out u.state.locks u.state.authority u.out
 
-g_none : (t : ServerTurn) → G t t
-g_none t = record { locks = λ h. h; timers = λ g h. h; thefts = refl }
+few_thefts_in_nothing : (t : ServerTurn) → G t t
+few_thefts_in_nothing t = record { locks = λ h. h; timers = λ g h. h; thefts = refl }
 
-g_then : (t u v : ServerTurn) → G t u → G u v → G t v
-g_then t u v x y = record { locks = λ h. y.locks (x.locks h); timers = λ g h. y.timers (x.locks g) (x.timers g h); thefts = y.thefts ∙ x.thefts }
+few_thefts_in_sequence : (t u v : ServerTurn) → G t u → G u v → G t v
+few_thefts_in_sequence t u v x y =
+    record { locks = λ h. y.locks (x.locks h); timers = λ g h. y.timers (x.locks g) (x.timers g h); thefts = y.thefts ∙ x.thefts }
 
 -- more is said, and no theft
-g_says : (t : ServerTurn) (os : List Output) → weigh of_theft os ≡ 0 → G t (record t { out = t.out ++ os })
-g_says t os e = let z = weigh_both of_theft t.out os in record { locks = λ h. h; timers = λ g h. h; thefts = omega (arith, z, e) }
+few_thefts_in_says : (t : ServerTurn) (os : List Output) → weigh of_theft os ≡ 0 → G t (record t { out = t.out ++ os })
+few_thefts_in_says t os e = let z = weigh_both of_theft t.out os in record { locks = λ h. h; timers = λ g h. h; thefts = omega (arith, z, e) }
 
 -- a message is sent
-g_reply : (t : ServerTurn) (h : Header) (b : Body) → G t (sv.reply t h b)
+few_thefts_in_reply : (t : ServerTurn) (h : Header) (b : Body) → G t (sv.reply t h b)
 unfolding sv.reply
-g_reply t h b = g_says t (_ ∷ []) refl
+few_thefts_in_reply t h b = few_thefts_in_says t (_ ∷ []) refl
 
-g_tell : (t : ServerTurn) (c : ClientId) (life : Life) (b : Body) → G t (sv.tell t c life b)
+few_thefts_in_tell : (t : ServerTurn) (c : ClientId) (life : Life) (b : Body) → G t (sv.tell t c life b)
 unfolding sv.tell
-g_tell t c life b = g_says t (_ ∷ []) refl
+few_thefts_in_tell t c life b = few_thefts_in_says t (_ ∷ []) refl
 
 -- other locks
-g_locks : (t : ServerTurn) (l : Locks) → (FewLocks t.state.locks → FewLocks l) → G t (sv.with_locks l t)
-g_locks t l f = record { locks = f; timers = λ g h. h; thefts = refl }
+few_thefts_in_locks : (t : ServerTurn) (l : Locks) → (FewLocks t.state.locks → FewLocks l) → G t (sv.with_locks l t)
+few_thefts_in_locks t l f = record { locks = f; timers = λ g h. h; thefts = refl }
 
 -- Changes of the locks.
 fewer_locks : (l : Locks) (p : LockRow → Bool) (q : Waiter → Bool) → FewLocks l → FewLocks (record l { rows = filter p l.rows; waiters = filter q l.waiters })
@@ -174,24 +161,6 @@ installed_few l c life rows n h =
     both r (inl i) = h.rows r i
     both r (inr i) = one r (has_map (locks.installed c life) rows r i)
 
--- Timers.
-has_suspect : (s : Suspect) (xs : List Suspect) (y : Suspect) → Has y (authority.with_suspect s xs) → (y ≡ s) ⊎ Has y xs
-unfolding authority.with_suspect authority.suspect_placed
-has_suspect s [] y (inl e) = inl e
-has_suspect s [] y (inr i) = absurd i
-has_suspect s (x ∷ xs) y h = go (nat_lt s.client.0 x.client.0) h (has_suspect s xs y)
-  where
-    behind : (y ≡ s) ⊎ Has y xs → (y ≡ s) ⊎ Has y (x ∷ xs)
-    behind (inl e) = inl e
-    behind (inr i) = inr (inr i)
-
-    go : (b : Bool) → Has y (if b then s ∷ (x ∷ xs) else x ∷ authority.with_suspect s xs) →
-        (Has y (authority.with_suspect s xs) → (y ≡ s) ⊎ Has y xs) → (y ≡ s) ⊎ Has y (x ∷ xs)
-    go true (inl e) f = inl e
-    go true (inr i) f = inr i
-    go false (inl e) f = inr (inl e)
-    go false (inr i) f = behind (f i)
-
 rising_with : (s : Suspect) (xs : List Suspect) → ((y : Suspect) → Has y xs → y.client.0 ≢ s.client.0) → Rising xs → Rising (authority.with_suspect s xs)
 unfolding authority.with_suspect authority.suspect_placed
 rising_with s [] d r = record { first = λ y i. absurd i; rest = tt }
@@ -243,14 +212,10 @@ no_other c (x ∷ xs) e y i = go (x.client.0 == c.0) refl e i (λ g j. no_other 
         clash z = cc
     go false f g (inr j) k = k g j
 
-not_true : (b : Bool) → not b ≡ true → b ≡ false
-not_true true e = cc
-not_true false e = refl
-
 -- Suspicion.
-g_suspect : (t : ServerTurn) (now : Stamp) (c : ClientId) → (FewLocks t.state.locks → InRange c.0) → G t (sv.suspect_client t now c)
+few_thefts_in_suspect : (t : ServerTurn) (now : Stamp) (c : ClientId) → (FewLocks t.state.locks → InRange c.0) → G t (sv.suspect_client t now c)
 unfolding sv.suspect_client authority.suspect authority.start_timer locks.drop_waits
-g_suspect t now c n =
+few_thefts_in_suspect t now c n =
     record {
       locks = λ h. fewer_waits t.state.locks (λ w. not (locks.is_wait_by c w)) h;
       timers = λ g h. go (n g) (authority.may_ack t.state.authority c) refl h;
@@ -284,9 +249,9 @@ seen_same c ino g r = go (locks.is_row_of c ino r) (r.g.0 == g.0)
     go true false = refl
     go false b = refl
 
-g_seen : (t : ServerTurn) (c : ClientId) (ino : ℕ) (g : GrantNo) → G t (sv.with_locks (locks.demand_seen t.state.locks c ino g) t)
+few_thefts_in_seen : (t : ServerTurn) (c : ClientId) (ino : ℕ) (g : GrantNo) → G t (sv.with_locks (locks.demand_seen t.state.locks c ino g) t)
 unfolding locks.demand_seen
-g_seen t c ino g = g_locks t _ (same_rows t.state.locks (locks.observe c ino g) (seen_same c ino g))
+few_thefts_in_seen t c ino g = few_thefts_in_locks t _ (same_rows t.state.locks (locks.observe c ino g) (seen_same c ino g))
 
 -- Demands.
 demand_few : (r : LockRow) (d : RowDemand) (l : Locks) → FewLocks l → FewLocks (locks.with_demand r d l)
@@ -324,68 +289,73 @@ demand_for_few k now tick ss (Some w) p h = demand_clients_few k now tick w.ino 
 in_range : (node : ℕ) → sv.is_client_node node ≡ true → InRange node
 in_range node e = let z = and_true (nat_le 1 node) (nat_le node 16) e in record { least = leb-true 1 node z.0; most = leb-true node 16 z.1 }
 
-g_ruled : (now : Stamp) (t : ServerTurn) (h : Header) (b : Body) (u : ServerTurn) (r : Body) → InRange h.from → Ruled now t h b u r → G t u
+few_thefts_in_ruled : (now : Stamp) (t : ServerTurn) (h : Header) (b : Body) (u : ServerTurn) (r : Body) → InRange h.from → Ruled now t h b u r → G t u
 unfolding sv.cut_pages sv.cut_whole locks.drop_file_waits
-g_ruled now t h b u r n (edits.Tells _ _ x) = g_none t
-g_ruled now t h b u r n (edits.Acquires ino mode a f k (AtOnce g x y)) = g_locks t _ (granted_few t.state.locks (sv.sender h) (sv.life_in h) ino mode n)
-g_ruled now t h b u r n (edits.Acquires ino mode a f k (InTurn g)) = g_locks t _ (queued_few t.state.locks (sv.sender h) (sv.life_in h) ino mode n)
-g_ruled now t h b u r n (edits.Releases ino g to x e f) = g_locks t _ (released_few t.state.locks (sv.sender h) ino to)
-g_ruled now t h b u r n (edits.Allocates ino g p count x f q e) = record { locks = λ h. h; timers = λ g h. h; thefts = refl }
-g_ruled now t h b u r n (edits.Cuts ino g p f q) = let z = g_says t (_ ∷ []) refl in record { locks = z.locks; timers = z.timers; thefts = z.thefts }
-g_ruled now t h b u r n (edits.Creates dir x d e) = record { locks = λ h. h; timers = λ g h. h; thefts = refl }
-g_ruled now t h b u r n (edits.MakesDir dir x d e) = record { locks = λ h. h; timers = λ g h. h; thefts = refl }
-g_ruled now t h b u r n (edits.Renames dir x dir2 x2 d e) = record { locks = λ h. h; timers = λ g h. h; thefts = refl }
-g_ruled now t h b u r n (edits.RemovesDir dir x g ino d l f z e q) = record { locks = λ h. h; timers = λ g h. h; thefts = refl }
-g_ruled now t h b u r n (edits.RemovesFile dir x g ino d l f z e q) =
-    let w = g_says t (outputs.Note (notes.CutDone (sv.file t d.ino) (page_no 0)) ∷ []) refl in
+few_thefts_in_ruled now t h b u r n (edits.Tells _ _ x) = few_thefts_in_nothing t
+few_thefts_in_ruled now t h b u r n (edits.Acquires ino mode a f k (AtOnce g x y)) =
+    few_thefts_in_locks t _ (granted_few t.state.locks (sv.sender h) (sv.life_in h) ino mode n)
+few_thefts_in_ruled now t h b u r n (edits.Acquires ino mode a f k (InTurn g)) =
+    few_thefts_in_locks t _ (queued_few t.state.locks (sv.sender h) (sv.life_in h) ino mode n)
+few_thefts_in_ruled now t h b u r n (edits.Releases ino g to x e f) = few_thefts_in_locks t _ (released_few t.state.locks (sv.sender h) ino to)
+few_thefts_in_ruled now t h b u r n (edits.Allocates ino g p count x f q e) = record { locks = λ h. h; timers = λ g h. h; thefts = refl }
+few_thefts_in_ruled now t h b u r n (edits.Cuts ino g p f q) = let z = few_thefts_in_says t (_ ∷ []) refl in
+    record { locks = z.locks; timers = z.timers; thefts = z.thefts }
+few_thefts_in_ruled now t h b u r n (edits.Creates dir x d e) = record { locks = λ h. h; timers = λ g h. h; thefts = refl }
+few_thefts_in_ruled now t h b u r n (edits.MakesDir dir x d e) = record { locks = λ h. h; timers = λ g h. h; thefts = refl }
+few_thefts_in_ruled now t h b u r n (edits.Renames dir x dir2 x2 d e) = record { locks = λ h. h; timers = λ g h. h; thefts = refl }
+few_thefts_in_ruled now t h b u r n (edits.RemovesDir dir x g ino d l f z e q) = record { locks = λ h. h; timers = λ g h. h; thefts = refl }
+few_thefts_in_ruled now t h b u r n (edits.RemovesFile dir x g ino d l f z e q) =
+    let w = few_thefts_in_says t (outputs.Note (notes.CutDone (sv.file t d.ino) (page_no 0)) ∷ []) refl in
     record { locks = λ h. fewer_waits t.state.locks (λ w. not (locks.is_wait_on d.ino w)) h; timers = λ g h. h; thefts = w.thefts }
 
 module _ (s : ServerState) (now : Stamp) (i : ServerInput) where
-  g_takes : (t u : ServerTurn) → Edit s now i AtInput t u → G t u
+  few_thefts_in_takes : (t u : ServerTurn) → Edit s now i AtInput t u → G t u
   unfolding sv.keep_and_reply locks.drop_waits
-  g_takes t u (Welcomes _ m y g e a f) = g_reply t m.header _
-  g_takes t u (Begins _ m g f) =
+  few_thefts_in_takes t u (Welcomes _ m y g e a f) = few_thefts_in_reply t m.header _
+  few_thefts_in_takes t u (Begins _ m g f) =
       let v = sv.with_sessions (sessions.with_new_session (sv.sender m.header) (sv.life_in m.header) t.state.sessions) t in
-      let z = g_reply v m.header bodies.Welcome in record { locks = z.locks; timers = z.timers; thefts = z.thefts }
-  g_takes t u (Replaces _ m y g e a f r) =
+      let z = few_thefts_in_reply v m.header bodies.Welcome in record { locks = z.locks; timers = z.timers; thefts = z.thefts }
+  few_thefts_in_takes t u (Replaces _ m y g e a f r) =
       let v = sv.with_locks (locks.drop_waits t.state.locks (sv.sender m.header))
       (sv.with_sessions (sessions.with_new_session (sv.sender m.header) (sv.life_in m.header) t.state.sessions) t) in
-      g_then t v (sv.reply v m.header bodies.Welcome)
+      few_thefts_in_sequence t v (sv.reply v m.header bodies.Welcome)
       (record { locks = λ h. fewer_waits t.state.locks (λ w. not (locks.is_wait_by (sv.sender m.header) w)) h; timers = λ g h. h; thefts = refl })
-      (g_reply v m.header bodies.Welcome)
-  g_takes t u (PutsOff _ m y g e a f r) =
+      (few_thefts_in_reply v m.header bodies.Welcome)
+  few_thefts_in_takes t u (PutsOff _ m y g e a f r) =
       let v = sv.suspect_client t now (sv.sender m.header) in
-      g_then t v u (g_suspect t now (sv.sender m.header) (λ h. in_range m.header.from g.heard.came.from)) (g_reply v m.header _)
-  g_takes t u (Sees _ m ino g h b e) = g_seen t (sv.sender m.header) ino g
-  g_takes t u (Reasserts _ m rows r on f) =
+      few_thefts_in_sequence t v u (few_thefts_in_suspect t now (sv.sender m.header) (λ h. in_range m.header.from g.heard.came.from))
+      (few_thefts_in_reply v m.header _)
+  few_thefts_in_takes t u (Sees _ m ino g h b e) = few_thefts_in_seen t (sv.sender m.header) ino g
+  few_thefts_in_takes t u (Reasserts _ m rows r on f) =
       let v = sv.with_sessions (sessions.reasserted t.state.sessions (sv.sender m.header) (sv.life_in m.header))
       (sv.with_locks (locks.with_rows t.state.locks (sv.sender m.header) (sv.life_in m.header) rows) t) in
-      g_then t v u
+      few_thefts_in_sequence t v u
       (record {
         locks = λ h. installed_few t.state.locks (sv.sender m.header) (sv.life_in m.header) rows (in_range m.header.from r.asked.heard.came.from) h;
         timers = λ g h. h;
         thefts = refl;
-      }) (g_reply v m.header bodies.Reasserted)
-  g_takes t u (Serves _ m v b y e r) =
+      }) (few_thefts_in_reply v m.header bodies.Reasserted)
+  few_thefts_in_takes t u (Serves _ m v b y e r) =
       let w = sv.with_sessions (sessions.store v.state.sessions (sv.sender m.header) m.header.number b) v in
-      let z = g_reply w m.header b in
-      g_then t v u (g_ruled now t m.header m.body v b (in_range m.header.from y.asked.heard.came.from) r)
+      let z = few_thefts_in_reply w m.header b in
+      few_thefts_in_sequence t v u (few_thefts_in_ruled now t m.header m.body v b (in_range m.header.from y.asked.heard.came.from) r)
       (record { locks = z.locks; timers = z.timers; thefts = z.thefts })
-  g_takes t u (Repeats _ m y b a e f g k) = g_reply t m.header b
-  g_takes t u (Refuses _ m b r) = g_reply t m.header b
+  few_thefts_in_takes t u (Repeats _ m y b a e f g k) = few_thefts_in_reply t m.header b
+  few_thefts_in_takes t u (Refuses _ m b r) = few_thefts_in_reply t m.header b
 
-  g_suspects : (t u : ServerTurn) → Edit s now i AtSuspicion t u → G t u
-  g_suspects t u (Suspects _ c r is q f h e o) = g_suspect t now c (λ k. subst (λ (d : ClientId). InRange d.0) e (k.rows r h))
+  few_thefts_in_suspects : (t u : ServerTurn) → Edit s now i AtSuspicion t u → G t u
+  few_thefts_in_suspects t u (Suspects _ c r is q f h e o) = few_thefts_in_suspect t now c (λ k. subst (λ (d : ClientId). InRange d.0) e (k.rows r h))
 
-  g_grants : (t u : ServerTurn) → Edit s now i AtGrants t u → G t u
-  g_grants t u (Grants _ w off h e f) =
+  few_thefts_in_grants : (t u : ServerTurn) → Edit s now i AtGrants t u → G t u
+  few_thefts_in_grants t u (Grants _ w off h e f) =
       let v = sv.with_locks (locks.grant t.state.locks w.client w.life w.ino w.mode) t in
-      g_then t v u (g_locks t _ (λ k. granted_few t.state.locks w.client w.life w.ino w.mode (k.waits w h) k)) (g_tell v w.client w.life _)
+      few_thefts_in_sequence t v u (few_thefts_in_locks t _ (λ k. granted_few t.state.locks w.client w.life w.ino w.mode (k.waits w h) k))
+      (few_thefts_in_tell v w.client w.life _)
 
-  g_demands : (t u : ServerTurn) → Edit s now i AtDemands t u → G t u
-  g_demands t u (Demands _ w r x e h f o d) =
+  few_thefts_in_demands : (t u : ServerTurn) → Edit s now i AtDemands t u → G t u
+  few_thefts_in_demands t u (Demands _ w r x e h f o d) =
       let v = sv.with_locks (locks.with_demand r x t.state.locks) t in
-      g_then t v u (g_locks t _ (demand_few r x t.state.locks)) (g_tell v r.client r.life _)
+      few_thefts_in_sequence t v u (few_thefts_in_locks t _ (demand_few r x t.state.locks)) (few_thefts_in_tell v r.client r.life _)
 
 -- The step, from the thefts to the demands.
 module _ (s : ServerState) (now : Stamp) where
@@ -395,11 +365,13 @@ module _ (s : ServerState) (now : Stamp) where
   pub before_demands : (i : ServerInput) → G begun (sv.granting (sv.suspecting_on (sv.take_input begun now i) now i) now)
   unfolding sv.take_input sv.suspecting_on
   before_demands Tick =
-      w_granting s now Tick (G begun) (λ t u e g. g_then begun t u g (g_grants s now Tick t u e)) _
-      (w_suspecting s now Tick (G begun) (λ t u e g. g_then begun t u g (g_suspects s now Tick t u e)) begun refl (thefts_begun s now).quiet (g_none begun))
+      walk_of_granting s now Tick (G begun) (λ t u e g. few_thefts_in_sequence begun t u g (few_thefts_in_grants s now Tick t u e)) _
+      (walk_of_suspecting s now Tick (G begun) (λ t u e g. few_thefts_in_sequence begun t u g (few_thefts_in_suspects s now Tick t u e)) begun refl
+      (thefts_begun s now).quiet (few_thefts_in_nothing begun))
   before_demands (Control m) =
-      w_granting s now (Control m) (G begun) (λ t u e g. g_then begun t u g (g_grants s now (Control m) t u e)) _
-      (w_input s now (Control m) (G begun) (G begun) (λ t g. g) (λ t u e g. g_then begun t u g (g_takes s now (Control m) t u e)) (g_none begun))
+      walk_of_granting s now (Control m) (G begun) (λ t u e g. few_thefts_in_sequence begun t u g (few_thefts_in_grants s now (Control m) t u e)) _
+      (walk_of_input s now (Control m) (G begun) (G begun) (λ t g. g)
+      (λ t u e g. few_thefts_in_sequence begun t u g (few_thefts_in_takes s now (Control m) t u e)) (few_thefts_in_nothing begun))
 
 -- Thefts: one for each timer that is over.
 pub record Stolen (n : ℕ) (t u : ServerTurn) : Type 0 where
@@ -443,8 +415,8 @@ step_few s now i h =
       clients = record { locks = passes.locks locks_a; timers = passes.timers locks_a timers_a };
       thefts =
           let a = stolen.thefts in let d = passes.thefts in
-          let e = picked_are_fewer (authority.is_over s.authority.wait now) s.authority.suspects in
-          let f = same_many authority.client_of_suspect (filter (authority.is_over s.authority.wait now) s.authority.suspects) in
+          let e = filtered_no_longer (authority.is_over s.authority.wait now) s.authority.suspects in
+          let f = length_map authority.client_of_suspect (filter (authority.is_over s.authority.wait now) s.authority.suspects) in
           let g = few_timers s.authority h.timers in
           omega (arith, a, d, e, f, g);
     }
@@ -473,4 +445,4 @@ step_few s now i h =
         h_wait = s.authority.wait
 
     passes : G a (sv.demanding (sv.granting (sv.suspecting_on (sv.take_input a now i) now i) now) now i)
-    passes = w_demanding s now i (G a) (λ t u e g. g_then a t u g (g_demands s now i t u e)) _ (before_demands s now i)
+    passes = walk_of_demanding s now i (G a) (λ t u e g. few_thefts_in_sequence a t u g (few_thefts_in_demands s now i t u e)) _ (before_demands s now i)

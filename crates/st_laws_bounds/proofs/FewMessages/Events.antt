@@ -1,33 +1,26 @@
 -- Every event sends few messages and submits few commands, by how many events there were.
-use Rattle.std.proofs.Common.{◌≡◌, ◌≢◌, ◌⊎◌, ℕ, zero, suc, ◌+◌, ◌*◌, ◌≤◌, List, [], ◌∷◌, ◌++◌, Some, Ok, refl, sym, ap, ◌∙◌, subst, inl, inr, arith}
-use Rattle.std.specs.Prelude.{length}
-use Rattle.st_base.specs.declared.config.Config.{Config}
-use Rattle.st_base.specs.declared.ids.ClientId.{ClientId}
-use Rattle.st_base.specs.declared.ids.NodeId.TheVariants as nodes
-use Rattle.st_base.specs.declared.ids.ServerId.{ServerId}
-use Rattle.st_messages.specs.declared.output.Note.{Note}
-use Rattle.st_messages.specs.declared.output.Note.TheVariants as notes
-use Rattle.st_messages.specs.declared.output.Output.{Output}
-use Rattle.st_messages.specs.declared.output.Output.TheVariants as outputs
-use Rattle.st_rules.specs.declared.client.ClientInput.{ClientInput}
-use Rattle.st_rules.specs.declared.input.ServerInput.{ServerInput}
-use Rattle.st_rules.specs.declared.world.IssuedCommand.{IssuedCommand}
-use Rattle.st_rules.specs.Client as cl
-use Rattle.st_rules.specs.ClientState.{Association}
-use Rattle.st_rules.specs.Events as ev
-use Rattle.st_rules.specs.Events.{WorldTurn}
-use Rattle.st_rules.specs.Extents.{numbers}
-use Rattle.st_rules.specs.FlatLog as log
-use Rattle.st_rules.specs.Server as sv
-use Rattle.st_rules.specs.Server.{ServerNode}
-use Rattle.st_rules.specs.World as world
-use Rattle.st_rules.specs.World.{World, WorldClient, Net, clock_of, fresh_site, fresh_world, node_of, numbered, site_of, with_numbered}
-use Rattle.st_lemmas.proofs.Lookups.{some_is}
-use Rattle.st_lemmas.proofs.Numbers.{length_more, numbered_below, numbered_has, numbered_other, numbered_own}
-use Rattle.st_lemmas.proofs.Tables.{has_map, same_or_not}
+use Rattle.st_lemmas.proofs.Words
+use Words.{◌≡◌, ◌≢◌, ◌⊎◌, ℕ, ◌+◌, ◌*◌, ◌≤◌, List, [], ◌∷◌, Some, Ok, refl, sym, ap, ◌∙◌, subst, inl, inr, arith, length, Config, ClientId}
+use Words.{ServerId, Note, Output, ClientInput, ServerInput, IssuedCommand}
+use Words.nodes
+use Words.notes
+use Words.outputs
+use Words.Client as cl
+use Words.ClientState.{Association}
+use Words.Events as ev
+use Words.Events.{WorldTurn}
+use Words.Extents.{numbers}
+use Words.FlatLog as log
+use Words.Server as sv
+use Words.Server.{ServerNode}
+use Words.World as world
+use Words.World.{World, WorldClient, Net, clock_of, fresh_site, fresh_world, node_of, numbered, site_of, with_numbered}
+use Words.Lookups.{some_is}
+use Words.Numbers.{length_more, numbered_below, numbered_has, numbered_other, numbered_own}
+use Words.Tables.{has_map, same_or_not}
+use Words.Lengths.{length_map, numbers_length}
 use Rattle.st_laws_bounds.proofs.Counters.Clients.{Said, SameRows, flush_rows, said_all, served_all}
 use Rattle.st_laws_bounds.proofs.Counters.Events.{Cases, ClientSteps, ServerSteps, Takes}
-use Rattle.st_laws_bounds.proofs.Counters.Reading.{same_many}
 use Rattle.st_laws_bounds.proofs.Counters.Robbing as robbed
 use Rattle.st_laws_bounds.proofs.Counters.Robbing.{TheftsLow}
 use Rattle.st_laws_bounds.proofs.Counters.Tallies.{told_all}
@@ -184,7 +177,7 @@ unfolding cl.crash
 crashed_few site h =
     record {
       ops = omega arith;
-      many = let z = same_many cl.crashed_association site.node.state.associations in let m = h.many in omega (arith, z, m);
+      many = let z = length_map cl.crashed_association site.node.state.associations in let m = h.many in omega (arith, z, m);
       each = λ a i. let x = has_map cl.crashed_association site.node.state.associations a i in subst (λ (b : Association). length b.store.pages.dirty ≤ 64) (sym x.2) (omega arith);
     }
 
@@ -193,7 +186,7 @@ unfolding cl.start
 started_few site h =
     record {
       ops = omega arith;
-      many = let z = same_many cl.started_association site.node.state.associations in let m = h.many in omega (arith, z, m);
+      many = let z = length_map cl.started_association site.node.state.associations in let m = h.many in omega (arith, z, m);
       each = λ a i. let x = has_map cl.started_association site.node.state.associations a i in subst (λ (b : Association). length b.store.pages.dirty ≤ 64) (sym x.2) (omega arith);
     }
 
@@ -241,12 +234,6 @@ cases n m =
     k : Cases (TheftsLow n) (TheftsLow (n + 1))
     k = robbed.cases n
 
--- The world of a head with at most four servers.
-how_many : (a n : ℕ) → length (numbers a n) ≡ n
-unfolding numbers
-how_many a zero = refl
-how_many a (suc n) = ap suc (how_many (a + 1) n)
-
 pub fresh_low : (k : Config) (clients servers d b form : ℕ) → servers ≤ 4 → Low 0 (fresh_world k clients servers d b form)
 unfolding fresh_world cl.fresh_client sv.fresh_server
 fresh_low k clients servers d b form few =
@@ -264,6 +251,6 @@ fresh_low k clients servers d b form few =
     one n =
         record {
           ops = omega arith;
-          many = let z = same_many cl.fresh_association (numbers 1 servers) in let y = how_many 1 servers in omega (arith, z, y, few);
+          many = let z = length_map cl.fresh_association (numbers 1 servers) in let y = numbers_length 1 servers in omega (arith, z, y, few);
           each = λ a i. let x = has_map cl.fresh_association (numbers 1 servers) a i in subst (λ (b : Association). length b.store.pages.dirty ≤ 64) (sym x.2) (omega arith);
         }

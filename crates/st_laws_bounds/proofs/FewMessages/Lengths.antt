@@ -1,18 +1,9 @@
 -- Lengths of lists: of rising keys, and of a list with one member put in its place.
-use Rattle.std.proofs.Common.{◌≡◌, ℕ, ◌+◌, ◌≤◌, ◌<◌, ◌⊎◌, Bool, true, false, List, [], ◌∷◌, ◌==◌, refl, inl, inr, arith, if◌then◌else◌}
-use Rattle.std.specs.Prelude.{length, filter, not, nat_lt}
-use Rattle.st_rules.specs.Keys.{past, placed, put, rising, with_key}
-use Rattle.st_lemmas.specs.Lists.{Has, Rises}
-
-with_key_length : (k : ℕ) (xs : List ℕ) → length (with_key k xs) ≤ 1 + length xs
-unfolding with_key placed past
-with_key_length k [] = omega arith
-with_key_length k (x ∷ xs) = go (nat_lt k x) (k == x) (with_key_length k xs)
-  where
-    go : (b c : Bool) → length (with_key k xs) ≤ 1 + length xs → length (if b then k ∷ (x ∷ xs) else if c then x ∷ xs else x ∷ with_key k xs) ≤ 1 + length (x ∷ xs)
-    go true c h = omega arith
-    go false true h = omega arith
-    go false false h = omega (arith, h)
+use Rattle.st_lemmas.proofs.Words
+use Words.{◌≡◌, ℕ, ◌+◌, ◌≤◌, ◌<◌, ◌⊎◌, Bool, true, false, List, [], ◌∷◌, refl, inl, inr, arith, if◌then◌else◌, length, filter, not}
+use Words.Keys.{put, rising}
+use Words.Lists.{Has, Rises}
+use Words.Lengths.{with_key_length}
 
 -- rising keys are no more than the keys
 pub rising_length : (ks : List ℕ) → length (rising ks) ≤ length ks

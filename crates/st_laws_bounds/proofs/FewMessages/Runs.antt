@@ -1,12 +1,10 @@
 -- The run of a generated schedule: few messages in each event, and few commands in all.
-use Rattle.std.proofs.Common.{◌≡◌, ℕ, ◌+◌, ◌*◌, ◌≤◌, List, [], ◌∷◌, Ok, Err, refl, sym, subst, arith}
-use Rattle.std.specs.Prelude.{Result, length}
-use Rattle.st_messages.specs.declared.event.Event.{Event}
-use Rattle.st_rules.specs.declared.observation.WorldRefusal.{WorldRefusal}
-use Rattle.st_rules.specs.Events.{WorldTurn, counted, summary, world_step}
-use Rattle.st_rules.specs.Run.{go_on, run}
-use Rattle.st_rules.specs.World.{World}
-use Rattle.st_rules.specs.Generator as g
+use Rattle.st_lemmas.proofs.Words
+use Words.{◌≡◌, ℕ, ◌+◌, ◌*◌, ◌≤◌, List, [], ◌∷◌, Ok, Err, refl, sym, subst, arith, Result, length, Event, WorldRefusal}
+use Words.Events.{WorldTurn, counted, summary, world_step}
+use Words.Run.{go_on, run}
+use Words.World.{World}
+use Words.Generator as g
 use Rattle.st_lemmas.proofs.Steps.{step_happens}
 use Rattle.st_generate.specs.Law.{Has_length, SendsFew, SendsFewOn, Sent_is_bounded}
 use Rattle.st_laws_bounds.proofs.Counters.Events.{each_event}

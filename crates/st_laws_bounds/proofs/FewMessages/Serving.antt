@@ -1,46 +1,33 @@
 -- A step of a server: one wait more at most, and at most sixteen messages for each wait.
-use Rattle.std.proofs.Common.{◌≡◌, ℕ, ◌+◌, ◌*◌, ◌≤◌, Bool, true, List, [], ◌∷◌, ◌++◌, refl, sym, ap, ◌∙◌, subst, arith, inl, inr, ◌⊎◌, if◌then◌else◌}
-use Rattle.std.specs.Prelude.{not, filter, find, map, length, Option, Some, None}
-use Rattle.std.proofs.lemmas.Bool.{eq-eqb}
-use Rattle.st_base.specs.declared.config.Config.{Config}
-use Rattle.st_base.specs.declared.ids.ClientId.{ClientId}
-use Rattle.st_base.specs.declared.ids.GrantNo.{GrantNo}
-use Rattle.st_base.specs.declared.ids.Life.{Life}
-use Rattle.st_base.specs.declared.ids.Stamp.{Stamp}
-use Rattle.st_base.specs.declared.mode.Mode.{Mode}
-use Rattle.st_base.specs.declared.mode.Mode.TheVariants as modes
-use Rattle.st_messages.specs.declared.message.Body.{Body}
-use Rattle.st_messages.specs.declared.message.Body.TheVariants as bodies
-use Rattle.st_messages.specs.declared.message.Header.{Header}
-use Rattle.st_messages.specs.declared.output.Output.{Output}
-use Rattle.st_messages.specs.declared.output.Output.TheVariants as outputs
-use Rattle.st_rules.specs.declared.input.ServerInput.{ServerInput}
-use Rattle.st_rules.specs.declared.input.ServerInput.TheVariants.{Tick, Control}
-use Rattle.st_rules.specs.declared.locks.LockRow.{LockRow}
-use Rattle.st_rules.specs.declared.locks.RowDemand.{RowDemand}
-use Rattle.st_rules.specs.declared.locks.Waiter.{Waiter}
-use Rattle.st_rules.specs.Authority as authority
-use Rattle.st_rules.specs.Keys.{client, rising}
-use Rattle.st_rules.specs.Locks as locks
-use Rattle.st_rules.specs.Locks.{Locks}
-use Rattle.st_rules.specs.Server as sv
-use Rattle.st_rules.specs.Server.{ServerState, ServerTurn}
-use Rattle.st_lemmas.specs.Lists.{Has}
+use Rattle.st_lemmas.proofs.Words
+use Words.{◌≡◌, ℕ, ◌+◌, ◌*◌, ◌≤◌, Bool, List, [], ◌∷◌, ◌++◌, refl, sym, ap, ◌∙◌, subst, arith, inl, inr, ◌⊎◌, not, filter, find, map}
+use Words.{length, Option, Some, None, Config, ClientId, GrantNo, Life, Stamp, Mode, Body, Header, Output, ServerInput, LockRow, RowDemand, Waiter}
+use Words.{Message, length-append}
+use Words.bodies
+use Words.outputs
+use Words.serving.{Tick, Control}
+use Words.Authority as authority
+use Words.Keys.{client, rising}
+use Words.Locks as locks
+use Words.Locks.{Locks}
+use Words.Server as sv
+use Words.Server.{ServerState, ServerTurn}
+use Words.Lists.{Has}
+use Words.Tables.{has_filter, has_map}
+use Words.Lengths.{length_map, nothing_after}
+use Words.Serving.{own_wait, released_waits}
+use Words.Tests.{filtered_no_longer}
 use Rattle.st_lemmas.proofs.Keys.{rising_has, rising_rises}
-use Rattle.st_lemmas.proofs.Tables.{and_both, has_filter, has_map}
-use Rattle.st_laws_bounds.proofs.Counters.Reading.{length_both, same_many}
-use Rattle.st_trace.proofs.Server.Growth.{picked_are_fewer}
 use Rattle.st_laws_bounds.proofs.Counters.Thefts.{FewClients, FewLocks, InRange, before_demands, demand_for_few, stolen_each}
 use Rattle.st_laws_bounds.proofs.Counters.Weights.{of_message, weigh, weigh_both}
 use Rattle.st_laws_bounds.proofs.FewMessages.Lengths.{few_rising, one_less, rising_length}
 use Rattle.st_trace.specs.Server.Edits as edits
-use Rattle.st_trace.specs.Server.Edits.{AtThefts, AtInput, AtSuspicion, AtGrants, NoSends, AtOnce, InTurn, Ruled, Tells, Acquires, Releases, Allocates}
-use Rattle.st_trace.specs.Server.Edits.{Cuts, Creates, MakesDir, Renames, RemovesDir, RemovesFile, Refused, IsSuspect, GreetsInGrace, OfOtherEpoch}
-use Rattle.st_trace.specs.Server.Edits.{HasNoSession, IsRefusedRows, Edit, TakesTimers, Steals, Welcomes, Begins, Replaces, PutsOff, Sees, Reasserts}
-use Rattle.st_trace.specs.Server.Edits.{Repeats, Refuses, Suspects, Grants}
-use Rattle.st_trace.proofs.Server.Input.{thefts_begun, w_thefts, input_once}
-use Rattle.st_trace.proofs.Server.Walk.{w_suspecting, w_granting}
-use Rattle.st_messages.specs.declared.message.Message.{Message}
+use Rattle.st_trace.specs.Server.Edits.{AtThefts, AtInput, AtSuspicion, AtGrants, NoSends, AtOnce, InTurn, Ruled, Tells, Acquires, Releases, Allocates, Cuts}
+use Rattle.st_trace.specs.Server.Edits.{Creates, MakesDir, Renames, RemovesDir, RemovesFile, Refused, IsSuspect, GreetsInGrace, OfOtherEpoch, HasNoSession}
+use Rattle.st_trace.specs.Server.Edits.{IsRefusedRows, Edit, TakesTimers, Steals, Welcomes, Begins, Replaces, PutsOff, Sees, Reasserts, Repeats, Refuses}
+use Rattle.st_trace.specs.Server.Edits.{Suspects, Grants}
+use Rattle.st_trace.proofs.Server.Input.{thefts_begun, walk_of_thefts, input_once}
+use Rattle.st_trace.proofs.Server.Walk.{walk_of_suspecting, walk_of_granting}
 
 -- Changes of the locks.
 queued_waits : (l : Locks) (c : ClientId) (life : Life) (ino : ℕ) (mode : Mode) → length (locks.queue l c life ino mode).waiters ≤ 1 + length l.waiters
@@ -48,30 +35,17 @@ unfolding locks.queue locks.queue_at
 queued_waits l c life ino mode = go (locks.wait_of l c ino)
   where
     go : (o : Option Waiter) → length (locks.queue_at l c life ino mode o).waiters ≤ 1 + length l.waiters
-    go None = let z = length_both l.waiters (locks.new_wait c life ino mode ∷ []) in omega (arith, z)
-    go (Some x) = let z = same_many (locks.raise c ino mode) l.waiters in omega (arith, z)
+    go None = let z = length-append l.waiters (locks.new_wait c life ino mode ∷ []) in omega (arith, z)
+    go (Some x) = let z = length_map (locks.raise c ino mode) l.waiters in omega (arith, z)
 
 granted_waits : (l : Locks) (c : ClientId) (life : Life) (ino : ℕ) (mode : Mode) → length (locks.grant l c life ino mode).waiters ≤ length l.waiters
 unfolding locks.grant
-granted_waits l c life ino mode = picked_are_fewer (λ w. not (locks.is_wait_of c ino w)) l.waiters
-
-released_waits : (l : Locks) (c : ClientId) (ino : ℕ) (to : Mode) → (locks.release_to l c ino to).waiters ≡ l.waiters
-unfolding locks.release_to
-released_waits l c ino modes.None = refl
-released_waits l c ino modes.S = refl
-released_waits l c ino modes.X = refl
-
-own_wait : (w : Waiter) → locks.is_wait_of w.client w.ino w ≡ true
-own_wait w = and_both _ _ (eq-eqb w.client.0 w.client.0 refl) (eq-eqb w.ino w.ino refl)
+granted_waits l c life ino mode = filtered_no_longer (λ w. not (locks.is_wait_of c ino w)) l.waiters
 
 -- what is said one after another
 joined : (os : List Output) (x y : Output) → (os ++ x ∷ []) ++ y ∷ [] ≡ os ++ x ∷ y ∷ []
 joined [] x y = refl
 joined (o ∷ os) x y = ap (λ (r : List Output). o ∷ r) (joined os x y)
-
-nothing_said : (os : List Output) → os ≡ os ++ []
-nothing_said [] = refl
-nothing_said (o ∷ os) = ap (λ (r : List Output). o ∷ r) (nothing_said os)
 
 -- how many wait, and how many messages were sent
 abbrev waits : ServerTurn → ℕ
@@ -100,10 +74,10 @@ module _ (n : ServerState) (now : Stamp) (i : ServerInput) where
   steals : (t u : ServerTurn) → Edit n now i AtThefts t u → waits t ≤ length n.locks.waiters → waits u ≤ length n.locks.waiters
   unfolding sv.steal_from locks.forget
   steals t u (TakesTimers _ e) p = p
-  steals t u (Steals _ c s h e) p = let l = picked_are_fewer (λ w. not (locks.is_wait_by c w)) t.state.locks.waiters in omega (arith, l, p)
+  steals t u (Steals _ c s h e) p = let l = filtered_no_longer (λ w. not (locks.is_wait_by c w)) t.state.locks.waiters in omega (arith, l, p)
 
   stolen : waits begun ≤ length n.locks.waiters
-  stolen = w_thefts n now i (λ t. waits t ≤ length n.locks.waiters) steals (omega arith)
+  stolen = walk_of_thefts n now i (λ t. waits t ≤ length n.locks.waiters) steals (omega arith)
 
   -- One wait more at most, and one message, which may be for a wait that ends.
   record Few (t : ServerTurn) : Type 0 where
@@ -140,7 +114,7 @@ module _ (n : ServerState) (now : Stamp) (i : ServerInput) where
   rule_few t h b u r e (Renames dir x dir2 x2 d q) = one_more t _ (_ ∷ []) e (omega arith) refl (omega arith)
   rule_few t h b u r e (RemovesDir dir x g ino d l f z q s) = one_more t _ (_ ∷ []) e (omega arith) refl (omega arith)
   rule_few t h b u r e (RemovesFile dir x g ino d l f q a s) =
-      let c = picked_are_fewer (λ w. not (locks.is_wait_on d.ino w)) t.state.locks.waiters in
+      let c = filtered_no_longer (λ w. not (locks.is_wait_on d.ino w)) t.state.locks.waiters in
       one_more t _ (_ ∷ _ ∷ []) e (omega (arith, c)) (joined t.out _ _) (omega arith)
 
   refused_first : (t : ServerTurn) (m : Message) (b : Body) → Refused n now i t m b → t ≡ begun
@@ -154,12 +128,12 @@ module _ (n : ServerState) (now : Stamp) (i : ServerInput) where
   unfolding sv.reply sv.suspect_client locks.drop_waits locks.demand_seen locks.with_rows
   input_few t u (Welcomes _ m s g e a f) = one_more t _ (_ ∷ []) g.heard.came.first (omega arith) refl (omega arith)
   input_few t u (Begins _ m g f) = one_more t _ (_ ∷ []) g.heard.came.first (omega arith) refl (omega arith)
-  input_few t u (Replaces _ m s g e a f r) = let l = picked_are_fewer (λ w. not (locks.is_wait_by (sv.sender m.header) w)) t.state.locks.waiters in
+  input_few t u (Replaces _ m s g e a f r) = let l = filtered_no_longer (λ w. not (locks.is_wait_by (sv.sender m.header) w)) t.state.locks.waiters in
       one_more t _ (_ ∷ []) g.heard.came.first (omega (arith, l)) refl (omega arith)
   input_few t u (PutsOff _ m s g e a f r) =
-      let l = picked_are_fewer (λ w. not (locks.is_wait_by (sv.sender m.header) w)) t.state.locks.waiters in
+      let l = filtered_no_longer (λ w. not (locks.is_wait_by (sv.sender m.header) w)) t.state.locks.waiters in
       one_more t _ (_ ∷ _ ∷ []) g.heard.came.first (omega (arith, l)) (joined t.out _ _) (omega arith)
-  input_few t u (Sees _ m ino g h b e) = one_more t _ [] h.came.first (omega arith) (nothing_said t.out) (omega arith)
+  input_few t u (Sees _ m ino g h b e) = one_more t _ [] h.came.first (omega arith) (nothing_after t.out) (omega arith)
   input_few t u (Reasserts _ m rows r on f) = one_more t _ (_ ∷ []) r.asked.heard.came.first (omega arith) refl (omega arith)
   input_few t u (edits.Serves _ m v b s e r) = rule_few t m.header m.body v b s.asked.heard.came.first r
   input_few t u (Repeats _ m s b a e f g k) = one_more t _ (_ ∷ []) a.heard.came.first (omega arith) refl (omega arith)
@@ -176,7 +150,7 @@ module _ (n : ServerState) (now : Stamp) (i : ServerInput) where
   suspects : (t u : ServerTurn) → Edit n now i AtSuspicion t u → Few t → Few u
   unfolding sv.suspect_client locks.drop_waits
   suspects t u (Suspects _ c r is q f h e o) p =
-      let l = picked_are_fewer (λ w. not (locks.is_wait_by c w)) t.state.locks.waiters in
+      let l = filtered_no_longer (λ w. not (locks.is_wait_by c w)) t.state.locks.waiters in
       let m = more_sent 0 t (sv.suspect_client t now c) (_ ∷ []) refl (omega arith) in
       let a = p.few in let b = p.sum in
       record { few = omega (arith, l, a); sum = omega (arith, l, m, b) }
@@ -198,27 +172,27 @@ pub record Waits (a b : ℕ) (ws : List Waiter) (out : List Output) (ws2 : List 
 abbrev W : ℕ → ℕ → ServerTurn → ServerTurn → Type 0
 W a b t u = Waits a b t.state.locks.waiters t.out u.state.locks.waiters u.out
 
-w_none : (a b : ℕ) (t : ServerTurn) → W a b t t
-w_none a b t = record { waits = omega arith; sends = omega arith }
+few_in_nothing : (a b : ℕ) (t : ServerTurn) → W a b t t
+few_in_nothing a b t = record { waits = omega arith; sends = omega arith }
 
-w_then : (a b c d : ℕ) (t u v : ServerTurn) → W a b t u → W c d u v → W (a + c) (b + d) t v
-w_then a b c d t u v x y = let e = x.waits in let f = x.sends in let g = y.waits in let h = y.sends in
+few_in_sequence : (a b c d : ℕ) (t u v : ServerTurn) → W a b t u → W c d u v → W (a + c) (b + d) t v
+few_in_sequence a b c d t u v x y = let e = x.waits in let f = x.sends in let g = y.waits in let h = y.sends in
     record { waits = omega (arith, e, g); sends = omega (arith, f, h) }
 
-w_more : (a b c d : ℕ) (t u : ServerTurn) → a ≤ c → b ≤ d → W a b t u → W c d t u
-w_more a b c d t u l m x = let e = x.waits in let f = x.sends in record { waits = omega (arith, e, l); sends = omega (arith, f, m) }
+few_in_weaker : (a b c d : ℕ) (t u : ServerTurn) → a ≤ c → b ≤ d → W a b t u → W c d t u
+few_in_weaker a b c d t u l m x = let e = x.waits in let f = x.sends in record { waits = omega (arith, e, l); sends = omega (arith, f, m) }
 
 -- more is said, of which so much are messages, and there are no more waits
 waits_say : (a b j : ℕ) (ws ws2 : List Waiter) (out os : List Output) → length ws2 ≤ a + length ws → weigh of_message os ≡ j → j ≤ b →
     Waits a b ws out ws2 (out ++ os)
 waits_say a b j ws ws2 out os l e m = let z = weigh_both of_message out os in record { waits = l; sends = omega (arith, z, e, m) }
 
-w_says : (a b j : ℕ) (t : ServerTurn) (os : List Output) → weigh of_message os ≡ j → j ≤ b → W a b t (record t { out = t.out ++ os })
-w_says a b j t os e m = waits_say a b j t.state.locks.waiters t.state.locks.waiters t.out os (omega arith) e m
+few_in_says : (a b j : ℕ) (t : ServerTurn) (os : List Output) → weigh of_message os ≡ j → j ≤ b → W a b t (record t { out = t.out ++ os })
+few_in_says a b j t os e m = waits_say a b j t.state.locks.waiters t.state.locks.waiters t.out os (omega arith) e m
 
-w_tell : (t : ServerTurn) (c : ClientId) (life : Life) (b : Body) → W 0 1 t (sv.tell t c life b)
+few_in_tell : (t : ServerTurn) (c : ClientId) (life : Life) (b : Body) → W 0 1 t (sv.tell t c life b)
 unfolding sv.tell
-w_tell t c life b = w_says 0 1 1 t (_ ∷ []) refl (omega arith)
+few_in_tell t c life b = few_in_says 0 1 1 t (_ ∷ []) refl (omega arith)
 
 -- Demanding: at most sixteen clients for each file for which somebody waits.
 record Demands (n : ℕ) (p q : locks.Demanding) : Type 0 where
@@ -232,7 +206,7 @@ demand_row k now tick to (Some r) p = go (locks.demand_now k now tick to r.deman
   where
     go : (o : Option RowDemand) → Demands 1 p (locks.demand_with p r o)
     go None = record { waits = refl; due = omega arith }
-    go (Some d) = record { waits = refl; due = let z = length_both p.due ((r.client, r.life, r.ino, r.g, d.to) ∷ []) in omega (arith, z) }
+    go (Some d) = record { waits = refl; due = let z = length-append p.due ((r.client, r.life, r.ino, r.g, d.to) ∷ []) in omega (arith, z) }
 
 demand_clients : (k : Config) (now : Stamp) (tick : Bool) (ino : ℕ) (to : Mode) (cs : List ClientId) (p : locks.Demanding) →
     Demands (length cs) p (locks.demand_clients k now tick ino to cs p)
@@ -248,8 +222,8 @@ demand_clients k now tick ino to (c ∷ cs) p =
 -- sixteen clients at most are in the way of a wait
 few_to_demand : (l : Locks) (ss : List ClientId) (w : Waiter) → FewLocks l → length (locks.to_demand l ss w) ≤ 16
 few_to_demand l ss w h =
-    let a = picked_are_fewer (λ c. not (locks.is_among ss c)) (map client (rising ks)) in
-    let b = same_many client (rising ks) in
+    let a = filtered_no_longer (λ c. not (locks.is_among ss c)) (map client (rising ks)) in
+    let b = length_map client (rising ks) in
     let c = few_rising (rising ks) (λ x i. (range x i).least) (λ x i. (range x i).most) (rising_rises ks) in
     omega (arith, a, b, c)
   where
@@ -287,18 +261,18 @@ demand_files k now tick ss (ino ∷ inos) p h =
 
 told_demands : (rs : List (ClientId × Life × ℕ × GrantNo × Mode)) (t : ServerTurn) → W 0 (length rs) t (sv.tell_demanded rs t)
 unfolding sv.tell_demanded
-told_demands [] t = w_none 0 0 t
+told_demands [] t = few_in_nothing 0 0 t
 told_demands (r ∷ rs) t =
     let u = sv.tell t r.0 r.1 (bodies.Demand r.2 r.3 r.4) in
-    w_more 0 (1 + length rs) 0 (length (r ∷ rs)) t (sv.tell_demanded rs u) (omega arith) (omega arith)
-    (w_then 0 1 0 (length rs) t u (sv.tell_demanded rs u) (w_tell t r.0 r.1 (bodies.Demand r.2 r.3 r.4)) (told_demands rs u))
+    few_in_weaker 0 (1 + length rs) 0 (length (r ∷ rs)) t (sv.tell_demanded rs u) (omega arith) (omega arith)
+    (few_in_sequence 0 1 0 (length rs) t u (sv.tell_demanded rs u) (few_in_tell t r.0 r.1 (bodies.Demand r.2 r.3 r.4)) (told_demands rs u))
 
 demanding : (t : ServerTurn) (now : Stamp) (i : ServerInput) → FewLocks t.state.locks → W 0 (16 * length t.state.locks.waiters) t (sv.demanding t now i)
 unfolding sv.demanding sv.demand_by locks.demands_due
 demanding t now i h =
     let a = told.waits in let b = told.sends in let c = all.due in let e = ap (λ (ws : List Waiter). length ws) all.waits in
     let f = rising_length (map locks.ino_of_wait t.state.locks.waiters) in
-    let g = same_many locks.ino_of_wait t.state.locks.waiters in
+    let g = length_map locks.ino_of_wait t.state.locks.waiters in
     record { waits = omega (arith, a, e); sends = omega (arith, b, c, f, g) }
   where
     d : locks.Demanding
@@ -332,7 +306,7 @@ step_serves s now i h =
     c = sv.suspecting_on b now i
 
     silent : (x : ServerInput) → i ≡ x → Few s now i (sv.suspecting_on b now x)
-    silent Tick e = w_suspecting s now i (Few s now i) (suspects s now i) b e (quiet i e) (taken s now i)
+    silent Tick e = walk_of_suspecting s now i (Few s now i) (suspects s now i) b e (quiet i e) (taken s now i)
       where
         quiet : (x : ServerInput) → x ≡ Tick → NoSends (sv.take_input (sv.thefts (sv.turn s []) now) now x).out
         quiet x e = subst (λ x. NoSends (sv.take_input (sv.thefts (sv.turn s []) now) now x).out) (sym e) (thefts_begun s now).quiet
@@ -342,7 +316,7 @@ step_serves s now i h =
     d = sv.granting c now
 
     granted : Few s now i d
-    granted = w_granting s now i (Few s now i) (grants s now i) c (silent i refl)
+    granted = walk_of_granting s now i (Few s now i) (grants s now i) c (silent i refl)
 
     few : FewLocks d.state.locks
     few =

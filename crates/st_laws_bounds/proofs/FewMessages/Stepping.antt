@@ -1,27 +1,22 @@
 -- A whole step of a client: at most 12 messages and 16,468 commands, changes and losses, where at most 20 operations are pending, at most 64 pages are dirty
 -- at each server, and there are at most four servers.
-use Rattle.std.proofs.Common.{◌≡◌, ◌⊎◌, ℕ, suc, ◌+◌, ◌*◌, ◌≤◌, ◌<◌, Bool, true, false, List, [], ◌∷◌, refl, sym, subst, inl, inr, arith, if◌then◌else◌}
-use Rattle.std.specs.Prelude.{length}
-use Rattle.std.proofs.lemmas.Bool.{leb-false}
-use Rattle.st_base.specs.declared.ids.ServerId.{ServerId}
-use Rattle.st_base.specs.declared.ids.Stamp.{Stamp}
-use Rattle.st_messages.specs.declared.answer.AppAnswer.{AppAnswer}
-use Rattle.st_messages.specs.declared.answer.AppAnswer.TheVariants as answers
-use Rattle.st_messages.specs.declared.output.Output.TheVariants as outputs
-use Rattle.st_rules.specs.declared.client.ClientInput.{ClientInput}
-use Rattle.st_rules.specs.Client as cl
-use Rattle.st_rules.specs.ClientPasses as cp
-use Rattle.st_rules.specs.ClientReplies as cr
-use Rattle.st_rules.specs.ClientState.{Association, ClientState, ClientTurn, Turn, at_each, at_these, client_turn, enter, is_at, leave, only_at, server_of, with_associations}
-use Rattle.st_lemmas.specs.Lists.{Has}
-use Rattle.st_lemmas.proofs.Tables.{has_append}
+use Rattle.st_lemmas.proofs.Words
+use Words.{◌≡◌, ◌⊎◌, ℕ, suc, ◌+◌, ◌*◌, ◌≤◌, ◌<◌, Bool, true, false, List, [], ◌∷◌, refl, sym, subst, inl, inr, arith, if◌then◌else◌, length, leb-false}
+use Words.{ServerId, Stamp, AppAnswer, ClientInput, length-append}
+use Words.answers
+use Words.outputs
+use Words.Client as cl
+use Words.ClientPasses as cp
+use Words.ClientReplies as cr
+use Words.ClientState.{Association, ClientState, ClientTurn, Turn, at_each, at_these, client_turn, enter, is_at, leave, only_at, server_of, with_associations}
+use Words.Lists.{Has}
+use Words.Tables.{has_append}
 use Rattle.st_laws_steps.specs.Client.Inputs as taking
 use Rattle.st_laws_steps.specs.Client.Inputs.{Taken}
 use Rattle.st_laws_steps.proofs.Client.Taking.{taken}
-use Rattle.st_laws_bounds.proofs.Counters.Reading.{length_both}
 use Rattle.st_laws_bounds.proofs.Counters.Weights.{commands_rise, of_command, of_message, of_rise, weigh, weigh_both}
-use Rattle.st_laws_bounds.proofs.FewMessages.Passing.{C, c_none, c_passes}
-use Rattle.st_laws_bounds.proofs.FewMessages.Receiving.{c_finish, c_receive, c_lose, c_take}
+use Rattle.st_laws_bounds.proofs.FewMessages.Passing.{C, few_in_nothing, few_in_passes}
+use Rattle.st_laws_bounds.proofs.FewMessages.Receiving.{few_in_finish, few_in_receive, few_in_lose, few_in_take}
 
 -- at most 64 pages are dirty at each of these servers
 abbrev pub EachLow : List Association → Type 0
@@ -66,7 +61,7 @@ these k c m rule f (a ∷ al) t few low each = go (λ room each. these k c m rul
         let y = rest (let e = x.ops in let h = one_more k (length al) in omega (arith, e, few, h)) (λ b i. one b (has_append t.state.associations (u.here ∷ []) b i)) in
         let a1 = x.ops in let a2 = x.commands in let a3 = x.messages in
         let b1 = y.ops in let b2 = y.commands in let b3 = y.messages in let b4 = y.many in
-        let c1 = one_more k (length al) in let c2 = one_more c (length al) in let c3 = one_more m (length al) in let c4 = length_both t.state.associations (u.here ∷ []) in
+        let c1 = one_more k (length al) in let c2 = one_more c (length al) in let c3 = one_more m (length al) in let c4 = length-append t.state.associations (u.here ∷ []) in
         record { many = omega (arith, b4, c4); ops = omega (arith, a1, b1, c1); each = y.each; commands = omega (arith, a2, b2, c2); messages = omega (arith, a3, b3, c3) }
 
 at_all : (k c m : ℕ) (rule : Turn → Turn) → Rule k c m rule → (t : ClientTurn) → length t.state.operations + k * length t.state.associations ≤ 20 → EachLow t.state.associations →
@@ -117,8 +112,8 @@ unfolding only_at
 takes s op ask t few low = go (is_at s t.here)
   where
     go : (b : Bool) → C 1 0 0 t (if b then cl.take_ask op ask t else t)
-    go true = c_take op ask t
-    go false = c_none 1 0 0 t
+    go true = few_in_take op ask t
+    go false = few_in_nothing 1 0 0 t
 
 asked : (t : ClientTurn) (s : ServerId) (op : ℕ) (ask : Rattle.st_messages.specs.declared.ask.Ask.Ask) → length t.state.operations < 16 → Few t.state → Left 0 4 t (at_each (only_at s (cl.take_ask op ask)) t)
 asked t s op ask room h =
@@ -136,9 +131,9 @@ input_left now t _ _ (taking.Nothing i) h = left_none 0 4 t h
 input_left now t _ _ (taking.Full op ask e) h = said 0 4 t op answers.OpsFull h
 input_left now t _ _ (taking.Unknown op ask e f) h = said 0 4 t op answers.NoFile h
 input_left now t _ _ (taking.Takes op ask e f) h = asked t (server_of ask) op ask (leb-false 16 (length t.state.operations) e) h
-input_left now t _ _ (taking.Receives m e) h = each_left 0 1 (cr.receive_at now m.header m.body) (λ u few low. c_receive now m.header m.body u) t h
+input_left now t _ _ (taking.Receives m e) h = each_left 0 1 (cr.receive_at now m.header m.body) (λ u few low. few_in_receive now m.header m.body u) t h
 input_left now t _ _ (taking.Finishes number result) h =
-    let z = each_left 0 0 (cl.finish number result) (λ u few low. c_finish number result u) t h in let m = z.messages in
+    let z = each_left 0 0 (cl.finish number result) (λ u few low. few_in_finish number result u) t h in let m = z.messages in
     record { few = z.few; commands = z.commands; messages = omega (arith, m) }
 
 -- the whole step
@@ -153,9 +148,9 @@ unfolding cl.client_step cl.work cl.losses
 step_costs s now input h =
     let t = cl.losses (client_turn s []) now in
     let u = cl.take_input t now input in
-    let a = each_left 1 0 (cl.lose now) (λ v few low. c_lose now v) (client_turn s []) h in
+    let a = each_left 1 0 (cl.lose now) (λ v few low. few_in_lose now v) (client_turn s []) h in
     let b = input_left now t u input (taken t now input) a.few in
-    let c = each_left 4116 2 (cp.passes now (cl.is_tick input)) (λ v few low. c_passes now (cl.is_tick input) v few low) u b.few in
+    let c = each_left 4116 2 (cp.passes now (cl.is_tick input)) (λ v few low. few_in_passes now (cl.is_tick input) v few low) u b.few in
     let d = a.commands in let e = b.commands in let f = c.commands in let g = a.messages in let i = b.messages in let j = c.messages in
     let k = commands_rise (at_each (cp.passes now (cl.is_tick input)) u).out in
     record { few = c.few; rises = omega (arith, d, e, f); commands = omega (arith, d, e, f, k); messages = omega (arith, g, i, j) }

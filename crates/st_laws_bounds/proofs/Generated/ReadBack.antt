@@ -1,9 +1,12 @@
 -- The lines of a generated text, and what a reader makes of them.
-use Rattle.std.proofs.Common.{◌≡◌, ℕ, ◌+◌, ◌≤◌, true, cond, List, [], ◌∷◌, ◌++◌, length, refl, ap, ◌∙◌, arith, leb-true}
-use Rattle.std.specs.Prelude.{◌==◌, not, codes, Ok, map}
+use Rattle.st_lemmas.proofs.Words
+use Words.{◌≡◌, ℕ, ◌+◌, ◌≤◌, true, cond, List, [], ◌∷◌, ◌++◌, length, refl, ap, ◌∙◌, arith, leb-true, ◌==◌, not, Ok, map, flat_map, AllByRecursion, Event}
+use Words.Tables.{and_true, not_true}
+use Words.Generator as g
+use Words.Run.{run}
+use Words.World.{World, fresh_world}
+use Rattle.std.specs.Prelude.{codes}
 use Rattle.std.specs.Fmt.{digits}
-use Rattle.std.specs.List.{flat_map, AllByRecursion}
-use Rattle.st_messages.specs.declared.event.Event.{Event}
 use Rattle.st_schedule.specs.declared.reader.Line.TheVariants as said
 use Rattle.st_schedule.specs.declared.reader.Progress.TheVariants as progress
 use Rattle.st_schedule_words.specs.Words.{line_of, split}
@@ -12,15 +15,9 @@ use Rattle.st_schedule.specs.Reader.{MOST_EVENTS, read_line, later_line}
 use Rattle.st_schedule.specs.Parser.{line_event, end_of, ends}
 use Rattle.st_schedule.proofs.LinesAsSpelled.{line_is_read}
 use Rattle.st_schedule.proofs.PrintedLines.{read_as}
-use Rattle.st_lemmas.proofs.Tables.{and_true, not_true}
-use Rattle.st_runs.specs.Schedule.{begin, lines_of, onto, schedule_of, with_told}
-use Rattle.st_rules.specs.Generator as g
+use Rattle.st_runs.specs.Schedule.{begin, lines_of, onto, schedule_of, with_told, Whole}
 use Rattle.st_rules.specs.Report.{opening, report}
-use Rattle.st_rules.specs.Run.{run}
-use Rattle.st_rules.specs.World.{World, fresh_world}
-use Rattle.st_runs.specs.Replay.{Replay, behind, ended_by, replay_from, replay_lines, replay_of, with_head}
-use Rattle.st_runs.specs.Replay.{text as replay_text}
-use Rattle.st_runs.specs.Schedule.{Whole}
+use Rattle.st_runs.specs.Replay.{Replay, behind, ended_by, replay_from, replay_lines, replay_of, with_head, text as replay_text}
 use Rattle.st_generate.specs.GeneratedText as text
 use Rattle.st_generate.specs.Law.{Has_length, Head_has_a_line, Runs_to_the_end, run_of}
 use Rattle.st_laws_bounds.specs.FewMessages.Few.{EventsHaveLines}

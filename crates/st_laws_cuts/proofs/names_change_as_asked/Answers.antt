@@ -1,5 +1,5 @@
-use Rattle.st_laws_cuts.proofs.Changes.{law}
+use Rattle.st_laws_cuts.proofs.Changes.{names_change_as_asked}
 use Rattle.st_laws_cuts.proofs.names_change_as_asked.Goals as goal
 
 pub returns : goal.returns
-returns c = law
+returns c = names_change_as_asked

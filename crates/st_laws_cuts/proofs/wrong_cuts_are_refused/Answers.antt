@@ -1,4 +1,5 @@
-use Rattle.std.proofs.Common.{refl}
+use Rattle.st_lemmas.proofs.Words
+use Words.{refl}
 use Rattle.st_laws_cuts.proofs.wrong_cuts_are_refused.Goals as goal
 
 pub returns : goal.returns

@@ -1,24 +1,20 @@
 -- A cut is asked: the request that a server serves is the one that is outstanding at the client that has the file alone.
-use Rattle.std.proofs.Common.{◌≡◌, ◌≢◌, ◌⊎◌, ℕ, ◌≤◌, List, Option, Some, None, refl, sym, ap, ◌∙◌, subst, inl, inr, arith}
-use Rattle.st_base.specs.declared.ids.FileId.{FileId}
-use Rattle.st_base.specs.declared.ids.NodeId.TheVariants as nodes
-use Rattle.st_base.specs.declared.ids.PageNo.{PageNo}
+use Rattle.st_lemmas.proofs.Words
+use Words.{◌≡◌, ◌≢◌, ◌⊎◌, ℕ, ◌≤◌, List, Option, Some, None, refl, sym, ap, ◌∙◌, subst, inl, inr, arith, FileId, PageNo, Body, Message, Request}
+use Words.nodes
+use Words.bodies
+use Words.ops
+use Words.ClientState.{Association, ClientSession}
+use Words.Keys.{client, page_no, server_node}
+use Words.Locks.{row_of}
+use Words.History.{Traced}
+use Words.Safety.{Step}
+use Words.Sessions as sessions
+use Words.World.{WorldClient, clock_of}
+use Words.Lists.{Has}
+use Words.Tables.{same_or_not}
 use Rattle.st_base.specs.Mode.{number_of}
-use Rattle.st_messages.specs.declared.message.Body.{Body}
-use Rattle.st_messages.specs.declared.message.Body.TheVariants as bodies
-use Rattle.st_messages.specs.declared.message.Message.{Message}
-use Rattle.st_messages.specs.declared.message.NameOp.TheVariants as ops
-use Rattle.st_rules.specs.declared.client.Request.{Request}
-use Rattle.st_rules.specs.ClientState.{Association, ClientSession}
-use Rattle.st_rules.specs.Keys.{client, page_no, server_node}
-use Rattle.st_rules.specs.Locks.{row_of}
-use Rattle.st_rules.specs.History.{Traced}
-use Rattle.st_rules.specs.Safety.{Step}
-use Rattle.st_rules.specs.Sessions as sessions
-use Rattle.st_rules.specs.World.{WorldClient, clock_of}
 use Rattle.st_protocol.specs.Assoc.{Config}
-use Rattle.st_lemmas.specs.Lists.{Has}
-use Rattle.st_lemmas.proofs.Tables.{same_or_not}
 use Rattle.st_laws_refine.specs.Views.Halves.{held_in}
 use Rattle.st_laws_refine.specs.Client.Invariants.{Lasts}
 use Rattle.st_laws_leases.specs.Sides.World.{AllStand}

@@ -1,42 +1,25 @@
 -- Why a server cuts a file: the cuts that a step notes.
-use Rattle.std.proofs.Common.{◌≡◌, ℕ, ◌⊎◌, Bool, true, false, List, [], ◌∷◌, ◌++◌, ◌==◌, refl, sym, ap, ◌∙◌, subst, inl, inr}
-use Rattle.std.specs.Prelude.{Option, Some, None}
-use Rattle.std.proofs.lemmas.Bool.{eqb-true}
-use Rattle.st_base.specs.declared.ids.FileId.{FileId}
-use Rattle.st_base.specs.declared.ids.GrantNo.{GrantNo}
-use Rattle.st_base.specs.declared.ids.PageNo.{PageNo}
-use Rattle.st_base.specs.declared.ids.Stamp.{Stamp}
-use Rattle.st_base.specs.declared.mode.Mode.{Mode}
-use Rattle.st_base.specs.declared.mode.Mode.TheVariants as modes
+use Rattle.st_lemmas.proofs.Words
+use Words.{◌≡◌, ℕ, ◌⊎◌, true, List, [], ◌∷◌, ◌++◌, ◌==◌, refl, sym, ap, ◌∙◌, subst, inl, inr, Option, Some, None, eqb-true, FileId, GrantNo}
+use Words.{PageNo, Stamp, Body, Message, Output, ServerInput, LockRow}
+use Words.modes
+use Words.notes
+use Words.outputs
+use Words.serving.{Tick, Control}
+use Words.Keys.{page_no, server_node}
+use Words.Locks as locks
+use Words.Sessions.{is_live_state}
+use Words.Server as sv
+use Words.Server.{ServerState, ServerTurn, Stable, sender, reply, tell, steal_from, suspect_client, keep_and_reply, server_step}
+use Words.Lists.{Has}
+use Words.Tables.{and_true, has_append}
+use Words.Truth.{clash, exclusive_covers}
 use Rattle.st_base.specs.Mode.{covers}
-use Rattle.st_messages.specs.declared.message.Body.{Body}
-use Rattle.st_messages.specs.declared.message.Message.{Message}
-use Rattle.st_messages.specs.declared.output.Note.TheVariants as notes
-use Rattle.st_messages.specs.declared.output.Output.{Output}
-use Rattle.st_messages.specs.declared.output.Output.TheVariants as outputs
-use Rattle.st_rules.specs.declared.input.ServerInput.{ServerInput}
-use Rattle.st_rules.specs.declared.input.ServerInput.TheVariants.{Tick, Control}
-use Rattle.st_rules.specs.declared.locks.LockRow.{LockRow}
-use Rattle.st_rules.specs.Keys.{page_no, server_node}
-use Rattle.st_rules.specs.Locks as locks
-use Rattle.st_rules.specs.Sessions.{is_live_state}
-use Rattle.st_rules.specs.Server as sv
-use Rattle.st_rules.specs.Server.{ServerState, ServerTurn, Stable, sender, reply, tell, steal_from, suspect_client, keep_and_reply, server_step}
-use Rattle.st_lemmas.specs.Lists.{Has}
-use Rattle.st_lemmas.proofs.Tables.{and_true, has_append}
 use Rattle.st_laws_extents.specs.CutRequests.Cut.{AsksCut, CutBy}
 use Rattle.st_trace.specs.Server.Edits as edits
-use Rattle.st_trace.specs.Server.Edits.{Phase, Served, Ruled, Edit, TakesTimers, Steals, Welcomes, Begins, Replaces, PutsOff, Sees, Reasserts, Serves}
-use Rattle.st_trace.specs.Server.Edits.{Repeats, Refuses, Suspects, Grants, Demands}
+use Rattle.st_trace.specs.Server.Edits.{Phase, Served, Ruled, Edit, TakesTimers, Steals, Welcomes, Begins, Replaces, PutsOff, Sees, Reasserts, Serves, Repeats}
+use Rattle.st_trace.specs.Server.Edits.{Refuses, Suspects, Grants, Demands}
 use Rattle.st_trace.proofs.Server.Walk.{walk}
-
-clash : {A : Type 0} {b : Bool} → b ≡ true → b ≡ false → A
-clash x y = cc
-
-exclusive_of : (m : Mode) → covers m modes.X ≡ true → m ≡ modes.X
-exclusive_of modes.None z = cc
-exclusive_of modes.S z = cc
-exclusive_of modes.X z = refl
 
 module _ (x : ServerState) (now : Stamp) (i : ServerInput) where
   -- the message that comes, and the cut that its request asks for
@@ -81,7 +64,7 @@ module _ (x : ServerState) (now : Stamp) (i : ServerInput) where
               next = s.next;
               row = r;
               found = c.begun.rows (sender m.header) ino r q;
-              exclusive = exclusive_of r.mode y.1;
+              exclusive = exclusive_covers r.mode y.1;
               asks = asks r.g (sym (eqb-true _ _ y.0));
             },
           )

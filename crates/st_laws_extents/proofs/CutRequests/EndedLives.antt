@@ -1,31 +1,23 @@
 -- The messages of a life to which its client does not come back cut no file that was not being cut.
-use Rattle.std.proofs.Common.{◌≡◌, ◌≢◌, ◌⊎◌, ℕ, ◌≤◌, ◌<◌, zero, suc, true, List, Option, Some, None, refl, sym, ap, ◌∙◌, subst, inl, inr, arith}
-use Rattle.st_base.specs.declared.ids.ClientId.{ClientId}
-use Rattle.st_base.specs.declared.ids.FileId.{FileId}
-use Rattle.st_base.specs.declared.ids.GrantNo.{GrantNo}
-use Rattle.st_base.specs.declared.ids.PageNo.{PageNo}
-use Rattle.st_base.specs.declared.ids.ServerId.{ServerId}
+use Rattle.st_lemmas.proofs.Words
+use Words.{◌≡◌, ◌≢◌, ◌⊎◌, ℕ, ◌≤◌, ◌<◌, zero, suc, true, List, Option, Some, None, refl, sym, ap, ◌∙◌, subst, inl, inr, arith, ClientId, FileId, GrantNo, PageNo}
+use Words.{ServerId, Body, Message, Request, Session, SessionState}
+use Words.bodies
+use Words.ops
+use Words.states
+use Words.ClientState.{Association, ClientSession}
+use Words.History.{Traced}
+use Words.Keys.{client, page_no, server_node}
+use Words.Safety.{Step}
+use Words.Server.{ServerNode}
+use Words.Sessions as sessions
+use Words.World.{World, WorldClient, node_of}
+use Words.Lists.{Has}
+use Words.Tables.{same_or_not}
 use Rattle.st_base.specs.Mode.{number_of}
-use Rattle.st_messages.specs.declared.message.Body.{Body}
-use Rattle.st_messages.specs.declared.message.Body.TheVariants as bodies
-use Rattle.st_messages.specs.declared.message.Message.{Message}
-use Rattle.st_messages.specs.declared.message.NameOp.TheVariants as ops
-use Rattle.st_rules.specs.declared.client.Request.{Request}
-use Rattle.st_rules.specs.declared.sessions.Session.{Session}
-use Rattle.st_rules.specs.declared.sessions.SessionState.{SessionState}
-use Rattle.st_rules.specs.declared.sessions.SessionState.TheVariants as states
-use Rattle.st_rules.specs.ClientState.{Association, ClientSession}
-use Rattle.st_rules.specs.History.{Traced}
-use Rattle.st_rules.specs.Keys.{client, page_no, server_node}
-use Rattle.st_rules.specs.Safety.{Step}
-use Rattle.st_rules.specs.Server.{ServerNode}
-use Rattle.st_rules.specs.Sessions as sessions
-use Rattle.st_rules.specs.World.{World, WorldClient, node_of}
 use Rattle.st_protocol.specs.Assoc.{Config}
 use Rattle.st_protocol.proofs.World.{invariant}
 use Rattle.st_protocol.specs.Assoc as net
-use Rattle.st_lemmas.specs.Lists.{Has}
-use Rattle.st_lemmas.proofs.Tables.{same_or_not}
 use Rattle.st_laws_refine.specs.Views.Halves.{epoch_in}
 use Rattle.st_laws_leases.specs.Dates.Dates.{messages}
 use Rattle.st_laws_leases.specs.Sides.World.{AllStand}
@@ -44,7 +36,7 @@ use Rattle.st_laws_extents.specs.CutRequests.World.{AllAsk, IsServed}
 use Rattle.st_laws_extents.proofs.CutRequests.Standing.{given_row, named, whole}
 
 -- a session that reached a number reached those below it
-behind_less : (o : Option Session) (life k j : ℕ) → j ≤ k → IsBehind o life k → IsBehind o life j
+pub behind_less : (o : Option Session) (life k j : ℕ) → j ≤ k → IsBehind o life k → IsBehind o life j
 behind_less None life k j l h = h
 behind_less (Some s) life k j l (inl h) = inl h
 behind_less (Some s) life k j l (inr h) = inr (h.0, go s.state h.1)
@@ -137,7 +129,7 @@ module _ (k : Config) (count : ℕ) (past : List Step) (t : Traced) (cuts : Cuts
       go (suc n) e = by a.session refl (omega (arith, e))
 
 -- What is harmless stays harmless.
-past_stays : (c : ClientId) (n p : ServerNode) (m : Message) → NodeGoes n p → IsPast c n m → IsPast c p m
+pub past_stays : (c : ClientId) (n p : ServerNode) (m : Message) → NodeGoes n p → IsPast c n m → IsPast c p m
 past_stays c n p m g (inl l) = inl (let y = g.up in omega (arith, y, l))
 past_stays c n p m g (inr e) = go (same_or_not n.state.stable.epoch.0 p.state.stable.epoch.0)
   where

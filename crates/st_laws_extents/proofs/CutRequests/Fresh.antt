@@ -1,16 +1,15 @@
 -- A request that a server serves anew is the one that is outstanding at its client.
-use Rattle.std.proofs.Common.{◌≡◌, ℕ, ◌+◌, ◌≤◌, ◌<◌, zero, suc, List, Option, Some, None, refl, sym, ap, ◌∙◌, subst, inl, inr, arith}
-use Rattle.st_base.specs.declared.ids.NodeId.TheVariants as nodes
-use Rattle.st_messages.specs.declared.message.Message.{Message}
-use Rattle.st_rules.specs.declared.client.Request.{Request}
-use Rattle.st_rules.specs.ClientState.{Association, ClientSession}
-use Rattle.st_rules.specs.Keys.{client, server_node}
-use Rattle.st_rules.specs.History.{Traced}
-use Rattle.st_rules.specs.Safety.{Step}
-use Rattle.st_rules.specs.Sessions as sessions
-use Rattle.st_rules.specs.World.{WorldClient, clock_of, node_of}
+use Rattle.st_lemmas.proofs.Words
+use Words.{◌≡◌, ℕ, ◌+◌, ◌≤◌, ◌<◌, zero, suc, List, Option, Some, None, refl, sym, ap, ◌∙◌, subst, inl, inr, arith, Message, Request, ServerId}
+use Words.nodes
+use Words.ClientState.{Association, ClientSession}
+use Words.Keys.{client, server_node}
+use Words.History.{Traced}
+use Words.Safety.{Step}
+use Words.Sessions as sessions
+use Words.World.{WorldClient, clock_of, node_of}
+use Words.Lists.{Has}
 use Rattle.st_protocol.specs.Assoc.{Config}
-use Rattle.st_lemmas.specs.Lists.{Has}
 use Rattle.st_laws_refine.specs.Client.Invariants.{Lasts}
 use Rattle.st_laws_leases.specs.Dates.Dates.{messages}
 use Rattle.st_laws_leases.specs.Sides.World.{AllStand}
@@ -22,7 +21,6 @@ use Rattle.st_laws_extents.specs.CutRequests.Law.{gifts}
 use Rattle.st_laws_extents.specs.CutRequests.World.{AllAsk, IsServed, ServedTo}
 use Rattle.st_laws_extents.proofs.CutRequests.Standing.{own_session}
 use Rattle.st_laws_extents.specs.CutRequests.FreshRequests.{FreshAt, FreshOutstanding, IsOutstanding}
-use Rattle.st_base.specs.declared.ids.ServerId.{ServerId}
 
 -- all numbers below the first open one reached the last number that was served
 open_below : (last number first : ℕ) → number ≡ last + 1 → ((k : ℕ) → 1 ≤ k → k + 1 ≡ first → k ≤ last) → first ≤ number

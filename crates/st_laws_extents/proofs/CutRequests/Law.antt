@@ -1,29 +1,25 @@
 -- Cuts are asked: at the start, after every event, and over whole runs.
-use Rattle.std.proofs.Common.{◌≡◌, ◌⊎◌, ℕ, ◌+◌, Bool, true, false, List, [], ◌∷◌, ◌++◌, Option, Some, None, Ok, refl, sym, ap, ◌∙◌, subst, inl, inr}
+use Rattle.st_lemmas.proofs.Words
+use Words.{◌≡◌, ◌⊎◌, ℕ, ◌+◌, Bool, true, false, List, [], ◌∷◌, ◌++◌, Option, Some, None, Ok, refl, sym, ap, ◌∙◌, subst, inl, inr, ClientId, FileId, GrantNo}
+use Words.{PageNo, ServerId, Event}
+use Words.nodes
+use Words.seen
+use Words.Client as cl
+use Words.ClientState.{Association, ClientSession}
+use Words.Events as ev
+use Words.Events.{WorldTurn, world_step}
+use Words.Extents.{numbers}
+use Words.History.{Traced, traced, traced_after}
+use Words.Keys.{client}
+use Words.Safety.{IsHead, Step, is_event, step}
+use Words.World.{World, WorldClient, clock_of, fresh_world, numbered, site_of}
+use Words.Lists.{Has}
+use Words.Tables.{has_map}
 use Rattle.st_base.specs.declared.config.Config as base
-use Rattle.st_base.specs.declared.ids.ClientId.{ClientId}
-use Rattle.st_base.specs.declared.ids.FileId.{FileId}
-use Rattle.st_base.specs.declared.ids.GrantNo.{GrantNo}
-use Rattle.st_base.specs.declared.ids.NodeId.TheVariants as nodes
-use Rattle.st_base.specs.declared.ids.PageNo.{PageNo}
-use Rattle.st_base.specs.declared.ids.ServerId.{ServerId}
-use Rattle.st_messages.specs.declared.event.Event.{Event}
-use Rattle.st_rules.specs.declared.observation.Observation.TheVariants as seen
-use Rattle.st_rules.specs.Client as cl
-use Rattle.st_rules.specs.ClientState.{Association, ClientSession}
-use Rattle.st_rules.specs.Events as ev
-use Rattle.st_rules.specs.Events.{WorldTurn, world_step}
-use Rattle.st_rules.specs.Extents.{numbers}
-use Rattle.st_rules.specs.History.{Traced, traced, traced_after}
-use Rattle.st_rules.specs.Keys.{client}
-use Rattle.st_rules.specs.Safety.{IsHead, Step, is_event, step}
-use Rattle.st_rules.specs.World.{World, WorldClient, clock_of, fresh_world, numbered, site_of}
 use Rattle.st_protocol.specs.Assoc.{Config, In, Msg}
 use Rattle.st_protocol.specs.Assoc as net
 use Rattle.st_protocol.proofs.Timing.{grows}
-use Rattle.st_lemmas.specs.Lists.{Has}
 use Rattle.st_lemmas.proofs.Steps.{step_happens}
-use Rattle.st_lemmas.proofs.Tables.{has_map}
 use Rattle.st_laws_refine.proofs.Views.Moves.{moves_grow}
 use Rattle.st_laws_pages.proofs.Disks.Whole.{site_is}
 use Rattle.st_laws_steps.specs.Lives.Lives.{clock_in}
@@ -181,8 +177,8 @@ first k clients servers disks blocks form head =
       asks = fresh_asks k clients servers disks blocks form (gifts (terms_of k) (clients + servers) (fresh_world k clients servers disks blocks form) (begun k clients servers disks blocks form head));
     }
 
-pub law : InEveryRun CutsAreAsked
-law k clients servers disks blocks form es head events =
+pub cuts_are_asked : InEveryRun CutsAreAsked
+cuts_are_asked k clients servers disks blocks form es head events =
     throughout_events (clients + servers) CutsAreAsked (Hold (terms_of k) (clients + servers)) (λ past t e sc r h taken. one (terms_of k) (clients + servers) past t e sc r h taken) es events []
     (traced (fresh_world k clients servers disks blocks form)) (first k clients servers disks blocks form head)
 

@@ -1,6 +1,10 @@
 -- A grant's number names its file: each move of the association machine keeps it, and so it holds in every reachable state.
-use Rattle.std.proofs.Common.{◌≡◌, ℕ, ◌≤◌, ◌<◌, ◌⊎◌, List, ◌∷◌, refl, sym, ap, ◌∙◌, subst, inl, inr, arith}
-use Rattle.st_protocol.specs.Assoc.{Config, ConfigOk, Lock, Body, Msg, Row, Assoc, World, In, msg, Move, Moves, Stays, GoesOn, Reached, AtFirst, Then, Works, BeginsAt, Hello, Plain, Released, Reassert, Welcome, Ack, Reasserted, Granted, Demand, OfOtherEpoch, Greets, Asks, Loses, Crashes, Begins, Installs, AskedOfNone, Asked, Declines, Repeats, Again, Sweeps, Reduces, Reasserts, Welcomes, WelcomesAgain, Acks, Refuses, Accepts, Steals, Grants, GrantsAgain, Demands, Releases, Stops}
+use Rattle.st_lemmas.proofs.Words
+use Words.{◌≡◌, ℕ, ◌≤◌, ◌<◌, ◌⊎◌, List, ◌∷◌, refl, sym, ap, ◌∙◌, subst, inl, inr, arith}
+use Rattle.st_protocol.specs.Assoc.{Config, ConfigOk, Lock, Body, Msg, Row, Assoc, World, In, msg, Move, Moves, Stays, GoesOn, Reached, AtFirst, Then, Works}
+use Rattle.st_protocol.specs.Assoc.{BeginsAt, Hello, Plain, Released, Reassert, Welcome, Ack, Reasserted, Granted, Demand, OfOtherEpoch, Greets, Asks, Loses}
+use Rattle.st_protocol.specs.Assoc.{Crashes, Begins, Installs, AskedOfNone, Asked, Declines, Repeats, Again, Sweeps, Reduces, Reasserts, Welcomes}
+use Rattle.st_protocol.specs.Assoc.{WelcomesAgain, Acks, Refuses, Accepts, Steals, Grants, GrantsAgain, Demands, Releases, Stops}
 use Rattle.st_protocol.proofs.Lists.{in_cons, swept, upd_all}
 use Rattle.st_protocol.proofs.Timing.{grows}
 use Rattle.st_protocol.proofs.Locks.{Locks}
@@ -166,5 +170,5 @@ module _ (k : Config) where
       go o (inr e) = subst Named (sym e) o
   reached ok (Works {w} {v} r s) c = named_by ok (s.each c) (invariant k w ok r c) (reached ok r c)
 
-pub law : NumbersNameFiles
-law k w ok r c = reached k ok r c
+pub numbers_name_files : NumbersNameFiles
+numbers_name_files k w ok r c = reached k ok r c

@@ -1,25 +1,20 @@
 -- A reassertion that comes in grace finds no ended session of its life: in grace no session was ended.
-use Rattle.std.proofs.Common.{◌≡◌, ℕ, ◌+◌, true, [], Option, Some, None, refl, sym, ap, ◌∙◌, subst}
-use Rattle.st_base.specs.declared.ids.NodeId.{NodeId}
-use Rattle.st_base.specs.declared.ids.NodeId.TheVariants as nodes
-use Rattle.st_base.specs.declared.ids.ServerId.{ServerId}
-use Rattle.st_base.specs.declared.ids.Stamp.{Stamp}
-use Rattle.st_messages.specs.declared.event.Event.{Event}
-use Rattle.st_messages.specs.declared.event.Event.TheVariants as events
-use Rattle.st_messages.specs.declared.message.Body.{Body}
-use Rattle.st_messages.specs.declared.message.Body.TheVariants as bd
-use Rattle.st_messages.specs.declared.message.Header.{Header}
-use Rattle.st_rules.specs.declared.sessions.Session.{Session}
-use Rattle.st_rules.specs.declared.world.SentMessage.{SentMessage}
-use Rattle.st_rules.specs.Admissible as admissible
-use Rattle.st_rules.specs.Events.{counted}
-use Rattle.st_rules.specs.Server.{ServerNode, thefts, turn}
-use Rattle.st_rules.specs.Sessions as sessions
-use Rattle.st_rules.specs.World.{World, clock_of, is_running, message_of, node_of, receiver_of, server}
-use Rattle.st_rules.specs.World.{fresh_world}
-use Rattle.st_rules.specs.History.{traced}
+use Rattle.st_lemmas.proofs.Words
+use Words.{◌≡◌, ℕ, ◌+◌, true, [], Option, Some, None, refl, sym, ap, ◌∙◌, subst, NodeId, ServerId, Stamp, Event, Body, Header, Session, SentMessage}
+use Words.nodes
+use Words.events
+use Words.bodies as bd
+use Words.Admissible as admissible
+use Words.Events.{counted}
+use Words.Server.{ServerNode, thefts, turn}
+use Words.Sessions as sessions
+use Words.World.{World, clock_of, is_running, message_of, node_of, receiver_of, server, fresh_world}
+use Words.History.{traced}
+use Words.Lookups.{some_is}
+use Words.Tables.{not_false}
+use Words.Truth.{or_first}
+use Words.Worlds.{stands_not}
 use Rattle.st_protocol.specs.Assoc.{Config}
-use Rattle.st_lemmas.proofs.Lookups.{some_is}
 use Rattle.st_lemmas.proofs.Steps.{step_happens}
 use Rattle.st_laws_refine.specs.Server.Pair.{Served, client_in, terms_of}
 use Rattle.st_laws_refine.specs.Server.View.{NotEnded, Sound, StandsAt}
@@ -27,8 +22,8 @@ use Rattle.st_laws_refine.proofs.Server.Thefts.{thefts_go}
 use Rattle.st_laws_leases.specs.Sides.Law.{InEveryRun}
 use Rattle.st_laws_leases.specs.Sides.World.{AllStand, ServerStands}
 use Rattle.st_laws_leases.proofs.Sides.FirstWorld.{begun}
-use Rattle.st_laws_leases.proofs.Sides.AllAssociations.{first_none, running_node, stays}
-use Rattle.st_laws_leases.proofs.Sides.Fold.{not_false, not_stands, second_none}
+use Rattle.st_laws_leases.proofs.Sides.AllAssociations.{running_node, stays}
+use Rattle.st_laws_leases.proofs.Sides.Fold.{second_none}
 use Rattle.st_laws_leases.proofs.Sides.Runs.{full, throughout_events}
 use Rattle.st_laws_requests.specs.Replies.ServedRequests.{AtMessage, AtReceiver, AtServer, FindsNew, NewOwed, ReassertionsNew, RepliesAfter}
 use Rattle.st_laws_requests.proofs.Replies.Replies as askers
@@ -69,7 +64,7 @@ module _ (k : Config) (count : ℕ) (w : World) (a : AllStand k count w) where
       at m em s er None e = tt
       at m em s er (Some node) e =
           let q = subst (λ o. admissible.refused_delivery w n o ≡ None) em r in
-          let runs = not_false _ (not_stands _ _ (first_none _ _ (second_none _ _ (second_none _ _ q)))) in
+          let runs = not_false _ (stands_not _ _ (or_first _ _ (second_none _ _ (second_none _ _ q)))) in
           let y = running_node (node_of w s) (ap (is_running w) (sym er) ∙ runs) in
           at_running s.0 node e (subst (λ (x : ServerNode). x.running ≡ true) (some_is (sym y.1 ∙ e)) y.2) m.message.header m.message.body
 
@@ -82,8 +77,8 @@ module _ (k : Config) (count : ℕ) (w : World) (a : AllStand k count w) where
       go (Some m) e = to m e (receiver_of m) refl
   new_owed e r = tt
 
-pub law : InEveryRun ReassertionsNew
-law k clients servers disks blocks form es head events =
+pub reassertions_new : InEveryRun ReassertionsNew
+reassertions_new k clients servers disks blocks form es head events =
     throughout_events (clients + servers) ReassertionsNew (λ past t. AllStand (terms_of k) (clients + servers) t.world)
     (λ past t e sc h s taken.
     (new_owed (terms_of k) (clients + servers) t.world s e (step_happens t.world e sc taken).0, stays (terms_of k) (clients + servers) t.world e sc s (full (clients + servers) t.world e s.nodes h) taken)) es events []
@@ -91,4 +86,4 @@ law k clients servers disks blocks form es head events =
 
 -- and so replies are reached in every run
 pub replies : InEveryRun RepliesAfter
-replies k clients servers disks blocks form es head events = askers.law k clients servers disks blocks form es head (law k clients servers disks blocks form es head events)
+replies k clients servers disks blocks form es head events = askers.replies_are_reached k clients servers disks blocks form es head (reassertions_new k clients servers disks blocks form es head events)

@@ -1,30 +1,24 @@
 -- What the requests that a client sends at the end of a step leave of its session. The last pass only asks: what it asks anew is a reassertion where one is
 -- due, and what it removes it holds alone.
-use Rattle.std.proofs.Common.{◌≡◌, ℕ, ◌+◌, Bool, true, false, Option, Some, None, sym, ap, ◌∙◌, subst, ◌⊎◌, inl, inr}
-use Rattle.st_base.specs.declared.ids.GrantNo.{GrantNo}
-use Rattle.st_base.specs.declared.ids.ServerId.{ServerId}
-use Rattle.st_base.specs.declared.ids.Stamp.{Stamp}
-use Rattle.st_messages.specs.declared.message.Body.{Body}
-use Rattle.st_messages.specs.declared.message.Body.TheVariants as bodies
-use Rattle.st_messages.specs.declared.message.NameOp.TheVariants as ops
-use Rattle.st_rules.specs.declared.client.Request.{Request}
-use Rattle.st_rules.specs.ClientPages.{Store}
-use Rattle.st_rules.specs.ClientPasses as cp
-use Rattle.st_rules.specs.ClientState as state
-use Rattle.st_rules.specs.ClientState.{ClientSession, Turn}
-use Rattle.st_lemmas.proofs.Lookups.{some_is}
-use Rattle.st_laws_steps.specs.Client.Session.{SessionChange, Keeps, DropsLock, IsReasserted, EndsRequest, NewEpoch, AsksNew, AsksAgain}
-use Rattle.st_laws_steps.specs.Client.Session.{HasExclusive, IsAsked, MayAsk}
+use Rattle.st_lemmas.proofs.Words
+use Words.{◌≡◌, ℕ, ◌+◌, Bool, Option, Some, None, sym, ap, ◌∙◌, subst, ◌⊎◌, inl, inr, GrantNo, ServerId, Stamp, Body, Request}
+use Words.bodies
+use Words.ops
+use Words.ClientPages.{Store}
+use Words.ClientPasses as cp
+use Words.ClientState as state
+use Words.ClientState.{ClientSession, Turn}
+use Words.Lookups.{some_is}
+use Words.Truth.{false_not_true}
+use Rattle.st_laws_steps.specs.Client.Session.{SessionChange, Keeps, DropsLock, IsReasserted, EndsRequest, NewEpoch, AsksNew, AsksAgain, HasExclusive, IsAsked}
+use Rattle.st_laws_steps.specs.Client.Session.{MayAsk}
 use Rattle.st_laws_steps.proofs.Client.Passing.{FollowsBy, OnlyAsks}
-use Rattle.st_laws_steps.proofs.Client.Sessions.{k_requests}
+use Rattle.st_laws_steps.proofs.Client.Sessions.{sessions_kept_by_requests}
 use Rattle.st_laws_extents.specs.CutRequests.Asks.{AsksBehind, AsksStand, CutNamed, Fact, GivenOrHeld, Of, RemoveNamed, open_from}
 use Rattle.st_laws_extents.proofs.CutRequests.Walking as walk
 
 some_none : {A : Type 0} (q : Request) → ◌≡◌ {A = Option Request} (Some q) None → A
 some_none q z = cc
-
-no_keep : {A : Type 0} → false ≡ true → A
-no_keep e = cc
 
 -- what is removed was given in one more way
 pub remove_more : (P Q : ℕ → GrantNo → Type 0) → ((ino : ℕ) (g : GrantNo) → P ino g → Q ino g) → (cutting : Option ℕ) (b : Body) → RemoveNamed P cutting b → RemoveNamed Q cutting b
@@ -91,7 +85,7 @@ module _ (B : ServerId → ℕ → ℕ → ℕ → Type 0) (G : ServerId → ℕ
 
   follows : (server : ServerId) (life : ℕ) (st : Store) (s u : ClientSession) (c : SessionChange st s u) → FollowsBy OnlyAsks st s u c →
       AsksBehind B G server life (Some s) → AsksBehind B G server life (Some u)
-  follows server life st s u (Keeps _ _ a) k h = no_keep k.may
+  follows server life st s u (Keeps _ _ a) k h = false_not_true k.may
   follows server life st s _ (DropsLock _ ino l) k h = absurd k
   follows server life st s _ (IsReasserted _) k h = absurd k
   follows server life st s _ (EndsRequest _ stamp) k h = absurd k
@@ -100,13 +94,13 @@ module _ (B : ServerId → ℕ → ℕ → ℕ → Type 0) (G : ServerId → ℕ
   follows server life st s _ (AsksAgain _ now q e) k h = ask_again server life s now q e h
 
   -- all passes
-  pub a_passes : (now : Stamp) (tick : Bool) (t : Turn) → walk.At (AsksStand B G) t → After (cp.passes now tick t)
+  pub asked_after_passes : (now : Stamp) (tick : Bool) (t : Turn) → walk.At (AsksStand B G) t → After (cp.passes now tick t)
   unfolding cp.passes
-  a_passes now tick t h =
+  asked_after_passes now tick t h =
       let F : Fact = AsksStand B G in
       let o = cp.operations now t in
       let a = cp.reductions o in
       let b = cp.writes now tick a in
       let c = cp.greeting now tick b in
-      k_requests (AsksBehind B G) follows now tick c
-      (stays_at c.here.server c.here.life.0 c.here.session (walk.k_greeting F now tick b (walk.k_writes F now tick a (walk.k_reductions F o (walk.k_operations F now t h)))))
+      sessions_kept_by_requests (AsksBehind B G) follows now tick c
+      (stays_at c.here.server c.here.life.0 c.here.session (walk.kept_by_greeting F now tick b (walk.kept_by_writes F now tick a (walk.kept_by_reductions F o (walk.kept_by_operations F now t h)))))

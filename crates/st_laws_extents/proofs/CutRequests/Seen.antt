@@ -1,47 +1,29 @@
 -- Who cuts: each cut that an event logs is of a server that runs, because of a message of the world.
-use Rattle.std.proofs.Common.{◌≡◌, ℕ, ◌+◌, ◌⊎◌, Bool, true, false, List, [], ◌∷◌, ◌++◌, Option, Some, None, Ok, Err, refl, sym, ap, ◌∙◌, subst, inl, inr, if◌then◌else◌}
-use Rattle.std.specs.Prelude.{Result, length}
-use Rattle.st_base.specs.declared.ids.ClientId.{ClientId}
-use Rattle.st_base.specs.declared.ids.ServerId.{ServerId}
-use Rattle.st_base.specs.declared.ids.Stamp.{Stamp}
-use Rattle.st_base.specs.declared.ids.NodeId.{NodeId}
-use Rattle.st_base.specs.declared.ids.NodeId.TheVariants as nodes
-use Rattle.st_messages.specs.declared.message.Message.{Message}
-use Rattle.st_messages.specs.declared.event.Event.{Event}
-use Rattle.st_messages.specs.declared.event.Event.TheVariants as events
-use Rattle.st_messages.specs.declared.output.Note.{Note}
-use Rattle.st_messages.specs.declared.output.Note.TheVariants as notes
-use Rattle.st_messages.specs.declared.output.Output.{Output}
-use Rattle.st_messages.specs.declared.output.Output.TheVariants as outputs
-use Rattle.st_rules.specs.declared.input.ServerInput.{ServerInput}
-use Rattle.st_rules.specs.declared.input.ServerInput.TheVariants as serving
-use Rattle.st_rules.specs.declared.client.ClientInput.{ClientInput}
-use Rattle.st_rules.specs.declared.log.Fate.{Fate}
-use Rattle.st_rules.specs.declared.log.Fate.TheVariants as fates
-use Rattle.st_rules.specs.declared.log.LogEntry.{LogEntry}
-use Rattle.st_rules.specs.declared.node.StepRefusal.{StepRefusal}
+use Rattle.st_lemmas.proofs.Words
+use Words.{◌≡◌, ℕ, ◌+◌, ◌⊎◌, Bool, true, false, List, [], ◌∷◌, ◌++◌, Option, Some, None, Ok, Err, refl, sym, ap, ◌∙◌, subst, inl, inr, if◌then◌else◌, Result}
+use Words.{length, ClientId, ServerId, NodeId, Message, Event, Note, Output, ServerInput, ClientInput, Fate, LogEntry, StepRefusal, Observation, IssuedCommand}
+use Words.{SentMessage, FileId, PageNo}
+use Words.nodes
+use Words.events
+use Words.notes
+use Words.outputs
+use Words.serving
+use Words.fates
+use Words.Disks as disks
+use Words.Client as cl
+use Words.ClientState.{ClientState}
+use Words.Server as server
+use Words.Server.{ServerNode, server_step}
+use Words.World as world
+use Words.World.{World, WorldClient, site_of, node_of, issued_of, clock_of, numbered}
+use Words.Events as ev
+use Words.Events.{WorldTurn, world_step}
+use Words.Lists.{Has}
+use Words.seen
+use Words.Numbers.{numbered_has, numbered_own}
+use Words.Tables.{has_append, has_map_in}
 use Rattle.st_rules.specs.declared.node.StepRefusal.TheVariants.{Crashed}
-use Rattle.st_rules.specs.declared.observation.Observation.{Observation}
-use Rattle.st_rules.specs.declared.world.IssuedCommand.{IssuedCommand}
-use Rattle.st_rules.specs.declared.world.SentMessage.{SentMessage}
-use Rattle.st_rules.specs.Disks as disks
-use Rattle.st_rules.specs.Client as cl
-use Rattle.st_rules.specs.ClientState.{ClientState}
-use Rattle.st_rules.specs.Server as server
-use Rattle.st_rules.specs.Server.{ServerNode}
-use Rattle.st_rules.specs.World as world
-use Rattle.st_rules.specs.World.{World, WorldClient, site_of, node_of, issued_of, clock_of, numbered}
-use Rattle.st_rules.specs.Events as ev
-use Rattle.st_rules.specs.Events.{WorldTurn}
-use Rattle.st_lemmas.specs.Lists.{Has}
 use Rattle.st_lemmas.proofs.Steps.{step_happens}
-use Rattle.st_base.specs.declared.ids.FileId.{FileId}
-use Rattle.st_base.specs.declared.ids.PageNo.{PageNo}
-use Rattle.st_rules.specs.declared.observation.Observation.TheVariants as seen
-use Rattle.st_lemmas.proofs.Numbers.{numbered_has, numbered_own}
-use Rattle.st_lemmas.proofs.Tables.{has_append, has_map_in}
-use Rattle.st_rules.specs.Server.{server_step}
-use Rattle.st_rules.specs.Events.{world_step}
 use Rattle.st_laws_leases.specs.Dates.Dates.{message_in, messages}
 use Rattle.st_laws_refine.proofs.Server.Delivery.{all_parts}
 use Rattle.st_laws_extents.specs.CutRequests.Cut.{CutIn, Unmoved}

@@ -1,26 +1,22 @@
 -- Every event: servers go on, and each new message of a client is of its present life, or a later one.
-use Rattle.std.proofs.Common.{◌≡◌, ◌≢◌, ℕ, ◌≤◌, ◌⊎◌, true, false, List, [], Some, Ok, refl, sym, ap, ◌∙◌, subst, inl, inr, arith}
-use Rattle.st_base.specs.declared.ids.ClientId.{ClientId}
-use Rattle.st_base.specs.declared.ids.ServerId.{ServerId}
-use Rattle.st_base.specs.declared.ids.Stamp.{Stamp}
-use Rattle.st_base.specs.declared.ids.NodeId.TheVariants as nodes
-use Rattle.st_messages.specs.declared.message.Message.{Message}
-use Rattle.st_messages.specs.declared.event.Event.{Event}
-use Rattle.st_rules.specs.declared.client.ClientInput.{ClientInput}
-use Rattle.st_rules.specs.declared.client.ClientInput.TheVariants as inputs
-use Rattle.st_rules.specs.declared.input.ServerInput.{ServerInput}
-use Rattle.st_rules.specs.Keys.{server_node}
-use Rattle.st_rules.specs.Client as cl
-use Rattle.st_rules.specs.ClientState.{ClientTurn}
-use Rattle.st_rules.specs.Events as ev
-use Rattle.st_rules.specs.Events.{WorldTurn, world_step}
-use Rattle.st_rules.specs.History.{Traced}
-use Rattle.st_rules.specs.Server as server
-use Rattle.st_rules.specs.Server.{ServerNode}
-use Rattle.st_rules.specs.World as world
-use Rattle.st_rules.specs.World.{World, WorldClient, site_of, node_of, numbered, with_numbered, clock_of}
-use Rattle.st_rules.specs.Safety.{Step}
-use Rattle.st_lemmas.specs.Lists.{Has}
+use Rattle.st_lemmas.proofs.Words
+use Words.{◌≡◌, ◌≢◌, ℕ, ◌≤◌, ◌⊎◌, true, false, List, [], Some, Ok, refl, sym, ap, ◌∙◌, subst, inl, inr, arith, ClientId, ServerId, Stamp, Message, Event}
+use Words.{ClientInput, ServerInput}
+use Words.nodes
+use Words.inputs
+use Words.Keys.{server_node}
+use Words.Client as cl
+use Words.ClientState.{ClientTurn, Association, ClientState}
+use Words.Events as ev
+use Words.Events.{WorldTurn, world_step}
+use Words.History.{Traced}
+use Words.Server as server
+use Words.Server.{ServerNode}
+use Words.World as world
+use Words.World.{World, WorldClient, site_of, node_of, numbered, with_numbered, clock_of}
+use Words.Safety.{Step}
+use Words.Lists.{Has}
+use Words.outputs
 use Rattle.st_laws_leases.specs.Dates.Dates.{ClientDated, messages}
 use Rattle.st_laws_requests.specs.Replies.ServedRequests.{InputNew, NewOwed}
 use Rattle.st_laws_requests.proofs.Replies.EachEvent.{ClientTook, Comes, NodeAfter, ServerLeft, ServerTook, SiteAfter, event_leaves}
@@ -28,10 +24,8 @@ use Rattle.st_laws_requests.proofs.Replies.Replies.{RepliesHold}
 use Rattle.st_laws_extents.specs.CutRequests.EndedLives.{Goes, NodeGoes, SentBy}
 use Rattle.st_laws_leases.proofs.Dates.Receiving as receiving
 use Rattle.st_laws_leases.proofs.Dates.Receiving.{Held, step_held}
-use Rattle.st_rules.specs.ClientState.{Association, ClientState}
 use Rattle.st_laws_requests.proofs.Replies.Served.{Served, served}
 use Rattle.st_laws_leases.proofs.Dates.Leaving.{Leaves, leaves_from, set_cases}
-use Rattle.st_messages.specs.declared.output.Output.TheVariants as outputs
 
 -- a node that is as it was
 node_same : (n : ServerNode) → NodeGoes n n

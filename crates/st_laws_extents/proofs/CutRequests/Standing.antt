@@ -1,23 +1,21 @@
 -- A client that runs under a lease that lasts, at a server of a world in which everything holds.
-use Rattle.std.proofs.Common.{◌≡◌, ◌≢◌, ◌⊎◌, ℕ, ◌≤◌, Bool, true, false, Some, refl, sym, ap, ◌∙◌, subst, inl, inr, arith}
-use Rattle.st_base.specs.declared.ids.GrantNo.{GrantNo}
-use Rattle.st_base.specs.declared.ids.NodeId.TheVariants as nodes
+use Rattle.st_lemmas.proofs.Words
+use Words.{◌≡◌, ◌≢◌, ◌⊎◌, ℕ, ◌≤◌, Bool, true, false, Some, refl, sym, ap, ◌∙◌, subst, inl, inr, arith, GrantNo, LockRow, Session}
+use Words.nodes
+use Words.ClientState.{Association, ClientSession}
+use Words.Keys.{client, server_node}
+use Words.Locks.{row_of}
+use Words.Server.{ServerNode}
+use Words.Sessions as sessions
+use Words.World.{World, WorldClient, clock_of, node_of, server}
+use Words.Lists.{Has}
+use Words.Tables.{same_or_not}
 use Rattle.st_base.specs.Mode.{number_of}
-use Rattle.st_rules.specs.declared.locks.LockRow.{LockRow}
-use Rattle.st_rules.specs.declared.sessions.Session.{Session}
-use Rattle.st_rules.specs.ClientState.{Association, ClientSession}
-use Rattle.st_rules.specs.Keys.{client, server_node}
-use Rattle.st_rules.specs.Locks.{row_of}
-use Rattle.st_rules.specs.Server.{ServerNode}
-use Rattle.st_rules.specs.Sessions as sessions
-use Rattle.st_rules.specs.World.{World, WorldClient, clock_of, node_of, server}
 use Rattle.st_protocol.specs.Assoc as net
-use Rattle.st_protocol.specs.Assoc.{Alive, Assoc, Body, Config, Hello, Plain, Released, Reassert, Welcome, Ack, Reasserted, Granted, Demand, OfOtherEpoch, msg, of_session, renews}
+use Rattle.st_protocol.specs.Assoc.{Alive, Assoc, Config, msg}
 use Rattle.st_protocol.proofs.Claims.{inside}
 use Rattle.st_protocol.proofs.Invariant.{Invariant}
 use Rattle.st_protocol.proofs.World.{invariant}
-use Rattle.st_lemmas.specs.Lists.{Has}
-use Rattle.st_lemmas.proofs.Tables.{same_or_not}
 use Rattle.st_laws_refine.specs.Views.Halves.{client_of, epoch_in, held_at, held_in, leased_in, life_view, live_view, row_or, row_view}
 use Rattle.st_laws_refine.specs.Client.Invariants.{Lasts}
 use Rattle.st_laws_refine.specs.Server.Pair.{client_in}
@@ -30,19 +28,7 @@ use Rattle.st_laws_reads.proofs.AllClients.Alone.{living}
 use Rattle.st_laws_steps.specs.Client.Session.{HasExclusive}
 use Rattle.st_laws_extents.specs.CutRequests.NamedGrants.{Given, Named}
 use Rattle.st_laws_extents.proofs.CutRequests.Named.{reached}
-
--- what renews a lease is of a session
-of_lease : (b : Body) → renews b ≡ true → of_session b ≡ true
-of_lease Welcome e = refl
-of_lease Ack e = refl
-of_lease Reasserted e = refl
-of_lease Hello e = cc
-of_lease Plain e = cc
-of_lease (Released i g to) e = cc
-of_lease (Reassert locks) e = cc
-of_lease (Granted i g mode) e = cc
-of_lease (Demand i g to) e = cc
-of_lease OfOtherEpoch e = cc
+use Rattle.st_protocol.proofs.Timing.{renews_of}
 
 -- A living client, at a server that serves a session of it: of that life, and in the server's epoch.
 pub meets : (k : Config) (a : Assoc) → Invariant k a → a.s.up ≡ true → a.s.live ≡ true → Alive k a.c → (a.s.session ≡ a.c.life) × (a.c.epoch ≡ a.s.epoch)
@@ -59,7 +45,7 @@ meets k a inv up live alive = go a.s.grace refl
         by (inl e) = due e a.c.due refl
         by (inr n) =
             let r = inv.timing_.dated alive.leased in let ahead = inv.timing_.ahead in let most = r.3 in
-            inv.lives_.former up (msg a.c.life r.0 a.c.date r.1) r.4 (of_lease r.1 r.2) (omega (arith, ahead, n, most))
+            inv.lives_.former up (msg a.c.life r.0 a.c.date r.1) r.4 (renews_of r.1 r.2) (omega (arith, ahead, n, most))
 
     go : (g : Bool) → a.s.grace ≡ g → (a.s.session ≡ a.c.life) × (a.c.epoch ≡ a.s.epoch)
     go false g = let p = inside k a inv.timing_ up g alive in (p.1, p.0)

@@ -1,21 +1,16 @@
 -- A client's step, at all its servers: what holds of the requests of each session.
-use Rattle.std.proofs.Common.{◌≡◌, ℕ, true, ◌==◌, List, [], ◌∷◌, refl, ap, ◌∙◌, subst}
-use Rattle.std.proofs.lemmas.Bool.{eqb-true}
-use Rattle.st_base.specs.declared.ids.GrantNo.{GrantNo}
-use Rattle.st_base.specs.declared.ids.ServerId.{ServerId}
-use Rattle.st_base.specs.declared.ids.Stamp.{Stamp}
-use Rattle.st_messages.specs.declared.message.Message.{Message}
-use Rattle.st_rules.specs.declared.client.ClientInput.{ClientInput}
-use Rattle.st_rules.specs.declared.client.ClientInput.TheVariants as inputs
-use Rattle.st_rules.specs.Client as cl
-use Rattle.st_rules.specs.ClientPasses as cp
-use Rattle.st_rules.specs.ClientState.{Association, ClientState, ClientTurn, at_each, at_these, client_turn, enter, leave, with_associations}
+use Rattle.st_lemmas.proofs.Words
+use Words.{◌≡◌, ℕ, true, ◌==◌, List, [], ◌∷◌, refl, ap, ◌∙◌, subst, eqb-true, GrantNo, ServerId, Stamp, Message, ClientInput}
+use Words.inputs
+use Words.Client as cl
+use Words.ClientPasses as cp
+use Words.ClientState.{Association, ClientState, ClientTurn, at_each, at_these, client_turn, enter, leave, with_associations}
 use Rattle.st_laws_steps.specs.Client.Inputs.{Each}
 use Rattle.st_laws_steps.proofs.Client.Taking.{each, each_taken, taken}
 use Rattle.st_laws_extents.specs.CutRequests.Asks.{AsksBehind, AsksStand, Fact, Of, Tells}
-use Rattle.st_laws_extents.proofs.CutRequests.Walking.{k_finish, k_lose, k_take}
-use Rattle.st_laws_extents.proofs.CutRequests.Receiving.{k_receive}
-use Rattle.st_laws_extents.proofs.CutRequests.Requesting.{a_passes}
+use Rattle.st_laws_extents.proofs.CutRequests.Walking.{kept_by_finish, kept_by_lose, kept_by_take}
+use Rattle.st_laws_extents.proofs.CutRequests.Receiving.{kept_by_receive}
+use Rattle.st_laws_extents.proofs.CutRequests.Requesting.{asked_after_passes}
 
 module _ (B : ServerId → ℕ → ℕ → ℕ → Type 0) (G : ServerId → ℕ → GrantNo → Type 0) (start : (server : ServerId) (life epoch : ℕ) → B server life epoch 1) where
   -- a fact of an association
@@ -32,7 +27,7 @@ module _ (B : ServerId → ℕ → ℕ → ℕ → Type 0) (G : ServerId → ℕ
 
   lost : (F : Fact) (t : ClientTurn) (now : Stamp) → Each (HasFact F) t.state.associations → Each (HasFact F) (cl.losses t now).state.associations
   unfolding cl.losses
-  lost F t now h = each (HasFact F) (HasFact F) (cl.lose now) (k_lose F now) t h
+  lost F t now h = each (HasFact F) (HasFact F) (cl.lose now) (kept_by_lose F now) t h
 
   lose_id : (t : ClientTurn) (now : Stamp) → (cl.losses t now).state.id ≡ t.state.id
   unfolding cl.losses at_each at_these
@@ -47,8 +42,8 @@ module _ (B : ServerId → ℕ → ℕ → ℕ → Type 0) (G : ServerId → ℕ
   unfolding cl.client_step cl.work
   step_stands s now input tells h =
       let t = cl.losses (client_turn s []) now in
-      each Stand (λ a. AsksBehind B G a.server a.life.0 a.session) (cp.passes now (cl.is_tick input)) (a_passes B G now (cl.is_tick input)) (cl.take_input t now input)
-      (each_taken Stand (λ m. HasFact (Tells B m.header m.body)) now (k_take (AsksStand B G)) (λ m u p q. k_receive B G start m.header m.body now u q p) (k_finish (AsksStand B G)) t (cl.take_input t now input) input (taken t now input) told
+      each Stand (λ a. AsksBehind B G a.server a.life.0 a.session) (cp.passes now (cl.is_tick input)) (asked_after_passes B G now (cl.is_tick input)) (cl.take_input t now input)
+      (each_taken Stand (λ m. HasFact (Tells B m.header m.body)) now (kept_by_take (AsksStand B G)) (λ m u p q. kept_by_receive B G start m.header m.body now u q p) (kept_by_finish (AsksStand B G)) t (cl.take_input t now input) input (taken t now input) told
       (lost (AsksStand B G) (client_turn s []) now h))
     where
       told : (m : Message) → input ≡ inputs.Control m → (m.header.to == (cl.losses (client_turn s []) now).state.id.0) ≡ true →

@@ -1,29 +1,26 @@
 -- Every event keeps what holds of the requests of all sessions.
-use Rattle.std.proofs.Common.{◌≡◌, ◌≢◌, ℕ, ◌+◌, ◌≤◌, ◌⊎◌, Bool, true, false, List, [], Option, Some, None, Ok, refl, sym, ap, ◌∙◌, subst, inl, inr, arith}
-use Rattle.std.specs.Prelude.{map}
-use Rattle.st_base.specs.declared.ids.ClientId.{ClientId}
-use Rattle.st_base.specs.declared.ids.ServerId.{ServerId}
-use Rattle.st_base.specs.declared.ids.Stamp.{Stamp}
-use Rattle.st_base.specs.declared.ids.NodeId.TheVariants as nodes
-use Rattle.st_messages.specs.declared.message.Message.{Message}
-use Rattle.st_messages.specs.declared.event.Event.{Event}
-use Rattle.st_rules.specs.declared.client.ClientInput.{ClientInput}
-use Rattle.st_rules.specs.declared.client.ClientInput.TheVariants as inputs
-use Rattle.st_rules.specs.declared.input.ServerInput.{ServerInput}
-use Rattle.st_rules.specs.Keys.{client, server_node}
-use Rattle.st_rules.specs.Client as cl
-use Rattle.st_rules.specs.ClientState.{ClientTurn}
-use Rattle.st_rules.specs.Events as ev
-use Rattle.st_rules.specs.Events.{WorldTurn, world_step}
-use Rattle.st_rules.specs.History.{Traced}
-use Rattle.st_rules.specs.Sessions as sessions
-use Rattle.st_rules.specs.Server as server
-use Rattle.st_rules.specs.Server.{ServerNode}
-use Rattle.st_rules.specs.World as world
-use Rattle.st_rules.specs.World.{World, WorldClient, site_of, node_of, numbered, with_numbered, clock_of}
-use Rattle.st_rules.specs.Safety.{Step}
-use Rattle.st_lemmas.specs.Lists.{Has}
-use Rattle.st_lemmas.proofs.Tables.{has_map}
+use Rattle.st_lemmas.proofs.Words
+use Words.{◌≡◌, ◌≢◌, ℕ, ◌+◌, ◌≤◌, ◌⊎◌, true, false, List, [], Option, Some, None, Ok, refl, sym, ap, ◌∙◌, subst, inl, inr, arith, map, ClientId, ServerId}
+use Words.{Stamp, Message, Event, ClientInput, ServerInput, Request, eqb-true, GrantNo}
+use Words.nodes
+use Words.inputs
+use Words.Keys.{client, server_node}
+use Words.Client as cl
+use Words.ClientState.{ClientTurn, Association, ClientSession, ClientState, is_refusal, is_request_of, fits, reasserts}
+use Words.Events as ev
+use Words.Events.{WorldTurn, world_step}
+use Words.History.{Traced}
+use Words.Sessions as sessions
+use Words.Server as server
+use Words.Server.{ServerNode}
+use Words.World as world
+use Words.World.{World, WorldClient, site_of, node_of, numbered, with_numbered, clock_of}
+use Words.Safety.{Step}
+use Words.Lists.{Has}
+use Words.Tables.{has_map, and_both, and_true}
+use Words.ClientReplies.{refuses_reassertion}
+use Words.bodies
+use Words.Truth.{clash}
 use Rattle.st_laws_leases.specs.Dates.Dates.{messages}
 use Rattle.st_laws_requests.specs.Replies.ServedRequests.{Ends, InputNew, IsBehind, NewOwed, Refusal, Says}
 use Rattle.st_laws_leases.proofs.Dates.Leaving.{Leaves, set_cases}
@@ -34,17 +31,7 @@ use Rattle.st_laws_extents.specs.CutRequests.Asks.{AsksBehind, AsksStand, Of, Te
 use Rattle.st_laws_extents.specs.CutRequests.World.{AllAsk, AllAsked, Gifts, IsServed, ServedTo}
 use Rattle.st_laws_extents.proofs.CutRequests.Requesting.{stays_at}
 use Rattle.st_laws_extents.proofs.CutRequests.Step.{TellsEach, step_stands}
-use Rattle.st_rules.specs.ClientState.{Association, ClientSession, ClientState, is_refusal, is_request_of, fits, reasserts}
-use Rattle.st_rules.specs.ClientReplies.{refuses_reassertion}
-use Rattle.st_messages.specs.declared.message.Body.TheVariants as bodies
-use Rattle.st_rules.specs.declared.client.Request.{Request}
-use Rattle.std.proofs.lemmas.Bool.{eqb-true}
-use Rattle.st_lemmas.proofs.Tables.{and_both, and_true}
-use Rattle.st_base.specs.declared.ids.GrantNo.{GrantNo}
 use Rattle.st_laws_requests.proofs.Replies.Served.{Served, served}
-
-clash : {A : Type 0} {b : Bool} → b ≡ true → b ≡ false → A
-clash x y = cc
 
 -- what was served is served in another way, too
 behind_more : (B C : ServerId → ℕ → ℕ → ℕ → Type 0) (G : ServerId → ℕ → GrantNo → Type 0) → ((server : ServerId) (life epoch n : ℕ) → B server life epoch n → C server life epoch n) →

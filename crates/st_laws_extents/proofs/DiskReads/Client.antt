@@ -1,60 +1,46 @@
 -- Outstanding reads where a client that runs takes an input.
-use Rattle.std.proofs.Common.{◌≡◌, ◌≢◌, ℕ, ◌≤◌, ◌⊎◌, true, false, ◌&&◌, ◌==◌, not, List, [], ◌∷◌, ◌++◌, Option, Some, None, Ok, Err, refl, sym, ap, ◌∙◌, subst, inl, inr, arith, if◌then◌else◌}
-use Rattle.std.specs.Prelude.{length, map}
-use Rattle.std.proofs.lemmas.Bool.{eq-eqb, eqb-true, leb-false}
-use Rattle.st_base.specs.declared.disk.Command.{Command}
-use Rattle.st_base.specs.declared.disk.Command.TheVariants as commands
-use Rattle.st_base.specs.declared.ids.ClientId.{ClientId}
-use Rattle.st_base.specs.declared.ids.FileId.{FileId}
-use Rattle.st_base.specs.declared.ids.NodeId.TheVariants as nodes
-use Rattle.st_base.specs.declared.ids.PageNo.{PageNo}
-use Rattle.st_base.specs.declared.ids.ServerId.{ServerId}
-use Rattle.st_base.specs.declared.ids.Stamp.{Stamp}
-use Rattle.st_messages.specs.declared.ask.Ask.{Ask}
-use Rattle.st_messages.specs.declared.event.Event.{Event}
-use Rattle.st_messages.specs.declared.output.Output.TheVariants as outputs
-use Rattle.st_rules.specs.declared.client.IoKind.TheVariants as io
-use Rattle.st_rules.specs.declared.client.PageCommand.{PageCommand}
-use Rattle.st_rules.specs.declared.disks.Block.{Block}
-use Rattle.st_rules.specs.declared.disks.DiskCommand.{DiskCommand}
-use Rattle.st_rules.specs.declared.log.LogEntry.{LogEntry}
+use Rattle.st_lemmas.proofs.Words
+use Words.{◌≡◌, ◌≢◌, ℕ, ◌≤◌, ◌⊎◌, true, ◌&&◌, ◌==◌, not, List, [], ◌∷◌, ◌++◌, Option, Some, None, Ok, Err, refl, sym, ap, ◌∙◌, subst, inl, inr, arith}
+use Words.{if◌then◌else◌, length, map, eq-eqb, eqb-true, Command, ClientId, FileId, PageNo, ServerId, Stamp, Ask, Event, PageCommand, Block}
+use Words.{DiskCommand, LogEntry, Carried, IssuedCommand}
+use Words.commands
+use Words.nodes
+use Words.outputs
+use Words.io
+use Words.Client as cl
+use Words.ClientPages as pages
+use Words.ClientState.{Association}
+use Words.Disks as disks
+use Words.Disks.{Disks}
+use Words.Events as ev
+use Words.Events.{WorldTurn, client_says_all, counted, world_step}
+use Words.FlatLog.{content, touches}
+use Words.Keys.{client, same_file, same_page}
+use Words.Safety.{Step}
+use Words.World as world
+use Words.World.{World, WorldClient, clock_of, numbered, site_of, with_numbered}
+use Words.Lists.{Has}
+use Words.Lookups.{some_is}
+use Words.Numbers.{numbered_below, numbered_has, numbered_other, numbered_own}
+use Words.Tables.{and_both, and_true, same_or_not, some_passes}
 use Rattle.st_rules.specs.declared.node.StepRefusal.TheVariants.{Crashed}
-use Rattle.st_rules.specs.declared.world.Carried.{Carried}
-use Rattle.st_rules.specs.declared.world.IssuedCommand.{IssuedCommand}
-use Rattle.st_rules.specs.Client as cl
-use Rattle.st_rules.specs.ClientLease as lease
-use Rattle.st_rules.specs.ClientPages as pages
-use Rattle.st_rules.specs.ClientState.{Association, ClientSession}
-use Rattle.st_rules.specs.Disks as disks
-use Rattle.st_rules.specs.Disks.{Disks}
-use Rattle.st_rules.specs.Events as ev
-use Rattle.st_rules.specs.Events.{WorldTurn, client_says_all, counted, world_step}
-use Rattle.st_rules.specs.FlatLog.{content, touches}
-use Rattle.st_rules.specs.Keys.{client, same_file, same_page}
-use Rattle.st_rules.specs.Safety.{Step}
-use Rattle.st_rules.specs.World as world
-use Rattle.st_rules.specs.World.{World, WorldClient, clock_of, numbered, site_of, with_numbered}
 use Rattle.st_protocol.specs.Assoc.{Config}
-use Rattle.st_lemmas.specs.Lists.{Has}
-use Rattle.st_lemmas.proofs.Lookups.{some_is}
-use Rattle.st_lemmas.proofs.Numbers.{numbered_below, numbered_has, numbered_other, numbered_own}
-use Rattle.st_lemmas.proofs.Tables.{and_both, and_true, same_or_not, some_passes}
 use Rattle.st_laws_refine.specs.Views.Halves.{held_in}
 use Rattle.st_laws_refine.specs.Client.Invariants.{Lasts}
 use Rattle.st_laws_pages.specs.Flush.Flush.{IsIts, file_at}
 use Rattle.st_laws_steps.specs.Lives.Lives.{LivesHold, Once, clock_in, server_number}
-use Rattle.st_laws_steps.specs.Client.Losses.{Fit, is_ended}
+use Rattle.st_laws_steps.specs.Client.Losses.{Fit}
 use Rattle.st_laws_pages.specs.Disks.World.{mapped_at, mapped_in}
 use Rattle.st_laws_pages.proofs.Lives.Each.{SteppedNode}
 use Rattle.st_laws_pages.proofs.Lives.Lasting.{flush_parts}
 use Rattle.st_laws_pages.proofs.Lives.Turning.{says_lives}
-use Rattle.st_laws_pages.proofs.Causes.FlushSteps.{BothHold}
+use Rattle.st_laws_pages.proofs.Causes.FlushSteps.{BothHold, flushes_disks}
 use Rattle.st_laws_leases.specs.Sides.World.{AllStand}
 use Rattle.st_laws_reads.specs.Copies.Law.{StandsAt}
 use Rattle.st_laws_reads.specs.Copies.World.{AllOwn, OwnEntry, Taking, Unheld, WorldKeeps, taken, turn_of}
 use Rattle.st_laws_reads.specs.AllClients.Law.{Running}
 use Rattle.st_laws_reads.specs.AllClients.World.{CopiesHold, TakingOwed}
-use Rattle.st_laws_reads.proofs.AllClients.Alone.{law, while_at}
+use Rattle.st_laws_reads.proofs.AllClients.Alone.{pending_pages_stand_alone, while_at}
 use Rattle.st_laws_reads.proofs.AllClients.Takings.{Takes, keeps, mine_there, there_at}
 use Rattle.st_laws_pages.proofs.Writes.Joining.{IsNew, all_say}
 use Rattle.st_laws_reads.proofs.OpenWrites.Growing.{grows_all}
@@ -63,11 +49,7 @@ use Rattle.st_laws_extents.specs.DiskReads.OutstandingReads.{ReadsClean}
 use Rattle.st_laws_extents.specs.DiskReads.Reads.{EachRight, ReadRight, ReadsHold, ReadsLie}
 use Rattle.st_laws_extents.proofs.DiskReads.Contents.{content_others, content_said}
 use Rattle.st_laws_extents.proofs.DiskReads.Step.{ReadStays, all_behind, reads_behind}
-use Rattle.st_laws_pages.proofs.Causes.FlushSteps.{flushes_disks}
-
-pub ongoing : (k : Rattle.st_base.specs.declared.config.Config.Config) (now : Stamp) (a : Option ClientSession) → is_ended k now a ≡ false → Lasts k.lease now.0 a
-ongoing k now None e = tt
-ongoing k now (Some s) e = let z = leb-false (lease.end_of k s.lease).0 now.0 e in omega (arith, z)
+use Rattle.st_laws_reads.proofs.AllClients.Behind.{lasting}
 
 -- a read of a page is outstanding
 pub being_read : (a : Association) (pc : PageCommand) → Has pc a.store.commands → pc.kind ≡ io.Read → pages.is_being_read a.store.commands pc.ino pc.page ≡ true
@@ -211,7 +193,7 @@ module _ (asks : ℕ → ℕ → Option Ask) (k : Config) (count : ℕ) (past mo
       lasts : Lasts tk.old.node.state.config.lease (clock_of w (nodes.Client (client c))).0 st.a.session
       lasts =
           subst (λ (n : cl.ClientNode). Lasts n.state.config.lease (clock_of w (nodes.Client (client c))).0 st.a.session) (sym tk.same)
-          (subst (λ (s : Stamp). Lasts x.site.node.state.config.lease s.0 st.a.session) (ap (λ ts. clock_in ts (client c)) tk.clocks) (ongoing x.site.node.state.config (clock_of W (nodes.Client (client c))) st.a.session st.lasted))
+          (subst (λ (s : Stamp). Lasts x.site.node.state.config.lease s.0 st.a.session) (ap (λ ts. clock_in ts (client c)) tk.clocks) (lasting x.site.node.state.config (clock_of W (nodes.Client (client c))) st.a.session st.lasted))
 
       z : ReadRight w w.log st.a pc (was j d di).command
       z = reads_w.right c tk.old old_run st.a among lasts pc st.command r j y (was j d di).command (in_w j y yi) (record { client = its.client; instance_ = its.instance_ ∙ sym (in_.starts tk.old tk.there); number_is = its.number_is }) (was j d di).is
@@ -272,7 +254,7 @@ module _ (asks : ℕ → ℕ → Option Ask) (k : Config) (count : ℕ) (past mo
             let held = (s.pages pc.ino pc.page).reading (being_read a pc m r) in
             let f = and_true (same_file z.of.file (file_at a pc.ino)) _ t in
             let g = and_true (Rattle.st_rules.specs.Keys.same_server z.of.file.server a.server) _ f.0 in
-            let u = law (asks c) k count sc.world c d M site o.association z after (λ v. n (sym v)) (record { there = left; runs = runs }) run ((copies_v c M left).runs runs) o.listed
+            let u = pending_pages_stand_alone (asks c) k count sc.world c d M site o.association z after (λ v. n (sym v)) (record { there = left; runs = runs }) run ((copies_v c M left).runs runs) o.listed
             (record { logged = subst (λ l. Has z l) (sym joined) (has_behind w.log kept.more z h); pending = o.pending; own = o.own; server = there_at sc.world (turn_of x).state.associations o.association ((copies_v c M left).servers) o.listed }) in
             let v = unheld_at z.of.file site.node.state.config.lease (clock_of sc.world (nodes.Client (client d))).0 site.node.state.associations u a i l (ap (λ v. record { 0 = v }) (eqb-true z.of.file.server.0 a.server.0 g.0)) in
             let e = ap (λ v. (held_in a.session v).mode) (eqb-true z.of.file.ino pc.ino g.1) in

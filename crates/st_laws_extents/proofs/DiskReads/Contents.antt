@@ -1,26 +1,20 @@
 -- The content of a page through a client's outputs that do not change it, and through entries that do not touch it.
-use Rattle.std.proofs.Common.{◌≡◌, Bool, true, false, ◌&&◌, List, [], ◌∷◌, ◌++◌, Option, Some, None, refl, sym, ap, ◌∙◌, inl, inr}
-use Rattle.st_base.specs.Page.{filled}
-use Rattle.st_base.specs.declared.ids.ClientId.{ClientId}
-use Rattle.st_base.specs.declared.ids.FileId.{FileId}
-use Rattle.st_base.specs.declared.ids.PageNo.{PageNo}
-use Rattle.st_base.specs.declared.ids.ServerId.{ServerId}
-use Rattle.st_messages.specs.declared.output.Note.{Note}
-use Rattle.st_messages.specs.declared.output.Note.TheVariants as notes
-use Rattle.st_messages.specs.declared.output.Output.{Output}
-use Rattle.st_messages.specs.declared.output.Output.TheVariants as outputs
-use Rattle.st_rules.specs.declared.client.PageCommand.{PageCommand}
-use Rattle.st_rules.specs.declared.log.LogEntry.{LogEntry}
-use Rattle.st_rules.specs.ClientState.{ClientState}
-use Rattle.st_rules.specs.Events as ev
-use Rattle.st_rules.specs.Events.{WorldTurn, client_says, client_says_all}
-use Rattle.st_rules.specs.FlatLog as log
-use Rattle.st_rules.specs.FlatLog.{content, matters, touches}
-use Rattle.st_rules.specs.Keys.{same_file, same_page}
-use Rattle.st_rules.specs.World.{WorldClient, site_of}
-use Rattle.st_lemmas.specs.Lists.{Has}
+use Rattle.st_lemmas.proofs.Words
+use Words.{◌≡◌, Bool, true, false, ◌&&◌, List, [], ◌∷◌, ◌++◌, Option, Some, None, refl, sym, ap, ◌∙◌, inl, inr, ClientId, FileId, PageNo, ServerId, Note}
+use Words.{Output, PageCommand, LogEntry}
+use Words.Page.{filled}
+use Words.notes
+use Words.outputs
+use Words.ClientState.{ClientState}
+use Words.Events as ev
+use Words.Events.{WorldTurn, client_says, client_says_all}
+use Words.FlatLog as log
+use Words.FlatLog.{content, matters, touches}
+use Words.Keys.{same_file, same_page}
+use Words.World.{WorldClient, site_of}
+use Words.Lists.{Has}
+use Words.Lookups.{if_false}
 use Rattle.st_lemmas.proofs.Contents.{content_last}
-use Rattle.st_lemmas.proofs.Lookups.{if_false}
 use Rattle.st_laws_pages.proofs.Disks.Law.{same_place_is}
 use Rattle.st_laws_extents.specs.DiskReads.OutstandingReads.{Unchanged}
 

@@ -1,36 +1,25 @@
 -- The end of a read that was outstanding: what it found is the content of the page.
-use Rattle.std.proofs.Common.{◌≡◌, ℕ, Bool, true, false, ◌==◌, List, [], ◌∷◌, Option, Some, None, refl, sym, ap, ◌∙◌, subst, inl, inr, if◌then◌else◌}
-use Rattle.std.specs.Prelude.{is_some, option_map}
-use Rattle.std.proofs.lemmas.Bool.{eqb-true}
-use Rattle.st_base.specs.declared.disk.Tag.{Tag}
-use Rattle.st_base.specs.declared.ids.ClientId.{ClientId}
-use Rattle.st_base.specs.declared.ids.NodeId.{NodeId}
-use Rattle.st_base.specs.declared.ids.NodeId.TheVariants as nodes
-use Rattle.st_base.specs.declared.ids.Stamp.{Stamp}
-use Rattle.st_messages.specs.declared.event.Event.{Event}
-use Rattle.st_messages.specs.declared.event.Event.TheVariants as events
-use Rattle.st_rules.specs.declared.client.ClientInput.{ClientInput}
-use Rattle.st_rules.specs.declared.client.ClientInput.TheVariants as inputs
-use Rattle.st_rules.specs.declared.client.IoKind.TheVariants as io
-use Rattle.st_rules.specs.declared.client.MappedBlock.{MappedBlock}
-use Rattle.st_rules.specs.declared.client.PageCommand.{PageCommand}
-use Rattle.st_rules.specs.declared.disks.Block.{Block}
-use Rattle.st_rules.specs.declared.disks.DiskCommand.{DiskCommand}
-use Rattle.st_rules.specs.declared.world.IssuedCommand.{IssuedCommand}
-use Rattle.st_rules.specs.declared.world.SentMessage.{SentMessage}
-use Rattle.st_rules.specs.Client as cl
-use Rattle.st_rules.specs.Client.{losses}
-use Rattle.st_rules.specs.ClientPages as pages
-use Rattle.st_rules.specs.ClientState.{Association, client_turn}
-use Rattle.st_rules.specs.Disks as disks
-use Rattle.st_rules.specs.Events as ev
-use Rattle.st_rules.specs.Events.{WorldTurn, counted}
-use Rattle.st_rules.specs.FlatLog.{content}
-use Rattle.st_rules.specs.Keys.{client}
-use Rattle.st_rules.specs.World.{World, WorldClient, clock_of, issued_of, message_of, numbered, receiver_of, site_of}
-use Rattle.st_lemmas.specs.Lists.{Has}
-use Rattle.st_lemmas.proofs.Lookups.{some_is}
-use Rattle.st_lemmas.proofs.Tables.{and_true, found_at}
+use Rattle.st_lemmas.proofs.Words
+use Words.{◌≡◌, ℕ, Bool, true, false, ◌==◌, List, [], ◌∷◌, Option, Some, None, refl, sym, ap, ◌∙◌, subst, inl, inr, if◌then◌else◌, is_some, option_map}
+use Words.{eqb-true, Tag, ClientId, NodeId, Stamp, Event, ClientInput, MappedBlock, PageCommand, Block, DiskCommand, IssuedCommand, SentMessage}
+use Words.nodes
+use Words.events
+use Words.inputs
+use Words.io
+use Words.Client as cl
+use Words.Client.{losses}
+use Words.ClientPages as pages
+use Words.ClientState.{Association, client_turn}
+use Words.Disks as disks
+use Words.Events as ev
+use Words.Events.{WorldTurn, counted}
+use Words.FlatLog.{content}
+use Words.Keys.{client}
+use Words.World.{World, WorldClient, clock_of, issued_of, message_of, numbered, receiver_of, site_of}
+use Words.Lists.{Has}
+use Words.Lookups.{some_is}
+use Words.Tables.{and_true, found_at}
+use Words.Truth.{none_not_some}
 use Rattle.st_laws_refine.specs.Client.Invariants.{Lasts}
 use Rattle.st_laws_pages.specs.Flush.Flush.{IsIts, file_at}
 use Rattle.st_laws_steps.specs.Lives.Lives.{clock_in}
@@ -44,7 +33,7 @@ use Rattle.st_laws_reads.specs.AllClients.Law.{Running}
 use Rattle.st_laws_reads.proofs.AllClients.Takings.{Takes}
 use Rattle.st_laws_extents.proofs.Submits.Taking.{report_open}
 use Rattle.st_laws_extents.specs.DiskReads.Reads.{KnownRight, ReadRight, ReadsHold}
-use Rattle.st_laws_extents.proofs.DiskReads.Client.{ongoing}
+use Rattle.st_laws_reads.proofs.AllClients.Behind.{lasting}
 
 -- What a command of these disks found.
 pub record FoundAt (w : World) (k : ℕ) (block : Tag × List ℕ) : Type 0 where
@@ -70,9 +59,6 @@ EndsIn w x input = Unit {0}
 abbrev pub Ends : World → Taking → Type 0
 Ends w x = EndsIn w x x.input
 
-not_some : {A : Type 0} (x : A) → ◌≡◌ {A = Option A} None (Some x) → ⊥
-not_some x e = cc
-
 found_there : (w : World) (n : ℕ) (ok : Bool) (block : Tag × List ℕ) → ev.result_of ok (disks.sample (ev.disks_after w.disks (disks.done w.disks n ok)) n) ≡ Some (Some block) → FoundAt w n block
 found_there w n ok block e = by ok e
   where
@@ -80,15 +66,15 @@ found_there w n ok block e = by ok e
     ds = ev.disks_after w.disks (disks.done w.disks n ok)
 
     at : (o : Option DiskCommand) → disks.command ds n ≡ o → (s : Option Block) → disks.sample_of o ≡ s → Some (option_map ev.tag_and_bytes s) ≡ Some (Some block) → FoundAt w n block
-    at o c None f q = absurd (not_some block (some_is q))
-    at None c (Some b) f q = absurd (not_some b f)
+    at o c None f q = absurd (none_not_some block (some_is q))
+    at None c (Some b) f q = absurd (none_not_some b f)
     at (Some d) c (Some b) f q =
         let z = (report_open w.disks n ok).was n d c in
         record { command = z.command; there = z.is; of = b; sample = sym z.sample ∙ f; is = some_is (some_is q) }
 
     by : (b : Bool) → ev.result_of b (disks.sample ds n) ≡ Some (Some block) → FoundAt w n block
     by true q = at (disks.command ds n) refl (disks.sample ds n) refl q
-    by false q = absurd (not_some (Some block) q)
+    by false q = absurd (none_not_some (Some block) q)
 
 pub ends : (w : World) (e : Event) (x : Taking) → taken w e ≡ Some x → Ends w x
 ends w (events.Tick (nodes.Client c)) x q = go (site_of w c) q
@@ -168,7 +154,7 @@ module _ (w : World) (sc : WorldTurn) (x : Taking) (tk : Takes (counted w) sc x)
               (record {
                 here = subst (λ (n : cl.ClientNode). Has b n.state.associations) (sym tk.same) j;
                 lasts = subst (λ (n : cl.ClientNode). Lasts n.state.config.lease (clock_of w (nodes.Client (client c))).0 b.session) (sym tk.same)
-                    (subst (λ (s : Stamp). Lasts x.site.node.state.config.lease s.0 b.session) (ap (λ ts. clock_in ts (client c)) tk.clocks) (ongoing x.site.node.state.config (now_at x) b.session e));
+                    (subst (λ (s : Stamp). Lasts x.site.node.state.config.lease s.0 b.session) (ap (λ ts. clock_in ts (client c)) tk.clocks) (lasting x.site.node.state.config (now_at x) b.session e));
               })
           by true e = absurd (none (subst (λ (st : pages.Store). Has pc st.commands) (r.emptied e) m))
             where

@@ -1,63 +1,42 @@
 -- Outstanding reads through each event at which no client takes an input.
-use Rattle.std.proofs.Common.{◌≡◌, ◌≢◌, ℕ, zero, suc, ◌≤◌, ◌⊎◌, Bool, true, false, ◌&&◌, ◌==◌, List, [], ◌∷◌, Option, Some, None, Ok, Err, refl, sym, ap, ◌∙◌, subst, inl, inr, arith, if◌then◌else◌}
-use Rattle.std.specs.Prelude.{nat_le}
-use Rattle.std.proofs.lemmas.Bool.{eqb-true, leb-true}
-use Rattle.st_base.specs.Page.{filled}
-use Rattle.st_base.specs.declared.disk.BlockAt.{BlockAt}
-use Rattle.st_base.specs.declared.disk.Command.{Command}
-use Rattle.st_base.specs.declared.disk.Command.TheVariants as commands
-use Rattle.st_base.specs.declared.ids.ClientId.{ClientId}
-use Rattle.st_base.specs.declared.ids.FileId.{FileId}
-use Rattle.st_base.specs.declared.ids.NodeId.{NodeId}
-use Rattle.st_base.specs.declared.ids.NodeId.TheVariants as nodes
-use Rattle.st_base.specs.declared.ids.PageNo.{PageNo}
-use Rattle.st_base.specs.declared.ids.ServerId.{ServerId}
-use Rattle.st_base.specs.declared.ids.Stamp.{Stamp}
-use Rattle.st_messages.specs.declared.ask.Ask.{Ask}
-use Rattle.st_messages.specs.declared.event.Event.{Event}
-use Rattle.st_messages.specs.declared.event.Event.TheVariants as events
-use Rattle.st_messages.specs.declared.message.Message.{Message}
-use Rattle.st_messages.specs.declared.output.Note.{Note}
-use Rattle.st_messages.specs.declared.output.Note.TheVariants as notes
-use Rattle.st_messages.specs.declared.output.Output.{Output}
-use Rattle.st_messages.specs.declared.output.Output.TheVariants as outputs
-use Rattle.st_rules.specs.declared.client.ClientInput.TheVariants as inputs
-use Rattle.st_rules.specs.declared.client.IoKind.TheVariants as io
-use Rattle.st_rules.specs.declared.client.PageCommand.{PageCommand}
-use Rattle.st_rules.specs.declared.disks.Block.{Block}
-use Rattle.st_rules.specs.declared.disks.DiskCommand.{DiskCommand}
-use Rattle.st_rules.specs.declared.extents.Extent.{Extent}
-use Rattle.st_rules.specs.declared.input.ServerInput.{ServerInput}
-use Rattle.st_rules.specs.declared.input.ServerInput.TheVariants as serving
-use Rattle.st_rules.specs.declared.log.LogEntry.{LogEntry}
+use Rattle.st_lemmas.proofs.Words
+use Words.{◌≡◌, ◌≢◌, ℕ, zero, suc, ◌≤◌, ◌⊎◌, Bool, true, false, ◌&&◌, ◌==◌, List, [], ◌∷◌, Option, Some, None, Ok, Err, refl, sym, ap, ◌∙◌, subst, inl, inr}
+use Words.{arith, if◌then◌else◌, nat_le, eqb-true, leb-true, BlockAt, Command, ClientId, FileId, NodeId, PageNo, ServerId, Stamp, Ask, Event, Message, Note}
+use Words.{Output, PageCommand, Block, DiskCommand, Extent, ServerInput, LogEntry, Carried, IssuedCommand, LeaseLife, SentMessage}
+use Words.Page.{filled}
+use Words.commands
+use Words.nodes
+use Words.events
+use Words.notes
+use Words.outputs
+use Words.inputs
+use Words.io
+use Words.serving
+use Words.Admissible as adm
+use Words.Client as cl
+use Words.ClientPages as pages
+use Words.ClientPages.{found_under}
+use Words.ClientState.{Association, ClientSession}
+use Words.Disks as disks
+use Words.Events as ev
+use Words.Events.{happens}
+use Words.Extents as extents
+use Words.Extents.{Extents}
+use Words.FlatLog as log
+use Words.FlatLog.{content, hard_cut, touches}
+use Words.Keys.{client, same_file}
+use Words.Server as server
+use Words.Server.{ServerNode}
+use Words.World.{World, WorldClient, clock_of, issued_of, message_of, node_of, numbered, receiver_of, site_of, with_numbered}
+use Words.Lists.{Has}
+use Words.Lookups.{some_is}
+use Words.Numbers.{numbered_below, numbered_other, numbered_own}
+use Words.Tables.{and_true, has_map, same_or_not}
+use Words.Truth.{file_is, file_self, some_not_none}
 use Rattle.st_rules.specs.declared.node.StepRefusal.TheVariants.{Crashed}
-use Rattle.st_rules.specs.declared.world.Carried.{Carried}
-use Rattle.st_rules.specs.declared.world.IssuedCommand.{IssuedCommand}
-use Rattle.st_rules.specs.declared.world.LeaseLife.{LeaseLife}
-use Rattle.st_rules.specs.declared.world.SentMessage.{SentMessage}
-use Rattle.st_rules.specs.Admissible as adm
-use Rattle.st_rules.specs.Client as cl
-use Rattle.st_rules.specs.ClientPages as pages
-use Rattle.st_rules.specs.ClientPages.{found_under}
-use Rattle.st_rules.specs.ClientState.{Association, ClientSession}
-use Rattle.st_rules.specs.Disks as disks
-use Rattle.st_rules.specs.Events as ev
-use Rattle.st_rules.specs.Events.{happens}
-use Rattle.st_rules.specs.Extents as extents
-use Rattle.st_rules.specs.Extents.{Extents}
-use Rattle.st_rules.specs.FlatLog as log
-use Rattle.st_rules.specs.FlatLog.{content, hard_cut, touches}
-use Rattle.st_rules.specs.Keys.{client, same_file}
-use Rattle.st_rules.specs.Server as server
-use Rattle.st_rules.specs.Server.{ServerNode}
-use Rattle.st_rules.specs.World.{World, WorldClient, clock_of, issued_of, message_of, node_of, numbered, receiver_of, site_of, with_numbered}
 use Rattle.st_protocol.specs.Assoc.{Config}
-use Rattle.st_lemmas.specs.Lists.{Has}
 use Rattle.st_lemmas.proofs.Contents.{find_stays}
-use Rattle.st_lemmas.proofs.Lookups.{some_is}
 use Rattle.st_lemmas.proofs.Marks.{content_hard}
-use Rattle.st_lemmas.proofs.Numbers.{numbered_below, numbered_other, numbered_own}
-use Rattle.st_lemmas.proofs.Tables.{and_true, has_map, same_or_not}
 use Rattle.st_laws_refine.specs.Views.Halves.{held_in}
 use Rattle.st_laws_refine.specs.Client.Invariants.{Lasts}
 use Rattle.st_laws_pages.specs.Flush.Flush.{IsIts, file_at}
@@ -69,7 +48,7 @@ use Rattle.st_laws_pages.proofs.Disks.Data.{block_law}
 use Rattle.st_laws_pages.proofs.Disks.Effects.{EffectFinds, effect_finds, effect_is}
 use Rattle.st_laws_pages.proofs.Disks.Folds.{alike_content, alike_drop, alike_settled}
 use Rattle.st_laws_pages.proofs.Lives.Lives.{find_front}
-use Rattle.st_laws_pages.proofs.Disks.Law.{same_file_is, same_place_is, self_file}
+use Rattle.st_laws_pages.proofs.Disks.Law.{same_place_is}
 use Rattle.st_laws_pages.proofs.Disks.Moves.{clock_up}
 use Rattle.st_laws_pages.proofs.Disks.Walk.{step_moves}
 use Rattle.st_laws_pages.proofs.Disks.World.{at_set}
@@ -81,16 +60,13 @@ use Rattle.st_laws_reads.specs.AllClients.Events.{CutFree, CutsFree, FrozenStand
 use Rattle.st_laws_reads.specs.AllClients.Law.{Running}
 use Rattle.st_laws_reads.specs.AllClients.World.{CopiesHold}
 use Rattle.st_laws_reads.proofs.AllClients.Alone.{while_at}
-use Rattle.st_laws_reads.proofs.AllClients.Settled.{law as settled_law}
+use Rattle.st_laws_reads.proofs.AllClients.Settled.{locked_pages_are_settled as settled_law}
 use Rattle.st_laws_extents.proofs.Submits.Others.{free_at}
 use Rattle.st_laws_extents.proofs.Submits.Taking.{WasCommand, report_open}
 use Rattle.st_laws_extents.specs.DiskReads.OutstandingReads.{ReadsClean}
 use Rattle.st_laws_extents.specs.DiskReads.Reads.{ReadRight, ReadsHold}
 use Rattle.st_laws_extents.proofs.DiskReads.Client.{being_read}
 use Rattle.st_laws_extents.proofs.DiskReads.Contents.{content_more}
-
-none_some : {A : Type 0} (x : A) → ◌≡◌ {A = Option A} (Some x) None → ⊥
-none_some x e = cc
 
 -- Contents of logs that harden, or of which what is pending elsewhere is dropped.
 content_log_hard : (f : FileId) (p : PageNo) (es : List LogEntry) (x : Option Carried) → content (ev.log_hard es x) f p ≡ content es f p
@@ -382,7 +358,7 @@ module _ (asks : ℕ → ℕ → Option Ask) (w : World) (copies : CopiesHold as
       clash z = cc
 
       swap : (a b : FileId) → same_file a b ≡ true → same_file b a ≡ true
-      swap a b z = let y = same_file_is a b z in ap (λ u. same_file u a) (sym y) ∙ self_file a
+      swap a b z = let y = file_is a b z in ap (λ u. same_file u a) (sym y) ∙ file_self a
 
       other : (y : Extent) → extents.is_extent_of g q y ≡ true → extents.is_at_or_behind f p y ≡ false
       other y z = go (extents.is_at_or_behind f p y) refl
@@ -467,7 +443,7 @@ module _ (asks : ℕ → ℕ → Option Ask) (w : World) (copies : CopiesHold as
     where
       go : (o : Option WorldClient) → taking w c (inputs.Control m) o ≡ None → ReadsHold (ev.at_client w c (inputs.Control m) o).world (ev.at_client w c (inputs.Control m) o).world.log
       go None e = reads
-      go (Some site) e = absurd (none_some _ e)
+      go (Some site) e = absurd (some_not_none _ e)
   receiver_reads m (nodes.Server s) e g = server_reads s (serving.Control m) (node_of w s) refl g
 
   message_reads : (o : Option SentMessage) → receiving_of w o ≡ None → MessageFree w o → ReadsHold (ev.delivers w o).world (ev.delivers w o).world.log
@@ -482,13 +458,13 @@ module _ (asks : ℕ → ℕ → Option Ask) (w : World) (copies : CopiesHold as
     where
       go : (s : Option WorldClient) → taking w c inputs.Tick s ≡ None → ReadsHold (ev.at_client w c inputs.Tick s).world (ev.at_client w c inputs.Tick s).world.log
       go None t = reads
-      go (Some site) t = absurd (none_some _ t)
+      go (Some site) t = absurd (some_not_none _ t)
   others_reads (events.Tick (nodes.Server s)) ref t o = server_reads s serving.Tick (node_of w s) refl o
   others_reads (events.App c ask) ref t o = go (site_of w c) t
     where
       go : (s : Option WorldClient) → asking w c ask s ≡ None → ReadsHold (ev.asks_at w c ask s).world (ev.asks_at w c ask s).world.log
       go None t = reads
-      go (Some site) t = absurd (none_some _ t)
+      go (Some site) t = absurd (some_not_none _ t)
   others_reads (events.Deliver n) ref t o = message_reads (message_of w n) t o
   others_reads (events.Lose n) ref t o = go (message_of w n)
     where
@@ -507,7 +483,7 @@ module _ (asks : ℕ → ℕ → Option Ask) (w : World) (copies : CopiesHold as
       by : (y : IssuedCommand) (site : WorldClient) (b : Bool) → (if b then taking (ev.with_disks (ev.disks_after w.disks (disks.done w.disks n ok)) w) y.client (ev.end_told (ev.with_disks (ev.disks_after w.disks (disks.done w.disks n ok)) w) n ok y) (Some site) else None) ≡ None →
           ReadsHold (if b then ev.client_takes (ev.with_disks (ev.disks_after w.disks (disks.done w.disks n ok)) w) y.client (ev.end_told (ev.with_disks (ev.disks_after w.disks (disks.done w.disks n ok)) w) n ok y) site else ev.quiet (ev.with_disks (ev.disks_after w.disks (disks.done w.disks n ok)) w)).world
           (if b then ev.client_takes (ev.with_disks (ev.disks_after w.disks (disks.done w.disks n ok)) w) y.client (ev.end_told (ev.with_disks (ev.disks_after w.disks (disks.done w.disks n ok)) w) n ok y) site else ev.quiet (ev.with_disks (ev.disks_after w.disks (disks.done w.disks n ok)) w)).world.log
-      by y site true t = absurd (none_some _ t)
+      by y site true t = absurd (some_not_none _ t)
       by y site false t = h_v
 
       at : (y : IssuedCommand) (s : Option WorldClient) → told_at (ev.with_disks (ev.disks_after w.disks (disks.done w.disks n ok)) w) n ok y s ≡ None → ReadsHold (ev.tells_client (ev.with_disks (ev.disks_after w.disks (disks.done w.disks n ok)) w) n ok y s).world (ev.tells_client (ev.with_disks (ev.disks_after w.disks (disks.done w.disks n ok)) w) n ok y s).world.log

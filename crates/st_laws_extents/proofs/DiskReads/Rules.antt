@@ -1,38 +1,25 @@
 -- What each change by a rule of a client leaves of outstanding reads; so do changes, one after another.
-use Rattle.std.proofs.Common.{◌≡◌, ℕ, ◌+◌, ◌≤◌, ◌<◌, ◌⊎◌, Bool, true, false, ◌&&◌, ◌==◌, not, List, [], ◌∷◌, ◌++◌, Option, Some, None, refl, sym, ap, ◌∙◌, subst, inl, inr, arith}
-use Rattle.std.specs.Prelude.{is_some, map, nat_le}
-use Rattle.std.proofs.lemmas.Bool.{eq-eqb, eqb-true}
-use Rattle.st_base.specs.declared.ids.FileId.{FileId}
-use Rattle.st_base.specs.declared.ids.PageNo.{PageNo}
-use Rattle.st_base.specs.declared.ids.ServerId.{ServerId}
-use Rattle.st_base.specs.declared.ids.Stamp.{Stamp}
-use Rattle.st_messages.specs.declared.answer.AppAnswer.{AppAnswer}
-use Rattle.st_messages.specs.declared.output.Note.{Note}
-use Rattle.st_messages.specs.declared.output.Note.TheVariants as notes
-use Rattle.st_messages.specs.declared.output.Output.{Output}
-use Rattle.st_messages.specs.declared.output.Output.TheVariants as outputs
-use Rattle.st_rules.specs.declared.client.CleanPage.{CleanPage}
-use Rattle.st_rules.specs.declared.client.IoKind.{IoKind}
-use Rattle.st_rules.specs.declared.client.IoKind.TheVariants as io
-use Rattle.st_rules.specs.declared.client.KnownExtent.{KnownExtent}
-use Rattle.st_rules.specs.declared.client.LostPage.{LostPage}
-use Rattle.st_rules.specs.declared.client.MappedBlock.{MappedBlock}
-use Rattle.st_rules.specs.declared.client.Operation.{Operation}
-use Rattle.st_rules.specs.declared.client.PageCommand.{PageCommand}
-use Rattle.st_rules.specs.declared.pages.DirtyPage.{DirtyPage}
-use Rattle.st_rules.specs.ClientLease as lease
-use Rattle.st_rules.specs.ClientPages as pages
-use Rattle.st_rules.specs.ClientPages.{Store}
-use Rattle.st_rules.specs.ClientPasses as passes
-use Rattle.st_rules.specs.ClientState.{ClientSession, Turn, answer_to, is_serving, note, say, with_lost_rows, with_operations, with_session, with_store}
-use Rattle.st_rules.specs.Keys.{same_page}
-use Rattle.st_lemmas.specs.Lists.{Has}
+use Rattle.st_lemmas.proofs.Words
+use Words.{◌≡◌, ℕ, ◌+◌, ◌≤◌, ◌<◌, ◌⊎◌, Bool, true, false, ◌&&◌, ◌==◌, not, List, [], ◌∷◌, ◌++◌, Option, Some, None, refl, sym, ap, ◌∙◌, subst, inl, inr, arith}
+use Words.{is_some, map, nat_le, eq-eqb, eqb-true, FileId, PageNo, ServerId, Stamp, AppAnswer, Note, Output, CleanPage, IoKind, KnownExtent, LostPage}
+use Words.{MappedBlock, Operation, PageCommand, DirtyPage, append_assoc}
+use Words.notes
+use Words.outputs
+use Words.io
+use Words.ClientLease as lease
+use Words.ClientPages as pages
+use Words.ClientPages.{Store}
+use Words.ClientPasses as passes
+use Words.ClientState.{ClientSession, Turn, answer_to, is_serving, note, say, with_lost_rows, with_operations, with_session, with_store}
+use Words.Keys.{same_page}
+use Words.Lists.{Has}
+use Words.Tables.{and_both, and_true, has_append, has_filter, not_true, some_passes}
+use Words.Lengths.{nothing_after}
+use Words.Truth.{not_both}
 use Rattle.st_lemmas.proofs.Contents.{Place_is, find_stays, one_place}
-use Rattle.st_lemmas.proofs.Tables.{and_both, and_true, has_append, has_filter, not_true, some_passes}
 use Rattle.st_laws_steps.specs.Client.Client as client
 use Rattle.st_laws_steps.specs.Client.Client.{ChangesPage, GoesOn, IsBegun, Plain, Unasked, with_greeted}
-use Rattle.st_laws_steps.proofs.Clash.{clash}
-use Rattle.st_laws_steps.proofs.Client.Nexts.{append_assoc, dirty_put, empty_right, mapped_learn}
+use Rattle.st_laws_steps.proofs.Client.Nexts.{dirty_put, mapped_learn}
 use Rattle.st_laws_extents.specs.DiskReads.OutstandingReads.{ReadsClean, ReadsKept, Unchanged}
 
 abbrev Changes : Stamp → Turn → Turn → Type 0
@@ -74,7 +61,7 @@ kept : (now : Stamp) (t u : Turn) (more : List Output) → u.out ≡ t.out ++ mo
 kept now t u more o n s c f g = record { low = (let z = n in omega (arith, z)); server = s; more = more; out = o; notes = λ m i a p h. absurd (f m i a p h); reads = same_reads t u more c f; clean = g }
 
 still : {now : Stamp} (t : Turn) → Changes now t t
-still {now} t = kept now t t [] (empty_right t.out) refl refl refl none_changed (λ h. h)
+still {now} t = kept now t t [] (nothing_after t.out) refl refl refl none_changed (λ h. h)
 
 unchanged_both : (sv : ServerId) (pc : PageCommand) (os ps : List Output) → Unchanged sv pc os → Unchanged sv pc ps → Unchanged sv pc (os ++ ps)
 unchanged_both sv pc os ps a b n i f p h s x y = go (has_append os ps (outputs.Note n) i)
@@ -112,33 +99,33 @@ after_says : {now : Stamp} (t : Turn) (o : Output) → Plain o → Change now t 
 after_says {now} t o p = kept now t (say t o) (o ∷ []) refl refl refl refl (plain_changes o p) (λ h. h)
 
 after_operates : {now : Stamp} (t : Turn) (os : List Operation) → Change now t (with_operations os t)
-after_operates {now} t os = kept now t (with_operations os t) [] (empty_right t.out) refl refl refl none_changed (λ h. h)
+after_operates {now} t os = kept now t (with_operations os t) [] (nothing_after t.out) refl refl refl none_changed (λ h. h)
 
 after_answers : {now : Stamp} (t : Turn) (os ops : List Operation) (answer : AppAnswer) → Change now t (record t { operations = os; out = t.out ++ map (answer_to answer) ops })
 after_answers {now} t os ops a = kept now t (record t { operations = os; out = t.out ++ map (answer_to a) ops }) (map (answer_to a) ops) refl refl refl refl (answers_changed a ops) (λ h. h)
 
 after_greets : {now : Stamp} (t : Turn) (g : Option Stamp) → Change now t (with_greeted g t)
-after_greets {now} t g = kept now t (with_greeted g t) [] (empty_right t.out) refl refl refl none_changed (λ h. h)
+after_greets {now} t g = kept now t (with_greeted g t) [] (nothing_after t.out) refl refl refl none_changed (λ h. h)
 
 after_tells_lost : {now : Stamp} (t : Turn) (lost : List LostPage) → Change now t (with_lost_rows lost t)
-after_tells_lost {now} t lost = kept now t (with_lost_rows lost t) [] (empty_right t.out) refl refl refl none_changed (λ h. h)
+after_tells_lost {now} t lost = kept now t (with_lost_rows lost t) [] (nothing_after t.out) refl refl refl none_changed (λ h. h)
 
 after_begins : {now : Stamp} (t : Turn) (s : ClientSession) → t.here.session ≡ None → now.0 < (lease.end_of t.config s.lease).0 → IsBegun s →
     Change now t (with_session s t)
-after_begins {now} t s a b c = kept now t (with_session s t) [] (empty_right t.out) refl refl refl none_changed (λ h. h)
+after_begins {now} t s a b c = kept now t (with_session s t) [] (nothing_after t.out) refl refl refl none_changed (λ h. h)
 
 after_follows : {now : Stamp} (t : Turn) (s u : ClientSession) → t.here.session ≡ Some s → GoesOn t.here.store s u → Change now t (with_session u t)
-after_follows {now} t s u e g = kept now t (with_session u t) [] (empty_right t.out) refl refl refl none_changed (λ h. h)
+after_follows {now} t s u e g = kept now t (with_session u t) [] (nothing_after t.out) refl refl refl none_changed (λ h. h)
 
 after_learns : {now : Stamp} (t : Turn) (e : KnownExtent) → Unasked t.here.session → (e.mapping ≡ None → pages.known_of t.here.store.extents e.ino e.page ≡ None) → Change now t (with_store (record t.here.store { extents = pages.with_known e t.here.store.extents }) t)
 after_learns {now} t e a b =
-    kept now t (with_store (record t.here.store { extents = pages.with_known e t.here.store.extents }) t) [] (empty_right t.out) refl refl refl none_changed
+    kept now t (with_store (record t.here.store { extents = pages.with_known e t.here.store.extents }) t) [] (nothing_after t.out) refl refl refl none_changed
     (λ h pc i k. let z = h pc i k in (z.0, mapped_learn e t.here.store.extents pc.ino pc.page b z.1))
 
 -- a file of an outstanding command is not idle
-not_idle : (st : Store) (pc : PageCommand) (ino : ℕ) → Has pc st.commands → pc.ino ≡ ino → pages.is_idle st ino ≡ true → ⊥
+pub not_idle : (st : Store) (pc : PageCommand) (ino : ℕ) → Has pc st.commands → pc.ino ≡ ino → pages.is_idle st ino ≡ true → ⊥
 not_idle st pc ino i e idle =
-    clash (pages.is_outstanding st.commands ino) (some_passes (pages.is_command_on ino) st.commands pc i (eq-eqb pc.ino ino e)) (not_true (pages.is_outstanding st.commands ino) (and_true (not (pages.has_dirty st.pages ino)) (not (pages.is_outstanding st.commands ino)) idle).1)
+    not_both (pages.is_outstanding st.commands ino) (some_passes (pages.is_command_on ino) st.commands pc i (eq-eqb pc.ino ino e)) (not_true (pages.is_outstanding st.commands ino) (and_true (not (pages.has_dirty st.pages ino)) (not (pages.is_outstanding st.commands ino)) idle).1)
 
 forget_mapped : (ino : ℕ) (p : PageNo) (j : ℕ) (q : PageNo) (xs : List KnownExtent) → (j ≡ ino → ⊥) → pages.is_mapped xs j q ≡ true → pages.is_mapped (pages.known_before ino p xs) j q ≡ true
 forget_mapped ino p j q xs n m = ap (λ o. is_some (pages.mapping_at o)) (find_stays (pages.is_known_of j q) (pages.is_known_behind ino p) apart xs) ∙ m
@@ -153,11 +140,11 @@ forget_mapped ino p j q xs n m = ap (λ o. is_some (pages.mapping_at o)) (find_s
 after_forgets : {now : Stamp} (t : Turn) (ino : ℕ) (p : PageNo) → pages.is_idle t.here.store ino ≡ true → Change now t (with_store (pages.forget_from t.here.store ino p) t)
 unfolding pages.forget_from pages.drop_from
 after_forgets {now} t ino p idle =
-    kept now t (with_store (pages.forget_from t.here.store ino p) t) [] (empty_right t.out) refl refl refl none_changed
+    kept now t (with_store (pages.forget_from t.here.store ino p) t) [] (nothing_after t.out) refl refl refl none_changed
     (λ h pc i k. let z = h pc i k in (z.0, forget_mapped ino p pc.ino pc.page t.here.store.extents (λ e. not_idle t.here.store pc ino i e idle) z.1))
 
 after_caches : {now : Stamp} (t : Turn) (clean : List CleanPage) → Change now t (with_store (record t.here.store { pages = record t.here.store.pages { clean = clean } }) t)
-after_caches {now} t clean = kept now t (with_store (record t.here.store { pages = record t.here.store.pages { clean = clean } }) t) [] (empty_right t.out) refl refl refl none_changed (λ h. h)
+after_caches {now} t clean = kept now t (with_store (record t.here.store { pages = record t.here.store.pages { clean = clean } }) t) [] (nothing_after t.out) refl refl refl none_changed (λ h. h)
 
 -- a change of a page forgets the read of it
 read_apart : (ino : ℕ) (p : PageNo) (pc : PageCommand) → not (pages.is_read_of ino p pc) ≡ true → pc.kind ≡ io.Read → Place_is pc.ino pc.page ino p ≡ false
@@ -165,14 +152,14 @@ read_apart ino p pc n k = go (Place_is pc.ino pc.page ino p) refl
   where
     go : (b : Bool) → Place_is pc.ino pc.page ino p ≡ b → b ≡ false
     go false q = refl
-    go true q = absurd (clash (pages.is_read_of ino p pc) (ap (λ z. not (pages.is_write z) && Place_is pc.ino pc.page ino p) k ∙ q) (not_true (pages.is_read_of ino p pc) n))
+    go true q = absurd (not_both (pages.is_read_of ino p pc) (ap (λ z. not (pages.is_write z) && Place_is pc.ino pc.page ino p) k ∙ q) (not_true (pages.is_read_of ino p pc) n))
 
 place_back : (i : ℕ) (p : PageNo) (j : ℕ) (q : PageNo) → Place_is i p j q ≡ false → Place_is j q i p ≡ false
 place_back i p j q n = go (Place_is j q i p) refl
   where
     go : (b : Bool) → Place_is j q i p ≡ b → b ≡ false
     go false e = refl
-    go true e = let z = one_place j q i p e in absurd (clash (Place_is i p j q) (and_both (i == j) (same_page p q) (eq-eqb i j (sym z.0)) (eq-eqb p.0 q.0 (ap (λ (r : PageNo). r.0) (sym z.1)))) n)
+    go true e = let z = one_place j q i p e in absurd (not_both (Place_is i p j q) (and_both (i == j) (same_page p q) (eq-eqb i j (sym z.0)) (eq-eqb p.0 q.0 (ap (λ (r : PageNo). r.0) (sym z.1)))) n)
 
 after_writes : {now : Stamp} (t : Turn) (s : ClientSession) (f : FileId) (p : PageNo) (bytes : List ℕ) (n : Note) → t.here.session ≡ Some s → is_serving t.config s now ≡ true → f.server ≡ t.here.server → pages.is_mapped t.here.store.extents f.ino p ≡ true → ChangesPage f p n →
     Change now t (passes.with_pages_changed (pages.written t.here.store.pages f.ino p bytes) f.ino p (note t n))
@@ -210,7 +197,7 @@ after_writes {now} t s f p bytes n se sv own m h =
     unchanged pc a k (inr i) g q c sv x y = absurd i
     unchanged pc a k (inl e) g q c sv x y =
         let z = its k g q c (of_note k e) in
-        clash (Place_is pc.ino pc.page f.ino p)
+        not_both (Place_is pc.ino pc.page f.ino p)
         (and_both (pc.ino == f.ino) (same_page pc.page p) (eq-eqb pc.ino f.ino (sym x ∙ ap (λ (v : FileId). v.ino) z.0)) (eq-eqb pc.page.0 p.0 (ap (λ (r : PageNo). r.0) (sym y ∙ z.1)))) a
 
 -- an output that isn't a note

@@ -1,29 +1,27 @@
 -- What outstanding reads find, throughout a run.
-use Rattle.std.proofs.Common.{◌≡◌, ℕ, ◌+◌, Bool, true, false, List, [], ◌∷◌, ◌++◌, Option, Some, None, Ok, Err, refl, sym, ap, ◌∙◌, subst, inl, if◌then◌else◌}
-use Rattle.std.specs.Prelude.{Result, length}
-use Rattle.std.specs.List.{list_all}
+use Rattle.st_lemmas.proofs.Words
+use Words.{◌≡◌, ℕ, ◌+◌, Bool, true, false, List, [], ◌∷◌, ◌++◌, Option, Some, None, Ok, Err, refl, sym, ap, ◌∙◌, subst, inl, if◌then◌else◌, Result, length}
+use Words.{list_all, Event, ClientInput, WorldRefusal}
+use Words.nodes
+use Words.inputs
+use Words.Client as cl
+use Words.ClientState.{Association}
+use Words.Disks as disks
+use Words.Events as ev
+use Words.Events.{WorldTurn, counted, world_step}
+use Words.History.{Traced, traced, traced_after}
+use Words.Safety as safety
+use Words.Safety.{Promise, Step, Throughout, is_event, step, steps}
+use Words.World as world
+use Words.World.{World, WorldClient, fresh_world}
+use Words.Lists.{Has}
+use Words.Tables.{and_true, has_map}
+use Words.Extents.{numbers}
+use Words.Worlds.{counted_admits}
 use Rattle.st_base.specs.declared.config.Config as base
-use Rattle.st_base.specs.declared.ids.NodeId.TheVariants as nodes
-use Rattle.st_messages.specs.declared.event.Event.{Event}
-use Rattle.st_rules.specs.declared.client.ClientInput.{ClientInput}
-use Rattle.st_rules.specs.declared.client.ClientInput.TheVariants as inputs
 use Rattle.st_rules.specs.declared.node.StepRefusal.TheVariants.{Crashed}
-use Rattle.st_rules.specs.declared.observation.WorldRefusal.{WorldRefusal}
-use Rattle.st_rules.specs.Admissible as adm
-use Rattle.st_rules.specs.Client as cl
-use Rattle.st_rules.specs.ClientState.{Association}
-use Rattle.st_rules.specs.Disks as disks
-use Rattle.st_rules.specs.Events as ev
-use Rattle.st_rules.specs.Events.{WorldTurn, counted, world_step}
-use Rattle.st_rules.specs.History.{Traced, traced, traced_after}
-use Rattle.st_rules.specs.Safety as safety
-use Rattle.st_rules.specs.Safety.{Promise, Step, Throughout, is_event, step, steps}
-use Rattle.st_rules.specs.World as world
-use Rattle.st_rules.specs.World.{World, WorldClient, fresh_world}
 use Rattle.st_protocol.specs.Assoc.{Config}
-use Rattle.st_lemmas.specs.Lists.{Has}
 use Rattle.st_lemmas.proofs.Steps.{step_happens}
-use Rattle.st_lemmas.proofs.Tables.{and_true, has_map}
 use Rattle.st_laws_steps.specs.Client.Losses.{Fit}
 use Rattle.st_laws_pages.proofs.Disks.Steps.{counted_pages}
 use Rattle.st_laws_pages.specs.Asks.Law.{PlacesAfter}
@@ -47,7 +45,6 @@ use Rattle.st_laws_extents.proofs.DiskReads.Client as client_step
 use Rattle.st_laws_extents.proofs.DiskReads.Ending.{end_left, ends}
 use Rattle.st_laws_extents.proofs.DiskReads.Others as others
 use Rattle.st_laws_extents.proofs.DiskReads.Others.{ReadsSettled, reads_settled}
-use Rattle.st_rules.specs.Extents.{numbers}
 
 -- What holds after the steps of a run.
 pub record ReadsStand (k : Config) (count : ℕ) (past : List Step) (t : Traced) : Type 0 where
@@ -63,10 +60,6 @@ counted_reads w h =
 
 counted_settled : (w : World) → ReadsSettled w → ReadsSettled (counted w)
 counted_settled w h c site run a i l pc m r = h c site (record { there = run.there; runs = run.runs }) a i l pc m r
-
-counted_none : (w : World) (e : Event) → adm.refusal w e ≡ None → adm.refusal (counted w) e ≡ None
-unfolding adm.refusal adm.refused_delivery adm.clocks_refused adm.flush_missed adm.refused_effect adm.refused_report world.node_of_place adm.missed_by
-counted_none w e q = q
 
 -- One step.
 module _ (past : List Step) (k : Config) (count : ℕ) (t : Traced) (s : ReadsStand k count past t) (e : Event) (sc : WorldTurn) (in_range : is_event count e ≡ true) (took : world_step t.world e ≡ Ok sc) (places : PlacesAfter past (step t e sc)) (placed : IsPlaced past (step t e sc)) where
@@ -133,7 +126,7 @@ module _ (past : List Step) (k : Config) (count : ℕ) (t : Traced) (s : ReadsSt
       subst (λ (z : WorldTurn). ReadsHold z.world z.world.log) (sym (step_happens t.world e sc took).1)
       (others.others_reads (known past) (counted t.world)
       (λ c site f. let y = s.pages.stood.copies c site f in record { servers = submits.all_there past k count t s.pages e sc in_range took places left placed.pages site.node.state.associations y.servers; runs = y.runs; rests = y.rests })
-      (counted_pages t.world s.pages.pages) (counted_reads t.world s.reads) (counted_settled t.world settled) e (counted_none t.world e (step_happens t.world e sc took).0) q
+      (counted_pages t.world s.pages.pages) (counted_reads t.world s.reads) (counted_settled t.world settled) e (counted_admits t.world e (step_happens t.world e sc took).0) q
       (submits.free past k count t s.pages e sc in_range took places left placed.pages q))
 
   pub next : Kept past (step t e sc) × ReadsStand k count (past ++ step t e sc ∷ []) (traced_after e t sc)

@@ -1,41 +1,32 @@
 -- Outstanding reads through a whole step of a client.
-use Rattle.std.proofs.Common.{◌≡◌, ℕ, ◌≤◌, ◌⊎◌, Bool, true, false, List, [], ◌∷◌, ◌++◌, Option, Some, None, refl, sym, ap, ◌∙◌, subst, inl, inr, arith}
-use Rattle.std.specs.Prelude.{filter, find, map}
-use Rattle.st_base.specs.declared.ids.ClientId.{ClientId}
-use Rattle.st_base.specs.declared.ids.FileId.{FileId}
-use Rattle.st_base.specs.declared.ids.PageNo.{PageNo}
-use Rattle.st_base.specs.declared.ids.ServerId.{ServerId}
-use Rattle.st_base.specs.declared.ids.Stamp.{Stamp}
-use Rattle.st_messages.specs.declared.answer.AppAnswer.{AppAnswer}
-use Rattle.st_messages.specs.declared.answer.AppAnswer.TheVariants as answers
-use Rattle.st_messages.specs.declared.output.Note.{Note}
-use Rattle.st_messages.specs.declared.output.Note.TheVariants as notes
-use Rattle.st_messages.specs.declared.output.Output.{Output}
-use Rattle.st_messages.specs.declared.output.Output.TheVariants as outputs
-use Rattle.st_rules.specs.declared.client.ClientInput.{ClientInput}
-use Rattle.st_rules.specs.declared.client.IoKind.TheVariants as io
-use Rattle.st_rules.specs.declared.client.PageCommand.{PageCommand}
-use Rattle.st_rules.specs.declared.pages.DirtyPage.{DirtyPage}
-use Rattle.st_rules.specs.Client as cl
-use Rattle.st_rules.specs.ClientPages as pages
-use Rattle.st_rules.specs.ClientPasses as cp
-use Rattle.st_rules.specs.ClientReplies as cr
-use Rattle.st_rules.specs.ClientState.{Association, ClientState, ClientTurn, Turn, at_each, at_these, client_turn, enter, leave, only_at, server_of, with_associations}
-use Rattle.st_lemmas.specs.Lists.{Has}
-use Rattle.st_lemmas.proofs.Tables.{has_append, has_filter}
+use Rattle.st_lemmas.proofs.Words
+use Words.{◌≡◌, ℕ, ◌≤◌, ◌⊎◌, Bool, true, false, List, [], ◌∷◌, ◌++◌, Option, Some, None, refl, sym, ap, ◌∙◌, subst, inl, inr, arith, filter, find, map}
+use Words.{ClientId, FileId, PageNo, ServerId, Stamp, AppAnswer, Note, Output, ClientInput, PageCommand, DirtyPage}
+use Words.answers
+use Words.notes
+use Words.outputs
+use Words.io
+use Words.Client as cl
+use Words.ClientPages as pages
+use Words.ClientPasses as cp
+use Words.ClientReplies as cr
+use Words.ClientState.{Association, ClientState, ClientTurn, Turn, at_each, at_these, client_turn, enter, leave, only_at, server_of, with_associations}
+use Words.Lists.{Has}
+use Words.Tables.{has_append, has_filter}
+use Words.Lengths.{nothing_after}
 use Rattle.st_laws_steps.specs.Client.Client.{ChangesPage}
 use Rattle.st_laws_steps.specs.Client.Inputs as taking
 use Rattle.st_laws_steps.specs.Client.Inputs.{Taken}
 use Rattle.st_laws_steps.specs.Lives.Lives.{Once, server_number}
 use Rattle.st_laws_steps.specs.Client.Losses.{Ends, Fails, Fit, Hardens, Passes, Unknown, is_ended}
 use Rattle.st_laws_pages.proofs.Flush.Adding.{AllStill}
-use Rattle.st_laws_steps.proofs.Client.Asking.{c_passes}
+use Rattle.st_laws_steps.proofs.Client.Asking.{changes_by_passes}
 use Rattle.st_laws_steps.proofs.Lives.Associations.{numbers_same}
 use Rattle.st_laws_pages.proofs.Flush.Flushing.{pair_of}
 use Rattle.st_laws_steps.proofs.Client.Taking.{taken}
-use Rattle.st_laws_steps.proofs.Client.Losing.{Finished, c_only, finish_is, is_done, rest_of}
+use Rattle.st_laws_steps.proofs.Client.Losing.{Finished, changes_by_only, finish_is, is_done, rest_of}
 use Rattle.st_laws_steps.proofs.Client.Nexts.{Next, changes_next, found_fewer, failed_found}
-use Rattle.st_laws_steps.proofs.Client.Replying.{c_receive}
+use Rattle.st_laws_steps.proofs.Client.Replying.{changes_by_receive}
 use Rattle.st_laws_steps.proofs.Client.Stepping.{LossesLeft, LostOrNot, finish_next, losses_left, pairs_has}
 use Rattle.st_laws_pages.proofs.Flush.Quiet.{AllQuiet, losses_quiet}
 use Rattle.st_laws_extents.specs.DiskReads.OutstandingReads.{ReadsClean, ReadsKept, Unchanged}
@@ -63,19 +54,15 @@ none_failed i r n ino p xs e = go (find (pages.is_dirty_of ino p) (map (pages.fa
     go None f = refl
     go (Some d) f = let z = failed_found i r n ino p xs d f in absurd (no z.0 (sym e ∙ z.1))
 
-empty_out : (os : List Output) → os ≡ os ++ []
-empty_out [] = refl
-empty_out (o ∷ os) = ap (λ z. o ∷ z) (empty_out os)
-
 ends_kept : (now : Stamp) (number : ℕ) (ok : Bool) (t u : Turn) → Ends number ok t u → ReadsKept now t u
 unfolding cl.hardened pages.harden pages.harden_at pages.harden_page pages.fail pages.failed_by
-ends_kept now number ok t _ Unknown = record { low = omega arith; server = refl; more = []; out = empty_out t.out; notes = λ n i f p h. absurd i; reads = λ pc i k. inl (i, λ n j f p h s x y. absurd j); clean = λ h. h }
+ends_kept now number ok t _ Unknown = record { low = omega arith; server = refl; more = []; out = nothing_after t.out; notes = λ n i f p h. absurd i; reads = λ pc i k. inl (i, λ n j f p h s x y. absurd j); clean = λ h. h }
 ends_kept now number ok t _ (Passes pc e o) =
     record {
       low = omega arith;
       server = refl;
       more = [];
-      out = empty_out t.out;
+      out = nothing_after t.out;
       notes = λ n i f p h. absurd i;
       reads = λ c i k. inl ((has_filter _ t.here.store.commands c i).0, λ n j f p h s x y. absurd j);
       clean = λ h c i k. h c (has_filter _ t.here.store.commands c i).0 k;
@@ -85,7 +72,7 @@ ends_kept now number ok t _ (Hardens pc v e o k w) =
       low = omega arith;
       server = refl;
       more = [];
-      out = empty_out t.out;
+      out = nothing_after t.out;
       notes = λ n i f p h. absurd i;
       reads = λ c i k. inl ((has_filter _ t.here.store.commands c i).0, λ n j f p h s x y. absurd j);
       clean = λ h c i k. let z = h c (has_filter _ t.here.store.commands c i).0 k in (gone c.ino c.page (pages.dirty_of t.here.store.pages pc.ino pc.page) z.0, z.1);
@@ -99,7 +86,7 @@ ends_kept now number ok t _ (Fails pc v e o k) =
       low = omega arith;
       server = refl;
       more = [];
-      out = empty_out t.out;
+      out = nothing_after t.out;
       notes = λ n i f p h. absurd i;
       reads = λ c i k. inl ((has_filter _ t.here.store.commands c i).0, λ n j f p h s x y. absurd j);
       clean = λ h c i k. let z = h c (has_filter _ t.here.store.commands c i).0 k in (none_failed pc.ino pc.page pc.number c.ino c.page t.here.store.pages.dirty z.0, z.1);
@@ -269,16 +256,16 @@ module _ (c : ClientId) (s : ClientState) (now : Stamp) (input : ClientInput) (f
   input_all _ _ (taking.Full op ask e) = answered op answers.OpsFull begins
   input_all _ _ (taking.Unknown op ask e f) = answered op answers.NoFile begins
   input_all _ _ (taking.Takes op ask e f) =
-      each_all t.state.associations s.next_command now (only_at (server_of ask) (cl.take_ask op ask)) (λ x f. changes_next now x _ (c_only now (server_of ask) op ask x)) (λ x f. changes_kept now x _ (c_only now (server_of ask) op ask x)) t begins
+      each_all t.state.associations s.next_command now (only_at (server_of ask) (cl.take_ask op ask)) (λ x f. changes_next now x _ (changes_by_only now (server_of ask) op ask x)) (λ x f. changes_kept now x _ (changes_by_only now (server_of ask) op ask x)) t begins
   input_all _ _ (taking.Receives m e) =
-      each_all t.state.associations s.next_command now (cr.receive_at now m.header m.body) (λ y f. changes_next now y _ (c_receive now m.header m.body y f.fresh)) (λ y f. changes_kept now y _ (c_receive now m.header m.body y f.fresh)) t begins
+      each_all t.state.associations s.next_command now (cr.receive_at now m.header m.body) (λ y f. changes_next now y _ (changes_by_receive now m.header m.body y f.fresh)) (λ y f. changes_kept now y _ (changes_by_receive now m.header m.body y f.fresh)) t begins
   input_all _ _ (taking.Finishes number result) =
       each_all t.state.associations s.next_command now (cl.finish number result) (λ y f. finish_next now number result y) (λ y f. finished_kept now number (is_done result) y (cl.finish number result y) (finish_is now number result y)) t begins
 
   pub all_behind : A (cl.client_step s now input)
   unfolding cl.client_step cl.work
   all_behind =
-      each_all t.state.associations s.next_command now (cp.passes now (cl.is_tick input)) (λ x f. changes_next now x _ (c_passes now (cl.is_tick input) x)) (λ x f. changes_kept now x _ (c_passes now (cl.is_tick input) x)) (cl.take_input t now input) (input_all input (cl.take_input t now input) (taken t now input))
+      each_all t.state.associations s.next_command now (cp.passes now (cl.is_tick input)) (λ x f. changes_next now x _ (changes_by_passes now (cl.is_tick input) x)) (λ x f. changes_kept now x _ (changes_by_passes now (cl.is_tick input) x)) (cl.take_input t now input) (input_all input (cl.take_input t now input) (taken t now input))
 
   -- a read that is outstanding after the step was so before it, under a lease that lasted, and its page was not changed; or it is new
   pub record ReadStays (b : Association) (pc : PageCommand) : Type 0 where

@@ -1,11 +1,11 @@
 -- What replies tell is right in every run: so reads return the last writes.
-use Rattle.std.proofs.Common.{List, [], ◌∷◌, ◌++◌, Option, Some, None}
-use Rattle.st_rules.specs.declared.client.ClientInput.{ClientInput}
-use Rattle.st_rules.specs.declared.client.ClientInput.TheVariants as inputs
-use Rattle.st_rules.specs.Events.{counted}
-use Rattle.st_rules.specs.History.{traced}
-use Rattle.st_rules.specs.Safety.{ReadsReturnLastWrites, Step, Throughout, steps}
-use Rattle.st_rules.specs.World.{fresh_world}
+use Rattle.st_lemmas.proofs.Words
+use Words.{List, [], ◌∷◌, ◌++◌, Option, Some, None, ClientInput}
+use Words.inputs
+use Words.Events.{counted}
+use Words.History.{traced}
+use Words.Safety.{ReadsReturnLastWrites, Step, Throughout, steps}
+use Words.World.{fresh_world}
 use Rattle.st_laws_leases.specs.Sides.Law.{InEveryRun}
 use Rattle.st_laws_reads.specs.Copies.World.{Taking, taken}
 use Rattle.st_laws_extents.specs.Known.Law.{IsTold}

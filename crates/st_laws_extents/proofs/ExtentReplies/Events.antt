@@ -1,43 +1,32 @@
 -- Every event: a server takes a step; or extents and what servers keep and said of them stay.
-use Rattle.std.proofs.Common.{◌≡◌, ◌≢◌, ℕ, ◌≤◌, ◌⊎◌, true, false, List, [], Option, Some, None, Ok, refl, sym, ap, ◌∙◌, subst, inl, inr, arith}
-use Rattle.std.specs.Prelude.{length}
-use Rattle.st_base.specs.declared.rows.ExtentRow.{ExtentRow}
-use Rattle.st_rules.specs.declared.sessions.Session.{Session}
+use Rattle.st_lemmas.proofs.Words
+use Words.{◌≡◌, ◌≢◌, ℕ, ◌≤◌, ◌⊎◌, true, false, List, [], Option, Some, None, Ok, refl, sym, ap, ◌∙◌, subst, inl, inr, arith, length, ExtentRow, Session}
+use Words.{ClientId, ServerId, Message, Event, ClientInput, ServerInput, Note, Output, ◌∷◌}
+use Words.nodes
+use Words.serving
+use Words.Keys.{server_node}
+use Words.Client as cl
+use Words.ClientState.{ClientTurn}
+use Words.Events as ev
+use Words.Events.{WorldTurn, world_step, server_says, server_says_all, cuts, sends, server_notes}
+use Words.History.{Traced}
+use Words.Server as server
+use Words.Server.{ServerNode}
+use Words.World as world
+use Words.World.{World, WorldClient, site_of, node_of, numbered, with_numbered, clock_of}
+use Words.Safety.{Step}
+use Words.Lists.{Has}
+use Words.Numbers.{numbered_below}
+use Words.notes
+use Words.outputs
 use Rattle.st_laws_extents.specs.ExtentReplies.Steps.{KeptRows}
-use Rattle.st_base.specs.declared.ids.ClientId.{ClientId}
-use Rattle.st_base.specs.declared.ids.ServerId.{ServerId}
-use Rattle.st_base.specs.declared.ids.NodeId.TheVariants as nodes
-use Rattle.st_messages.specs.declared.message.Message.{Message}
-use Rattle.st_messages.specs.declared.event.Event.{Event}
-use Rattle.st_rules.specs.declared.client.ClientInput.{ClientInput}
-use Rattle.st_rules.specs.declared.input.ServerInput.{ServerInput}
-use Rattle.st_rules.specs.declared.input.ServerInput.TheVariants as serving
-use Rattle.st_rules.specs.Keys.{server_node}
-use Rattle.st_rules.specs.Client as cl
-use Rattle.st_rules.specs.ClientState.{ClientTurn}
-use Rattle.st_rules.specs.Events as ev
-use Rattle.st_rules.specs.Events.{WorldTurn, world_step, server_says, server_says_all}
-use Rattle.st_rules.specs.History.{Traced}
-use Rattle.st_rules.specs.Server as server
-use Rattle.st_rules.specs.Server.{ServerNode}
-use Rattle.st_rules.specs.World as world
-use Rattle.st_rules.specs.World.{World, WorldClient, site_of, node_of, numbered, with_numbered, clock_of}
-use Rattle.st_rules.specs.Safety.{Step}
-use Rattle.st_lemmas.specs.Lists.{Has}
-use Rattle.st_lemmas.proofs.Numbers.{numbered_below}
 use Rattle.st_laws_leases.specs.Dates.Dates.{ClientDated, messages}
 use Rattle.st_laws_requests.specs.Replies.ServedRequests.{InputNew, NewOwed}
 use Rattle.st_laws_requests.proofs.Replies.EachEvent.{Brings, ClientTook, Comes, NodeAfter, ServerLeft, ServerTook, SiteAfter, event_leaves}
 use Rattle.st_laws_requests.proofs.Replies.Replies.{RepliesHold}
 use Rattle.st_laws_requests.proofs.Replies.Served.{Served, served}
-use Rattle.st_rules.specs.Events.{cuts, sends, server_notes}
-use Rattle.st_messages.specs.declared.output.Note.{Note}
-use Rattle.st_messages.specs.declared.output.Note.TheVariants as notes
-use Rattle.st_messages.specs.declared.output.Output.{Output}
 use Rattle.st_laws_extents.specs.ExtentReplies.Events.{EventTells, NodeStays}
 use Rattle.st_laws_leases.proofs.Dates.Leaving.{Leaves, leaves_from, set_cases}
-use Rattle.std.proofs.Common.{◌∷◌}
-use Rattle.st_messages.specs.declared.output.Output.TheVariants as outputs
 use Rattle.st_laws_extents.proofs.CutRequests.ServersGoOn.{lived_held}
 
 -- what a server says leaves the clocks

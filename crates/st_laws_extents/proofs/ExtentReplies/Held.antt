@@ -1,33 +1,29 @@
 -- The lock under which extents were asked has a mode; and extents of a file that stay are reported the same.
-use Rattle.std.proofs.Common.{◌≡◌, ℕ, ◌≤◌, true, List, [], ◌∷◌, Option, Some, None, refl, sym, ap, ◌∙◌, subst, inl, inr, arith}
-use Rattle.std.specs.Prelude.{filter_map}
-use Rattle.st_base.specs.declared.ids.FileId.{FileId}
-use Rattle.st_base.specs.declared.ids.PageNo.{PageNo}
-use Rattle.st_base.specs.declared.rows.ExtentRow.{ExtentRow}
+use Rattle.st_lemmas.proofs.Words
+use Words.{◌≡◌, ℕ, ◌≤◌, true, List, [], ◌∷◌, Option, Some, None, refl, sym, ap, ◌∙◌, subst, inl, inr, arith, filter_map, FileId, PageNo, ExtentRow, Body}
+use Words.{HeldLock}
+use Words.bodies
+use Words.ClientLocks as locks
+use Words.ClientReplies.{is_current, is_grant}
+use Words.ClientState.{Association, ClientSession}
+use Words.Extents as extents
+use Words.Extents.{Extents}
+use Words.Keys.{client}
+use Words.Server.{ServerNode}
+use Words.World.{World, WorldClient, node_of, server, site_of}
+use Words.Lists.{Has}
+use Words.Tables.{found_at}
+use Words.Truth.{clash}
 use Rattle.st_base.specs.Mode.{number_of}
-use Rattle.st_messages.specs.declared.message.Body.{Body}
-use Rattle.st_messages.specs.declared.message.Body.TheVariants as bodies
-use Rattle.st_rules.specs.declared.client.HeldLock.{HeldLock}
-use Rattle.st_rules.specs.ClientLocks as locks
-use Rattle.st_rules.specs.ClientReplies.{is_current, is_grant}
-use Rattle.st_rules.specs.ClientState.{Association, ClientSession}
-use Rattle.st_rules.specs.Extents as extents
-use Rattle.st_rules.specs.Extents.{Extents}
-use Rattle.st_rules.specs.Keys.{client}
-use Rattle.st_rules.specs.Server.{ServerNode}
-use Rattle.st_rules.specs.World.{World, WorldClient, node_of, server, site_of}
 use Rattle.st_protocol.specs.Assoc.{Config}
-use Rattle.st_lemmas.specs.Lists.{Has}
-use Rattle.st_lemmas.proofs.Tables.{found_at}
 use Rattle.st_laws_refine.specs.Views.Halves.{held_at, held_in}
 use Rattle.st_laws_refine.specs.Client.Invariants.{HaveModes, Kept}
 use Rattle.st_laws_leases.specs.Sides.Invariants.{Standing}
 use Rattle.st_laws_leases.specs.Sides.World.{AllStand, ServerStands}
 use Rattle.st_laws_leases.proofs.Sides.Pairs.{only_here}
 use Rattle.st_laws_extents.specs.ExtentReplies.Steps.{AsksExtents, TellsRows, file_of}
-use Rattle.st_laws_extents.proofs.ExtentReplies.Sessions.{clash}
 
-lock_mode : (ls : List HeldLock) (l : HeldLock) → HaveModes ls → Has l ls → 1 ≤ number_of l.mode
+pub lock_mode : (ls : List HeldLock) (l : HeldLock) → HaveModes ls → Has l ls → 1 ≤ number_of l.mode
 lock_mode [] l m i = elim i [ ]
 lock_mode (x ∷ ls) l m (inl e) = subst (λ (y : HeldLock). 1 ≤ number_of y.mode) (sym e) m.one
 lock_mode (x ∷ ls) l m (inr i) = lock_mode ls l m.rest i

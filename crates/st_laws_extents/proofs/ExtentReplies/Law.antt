@@ -1,28 +1,23 @@
 -- Replies report the present extents: at the start, after every event, and over whole runs.
-use Rattle.std.proofs.Common.{◌≡◌, ◌≢◌, ◌⊎◌, ℕ, ◌+◌, true, List, [], ◌∷◌, ◌++◌, Option, Some, None, Ok, Err, refl, sym, ap, ◌∙◌, subst, inl, inr, arith}
-use Rattle.std.specs.Prelude.{Result}
-use Rattle.std.specs.List.{list_all}
+use Rattle.st_lemmas.proofs.Words
+use Words.{◌≡◌, ◌≢◌, ◌⊎◌, ℕ, ◌+◌, true, List, [], ◌∷◌, ◌++◌, Option, Some, None, Ok, Err, refl, sym, ap, ◌∙◌, subst, inl, inr, arith, Result, list_all}
+use Words.{ExtentRow, Event, Message, Request, WorldRefusal}
+use Words.outputs
+use Words.ClientState.{Association, ClientSession}
+use Words.Events.{WorldTurn, world_step}
+use Words.History.{Traced, traced, traced_after}
+use Words.Keys.{client, server_node}
+use Words.Safety as safety
+use Words.Safety.{Promise, Step, Throughout, is_event, step, steps}
+use Words.Server.{ServerNode, ServerTurn, server_step}
+use Words.World.{WorldClient, World, fresh_world, node_of, numbered, with_numbered}
+use Words.Lists.{Has}
+use Words.Lookups.{some_is}
+use Words.Numbers.{numbered_below, numbered_other, numbered_own}
+use Words.Tables.{and_true, same_or_not}
+use Words.Truth.{server_is}
 use Rattle.st_base.specs.declared.config.Config as base
-use Rattle.st_base.specs.declared.ids.ServerId.{ServerId}
-use Rattle.st_base.specs.declared.rows.ExtentRow.{ExtentRow}
-use Rattle.st_messages.specs.declared.event.Event.{Event}
-use Rattle.st_messages.specs.declared.message.Message.{Message}
-use Rattle.st_messages.specs.declared.output.Output.TheVariants as outputs
-use Rattle.st_rules.specs.declared.client.Request.{Request}
-use Rattle.st_rules.specs.declared.observation.WorldRefusal.{WorldRefusal}
-use Rattle.st_rules.specs.ClientState.{Association, ClientSession}
-use Rattle.st_rules.specs.Events.{WorldTurn, world_step}
-use Rattle.st_rules.specs.History.{Traced, traced, traced_after}
-use Rattle.st_rules.specs.Keys.{client, server_node}
-use Rattle.st_rules.specs.Safety as safety
-use Rattle.st_rules.specs.Safety.{Promise, Step, Throughout, is_event, step, steps}
-use Rattle.st_rules.specs.Server.{ServerNode, ServerTurn, server_step}
-use Rattle.st_rules.specs.World.{WorldClient, World, fresh_world, node_of, numbered, with_numbered}
 use Rattle.st_protocol.specs.Assoc.{Config}
-use Rattle.st_lemmas.specs.Lists.{Has}
-use Rattle.st_lemmas.proofs.Lookups.{some_is}
-use Rattle.st_lemmas.proofs.Numbers.{numbered_below, numbered_other, numbered_own}
-use Rattle.st_lemmas.proofs.Tables.{and_true, same_or_not}
 use Rattle.st_laws_refine.specs.Client.Invariants.{Lasts}
 use Rattle.st_laws_steps.specs.Lives.Lives.{clock_in}
 use Rattle.st_laws_leases.specs.Dates.Dates.{messages}
@@ -35,9 +30,6 @@ use Rattle.st_laws_extents.specs.ExtentReplies.ToldExtents.{AskedAt, AskedRight,
 use Rattle.st_laws_extents.proofs.ExtentReplies.Events.{event_tells}
 use Rattle.st_laws_extents.proofs.ExtentReplies.Serving.{is_kept, is_sent, was_sent}
 use Rattle.st_laws_extents.proofs.ExtentReplies.Step.{step_tells}
-
-server_same : (s r : ServerId) → s.0 ≡ r.0 → s ≡ r
-server_same s r e = ap (λ n. record { 0 = n }) e
 
 -- the same request in another view of its association
 replies_then : (c : ℕ) (a b : Association) (x y : ClientSession) (q p : Request) (m : Message) (ino : ℕ) (rows : List ExtentRow) → b.server ≡ a.server → b.life.0 ≡ a.life.0 → y.epoch.0 ≡ x.epoch.0 → p.number ≡ q.number → RepliesTo c a x q m ino rows → RepliesTo c b y p m ino rows
@@ -130,7 +122,7 @@ module _ (k : Config) (count : ℕ) (past : List Step) (t : Traced) (h : cutters
               number i j e = omega (arith, e)
 
       go : (a.server.0 ≡ y.server.0) ⊎ (a.server.0 ≢ y.server.0) → RepliesRight v c a x q p
-      go (inl e) = here (server_same y.server a.server (sym e)) (some_is (sym found ∙ ap (numbered (with_numbered y.server.0 next t.world.servers)) e ∙ numbered_own t.world.servers y.server.0 next y.node y.there))
+      go (inl e) = here (server_is y.server a.server (sym e)) (some_is (sym found ∙ ap (numbered (with_numbered y.server.0 next t.world.servers)) e ∙ numbered_own t.world.servers y.server.0 next y.node y.there))
       go (inr n) = other n
 
 -- What holds after every event.

@@ -1,43 +1,31 @@
 -- A reply that a client receives tells extents as their servers have them.
-use Rattle.std.proofs.Common.{◌≡◌, ◌⊎◌, ℕ, ◌+◌, ◌-◌, Bool, true, false, ◌==◌, List, [], ◌∷◌, Option, Some, None, refl, sym, ap, ◌∙◌, subst, inl, inr, arith, if◌then◌else◌}
-use Rattle.std.specs.Prelude.{filter_map, option_map, nat_le}
-use Rattle.std.proofs.lemmas.Bool.{eqb-true}
-use Rattle.st_base.specs.declared.ids.ClientId.{ClientId}
-use Rattle.st_base.specs.declared.ids.FileId.{FileId}
-use Rattle.st_base.specs.declared.ids.NodeId.{NodeId}
-use Rattle.st_base.specs.declared.ids.NodeId.TheVariants as nodes
-use Rattle.st_base.specs.declared.ids.GrantNo.{GrantNo}
-use Rattle.st_base.specs.declared.ids.PageNo.{PageNo}
-use Rattle.st_base.specs.declared.ids.ServerId.{ServerId}
-use Rattle.st_base.specs.declared.rows.ExtentRow.{ExtentRow}
-use Rattle.st_messages.specs.declared.ask.Ask.{Ask}
-use Rattle.st_messages.specs.declared.event.Event.{Event}
-use Rattle.st_messages.specs.declared.event.Event.TheVariants as events
-use Rattle.st_messages.specs.declared.message.Body.TheVariants as bodies
-use Rattle.st_messages.specs.declared.message.Message.{Message}
-use Rattle.st_rules.specs.declared.client.ClientInput.{ClientInput}
-use Rattle.st_rules.specs.declared.client.ClientInput.TheVariants as inputs
-use Rattle.st_rules.specs.declared.client.Request.{Request}
-use Rattle.st_rules.specs.declared.extents.Extent.{Extent}
-use Rattle.st_rules.specs.declared.world.IssuedCommand.{IssuedCommand}
-use Rattle.st_rules.specs.declared.world.SentMessage.{SentMessage}
-use Rattle.st_rules.specs.Client.{losses}
-use Rattle.st_rules.specs.ClientReplies.{is_counting, is_current}
-use Rattle.st_rules.specs.ClientState.{Association, ClientSession, client_turn, fits}
-use Rattle.st_rules.specs.Disks as disks
-use Rattle.st_rules.specs.Events as ev
-use Rattle.st_rules.specs.Events.{counted, happens}
-use Rattle.st_rules.specs.Extents as extents
-use Rattle.st_rules.specs.Extents.{Extents}
-use Rattle.st_rules.specs.History.{Traced}
-use Rattle.st_rules.specs.Keys.{server_node}
-use Rattle.st_rules.specs.Safety.{Step}
-use Rattle.st_rules.specs.World.{WorldClient, World, issued_of, message_of, node_of, node_at, numbered, receiver_of, server, site_of}
+use Rattle.st_lemmas.proofs.Words
+use Words.{◌≡◌, ℕ, ◌+◌, Bool, true, false, ◌==◌, List, [], ◌∷◌, Option, Some, None, refl, sym, ap, ◌∙◌, subst, arith, if◌then◌else◌}
+use Words.{filter_map, option_map, eqb-true, ClientId, FileId, NodeId, GrantNo, PageNo, ServerId, ExtentRow, Ask, Event, Message, ClientInput, Request}
+use Words.{Extent, IssuedCommand, SentMessage}
+use Words.nodes
+use Words.events
+use Words.bodies
+use Words.inputs
+use Words.Client.{losses}
+use Words.ClientReplies.{is_counting, is_current}
+use Words.ClientState.{Association, ClientSession, client_turn, fits}
+use Words.Disks as disks
+use Words.Events as ev
+use Words.Events.{counted, happens}
+use Words.Extents as extents
+use Words.Extents.{Extents}
+use Words.History.{Traced}
+use Words.Keys.{server_node}
+use Words.Safety.{Step}
+use Words.World.{WorldClient, World, issued_of, message_of, node_of, numbered, receiver_of, site_of}
+use Words.Lists.{Has}
+use Words.Lookups.{some_is}
+use Words.Numbers.{numbered_has}
+use Words.Tables.{and_true, found_at, has_map_in}
+use Words.Members.{filter_map_of}
+use Words.Worlds.{client_at_node}
 use Rattle.st_protocol.specs.Assoc.{Config}
-use Rattle.st_lemmas.specs.Lists.{Has}
-use Rattle.st_lemmas.proofs.Lookups.{some_is}
-use Rattle.st_lemmas.proofs.Numbers.{numbered_has}
-use Rattle.st_lemmas.proofs.Tables.{and_true, found_at, has_map_in}
 use Rattle.st_laws_refine.specs.Client.Invariants.{Lasts}
 use Rattle.st_laws_steps.specs.Lives.Lives.{clock_in}
 use Rattle.st_laws_pages.specs.Disks.World.{mapped_at}
@@ -57,22 +45,6 @@ use Rattle.st_laws_extents.specs.ExtentReplies.Law.{InRunsAsked}
 use Rattle.st_laws_extents.specs.ExtentReplies.Maps.{InputMapped, MapsAt, MapsTold, TakenMapped}
 use Rattle.st_laws_extents.proofs.ExtentReplies.Law.{Hold, in_runs}
 
--- a row of a list of rows is of a page that has it
-has_row : {A B : Type 0} (f : A → Option B) (xs : List A) (y : B) → Has y (filter_map f xs) → (x : A) × (f x ≡ Some y)
-has_row f [] y i = absurd i
-has_row {A} {B} f (x ∷ xs) y i = go (f x) refl (λ j. has_row f xs y j)
-  where
-    go : (o : Option B) → f x ≡ o → (Has y (filter_map f xs) → (x : A) × (f x ≡ Some y)) → (x : A) × (f x ≡ Some y)
-    go None e more = more (subst (λ zs. Has y zs) (grind (arith, e)) i)
-    go (Some z) e more = by (subst (λ zs. Has y zs) rows i)
-      where
-        rows : filter_map f (x ∷ xs) ≡ z ∷ filter_map f xs
-        rows = grind (arith, e)
-
-        by : (y ≡ z) ⊎ Has y (filter_map f xs) → (x : A) × (f x ≡ Some y)
-        by (inl q) = (x, e ∙ ap Some (sym q))
-        by (inr j) = more j
-
 filter_one : {A B : Type 0} (f : A → Option B) (x : A) (y : B) → f x ≡ Some y → filter_map f (x ∷ []) ≡ y ∷ []
 filter_one f x y e = grind (arith, e)
 
@@ -82,7 +54,7 @@ unfolding extents.extent_rows
 row_lies x f p n r i = go (extents.extent_of x f z.0) refl z.1
   where
     z : (q : PageNo) × (extents.extent_row_at x f q ≡ Some r)
-    z = has_row (extents.extent_row_at x f) (extents.pages_from p n) r i
+    z = filter_map_of (extents.extent_row_at x f) (extents.pages_from p n) r i
 
     go : (o : Option Extent) → extents.extent_of x f z.0 ≡ o → option_map extents.extent_row o ≡ Some r → LiesAs (extents.extent_of x f r.page) (told_at r)
     go None e q = cc q
@@ -95,18 +67,6 @@ row_lies x f p n r i = go (extents.extent_of x f z.0) refl z.1
         page =
             ap (λ m. record { 0 = m }) (sym (eqb-true y.page.0 z.0.0 (and_true (Rattle.st_rules.specs.Keys.same_file y.file f) (y.page.0 == z.0.0) (found_at (extents.is_extent_of f z.0) x.rows y e).0).1))
             ∙ ap (λ (s : ExtentRow). s.page) row
-
--- the node of a client has its number
-node_to : (n : ℕ) (c : ClientId) → node_at n ≡ nodes.Client c → n ≡ c.0
-unfolding node_at
-node_to n c = at (nat_le n 16)
-  where
-    at : (b : Bool) → (if b then nodes.Client (record { 0 = n }) else nodes.Server (server (n - 32768))) ≡ nodes.Client c → n ≡ c.0
-    at true e = client_is (record { 0 = n }) c e
-      where
-        client_is : (d c : ClientId) → nodes.Client d ≡ nodes.Client c → d.0 ≡ c.0
-        client_is d c e = cc
-    at false e = cc e
 
 -- where no row is told of one page, it has no block
 no_row : (x : Extents) (f : FileId) (p : PageNo) → [] ≡ extents.extent_rows x f p 1 → extents.extent_of x f p ≡ None
@@ -166,7 +126,7 @@ comes w e x m q i = go e q
           sent = s;
           among = numbered_has w.net.messages k s f;
           is = body;
-          to = ap (λ (z : Message). z.header.to) (sym body) ∙ node_to s.message.header.to c r ∙ ap (λ (d : ClientId). d.0) (client_of (counted w) c (inputs.Control s.message) (site_of (counted w) c) q);
+          to = ap (λ (z : Message). z.header.to) (sym body) ∙ client_at_node s.message.header.to c r ∙ ap (λ (d : ClientId). d.0) (client_of (counted w) c (inputs.Control s.message) (site_of (counted w) c) q);
         }
       where
         input_is : (a b : Message) → inputs.Control a ≡ inputs.Control b → a ≡ b

@@ -1,43 +1,25 @@
 -- The rule of a request: what it leaves of sessions and extents, and what its reply tells.
-use Rattle.std.proofs.Common.{◌≡◌, ◌≢◌, ℕ, ◌⊎◌, Bool, true, false, List, [], ◌∷◌, ◌==◌, refl, sym, ap, ◌∙◌, subst, inl, inr}
-use Rattle.std.specs.Prelude.{not, nat_le, Option, Some, None}
-use Rattle.std.proofs.lemmas.Bool.{eqb-true}
-use Rattle.st_base.specs.declared.disk.BlockAt.{BlockAt}
-use Rattle.st_base.specs.declared.ids.FileId.{FileId}
-use Rattle.st_base.specs.declared.ids.GrantNo.{GrantNo}
-use Rattle.st_base.specs.declared.ids.PageNo.{PageNo}
-use Rattle.st_base.specs.declared.ids.Stamp.{Stamp}
-use Rattle.st_base.specs.declared.mode.Mode.{Mode}
-use Rattle.st_base.specs.declared.mode.Mode.TheVariants as modes
-use Rattle.st_base.specs.declared.rows.ExtentRow.{ExtentRow}
+use Rattle.st_lemmas.proofs.Words
+use Words.{◌≡◌, ◌≢◌, ℕ, ◌⊎◌, Bool, true, false, List, [], ◌∷◌, ◌==◌, refl, sym, ap, ◌∙◌, subst, inl, inr, not, nat_le, Option, Some, None, eqb-true, BlockAt}
+use Words.{FileId, GrantNo, PageNo, Stamp, Mode, ExtentRow, Body, Header, Message, Extent, LockRow, Verdict}
+use Words.modes
+use Words.bodies as bd
+use Words.notes
+use Words.outputs
+use Words.verdicts
+use Words.Extents as extents
+use Words.Extents.{Extents}
+use Words.Keys.{same_file, same_page}
+use Words.Locks as locks
+use Words.Server as sv
+use Words.Server.{ServerTurn, sender}
+use Words.Lists.{Has}
+use Words.Tables.{and_true, find_before, find_kept, has_append}
+use Words.Truth.{clash, exclusive_covers, file_is}
 use Rattle.st_base.specs.Mode.{covers}
-use Rattle.st_messages.specs.declared.message.Body.{Body}
-use Rattle.st_messages.specs.declared.message.Body.TheVariants as bd
-use Rattle.st_messages.specs.declared.message.Header.{Header}
-use Rattle.st_messages.specs.declared.message.Message.{Message}
-use Rattle.st_messages.specs.declared.output.Note.TheVariants as notes
-use Rattle.st_messages.specs.declared.output.Output.TheVariants as outputs
-use Rattle.st_rules.specs.declared.extents.Extent.{Extent}
-use Rattle.st_rules.specs.declared.locks.LockRow.{LockRow}
-use Rattle.st_rules.specs.declared.locks.Verdict.{Verdict}
-use Rattle.st_rules.specs.declared.locks.Verdict.TheVariants as verdicts
-use Rattle.st_rules.specs.Extents as extents
-use Rattle.st_rules.specs.Extents.{Extents}
-use Rattle.st_rules.specs.Keys.{same_file, same_page, same_server}
-use Rattle.st_rules.specs.Locks as locks
-use Rattle.st_rules.specs.Server as sv
-use Rattle.st_rules.specs.Server.{ServerTurn, sender}
-use Rattle.st_lemmas.specs.Lists.{Has}
-use Rattle.st_lemmas.proofs.Tables.{and_true, find_before, find_kept, has_append}
 use Rattle.st_laws_extents.specs.ExtentReplies.Steps.{AsksExtents, ChangesExtents, TellsRows, file_of}
-use Rattle.st_laws_extents.proofs.ExtentReplies.Sessions.{clash}
 use Rattle.st_trace.specs.Server.Edits as edits
 use Rattle.st_trace.proofs.Server.Allocating.{allocated_pages_are_placed}
-
-same : (f g : FileId) → same_file f g ≡ true → f ≡ g
-same f g e = let z = and_true (same_server f.server g.server) (f.ino == g.ino) e in
-    ap (λ n. record { server = record { 0 = n }; ino = f.ino }) (eqb-true f.server.0 g.server.0 z.0)
-    ∙ ap (λ n. record { server = g.server; ino = n }) (eqb-true f.ino g.ino z.1)
 
 -- other files keep their extents where pages are placed
 others_placed : (f : FileId) (ps : List PageNo) (x : Extents) (g : FileId) (p : PageNo) → g ≢ f →
@@ -47,7 +29,7 @@ others_placed f [] x g p n = refl
 others_placed f (q ∷ ps) x g p n = others_placed f ps (extents.place_on x f q (extents.free_blocks x)) g p n ∙ go (extents.free_blocks x)
   where
     away : (b : BlockAt) (z : Bool) → extents.is_extent_of g p (extents.new_extent x f q b) ≡ z → z ≡ false
-    away b true e = absurd (n (sym (same f g (and_true (same_file f g) (same_page q p) e).0)))
+    away b true e = absurd (n (sym (file_is f g (and_true (same_file f g) (same_page q p) e).0)))
     away b false e = refl
 
     go : (bs : List BlockAt) → extents.extent_of (extents.place_on x f q bs) g p ≡ extents.extent_of x g p
@@ -64,7 +46,7 @@ others_released f q x g p n = find_kept (extents.is_extent_of g p) (λ e. not (e
   where
     at : (e : Extent) → extents.is_extent_of g p e ≡ true → (z : Bool) → extents.is_at_or_behind f q e ≡ z → not z ≡ true
     at e i true h = absurd
-        (n (sym (same e.file g (and_true (same_file e.file g) (same_page e.page p) i).0) ∙ same e.file f
+        (n (sym (file_is e.file g (and_true (same_file e.file g) (same_page e.page p) i).0) ∙ file_is e.file f
         (and_true (same_file e.file f) (nat_le q.0 e.page.0) h).0))
     at e i false h = refl
 
@@ -94,11 +76,6 @@ plain : (t : ServerTurn) (h : Header) (b : Body) (u : ServerTurn) (r : Body) →
 plain t h b u r p q x f =
     record { sessions = p; sent = λ m i. subst (λ os. Has (outputs.Send m) os) q i; tells = λ ino rows e. absurd (f ino rows e); moves = inl x }
 
-exclusive_of : (m : Mode) → covers m modes.X ≡ true → m ≡ modes.X
-exclusive_of modes.None z = cc
-exclusive_of modes.S z = cc
-exclusive_of modes.X z = refl
-
 -- a change under an exclusive row
 moved : (t : ServerTurn) (h : Header) (b : Body) (after : Extents) (g : GrantNo) (ino : ℕ) → sv.holds t h ino g modes.X ≡ true →
     ((k : GrantNo) → g.0 ≡ k.0 → ChangesExtents b ino k) →
@@ -109,7 +86,7 @@ moved t h b after g ino holds asks others = go (locks.row_of t.state.locks (send
     go None q e = clash e refl
     go (Some r) q e =
         let y = and_true (r.g.0 == g.0) (covers r.mode modes.X) e in
-        record { ino = ino; row = r; found = q; exclusive = exclusive_of r.mode y.1; asks = asks r.g (sym (eqb-true _ _ y.0)); others = others }
+        record { ino = ino; row = r; found = q; exclusive = exclusive_covers r.mode y.1; asks = asks r.g (sym (eqb-true _ _ y.0)); others = others }
 
 ino_of : (i j : ℕ) (x y : List ExtentRow) → bd.Extents i x ≡ bd.Extents j y → i ≡ j
 ino_of i j x y e = cc

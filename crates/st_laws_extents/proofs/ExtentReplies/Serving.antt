@@ -1,29 +1,26 @@
 -- A server's step: replies to outstanding requests for extents tell the extents that it leaves.
-use Rattle.std.proofs.Common.{◌≡◌, ◌≢◌, ◌⊎◌, ℕ, ◌+◌, ◌≤◌, List, Option, Some, true, refl, sym, ap, ◌∙◌, subst, inl, inr, arith}
-use Rattle.st_base.specs.declared.ids.NodeId.TheVariants as nodes
-use Rattle.st_base.specs.declared.rows.ExtentRow.{ExtentRow}
+use Rattle.st_lemmas.proofs.Words
+use Words.{◌≡◌, ◌≢◌, ◌⊎◌, ℕ, ◌+◌, ◌≤◌, List, Option, Some, true, refl, sym, ap, ◌∙◌, subst, inl, inr, arith, ExtentRow, Body, Message, Request, ServerInput}
+use Words.{Session}
+use Words.nodes
+use Words.bodies
+use Words.outputs
+use Words.serving as inputs
+use Words.states
+use Words.ClientReplies.{is_current}
+use Words.ClientState.{Association, ClientSession}
+use Words.History.{Traced}
+use Words.Keys.{client, server_node}
+use Words.Safety.{Step}
+use Words.Server.{ServerNode, ServerTurn}
+use Words.Sessions as sessions
+use Words.World.{WorldClient, clock_of, node_of}
+use Words.Lists.{Has}
+use Words.Lookups.{some_is}
+use Words.Tables.{same_or_not}
+use Words.Truth.{clash}
 use Rattle.st_base.specs.Mode.{number_of}
-use Rattle.st_messages.specs.declared.message.Body.{Body}
-use Rattle.st_messages.specs.declared.message.Body.TheVariants as bodies
-use Rattle.st_messages.specs.declared.message.Message.{Message}
-use Rattle.st_messages.specs.declared.output.Output.TheVariants as outputs
-use Rattle.st_rules.specs.declared.client.Request.{Request}
-use Rattle.st_rules.specs.declared.input.ServerInput.{ServerInput}
-use Rattle.st_rules.specs.declared.input.ServerInput.TheVariants as inputs
-use Rattle.st_rules.specs.declared.sessions.Session.{Session}
-use Rattle.st_rules.specs.declared.sessions.SessionState.TheVariants as states
-use Rattle.st_rules.specs.ClientReplies.{is_current}
-use Rattle.st_rules.specs.ClientState.{Association, ClientSession}
-use Rattle.st_rules.specs.History.{Traced}
-use Rattle.st_rules.specs.Keys.{client, server_node}
-use Rattle.st_rules.specs.Safety.{Step}
-use Rattle.st_rules.specs.Server.{ServerNode, ServerTurn}
-use Rattle.st_rules.specs.Sessions as sessions
-use Rattle.st_rules.specs.World.{WorldClient, clock_of, node_of}
 use Rattle.st_protocol.specs.Assoc.{Config}
-use Rattle.st_lemmas.specs.Lists.{Has}
-use Rattle.st_lemmas.proofs.Lookups.{some_is}
-use Rattle.st_lemmas.proofs.Tables.{same_or_not}
 use Rattle.st_laws_refine.specs.Views.Halves.{held_in}
 use Rattle.st_laws_requests.specs.Replies.ServedRequests.{Ends, IsBehind, Reached, Refusal}
 use Rattle.st_laws_refine.specs.Client.Invariants.{Lasts}
@@ -38,7 +35,6 @@ use Rattle.st_laws_reads.proofs.AllClients.Cutting.{unheld}
 use Rattle.st_laws_extents.specs.ExtentReplies.Steps.{ChangedNow, KeptRows, ServedAnew, StepTells, TellsRows, ToldBy, file_of}
 use Rattle.st_laws_extents.specs.ExtentReplies.ToldExtents.{AskedAt, RepliesRight, RepliesTo}
 use Rattle.st_laws_extents.proofs.ExtentReplies.Held.{current_mode, tells_same}
-use Rattle.st_laws_extents.proofs.ExtentReplies.Sessions.{clash}
 
 -- a request for extents is none that reasserts
 no_reassert : (b : Body) (c : Rattle.st_rules.specs.ClientLocks.LockCache) (rows : List (ℕ × Rattle.st_base.specs.declared.ids.GrantNo.GrantNo × Rattle.st_base.specs.declared.mode.Mode.Mode)) → bodies.Reassert rows ≡ b → is_current c b ≡ true → ⊥

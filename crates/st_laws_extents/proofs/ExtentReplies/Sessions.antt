@@ -1,27 +1,20 @@
 -- Where a session keeps a reply of extents after a change of the sessions, it was there before.
-use Rattle.std.proofs.Common.{◌≡◌, ℕ, ◌⊎◌, Bool, true, false, List, ◌==◌, refl, sym, ap, ◌∙◌, subst, inl, inr, if◌then◌else◌}
-use Rattle.std.specs.Prelude.{Option, Some, None, option_map}
-use Rattle.std.proofs.lemmas.Bool.{eq-eqb, eqb-true}
-use Rattle.st_base.specs.declared.ids.ClientId.{ClientId}
-use Rattle.st_base.specs.declared.ids.Life.{Life}
-use Rattle.st_base.specs.declared.rows.ExtentRow.{ExtentRow}
-use Rattle.st_messages.specs.declared.message.Body.{Body}
-use Rattle.st_messages.specs.declared.message.Body.TheVariants as bodies
-use Rattle.st_rules.specs.declared.sessions.Session.{Session}
-use Rattle.st_rules.specs.declared.sessions.SessionState.{SessionState}
-use Rattle.st_rules.specs.declared.sessions.SessionState.TheVariants as states
-use Rattle.st_rules.specs.Sessions as sessions
-use Rattle.st_lemmas.proofs.Lookups.{some_is}
+use Rattle.st_lemmas.proofs.Words
+use Words.{◌≡◌, ℕ, ◌⊎◌, Bool, true, false, List, ◌==◌, refl, sym, ap, ◌∙◌, subst, inl, inr, if◌then◌else◌, Option, Some, None, option_map, eq-eqb, eqb-true}
+use Words.{ClientId, Life, ExtentRow, Body, Session, SessionState}
+use Words.bodies
+use Words.states
+use Words.Sessions as sessions
+use Words.Lookups.{some_is}
+use Words.Tables.{find_map, found_at}
+use Words.Serving.{end_client}
+use Words.Truth.{clash}
 use Rattle.st_lemmas.proofs.Puts.{find_put_by, find_put_other}
-use Rattle.st_lemmas.proofs.Tables.{find_map, found_at}
-use Rattle.st_laws_requests.proofs.Clients.{end_client, keep_client}
+use Rattle.st_laws_requests.proofs.Clients.{keep_client}
 use Rattle.st_laws_extents.specs.ExtentReplies.Steps.{KeptRows}
 
 pub no_some : {A B : Type 0} (x : A) → ◌≡◌ {A = Option A} None (Some x) → B
 no_some x e = cc
-
-pub clash : {A : Type 0} {b : Bool} → b ≡ true → b ≡ false → A
-clash x y = cc
 
 -- a session keeps this reply
 abbrev pub Keeps : Session → ℕ → ℕ → List ExtentRow → Type 0

@@ -1,14 +1,11 @@
 -- A server's whole step: what it leaves of extents, and what it sends and keeps of them.
-use Rattle.std.proofs.Common.{◌≡◌, ℕ, ◌⊎◌, List, [], refl, sym, ap, ◌∙◌, subst, inl, inr}
-use Rattle.st_base.specs.declared.ids.Stamp.{Stamp}
-use Rattle.st_base.specs.declared.rows.ExtentRow.{ExtentRow}
-use Rattle.st_messages.specs.declared.message.Message.{Message}
-use Rattle.st_rules.specs.declared.input.ServerInput.{ServerInput}
-use Rattle.st_rules.specs.Extents as extents
-use Rattle.st_rules.specs.Extents.{Extents}
-use Rattle.st_rules.specs.Keys.{server_node}
-use Rattle.st_rules.specs.Sessions.{is_live_state}
-use Rattle.st_rules.specs.Server.{ServerState, ServerTurn, Stable, turn, sender, server_step}
+use Rattle.st_lemmas.proofs.Words
+use Words.{◌≡◌, ℕ, ◌⊎◌, List, [], refl, sym, ap, ◌∙◌, subst, inl, inr, Stamp, ExtentRow, Message, ServerInput}
+use Words.Extents as extents
+use Words.Extents.{Extents}
+use Words.Keys.{server_node}
+use Words.Sessions.{is_live_state}
+use Words.Server.{ServerState, ServerTurn, Stable, turn, sender, server_step}
 use Rattle.st_laws_extents.specs.ExtentReplies.Steps.{ChangedNow, KeptRows, ServedAnew, StepTells, StepsTell, TellsRows, ToldBy, file_of}
 use Rattle.st_laws_extents.proofs.ExtentReplies.Rule.{Moved, Ruled, ruled}
 use Rattle.st_laws_extents.proofs.ExtentReplies.Walk as walk

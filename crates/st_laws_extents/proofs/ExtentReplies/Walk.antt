@@ -1,39 +1,27 @@
 -- The replies that a server sends and keeps and that tell extents.
-use Rattle.std.proofs.Common.{◌≡◌, ℕ, ◌⊎◌, List, [], ◌∷◌, refl, sym, ap, ◌∙◌, subst, inl, inr}
-use Rattle.std.specs.Prelude.{Some}
-use Rattle.st_base.specs.declared.ids.ClientId.{ClientId}
-use Rattle.st_base.specs.declared.ids.Life.{Life}
-use Rattle.st_base.specs.declared.ids.Stamp.{Stamp}
-use Rattle.st_base.specs.declared.rows.ExtentRow.{ExtentRow}
-use Rattle.st_messages.specs.declared.message.Header.{Header}
-use Rattle.st_messages.specs.declared.message.Message.{Message}
-use Rattle.st_messages.specs.declared.message.Body.{Body}
-use Rattle.st_messages.specs.declared.message.Body.TheVariants as bd
-use Rattle.st_messages.specs.declared.output.Note.{Note}
-use Rattle.st_messages.specs.declared.output.Note.TheVariants as notes
-use Rattle.st_messages.specs.declared.output.Output.{Output}
-use Rattle.st_messages.specs.declared.output.Output.TheVariants as outputs
-use Rattle.st_rules.specs.declared.input.ServerInput.{ServerInput}
-use Rattle.st_rules.specs.declared.authority.AcceptRefusal.{AcceptRefusal}
+use Rattle.st_lemmas.proofs.Words
+use Words.{◌≡◌, ℕ, ◌⊎◌, List, [], ◌∷◌, refl, sym, ap, ◌∙◌, subst, inl, inr, Some, ClientId, Life, Stamp, ExtentRow, Header, Message, Body, Note, Output}
+use Words.{ServerInput, AcceptRefusal, Session}
+use Words.bodies as bd
+use Words.notes
+use Words.outputs
+use Words.states
+use Words.Extents.{Extents}
+use Words.Locks as locks
+use Words.Sessions as sessions
+use Words.Server as sv
+use Words.Server.{ServerState, ServerTurn, with_locks, with_sessions, sender, life_in, note, reply, say, tell, steal_from, suspect_client, keep_and_reply}
+use Words.Lists.{Has}
+use Words.Lookups.{some_is}
+use Words.Tables.{has_append}
 use Rattle.st_rules.specs.declared.authority.AcceptRefusal.TheVariants as refusals
-use Rattle.st_rules.specs.declared.sessions.Session.{Session}
-use Rattle.st_rules.specs.declared.sessions.SessionState.TheVariants as states
-use Rattle.st_rules.specs.Extents.{Extents}
-use Rattle.st_rules.specs.Locks as locks
-use Rattle.st_rules.specs.Sessions as sessions
-use Rattle.st_rules.specs.Server as sv
-use Rattle.st_rules.specs.Server.{ServerState, ServerTurn, with_locks, with_sessions, sender, life_in, note, reply, say, tell, steal_from, suspect_client}
-use Rattle.st_rules.specs.Server.{keep_and_reply}
-use Rattle.st_lemmas.specs.Lists.{Has}
-use Rattle.st_lemmas.proofs.Lookups.{some_is}
-use Rattle.st_lemmas.proofs.Tables.{has_append}
 use Rattle.st_laws_extents.specs.ExtentReplies.Steps.{KeptRows}
 use Rattle.st_laws_extents.proofs.ExtentReplies.Rule.{Ruled, ruled}
 use Rattle.st_laws_extents.proofs.ExtentReplies.Sessions.{From, IsStored, from_ended, from_new, from_reasserted, from_rows, stored_rows}
 use Rattle.st_trace.specs.Server.Edits as edits
 use Rattle.st_trace.specs.Server.Edits.{AtThefts, AtInput, AtSuspicion, AtGrants, AtDemands, Served, Refused, IsSuspect, GreetsInGrace, OfOtherEpoch}
-use Rattle.st_trace.specs.Server.Edits.{HasNoSession, IsRefusedRows, Edit, TakesTimers, Steals, Welcomes, Begins, Replaces, PutsOff, Sees, Reasserts}
-use Rattle.st_trace.specs.Server.Edits.{Serves, Repeats, Refuses, Suspects, Grants, Demands}
+use Rattle.st_trace.specs.Server.Edits.{HasNoSession, IsRefusedRows, Edit, TakesTimers, Steals, Welcomes, Begins, Replaces, PutsOff, Sees, Reasserts, Serves}
+use Rattle.st_trace.specs.Server.Edits.{Repeats, Refuses, Suspects, Grants, Demands}
 
 -- a fact of a reply of extents: to whom, of which life and number, and its file and rows
 abbrev pub Fact : Type 1
@@ -51,23 +39,25 @@ module _ (Good : Fact) (x : Extents) where
   O t = Stands Good x t
 
   -- other parts of the state
-  o_state : (t : ServerTurn) (y : ServerState) → y.stable.extents ≡ t.state.stable.extents → y.sessions ≡ t.state.sessions → O t → O (record t { state = y })
-  o_state t y a b o = record {
+  stands_after_state : (t : ServerTurn) (y : ServerState) → y.stable.extents ≡ t.state.stable.extents → y.sessions ≡ t.state.sessions → O t →
+      O (record t { state = y })
+  stands_after_state t y a b o = record {
     extents = a ∙ o.extents;
     kept = λ c life number ino rows k. o.kept c life number ino rows (subst (λ s. KeptRows s c life number ino rows) b k);
     sent = o.sent;
   }
 
-  o_sessions : (t : ServerTurn) (s : sessions.Sessions) → From t.state.sessions s → O t → O (with_sessions s t)
-  o_sessions t s f o = record {
+  stands_after_sessions : (t : ServerTurn) (s : sessions.Sessions) → From t.state.sessions s → O t → O (with_sessions s t)
+  stands_after_sessions t s f o = record {
     extents = o.extents;
     kept = λ c life number ino rows k. o.kept c life number ino rows (from_rows t.state.sessions s f c life number ino rows k);
     sent = o.sent;
   }
 
-  o_say : (t : ServerTurn) (o : Output) → ((m : Message) (ino : ℕ) (rows : List ExtentRow) → outputs.Send m ≡ o → m.body ≡ bd.Extents ino rows →
+  stands_after_say : (t : ServerTurn) (o : Output) → ((m : Message) (ino : ℕ) (rows : List ExtentRow) → outputs.Send m ≡ o → m.body ≡ bd.Extents ino rows →
       Good m.header.to m.header.life m.header.number ino rows) → O t → O (say t o)
-  o_say t o f k = record { extents = k.extents; kept = k.kept; sent = λ m ino rows h e. go m ino rows e (has_append t.out (o ∷ []) (outputs.Send m) h) }
+  stands_after_say t o f k =
+      record { extents = k.extents; kept = k.kept; sent = λ m ino rows h e. go m ino rows e (has_append t.out (o ∷ []) (outputs.Send m) h) }
     where
       go : (m : Message) (ino : ℕ) (rows : List ExtentRow) → m.body ≡ bd.Extents ino rows →
           Has (outputs.Send m) t.out ⊎ Has (outputs.Send m) (o ∷ []) → Good m.header.to m.header.life m.header.number ino rows
@@ -75,13 +65,13 @@ module _ (Good : Fact) (x : Extents) where
       go m ino rows e (inr (inl q)) = f m ino rows q e
       go m ino rows e (inr (inr n)) = absurd n
 
-  o_note : (t : ServerTurn) (n : Note) → O t → O (note t n)
-  o_note t n o = o_say t (outputs.Note n) (λ m ino rows q e. cc q) o
+  stands_after_note : (t : ServerTurn) (n : Note) → O t → O (note t n)
+  stands_after_note t n o = stands_after_say t (outputs.Note n) (λ m ino rows q e. cc q) o
 
-  o_reply : (t : ServerTurn) (h : Header) (b : Body) → ((ino : ℕ) (rows : List ExtentRow) → b ≡ bd.Extents ino rows →
+  stands_after_reply : (t : ServerTurn) (h : Header) (b : Body) → ((ino : ℕ) (rows : List ExtentRow) → b ≡ bd.Extents ino rows →
       Good h.from h.life h.number ino rows) → O t → O (reply t h b)
   unfolding reply
-  o_reply t h b f o = o_say t (outputs.Send m) (λ y ino rows q e. go y ino rows (same y q) e) o
+  stands_after_reply t h b f o = stands_after_say t (outputs.Send m) (λ y ino rows q e. go y ino rows (same y q) e) o
     where
       m : Message
       m = record { header = sv.reply_header t.state h; body = b }
@@ -92,10 +82,10 @@ module _ (Good : Fact) (x : Extents) where
       go : (y : Message) (ino : ℕ) (rows : List ExtentRow) → m ≡ y → y.body ≡ bd.Extents ino rows → Good y.header.to y.header.life y.header.number ino rows
       go y ino rows q = subst (λ (z : Message). z.body ≡ bd.Extents ino rows → Good z.header.to z.header.life z.header.number ino rows) q (λ e. f ino rows e)
 
-  o_tell : (t : ServerTurn) (c : ClientId) (life : Life) (b : Body) → ((ino : ℕ) (rows : List ExtentRow) → b ≡ bd.Extents ino rows → ⊥) → O t →
+  stands_after_tell : (t : ServerTurn) (c : ClientId) (life : Life) (b : Body) → ((ino : ℕ) (rows : List ExtentRow) → b ≡ bd.Extents ino rows → ⊥) → O t →
       O (tell t c life b)
   unfolding tell
-  o_tell t c life b f o = o_say t (outputs.Send m) (λ y ino rows q e. absurd (f ino rows (ap (λ (z : Message). z.body) (same y q) ∙ e))) o
+  stands_after_tell t c life b f o = stands_after_say t (outputs.Send m) (λ y ino rows q e. absurd (f ino rows (ap (λ (z : Message). z.body) (same y q) ∙ e))) o
     where
       m : Message
       m = record { header = sv.own_header t.state c life; body = b }
@@ -103,29 +93,29 @@ module _ (Good : Fact) (x : Extents) where
       same : (y : Message) → outputs.Send y ≡ outputs.Send m → m ≡ y
       same y q = cc
 
-  o_suspect : (t : ServerTurn) (now : Stamp) (c : ClientId) → O t → O (suspect_client t now c)
+  stands_after_suspect : (t : ServerTurn) (now : Stamp) (c : ClientId) → O t → O (suspect_client t now c)
   unfolding suspect_client
-  o_suspect t now c o = o_state _ _ refl refl (o_note t _ o)
+  stands_after_suspect t now c o = stands_after_state _ _ refl refl (stands_after_note t _ o)
 
   module _ (n : ServerState) (now : Stamp) (i : ServerInput) where
     pub steals : (t u : ServerTurn) → Edit n now i AtThefts t u → O t → O u
     unfolding steal_from
-    steals t u (TakesTimers _ e) o = o_state t _ refl refl o
+    steals t u (TakesTimers _ e) o = stands_after_state t _ refl refl o
     steals t u (Steals _ c y h e) o =
-        o_sessions (with_locks (locks.forget t.state.locks c) (note t (notes.Stolen c y.life))) _ (from_ended t.state.sessions c)
-        (o_state _ _ refl refl (o_note t (notes.Stolen c y.life) o))
+        stands_after_sessions (with_locks (locks.forget t.state.locks c) (note t (notes.Stolen c y.life))) _ (from_ended t.state.sessions c)
+        (stands_after_state _ _ refl refl (stands_after_note t (notes.Stolen c y.life) o))
 
     pub suspects : (t u : ServerTurn) → Edit n now i AtSuspicion t u → O t → O u
-    suspects t u (Suspects _ c r is q f h e k) o = o_suspect t now c o
+    suspects t u (Suspects _ c r is q f h e k) o = stands_after_suspect t now c o
 
     pub grants : (t u : ServerTurn) → Edit n now i AtGrants t u → O t → O u
-    grants t u (Grants _ w off h e f) o = o_tell _ w.client w.life _ (λ j z q. cc q) (o_state t _ refl refl o)
+    grants t u (Grants _ w off h e f) o = stands_after_tell _ w.client w.life _ (λ j z q. cc q) (stands_after_state t _ refl refl o)
 
     pub demands : (t u : ServerTurn) → Edit n now i AtDemands t u → O t → O u
-    demands t u (Demands _ w r y e k f q d) o = o_tell _ r.client r.life _ (λ j z q. cc q) (o_state t _ refl refl o)
+    demands t u (Demands _ w r y e k f q d) o = stands_after_tell _ r.client r.life _ (λ j z q. cc q) (stands_after_state t _ refl refl o)
 
     begins : (t : ServerTurn) (c : ClientId) (life : Life) → O t → O (with_sessions (sessions.with_new_session c life t.state.sessions) t)
-    begins t c life o = o_sessions t _ (from_new t.state.sessions c life) o
+    begins t c life o = stands_after_sessions t _ (from_new t.state.sessions c life) o
 
 -- The request that is served now: with this message and this reply.
 module _ (Good : Fact) (m : Message) (b : Body) where
@@ -154,7 +144,7 @@ module _ (Good : Fact) (x : Extents) (n : ServerState) (now : Stamp) (i : Server
       Stands (Right Good m b) v.state.stable.extents (keep_and_reply v m.header b)
   unfolding keep_and_reply
   serves t m v b sent rule o =
-      o_reply (Right Good m b) v.state.stable.extents _ m.header b (λ ino rows q. inr (refl, refl, refl, q))
+      stands_after_reply (Right Good m b) v.state.stable.extents _ m.header b (λ ino rows q. inr (refl, refl, refl, q))
       (record {
         extents = refl;
         kept = λ c life number ino rows k. of c life number ino rows (stored_rows v.state.sessions
@@ -189,25 +179,25 @@ module _ (Good : Fact) (x : Extents) (n : ServerState) (now : Stamp) (i : Server
       none (refusals.NotHolder a b) e = cc e
 
   pub takes : (t u : ServerTurn) → Edit n now i AtInput t u → Stands Good x t → Came u
-  takes t u (Welcomes _ m y g e a f) o = inl (o_reply Good x t m.header _ (λ i r e. cc e) o)
-  takes t u (Begins _ m g f) o = inl (o_reply Good x _ m.header _ (λ i r e. cc e) (begins Good x n now i t (sender m.header) (life_in m.header) o))
+  takes t u (Welcomes _ m y g e a f) o = inl (stands_after_reply Good x t m.header _ (λ i r e. cc e) o)
+  takes t u (Begins _ m g f) o = inl (stands_after_reply Good x _ m.header _ (λ i r e. cc e) (begins Good x n now i t (sender m.header) (life_in m.header) o))
   takes t u (Replaces _ m y g e a f r) o =
-      inl (o_reply Good x _ m.header _ (λ i r e. cc e)
-      (o_state Good x (with_sessions (sessions.with_new_session (sender m.header) (life_in m.header) t.state.sessions) t) _ refl refl
+      inl (stands_after_reply Good x _ m.header _ (λ i r e. cc e)
+      (stands_after_state Good x (with_sessions (sessions.with_new_session (sender m.header) (life_in m.header) t.state.sessions) t) _ refl refl
       (begins Good x n now i t (sender m.header) (life_in m.header) o)))
-  takes t u (PutsOff _ m y g e a f r) o = inl (o_reply Good x _ m.header _ (λ i r e. cc e) (o_suspect Good x t now (sender m.header) o))
-  takes t u (Sees _ m ino g h b e) o = inl (o_state Good x t _ refl refl o)
+  takes t u (PutsOff _ m y g e a f r) o = inl (stands_after_reply Good x _ m.header _ (λ i r e. cc e) (stands_after_suspect Good x t now (sender m.header) o))
+  takes t u (Sees _ m ino g h b e) o = inl (stands_after_state Good x t _ refl refl o)
   takes t u (Reasserts _ m rows r on f) o =
-      inl (o_reply Good x _ m.header _ (λ i r e. cc e)
-      (o_sessions Good x (with_locks (locks.with_rows t.state.locks (sender m.header) (life_in m.header) rows) t) _
-      (from_reasserted t.state.sessions (sender m.header) (life_in m.header)) (o_state Good x t _ refl refl o)))
+      inl (stands_after_reply Good x _ m.header _ (λ i r e. cc e)
+      (stands_after_sessions Good x (with_locks (locks.with_rows t.state.locks (sender m.header) (life_in m.header) rows) t) _
+      (from_reasserted t.state.sessions (sender m.header) (life_in m.header)) (stands_after_state Good x t _ refl refl o)))
   takes t u (Serves _ m v b y e r) o =
       inr (record { message = m; turn = t; after = v; reply = b; sent = y; rule = r; stands = serves t m v b y r o })
   takes t u (Repeats _ m y b k a f g st) o =
-      inl (o_reply Good x t m.header b
+      inl (stands_after_reply Good x t m.header b
       (λ ino rows q. o.kept (sender m.header) m.header.life m.header.number ino rows
       (record { session = y; is = f; of_life = g; state = st ∙ ap (λ z. states.Live m.header.number (Some z)) q })) o)
-  takes t u (Refuses _ m b r) o = inl (o_reply Good x t m.header b (λ ino rows q. absurd (refused_reply t m b r ino rows q)) o)
+  takes t u (Refuses _ m b r) o = inl (stands_after_reply Good x t m.header b (λ ino rows q. absurd (refused_reply t m b r ino rows q)) o)
 
   -- what holds of what was served, holds through the passes
   pub came_by : (t u : ServerTurn) → ((Good : Fact) (x : Extents) → Stands Good x t → Stands Good x u) → Came t → Came u

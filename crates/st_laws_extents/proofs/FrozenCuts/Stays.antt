@@ -1,52 +1,40 @@
 -- No message of a life that a crash ended cuts a file of which a write of the life is not reported: through every event.
-use Rattle.std.proofs.Common.{◌≡◌, ℕ, ◌≤◌, ◌<◌, true, List, Option, Some, None, Ok, refl, sym, ap, ◌∙◌, subst, arith}
-use Rattle.std.specs.Prelude.{find, length}
-use Rattle.st_base.specs.declared.ids.ClientId.{ClientId}
-use Rattle.st_base.specs.declared.ids.GrantNo.{GrantNo}
-use Rattle.st_base.specs.declared.ids.Life.{Life}
-use Rattle.st_base.specs.declared.ids.NodeId.TheVariants as nodes
-use Rattle.st_base.specs.declared.ids.PageNo.{PageNo}
-use Rattle.st_base.specs.declared.ids.ServerId.{ServerId}
-use Rattle.st_base.specs.declared.disk.BlockAt.{BlockAt}
-use Rattle.st_base.specs.declared.disk.Tag.{Tag}
-use Rattle.st_messages.specs.declared.event.Event.{Event}
-use Rattle.st_messages.specs.declared.event.Event.TheVariants as events
-use Rattle.st_messages.specs.declared.message.Message.{Message}
-use Rattle.st_rules.specs.declared.log.LogOwner.{LogOwner}
-use Rattle.st_rules.specs.declared.world.IssuedCommand.{IssuedCommand}
-use Rattle.st_rules.specs.ClientState.{is_at}
-use Rattle.st_rules.specs.Events as ev
-use Rattle.st_rules.specs.Events.{WorldTurn, counted, world_step}
-use Rattle.st_rules.specs.History.{Traced}
-use Rattle.st_rules.specs.Keys.{client, server_node}
-use Rattle.st_rules.specs.Safety.{Step}
-use Rattle.st_rules.specs.World.{World, WorldClient, server, site_of}
+use Rattle.st_lemmas.proofs.Words
+use Words.{◌≡◌, ℕ, ◌≤◌, ◌<◌, true, List, Option, Some, None, Ok, refl, sym, ap, ◌∙◌, subst, arith, find, length, ClientId, GrantNo, Life, PageNo, ServerId}
+use Words.{BlockAt, Tag, Event, Message, LogOwner, IssuedCommand, LeaseLife}
+use Words.nodes
+use Words.events
+use Words.ClientState.{is_at}
+use Words.Events as ev
+use Words.Events.{WorldTurn, counted, world_step}
+use Words.History.{Traced}
+use Words.Keys.{client, server_node}
+use Words.Safety.{Step}
+use Words.World.{World, WorldClient, server, site_of, ended_of}
+use Words.Lists.{Has}
+use Words.Lookups.{some_is}
+use Words.Numbers.{numbered_below}
+use Words.Admissible as adm
+use Words.World as world
+use Words.Worlds.{counted_admits, stands_not}
 use Rattle.st_protocol.specs.Assoc.{Config}
-use Rattle.st_lemmas.specs.Lists.{Has}
 use Rattle.st_lemmas.proofs.Steps.{step_happens}
 use Rattle.st_laws_leases.specs.Dates.Dates.{messages}
 use Rattle.st_laws_leases.specs.Sides.World.{AllStand}
 use Rattle.st_laws_extents.specs.CutRequests.EndedLives.{Goes, LifeHarmless, SentBy}
 use Rattle.st_laws_extents.specs.CutRequests.Law.{gifts}
 use Rattle.st_laws_extents.specs.FrozenCuts.FrozenFiles.{FrozenFilesUncut, UncutLife}
-use Rattle.st_rules.specs.declared.world.LeaseLife.{LeaseLife}
-use Rattle.st_rules.specs.World.{ended_of}
 use Rattle.st_laws_pages.proofs.Lives.NodeTurns.{row_is}
 use Rattle.st_laws_steps.proofs.Lives.Associations.{own_found}
 use Rattle.st_laws_steps.specs.Lives.Lives.{LivesHold, NodeHolds}
 use Rattle.st_laws_pages.specs.Writes.Writes.{IsListed, OpenHold}
 use Rattle.st_laws_reads.specs.AllClients.CutFiles.{AllCleared, Cuts}
-use Rattle.st_lemmas.proofs.Lookups.{some_is}
-use Rattle.st_lemmas.proofs.Numbers.{numbered_below}
 use Rattle.st_laws_reads.specs.OpenWrites.StandStill.{OpenThere, OpenTracked, OpenWrite, writer}
-use Rattle.st_laws_extents.proofs.CutRequests.Law.{Hold}
-use Rattle.st_rules.specs.Admissible as adm
-use Rattle.st_rules.specs.World as world
+use Rattle.st_laws_extents.proofs.CutRequests.Law.{Hold, followed, gifts_stay, owed}
 use Rattle.st_laws_reads.proofs.FrozenLives.Falling.{OwnRow, V, own_row, there_too}
 use Rattle.st_laws_reads.proofs.OpenWrites.Tracked.{tracked}
 use Rattle.st_laws_extents.proofs.CutRequests.ServersGoOn.{event_goes}
 use Rattle.st_laws_extents.proofs.CutRequests.EndedLives.{harmless, harmless_stays, life_stays}
-use Rattle.st_laws_extents.proofs.CutRequests.Law.{followed, gifts_stay, owed}
 
 server_same : (s x : ServerId) → server_node s ≡ server_node x → s ≡ x
 server_same s x e = ap (λ (n : ℕ). server n) (omega (arith, e))
@@ -74,10 +62,6 @@ silent w h o row q m from to life z = omega (arith, over, z.life, life, its)
     its : row.life.0 ≡ o.life.0
     its = ap (λ (l : Life). l.0) y.3
 
-same_refusal : (w : World) (e : Event) → adm.refusal w e ≡ None → adm.refusal (counted w) e ≡ None
-unfolding adm.refusal adm.refused_delivery adm.clocks_refused adm.flush_missed adm.refused_effect adm.refused_report world.node_of_place adm.missed_by
-same_refusal w e z = z
-
 module _ (k : Config) (count : ℕ) (past : List Step) (t : Traced) (e : Event) (sc : WorldTurn) (ranges : Rattle.st_rules.specs.Safety.is_event count e ≡ true) (h : Hold k count past t) (taken : world_step t.world e ≡ Ok sc)
     (safe : FrozenFilesUncut k count t.world h.all) (there : OpenThere t.world) (counts : length t.world.commands ≡ length t.world.disks.commands) (open_ : OpenHold t.world) (clear : AllCleared t.world) where
   w : World
@@ -99,7 +83,7 @@ module _ (k : Config) (count : ℕ) (past : List Step) (t : Traced) (e : Event) 
     where
       was : OpenTracked (UncutLife k count sc.world (followed k count past t e sc ranges h taken).after sc.world) (ev.happens (counted t.world) e).world
       was =
-          tracked (UncutLife k count sc.world (followed k count past t e sc ranges h taken).after sc.world) (counted t.world) e never (same_refusal t.world e refusal)
+          tracked (UncutLife k count sc.world (followed k count past t e sc ranges h taken).after sc.world) (counted t.world) e never (counted_admits t.world e refusal)
           (record {
             lives = record { lives = h.all.fates.lives.lives; known = h.all.fates.lives.known };
             counts = counts;
@@ -159,7 +143,7 @@ module _ (k : Config) (count : ℕ) (past : List Step) (t : Traced) (e : Event) 
 
   crash_runs : (c : ClientId) → adm.refusal t.world (events.Crash (nodes.Client c)) ≡ None → world.site_runs (site_of t.world c) ≡ true
   unfolding adm.refusal
-  crash_runs c r = Rattle.st_lemmas.proofs.Tables.not_false _ (Rattle.st_laws_pages.proofs.Disks.Effects.stands_not _ _ (Rattle.st_laws_pages.proofs.Disks.Effects.or_none _ _ r).1)
+  crash_runs c r = Rattle.st_lemmas.proofs.Tables.not_false _ (stands_not _ _ (Rattle.st_laws_pages.proofs.Disks.Effects.or_none _ _ r).1)
 
   crashes : (c : ClientId) → e ≡ events.Crash (nodes.Client c) → FrozenFilesUncut k count sc.world (followed k count past t e sc ranges h taken).after
   unfolding ev.happens ev.crashes

@@ -1,28 +1,21 @@
 -- A cut finds no write of the life that asks for it, where a crash ended that life.
-use Rattle.std.proofs.Common.{◌≡◌, ℕ, true, List, Some, ap, ◌∙◌, subst}
-use Rattle.st_base.specs.declared.ids.FileId.{FileId}
-use Rattle.st_base.specs.declared.ids.PageNo.{PageNo}
-use Rattle.st_base.specs.declared.disk.BlockAt.{BlockAt}
-use Rattle.st_base.specs.declared.disk.Tag.{Tag}
-use Rattle.st_messages.specs.declared.event.Event.{Event}
-use Rattle.st_rules.specs.declared.world.IssuedCommand.{IssuedCommand}
-use Rattle.st_rules.specs.Events.{WorldTurn}
-use Rattle.st_rules.specs.History.{Traced}
-use Rattle.st_rules.specs.Keys.{client}
-use Rattle.st_rules.specs.Safety.{Step, step}
+use Rattle.st_lemmas.proofs.Words
+use Words.{◌≡◌, ℕ, true, List, Some, ap, ◌∙◌, subst, FileId, PageNo, BlockAt, Tag, Event, IssuedCommand, LeaseLife}
+use Words.Events.{WorldTurn}
+use Words.History.{Traced}
+use Words.Keys.{client}
+use Words.Safety.{Step, step}
+use Words.World.{ended_of}
 use Rattle.st_protocol.specs.Assoc.{Config}
 use Rattle.st_laws_extents.specs.CutRequests.EndedLives.{LifeHarmless}
 use Rattle.st_laws_extents.specs.CutRequests.Law.{gifts}
 use Rattle.st_laws_extents.specs.FrozenCuts.FrozenFiles.{FrozenFilesUncut}
-use Rattle.st_rules.specs.declared.world.LeaseLife.{LeaseLife}
-use Rattle.st_rules.specs.World.{ended_of}
 use Rattle.st_laws_reads.specs.OpenWrites.StandStill.{OpenWrite}
 use Rattle.st_laws_extents.proofs.CutRequests.Law.{Hold}
 use Rattle.st_laws_pages.specs.Disks.World.{Living, PagesHold, Timely}
 use Rattle.st_laws_extents.specs.Submits.Obligations.{FrozenUncut}
 use Rattle.st_laws_extents.specs.CutRequests.Cut.{CutIn}
 use Rattle.st_laws_extents.proofs.CutRequests.EndedLives.{no_cut}
-use Rattle.st_laws_extents.specs.Submits.Obligations.{FrozenUncut}
 
 module _ (k : Config) (count : ℕ) (past : List Step) (t : Traced) (h : Hold k count past t) (safe : FrozenFilesUncut k count t.world h.all) (pages_ : PagesHold t.world) where
   -- a cut by a message of the life of a write

@@ -1,21 +1,16 @@
 -- What a client does with its locks leaves no old grant as a file's lock again.
-use Rattle.std.proofs.Common.{◌≡◌, ◌≢◌, ◌⊎◌, ℕ, ◌≤◌, Bool, true, false, not, ◌==◌, List, Option, Some, None, refl, sym, ap, ◌∙◌, subst, inl, inr, arith, if◌then◌else◌}
-use Rattle.std.specs.Prelude.{◌||◌, find, is_some, nat_le, nat_lt, option_map, unwrap_or}
-use Rattle.std.proofs.lemmas.Bool.{eq-eqb, eqb-true, leb-true, ltb-true}
-use Rattle.st_base.specs.declared.ids.GrantNo.{GrantNo}
-use Rattle.st_base.specs.declared.mode.Mode.{Mode}
-use Rattle.st_base.specs.declared.mode.Mode.TheVariants as modes
-use Rattle.st_rules.specs.declared.client.DemandedFile.{DemandedFile}
-use Rattle.st_rules.specs.declared.client.HeldLock.{HeldLock}
-use Rattle.st_rules.specs.declared.client.SeenGrant.{SeenGrant}
-use Rattle.st_rules.specs.ClientLocks as locks
-use Rattle.st_rules.specs.ClientLocks.{LockCache, lock_of, seen_of}
-use Rattle.st_rules.specs.ClientReplies as cr
-use Rattle.st_rules.specs.ClientReplies.{is_grant}
-use Rattle.st_rules.specs.ClientState.{ClientSession}
-use Rattle.st_lemmas.proofs.Lookups.{some_is}
+use Rattle.st_lemmas.proofs.Words
+use Words.{◌≡◌, ◌≢◌, ◌⊎◌, ℕ, ◌≤◌, Bool, true, false, not, ◌==◌, List, Option, Some, None, refl, sym, ap, ◌∙◌, subst, inl, inr, arith, if◌then◌else◌, ◌||◌, find}
+use Words.{is_some, nat_le, nat_lt, option_map, unwrap_or, eq-eqb, eqb-true, leb-true, ltb-true, GrantNo, Mode, DemandedFile, HeldLock, SeenGrant}
+use Words.modes
+use Words.ClientLocks as locks
+use Words.ClientLocks.{LockCache, lock_of, seen_of}
+use Words.ClientReplies as cr
+use Words.ClientReplies.{is_grant}
+use Words.ClientState.{ClientSession}
+use Words.Lookups.{some_is}
+use Words.Tables.{find_gone, find_kept, same_or_not}
 use Rattle.st_lemmas.proofs.Puts.{find_put_at}
-use Rattle.st_lemmas.proofs.Tables.{find_gone, find_kept, same_or_not}
 use Rattle.st_laws_extents.specs.Known.Current.{LockSeen, LocksGoOn, OldGrantsStayGone}
 
 -- the grant of a lock
@@ -188,6 +183,6 @@ reduce_goes_on c ino h = at (locks.demand_of c ino)
     at None = go_same c h
     at (Some d) = locked d (lock_of c d.ino) refl
 
-pub law : OldGrantsStayGone
+pub old_grants_stay_gone : OldGrantsStayGone
 unfolding locks.drop_lock
-law s ino g mode h = record { grant = grant_goes_on s ino g mode h; demand = demands_go_on s.locks ino g mode h; reduce = reduce_goes_on s.locks ino h; drop = go_without s.locks (locks.drop_lock s.locks ino) ino refl refl h }
+old_grants_stay_gone s ino g mode h = record { grant = grant_goes_on s ino g mode h; demand = demands_go_on s.locks ino g mode h; reduce = reduce_goes_on s.locks ino h; drop = go_without s.locks (locks.drop_lock s.locks ino) ino refl refl h }

@@ -1,24 +1,22 @@
 -- Locks of files that are known of have a mode; and what is known of a page is found.
-use Rattle.std.proofs.Common.{◌≡◌, ◌⊎◌, ℕ, ◌≤◌, Bool, true, false, ◌==◌, List, [], ◌∷◌, Option, Some, None, refl, sym, ◌∙◌, subst, inl, inr, if◌then◌else◌}
-use Rattle.std.specs.Prelude.{find}
-use Rattle.std.proofs.lemmas.Bool.{eq-eqb}
-use Rattle.st_base.specs.Mode.{number_of}
-use Rattle.st_rules.specs.declared.client.HeldLock.{HeldLock}
-use Rattle.st_rules.specs.declared.client.KnownExtent.{KnownExtent}
-use Rattle.st_rules.specs.ClientLocks as locks
-use Rattle.st_rules.specs.ClientPages as pages
-use Rattle.st_rules.specs.ClientState.{Association, ClientSession}
-use Rattle.st_rules.specs.Keys.{client}
-use Rattle.st_rules.specs.World.{World, WorldClient, site_of}
+use Rattle.st_lemmas.proofs.Words
+use Words.{◌≡◌, ◌⊎◌, ℕ, ◌≤◌, Bool, true, false, ◌==◌, List, [], ◌∷◌, Option, Some, None, refl, sym, ◌∙◌, subst, inl, inr, if◌then◌else◌, find, eq-eqb}
+use Words.{KnownExtent}
+use Words.ClientLocks as locks
+use Words.ClientPages as pages
+use Words.ClientState.{Association, ClientSession}
+use Words.Keys.{client}
+use Words.World.{World, WorldClient, site_of}
+use Words.Lists.{Has}
+use Words.Tables.{and_both, found_at}
 use Rattle.st_protocol.specs.Assoc.{Config}
-use Rattle.st_lemmas.specs.Lists.{Has}
-use Rattle.st_lemmas.proofs.Tables.{and_both, found_at}
 use Rattle.st_laws_refine.specs.Views.Halves.{held_at, held_in}
 use Rattle.st_laws_refine.specs.Client.Invariants.{HaveModes, Kept}
 use Rattle.st_laws_leases.specs.Sides.Invariants.{Standing}
 use Rattle.st_laws_leases.specs.Sides.World.{AllStand, ServerStands, There}
 use Rattle.st_laws_leases.proofs.Sides.Pairs.{only_here}
 use Rattle.st_laws_extents.specs.Known.Known.{HasLock, Locked}
+use Rattle.st_laws_extents.proofs.ExtentReplies.Held.{lock_mode}
 
 -- what is there is found
 pub finds : {A : Type 0} (p : A → Bool) (x : A) (xs : List A) → Has x xs → p x ≡ true → (y : A) × (find p xs ≡ Some y)
@@ -32,12 +30,6 @@ finds {A} p x (z ∷ xs) i e = go (p z) refl i (λ j. finds p x xs j e)
         clash : {b : Bool} → b ≡ true → b ≡ false → ⊥
         clash x y = cc
     go false q (inr j) r = r j
-
--- a lock that is held has a mode
-lock_mode : (ls : List HeldLock) (l : HeldLock) → HaveModes ls → Has l ls → 1 ≤ number_of l.mode
-lock_mode [] l m i = elim i [ ]
-lock_mode (x ∷ ls) l m (inl e) = subst (λ (y : HeldLock). 1 ≤ number_of y.mode) (sym e) m.one
-lock_mode (x ∷ ls) l m (inr i) = lock_mode ls l m.rest i
 
 locked_mode : (s : ClientSession) (ino : ℕ) → HaveModes s.locks.rows → HasLock s.locks.rows ino → 1 ≤ (held_in (Some s) ino).mode
 locked_mode s ino m h =

@@ -1,50 +1,35 @@
 -- The rules of a client: what is known of where pages lie stays known of files that are locked, and writes go there.
-use Rattle.std.proofs.Common.{◌≡◌, ◌⊎◌, ℕ, Bool, true, false, ◌==◌, List, [], ◌∷◌, ◌++◌, Option, Some, None, refl, sym, ◌∙◌, subst, inl, inr, if◌then◌else◌}
-use Rattle.std.specs.Prelude.{map}
-use Rattle.std.proofs.lemmas.Bool.{eqb-true}
-use Rattle.st_base.specs.declared.disk.Tag.{Tag}
-use Rattle.st_base.specs.declared.ids.GrantNo.{GrantNo}
-use Rattle.st_base.specs.declared.ids.PageNo.{PageNo}
-use Rattle.st_base.specs.declared.ids.ServerId.{ServerId}
-use Rattle.st_base.specs.declared.ids.Stamp.{Stamp}
-use Rattle.st_base.specs.declared.mode.Mode.{Mode}
-use Rattle.st_base.specs.declared.mode.Mode.TheVariants as modes
-use Rattle.st_messages.specs.declared.answer.AppAnswer.{AppAnswer}
-use Rattle.st_messages.specs.declared.ask.Ask.{Ask}
-use Rattle.st_messages.specs.declared.output.Note.{Note}
-use Rattle.st_messages.specs.declared.output.Output.{Output}
-use Rattle.st_messages.specs.declared.output.Output.TheVariants as outputs
-use Rattle.st_rules.specs.declared.client.Asked.{Asked}
+use Rattle.st_lemmas.proofs.Words
+use Words.{◌≡◌, ◌⊎◌, ℕ, Bool, true, false, ◌==◌, List, [], ◌∷◌, ◌++◌, Option, Some, None, refl, sym, ◌∙◌, subst, inl, inr, if◌then◌else◌, map, eqb-true, Tag}
+use Words.{GrantNo, PageNo, ServerId, Stamp, Mode, AppAnswer, Ask, Note, Output, Asked, KnownExtent, MappedBlock, Operation}
+use Words.modes
+use Words.outputs
+use Words.Client as cl
+use Words.ClientLease as lease
+use Words.ClientLocks as locks
+use Words.ClientPages as pages
+use Words.ClientPages.{Store}
+use Words.ClientPasses as cp
+use Words.ClientReplies as cr
+use Words.ClientState as state
+use Words.ClientState.{ClientSession, Turn, answer_each, only_at, send, with_session}
+use Words.Lists.{Has}
+use Words.Tables.{and_true, found_at, has_append, has_filter, has_map}
+use Words.Truth.{false_not_true}
 use Rattle.st_rules.specs.declared.client.Asked.TheVariants.{Reduce, NotHeld, Stale}
-use Rattle.st_rules.specs.declared.client.KnownExtent.{KnownExtent}
-use Rattle.st_rules.specs.declared.client.MappedBlock.{MappedBlock}
-use Rattle.st_rules.specs.declared.client.Operation.{Operation}
-use Rattle.st_rules.specs.Client as cl
-use Rattle.st_rules.specs.ClientLease as lease
-use Rattle.st_rules.specs.ClientLocks as locks
-use Rattle.st_rules.specs.ClientPages as pages
-use Rattle.st_rules.specs.ClientPages.{Store}
-use Rattle.st_rules.specs.ClientPasses as cp
-use Rattle.st_rules.specs.ClientReplies as cr
-use Rattle.st_rules.specs.ClientState as state
-use Rattle.st_rules.specs.ClientState.{ClientSession, Turn, answer_each, only_at, send, with_session}
-use Rattle.st_lemmas.specs.Lists.{Has}
-use Rattle.st_lemmas.proofs.Tables.{and_true, found_at, has_append, has_filter, has_map}
 use Rattle.st_laws_steps.specs.Client.Client as client
 use Rattle.st_laws_steps.specs.Client.Client.{Change, Plain}
 use Rattle.st_laws_steps.specs.Client.Losses.{Ends, Unknown, Passes, Hardens, Fails}
-use Rattle.st_laws_steps.specs.Client.Session.{LocksStep, LocksStay, LocksReduced, LocksGranted, LocksDemanded, SessionChange, Keeps, DropsLock, IsReasserted, EndsRequest, NewEpoch, AsksNew, AsksAgain}
-use Rattle.st_laws_steps.proofs.Client.Asking.{p_passes}
+use Rattle.st_laws_steps.specs.Client.Session.{LocksStep, LocksStay, LocksReduced, LocksGranted, LocksDemanded, SessionChange, Keeps, DropsLock, IsReasserted}
+use Rattle.st_laws_steps.specs.Client.Session.{EndsRequest, NewEpoch, AsksNew, AsksAgain}
+use Rattle.st_laws_steps.proofs.Client.Asking.{passes_keep_or_ask}
 use Rattle.st_laws_steps.proofs.Client.Calm.{IsCalm}
-use Rattle.st_laws_steps.proofs.Client.Losing.{Finished, c_end_each, calm_only, finish_is, is_done}
+use Rattle.st_laws_steps.proofs.Client.Losing.{Finished, changes_by_end_each, calm_only, finish_is, is_done}
 use Rattle.st_laws_steps.proofs.Client.Only.{Only, Goes}
 use Rattle.st_laws_steps.proofs.Client.Only as only
 use Rattle.st_laws_steps.proofs.Client.Passing.{FollowsBy, IsPassing, KeepsOrAsks, Part}
 use Rattle.st_laws_extents.specs.Known.Known.{Fact, HasLock, KnownAs, Locked, OutputAs, OutputsAs}
 use Rattle.st_laws_extents.proofs.Known.Locks.{demand_keeps, put_keeps, reduce_keeps}
-
-no_bool : {A : Type 0} → false ≡ true → A
-no_bool e = cc
 
 -- a grant leaves the locks of all files
 granted_keeps : (z : ClientSession) (ino : ℕ) (g : GrantNo) (mode : Mode) (j : ℕ) → HasLock z.locks.rows j → HasLock (cr.grant z ino g mode).locks.rows j
@@ -93,22 +78,24 @@ module _ (R : Fact) where
   abbrev pub K : Turn → Turn → Type 0
   K t u = At t → At u
 
-  pub k_none : (t : Turn) → K t t
-  k_none t h = h
+  pub kept_by_nothing : (t : Turn) → K t t
+  kept_by_nothing t h = h
 
-  pub k_if : (t : Turn) (b : Bool) (u v : Turn) → K t u → K t v → K t (if b then u else v)
-  k_if t true u v f g = f
-  k_if t false u v f g = g
+  pub kept_by_choice : (t : Turn) (b : Bool) (u v : Turn) → K t u → K t v → K t (if b then u else v)
+  kept_by_choice t true u v f g = f
+  kept_by_choice t false u v f g = g
 
   -- more is said
-  pub more : (server : ServerId) (o : Option ClientSession) (xs : List KnownExtent) (out os : List Output) → OutputsAs R os → Fine server o xs out → Fine server o xs (out ++ os)
+  pub more : (server : ServerId) (o : Option ClientSession) (xs : List KnownExtent) (out os : List Output) → OutputsAs R os → Fine server o xs out →
+      Fine server o xs (out ++ os)
   more server o xs out os f h = record { known = h.known; said = λ y i. go y (has_append out os y i) }
     where
       go : (y : Output) → Has y out ⊎ Has y os → OutputAs R y
       go y (inl i) = h.said y i
       go y (inr i) = f y i
 
-  pub say1 : (server : ServerId) (o : Option ClientSession) (xs : List KnownExtent) (out : List Output) (y : Output) → OutputAs R y → Fine server o xs out → Fine server o xs (out ++ y ∷ [])
+  pub say1 : (server : ServerId) (o : Option ClientSession) (xs : List KnownExtent) (out : List Output) (y : Output) → OutputAs R y → Fine server o xs out →
+      Fine server o xs (out ++ y ∷ [])
   say1 server o xs out y f = more server o xs out (y ∷ []) one
     where
       one : OutputsAs R (y ∷ [])
@@ -118,25 +105,30 @@ module _ (R : Fact) where
   answers_as : (ops : List Operation) (a : AppAnswer) → OutputsAs R (map (state.answer_to a) ops)
   answers_as ops a y i = let z = has_map (state.answer_to a) ops y i in subst (OutputAs R) (sym z.2) tt
 
-  pub k_answers : (t : Turn) (picked : Operation → Bool) (a : AppAnswer) → K t (answer_each picked a t)
+  pub kept_by_answers : (t : Turn) (picked : Operation → Bool) (a : AppAnswer) → K t (answer_each picked a t)
   unfolding answer_each
-  k_answers t picked a = more t.here.server t.here.session t.here.store.extents t.out _ (answers_as (Rattle.std.specs.Prelude.filter picked t.operations) a)
+  kept_by_answers t picked a = more t.here.server t.here.session t.here.store.extents t.out _
+      (answers_as (Rattle.std.specs.Prelude.filter picked t.operations) a)
 
-  pub k_note : (t : Turn) (n : Note) → K t (state.note t n)
-  k_note t n = say1 t.here.server t.here.session t.here.store.extents t.out _ tt
+  pub kept_by_note : (t : Turn) (n : Note) → K t (state.note t n)
+  kept_by_note t n = say1 t.here.server t.here.session t.here.store.extents t.out _ tt
 
   -- another session, with the locks of the files of which something is known
-  pub locked_on : (server : ServerId) (o p : Option ClientSession) (xs : List KnownExtent) (out : List Output) → ((e : KnownExtent) → Has e xs → Locked o e.ino → Locked p e.ino) → Fine server o xs out → Fine server p xs out
+  pub locked_on : (server : ServerId) (o p : Option ClientSession) (xs : List KnownExtent) (out : List Output) →
+      ((e : KnownExtent) → Has e xs → Locked o e.ino → Locked p e.ino) → Fine server o xs out → Fine server p xs out
   locked_on server o p xs out f h = record { known = λ e i. let z = h.known e i in record { locked = f e i z.locked; is = z.is }; said = h.said }
 
-  pub k_session : (t : Turn) (s r : ClientSession) → t.here.session ≡ Some s → ((ino : ℕ) → HasLock s.locks.rows ino → HasLock r.locks.rows ino) → K t (with_session r t)
-  k_session t s r e f = locked_on t.here.server t.here.session (Some r) t.here.store.extents t.out (λ x i l. f x.ino (subst (λ o. Locked o x.ino) e l))
+  pub kept_by_session : (t : Turn) (s r : ClientSession) → t.here.session ≡ Some s → ((ino : ℕ) → HasLock s.locks.rows ino → HasLock r.locks.rows ino) →
+      K t (with_session r t)
+  kept_by_session t s r e f = locked_on t.here.server t.here.session (Some r) t.here.store.extents t.out (λ x i l. f x.ino (subst (λ o. Locked o x.ino) e l))
 
   -- less is known
-  pub fewer : (server : ServerId) (o : Option ClientSession) (xs ys : List KnownExtent) (out : List Output) → ((e : KnownExtent) → Has e ys → Has e xs) → Fine server o xs out → Fine server o ys out
+  pub fewer : (server : ServerId) (o : Option ClientSession) (xs ys : List KnownExtent) (out : List Output) → ((e : KnownExtent) → Has e ys → Has e xs) →
+      Fine server o xs out → Fine server o ys out
   fewer server o xs ys out f h = record { known = λ e i. h.known e (f e i); said = h.said }
 
-  pub forgets : (server : ServerId) (o : Option ClientSession) (x : Store) (ino : ℕ) (p : PageNo) (out : List Output) → Fine server o x.extents out → Fine server o (pages.forget_from x ino p).extents out
+  pub forgets : (server : ServerId) (o : Option ClientSession) (x : Store) (ino : ℕ) (p : PageNo) (out : List Output) → Fine server o x.extents out →
+      Fine server o (pages.forget_from x ino p).extents out
   unfolding pages.forget_from
   forgets server o x ino p out = fewer server o x.extents _ out (λ e i. (has_filter _ x.extents e i).0)
 
@@ -152,7 +144,8 @@ module _ (R : Fact) where
       go (Some x) q z =
           let f = found_at (pages.is_known_of ino p) t.here.store.extents x q in
           let k = and_true (x.ino == ino) (x.page.0 == p.0) f.0 in
-          subst (λ (n : ℕ). R t.here.server ino (record { 0 = n }) m) (eqb-true x.page.0 p.0 k.1) (subst (λ n. R t.here.server n x.page m) (eqb-true x.ino ino k.0) ((h.known x f.1).is m z))
+          subst (λ (n : ℕ). R t.here.server ino (record { 0 = n }) m) (eqb-true x.page.0 p.0 k.1)
+          (subst (λ n. R t.here.server n x.page m) (eqb-true x.ino ino k.0) ((h.known x f.1).is m z))
 
   -- Each change of a pass, and such changes.
   plain_as : (o : Output) → Plain o → OutputAs R o
@@ -170,24 +163,28 @@ module _ (R : Fact) where
   change_passing syncs asks now t _ (client.TellsLost _ lost) q h = absurd q
   change_passing syncs asks now t _ (client.Begins _ s a b c) q h = absurd q
   change_passing syncs asks now t _ (client.Follows _ s u e g) q h =
-      locked_on t.here.server t.here.session (Some u) t.here.store.extents t.out (λ x i l. follows_keeps asks t.here.store s u g.how q x i (subst (λ o. Locked o x.ino) e l)) h
+      locked_on t.here.server t.here.session (Some u) t.here.store.extents t.out
+      (λ x i l. follows_keeps asks t.here.store s u g.how q x i (subst (λ o. Locked o x.ino) e l)) h
   change_passing syncs asks now t _ (client.Learns _ e a b) q h = absurd q
   change_passing syncs asks now t _ (client.Forgets _ ino p i) q h = forgets t.here.server t.here.session t.here.store ino p t.out h
   change_passing syncs asks now t _ (client.Caches _ clean) q h = h
-  change_passing syncs asks now t _ (client.Writes _ s f p bytes n se sv own m x) q h = say1 t.here.server t.here.session t.here.store.extents t.out (outputs.Note n) tt h
+  change_passing syncs asks now t _ (client.Writes _ s f p bytes n se sv own m x) q h =
+      say1 t.here.server t.here.session t.here.store.extents t.out (outputs.Note n) tt h
   change_passing syncs asks now t _ (client.Reads _ ino p m i clean) q h = say1 t.here.server t.here.session t.here.store.extents t.out _ tt h
-  change_passing syncs asks now t _ (client.Submits _ s ino p d m se e i w) q h = say1 t.here.server t.here.session t.here.store.extents t.out _ (lies t d.ino d.page m i h) h
+  change_passing syncs asks now t _ (client.Submits _ s ino p d m se e i w) q h =
+      say1 t.here.server t.here.session t.here.store.extents t.out _ (lies t d.ino d.page m i h) h
 
   changes_passing : (syncs : List Operation) (asks : Part) (now : Stamp) (t u : Turn) → Only (IsPassing syncs asks) now t u → K t u
   changes_passing syncs asks now t _ (only.Ends _) h = h
   changes_passing syncs asks now t v (Goes _ u _ c q r) h = changes_passing syncs asks now u v r (change_passing syncs asks now t u c q h)
 
-  pub k_passes : (now : Stamp) (tick : Bool) (t : Turn) → K t (cp.passes now tick t)
-  k_passes now tick t = changes_passing t.operations KeepsOrAsks now t (cp.passes now tick t) (p_passes now tick t)
+  pub kept_by_passes : (now : Stamp) (tick : Bool) (t : Turn) → K t (cp.passes now tick t)
+  kept_by_passes now tick t = changes_passing t.operations KeepsOrAsks now t (cp.passes now tick t) (passes_keep_or_ask now tick t)
 
   -- Each change where no message is received, and such changes: what is known stays, and no write is submitted.
   abbrev Same : Turn → Turn → Type 0
-  Same t u = ((o : Option ClientSession) (xs : List KnownExtent) → Fine t.here.server o xs t.out → Fine u.here.server o xs u.out) × (t.here.session ≡ u.here.session) × (t.here.store.extents ≡ u.here.store.extents)
+  Same t u = ((o : Option ClientSession) (xs : List KnownExtent) → Fine t.here.server o xs t.out → Fine u.here.server o xs u.out) ×
+      (t.here.session ≡ u.here.session) × (t.here.store.extents ≡ u.here.store.extents)
 
   change_idle : (now : Stamp) (t u : Turn) (c : Change now t u) → IsCalm false now t u c → Same t u
   change_idle now t _ (client.Says _ o p) q = (λ s xs h. say1 t.here.server s xs t.out o (plain_as o p) h, refl, refl)
@@ -195,9 +192,9 @@ module _ (R : Fact) where
   change_idle now t _ (client.Answers _ os ops a) q = (λ s xs h. more t.here.server s xs t.out _ (answers_as ops a) h, refl, refl)
   change_idle now t _ (client.Greets _ g) q = (λ s xs h. h, refl, refl)
   change_idle now t _ (client.TellsLost _ lost) q = (λ s xs h. h, refl, refl)
-  change_idle now t _ (client.Begins _ s a b c) q = no_bool q
-  change_idle now t _ (client.Follows _ s u e g) q = no_bool q
-  change_idle now t _ (client.Learns _ e a b) q = no_bool q
+  change_idle now t _ (client.Begins _ s a b c) q = false_not_true q
+  change_idle now t _ (client.Follows _ s u e g) q = false_not_true q
+  change_idle now t _ (client.Learns _ e a b) q = false_not_true q
   change_idle now t _ (client.Forgets _ ino p i) q = absurd q
   change_idle now t _ (client.Caches _ clean) q = (λ s xs h. h, refl, refl)
   change_idle now t _ (client.Writes _ s f p bytes n se sv own m x) q = absurd q
@@ -212,7 +209,8 @@ module _ (R : Fact) where
   changes_idle now t v (Goes _ u _ c q r) = same_then t u v (change_idle now t u c q) (changes_idle now u v r)
 
   at_same : (t u : Turn) → Same t u → K t u
-  at_same t u a h = subst (λ xs. Fine u.here.server u.here.session xs u.out) a.2 (subst (λ o. Fine u.here.server o t.here.store.extents u.out) a.1 (a.0 t.here.session t.here.store.extents h))
+  at_same t u a h = subst (λ xs. Fine u.here.server u.here.session xs u.out) a.2
+      (subst (λ o. Fine u.here.server o t.here.store.extents u.out) a.1 (a.0 t.here.session t.here.store.extents h))
 
   -- the end of a command
   ends_fine : (number : ℕ) (ok : Bool) (t u : Turn) → Ends number ok t u → K t u
@@ -225,33 +223,37 @@ module _ (R : Fact) where
   finished_fine : (now : Stamp) (number : ℕ) (ok : Bool) (t u : Turn) → Finished now number ok t u → K t u
   finished_fine now number ok t u f h = at_same f.mid u (changes_idle now f.mid u f.calm) (ends_fine number ok t f.mid f.ends h)
 
-  pub k_finish : (number : ℕ) (r : Option (Option (Tag × List ℕ))) (t : Turn) → K t (cl.finish number r t)
-  k_finish number r t = finished_fine (record { 0 = 0 }) number (is_done r) t (cl.finish number r t) (finish_is (record { 0 = 0 }) number r t)
+  pub kept_by_finish : (number : ℕ) (r : Option (Option (Tag × List ℕ))) (t : Turn) → K t (cl.finish number r t)
+  kept_by_finish number r t = finished_fine (record { 0 = 0 }) number (is_done r) t (cl.finish number r t) (finish_is (record { 0 = 0 }) number r t)
 
   -- an ask
-  pub k_take : (s : ServerId) (op : ℕ) (ask : Ask) (t : Turn) → K t (only_at s (cl.take_ask op ask) t)
-  k_take s op ask t = at_same t (only_at s (cl.take_ask op ask) t) (changes_idle (record { 0 = 0 }) t (only_at s (cl.take_ask op ask) t) (calm_only (record { 0 = 0 }) s op ask t))
+  pub kept_by_take : (s : ServerId) (op : ℕ) (ask : Ask) (t : Turn) → K t (only_at s (cl.take_ask op ask) t)
+  kept_by_take s op ask t = at_same t (only_at s (cl.take_ask op ask) t)
+      (changes_idle (record { 0 = 0 }) t (only_at s (cl.take_ask op ask) t) (calm_only (record { 0 = 0 }) s op ask t))
 
   -- what is lost says no write
   pub said_each : (now : Stamp) (s : ClientSession) (os : List Operation) (t : Turn) → OutputsAs R t.out → OutputsAs R (cl.end_each s os t).out
-  said_each now s os t h = ((changes_idle now t (cl.end_each s os t) (c_end_each now s os t)).0 None [] (record { known = λ e i. absurd i; said = h })).said
+  said_each now s os t h =
+      ((changes_idle now t (cl.end_each s os t) (changes_by_end_each now s os t)).0 None [] (record { known = λ e i. absurd i; said = h })).said
 
-  pub k_lose : (now : Stamp) (t : Turn) → K t (cl.lose now t)
+  pub kept_by_lose : (now : Stamp) (t : Turn) → K t (cl.lose now t)
   unfolding cl.lose cl.lose_by cl.lose_over cl.lose_session cl.end_operations
-  k_lose now t = go t.here.session
+  kept_by_lose now t = go t.here.session
     where
       go : (o : Option ClientSession) → K t (cl.lose_by t now o)
-      go None = k_none t
-      go (Some s) = k_if t (cl.is_over t s now) _ t (λ h. record { known = λ e i. absurd i; said = said_each now s _ _ (k_note t _ h).said }) (k_none t)
+      go None = kept_by_nothing t
+      go (Some s) = kept_by_choice t (cl.is_over t s now) _ t (λ h. record { known = λ e i. absurd i; said = said_each now s _ _ (kept_by_note t _ h).said })
+          (kept_by_nothing t)
 
   -- Grants and demands.
-  pub k_granted : (t : Turn) (s : ClientSession) (ino : ℕ) (g : GrantNo) (mode : Mode) → t.here.session ≡ Some s → K t (cr.granted t s ino g mode)
+  pub kept_by_granted : (t : Turn) (s : ClientSession) (ino : ℕ) (g : GrantNo) (mode : Mode) → t.here.session ≡ Some s → K t (cr.granted t s ino g mode)
   unfolding cr.granted
-  k_granted t s ino g mode e = k_session t s (cr.grant (state.forget_wait ino s) ino g mode) e (λ j h. granted_keeps (state.forget_wait ino s) ino g mode j h)
+  kept_by_granted t s ino g mode e = kept_by_session t s (cr.grant (state.forget_wait ino s) ino g mode) e
+      (λ j h. granted_keeps (state.forget_wait ino s) ino g mode j h)
 
-  pub k_demand : (t : Turn) (s : ClientSession) (ino : ℕ) (g : GrantNo) (to : Mode) → t.here.session ≡ Some s → K t (cr.demand t s ino g to)
+  pub kept_by_demand : (t : Turn) (s : ClientSession) (ino : ℕ) (g : GrantNo) (to : Mode) → t.here.session ≡ Some s → K t (cr.demand t s ino g to)
   unfolding cr.demand cr.demand_by cr.demand_as cr.observe_demand cr.release_unheld send
-  k_demand t s ino g to e = by (locks.demand s.locks ino g to).asked
+  kept_by_demand t s ino g to e = by (locks.demand s.locks ino g to).asked
     where
       r : ClientSession
       r = state.with_cache (locks.demand s.locks ino g to).locks s
@@ -260,14 +262,14 @@ module _ (R : Fact) where
       kept = demand_keeps s.locks ino g to
 
       unheld : (b : Bool) → K t (with_session (if b then r else state.with_release ino g modes.None r) t)
-      unheld true = k_session t s r e kept
-      unheld false = k_session t s (state.with_release ino g modes.None r) e kept
+      unheld true = kept_by_session t s r e kept
+      unheld false = kept_by_session t s (state.with_release ino g modes.None r) e kept
 
       by : (a : Asked) → K t (cr.demand_as t r ino g a)
-      by Reduce h = say1 t.here.server (Some r) t.here.store.extents t.out _ tt (k_session t s r e kept h)
+      by Reduce h = say1 t.here.server (Some r) t.here.store.extents t.out _ tt (kept_by_session t s r e kept h)
       by NotHeld h = unheld (cr.has_release r ino g) h
       by Stale h = h
 
-  pub k_condemn : (t : Turn) (s : ClientSession) → t.here.session ≡ Some s → K t (cr.condemn t s)
+  pub kept_by_condemn : (t : Turn) (s : ClientSession) → t.here.session ≡ Some s → K t (cr.condemn t s)
   unfolding cr.condemn
-  k_condemn t s e = k_session t s (state.with_lease (lease.condemned s.lease) s) e (λ ino x. x)
+  kept_by_condemn t s e = kept_by_session t s (state.with_lease (lease.condemned s.lease) s) e (λ ino x. x)

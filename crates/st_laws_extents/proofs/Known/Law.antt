@@ -1,30 +1,26 @@
 -- Known extents are the servers': at the start, after every event, and over whole runs.
-use Rattle.std.proofs.Common.{◌≡◌, ℕ, ◌+◌, Bool, true, false, List, [], ◌∷◌, ◌++◌, Option, Some, None, Ok, Err, refl, sym, ap, ◌∙◌, subst}
-use Rattle.std.specs.Prelude.{Result}
-use Rattle.std.specs.List.{list_all}
+use Rattle.st_lemmas.proofs.Words
+use Words.{◌≡◌, ℕ, ◌+◌, Bool, true, false, List, [], ◌∷◌, ◌++◌, Option, Some, None, Ok, Err, refl, sym, ap, ◌∙◌, subst, Result, list_all, Event, WorldRefusal}
+use Words.{ClientId}
+use Words.nodes
+use Words.events
+use Words.Client as cl
+use Words.ClientState.{Association}
+use Words.Events.{WorldTurn, counted, happens, world_step}
+use Words.Extents.{numbers}
+use Words.History.{Traced, traced, traced_after}
+use Words.Safety as safety
+use Words.Safety.{IsHead, Promise, Step, Throughout, is_event, step, steps}
+use Words.World.{World, WorldClient, fresh_world, site_of}
+use Words.Lists.{Has}
+use Words.Tables.{and_true, has_map}
 use Rattle.st_base.specs.declared.config.Config as base
-use Rattle.st_base.specs.declared.ids.NodeId.TheVariants as nodes
-use Rattle.st_messages.specs.declared.event.Event.{Event}
-use Rattle.st_messages.specs.declared.event.Event.TheVariants as events
-use Rattle.st_rules.specs.declared.observation.WorldRefusal.{WorldRefusal}
-use Rattle.st_rules.specs.Client as cl
-use Rattle.st_rules.specs.ClientState.{Association}
-use Rattle.st_rules.specs.Events.{WorldTurn, counted, happens, world_step}
-use Rattle.st_rules.specs.Extents.{numbers}
-use Rattle.st_rules.specs.History.{Traced, traced, traced_after}
-use Rattle.st_rules.specs.Safety as safety
-use Rattle.st_rules.specs.Safety.{IsHead, Promise, Step, Throughout, is_event, step, steps}
-use Rattle.st_base.specs.declared.ids.ClientId.{ClientId}
-use Rattle.st_rules.specs.World.{World, WorldClient, fresh_world, site_of}
 use Rattle.st_protocol.specs.Assoc.{Config}
-use Rattle.st_lemmas.specs.Lists.{Has}
 use Rattle.st_lemmas.proofs.Steps.{step_happens}
-use Rattle.st_lemmas.proofs.Tables.{and_true, has_map}
 use Rattle.st_laws_pages.specs.LockedCuts.CutLocks.{WaitsHold}
 use Rattle.st_laws_steps.specs.Client.Losses.{Fit}
-use Rattle.st_laws_pages.proofs.LockedCuts.CutLaw.{law as cut_law}
-use Rattle.st_laws_pages.proofs.Disks.Whole.{fresh_waits}
-use Rattle.st_laws_pages.proofs.Disks.Whole.{site_is}
+use Rattle.st_laws_pages.proofs.LockedCuts.CutLaw.{steps_lock_cuts as cut_law}
+use Rattle.st_laws_pages.proofs.Disks.Whole.{fresh_waits, site_is}
 use Rattle.st_laws_refine.specs.Server.Pair.{terms_of}
 use Rattle.st_laws_leases.specs.Sides.World.{AllStand}
 use Rattle.st_laws_leases.proofs.Sides.FirstWorld.{begun}
@@ -154,7 +150,7 @@ module _ (promise : Promise) (pick : (past : List Step) (x : Step) → Kept past
   pub in_runs : InRunsTold promise
   in_runs k clients servers disks blocks form es head events told =
       run (terms_of k) (clients + servers) es events [] (traced (fresh_world k clients servers disks blocks form)) (first k clients servers disks blocks form head)
-      (cutters.law k clients servers disks blocks form es head events) told
+      (cutters.cuts_are_asked k clients servers disks blocks form es head events) told
 
 pub known : InRunsTold KnownAfter
 known = in_runs KnownAfter (λ past x z. z.known)

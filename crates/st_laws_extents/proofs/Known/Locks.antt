@@ -1,17 +1,13 @@
 -- Locks that stay where others change.
-use Rattle.std.proofs.Common.{◌≡◌, ◌⊎◌, ℕ, Bool, true, false, not, ◌==◌, List, Option, Some, None, refl, sym, ap, ◌∙◌, subst, inl, inr, if◌then◌else◌}
-use Rattle.std.specs.Prelude.{nat_le}
-use Rattle.std.proofs.lemmas.Bool.{eqb-true}
-use Rattle.st_base.specs.declared.ids.GrantNo.{GrantNo}
-use Rattle.st_base.specs.declared.mode.Mode.{Mode}
-use Rattle.st_base.specs.declared.mode.Mode.TheVariants as modes
-use Rattle.st_rules.specs.declared.client.DemandedFile.{DemandedFile}
-use Rattle.st_rules.specs.declared.client.HeldLock.{HeldLock}
-use Rattle.st_rules.specs.ClientLocks as locks
-use Rattle.st_rules.specs.ClientLocks.{LockCache}
-use Rattle.st_lemmas.proofs.Lookups.{some_is}
+use Rattle.st_lemmas.proofs.Words
+use Words.{◌≡◌, ◌⊎◌, ℕ, Bool, true, false, not, ◌==◌, List, Option, Some, None, refl, sym, ap, ◌∙◌, subst, inl, inr, if◌then◌else◌, nat_le, eqb-true, GrantNo}
+use Words.{Mode, DemandedFile, HeldLock}
+use Words.modes
+use Words.ClientLocks as locks
+use Words.ClientLocks.{LockCache}
+use Words.Lookups.{some_is}
+use Words.Tables.{found_at, has_filter_in}
 use Rattle.st_lemmas.proofs.Puts.{has_put_other, has_put_self}
-use Rattle.st_lemmas.proofs.Tables.{found_at, has_filter_in}
 use Rattle.st_laws_extents.specs.Known.Known.{HasLock}
 
 -- a lock is put in place of the file's lock

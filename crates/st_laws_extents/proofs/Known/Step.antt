@@ -1,31 +1,29 @@
 -- A client's step, at all its servers: what is known, and where its writes go.
-use Rattle.std.proofs.Common.{◌⊎◌, ℕ, Bool, true, false, List, [], ◌∷◌, Option, Some, None, refl, sym, subst, inl, inr, if◌then◌else◌}
-use Rattle.st_base.specs.declared.ids.Stamp.{Stamp}
-use Rattle.st_messages.specs.declared.answer.AppAnswer.{AppAnswer}
-use Rattle.st_messages.specs.declared.answer.AppAnswer.TheVariants as answers
-use Rattle.st_messages.specs.declared.output.Output.{Output}
-use Rattle.st_messages.specs.declared.output.Output.TheVariants as outputs
-use Rattle.st_rules.specs.declared.client.ClientInput.{ClientInput}
-use Rattle.st_rules.specs.declared.client.ClientInput.TheVariants as inputs
-use Rattle.st_rules.specs.Client as cl
-use Rattle.st_rules.specs.ClientPasses as cp
-use Rattle.st_rules.specs.ClientReplies as cr
-use Rattle.st_rules.specs.ClientState.{Association, ClientSession, ClientState, ClientTurn, Turn, at_each, at_these, client_turn, enter, leave, only_at, server_of, with_associations}
-use Rattle.st_lemmas.specs.Lists.{Has}
-use Rattle.st_lemmas.proofs.Tables.{has_append}
+use Rattle.st_lemmas.proofs.Words
+use Words.{◌⊎◌, ℕ, Bool, true, false, List, [], ◌∷◌, Option, Some, None, refl, sym, subst, inl, inr, if◌then◌else◌, Stamp, AppAnswer, Output, ClientInput}
+use Words.answers
+use Words.outputs
+use Words.inputs
+use Words.Client as cl
+use Words.ClientPasses as cp
+use Words.ClientReplies as cr
+use Words.ClientState.{Association, ClientSession, ClientState, ClientTurn, Turn, at_each, at_these, client_turn, enter, leave, only_at, server_of}
+use Words.ClientState.{with_associations}
+use Words.Lists.{Has}
+use Words.Tables.{has_append}
 use Rattle.st_laws_steps.specs.Client.Inputs as taking
 use Rattle.st_laws_steps.specs.Client.Inputs.{Each, Taken}
 use Rattle.st_laws_steps.proofs.Client.Taking.{each as each_keep, taken}
 use Rattle.st_laws_reads.specs.AllClients.CutFiles.{Cleared}
 use Rattle.st_laws_reads.proofs.AllClients.Clearing as clearing
 use Rattle.st_laws_extents.specs.Known.Known.{Fact, Knows, OutputAs, OutputsAs, Tells}
-use Rattle.st_laws_extents.proofs.Known.Receiving.{k_receive}
+use Rattle.st_laws_extents.proofs.Known.Receiving.{kept_by_receive}
 use Rattle.st_laws_extents.proofs.Known.Knowing as walk
 
 -- what is clear stays clear through losses
 pub lost_clear : (s : ClientState) (now : Stamp) → Each Cleared s.associations → Each Cleared (cl.losses (client_turn s []) now).state.associations
 unfolding cl.losses
-lost_clear s now h = each_keep Cleared Cleared (cl.lose now) (clearing.k_lose now) (client_turn s []) h
+lost_clear s now h = each_keep Cleared Cleared (cl.lose now) (clearing.clearing_kept_by_lose now) (client_turn s []) h
 
 module _ (R : Fact) where
   -- What holds of a step so far.
@@ -33,7 +31,8 @@ module _ (R : Fact) where
     pub knows : Each (Knows R) t.state.associations
     pub said : OutputsAs R t.out
 
-  these : (P : Association → Type 0) (rule : Turn → Turn) → ((t : Turn) → P t.here → walk.At R t → walk.At R (rule t)) → (al : List Association) (t : ClientTurn) → Fine t → Each (λ a. Knows R a × P a) al → Fine (at_these rule al t)
+  these : (P : Association → Type 0) (rule : Turn → Turn) → ((t : Turn) → P t.here → walk.At R t → walk.At R (rule t)) →
+      (al : List Association) (t : ClientTurn) → Fine t → Each (λ a. Knows R a × P a) al → Fine (at_these rule al t)
   unfolding at_these
   these P rule k [] t h g = h
   these P rule k (a ∷ al) t h g =
@@ -50,9 +49,11 @@ module _ (R : Fact) where
       one b (inr (inl e)) = subst (Knows R) (sym e) z.known
       one b (inr (inr i)) = absurd i
 
-  each : (P : Association → Type 0) (rule : Turn → Turn) → ((t : Turn) → P t.here → walk.At R t → walk.At R (rule t)) → (t : ClientTurn) → Fine t → Each P t.state.associations → Fine (at_each rule t)
+  each : (P : Association → Type 0) (rule : Turn → Turn) → ((t : Turn) → P t.here → walk.At R t → walk.At R (rule t)) → (t : ClientTurn) → Fine t →
+      Each P t.state.associations → Fine (at_each rule t)
   unfolding at_each
-  each P rule k t h g = these P rule k t.state.associations (with_associations [] t) (record { knows = λ a i. absurd i; said = h.said }) (λ a i. (h.knows a i, g a i))
+  each P rule k t h g = these P rule k t.state.associations (with_associations [] t) (record { knows = λ a i. absurd i; said = h.said })
+      (λ a i. (h.knows a i, g a i))
 
   -- nothing more
   abbrev Any : Association → Type 0
@@ -76,9 +77,11 @@ module _ (R : Fact) where
   input_fine now t _ _ (taking.Nothing i) c k h = h
   input_fine now t _ _ (taking.Full op ask e) c k h = at_once t op answers.OpsFull h
   input_fine now t _ _ (taking.Unknown op ask e f) c k h = at_once t op answers.NoFile h
-  input_fine now t _ _ (taking.Takes op ask e f) c k h = each Any (only_at (server_of ask) (cl.take_ask op ask)) (λ u p. walk.k_take R (server_of ask) op ask u) t h (λ a i. tt)
-  input_fine now t _ _ (taking.Receives m e) c k h = each (λ a. Cleared a × Tells R a m.header m.body) (cr.receive_at now m.header m.body) (λ u p. k_receive R m.header m.body now u p.0 p.1) t h (λ a i. (c a i, k a i))
-  input_fine now t _ _ (taking.Finishes number result) c k h = each Any (cl.finish number result) (λ u p. walk.k_finish R number result u) t h (λ a i. tt)
+  input_fine now t _ _ (taking.Takes op ask e f) c k h =
+      each Any (only_at (server_of ask) (cl.take_ask op ask)) (λ u p. walk.kept_by_take R (server_of ask) op ask u) t h (λ a i. tt)
+  input_fine now t _ _ (taking.Receives m e) c k h = each (λ a. Cleared a × Tells R a m.header m.body) (cr.receive_at now m.header m.body)
+      (λ u p. kept_by_receive R m.header m.body now u p.0 p.1) t h (λ a i. (c a i, k a i))
+  input_fine now t _ _ (taking.Finishes number result) c k h = each Any (cl.finish number result) (λ u p. walk.kept_by_finish R number result u) t h (λ a i. tt)
 
   -- what is lost says no write
   lose_said : (now : Stamp) (t : Turn) → OutputsAs R t.out → OutputsAs R (cl.lose now t).out
@@ -105,13 +108,15 @@ module _ (R : Fact) where
   -- what is known stays so through losses
   pub lost_knows : (s : ClientState) (now : Stamp) → Each (Knows R) s.associations → Each (Knows R) (cl.losses (client_turn s []) now).state.associations
   unfolding cl.losses
-  lost_knows s now h = (each Any (cl.lose now) (λ u p. walk.k_lose R now u) (client_turn s []) (record { knows = h; said = λ y i. absurd i }) (λ a i. tt)).knows
+  lost_knows s now h =
+      (each Any (cl.lose now) (λ u p. walk.kept_by_lose R now u) (client_turn s []) (record { knows = h; said = λ y i. absurd i }) (λ a i. tt)).knows
 
   -- The step, from what holds after its losses.
-  pub step_fine : (s : ClientState) (now : Stamp) (input : ClientInput) → Each Cleared s.associations → Told (cl.losses (client_turn s []) now).state.associations input →
+  pub step_fine : (s : ClientState) (now : Stamp) (input : ClientInput) → Each Cleared s.associations →
+      Told (cl.losses (client_turn s []) now).state.associations input →
       Each (Knows R) (cl.losses (client_turn s []) now).state.associations → Fine (cl.client_step s now input)
   unfolding cl.client_step cl.work
   step_fine s now input c k h =
       let t = cl.losses (client_turn s []) now in
-      each Any (cp.passes now (cl.is_tick input)) (λ u p. walk.k_passes R now (cl.is_tick input) u) (cl.take_input t now input)
+      each Any (cp.passes now (cl.is_tick input)) (λ u p. walk.kept_by_passes R now (cl.is_tick input) u) (cl.take_input t now input)
       (input_fine now t (cl.take_input t now input) input (taken t now input) (lost_clear s now c) k (record { knows = h; said = lost_said s now })) (λ a i. tt)

@@ -1,35 +1,22 @@
 -- Replies of extents tell what the server has after its step, and are sent by it, in its epoch.
-use Rattle.std.proofs.Common.{◌≡◌, ℕ, ◌⊎◌, List, [], ◌∷◌, ◌++◌, refl, sym, ap, ◌∙◌, subst, inl, inr}
-use Rattle.std.specs.Prelude.{Option, Some, None, filter_map, option_map}
-use Rattle.std.specs.List.{cons_option}
-use Rattle.std.proofs.lemmas.Bool.{eqb-true}
-use Rattle.st_base.specs.declared.ids.Epoch.{Epoch}
-use Rattle.st_base.specs.declared.ids.FileId.{FileId}
-use Rattle.st_base.specs.declared.ids.PageNo.{PageNo}
-use Rattle.st_base.specs.declared.ids.ServerId.{ServerId}
-use Rattle.st_base.specs.declared.ids.Stamp.{Stamp}
-use Rattle.st_base.specs.declared.rows.ExtentRow.{ExtentRow}
-use Rattle.st_messages.specs.declared.message.Body.{Body}
-use Rattle.st_messages.specs.declared.message.Header.{Header}
-use Rattle.st_messages.specs.declared.message.Message.{Message}
-use Rattle.st_messages.specs.declared.output.Note.{Note}
-use Rattle.st_messages.specs.declared.output.Output.TheVariants as outputs
-use Rattle.st_rules.specs.declared.extents.Extent.{Extent}
-use Rattle.st_rules.specs.declared.input.ServerInput.{ServerInput}
-use Rattle.st_rules.specs.Extents as extents
-use Rattle.st_rules.specs.Extents.{Extents}
-use Rattle.st_rules.specs.Keys.{same_file, same_page, server_node}
-use Rattle.st_rules.specs.Server as sv
-use Rattle.st_rules.specs.Server.{ServerState, ServerTurn, reply, tell, steal_from, suspect_client, keep_and_reply, server_step}
-use Rattle.st_lemmas.specs.Lists.{Has}
-use Rattle.st_lemmas.proofs.Tables.{and_true, found_at, has_append}
+use Rattle.st_lemmas.proofs.Words
+use Words.{◌≡◌, ℕ, ◌⊎◌, List, [], ◌∷◌, ◌++◌, refl, sym, ap, ◌∙◌, subst, inl, inr, Option, Some, None, filter_map, option_map, cons_option, eqb-true, Epoch}
+use Words.{FileId, PageNo, ServerId, Stamp, ExtentRow, Body, Header, Message, Note, Extent, ServerInput}
+use Words.outputs
+use Words.Extents as extents
+use Words.Extents.{Extents}
+use Words.Keys.{same_file, same_page, server_node}
+use Words.Server as sv
+use Words.Server.{ServerState, ServerTurn, reply, tell, steal_from, suspect_client, keep_and_reply, server_step}
+use Words.Lists.{Has}
+use Words.Tables.{and_true, found_at, has_append}
 use Rattle.st_laws_reads.specs.Copies.Copies.{file_at}
 use Rattle.st_laws_extents.specs.ExtentReplies.Steps as replies
 use Rattle.st_laws_extents.proofs.ExtentReplies.Step.{step_tells}
 use Rattle.st_laws_extents.specs.Known.ToldExtents.{RepliesTellExtents, RowsRight, RowRight, ToldBy}
 use Rattle.st_trace.specs.Server.Edits as edits
-use Rattle.st_trace.specs.Server.Edits.{Phase, Ruled, Edit, TakesTimers, Steals, Welcomes, Begins, Replaces, PutsOff, Sees, Reasserts, Serves, Repeats}
-use Rattle.st_trace.specs.Server.Edits.{Refuses, Suspects, Grants, Demands}
+use Rattle.st_trace.specs.Server.Edits.{Phase, Ruled, Edit, TakesTimers, Steals, Welcomes, Begins, Replaces, PutsOff, Sees, Reasserts, Serves, Repeats, Refuses}
+use Rattle.st_trace.specs.Server.Edits.{Suspects, Grants, Demands}
 use Rattle.st_trace.proofs.Server.Walk.{walk}
 
 -- Rows that are reported.
@@ -148,8 +135,8 @@ told_by n i x to life number ino rows (inr a) =
       right = subst (RowsRight x n.id ino) (sym t.are) (rows_of x (file_at n.id ino) n.id ino refl (extents.pages_from t.page t.count));
     })
 
-pub law : RepliesTellExtents
-law n now i =
+pub replies_tell_extents : RepliesTellExtents
+replies_tell_extents n now i =
     let t = step_tells n now i in
     let x = (server_step n now i).state.stable.extents in
     record {

@@ -1,39 +1,28 @@
 -- Every event keeps what clients know of where pages lie: it is as their servers have it.
-use Rattle.std.proofs.Common.{◌≡◌, ◌≢◌, ◌⊎◌, ℕ, ◌≤◌, Bool, true, false, List, [], ◌∷◌, Option, Some, None, Ok, Err, refl, sym, ap, ◌∙◌, subst, inl, inr, arith, if◌then◌else◌}
-use Rattle.st_base.specs.declared.ids.ClientId.{ClientId}
-use Rattle.st_base.specs.declared.ids.FileId.{FileId}
-use Rattle.st_base.specs.declared.ids.NodeId.{NodeId}
-use Rattle.st_base.specs.declared.ids.NodeId.TheVariants as nodes
-use Rattle.st_base.specs.declared.ids.PageNo.{PageNo}
-use Rattle.st_base.specs.declared.ids.ServerId.{ServerId}
-use Rattle.st_messages.specs.declared.ask.Ask.{Ask}
-use Rattle.st_messages.specs.declared.event.Event.{Event}
-use Rattle.st_messages.specs.declared.event.Event.TheVariants as events
-use Rattle.st_messages.specs.declared.message.Message.{Message}
-use Rattle.st_rules.specs.declared.client.ClientInput.{ClientInput}
-use Rattle.st_rules.specs.declared.client.ClientInput.TheVariants as inputs
-use Rattle.st_rules.specs.declared.client.KnownExtent.{KnownExtent}
-use Rattle.st_rules.specs.declared.client.MappedBlock.{MappedBlock}
-use Rattle.st_rules.specs.declared.extents.Extent.{Extent}
-use Rattle.st_rules.specs.declared.input.ServerInput.{ServerInput}
-use Rattle.st_rules.specs.declared.input.ServerInput.TheVariants as serving
+use Rattle.st_lemmas.proofs.Words
+use Words.{◌≡◌, ◌≢◌, ◌⊎◌, ℕ, ◌≤◌, Bool, true, false, List, [], ◌∷◌, Option, Some, None, Ok, Err, refl, sym, ap, ◌∙◌, subst, inl, inr, arith, if◌then◌else◌}
+use Words.{ClientId, FileId, NodeId, PageNo, ServerId, Ask, Event, Message, ClientInput, KnownExtent, MappedBlock, Extent, ServerInput, IssuedCommand}
+use Words.{SentMessage}
+use Words.nodes
+use Words.events
+use Words.inputs
+use Words.serving
+use Words.Client as cl
+use Words.ClientState.{Association, ClientSession, ClientState, client_turn}
+use Words.Disks as disks
+use Words.Events as ev
+use Words.Events.{WorldTurn, counted, happens}
+use Words.Extents as extents
+use Words.Keys.{client}
+use Words.Server as server
+use Words.Server.{ServerNode}
+use Words.World.{World, WorldClient, clock_of, issued_of, message_of, node_of, numbered, receiver_of, site_of, with_numbered}
+use Words.Lists.{Has}
+use Words.Lookups.{some_is}
+use Words.Numbers.{numbered_below, numbered_other, numbered_own}
+use Words.Tables.{has_map, same_or_not}
+use Words.Truth.{some_not_none}
 use Rattle.st_rules.specs.declared.node.StepRefusal.TheVariants.{Crashed}
-use Rattle.st_rules.specs.declared.world.IssuedCommand.{IssuedCommand}
-use Rattle.st_rules.specs.declared.world.SentMessage.{SentMessage}
-use Rattle.st_rules.specs.Client as cl
-use Rattle.st_rules.specs.ClientState.{Association, ClientSession, ClientState, client_turn}
-use Rattle.st_rules.specs.Disks as disks
-use Rattle.st_rules.specs.Events as ev
-use Rattle.st_rules.specs.Events.{WorldTurn, counted, happens}
-use Rattle.st_rules.specs.Extents as extents
-use Rattle.st_rules.specs.Keys.{client}
-use Rattle.st_rules.specs.Server as server
-use Rattle.st_rules.specs.Server.{ServerNode}
-use Rattle.st_rules.specs.World.{World, WorldClient, clock_of, issued_of, message_of, node_of, numbered, receiver_of, site_of, with_numbered}
-use Rattle.st_lemmas.specs.Lists.{Has}
-use Rattle.st_lemmas.proofs.Lookups.{some_is}
-use Rattle.st_lemmas.proofs.Numbers.{numbered_below, numbered_other, numbered_own}
-use Rattle.st_lemmas.proofs.Tables.{has_map, same_or_not}
 use Rattle.st_laws_leases.proofs.Dates.Leaving.{set_cases}
 use Rattle.st_laws_refine.specs.Views.Halves.{held_in}
 use Rattle.st_laws_refine.specs.Client.Invariants.{Lasts}
@@ -60,15 +49,15 @@ use Rattle.st_laws_steps.specs.Client.Inputs.{Each}
 use Rattle.st_laws_extents.proofs.Known.Step.{Fine, Told, lost_knows, step_fine}
 
 -- what is known by one fact is known by another
-knows_by : (R S : Fact) (a : Association) → ((ino : ℕ) (p : PageNo) (m : MappedBlock) → Locked a.session ino → R a.server ino p m → S a.server ino p m) → Knows R a → Knows S a
+pub knows_by : (R S : Fact) (a : Association) → ((ino : ℕ) (p : PageNo) (m : MappedBlock) → Locked a.session ino → R a.server ino p m → S a.server ino p m) → Knows R a → Knows S a
 knows_by R S a f h e i = let z = h e i in record { locked = z.locked; is = λ m q. f e.ino e.page m z.locked (z.is m q) }
 
 -- where the servers are the same
-lies_same : (w v : World) → v.servers ≡ w.servers → (server : ServerId) (ino : ℕ) (p : PageNo) (m : MappedBlock) → lies w server ino p m → lies v server ino p m
+pub lies_same : (w v : World) → v.servers ≡ w.servers → (server : ServerId) (ino : ℕ) (p : PageNo) (m : MappedBlock) → lies w server ino p m → lies v server ino p m
 lies_same w v e server ino p m = subst (λ ns. LiesAs (mapped_at (file_at server ino) p (numbered ns server.0)) m) (sym e)
 
 -- what lasts later lasts
-lasts_before : (lease now later : ℕ) (o : Option ClientSession) → now ≤ later → Lasts lease later o → Lasts lease now o
+pub lasts_before : (lease now later : ℕ) (o : Option ClientSession) → now ≤ later → Lasts lease later o → Lasts lease now o
 lasts_before lease now later None l h = tt
 lasts_before lease now later (Some s) l h = omega (arith, l, h)
 
@@ -247,9 +236,6 @@ module _ (w : World) (modes : ModesHeld w) (h : AllKnow w) where
       go false free = h
       go true free = let y = all_parts s u.out (ev.quiet (ev.with_node s new w)) in node_knows s node new at v y.clients y.clocks y.servers (keeps free)
 
-none_some : {A : Type 0} (x : A) → ◌≡◌ {A = Option A} (Some x) None → ⊥
-none_some x e = cc
-
 -- a client without sessions knows nothing
 pub empty_knows : (v : World) (c : ClientId) (site : WorldClient) → ((a : Association) → Has a site.node.state.associations → a.store.extents ≡ []) → SiteKnows v c site
 empty_knows v c site f = record { knows = λ run a i l e j. absurd (subst (Has e) (f a i) j) }
@@ -262,12 +248,12 @@ module _ (w : World) (modes : ModesHeld w) (ids : (s : ServerId) (n : ServerNode
   client_none : (c : ClientId) (input : ClientInput) (o : Option WorldClient) → taking w c input o ≡ None → AllKnow (ev.at_client w c input o).world
   unfolding ev.at_client
   client_none c input None e = h
-  client_none c input (Some site) e = absurd (none_some _ e)
+  client_none c input (Some site) e = absurd (some_not_none _ e)
 
   ask_none : (c : ClientId) (ask : Ask) (o : Option WorldClient) → asking w c ask o ≡ None → AllKnow (ev.asks_at w c ask o).world
   unfolding ev.asks_at
   ask_none c ask None e = h
-  ask_none c ask (Some site) e = absurd (none_some _ e)
+  ask_none c ask (Some site) e = absurd (some_not_none _ e)
 
   node_none : (m : Message) (n : NodeId) → receiving w m n ≡ None → ReceiverFree w m n → AllKnow (ev.delivers_to w m n).world
   unfolding ev.delivers_to
@@ -285,7 +271,7 @@ module _ (w : World) (modes : ModesHeld w) (ids : (s : ServerId) (n : ServerNode
   told_none v n k ok (Some y) e = at_site (site_of v y.client) e
     where
       at : (site : WorldClient) (b : Bool) → (if b then taking v y.client (ev.end_told v k ok y) (Some site) else None) ≡ None → AllKnow (if b then ev.client_takes v y.client (ev.end_told v k ok y) site else ev.quiet v).world
-      at site true e = absurd (none_some _ e)
+      at site true e = absurd (some_not_none _ e)
       at site false e = n
 
       at_site : (s : Option WorldClient) → told_at v k ok y s ≡ None → AllKnow (ev.tells_client v k ok y s).world

@@ -1,26 +1,21 @@
 -- Every event: replies of extents answer requests that were sent.
-use Rattle.std.proofs.Common.{◌≡◌, ◌≢◌, ◌⊎◌, ℕ, ◌+◌, true, List, Some, sym, ap, ◌∙◌, subst, inl, inr, arith}
-use Rattle.st_base.specs.declared.ids.ClientId.{ClientId}
-use Rattle.st_base.specs.declared.ids.ServerId.{ServerId}
-use Rattle.st_base.specs.declared.rows.ExtentRow.{ExtentRow}
-use Rattle.st_messages.specs.declared.message.Body.TheVariants as bodies
-use Rattle.st_messages.specs.declared.message.Message.{Message}
-use Rattle.st_messages.specs.declared.output.Output.TheVariants as outputs
-use Rattle.st_rules.specs.Keys.{client, server_node}
-use Rattle.st_rules.specs.Server.{ServerNode, ServerTurn, server_step}
-use Rattle.st_rules.specs.World.{World, node_of, numbered, with_numbered}
-use Rattle.st_lemmas.specs.Lists.{Has}
-use Rattle.st_lemmas.proofs.Lookups.{some_is}
-use Rattle.st_lemmas.proofs.Numbers.{numbered_below, numbered_other, numbered_own}
-use Rattle.st_lemmas.proofs.Tables.{same_or_not}
+use Rattle.st_lemmas.proofs.Words
+use Words.{◌≡◌, ◌≢◌, ◌⊎◌, ℕ, ◌+◌, true, List, Some, sym, ap, ◌∙◌, subst, inl, inr, arith, ClientId, ServerId, ExtentRow, Message}
+use Words.bodies
+use Words.outputs
+use Words.Keys.{client, server_node}
+use Words.Server.{ServerNode, ServerTurn, server_step}
+use Words.World.{World, node_of, numbered, with_numbered}
+use Words.Lists.{Has}
+use Words.Lookups.{some_is}
+use Words.Numbers.{numbered_below, numbered_other, numbered_own}
+use Words.Tables.{same_or_not}
+use Words.Truth.{server_is}
 use Rattle.st_laws_leases.specs.Dates.Dates.{messages}
 use Rattle.st_laws_extents.specs.ExtentReplies.Events.{EventTells, ServerSteps, Stays}
 use Rattle.st_laws_extents.specs.ExtentReplies.Steps.{KeptRows, StepTells, ToldBy}
 use Rattle.st_laws_extents.proofs.ExtentReplies.Step.{step_tells}
 use Rattle.st_laws_extents.specs.LockedRequests.Keys.{HasKey, KeysTold}
-
-server_same : (s r : ServerId) → s.0 ≡ r.0 → s ≡ r
-server_same s r e = ap (λ n. record { 0 = n }) e
 
 module _ (w v : World) (grown : (m : Message) → Has m (messages w) → Has m (messages v)) (ids : (s : ServerId) (n : ServerNode) → node_of w s ≡ Some n → n.state.id ≡ s) (h : KeysTold w) where
   more : (c : ClientId) (s : ServerId) (life epoch number : ℕ) → HasKey w c s life epoch number → HasKey v c s life epoch number
@@ -58,7 +53,7 @@ module _ (w v : World) (grown : (m : Message) → Has m (messages w) → Has m (
     sent_of : (m : Message) (ino : ℕ) (rows : List ExtentRow) → Has m (messages w) ⊎ Has (outputs.Send m) u.out → (s : ServerId) → m.header.from ≡ server_node s → m.body ≡ bodies.Extents ino rows → HasKey v (client m.header.to) s m.header.life m.header.epoch m.header.number
     sent_of m ino rows (inl i) s e b = more (client m.header.to) s m.header.life m.header.epoch m.header.number (h.sent m ino rows i s e b)
     sent_of m ino rows (inr i) s e b =
-        subst (λ r. HasKey v (client m.header.to) r m.header.life m.header.epoch m.header.number) (server_same y.server s (number y.server.0 s.0 (sym (y.says m i) ∙ e)))
+        subst (λ r. HasKey v (client m.header.to) r m.header.life m.header.epoch m.header.number) (server_is y.server s (number y.server.0 s.0 (sym (y.says m i) ∙ e)))
         (subst (λ n. HasKey v (client m.header.to) y.server m.header.life n m.header.number) (sym (y.dated m i)) (by m.header.to m.header.life m.header.number ino rows (tells.sent m ino rows i b)))
       where
         number : (i j : ℕ) → 32768 + i ≡ 32768 + j → i ≡ j
@@ -77,7 +72,7 @@ module _ (w v : World) (grown : (m : Message) → Has m (messages w) → Has m (
             (by c.0 life number ino rows (tells.kept c life number ino rows (subst (λ (x : ServerNode). KeptRows x.state.sessions c life number ino rows) n k))))
 
         go : (s.0 ≡ y.server.0) ⊎ (s.0 ≢ y.server.0) → HasKey v c s life node.state.stable.epoch.0 number
-        go (inl e) = here (server_same y.server s (sym e)) (some_is (sym found ∙ ap (numbered (with_numbered y.server.0 next w.servers)) e ∙ numbered_own w.servers y.server.0 next y.node y.there))
+        go (inl e) = here (server_is y.server s (sym e)) (some_is (sym found ∙ ap (numbered (with_numbered y.server.0 next w.servers)) e ∙ numbered_own w.servers y.server.0 next y.node y.there))
         go (inr n) = more c s life node.state.stable.epoch.0 number (h.kept s node (sym (numbered_other w.servers y.server.0 s.0 next (numbered_below w.servers y.server.0 y.node y.there).0 n) ∙ found) run c life number ino rows k)
 
     steps_keyed : KeysTold v

@@ -1,21 +1,19 @@
 -- Outstanding requests go on: at the start, after every event, and over whole runs.
-use Rattle.std.proofs.Common.{◌≡◌, ℕ, ◌+◌, Bool, true, false, List, [], ◌∷◌, ◌++◌, Option, Some, None, Ok, refl, sym, ap, ◌∙◌, subst, inl, inr}
+use Rattle.st_lemmas.proofs.Words
+use Words.{◌≡◌, ℕ, ◌+◌, Bool, true, false, List, [], ◌∷◌, ◌++◌, Option, Some, None, Ok, refl, sym, ap, ◌∙◌, subst, inl, Event, Message, find, Session}
+use Words.Events.{WorldTurn, counted, happens, world_step}
+use Words.History.{Traced, traced, traced_after}
+use Words.Safety.{Step, is_event, step}
+use Words.Extents.{numbers}
+use Words.Sessions as sessions
+use Words.Numbers.{numbered_has}
+use Words.Tables.{has_map}
+use Words.World.{World, fresh_world, node_at_start}
+use Words.Server as server
+use Words.Lists.{Has}
+use Words.Members.{has_last}
 use Rattle.st_base.specs.declared.config.Config as base
-use Rattle.st_messages.specs.declared.event.Event.{Event}
-use Rattle.st_messages.specs.declared.message.Message.{Message}
-use Rattle.st_rules.specs.Events.{WorldTurn, counted, happens, world_step}
-use Rattle.st_rules.specs.History.{Traced, traced, traced_after}
-use Rattle.st_rules.specs.Safety.{Step, is_event, step}
-use Rattle.std.specs.Prelude.{find}
-use Rattle.st_rules.specs.declared.sessions.Session.{Session}
-use Rattle.st_rules.specs.Extents.{numbers}
-use Rattle.st_rules.specs.Sessions as sessions
-use Rattle.st_lemmas.proofs.Numbers.{numbered_has}
-use Rattle.st_lemmas.proofs.Tables.{has_map}
-use Rattle.st_rules.specs.World.{World, fresh_world, node_at_start}
-use Rattle.st_rules.specs.Server as server
 use Rattle.st_protocol.specs.Assoc.{Config}
-use Rattle.st_lemmas.specs.Lists.{Has}
 use Rattle.st_lemmas.proofs.Steps.{step_happens}
 use Rattle.st_laws_refine.specs.Server.Pair.{terms_of}
 use Rattle.st_laws_leases.specs.Sides.Law.{InEveryRun}
@@ -42,10 +40,6 @@ pub record Hold (k : Config) (count : ℕ) (past : List Step) (t : Traced) : Typ
   pub asks : cutters.Hold k count past t
   pub keys : KeysTold t.world
   pub seen : AllSeen t.world
-
-has_last : {A : Type 0} (xs : List A) (x : A) → Has x (xs ++ x ∷ [])
-has_last [] x = inl refl
-has_last (y ∷ xs) x = inr (has_last xs x)
 
 -- a world whose events are counted has the same clients
 uncounted : (w v : World) → Back (counted w) v → RequestsGo w v
@@ -114,23 +108,23 @@ fresh_keys k clients servers disks blocks form =
           none_session r.session (sym (ap (find (sessions.is_session_of c)) (ap (λ (y : server.ServerNode). y.state.sessions.rows) z.2 ∙ fresh_rows k servers disks blocks z.0)) ∙ r.is);
     }
 
-pub law : InEveryRun IsAsked
-law k clients servers disks blocks form es head events =
+pub is_asked : InEveryRun IsAsked
+is_asked k clients servers disks blocks form es head events =
     throughout_events (clients + servers) IsAsked (Hold (terms_of k) (clients + servers)) (λ past t e sc r h is. one (terms_of k) (clients + servers) past t e sc r h is) es events []
     (traced (fresh_world k clients servers disks blocks form))
     (record { asks = cutters.first k clients servers disks blocks form head; keys = fresh_keys k clients servers disks blocks form; seen = fresh_seen k clients servers disks blocks form })
 
 pub replies : InEveryRun AskedAfter
-replies k clients servers disks blocks form es head events = told.asked k clients servers disks blocks form es head events (law k clients servers disks blocks form es head events)
+replies k clients servers disks blocks form es head events = told.asked k clients servers disks blocks form es head events (is_asked k clients servers disks blocks form es head events)
 
 pub is_told : InEveryRun IsTold
-is_told k clients servers disks blocks form es head events = received.is_told k clients servers disks blocks form es head events (law k clients servers disks blocks form es head events)
+is_told k clients servers disks blocks form es head events = received.is_told k clients servers disks blocks form es head events (is_asked k clients servers disks blocks form es head events)
 
 pub known : InEveryRun KnownAfter
-known k clients servers disks blocks form es head events = received.known k clients servers disks blocks form es head events (law k clients servers disks blocks form es head events)
+known k clients servers disks blocks form es head events = received.known k clients servers disks blocks form es head events (is_asked k clients servers disks blocks form es head events)
 
 pub submits : InEveryRun SubmitsAt
-submits k clients servers disks blocks form es head events = received.submits k clients servers disks blocks form es head events (law k clients servers disks blocks form es head events)
+submits k clients servers disks blocks form es head events = received.submits k clients servers disks blocks form es head events (is_asked k clients servers disks blocks form es head events)
 
 pub maps_at : InEveryRun MapsAt
-maps_at k clients servers disks blocks form es head events = received.maps_at k clients servers disks blocks form es head events (law k clients servers disks blocks form es head events)
+maps_at k clients servers disks blocks form es head events = received.maps_at k clients servers disks blocks form es head events (is_asked k clients servers disks blocks form es head events)

@@ -1,15 +1,13 @@
 -- Every event: locks have the greatest grants that were seen, and extents are asked under grants that were seen. Each rule of a client keeps it.
-use Rattle.std.proofs.Common.{◌≡◌, ℕ, Some, None, Ok, sym, subst}
-use Rattle.st_base.specs.declared.config.Config.{Config}
-use Rattle.st_base.specs.declared.ids.ClientId.{ClientId}
-use Rattle.st_messages.specs.declared.event.Event.{Event}
-use Rattle.st_rules.specs.ClientPages.{empty_store}
-use Rattle.st_rules.specs.ClientState.{Association}
-use Rattle.st_rules.specs.Events.{WorldTurn, world_step}
-use Rattle.st_rules.specs.World.{World, WorldClient, fresh_world, site_of}
-use Rattle.st_lemmas.specs.Lists.{Has}
+use Rattle.st_lemmas.proofs.Words
+use Words.{◌≡◌, ℕ, Some, None, Ok, sym, subst, Config, ClientId, Event}
+use Words.ClientPages.{empty_store}
+use Words.ClientState.{Association}
+use Words.Events.{WorldTurn, world_step}
+use Words.World.{World, WorldClient, fresh_world, site_of}
+use Words.Lists.{Has}
 use Rattle.st_laws_steps.specs.Client.Losses.{Fit}
-use Rattle.st_laws_steps.proofs.Client.Sessions.{k_lose}
+use Rattle.st_laws_steps.proofs.Client.Sessions.{sessions_kept_by_lose}
 use Rattle.st_laws_pages.proofs.Lives.Associated as associated
 use Rattle.st_laws_extents.specs.LockedRequests.RequestsGoOn.{Of}
 use Rattle.st_laws_extents.specs.LockedRequests.AllSessions.{AllSeen, Seen, any_before, any_free}
@@ -22,10 +20,12 @@ pub seen_step : (w : World) (e : Event) (sc : WorldTurn) → world_step w e ≡ 
     ((c : ClientId) (site : WorldClient) → site_of w c ≡ Some site → (a : Association) → Has a site.node.state.associations → Fit a) → AllSeen w →
     AllSeen sc.world
 seen_step =
-    associated.event_keeps Seen empty_seen (walk.k_take any_free any_before) (walk.k_receive any_free any_before) (walk.k_finish any_free any_before)
-    (k_lose (λ s l o. Of any_free any_before s l o) (λ server life e n l. tt)) (walk.k_passes any_free any_before)
+    associated.event_keeps Seen empty_seen (walk.kept_by_take any_free any_before) (walk.kept_by_receive any_free any_before)
+    (walk.kept_by_finish any_free any_before)
+    (sessions_kept_by_lose (λ s l o. Of any_free any_before s l o) (λ server life e n l. tt)) (walk.kept_by_passes any_free any_before)
 
 pub fresh_seen : (k : Config) (clients servers d b form : ℕ) → AllSeen (fresh_world k clients servers d b form)
 fresh_seen =
-    associated.fresh_all Seen empty_seen (walk.k_take any_free any_before) (walk.k_receive any_free any_before) (walk.k_finish any_free any_before)
-    (k_lose (λ s l o. Of any_free any_before s l o) (λ server life e n l. tt)) (walk.k_passes any_free any_before)
+    associated.fresh_all Seen empty_seen (walk.kept_by_take any_free any_before) (walk.kept_by_receive any_free any_before)
+    (walk.kept_by_finish any_free any_before)
+    (sessions_kept_by_lose (λ s l o. Of any_free any_before s l o) (λ server life e n l. tt)) (walk.kept_by_passes any_free any_before)

@@ -1,22 +1,20 @@
 -- An event at which a client takes an input: its outstanding requests go on.
-use Rattle.std.proofs.Common.{◌≡◌, ◌≢◌, ◌⊎◌, ℕ, ◌≤◌, Bool, true, false, List, [], Option, Some, None, Ok, Err, refl, sym, ap, ◌∙◌, subst, inl, inr, arith, if◌then◌else◌}
-use Rattle.st_base.specs.declared.ids.ServerId.{ServerId}
-use Rattle.st_messages.specs.declared.message.Body.{Body}
-use Rattle.st_messages.specs.declared.message.Message.{Message}
-use Rattle.st_rules.specs.declared.client.Request.{Request}
+use Rattle.st_lemmas.proofs.Words
+use Words.{◌≡◌, ◌≢◌, ◌⊎◌, ℕ, ◌≤◌, Bool, true, false, List, [], Option, Some, None, Ok, Err, refl, sym, ap, ◌∙◌, subst, inl, inr, arith, if◌then◌else◌, ServerId}
+use Words.{Body, Message, Request}
+use Words.nodes
+use Words.Client as cl
+use Words.ClientState.{Association, ClientSession, ClientState, client_turn}
+use Words.Events as ev
+use Words.Events.{WorldTurn, counted}
+use Words.History.{Traced}
+use Words.Keys.{client, server_node}
+use Words.Safety.{Step}
+use Words.Sessions as sessions
+use Words.World.{World, WorldClient, clock_of, numbered, site_of, with_numbered}
+use Words.Lists.{Has}
 use Rattle.st_rules.specs.declared.node.StepRefusal.TheVariants.{Crashed}
-use Rattle.st_base.specs.declared.ids.NodeId.TheVariants as nodes
-use Rattle.st_rules.specs.Client as cl
-use Rattle.st_rules.specs.ClientState.{Association, ClientSession, ClientState, client_turn}
-use Rattle.st_rules.specs.Events as ev
-use Rattle.st_rules.specs.Events.{WorldTurn, counted}
-use Rattle.st_rules.specs.History.{Traced}
-use Rattle.st_rules.specs.Keys.{client, server_node}
-use Rattle.st_rules.specs.Safety.{Step}
-use Rattle.st_rules.specs.Sessions as sessions
-use Rattle.st_rules.specs.World.{World, WorldClient, clock_of, numbered, site_of, with_numbered}
 use Rattle.st_protocol.specs.Assoc.{Config}
-use Rattle.st_lemmas.specs.Lists.{Has}
 use Rattle.st_laws_refine.specs.Client.Invariants.{Lasts}
 use Rattle.st_laws_refine.specs.Client.World.{WorldLeft, site_left, world_left}
 use Rattle.st_laws_refine.proofs.Client.Sim.{world_is}

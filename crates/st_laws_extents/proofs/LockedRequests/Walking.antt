@@ -1,34 +1,27 @@
 -- The rules of a client keep what holds of the requests of a session: they go on while its locks do, and what is asked anew is asked under a lock that is held.
-use Rattle.std.proofs.Common.{◌≡◌, ℕ, ◌≤◌, ◌<◌, Bool, true, false, List, Option, Some, None, refl, sym, subst, inr, arith}
-use Rattle.st_base.specs.declared.disk.Tag.{Tag}
-use Rattle.st_base.specs.declared.ids.Epoch.{Epoch}
-use Rattle.st_base.specs.declared.ids.ServerId.{ServerId}
-use Rattle.st_base.specs.declared.ids.Stamp.{Stamp}
-use Rattle.st_base.specs.declared.mode.Mode.TheVariants as modes
-use Rattle.st_messages.specs.declared.ask.Ask.{Ask}
-use Rattle.st_messages.specs.declared.message.Body.{Body}
-use Rattle.st_messages.specs.declared.message.Body.TheVariants as bodies
-use Rattle.st_messages.specs.declared.message.Header.{Header}
-use Rattle.st_rules.specs.declared.client.HeldLock.{HeldLock}
-use Rattle.st_rules.specs.declared.client.KnownExtent.{KnownExtent}
-use Rattle.st_rules.specs.declared.client.Request.{Request}
-use Rattle.st_rules.specs.Client as cl
-use Rattle.st_rules.specs.ClientLocks as locks
-use Rattle.st_rules.specs.ClientPages.{Store}
-use Rattle.st_rules.specs.ClientPasses as cp
-use Rattle.st_rules.specs.ClientReplies as cr
-use Rattle.st_rules.specs.ClientReplies.{is_current}
-use Rattle.st_rules.specs.ClientState as state
-use Rattle.st_rules.specs.ClientState.{ClientSession, Requests, Turn, only_at}
-use Rattle.st_lemmas.proofs.Lookups.{some_is}
+use Rattle.st_lemmas.proofs.Words
+use Words.{◌≡◌, ℕ, ◌≤◌, ◌<◌, Bool, true, false, List, Option, Some, None, refl, sym, subst, inr, arith, Tag, Epoch, ServerId, Stamp, Ask, Body, Header}
+use Words.{HeldLock, KnownExtent, Request}
+use Words.modes
+use Words.bodies
+use Words.Client as cl
+use Words.ClientLocks as locks
+use Words.ClientPages.{Store}
+use Words.ClientPasses as cp
+use Words.ClientReplies as cr
+use Words.ClientReplies.{is_current}
+use Words.ClientState as state
+use Words.ClientState.{ClientSession, Requests, Turn, only_at}
+use Words.Lookups.{some_is}
 use Rattle.st_laws_steps.specs.Client.Client.{IsBegun}
 use Rattle.st_laws_steps.specs.Client.Losses.{Fit}
-use Rattle.st_laws_steps.specs.Client.Session.{AsksNothing, LocksStep, LocksStay, LocksReduced, LocksGranted, LocksDemanded, MayAsk}
-use Rattle.st_laws_steps.specs.Client.Session.{SessionChange, Keeps, DropsLock, IsReasserted, EndsRequest, NewEpoch, AsksNew, AsksAgain}
+use Rattle.st_laws_steps.specs.Client.Session.{AsksNothing, LocksStep, LocksStay, LocksReduced, LocksGranted, LocksDemanded, MayAsk, SessionChange, Keeps}
+use Rattle.st_laws_steps.specs.Client.Session.{DropsLock, IsReasserted, EndsRequest, NewEpoch, AsksNew, AsksAgain}
 use Rattle.st_laws_steps.proofs.Client.Sessions as sessions
 use Rattle.st_laws_extents.specs.Known.Current.{LockSeen, LocksGoOn}
-use Rattle.st_laws_extents.proofs.Known.Current.{law, go_same, demands_go_on, grant_goes_on, reduce_goes_on}
+use Rattle.st_laws_extents.proofs.Known.Current.{old_grants_stay_gone, go_same, demands_go_on, grant_goes_on, reduce_goes_on}
 use Rattle.st_laws_extents.specs.LockedRequests.RequestsGoOn.{Before, Free, Of, RequestGoes, Stand, Under}
+use Rattle.st_laws_extents.proofs.CutRequests.Receiving.{no_request}
 
 -- a request that is current under later locks was current under earlier ones
 current_before : (c d : locks.LockCache) (b : Body) → LocksGoOn c d → Under c b → is_current d b ≡ true → is_current c b ≡ true
@@ -67,17 +60,14 @@ under_held s h o (bodies.Map ino g p) (l, e, u) = let z = h ino l e in subst (λ
 under_held s h o (bodies.Allocate ino g p count) (l, e, u) = let z = h ino l e in subst (λ (x : Rattle.st_base.specs.declared.ids.GrantNo.GrantNo). x.0 ≤ (locks.seen_of s.locks ino).0) u (omega (arith, z))
 under_held s h o b m = tt
 
-no_request : {A : Type 0} (q : Request) → ◌≡◌ {A = Option Request} None (Some q) → A
-no_request q z = cc
-
 none_locked : {A : Type 0} (l : HeldLock) → ◌≡◌ {A = Option HeldLock} None (Some l) → A
 none_locked l z = cc
 
 module _ (U : Free) (W : Before) where
   -- the session's locks go on
-  k_locks : (server : ServerId) (life : ℕ) (s r : ClientSession) → r.epoch ≡ s.epoch → r.requests ≡ s.requests →
+  kept_by_locks : (server : ServerId) (life : ℕ) (s r : ClientSession) → r.epoch ≡ s.epoch → r.requests ≡ s.requests →
       (LockSeen s.locks → LocksGoOn s.locks r.locks) → Of U W server life (Some s) → Of U W server life (Some r)
-  k_locks server life s r e q f h =
+  kept_by_locks server life s r e q f h =
       subst (λ x. Stand U W server life x.0 r.requests r.locks) (sym e)
       (subst (λ x. Stand U W server life s.epoch.0 x r.locks) (sym q) (locks_later U W server life s.epoch.0 s.requests s.locks r.locks (f h.seen) h))
 
@@ -87,7 +77,7 @@ module _ (U : Free) (W : Before) where
   idle server life epoch next c l f h = record { later = l; next = f; seen = h; asked = λ q e. no_request q e }
 
   alike : (xs : List KnownExtent) (server : ServerId) (life : ℕ) (s r : ClientSession) → AsksNothing xs s r → Of U W server life (Some s) → Of U W server life (Some r)
-  alike xs server life s r a h = k_locks server life s r a.epoch a.requests (locks_on xs s.locks r.locks a.locks) h
+  alike xs server life s r a h = kept_by_locks server life s r a.epoch a.requests (locks_on xs s.locks r.locks a.locks) h
 
   -- a request after one more: its number was reported to nobody
   asked_new : (server : ServerId) (life : ℕ) (r : ClientSession) (now : Stamp) (body : Body) (cutting : Option ℕ) → MayAsk r cutting body →
@@ -110,7 +100,7 @@ module _ (U : Free) (W : Before) where
   -- Each change of a session, and its begin.
   on : (server : ServerId) (life : ℕ) (st : Store) (s u : ClientSession) → SessionChange st s u → Of U W server life (Some s) → Of U W server life (Some u)
   on server life st s u (Keeps _ _ a) h = alike st.extents server life s u a h
-  on server life st s _ (DropsLock _ ino l) h = k_locks server life s (state.with_release ino l.g modes.None (state.with_cache (locks.drop_lock s.locks ino) s)) refl refl (λ h. (law s ino l.g l.mode h).drop) h
+  on server life st s _ (DropsLock _ ino l) h = kept_by_locks server life s (state.with_release ino l.g modes.None (state.with_cache (locks.drop_lock s.locks ino) s)) refl refl (λ h. (old_grants_stay_gone s ino l.g l.mode h).drop) h
   on server life st s _ (IsReasserted _) h = h
   on server life st s _ (EndsRequest _ stamp) h = idle server life s.epoch.0 s.requests.next s.locks h.later h.next h.seen
   on server life st s _ (NewEpoch _ epoch l) h = epoch_new server life s epoch l h
@@ -125,14 +115,14 @@ module _ (U : Free) (W : Before) where
   abbrev pub K : Turn → Turn → Type 0
   K t u = Of U W t.here.server t.here.life.0 t.here.session → Of U W u.here.server u.here.life.0 u.here.session
 
-  pub k_take : (s : ServerId) (op : ℕ) (ask : Ask) (t : Turn) → K t (only_at s (cl.take_ask op ask) t)
-  k_take = sessions.k_take (λ s l o. Of U W s l o)
+  pub kept_by_take : (s : ServerId) (op : ℕ) (ask : Ask) (t : Turn) → K t (only_at s (cl.take_ask op ask) t)
+  kept_by_take = sessions.sessions_kept_by_take (λ s l o. Of U W s l o)
 
-  pub k_receive : (now : Stamp) (h : Header) (b : Body) (t : Turn) → Fit t.here → K t (cr.receive_at now h b t)
-  k_receive now h b t f = sessions.k_receive (λ s l o. Of U W s l o) on first now h b t f.fresh
+  pub kept_by_receive : (now : Stamp) (h : Header) (b : Body) (t : Turn) → Fit t.here → K t (cr.receive_at now h b t)
+  kept_by_receive now h b t f = sessions.sessions_kept_by_receive (λ s l o. Of U W s l o) on first now h b t f.fresh
 
-  pub k_finish : (number : ℕ) (r : Option (Option (Tag × List ℕ))) (t : Turn) → K t (cl.finish number r t)
-  k_finish = sessions.k_finish (λ s l o. Of U W s l o)
+  pub kept_by_finish : (number : ℕ) (r : Option (Option (Tag × List ℕ))) (t : Turn) → K t (cl.finish number r t)
+  kept_by_finish = sessions.sessions_kept_by_finish (λ s l o. Of U W s l o)
 
-  pub k_passes : (now : Stamp) (tick : Bool) (t : Turn) → K t (cp.passes now tick t)
-  k_passes = sessions.k_passes (λ s l o. Of U W s l o) on first
+  pub kept_by_passes : (now : Stamp) (tick : Bool) (t : Turn) → K t (cp.passes now tick t)
+  kept_by_passes = sessions.sessions_kept_by_passes (λ s l o. Of U W s l o) on first

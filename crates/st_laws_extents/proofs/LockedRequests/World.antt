@@ -1,33 +1,24 @@
 -- Every event: a request that is outstanding under its lock after an event was so before, or nothing was reported under its number.
-use Rattle.std.proofs.Common.{◌≡◌, ◌≢◌, ◌⊎◌, ℕ, ◌≤◌, Bool, true, false, Option, Some, None, Ok, Err, refl, sym, ap, ◌∙◌, subst, inl, inr, arith, if◌then◌else◌}
-use Rattle.st_base.specs.declared.ids.ClientId.{ClientId}
-use Rattle.st_base.specs.declared.ids.NodeId.{NodeId}
-use Rattle.st_base.specs.declared.ids.NodeId.TheVariants as nodes
-use Rattle.st_base.specs.declared.ids.ServerId.{ServerId}
-use Rattle.st_messages.specs.declared.ask.Ask.{Ask}
-use Rattle.st_messages.specs.declared.event.Event.{Event}
-use Rattle.st_messages.specs.declared.event.Event.TheVariants as events
-use Rattle.st_messages.specs.declared.message.Message.{Message}
-use Rattle.st_rules.specs.declared.client.ClientInput.{ClientInput}
-use Rattle.st_rules.specs.declared.client.ClientInput.TheVariants as inputs
-use Rattle.st_rules.specs.declared.client.Request.{Request}
-use Rattle.st_rules.specs.declared.input.ServerInput.{ServerInput}
-use Rattle.st_rules.specs.declared.input.ServerInput.TheVariants as serving
+use Rattle.st_lemmas.proofs.Words
+use Words.{◌≡◌, ◌≢◌, ◌⊎◌, ℕ, ◌≤◌, Bool, true, false, Option, Some, None, Ok, Err, refl, sym, ap, ◌∙◌, subst, inl, inr, arith, if◌then◌else◌, ClientId, NodeId}
+use Words.{ServerId, Ask, Event, Message, ClientInput, Request, ServerInput, IssuedCommand, SentMessage}
+use Words.nodes
+use Words.events
+use Words.inputs
+use Words.serving
+use Words.Client as cl
+use Words.ClientState.{Association, ClientSession}
+use Words.Disks as disks
+use Words.Events as ev
+use Words.Events.{happens}
+use Words.Keys.{client}
+use Words.Server as server
+use Words.Server.{ServerNode}
+use Words.World.{World, WorldClient, clock_of, issued_of, message_of, node_of, numbered, receiver_of, site_of, with_numbered}
+use Words.Lists.{Has}
+use Words.Tables.{has_map}
+use Words.Truth.{some_not_none}
 use Rattle.st_rules.specs.declared.node.StepRefusal.TheVariants.{Crashed}
-use Rattle.st_rules.specs.declared.world.IssuedCommand.{IssuedCommand}
-use Rattle.st_rules.specs.declared.world.SentMessage.{SentMessage}
-use Rattle.st_rules.specs.Client as cl
-use Rattle.st_rules.specs.ClientState.{Association, ClientSession}
-use Rattle.st_rules.specs.Disks as disks
-use Rattle.st_rules.specs.Events as ev
-use Rattle.st_rules.specs.Events.{happens}
-use Rattle.st_rules.specs.Keys.{client}
-use Rattle.st_rules.specs.Server as server
-use Rattle.st_rules.specs.Server.{ServerNode}
-use Rattle.st_rules.specs.World.{World, WorldClient, clock_of, issued_of, message_of, node_of, numbered, receiver_of, site_of, with_numbered}
-use Rattle.st_lemmas.specs.Lists.{Has}
-use Rattle.st_lemmas.proofs.Tables.{has_map}
-use Rattle.st_laws_refine.specs.Client.Invariants.{Lasts}
 use Rattle.st_laws_steps.specs.Lives.Lives.{clock_in}
 use Rattle.st_laws_pages.proofs.Disks.Moves.{clock_up}
 use Rattle.st_laws_refine.proofs.Server.Delivery.{all_parts}
@@ -35,15 +26,11 @@ use Rattle.st_laws_reads.specs.Copies.World.{asking, receiving, receiving_of, ta
 use Rattle.st_laws_leases.proofs.Dates.Leaving.{set_cases}
 use Rattle.st_laws_extents.specs.ExtentReplies.Law.{WasAsked}
 use Rattle.st_laws_extents.specs.ExtentReplies.ToldExtents.{AskedAt}
+use Rattle.st_laws_extents.proofs.Known.World.{lasts_before}
 
 -- what is outstanding after it was outstanding before
 abbrev pub Back : World → World → Type 0
 Back w v = (c : ℕ) (site : WorldClient) (a : Association) (x : ClientSession) (q : Request) → AskedAt v c site a x q → WasAsked w c a x q
-
--- what lasts later lasts
-lasts_before : (lease now later : ℕ) (o : Option ClientSession) → now ≤ later → Lasts lease later o → Lasts lease now o
-lasts_before lease now later None l h = tt
-lasts_before lease now later (Some s) l h = omega (arith, l, h)
 
 -- a client that is as it was
 pub was_at : (w v : World) (c : ℕ) (site : WorldClient) (a : Association) (x : ClientSession) (q : Request) → site_of w (client c) ≡ Some site → (clock_of w (nodes.Client (client c))).0 ≤ (clock_of v (nodes.Client (client c))).0 → AskedAt v c site a x q → WasAsked w c a x q
@@ -78,9 +65,6 @@ placed w v c old new there cs ts n d site a x q z = go (set_cases w.clients c.0 
     go (inl y) = none_session x (sym (n a (subst (λ (s : WorldClient). Has a s.node.state.associations) y.1 z.has)) ∙ z.session)
     go (inr y) = was_at w v d site a x q y.1 (let u = ap (λ xs. (clock_in xs (client d)).0) ts in omega (arith, u)) z
 
-none_some : {A : Type 0} (x : A) → ◌≡◌ {A = Option A} (Some x) None → ⊥
-none_some x e = cc
-
 -- Nobody takes an input.
 module _ (w : World) where
   same : Back w w
@@ -110,12 +94,12 @@ module _ (w : World) where
   client_none : (c : ClientId) (input : ClientInput) (o : Option WorldClient) → taking w c input o ≡ None → Back w (ev.at_client w c input o).world
   unfolding ev.at_client
   client_none c input None e = same
-  client_none c input (Some site) e = absurd (none_some _ e)
+  client_none c input (Some site) e = absurd (some_not_none _ e)
 
   ask_none : (c : ClientId) (ask : Ask) (o : Option WorldClient) → asking w c ask o ≡ None → Back w (ev.asks_at w c ask o).world
   unfolding ev.asks_at
   ask_none c ask None e = same
-  ask_none c ask (Some site) e = absurd (none_some _ e)
+  ask_none c ask (Some site) e = absurd (some_not_none _ e)
 
   node_none : (m : Message) (n : NodeId) → receiving w m n ≡ None → Back w (ev.delivers_to w m n).world
   unfolding ev.delivers_to
@@ -133,7 +117,7 @@ module _ (w : World) where
   told_none v n k ok (Some y) e = at_site (site_of v y.client) e
     where
       at : (site : WorldClient) (b : Bool) → (if b then taking v y.client (ev.end_told v k ok y) (Some site) else None) ≡ None → Back w (if b then ev.client_takes v y.client (ev.end_told v k ok y) site else ev.quiet v).world
-      at site true e = absurd (none_some _ e)
+      at site true e = absurd (some_not_none _ e)
       at site false e = n
 
       at_site : (s : Option WorldClient) → told_at v k ok y s ≡ None → Back w (ev.tells_client v k ok y s).world

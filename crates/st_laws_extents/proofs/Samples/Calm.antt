@@ -1,18 +1,14 @@
 -- Changes by rules of a client that submit nothing.
-use Rattle.std.proofs.Common.{◌≡◌, ◌⊎◌, Bool, List, [], ◌∷◌, ◌++◌, refl, sym, ap, ◌∙◌, subst, inl, inr}
-use Rattle.std.specs.Prelude.{map}
-use Rattle.st_base.specs.declared.ids.Stamp.{Stamp}
-use Rattle.st_messages.specs.declared.answer.AppAnswer.{AppAnswer}
-use Rattle.st_messages.specs.declared.output.Output.{Output}
-use Rattle.st_messages.specs.declared.output.Output.TheVariants as outputs
-use Rattle.st_rules.specs.declared.client.Operation.{Operation}
-use Rattle.st_rules.specs.ClientState.{Turn, answer_to, say}
-use Rattle.st_lemmas.specs.Lists.{Has}
-use Rattle.st_lemmas.proofs.Tables.{has_append}
+use Rattle.st_lemmas.proofs.Words
+use Words.{◌≡◌, ◌⊎◌, Bool, List, [], ◌∷◌, ◌++◌, refl, sym, ap, ◌∙◌, subst, inl, inr, map, Stamp, AppAnswer, Output, Operation, append_assoc}
+use Words.outputs
+use Words.ClientState.{Turn, answer_to, say}
+use Words.Lists.{Has}
+use Words.Tables.{has_append}
+use Words.Lengths.{nothing_after}
 use Rattle.st_laws_steps.specs.Client.Client as client
 use Rattle.st_laws_steps.specs.Client.Client.{Plain}
 use Rattle.st_laws_steps.proofs.Client.Calm.{IsCalm}
-use Rattle.st_laws_steps.proofs.Client.Nexts.{append_assoc, empty_right}
 use Rattle.st_laws_steps.proofs.Client.Only.{Only, Ends, Goes}
 use Rattle.st_laws_extents.specs.Samples.SubmittedReads as submitted
 use Rattle.st_laws_extents.specs.Samples.SubmittedReads.{SubmitsNone}
@@ -49,7 +45,7 @@ kept : (now : Stamp) (t u : Turn) (more : List Output) → u.out ≡ t.out ++ mo
 kept now t u more o n c f = record { more = more; out = o; none = f; next = n; fewer = λ pc i. subst (Has pc) c i }
 
 still : {now : Stamp} (t : Turn) → Changes now t t
-still {now} t = kept now t t [] (empty_right t.out) refl refl none_said
+still {now} t = kept now t t [] (nothing_after t.out) refl refl none_said
 
 pub both_of : (now : Stamp) (t u v : Turn) → Changes now t u → Changes now u v → Changes now t v
 both_of now t u v a b =
@@ -64,15 +60,15 @@ both_of now t u v a b =
 -- Each change that is calm, and such changes.
 change_calm : (receives : Bool) (now : Stamp) (t u : Turn) (c : client.Change now t u) → IsCalm receives now t u c → submitted.Calm now t u
 change_calm receives now t _ (client.Says _ o p) q = kept now t (say t o) (o ∷ []) refl refl refl (plain_none o p)
-change_calm receives now t _ (client.Operates _ os) q = kept now t _ [] (empty_right t.out) refl refl none_said
+change_calm receives now t _ (client.Operates _ os) q = kept now t _ [] (nothing_after t.out) refl refl none_said
 change_calm receives now t _ (client.Answers _ os ops a) q = kept now t _ (map (answer_to a) ops) refl refl refl (answers_none a ops)
-change_calm receives now t _ (client.Greets _ g) q = kept now t _ [] (empty_right t.out) refl refl none_said
-change_calm receives now t _ (client.TellsLost _ lost) q = kept now t _ [] (empty_right t.out) refl refl none_said
-change_calm receives now t _ (client.Begins _ s a b c) q = kept now t _ [] (empty_right t.out) refl refl none_said
-change_calm receives now t _ (client.Follows _ s u e g) q = kept now t _ [] (empty_right t.out) refl refl none_said
-change_calm receives now t _ (client.Learns _ e a b) q = kept now t _ [] (empty_right t.out) refl refl none_said
+change_calm receives now t _ (client.Greets _ g) q = kept now t _ [] (nothing_after t.out) refl refl none_said
+change_calm receives now t _ (client.TellsLost _ lost) q = kept now t _ [] (nothing_after t.out) refl refl none_said
+change_calm receives now t _ (client.Begins _ s a b c) q = kept now t _ [] (nothing_after t.out) refl refl none_said
+change_calm receives now t _ (client.Follows _ s u e g) q = kept now t _ [] (nothing_after t.out) refl refl none_said
+change_calm receives now t _ (client.Learns _ e a b) q = kept now t _ [] (nothing_after t.out) refl refl none_said
 change_calm receives now t _ (client.Forgets _ ino p i) q = absurd q
-change_calm receives now t _ (client.Caches _ clean) q = kept now t _ [] (empty_right t.out) refl refl none_said
+change_calm receives now t _ (client.Caches _ clean) q = kept now t _ [] (nothing_after t.out) refl refl none_said
 change_calm receives now t _ (client.Writes _ s f p bytes n se sv own m h) q = absurd q
 change_calm receives now t _ (client.Reads _ ino p m i clean) q = absurd q
 change_calm receives now t _ (client.Submits _ s ino p d m se e i w) q = absurd q

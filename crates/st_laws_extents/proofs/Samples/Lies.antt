@@ -1,46 +1,34 @@
 -- Where a client that runs takes an input, each read that it submits goes to where the server has the page.
-use Rattle.std.proofs.Common.{◌≡◌, ℕ, ◌<◌, ◌==◌, true, List, [], Option, Some, None, refl, sym, ap, ◌∙◌, subst}
-use Rattle.std.proofs.lemmas.Bool.{eqb-true}
-use Rattle.st_base.specs.declared.ids.NodeId.TheVariants as nodes
-use Rattle.st_base.specs.declared.ids.PageNo.{PageNo}
-use Rattle.st_base.specs.declared.ids.ServerId.{ServerId}
-use Rattle.st_rules.specs.declared.client.ClientInput.{ClientInput}
-use Rattle.st_rules.specs.declared.client.ClientInput.TheVariants as inputs
-use Rattle.st_rules.specs.declared.client.KnownExtent.{KnownExtent}
-use Rattle.st_rules.specs.declared.client.MappedBlock.{MappedBlock}
-use Rattle.st_rules.specs.declared.client.PageCommand.{PageCommand}
-use Rattle.st_rules.specs.Client as cl
-use Rattle.st_rules.specs.ClientPages as store
-use Rattle.st_rules.specs.ClientState.{Association, ClientSession, ClientState, client_turn}
-use Rattle.st_rules.specs.Events.{WorldTurn, counted}
-use Rattle.st_rules.specs.Keys.{same_page}
-use Rattle.st_rules.specs.World.{World, clock_of, numbered, site_of}
-use Rattle.st_lemmas.specs.Lists.{Has}
-use Rattle.st_lemmas.proofs.Tables.{and_true, found_at}
+use Rattle.st_lemmas.proofs.Words
+use Words.{◌≡◌, ℕ, ◌<◌, ◌==◌, true, List, [], Option, Some, None, refl, sym, ap, ◌∙◌, subst, eqb-true, PageNo, ClientInput, KnownExtent, MappedBlock}
+use Words.{PageCommand}
+use Words.nodes
+use Words.inputs
+use Words.Client as cl
+use Words.ClientPages as store
+use Words.ClientState.{Association, ClientSession, ClientState, client_turn}
+use Words.Events.{WorldTurn, counted}
+use Words.Keys.{same_page}
+use Words.World.{World, clock_of, site_of}
+use Words.Lists.{Has}
+use Words.Tables.{and_true, found_at}
 use Rattle.st_laws_refine.specs.Client.Invariants.{Lasts}
 use Rattle.st_laws_steps.specs.Lives.Lives.{clock_in}
 use Rattle.st_laws_steps.specs.Client.Losses.{Fit}
-use Rattle.st_laws_pages.specs.Disks.World.{mapped_at, mapped_in}
+use Rattle.st_laws_pages.specs.Disks.World.{mapped_in}
 use Rattle.st_laws_reads.specs.Copies.Copies.{file_at}
 use Rattle.st_laws_reads.specs.Copies.World.{Taking, now_at, turn_of}
 use Rattle.st_laws_reads.specs.AllClients.CutFiles.{AllCleared, Cleared}
 use Rattle.st_laws_reads.proofs.AllClients.Behind.{Behind, behind}
 use Rattle.st_laws_reads.proofs.AllClients.Takings.{Takes}
-use Rattle.st_laws_extents.specs.Known.Known.{Fact, Knows, Locked}
+use Rattle.st_laws_extents.specs.Known.Known.{Knows, Locked}
 use Rattle.st_laws_extents.specs.Known.WritePlaces.{AllKnow, AllLocked, InputTold, LiesAs, anything, lies}
 use Rattle.st_laws_steps.specs.Client.Inputs.{Each}
 use Rattle.st_laws_extents.proofs.Known.Step.{Fine, Told, lost_knows, step_fine}
 use Rattle.st_laws_extents.specs.DiskReads.Reads.{LiesAt, ReadsLie}
 use Rattle.st_laws_extents.specs.Samples.SubmittedReads.{KnownTo}
 use Rattle.st_laws_extents.proofs.Samples.Step.{all_sent}
-
--- what is known by one fact is known by another
-knows_by : (R S : Fact) (a : Association) → ((ino : ℕ) (p : PageNo) (m : MappedBlock) → Locked a.session ino → R a.server ino p m → S a.server ino p m) → Knows R a → Knows S a
-knows_by R S a f h e i = let z = h e i in record { locked = z.locked; is = λ m q. f e.ino e.page m z.locked (z.is m q) }
-
--- where the servers are the same
-lies_same : (w v : World) → v.servers ≡ w.servers → (server : ServerId) (ino : ℕ) (p : PageNo) (m : MappedBlock) → lies w server ino p m → lies v server ino p m
-lies_same w v e server ino p m = subst (λ ns. LiesAs (mapped_at (file_at server ino) p (numbered ns server.0)) m) (sym e)
+use Rattle.st_laws_extents.proofs.Known.World.{knows_by, lies_same}
 
 -- what is known of a page, as its extent
 known_at : (w : World) (a : Association) → Knows (lies w) a → (ino : ℕ) (p : PageNo) (m : MappedBlock) → store.mapping_of a.store.extents ino p ≡ Some m → lies w a.server ino p m

@@ -1,38 +1,24 @@
 -- What each change by a pass of a client leaves of the reads that it submits, and how changes are put together.
-use Rattle.std.proofs.Common.{◌≡◌, ℕ, ◌+◌, ◌≤◌, ◌<◌, ◌⊎◌, Bool, true, false, ◌&&◌, ◌==◌, not, List, [], ◌∷◌, ◌++◌, Some, None, refl, sym, ap, ◌∙◌, subst, inl, inr, arith}
-use Rattle.std.specs.Prelude.{nat_le}
-use Rattle.std.proofs.lemmas.Bool.{eq-eqb, eqb-true}
-use Rattle.st_base.specs.declared.disk.BlockAt.{BlockAt}
-use Rattle.st_base.specs.declared.disk.Command.{Command}
-use Rattle.st_base.specs.declared.disk.Command.TheVariants as commands
-use Rattle.st_base.specs.declared.ids.FileId.{FileId}
-use Rattle.st_base.specs.declared.ids.PageNo.{PageNo}
-use Rattle.st_base.specs.declared.ids.Stamp.{Stamp}
-use Rattle.st_messages.specs.declared.output.Note.{Note}
-use Rattle.st_messages.specs.declared.output.Output.{Output}
-use Rattle.st_messages.specs.declared.output.Output.TheVariants as outputs
-use Rattle.st_rules.specs.declared.client.IoKind.{IoKind}
-use Rattle.st_rules.specs.declared.client.IoKind.TheVariants as io
-use Rattle.st_rules.specs.declared.client.KnownExtent.{KnownExtent}
-use Rattle.st_rules.specs.declared.client.MappedBlock.{MappedBlock}
-use Rattle.st_rules.specs.declared.client.Operation.{Operation}
-use Rattle.st_rules.specs.declared.client.PageCommand.{PageCommand}
-use Rattle.st_rules.specs.declared.pages.DirtyPage.{DirtyPage}
-use Rattle.st_rules.specs.ClientPages as pages
-use Rattle.st_rules.specs.ClientPages.{Store}
-use Rattle.st_rules.specs.ClientPasses as passes
-use Rattle.st_rules.specs.ClientState.{ClientSession, Turn, is_serving, note, say, with_store}
-use Rattle.st_lemmas.specs.Lists.{Has}
+use Rattle.st_lemmas.proofs.Words
+use Words.{◌≡◌, ℕ, ◌+◌, ◌≤◌, ◌<◌, ◌⊎◌, Bool, true, false, ◌&&◌, ◌==◌, not, List, [], ◌∷◌, ◌++◌, Some, None, refl, sym, ap, ◌∙◌, subst, inl, inr, arith, nat_le}
+use Words.{eqb-true, BlockAt, Command, FileId, PageNo, Stamp, Note, Output, IoKind, KnownExtent, MappedBlock, Operation, PageCommand, DirtyPage, append_assoc}
+use Words.commands
+use Words.outputs
+use Words.io
+use Words.ClientPages as pages
+use Words.ClientPasses as passes
+use Words.ClientState.{ClientSession, Turn, is_serving, note, say, with_store}
+use Words.Lists.{Has}
+use Words.Tables.{has_append, has_filter}
+use Words.Lengths.{nothing_after}
 use Rattle.st_lemmas.proofs.Contents.{find_stays, one_place}
-use Rattle.st_lemmas.proofs.Tables.{and_true, has_append, has_filter, not_true, some_passes}
 use Rattle.st_laws_steps.specs.Client.Client as client
 use Rattle.st_laws_steps.specs.Client.Client.{ChangesPage}
-use Rattle.st_laws_steps.proofs.Clash.{clash}
 use Rattle.st_laws_steps.proofs.Client.Passing.{IsPassing, Part}
 use Rattle.st_laws_steps.proofs.Client.Only.{Only, Ends, Goes}
-use Rattle.st_laws_steps.proofs.Client.Nexts.{append_assoc, empty_right}
 use Rattle.st_laws_extents.specs.Samples.SubmittedReads.{Begun, GoesTo, KnownTo, ReadsSent, StaysKnown, SubmitsNone}
 use Rattle.st_laws_extents.proofs.Samples.Calm.{none_said, plain_none}
+use Rattle.st_laws_extents.proofs.DiskReads.Rules.{not_idle}
 
 abbrev Changes : Stamp → Turn → Turn → Type 0
 Changes now t u = ReadsSent now t u
@@ -51,7 +37,7 @@ plain : (now : Stamp) (t u : Turn) (more : List Output) → u.out ≡ t.out ++ m
 plain now t u more o n f c x = kept now t u more o n f (λ pc i. (subst (Has pc) c i, λ m e. ap (λ xs. pages.mapping_of xs pc.ino pc.page) x ∙ e))
 
 still : {now : Stamp} (t : Turn) → Changes now t t
-still {now} t = plain now t t [] (empty_right t.out) refl none_said refl refl
+still {now} t = plain now t t [] (nothing_after t.out) refl none_said refl refl
 
 pub both_of : (now : Stamp) (t u v : Turn) → Changes now t u → Changes now u v → Changes now t v
 both_of now t u v a b =
@@ -102,12 +88,6 @@ both_of now t u v a b =
         }
         )
 
--- The changes.
--- a file of an outstanding command is not idle
-not_idle : (st : Store) (pc : PageCommand) (ino : ℕ) → Has pc st.commands → pc.ino ≡ ino → pages.is_idle st ino ≡ true → ⊥
-not_idle st pc ino i e idle =
-    clash (pages.is_outstanding st.commands ino) (some_passes (pages.is_command_on ino) st.commands pc i (eq-eqb pc.ino ino e)) (not_true (pages.is_outstanding st.commands ino) (and_true (not (pages.has_dirty st.pages ino)) (not (pages.is_outstanding st.commands ino)) idle).1)
-
 forget_mapped : (ino : ℕ) (p : PageNo) (j : ℕ) (q : PageNo) (xs : List KnownExtent) → (j ≡ ino → ⊥) → pages.mapping_of (pages.known_before ino p xs) j q ≡ pages.mapping_of xs j q
 forget_mapped ino p j q xs n = ap pages.mapping_at (find_stays (pages.is_known_of j q) (pages.is_known_behind ino p) apart xs)
   where
@@ -121,7 +101,7 @@ forget_mapped ino p j q xs n = ap pages.mapping_at (find_stays (pages.is_known_o
 after_forgets : {now : Stamp} (t : Turn) (ino : ℕ) (p : PageNo) → pages.is_idle t.here.store ino ≡ true → Change now t (with_store (pages.forget_from t.here.store ino p) t)
 unfolding pages.forget_from pages.drop_from
 after_forgets {now} t ino p idle =
-    kept now t (with_store (pages.forget_from t.here.store ino p) t) [] (empty_right t.out) refl none_said
+    kept now t (with_store (pages.forget_from t.here.store ino p) t) [] (nothing_after t.out) refl none_said
     (λ pc i. (i, λ m e. forget_mapped ino p pc.ino pc.page t.here.store.extents (λ q. not_idle t.here.store pc ino i q idle) ∙ e))
 
 after_writes : {now : Stamp} (t : Turn) (s : ClientSession) (f : FileId) (p : PageNo) (bytes : List ℕ) (n : Note) → t.here.session ≡ Some s → is_serving t.config s now ≡ true → f.server ≡ t.here.server → pages.is_mapped t.here.store.extents f.ino p ≡ true → ChangesPage f p n →
@@ -198,15 +178,15 @@ after_submits {now} t s ino p d m se e i w =
 -- Each change of a pass, and such changes.
 change_sent : (syncs : List Operation) (asks : Part) (now : Stamp) (t u : Turn) (c : client.Change now t u) → IsPassing syncs asks now t u c → ReadsSent now t u
 change_sent syncs asks now t _ (client.Says _ o p) q = plain now t (say t o) (o ∷ []) refl refl (plain_none o p) refl refl
-change_sent syncs asks now t _ (client.Operates _ os) q = plain now t _ [] (empty_right t.out) refl none_said refl refl
+change_sent syncs asks now t _ (client.Operates _ os) q = plain now t _ [] (nothing_after t.out) refl none_said refl refl
 change_sent syncs asks now t _ (client.Answers _ os ops a) q = absurd q
-change_sent syncs asks now t _ (client.Greets _ g) q = plain now t _ [] (empty_right t.out) refl none_said refl refl
+change_sent syncs asks now t _ (client.Greets _ g) q = plain now t _ [] (nothing_after t.out) refl none_said refl refl
 change_sent syncs asks now t _ (client.TellsLost _ lost) q = absurd q
 change_sent syncs asks now t _ (client.Begins _ s a b c) q = absurd q
-change_sent syncs asks now t _ (client.Follows _ s u e g) q = plain now t _ [] (empty_right t.out) refl none_said refl refl
+change_sent syncs asks now t _ (client.Follows _ s u e g) q = plain now t _ [] (nothing_after t.out) refl none_said refl refl
 change_sent syncs asks now t _ (client.Learns _ e a b) q = absurd q
 change_sent syncs asks now t _ (client.Forgets _ ino p i) q = after_forgets {now = now} t ino p i
-change_sent syncs asks now t _ (client.Caches _ clean) q = plain now t _ [] (empty_right t.out) refl none_said refl refl
+change_sent syncs asks now t _ (client.Caches _ clean) q = plain now t _ [] (nothing_after t.out) refl none_said refl refl
 change_sent syncs asks now t _ (client.Writes _ s f p bytes n se sv own m h) q = after_writes {now = now} t s f p bytes n se sv own m h
 change_sent syncs asks now t _ (client.Reads _ ino p m i clean) q = after_reads {now = now} t ino p m i clean
 change_sent syncs asks now t _ (client.Submits _ s ino p d m se e i w) q = after_submits {now = now} t s ino p d m se e i w

@@ -1,20 +1,19 @@
 -- Reads return the last writes and the pages hold throughout a run: what they submit goes to where pages lie.
-use Rattle.std.proofs.Common.{◌≡◌, ℕ, zero, suc, ◌+◌, true, List, [], ◌∷◌, ◌++◌, Option, Some, None, Ok, Err, refl, sym, ap, ◌∙◌, subst, ◌==◌}
-use Rattle.std.specs.Prelude.{Result}
-use Rattle.std.specs.List.{list_all}
+use Rattle.st_lemmas.proofs.Words
+use Words.{◌≡◌, ℕ, zero, suc, ◌+◌, true, List, [], ◌∷◌, ◌++◌, Option, Some, None, Ok, Err, refl, sym, ap, ◌∙◌, subst, ◌==◌, Result, list_all, Event}
+use Words.{WorldRefusal, IssuedCommand, eqb-true, PageNo, KnownExtent, MappedBlock, Extent}
+use Words.Client as cl
+use Words.Events.{WorldTurn, counted, world_step}
+use Words.History.{Traced, traced, traced_after}
+use Words.Safety as safety
+use Words.Safety.{Promise, ReadsReturnLastWrites, Step, Throughout, is_event, step, steps}
+use Words.World.{fresh_world, numbered, World}
+use Words.Tables.{and_true, found_at}
+use Words.ClientPages as store
+use Words.Keys.{client, same_page}
 use Rattle.st_base.specs.declared.config.Config as base
-use Rattle.st_messages.specs.declared.event.Event.{Event}
-use Rattle.st_rules.specs.declared.observation.WorldRefusal.{WorldRefusal}
-use Rattle.st_rules.specs.declared.world.IssuedCommand.{IssuedCommand}
-use Rattle.st_rules.specs.Client as cl
-use Rattle.st_rules.specs.Events.{WorldTurn, counted, world_step}
-use Rattle.st_rules.specs.History.{Traced, traced, traced_after}
-use Rattle.st_rules.specs.Safety as safety
-use Rattle.st_rules.specs.Safety.{Promise, ReadsReturnLastWrites, Step, Throughout, is_event, step, steps}
-use Rattle.st_rules.specs.World.{fresh_world, numbered, World}
 use Rattle.st_protocol.specs.Assoc.{Config}
 use Rattle.st_lemmas.proofs.Steps.{step_happens}
-use Rattle.st_lemmas.proofs.Tables.{and_true, found_at}
 use Rattle.st_laws_pages.specs.Disks.Runs.{PagesAfter}
 use Rattle.st_laws_pages.specs.Asks.Law.{PlacesAfter}
 use Rattle.st_laws_pages.proofs.Asks.Law.{places_law}
@@ -35,13 +34,6 @@ use Rattle.st_laws_extents.proofs.DiskReads.Run as found
 use Rattle.st_laws_extents.proofs.Samples.Lies.{reads_lie}
 use Rattle.st_laws_extents.proofs.DiskReads.Run.{ReadsStand}
 use Rattle.st_laws_extents.specs.Samples.Law.{InRunsToldRight, IsToldRight}
-use Rattle.std.proofs.lemmas.Bool.{eqb-true}
-use Rattle.st_base.specs.declared.ids.PageNo.{PageNo}
-use Rattle.st_rules.specs.declared.client.KnownExtent.{KnownExtent}
-use Rattle.st_rules.specs.declared.client.MappedBlock.{MappedBlock}
-use Rattle.st_rules.specs.declared.extents.Extent.{Extent}
-use Rattle.st_rules.specs.ClientPages as store
-use Rattle.st_rules.specs.Keys.{client, same_page}
 use Rattle.st_laws_pages.specs.Flush.Flush.{file_at}
 use Rattle.st_laws_pages.specs.Disks.Pages.{mapping_of}
 use Rattle.st_laws_pages.specs.Disks.World.{mapped_in}

@@ -1,35 +1,29 @@
 -- The reads that a whole step of a client submits: where they go, the step knows that their pages lie.
-use Rattle.std.proofs.Common.{◌≡◌, ℕ, ◌<◌, ◌⊎◌, Bool, true, false, List, [], ◌∷◌, refl, sym, ◌∙◌, subst, inl, inr, arith}
-use Rattle.st_base.specs.declared.disk.BlockAt.{BlockAt}
-use Rattle.st_base.specs.declared.disk.Command.{Command}
-use Rattle.st_base.specs.declared.disk.Command.TheVariants as commands
-use Rattle.st_base.specs.declared.ids.ClientId.{ClientId}
-use Rattle.st_base.specs.declared.ids.Stamp.{Stamp}
-use Rattle.st_messages.specs.declared.answer.AppAnswer.{AppAnswer}
-use Rattle.st_messages.specs.declared.answer.AppAnswer.TheVariants as answers
-use Rattle.st_messages.specs.declared.output.Output.{Output}
-use Rattle.st_messages.specs.declared.output.Output.TheVariants as outputs
-use Rattle.st_rules.specs.declared.client.ClientInput.{ClientInput}
-use Rattle.st_rules.specs.declared.client.IoKind.TheVariants as io
-use Rattle.st_rules.specs.declared.client.PageCommand.{PageCommand}
-use Rattle.st_rules.specs.Client as cl
-use Rattle.st_rules.specs.ClientPages as pages
-use Rattle.st_rules.specs.ClientPasses as cp
-use Rattle.st_rules.specs.ClientReplies as cr
-use Rattle.st_rules.specs.ClientState.{Association, ClientState, ClientTurn, Turn, at_each, at_these, client_turn, enter, leave, only_at, server_of, with_associations}
-use Rattle.st_lemmas.specs.Lists.{Has}
-use Rattle.st_lemmas.proofs.Tables.{has_append, has_filter}
+use Rattle.st_lemmas.proofs.Words
+use Words.{◌≡◌, ℕ, ◌<◌, ◌⊎◌, Bool, true, false, List, [], ◌∷◌, refl, sym, ◌∙◌, subst, inl, inr, arith, BlockAt, Command, ClientId, Stamp, AppAnswer, Output}
+use Words.{ClientInput, PageCommand}
+use Words.commands
+use Words.answers
+use Words.outputs
+use Words.io
+use Words.Client as cl
+use Words.ClientPages as pages
+use Words.ClientPasses as cp
+use Words.ClientReplies as cr
+use Words.ClientState.{Association, ClientState, ClientTurn, Turn, at_each, at_these, client_turn, enter, leave, only_at, server_of, with_associations}
+use Words.Lists.{Has}
+use Words.Tables.{has_append, has_filter}
+use Words.Lengths.{nothing_after}
 use Rattle.st_laws_steps.specs.Client.Losses.{Ends, Fails, Fit, Hardens, Passes, Unknown, is_ended}
 use Rattle.st_laws_pages.proofs.Flush.Adding.{AllStill}
 use Rattle.st_laws_steps.specs.Client.Inputs as taking
 use Rattle.st_laws_steps.specs.Client.Inputs.{Taken}
 use Rattle.st_laws_steps.proofs.Client.Taking.{taken}
 use Rattle.st_laws_pages.proofs.Flush.Flushing.{pair_of}
-use Rattle.st_laws_steps.proofs.Client.Nexts.{empty_right}
 use Rattle.st_laws_steps.proofs.Client.Stepping.{LossesLeft, LostOrNot, losses_left, pairs_has}
 use Rattle.st_laws_pages.proofs.Flush.Quiet.{AllQuiet, losses_quiet}
 use Rattle.st_laws_extents.specs.Samples.SubmittedReads.{AllSent, Begun, Calm, KnownTo, NoneSent, ReadsSent, SentRight, StaysKnown, SubmitsNone}
-use Rattle.st_laws_steps.proofs.Client.Asking.{p_passes}
+use Rattle.st_laws_steps.proofs.Client.Asking.{passes_keep_or_ask}
 use Rattle.st_laws_steps.proofs.Client.Losing.{Finished, calm_only, finish_is, is_done}
 use Rattle.st_laws_steps.proofs.Client.Passing.{KeepsOrAsks}
 use Rattle.st_laws_steps.proofs.Client.Replying.{calm_receive}
@@ -39,10 +33,10 @@ use Rattle.st_laws_extents.proofs.Samples.Rules.{changes_sent}
 -- The end of a command.
 ends_calm : (now : Stamp) (number : ℕ) (ok : Bool) (t u : Turn) → Ends number ok t u → Calm now t u
 unfolding cl.hardened pages.harden pages.harden_at pages.harden_page pages.fail pages.failed_by
-ends_calm now number ok t _ Unknown = record { more = []; out = empty_right t.out; none = none_said; next = refl; fewer = λ pc i. i }
-ends_calm now number ok t _ (Passes pc e o) = record { more = []; out = empty_right t.out; none = none_said; next = refl; fewer = λ c i. (has_filter _ t.here.store.commands c i).0 }
-ends_calm now number ok t _ (Hardens pc v e o k w) = record { more = []; out = empty_right t.out; none = none_said; next = refl; fewer = λ c i. (has_filter _ t.here.store.commands c i).0 }
-ends_calm now number ok t _ (Fails pc v e o k) = record { more = []; out = empty_right t.out; none = none_said; next = refl; fewer = λ c i. (has_filter _ t.here.store.commands c i).0 }
+ends_calm now number ok t _ Unknown = record { more = []; out = nothing_after t.out; none = none_said; next = refl; fewer = λ pc i. i }
+ends_calm now number ok t _ (Passes pc e o) = record { more = []; out = nothing_after t.out; none = none_said; next = refl; fewer = λ c i. (has_filter _ t.here.store.commands c i).0 }
+ends_calm now number ok t _ (Hardens pc v e o k w) = record { more = []; out = nothing_after t.out; none = none_said; next = refl; fewer = λ c i. (has_filter _ t.here.store.commands c i).0 }
+ends_calm now number ok t _ (Fails pc v e o k) = record { more = []; out = nothing_after t.out; none = none_said; next = refl; fewer = λ c i. (has_filter _ t.here.store.commands c i).0 }
 
 finished_calm : (now : Stamp) (number : ℕ) (ok : Bool) (t u : Turn) → Finished now number ok t u → Calm now t u
 finished_calm now number ok t u f = both_of now t f.mid u (ends_calm now number ok t f.mid f.ends) (changes_calm false now f.mid u f.calm)
@@ -209,4 +203,4 @@ module _ (c : ClientId) (s : ClientState) (now : Stamp) (input : ClientInput) (f
 
   pub all_sent : AllSent (cl.client_step s now input)
   unfolding cl.client_step cl.work
-  all_sent = each_sent now (cp.passes now (cl.is_tick input)) (λ x. changes_sent x.operations KeepsOrAsks now x _ (p_passes now (cl.is_tick input) x)) (cl.take_input t now input) (from_none (cl.take_input t now input) (input_none input (cl.take_input t now input) (taken t now input)))
+  all_sent = each_sent now (cp.passes now (cl.is_tick input)) (λ x. changes_sent x.operations KeepsOrAsks now x _ (passes_keep_or_ask now (cl.is_tick input) x)) (cl.take_input t now input) (from_none (cl.take_input t now input) (input_none input (cl.take_input t now input) (taken t now input)))

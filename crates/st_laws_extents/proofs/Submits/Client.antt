@@ -1,43 +1,28 @@
 -- Where a client that runs takes an input: each write that it submits is right, and after the latest entries of dirty pages nothing of the page counts.
-use Rattle.std.proofs.Common.{◌≡◌, ◌≢◌, ℕ, ◌+◌, ◌⊎◌, Bool, true, false, ◌&&◌, List, [], ◌∷◌, ◌++◌, Option, Some, None, Ok, Err, refl, sym, ap, ◌∙◌, subst, inl, inr, arith, if◌then◌else◌}
-use Rattle.std.specs.Prelude.{length}
-use Rattle.std.proofs.lemmas.Bool.{eqb-true, leb-false, ne_eqb}
-use Rattle.st_base.specs.declared.disk.BlockAt.{BlockAt}
-use Rattle.st_base.specs.declared.disk.Tag.{Tag}
-use Rattle.st_base.specs.declared.ids.ClientId.{ClientId}
-use Rattle.st_base.specs.declared.ids.FileId.{FileId}
-use Rattle.st_base.specs.declared.ids.Life.{Life}
-use Rattle.st_base.specs.declared.ids.NodeId.TheVariants as nodes
-use Rattle.st_base.specs.declared.ids.PageNo.{PageNo}
-use Rattle.st_base.specs.declared.ids.ServerId.{ServerId}
-use Rattle.st_base.specs.declared.ids.Stamp.{Stamp}
-use Rattle.st_messages.specs.declared.ask.Ask.{Ask}
-use Rattle.st_messages.specs.declared.event.Event.{Event}
-use Rattle.st_messages.specs.declared.output.Note.{Note}
-use Rattle.st_messages.specs.declared.output.Note.TheVariants as notes
-use Rattle.st_messages.specs.declared.output.Output.{Output}
-use Rattle.st_messages.specs.declared.output.Output.TheVariants as outputs
-use Rattle.st_rules.specs.declared.log.LogEntry.{LogEntry}
+use Rattle.st_lemmas.proofs.Words
+use Words.{◌≡◌, ◌≢◌, ℕ, ◌⊎◌, Bool, true, false, ◌&&◌, List, [], ◌∷◌, ◌++◌, Option, Some, None, Ok, Err, refl, sym, ap, ◌∙◌, subst, inl, inr, arith}
+use Words.{if◌then◌else◌, length, eqb-true, ne_eqb, BlockAt, Tag, ClientId, FileId, Life, PageNo, ServerId, Stamp, Ask, Event, Note, Output}
+use Words.{LogEntry, DirtyPage, IssuedCommand}
+use Words.nodes
+use Words.notes
+use Words.outputs
+use Words.Client as cl
+use Words.ClientPages as pages
+use Words.ClientState.{Association, ClientState}
+use Words.Events as ev
+use Words.Events.{WorldTurn, client_says, client_says_all, counted, present_life, world_step}
+use Words.FlatLog as log
+use Words.FlatLog.{is_of_client, matters, touches}
+use Words.Keys.{client, same_file, same_page}
+use Words.Safety.{Step}
+use Words.World as world
+use Words.World.{World, WorldClient, clock_of, life_with, numbered, site_of, with_numbered}
+use Words.Lists.{Has}
+use Words.Lookups.{some_is}
+use Words.Numbers.{numbered_below, numbered_other, numbered_own}
+use Words.Tables.{and_true, same_or_not}
 use Rattle.st_rules.specs.declared.node.StepRefusal.TheVariants.{Crashed}
-use Rattle.st_rules.specs.declared.pages.DirtyPage.{DirtyPage}
-use Rattle.st_rules.specs.declared.world.IssuedCommand.{IssuedCommand}
-use Rattle.st_rules.specs.Client as cl
-use Rattle.st_rules.specs.ClientLease as lease
-use Rattle.st_rules.specs.ClientPages as pages
-use Rattle.st_rules.specs.ClientState.{Association, ClientSession, ClientState}
-use Rattle.st_rules.specs.Events as ev
-use Rattle.st_rules.specs.Events.{WorldTurn, client_says, client_says_all, counted, present_life, world_step}
-use Rattle.st_rules.specs.FlatLog as log
-use Rattle.st_rules.specs.FlatLog.{is_of_client, matters, touches}
-use Rattle.st_rules.specs.Keys.{client, same_file, same_page}
-use Rattle.st_rules.specs.Safety.{Step}
-use Rattle.st_rules.specs.World as world
-use Rattle.st_rules.specs.World.{World, WorldClient, clock_of, life_with, numbered, site_of, with_numbered}
 use Rattle.st_protocol.specs.Assoc.{Config}
-use Rattle.st_lemmas.specs.Lists.{Has}
-use Rattle.st_lemmas.proofs.Lookups.{some_is}
-use Rattle.st_lemmas.proofs.Numbers.{numbered_below, numbered_other, numbered_own}
-use Rattle.st_lemmas.proofs.Tables.{and_true, same_or_not}
 use Rattle.st_laws_refine.specs.Views.Halves.{held_in}
 use Rattle.st_laws_refine.specs.Client.Invariants.{Lasts}
 use Rattle.st_laws_pages.specs.Flush.Flush.{FlushHold, file_at}
@@ -58,7 +43,7 @@ use Rattle.st_laws_reads.specs.Copies.World.{AllOwn, OwnEntry, Taking, Unheld, W
 use Rattle.st_laws_reads.specs.AllClients.Events.{FrozenStandAlone}
 use Rattle.st_laws_reads.specs.AllClients.Law.{Running}
 use Rattle.st_laws_reads.specs.AllClients.World.{CopiesHold, TakingOwed}
-use Rattle.st_laws_reads.proofs.AllClients.Alone.{law, while_at}
+use Rattle.st_laws_reads.proofs.AllClients.Alone.{pending_pages_stand_alone, while_at}
 use Rattle.st_laws_reads.proofs.AllClients.Takings.{Takes, keeps, mine, mine_there, there_at}
 use Rattle.st_laws_pages.specs.Writes.Writes.{OpenHold, WritesOnce}
 use Rattle.st_laws_reads.specs.OpenWrites.StandStill.{WritesHold}
@@ -73,11 +58,8 @@ use Rattle.st_laws_extents.proofs.Submits.Walk.{All}
 use Rattle.st_laws_reads.proofs.OpenWrites.Growing.{grows_all}
 use Rattle.st_laws_pages.proofs.Lives.Turning.{says_lives}
 use Rattle.st_laws_pages.specs.Disks.Obligations.{NodeOwes}
-
--- Cuts stay hard through a client's outputs.
-cuts_entry : (es : List LogEntry) (e : LogEntry) → (e.change ≡ Rattle.st_rules.specs.declared.log.Change.TheVariants.Cut → e.fate ≡ Rattle.st_rules.specs.declared.log.Fate.TheVariants.Hard) → CutsHard es → CutsHard (es ++ e ∷ [])
-cuts_entry [] e f h = record { one = f; rest = record {} }
-cuts_entry (x ∷ es) e f h = record { one = h.one; rest = cuts_entry es e f h.rest }
+use Rattle.st_laws_pages.proofs.Disks.Folds.{cuts_last}
+use Rattle.st_laws_reads.proofs.AllClients.Behind.{lasting}
 
 cuts_one : (c : ClientId) (before : ClientState) (o : Output) (sc : WorldTurn) → CutsHard sc.world.log → CutsHard (client_says sc c before o).world.log
 unfolding client_says ev.client_notes ev.sends ev.submits ev.answers_with ev.accepts ev.patches ev.loses log.accept log.patch
@@ -91,8 +73,8 @@ cuts_one c before (outputs.Answer o a) sc h = h
 cuts_one c before (outputs.Note n) sc h = note n
   where
     note : (n : Note) → CutsHard (ev.client_notes sc c before n).world.log
-    note (notes.Accepted f p bytes) = cuts_entry sc.world.log _ (λ e. cc e) h
-    note (notes.Patched f p at bytes) = cuts_entry sc.world.log _ (λ e. cc e) h
+    note (notes.Accepted f p bytes) = cuts_last sc.world.log _ (λ e. cc e) h
+    note (notes.Patched f p at bytes) = cuts_last sc.world.log _ (λ e. cc e) h
     note (notes.Lost s life) = h
     note n = h
 
@@ -100,10 +82,6 @@ cuts_all : (c : ClientId) (before : ClientState) (os : List Output) (sc : WorldT
 unfolding client_says_all
 cuts_all c before [] sc h = h
 cuts_all c before (o ∷ os) sc h = cuts_all c before os (client_says sc c before o) (cuts_one c before o sc h)
-
-ongoing : (k : Rattle.st_base.specs.declared.config.Config.Config) (now : Stamp) (a : Option ClientSession) → is_ended k now a ≡ false → Lasts k.lease now.0 a
-ongoing k now None e = tt
-ongoing k now (Some s) e = let z = leb-false (lease.end_of k s.lease).0 now.0 e in omega (arith, z)
 
 -- Entries of other clients, on files of which this one has no lock.
 last_more : (c : ℕ) (a : Association) (es more : List LogEntry) → ((e : LogEntry) → Has e more → is_of_client (client c) e.of ≡ false) →
@@ -193,7 +171,7 @@ module _ (asks : ℕ → ℕ → Option Ask) (k : Config) (count : ℕ) (past mo
       subst (λ es. LatestLast (client c) es a) (sym tk.log)
       (last_w c tk.old (record { there = tk.there; runs = old_runs }) a i
       (subst (λ (n : cl.ClientNode). Lasts n.state.config.lease (clock_of w (nodes.Client (client c))).0 a.session) (sym tk.same)
-      (subst (λ (z : Stamp). Lasts x.site.node.state.config.lease z.0 a.session) (ap (λ ts. clock_in ts (client c)) tk.clocks) (ongoing x.site.node.state.config (clock_of W (nodes.Client (client c))) a.session f))))
+      (subst (λ (z : Stamp). Lasts x.site.node.state.config.lease z.0 a.session) (ap (λ ts. clock_in ts (client c)) tk.clocks) (lasting x.site.node.state.config (clock_of W (nodes.Client (client c))) a.session f))))
 
   carried : All (length W.servers) (client c) x.site.node.state S M own refl (clock_of W (nodes.Client (client c))) (turn_of x) (turn_of x).state.associations
   unfolding cl.client_step
@@ -279,7 +257,7 @@ module _ (asks : ℕ → ℕ → Option Ask) (k : Config) (count : ℕ) (past mo
           let m = (s.pages ino p).mode dp dirty in
           let f = and_true (same_file y.of.file (file_at a ino)) _ t in
           let g = and_true (Rattle.st_rules.specs.Keys.same_server y.of.file.server a.server) _ f.0 in
-          let u = law (asks c) k count sc.world c d M site o.association y after (λ z. n (sym z)) (record { there = left; runs = runs }) run ((copies_v c M left).runs runs) o.listed
+          let u = pending_pages_stand_alone (asks c) k count sc.world c d M site o.association y after (λ z. n (sym z)) (record { there = left; runs = runs }) run ((copies_v c M left).runs runs) o.listed
           (record { logged = subst (λ l. Has y l) (sym joined) (has_behind w.log kept.more y h); pending = o.pending; own = o.own; server = there_at sc.world (turn_of x).state.associations o.association ((copies_v c M left).servers) o.listed }) in
           let z = unheld_at y.of.file site.node.state.config.lease (clock_of sc.world (nodes.Client (client d))).0 site.node.state.associations u a i l (ap (λ v. record { 0 = v }) (eqb-true y.of.file.server.0 a.server.0 g.0)) in
           let e = ap (λ v. (held_in a.session v).mode) (eqb-true y.of.file.ino ino g.1) in

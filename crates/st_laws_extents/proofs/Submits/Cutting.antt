@@ -1,41 +1,26 @@
 -- A cut finds no write that may have its effect.
-use Rattle.std.proofs.Common.{◌≡◌, ℕ, ◌⊎◌, Bool, true, false, List, [], ◌∷◌, Option, Some, None, Ok, Err, refl, sym, ap, ◌∙◌, subst, inl, inr}
-use Rattle.std.specs.Prelude.{Result, nat_le}
-use Rattle.std.proofs.lemmas.Bool.{eqb-true}
-use Rattle.st_base.specs.declared.ids.FileId.{FileId}
-use Rattle.st_base.specs.declared.ids.NodeId.{NodeId}
-use Rattle.st_base.specs.declared.ids.NodeId.TheVariants as nodes
-use Rattle.st_base.specs.declared.ids.PageNo.{PageNo}
-use Rattle.st_base.specs.declared.ids.ServerId.{ServerId}
-use Rattle.st_messages.specs.declared.ask.Ask.{Ask}
-use Rattle.st_messages.specs.declared.event.Event.{Event}
-use Rattle.st_messages.specs.declared.event.Event.TheVariants as events
-use Rattle.st_messages.specs.declared.message.Message.{Message}
-use Rattle.st_messages.specs.declared.output.Note.{Note}
-use Rattle.st_messages.specs.declared.output.Note.TheVariants as notes
-use Rattle.st_messages.specs.declared.output.Output.{Output}
-use Rattle.st_messages.specs.declared.output.Output.TheVariants as outputs
-use Rattle.st_rules.specs.declared.input.ServerInput.{ServerInput}
-use Rattle.st_rules.specs.declared.input.ServerInput.TheVariants as serving
-use Rattle.st_rules.specs.declared.node.StepRefusal.{StepRefusal}
-use Rattle.st_rules.specs.declared.world.SentMessage.{SentMessage}
-use Rattle.st_rules.specs.ClientPages as pages
-use Rattle.st_rules.specs.Events as ev
-use Rattle.st_rules.specs.Events.{counted, happens}
-use Rattle.st_rules.specs.FlatLog.{hard_cut, touches}
-use Rattle.st_rules.specs.Keys.{same_file}
-use Rattle.st_rules.specs.Server as server
-use Rattle.st_rules.specs.Server.{ServerNode}
-use Rattle.st_rules.specs.World as world
-use Rattle.st_rules.specs.World.{World, clock_of, message_of, node_of, receiver_of}
+use Rattle.st_lemmas.proofs.Words
+use Words.{◌≡◌, ℕ, ◌⊎◌, Bool, true, false, Option, Some, None, Ok, Err, refl, sym, ap, ◌∙◌, subst, inl, inr, Result, nat_le, eqb-true, FileId}
+use Words.{NodeId, PageNo, ServerId, Ask, Event, Message, Note, ServerInput, StepRefusal, SentMessage}
+use Words.nodes
+use Words.events
+use Words.serving
+use Words.ClientPages as pages
+use Words.Events as ev
+use Words.Events.{counted, happens}
+use Words.FlatLog.{hard_cut, touches}
+use Words.Keys.{same_file}
+use Words.Server as server
+use Words.Server.{ServerNode}
+use Words.World as world
+use Words.World.{World, clock_of, message_of, node_of, receiver_of}
+use Words.Tables.{and_true}
+use Words.Truth.{none_not_some}
 use Rattle.st_protocol.specs.Assoc.{Config}
-use Rattle.st_lemmas.specs.Lists.{Has}
-use Rattle.st_lemmas.proofs.Tables.{and_true}
 use Rattle.st_laws_pages.specs.Flush.Flush.{file_at}
 use Rattle.st_laws_pages.specs.Disks.Obligations.{AtServer, ServerNodeOwes}
 use Rattle.st_laws_pages.specs.Disks.Pages.{CarriedRight}
-use Rattle.st_laws_pages.specs.Disks.World.{CutQuiet, OneCut, PagesHold, mapped_at}
-use Rattle.st_laws_pages.proofs.Lives.Lasting.{no_option}
+use Rattle.st_laws_pages.specs.Disks.World.{CutQuiet, PagesHold, mapped_at}
 use Rattle.st_laws_reads.specs.Copies.World.{receiving, receiving_of, taken}
 use Rattle.st_laws_reads.specs.AllClients.Events.{CutFree, MessageFree, OthersOwed, ReceiverFree, ServerFree, TurnFree}
 use Rattle.st_laws_reads.specs.AllClients.World.{CopiesHold}
@@ -46,11 +31,7 @@ use Rattle.st_laws_reads.proofs.AllClients.Cutting.{Seen, seen_all}
 use Rattle.st_laws_extents.specs.Submits.Obligations.{NoFrozenWrites}
 use Rattle.st_laws_extents.proofs.Submits.Others.{cut_apart}
 use Rattle.st_laws_extents.proofs.Submits.Taking.{MessageGives, ReceiverGives, ServerGives}
-
-has_cut : (f : FileId) (p : PageNo) (os : List Output) → OneCut f p os → Has (outputs.Note (notes.CutDone f p)) os
-has_cut f p [] h = absurd h
-has_cut f p (o ∷ os) (inl x) = inl (sym x.here)
-has_cut f p (o ∷ os) (inr x) = inr (has_cut f p os x.rest)
+use Rattle.st_laws_extents.proofs.Known.Moved.{noted}
 
 module _ (asks : ℕ → ℕ → Option Ask) (k : Config) (count : ℕ) (w : World) (h : WritesHold k count w) (open_ : OpenHold w) (copies : CopiesHold asks w) (pages_ : PagesHold w) where
   quiet : (f : FileId) (p : PageNo) → CutFree w f p → NoFrozenWrites w f → CutQuiet w f p
@@ -63,7 +44,7 @@ module _ (asks : ℕ → ℕ → Option Ask) (k : Config) (count : ℕ) (w : Wor
       there = by (node_of w tag.file.server) refl r.is
         where
           by : (o : Option ServerNode) → node_of w tag.file.server ≡ o → mapped_at tag.file tag.page o ≡ Some r.extent → (node : ServerNode) × (node_of w (world.server y.server.0) ≡ Some node)
-          by None q z = absurd (no_option r.extent z)
+          by None q z = absurd (none_not_some r.extent z)
           by (Some node) q z = (node, ap (λ (v : ServerId). node_of w v) r.server ∙ q)
 
       same : touches tag.file tag.page (hard_cut f p) ≡ true → f ≡ tag.file
@@ -100,7 +81,7 @@ module _ (asks : ℕ → ℕ → Option Ask) (k : Config) (count : ℕ) (w : Wor
       go (Ok t) free uncut =
           record {
             quiet = λ f p one.
-                let i = has_cut f p t.out one in
+                let i = noted f p t.out one in
                 quiet f p (counted_free f p (free f p i)) (uncut f p (seen_all f p s t.out (ev.quiet (ev.with_node s t.node (counted w))) (inr i)));
           }
 

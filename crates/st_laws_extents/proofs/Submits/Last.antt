@@ -1,37 +1,30 @@
 -- After the latest entry of a dirty page nothing of the page counts: through entries, through each change at one server, and as a command ends.
-use Rattle.std.proofs.Common.{◌≡◌, ℕ, suc, ◌+◌, ◌≤◌, Bool, true, false, ◌&&◌, ◌==◌, List, [], ◌∷◌, ◌++◌, Option, Some, None, refl, sym, ap, ◌∙◌, subst, arith, if◌then◌else◌}
-use Rattle.std.specs.Prelude.{find, length}
-use Rattle.std.proofs.lemmas.Bool.{eq-eqb, leb-false, ne_eqb}
-use Rattle.st_base.specs.declared.ids.ClientId.{ClientId}
-use Rattle.st_base.specs.declared.ids.FileId.{FileId}
-use Rattle.st_base.specs.declared.ids.Life.{Life}
-use Rattle.st_base.specs.declared.ids.PageNo.{PageNo}
-use Rattle.st_base.specs.declared.ids.ServerId.{ServerId}
-use Rattle.st_base.specs.declared.ids.Stamp.{Stamp}
-use Rattle.st_rules.specs.declared.client.PageCommand.{PageCommand}
+use Rattle.st_lemmas.proofs.Words
+use Words.{◌≡◌, ℕ, suc, ◌+◌, ◌≤◌, Bool, true, false, ◌&&◌, ◌==◌, List, [], ◌∷◌, ◌++◌, Option, Some, None, refl, sym, ap, ◌∙◌, subst, arith, find}
+use Words.{length, eq-eqb, leb-false, ne_eqb, ClientId, FileId, Life, PageNo, ServerId, Stamp, PageCommand, LogEntry, DirtyPage}
+use Words.changes
+use Words.Client as cl
+use Words.ClientPages as pages
+use Words.ClientPasses as cp
+use Words.ClientState.{Association, Turn}
+use Words.Events as ev
+use Words.Events.{latest}
+use Words.FlatLog as log
+use Words.FlatLog.{matters, owner}
+use Words.Keys.{put, same_client, same_file, same_page, same_server}
+use Words.Tables.{and_left}
+use Words.Numbers.{length_more}
 use Rattle.st_rules.specs.declared.log.Change as logged
-use Rattle.st_rules.specs.declared.log.Change.TheVariants as changes
-use Rattle.st_rules.specs.declared.log.LogEntry.{LogEntry}
-use Rattle.st_rules.specs.declared.pages.DirtyPage.{DirtyPage}
-use Rattle.st_rules.specs.Client as cl
-use Rattle.st_rules.specs.ClientPages as pages
-use Rattle.st_rules.specs.ClientPasses as cp
-use Rattle.st_rules.specs.ClientState.{Association, Turn}
-use Rattle.st_rules.specs.Events as ev
-use Rattle.st_rules.specs.Events.{latest, latest_at}
-use Rattle.st_rules.specs.FlatLog as log
-use Rattle.st_rules.specs.FlatLog.{matters, owner}
-use Rattle.st_rules.specs.Keys.{put, same_client, same_file, same_page, same_server}
 use Rattle.st_lemmas.proofs.Contents.{Place_is, one_place}
-use Rattle.st_lemmas.proofs.Tables.{and_both, and_left}
-use Rattle.st_laws_steps.specs.Client.Client.{Change, Says, Operates, Answers, Greets, TellsLost, Begins, Follows, Learns, Forgets, Caches, Writes, Reads, Submits}
+use Rattle.st_laws_steps.specs.Client.Client.{Change, Says, Operates, Answers, Greets, TellsLost, Begins, Follows, Learns, Forgets, Caches, Writes, Reads}
+use Rattle.st_laws_steps.specs.Client.Client.{Submits}
 use Rattle.st_laws_pages.specs.Flush.Flush.{file_at}
 use Rattle.st_laws_pages.specs.Disks.Folds.{LastIs}
 use Rattle.st_laws_steps.specs.Client.Losses.{Ends, Unknown, Passes, Hardens, Fails}
 use Rattle.st_laws_pages.proofs.Flush.Caring.{latest_stays}
 use Rattle.st_laws_steps.proofs.Client.Nexts.{dirty_put, failed_found, found_fewer}
-use Rattle.st_laws_pages.proofs.Disks.Writer.{latest_last}
 use Rattle.st_laws_extents.specs.Submits.Submits.{LatestLast}
+use Rattle.st_laws_pages.proofs.Causes.Latest.{entry_last, self_entry}
 
 -- Folds.
 pub last_all : (n i : ℕ) (f : FileId) (p : PageNo) (es : List LogEntry) → n + length es ≤ i + 1 → LastIs n i f p es
@@ -42,17 +35,8 @@ pub last_entry : (n i : ℕ) (f : FileId) (p : PageNo) (es : List LogEntry) (e :
 last_entry n i f p [] e m h = record { one = λ q. m; rest = record {} }
 last_entry n i f p (x ∷ es) e m h = record { one = h.one; rest = last_entry (n + 1) i f p es e m h.rest }
 
--- the number of a latest entry that is new
-entry_last : (c : ClientId) (f : FileId) (p : PageNo) (es : List LogEntry) (e : LogEntry) → ev.is_entry_of c f p e ≡ true → latest (es ++ e ∷ []) c f p ≡ suc (length es)
-unfolding latest latest_at
-entry_last c f p es e q = latest_last 1 0 c f p es e ∙ ap (λ b. if b then 1 + length es else latest es c f p) q ∙ (let z : 1 + length es ≡ suc (length es) = omega arith in z)
-
-length_one : {A : Type 0} (xs : List A) (x : A) → length (xs ++ x ∷ []) ≡ suc (length xs)
-length_one [] x = refl
-length_one (y ∷ xs) x = ap suc (length_one xs x)
-
 pub last_own : (c : ClientId) (f : FileId) (p : PageNo) (es : List LogEntry) (e : LogEntry) → ev.is_entry_of c f p e ≡ true → LastIs 1 (latest (es ++ e ∷ []) c f p) f p (es ++ e ∷ [])
-last_own c f p es e q = subst (λ i. LastIs 1 i f p (es ++ e ∷ [])) (sym (entry_last c f p es e q)) (last_all 1 (suc (length es)) f p (es ++ e ∷ []) (let z = length_one es e in omega (arith, z)))
+last_own c f p es e q = subst (λ i. LastIs 1 i f p (es ++ e ∷ [])) (sym (entry_last c f p es e q)) (last_all 1 (suc (length es)) f p (es ++ e ∷ []) (let z = length_more es e in omega (arith, z)))
 
 pub last_other : (c : ClientId) (f : FileId) (p : PageNo) (es : List LogEntry) (e : LogEntry) → ev.is_entry_of c f p e ≡ false → matters f p e ≡ false → LastIs 1 (latest es c f p) f p es → LastIs 1 (latest (es ++ e ∷ []) c f p) f p (es ++ e ∷ [])
 last_other c f p es e q m h = subst (λ i. LastIs 1 i f p (es ++ e ∷ [])) (sym (latest_stays c f p es e q)) (last_entry 1 (latest es c f p) f p es e m h)
@@ -84,11 +68,6 @@ pub record AddsOne (c : ClientId) (t : Turn) (f : FileId) (p : PageNo) (es gs : 
 abbrev pub Logs : (c : ClientId) (now : Stamp) (t u : Turn) → Change now t u → (es gs : List LogEntry) → Type 0
 Logs c now t _ (Writes _ s f p bytes n e sv own m h) es gs = AddsOne c t f p es gs
 Logs c now t u ch es gs = gs ≡ es
-
-self_entry : (c : ClientId) (a : Association) (f : FileId) (p : PageNo) (ch : logged.Change) → f.server ≡ a.server → ev.is_entry_of c (file_at a f.ino) p (log.pending (owner c a.life f p) ch) ≡ true
-self_entry c a f p ch sv =
-    and_both (same_client c c) _ (eq-eqb c.0 c.0 refl)
-    (and_both (same_file f (file_at a f.ino)) (same_page p p) (and_both (same_server f.server a.server) (f.ino == f.ino) (eq-eqb f.server.0 a.server.0 (ap (λ (s : ServerId). s.0) sv)) (eq-eqb f.ino f.ino refl)) (eq-eqb p.0 p.0 refl))
 
 last_written : (c : ClientId) (a : Association) (f : FileId) (p : PageNo) (bytes : List ℕ) (cs : List PageCommand) (es : List LogEntry) (ch : logged.Change) → ev.changes_page ch ≡ true → f.server ≡ a.server → LatestLast c es a →
     LatestLast c (es ++ log.pending (owner c a.life f p) ch ∷ []) (record a { store = record a.store { pages = pages.written a.store.pages f.ino p bytes; commands = cs } })

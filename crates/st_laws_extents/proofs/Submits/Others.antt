@@ -1,54 +1,34 @@
 -- After the latest entries of dirty pages nothing of the page counts, through each event at which no client takes an input.
-use Rattle.std.proofs.Common.{◌≡◌, ◌≢◌, ℕ, ◌+◌, ◌≤◌, ◌⊎◌, Bool, true, false, ◌&&◌, List, [], ◌∷◌, ◌++◌, Option, Some, None, Ok, Err, refl, sym, ap, ◌∙◌, subst, inl, inr, arith, if◌then◌else◌}
-use Rattle.std.specs.Prelude.{Result, map, nat_le}
-use Rattle.std.proofs.lemmas.Bool.{eqb-true, leb-true, ne_eqb}
-use Rattle.st_base.specs.declared.ids.ClientId.{ClientId}
-use Rattle.st_base.specs.declared.ids.FileId.{FileId}
-use Rattle.st_base.specs.declared.ids.NodeId.{NodeId}
-use Rattle.st_base.specs.declared.ids.NodeId.TheVariants as nodes
-use Rattle.st_base.specs.declared.ids.PageNo.{PageNo}
-use Rattle.st_base.specs.declared.ids.ServerId.{ServerId}
-use Rattle.st_base.specs.declared.ids.Stamp.{Stamp}
-use Rattle.st_messages.specs.declared.ask.Ask.{Ask}
-use Rattle.st_messages.specs.declared.event.Event.{Event}
-use Rattle.st_messages.specs.declared.event.Event.TheVariants as events
-use Rattle.st_messages.specs.declared.message.Message.{Message}
-use Rattle.st_messages.specs.declared.output.Note.{Note}
-use Rattle.st_messages.specs.declared.output.Note.TheVariants as notes
-use Rattle.st_messages.specs.declared.output.Output.{Output}
-use Rattle.st_messages.specs.declared.output.Output.TheVariants as outputs
-use Rattle.st_rules.specs.declared.client.ClientInput.TheVariants as inputs
-use Rattle.st_rules.specs.declared.input.ServerInput.{ServerInput}
-use Rattle.st_rules.specs.declared.input.ServerInput.TheVariants as serving
-use Rattle.st_rules.specs.declared.log.Cause.{Cause}
-use Rattle.st_rules.specs.declared.log.Fate.{Fate}
-use Rattle.st_rules.specs.declared.log.Fate.TheVariants as fates
-use Rattle.st_rules.specs.declared.log.LogEntry.{LogEntry}
-use Rattle.st_rules.specs.declared.log.LogOwner.{LogOwner}
-use Rattle.st_rules.specs.declared.node.StepRefusal.{StepRefusal}
-use Rattle.st_rules.specs.declared.pages.DirtyPage.{DirtyPage}
-use Rattle.st_rules.specs.declared.world.Carried.{Carried}
-use Rattle.st_rules.specs.declared.world.IssuedCommand.{IssuedCommand}
-use Rattle.st_rules.specs.declared.world.LeaseLife.{LeaseLife}
-use Rattle.st_rules.specs.declared.world.SentMessage.{SentMessage}
-use Rattle.st_rules.specs.Client as cl
-use Rattle.st_rules.specs.ClientPages as pages
-use Rattle.st_rules.specs.ClientState.{Association, ClientSession}
-use Rattle.st_rules.specs.Disks as disks
-use Rattle.st_rules.specs.Events as ev
-use Rattle.st_rules.specs.Events.{happens, latest}
-use Rattle.st_rules.specs.FlatLog as log
-use Rattle.st_rules.specs.FlatLog.{hard_cut, matters, touches}
-use Rattle.st_rules.specs.Keys.{client, same_file}
-use Rattle.st_rules.specs.Server as server
-use Rattle.st_rules.specs.Server.{ServerNode}
-use Rattle.st_rules.specs.World as world
-use Rattle.st_rules.specs.World.{World, WorldClient, clock_of, issued_of, message_of, node_of, numbered, receiver_of, site_of, with_numbered}
-use Rattle.st_lemmas.specs.Lists.{Has}
-use Rattle.st_lemmas.proofs.Lookups.{some_is}
+use Rattle.st_lemmas.proofs.Words
+use Words.{◌≡◌, ◌≢◌, ℕ, ◌+◌, ◌≤◌, ◌⊎◌, Bool, true, false, ◌&&◌, List, [], ◌∷◌, ◌++◌, Option, Some, None, Ok, Err, refl, sym, ap, ◌∙◌, subst, inl, inr, arith}
+use Words.{if◌then◌else◌, Result, map, nat_le, eqb-true, leb-true, ne_eqb, ClientId, FileId, NodeId, PageNo, ServerId, Stamp, Ask, Event, Message, Note, Output}
+use Words.{ServerInput, Cause, Fate, LogEntry, LogOwner, StepRefusal, DirtyPage, Carried, IssuedCommand, LeaseLife, SentMessage}
+use Words.nodes
+use Words.events
+use Words.notes
+use Words.outputs
+use Words.inputs
+use Words.serving
+use Words.fates
+use Words.Client as cl
+use Words.ClientPages as pages
+use Words.ClientState.{Association, ClientSession}
+use Words.Disks as disks
+use Words.Events as ev
+use Words.Events.{happens, latest}
+use Words.FlatLog as log
+use Words.FlatLog.{hard_cut, matters, touches}
+use Words.Keys.{client, same_file}
+use Words.Server as server
+use Words.Server.{ServerNode}
+use Words.World as world
+use Words.World.{World, WorldClient, clock_of, issued_of, message_of, node_of, numbered, receiver_of, site_of, with_numbered}
+use Words.Lists.{Has}
+use Words.Lookups.{some_is}
+use Words.Numbers.{numbered_below, numbered_other, numbered_own}
+use Words.Tables.{and_true, has_map, same_or_not}
+use Words.Truth.{some_not_none}
 use Rattle.st_lemmas.proofs.Marks.{of_entry}
-use Rattle.st_lemmas.proofs.Numbers.{numbered_below, numbered_other, numbered_own}
-use Rattle.st_lemmas.proofs.Tables.{and_true, has_map, same_or_not}
 use Rattle.st_laws_refine.specs.Views.Halves.{held_in}
 use Rattle.st_laws_refine.specs.Client.Invariants.{Lasts}
 use Rattle.st_laws_pages.specs.Flush.Flush.{file_at}
@@ -243,21 +223,18 @@ module _ (asks : ℕ → ℕ → Option Ask) (w : World) (copies : CopiesHold as
   unfolding ev.delivers_to ev.at_client
   receiver_last m (nodes.Client c) e g h = go (site_of w c) e
     where
-      none_some : {A : Type 0} (x : A) → ◌≡◌ {A = Option A} (Some x) None → ⊥
-      none_some x e = cc
+      some_not_none : {A : Type 0} (x : A) → ◌≡◌ {A = Option A} (Some x) None → ⊥
+      some_not_none x e = cc
 
       go : (o : Option WorldClient) → taking w c (inputs.Control m) o ≡ None → LastIn (ev.at_client w c (inputs.Control m) o).world (ev.at_client w c (inputs.Control m) o).world.log
       go None e = h
-      go (Some site) e = absurd (none_some _ e)
+      go (Some site) e = absurd (some_not_none _ e)
   receiver_last m (nodes.Server s) e g h = server_last s (serving.Control m) (node_of w s) g h
 
   message_last : (o : Option SentMessage) → receiving_of w o ≡ None → MessageFree w o → LastIn w w.log → LastIn (ev.delivers w o).world (ev.delivers w o).world.log
   unfolding ev.delivers
   message_last None e g h = h
   message_last (Some m) e g h = receiver_last m.message (receiver_of m) e g h
-
-none_some : {A : Type 0} (x : A) → ◌≡◌ {A = Option A} (Some x) None → ⊥
-none_some x e = cc
 
 -- A client that stops or starts has nothing dirty.
 swapped : (w v : World) (c : ClientId) (old new : WorldClient) (fs : List LogEntry) → site_of w c ≡ Some old → v.clients ≡ with_numbered c.0 new w.clients → v.clocks ≡ w.clocks → Fewer w.log fs →
@@ -302,13 +279,13 @@ others_last asks w (events.Tick (nodes.Client c)) copies t o h = go (site_of w c
   where
     go : (s : Option WorldClient) → taking w c inputs.Tick s ≡ None → LastIn (ev.at_client w c inputs.Tick s).world (ev.at_client w c inputs.Tick s).world.log
     go None t = h
-    go (Some site) t = absurd (none_some _ t)
+    go (Some site) t = absurd (some_not_none _ t)
 others_last asks w (events.Tick (nodes.Server s)) copies t o h = server_last asks w copies s serving.Tick (node_of w s) o h
 others_last asks w (events.App c ask) copies t o h = go (site_of w c) t
   where
     go : (s : Option WorldClient) → asking w c ask s ≡ None → LastIn (ev.asks_at w c ask s).world (ev.asks_at w c ask s).world.log
     go None t = h
-    go (Some site) t = absurd (none_some _ t)
+    go (Some site) t = absurd (some_not_none _ t)
 others_last asks w (events.Deliver n) copies t o h = message_last asks w copies (message_of w n) t o h
 others_last asks w (events.Lose n) copies t o h = go (message_of w n)
   where
@@ -330,7 +307,7 @@ others_last asks w (events.Report n ok) copies t o h = go (issued_of w n) t
     by : (y : IssuedCommand) (site : WorldClient) (b : Bool) → (if b then taking (ev.with_disks (ev.disks_after w.disks (disks.done w.disks n ok)) w) y.client (ev.end_told (ev.with_disks (ev.disks_after w.disks (disks.done w.disks n ok)) w) n ok y) (Some site) else None) ≡ None →
         LastIn (if b then ev.client_takes (ev.with_disks (ev.disks_after w.disks (disks.done w.disks n ok)) w) y.client (ev.end_told (ev.with_disks (ev.disks_after w.disks (disks.done w.disks n ok)) w) n ok y) site else ev.quiet (ev.with_disks (ev.disks_after w.disks (disks.done w.disks n ok)) w)).world
         (if b then ev.client_takes (ev.with_disks (ev.disks_after w.disks (disks.done w.disks n ok)) w) y.client (ev.end_told (ev.with_disks (ev.disks_after w.disks (disks.done w.disks n ok)) w) n ok y) site else ev.quiet (ev.with_disks (ev.disks_after w.disks (disks.done w.disks n ok)) w)).world.log
-    by y site true t = absurd (none_some _ t)
+    by y site true t = absurd (some_not_none _ t)
     by y site false t = h_v
 
     at : (y : IssuedCommand) (s : Option WorldClient) → told_at (ev.with_disks (ev.disks_after w.disks (disks.done w.disks n ok)) w) n ok y s ≡ None → LastIn (ev.tells_client (ev.with_disks (ev.disks_after w.disks (disks.done w.disks n ok)) w) n ok y s).world (ev.tells_client (ev.with_disks (ev.disks_after w.disks (disks.done w.disks n ok)) w) n ok y s).world.log

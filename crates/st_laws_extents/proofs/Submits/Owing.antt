@@ -1,38 +1,25 @@
 -- Each write that a client's step submits is right, where its bytes are the page's and it goes to where the server has the page.
-use Rattle.std.proofs.Common.{◌≡◌, ℕ, ◌+◌, ◌%◌, true, List, [], ◌∷◌, ◌++◌, Option, Some, None, refl, sym, ap, ◌∙◌, subst, inl, inr, arith}
-use Rattle.std.specs.Prelude.{length, pred}
-use Rattle.st_base.specs.declared.disk.BlockAt.{BlockAt}
-use Rattle.st_base.specs.declared.disk.Command.{Command}
-use Rattle.st_base.specs.declared.disk.Command.TheVariants as commands
-use Rattle.st_base.specs.declared.disk.Tag.{Tag}
-use Rattle.st_base.specs.declared.ids.ClientId.{ClientId}
-use Rattle.st_base.specs.declared.ids.FileId.{FileId}
-use Rattle.st_base.specs.declared.ids.Life.{Life}
-use Rattle.st_base.specs.declared.ids.NodeId.TheVariants as nodes
-use Rattle.st_base.specs.declared.ids.PageNo.{PageNo}
-use Rattle.st_base.specs.declared.ids.ServerId.{ServerId}
-use Rattle.st_messages.specs.declared.ask.Ask.{Ask}
-use Rattle.st_messages.specs.declared.output.Note.{Note}
-use Rattle.st_messages.specs.declared.output.Note.TheVariants as notes
-use Rattle.st_messages.specs.declared.output.Output.{Output}
-use Rattle.st_messages.specs.declared.output.Output.TheVariants as outputs
-use Rattle.st_rules.specs.declared.client.ClientInput.{ClientInput}
-use Rattle.st_rules.specs.declared.log.LogEntry.{LogEntry}
-use Rattle.st_rules.specs.declared.log.LogOwner.{LogOwner}
-use Rattle.st_rules.specs.declared.world.IssuedCommand.{IssuedCommand}
-use Rattle.st_rules.specs.Client as cl
-use Rattle.st_rules.specs.ClientState.{Association, ClientState}
-use Rattle.st_rules.specs.Events as ev
-use Rattle.st_rules.specs.Events.{WorldTurn, client_says, client_says_all, present_life}
-use Rattle.st_rules.specs.FlatLog as log
-use Rattle.st_rules.specs.FlatLog.{owner}
-use Rattle.st_rules.specs.Keys.{client}
-use Rattle.st_rules.specs.Safety.{Step}
-use Rattle.st_rules.specs.World as world
-use Rattle.st_rules.specs.World.{World, WorldClient, clock_of, life_with, numbered, server_of_disk, site_of}
+use Rattle.st_lemmas.proofs.Words
+use Words.{◌≡◌, ℕ, ◌+◌, ◌%◌, true, List, [], ◌∷◌, ◌++◌, Option, Some, None, refl, sym, ap, ◌∙◌, subst, inl, inr, arith, length, pred, BlockAt, Command, Tag}
+use Words.{ClientId, FileId, Life, PageNo, ServerId, Ask, Note, Output, ClientInput, LogEntry, LogOwner, IssuedCommand}
+use Words.commands
+use Words.nodes
+use Words.notes
+use Words.outputs
+use Words.Client as cl
+use Words.ClientState.{Association, ClientState}
+use Words.Events as ev
+use Words.Events.{WorldTurn, client_says, client_says_all, present_life}
+use Words.FlatLog as log
+use Words.FlatLog.{owner}
+use Words.Keys.{client}
+use Words.Safety.{Step}
+use Words.World as world
+use Words.World.{World, WorldClient, clock_of, life_with, numbered, server_of_disk, site_of}
+use Words.Lists.{Has}
+use Words.Lookups.{some_is}
+use Words.Worlds.{says_both}
 use Rattle.st_protocol.specs.Assoc.{Config}
-use Rattle.st_lemmas.specs.Lists.{Has}
-use Rattle.st_lemmas.proofs.Lookups.{some_is}
 use Rattle.st_laws_refine.proofs.Client.World.{lives_same, told_one}
 use Rattle.st_laws_pages.specs.Flush.Flush.{FlushHold}
 use Rattle.st_laws_pages.specs.Disks.Folds.{CutsHard, OnlyOwn}
@@ -51,7 +38,7 @@ use Rattle.st_laws_pages.proofs.Writes.Listing.{write_said}
 use Rattle.st_laws_reads.specs.OpenWrites.StandStill.{WritesHold}
 use Rattle.st_laws_reads.proofs.OpenWrites.Alone as alone
 use Rattle.st_laws_reads.proofs.OpenWrites.Alone.{mine, sc0, t, v}
-use Rattle.st_laws_reads.proofs.OpenWrites.Growing.{grows_all, says_both}
+use Rattle.st_laws_reads.proofs.OpenWrites.Growing.{grows_all}
 use Rattle.st_laws_extents.specs.Submits.WritePlaces.{LiesAs}
 use Rattle.st_laws_extents.specs.Submits.Submits.{EachFine, FineOne, FineSubmit, FineWrite}
 

@@ -1,24 +1,19 @@
 -- A cut that another client asks finds no write of a life that a crash ended: beside the lock of a frozen life no other client has an exclusive row.
-use Rattle.std.proofs.Common.{◌≡◌, ◌≢◌, ℕ, ◌+◌, ◌<◌, ◌≤◌, ◌⊎◌, true, List, Some, refl, sym, ap, ◌∙◌, subst, inl, inr, arith}
+use Rattle.st_lemmas.proofs.Words
+use Words.{◌≡◌, ◌≢◌, ℕ, ◌+◌, ◌<◌, ◌≤◌, ◌⊎◌, true, List, Some, refl, sym, ap, ◌∙◌, subst, inl, inr, arith, BlockAt, Tag, FileId, PageNo, ServerId, IssuedCommand}
+use Words.nodes
+use Words.Events.{counted}
+use Words.World.{World, clock_of, end_or_present, lease_end_of, node_of, server}
+use Words.Tables.{same_or_not}
+use Words.Keys.{client}
+use Words.Sessions as sessions
 use Rattle.st_base.specs.Mode.{number_of}
-use Rattle.st_base.specs.declared.disk.BlockAt.{BlockAt}
-use Rattle.st_base.specs.declared.disk.Tag.{Tag}
-use Rattle.st_base.specs.declared.ids.FileId.{FileId}
-use Rattle.st_base.specs.declared.ids.NodeId.TheVariants as nodes
-use Rattle.st_base.specs.declared.ids.PageNo.{PageNo}
-use Rattle.st_base.specs.declared.ids.ServerId.{ServerId}
-use Rattle.st_rules.specs.declared.world.IssuedCommand.{IssuedCommand}
-use Rattle.st_rules.specs.Events.{counted}
-use Rattle.st_rules.specs.World.{World, clock_of, end_or_present, lease_end_of, node_of, server}
 use Rattle.st_protocol.specs.Assoc as net
 use Rattle.st_protocol.specs.Assoc.{Alive, Assoc, ByHeld, ByRow, Client, Config, ConfigOk, Frozen, InService, Row, upd}
 use Rattle.st_protocol.proofs.Claims.{in_service}
 use Rattle.st_protocol.proofs.Lists.{upd-same}
 use Rattle.st_protocol.proofs.World as assoc
-use Rattle.st_lemmas.proofs.Tables.{same_or_not}
 use Rattle.st_laws_refine.specs.Views.Halves.{life_view, live_view, row_or, row_view}
-use Rattle.st_rules.specs.Keys.{client}
-use Rattle.st_rules.specs.Sessions as sessions
 use Rattle.st_laws_extents.proofs.CutRequests.Standing.{meets}
 use Rattle.st_laws_refine.specs.Server.Pair.{client_in, stamp_number}
 use Rattle.st_laws_pages.specs.Disks.World.{Living, Timely}
@@ -26,13 +21,14 @@ use Rattle.st_laws_leases.specs.Sides.World.{ServerStands}
 use Rattle.st_laws_reads.specs.FrozenLives.PendingEntries.{StoodLife}
 use Rattle.st_laws_reads.specs.FrozenLives.Frozen.{FrozenLife, LockedHalf, replaced, stood}
 use Rattle.st_laws_leases.specs.Sides.Paths.{pairs_of}
-use Rattle.st_laws_reads.proofs.FrozenLives.Stepping.{clock_there, site_there}
+use Rattle.st_laws_reads.proofs.FrozenLives.Stepping.{site_there}
 use Rattle.st_laws_reads.proofs.FrozenLives.Walks.{row_same, up_same}
 use Rattle.st_laws_extents.specs.CutRequests.Cut.{CutIn}
 use Rattle.st_laws_reads.specs.OpenWrites.StandStill.{OverOrStill, WritesHold, writer}
-use Rattle.st_laws_reads.proofs.OpenWrites.Cases.{timely_end}
 use Rattle.st_laws_extents.specs.Submits.Obligations.{NoFrozenWrites, NoOwnWrites}
-use Rattle.st_laws_reads.proofs.AllClients.Cutting.{frozen_or_not}
+use Rattle.st_laws_reads.proofs.OpenWrites.Locked.{timely_end}
+use Rattle.st_laws_refine.proofs.Server.Late.{clock_in}
+use Rattle.st_protocol.proofs.World.{frozen_or_not}
 
 module _ (k : Config) (c i : ℕ) (C : Client) (W : net.World) (ok : ConfigOk k) (locked : LockedHalf C i) (lasts : (W.at c).c.clock < C.date + k.lease) (f : FrozenLife k c C.life C W) where
   st : assoc.All k (replaced W c (stood C f.begun f.messages (W.at c)))
@@ -105,7 +101,7 @@ uncut_by k count w h f p c served own n y at tag bytes l e row q crash = go (sam
     clock : (clock_of w (nodes.Client y.client)).0 < z.end.0 → (s : StoodLife k w y.server.0 c.node (h.all.servers y.server.0 c.node there) row (writer y tag)) → (client_in w y.client.0 y.server.0 ((h.all.servers y.server.0 c.node there).ended y.client.0)).clock < s.half.date + k.lease
     clock b s =
         let x = site_there w h.all.fates.lives (writer y tag) row q in
-        let t = clock_there w y.client.0 y.server.0 ((h.all.servers y.server.0 c.node there).ended y.client.0) x.0 x.1 in
+        let t = clock_in w y.client.0 y.server.0 ((h.all.servers y.server.0 c.node there).ended y.client.0) x.0 x.1 in
         let g = ap stamp_number z.is in
         let o = s.end in omega (arith, t, b, g, o)
 

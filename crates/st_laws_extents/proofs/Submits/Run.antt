@@ -1,36 +1,28 @@
 -- What is on the disks throughout a run.
-use Rattle.std.proofs.Common.{◌≡◌, ℕ, zero, suc, ◌+◌, Bool, true, false, List, [], ◌∷◌, ◌++◌, Option, Some, None, Ok, Err, refl, sym, ap, ◌∙◌, subst, if◌then◌else◌}
-use Rattle.std.specs.Prelude.{Result, length}
-use Rattle.std.specs.List.{list_all}
+use Rattle.st_lemmas.proofs.Words
+use Words.{◌≡◌, ℕ, zero, suc, ◌+◌, Bool, true, false, List, [], ◌∷◌, ◌++◌, Option, Some, None, Ok, Err, refl, sym, ap, ◌∙◌, subst, if◌then◌else◌, Result}
+use Words.{length, list_all, ClientId, FileId, PageNo, Event, WorldRefusal, IssuedCommand}
+use Words.nodes
+use Words.events
+use Words.seen
+use Words.Client as cl
+use Words.ClientPages as pages
+use Words.Events as ev
+use Words.Events.{WorldTurn, counted, happens, world_step}
+use Words.History.{Traced, traced, traced_after}
+use Words.Safety as safety
+use Words.Safety.{Promise, Step, Throughout, is_event, step, steps}
+use Words.World as world
+use Words.World.{World, WorldClient, fresh_world, numbered, site_of, site_runs}
+use Words.Lists.{Has}
+use Words.Tables.{and_true}
+use Words.ClientState.{Association}
 use Rattle.st_base.specs.declared.config.Config as base
-use Rattle.st_base.specs.declared.ids.ClientId.{ClientId}
-use Rattle.st_base.specs.declared.ids.FileId.{FileId}
-use Rattle.st_base.specs.declared.ids.NodeId.TheVariants as nodes
-use Rattle.st_base.specs.declared.ids.PageNo.{PageNo}
-use Rattle.st_messages.specs.declared.event.Event.{Event}
-use Rattle.st_messages.specs.declared.event.Event.TheVariants as events
 use Rattle.st_rules.specs.declared.node.StepRefusal.TheVariants.{Crashed}
-use Rattle.st_rules.specs.declared.observation.Observation.TheVariants as seen
-use Rattle.st_rules.specs.declared.observation.WorldRefusal.{WorldRefusal}
-use Rattle.st_rules.specs.declared.world.IssuedCommand.{IssuedCommand}
-use Rattle.st_rules.specs.Admissible as adm
-use Rattle.st_rules.specs.Client as cl
-use Rattle.st_rules.specs.ClientPages as pages
-use Rattle.st_rules.specs.Events as ev
-use Rattle.st_rules.specs.Events.{WorldTurn, counted, happens, world_step}
-use Rattle.st_rules.specs.History.{Traced, traced, traced_after}
-use Rattle.st_rules.specs.Safety as safety
-use Rattle.st_rules.specs.Safety.{Promise, Step, Throughout, is_event, step, steps}
-use Rattle.st_rules.specs.World as world
-use Rattle.st_rules.specs.World.{World, WorldClient, fresh_world, numbered, site_of, site_runs}
 use Rattle.st_protocol.specs.Assoc.{Config}
-use Rattle.st_lemmas.specs.Lists.{Has}
 use Rattle.st_lemmas.proofs.Steps.{step_happens}
-use Rattle.st_lemmas.proofs.Tables.{and_true}
 use Rattle.st_laws_pages.specs.Disks.World.{PagesHold}
-use Rattle.st_laws_pages.proofs.Disks.Effects.{or_none, stands_not}
-use Rattle.st_lemmas.proofs.Tables.{not_false}
-use Rattle.st_laws_pages.proofs.Disks.Steps.{law as pages_law}
+use Rattle.st_laws_pages.proofs.Disks.Steps.{steps_keep_pages as pages_law}
 use Rattle.st_laws_pages.proofs.Disks.Whole.{fresh_holds}
 use Rattle.st_laws_pages.specs.Asks.Law.{PlacesAfter}
 use Rattle.st_laws_refine.specs.Server.Pair.{terms_of}
@@ -43,7 +35,6 @@ use Rattle.st_laws_reads.specs.Copies.World.{Taking, taken}
 use Rattle.st_laws_reads.specs.AllClients.Events.{FrozenStandAlone, OthersOwed}
 use Rattle.st_laws_reads.specs.AllClients.Obligations.{OthersLeft}
 use Rattle.st_laws_reads.specs.AllClients.Runs.{TakenOwed}
-use Rattle.st_rules.specs.ClientState.{Association}
 use Rattle.st_laws_reads.specs.AllClients.World.{AllThere, CopiesHold, TakingOwed}
 use Rattle.st_laws_reads.proofs.AllClients.Cleared.{clear_step}
 use Rattle.st_laws_reads.proofs.AllClients.Cutting.{others_owed}
@@ -71,6 +62,7 @@ use Rattle.st_laws_extents.proofs.Submits.Others.{last_still, others_last}
 use Rattle.st_laws_extents.proofs.Submits.Rows.{uncut_by}
 use Rattle.st_laws_extents.proofs.Submits.Taking.{Gives, owed_of, taken_in}
 use Rattle.st_laws_pages.proofs.Causes.Placed.{places_at}
+use Rattle.st_laws_reads.proofs.AllClients.Others.{crash_runs}
 
 -- What holds after the steps of a run.
 pub record PagesStand (k : Config) (count : ℕ) (past : List Step) (t : Traced) : Type 0 where
@@ -80,11 +72,6 @@ pub record PagesStand (k : Config) (count : ℕ) (past : List Step) (t : Traced)
   pub open_ : OpenHold t.world
   pub last : LastIn t.world t.world.log
   pub pages : PagesHold t.world
-
--- a client that crashes runs
-crash_runs : (w : World) (c : ClientId) → adm.refusal w (events.Crash (nodes.Client c)) ≡ None → site_runs (site_of w c) ≡ true
-unfolding adm.refusal
-crash_runs w c r = not_false _ (stands_not _ _ (or_none _ _ r).1)
 
 counted_alone : (w : World) → FrozenStandAlone w → FrozenStandAlone (counted w)
 counted_alone w o e i p el d other run = o e i p (λ c site a r h q. el c site a (record { there = r.there; runs = r.runs }) h q) d other (record { there = run.there; runs = run.runs })

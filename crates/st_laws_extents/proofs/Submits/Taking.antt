@@ -1,34 +1,26 @@
 -- Where a client takes an input: the world in which it does, and what it leaves.
-use Rattle.std.proofs.Common.{◌≡◌, ◌≢◌, ℕ, zero, suc, ◌+◌, ◌⊎◌, Bool, true, false, [], Option, Some, None, Ok, Err, refl, sym, ap, ◌∙◌, subst, inl, inr, if◌then◌else◌}
-use Rattle.std.specs.Prelude.{length}
-use Rattle.st_base.specs.declared.ids.ClientId.{ClientId}
-use Rattle.st_base.specs.declared.ids.NodeId.{NodeId}
-use Rattle.st_base.specs.declared.ids.NodeId.TheVariants as nodes
-use Rattle.st_messages.specs.declared.event.Event.{Event}
-use Rattle.st_messages.specs.declared.event.Event.TheVariants as events
-use Rattle.st_messages.specs.declared.message.Message.{Message}
-use Rattle.st_rules.specs.declared.client.ClientInput.{ClientInput}
-use Rattle.st_rules.specs.declared.client.ClientInput.TheVariants as inputs
+use Rattle.st_lemmas.proofs.Words
+use Words.{◌≡◌, ◌≢◌, ℕ, zero, suc, ◌+◌, ◌⊎◌, Bool, true, false, Option, Some, None, Ok, Err, refl, sym, ap, ◌∙◌, subst, inl, inr, if◌then◌else◌, length}
+use Words.{ClientId, NodeId, Event, Message, ClientInput, DiskCommand, Report, IssuedCommand, SentMessage}
+use Words.nodes
+use Words.events
+use Words.inputs
+use Words.reports
+use Words.serving
+use Words.Client as cl
+use Words.Disks as disks
+use Words.Disks.{Disks}
+use Words.Events as ev
+use Words.World.{World, WorldClient, clock_of, issued_of, message_of, node_of, receiver_of, site_of}
+use Words.Lists.{Has}
+use Words.Lookups.{some_is}
+use Words.Numbers.{numbered_has, set_length}
 use Rattle.st_rules.specs.declared.disks.CommandRefusal.TheVariants as refusals
-use Rattle.st_rules.specs.declared.disks.DiskCommand.{DiskCommand}
-use Rattle.st_rules.specs.declared.disks.Report.{Report}
-use Rattle.st_rules.specs.declared.disks.Report.TheVariants as reports
-use Rattle.st_rules.specs.declared.input.ServerInput.TheVariants as serving
-use Rattle.st_rules.specs.declared.world.IssuedCommand.{IssuedCommand}
-use Rattle.st_rules.specs.declared.world.SentMessage.{SentMessage}
-use Rattle.st_rules.specs.Client as cl
-use Rattle.st_rules.specs.Disks as disks
-use Rattle.st_rules.specs.Disks.{Disks}
-use Rattle.st_rules.specs.Events as ev
-use Rattle.st_rules.specs.World as world
-use Rattle.st_rules.specs.World.{World, WorldClient, clock_of, issued_of, message_of, node_of, receiver_of, site_of}
-use Rattle.st_lemmas.specs.Lists.{Has}
-use Rattle.st_lemmas.proofs.Lookups.{some_is}
-use Rattle.st_lemmas.proofs.Numbers.{numbered_has, set_length}
 use Rattle.st_laws_pages.specs.Disks.Obligations.{AtClient, AtAsk, AtDelivery, AtNode, AtReport, AtServer, AtTold, NodeOwes, Owed}
 use Rattle.st_laws_pages.proofs.Disks.World.{at_set}
 use Rattle.st_laws_pages.proofs.Causes.Placed.{InputTells, PlacesAt}
 use Rattle.st_laws_reads.specs.Copies.World.{Taking, asking, receiving, receiving_of, taken, taking, told_at, told_of}
+use Rattle.st_laws_pages.proofs.Disks.Opens.{shut}
 
 -- A command except for its report was there.
 pub record WasCommand (ds : Disks) (k : ℕ) (c : DiskCommand) : Type 0 where
@@ -45,10 +37,6 @@ pub record SameOpen (ds es : Disks) : Type 0 where
 
 same_disks : (ds : Disks) → SameOpen ds ds
 same_disks ds = record { count = refl; same = λ k c i o. i; was = λ k c i. record { command = c; is = i; what = refl; sample = refl } }
-
-shut : (ok : Bool) → disks.report_of ok ≡ reports.Open → ⊥
-shut true e = cc
-shut false e = cc
 
 pub report_open : (d : Disks) (n : ℕ) (ok : Bool) → SameOpen d (ev.disks_after d (disks.done d n ok))
 unfolding disks.done disks.done_at disks.done_unreported disks.done_once

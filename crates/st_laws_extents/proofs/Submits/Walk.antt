@@ -1,39 +1,30 @@
 -- All associations of a client, through changes at one of its servers, in the world after the outputs so far: the latest entries of dirty pages, and what each
 -- write that was submitted carries.
-use Rattle.std.proofs.Common.{◌≡◌, ℕ, ◌+◌, ◌%◌, ◌⊎◌, Bool, true, List, [], ◌∷◌, ◌++◌, Option, Some, None, refl, sym, ap, ◌∙◌, subst, inl, inr}
-use Rattle.std.specs.Prelude.{length, map, pred, slice_get}
-use Rattle.st_base.specs.declared.disk.BlockAt.{BlockAt}
-use Rattle.st_base.specs.declared.disk.Command.{Command}
-use Rattle.st_base.specs.declared.disk.Command.TheVariants as commands
-use Rattle.st_base.specs.declared.disk.Tag.{Tag}
-use Rattle.st_base.specs.declared.ids.ClientId.{ClientId}
-use Rattle.st_base.specs.declared.ids.FileId.{FileId}
-use Rattle.st_base.specs.declared.ids.PageNo.{PageNo}
-use Rattle.st_base.specs.declared.ids.ServerId.{ServerId}
-use Rattle.st_base.specs.declared.ids.Stamp.{Stamp}
-use Rattle.st_messages.specs.declared.answer.AppAnswer.{AppAnswer}
-use Rattle.st_messages.specs.declared.output.Note.{Note}
-use Rattle.st_messages.specs.declared.output.Note.TheVariants as notes
-use Rattle.st_messages.specs.declared.output.Output.{Output}
-use Rattle.st_messages.specs.declared.output.Output.TheVariants as outputs
-use Rattle.st_rules.specs.declared.client.Operation.{Operation}
-use Rattle.st_rules.specs.declared.log.LogEntry.{LogEntry}
-use Rattle.st_rules.specs.Client as cl
-use Rattle.st_rules.specs.ClientPages as pages
-use Rattle.st_rules.specs.ClientPasses as cp
-use Rattle.st_rules.specs.ClientState.{Association, ClientState, ClientTurn, Turn, answer_to, enter, leave, at_these, at_each, with_associations}
-use Rattle.st_rules.specs.Events as ev
-use Rattle.st_rules.specs.Events.{WorldTurn, client_notes, client_says, client_says_all}
-use Rattle.st_rules.specs.FlatLog as log
-use Rattle.st_rules.specs.World as world
-use Rattle.st_rules.specs.World.{World, WorldClient, life_with, server_of_disk, site_of}
-use Rattle.st_lemmas.specs.Lists.{Has}
-use Rattle.st_lemmas.proofs.Lookups.{some_is}
-use Rattle.st_lemmas.proofs.Numbers.{get_last}
-use Rattle.st_laws_steps.specs.Client.Client.{Change, Changes, ChangesPage, Plain, Still, Then, Says, Operates, Answers, Greets, TellsLost, Begins, Follows, Learns, Forgets, Caches, Writes, Reads, Submits}
+use Rattle.st_lemmas.proofs.Words
+use Words.{◌≡◌, ℕ, ◌+◌, ◌%◌, ◌⊎◌, Bool, true, List, [], ◌∷◌, ◌++◌, Option, Some, None, refl, sym, ap, ◌∙◌, subst, inl, inr, length, map, pred, slice_get}
+use Words.{BlockAt, Command, Tag, ClientId, FileId, PageNo, ServerId, Stamp, AppAnswer, Note, Output, Operation, LogEntry}
+use Words.commands
+use Words.notes
+use Words.outputs
+use Words.Client as cl
+use Words.ClientPages as pages
+use Words.ClientPasses as cp
+use Words.ClientState.{Association, ClientState, ClientTurn, Turn, answer_to, enter, leave, at_these, at_each, with_associations}
+use Words.Events as ev
+use Words.Events.{WorldTurn, client_notes, client_says, client_says_all}
+use Words.FlatLog as log
+use Words.World as world
+use Words.World.{World, WorldClient, life_with, server_of_disk, site_of}
+use Words.Lists.{Has}
+use Words.Lookups.{some_is}
+use Words.Numbers.{get_last}
+use Words.Members.{has_last}
+use Words.Worlds.{says_both}
+use Rattle.st_laws_steps.specs.Client.Client.{Change, Changes, ChangesPage, Plain, Still, Then, Says, Operates, Answers, Greets, TellsLost, Begins, Follows}
+use Rattle.st_laws_steps.specs.Client.Client.{Learns, Forgets, Caches, Writes, Reads, Submits}
 use Rattle.st_laws_steps.specs.Lives.Lives.{Once, server_number}
 use Rattle.st_laws_steps.specs.Client.Losses.{Fit, Ends, Unknown, Passes, Hardens, Fails}
-use Rattle.st_laws_pages.proofs.Flush.Adding.{Grows, After, grows_none, grows_then, says_append}
+use Rattle.st_laws_pages.proofs.Flush.Adding.{Grows, After, grows_none, grows_then}
 use Rattle.st_laws_pages.proofs.Flush.Growing.{Adds}
 use Rattle.st_laws_pages.proofs.Flush.Keeping.{OfOthers}
 use Rattle.st_laws_steps.proofs.Client.Losing.{Finished, rest_of}
@@ -75,10 +66,6 @@ read_fine : (w : World) (c : ClientId) (o : Option WorldClient) (at to : BlockAt
 read_fine w c None at to = tt
 read_fine w c (Some site) at to = tt
 
-has_last : {A : Type 0} (xs : List A) (x : A) → Has x (xs ++ x ∷ [])
-has_last [] x = inl refl
-has_last (z ∷ zs) x = inr (has_last zs x)
-
 same_change : (es : List LogEntry) (x y : LogEntry) (gs : List LogEntry) → gs ≡ es ++ x ∷ [] → gs ≡ es ++ y ∷ [] → x.change ≡ y.change
 same_change es x y gs a b = ap (λ (e : LogEntry). e.change) (some_is (sym (get_last es x) ∙ ap (λ z. slice_get z (length es)) (sym a ∙ b) ∙ get_last es y))
 
@@ -110,7 +97,7 @@ module _ (size : ℕ) (c : ClientId) (before : ClientState) (sc : WorldTurn) (si
   -- the log after one more output
   log_one : (os : List Output) (o : Output) → es (os ++ o ∷ []) ≡ (client_says (After c before sc os) c before o).world.log
   unfolding client_says_all
-  log_one os o = ap (λ (s : WorldTurn). s.world.log) (says_append c before os (o ∷ []) sc)
+  log_one os o = ap (λ (s : WorldTurn). s.world.log) (says_both c before os (o ∷ []) sc)
 
   -- a page is changed by a write or a patch
   entry_kind : (t : Turn) (f : FileId) (p : PageNo) (n : Note) → ChangesPage f p n → (z : LogEntry) → es (t.out ++ outputs.Note n ∷ []) ≡ es t.out ++ z ∷ [] → ev.changes_page z.change ≡ true

@@ -1,34 +1,23 @@
 -- A map that found no block finds a page of zeros: nothing of the page is pending, and nothing stands for it.
-use Rattle.std.proofs.Common.{◌≡◌, ℕ, ◌≤◌, true, false, List, [], ◌∷◌, Option, Some, None, refl, sym, ap, ◌∙◌, subst, inl, inr}
-use Rattle.std.specs.Prelude.{is_some}
-use Rattle.st_base.specs.declared.ids.GrantNo.{GrantNo}
-use Rattle.st_base.specs.declared.ids.NodeId.TheVariants as nodes
-use Rattle.st_base.specs.declared.ids.PageNo.{PageNo}
-use Rattle.st_base.specs.declared.ids.Stamp.{Stamp}
-use Rattle.st_base.specs.Page.{filled}
-use Rattle.st_messages.specs.declared.ask.Ask.{Ask}
-use Rattle.st_messages.specs.declared.message.Body.{Body}
-use Rattle.st_messages.specs.declared.message.Body.TheVariants as bodies
-use Rattle.st_messages.specs.declared.message.Header.{Header}
-use Rattle.st_messages.specs.declared.message.Message.{Message}
-use Rattle.st_rules.specs.declared.client.ClientInput.{ClientInput}
-use Rattle.st_rules.specs.declared.client.ClientInput.TheVariants as inputs
-use Rattle.st_rules.specs.declared.client.HeldLock.{HeldLock}
-use Rattle.st_rules.specs.declared.client.Request.{Request}
-use Rattle.st_rules.specs.declared.log.LogEntry.{LogEntry}
-use Rattle.st_rules.specs.declared.pages.DirtyPage.{DirtyPage}
-use Rattle.st_rules.specs.Client as cl
-use Rattle.st_rules.specs.Client.{losses}
-use Rattle.st_rules.specs.ClientLocks as locks
-use Rattle.st_rules.specs.ClientPages as pages
-use Rattle.st_rules.specs.ClientReplies.{is_current, is_grant}
-use Rattle.st_rules.specs.ClientState.{Association, ClientSession, client_turn}
-use Rattle.st_rules.specs.Events.{WorldTurn, counted}
-use Rattle.st_rules.specs.Keys.{client, server_node}
-use Rattle.st_rules.specs.World.{World, clock_of, numbered, server}
+use Rattle.st_lemmas.proofs.Words
+use Words.{◌≡◌, ℕ, ◌≤◌, true, false, List, [], ◌∷◌, Option, Some, None, refl, sym, ap, ◌∙◌, subst, inl, inr, is_some, GrantNo, PageNo, Stamp, Ask, Body, Header}
+use Words.{Message, ClientInput, HeldLock, Request, LogEntry, DirtyPage}
+use Words.nodes
+use Words.Page.{filled}
+use Words.bodies
+use Words.inputs
+use Words.Client as cl
+use Words.Client.{losses}
+use Words.ClientLocks as locks
+use Words.ClientPages as pages
+use Words.ClientReplies.{is_current, is_grant}
+use Words.ClientState.{Association, ClientSession, client_turn}
+use Words.Events.{WorldTurn, counted}
+use Words.Keys.{client, server_node}
+use Words.World.{World, clock_of, numbered, server}
+use Words.Lists.{Has}
+use Words.Tables.{found_at}
 use Rattle.st_protocol.specs.Assoc.{Config}
-use Rattle.st_lemmas.specs.Lists.{Has}
-use Rattle.st_lemmas.proofs.Tables.{found_at}
 use Rattle.st_base.specs.Mode.{number_of}
 use Rattle.st_laws_refine.specs.Views.Halves.{held_at, held_in}
 use Rattle.st_laws_refine.specs.Client.Invariants.{HaveModes, Kept, Lasts}
@@ -48,7 +37,7 @@ use Rattle.st_laws_reads.specs.AllClients.Obligations.{AllLeft, LeftAt, ReplyLef
 use Rattle.st_laws_reads.specs.AllClients.Runs.{InputOwed}
 use Rattle.st_laws_reads.specs.AllClients.World.{CopiesHold}
 use Rattle.st_laws_reads.proofs.AllClients.Behind.{Behind, behind}
-use Rattle.st_laws_reads.proofs.AllClients.Settled.{law as settled_law}
+use Rattle.st_laws_reads.proofs.AllClients.Settled.{locked_pages_are_settled as settled_law}
 use Rattle.st_laws_reads.proofs.AllClients.Takings.{Takes, there_at}
 use Rattle.st_laws_extents.specs.Submits.Rest.{InputRest, MapsTold}
 

@@ -1,5 +1,5 @@
-use Rattle.st_laws_extents.proofs.Known.Current.{law}
+use Rattle.st_laws_extents.proofs.Known.Current.{old_grants_stay_gone}
 use Rattle.st_laws_extents.proofs.old_grants_stay_gone.Goals as goal
 
 pub returns : goal.returns
-returns c = law
+returns c = old_grants_stay_gone

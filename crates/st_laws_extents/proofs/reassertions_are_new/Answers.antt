@@ -1,5 +1,5 @@
-use Rattle.st_laws_extents.proofs.CutRequests.New.{law}
+use Rattle.st_laws_extents.proofs.CutRequests.New.{reassertions_new}
 use Rattle.st_laws_extents.proofs.reassertions_are_new.Goals as goal
 
 pub returns : goal.returns
-returns c = law
+returns c = reassertions_new

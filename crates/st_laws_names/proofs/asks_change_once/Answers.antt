@@ -1,5 +1,5 @@
-use Rattle.st_laws_names.proofs.Changes.{law}
+use Rattle.st_laws_names.proofs.Changes.{asks_change_once}
 use Rattle.st_laws_names.proofs.asks_change_once.Goals as goal
 
 pub returns : goal.returns
-returns c = law
+returns c = asks_change_once

@@ -1,5 +1,5 @@
-use Rattle.st_laws_names.proofs.World.{law}
+use Rattle.st_laws_names.proofs.World.{operations_ask_once}
 use Rattle.st_laws_names.proofs.operations_ask_once.Goals as goal
 
 pub returns : goal.returns
-returns c = law
+returns c = operations_ask_once

@@ -1,53 +1,33 @@
 -- The rules of a client, walked once: what they do to the pending operations, to the outputs and to what is known of places.
-use Rattle.std.proofs.Common.{◌≡◌, ℕ, Bool, true, false, not, ◌||◌, List, [], ◌∷◌, ◌++◌, Option, Some, None, refl, sym, ap, ◌∙◌, subst, inl}
-use Rattle.std.proofs.Common.{inr, if◌then◌else◌, append_assoc}
-use Rattle.std.specs.Prelude.{◌⊎◌, filter, is_some, map}
-use Rattle.std.proofs.lemmas.Bool.{eqb-true}
-use Rattle.st_base.specs.declared.config.Config.{Config}
-use Rattle.st_base.specs.declared.disk.BlockAt.{BlockAt}
-use Rattle.st_base.specs.declared.disk.Command.{Command}
-use Rattle.st_base.specs.declared.disk.Command.TheVariants as commands
-use Rattle.st_base.specs.declared.disk.Tag.{Tag}
-use Rattle.st_base.specs.declared.ids.ClientId.{ClientId}
-use Rattle.st_base.specs.declared.ids.FileId.{FileId}
-use Rattle.st_base.specs.declared.ids.PageNo.{PageNo}
-use Rattle.st_base.specs.declared.ids.ServerId.{ServerId}
-use Rattle.st_base.specs.declared.ids.Stamp.{Stamp}
-use Rattle.st_base.specs.declared.mode.Mode.{Mode}
-use Rattle.st_base.specs.declared.mode.Mode.TheVariants as modes
-use Rattle.st_base.specs.declared.rows.ExtentRow.{ExtentRow}
-use Rattle.st_messages.specs.declared.answer.AppAnswer.{AppAnswer}
-use Rattle.st_messages.specs.declared.answer.AppAnswer.TheVariants as answers
-use Rattle.st_messages.specs.declared.ask.Ask.{Ask}
-use Rattle.st_messages.specs.declared.ask.Ask.TheVariants as asks
-use Rattle.st_messages.specs.declared.message.Body.{Body}
-use Rattle.st_messages.specs.declared.message.Body.TheVariants as bodies
-use Rattle.st_messages.specs.declared.message.Header.{Header}
-use Rattle.st_messages.specs.declared.message.NameReply.{NameReply}
-use Rattle.st_messages.specs.declared.message.NameReply.TheVariants as replies
-use Rattle.st_messages.specs.declared.message.Why.{Why}
-use Rattle.st_messages.specs.declared.output.Note.{Note}
-use Rattle.st_messages.specs.declared.output.Note.TheVariants as notes
-use Rattle.st_messages.specs.declared.output.Output.{Output}
-use Rattle.st_messages.specs.declared.output.Output.TheVariants as outputs
-use Rattle.st_rules.specs.declared.client.IoKind.TheVariants as io
-use Rattle.st_rules.specs.declared.client.Operation.{Operation}
-use Rattle.st_rules.specs.declared.client.PageCommand.{PageCommand}
-use Rattle.st_rules.specs.Client as cl
-use Rattle.st_rules.specs.ClientLease as lease
-use Rattle.st_rules.specs.ClientLocks as locks
-use Rattle.st_rules.specs.ClientPages as pages
-use Rattle.st_rules.specs.ClientPages.{Store, Pages}
-use Rattle.st_rules.specs.ClientPasses as cp
-use Rattle.st_rules.specs.ClientReplies as cr
-use Rattle.st_rules.specs.ClientState as cs
-use Rattle.st_rules.specs.ClientState.{ClientSession, Association, ClientTurn, Turn, enter, leave, at_these, at_each, answer_to, server_of, say, with_session}
-use Rattle.st_rules.specs.ClientState.{with_store, with_operations}
-use Rattle.st_rules.specs.Keys.{server_node}
-use Rattle.st_rules.specs.Safety.{is_use, block_of}
-use Rattle.st_lemmas.specs.Lists.{Has}
-use Rattle.st_lemmas.proofs.Tables.{and_true, has_append}
-use Rattle.st_laws_pages.proofs.Asks.Places.{On, Knows, OwnBody, OwnRows, none_more, knows_at, knows_fewer, knows_rows, knows_unmapped}
+use Rattle.st_lemmas.proofs.Words
+use Words.{◌≡◌, ℕ, Bool, true, false, not, ◌||◌, List, [], ◌∷◌, ◌++◌, Option, Some, None, refl, sym, ap, ◌∙◌, subst, inl, inr, if◌then◌else◌, append_assoc, ◌⊎◌}
+use Words.{filter, is_some, map, eqb-true, Config, BlockAt, Command, Tag, ClientId, FileId, PageNo, ServerId, Stamp, Mode, ExtentRow, AppAnswer, Ask, Body}
+use Words.{Header, NameReply, Why, Note, Output, Operation, PageCommand, append-nil}
+use Words.commands
+use Words.modes
+use Words.answers
+use Words.asks
+use Words.bodies
+use Words.replies
+use Words.notes
+use Words.outputs
+use Words.io
+use Words.Client as cl
+use Words.ClientLease as lease
+use Words.ClientLocks as locks
+use Words.ClientPages as pages
+use Words.ClientPages.{Store, Pages}
+use Words.ClientPasses as cp
+use Words.ClientReplies as cr
+use Words.ClientState as cs
+use Words.ClientState.{ClientSession, Association, ClientTurn, Turn, enter, leave, at_these, at_each, answer_to, server_of, say, with_session, with_store}
+use Words.ClientState.{with_operations}
+use Words.Keys.{server_node}
+use Words.Safety.{is_use, block_of}
+use Words.Lists.{Has}
+use Words.Tables.{and_true, has_append}
+use Words.Lookups.{or_left, or_right}
+use Rattle.st_laws_pages.proofs.Asks.Places.{On, Knows, OwnBody, OwnRows, knows_at, knows_fewer, knows_rows, knows_unmapped}
 use Rattle.st_trace.specs.Client.Commands as ending
 use Rattle.st_trace.specs.Client.Commands.{Finishes}
 use Rattle.st_trace.specs.Client.Each as each_of
@@ -129,14 +109,6 @@ is_lost k now (Some s) = lease.must_discard (lease.standing_of k s.lease now)
 abbrev pub Lasting : Config → Stamp → (ServerId → Type 0) → ServerId → Option ClientSession → Option Stamp → Type 0
 Lasting k now Use s o g = is_lost k now o ≡ false → Use s
 
-or_right : (a b : Bool) → b ≡ true → (a || b) ≡ true
-or_right true b e = refl
-or_right false b e = e
-
-or_left : (a b : Bool) → a ≡ true → (a || b) ≡ true
-or_left true b e = refl
-or_left false b e = cc
-
 keys_both : (xs ys : List Operation) (o p : Operation) → key o ≡ key p → map key xs ≡ map key ys → map key (o ∷ xs) ≡ map key (p ∷ ys)
 keys_both xs ys o p a b = ap (λ z. z ∷ map key xs) a ∙ ap (λ z. key p ∷ z) b
 
@@ -171,22 +143,22 @@ module _ (n : ℕ) (Use : ServerId → Type 0) (c : ClientId) (k : Config) (Q : 
 
   -- Small changes.
   module _ (C : ServerId → Option ClientSession → Option Stamp → Type 0) where
-    w_say : (t : Turn) (o : Output) → Neutral c o → W C t → W C (say t o)
-    w_say t o m w = record { id = w.id; config = w.config; done = q.says t.operations t.out o m w.done; own = w.own; cond = w.cond }
+    stands_after_say : (t : Turn) (o : Output) → Neutral c o → W C t → W C (say t o)
+    stands_after_say t o m w = record { id = w.id; config = w.config; done = q.says t.operations t.out o m w.done; own = w.own; cond = w.cond }
 
-    w_send : (t : Turn) (epoch number stamp : ℕ) (b : Body) → W C t → W C (cs.send t epoch number stamp b)
+    stands_after_send : (t : Turn) (epoch number stamp : ℕ) (b : Body) → W C t → W C (cs.send t epoch number stamp b)
     unfolding cs.send
-    w_send t epoch number stamp b w = w_say t _ (ap (λ (z : ClientId). z.0) w.id) w
+    stands_after_send t epoch number stamp b w = stands_after_say t _ (ap (λ (z : ClientId). z.0) w.id) w
 
-    w_store : (t : Turn) (st : Store) → Knows n t.here.server st.extents → W C t → W C (with_store st t)
-    w_store t st x w = record { id = w.id; config = w.config; done = w.done; own = x; cond = w.cond }
+    stands_after_store : (t : Turn) (st : Store) → Knows n t.here.server st.extents → W C t → W C (with_store st t)
+    stands_after_store t st x w = record { id = w.id; config = w.config; done = w.done; own = x; cond = w.cond }
 
-    w_stages : (t : Turn) (os : List Operation) → map key t.operations ≡ map key os → W C t → W C (with_operations os t)
-    w_stages t os e w = record { id = w.id; config = w.config; done = q.stages t.operations os t.out e w.done; own = w.own; cond = w.cond }
+    stands_after_stages : (t : Turn) (os : List Operation) → map key t.operations ≡ map key os → W C t → W C (with_operations os t)
+    stands_after_stages t os e w = record { id = w.id; config = w.config; done = q.stages t.operations os t.out e w.done; own = w.own; cond = w.cond }
 
     each_answered : (picked : Operation → Bool) (a : AppAnswer) → is_use a ≡ false → (kept os : List Operation) (out : List Output) → Q (kept ++ os) out →
         Q (kept ++ filter (λ o. not (picked o)) os) (out ++ map (answer_to a) (filter picked os))
-    each_answered picked a p kept [] out z = subst (λ x. Q (kept ++ []) x) (sym (none_more out)) z
+    each_answered picked a p kept [] out z = subst (λ x. Q (kept ++ []) x) (sym (append-nil out)) z
     each_answered picked a p kept (o ∷ os) out z = go (picked o) (λ kept out z. each_answered picked a p kept os out z)
       where
         go : (b : Bool) → ((kept : List Operation) (out : List Output) → Q (kept ++ os) out → Q (kept ++ filter (λ o. not (picked o)) os)
@@ -200,12 +172,13 @@ module _ (n : ℕ) (Use : ServerId → Type 0) (c : ClientId) (k : Config) (Q : 
             subst (λ x. Q x (out ++ map (answer_to a) (filter picked os))) (append_assoc kept (o ∷ []) (filter (λ o. not (picked o)) os))
             (f (kept ++ o ∷ []) out (subst (λ x. Q x out) (sym (append_assoc kept (o ∷ []) os)) z))
 
-    w_answers : (t : Turn) (picked : Operation → Bool) (a : AppAnswer) → is_use a ≡ false → W C t → W C (cs.answer_each picked a t)
+    stands_after_answers : (t : Turn) (picked : Operation → Bool) (a : AppAnswer) → is_use a ≡ false → W C t → W C (cs.answer_each picked a t)
     unfolding cs.answer_each
-    w_answers t picked a p w = record { id = w.id; config = w.config; done = each_answered picked a p [] t.operations t.out w.done; own = w.own; cond = w.cond }
+    stands_after_answers t picked a p w =
+        record { id = w.id; config = w.config; done = each_answered picked a p [] t.operations t.out w.done; own = w.own; cond = w.cond }
 
-  u_session : (t : Turn) (s : ClientSession) → U t → U (with_session s t)
-  u_session t s w = record { id = w.id; config = w.config; done = w.done; own = w.own; cond = w.cond }
+  used_after_session : (t : Turn) (s : ClientSession) → U t → U (with_session s t)
+  used_after_session t s w = record { id = w.id; config = w.config; done = w.done; own = w.own; cond = w.cond }
 
   abbrev D : ServerId → Option ClientSession → Option Stamp → Type 0
   D = Used Use
@@ -217,12 +190,12 @@ module _ (n : ℕ) (Use : ServerId → Type 0) (c : ClientId) (k : Config) (Q : 
   learned_knows s ino (r ∷ rs) (bodies.Map i g p) st o x = knows_rows n s ino (r ∷ rs) st.extents o x
   learned_knows s ino rows asked st o x = knows_rows n s ino rows st.extents o x
 
-  u_refused : (t : Turn) (file : Option ℕ) (asked : Body) (y : Why) (a b : ℕ) (u : Turn) → Refusal t file asked y a b u → U t → U u
-  u_refused t file asked _ a b _ (trace.NoFile _ _ ino e) w = w_answers D t _ _ refl w
-  u_refused t file asked _ a b _ (trace.TooManyLocks _ _ ino e) w = w_answers D t _ _ refl w
-  u_refused t file asked _ a b _ (trace.NoSpace _ _ ino p e q) w = w_answers D t _ _ refl w
-  u_refused t file asked _ a b _ (trace.NotHolder _ _ e) w = w_answers D t _ _ refl w
-  u_refused t file asked y a b _ (trace.AnswersNone _ _ _) w = w
+  used_after_refused : (t : Turn) (file : Option ℕ) (asked : Body) (y : Why) (a b : ℕ) (u : Turn) → Refusal t file asked y a b u → U t → U u
+  used_after_refused t file asked _ a b _ (trace.NoFile _ _ ino e) w = stands_after_answers D t _ _ refl w
+  used_after_refused t file asked _ a b _ (trace.TooManyLocks _ _ ino e) w = stands_after_answers D t _ _ refl w
+  used_after_refused t file asked _ a b _ (trace.NoSpace _ _ ino p e q) w = stands_after_answers D t _ _ refl w
+  used_after_refused t file asked _ a b _ (trace.NotHolder _ _ e) w = stands_after_answers D t _ _ refl w
+  used_after_refused t file asked y a b _ (trace.AnswersNone _ _ _) w = w
 
   keys_stuck : (t : Turn) (os : List Operation) → map key os ≡ map key (map (cr.stuck t) os)
   keys_stuck t [] = refl
@@ -232,55 +205,59 @@ module _ (n : ℕ) (Use : ServerId → Type 0) (c : ClientId) (k : Config) (Q : 
       one true = refl
       one false = refl
 
-  u_effect : (now : Stamp) (t : Turn) (s : ClientSession) (file : Option ℕ) (asked b : Body) (u : Turn) → OwnBody n t.here.server b →
+  used_after_effect : (now : Stamp) (t : Turn) (s : ClientSession) (file : Option ℕ) (asked b : Body) (u : Turn) → OwnBody n t.here.server b →
       Effect now t s file asked b u → U t → U u
-  u_effect now t s file asked _ _ o (trace.IsGranted ino g mode v k) w = u_session t v w
-  u_effect now t s file asked _ _ o (trace.IsQueued ino mode e) w = u_session t _ w
-  u_effect now t s file asked _ _ o (trace.HoldsAlready ino mode e) w = u_session t s w
-  u_effect now t s file asked _ _ o (trace.IsToldExtents ino rows e) w = w_store D t _ (learned_knows t.here.server ino rows asked t.here.store o w.own) w
-  u_effect now t s file asked _ _ o (trace.IsToldLate ino rows e) w = w
-  u_effect now t s file asked _ _ o trace.IsAcknowledged w = w_answers D t _ _ refl w
-  u_effect now t s file asked _ _ o (trace.IsNamed r k) w = w_answers D t _ (cr.name_answer r) (no_use r) w
+  used_after_effect now t s file asked _ _ o (trace.IsGranted ino g mode v k) w = used_after_session t v w
+  used_after_effect now t s file asked _ _ o (trace.IsQueued ino mode e) w = used_after_session t _ w
+  used_after_effect now t s file asked _ _ o (trace.HoldsAlready ino mode e) w = used_after_session t s w
+  used_after_effect now t s file asked _ _ o (trace.IsToldExtents ino rows e) w =
+      stands_after_store D t _ (learned_knows t.here.server ino rows asked t.here.store o w.own) w
+  used_after_effect now t s file asked _ _ o (trace.IsToldLate ino rows e) w = w
+  used_after_effect now t s file asked _ _ o trace.IsAcknowledged w = stands_after_answers D t _ _ refl w
+  used_after_effect now t s file asked _ _ o (trace.IsNamed r k) w = stands_after_answers D t _ (cr.name_answer r) (no_use r) w
     where
       no_use : (r : NameReply) → is_use (cr.name_answer r) ≡ false
       no_use (replies.Ino ino) = refl
       no_use (replies.Listed rows) = refl
       no_use (replies.Refused code) = refl
-  u_effect now t s file asked _ _ o (trace.IsRemoved ino removed l e q) w = u_session (cs.answer_each (cs.is_asked t.here.server) (answers.Named ino) t) _
-      (w_answers D t _ _ refl w)
-  u_effect now t s file asked _ _ o trace.IsReasserted w = u_session t _ w
-  u_effect now t s file asked _ _ o (trace.Effect.IsRefused y a b u r) w = w_stages D u _ (keys_stuck u u.operations) (u_refused t file asked y a b u r w)
+  used_after_effect now t s file asked _ _ o (trace.IsRemoved ino removed l e q) w =
+      used_after_session (cs.answer_each (cs.is_asked t.here.server) (answers.Named ino) t) _
+      (stands_after_answers D t _ _ refl w)
+  used_after_effect now t s file asked _ _ o trace.IsReasserted w = used_after_session t _ w
+  used_after_effect now t s file asked _ _ o (trace.Effect.IsRefused y a b u r) w =
+      stands_after_stages D u _ (keys_stuck u u.operations) (used_after_refused t file asked y a b u r w)
 
   -- a lease that is renewed, and a message's own places
-  u_renewed : (t : Turn) (s : ClientSession) (stamp : Stamp) (b : Body) (u : Turn) → Renews t s stamp u → OwnBody n t.here.server b → U t →
+  used_after_renewed : (t : Turn) (s : ClientSession) (stamp : Stamp) (b : Body) (u : Turn) → Renews t s stamp u → OwnBody n t.here.server b → U t →
       U u × OwnBody n u.here.server b
-  u_renewed t s stamp b _ (trace.IsLater e) o w = (w_say D t _ tt w, o)
-  u_renewed t s stamp b _ (trace.IsNoLater e) o w = (w, o)
+  used_after_renewed t s stamp b _ (trace.IsLater e) o w = (stands_after_say D t _ tt w, o)
+  used_after_renewed t s stamp b _ (trace.IsNoLater e) o w = (w, o)
 
-  g_heard : (now : Stamp) (h : Header) (t : Turn) (b : Body) (u : Turn) → ((s : ServerId) → h.from ≡ server_node s → OwnBody n s b) → Receives now h t b u →
+  begins_after_heard : (now : Stamp) (h : Header) (t : Turn) (b : Body) (u : Turn) → ((s : ServerId) → h.from ≡ server_node s → OwnBody n s b) →
+      Receives now h t b u →
       G t → S u
-  g_heard now h t _ _ o (trace.PassesOver b) w = begun t w
-  g_heard now h t _ _ o (trace.Begins r e i) w =
+  begins_after_heard now h t _ _ o (trace.PassesOver b) w = begun t w
+  begins_after_heard now h t _ _ o (trace.Begins r e i) w =
       let v = greets_used t (and_true _ _ i).0 w in
-      usable _ (w_say D (cr.begin_here (cr.new_session (trace.epoch_of h) (trace.stamp_of h)) t) _ tt
+      usable _ (stands_after_say D (cr.begin_here (cr.new_session (trace.epoch_of h) (trace.stamp_of h)) t) _ tt
       (record { id = v.id; config = v.config; done = v.done; own = v.own; cond = v.cond }))
-  g_heard now h t _ _ o (trace.FollowsEpoch s x y m e) w =
-      usable _ (w_answers D (with_session (cr.in_epoch (trace.epoch_of h) s) t) _ _ refl
-      (u_session t (cr.in_epoch (trace.epoch_of h) s) (begun_used t s m.session w)))
-  g_heard now h t _ _ o (trace.IsCondemned b s m c) w = usable _ (u_session t _ (begun_used t s m.session w))
-  g_heard now h t _ _ o (trace.IsGrantedLater ino g mode s v m e k) w = usable _ (u_session t v (begun_used t s m.session w))
-  g_heard now h t _ _ o (trace.SeesDemand ino g to s m e) w = usable _ (w_send D _ _ _ _ _
-      (u_session t (cs.with_cache (locks.demand s.locks ino g to).locks s) (begun_used t s m.session w)))
-  g_heard now h t _ _ o (trace.GivesUp ino g to s m e k) w = usable _ (u_session t _ (begun_used t s m.session w))
-  g_heard now h t _ _ o (trace.HasGivenUp ino g to s m e k) w = usable _ (u_session t _ (begun_used t s m.session w))
-  g_heard now h t _ u o (trace.IsAnswered b s q v _ r x f) w =
+  begins_after_heard now h t _ _ o (trace.FollowsEpoch s x y m e) w =
+      usable _ (stands_after_answers D (with_session (cr.in_epoch (trace.epoch_of h) s) t) _ _ refl
+      (used_after_session t (cr.in_epoch (trace.epoch_of h) s) (begun_used t s m.session w)))
+  begins_after_heard now h t _ _ o (trace.IsCondemned b s m c) w = usable _ (used_after_session t _ (begun_used t s m.session w))
+  begins_after_heard now h t _ _ o (trace.IsGrantedLater ino g mode s v m e k) w = usable _ (used_after_session t v (begun_used t s m.session w))
+  begins_after_heard now h t _ _ o (trace.SeesDemand ino g to s m e) w = usable _ (stands_after_send D _ _ _ _ _
+      (used_after_session t (cs.with_cache (locks.demand s.locks ino g to).locks s) (begun_used t s m.session w)))
+  begins_after_heard now h t _ _ o (trace.GivesUp ino g to s m e k) w = usable _ (used_after_session t _ (begun_used t s m.session w))
+  begins_after_heard now h t _ _ o (trace.HasGivenUp ino g to s m e k) w = usable _ (used_after_session t _ (begun_used t s m.session w))
+  begins_after_heard now h t _ u o (trace.IsAnswered b s q v _ r x f) w =
       let m = r.heard in let y = cr.ended_by (trace.stamp_of h) s in
-      let z = u_renewed t s (trace.stamp_of h) b v x (o t.here.server m.received.from) (begun_used t s m.session w) in
-      usable u (u_effect now (with_session y v) y (cs.file_asked s.cutting q.body) q.body b u z.1 f (u_session v y z.0))
+      let z = used_after_renewed t s (trace.stamp_of h) b v x (o t.here.server m.received.from) (begun_used t s m.session w) in
+      usable u (used_after_effect now (with_session y v) y (cs.file_asked s.cutting q.body) q.body b u z.1 f (used_after_session v y z.0))
 
-  pub g_receive : (now : Stamp) (h : Header) (b : Body) (t : Turn) → ((s : ServerId) → h.from ≡ server_node s → OwnBody n s b) → G t → S
+  pub begins_after_receive : (now : Stamp) (h : Header) (b : Body) (t : Turn) → ((s : ServerId) → h.from ≡ server_node s → OwnBody n s b) → G t → S
       (cr.receive_at now h b t)
-  g_receive now h b t o w = g_heard now h t b (cr.receive_at now h b t) o (receives now h t b) w
+  begins_after_receive now h b t o w = begins_after_heard now h t b (cr.receive_at now h b t) o (receives now h t b) w
 
   -- Losses.
   record Ending (os : List Operation) (t : Turn) : Type 0 where
@@ -300,8 +277,8 @@ module _ (n : ℕ) (Use : ServerId → Type 0) (c : ClientId) (k : Config) (Q : 
   ended s o os t _ (losing.LostNothing f e q_ a l) w = record { id = w.id; config = w.config; done = q.answered t.operations os t.out o _ refl w.done }
   ended s o os t _ (losing.IsQuiesced e q_ a) w = record { id = w.id; config = w.config; done = q.answered t.operations os t.out o _ refl w.done }
 
-  pub w_lose : (now : Stamp) (t : Turn) → W (Lasting k now Use) t → G (cl.lose now t)
-  w_lose now t w = go (cl.lose now t) (loses now t)
+  pub stands_after_lose : (now : Stamp) (t : Turn) → W (Lasting k now Use) t → G (cl.lose now t)
+  stands_after_lose now t w = go (cl.lose now t) (loses now t)
     where
       lasting : is_lost k now t.here.session ≡ false → G t
       lasting e = record { id = w.id; config = w.config; done = w.done; own = w.own; cond = λ z. w.cond e }
@@ -313,29 +290,29 @@ module _ (n : ℕ) (Use : ServerId → Type 0) (c : ClientId) (k : Config) (Q : 
           let r = each_lasts (Ended s) (λ os v. Ending os v) (λ o os v x step z. ended s o os v x step z) t.operations
           (with_operations [] (losing.loss_noted t)) u p
           (record { id = w.id; config = w.config; done = q.says t.operations t.out (outputs.Note (notes.Lost t.here.server t.here.life)) tt w.done }) in
-          record { id = r.id; config = r.config; done = subst (λ x. Q x u.out) (none_more u.operations) r.done; own = λ e h. absurd h; cond = λ e. cc e }
+          record { id = r.id; config = r.config; done = subst (λ x. Q x u.out) (append-nil u.operations) r.done; own = λ e h. absurd h; cond = λ e. cc e }
 
   -- Ends of commands.
   module _ (C : ServerId → Option ClientSession → Option Stamp → Type 0) where
-    w_commands : (t : Turn) (x : PageCommand) → W C t → W C (ending.without x t)
-    w_commands t x w = w_store C t _ w.own w
+    stands_after_commands : (t : Turn) (x : PageCommand) → W C t → W C (ending.without x t)
+    stands_after_commands t x w = stands_after_store C t _ w.own w
 
-    w_pages : (t : Turn) (ps : Pages) → W C t → W C (with_store (record t.here.store { pages = ps }) t)
-    w_pages t ps w = w_store C t _ w.own w
+    stands_after_pages : (t : Turn) (ps : Pages) → W C t → W C (with_store (record t.here.store { pages = ps }) t)
+    stands_after_pages t ps w = stands_after_store C t _ w.own w
 
-    pub w_finish : (number : ℕ) (r : Option (Option (Tag × List ℕ))) (t : Turn) → W C t → W C (cl.finish number r t)
-    w_finish number r t w = go (cl.finish number r t) (finishes number r t)
+    pub stands_after_finish : (number : ℕ) (r : Option (Option (Tag × List ℕ))) (t : Turn) → W C t → W C (cl.finish number r t)
+    stands_after_finish number r t w = go (cl.finish number r t) (finishes number r t)
       where
         go : (u : Turn) → Finishes number r t u → W C u
         go _ (ending.IsUnknown e) = w
         go _ (ending.IsOfOtherKind x block o e i) = w
-        go _ (ending.Fills x block o i e) = w_pages (ending.without x t) _ (w_commands t x w)
-        go _ (ending.Hardens x v o i e j) = w_pages (ending.without x t) _ (w_commands t x w)
-        go _ (ending.WroteOlder x v o i e j) = w_commands t x w
-        go _ (ending.FailsToRead x o i e) = w_answers C _ _ _ refl (w_commands t x w)
-        go _ (ending.FailsToWrite x v o i e j) = w_answers C _ _ _ refl
-            (w_pages (ending.without x t) (pages.fail t.here.store.pages x.ino x.page x.number) (w_commands t x w))
-        go _ (ending.FailsToWriteOlder x v o i e j) = w_answers C _ _ _ refl (w_commands t x w)
+        go _ (ending.Fills x block o i e) = stands_after_pages (ending.without x t) _ (stands_after_commands t x w)
+        go _ (ending.Hardens x v o i e j) = stands_after_pages (ending.without x t) _ (stands_after_commands t x w)
+        go _ (ending.WroteOlder x v o i e j) = stands_after_commands t x w
+        go _ (ending.FailsToRead x o i e) = stands_after_answers C _ _ _ refl (stands_after_commands t x w)
+        go _ (ending.FailsToWrite x v o i e j) = stands_after_answers C _ _ _ refl
+            (stands_after_pages (ending.without x t) (pages.fail t.here.store.pages x.ino x.page x.number) (stands_after_commands t x w))
+        go _ (ending.FailsToWriteOlder x v o i e j) = stands_after_answers C _ _ _ refl (stands_after_commands t x w)
 
   -- The pass over the operations: those that were not yet looked at come after those that stay.
   record Rest (os : List Operation) (t : Turn) : Type 0 where
@@ -345,8 +322,8 @@ module _ (n : ℕ) (Use : ServerId → Type 0) (c : ClientId) (k : Config) (Q : 
     pub own : Knows n t.here.server t.here.store.extents
     pub cond : is_some t.here.session ≡ true → Use t.here.server
 
-  r_keep : (os : List Operation) (o : Operation) (t : Turn) → Rest (o ∷ os) t → Rest os (cs.keep o t)
-  r_keep os o t r = record {
+  rest_after_keeping : (os : List Operation) (o : Operation) (t : Turn) → Rest (o ∷ os) t → Rest os (cs.keep o t)
+  rest_after_keeping os o t r = record {
     id = r.id;
     config = r.config;
     done = subst (λ x. Q x t.out) (sym (append_assoc t.operations (o ∷ []) os)) r.done;
@@ -354,79 +331,80 @@ module _ (n : ℕ) (Use : ServerId → Type 0) (c : ClientId) (k : Config) (Q : 
     cond = r.cond;
   }
 
-  r_answer : (os : List Operation) (o : Operation) (a : AppAnswer) (t : Turn) → is_use a ≡ false → Rest (o ∷ os) t → Rest os (cp.answer o a t)
-  r_answer os o a t p r = record { id = r.id; config = r.config; done = q.answered t.operations os t.out o a p r.done; own = r.own; cond = r.cond }
+  rest_after_answer : (os : List Operation) (o : Operation) (a : AppAnswer) (t : Turn) → is_use a ≡ false → Rest (o ∷ os) t → Rest os (cp.answer o a t)
+  rest_after_answer os o a t p r = record { id = r.id; config = r.config; done = q.answered t.operations os t.out o a p r.done; own = r.own; cond = r.cond }
 
-  r_read : (os : List Operation) (o : Operation) (bytes : List ℕ) (t : Turn) → Use (server_of o.ask) → Rest (o ∷ os) t → Rest os
+  rest_after_read : (os : List Operation) (o : Operation) (bytes : List ℕ) (t : Turn) → Use (server_of o.ask) → Rest (o ∷ os) t → Rest os
       (cp.answer o (answers.Read bytes) t)
-  r_read os o bytes t u r = record { id = r.id; config = r.config; done = q.reads t.operations os t.out o bytes u r.done; own = r.own; cond = r.cond }
+  rest_after_read os o bytes t u r = record { id = r.id; config = r.config; done = q.reads t.operations os t.out o bytes u r.done; own = r.own; cond = r.cond }
 
-  r_store : (os : List Operation) (t : Turn) (st : Store) → Knows n t.here.server st.extents → Rest os t → Rest os (with_store st t)
-  r_store os t st x r = record { id = r.id; config = r.config; done = r.done; own = x; cond = r.cond }
+  rest_after_store : (os : List Operation) (t : Turn) (st : Store) → Knows n t.here.server st.extents → Rest os t → Rest os (with_store st t)
+  rest_after_store os t st x r = record { id = r.id; config = r.config; done = r.done; own = x; cond = r.cond }
 
   -- the server that serves an operation may be used
-  r_used : (now : Stamp) (all os : List Operation) (o : Operation) (t : Turn) (s : ClientSession) → Served now all o t s → Rest os t → Use t.here.server × Use
+  rest_after_used : (now : Stamp) (all os : List Operation) (o : Operation) (t : Turn) (s : ClientSession) → Served now all o t s → Rest os t →
+      Use t.here.server × Use
       (server_of o.ask)
-  r_used now all os o t s v r =
+  rest_after_used now all os o t s v r =
       let u = r.cond (ap is_some v.session) in (u, subst Use (ap (λ m. record { 0 = m }) (sym (eqb-true (server_of o.ask).0 t.here.server.0 v.own))) u)
 
   notes_change : (o : Operation) (t : Turn) (f : FileId) (p : PageNo) (bytes : List ℕ) (x : Note) → Changed o.ask t f p bytes x → NotesChange x o.ask
   notes_change o t _ _ _ _ (pass.IsWritten f p bytes e) = e
   notes_change o t _ _ _ _ (pass.IsPatched f p at bytes old e i) = e
 
-  r_operated : (now : Stamp) (all os : List Operation) (o : Operation) (t u : Turn) → Operated now all o t u → Rest (o ∷ os) t → Rest os u
-  r_operated now all os o t _ pass.Waits r = r_keep os o t r
-  r_operated now all os o t _ (pass.IsHard f e i h) r = r_answer os o _ t refl r
-  r_operated now all os o t _ (pass.IsQuiesced s e i a b d) r = r_answer os o _ t refl r
-  r_operated now all os o t _ (pass.ChangesPage s f p bytes x v i m e) r =
+  rest_after_operated : (now : Stamp) (all os : List Operation) (o : Operation) (t u : Turn) → Operated now all o t u → Rest (o ∷ os) t → Rest os u
+  rest_after_operated now all os o t _ pass.Waits r = rest_after_keeping os o t r
+  rest_after_operated now all os o t _ (pass.IsHard f e i h) r = rest_after_answer os o _ t refl r
+  rest_after_operated now all os o t _ (pass.IsQuiesced s e i a b d) r = rest_after_answer os o _ t refl r
+  rest_after_operated now all os o t _ (pass.ChangesPage s f p bytes x v i m e) r =
       record {
         id = r.id;
         config = r.config;
         done = q.changes t.operations os t.out o x (notes_change o t f p bytes x i)
-            (r_used now all (o ∷ os) o t s v r).1 r.done;
+            (rest_after_used now all (o ∷ os) o t s v r).1 r.done;
         own = r.own;
         cond = r.cond;
       }
-  r_operated now all os o t _ (pass.IsDirtyFull s f p bytes x v i m e) r = r_answer os o _ t refl r
-  r_operated now all os o t _ (pass.Fetches s f p m v i e j b) r =
-      r_keep os o (say (cp.with_command f.ino p io.Read t) (outputs.Submit t.next_command m.at (commands.Read m.at)))
+  rest_after_operated now all os o t _ (pass.IsDirtyFull s f p bytes x v i m e) r = rest_after_answer os o _ t refl r
+  rest_after_operated now all os o t _ (pass.Fetches s f p m v i e j b) r =
+      rest_after_keeping os o (say (cp.with_command f.ino p io.Read t) (outputs.Submit t.next_command m.at (commands.Read m.at)))
       (record {
         id = r.id;
         config = r.config;
         done = q.submits (t.operations ++ o ∷ os) t.out t.here.server t.next_command m.at (commands.Read m.at)
-            (r_used now all (o ∷ os) o t s v r).0 (knows_at n t.here.server f.ino p t.here.store.extents m r.own j) r.done;
+            (rest_after_used now all (o ∷ os) o t s v r).0 (knows_at n t.here.server f.ino p t.here.store.extents m r.own j) r.done;
         own = r.own;
         cond = r.cond;
       })
-  r_operated now all os o t _ (pass.ReadsCached s f p bytes v e h i) r = r_read os o bytes _ (r_used now all (o ∷ os) o t s v r).1
-      (r_store (o ∷ os) t _ r.own r)
-  r_operated now all os o t _ (pass.ReadsZeros s f p e v a h i j m) r = r_read os o _ t (r_used now all (o ∷ os) o t s v r).1 r
+  rest_after_operated now all os o t _ (pass.ReadsCached s f p bytes v e h i) r = rest_after_read os o bytes _ (rest_after_used now all (o ∷ os) o t s v r).1
+      (rest_after_store (o ∷ os) t _ r.own r)
+  rest_after_operated now all os o t _ (pass.ReadsZeros s f p e v a h i j m) r = rest_after_read os o _ t (rest_after_used now all (o ∷ os) o t s v r).1 r
 
-  s_operated : (now : Stamp) (t u : Turn) → each_of.Each (Operated now t.operations) t.operations (with_operations [] t) u → S t → S u
-  s_operated now t u x w = go (each_lasts (Operated now t.operations) (λ os v. Rest os v)
-      (λ o os v y step z. r_operated now t.operations os o v y step z) t.operations (with_operations [] t) u x
+  usable_after_operated : (now : Stamp) (t u : Turn) → each_of.Each (Operated now t.operations) t.operations (with_operations [] t) u → S t → S u
+  usable_after_operated now t u x w = go (each_lasts (Operated now t.operations) (λ os v. Rest os v)
+      (λ o os v y step z. rest_after_operated now t.operations os o v y step z) t.operations (with_operations [] t) u x
       (record { id = w.id; config = w.config; done = w.done; own = w.own; cond = w.cond }))
     where
       go : Rest [] u → S u
-      go r = record { id = r.id; config = r.config; done = subst (λ x. Q x u.out) (none_more u.operations) r.done; own = r.own; cond = r.cond }
+      go r = record { id = r.id; config = r.config; done = subst (λ x. Q x u.out) (append-nil u.operations) r.done; own = r.own; cond = r.cond }
 
   -- Reductions, writes and greeting.
-  s_reduced : (ino : ℕ) (t u : Turn) → Reduced ino t u → S t → S u
+  usable_after_reduced : (ino : ℕ) (t u : Turn) → Reduced ino t u → S t → S u
   unfolding pages.forget_from
-  s_reduced ino t _ StaysHeld w = w
-  s_reduced ino t _ (IsReduced s g to e m i) w = usable _ (go to (used t s e w))
+  usable_after_reduced ino t _ StaysHeld w = w
+  usable_after_reduced ino t _ (IsReduced s g to e m i) w = usable _ (go to (used t s e w))
     where
       r : ClientSession
       r = cs.with_cache (locks.reduce s.locks ino).locks s
 
       go : (to : Mode) → U t → U (with_store (cp.forgotten_at ino to t.here.store) (with_session (cp.released r ino g to) t))
-      go modes.None v = w_store D _ _ (knows_fewer n t.here.server _ t.here.store.extents v.own) (u_session t _ v)
-      go modes.S v = w_store D _ _ v.own (u_session t _ v)
-      go modes.X v = w_store D _ _ v.own (u_session t _ v)
+      go modes.None v = stands_after_store D _ _ (knows_fewer n t.here.server _ t.here.store.extents v.own) (used_after_session t _ v)
+      go modes.S v = stands_after_store D _ _ v.own (used_after_session t _ v)
+      go modes.X v = stands_after_store D _ _ v.own (used_after_session t _ v)
 
-  s_written : (now : Stamp) (tick : Bool) (x : ℕ × PageNo) (t u : Turn) → WritesOut now tick x t u → S t → S u
-  s_written now tick x t _ StaysDirty w = w
-  s_written now tick x t _ (IsWritten s d m e i j l) w =
+  usable_after_written : (now : Stamp) (tick : Bool) (x : ℕ × PageNo) (t u : Turn) → WritesOut now tick x t u → S t → S u
+  usable_after_written now tick x t _ StaysDirty w = w
+  usable_after_written now tick x t _ (IsWritten s d m e i j l) w =
       let v = used t s e w in
       usable _ (record {
         id = v.id;
@@ -437,44 +415,45 @@ module _ (n : ℕ) (Use : ServerId → Type 0) (c : ClientId) (k : Config) (Q : 
         cond = v.cond;
       })
 
-  s_greeted : (now : Stamp) (tick : Bool) (t u : Turn) → Greets now tick t u → S t → S u
-  s_greeted now tick t _ asking.IsSilent w = w
-  s_greeted now tick t _ (asking.SaysHello e m) w = w_send (Usable Use) _ _ _ _ _
+  usable_after_greeted : (now : Stamp) (tick : Bool) (t u : Turn) → Greets now tick t u → S t → S u
+  usable_after_greeted now tick t _ asking.IsSilent w = w
+  usable_after_greeted now tick t _ (asking.SaysHello e m) w = stands_after_send (Usable Use) _ _ _ _ _
       (record { id = w.id; config = w.config; done = w.done; own = w.own; cond = w.cond })
 
   -- Requests.
-  u_ask : (t : Turn) (s : ClientSession) (now : Stamp) (b : Body) (cutting : Option ℕ) → U t → U (asking.asked t s now b cutting)
-  u_ask t s now b cutting w = w_send D _ _ _ _ _ (u_session t _ w)
+  used_after_ask : (t : Turn) (s : ClientSession) (now : Stamp) (b : Body) (cutting : Option ℕ) → U t → U (asking.asked t s now b cutting)
+  used_after_ask t s now b cutting w = stands_after_send D _ _ _ _ _ (used_after_session t _ w)
 
   keys_sent : (o : Operation) (b : Bool) (xs ys : List Operation) → map key (xs ++ o ∷ ys) ≡ map key (xs ++ cp.sent_if b o ∷ ys)
   keys_sent o true [] ys = refl
   keys_sent o false [] ys = refl
   keys_sent o b (x ∷ xs) ys = keys_both (xs ++ o ∷ ys) (xs ++ cp.sent_if b o ∷ ys) x x refl (keys_sent o b xs ys)
 
-  s_requested : (now : Stamp) (tick : Bool) (t u : Turn) → Requests now tick t u → S t → S u
+  usable_after_requested : (now : Stamp) (tick : Bool) (t u : Turn) → Requests now tick t u → S t → S u
   unfolding pages.forget_from
-  s_requested now tick t _ asking.AsksNothing w = w
-  s_requested now tick t _ (asking.AsksAgain s x e i j l) w = usable _ (w_send D _ _ _ _ _ (u_session t _ (used t s e w)))
-  s_requested now tick t _ (asking.Reasserts s m d) w = usable _ (u_ask t s now _ _ (used t s m.session w))
-  s_requested now tick t _ (asking.Releases s r rs m d e) w = usable _ (u_ask t (record s { releases = rs }) now _ _ (used t s m.session w))
-  s_requested now tick t _ (asking.AsksFor s xs o ys x f e i) w =
+  usable_after_requested now tick t _ asking.AsksNothing w = w
+  usable_after_requested now tick t _ (asking.AsksAgain s x e i j l) w = usable _ (stands_after_send D _ _ _ _ _ (used_after_session t _ (used t s e w)))
+  usable_after_requested now tick t _ (asking.Reasserts s m d) w = usable _ (used_after_ask t s now _ _ (used t s m.session w))
+  usable_after_requested now tick t _ (asking.Releases s r rs m d e) w = usable _ (used_after_ask t (record s { releases = rs }) now _ _ (used t s m.session w))
+  usable_after_requested now tick t _ (asking.AsksFor s xs o ys x f e i) w =
       let v = used t s f.may.session w in
-      usable _ (u_ask _ s now _ _ (w_store D _ _ (cut x.cut t.here.store v.own) (w_stages D t _ (ap (λ z. map key z) i.there ∙ keys_sent o x.own xs ys) v)))
+      usable _ (used_after_ask _ s now _ _
+      (stands_after_store D _ _ (cut x.cut t.here.store v.own) (stands_after_stages D t _ (ap (λ z. map key z) i.there ∙ keys_sent o x.own xs ys) v)))
     where
       cut : (o : Option (ℕ × PageNo)) (st : Store) → Knows n t.here.server st.extents → Knows n t.here.server (cp.cut_store o st).extents
       cut None st x = x
       cut (Some (ino, p)) st x = knows_fewer n t.here.server _ st.extents x
-  s_requested now tick t _ (asking.KeepsAlive s f e) w = usable _ (u_ask t s now _ _ (used t s f.may.session w))
+  usable_after_requested now tick t _ (asking.KeepsAlive s f e) w = usable _ (used_after_ask t s now _ _ (used t s f.may.session w))
 
-  pub s_passes : (now : Stamp) (tick : Bool) (t : Turn) → S t → S (cp.passes now tick t)
-  s_passes now tick t w =
+  pub usable_after_passes : (now : Stamp) (tick : Bool) (t : Turn) → S t → S (cp.passes now tick t)
+  usable_after_passes now tick t w =
       let r = passes now tick t in
-      s_requested now tick r.greeted (cp.passes now tick t) r.requests
-      (s_greeted now tick r.written r.greeted r.greeting
-      (each_lasts (WritesOut now tick) (λ xs v. S v) (λ x xs v u step z. s_written now tick x v u step z)
+      usable_after_requested now tick r.greeted (cp.passes now tick t) r.requests
+      (usable_after_greeted now tick r.written r.greeted r.greeting
+      (each_lasts (WritesOut now tick) (λ xs v. S v) (λ x xs v u step z. usable_after_written now tick x v u step z)
       (places_of r.reduced.here.session r.reduced.here.store.pages) r.reduced r.written r.writes
-      (each_lasts Reduced (λ inos v. S v) (λ ino inos v u step z. s_reduced ino v u step z)
-      (cp.files_demanded r.operated.here.session) r.operated r.reduced r.reductions (s_operated now t r.operated r.operations w))))
+      (each_lasts Reduced (λ inos v. S v) (λ ino inos v u step z. usable_after_reduced ino v u step z)
+      (cp.files_demanded r.operated.here.session) r.operated r.reduced r.reductions (usable_after_operated now t r.operated r.operations w))))
 
   -- A rule at each server in turn.
   pub record Each (C : ServerId → Option ClientSession → Option Stamp → Type 0) (t : ClientTurn) : Type 0 where

@@ -1,72 +1,55 @@
 -- Places and asks, at each event and over whole runs.
-use Rattle.std.proofs.Common.{◌≡◌, ℕ, ◌+◌, ◌-◌, ◌%◌, ◌≤◌, ◌<◌, Bool, true, false, not, ◌&&◌, ◌||◌, List, [], ◌∷◌, ◌++◌, ◌==◌, Option, Some, None, Ok, Err, refl, sym, ap, ◌∙◌, subst, inl, inr, arith, if◌then◌else◌, le-leb, leb-true}
-use Rattle.std.specs.Prelude.{◌⊎◌, length, map, nat_le, pred, set, slice_get, suc, zero}
-use Rattle.std.specs.List.{cons_option, list_any}
-use Rattle.std.specs.Option.{option_or}
-use Rattle.std.proofs.lemmas.Bool.{eqb-true, eq-eqb}
-use Rattle.st_base.specs.declared.config.Config.{Config}
-use Rattle.st_base.specs.declared.disk.BlockAt.{BlockAt}
-use Rattle.st_base.specs.declared.ids.ClientId.{ClientId}
-use Rattle.st_base.specs.declared.ids.NodeId.{NodeId}
-use Rattle.st_base.specs.declared.ids.NodeId.TheVariants as nodes
-use Rattle.st_base.specs.declared.ids.ServerId.{ServerId}
-use Rattle.st_base.specs.declared.ids.Stamp.{Stamp}
-use Rattle.st_messages.specs.declared.ask.Ask.{Ask}
-use Rattle.st_messages.specs.declared.event.Event.{Event}
-use Rattle.st_messages.specs.declared.event.Event.TheVariants as events
-use Rattle.st_messages.specs.declared.message.Body.{Body}
-use Rattle.st_messages.specs.declared.message.Body.TheVariants as bodies
-use Rattle.st_messages.specs.declared.output.Output.{Output}
-use Rattle.st_messages.specs.declared.output.Output.TheVariants as outputs
-use Rattle.st_rules.specs.declared.client.ClientInput.{ClientInput}
-use Rattle.st_rules.specs.declared.client.ClientInput.TheVariants as inputs
-use Rattle.st_rules.specs.declared.client.KnownExtent.{KnownExtent}
-use Rattle.st_rules.specs.declared.client.MappedBlock.{MappedBlock}
-use Rattle.st_rules.specs.declared.client.Operation.{Operation}
-use Rattle.st_rules.specs.declared.input.ServerInput.{ServerInput}
-use Rattle.st_rules.specs.declared.input.ServerInput.TheVariants as serving
-use Rattle.st_rules.specs.declared.log.Fate.{Fate}
-use Rattle.st_rules.specs.declared.log.Fate.TheVariants as fates
-use Rattle.st_rules.specs.declared.log.LogEntry.{LogEntry}
+use Rattle.st_lemmas.proofs.Words
+use Words.{◌≡◌, ℕ, ◌+◌, ◌-◌, ◌%◌, ◌≤◌, ◌<◌, Bool, true, false, not, ◌&&◌, ◌||◌, List, [], ◌∷◌, ◌++◌, ◌==◌, Option, Some, None, Ok, Err, refl, sym, ap, ◌∙◌}
+use Words.{subst, inl, inr, arith, if◌then◌else◌, le-leb, leb-true, ◌⊎◌, length, map, nat_le, pred, slice_get, suc, cons_option, list_any, eqb-true}
+use Words.{eq-eqb, Config, BlockAt, ClientId, NodeId, ServerId, Stamp, Ask, Event, Body, Output, ClientInput, KnownExtent, MappedBlock, Operation, ServerInput}
+use Words.{Fate, LogEntry, Observation, IssuedCommand, SentMessage, append-nil}
+use Words.nodes
+use Words.events
+use Words.bodies
+use Words.outputs
+use Words.inputs
+use Words.serving
+use Words.fates
+use Words.Admissible as adm
+use Words.Client as cl
+use Words.ClientState.{Association}
+use Words.Disks as disks
+use Words.Events as ev
+use Words.Events.{WorldTurn}
+use Words.Extents as extents
+use Words.History.{Traced, traced, traced_after}
+use Words.Keys.{same_client, client}
+use Words.Server as server
+use Words.Server.{ServerNode}
+use Words.World as world
+use Words.World.{World, WorldClient, site_of, node_of, site_runs, numbered, with_numbered, clock_of, same_node, message_of, receiver_of, issued_of}
+use Words.World.{all_clients, all_servers, fresh_world}
+use Words.Safety as safety
+use Words.Safety.{Step, IsHead, AsksAreAnsweredOnce, answers_in, ask_in, is_expired, step, takes_step, uses_server}
+use Words.WorldInvariants.{maps_own, tells_own, knows_own, is_own_extent, is_own_row, is_own_known, knows_own_at, is_on_disk_of, is_own_mapping, tells_own_rows}
+use Words.Lists.{Has}
+use Words.Numbers.{numbered_has, numbered_below, numbered_old, get_last, has_get, set_length}
+use Words.Tables.{all_pass, and_both, and_true, has_append}
+use Words.Lengths.{length_map, numbers_length}
+use Words.Members.{has_set}
+use Words.Truth.{or_second}
+use Words.Worlds.{can_step, server_at_node}
 use Rattle.st_rules.specs.declared.node.StepRefusal.TheVariants.{Crashed}
-use Rattle.st_rules.specs.declared.observation.Observation.{Observation}
-use Rattle.st_rules.specs.declared.observation.WorldRefusal.{WorldRefusal}
-use Rattle.st_rules.specs.declared.observation.WorldRefusal.TheVariants as refusals
-use Rattle.st_rules.specs.declared.world.IssuedCommand.{IssuedCommand}
-use Rattle.st_rules.specs.declared.world.SentMessage.{SentMessage}
-use Rattle.st_rules.specs.Admissible as adm
-use Rattle.st_rules.specs.Client as cl
-use Rattle.st_rules.specs.ClientState.{Association}
-use Rattle.st_rules.specs.Disks as disks
-use Rattle.st_rules.specs.Events as ev
-use Rattle.st_rules.specs.Events.{WorldTurn}
-use Rattle.st_rules.specs.Extents as extents
-use Rattle.st_rules.specs.History.{Traced, traced, traced_after}
-use Rattle.st_rules.specs.Keys.{same_client, server_node, client}
-use Rattle.st_rules.specs.Server as server
-use Rattle.st_rules.specs.Server.{ServerNode}
-use Rattle.st_rules.specs.World as world
-use Rattle.st_rules.specs.World.{World, WorldClient, site_of, node_of, site_runs, is_running, numbered, with_numbered, clock_of, same_node, message_of, receiver_of, issued_of, all_clients, all_servers, fresh_world}
-use Rattle.st_rules.specs.Safety as safety
-use Rattle.st_rules.specs.Safety.{Step, IsHead, AsksAreAnsweredOnce, answers_in, ask_in, is_expired, step, takes_step, uses_server}
-use Rattle.st_rules.specs.WorldInvariants.{maps_own, tells_own, knows_own, is_own_extent, is_own_row, is_own_known, knows_own_at, is_on_disk_of, is_own_mapping, tells_own_rows}
-use Rattle.st_lemmas.specs.Lists.{Has}
-use Rattle.st_lemmas.proofs.Numbers.{numbered_has, numbered_below, numbered_old, get_last, has_get, set_length}
 use Rattle.st_lemmas.proofs.Steps.{throughout, step_happens}
-use Rattle.st_lemmas.proofs.Tables.{all_pass, and_both, and_true, has_append}
 use Rattle.st_laws_steps.specs.Lives.Lives.{LivesHold}
 use Rattle.st_laws_pages.specs.Disks.Obligations.{FatesHold}
 use Rattle.st_laws_pages.proofs.Disks.Steps.{fates_law}
 use Rattle.st_laws_pages.proofs.Disks.Whole.{fresh_fates}
 use Rattle.st_laws_pages.specs.Asks.Law.{ExpiredLeasesUseNothing, InEveryRun, PlacesHold, PlacesAfter, WrittenIsLogged, is_unused, all_unused}
-use Rattle.st_laws_pages.proofs.Asks.Places.{Knows, On, OwnBody, none_more}
+use Rattle.st_laws_pages.proofs.Asks.Places.{Knows, On, OwnBody}
 use Rattle.st_laws_pages.proofs.Asks.Client.{key}
 use Rattle.st_laws_pages.proofs.Asks.Step.{Takes}
 use Rattle.st_laws_pages.proofs.Asks.Server.{ExtentsOwn, Kept, Own, served}
 use Rattle.st_laws_pages.proofs.Asks.Asks.{Pending, Apart, Nothing, Holds, asks_taken}
 use Rattle.st_laws_pages.proofs.Asks.Says.{Owed, AllDull, Leaves, dull_owed, server_dull, server_leaves}
-use Rattle.st_laws_pages.proofs.Asks.World.{SentBy, NodeOwn, SiteKnows, Places, ClientAsks, AllAsks, SitesStay, ClientStep, ClientLeft, asks_of, asks_more, asks_same, client_step_left, node_case, quiet_asks, sent_told, site_case}
-use Rattle.st_laws_pages.proofs.Lives.Fresh.{length_map, numbers_length}
+use Rattle.st_laws_pages.proofs.Asks.World.{SentBy, NodeOwn, SiteKnows, Places, ClientAsks, AllAsks, SitesStay, ClientStep, ClientLeft, asks_of, asks_more}
+use Rattle.st_laws_pages.proofs.Asks.World.{asks_same, client_step_left, node_case, quiet_asks, sent_told, site_case}
 
 -- What an event leaves.
 pub record Done (past : List Step) (n : ℕ) (x : Step) : Type 0 where
@@ -121,7 +104,7 @@ client_done past n t e w c sc own same l =
 begins_same : (past : List Step) (x : Step) (n : ℕ) (c : ClientId) (site : WorldClient) (Gone : ServerId → Type 0) → ask_in c x.event ≡ None → ClientAsks past c site →
     Holds c n (λ op. numbered (asks_of (past ++ x ∷ []) c) op) (λ op. list_any (answers_in c op) past) Gone (map key site.node.state.operations ++ []) []
 begins_same past x n c site Gone e h =
-    subst (λ ks. Holds c n (λ op. numbered (asks_of (past ++ x ∷ []) c) op) (λ op. list_any (answers_in c op) past) Gone ks []) (sym (none_more (map key site.node.state.operations)))
+    subst (λ ks. Holds c n (λ op. numbered (asks_of (past ++ x ∷ []) c) op) (λ op. list_any (answers_in c op) past) Gone ks []) (sym (append-nil (map key site.node.state.operations)))
     (record {
       pending = λ k i. ap (λ z. numbered z k.0) (asks_same past x c e) ∙ h.pending k i;
       apart = h.apart;
@@ -321,18 +304,18 @@ module _ (past : List Step) (n : ℕ) (t : Traced) (e : Event) (a : world.Tally)
       go false = nothing past n t e W refl refl refl na pl al
 
 -- Fates are dull.
-dull_both : (os ps : List Observation) → AllDull os → AllDull ps → AllDull (os ++ ps)
+pub dull_both : (os ps : List Observation) → AllDull os → AllDull ps → AllDull (os ++ ps)
 dull_both [] ps a b = b
 dull_both (o ∷ os) ps a b = record { one = a.one; rest = dull_both os ps a.rest b }
 
-dull_fate : (k : ℕ) (e f : Fate) → AllDull (ev.fate_seen k e f)
+pub dull_fate : (k : ℕ) (e f : Fate) → AllDull (ev.fate_seen k e f)
 dull_fate k fates.Pending fates.Pending = tt
 dull_fate k fates.Pending fates.Hard = record { one = tt; rest = tt }
 dull_fate k fates.Pending (fates.Gone c) = record { one = tt; rest = tt }
 dull_fate k fates.Hard f = tt
 dull_fate k (fates.Gone c) f = tt
 
-dull_fates : (k : ℕ) (es fs : List LogEntry) → AllDull (ev.fates_from k es fs)
+pub dull_fates : (k : ℕ) (es fs : List LogEntry) → AllDull (ev.fates_from k es fs)
 unfolding ev.fates_from
 dull_fates k [] fs = tt
 dull_fates k (e ∷ es) [] = tt
@@ -411,30 +394,6 @@ node_left n w s old node there k pl =
     go d y (inl e) = subst (NodeOwn n) (sym e) k
     go d y (inr e) = pl.nodes d y e
 
-set_has : {A : Type 0} (xs : List A) (k : ℕ) (v y : A) → Has y (set xs k v) → (y ≡ v) ⊎ Has y xs
-set_has [] k v y h = inr h
-set_has (x ∷ xs) zero v y (inl e) = inl e
-set_has (x ∷ xs) zero v y (inr h) = inr (inr h)
-set_has (x ∷ xs) (suc k) v y (inl e) = inr (inl e)
-set_has {A} (x ∷ xs) (suc k) v y (inr h) = go (set_has xs k v y h)
-  where
-    go : (y ≡ v) ⊎ Has y xs → (y ≡ v) ⊎ ((y ≡ x) ⊎ Has y xs)
-    go (inl e) = inl e
-    go (inr i) = inr (inr i)
-
--- Each event.
-can_step : (w : World) (k : NodeId) → adm.cannot_step w k ≡ None → is_running w k ≡ true
-unfolding adm.stands
-can_step w k e = go (is_running w k) e
-  where
-    go : (b : Bool) → option_or (adm.stands (not b) (refusals.NotRunning k)) (adm.net_full w) ≡ None → b ≡ true
-    go true e = refl
-    go false e = cc
-
-or_second : (a b : Option WorldRefusal) → option_or a b ≡ None → b ≡ None
-or_second None b e = e
-or_second (Some x) b e = cc
-
 not_client : (d c : ClientId) → same_node (nodes.Client d) (nodes.Client c) ≡ true → c ≡ d
 not_client d c e = client_is d c e
 
@@ -468,7 +427,7 @@ happens_done past n t (events.Lose k) q h pl al = go (message_of t.world k) refl
     go None i = nothing past n t (events.Lose k) (ev.counted t.world) refl refl refl (λ d. refl) pl al
     go (Some m) i =
         silent past n t (events.Lose k) _ (λ d. refl) tt (inl refl) (same_sites t.world _ refl)
-        (record { count = pl.count; few = pl.few; nodes = pl.nodes; told = λ y j. at y (set_has t.world.net.messages (pred k) (record m { lost = true }) y j); known = pl.known }) al
+        (record { count = pl.count; few = pl.few; nodes = pl.nodes; told = λ y j. at y (has_set t.world.net.messages (pred k) (record m { lost = true }) y j); known = pl.known }) al
       where
         at : (y : SentMessage) → (y ≡ record m { lost = true }) ⊎ Has y t.world.net.messages → SentBy n y.message.header.from y.message.body
         at y (inl e) = subst (λ (z : SentMessage). SentBy n z.message.header.from z.message.body) (sym e) (pl.told m (numbered_has t.world.net.messages k m i))
@@ -560,14 +519,6 @@ from_client from h = go (nat_le from 16) (le-leb from 16 h)
     go true e = (client from, refl)
     go false e = cc
 
-from_server : (from : ℕ) (s : ServerId) → from ≡ server_node s → world.node_at from ≡ nodes.Server s
-unfolding world.node_at
-from_server from s e = go (nat_le from 16) refl
-  where
-    go : (b : Bool) → nat_le from 16 ≡ b → (if b then nodes.Client (client from) else nodes.Server (world.server (from - 32768))) ≡ nodes.Server s
-    go true q = let z = leb-true from 16 q in absurd (omega (arith, z, e))
-    go false q = ap (λ m. nodes.Server (record { 0 = m })) (let z : from - 32768 ≡ s.0 = omega (arith, e) in z)
-
 -- what holds of places, as tests
 places_hold : (n : ℕ) (w : World) → Places n w → PlacesHold w
 places_hold n w pl = record { maps = all_pass (maps_own w) w.servers maps; told = all_pass (tells_own w) w.net.messages told; known = all_pass (knows_own w) w.clients known }
@@ -594,7 +545,7 @@ places_hold n w pl = record { maps = all_pass (maps_own w) w.servers maps; told 
           where
             sender : (r : NodeId) → (c : ClientId) × (r ≡ nodes.Client c) → (s : ServerId) → r ≡ nodes.Server s → ⊥
             sender r (c, e) s f = cc (e, f)
-        by (inr (s, e, o)) = rows (world.node_at m.message.header.from) m.message.body (λ r f. subst (λ (z : ServerId). OwnBody n z m.message.body) (is r (sym (from_server m.message.header.from s e) ∙ f)) o)
+        by (inr (s, e, o)) = rows (world.node_at m.message.header.from) m.message.body (λ r f. subst (λ (z : ServerId). OwnBody n z m.message.body) (is r (sym (server_at_node m.message.header.from s e) ∙ f)) o)
           where
             is : (r : ServerId) → ◌≡◌ {A = NodeId} (nodes.Server s) (nodes.Server r) → s ≡ r
             is r q = cc q

@@ -1,23 +1,13 @@
 -- Lists, and what is known of the places of pages.
-use Rattle.std.proofs.Common.{◌≡◌, ℕ, ◌+◌, ◌%◌, Bool, List, [], ◌∷◌, ◌++◌, Option, Some, None, refl, sym, ap, ◌∙◌, subst, inl, inr}
-use Rattle.std.specs.Prelude.{◌⊎◌, filter, pred}
-use Rattle.st_base.specs.declared.disk.BlockAt.{BlockAt}
-use Rattle.st_base.specs.declared.ids.PageNo.{PageNo}
-use Rattle.st_base.specs.declared.ids.ServerId.{ServerId}
-use Rattle.st_base.specs.declared.rows.ExtentRow.{ExtentRow}
-use Rattle.st_messages.specs.declared.message.Body.{Body}
-use Rattle.st_messages.specs.declared.message.Body.TheVariants as bodies
-use Rattle.st_rules.specs.declared.client.KnownExtent.{KnownExtent}
-use Rattle.st_rules.specs.declared.client.MappedBlock.{MappedBlock}
-use Rattle.st_rules.specs.ClientPages as pages
-use Rattle.st_lemmas.specs.Lists.{Has}
-use Rattle.st_lemmas.proofs.Lookups.{some_is}
+use Rattle.st_lemmas.proofs.Words
+use Words.{◌≡◌, ℕ, ◌+◌, ◌%◌, Bool, List, [], ◌∷◌, Option, Some, None, refl, sym, ap, ◌∙◌, subst, inl, inr, ◌⊎◌, filter, pred, BlockAt, PageNo, ServerId}
+use Words.{ExtentRow, Body, KnownExtent, MappedBlock}
+use Words.bodies
+use Words.ClientPages as pages
+use Words.Lists.{Has}
+use Words.Lookups.{some_is}
+use Words.Tables.{found_at, has_filter}
 use Rattle.st_lemmas.proofs.Puts.{has_put}
-use Rattle.st_lemmas.proofs.Tables.{found_at, has_filter}
-
-pub none_more : {A : Type 0} (xs : List A) → xs ++ [] ≡ xs
-none_more [] = refl
-none_more (x ∷ xs) = ap (λ z. x ∷ z) (none_more xs)
 
 -- a block lies on a disk of this server, where there are that many servers
 abbrev pub On : ℕ → ServerId → BlockAt → Type 0

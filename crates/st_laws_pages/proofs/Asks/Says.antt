@@ -1,34 +1,25 @@
 -- What the outputs of a node do to the world: its messages, and what is observed.
-use Rattle.std.proofs.Common.{◌≡◌, ℕ, ◌+◌, ◌%◌, Bool, true, false, ◌&&◌, ◌||◌, List, [], ◌∷◌, ◌++◌, ◌==◌, Option, Some, None, refl, sym, ap, ◌∙◌, subst, inl, inr, append_assoc}
-use Rattle.std.specs.Prelude.{◌⊎◌, is_some, length, not, pred}
-use Rattle.std.specs.List.{list_any}
-use Rattle.std.proofs.lemmas.Bool.{eqb-true, eq-eqb}
-use Rattle.st_base.specs.declared.disk.BlockAt.{BlockAt}
-use Rattle.st_base.specs.declared.disk.Command.{Command}
-use Rattle.st_base.specs.declared.ids.ClientId.{ClientId}
-use Rattle.st_base.specs.declared.ids.ServerId.{ServerId}
-use Rattle.st_messages.specs.declared.answer.AppAnswer.{AppAnswer}
-use Rattle.st_messages.specs.declared.answer.AppAnswer.TheVariants as answers
-use Rattle.st_messages.specs.declared.ask.Ask.{Ask}
-use Rattle.st_messages.specs.declared.output.Note.{Note}
-use Rattle.st_messages.specs.declared.output.Note.TheVariants as notes
-use Rattle.st_messages.specs.declared.output.Output.{Output}
-use Rattle.st_messages.specs.declared.output.Output.TheVariants as outputs
-use Rattle.st_rules.specs.declared.observation.Observation.{Observation}
-use Rattle.st_rules.specs.declared.observation.Observation.TheVariants as seen
-use Rattle.st_rules.specs.declared.world.SentMessage.{SentMessage}
-use Rattle.st_rules.specs.ClientState.{ClientState}
-use Rattle.st_rules.specs.Keys.{same_client, same_server}
-use Rattle.st_rules.specs.World as world
-use Rattle.st_rules.specs.World.{World, WorldClient, site_of}
-use Rattle.st_rules.specs.Events as ev
-use Rattle.st_rules.specs.Events.{WorldTurn, client_says, client_says_all, client_notes, server_says, server_says_all}
-use Rattle.st_rules.specs.Safety as safety
-use Rattle.st_rules.specs.Safety.{Step, ask_of, all_answered_once, all_followed, answers_in, begins_written, block_of, is_answer_to, is_answered_once, is_followed, uses_server}
-use Rattle.st_lemmas.specs.Lists.{Has}
-use Rattle.st_lemmas.proofs.Tables.{and_both, and_true, has_append}
+use Rattle.st_lemmas.proofs.Words
+use Words.{◌≡◌, ℕ, ◌+◌, ◌%◌, Bool, true, false, ◌&&◌, ◌||◌, List, [], ◌∷◌, ◌++◌, ◌==◌, Option, Some, None, refl, sym, ap, ◌∙◌, subst, inl, inr, append_assoc}
+use Words.{◌⊎◌, is_some, length, not, pred, list_any, eqb-true, eq-eqb, BlockAt, Command, ClientId, ServerId, AppAnswer, Ask, Note, Output, Observation}
+use Words.{SentMessage, append-nil}
+use Words.answers
+use Words.notes
+use Words.outputs
+use Words.seen
+use Words.ClientState.{ClientState}
+use Words.Keys.{same_client, same_server}
+use Words.World as world
+use Words.World.{World, WorldClient, site_of}
+use Words.Events as ev
+use Words.Events.{WorldTurn, client_says, client_says_all, client_notes, server_says, server_says_all}
+use Words.Safety as safety
+use Words.Safety.{Step, ask_of, all_answered_once, all_followed, answers_in, begins_written, block_of, is_answer_to, is_answered_once, is_followed, uses_server}
+use Words.Lists.{Has}
+use Words.Tables.{and_both, and_true, has_append}
+use Words.Worlds.{says_both}
 use Rattle.st_laws_pages.specs.Asks.Law.{IsWrittenLogged, AreWrittenLogged}
-use Rattle.st_laws_pages.proofs.Asks.Places.{On, none_more}
+use Rattle.st_laws_pages.proofs.Asks.Places.{On}
 use Rattle.st_laws_pages.proofs.Asks.Client.{Neutral, PlainNote, NotesChange}
 use Rattle.st_laws_pages.proofs.Asks.Asks.{Said, Nothing, Other, Submits, Answers, Changes, Unused, Unwritten, answers_op, any_more}
 
@@ -121,7 +112,7 @@ pub record Owed (past : List Step) (x : Step) (os : List Observation) : Type 0 w
 
 once_more : (past : List Step) (x : Step) (lines os : List Observation) (o : Observation) → all_answered_once past x lines os ≡ true → is_answered_once past x (lines ++ os) o ≡ true → all_answered_once past x lines (os ++ o ∷ []) ≡ true
 unfolding all_answered_once
-once_more past x lines [] o a b = and_both _ _ (subst (λ z. is_answered_once past x z o ≡ true) (none_more lines) b) refl
+once_more past x lines [] o a b = and_both _ _ (subst (λ z. is_answered_once past x z o ≡ true) (append-nil lines) b) refl
 once_more past x lines (p ∷ os) o a b =
     let z = and_true (is_answered_once past x lines p) _ a in
     and_both _ _ z.0 (once_more past x (lines ++ p ∷ []) os o z.1 (subst (λ y. is_answered_once past x y o ≡ true) (sym (append_assoc lines (p ∷ []) os)) b))
@@ -177,7 +168,7 @@ unfolding all_answered_once all_followed
 dull_owed past x os d = go [] os (record { once = refl; followed = refl; written = record {} }) d
   where
     go : (xs os : List Observation) → Owed past x xs → AllDull os → Owed past x (xs ++ os)
-    go xs [] h d = subst (Owed past x) (sym (none_more xs)) h
+    go xs [] h d = subst (Owed past x) (sym (append-nil xs)) h
     go xs (o ∷ os) h d = subst (Owed past x) (append_assoc xs (o ∷ []) os) (go (xs ++ o ∷ []) os (owed_dull past x xs o d.one h) d.rest)
 
 pub dull_unanswered : (c : ClientId) (op : ℕ) (os : List Observation) → AllDull os → list_any (is_answer_to c op) os ≡ false
@@ -193,11 +184,6 @@ pub record Seen (past : List Step) (x : Step) (c : ClientId) (out : List Output)
   pub owed : Owed past x os
   pub own : (op : ℕ) → list_any (is_answer_to c op) os ≡ list_any (answers_op op) out
   pub others : (d : ClientId) (op : ℕ) → (c.0 == d.0) ≡ false → list_any (is_answer_to d op) os ≡ false
-
-both_says : (c : ClientId) (before : ClientState) (xs ys : List Output) (sc : WorldTurn) → client_says_all c before (xs ++ ys) sc ≡ client_says_all c before ys (client_says_all c before xs sc)
-unfolding client_says_all
-both_says c before [] ys sc = refl
-both_says c before (x ∷ xs) ys sc = both_says c before xs ys (client_says sc c before x)
 
 quiet_more : (a b : Bool) → b ≡ false → (a || (b || false)) ≡ a
 quiet_more true b e = refl
@@ -355,13 +341,13 @@ module _ (past : List Step) (x : Step) (c : ClientId) (before : ClientState) whe
   pub said_seen : (out : List Output) (v : World) → Said c asked old out → Z out (client_says_all c before out (ev.quiet v))
   unfolding client_says_all all_answered_once all_followed
   said_seen _ v Nothing = record { owed = record { once = refl; followed = refl; written = record {} }; own = λ op. refl; others = λ d op q. refl }
-  said_seen _ v (Other out o d s) = subst (Z (out ++ o ∷ [])) (sym (both_says c before out (o ∷ []) (ev.quiet v))) (neutral_seen out o _ d (said_seen out v s))
-  said_seen _ v (Submits out z at what s) = subst (Z (out ++ outputs.Submit z at what ∷ [])) (sym (both_says c before out (outputs.Submit z at what ∷ []) (ev.quiet v))) (submit_seen out z at what _ (said_seen out v s))
-  said_seen _ v (Answers out op ask a e o l w s) = subst (Z (out ++ outputs.Answer op a ∷ [])) (sym (both_says c before out (outputs.Answer op a ∷ []) (ev.quiet v))) (answer_seen out op ask a _ e o l w (said_seen out v s))
+  said_seen _ v (Other out o d s) = subst (Z (out ++ o ∷ [])) (sym (says_both c before out (o ∷ []) (ev.quiet v))) (neutral_seen out o _ d (said_seen out v s))
+  said_seen _ v (Submits out z at what s) = subst (Z (out ++ outputs.Submit z at what ∷ [])) (sym (says_both c before out (outputs.Submit z at what ∷ []) (ev.quiet v))) (submit_seen out z at what _ (said_seen out v s))
+  said_seen _ v (Answers out op ask a e o l w s) = subst (Z (out ++ outputs.Answer op a ∷ [])) (sym (says_both c before out (outputs.Answer op a ∷ []) (ev.quiet v))) (answer_seen out op ask a _ e o l w (said_seen out v s))
   said_seen _ v (Changes out op ask y e o l m s) =
       subst (Z ((out ++ outputs.Note y ∷ []) ++ outputs.Answer op answers.Written ∷ []))
-      (sym (both_says c before (out ++ outputs.Note y ∷ []) (outputs.Answer op answers.Written ∷ []) (ev.quiet v)
-      ∙ ap (λ z. client_says_all c before (outputs.Answer op answers.Written ∷ []) z) (both_says c before out (outputs.Note y ∷ []) (ev.quiet v))))
+      (sym (says_both c before (out ++ outputs.Note y ∷ []) (outputs.Answer op answers.Written ∷ []) (ev.quiet v)
+      ∙ ap (λ z. client_says_all c before (outputs.Answer op answers.Written ∷ []) z) (says_both c before out (outputs.Note y ∷ []) (ev.quiet v))))
       (change_seen out op ask y _ e o l m (said_seen out v s))
 
   -- nothing is used of a server

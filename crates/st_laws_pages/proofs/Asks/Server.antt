@@ -1,49 +1,31 @@
 -- A server's pages lie on its own disks, and it tells nothing else, also where it repeats a reply.
-use Rattle.std.proofs.Common.{◌≡◌, ℕ, ◌+◌, ◌%◌, Bool, true, false, List, [], ◌∷◌, ◌++◌, refl, sym, ap, ◌∙◌, subst, inl, inr, arith, if◌then◌else◌}
-use Rattle.std.specs.Prelude.{◌⊎◌, Option, Some, None, Ok, filter, filter_map, flat_map, option_map, pred, suc}
-use Rattle.std.specs.List.{cons_option}
-use Rattle.std.proofs.lemmas.Bool.{eqb-true}
-use Rattle.st_base.specs.declared.disk.BlockAt.{BlockAt}
-use Rattle.st_base.specs.declared.ids.ClientId.{ClientId}
-use Rattle.st_base.specs.declared.ids.ServerId.{ServerId}
-use Rattle.st_base.specs.declared.ids.FileId.{FileId}
-use Rattle.st_base.specs.declared.ids.Life.{Life}
-use Rattle.st_base.specs.declared.ids.PageNo.{PageNo}
-use Rattle.st_base.specs.declared.ids.Stamp.{Stamp}
-use Rattle.st_base.specs.declared.mode.Mode.{Mode}
-use Rattle.st_base.specs.declared.rows.ExtentRow.{ExtentRow}
-use Rattle.st_messages.specs.declared.message.Header.{Header}
-use Rattle.st_messages.specs.declared.message.Message.{Message}
-use Rattle.st_messages.specs.declared.message.Body.{Body}
-use Rattle.st_messages.specs.declared.output.Note.{Note}
-use Rattle.st_messages.specs.declared.output.Note.TheVariants as notes
-use Rattle.st_messages.specs.declared.output.Output.{Output}
-use Rattle.st_messages.specs.declared.output.Output.TheVariants as outputs
-use Rattle.st_rules.specs.declared.input.ServerInput.{ServerInput}
-use Rattle.st_rules.specs.declared.authority.AcceptRefusal.{AcceptRefusal}
+use Rattle.st_lemmas.proofs.Words
+use Words.{◌≡◌, ℕ, ◌+◌, ◌%◌, Bool, true, false, List, [], ◌∷◌, ◌++◌, refl, sym, ap, ◌∙◌, subst, inl, inr, arith, if◌then◌else◌, ◌⊎◌, Option, Some, None, Ok}
+use Words.{filter, option_map, pred, suc, eqb-true, BlockAt, ClientId, ServerId, FileId, Life, PageNo, Stamp, Mode, ExtentRow, Header}
+use Words.{Message, Body, Note, Output, ServerInput, AcceptRefusal, Extent, Verdict, Session, SessionState}
+use Words.notes
+use Words.outputs
+use Words.verdicts
+use Words.states
+use Words.Extents as extents
+use Words.Extents.{Extents}
+use Words.Sessions as sessions
+use Words.Keys.{server_node}
+use Words.Server as sv
+use Words.Server.{ServerState, ServerTurn, turn, with_sessions, with_names, sender, life_in, note, reply, tell, steal_from, suspect_client, keep_and_reply}
+use Words.Server.{server_step}
+use Words.Lists.{Has}
+use Words.Lookups.{some_is}
+use Words.Tables.{found_at, has_append, has_filter, has_map}
+use Words.Members.{filter_map_of}
+use Rattle.std.specs.Prelude.{flat_map}
 use Rattle.st_rules.specs.declared.authority.AcceptRefusal.TheVariants as refusals
-use Rattle.st_rules.specs.declared.extents.Extent.{Extent}
-use Rattle.st_rules.specs.declared.locks.Verdict.{Verdict}
-use Rattle.st_rules.specs.declared.locks.Verdict.TheVariants as verdicts
-use Rattle.st_rules.specs.declared.sessions.Session.{Session}
-use Rattle.st_rules.specs.declared.sessions.SessionState.{SessionState}
-use Rattle.st_rules.specs.declared.sessions.SessionState.TheVariants as states
-use Rattle.st_rules.specs.Extents as extents
-use Rattle.st_rules.specs.Extents.{Extents}
-use Rattle.st_rules.specs.Sessions as sessions
-use Rattle.st_rules.specs.Keys.{server_node}
-use Rattle.st_rules.specs.Server as sv
-use Rattle.st_rules.specs.Server.{ServerState, ServerTurn, turn, with_sessions, with_names, sender, life_in, note, reply, tell, steal_from, suspect_client}
-use Rattle.st_rules.specs.Server.{keep_and_reply, server_step}
-use Rattle.st_lemmas.specs.Lists.{Has}
-use Rattle.st_lemmas.proofs.Lookups.{some_is}
 use Rattle.st_lemmas.proofs.Puts.{has_put}
-use Rattle.st_lemmas.proofs.Tables.{found_at, has_append, has_filter, has_map}
 use Rattle.st_laws_pages.proofs.Asks.Places.{On, OwnBody, OwnRows}
 use Rattle.st_trace.specs.Server.Edits.{Phase, Told, IsAlive, IsHeld, HasTooMany, HasNoRow, IsMapped, IsNoFile, HoldsNot, HasNoSpace, IsNamed, AreListed}
 use Rattle.st_trace.specs.Server.Edits.{IsRefused, RemovesNot, Ruled, Tells, Acquires, Releases, Allocates, Cuts, Creates, MakesDir, Renames, RemovesDir}
-use Rattle.st_trace.specs.Server.Edits.{RemovesFile, Refused, IsSuspect, GreetsInGrace, OfOtherEpoch, HasNoSession, IsRefusedRows, Edit, TakesTimers}
-use Rattle.st_trace.specs.Server.Edits.{Steals, Welcomes, Begins, Replaces, PutsOff, Sees, Reasserts, Serves, Repeats, Refuses, Suspects, Grants, Demands}
+use Rattle.st_trace.specs.Server.Edits.{RemovesFile, Refused, IsSuspect, GreetsInGrace, OfOtherEpoch, HasNoSession, IsRefusedRows, Edit, TakesTimers, Steals}
+use Rattle.st_trace.specs.Server.Edits.{Welcomes, Begins, Replaces, PutsOff, Sees, Reasserts, Serves, Repeats, Refuses, Suspects, Grants, Demands}
 use Rattle.st_trace.proofs.Server.Allocating.{allocated_pages_are_placed}
 use Rattle.st_trace.proofs.Server.Walk.{walk}
 
@@ -119,19 +101,9 @@ release_own : (n : ℕ) (s : ServerId) (x : Extents) (f : FileId) (p : PageNo) �
 unfolding extents.release_from
 release_own n s x f p o = record { server = o.server; servers = o.servers; rows = λ e h. o.rows e (has_filter _ x.rows e h).0 }
 
--- what is reported about extents
-has_told : {A B : Type 0} (f : A → Option B) (xs : List A) (y : B) → Has y (filter_map f xs) → (x : A) × (f x ≡ Some y)
-has_told f [] y h = absurd h
-has_told {A} {B} f (x ∷ xs) y h = go (f x) refl h (λ h. has_told f xs y h)
-  where
-    go : (o : Option B) → f x ≡ o → Has y (cons_option o (filter_map f xs)) → (Has y (filter_map f xs) → (z : A) × (f z ≡ Some y)) → (z : A) × (f z ≡ Some y)
-    go None e h r = r h
-    go (Some v) e (inl q) r = (x, e ∙ ap (λ z. Some z) (sym q))
-    go (Some v) e (inr q) r = r q
-
 told_own : (n : ℕ) (s : ServerId) (x : Extents) (f : FileId) (p : PageNo) (count : ℕ) → ExtentsOwn n s x → OwnRows n s (extents.extent_rows x f p count)
 unfolding extents.extent_rows
-told_own n s x f p count o r h = go (has_told (extents.extent_row_at x f) (extents.pages_from p count) r h)
+told_own n s x f p count o r h = go (filter_map_of (extents.extent_row_at x f) (extents.pages_from p count) r h)
   where
     at : (q : PageNo) (e : Option Extent) → extents.extent_of x f q ≡ e → option_map extents.extent_row e ≡ Some r → On n s r.at
     at q None i z = cc
@@ -189,16 +161,16 @@ module _ (n : ℕ) (s : ServerId) where
   abbrev O : ServerTurn → Type 0
   O t = Own n s t
 
-  o_state : (t : ServerTurn) (x : ServerState) → x.id ≡ t.state.id → x.stable.extents ≡ t.state.stable.extents → x.sessions ≡ t.state.sessions → O t →
+  own_after_state : (t : ServerTurn) (x : ServerState) → x.id ≡ t.state.id → x.stable.extents ≡ t.state.stable.extents → x.sessions ≡ t.state.sessions → O t →
       O (record t { state = x })
-  o_state t x i e y o =
+  own_after_state t x i e y o =
       record { id = i ∙ o.id; extents = subst (ExtentsOwn n s) (sym e) o.extents; kept = subst Keeps (sym y) o.kept; sent = o.sent }
 
-  o_sessions : (t : ServerTurn) (x : sessions.Sessions) → Keeps x → O t → O (with_sessions x t)
-  o_sessions t x k o = record { id = o.id; extents = o.extents; kept = k; sent = o.sent }
+  own_after_sessions : (t : ServerTurn) (x : sessions.Sessions) → Keeps x → O t → O (with_sessions x t)
+  own_after_sessions t x k o = record { id = o.id; extents = o.extents; kept = k; sent = o.sent }
 
-  o_extents : (t : ServerTurn) (x : Extents) → ExtentsOwn n s x → O t → O (sv.with_extents x t)
-  o_extents t x k o = record { id = o.id; extents = k; kept = o.kept; sent = o.sent }
+  own_after_extents : (t : ServerTurn) (x : Extents) → ExtentsOwn n s x → O t → O (sv.with_extents x t)
+  own_after_extents t x k o = record { id = o.id; extents = k; kept = o.kept; sent = o.sent }
 
   sent_more : (os : List Output) (o : Output) → SentOwn n s o → ((x : Output) → Has x os → SentOwn n s x) → (x : Output) → Has x (os ++ o ∷ []) → SentOwn n s x
   sent_more os o k f x h = go (has_append os (o ∷ []) x h)
@@ -208,16 +180,16 @@ module _ (n : ℕ) (s : ServerId) where
       go (inr (inl e)) = subst (SentOwn n s) (sym e) k
       go (inr (inr i)) = absurd i
 
-  o_note : (t : ServerTurn) (x : Note) → O t → O (note t x)
-  o_note t x o = record { id = o.id; extents = o.extents; kept = o.kept; sent = sent_more t.out (outputs.Note x) tt o.sent }
+  own_after_note : (t : ServerTurn) (x : Note) → O t → O (note t x)
+  own_after_note t x o = record { id = o.id; extents = o.extents; kept = o.kept; sent = sent_more t.out (outputs.Note x) tt o.sent }
 
-  o_reply : (t : ServerTurn) (h : Header) (b : Body) → OwnBody n s b → O t → O (reply t h b)
+  own_after_reply : (t : ServerTurn) (h : Header) (b : Body) → OwnBody n s b → O t → O (reply t h b)
   unfolding reply
-  o_reply t h b w o = record { id = o.id; extents = o.extents; kept = o.kept; sent = sent_more t.out _ (ap server_node o.id, w) o.sent }
+  own_after_reply t h b w o = record { id = o.id; extents = o.extents; kept = o.kept; sent = sent_more t.out _ (ap server_node o.id, w) o.sent }
 
-  o_tell : (t : ServerTurn) (c : ClientId) (life : Life) (b : Body) → OwnBody n s b → O t → O (tell t c life b)
+  own_after_tell : (t : ServerTurn) (c : ClientId) (life : Life) (b : Body) → OwnBody n s b → O t → O (tell t c life b)
   unfolding tell
-  o_tell t c life b w o = record { id = o.id; extents = o.extents; kept = o.kept; sent = sent_more t.out _ (ap server_node o.id, w) o.sent }
+  own_after_tell t c life b w o = record { id = o.id; extents = o.extents; kept = o.kept; sent = sent_more t.out _ (ap server_node o.id, w) o.sent }
 
   refused_own : (r : AcceptRefusal) → OwnBody n s (sv.refused_reassertion r)
   refused_own (refusals.GraceOver a b) = tt
@@ -242,31 +214,31 @@ module _ (n : ℕ) (s : ServerId) where
   told_reply t h m b (IsRefused op r e) o = tt
   told_reply t h m b (RemovesNot dir x g ino e f q) o = tt
 
-  o_cut : (t : ServerTurn) (ino : ℕ) (page : PageNo) → O t → O (sv.cut_pages t ino page)
+  own_after_cut : (t : ServerTurn) (ino : ℕ) (page : PageNo) → O t → O (sv.cut_pages t ino page)
   unfolding sv.cut_pages
-  o_cut t ino page o = o_note _ _ (o_extents t _ (release_own n s t.state.stable.extents (sv.file t ino) page o.extents) o)
+  own_after_cut t ino page o = own_after_note _ _ (own_after_extents t _ (release_own n s t.state.stable.extents (sv.file t ino) page o.extents) o)
 
   allocated : (t : ServerTurn) (ino : ℕ) (page : PageNo) (count : ℕ) (x : Extents) →
       extents.allocate t.state.stable.extents (sv.file t ino) page count ≡ Ok x → O t → O (sv.with_extents x t)
   allocated t ino page count x e o =
-      o_extents t x (subst (ExtentsOwn n s) (allocated_pages_are_placed t.state.stable.extents (sv.file t ino) page count x e)
+      own_after_extents t x (subst (ExtentsOwn n s) (allocated_pages_are_placed t.state.stable.extents (sv.file t ino) page count x e)
       (place_own n s (sv.file t ino) (extents.unmapped t.state.stable.extents (sv.file t ino) page count) t.state.stable.extents o.extents)) o
 
   -- the rule of a request: what it leaves, and its reply
   ruled : (now : Stamp) (t : ServerTurn) (h : Header) (m : Body) (u : ServerTurn) (b : Body) → Ruled now t h m u b → O t → O u × OwnBody n s b
   unfolding sv.cut_whole
   ruled now t h m u b (Tells _ _ r) o = (o, told_reply t h m b r o)
-  ruled now t h m u b (Acquires ino mode a f k g) o = (o_state t _ refl refl refl o, verdict_own ino mode a.verdict)
-  ruled now t h m u b (Releases ino g to r e f) o = (o_state t _ refl refl refl o, tt)
+  ruled now t h m u b (Acquires ino mode a f k g) o = (own_after_state t _ refl refl refl o, verdict_own ino mode a.verdict)
+  ruled now t h m u b (Releases ino g to r e f) o = (own_after_state t _ refl refl refl o, tt)
   ruled now t h m u b (Allocates ino g p count x f q e) o =
       let z = allocated t ino p count x e o in (z, told_own n s x (sv.file t ino) p count z.extents)
-  ruled now t h m u b (Cuts ino g p f q) o = (o_cut t ino p o, tt)
-  ruled now t h m u b (Creates dir x d e) o = (o_state t _ refl refl refl o, tt)
-  ruled now t h m u b (MakesDir dir x d e) o = (o_state t _ refl refl refl o, tt)
-  ruled now t h m u b (Renames dir x dir2 x2 d e) o = (o_state t _ refl refl refl o, tt)
-  ruled now t h m u b (RemovesDir dir x g ino d l f z e q) o = (o_state t _ refl refl refl o, tt)
+  ruled now t h m u b (Cuts ino g p f q) o = (own_after_cut t ino p o, tt)
+  ruled now t h m u b (Creates dir x d e) o = (own_after_state t _ refl refl refl o, tt)
+  ruled now t h m u b (MakesDir dir x d e) o = (own_after_state t _ refl refl refl o, tt)
+  ruled now t h m u b (Renames dir x dir2 x2 d e) o = (own_after_state t _ refl refl refl o, tt)
+  ruled now t h m u b (RemovesDir dir x g ino d l f z e q) o = (own_after_state t _ refl refl refl o, tt)
   ruled now t h m u b (RemovesFile dir x g ino d l f z e q) o =
-      (o_cut _ d.ino _ (o_state (with_names d.names t) _ refl refl refl (o_state t _ refl refl refl o)), tt)
+      (own_after_cut _ d.ino _ (own_after_state (with_names d.names t) _ refl refl refl (own_after_state t _ refl refl refl o)), tt)
 
   module _ (x : ServerState) (now : Stamp) (i : ServerInput) where
     refused_reply : (t : ServerTurn) (m : Message) (b : Body) → Refused x now i t m b → OwnBody n s b
@@ -277,32 +249,34 @@ module _ (n : ℕ) (s : ServerId) where
     refused_reply t m b (IsRefusedRows rows r a e) = refused_own r
 
     begins : (t : ServerTurn) (c : ClientId) (life : Life) → O t → O (with_sessions (sessions.with_new_session c life t.state.sessions) t)
-    begins t c life o = o_sessions t _ (kept_new t.state.sessions (sessions.new_session c life) (kept_fresh c life) o.kept) o
+    begins t c life o = own_after_sessions t _ (kept_new t.state.sessions (sessions.new_session c life) (kept_fresh c life) o.kept) o
 
     own_edit : (a : Phase) (t u : ServerTurn) → Edit x now i a t u → O t → O u
     unfolding steal_from suspect_client keep_and_reply
-    own_edit a t u (TakesTimers _ e) o = o_state t _ refl refl refl o
+    own_edit a t u (TakesTimers _ e) o = own_after_state t _ refl refl refl o
     own_edit a t u (Steals _ c y h e) o =
-        o_sessions _ _ (kept_ended t.state.sessions c o.kept) (o_state (note t (notes.Stolen c y.life)) _ refl refl refl (o_note t _ o))
-    own_edit a t u (Welcomes _ m y g e k f) o = o_reply t m.header _ tt o
-    own_edit a t u (Begins _ m g f) o = o_reply _ m.header _ tt (begins t (sender m.header) (life_in m.header) o)
+        own_after_sessions _ _ (kept_ended t.state.sessions c o.kept) (own_after_state (note t (notes.Stolen c y.life)) _ refl refl refl (own_after_note t _ o))
+    own_edit a t u (Welcomes _ m y g e k f) o = own_after_reply t m.header _ tt o
+    own_edit a t u (Begins _ m g f) o = own_after_reply _ m.header _ tt (begins t (sender m.header) (life_in m.header) o)
     own_edit a t u (Replaces _ m y g e k f r) o =
-        o_reply _ m.header _ tt (o_state (with_sessions (sessions.with_new_session (sender m.header) (life_in m.header) t.state.sessions) t) _ refl refl refl
+        own_after_reply _ m.header _ tt
+        (own_after_state (with_sessions (sessions.with_new_session (sender m.header) (life_in m.header) t.state.sessions) t) _ refl refl refl
         (begins t (sender m.header) (life_in m.header) o))
     own_edit a t u (PutsOff _ m y g e k f r) o =
-        o_reply _ m.header _ tt (o_state (note t (notes.Suspected (sender m.header) now)) _ refl refl refl (o_note t _ o))
-    own_edit a t u (Sees _ m ino g h k e) o = o_state t _ refl refl refl o
+        own_after_reply _ m.header _ tt (own_after_state (note t (notes.Suspected (sender m.header) now)) _ refl refl refl (own_after_note t _ o))
+    own_edit a t u (Sees _ m ino g h k e) o = own_after_state t _ refl refl refl o
     own_edit a t u (Reasserts _ m rows r on f) o =
-        o_reply _ m.header _ tt (o_sessions _ _ (kept_reasserted t.state.sessions (sender m.header) (life_in m.header) o.kept) (o_state t _ refl refl refl o))
+        own_after_reply _ m.header _ tt
+        (own_after_sessions _ _ (kept_reasserted t.state.sessions (sender m.header) (life_in m.header) o.kept) (own_after_state t _ refl refl refl o))
     own_edit a t u (Serves _ m v b y e r) o =
         let z = ruled now t m.header m.body v b r o in
-        o_reply _ m.header b z.1 (o_sessions v _ (kept_stored v.state.sessions (sender m.header) m.header.number b z.1 z.0.kept) z.0)
+        own_after_reply _ m.header b z.1 (own_after_sessions v _ (kept_stored v.state.sessions (sender m.header) m.header.number b z.1 z.0.kept) z.0)
     own_edit a t u (Repeats _ m y b k e f g q) o =
-        o_reply t m.header b (o.kept y (found_at (sessions.is_session_of (sender m.header)) t.state.sessions.rows y f).1 b (ap reply_in q)) o
-    own_edit a t u (Refuses _ m b r) o = o_reply t m.header b (refused_reply t m b r) o
-    own_edit a t u (Suspects _ c r is q f h e k) o = o_state (note t (notes.Suspected c now)) _ refl refl refl (o_note t _ o)
-    own_edit a t u (Grants _ w off h e f) o = o_tell _ w.client w.life _ tt (o_state t _ refl refl refl o)
-    own_edit a t u (Demands _ w r y e k f q d) o = o_tell _ r.client r.life _ tt (o_state t _ refl refl refl o)
+        own_after_reply t m.header b (o.kept y (found_at (sessions.is_session_of (sender m.header)) t.state.sessions.rows y f).1 b (ap reply_in q)) o
+    own_edit a t u (Refuses _ m b r) o = own_after_reply t m.header b (refused_reply t m b r) o
+    own_edit a t u (Suspects _ c r is q f h e k) o = own_after_state (note t (notes.Suspected c now)) _ refl refl refl (own_after_note t _ o)
+    own_edit a t u (Grants _ w off h e f) o = own_after_tell _ w.client w.life _ tt (own_after_state t _ refl refl refl o)
+    own_edit a t u (Demands _ w r y e k f q d) o = own_after_tell _ r.client r.life _ tt (own_after_state t _ refl refl refl o)
 
 -- The whole step.
 pub served : (n : ℕ) (s : ServerId) (x : ServerState) (now : Stamp) (i : ServerInput) → Own n s (turn x []) → Own n s (server_step x now i)

@@ -1,34 +1,23 @@
 -- A whole step of a client, whatever it takes.
-use Rattle.std.proofs.Common.{◌≡◌, ℕ, Bool, true, false, ◌||◌, List, [], ◌∷◌, ◌++◌, ◌==◌, Option, Some, None, refl, sym, ap, ◌∙◌, subst, inl, inr, if◌then◌else◌}
-use Rattle.std.specs.Prelude.{◌⊎◌, is_some, map}
-use Rattle.std.specs.List.{list_any}
-use Rattle.std.proofs.lemmas.Bool.{eqb-true}
-use Rattle.st_base.specs.declared.config.Config.{Config}
-use Rattle.st_base.specs.declared.ids.ClientId.{ClientId}
-use Rattle.st_base.specs.declared.ids.ServerId.{ServerId}
-use Rattle.st_base.specs.declared.ids.Stamp.{Stamp}
-use Rattle.st_messages.specs.declared.answer.AppAnswer.{AppAnswer}
-use Rattle.st_messages.specs.declared.ask.Ask.{Ask}
-use Rattle.st_messages.specs.declared.ask.Ask.TheVariants as asks
-use Rattle.st_messages.specs.declared.message.Body.{Body}
-use Rattle.st_messages.specs.declared.output.Output.{Output}
-use Rattle.st_messages.specs.declared.output.Output.TheVariants as outputs
-use Rattle.st_rules.specs.declared.client.ClientInput.{ClientInput}
-use Rattle.st_rules.specs.declared.client.ClientInput.TheVariants as inputs
-use Rattle.st_rules.specs.declared.client.Operation.{Operation}
-use Rattle.st_rules.specs.Client as cl
-use Rattle.st_rules.specs.ClientPages as pages
-use Rattle.st_rules.specs.ClientPasses as cp
-use Rattle.st_rules.specs.ClientReplies as cr
-use Rattle.st_rules.specs.ClientState as cs
-use Rattle.st_rules.specs.ClientState.{ClientSession, Association, ClientState, ClientTurn, Turn, client_turn, enter, leave, at_these, at_each, only_at, is_at, server_of}
-use Rattle.st_rules.specs.Keys.{same_server, server_node}
-use Rattle.st_rules.specs.Safety.{is_use}
-use Rattle.st_lemmas.specs.Lists.{Has}
-use Rattle.st_lemmas.proofs.Tables.{has_append, has_map_in}
+use Rattle.st_lemmas.proofs.Words
+use Words.{◌≡◌, ℕ, Bool, true, false, ◌||◌, List, [], ◌∷◌, ◌++◌, ◌==◌, Option, Some, None, refl, sym, ap, ◌∙◌, subst, inl, inr, if◌then◌else◌, ◌⊎◌, is_some}
+use Words.{map, list_any, eqb-true, Config, ClientId, ServerId, Stamp, AppAnswer, Ask, Body, Output, ClientInput, Operation}
+use Words.asks
+use Words.outputs
+use Words.inputs
+use Words.Client as cl
+use Words.ClientPages as pages
+use Words.ClientPasses as cp
+use Words.ClientReplies as cr
+use Words.ClientState as cs
+use Words.ClientState.{ClientSession, Association, ClientState, ClientTurn, Turn, client_turn, enter, leave, at_these, at_each, only_at, is_at, server_of}
+use Words.Keys.{same_server, server_node}
+use Words.Safety.{is_use}
+use Words.Lists.{Has}
+use Words.Tables.{has_append, has_map_in}
 use Rattle.st_laws_steps.specs.Lives.Lives.{Once, server_number}
 use Rattle.st_laws_pages.proofs.Asks.Places.{Knows, OwnBody}
-use Rattle.st_laws_pages.proofs.Asks.Client.{Lasts, Stands, Usable, Begun, Lasting, Each, g_receive, w_lose, w_finish, s_passes, each, these, begun}
+use Rattle.st_laws_pages.proofs.Asks.Client.{Lasts, Stands, Usable, Begun, Lasting, Each, begins_after_receive, stands_after_lose, stands_after_finish, usable_after_passes, each, these, begun}
 
 -- A fact of operations and outputs, before the input and after it.
 abbrev pub Fact : Type 1
@@ -221,16 +210,16 @@ module _ (n : ℕ) (Use : ServerId → Type 0) (c : ClientId) (k : Config) (P R 
       go (inputs.Control m) g = to (m.header.to == t.state.id.0)
         where
           to : (b : Bool) → B (Usable Use) (if b then cr.receive_here t now m.header m.body else t)
-          to true = each n Use c k R r (Begun Use) (Usable Use) (cr.receive_at now m.header m.body) (λ u w. g_receive n Use c k R r now m.header m.body u g.1 w) t (goes (Begun Use) g.0 t e)
+          to true = each n Use c k R r (Begun Use) (Usable Use) (cr.receive_at now m.header m.body) (λ u w. begins_after_receive n Use c k R r now m.header m.body u g.1 w) t (goes (Begun Use) g.0 t e)
           to false = goes (Usable Use) g.0 t (weaker t e)
       go (inputs.Done number result) g =
-          each n Use c k R r (Usable Use) (Usable Use) (cl.finish number result) (λ u w. w_finish n Use c k R r (Usable Use) number result u w) t (goes (Usable Use) g t (weaker t e))
+          each n Use c k R r (Usable Use) (Usable Use) (cl.finish number result) (λ u w. stands_after_finish n Use c k R r (Usable Use) number result u w) t (goes (Usable Use) g t (weaker t e))
 
   -- the whole step
   pub stepped : (s : ClientState) (now : Stamp) (input : ClientInput) → Once (map server_number s.associations) → Takes n P R input → A (Lasting k now Use) (client_turn s []) →
       B (Usable Use) (cl.client_step s now input)
   unfolding cl.client_step cl.work cl.losses at_each
   stepped s now input o g e =
-      each n Use c k R r (Usable Use) (Usable Use) (cp.passes now (cl.is_tick input)) (λ u w. s_passes n Use c k R r now (cl.is_tick input) u w) _
+      each n Use c k R r (Usable Use) (Usable Use) (cp.passes now (cl.is_tick input)) (λ u w. usable_after_passes n Use c k R r now (cl.is_tick input) u w) _
       (input_taken _ now input (subst Once (sym (these_servers now s.associations (cs.with_associations [] (client_turn s [])))) o) g
-      (each n Use c k P p (Lasting k now Use) (Begun Use) (cl.lose now) (λ u w. w_lose n Use c k P p now u w) (client_turn s []) e))
+      (each n Use c k P p (Lasting k now Use) (Begun Use) (cl.lose now) (λ u w. stands_after_lose n Use c k P p now u w) (client_turn s []) e))

@@ -1,41 +1,30 @@
 -- Places and asks in the world: each event keeps them.
-use Rattle.std.proofs.Common.{◌≡◌, ℕ, ◌≤◌, ◌<◌, Bool, true, false, ◌||◌, List, [], ◌∷◌, ◌++◌, ◌==◌, Option, Some, None, Ok, Err, refl, sym, ap, ◌∙◌, subst, inl, inr, arith, if◌then◌else◌}
-use Rattle.std.specs.Prelude.{◌⊎◌, filter_map, length, map, option_map, pred}
-use Rattle.std.specs.List.{cons_option, list_any}
-use Rattle.std.proofs.lemmas.Bool.{eqb-true, eq-eqb}
-use Rattle.st_base.specs.declared.config.Config.{Config}
-use Rattle.st_base.specs.declared.ids.ClientId.{ClientId}
-use Rattle.st_base.specs.declared.ids.NodeId.TheVariants as nodes
-use Rattle.st_base.specs.declared.ids.ServerId.{ServerId}
-use Rattle.st_base.specs.declared.ids.Stamp.{Stamp}
-use Rattle.st_messages.specs.declared.ask.Ask.{Ask}
-use Rattle.st_messages.specs.declared.message.Body.{Body}
-use Rattle.st_messages.specs.declared.output.Output.{Output}
-use Rattle.st_messages.specs.declared.output.Output.TheVariants as outputs
-use Rattle.st_rules.specs.declared.client.ClientInput.{ClientInput}
-use Rattle.st_rules.specs.declared.client.Operation.{Operation}
-use Rattle.st_rules.specs.declared.lease.Phase.{Phase}
-use Rattle.st_rules.specs.declared.lease.Phase.TheVariants as phases
+use Rattle.st_lemmas.proofs.Words
+use Words.{◌≡◌, ℕ, ◌≤◌, ◌<◌, Bool, true, false, ◌||◌, List, [], ◌∷◌, ◌++◌, ◌==◌, Option, Some, None, Ok, Err, refl, sym, ap, ◌∙◌, subst, inl, inr, arith}
+use Words.{if◌then◌else◌, ◌⊎◌, filter_map, length, map, option_map, pred, cons_option, list_any, eqb-true, eq-eqb, Config, ClientId, ServerId, Stamp, Ask, Body}
+use Words.{Output, ClientInput, Operation, Phase, Session, SentMessage, append-nil}
+use Words.nodes
+use Words.outputs
+use Words.phases
+use Words.Client as cl
+use Words.ClientLease as lease
+use Words.ClientState.{ClientSession, Association, ClientState, client_turn}
+use Words.Events as ev
+use Words.Events.{WorldTurn}
+use Words.Keys.{server_node}
+use Words.Server.{ServerNode}
+use Words.World as world
+use Words.World.{World, WorldClient, site_of, node_of, numbered, with_numbered, clock_of}
+use Words.Safety.{Step, answers_in, ask_in, event_of, is_answer_to, is_expired, has_reached, uses_server}
+use Words.Lists.{Has}
+use Words.Lookups.{some_is}
+use Words.Numbers.{numbered_own, numbered_other, numbered_below, set_length}
+use Words.Lengths.{map_last}
 use Rattle.st_rules.specs.declared.node.StepRefusal.TheVariants.{Crashed}
-use Rattle.st_rules.specs.declared.sessions.Session.{Session}
-use Rattle.st_rules.specs.declared.world.SentMessage.{SentMessage}
-use Rattle.st_rules.specs.Client as cl
-use Rattle.st_rules.specs.ClientLease as lease
-use Rattle.st_rules.specs.ClientState.{ClientSession, Association, ClientState, client_turn}
-use Rattle.st_rules.specs.Events as ev
-use Rattle.st_rules.specs.Events.{WorldTurn}
-use Rattle.st_rules.specs.Keys.{server_node}
-use Rattle.st_rules.specs.Server.{ServerNode}
-use Rattle.st_rules.specs.World as world
-use Rattle.st_rules.specs.World.{World, WorldClient, site_of, node_of, numbered, with_numbered, clock_of}
-use Rattle.st_rules.specs.Safety.{Step, answers_in, ask_in, event_of, is_answer_to, is_expired, has_reached, uses_server}
-use Rattle.st_lemmas.specs.Lists.{Has}
-use Rattle.st_lemmas.proofs.Lookups.{some_is}
-use Rattle.st_lemmas.proofs.Numbers.{numbered_own, numbered_other, numbered_below, set_length}
 use Rattle.st_laws_steps.specs.Lives.Lives.{NodeHolds}
 use Rattle.st_laws_steps.proofs.Lives.Associations.{own_found}
 use Rattle.st_laws_steps.proofs.Client.Losing.{over_is}
-use Rattle.st_laws_pages.proofs.Asks.Places.{Knows, OwnBody, none_more}
+use Rattle.st_laws_pages.proofs.Asks.Places.{Knows, OwnBody}
 use Rattle.st_laws_pages.proofs.Asks.Client.{Lasting, Usable, Each, is_lost, key}
 use Rattle.st_laws_pages.proofs.Asks.Step.{Takes, ToldBy, stepped}
 use Rattle.st_laws_pages.proofs.Asks.Server.{ExtentsOwn, Kept}
@@ -85,10 +74,6 @@ pub record AllAsks (past : List Step) (w : World) : Type 0 where
   pub clients : (c : ClientId) (site : WorldClient) → site_of w c ≡ Some site → ClientAsks past c site
   pub later : (c : ClientId) (op : ℕ) → length (asks_of past c) < op → list_any (answers_in c op) past ≡ false
 
-map_last : {A B : Type 0} (f : A → B) (xs : List A) (y : A) → map f (xs ++ y ∷ []) ≡ map f xs ++ f y ∷ []
-map_last f [] y = refl
-map_last f (x ∷ xs) y = ap (λ z. f x ∷ z) (map_last f xs y)
-
 filter_last : {A B : Type 0} (f : A → Option B) (xs : List A) (y : A) → filter_map f (xs ++ y ∷ []) ≡ filter_map f xs ++ cons_option (f y) []
 filter_last f [] y = refl
 filter_last {A} {B} f (x ∷ xs) y = go (f x) (filter_last f xs y)
@@ -101,7 +86,7 @@ pub asks_more : (past : List Step) (x : Step) (c : ClientId) → asks_of (past +
 asks_more past x c = ap (filter_map (ask_in c)) (map_last event_of past x) ∙ filter_last (ask_in c) (map event_of past) (event_of x)
 
 pub asks_same : (past : List Step) (x : Step) (c : ClientId) → ask_in c x.event ≡ None → asks_of (past ++ x ∷ []) c ≡ asks_of past c
-asks_same past x c e = asks_more past x c ∙ ap (λ z. asks_of past c ++ cons_option z []) e ∙ none_more (asks_of past c)
+asks_same past x c e = asks_more past x c ∙ ap (λ z. asks_of past c ++ cons_option z []) e ∙ append-nil (asks_of past c)
 
 answers_more : (past : List Step) (x : Step) (c : ClientId) (op : ℕ) → list_any (answers_in c op) past ≡ false → list_any (is_answer_to c op) x.seen ≡ false → list_any (answers_in c op) (past ++ x ∷ []) ≡ false
 answers_more past x c op a b = any_more (answers_in c op) past (x ∷ []) ∙ go _ _ a b
@@ -299,7 +284,7 @@ module _ (past : List Step) (x : Step) (n : ℕ) (w : World) (c : ClientId) (old
   ops = (cl.client_step state now input).state.operations
 
   holds : Holds c n (λ op. numbered (asks_of (past ++ x ∷ []) c) op) answered Gone (map key ops) t.out
-  holds = subst (λ ks. Holds c n (λ op. numbered (asks_of (past ++ x ∷ []) c) op) answered Gone ks t.out) (none_more (map key ops)) ends.done
+  holds = subst (λ ks. Holds c n (λ op. numbered (asks_of (past ++ x ∷ []) c) op) answered Gone ks t.out) (append-nil (map key ops)) ends.done
 
   left : Leaves t.out v0 says.world
   left = client_leaves c state t.out (ev.quiet v0)

@@ -1,26 +1,21 @@
 -- A whole step of a client: which syncs it answers hard, and which operations it leaves.
-use Rattle.std.proofs.Common.{◌≡◌, ℕ, Bool, true, false, ◌⊎◌, List, [], ◌∷◌, ◌++◌, Option, Some, sym, subst, refl, inl, inr, if◌then◌else◌}
-use Rattle.std.specs.Prelude.{length, map}
-use Rattle.st_base.specs.declared.ids.ClientId.{ClientId}
-use Rattle.st_base.specs.declared.ids.FileId.{FileId}
-use Rattle.st_base.specs.declared.ids.Stamp.{Stamp}
-use Rattle.st_messages.specs.declared.answer.AppAnswer.TheVariants as answers
-use Rattle.st_messages.specs.declared.ask.Ask.{Ask}
-use Rattle.st_messages.specs.declared.ask.Ask.TheVariants as asks
-use Rattle.st_messages.specs.declared.output.Output.TheVariants as outputs
-use Rattle.st_rules.specs.declared.client.ClientInput.{ClientInput}
-use Rattle.st_rules.specs.declared.client.ClientInput.TheVariants as inputs
-use Rattle.st_rules.specs.declared.client.Operation.{Operation}
-use Rattle.st_rules.specs.Client as cl
-use Rattle.st_rules.specs.ClientPages as pages
-use Rattle.st_rules.specs.ClientPasses as cp
-use Rattle.st_rules.specs.ClientReplies as cr
-use Rattle.st_rules.specs.ClientState.{Association, ClientState, ClientTurn, Turn, at_each, at_these, client_turn, enter, is_at, leave, only_at, server_of, with_associations}
-use Rattle.st_rules.specs.Events as ev
-use Rattle.st_rules.specs.Events.{WorldTurn}
-use Rattle.st_rules.specs.Safety.{Step}
-use Rattle.st_rules.specs.World.{World, WorldClient, life_with, site_of}
-use Rattle.st_lemmas.specs.Lists.{Has}
+use Rattle.st_lemmas.proofs.Words
+use Words.{◌≡◌, ℕ, Bool, true, false, ◌⊎◌, List, [], ◌∷◌, ◌++◌, Option, Some, sym, subst, refl, inl, inr, if◌then◌else◌, length, map, ClientId, FileId, Stamp}
+use Words.{Ask, ClientInput, Operation}
+use Words.answers
+use Words.asks
+use Words.outputs
+use Words.inputs
+use Words.Client as cl
+use Words.ClientPages as pages
+use Words.ClientPasses as cp
+use Words.ClientReplies as cr
+use Words.ClientState.{Association, ClientState, ClientTurn, Turn, at_each, at_these, client_turn, enter, is_at, leave, only_at, server_of, with_associations}
+use Words.Events as ev
+use Words.Events.{WorldTurn}
+use Words.Safety.{Step}
+use Words.World.{World, WorldClient, life_with, site_of}
+use Words.Lists.{Has}
 use Rattle.st_laws_pages.specs.Fates.Fates.{GoneAll}
 use Rattle.st_laws_pages.specs.Flush.Flush.{NodeCared}
 use Rattle.st_laws_steps.specs.Lives.Lives.{LivesHold}
@@ -33,20 +28,24 @@ use Rattle.st_laws_pages.proofs.Asks.Client.{key}
 use Rattle.st_laws_pages.proofs.Asks.Places.{Knows}
 use Rattle.st_laws_pages.specs.Causes.Invariants.{CommandsStand, LatestOwn}
 use Rattle.st_laws_pages.proofs.Causes.Hardly.{Hards, Ungone, each_said_at, quiet_hards}
-use Rattle.st_laws_pages.proofs.Causes.Placed.{AllPlaced, From, InputTells, Placed, Since, each_from, each_place, finish_places, receive_places, input_places, lose_places, only_left, passes_place, since_none, since_one, since_then}
+use Rattle.st_laws_pages.proofs.Causes.Placed.{AllPlaced, From, InputTells, Placed, Since, each_from, each_place, finish_places, receive_places, input_places}
+use Rattle.st_laws_pages.proofs.Causes.Placed.{lose_places, only_left, passes_place, since_none, since_one, since_then}
 use Rattle.st_laws_pages.proofs.Causes.Saying.{placed_grown}
 use Rattle.st_laws_pages.proofs.Causes.Stepping.{input_all, phases, work_grows}
 use Rattle.st_laws_steps.specs.Client.Client.{Unhard}
-use Rattle.st_laws_pages.proofs.Causes.Unhard.{H, h_ask, h_finish, h_receive, h_lose}
+use Rattle.st_laws_pages.proofs.Causes.Unhard.{H, unhard_kept_by_ask, unhard_kept_by_finish, unhard_kept_by_receive, unhard_kept_by_lose}
 
 -- A rule at each server in turn answers no sync hard.
-these_unhard : (rule : Turn → Turn) → ((t : Turn) → Fit t.here → H t (rule t)) → (al : List Association) (t : ClientTurn) → ((a : Association) → Has a al → Fit a) → Since Unhard t.out (at_these rule al t).out
+these_unhard : (rule : Turn → Turn) → ((t : Turn) → Fit t.here → H t (rule t)) → (al : List Association) (t : ClientTurn) →
+    ((a : Association) → Has a al → Fit a) → Since Unhard t.out (at_these rule al t).out
 unfolding at_these
 these_unhard rule one [] t f = since_none Unhard t.out
 these_unhard rule one (a ∷ al) t f =
-    since_then Unhard t.out (rule (enter t a)).out (at_these rule al (leave t (rule (enter t a)))).out (one (enter t a) (f a (inl refl))) (these_unhard rule one al (leave t (rule (enter t a))) (λ b i. f b (inr i)))
+    since_then Unhard t.out (rule (enter t a)).out (at_these rule al (leave t (rule (enter t a)))).out (one (enter t a) (f a (inl refl)))
+    (these_unhard rule one al (leave t (rule (enter t a))) (λ b i. f b (inr i)))
 
-each_unhard : (rule : Turn → Turn) → ((t : Turn) → Fit t.here → H t (rule t)) → (t : ClientTurn) → ((a : Association) → Has a t.state.associations → Fit a) → Since Unhard t.out (at_each rule t).out
+each_unhard : (rule : Turn → Turn) → ((t : Turn) → Fit t.here → H t (rule t)) → (t : ClientTurn) → ((a : Association) → Has a t.state.associations → Fit a) →
+    Since Unhard t.out (at_each rule t).out
 unfolding at_each
 each_unhard rule one t f = these_unhard rule one t.state.associations (with_associations [] t) f
 
@@ -55,9 +54,11 @@ input_unhard : (now : Stamp) (input : ClientInput) (t u : ClientTurn) → Taken 
 input_unhard now _ t _ (taking.Nothing i) f = since_none Unhard t.out
 input_unhard now _ t _ (taking.Full op ask e) f = since_one Unhard t.out (outputs.Answer op answers.OpsFull) tt
 input_unhard now _ t _ (taking.Unknown op ask e g) f = since_one Unhard t.out (outputs.Answer op answers.NoFile) tt
-input_unhard now _ t _ (taking.Takes op ask e g) f = each_unhard (only_at (server_of ask) (cl.take_ask op ask)) (λ u g. h_ask (server_of ask) op ask u) t f
-input_unhard now _ t _ (taking.Receives m e) f = each_unhard (cr.receive_at now m.header m.body) (λ u g. h_receive now m.header m.body u g.fresh) t f
-input_unhard now _ t _ (taking.Finishes number r) f = each_unhard (cl.finish number r) (λ u g. h_finish number r u) t f
+input_unhard now _ t _ (taking.Takes op ask e g) f = each_unhard (only_at (server_of ask) (cl.take_ask op ask))
+    (λ u g. unhard_kept_by_ask (server_of ask) op ask u) t f
+input_unhard now _ t _ (taking.Receives m e) f = each_unhard (cr.receive_at now m.header m.body) (λ u g. unhard_kept_by_receive now m.header m.body u g.fresh) t
+    f
+input_unhard now _ t _ (taking.Finishes number r) f = each_unhard (cl.finish number r) (λ u g. unhard_kept_by_finish number r u) t f
 
 -- The operations after an ask: those that there were, and it.
 abbrev OrNew : List (ℕ × Ask) → ℕ × Ask → List Operation → Type 0
@@ -92,12 +93,14 @@ ask_one s op ask t = go (is_at s t.here)
     go true = by ask
     go false = λ k i. inl i
 
-ask_these : (s : _) (op : ℕ) (ask : Ask) (al : List Association) (t : ClientTurn) → OrNew (map key t.state.operations) (op, ask) (at_these (only_at s (cl.take_ask op ask)) al t).state.operations
+ask_these : (s : _) (op : ℕ) (ask : Ask) (al : List Association) (t : ClientTurn) →
+    OrNew (map key t.state.operations) (op, ask) (at_these (only_at s (cl.take_ask op ask)) al t).state.operations
 unfolding at_these
 ask_these s op ask [] t = λ k i. inl i
 ask_these s op ask (a ∷ al) t = λ k i. go k (ask_these s op ask al (leave t (only_at s (cl.take_ask op ask) (enter t a))) k i)
   where
-    go : (k : ℕ × Ask) → Has k (map key (only_at s (cl.take_ask op ask) (enter t a)).operations) ⊎ (k ≡ (op, ask)) → Has k (map key t.state.operations) ⊎ (k ≡ (op, ask))
+    go : (k : ℕ × Ask) → Has k (map key (only_at s (cl.take_ask op ask) (enter t a)).operations) ⊎ (k ≡ (op, ask)) →
+        Has k (map key t.state.operations) ⊎ (k ≡ (op, ask))
     go k (inl i) = ask_one s op ask (enter t a) k i
     go k (inr e) = inr e
 
@@ -120,16 +123,22 @@ unfolding at_each
 input_asked n now asked _ t _ (taking.Nothing i) told new f k h = h
 input_asked n now asked _ t _ (taking.Full op ask e) told new f k h = h
 input_asked n now asked _ t _ (taking.Unknown op ask e g) told new f k h = h
-input_asked n now asked _ t _ (taking.Takes op ask e g) told new f k h = λ x i. either x (ask_these (server_of ask) op ask t.state.associations (with_associations [] t) x i)
+input_asked n now asked _ t _ (taking.Takes op ask e g) told new f k h =
+    λ x i. either x (ask_these (server_of ask) op ask t.state.associations (with_associations [] t) x i)
   where
     either : (x : ℕ × Ask) → Has x (map key t.state.operations) ⊎ (x ≡ (op, ask)) → asked x.0 ≡ Some x.1
     either x (inl i) = h x i
     either x (inr e) = subst (λ (y : ℕ × Ask). asked y.0 ≡ Some y.1) (sym e) new
-input_asked n now asked _ t _ (taking.Receives m e) told new f k h = from_asked asked t.state.operations (at_each (cr.receive_at now m.header m.body) t).state.operations (each_from n (cr.receive_at now m.header m.body) (receive_places n now m.header m.body told) t f k) h
-input_asked n now asked _ t _ (taking.Finishes number r) told new f k h = from_asked asked t.state.operations (at_each (cl.finish number r) t).state.operations (each_from n (cl.finish number r) (finish_places n now number r) t f k) h
+input_asked n now asked _ t _ (taking.Receives m e) told new f k h =
+    from_asked asked t.state.operations (at_each (cr.receive_at now m.header m.body) t).state.operations
+    (each_from n (cr.receive_at now m.header m.body) (receive_places n now m.header m.body told) t f k) h
+input_asked n now asked _ t _ (taking.Finishes number r) told new f k h =
+    from_asked asked t.state.operations (at_each (cl.finish number r) t).state.operations
+    (each_from n (cl.finish number r) (finish_places n now number r) t f k) h
 
 -- The whole step.
-module _ (past : List Step) (w : World) (c : ClientId) (old site : WorldClient) (input : ClientInput) (now : Stamp) (there : site_of w c ≡ Some old) (same : old.node ≡ site.node) (starts : old.starts ≡ site.starts) (h : LivesHold w) where
+module _ (past : List Step) (w : World) (c : ClientId) (old site : WorldClient) (input : ClientInput) (now : Stamp) (there : site_of w c ≡ Some old)
+    (same : old.node ≡ site.node) (starts : old.starts ≡ site.starts) (h : LivesHold w) where
   abbrev s : ClientState
   s = site.node.state
 
@@ -148,9 +157,12 @@ module _ (past : List Step) (w : World) (c : ClientId) (old site : WorldClient) 
   abbrev sc : WorldTurn
   sc = ev.quiet (ev.with_site c after w)
 
-  module _ (size : ℕ) (own : site_of sc.world c ≡ Some after) (count : length sc.world.servers ≡ size) (holds : CommandsStand w.log w.commands w.disks.commands) (placed : Placed size v.out) (told : InputTold past sc c site.starts input) (cared : NodeCared past w.commands w.log c old)
-      (latest : (a : Association) → Has a old.node.state.associations → LatestOwn c w.log a) (asked : ℕ → Option Ask) (gone : GoneAll (Ungone c (life_with after.node.state)) w.log) (tells : InputTells size input) (new : AsksIt asked input)
-      (fit : (b : Association) → Has b s.associations → Fit b) (knows : (b : Association) → Has b s.associations → Knows size b.server b.store.extents) (known : KeysAsked asked s.operations) where
+  module _ (size : ℕ) (own : site_of sc.world c ≡ Some after) (count : length sc.world.servers ≡ size) (holds : CommandsStand w.log w.commands w.disks.commands)
+      (placed : Placed size v.out) (told : InputTold past sc c site.starts input) (cared : NodeCared past w.commands w.log c old)
+      (latest : (a : Association) → Has a old.node.state.associations → LatestOwn c w.log a) (asked : ℕ → Option Ask)
+      (gone : GoneAll (Ungone c (life_with after.node.state)) w.log) (tells : InputTells size input) (new : AsksIt asked input)
+      (fit : (b : Association) → Has b s.associations → Fit b) (knows : (b : Association) → Has b s.associations → Knows size b.server b.store.extents)
+      (known : KeysAsked asked s.operations) where
     lost : AllPlaced size (client_turn s []) t
     unfolding cl.losses
     lost = each_place size (cl.lose now) (only_left size (cl.lose now) (lose_places size now)) (client_turn s []) fit knows
@@ -174,15 +186,19 @@ module _ (past : List Step) (w : World) (c : ClientId) (old site : WorldClient) 
     pub step_asked : KeysAsked asked v.state.operations
     unfolding cl.work
     step_asked =
-        from_asked asked u.state.operations v.state.operations (each_from size (cp.passes now (cl.is_tick input)) (passes_place size now (cl.is_tick input)) u fits_u places.knows) asked_u
+        from_asked asked u.state.operations v.state.operations
+        (each_from size (cp.passes now (cl.is_tick input)) (passes_place size now (cl.is_tick input)) u fits_u places.knows) asked_u
 
     said_u : Hards asked c (λ r. life_with after.node.state r) s sc u.out
     unfolding cl.losses
-    said_u = quiet_hards asked c (λ r. life_with after.node.state r) s [] u.out sc tt (since_then Unhard [] t.out u.out (each_unhard (cl.lose now) (λ z g. h_lose now z) (client_turn s []) fit) (input_unhard now input t u (taken t now input) fits_t))
+    said_u = quiet_hards asked c (λ r. life_with after.node.state r) s [] u.out sc tt
+        (since_then Unhard [] t.out u.out (each_unhard (cl.lose now) (λ z g. unhard_kept_by_lose now z) (client_turn s []) fit)
+        (input_unhard now input t u (taken t now input) fits_t))
 
     pub step_said : Hards asked c (λ r. life_with after.node.state r) s sc v.out
     unfolding cl.work
     step_said =
         each_said_at past size c s sc after own count holds now asked gone (cl.is_tick input) u places.knows placed
         (input_all past w c old site input now there same starts h size own count holds placed told cared latest input u (taken t now input) told
-        (placed_grown size u.out v.out (work_grows past w c old site input now there same starts h size own count holds placed told cared latest) placed)) asked_u said_u
+        (placed_grown size u.out v.out (work_grows past w c old site input now there same starts h size own count holds placed told cared latest) placed))
+        asked_u said_u

@@ -1,34 +1,21 @@
 -- What holds of the disk commands, through what a client says, effects, reports and drops.
-use Rattle.std.proofs.Common.{◌≡◌, ◌≢◌, ℕ, ◌+◌, ◌≤◌, ◌<◌, ◌⊎◌, Bool, true, false, List, [], ◌∷◌, ◌++◌, Option, Some, None, refl, sym, ap, ◌∙◌, subst, inl, inr, arith, if◌then◌else◌}
-use Rattle.std.specs.Prelude.{length, option_map, set, slice_get, suc, zero}
-use Rattle.st_base.specs.declared.disk.BlockAt.{BlockAt}
-use Rattle.st_base.specs.declared.disk.Command.{Command}
-use Rattle.st_base.specs.declared.disk.Command.TheVariants as commands
-use Rattle.st_base.specs.declared.disk.Tag.{Tag}
-use Rattle.st_base.specs.declared.ids.ClientId.{ClientId}
-use Rattle.st_base.specs.declared.ids.FileId.{FileId}
-use Rattle.st_base.specs.declared.ids.PageNo.{PageNo}
-use Rattle.st_messages.specs.declared.output.Note.{Note}
-use Rattle.st_messages.specs.declared.output.Note.TheVariants as notes
-use Rattle.st_messages.specs.declared.output.Output.{Output}
-use Rattle.st_messages.specs.declared.output.Output.TheVariants as outputs
-use Rattle.st_rules.specs.declared.disks.DiskCommand.{DiskCommand}
-use Rattle.st_rules.specs.declared.log.Cause.{Cause}
-use Rattle.st_rules.specs.declared.log.LogEntry.{LogEntry}
-use Rattle.st_rules.specs.declared.log.LogOwner.{LogOwner}
-use Rattle.st_rules.specs.declared.world.Carried.{Carried}
-use Rattle.st_rules.specs.declared.world.IssuedCommand.{IssuedCommand}
-use Rattle.st_rules.specs.declared.world.LeaseLife.{LeaseLife}
-use Rattle.st_rules.specs.ClientState.{ClientState}
-use Rattle.st_rules.specs.Disks as disks
-use Rattle.st_rules.specs.Events as ev
-use Rattle.st_rules.specs.Events.{WorldTurn, client_notes, client_says, client_says_all, latest, latest_at, latest_from}
-use Rattle.st_rules.specs.FlatLog as log
-use Rattle.st_rules.specs.FlatLog.{entry_at}
-use Rattle.st_rules.specs.World.{WorldClient, numbered, site_of}
+use Rattle.st_lemmas.proofs.Words
+use Words.{◌≡◌, ◌≢◌, ℕ, ◌+◌, ◌≤◌, ◌<◌, ◌⊎◌, Bool, true, false, List, [], ◌∷◌, ◌++◌, Option, Some, None, refl, sym, ap, ◌∙◌, subst, inl, inr, arith}
+use Words.{if◌then◌else◌, length, option_map, set, slice_get, suc, zero, BlockAt, Command, Tag, ClientId, FileId, PageNo, Note, Output, DiskCommand, Cause}
+use Words.{LogEntry, LogOwner, Carried, IssuedCommand, LeaseLife}
+use Words.commands
+use Words.notes
+use Words.outputs
+use Words.ClientState.{ClientState}
+use Words.Disks as disks
+use Words.Events as ev
+use Words.Events.{WorldTurn, client_notes, client_says, client_says_all, latest, latest_at, latest_from}
+use Words.FlatLog as log
+use Words.FlatLog.{entry_at}
+use Words.World.{WorldClient, numbered, site_of}
+use Words.Numbers.{get_below, get_more, length_more, set_length}
+use Words.Lookups.{some_is}
 use Rattle.st_lemmas.proofs.Marks.{of_entry, owners_drop, owners_harden}
-use Rattle.st_lemmas.proofs.Numbers.{get_below, get_more, length_more, set_length}
-use Rattle.st_lemmas.proofs.Lookups.{some_is}
 use Rattle.st_laws_pages.specs.Disks.Folds.{DoneUpto, owner_at}
 use Rattle.st_laws_pages.proofs.Disks.Folds.{done_drop, done_harden, done_last, harden_done}
 use Rattle.st_laws_pages.proofs.Disks.Law.{length_same, owner_same}

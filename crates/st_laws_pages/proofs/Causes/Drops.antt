@@ -1,52 +1,35 @@
 -- The last write of an owner whose entries are gone stays, in every event; and what is owed at an event for the causes of drops.
-use Rattle.std.specs.List.{list_any}
-use Rattle.st_base.specs.declared.ids.ClientId.{ClientId}
-use Rattle.st_base.specs.declared.ids.ServerId.{ServerId}
-use Rattle.st_base.specs.declared.ids.NodeId.{NodeId}
-use Rattle.st_base.specs.declared.ids.NodeId.TheVariants as nodes
-use Rattle.st_messages.specs.declared.event.Event.{Event}
-use Rattle.st_messages.specs.declared.event.Event.TheVariants as events
-use Rattle.st_messages.specs.declared.output.Note.{Note}
-use Rattle.st_messages.specs.declared.output.Note.TheVariants as notes
-use Rattle.st_messages.specs.declared.output.Output.{Output}
-use Rattle.st_messages.specs.declared.output.Output.TheVariants as outputs
-use Rattle.st_rules.specs.declared.client.ClientInput.{ClientInput}
-use Rattle.st_rules.specs.declared.client.ClientInput.TheVariants as inputs
-use Rattle.st_rules.specs.declared.input.ServerInput.{ServerInput}
-use Rattle.st_rules.specs.declared.log.LogEntry.{LogEntry}
-use Rattle.st_rules.specs.declared.log.LogOwner.{LogOwner}
-use Rattle.st_rules.specs.declared.node.StepRefusal.{StepRefusal}
+use Rattle.st_lemmas.proofs.Words
+use Words.{list_any, ClientId, ServerId, NodeId, Event, Note, Output, ClientInput, ServerInput, LogEntry, LogOwner, StepRefusal, IssuedCommand, LeaseLife}
+use Words.{SentMessage, eqb-true, Command, Tag, Life, ◌≡◌, ℕ, ◌+◌, ◌⊎◌, Bool, true, false, ◌&&◌, List, [], ◌∷◌, ◌++◌, ◌==◌, Option, Some, None, Ok, Err, refl}
+use Words.{sym, ap, ◌∙◌, subst, inl, inr, if◌then◌else◌, Result, filter, map, length, pred, ◌%◌}
+use Words.nodes
+use Words.events
+use Words.notes
+use Words.outputs
+use Words.inputs
+use Words.FlatLog as log
+use Words.Disks as disks
+use Words.Server as server
+use Words.Server.{ServerNode}
+use Words.Client as cl
+use Words.World as world
+use Words.Events as ev
+use Words.Safety.{Step}
+use Words.Lists.{Has}
+use Words.commands
+use Words.Keys.{same_client, same_server, same_file}
+use Words.World.{World, WorldClient, numbered, site_of, node_of, issued_of, clock_of, life_with, server_of_disk}
+use Words.ClientState.{Association, ClientState}
+use Words.Events.{WorldTurn, client_notes, client_says, client_says_all, last_write, present_lives}
+use Words.Numbers.{numbered_has, numbered_own}
+use Words.Tables.{and_true, has_append, has_filter}
 use Rattle.st_rules.specs.declared.node.StepRefusal.TheVariants.{Crashed}
-use Rattle.st_rules.specs.declared.world.IssuedCommand.{IssuedCommand}
-use Rattle.st_rules.specs.declared.world.LeaseLife.{LeaseLife}
-use Rattle.st_rules.specs.declared.world.SentMessage.{SentMessage}
-use Rattle.st_rules.specs.FlatLog as log
-use Rattle.st_rules.specs.Disks as disks
-use Rattle.st_rules.specs.Server as server
-use Rattle.st_rules.specs.Server.{ServerNode}
-use Rattle.st_rules.specs.Client as cl
-use Rattle.st_rules.specs.World as world
-use Rattle.st_rules.specs.Events as ev
-use Rattle.st_rules.specs.Safety.{Step}
-use Rattle.st_lemmas.specs.Lists.{Has}
 use Rattle.st_laws_pages.specs.Drops.Causes.{CrashesKnown, FailedStay, FlushOwes, AdvancesOwe, CausesOwed, CrashSiteOwes, life_owner}
 use Rattle.st_laws_pages.proofs.Drops.Causes.{same_failed}
 use Rattle.st_laws_pages.proofs.Lives.Lasting.{Flushed, flush_parts, present_is}
 use Rattle.st_laws_pages.proofs.Lives.LifeSteps.{steps_so}
-use Rattle.std.proofs.lemmas.Bool.{eqb-true}
-use Rattle.st_base.specs.declared.disk.Command.{Command}
-use Rattle.st_base.specs.declared.disk.Command.TheVariants as commands
-use Rattle.st_base.specs.declared.disk.Tag.{Tag}
-use Rattle.st_base.specs.declared.ids.Life.{Life}
-use Rattle.st_rules.specs.Keys.{same_client, same_server, same_file}
 use Rattle.st_laws_pages.proofs.Lives.Turning.{says_one}
-use Rattle.std.proofs.Common.{◌≡◌, ℕ, ◌+◌, ◌⊎◌, Bool, true, false, ◌&&◌, List, [], ◌∷◌, ◌++◌, ◌==◌, Option, Some, None, Ok, Err, refl, sym, ap, ◌∙◌, subst, inl, inr, if◌then◌else◌}
-use Rattle.std.specs.Prelude.{Result, filter, map, length, pred, ◌%◌}
-use Rattle.st_rules.specs.World.{World, WorldClient, numbered, site_of, node_of, issued_of, clock_of, life_with, server_of_disk}
-use Rattle.st_rules.specs.ClientState.{Association, ClientState}
-use Rattle.st_rules.specs.Events.{WorldTurn, client_notes, client_says, client_says_all, last_write, present_lives}
-use Rattle.st_lemmas.proofs.Numbers.{numbered_has, numbered_own}
-use Rattle.st_lemmas.proofs.Tables.{and_true, has_append, has_filter}
 use Rattle.st_laws_pages.specs.Fates.Fates.{GoneAll, GoneHold}
 use Rattle.st_laws_steps.specs.Lives.Lives.{owner_of, LivesHold}
 use Rattle.st_laws_steps.specs.Client.Losses.{Fit}

@@ -1,51 +1,36 @@
 -- What holds of the flush, of the commands and of the latest entries, at each event.
-use Rattle.std.proofs.Common.{◌≡◌, ◌≢◌, ℕ, ◌+◌, ◌≤◌, ◌<◌, ◌⊎◌, Bool, true, false, ◌&&◌, ◌||◌, List, [], ◌∷◌, ◌++◌, ◌==◌, Option, Some, None, Ok, Err, refl, sym, ap, ◌∙◌, subst, inl, inr, arith, if◌then◌else◌}
-use Rattle.std.specs.Prelude.{Result, length, map, zero, suc}
-use Rattle.std.specs.List.{list_any}
-use Rattle.std.proofs.lemmas.Bool.{eqb-true, eq-eqb, ne_eqb}
-use Rattle.st_base.specs.declared.ids.ClientId.{ClientId}
-use Rattle.st_base.specs.declared.ids.FileId.{FileId}
-use Rattle.st_base.specs.declared.ids.PageNo.{PageNo}
-use Rattle.st_base.specs.declared.ids.ServerId.{ServerId}
-use Rattle.st_base.specs.declared.ids.NodeId.{NodeId}
-use Rattle.st_base.specs.declared.ids.NodeId.TheVariants as nodes
-use Rattle.st_messages.specs.declared.event.Event.{Event}
-use Rattle.st_messages.specs.declared.event.Event.TheVariants as events
-use Rattle.st_messages.specs.declared.output.Note.{Note}
-use Rattle.st_messages.specs.declared.output.Note.TheVariants as notes
-use Rattle.st_messages.specs.declared.output.Output.{Output}
-use Rattle.st_messages.specs.declared.output.Output.TheVariants as outputs
-use Rattle.st_rules.specs.declared.client.ClientInput.{ClientInput}
-use Rattle.st_rules.specs.declared.client.ClientInput.TheVariants as inputs
-use Rattle.st_rules.specs.declared.disks.DiskCommand.{DiskCommand}
-use Rattle.st_rules.specs.declared.input.ServerInput.{ServerInput}
-use Rattle.st_rules.specs.declared.input.ServerInput.TheVariants as serving
-use Rattle.st_rules.specs.declared.log.Cause.TheVariants as causes
-use Rattle.st_rules.specs.declared.log.LogEntry.{LogEntry}
-use Rattle.st_rules.specs.declared.log.LogOwner.{LogOwner}
-use Rattle.st_rules.specs.declared.node.StepRefusal.{StepRefusal}
+use Rattle.st_lemmas.proofs.Words
+use Words.{◌≡◌, ◌≢◌, ℕ, ◌+◌, ◌≤◌, ◌<◌, ◌⊎◌, Bool, true, false, ◌&&◌, ◌||◌, List, [], ◌∷◌, ◌++◌, ◌==◌, Option, Some, None, Ok, Err, refl, sym, ap, ◌∙◌, subst}
+use Words.{inl, inr, arith, if◌then◌else◌, Result, length, map, zero, suc, list_any, eqb-true, eq-eqb, ne_eqb, ClientId, FileId, PageNo, ServerId, NodeId}
+use Words.{Event, Note, Output, ClientInput, DiskCommand, ServerInput, LogEntry, LogOwner, StepRefusal, FlushStep, IssuedCommand, LeaseLife, SentMessage}
+use Words.{Command, DirtyPage}
+use Words.nodes
+use Words.events
+use Words.notes
+use Words.outputs
+use Words.inputs
+use Words.serving
+use Words.causes
+use Words.Keys.{same_file, same_page}
+use Words.FlatLog as log
+use Words.Disks as disks
+use Words.Client as cl
+use Words.ClientState.{Association, ClientSession}
+use Words.Server as server
+use Words.Server.{ServerNode}
+use Words.World as world
+use Words.World.{World, WorldClient, numbered, with_numbered, site_of, node_of, issued_of, clock_of}
+use Words.Admissible as adm
+use Words.Events as ev
+use Words.Events.{WorldTurn, latest}
+use Words.Safety.{Step, reports_failure}
+use Words.Lists.{Has}
+use Words.Lookups.{some_is, or_left, or_right}
+use Words.Numbers.{numbered_own, numbered_other, numbered_below, numbered_has, set_length, set_own}
+use Words.Tables.{same_or_not, has_map, and_true, not_false}
+use Words.commands
+use Words.ClientPages as pages
 use Rattle.st_rules.specs.declared.node.StepRefusal.TheVariants.{Crashed}
-use Rattle.st_rules.specs.declared.world.FlushStep.{FlushStep}
-use Rattle.st_rules.specs.declared.world.IssuedCommand.{IssuedCommand}
-use Rattle.st_rules.specs.declared.world.LeaseLife.{LeaseLife}
-use Rattle.st_rules.specs.declared.world.SentMessage.{SentMessage}
-use Rattle.st_rules.specs.Keys.{same_file, same_page}
-use Rattle.st_rules.specs.FlatLog as log
-use Rattle.st_rules.specs.Disks as disks
-use Rattle.st_rules.specs.Client as cl
-use Rattle.st_rules.specs.ClientState.{Association, ClientSession}
-use Rattle.st_rules.specs.Server as server
-use Rattle.st_rules.specs.Server.{ServerNode}
-use Rattle.st_rules.specs.World as world
-use Rattle.st_rules.specs.World.{World, WorldClient, numbered, with_numbered, site_of, node_of, issued_of, clock_of}
-use Rattle.st_rules.specs.Admissible as adm
-use Rattle.st_rules.specs.Events as ev
-use Rattle.st_rules.specs.Events.{WorldTurn, latest}
-use Rattle.st_rules.specs.Safety.{Step, reports_failure}
-use Rattle.st_lemmas.specs.Lists.{Has}
-use Rattle.st_lemmas.proofs.Lookups.{some_is, or_left, or_right}
-use Rattle.st_lemmas.proofs.Numbers.{numbered_own, numbered_other, numbered_below, numbered_has, set_length, set_own}
-use Rattle.st_lemmas.proofs.Tables.{same_or_not, has_map, and_true, not_false}
 use Rattle.st_laws_pages.specs.Fates.Fates.{PendingAll}
 use Rattle.st_laws_steps.specs.Lives.Lives.{clock_in, owner_of, LivesHold}
 use Rattle.st_laws_pages.specs.Flush.Flush.{Cared, NumbersApart, NodeCared, StartsBelow, FlushRight, FlushHold}
@@ -59,10 +44,6 @@ use Rattle.st_laws_pages.proofs.Flush.Keeping.{Told}
 use Rattle.st_laws_pages.proofs.Flush.Flushing.{InputTold, emptied_cared}
 use Rattle.st_laws_pages.proofs.Flush.FlushSteps.{latest_owners, node_fates, moved_flush, same_clocks}
 use Rattle.st_lemmas.proofs.Marks.{owners_drop}
-use Rattle.st_base.specs.declared.disk.Command.{Command}
-use Rattle.st_base.specs.declared.disk.Command.TheVariants as commands
-use Rattle.st_rules.specs.ClientPages as pages
-use Rattle.st_rules.specs.declared.pages.DirtyPage.{DirtyPage}
 use Rattle.st_laws_steps.specs.Client.Losses.{Fit}
 use Rattle.st_laws_pages.proofs.Asks.Places.{Knows}
 use Rattle.st_laws_pages.specs.Causes.Invariants.{CommandsStand, LatestOwn, LatestStand, WritesStand}

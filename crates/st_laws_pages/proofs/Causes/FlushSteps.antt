@@ -1,39 +1,28 @@
 -- A step of a client in the world: what holds of the flush, of the commands and of the latest entries after it.
-use Rattle.std.proofs.Common.{◌≡◌, ◌≢◌, ℕ, ◌+◌, ◌≤◌, ◌<◌, ◌⊎◌, Bool, true, false, ◌&&◌, ◌||◌, List, [], ◌∷◌, ◌++◌, Option, Some, None, refl, sym, ap, ◌∙◌, subst, inl, inr, arith, leb-true, if◌then◌else◌}
-use Rattle.std.specs.Prelude.{length, nat_le}
-use Rattle.std.specs.List.{list_any}
-use Rattle.std.proofs.lemmas.Bool.{ne_eqb, le-leb}
-use Rattle.st_base.specs.declared.config.Config.{Config}
-use Rattle.st_base.specs.declared.ids.ClientId.{ClientId}
-use Rattle.st_base.specs.declared.ids.ServerId.{ServerId}
-use Rattle.st_base.specs.declared.ids.Stamp.{Stamp}
-use Rattle.st_base.specs.declared.ids.NodeId.TheVariants as nodes
-use Rattle.st_messages.specs.declared.output.Note.{Note}
-use Rattle.st_messages.specs.declared.output.Note.TheVariants as notes
-use Rattle.st_messages.specs.declared.output.Output.{Output}
-use Rattle.st_messages.specs.declared.output.Output.TheVariants as outputs
-use Rattle.st_rules.specs.declared.client.ClientInput.{ClientInput}
-use Rattle.st_rules.specs.declared.lease.Phase.{Phase}
-use Rattle.st_rules.specs.declared.lease.Phase.TheVariants as phases
-use Rattle.st_rules.specs.declared.log.LogEntry.{LogEntry}
-use Rattle.st_rules.specs.declared.world.FlushStep.{FlushStep}
-use Rattle.st_rules.specs.declared.world.IssuedCommand.{IssuedCommand}
-use Rattle.st_rules.specs.Keys.{same_file, same_page}
-use Rattle.st_rules.specs.FlatLog as log
-use Rattle.st_rules.specs.Leases as leases
-use Rattle.st_rules.specs.ClientLease as lease
-use Rattle.st_rules.specs.Client as cl
-use Rattle.st_rules.specs.ClientState.{Association, ClientState, ClientSession}
-use Rattle.st_rules.specs.World as world
-use Rattle.st_rules.specs.World.{World, WorldClient, numbered, with_numbered, site_of, clock_of}
-use Rattle.st_rules.specs.Events as ev
-use Rattle.st_rules.specs.Events.{WorldTurn, client_says, client_says_all, client_notes}
-use Rattle.st_rules.specs.Safety.{Step, reports_failure}
-use Rattle.st_lemmas.specs.Lists.{Has}
-use Rattle.st_lemmas.proofs.Lookups.{some_is}
-use Rattle.st_lemmas.proofs.Numbers.{numbered_own, numbered_other, numbered_below}
+use Rattle.st_lemmas.proofs.Words
+use Words.{◌≡◌, ◌≢◌, ℕ, ◌+◌, ◌≤◌, ◌<◌, ◌⊎◌, Bool, true, false, ◌&&◌, ◌||◌, List, [], ◌∷◌, ◌++◌, Option, Some, None, refl, sym, ap, ◌∙◌, subst, inl, inr, arith}
+use Words.{leb-true, if◌then◌else◌, length, nat_le, list_any, ne_eqb, le-leb, Config, ClientId, ServerId, Stamp, Note, Output, ClientInput, Phase, LogEntry}
+use Words.{FlushStep, IssuedCommand}
+use Words.nodes
+use Words.notes
+use Words.outputs
+use Words.phases
+use Words.Keys.{same_file, same_page}
+use Words.FlatLog as log
+use Words.Leases as leases
+use Words.ClientLease as lease
+use Words.Client as cl
+use Words.ClientState.{Association, ClientState, ClientSession}
+use Words.World as world
+use Words.World.{World, WorldClient, numbered, with_numbered, site_of, clock_of}
+use Words.Events as ev
+use Words.Events.{WorldTurn, client_says, client_says_all, client_notes}
+use Words.Safety.{Step, reports_failure}
+use Words.Lists.{Has}
+use Words.Lookups.{some_is}
+use Words.Numbers.{numbered_own, numbered_other, numbered_below}
+use Words.Tables.{same_or_not, has_append}
 use Rattle.st_lemmas.proofs.Puts.{has_put}
-use Rattle.st_lemmas.proofs.Tables.{same_or_not, has_append}
 use Rattle.st_laws_steps.specs.Client.Losses.{is_ended}
 use Rattle.st_laws_steps.specs.Lives.Lives.{LifeNext, Stepped, NodeHolds, clock_in, LivesHold}
 use Rattle.st_laws_pages.specs.Flush.Flush.{Cared, Covered, NodeCared, StartsBelow, FlushRight, FlushHold}

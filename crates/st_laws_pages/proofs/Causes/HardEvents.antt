@@ -1,49 +1,38 @@
 -- Hard is hard, at each event: and each pending operation is what was asked under its number.
-use Rattle.std.proofs.Common.{◌≡◌, ◌≢◌, ℕ, ◌+◌, ◌⊎◌, Bool, true, false, List, [], ◌∷◌, ◌++◌, Option, Some, None, Ok, Err, refl, sym, ap, ◌∙◌, subst, inl, inr, arith, if◌then◌else◌}
-use Rattle.std.specs.Prelude.{Result, length, suc}
-use Rattle.std.specs.List.{cons_option}
-use Rattle.std.proofs.lemmas.Bool.{eq-eqb, ne_eqb}
-use Rattle.st_base.specs.declared.ids.ClientId.{ClientId}
-use Rattle.st_base.specs.declared.ids.NodeId.{NodeId}
-use Rattle.st_base.specs.declared.ids.NodeId.TheVariants as nodes
-use Rattle.st_base.specs.declared.ids.ServerId.{ServerId}
-use Rattle.st_base.specs.declared.ids.Stamp.{Stamp}
-use Rattle.st_messages.specs.declared.ask.Ask.{Ask}
-use Rattle.st_messages.specs.declared.event.Event.{Event}
-use Rattle.st_messages.specs.declared.event.Event.TheVariants as events
-use Rattle.st_rules.specs.declared.client.ClientInput.{ClientInput}
-use Rattle.st_rules.specs.declared.client.ClientInput.TheVariants as inputs
-use Rattle.st_rules.specs.declared.disks.DiskCommand.{DiskCommand}
-use Rattle.st_rules.specs.declared.input.ServerInput.{ServerInput}
-use Rattle.st_rules.specs.declared.input.ServerInput.TheVariants as serving
-use Rattle.st_rules.specs.declared.node.StepRefusal.{StepRefusal}
+use Rattle.st_lemmas.proofs.Words
+use Words.{◌≡◌, ◌≢◌, ℕ, ◌+◌, ◌⊎◌, Bool, true, false, List, [], ◌∷◌, ◌++◌, Option, Some, None, Ok, Err, refl, sym, ap, ◌∙◌, subst, inl, inr, arith}
+use Words.{if◌then◌else◌, Result, length, suc, cons_option, eq-eqb, ne_eqb, ClientId, NodeId, ServerId, Stamp, Ask, Event, ClientInput, DiskCommand}
+use Words.{ServerInput, StepRefusal, IssuedCommand, SentMessage, append-nil}
+use Words.nodes
+use Words.events
+use Words.inputs
+use Words.serving
+use Words.Admissible as adm
+use Words.Client as cl
+use Words.ClientState.{Association}
+use Words.Disks as disks
+use Words.Events as ev
+use Words.Events.{WorldTurn, client_says_all, present_life}
+use Words.Keys.{same_client}
+use Words.Lines.{AtEach}
+use Words.Safety as safety
+use Words.Safety.{Step, ask_in}
+use Words.Server as server
+use Words.Server.{ServerNode}
+use Words.World as world
+use Words.World.{World, WorldClient, clock_of, issued_of, life_with, node_of, numbered, site_of, with_numbered}
+use Words.Lists.{Has}
+use Words.Lookups.{some_is}
+use Words.Numbers.{get_last, length_more, numbered_below, numbered_has, numbered_old, numbered_other, numbered_own}
+use Words.Tables.{not_false, same_or_not}
+use Words.Worlds.{stands_not}
 use Rattle.st_rules.specs.declared.node.StepRefusal.TheVariants.{Crashed}
-use Rattle.st_rules.specs.declared.world.IssuedCommand.{IssuedCommand}
-use Rattle.st_rules.specs.declared.world.SentMessage.{SentMessage}
-use Rattle.st_rules.specs.Admissible as adm
-use Rattle.st_rules.specs.Client as cl
-use Rattle.st_rules.specs.ClientState.{Association}
-use Rattle.st_rules.specs.Disks as disks
-use Rattle.st_rules.specs.Events as ev
-use Rattle.st_rules.specs.Events.{WorldTurn, client_says_all, present_life}
-use Rattle.st_rules.specs.Keys.{same_client}
-use Rattle.st_rules.specs.Lines.{AtEach}
-use Rattle.st_rules.specs.Safety as safety
-use Rattle.st_rules.specs.Safety.{Step, ask_in}
-use Rattle.st_rules.specs.Server as server
-use Rattle.st_rules.specs.Server.{ServerNode}
-use Rattle.st_rules.specs.World as world
-use Rattle.st_rules.specs.World.{World, WorldClient, clock_of, issued_of, life_with, node_of, numbered, site_of, with_numbered}
-use Rattle.st_lemmas.specs.Lists.{Has}
-use Rattle.st_lemmas.proofs.Lookups.{some_is}
-use Rattle.st_lemmas.proofs.Numbers.{get_last, length_more, numbered_below, numbered_has, numbered_old, numbered_other, numbered_own}
-use Rattle.st_lemmas.proofs.Tables.{not_false, same_or_not}
 use Rattle.st_laws_pages.specs.Fates.Fates.{BeforeEnd, GoneAll}
 use Rattle.st_laws_pages.specs.Flush.Flush.{NodeCared}
 use Rattle.st_laws_steps.specs.Client.Losses.{Fit}
 use Rattle.st_laws_pages.specs.Disks.Obligations.{FatesHold}
 use Rattle.st_laws_pages.proofs.Flush.Adding.{after_clients}
-use Rattle.st_laws_pages.proofs.Disks.Effects.{or_none, report_finds, report_is, reported_world, stands_not}
+use Rattle.st_laws_pages.proofs.Disks.Effects.{or_none, report_finds, report_is, reported_world}
 use Rattle.st_laws_pages.proofs.Fates.Fates.{pending_map}
 use Rattle.st_laws_pages.proofs.Flush.Flushing.{InputTold}
 use Rattle.st_laws_pages.proofs.Flush.FlushSteps.{node_fates}
@@ -51,15 +40,16 @@ use Rattle.st_laws_pages.proofs.Fates.GoneLaw.{Over, gone_known, kept}
 use Rattle.st_laws_pages.proofs.Lives.Lasting.{Flushed, flush_parts}
 use Rattle.st_laws_pages.proofs.Lives.LifeSteps.{steps_so}
 use Rattle.st_laws_pages.proofs.Fates.Owing.{over_apart}
-use Rattle.st_laws_pages.proofs.Asks.Places.{Knows, none_more}
+use Rattle.st_laws_pages.proofs.Asks.Places.{Knows}
 use Rattle.st_laws_pages.proofs.Asks.Says.{AllDull, server_dull, server_leaves}
 use Rattle.st_laws_pages.proofs.Asks.World.{asks_more, asks_of, asks_same}
 use Rattle.st_laws_pages.proofs.Causes.Answering.{AsksIt, KeysAsked, step_asked, step_said}
 use Rattle.st_laws_pages.proofs.Causes.Events.{lacks_none, no_report, own_set, reported_both, told_of, up_one}
 use Rattle.st_laws_pages.proofs.Causes.FlushSteps.{BothHold}
-use Rattle.st_laws_pages.proofs.Causes.HardSeen.{dull_fates, dull_hard, says_hard}
+use Rattle.st_laws_pages.proofs.Causes.HardSeen.{dull_hard, says_hard}
 use Rattle.st_laws_pages.proofs.Causes.Hardly.{Hards, Ungone}
 use Rattle.st_laws_pages.proofs.Causes.Placed.{InputTells, Placed, PlacesAt, step_placed}
+use Rattle.st_laws_pages.proofs.Asks.Law.{dull_fates}
 
 -- What holds of a client's pending operations after steps: each is what was asked under its number.
 pub record AskedSo (past : List Step) (c : ClientId) (site : WorldClient) : Type 0 where
@@ -71,7 +61,7 @@ AskedHold past w = (c : ClientId) (site : WorldClient) → site_of w c ≡ Some 
 
 -- what was asked before is asked after one more step
 grows : (xs : List Ask) (o : Option Ask) (op : ℕ) (y : Ask) → numbered xs op ≡ Some y → numbered (xs ++ cons_option o []) op ≡ Some y
-grows xs None op y e = ap (λ l. numbered l op) (none_more xs) ∙ e
+grows xs None op y e = ap (λ l. numbered l op) (append-nil xs) ∙ e
 grows xs (Some a) op y e = numbered_old xs a op y e
 
 pub asks_grow : (past : List Step) (x : Step) (c : ClientId) (op : ℕ) (y : Ask) → numbered (asks_of past c) op ≡ Some y → numbered (asks_of (past ++ x ∷ []) c) op ≡ Some y

@@ -1,30 +1,19 @@
 -- What is observed of a client's outputs: a sync is answered hard only where its file is, in the log at that line.
-use Rattle.std.proofs.Common.{◌≡◌, ℕ, ◌+◌, true, List, [], ◌∷◌, ◌++◌, Option, Some, None, refl, sym, ap, ◌∙◌, subst, append_assoc}
-use Rattle.std.specs.Prelude.{length}
-use Rattle.std.specs.List.{list_all}
-use Rattle.st_base.specs.declared.ids.ClientId.{ClientId}
-use Rattle.st_base.specs.declared.ids.Life.{Life}
-use Rattle.st_base.specs.declared.ids.ServerId.{ServerId}
-use Rattle.st_messages.specs.declared.answer.AppAnswer.{AppAnswer}
-use Rattle.st_messages.specs.declared.answer.AppAnswer.TheVariants as answers
-use Rattle.st_messages.specs.declared.output.Note.{Note}
-use Rattle.st_messages.specs.declared.output.Note.TheVariants as notes
-use Rattle.st_messages.specs.declared.output.Output.{Output}
-use Rattle.st_messages.specs.declared.output.Output.TheVariants as outputs
-use Rattle.st_rules.specs.declared.log.Fate.{Fate}
-use Rattle.st_rules.specs.declared.log.Fate.TheVariants as fates
-use Rattle.st_rules.specs.declared.log.LogEntry.{LogEntry}
-use Rattle.st_rules.specs.declared.observation.Observation.{Observation}
-use Rattle.st_rules.specs.declared.observation.Observation.TheVariants as seen
-use Rattle.st_rules.specs.ClientState.{ClientState}
-use Rattle.st_rules.specs.Events as ev
-use Rattle.st_rules.specs.Events.{WorldTurn, client_notes, client_says, client_says_all, present_life}
-use Rattle.st_rules.specs.FlatLog as log
-use Rattle.st_rules.specs.Lines.{AtEach, log_behind, log_told}
-use Rattle.st_rules.specs.Safety as safety
-use Rattle.st_rules.specs.Safety.{Step}
-use Rattle.st_rules.specs.World.{World, WorldClient, numbered, site_of}
-use Rattle.st_laws_pages.proofs.Asks.Places.{none_more}
+use Rattle.st_lemmas.proofs.Words
+use Words.{◌≡◌, ◌+◌, true, List, [], ◌∷◌, ◌++◌, Option, Some, None, refl, sym, ap, ◌∙◌, subst, append_assoc, length, list_all, ClientId, Life, ServerId}
+use Words.{AppAnswer, Note, Output, LogEntry, Observation, append-nil}
+use Words.answers
+use Words.notes
+use Words.outputs
+use Words.seen
+use Words.ClientState.{ClientState}
+use Words.Events as ev
+use Words.Events.{WorldTurn, client_notes, client_says, client_says_all, present_life}
+use Words.FlatLog as log
+use Words.Lines.{AtEach, log_behind, log_told}
+use Words.Safety as safety
+use Words.Safety.{Step}
+use Words.World.{World, WorldClient, numbered, site_of}
 use Rattle.st_laws_pages.proofs.Lives.Turning.{says_one}
 use Rattle.st_laws_pages.proofs.Asks.Says.{AllDull, Dull}
 use Rattle.st_laws_pages.proofs.Causes.Hardly.{HardOne, HardSaid, Hards}
@@ -38,23 +27,6 @@ pub dull_hard : (past : List Step) (x : Step) (w : World) (es : List LogEntry) (
 unfolding AtEach
 dull_hard past x w es [] d = tt
 dull_hard past x w es (o ∷ os) d = (dull_one past x es o d.one, dull_hard past x w (log_behind w es o) os d.rest)
-
-dull_both : (os ps : List Observation) → AllDull os → AllDull ps → AllDull (os ++ ps)
-dull_both [] ps a b = b
-dull_both (o ∷ os) ps a b = record { one = a.one; rest = dull_both os ps a.rest b }
-
-dull_fate : (k : ℕ) (e f : Fate) → AllDull (ev.fate_seen k e f)
-dull_fate k fates.Pending fates.Pending = tt
-dull_fate k fates.Pending fates.Hard = record { one = tt; rest = tt }
-dull_fate k fates.Pending (fates.Gone c) = record { one = tt; rest = tt }
-dull_fate k fates.Hard f = tt
-dull_fate k (fates.Gone c) f = tt
-
-pub dull_fates : (k : ℕ) (es fs : List LogEntry) → AllDull (ev.fates_from k es fs)
-unfolding ev.fates_from
-dull_fates k [] fs = tt
-dull_fates k (e ∷ es) [] = tt
-dull_fates k (e ∷ es) (f ∷ fs) = dull_both (ev.fate_seen k e.fate f.fate) (ev.fates_from (k + 1) es fs) (dull_fate k e.fate f.fate) (dull_fates (k + 1) es fs)
 
 -- What is observed of outputs, and the log that it tells.
 record ToldHard (past : List Step) (x : Step) (sc new : WorldTurn) : Type 0 where
@@ -89,7 +61,7 @@ one_told past x c lives before (outputs.Answer op a) sc l n r = record { more = 
 one_told past x c lives before (outputs.Submit k at what) sc l n r = go (site_of sc.world c)
   where
     go : (o : Option WorldClient) → ToldHard past x sc (ev.submits sc c o k at what)
-    go None = record { more = []; is = sym (none_more sc.seen); right = tt; told = refl }
+    go None = record { more = []; is = sym (append-nil sc.seen); right = tt; told = refl }
     go (Some s) = record { more = _ ∷ []; is = refl; right = (refl, tt); told = refl }
 one_told past x c lives before (outputs.Note m) sc l n r = note m
   where
@@ -101,12 +73,12 @@ one_told past x c lives before (outputs.Note m) sc l n r = note m
     note (notes.Lost s life) = record { more = seen.Lost c s life ∷ []; is = refl; right = (refl, tt); told = refl }
     note (notes.Accepted f p bytes) = record { more = seen.Wrote (length sc.world.log + 1) c f p bytes ∷ []; is = refl; right = (refl, tt); told = ap (λ (v : Life). log.accept sc.world.log c v f p bytes) (same f.server) }
     note (notes.Patched f p at bytes) = record { more = seen.Patched (length sc.world.log + 1) c f p at bytes ∷ []; is = refl; right = (refl, tt); told = ap (λ (v : Life). log.patch sc.world.log c v f p at bytes) (same f.server) }
-    note m = record { more = []; is = sym (none_more sc.seen); right = tt; told = refl }
+    note m = record { more = []; is = sym (append-nil sc.seen); right = tt; told = refl }
 
 all_told : (past : List Step) (x : Step) (c : ClientId) (lives : ServerId → Life) (before : ClientState) (os : List Output) (sc : WorldTurn) → ((s : ServerId) → present_life x.after.world c s ≡ lives s) → ((s : ServerId) → present_life sc.world c s ≡ lives s) →
     Hards (safety.ask_of past x c) c lives before sc os → ToldHard past x sc (client_says_all c before os sc)
 unfolding client_says_all AtEach log_told
-all_told past x c lives before [] sc l n r = record { more = []; is = sym (none_more sc.seen); right = nothing; told = refl }
+all_told past x c lives before [] sc l n r = record { more = []; is = sym (append-nil sc.seen); right = nothing; told = refl }
   where
     nothing : AtEach (safety.IsHardAt past x) x.after.world sc.world.log []
     nothing = tt

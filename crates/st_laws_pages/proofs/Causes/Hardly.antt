@@ -1,52 +1,34 @@
 -- A sync is answered hard only where its file is, in the log at that answer: through a whole step of a client.
-use Rattle.std.proofs.Common.{◌≡◌, ℕ, Bool, true, false, not, ◌&&◌, ◌||◌, ◌==◌, List, [], ◌∷◌, ◌++◌, Option, Some, None, refl, sym, ap, ◌∙◌, subst, inl, inr}
-use Rattle.std.specs.Prelude.{length, map}
-use Rattle.std.specs.List.{list_all}
-use Rattle.std.proofs.lemmas.Bool.{eqb-true}
-use Rattle.st_base.specs.declared.ids.ClientId.{ClientId}
-use Rattle.st_base.specs.declared.ids.FileId.{FileId}
-use Rattle.st_base.specs.declared.ids.Life.{Life}
-use Rattle.st_base.specs.declared.ids.PageNo.{PageNo}
-use Rattle.st_base.specs.declared.ids.ServerId.{ServerId}
-use Rattle.st_base.specs.declared.ids.Stamp.{Stamp}
-use Rattle.st_messages.specs.declared.answer.AppAnswer.{AppAnswer}
-use Rattle.st_messages.specs.declared.answer.AppAnswer.TheVariants as answers
-use Rattle.st_messages.specs.declared.ask.Ask.{Ask}
-use Rattle.st_messages.specs.declared.ask.Ask.TheVariants as asks
-use Rattle.st_messages.specs.declared.output.Note.{Note}
-use Rattle.st_messages.specs.declared.output.Note.TheVariants as notes
-use Rattle.st_messages.specs.declared.output.Output.{Output}
-use Rattle.st_messages.specs.declared.output.Output.TheVariants as outputs
-use Rattle.st_rules.specs.declared.client.Operation.{Operation}
-use Rattle.st_rules.specs.declared.log.Fate.{Fate}
-use Rattle.st_rules.specs.declared.log.Fate.TheVariants as fates
-use Rattle.st_rules.specs.declared.log.LogEntry.{LogEntry}
-use Rattle.st_rules.specs.declared.log.LogOwner.{LogOwner}
-use Rattle.st_rules.specs.declared.pages.DirtyPage.{DirtyPage}
-use Rattle.st_rules.specs.ClientPages as pages
-use Rattle.st_rules.specs.ClientPasses as cp
-use Rattle.st_rules.specs.ClientState.{Association, ClientState, ClientTurn, Turn, at_each, at_these, enter, leave, with_associations}
-use Rattle.st_rules.specs.Events as ev
-use Rattle.st_rules.specs.Events.{WorldTurn, client_notes, client_says, client_says_all, is_hard_fate}
-use Rattle.st_rules.specs.FlatLog as log
-use Rattle.st_rules.specs.Keys.{same_client, same_file, same_server}
-use Rattle.st_rules.specs.Safety as safety
-use Rattle.st_rules.specs.Safety.{Step}
-use Rattle.st_rules.specs.World.{WorldClient, life_with, site_of}
-use Rattle.st_lemmas.specs.Lists.{Has}
-use Rattle.st_lemmas.proofs.Tables.{and_true, found_at}
+use Rattle.st_lemmas.proofs.Words
+use Words.{◌≡◌, ℕ, Bool, true, false, not, ◌&&◌, ◌||◌, ◌==◌, List, [], ◌∷◌, ◌++◌, Option, Some, refl, sym, ap, ◌∙◌, subst, inl, inr, length, map}
+use Words.{list_all, eqb-true, ClientId, FileId, Life, PageNo, ServerId, Stamp, AppAnswer, Ask, Output, Operation, Fate, LogEntry, LogOwner, DirtyPage}
+use Words.answers
+use Words.asks
+use Words.outputs
+use Words.fates
+use Words.ClientPages as pages
+use Words.ClientPasses as cp
+use Words.ClientState.{Association, ClientState, ClientTurn, Turn, at_each, at_these, enter, leave, with_associations}
+use Words.Events.{WorldTurn, client_says, client_says_all, is_hard_fate}
+use Words.FlatLog as log
+use Words.Keys.{same_client, same_file, same_server}
+use Words.Safety as safety
+use Words.Safety.{Step}
+use Words.World.{WorldClient, life_with, site_of}
+use Words.Lists.{Has}
+use Words.Tables.{and_true, found_at}
 use Rattle.st_laws_steps.specs.Client.Client as client
 use Rattle.st_laws_steps.specs.Client.Client.{Change, Changes, Unhard}
 use Rattle.st_laws_pages.specs.Fates.Fates.{GoneAll, PendingAll}
 use Rattle.st_laws_pages.specs.Flush.Flush.{DirtyHere}
 use Rattle.st_laws_steps.specs.Client.Losses.{Fit}
 use Rattle.st_laws_pages.proofs.Flush.Adding.{After}
-use Rattle.st_laws_steps.proofs.Client.Asking.{c_passes, p_passes}
+use Rattle.st_laws_steps.proofs.Client.Asking.{changes_by_passes, passes_keep_or_ask}
 use Rattle.st_laws_steps.proofs.Client.Changes.{one}
 use Rattle.st_laws_steps.proofs.Client.Only.{Only, Goes, all}
 use Rattle.st_laws_steps.proofs.Client.Only as only
 use Rattle.st_laws_steps.proofs.Client.Passing.{AnswersRight, IsHardSync, IsPassing, KeepsOrAsks, SaysRight}
-use Rattle.st_laws_pages.proofs.Fates.GoneLaw.{gone_more}
+use Rattle.st_laws_pages.proofs.Fates.GoneLaw.{one_gone}
 use Rattle.st_laws_pages.proofs.Flush.Keeping.{OfOthers}
 use Rattle.st_laws_steps.proofs.Client.Nexts.{Next, change_next, changes_next}
 use Rattle.st_laws_pages.proofs.Asks.Client.{key}
@@ -96,27 +78,10 @@ quiet_hards asked c lives before os ps sc h u = subst (Hards asked c lives befor
 abbrev pub Ungone : ClientId → (ServerId → Life) → LogOwner → Type 0
 Ungone c lives o = o.client.0 ≡ c.0 → (lives o.file.server).0 ≡ o.life.0 → ⊥
 
-gone_one : (P : LogOwner → Type 0) (c : ClientId) (before : ClientState) (o : Output) (sc : WorldTurn) → GoneAll P sc.world.log → GoneAll P (client_says sc c before o).world.log
-unfolding client_says ev.sends ev.submits ev.answers_with client_notes ev.accepts ev.patches ev.loses log.accept log.patch
-gone_one P c before (outputs.Send m) sc h = h
-gone_one P c before (outputs.Answer op a) sc h = h
-gone_one P c before (outputs.Submit n at what) sc h = go (site_of sc.world c)
-  where
-    go : (o : Option WorldClient) → GoneAll P (ev.submits sc c o n at what).world.log
-    go None = h
-    go (Some site) = h
-gone_one P c before (outputs.Note n) sc h = note n
-  where
-    note : (n : Note) → GoneAll P (client_notes sc c before n).world.log
-    note (notes.Accepted f p bytes) = gone_more P sc.world.log _ refl h
-    note (notes.Patched f p at bytes) = gone_more P sc.world.log _ refl h
-    note (notes.Lost s life) = h
-    note n = h
-
 gone_says : (P : LogOwner → Type 0) (c : ClientId) (before : ClientState) (os : List Output) (sc : WorldTurn) → GoneAll P sc.world.log → GoneAll P (After c before sc os).world.log
 unfolding client_says_all
 gone_says P c before [] sc h = h
-gone_says P c before (o ∷ os) sc h = gone_says P c before os (client_says sc c before o) (gone_one P c before o sc h)
+gone_says P c before (o ∷ os) sc h = gone_says P c before os (client_says sc c before o) (one_gone P c before o sc h)
 
 has_key : (os : List Operation) (o : Operation) → Has o os → Has (key o) (map key os)
 has_key (x ∷ os) o (inl e) = inl (ap key e)
@@ -243,7 +208,7 @@ module _ (past : List Step) (size : ℕ) (c : ClientId) (before : ClientState) (
 
   -- all passes at a server
   pub passes_said : (tick : Bool) (t : Turn) (others : List Association) → OfOthers t.here.server others → Alive t.here → Placed size (cp.passes now tick t).out → I t others → AskedAll t.operations → Said t.out → Said (cp.passes now tick t).out
-  passes_said tick t others n live p r q h = changes_said t.operations t (cp.passes now tick t) (p_passes now tick t) others n live p r q h
+  passes_said tick t others n live p r q h = changes_said t.operations t (cp.passes now tick t) (passes_keep_or_ask now tick t) others n live p r q h
 
   -- all passes at each server
   abbrev pub A : ClientTurn → List Association → Type 0
@@ -262,7 +227,7 @@ module _ (past : List Step) (size : ℕ) (c : ClientId) (before : ClientState) (
       u = cp.passes now tick (enter t a)
 
       d : Changes now (enter t a) u
-      d = c_passes now tick (enter t a)
+      d = changes_by_passes now tick (enter t a)
 
       x : Next now (enter t a) u
       x = changes_next now (enter t a) u d
@@ -286,7 +251,7 @@ module _ (past : List Step) (size : ℕ) (c : ClientId) (before : ClientState) (
       placed : Placed size u.out
       placed =
           placed_grown size u.out (at_these (cp.passes now tick) rest (leave t u)).out
-          (these_grow past size c before sc site there count holds now (cp.passes now tick) (λ z f. changes_next now z _ (c_passes now tick z)) rest (leave t u) (λ b i. h.fit b (behind t.state.associations b i))) p
+          (these_grow past size c before sc site there count holds now (cp.passes now tick) (λ z f. changes_next now z _ (changes_by_passes now tick z)) rest (leave t u) (λ b i. h.fit b (behind t.state.associations b i))) p
 
       here : I (enter t a) (t.state.associations ++ rest)
       here =

@@ -1,23 +1,16 @@
 -- All associations of a client, through changes at one of its servers: what holds of each, and whose the latest entries of its dirty pages are, in the world
 -- after the outputs so far.
-use Rattle.std.proofs.Common.{◌≡◌, ℕ, ◌⊎◌, Bool, true, false, List, [], ◌∷◌, ◌++◌, Option, Some, None, refl, sym, ap, ◌∙◌, subst, inl, inr}
-use Rattle.std.specs.Prelude.{map, length}
-use Rattle.st_base.specs.declared.ids.ClientId.{ClientId}
-use Rattle.st_base.specs.declared.ids.ServerId.{ServerId}
-use Rattle.st_base.specs.declared.ids.Stamp.{Stamp}
-use Rattle.st_rules.specs.declared.client.IoKind.TheVariants as io
-use Rattle.st_rules.specs.declared.client.PageCommand.{PageCommand}
-use Rattle.st_rules.specs.declared.disks.DiskCommand.{DiskCommand}
-use Rattle.st_rules.specs.declared.log.LogEntry.{LogEntry}
-use Rattle.st_rules.specs.declared.world.Carried.{Carried}
-use Rattle.st_rules.specs.declared.world.IssuedCommand.{IssuedCommand}
-use Rattle.st_rules.specs.Disks as disks
-use Rattle.st_rules.specs.Client as cl
-use Rattle.st_rules.specs.ClientState.{Association, ClientState, ClientTurn, Turn, enter, leave, at_these, at_each, with_associations}
-use Rattle.st_rules.specs.World.{WorldClient, numbered, site_of, life_with}
-use Rattle.st_rules.specs.Events.{WorldTurn}
-use Rattle.st_rules.specs.Safety.{Step}
-use Rattle.st_lemmas.specs.Lists.{Has}
+use Rattle.st_lemmas.proofs.Words
+use Words.{◌≡◌, ℕ, ◌⊎◌, Bool, true, false, List, [], ◌∷◌, ◌++◌, Option, Some, None, refl, sym, ap, ◌∙◌, subst, inl, inr, map, length, ClientId, ServerId, Stamp}
+use Words.{PageCommand, DiskCommand, LogEntry, Carried, IssuedCommand}
+use Words.io
+use Words.Disks as disks
+use Words.Client as cl
+use Words.ClientState.{Association, ClientState, ClientTurn, Turn, enter, leave, at_these, at_each, with_associations}
+use Words.World.{WorldClient, numbered, site_of, life_with}
+use Words.Events.{WorldTurn}
+use Words.Safety.{Step}
+use Words.Lists.{Has}
 use Rattle.st_laws_steps.specs.Client.Client.{Changes, Still, Then}
 use Rattle.st_laws_steps.specs.Client.Losses.{Fit, Ends, Unknown, Passes, Hardens, Fails}
 use Rattle.st_laws_steps.specs.Lives.Lives.{Once, server_number}

@@ -1,42 +1,30 @@
 -- The latest entry of a dirty page is of its association's life: through entries, through each change at one server, and as a command ends.
-use Rattle.std.proofs.Common.{◌≡◌, ℕ, ◌+◌, Bool, true, false, ◌&&◌, ◌==◌, List, [], ◌∷◌, ◌++◌, Option, Some, None, refl, sym, ap, ◌∙◌, subst, arith, if◌then◌else◌}
-use Rattle.std.specs.Prelude.{length, map, option_map, suc, find}
-use Rattle.std.proofs.lemmas.Bool.{eq-eqb, ne_eqb}
-use Rattle.st_base.specs.declared.disk.BlockAt.{BlockAt}
-use Rattle.st_base.specs.declared.disk.Command.TheVariants as commands
-use Rattle.st_base.specs.declared.disk.Tag.{Tag}
-use Rattle.st_base.specs.declared.ids.ClientId.{ClientId}
-use Rattle.st_base.specs.declared.ids.FileId.{FileId}
-use Rattle.st_base.specs.declared.ids.Life.{Life}
-use Rattle.st_base.specs.declared.ids.PageNo.{PageNo}
-use Rattle.st_base.specs.declared.ids.ServerId.{ServerId}
-use Rattle.st_base.specs.declared.ids.Stamp.{Stamp}
-use Rattle.st_rules.specs.declared.client.IoKind.TheVariants as io
-use Rattle.st_rules.specs.declared.client.PageCommand.{PageCommand}
-use Rattle.st_rules.specs.declared.disks.DiskCommand.{DiskCommand}
+use Rattle.st_lemmas.proofs.Words
+use Words.{◌≡◌, ℕ, ◌+◌, Bool, true, false, ◌&&◌, ◌==◌, List, [], ◌∷◌, ◌++◌, Option, Some, None, refl, sym, ap, ◌∙◌, subst, arith, if◌then◌else◌, length, map}
+use Words.{option_map, suc, find, eq-eqb, ne_eqb, BlockAt, Tag, ClientId, FileId, Life, PageNo, ServerId, Stamp, PageCommand, DiskCommand, LogEntry, LogOwner}
+use Words.{DirtyPage, IssuedCommand}
+use Words.commands
+use Words.io
+use Words.Client as cl
+use Words.ClientPages as pages
+use Words.ClientPasses as cp
+use Words.ClientState.{Association, Turn}
+use Words.Disks as disks
+use Words.Events as ev
+use Words.Events.{latest, latest_at}
+use Words.FlatLog as log
+use Words.FlatLog.{owner}
+use Words.Keys.{put, same_client, same_file, same_page, same_server}
+use Words.Safety.{Step}
+use Words.World.{numbered}
+use Words.Lists.{Has}
+use Words.Numbers.{get_last}
+use Words.Tables.{and_true, and_both}
 use Rattle.st_rules.specs.declared.log.Change as logged
-use Rattle.st_rules.specs.declared.log.LogEntry.{LogEntry}
-use Rattle.st_rules.specs.declared.log.LogOwner.{LogOwner}
-use Rattle.st_rules.specs.declared.pages.DirtyPage.{DirtyPage}
-use Rattle.st_rules.specs.declared.world.IssuedCommand.{IssuedCommand}
-use Rattle.st_rules.specs.Client as cl
-use Rattle.st_rules.specs.ClientPages as pages
-use Rattle.st_rules.specs.ClientPasses as cp
-use Rattle.st_rules.specs.ClientState.{Association, Turn}
-use Rattle.st_rules.specs.Disks as disks
-use Rattle.st_rules.specs.Events as ev
-use Rattle.st_rules.specs.Events.{latest, latest_at}
-use Rattle.st_rules.specs.FlatLog as log
-use Rattle.st_rules.specs.FlatLog.{owner}
-use Rattle.st_rules.specs.Keys.{put, same_client, same_file, same_page, same_server}
-use Rattle.st_rules.specs.Safety.{Step}
-use Rattle.st_rules.specs.World.{numbered}
-use Rattle.st_lemmas.specs.Lists.{Has}
 use Rattle.st_lemmas.proofs.Contents.{Place_is, one_place}
 use Rattle.st_lemmas.proofs.Marks.{of_entry}
-use Rattle.st_lemmas.proofs.Numbers.{get_last}
-use Rattle.st_lemmas.proofs.Tables.{and_true, and_both}
-use Rattle.st_laws_steps.specs.Client.Client.{Change, Says, Operates, Answers, Greets, TellsLost, Begins, Follows, Learns, Forgets, Caches, Writes, Reads, Submits}
+use Rattle.st_laws_steps.specs.Client.Client.{Change, Says, Operates, Answers, Greets, TellsLost, Begins, Follows, Learns, Forgets, Caches, Writes, Reads}
+use Rattle.st_laws_steps.specs.Client.Client.{Submits}
 use Rattle.st_laws_pages.specs.Flush.Flush.{file_at, owner_at_page, Cared, IsIts, Sent}
 use Rattle.st_laws_pages.specs.Disks.Folds.{DoneUpto, owner_at}
 use Rattle.st_laws_steps.specs.Client.Losses.{Ends, Unknown, Passes, Hardens, Fails}
@@ -55,7 +43,7 @@ unfolding latest
 latest_owned c a es fs e h = λ ino p d i. owner_same es fs (latest fs c (file_at a ino) p) e ∙ ap (owner_at es) (latest_same 1 0 c (file_at a ino) p es fs e) ∙ h ino p d i
 
 -- One more entry: not of this client's page, or of its life.
-entry_last : (c : ClientId) (f : FileId) (p : PageNo) (es : List LogEntry) (e : LogEntry) → ev.is_entry_of c f p e ≡ true → latest (es ++ e ∷ []) c f p ≡ suc (length es)
+pub entry_last : (c : ClientId) (f : FileId) (p : PageNo) (es : List LogEntry) (e : LogEntry) → ev.is_entry_of c f p e ≡ true → latest (es ++ e ∷ []) c f p ≡ suc (length es)
 unfolding latest latest_at
 entry_last c f p es e q = latest_last 1 0 c f p es e ∙ ap (λ b. if b then 1 + length es else latest es c f p) q ∙ (let z : 1 + length es ≡ suc (length es) = omega arith in z)
 
@@ -76,7 +64,7 @@ own_entry c a f p ch ino q sv e =
     let z = and_true (same_server f.server a.server) (f.ino == ino) y.0 in
     ap (λ s. owner c a.life (record { server = s; ino = f.ino }) p) sv ∙ ap (λ j. owner c a.life (record { server = a.server; ino = j }) p) (Rattle.std.proofs.lemmas.Bool.eqb-true f.ino ino z.1) ∙ ap (λ j. owner c a.life (file_at a ino) (record { 0 = j })) (Rattle.std.proofs.lemmas.Bool.eqb-true p.0 q.0 y.1)
 
-self_entry : (c : ClientId) (a : Association) (f : FileId) (p : PageNo) (ch : logged.Change) → f.server ≡ a.server → ev.is_entry_of c (file_at a f.ino) p (log.pending (owner c a.life f p) ch) ≡ true
+pub self_entry : (c : ClientId) (a : Association) (f : FileId) (p : PageNo) (ch : logged.Change) → f.server ≡ a.server → ev.is_entry_of c (file_at a f.ino) p (log.pending (owner c a.life f p) ch) ≡ true
 self_entry c a f p ch sv =
     and_both (same_client c c) _ (eq-eqb c.0 c.0 refl)
     (and_both (same_file f (file_at a f.ino)) (same_page p p) (and_both (same_server f.server a.server) (f.ino == f.ino) (eq-eqb f.server.0 a.server.0 (ap (λ (s : ServerId). s.0) sv)) (eq-eqb f.ino f.ino refl)) (eq-eqb p.0 p.0 refl))

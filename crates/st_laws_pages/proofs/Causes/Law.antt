@@ -1,36 +1,29 @@
 -- Drops have a cause and hard is hard, at each step and over whole runs, with no premise.
-use Rattle.std.proofs.Common.{◌≡◌, ℕ, ◌+◌, ◌≤◌, ◌<◌, true, inl, inr, subst, List, [], ◌∷◌, ◌++◌, Option, Some, None, Ok, Err, refl, sym, ap, ◌∙◌, arith}
-use Rattle.std.specs.Prelude.{Result, length, map, suc, zero}
-use Rattle.st_base.specs.declared.config.Config.{Config}
-use Rattle.st_messages.specs.declared.event.Event.{Event}
-use Rattle.st_rules.specs.declared.observation.WorldRefusal.{WorldRefusal}
-use Rattle.st_rules.specs.declared.world.IssuedCommand.{IssuedCommand}
-use Rattle.st_rules.specs.Extents.{numbers}
-use Rattle.st_rules.specs.Server as server
-use Rattle.st_rules.specs.Server.{ServerNode}
-use Rattle.st_rules.specs.World.{World, WorldClient, numbered, fresh_world, node_at_start, fresh_site}
-use Rattle.st_rules.specs.Events as ev
-use Rattle.st_rules.specs.Events.{WorldTurn}
-use Rattle.st_rules.specs.History.{Traced, traced, traced_after}
-use Rattle.st_rules.specs.Safety as safety
-use Rattle.st_rules.specs.Safety.{Step, step, steps, Throughout, DropsHaveACause}
+use Rattle.st_lemmas.proofs.Words
+use Words.{◌≡◌, ℕ, ◌≤◌, true, subst, List, [], ◌∷◌, ◌++◌, Option, Some, None, Ok, Err, refl, sym, ap, ◌∙◌, arith, Result, length, map, suc}
+use Words.{zero, Config, Event, WorldRefusal, IssuedCommand, DirtyPage, ClientId, list_all}
+use Words.Extents.{numbers}
+use Words.Server as server
+use Words.Server.{ServerNode}
+use Words.World.{World, WorldClient, numbered, fresh_world, node_at_start, fresh_site}
+use Words.Events as ev
+use Words.Events.{WorldTurn}
+use Words.History.{Traced, traced, traced_after}
+use Words.Safety as safety
+use Words.Safety.{Step, step, steps, Throughout, DropsHaveACause, HardIsHard, Promise}
+use Words.Tables.{has_map, all_pass}
+use Words.Lists.{Has}
+use Words.Client as cl
+use Words.ClientState.{Association}
+use Words.World as world
+use Words.Admissible as adm
+use Words.WorldInvariants.{knows_own, knows_own_at, maps_own}
+use Words.ClientPages as pages
+use Words.Lines.{AtEach}
+use Words.Lengths.{length_map, numbers_length}
+use Words.Members.{numbers_between}
 use Rattle.st_laws_pages.specs.Drops.Causes.{CausesHold}
 use Rattle.st_laws_pages.specs.Flush.Flush.{Cared, NumbersApart, NodeCared, FlushHold}
-use Rattle.st_rules.specs.declared.pages.DirtyPage.{DirtyPage}
-use Rattle.st_lemmas.proofs.Tables.{has_map}
-use Rattle.st_laws_pages.specs.Disks.Obligations.{FatesHold}
-use Rattle.st_lemmas.specs.Lists.{Has}
-use Rattle.st_rules.specs.Client as cl
-use Rattle.st_rules.specs.ClientState.{Association}
-use Rattle.st_base.specs.declared.ids.ClientId.{ClientId}
-use Rattle.std.specs.List.{list_all}
-use Rattle.st_rules.specs.World as world
-use Rattle.st_rules.specs.declared.observation.WorldRefusal.{WorldRefusal}
-use Rattle.st_rules.specs.Admissible as adm
-use Rattle.st_rules.specs.WorldInvariants.{knows_own, knows_own_at, maps_own}
-use Rattle.st_rules.specs.ClientPages as pages
-use Rattle.st_lemmas.proofs.Tables.{all_pass}
-use Rattle.st_laws_pages.specs.Drops.Causes.{CausesHold}
 use Rattle.st_laws_pages.specs.Disks.Obligations.{FatesHold}
 use Rattle.st_laws_pages.proofs.Drops.Dropping.{advance_owed}
 use Rattle.st_laws_pages.proofs.Drops.Grows.{happens_causes}
@@ -43,21 +36,11 @@ use Rattle.st_laws_pages.proofs.Causes.Drops.{causes_owed}
 use Rattle.st_laws_pages.proofs.Causes.Events.{counted_both, happens_both}
 use Rattle.st_laws_pages.proofs.Causes.FlushSteps.{BothHold}
 use Rattle.st_laws_pages.proofs.Causes.Placed.{PlacesAt, places_at}
-use Rattle.st_rules.specs.Lines.{AtEach}
-use Rattle.st_rules.specs.Safety.{HardIsHard, Promise}
 use Rattle.st_laws_pages.proofs.Causes.HardEvents.{AskedHold, AskedSo, happens_left}
-use Rattle.st_laws_pages.proofs.Lives.Fresh.{length_map, numbers_length}
 
 fresh_causes : (k : Config) (clients servers d b form : ℕ) → CausesHold [] (fresh_world k clients servers d b form)
 unfolding fresh_world
 fresh_causes k clients servers d b form = record { caused = refl; crashes = record {} }
-
--- The flush at the start: nothing is dirty, and nothing was submitted.
-pub numbers_in : (a c n : ℕ) → Has n (numbers a c) → (a ≤ n) × (n < a + c)
-unfolding numbers
-numbers_in a zero n i = absurd i
-numbers_in a (suc c) n (inl e) = (omega (arith, e), omega (arith, e))
-numbers_in a (suc c) n (inr i) = let z = numbers_in (a + 1) c n i in let x = z.0 in let y = z.1 in (omega (arith, x), omega (arith, y))
 
 fresh_flush : (k : Config) (clients servers d b form : ℕ) → FlushHold [] (fresh_world k clients servers d b form)
 unfolding fresh_world cl.fresh_client
@@ -98,7 +81,7 @@ fresh_flush k clients servers d b form =
 
     server : (a : Association) → Came a → (1 ≤ a.server.0) × (a.server.0 ≤ length (map (node_at_start k servers d b) (numbers 1 servers)))
     server a (n, i, e) =
-        let z = numbers_in 1 servers n i in
+        let z = numbers_between 1 servers n i in
         let x = z.0 in
         let y = z.1 in
         let s = ap (λ (u : Association). u.server.0) e in

@@ -1,59 +1,44 @@
 -- Where a client's step submits writes: each goes to a disk of its file's server.
-use Rattle.std.proofs.Common.{◌≡◌, ℕ, Bool, true, false, ◌⊎◌, List, [], ◌∷◌, ◌++◌, Option, refl, sym, ap, ◌∙◌, subst, inl, inr, append_assoc, if◌then◌else◌}
-use Rattle.std.specs.Prelude.{map}
-use Rattle.st_base.specs.declared.disk.Command.TheVariants as commands
-use Rattle.st_base.specs.declared.disk.Tag.{Tag}
-use Rattle.st_base.specs.declared.ids.ClientId.{ClientId}
-use Rattle.st_base.specs.declared.ids.FileId.{FileId}
-use Rattle.st_base.specs.declared.ids.ServerId.{ServerId}
-use Rattle.st_base.specs.declared.ids.Stamp.{Stamp}
-use Rattle.st_messages.specs.declared.answer.AppAnswer.{AppAnswer}
-use Rattle.st_messages.specs.declared.ask.Ask.{Ask}
-use Rattle.st_messages.specs.declared.ask.Ask.TheVariants as asks
-use Rattle.st_messages.specs.declared.message.Body.{Body}
-use Rattle.st_messages.specs.declared.message.Header.{Header}
-use Rattle.st_messages.specs.declared.output.Note.TheVariants as notes
-use Rattle.st_messages.specs.declared.output.Output.{Output}
-use Rattle.st_messages.specs.declared.output.Output.TheVariants as outputs
-use Rattle.st_rules.specs.declared.client.ClientInput.{ClientInput}
-use Rattle.st_rules.specs.declared.client.ClientInput.TheVariants as inputs
-use Rattle.st_rules.specs.declared.client.Operation.{Operation}
-use Rattle.st_rules.specs.Client as cl
-use Rattle.st_rules.specs.ClientPasses as cp
-use Rattle.st_rules.specs.ClientPages as pages
-use Rattle.st_rules.specs.ClientReplies as cr
-use Rattle.st_rules.specs.ClientState.{Association, ClientState, ClientTurn, Turn, ClientSession, answer_to, at_each, at_these, client_turn, enter, is_at, leave, note, only_at, server_of, with_associations}
-use Rattle.st_rules.specs.Keys.{server_node}
-use Rattle.st_lemmas.specs.Lists.{Has}
-use Rattle.st_lemmas.proofs.Tables.{has_append}
-use Rattle.st_laws_steps.specs.Client.Client.{Plain, Change, Says, Operates, Answers, Greets, TellsLost, Begins, Follows, Learns, Forgets, Caches, Writes, Reads, Submits, Changes, Still, Then}
-use Rattle.st_laws_steps.specs.Client.Losses.{Fit, Ends, Unknown, Passes, Hardens, Fails, Loses, IsLost}
-use Rattle.st_laws_steps.specs.Client.Losses.{Lasts as IsLasting}
+use Rattle.st_lemmas.proofs.Words
+use Words.{◌≡◌, ℕ, Bool, true, false, ◌⊎◌, List, [], ◌∷◌, ◌++◌, Option, refl, sym, ap, ◌∙◌, subst, inl, inr, append_assoc, if◌then◌else◌, map, Tag, ClientId}
+use Words.{FileId, ServerId, Stamp, AppAnswer, Ask, Body, Header, Output, ClientInput, Operation, ◌%◌, ◌+◌, pred, Some, BlockAt, length}
+use Words.{eqb-true, SentMessage}
+use Words.commands
+use Words.asks
+use Words.notes
+use Words.outputs
+use Words.inputs
+use Words.Client as cl
+use Words.ClientPasses as cp
+use Words.ClientPages as pages
+use Words.ClientReplies as cr
+use Words.ClientState.{Association, ClientState, ClientTurn, Turn, ClientSession, answer_to, at_each, at_these, client_turn, enter, is_at, leave, note, only_at}
+use Words.ClientState.{server_of, with_associations}
+use Words.Keys.{server_node}
+use Words.Lists.{Has}
+use Words.Tables.{has_append, each_passes}
+use Words.nodes
+use Words.bodies
+use Words.World.{World, WorldClient, site_of}
+use Words.WorldInvariants.{is_on_disk_of, is_own_known, is_own_mapping, is_own_row, knows_own, knows_own_at, tells_own, tells_own_rows}
+use Words.Numbers.{numbered_has}
+use Words.Safety.{block_of}
+use Words.Lengths.{nothing_after}
+use Words.Worlds.{server_at_node}
+use Rattle.st_laws_steps.specs.Client.Client.{Plain, Change, Says, Operates, Answers, Greets, TellsLost, Begins, Follows, Learns, Forgets, Caches, Writes}
+use Rattle.st_laws_steps.specs.Client.Client.{Reads, Submits, Changes, Still, Then}
+use Rattle.st_laws_steps.specs.Client.Losses.{Fit, Ends, Unknown, Passes, Hardens, Fails, Loses, IsLost, Lasts as IsLasting}
 use Rattle.st_laws_steps.specs.Client.Inputs as taking
 use Rattle.st_laws_steps.specs.Client.Inputs.{Taken}
-use Rattle.st_laws_steps.proofs.Client.Asking.{c_passes}
-use Rattle.st_laws_steps.proofs.Client.Replying.{c_receive}
+use Rattle.st_laws_steps.proofs.Client.Asking.{changes_by_passes}
+use Rattle.st_laws_steps.proofs.Client.Replying.{changes_by_receive}
 use Rattle.st_laws_steps.proofs.Client.Stepping.{Phased, phased}
 use Rattle.st_laws_steps.proofs.Client.Taking.{taken}
-use Rattle.st_laws_steps.proofs.Client.Nexts.{change_next, empty_right}
+use Rattle.st_laws_steps.proofs.Client.Nexts.{change_next}
 use Rattle.st_laws_steps.proofs.Client.Losing.{Finished, finish_is, is_done, lose_is, rest_of}
-use Rattle.std.proofs.Common.{arith, leb-true, ◌-◌, ◌%◌, ◌+◌, pred, Some}
-use Rattle.st_base.specs.declared.disk.BlockAt.{BlockAt}
-use Rattle.std.specs.Prelude.{length, nat_le}
-use Rattle.std.proofs.lemmas.Bool.{eqb-true}
-use Rattle.st_base.specs.declared.ids.NodeId.TheVariants as nodes
-use Rattle.st_messages.specs.declared.message.Body.TheVariants as bodies
-use Rattle.st_rules.specs.declared.world.SentMessage.{SentMessage}
-use Rattle.st_rules.specs.Keys.{client}
-use Rattle.st_rules.specs.World as world
-use Rattle.st_rules.specs.World.{World, WorldClient, site_of}
-use Rattle.st_rules.specs.WorldInvariants.{is_on_disk_of, is_own_known, is_own_mapping, is_own_row, knows_own, knows_own_at, tells_own, tells_own_rows}
-use Rattle.st_lemmas.proofs.Numbers.{numbered_has}
-use Rattle.st_lemmas.proofs.Tables.{each_passes}
 use Rattle.st_laws_pages.specs.Asks.Law.{PlacesHold}
 use Rattle.st_laws_pages.proofs.Asks.Places.{On, Knows, OwnBody}
-use Rattle.st_laws_pages.proofs.Asks.Client.{key, Begun, Lasting, Lasts, Neutral, Stands, Usable, g_receive, s_passes, w_finish, w_lose}
-use Rattle.st_rules.specs.Safety.{block_of}
+use Rattle.st_laws_pages.proofs.Asks.Client.{key, Begun, Lasting, Lasts, Neutral, Stands, Usable, begins_after_receive, usable_after_passes, stands_after_finish, stands_after_lose}
 
 -- a fact of each output
 abbrev pub EachOut : (Output → Type 0) → List Output → Type 0
@@ -71,10 +56,10 @@ each_both P [] ps a b = b
 each_both P (o ∷ os) ps a b = record { one = a.one; rest = each_both P os ps a.rest b }
 
 pub since_none : (P : Output → Type 0) (os : List Output) → Since P os os
-since_none P os = record { more = []; out = empty_right os; each = tt }
+since_none P os = record { more = []; out = nothing_after os; each = tt }
 
 pub since_same : (P : Output → Type 0) (os ps : List Output) → ps ≡ os → Since P os ps
-since_same P os ps e = record { more = []; out = e ∙ empty_right os; each = tt }
+since_same P os ps e = record { more = []; out = e ∙ nothing_after os; each = tt }
 
 pub since_then : (P : Output → Type 0) (os ps qs : List Output) → Since P os ps → Since P ps qs → Since P os qs
 since_then P os ps qs a b = record { more = a.more ++ b.more; out = b.out ∙ ap (λ z. z ++ b.more) a.out ∙ append_assoc os a.more b.more; each = each_both P a.more b.more a.each b.each }
@@ -231,20 +216,20 @@ joined n t u C a w = record { left = record { knows = w.own; placed = since_with
 pub passes_place : (n : ℕ) (now : Stamp) (tick : Bool) → RuleKept n (cp.passes now tick)
 passes_place n now tick t f k =
     let s = t.here.server in
-    joined n t (cp.passes now tick t) (Usable (λ v. v ≡ s)) (changes_tagged now t _ (c_passes now tick t))
-    (s_passes n (λ v. v ≡ s) t.id t.config (Blocks n s t.out (map key t.operations)) (blocks_last n s t.id t.out (map key t.operations)) now tick t (own_begins n t (Usable (λ v. v ≡ s)) (λ e. refl) k))
+    joined n t (cp.passes now tick t) (Usable (λ v. v ≡ s)) (changes_tagged now t _ (changes_by_passes now tick t))
+    (usable_after_passes n (λ v. v ≡ s) t.id t.config (Blocks n s t.out (map key t.operations)) (blocks_last n s t.id t.out (map key t.operations)) now tick t (own_begins n t (Usable (λ v. v ≡ s)) (λ e. refl) k))
 
 pub receive_places : (n : ℕ) (now : Stamp) (h : Header) (b : Body) → ((s : ServerId) → h.from ≡ server_node s → OwnBody n s b) → RuleKept n (cr.receive_at now h b)
 receive_places n now h b o t f k =
     let s = t.here.server in
-    joined n t (cr.receive_at now h b t) (Usable (λ v. v ≡ s)) (changes_tagged now t _ (c_receive now h b t f.fresh))
-    (g_receive n (λ v. v ≡ s) t.id t.config (Blocks n s t.out (map key t.operations)) (blocks_last n s t.id t.out (map key t.operations)) now h b t o (own_begins n t (Begun (λ v. v ≡ s)) (λ e. refl) k))
+    joined n t (cr.receive_at now h b t) (Usable (λ v. v ≡ s)) (changes_tagged now t _ (changes_by_receive now h b t f.fresh))
+    (begins_after_receive n (λ v. v ≡ s) t.id t.config (Blocks n s t.out (map key t.operations)) (blocks_last n s t.id t.out (map key t.operations)) now h b t o (own_begins n t (Begun (λ v. v ≡ s)) (λ e. refl) k))
 
 pub finish_places : (n : ℕ) (now : Stamp) (number : ℕ) (r : Option (Option (Tag × List ℕ))) → RuleKept n (cl.finish number r)
 finish_places n now number r t f k =
     let s = t.here.server in
     joined n t (cl.finish number r t) (Usable (λ v. v ≡ s)) (finished_tagged now number (is_done r) t _ (finish_is now number r t))
-    (w_finish n (λ v. v ≡ s) t.id t.config (Blocks n s t.out (map key t.operations)) (blocks_last n s t.id t.out (map key t.operations)) (Usable (λ v. v ≡ s)) number r t (own_begins n t (Usable (λ v. v ≡ s)) (λ e. refl) k))
+    (stands_after_finish n (λ v. v ≡ s) t.id t.config (Blocks n s t.out (map key t.operations)) (blocks_last n s t.id t.out (map key t.operations)) (Usable (λ v. v ≡ s)) number r t (own_begins n t (Usable (λ v. v ≡ s)) (λ e. refl) k))
 
 lose_tagged : (now : Stamp) (t u : Turn) → Loses now t u → Since (TaggedOne t.here.server) t.out u.out
 lose_tagged now t _ (IsLasting n) = since_none _ t.out
@@ -256,7 +241,7 @@ pub lose_places : (n : ℕ) (now : Stamp) → RuleKept n (cl.lose now)
 lose_places n now t f k =
     let s = t.here.server in
     joined n t (cl.lose now t) (Begun (λ v. v ≡ s)) (lose_tagged now t _ (lose_is now t))
-    (w_lose n (λ v. v ≡ s) t.id t.config (Blocks n s t.out (map key t.operations)) (blocks_last n s t.id t.out (map key t.operations)) now t (own_begins n t (Lasting t.config now (λ v. v ≡ s)) (λ e. refl) k))
+    (stands_after_lose n (λ v. v ≡ s) t.id t.config (Blocks n s t.out (map key t.operations)) (blocks_last n s t.id t.out (map key t.operations)) now t (own_begins n t (Lasting t.config now (λ v. v ≡ s)) (λ e. refl) k))
 
 -- An ask: at most an answer is said.
 pub ask_places : (n : ℕ) (s : ServerId) (op : ℕ) (ask : Ask) → RulePlaces n (only_at s (cl.take_ask op ask))
@@ -365,14 +350,6 @@ pub record PlacesAt (size : ℕ) (w : World) : Type 0 where
   pub told : (m : SentMessage) → Has m w.net.messages → (s : ServerId) → m.message.header.from ≡ server_node s → OwnBody size s m.message.body
   pub known : (c : ClientId) (site : WorldClient) → site_of w c ≡ Some site → (a : Association) → Has a site.node.state.associations → Knows size a.server a.store.extents
 
-from_server : (from : ℕ) (s : ServerId) → from ≡ server_node s → world.node_at from ≡ nodes.Server s
-unfolding world.node_at
-from_server from s e = go (nat_le from 16) refl
-  where
-    go : (b : Bool) → nat_le from 16 ≡ b → (if b then nodes.Client (client from) else nodes.Server (world.server (from - 32768))) ≡ nodes.Server s
-    go true q = let z = leb-true from 16 q in absurd (omega (arith, z, e))
-    go false q = ap (λ m. nodes.Server (record { 0 = m })) (let z : from - 32768 ≡ s.0 = omega (arith, e) in z)
-
 pub places_at : (w : World) → PlacesHold w → PlacesAt (length w.servers) w
 places_at w h = record { count = refl; told = told; known = known }
   where
@@ -380,7 +357,7 @@ places_at w h = record { count = refl; told = told; known = known }
     on s at e = eqb-true (pred at.disk.0 % length w.servers + 1) s.0 e
 
     told : (m : SentMessage) → Has m w.net.messages → (s : ServerId) → m.message.header.from ≡ server_node s → OwnBody (length w.servers) s m.message.body
-    told m i s e = by m.message.body (subst (λ r. tells_own_rows w r m.message.body ≡ true) (from_server m.message.header.from s e) (each_passes (tells_own w) w.net.messages h.told m i))
+    told m i s e = by m.message.body (subst (λ r. tells_own_rows w r m.message.body ≡ true) (server_at_node m.message.header.from s e) (each_passes (tells_own w) w.net.messages h.told m i))
       where
         by : (b : Body) → tells_own_rows w (nodes.Server s) b ≡ true → OwnBody (length w.servers) s b
         by (bodies.Extents ino rows) q = λ r j. on s r.at (each_passes (is_own_row w s) rows q r j)

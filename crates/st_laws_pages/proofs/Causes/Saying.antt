@@ -1,40 +1,28 @@
 -- What the outputs of a client's step add to the commands and the log of the world, by each change, where its writes are placed.
-use Rattle.std.proofs.Common.{◌≡◌, ℕ, List, [], ◌∷◌, ◌++◌, Some, refl, sym, ap, ◌∙◌, subst}
-use Rattle.std.specs.Prelude.{map, length, pred, ◌%◌, ◌+◌}
-use Rattle.st_base.specs.declared.disk.BlockAt.{BlockAt}
-use Rattle.st_base.specs.declared.disk.Command.{Command}
-use Rattle.st_base.specs.declared.disk.Command.TheVariants as commands
-use Rattle.st_base.specs.declared.disk.Tag.{Tag}
-use Rattle.st_base.specs.declared.ids.ClientId.{ClientId}
-use Rattle.st_base.specs.declared.ids.FileId.{FileId}
-use Rattle.st_base.specs.declared.ids.PageNo.{PageNo}
-use Rattle.st_base.specs.declared.ids.ServerId.{ServerId}
-use Rattle.st_base.specs.declared.ids.Life.{Life}
-use Rattle.st_base.specs.declared.ids.Stamp.{Stamp}
-use Rattle.st_messages.specs.declared.answer.AppAnswer.{AppAnswer}
-use Rattle.st_messages.specs.declared.output.Note.{Note}
-use Rattle.st_messages.specs.declared.output.Note.TheVariants as notes
-use Rattle.st_messages.specs.declared.output.Output.{Output}
-use Rattle.st_messages.specs.declared.output.Output.TheVariants as outputs
-use Rattle.st_rules.specs.declared.client.Operation.{Operation}
-use Rattle.st_rules.specs.declared.log.Change.TheVariants as changes
-use Rattle.st_rules.specs.declared.log.LogEntry.{LogEntry}
-use Rattle.st_rules.specs.declared.world.IssuedCommand.{IssuedCommand}
-use Rattle.st_rules.specs.FlatLog as log
-use Rattle.st_rules.specs.ClientPasses as cp
-use Rattle.st_rules.specs.ClientState.{ClientState, Turn, answer_to}
-use Rattle.st_rules.specs.World.{WorldClient, numbered, site_of, life_with, server_of_disk}
-use Rattle.st_rules.specs.Events as ev
-use Rattle.st_rules.specs.Events.{WorldTurn, client_says, client_says_all, client_notes}
-use Rattle.st_laws_steps.specs.Client.Client.{Plain, PlainNote, ChangesPage, Change, Says, Operates, Answers, Greets, TellsLost, Begins, Follows, Learns, Forgets, Caches, Writes, Reads, Submits}
+use Rattle.st_lemmas.proofs.Words
+use Words.{◌≡◌, ℕ, List, [], ◌∷◌, ◌++◌, Some, refl, sym, ap, ◌∙◌, subst, map, length, pred, ◌%◌, ◌+◌, BlockAt, Command, Tag, ClientId, FileId, PageNo, ServerId}
+use Words.{Life, Stamp, AppAnswer, Note, Output, Operation, LogEntry, IssuedCommand}
+use Words.commands
+use Words.notes
+use Words.outputs
+use Words.changes
+use Words.FlatLog as log
+use Words.ClientPasses as cp
+use Words.ClientState.{ClientState, Turn, answer_to}
+use Words.World.{WorldClient, numbered, site_of, life_with, server_of_disk}
+use Words.Events as ev
+use Words.Events.{WorldTurn, client_says, client_says_all, client_notes}
+use Words.Worlds.{says_both}
+use Rattle.st_laws_steps.specs.Client.Client.{Plain, PlainNote, ChangesPage, Change, Says, Operates, Answers, Greets, TellsLost, Begins, Follows, Learns}
+use Rattle.st_laws_steps.specs.Client.Client.{Forgets, Caches, Writes, Reads, Submits}
 use Rattle.st_laws_pages.proofs.Flush.Growing.{Adds, AddsNothing}
-use Rattle.st_laws_pages.proofs.Flush.Adding.{After, AllStill, Grows, after_clients, more_still, says_append}
+use Rattle.st_laws_pages.proofs.Flush.Adding.{After, AllStill, Grows, after_clients, more_still}
 use Rattle.st_laws_pages.proofs.Asks.Says.{client_leaves}
 use Rattle.st_laws_pages.proofs.Causes.Placed.{Placed, PlacedOne}
 
 after_one : (c : ClientId) (before : ClientState) (sc : WorldTurn) (os : List Output) (o : Output) → After c before sc (os ++ o ∷ []) ≡ client_says (After c before sc os) c before o
 unfolding client_says_all
-after_one c before sc os o = says_append c before os (o ∷ []) sc
+after_one c before sc os o = says_both c before os (o ∷ []) sc
 
 -- the fact of the last one, and of those in front
 placed_last : (n : ℕ) (os : List Output) (o : Output) → Placed n (os ++ o ∷ []) → PlacedOne n o

@@ -1,25 +1,21 @@
 -- A whole step of a client: what holds of all its associations, in the world that its outputs leave.
-use Rattle.std.proofs.Common.{◌≡◌, ℕ, Bool, true, false, List, [], ◌∷◌, ◌++◌, Option, Some, None, refl, sym, ap, ◌∙◌, subst}
-use Rattle.std.specs.Prelude.{map, length}
-use Rattle.st_base.specs.declared.ids.ClientId.{ClientId}
-use Rattle.st_base.specs.declared.ids.Stamp.{Stamp}
-use Rattle.st_messages.specs.declared.answer.AppAnswer.{AppAnswer}
-use Rattle.st_messages.specs.declared.answer.AppAnswer.TheVariants as answers
-use Rattle.st_messages.specs.declared.output.Output.TheVariants as outputs
-use Rattle.st_rules.specs.declared.client.ClientInput.{ClientInput}
-use Rattle.st_rules.specs.declared.pages.DirtyPage.{DirtyPage}
-use Rattle.st_rules.specs.ClientPages as pages
-use Rattle.st_rules.specs.ClientPasses as cp
-use Rattle.st_rules.specs.ClientReplies as cr
-use Rattle.st_rules.specs.Client as cl
-use Rattle.st_rules.specs.ClientState as state
-use Rattle.st_rules.specs.ClientState.{Association, ClientState, ClientTurn, Turn, client_turn, only_at, server_of}
-use Rattle.st_rules.specs.World as world
-use Rattle.st_rules.specs.World.{World, WorldClient, numbered, site_of, life_with}
-use Rattle.st_rules.specs.Events as ev
-use Rattle.st_rules.specs.Events.{WorldTurn}
-use Rattle.st_rules.specs.Safety.{Step}
-use Rattle.st_lemmas.specs.Lists.{Has}
+use Rattle.st_lemmas.proofs.Words
+use Words.{◌≡◌, ℕ, Bool, true, false, List, [], ◌∷◌, ◌++◌, Option, Some, None, refl, sym, ap, ◌∙◌, subst, map, length, ClientId, Stamp, AppAnswer, ClientInput}
+use Words.{DirtyPage}
+use Words.answers
+use Words.outputs
+use Words.ClientPages as pages
+use Words.ClientPasses as cp
+use Words.ClientReplies as cr
+use Words.Client as cl
+use Words.ClientState as state
+use Words.ClientState.{Association, ClientState, ClientTurn, Turn, client_turn, only_at, server_of}
+use Words.World as world
+use Words.World.{World, WorldClient, numbered, site_of, life_with}
+use Words.Events as ev
+use Words.Events.{WorldTurn}
+use Words.Safety.{Step}
+use Words.Lists.{Has}
 use Rattle.st_laws_steps.specs.Client.Losses.{Fit, is_ended}
 use Rattle.st_laws_steps.specs.Client.Inputs as taking
 use Rattle.st_laws_steps.specs.Client.Inputs.{Taken}
@@ -27,9 +23,9 @@ use Rattle.st_laws_steps.specs.Lives.Lives.{Pairwise, Once, server_number, NodeH
 use Rattle.st_laws_pages.specs.Flush.Flush.{Cared, NumbersBelow, NumbersApart, NodeCared}
 use Rattle.st_laws_steps.proofs.Lives.Associations.{own_found, numbers_same, PairLeft, pair_left}
 use Rattle.st_laws_steps.proofs.Client.Nexts.{Next, changes_next}
-use Rattle.st_laws_steps.proofs.Client.Asking.{c_passes}
-use Rattle.st_laws_steps.proofs.Client.Replying.{c_receive}
-use Rattle.st_laws_steps.proofs.Client.Losing.{c_only, finish_is, is_done}
+use Rattle.st_laws_steps.proofs.Client.Asking.{changes_by_passes}
+use Rattle.st_laws_steps.proofs.Client.Replying.{changes_by_receive}
+use Rattle.st_laws_steps.proofs.Client.Losing.{changes_by_only, finish_is, is_done}
 use Rattle.st_laws_steps.proofs.Client.Stepping.{Goes, LostOrNot, Phased, finish_next, pairs_then, phased}
 use Rattle.st_laws_steps.proofs.Client.Taking.{taken}
 use Rattle.st_laws_pages.proofs.Flush.Adding.{Grows, After, still_adds, more_still}
@@ -41,7 +37,8 @@ use Rattle.st_laws_pages.proofs.Causes.Saying.{placed_grown}
 use Rattle.st_laws_pages.proofs.Flush.Quiet.{AllQuiet, losses_quiet}
 
 -- A whole step.
-module _ (past : List Step) (w : World) (c : ClientId) (old site : WorldClient) (input : ClientInput) (now : Stamp) (there : site_of w c ≡ Some old) (same : old.node ≡ site.node) (starts : old.starts ≡ site.starts) (h : LivesHold w) where
+module _ (past : List Step) (w : World) (c : ClientId) (old site : WorldClient) (input : ClientInput) (now : Stamp) (there : site_of w c ≡ Some old)
+    (same : old.node ≡ site.node) (starts : old.starts ≡ site.starts) (h : LivesHold w) where
   abbrev s : ClientState
   s = site.node.state
 
@@ -67,34 +64,41 @@ module _ (past : List Step) (w : World) (c : ClientId) (old site : WorldClient) 
   phases = phased c s now input m.fit
 
   passed : (x : Turn) → Fit x.here → Next now x (cp.passes now (cl.is_tick input) x)
-  passed x f = changes_next now x (cp.passes now (cl.is_tick input) x) (c_passes now (cl.is_tick input) x)
+  passed x f = changes_next now x (cp.passes now (cl.is_tick input) x) (changes_by_passes now (cl.is_tick input) x)
 
   -- The world after the outputs.
-  module _ (size : ℕ) (own : site_of sc.world c ≡ Some after) (count : length sc.world.servers ≡ size) (holds : CommandsStand w.log w.commands w.disks.commands) (placed : Placed size v.out) (told : InputTold past sc c site.starts input) (cared : NodeCared past w.commands w.log c old)
+  module _ (size : ℕ) (own : site_of sc.world c ≡ Some after) (count : length sc.world.servers ≡ size) (holds : CommandsStand w.log w.commands w.disks.commands)
+      (placed : Placed size v.out) (told : InputTold past sc c site.starts input) (cared : NodeCared past w.commands w.log c old)
       (latest : (a : Association) → Has a old.node.state.associations → LatestOwn c w.log a) where
     abbrev A : ClientTurn → Type 0
     A x = All past size c s sc after own count holds now x x.state.associations
 
     old_cared : (a : Association) → Has a s.associations → Cared past w.commands w.log c site.starts s.next_command a
-    old_cared = subst (λ (n : cl.ClientNode). (a : Association) → Has a n.state.associations → Cared past w.commands w.log c site.starts n.state.next_command a) same (subst (λ z. (a : Association) → Has a old.node.state.associations → Cared past w.commands w.log c z old.node.state.next_command a) starts cared.cared)
+    old_cared = subst (λ (n : cl.ClientNode). (a : Association) → Has a n.state.associations → Cared past w.commands w.log c site.starts n.state.next_command a)
+        same (subst (λ z. (a : Association) → Has a old.node.state.associations → Cared past w.commands w.log c z old.node.state.next_command a) starts
+        cared.cared)
 
     old_apart : (a : Association) → Has a s.associations → NumbersApart a.store.commands
     old_apart = subst (λ (n : cl.ClientNode). (a : Association) → Has a n.state.associations → NumbersApart a.store.commands) same cared.apart
 
     old_numbers : NumbersBelow w.commands c site.starts s.next_command
-    old_numbers = subst (λ (n : cl.ClientNode). NumbersBelow w.commands c site.starts n.state.next_command) same (subst (λ z. NumbersBelow w.commands c z old.node.state.next_command) starts cared.numbers)
+    old_numbers = subst (λ (n : cl.ClientNode). NumbersBelow w.commands c site.starts n.state.next_command) same
+        (subst (λ z. NumbersBelow w.commands c z old.node.state.next_command) starts cared.numbers)
 
     -- after the losses
     quiet : AllQuiet (client_turn s []) t
     quiet = losses_quiet now s
 
     pub adds : Rattle.st_laws_pages.proofs.Flush.Growing.AddsNothing w.commands (After c s sc t.out).world.commands w.log (After c s sc t.out).world.log
-    adds = subst (λ os. Rattle.st_laws_pages.proofs.Flush.Growing.AddsNothing w.commands (After c s sc os).world.commands w.log (After c s sc os).world.log) (sym quiet.out) (still_adds c s quiet.more sc quiet.still)
+    adds = subst (λ os. Rattle.st_laws_pages.proofs.Flush.Growing.AddsNothing w.commands (After c s sc os).world.commands w.log (After c s sc os).world.log)
+        (sym quiet.out) (still_adds c s quiet.more sc quiet.still)
 
-    in_t : (b : Association) → Cared past w.commands w.log c site.starts s.next_command b → Cared past (After c s sc t.out).world.commands (After c s sc t.out).world.log c site.starts t.state.next_command b
+    in_t : (b : Association) → Cared past w.commands w.log c site.starts s.next_command b →
+        Cared past (After c s sc t.out).world.commands (After c s sc t.out).world.log c site.starts t.state.next_command b
     in_t b g =
         subst (λ xs. Cared past xs (After c s sc t.out).world.log c site.starts t.state.next_command b) (sym adds.commands)
-        (subst (λ es. Cared past w.commands es c site.starts t.state.next_command b) (sym adds.log) (subst (λ n. Cared past w.commands w.log c site.starts n b) (sym quiet.next) g))
+        (subst (λ es. Cared past w.commands es c site.starts t.state.next_command b) (sym adds.log)
+        (subst (λ n. Cared past w.commands w.log c site.starts n b) (sym quiet.next) g))
 
     here : numbered w.clients c.0 ≡ Some old
     here = there
@@ -108,10 +112,12 @@ module _ (past : List Step) (w : World) (c : ClientId) (old site : WorldClient) 
             by : (x : Bool) → is_ended s.config now a.session ≡ x → Cared past w.commands w.log c site.starts s.next_command b
             by false e = subst (Cared past w.commands w.log c site.starts s.next_command) (r.lasts e) (old_cared a j)
             by true e =
-                emptied_cared past w c old site.starts s.next_command here h a b (subst (λ (n : cl.ClientNode). Has a n.state.associations) (sym same) j) r.server (r.lost e) (r.emptied e)
+                emptied_cared past w c old site.starts s.next_command here h a b (subst (λ (n : cl.ClientNode). Has a n.state.associations) (sym same) j)
+                r.server (r.lost e) (r.emptied e)
 
     pub latest_t : (b : Association) → Has b t.state.associations → LatestOwn c (After c s sc t.out).world.log b
-    latest_t b i = subst (λ es. LatestOwn c es b) (sym adds.log) (go (pair_of (LostOrNot s.config now) s.associations t.state.associations phases.lost.pairs b i))
+    latest_t b i = subst (λ es. LatestOwn c es b) (sym adds.log)
+        (go (pair_of (LostOrNot s.config now) s.associations t.state.associations phases.lost.pairs b i))
       where
         go : (a : Association) × Has a s.associations × LostOrNot s.config now a b → LatestOwn c w.log b
         go (a, j, r) = by (is_ended s.config now a.session) refl
@@ -145,7 +151,8 @@ module _ (past : List Step) (w : World) (c : ClientId) (old site : WorldClient) 
 
     stay : Pairwise Stays t.state.associations v.state.associations
     stay =
-        pairs_then (Goes t.state.config now) (Goes u.state.config now) Stays (λ a b d p q. record { server = p.server ∙ q.server; life = p.life ∙ q.life }) t.state.associations u.state.associations v.state.associations phases.received.pairs phases.worked.pairs
+        pairs_then (Goes t.state.config now) (Goes u.state.config now) Stays (λ a b d p q. record { server = p.server ∙ q.server; life = p.life ∙ q.life })
+        t.state.associations u.state.associations v.state.associations phases.received.pairs phases.worked.pairs
 
     pub right_t : (b : Association) → Has b t.state.associations → life_with v.state b.server ≡ b.life
     right_t b i = go (pair_left Stays (λ x y p. p.server) b.server t.state.associations v.state.associations stay b (own_found t.state.associations once_t b i))
@@ -158,7 +165,8 @@ module _ (past : List Step) (w : World) (c : ClientId) (old site : WorldClient) 
         record {
           cared = λ b i. in_t b (cared_t b i);
           apart = apart_t;
-          numbers = subst (λ xs. NumbersBelow xs c site.starts t.state.next_command) (sym adds.commands) (subst (λ n. NumbersBelow w.commands c site.starts n) (sym quiet.next) old_numbers);
+          numbers = subst (λ xs. NumbersBelow xs c site.starts t.state.next_command) (sym adds.commands)
+              (subst (λ n. NumbersBelow w.commands c site.starts n) (sym quiet.next) old_numbers);
           right = right_t;
           once = once_t;
           fit = phases.fit;
@@ -170,7 +178,8 @@ module _ (past : List Step) (w : World) (c : ClientId) (old site : WorldClient) 
     said op a g =
         let z = more_still c s sc t.out (outputs.Answer op a ∷ []) (record { one = tt; rest = record {} }) in
         record {
-          cared = λ b i. subst (λ xs. Cared past xs (After c s sc (t.out ++ outputs.Answer op a ∷ [])).world.log c site.starts t.state.next_command b) (sym z.commands)
+          cared = λ b i. subst (λ xs. Cared past xs (After c s sc (t.out ++ outputs.Answer op a ∷ [])).world.log c site.starts t.state.next_command b)
+              (sym z.commands)
               (subst (λ es. Cared past (After c s sc t.out).world.commands es c site.starts t.state.next_command b) (sym z.log) (g.cared b i));
           apart = g.apart;
           numbers = subst (λ xs. NumbersBelow xs c site.starts t.state.next_command) (sym z.commands) g.numbers;
@@ -185,14 +194,19 @@ module _ (past : List Step) (w : World) (c : ClientId) (old site : WorldClient) 
     input_all _ _ (taking.Full op ask e) told o = said op answers.OpsFull begins
     input_all _ _ (taking.Unknown op ask e g) told o = said op answers.NoFile begins
     input_all _ _ (taking.Takes op ask e g) told o =
-        each_all past size c s sc after own count holds now (only_at (server_of ask) (cl.take_ask op ask)) (λ x f. changes_next now x _ (c_only now (server_of ask) op ask x))
-        (λ x f others n live p r. changes_around past size c s sc after own count holds now x _ (c_only now (server_of ask) op ask x) others n live p r) t o begins
+        each_all past size c s sc after own count holds now (only_at (server_of ask) (cl.take_ask op ask))
+        (λ x f. changes_next now x _ (changes_by_only now (server_of ask) op ask x))
+        (λ x f others n live p r. changes_around past size c s sc after own count holds now x _ (changes_by_only now (server_of ask) op ask x) others n live p
+        r) t o begins
     input_all _ _ (taking.Receives m e) told o =
-        each_all past size c s sc after own count holds now (cr.receive_at now m.header m.body) (λ y f. changes_next now y _ (c_receive now m.header m.body y f.fresh))
-        (λ y f others n live p r. changes_around past size c s sc after own count holds now y _ (c_receive now m.header m.body y f.fresh) others n live p r) t o begins
+        each_all past size c s sc after own count holds now (cr.receive_at now m.header m.body)
+        (λ y f. changes_next now y _ (changes_by_receive now m.header m.body y f.fresh))
+        (λ y f others n live p r. changes_around past size c s sc after own count holds now y _ (changes_by_receive now m.header m.body y f.fresh) others n live
+        p r) t o begins
     input_all _ _ (taking.Finishes number result) told o =
         each_all past size c s sc after own count holds now (cl.finish number result) (λ y f. finish_next now number result y)
-        (λ y f others n live p r. finished_around past size c s sc after own count holds now number (is_done result) y (cl.finish number result y) (finish_is now number result y) told others n live p r) t o begins
+        (λ y f others n live p r. finished_around past size c s sc after own count holds now number (is_done result) y (cl.finish number result y)
+        (finish_is now number result y) told others n live p r) t o begins
 
     pub work_grows : Grows u.out v.out
     unfolding cl.work
@@ -202,7 +216,8 @@ module _ (past : List Step) (w : World) (c : ClientId) (old site : WorldClient) 
     unfolding cl.work
     ends =
         each_all past size c s sc after own count holds now (cp.passes now (cl.is_tick input)) passed
-        (λ x f others n live p r. changes_around past size c s sc after own count holds now x _ (c_passes now (cl.is_tick input) x) others n live p r) u placed
+        (λ x f others n live p r. changes_around past size c s sc after own count holds now x _ (changes_by_passes now (cl.is_tick input) x) others n live p r)
+        u placed
         (input_all input u (taken t now input) told (placed_grown size u.out v.out work_grows placed))
 
     pub step_cared : NodeCared past (After c s sc v.out).world.commands (After c s sc v.out).world.log c after

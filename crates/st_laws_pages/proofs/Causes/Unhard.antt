@@ -1,26 +1,18 @@
 -- Where no sync is answered hard: in every rule of a client but the pass over its operations.
-use Rattle.std.proofs.Common.{ℕ, Bool, true, false, not, List, [], ◌∷◌, Option, Some, None, refl, if◌then◌else◌}
-use Rattle.std.specs.Prelude.{filter, map}
-use Rattle.st_base.specs.declared.disk.Tag.{Tag}
-use Rattle.st_base.specs.declared.ids.ServerId.{ServerId}
-use Rattle.st_base.specs.declared.ids.Stamp.{Stamp}
-use Rattle.st_messages.specs.declared.answer.AppAnswer.{AppAnswer}
-use Rattle.st_messages.specs.declared.ask.Ask.{Ask}
-use Rattle.st_messages.specs.declared.message.Body.{Body}
-use Rattle.st_messages.specs.declared.message.Header.{Header}
-use Rattle.st_messages.specs.declared.output.Note.TheVariants as notes
-use Rattle.st_messages.specs.declared.output.Output.{Output}
-use Rattle.st_messages.specs.declared.output.Output.TheVariants as outputs
-use Rattle.st_rules.specs.declared.client.Operation.{Operation}
-use Rattle.st_rules.specs.Client as cl
-use Rattle.st_rules.specs.ClientReplies as cr
-use Rattle.st_rules.specs.ClientState as state
-use Rattle.st_rules.specs.ClientState.{ClientSession, Turn, answer_to, only_at}
+use Rattle.st_lemmas.proofs.Words
+use Words.{ℕ, Bool, true, false, not, List, [], ◌∷◌, Option, Some, None, refl, if◌then◌else◌, filter, map, Tag, ServerId, Stamp, AppAnswer, Ask, Body, Header}
+use Words.{Output, Operation}
+use Words.notes
+use Words.outputs
+use Words.Client as cl
+use Words.ClientReplies as cr
+use Words.ClientState as state
+use Words.ClientState.{ClientSession, Turn, answer_to, only_at}
 use Rattle.st_laws_steps.specs.Client.Client as client
 use Rattle.st_laws_steps.specs.Client.Client.{Change, Unhard, UnhardAnswer}
 use Rattle.st_laws_steps.specs.Client.Losses.{Ends, Unknown, Passes, Hardens, Fails, SessionFresh}
 use Rattle.st_laws_steps.proofs.Client.Calm.{IsCalm, SaysCalm}
-use Rattle.st_laws_steps.proofs.Client.Losing.{Finished, c_end_each, calm_only, finish_is, is_done}
+use Rattle.st_laws_steps.proofs.Client.Losing.{Finished, changes_by_end_each, calm_only, finish_is, is_done}
 use Rattle.st_laws_steps.proofs.Client.Only.{Only, Goes}
 use Rattle.st_laws_steps.proofs.Client.Only as only
 use Rattle.st_laws_steps.proofs.Client.Replying.{calm_receive}
@@ -60,8 +52,8 @@ changes_calm receives now t _ (only.Ends _) = since_none Unhard t.out
 changes_calm receives now t v (Goes _ u _ c q r) = since_then Unhard t.out u.out v.out (change_calm receives now t u c q) (changes_calm receives now u v r)
 
 -- The rules.
-pub h_receive : (now : Stamp) (h : Header) (b : Body) (t : Turn) → SessionFresh t.here.store t.here.session → H t (cr.receive_at now h b t)
-h_receive now h b t f = changes_calm true now t (cr.receive_at now h b t) (calm_receive now h b t f)
+pub unhard_kept_by_receive : (now : Stamp) (h : Header) (b : Body) (t : Turn) → SessionFresh t.here.store t.here.session → H t (cr.receive_at now h b t)
+unhard_kept_by_receive now h b t f = changes_calm true now t (cr.receive_at now h b t) (calm_receive now h b t f)
 
 ends_unhard : (number : ℕ) (ok : Bool) (t u : Turn) → Ends number ok t u → H t u
 unfolding cl.hardened
@@ -73,18 +65,18 @@ ends_unhard number ok t _ (Fails c v e o k) = since_none Unhard t.out
 finished_unhard : (now : Stamp) (number : ℕ) (ok : Bool) (t u : Turn) → Finished now number ok t u → H t u
 finished_unhard now number ok t u f = since_then Unhard t.out f.mid.out u.out (ends_unhard number ok t f.mid f.ends) (changes_calm false now f.mid u f.calm)
 
-pub h_finish : (number : ℕ) (r : Option (Option (Tag × List ℕ))) (t : Turn) → H t (cl.finish number r t)
-h_finish number r t = finished_unhard (record { 0 = 0 }) number (is_done r) t (cl.finish number r t) (finish_is (record { 0 = 0 }) number r t)
+pub unhard_kept_by_finish : (number : ℕ) (r : Option (Option (Tag × List ℕ))) (t : Turn) → H t (cl.finish number r t)
+unhard_kept_by_finish number r t = finished_unhard (record { 0 = 0 }) number (is_done r) t (cl.finish number r t) (finish_is (record { 0 = 0 }) number r t)
 
-pub h_lose : (now : Stamp) (t : Turn) → H t (cl.lose now t)
+pub unhard_kept_by_lose : (now : Stamp) (t : Turn) → H t (cl.lose now t)
 unfolding cl.lose cl.lose_by cl.lose_over cl.lose_session cl.end_operations
-h_lose now t = go t.here.session
+unhard_kept_by_lose now t = go t.here.session
   where
     session : (s : ClientSession) → H t (cl.lose_session t s)
     session s =
         let begun : Turn = state.with_operations (filter (λ o. not (state.is_of t.here.server o)) t.operations) (cl.with_lost_pages t.here.store (state.note t (notes.Lost t.here.server t.here.life))) in
         let os = filter (state.is_of t.here.server) t.operations in
-        since_then Unhard t.out begun.out (cl.end_each s os begun).out (since_one Unhard t.out (outputs.Note (notes.Lost t.here.server t.here.life)) tt) (changes_calm false now begun (cl.end_each s os begun) (c_end_each now s os begun))
+        since_then Unhard t.out begun.out (cl.end_each s os begun).out (since_one Unhard t.out (outputs.Note (notes.Lost t.here.server t.here.life)) tt) (changes_calm false now begun (cl.end_each s os begun) (changes_by_end_each now s os begun))
 
     over : (s : ClientSession) (b : Bool) → H t (if b then cl.lose_session t s else t)
     over s true = session s
@@ -94,5 +86,5 @@ h_lose now t = go t.here.session
     go None = since_none Unhard t.out
     go (Some s) = over s (cl.is_over t s now)
 
-pub h_ask : (s : ServerId) (op : ℕ) (ask : Ask) (t : Turn) → H t (only_at s (cl.take_ask op ask) t)
-h_ask s op ask t = changes_calm false (record { 0 = 0 }) t (only_at s (cl.take_ask op ask) t) (calm_only (record { 0 = 0 }) s op ask t)
+pub unhard_kept_by_ask : (s : ServerId) (op : ℕ) (ask : Ask) (t : Turn) → H t (only_at s (cl.take_ask op ask) t)
+unhard_kept_by_ask s op ask t = changes_calm false (record { 0 = 0 }) t (only_at s (cl.take_ask op ask) t) (calm_only (record { 0 = 0 }) s op ask t)

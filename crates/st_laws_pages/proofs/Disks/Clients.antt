@@ -1,40 +1,28 @@
 -- The law in the world: a step of a client.
-use Rattle.std.proofs.Common.{◌≡◌, ℕ, ◌≤◌, ◌⊎◌, Bool, true, false, List, [], ◌∷◌, ◌++◌, Option, Some, None, Ok, refl, sym, ap, ◌∙◌, subst, inl, inr, arith}
-use Rattle.std.specs.Prelude.{length, suc, zero, slice_get, option_map}
-use Rattle.st_base.specs.declared.ids.ClientId.{ClientId}
-use Rattle.st_base.specs.declared.ids.ServerId.{ServerId}
-use Rattle.st_base.specs.declared.ids.Stamp.{Stamp}
-use Rattle.st_base.specs.declared.ids.NodeId.TheVariants as nodes
-use Rattle.st_base.specs.declared.disk.BlockAt.{BlockAt}
-use Rattle.st_base.specs.declared.disk.Tag.{Tag}
-use Rattle.st_base.specs.declared.disk.Command.{Command}
-use Rattle.st_base.specs.declared.disk.Command.TheVariants as commands
-use Rattle.st_base.specs.Page.{filled}
-use Rattle.st_messages.specs.declared.output.Note.{Note}
-use Rattle.st_messages.specs.declared.output.Note.TheVariants as notes
-use Rattle.st_messages.specs.declared.output.Output.{Output}
-use Rattle.st_messages.specs.declared.output.Output.TheVariants as outputs
-use Rattle.st_rules.specs.declared.lease.Phase.{Phase}
-use Rattle.st_rules.specs.declared.lease.Phase.TheVariants as phases
-use Rattle.st_rules.specs.declared.log.Change.{Change}
-use Rattle.st_rules.specs.declared.log.Change.TheVariants as changes
-use Rattle.st_rules.specs.declared.log.LogEntry.{LogEntry}
-use Rattle.st_rules.specs.declared.log.LogOwner.{LogOwner}
-use Rattle.st_rules.specs.declared.disks.DiskCommand.{DiskCommand}
-use Rattle.st_rules.specs.declared.world.IssuedCommand.{IssuedCommand}
-use Rattle.st_rules.specs.FlatLog as log
-use Rattle.st_rules.specs.Disks as disks
-use Rattle.st_rules.specs.Client as cl
-use Rattle.st_rules.specs.ClientState.{ClientState}
-use Rattle.st_rules.specs.World as world
-use Rattle.st_rules.specs.World.{World, WorldClient, site_of, numbered, server_of_disk}
-use Rattle.st_rules.specs.Events as ev
-use Rattle.st_rules.specs.Events.{WorldTurn, client_says, client_says_all, client_notes, latest}
+use Rattle.st_lemmas.proofs.Words
+use Words.{◌≡◌, ℕ, ◌≤◌, ◌⊎◌, Bool, true, false, List, [], ◌∷◌, ◌++◌, Option, Some, None, Ok, refl, sym, ap, ◌∙◌, subst, inl, inr, arith, length, suc, zero}
+use Words.{slice_get, option_map, ClientId, ServerId, Stamp, BlockAt, Tag, Command, Note, Output, Phase, Change, LogEntry, LogOwner, DiskCommand, IssuedCommand}
+use Words.nodes
+use Words.commands
+use Words.Page.{filled}
+use Words.notes
+use Words.outputs
+use Words.phases
+use Words.changes
+use Words.FlatLog as log
+use Words.Disks as disks
+use Words.Client as cl
+use Words.ClientState.{ClientState}
+use Words.World as world
+use Words.World.{World, WorldClient, site_of, numbered, server_of_disk}
+use Words.Events as ev
+use Words.Events.{WorldTurn, client_says, client_says_all, client_notes, latest}
+use Words.Numbers.{get_more, get_below, length_more}
 use Rattle.st_laws_pages.specs.Disks.Folds.{of_entry, owner_at}
 use Rattle.st_laws_pages.specs.Disks.Pages.{CarriedRight}
-use Rattle.st_laws_pages.specs.Disks.World.{Living, Timely, EffectDone, HoldsBy, PagesHold, mapped_in, births_in, block_in, LateStays, SubmitsRight, OwesOne, Owes}
+use Rattle.st_laws_pages.specs.Disks.World.{Living, Timely, EffectDone, HoldsBy, PagesHold, mapped_in, births_in, block_in, LateStays, SubmitsRight, OwesOne}
+use Rattle.st_laws_pages.specs.Disks.World.{Owes}
 use Rattle.st_laws_pages.specs.Disks.Obligations.{TimelyIn}
-use Rattle.st_lemmas.proofs.Numbers.{get_more, get_below, length_more}
 use Rattle.st_laws_pages.proofs.Disks.Folds.{done_last, upto_all, carry_all}
 use Rattle.st_laws_pages.proofs.Disks.Law.{more_pending, submitted, NewRight}
 use Rattle.st_laws_pages.proofs.Disks.Moves.{later, commands_more}

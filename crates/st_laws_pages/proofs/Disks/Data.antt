@@ -1,21 +1,19 @@
 -- What follows for the clients' data.
-use Rattle.std.proofs.Common.{◌≡◌, Bool, true, false, List, [], ◌∷◌, Some, None, refl, sym, ap, ◌∙◌, subst, inl, inr, arith}
-use Rattle.st_base.specs.declared.ids.Stamp.{Stamp}
-use Rattle.st_rules.specs.declared.log.LogEntry.{LogEntry}
-use Rattle.st_rules.specs.declared.log.LogOwner.{LogOwner}
-use Rattle.st_rules.specs.FlatLog as log
-use Rattle.st_rules.specs.FlatLog.{same_owner, owner}
-use Rattle.st_rules.specs.World.{World, ended_of}
+use Rattle.st_lemmas.proofs.Words
+use Words.{◌≡◌, Bool, true, false, List, [], ◌∷◌, Some, None, refl, sym, ap, ◌∙◌, subst, inl, inr, arith, Stamp, LogEntry, LogOwner}
+use Words.FlatLog as log
+use Words.FlatLog.{same_owner, owner}
+use Words.World.{World, ended_of}
+use Words.Truth.{none_not_some}
 use Rattle.st_laws_pages.specs.Fates.Fates.{BeforeEnd, GoneAll}
 use Rattle.st_laws_pages.specs.Disks.Data.{UnmappedIsZeros, BlockIsContent, DoneWriteIsHard}
 use Rattle.st_laws_pages.proofs.Disks.Folds.{owner_parts}
-use Rattle.st_laws_pages.proofs.Lives.Lasting.{no_option}
 use Rattle.st_laws_pages.proofs.Fates.GoneLaw.{Over}
 use Rattle.st_laws_pages.proofs.Disks.ReadsFind.{NotGone, read_finds, unmapped_finds, hard_is}
 
 -- no entry is gone of a life that has not ended and is before its end
 not_over : (w : World) (o : LogOwner) → ended_of w o.client o.file.server o.life ≡ None → BeforeEnd w o → Over w o → ⊥
-not_over w o n b (inl x) = no_option x.row (sym n ∙ x.is)
+not_over w o n b (inl x) = none_not_some x.row (sym n ∙ x.is)
 not_over w o n b (inr x) = let e : x.end ≡ b.end = inj x.end b.end (sym x.is ∙ b.is) in let z = ap (λ (s : Stamp). s.0) e in let l = x.late in let t = b.before in omega (arith, z, l, t)
   where
     inj : (a c : Stamp) → Some a ≡ Some c → a ≡ c

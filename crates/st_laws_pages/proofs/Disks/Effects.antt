@@ -1,35 +1,26 @@
 -- What an effect and a report find, and what they do to the disks, the commands, the log and the client.
-use Rattle.std.proofs.Common.{◌≡◌, ℕ, Bool, true, false, not, ◌||◌, List, Option, Some, None, Ok, Err, refl, ap, ◌∙◌, subst, if◌then◌else◌}
-use Rattle.std.specs.Prelude.{unwrap_or}
+use Rattle.st_lemmas.proofs.Words
+use Words.{◌≡◌, ℕ, Bool, true, false, not, ◌||◌, List, Option, Some, None, Ok, Err, refl, ap, ◌∙◌, subst, if◌then◌else◌, unwrap_or, BlockAt, Tag, Block}
+use Words.{DiskCommand, Report}
+use Words.commands
+use Words.events
+use Words.reports
+use Words.Keys.{same_block}
+use Words.Disks as disks
+use Words.Disks.{Disks, block, is_block_at}
+use Words.World as world
+use Words.World.{World, issued_of}
+use Words.Admissible as adm
+use Words.Events as ev
+use Words.Worlds.{stands_not}
 use Rattle.std.specs.Option.{option_or}
-use Rattle.st_base.specs.declared.disk.BlockAt.{BlockAt}
-use Rattle.st_base.specs.declared.disk.Tag.{Tag}
-use Rattle.st_base.specs.declared.disk.Command.TheVariants as commands
-use Rattle.st_messages.specs.declared.event.Event.TheVariants as events
-use Rattle.st_rules.specs.declared.disks.Block.{Block}
-use Rattle.st_rules.specs.declared.disks.DiskCommand.{DiskCommand}
 use Rattle.st_rules.specs.declared.disks.CommandRefusal.TheVariants as refusals
-use Rattle.st_rules.specs.declared.disks.Report.{Report}
-use Rattle.st_rules.specs.declared.disks.Report.TheVariants as reports
-use Rattle.st_rules.specs.declared.observation.WorldRefusal.{WorldRefusal}
-use Rattle.st_rules.specs.Keys.{same_block}
-use Rattle.st_rules.specs.Disks as disks
-use Rattle.st_rules.specs.Disks.{Disks, block, is_block_at}
-use Rattle.st_rules.specs.World as world
-use Rattle.st_rules.specs.World.{World, issued_of}
-use Rattle.st_rules.specs.Admissible as adm
-use Rattle.st_rules.specs.Events as ev
 use Rattle.st_lemmas.proofs.Puts.{find_put_by, find_put_other}
 
 -- Effect: what an admissible one does
 pub or_none : {A : Type 0} (o p : Option A) → option_or o p ≡ None → (o ≡ None) × (p ≡ None)
 or_none None p e = (refl, e)
 or_none (Some x) p e = cc
-
-pub stands_not : (b : Bool) (r : WorldRefusal) → adm.stands b r ≡ None → b ≡ false
-unfolding adm.stands
-stands_not true r e = cc
-stands_not false r e = refl
 
 -- what an admissible effect finds: the command was neither reported nor had its effect, and its lease is not over
 pub record EffectFinds (w : World) (k : ℕ) (d : DiskCommand) : Type 0 where

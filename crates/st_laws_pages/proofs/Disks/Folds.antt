@@ -1,24 +1,17 @@
 -- The folds over the log under its changes: one more entry, harden, drop.
-use Rattle.std.proofs.Common.{◌≡◌, ℕ, ◌+◌, ◌≤◌, ◌<◌, Bool, true, false, ◌&&◌, List, [], ◌∷◌, ◌++◌, refl, sym, ap, ◌∙◌, arith, if◌then◌else◌, leb-true}
-use Rattle.std.specs.Prelude.{nat_le, length}
-use Rattle.std.proofs.lemmas.Bool.{eqb-true}
-use Rattle.st_base.specs.declared.ids.FileId.{FileId}
-use Rattle.st_base.specs.declared.ids.PageNo.{PageNo}
-use Rattle.st_rules.specs.declared.log.Cause.{Cause}
-use Rattle.st_rules.specs.declared.log.Change.{Change}
-use Rattle.st_rules.specs.declared.log.Change.TheVariants as changes
-use Rattle.st_rules.specs.declared.log.Fate.{Fate}
-use Rattle.st_rules.specs.declared.log.Fate.TheVariants as fates
-use Rattle.st_rules.specs.declared.log.LogEntry.{LogEntry}
-use Rattle.st_rules.specs.declared.log.LogOwner.{LogOwner}
-use Rattle.st_rules.specs.Keys.{same_file, same_page}
-use Rattle.st_rules.specs.FlatLog as log
-use Rattle.st_rules.specs.FlatLog.{touches, matters, same_owner, changed, after, content_from}
-use Rattle.st_rules.specs.Events.{is_hard_fate}
+use Rattle.st_lemmas.proofs.Words
+use Words.{◌≡◌, ℕ, ◌+◌, ◌<◌, Bool, true, false, ◌&&◌, List, [], ◌∷◌, ◌++◌, refl, sym, ap, ◌∙◌, arith, if◌then◌else◌, nat_le, length, eqb-true}
+use Words.{FileId, PageNo, Cause, Change, Fate, LogEntry, LogOwner, lt-leb}
+use Words.changes
+use Words.fates
+use Words.Keys.{same_file, same_page}
+use Words.FlatLog as log
+use Words.FlatLog.{touches, matters, same_owner, changed, after, content_from}
+use Words.Events.{is_hard_fate}
+use Words.Lookups.{if_false}
+use Words.Tables.{and_true}
+use Words.Truth.{not_both}
 use Rattle.st_laws_pages.specs.Disks.Folds.{hard_after, hard_from, content_upto, Carry, SettledOn, OnlyOwn, LastIs, DoneUpto, CutsHard}
-use Rattle.st_lemmas.proofs.Lookups.{if_false}
-use Rattle.st_lemmas.proofs.Tables.{and_true}
-use Rattle.st_laws_steps.proofs.Clash.{clash}
 
 -- One more entry.
 
@@ -26,23 +19,16 @@ pub hard_last : (page : List ℕ) (f : FileId) (p : PageNo) (es : List LogEntry)
 hard_last page f p [] e = refl
 hard_last page f p (x ∷ es) e = hard_last (hard_after f p x page) f p es e
 
-le_false : (n i : ℕ) → i < n → nat_le n i ≡ false
-le_false n i h = go (nat_le n i) refl
-  where
-    go : (b : Bool) → nat_le n i ≡ b → b ≡ false
-    go true e = absurd (let z : n ≤ i = leb-true n i e in omega arith)
-    go false e = refl
-
 pub upto_last : (n i : ℕ) (page : List ℕ) (f : FileId) (p : PageNo) (es : List LogEntry) (e : LogEntry) → i < n + length es → content_upto n i page f p (es ++ e ∷ []) ≡ content_upto n i page f p es
-upto_last n i page f p [] e h = if_false (nat_le n i) (after f p e page) page (le_false n i (omega arith))
+upto_last n i page f p [] e h = if_false (nat_le n i) (after f p e page) page (lt-leb n i (omega arith))
 upto_last n i page f p (x ∷ es) e h = upto_last (n + 1) i (if nat_le n i then after f p x page else page) f p es e (omega arith)
 
 pub carry_last : (n i : ℕ) (o : LogOwner) (f : FileId) (p : PageNo) (es : List LogEntry) (e : LogEntry) → i < n + length es → (touches f p e ≡ true → is_hard_fate e.fate ≡ false) → Carry n i o f p es → Carry n i o f p (es ++ e ∷ [])
-carry_last n i o f p [] e h g c = record { early = λ q. absurd (clash (nat_le n i) q (le_false n i (omega arith))); late = λ q. g; rest = record {} }
+carry_last n i o f p [] e h g c = record { early = λ q. absurd (not_both (nat_le n i) q (lt-leb n i (omega arith))); late = λ q. g; rest = record {} }
 carry_last n i o f p (x ∷ es) e h g c = record { early = c.early; late = c.late; rest = carry_last (n + 1) i o f p es e (omega arith) g c.rest }
 
 pub done_last : (n i : ℕ) (o : LogOwner) (es : List LogEntry) (e : LogEntry) → i < n + length es → DoneUpto n i o es → DoneUpto n i o (es ++ e ∷ [])
-done_last n i o [] e h c = record { one = λ q. absurd (clash (nat_le n i) q (le_false n i (omega arith))); rest = record {} }
+done_last n i o [] e h c = record { one = λ q. absurd (not_both (nat_le n i) q (lt-leb n i (omega arith))); rest = record {} }
 done_last n i o (x ∷ es) e h c = record { one = c.one; rest = done_last (n + 1) i o es e (omega arith) c.rest }
 
 pub cuts_last : (es : List LogEntry) (e : LogEntry) → (e.change ≡ changes.Cut → e.fate ≡ fates.Hard) → CutsHard es → CutsHard (es ++ e ∷ [])
@@ -158,8 +144,8 @@ alike_harden n i o f p (x ∷ xs) c h = let y = one (nat_le n i && same_owner x.
   where
     fated : (ch : Change) → x.change ≡ ch → same_owner x.of o ≡ true → touches f p x ≡ true → log.harder x.fate ≡ x.fate
     fated changes.Cut e s t = ap log.harder (c.one e) ∙ sym (c.one e)
-    fated (changes.Write bytes) e s t = absurd (clash (touches f p x) t (touch_own f p o x h (λ q. cc) s))
-    fated (changes.Patch at bytes) e s t = absurd (clash (touches f p x) t (touch_own f p o x h (λ q. cc) s))
+    fated (changes.Write bytes) e s t = absurd (not_both (touches f p x) t (touch_own f p o x h (λ q. cc) s))
+    fated (changes.Patch at bytes) e s t = absurd (not_both (touches f p x) t (touch_own f p o x h (λ q. cc) s))
 
     one : (b : Bool) → (nat_le n i && same_owner x.of o) ≡ b → OneAlike f p x (if b then record x { fate = log.harder x.fate } else x)
     one true e = record { of = refl; change = refl; fate = fated x.change refl (and_true _ _ e).1 }
@@ -225,7 +211,7 @@ upto_drop n i page o f p picked cause (x ∷ xs) s c =
     one : (b : Bool) → picked n x.of ≡ b → nat_le n i ≡ true → (t : Bool) → touches f p x ≡ t → (t && log.counts (if b then log.lost k x.fate else x.fate)) ≡ (t && log.counts x.fate)
     one b e h false et = refl
     one false e h true et = refl
-    one true e h true et = same x.fate (λ q. clash (picked n x.of) e (s n x.of h (c.early h et q)))
+    one true e h true et = same x.fate (λ q. not_both (picked n x.of) e (s n x.of h (c.early h et q)))
 
     into : (b : Bool) → after f p (if b then record x { fate = log.lost k x.fate } else x) page ≡ (if touches f p x && log.counts (if b then log.lost k x.fate else x.fate) then changed x.change page else page)
     into true = refl
@@ -280,8 +266,8 @@ harden_done n i o (x ∷ xs) = go (nat_le n i) (same_owner x.of o) refl refl (ha
 
     go : (b d : Bool) → nat_le n i ≡ b → same_owner x.of o ≡ d → DoneUpto (n + 1) i o (log.harden_from (n + 1) i o xs) → DoneUpto n i o ((if b && d then record x { fate = log.harder x.fate } else x) ∷ log.harden_from (n + 1) i o xs)
     go true true e f r = record { one = λ h t. hard x.fate; rest = r }
-    go true false e f r = record { one = λ h t. absurd (clash (same_owner x.of o) t f); rest = r }
-    go false d e f r = record { one = λ h t. absurd (clash (nat_le n i) h e); rest = r }
+    go true false e f r = record { one = λ h t. absurd (not_both (same_owner x.of o) t f); rest = r }
+    go false d e f r = record { one = λ h t. absurd (not_both (nat_le n i) h e); rest = r }
 
 pub cuts_drop : (m : ℕ) (picked : ℕ → LogOwner → Bool) (cause : FileId → PageNo → Cause) (es : List LogEntry) → CutsHard es → CutsHard (log.drop_from m picked cause es)
 unfolding log.drop_from log.dropped log.lost_entry

@@ -1,38 +1,25 @@
 -- The law under each change of the log, the extents, the blocks and the commands.
-use Rattle.std.proofs.Common.{◌≡◌, ◌≢◌, ℕ, ◌+◌, ◌≤◌, ◌⊎◌, Bool, true, false, ◌&&◌, List, [], ◌∷◌, ◌++◌, ◌==◌, Option, Some, None, refl, sym, ap, ◌∙◌, subst, inl, inr, arith, if◌then◌else◌}
-use Rattle.std.specs.Prelude.{length, map, suc, zero, slice_get, option_map}
-use Rattle.std.proofs.lemmas.Bool.{eqb-true, eq-eqb}
-use Rattle.st_base.specs.declared.ids.ServerId.{ServerId}
-use Rattle.st_base.specs.declared.ids.FileId.{FileId}
-use Rattle.st_base.specs.declared.ids.PageNo.{PageNo}
-use Rattle.st_base.specs.declared.disk.BlockAt.{BlockAt}
-use Rattle.st_base.specs.declared.disk.Tag.{Tag}
-use Rattle.st_base.specs.Page.{filled}
-use Rattle.st_rules.specs.declared.log.Cause.{Cause}
-use Rattle.st_rules.specs.declared.log.Change.TheVariants as changes
-use Rattle.st_rules.specs.declared.log.Fate.TheVariants as fates
-use Rattle.st_rules.specs.declared.log.LogEntry.{LogEntry}
-use Rattle.st_rules.specs.declared.log.LogOwner.{LogOwner}
-use Rattle.st_rules.specs.declared.disks.Block.{Block}
-use Rattle.st_rules.specs.declared.extents.Extent.{Extent}
-use Rattle.st_rules.specs.declared.world.IssuedCommand.{IssuedCommand}
-use Rattle.st_rules.specs.Keys.{same_file, same_page, same_block}
-use Rattle.st_rules.specs.FlatLog as log
-use Rattle.st_rules.specs.FlatLog.{touches, owner, hard_cut}
-use Rattle.st_rules.specs.ClientPages.{found_under, is_tag_of}
-use Rattle.st_rules.specs.Events.{is_hard_fate}
+use Rattle.st_lemmas.proofs.Words
+use Words.{◌≡◌, ◌≢◌, ℕ, ◌+◌, ◌≤◌, ◌⊎◌, Bool, true, false, ◌&&◌, List, [], ◌∷◌, ◌++◌, ◌==◌, Option, Some, None, refl, sym, ap, ◌∙◌, subst, inl, inr, arith}
+use Words.{if◌then◌else◌, length, map, suc, zero, slice_get, option_map, eqb-true, eq-eqb, ServerId, FileId, PageNo, BlockAt, Tag, Cause, LogEntry, LogOwner}
+use Words.{Block, Extent, IssuedCommand}
+use Words.Page.{filled}
+use Words.changes
+use Words.fates
+use Words.Keys.{same_file, same_page, same_block}
+use Words.FlatLog as log
+use Words.FlatLog.{touches, owner, hard_cut}
+use Words.ClientPages.{found_under, is_tag_of}
+use Words.Events.{is_hard_fate}
+use Words.Lookups.{if_true, if_false, some_is}
+use Words.Numbers.{length_more, get_map}
+use Words.Tables.{and_true, and_both}
+use Words.Truth.{block_is, block_self, eqb_self, file_is, file_self, not_both}
 use Rattle.st_laws_pages.specs.Disks.Folds.{hard_content, of_entry, owner_at}
 use Rattle.st_laws_pages.specs.Disks.Pages.{ExtentsOf, LivingOf, same_place, mapping_of, standing, CarriedRight, PagesAreKept}
-use Rattle.st_lemmas.proofs.Lookups.{if_true, if_false, some_is}
-use Rattle.st_lemmas.proofs.Numbers.{length_more, get_map}
-use Rattle.st_lemmas.proofs.Tables.{and_true, and_both}
-use Rattle.st_laws_steps.proofs.Clash.{clash}
-use Rattle.st_laws_pages.proofs.Disks.Folds.{hard_last, upto_last, carry_last, cuts_last, alike_hard, alike_upto, alike_carry, alike_harden, carry_drop, upto_drop, Spares, dropped_is, cuts_drop, cuts_harden, hardened_is}
+use Rattle.st_laws_pages.proofs.Disks.Folds.{hard_last, upto_last, carry_last, cuts_last, alike_hard, alike_upto, alike_carry, alike_harden, carry_drop}
+use Rattle.st_laws_pages.proofs.Disks.Folds.{upto_drop, Spares, dropped_is, cuts_drop, cuts_harden, hardened_is}
 use Rattle.st_lemmas.proofs.Marks.{owners_harden, owners_drop}
-
--- Places.
-self_number : (n : ℕ) → (n == n) ≡ true
-self_number n = eq-eqb n n refl
 
 pub same_place_is : (f g : FileId) (p q : PageNo) → same_place f p g q ≡ true → (f ≡ g) × (p ≡ q)
 same_place_is f g p q e =
@@ -46,29 +33,11 @@ same_place_is f g p q e =
     file : f.server.0 ≡ g.server.0 → f.ino ≡ g.ino → f ≡ g
     file a b = ap (λ z. mk z f.ino) a ∙ ap (λ z. mk g.server.0 z) b
 
-pub same_file_is : (f g : FileId) → same_file f g ≡ true → f ≡ g
-same_file_is f g e = (same_place_is f g (record { 0 = 0 }) (record { 0 = 0 }) (and_both _ _ e refl)).0
-
-pub self_file : (f : FileId) → same_file f f ≡ true
-self_file f = and_both _ _ (self_number f.server.0) (self_number f.ino)
-
 pub self_place : (f : FileId) (p : PageNo) → same_place f p f p ≡ true
-self_place f p = and_both _ _ (self_file f) (self_number p.0)
+self_place f p = and_both _ _ (file_self f) (eqb_self p.0)
 
 pub turn_place : (f g : FileId) (p q : PageNo) → same_place f p g q ≡ true → same_place g q f p ≡ true
 turn_place f g p q e = let h = same_place_is f g p q e in subst (λ x. same_place x q f p ≡ true) h.0 (subst (λ y. same_place f y f p ≡ true) h.1 (self_place f p))
-
-pub same_block_is : (a b : BlockAt) → same_block a b ≡ true → a ≡ b
-same_block_is a b e = let h = and_true _ _ e in go (eqb-true _ _ h.0) (eqb-true _ _ h.1)
-  where
-    mk : ℕ → ℕ → BlockAt
-    mk d n = record { disk = record { 0 = d }; block = n }
-
-    go : a.disk.0 ≡ b.disk.0 → a.block ≡ b.block → a ≡ b
-    go d n = ap (λ z. mk z a.block) d ∙ ap (λ z. mk b.disk.0 z) n
-
-pub self_block : (a : BlockAt) → same_block a a ≡ true
-self_block a = and_both _ _ (self_number a.disk.0) (self_number a.block)
 
 -- Owners by number.
 got_more : (es : List LogEntry) (e : LogEntry) (n : ℕ) (o : LogOwner) → option_map of_entry (slice_get es n) ≡ Some o → option_map of_entry (slice_get (es ++ e ∷ []) n) ≡ Some o
@@ -134,7 +103,7 @@ more_cut es m v b n L f p gone same quiet h =
     record {
       stands = λ g q. now g q (touches g q (hard_cut f p)) refl;
       carry = λ k x at tag bytes l. let z = quiet k x at tag bytes l in
-          subst (λ o. CarriedRight (es ++ hard_cut f p ∷ []) o x at tag bytes) (sym (same tag.file tag.page z)) (carried_more es (hard_cut f p) _ x at tag bytes (λ t. absurd (clash _ t z)) (h.carry k x at tag bytes l));
+          subst (λ o. CarriedRight (es ++ hard_cut f p ∷ []) o x at tag bytes) (sym (same tag.file tag.page z)) (carried_more es (hard_cut f p) _ x at tag bytes (λ t. absurd (not_both _ t z)) (h.carry k x at tag bytes l));
       one = h.one;
       apart = λ g k q r d e u w. h.apart g k q r d e (was g q d u) (was k r e w);
       below = λ g q e u. h.below g q e (was g q e u);
@@ -258,7 +227,7 @@ hardened es m b d n L M k x at tag bytes l own far w c h =
     fs = log.harden_from 1 c.index o es
 
     fits : is_tag_of tag.file tag.page tag (mapping_of c.extent) ≡ true
-    fits = and_both _ _ (self_file tag.file) (and_both _ _ (self_number tag.page.0) (eq-eqb tag.birth c.extent.birth (sym c.born)))
+    fits = and_both _ _ (file_self tag.file) (and_both _ _ (eqb_self tag.page.0) (eq-eqb tag.birth c.extent.birth (sym c.born)))
 
     here : standing tag.file tag.page d (m tag.file tag.page) ≡ hard_content fs tag.file tag.page
     here =
@@ -273,7 +242,7 @@ hardened es m b d n L M k x at tag bytes l own far w c h =
     there f p q (Some a) e = go (same_block at a.at) refl
       where
         go : (z : Bool) → same_block at a.at ≡ z → standing f p d (Some a) ≡ standing f p b (Some a)
-        go true z = absurd (clash _ (h.apart tag.file f tag.page p c.extent a c.is e (ap (λ y. same_block y a.at) c.lies ∙ z)) q)
+        go true z = absurd (not_both _ (h.apart tag.file f tag.page p c.extent a c.is e (ap (λ y. same_block y a.at) c.lies ∙ z)) q)
         go false z = ap (λ (y : Block). found_under f p y.tag y.bytes (mapping_of a)) (far a.at z)
 
     now : (f : FileId) (p : PageNo) (z : Bool) → same_place tag.file tag.page f p ≡ z → (e : Option Extent) → m f p ≡ e → standing f p d (m f p) ≡ hard_content fs f p
@@ -282,7 +251,7 @@ hardened es m b d n L M k x at tag bytes l own far w c h =
 
     tagged : (to : BlockAt) (z : Bool) → same_block at to ≡ z → (d to).tag.birth ≤ n (d to).tag.file.server
     tagged to true z =
-        let y : d to ≡ record { at = at; tag = tag; bytes = bytes } = ap d (sym (same_block_is at to z)) ∙ own in
+        let y : d to ≡ record { at = at; tag = tag; bytes = bytes } = ap d (sym (block_is at to z)) ∙ own in
         subst (λ (g : Block). g.tag.birth ≤ n g.tag.file.server) (sym y) (subst (λ v. v ≤ n tag.file.server) c.born (h.below tag.file tag.page c.extent c.is))
     tagged to false z = subst (λ (g : Block). g.tag.birth ≤ n g.tag.file.server) (sym (far to z)) (h.tags to)
 
@@ -340,7 +309,7 @@ placed es m v b n u L f p a none new birth most same rise free h =
     stale z =
         let y = and_true (same_file (b a.at).tag.file f) (same_page (b a.at).tag.page p && ((b a.at).tag.birth == a.birth)) z in
         let t = h.tags a.at in
-        let g = ap (λ (x : FileId). n x.server) (same_file_is (b a.at).tag.file f y.0) in
+        let g = ap (λ (x : FileId). n x.server) (file_is (b a.at).tag.file f y.0) in
         let c : (b a.at).tag.birth ≡ a.birth = eqb-true (b a.at).tag.birth a.birth (and_true (same_page (b a.at).tag.page p) ((b a.at).tag.birth == a.birth) y.1).1 in
         let w = birth in
         absurd (omega (arith, t, g, c, w))
@@ -361,11 +330,11 @@ placed es m v b n u L f p a none new birth most same rise free h =
 
     two : (g k : FileId) (q r : PageNo) (d e : Extent) (y z : Bool) → same_place g q f p ≡ y → same_place k r f p ≡ z → v g q ≡ Some d → v k r ≡ Some e → same_block d.at e.at ≡ true → same_place g q k r ≡ true
     two g k q r d e true true y z s t w = let i = same_place_is g f q p y in subst (λ x. same_place x q k r ≡ true) (sym i.0) (subst (λ x. same_place f x k r ≡ true) (sym i.1) (turn_place k f r p z))
-    two g k q r d e true false y z s t w = absurd (clash _ (turn d.at e.at w) (ap (λ x. same_block e.at x) (ap (λ (x : Extent). x.at) (at_new g q d y s)) ∙ free k r e (sym (same k r z) ∙ t)))
+    two g k q r d e true false y z s t w = absurd (not_both _ (turn d.at e.at w) (ap (λ x. same_block e.at x) (ap (λ (x : Extent). x.at) (at_new g q d y s)) ∙ free k r e (sym (same k r z) ∙ t)))
       where
         turn : (a b : BlockAt) → same_block a b ≡ true → same_block b a ≡ true
-        turn a b x = subst (λ c. same_block c a ≡ true) (same_block_is a b x) (self_block a)
-    two g k q r d e false true y z s t w = absurd (clash _ w (ap (λ x. same_block d.at x) (ap (λ (x : Extent). x.at) (at_new k r e z t)) ∙ free g q d (sym (same g q y) ∙ s)))
+        turn a b x = subst (λ c. same_block c a ≡ true) (block_is a b x) (block_self a)
+    two g k q r d e false true y z s t w = absurd (not_both _ w (ap (λ x. same_block d.at x) (ap (λ (x : Extent). x.at) (at_new k r e z t)) ∙ free g q d (sym (same g q y) ∙ s)))
     two g k q r d e false false y z s t w = h.apart g k q r d e (sym (same g q y) ∙ s) (sym (same k r z) ∙ t) w
 
     low : (g : FileId) (q : PageNo) (e : Extent) (y : Bool) → same_place g q f p ≡ y → v g q ≡ Some e → e.birth ≤ u g.server

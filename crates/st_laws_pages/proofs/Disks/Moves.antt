@@ -1,39 +1,27 @@
 -- The law in the world: advances, and nodes that crash and start.
-use Rattle.std.proofs.Common.{◌≡◌, ℕ, ◌+◌, ◌≤◌, Bool, true, false, not, ◌&&◌, List, [], ◌∷◌, ◌++◌, ◌==◌, Option, Some, None, refl, sym, ap, ◌∙◌, subst, arith, if◌then◌else◌, leb-true}
-use Rattle.std.specs.Prelude.{nat_le, filter, suc, zero, slice_get, unwrap_or}
-use Rattle.std.specs.List.{list_any, zip}
-use Rattle.std.proofs.lemmas.Bool.{eqb-true, le-leb}
-use Rattle.st_base.specs.declared.ids.ClientId.{ClientId}
-use Rattle.st_base.specs.declared.ids.ServerId.{ServerId}
-use Rattle.st_base.specs.declared.ids.FileId.{FileId}
-use Rattle.st_base.specs.declared.ids.PageNo.{PageNo}
-use Rattle.st_base.specs.declared.ids.Stamp.{Stamp}
-use Rattle.st_base.specs.declared.ids.NodeId.TheVariants as nodes
-use Rattle.st_base.specs.declared.disk.BlockAt.{BlockAt}
-use Rattle.st_base.specs.declared.disk.Tag.{Tag}
-use Rattle.st_rules.specs.declared.log.Cause.{Cause}
-use Rattle.st_rules.specs.declared.log.Cause.TheVariants as causes
-use Rattle.st_rules.specs.declared.log.LogEntry.{LogEntry}
-use Rattle.st_rules.specs.declared.log.LogOwner.{LogOwner}
-use Rattle.st_rules.specs.declared.disks.Block.{Block}
-use Rattle.st_rules.specs.declared.disks.DiskCommand.{DiskCommand}
-use Rattle.st_rules.specs.declared.observation.WorldRefusal.TheVariants as refusals
-use Rattle.st_rules.specs.declared.world.IssuedCommand.{IssuedCommand}
-use Rattle.st_rules.specs.declared.world.LeaseLife.{LeaseLife}
-use Rattle.st_rules.specs.Keys.{same_client, same_server}
-use Rattle.st_rules.specs.FlatLog as log
-use Rattle.st_rules.specs.FlatLog.{owner, same_owner}
-use Rattle.st_rules.specs.World.{World, WorldClient, numbered, clock_of, lease_end_of}
-use Rattle.st_rules.specs.Admissible as adm
-use Rattle.st_rules.specs.Events as ev
+use Rattle.st_lemmas.proofs.Words
+use Words.{◌≡◌, ℕ, ◌+◌, ◌≤◌, Bool, true, false, not, ◌&&◌, List, [], ◌∷◌, ◌++◌, ◌==◌, Option, Some, None, refl, sym, ap, ◌∙◌, subst, arith, if◌then◌else◌}
+use Words.{leb-true, nat_le, filter, suc, zero, slice_get, unwrap_or, list_any, eqb-true, le-leb, ClientId, ServerId, FileId, PageNo, Stamp, BlockAt, Tag}
+use Words.{Cause, LogEntry, LogOwner, Block, DiskCommand, IssuedCommand, LeaseLife}
+use Words.nodes
+use Words.causes
+use Words.refusals
+use Words.Keys.{same_client, same_server}
+use Words.FlatLog as log
+use Words.FlatLog.{owner, same_owner}
+use Words.World.{World, WorldClient, numbered, clock_of, lease_end_of}
+use Words.Admissible as adm
+use Words.Events as ev
+use Words.Lookups.{some_is, or_left, or_right}
+use Words.Tables.{and_true, and_both}
+use Words.Truth.{not_both}
+use Words.Worlds.{stands_not}
+use Rattle.std.specs.List.{zip}
 use Rattle.st_laws_pages.specs.Disks.Pages.{ExtentsOf, LivingOf, CarriedRight, PagesAreKept}
-use Rattle.st_laws_pages.specs.Disks.World.{Living, Timely, EffectDone, CommandsHold, HoldsBy, PagesHold, mapped_in, births_in, block_in, LateStays, EndsAgree, EndsAt}
-use Rattle.st_lemmas.proofs.Lookups.{some_is, or_left, or_right}
-use Rattle.st_lemmas.proofs.Tables.{and_true, and_both}
-use Rattle.st_laws_steps.proofs.Clash.{clash}
+use Rattle.st_laws_pages.specs.Disks.World.{Living, Timely, EffectDone, CommandsHold, HoldsBy, PagesHold, mapped_in, births_in, block_in, LateStays, EndsAgree}
+use Rattle.st_laws_pages.specs.Disks.World.{EndsAt}
 use Rattle.st_laws_pages.proofs.Disks.Folds.{done_drop, owner_parts}
 use Rattle.st_laws_pages.proofs.Disks.Law.{fewer, dropped, length_same}
-use Rattle.st_laws_pages.proofs.Disks.Effects.{stands_not}
 use Rattle.st_lemmas.proofs.Marks.{owners_drop}
 
 -- A drop leaves what the commands did.
@@ -97,7 +85,7 @@ still_timely w steps k x t = go (lease_end_of w x.client x.server x.life) t
         none true q =
             let a = leb-true end.0 (clock_of w (nodes.Client x.client)).0 q in
             let b = clock_up w steps x.client in
-            absurd (clash _ (le-leb end.0 (clock_of (ev.with_clocks steps w) (nodes.Client x.client)).0 (omega (arith, a, b))) (stands_not (nat_le end.0 (clock_of (ev.with_clocks steps w) (nodes.Client x.client)).0) _ e))
+            absurd (not_both _ (le-leb end.0 (clock_of (ev.with_clocks steps w) (nodes.Client x.client)).0 (omega (arith, a, b))) (stands_not (nat_le end.0 (clock_of (ev.with_clocks steps w) (nodes.Client x.client)).0) _ e))
         none false q = ap (λ b. adm.stands b (refusals.LateDisk (clock_of w (nodes.Client x.client)) end)) q
 
 -- No command that can still have its effect is of these lives.
@@ -146,7 +134,7 @@ apart_one w steps e ends r k x f p s t = go (log.is_of_life e.client e.server e.
         ∙ ap (λ i. adm.late_at (clock_of v (nodes.Client x.client)) (lease_end_of w x.client i e.life)) (sym g)
         ∙ ap (λ i. adm.late_at (clock_of v (nodes.Client x.client)) (lease_end_of w x.client x.server i)) (sym l) ∙ t in
         let no = stands_not (nat_le end.0 (clock_of v (nodes.Client e.client)).0) _ y in
-        clash _ (subst (λ n. nat_le end.0 n ≡ true) (sym (clock_is w steps e.client d.clock d.there)) le) no
+        not_both _ (subst (λ n. nat_le end.0 n ≡ true) (sym (clock_is w steps e.client d.clock d.there)) le) no
 
     go : (z : Bool) → log.is_of_life e.client e.server e.life (owner x.client x.life f p) ≡ z → (o : Option Stamp) → e.end ≡ o → adm.reaches (clock_of w (nodes.Client e.client)) (adm.step_of e.client steps) o ≡ true → z ≡ false
     go false z o q h = refl

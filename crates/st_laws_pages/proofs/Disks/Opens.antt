@@ -1,16 +1,14 @@
 -- A command of the disks that is not reported was not reported before an effect or a report, and was the same.
-use Rattle.std.proofs.Common.{◌≡◌, ◌≢◌, ℕ, zero, suc, ◌⊎◌, Bool, true, false, List, Option, Some, None, Ok, Err, refl, sym, ap, ◌∙◌, inl, inr, if◌then◌else◌}
-use Rattle.std.specs.Prelude.{length, set}
-use Rattle.st_base.specs.declared.disk.Command.{Command}
-use Rattle.st_base.specs.declared.disk.Command.TheVariants as commands
+use Rattle.st_lemmas.proofs.Words
+use Words.{◌≡◌, ◌≢◌, ℕ, zero, suc, ◌⊎◌, Bool, true, false, List, Option, Some, None, Ok, Err, refl, sym, ap, ◌∙◌, inl, inr, if◌then◌else◌, length, set, Command}
+use Words.{DiskCommand, Report}
+use Words.commands
+use Words.reports
+use Words.Disks as disks
+use Words.Disks.{Disks}
+use Words.Events as ev
+use Words.Numbers.{set_length}
 use Rattle.st_rules.specs.declared.disks.CommandRefusal.TheVariants as refusals
-use Rattle.st_rules.specs.declared.disks.DiskCommand.{DiskCommand}
-use Rattle.st_rules.specs.declared.disks.Report.{Report}
-use Rattle.st_rules.specs.declared.disks.Report.TheVariants as reports
-use Rattle.st_rules.specs.Disks as disks
-use Rattle.st_rules.specs.Disks.{Disks}
-use Rattle.st_rules.specs.Events as ev
-use Rattle.st_lemmas.proofs.Numbers.{set_length}
 use Rattle.st_laws_pages.proofs.Disks.World.{at_set}
 
 -- Each command that is open was open before, and the same.
@@ -61,7 +59,7 @@ goes_effect d (suc n) = at (disks.command d (suc n)) refl
     at None e = goes_same d.commands
     at (Some c) e = reported c c.report e
 
-shut : (ok : Bool) → disks.report_of ok ≡ reports.Open → ⊥
+pub shut : (ok : Bool) → disks.report_of ok ≡ reports.Open → ⊥
 shut true e = cc
 shut false e = cc
 

@@ -1,40 +1,26 @@
 -- What follows for clients: what a read finds, what an unmapped page is, and that a write that was reported made its page hard.
-use Rattle.std.proofs.Common.{◌≡◌, ℕ, ◌+◌, ◌≤◌, ◌<◌, Bool, true, false, ◌&&◌, List, [], ◌∷◌, Option, Some, None, refl, sym, ap, ◌∙◌, subst, arith, if◌then◌else◌}
-use Rattle.std.proofs.lemmas.Bool.{eq-eqb, le-leb}
-use Rattle.st_base.specs.declared.ids.ClientId.{ClientId}
-use Rattle.st_base.specs.declared.ids.FileId.{FileId}
-use Rattle.st_base.specs.declared.ids.PageNo.{PageNo}
-use Rattle.st_base.specs.declared.disk.BlockAt.{BlockAt}
-use Rattle.st_base.specs.declared.disk.Tag.{Tag}
-use Rattle.st_base.specs.declared.disk.Command.TheVariants as commands
-use Rattle.st_base.specs.Page.{filled}
-use Rattle.st_rules.specs.declared.client.MappedBlock.{MappedBlock}
-use Rattle.st_rules.specs.declared.disks.Block.{Block}
-use Rattle.st_rules.specs.declared.disks.DiskCommand.{DiskCommand}
-use Rattle.st_rules.specs.declared.extents.Extent.{Extent}
-use Rattle.st_rules.specs.declared.log.Fate.{Fate}
-use Rattle.st_rules.specs.declared.log.Fate.TheVariants as fates
-use Rattle.st_rules.specs.declared.log.LogEntry.{LogEntry}
-use Rattle.st_rules.specs.declared.log.LogOwner.{LogOwner}
-use Rattle.st_rules.specs.declared.world.Carried.{Carried}
-use Rattle.st_rules.specs.declared.world.IssuedCommand.{IssuedCommand}
-use Rattle.st_rules.specs.Keys.{same_client, same_file, same_page}
-use Rattle.st_rules.specs.FlatLog as log
-use Rattle.st_rules.specs.FlatLog.{same_owner, owner, content}
-use Rattle.st_rules.specs.ClientPages.{found_under}
-use Rattle.st_rules.specs.ClientPages as client
-use Rattle.st_rules.specs.Disks as disks
-use Rattle.st_rules.specs.World.{World, issued_of}
-use Rattle.st_rules.specs.Events.{is_hard_fate, is_entry_of, latest, latest_from, latest_at}
+use Rattle.st_lemmas.proofs.Words
+use Words.{◌≡◌, ℕ, ◌+◌, ◌≤◌, ◌<◌, Bool, true, false, ◌&&◌, List, [], ◌∷◌, Option, Some, None, refl, sym, ap, ◌∙◌, subst, arith, if◌then◌else◌, eq-eqb, le-leb}
+use Words.{ClientId, FileId, PageNo, BlockAt, Tag, MappedBlock, Block, DiskCommand, Extent, Fate, LogEntry, LogOwner, Carried, IssuedCommand}
+use Words.commands
+use Words.Page.{filled}
+use Words.fates
+use Words.Keys.{same_client, same_file, same_page}
+use Words.FlatLog as log
+use Words.FlatLog.{same_owner, owner, content}
+use Words.ClientPages.{found_under}
+use Words.ClientPages as client
+use Words.Disks as disks
+use Words.World.{World, issued_of}
+use Words.Events.{is_hard_fate, is_entry_of, latest, latest_from, latest_at}
+use Words.Tables.{and_both}
+use Words.Truth.{file_self, not_both}
 use Rattle.st_laws_pages.specs.Disks.Folds.{SettledOn, DoneUpto}
 use Rattle.st_laws_pages.specs.Disks.Pages.{mapping_of}
 use Rattle.st_laws_pages.specs.Disks.World.{mapped_in, block_in, EffectDone, PagesHold}
 use Rattle.st_laws_pages.specs.Disks.Data.{HardOf}
 use Rattle.st_laws_pages.specs.Fates.Fates.{PendingAll}
-use Rattle.st_lemmas.proofs.Tables.{and_both}
-use Rattle.st_laws_steps.proofs.Clash.{clash}
 use Rattle.st_laws_pages.proofs.Disks.Folds.{settled_is, owner_parts}
-use Rattle.st_laws_pages.proofs.Disks.Law.{self_file}
 
 -- A read of a mapped page of which nothing is pending finds the content.
 pub read_finds : (w : World) (f : FileId) (p : PageNo) (e : Extent) → PagesHold w → mapped_in w f p ≡ Some e → SettledOn f p w.log →
@@ -68,7 +54,7 @@ unfolding latest_from latest_at
 none_upto n before o [] h d = record {}
 none_upto n before o (e ∷ es) h d =
     record {
-      one = λ t s. clash (log.is_pending e.fate) t (d.one (le-leb n _ (top s)) s);
+      one = λ t s. not_both (log.is_pending e.fate) t (d.one (le-leb n _ (top s)) s);
       rest = none_upto (n + 1) (if is_entry_of o.client o.file o.page e then n else before) o es (low (is_entry_of o.client o.file o.page e)) d.rest;
     }
   where
@@ -78,7 +64,7 @@ none_upto n before o (e ∷ es) h d =
 
     its : same_owner e.of o ≡ true → is_entry_of o.client o.file o.page e ≡ true
     its s = let z = owner_parts e.of o s in subst (λ (q : LogOwner). (same_client q.client o.client && (same_file q.file o.file && same_page q.page o.page)) ≡ true) (sym z)
-        (and_both _ _ (eq-eqb o.client.0 o.client.0 refl) (and_both _ _ (self_file o.file) (eq-eqb o.page.0 o.page.0 refl)))
+        (and_both _ _ (eq-eqb o.client.0 o.client.0 refl) (and_both _ _ (file_self o.file) (eq-eqb o.page.0 o.page.0 refl)))
 
     top : same_owner e.of o ≡ true → n ≤ latest_from (n + 1) (if is_entry_of o.client o.file o.page e then n else before) o.client o.file o.page es
     top s = subst (λ (b : Bool). n ≤ latest_from (n + 1) (if b then n else before) o.client o.file o.page es) (sym (its s)) (latest_from_up (n + 1) n o.client o.file o.page es (omega arith))

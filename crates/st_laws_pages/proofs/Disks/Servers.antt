@@ -1,41 +1,32 @@
 -- The law in the world: a step of a server, its crash and its start.
-use Rattle.std.proofs.Common.{◌≡◌, ℕ, ◌+◌, ◌≤◌, ◌%◌, Bool, true, false, ◌&&◌, List, [], ◌∷◌, ◌++◌, ◌==◌, Option, Some, None, Ok, refl, sym, ap, ◌∙◌, subst, inl, inr, arith, if◌then◌else◌}
-use Rattle.std.specs.Prelude.{nat_le, length, map, flat_map, filter, find, suc, zero, slice_get, set, pred}
-use Rattle.std.specs.List.{list_any}
-use Rattle.std.proofs.lemmas.Bool.{eqb-true, eq-eqb}
-use Rattle.st_base.specs.declared.ids.ServerId.{ServerId}
-use Rattle.st_base.specs.declared.ids.FileId.{FileId}
-use Rattle.st_base.specs.declared.ids.PageNo.{PageNo}
-use Rattle.st_base.specs.declared.disk.BlockAt.{BlockAt}
-use Rattle.st_base.specs.declared.disk.Tag.{Tag}
-use Rattle.st_messages.specs.declared.output.Note.{Note}
-use Rattle.st_messages.specs.declared.output.Note.TheVariants as notes
-use Rattle.st_messages.specs.declared.output.Output.{Output}
-use Rattle.st_messages.specs.declared.output.Output.TheVariants as outputs
-use Rattle.st_rules.specs.declared.disks.Block.{Block}
-use Rattle.st_rules.specs.declared.extents.Extent.{Extent}
-use Rattle.st_rules.specs.declared.log.LogEntry.{LogEntry}
-use Rattle.st_rules.specs.declared.world.IssuedCommand.{IssuedCommand}
-use Rattle.st_rules.specs.Keys.{same_server, same_file, same_block}
-use Rattle.st_rules.specs.FlatLog as log
-use Rattle.st_rules.specs.FlatLog.{touches, hard_cut}
-use Rattle.st_rules.specs.Extents as extents
-use Rattle.st_rules.specs.Extents.{Extents}
-use Rattle.st_rules.specs.Server as server
-use Rattle.st_rules.specs.World as world
-use Rattle.st_rules.specs.Server.{ServerNode}
-use Rattle.st_rules.specs.World.{World, node_of, numbered, server_of_disk}
-use Rattle.st_rules.specs.Admissible as adm
-use Rattle.st_rules.specs.Events as ev
-use Rattle.st_rules.specs.Events.{WorldTurn, server_says, server_says_all}
+use Rattle.st_lemmas.proofs.Words
+use Words.{◌≡◌, ℕ, ◌+◌, ◌≤◌, ◌%◌, Bool, true, false, ◌&&◌, List, [], ◌∷◌, ◌++◌, ◌==◌, Option, Some, None, Ok, refl, sym, ap, ◌∙◌, subst, inl, inr, arith}
+use Words.{if◌then◌else◌, nat_le, length, map, filter, find, suc, zero, slice_get, set, pred, list_any, eqb-true, eq-eqb, ServerId, FileId, PageNo, BlockAt}
+use Words.{Tag, Note, Output, Block, Extent, LogEntry, IssuedCommand}
+use Words.notes
+use Words.outputs
+use Words.Keys.{same_server, same_file, same_block}
+use Words.FlatLog as log
+use Words.FlatLog.{touches, hard_cut}
+use Words.Extents as extents
+use Words.Extents.{Extents}
+use Words.Server as server
+use Words.World as world
+use Words.Server.{ServerNode}
+use Words.World.{World, node_of, numbered, server_of_disk}
+use Words.Admissible as adm
+use Words.Events as ev
+use Words.Events.{WorldTurn, server_says, server_says_all}
+use Words.Lookups.{if_true, if_false, some_is, or_false}
+use Words.Numbers.{set_other, set_length}
+use Words.Tables.{find_before, and_true, and_both, not_true}
+use Words.Truth.{block_is, file_is, file_self, not_both}
+use Rattle.std.specs.Prelude.{flat_map}
 use Rattle.st_laws_pages.specs.Disks.Pages.{ExtentsOf, LivingOf, PagesAreKept, same_place}
-use Rattle.st_laws_pages.specs.Disks.World.{Living, Timely, CommandsHold, ExtentsHold, HoldsBy, PagesHold, mapped_at, mapped_in, births_at, births_in, block_in, NoCut, NoCuts, OneCut, ExtentsMove, Stays, Maps, Cuts, CutQuiet}
-use Rattle.st_lemmas.proofs.Lookups.{if_true, if_false, some_is, or_false}
-use Rattle.st_lemmas.proofs.Numbers.{set_other, set_length}
-use Rattle.st_laws_steps.proofs.Clash.{clash}
-use Rattle.st_laws_pages.proofs.Disks.Law.{placed, more_cut, same_place_is, same_file_is, same_block_is, self_file, self_place}
+use Rattle.st_laws_pages.specs.Disks.World.{Living, Timely, CommandsHold, ExtentsHold, HoldsBy, PagesHold, mapped_at, mapped_in, births_at, births_in, block_in}
+use Rattle.st_laws_pages.specs.Disks.World.{NoCut, NoCuts, OneCut, ExtentsMove, Stays, Maps, Cuts, CutQuiet}
+use Rattle.st_laws_pages.proofs.Disks.Law.{placed, more_cut, same_place_is, self_place, turn_place}
 use Rattle.st_lemmas.proofs.Contents.{find_cut, find_stays, find_end}
-use Rattle.st_lemmas.proofs.Tables.{find_before, and_true, and_both, not_true}
 use Rattle.st_laws_pages.proofs.Disks.Moves.{later, commands_more}
 use Rattle.st_laws_pages.proofs.Disks.Clients.{done_of_more}
 
@@ -52,7 +43,7 @@ numbered_own {A} xs (suc k) x y e = go xs k e
 pub numbered_other : {A : Type 0} (xs : List A) (k j : ℕ) (x y : A) → numbered xs k ≡ Some y → (j == k) ≡ false → numbered (set xs (pred k) x) j ≡ numbered xs j
 numbered_other xs zero j x y e n = cc
 numbered_other xs (suc k) zero x y e n = refl
-numbered_other xs (suc k) (suc j) x y e n = set_other xs k j x (λ q. clash (suc j == suc k) (eq-eqb (suc j) (suc k) (ap suc q)) n)
+numbered_other xs (suc k) (suc j) x y e n = set_other xs k j x (λ q. not_both (suc j == suc k) (eq-eqb (suc j) (suc k) (ap suc q)) n)
 
 -- The look-ups with these extents at a server.
 mapped_with : World → ServerId → Extents → ExtentsOf
@@ -64,7 +55,7 @@ births_with w s x t = if same_server t s then x.births else births_in w t
 server_is : (s t : ServerId) → same_server s t ≡ true → s ≡ t
 server_is s t e = ap (λ n. record { 0 = n }) (eqb-true s.0 t.0 e)
 
-self_server : (s : ServerId) → same_server s s ≡ true
+pub self_server : (s : ServerId) → same_server s s ≡ true
 self_server s = eq-eqb s.0 s.0 refl
 
 now_mapped : (w : World) (s : ServerId) (node : ServerNode) → node_of w s ≡ Some node → (f : FileId) (p : PageNo) → mapped_with w s node.state.stable.extents f p ≡ mapped_in w f p
@@ -230,9 +221,6 @@ births_rise es m b n u L r h =
       cuts = h.cuts;
     }
 
-flip_place : (f g : FileId) (p q : PageNo) → same_place f p g q ≡ true → same_place g q f p ≡ true
-flip_place f g p q e = let h = same_place_is f g p q e in subst (λ x. same_place x q f p ≡ true) h.0 (subst (λ y. same_place f y f p ≡ true) h.1 (self_place f p))
-
 place_one : (w : World) (s : ServerId) (es : List LogEntry) (L : LivingOf) (x : Extents) (f : FileId) (p : PageNo) (b : BlockAt) → f.server ≡ s → server_of_disk w b ≡ s → extents.is_free x b ≡ true →
     ((g : FileId) (q : PageNo) (e : Extent) → mapped_in w g q ≡ Some e → server_of_disk w e.at ≡ g.server) → ServerPages w s es L x → ServerPages w s es L (extents.with_extent (extents.new_extent x f p b) x)
 unfolding mapped_with births_with
@@ -267,7 +255,7 @@ place_one w s es L x f p b own disk free lies h =
     turned g q n = pick (same_place f p g q) refl
       where
         pick : (c : Bool) → same_place f p g q ≡ c → c ≡ false
-        pick true c = absurd (clash _ (flip_place f g p q c) n)
+        pick true c = absurd (not_both _ (turn_place f g p q c) n)
         pick false c = refl
 
     free_of : (g : FileId) (q : PageNo) (e : Extent) → mapped_with w s x g q ≡ Some e → same_block e.at b ≡ false
@@ -278,8 +266,8 @@ place_one w s es L x f p b own disk free lies h =
         pick false c = same (same_block e.at b) refl
           where
             same : (d : Bool) → same_block e.at b ≡ d → d ≡ false
-            same true d = absurd (clash (same_server g.server s)
-                (subst (λ t. same_server t s ≡ true) (sym disk ∙ sym (ap (server_of_disk w) (same_block_is e.at b d)) ∙ lies g q e (sym (if_false (same_server g.server s) (extents.extent_of x g q) (mapped_in w g q) c) ∙ u)) (self_server s)) c)
+            same true d = absurd (not_both (same_server g.server s)
+                (subst (λ t. same_server t s ≡ true) (sym disk ∙ sym (ap (server_of_disk w) (block_is e.at b d)) ∙ lies g q e (sym (if_false (same_server g.server s) (extents.extent_of x g q) (mapped_in w g q) c) ∙ u)) (self_server s)) c)
             same false d = refl
 
     same_own : same_place f p f p ≡ true
@@ -325,7 +313,7 @@ place_keeps w s es L f (p ∷ ps) x own lies h = place_keeps w s es L f ps (exte
 release_gone : (x : Extents) (f g : FileId) (p q : PageNo) → (same_file f g && nat_le p.0 q.0) ≡ true → extents.extent_of (extents.release_from x f p) g q ≡ None
 unfolding extents.release_from
 release_gone x f g p q t = find_cut (extents.is_extent_of g q) (extents.is_at_or_behind f p) (λ e i. let y = same_place_is e.file g e.page q i in let z = and_true (same_file f g) (nat_le p.0 q.0) t in
-    and_both (same_file e.file f) (nat_le p.0 e.page.0) (subst (λ k. same_file k f ≡ true) (sym y.0) (subst (λ k. same_file k f ≡ true) (same_file_is f g z.0) (self_file f))) (ap (λ (k : PageNo). nat_le p.0 k.0) y.1 ∙ z.1)) x.rows
+    and_both (same_file e.file f) (nat_le p.0 e.page.0) (subst (λ k. same_file k f ≡ true) (sym y.0) (subst (λ k. same_file k f ≡ true) (file_is f g z.0) (file_self f))) (ap (λ (k : PageNo). nat_le p.0 k.0) y.1 ∙ z.1)) x.rows
 
 release_same : (x : Extents) (f g : FileId) (p q : PageNo) → (same_file f g && nat_le p.0 q.0) ≡ false → extents.extent_of (extents.release_from x f p) g q ≡ extents.extent_of x g q
 unfolding extents.release_from
@@ -334,7 +322,7 @@ release_same x f g p q t = find_stays (extents.is_extent_of g q) (extents.is_at_
     no : (e : Extent) → (e.file ≡ g) × (e.page ≡ q) → (b : Bool) → extents.is_at_or_behind f p e ≡ b → b ≡ false
     no e y true c =
         let z = and_true (same_file e.file f) (nat_le p.0 e.page.0) c in
-        absurd (clash _ (and_both (same_file f g) (nat_le p.0 q.0) (subst (λ k. same_file f k ≡ true) y.0 (subst (λ k. same_file k e.file ≡ true) (same_file_is e.file f z.0) (self_file e.file))) (ap (λ (k : PageNo). nat_le p.0 k.0) (sym y.1) ∙ z.1)) t)
+        absurd (not_both _ (and_both (same_file f g) (nat_le p.0 q.0) (subst (λ k. same_file f k ≡ true) y.0 (subst (λ k. same_file k e.file ≡ true) (file_is e.file f z.0) (file_self e.file))) (ap (λ (k : PageNo). nat_le p.0 k.0) (sym y.1) ∙ z.1)) t)
     no e y false c = refl
 
 release_keeps : (w : World) (s : ServerId) (es : List LogEntry) (L : LivingOf) (f : FileId) (p : PageNo) (x : Extents) → f.server ≡ s →
@@ -352,7 +340,7 @@ release_keeps w s es L f p x own quiet h =
     gone : (g : FileId) (q : PageNo) → touches g q (hard_cut f p) ≡ true → mapped_with w s (extents.release_from x f p) g q ≡ None
     gone g q t =
         if_true (same_server g.server s) (extents.extent_of (extents.release_from x f p) g q) (mapped_in w g q)
-        (subst (λ (k : FileId). same_server k.server s ≡ true) (same_file_is f g (and_true (same_file f g) (nat_le p.0 q.0) t).0) (subst (λ k. same_server f.server k ≡ true) own (self_server f.server)))
+        (subst (λ (k : FileId). same_server k.server s ≡ true) (file_is f g (and_true (same_file f g) (nat_le p.0 q.0) t).0) (subst (λ k. same_server f.server k ≡ true) own (self_server f.server)))
         ∙ release_gone x f g p q t
 
     same : (g : FileId) (q : PageNo) → touches g q (hard_cut f p) ≡ false → mapped_with w s (extents.release_from x f p) g q ≡ mapped_with w s x g q

@@ -1,36 +1,24 @@
 -- Every step keeps the pages, from what other laws owe; and they hold at the start.
-use Rattle.std.proofs.Common.{◌≡◌, ℕ, ◌+◌, Bool, true, false, Option, Some, None, Ok, Err, refl, sym, ap, ◌∙◌, subst, if◌then◌else◌}
-use Rattle.std.specs.Prelude.{Result, suc, zero}
-use Rattle.st_base.specs.declared.ids.ClientId.{ClientId}
-use Rattle.st_base.specs.declared.ids.ServerId.{ServerId}
-use Rattle.st_base.specs.declared.ids.NodeId.{NodeId}
-use Rattle.st_base.specs.declared.ids.NodeId.TheVariants as nodes
-use Rattle.st_messages.specs.declared.ask.Ask.{Ask}
-use Rattle.st_messages.specs.declared.message.Message.{Message}
-use Rattle.st_messages.specs.declared.event.Event.{Event}
-use Rattle.st_messages.specs.declared.event.Event.TheVariants as events
-use Rattle.st_rules.specs.declared.client.ClientInput.{ClientInput}
-use Rattle.st_rules.specs.declared.client.ClientInput.TheVariants as inputs
-use Rattle.st_rules.specs.declared.input.ServerInput.{ServerInput}
-use Rattle.st_rules.specs.declared.input.ServerInput.TheVariants as serving
-use Rattle.st_base.specs.declared.ids.Stamp.{Stamp}
-use Rattle.st_rules.specs.declared.disks.DiskCommand.{DiskCommand}
-use Rattle.st_rules.specs.declared.node.StepRefusal.{StepRefusal}
+use Rattle.st_lemmas.proofs.Words
+use Words.{◌≡◌, ℕ, ◌+◌, Bool, true, false, Option, Some, None, Ok, Err, refl, sym, ap, ◌∙◌, subst, if◌then◌else◌, Result, suc, zero, ClientId, ServerId, NodeId}
+use Words.{Ask, Message, Event, ClientInput, ServerInput, Stamp, DiskCommand, StepRefusal, WorldRefusal, IssuedCommand, SentMessage}
+use Words.nodes
+use Words.events
+use Words.inputs
+use Words.serving
+use Words.Client as cl
+use Words.Server as server
+use Words.Disks as disks
+use Words.World as world
+use Words.Server.{ServerNode}
+use Words.World.{World, WorldClient, site_of, node_of, issued_of, clock_of}
+use Words.Admissible as adm
+use Words.Events as ev
+use Words.Events.{WorldTurn}
 use Rattle.st_rules.specs.declared.node.StepRefusal.TheVariants.{Crashed}
-use Rattle.st_rules.specs.declared.observation.WorldRefusal.{WorldRefusal}
-use Rattle.st_rules.specs.declared.world.IssuedCommand.{IssuedCommand}
-use Rattle.st_rules.specs.declared.world.SentMessage.{SentMessage}
-use Rattle.st_rules.specs.Client as cl
-use Rattle.st_rules.specs.Server as server
-use Rattle.st_rules.specs.Disks as disks
-use Rattle.st_rules.specs.World as world
-use Rattle.st_rules.specs.Server.{ServerNode}
-use Rattle.st_rules.specs.World.{World, WorldClient, site_of, node_of, issued_of, clock_of}
-use Rattle.st_rules.specs.Admissible as adm
-use Rattle.st_rules.specs.Events as ev
-use Rattle.st_rules.specs.Events.{WorldTurn}
 use Rattle.st_laws_pages.specs.Disks.World.{ExtentsMove, PagesHold}
-use Rattle.st_laws_pages.specs.Disks.Obligations.{NodeOwes, ServerNodeOwes, TakesOwes, AtClient, AtServer, AtAsk, AtNode, AtDelivery, AtEnd, AtTold, AtReport, Owed, StepsKeepPages, FatesHold, StepsKeepFates}
+use Rattle.st_laws_pages.specs.Disks.Obligations.{NodeOwes, ServerNodeOwes, TakesOwes, AtClient, AtServer, AtAsk, AtNode, AtDelivery, AtEnd, AtTold, AtReport}
+use Rattle.st_laws_pages.specs.Disks.Obligations.{Owed, StepsKeepPages, FatesHold, StepsKeepFates}
 use Rattle.st_laws_pages.specs.Fates.Fates.{BeforeEnd, FatesAreKept, GoneHold}
 use Rattle.st_laws_steps.specs.Lives.Lives.{LivesHold}
 use Rattle.st_laws_pages.proofs.Disks.Effects.{effect_finds, report_finds, report_is, reported_world, reported_is}
@@ -175,9 +163,9 @@ happens_keeps w (events.Start (nodes.Server s)) r o l h = go (node_of w s) refl
     go (Some node) e = server_start_keeps w s node e h
 
 -- The law.
-pub law : StepsKeepPages
+pub steps_keep_pages : StepsKeepPages
 unfolding ev.world_step ev.world_by adm.refusal adm.refused_delivery adm.clocks_refused adm.flush_missed adm.refused_effect adm.refused_report world.node_of_place adm.missed_by
-law w e sc is o l h = go (adm.refusal (ev.counted w) e) refl is
+steps_keep_pages w e sc is o l h = go (adm.refusal (ev.counted w) e) refl is
   where
     go : (r : Option WorldRefusal) → adm.refusal w e ≡ r → ev.world_by w e r ≡ Ok sc → PagesHold sc.world
     go None q is = subst (λ (s : WorldTurn). PagesHold s.world) (ok_is is) (happens_keeps (ev.counted w) e (same q) o (record { lives = l.lives; known = l.known }) (record { pages = h.pages; commands = h.commands; extents = record { settings = h.extents.settings; ids = h.extents.ids; lies = h.extents.lies } }))

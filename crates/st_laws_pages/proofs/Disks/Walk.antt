@@ -1,20 +1,12 @@
 -- What a server's step does to its extents.
-use Rattle.std.proofs.Common.{◌≡◌, ℕ, List, [], ◌∷◌, ◌++◌, refl, sym, subst, inl, inr}
-use Rattle.std.specs.Prelude.{Ok}
-use Rattle.st_base.specs.declared.ids.FileId.{FileId}
-use Rattle.st_base.specs.declared.ids.PageNo.{PageNo}
-use Rattle.st_base.specs.declared.ids.ServerId.{ServerId}
-use Rattle.st_base.specs.declared.ids.Stamp.{Stamp}
-use Rattle.st_messages.specs.declared.message.Body.{Body}
-use Rattle.st_messages.specs.declared.message.Header.{Header}
-use Rattle.st_messages.specs.declared.output.Note.TheVariants as notes
-use Rattle.st_messages.specs.declared.output.Output.{Output}
-use Rattle.st_messages.specs.declared.output.Output.TheVariants as outputs
-use Rattle.st_rules.specs.declared.input.ServerInput.{ServerInput}
-use Rattle.st_rules.specs.Extents as extents
-use Rattle.st_rules.specs.Extents.{Extents}
-use Rattle.st_rules.specs.Server as sv
-use Rattle.st_rules.specs.Server.{ServerState, ServerTurn, reply, tell, steal_from, suspect_client, keep_and_reply, server_step}
+use Rattle.st_lemmas.proofs.Words
+use Words.{◌≡◌, ℕ, List, [], ◌∷◌, ◌++◌, refl, sym, subst, inl, inr, Ok, FileId, PageNo, ServerId, Stamp, Body, Header, Output, ServerInput}
+use Words.notes
+use Words.outputs
+use Words.Extents as extents
+use Words.Extents.{Extents}
+use Words.Server as sv
+use Words.Server.{ServerState, ServerTurn, reply, tell, steal_from, suspect_client, keep_and_reply, server_step}
 use Rattle.st_laws_pages.specs.Disks.World.{NoCut, NoCuts, OneCut, ExtentsMove, Stays, Maps, Cuts}
 use Rattle.st_trace.specs.Server.Edits as edits
 use Rattle.st_trace.specs.Server.Edits.{AtThefts, AtInput, AtSuspicion, AtGrants, AtDemands, Ruled, Edit, TakesTimers, Steals, Welcomes, Begins, Replaces}
@@ -22,7 +14,7 @@ use Rattle.st_trace.specs.Server.Edits.{PutsOff, Sees, Reasserts, Serves, Repeat
 use Rattle.st_trace.proofs.Server.Allocating.{allocated_pages_are_placed}
 use Rattle.st_trace.proofs.Server.Walk.{walk_in_two}
 
-none_more : (os : List Output) (o : Output) → NoCut o → NoCuts os → NoCuts (os ++ o ∷ [])
+pub none_more : (os : List Output) (o : Output) → NoCut o → NoCuts os → NoCuts (os ++ o ∷ [])
 none_more [] o n h = record { one = n; rest = record {} }
 none_more (x ∷ os) o n h = record { one = h.one; rest = none_more os o n h.rest }
 

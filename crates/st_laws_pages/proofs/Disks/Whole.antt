@@ -1,42 +1,35 @@
 -- The laws of the pages at the start, and over whole runs.
-use Rattle.std.proofs.Common.{◌≡◌, ℕ, ◌+◌, ◌≤◌, ◌<◌, Bool, true, false, inl, inr, subst, List, [], ◌∷◌, ◌++◌, Option, Some, None, Ok, Err, refl, sym, ap, ◌∙◌, arith}
-use Rattle.std.specs.Prelude.{Result, map, suc, zero, pred, slice_get, option_map}
-use Rattle.st_base.specs.declared.config.Config.{Config}
-use Rattle.st_base.specs.declared.ids.ServerId.{ServerId}
-use Rattle.st_base.specs.declared.ids.FileId.{FileId}
-use Rattle.st_base.specs.declared.ids.PageNo.{PageNo}
-use Rattle.st_messages.specs.declared.event.Event.{Event}
-use Rattle.st_rules.specs.declared.extents.Extent.{Extent}
-use Rattle.st_rules.specs.declared.observation.WorldRefusal.{WorldRefusal}
-use Rattle.st_rules.specs.declared.world.IssuedCommand.{IssuedCommand}
-use Rattle.st_rules.specs.Extents.{numbers}
-use Rattle.st_rules.specs.Server as server
-use Rattle.st_rules.specs.Server.{ServerNode}
-use Rattle.st_rules.specs.World.{World, WorldClient, numbered, fresh_world, node_at_start, fresh_site, fresh_clocks, client_clock, server_clock}
-use Rattle.st_rules.specs.Events as ev
-use Rattle.st_rules.specs.Events.{WorldTurn}
-use Rattle.st_rules.specs.History.{Traced, traced, traced_after}
-use Rattle.st_rules.specs.Safety as safety
-use Rattle.st_rules.specs.Safety.{Step, step, steps, Throughout, TheReportTellsTheLog}
+use Rattle.st_lemmas.proofs.Words
+use Words.{◌≡◌, ℕ, ◌+◌, ◌≤◌, ◌<◌, Bool, true, false, inl, inr, subst, List, [], ◌∷◌, ◌++◌, Option, Some, None, Ok, Err, refl, sym, ap, ◌∙◌, arith, Result, map}
+use Words.{suc, zero, pred, slice_get, option_map, Config, ServerId, FileId, PageNo, Event, Extent, WorldRefusal, IssuedCommand, ClientId}
+use Words.Extents.{numbers}
+use Words.Server as server
+use Words.Server.{ServerNode}
+use Words.World.{World, WorldClient, numbered, fresh_world, node_at_start, fresh_site, fresh_clocks, client_clock, server_clock}
+use Words.Events as ev
+use Words.Events.{WorldTurn}
+use Words.History.{Traced, traced, traced_after}
+use Words.Safety as safety
+use Words.Safety.{Step, step, steps, Throughout, TheReportTellsTheLog}
+use Words.Lookups.{some_is}
+use Words.Numbers.{get_map}
+use Words.Lists.{Has}
+use Words.Client as cl
+use Words.ClientState.{Association}
+use Words.Lengths.{get_longer, length_map, numbers_length}
 use Rattle.st_laws_pages.specs.Disks.World.{PagesHold, mapped_at, mapped_in, block_in}
 use Rattle.st_laws_pages.specs.Disks.Runs.{FatesAfter, RunsKeepFates}
-use Rattle.st_lemmas.proofs.Lookups.{some_is}
-use Rattle.st_lemmas.proofs.Numbers.{get_map}
 use Rattle.st_laws_pages.specs.Disks.Obligations.{FatesHold}
 use Rattle.st_laws_steps.specs.Client.Losses.{Fit}
 use Rattle.st_laws_steps.specs.Lives.Lives.{Once, server_number, NodeHolds, LivesHold}
 use Rattle.st_laws_pages.proofs.Lives.Turning.{fresh_fit}
-use Rattle.st_lemmas.specs.Lists.{Has}
 use Rattle.st_lemmas.proofs.Steps.{throughout, throughout_all}
-use Rattle.st_rules.specs.Client as cl
-use Rattle.st_rules.specs.ClientState.{Association}
-use Rattle.st_base.specs.declared.ids.ClientId.{ClientId}
 use Rattle.st_laws_pages.proofs.Disks.Steps as pages
 use Rattle.st_laws_pages.specs.Disks.ToldLog.{RunsTellTheLog}
 use Rattle.st_laws_pages.specs.LockedCuts.CutLocks.{TableHolds, WaitsHold, ReassertionsOwed, CutsAreLocked, RunsLockCuts}
-use Rattle.st_laws_pages.proofs.LockedCuts.CutLaw.{law as cut_law}
+use Rattle.st_laws_pages.proofs.LockedCuts.CutLaw.{steps_lock_cuts as cut_law}
 use Rattle.st_laws_pages.proofs.Disks.Told.{step_told}
-use Rattle.st_laws_pages.proofs.Lives.Fresh.{length_map, numbers_get, numbers_length}
+use Rattle.st_laws_pages.proofs.Lives.Fresh.{numbers_get}
 
 -- a node of the start is the fresh one of its number
 fresh_is : (k : Config) (servers d b : ℕ) (s : ServerId) (n : ServerNode) → numbered (map (node_at_start k servers d b) (numbers 1 servers)) s.0 ≡ Some n → n ≡ node_at_start k servers d b s.0
@@ -116,14 +109,9 @@ site_is k clients servers (suc i) s e = at (slice_get (numbers 1 clients) i) ref
     at None q e = cc
     at (Some m) q e = let z : m ≡ suc i = numbers_get 1 clients i m q ∙ (let z : 1 + i ≡ suc i = omega arith in z) in (sym (some_is e) ∙ ap (fresh_site k servers) z, q ∙ ap (λ n. Some n) z)
 
-get_front : {A : Type 0} (xs ys : List A) (n : ℕ) (v : A) → slice_get xs n ≡ Some v → slice_get (xs ++ ys) n ≡ Some v
-get_front [] ys n v e = cc
-get_front (x ∷ xs) ys zero v e = e
-get_front (x ∷ xs) ys (suc n) v e = get_front xs ys n v e
-
 clock_there : (clients servers : ℕ) (j : ℕ) → slice_get (numbers 1 clients) (pred j) ≡ Some j → (m : ℕ) → j ≡ suc m → numbered (fresh_clocks clients servers) j ≡ Some (client_clock j)
 clock_there clients servers zero q m e = cc
-clock_there clients servers (suc i) q m e = get_front (map client_clock (numbers 1 clients)) (map server_clock (numbers 1 servers)) i (client_clock (suc i)) (get_map client_clock (numbers 1 clients) i ∙ ap (option_map client_clock) q)
+clock_there clients servers (suc i) q m e = get_longer (map client_clock (numbers 1 clients)) (map server_clock (numbers 1 servers)) i (client_clock (suc i)) (get_map client_clock (numbers 1 clients) i ∙ ap (option_map client_clock) q)
 
 pub fresh_lives : (k : Config) (clients servers d b form : ℕ) → LivesHold (fresh_world k clients servers d b form)
 unfolding fresh_world cl.fresh_client

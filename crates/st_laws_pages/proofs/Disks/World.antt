@@ -1,34 +1,27 @@
 -- The law in the world: effects and reports of commands.
-use Rattle.std.proofs.Common.{◌≡◌, ◌≢◌, ℕ, ◌≤◌, ◌<◌, ◌⊎◌, Bool, true, false, List, Option, Some, None, refl, sym, ap, ◌∙◌, subst, inl, inr, arith}
-use Rattle.std.specs.Prelude.{suc, zero, slice_get, set, option_map}
-use Rattle.st_base.specs.declared.disk.BlockAt.{BlockAt}
-use Rattle.st_base.specs.declared.disk.Tag.{Tag}
-use Rattle.st_base.specs.declared.disk.Command.{Command}
-use Rattle.st_base.specs.declared.disk.Command.TheVariants as commands
-use Rattle.st_rules.specs.declared.disks.Block.{Block}
-use Rattle.st_rules.specs.declared.disks.DiskCommand.{DiskCommand}
-use Rattle.st_rules.specs.declared.disks.Report.TheVariants as reports
-use Rattle.st_rules.specs.declared.log.LogEntry.{LogEntry}
-use Rattle.st_rules.specs.declared.log.LogOwner.{LogOwner}
-use Rattle.st_rules.specs.declared.world.IssuedCommand.{IssuedCommand}
-use Rattle.st_rules.specs.Keys.{same_block}
-use Rattle.st_rules.specs.FlatLog as log
-use Rattle.st_rules.specs.FlatLog.{owner, entry_at}
-use Rattle.st_rules.specs.Disks as disks
-use Rattle.st_rules.specs.World.{World, issued_of, numbered}
-use Rattle.st_rules.specs.Admissible as adm
-use Rattle.st_rules.specs.Events as ev
+use Rattle.st_lemmas.proofs.Words
+use Words.{◌≡◌, ◌≢◌, ℕ, ◌≤◌, ◌<◌, ◌⊎◌, Bool, true, false, List, Option, Some, None, refl, sym, ap, ◌∙◌, subst, inl, inr, arith, suc, zero, slice_get, set}
+use Words.{option_map, BlockAt, Tag, Command, Block, DiskCommand, LogEntry, LogOwner, IssuedCommand}
+use Words.commands
+use Words.reports
+use Words.Keys.{same_block}
+use Words.FlatLog as log
+use Words.FlatLog.{owner, entry_at}
+use Words.Disks as disks
+use Words.World.{World, issued_of, numbered}
+use Words.Admissible as adm
+use Words.Events as ev
+use Words.Lookups.{some_is}
+use Words.Numbers.{get_below, get_there, set_own, set_other, set_length}
+use Words.Tables.{same_or_not}
+use Words.Truth.{block_is, block_self, not_both}
 use Rattle.st_laws_pages.specs.Disks.Folds.{of_entry, owner_at}
 use Rattle.st_laws_pages.specs.Disks.Pages.{CarriedRight}
 use Rattle.st_laws_pages.specs.Disks.World.{Living, Timely, EffectDone, CommandsHold, PagesHold, mapped_in, births_in, block_in}
-use Rattle.st_lemmas.proofs.Lookups.{some_is}
-use Rattle.st_lemmas.proofs.Numbers.{get_below, get_there, set_own, set_other, set_length}
-use Rattle.st_laws_steps.proofs.Clash.{clash}
 use Rattle.st_laws_pages.proofs.Disks.Folds.{done_harden, harden_done}
-use Rattle.st_laws_pages.proofs.Disks.Law.{hardened, fewer, length_same, same_block_is, self_block}
+use Rattle.st_laws_pages.proofs.Disks.Law.{hardened, fewer, length_same}
 use Rattle.st_laws_pages.proofs.Disks.Effects.{EffectFinds, effect_is, wrote_own, wrote_other, ReportFinds, reported_world}
 use Rattle.st_lemmas.proofs.Marks.{owners_harden}
-use Rattle.st_lemmas.proofs.Tables.{same_or_not}
 
 -- Commands by number. what holds where one was replaced
 replaced : (ds : List DiskCommand) (n : ℕ) (c y : DiskCommand) → slice_get (set ds n c) n ≡ Some y → y ≡ c
@@ -111,7 +104,7 @@ effect_keeps w n d f h = subst PagesHold (sym (effect_is w (suc n) d f)) (go d.w
         record {
           pages =
               hardened w.log (mapped_in w) (block_in w) _ (births_in w) (Living (Timely w) w.commands w.disks.commands) _ (suc n) x at tag bytes l
-              (wrote_own w.disks (suc n) d at tag bytes (self_block at))
+              (wrote_own w.disks (suc n) d at tag bytes (block_self at))
               (λ to z. wrote_other w.disks (suc n) d at tag bytes to z (λ b u. other to b u z))
               (λ j y a t ct r. living_set (Timely w) w.commands w.disks.commands n (disks.effected d) (λ u v. cc) j y a t ct r) c h.pages;
           commands =
@@ -124,7 +117,7 @@ effect_keeps w n d f h = subst PagesHold (sym (effect_is w (suc n) d f)) (go d.w
         other to b u z = go (disks.is_block_at at b) refl
           where
             go : (v : Bool) → disks.is_block_at at b ≡ v → v ≡ false
-            go true v = absurd (clash _ (subst (λ q. same_block q to ≡ true) (same_block_is b.at at v) u) z)
+            go true v = absurd (not_both _ (subst (λ q. same_block q to ≡ true) (block_is b.at at v) u) z)
             go false v = refl
 
         own : (y : IssuedCommand) (a : BlockAt) (t : Tag) (ct : List ℕ) → numbered w.commands (suc n) ≡ Some y → d.what ≡ commands.Write a t ct → EffectDone (log.harden_from 1 c.index (owner x.client x.life tag.file tag.page) w.log) y t

@@ -1,14 +1,9 @@
 -- What a dirty page's log is at its writer: what a submitted write wants, kept from the acceptance on.
-use Rattle.std.proofs.Common.{◌≡◌, ℕ, ◌+◌, ◌&&◌, List, [], ◌∷◌, ◌++◌, refl, ap, ◌∙◌, arith, if◌then◌else◌}
-use Rattle.std.specs.Prelude.{length, map, suc}
-use Rattle.st_base.specs.declared.ids.ClientId.{ClientId}
-use Rattle.st_base.specs.declared.ids.FileId.{FileId}
-use Rattle.st_base.specs.declared.ids.PageNo.{PageNo}
-use Rattle.st_rules.specs.declared.log.LogEntry.{LogEntry}
-use Rattle.st_rules.specs.declared.log.LogOwner.{LogOwner}
-use Rattle.st_rules.specs.Keys.{same_file, same_page}
-use Rattle.st_rules.specs.FlatLog as log
-use Rattle.st_rules.specs.Events.{is_entry_of, latest_from, latest_at}
+use Rattle.st_lemmas.proofs.Words
+use Words.{◌≡◌, ℕ, ◌+◌, ◌&&◌, List, [], ◌∷◌, ◌++◌, refl, ap, ◌∙◌, arith, if◌then◌else◌, length, map, suc, ClientId, FileId, PageNo, LogEntry, LogOwner}
+use Words.Keys.{same_file, same_page}
+use Words.FlatLog as log
+use Words.Events.{is_entry_of, latest_from, latest_at}
 use Rattle.st_laws_pages.specs.Disks.Folds.{of_entry}
 
 pub latest_last : (n before : ℕ) (c : ClientId) (f : FileId) (p : PageNo) (es : List LogEntry) (e : LogEntry) → latest_from n before c f p (es ++ e ∷ []) ≡ latest_at c f p (n + length es) (latest_from n before c f p es) e

@@ -1,33 +1,22 @@
 -- Drops have a cause, through each change of the log.
-use Rattle.std.proofs.Common.{◌≡◌, ℕ, ◌+◌, ◌⊎◌, Bool, true, false, not, ◌&&◌, ◌||◌, List, [], ◌∷◌, ◌++◌, ◌==◌, Some, refl, sym, ap, ◌∙◌, inl, inr, if◌then◌else◌}
-use Rattle.std.specs.Prelude.{nat_le, map}
-use Rattle.std.specs.List.{list_any, list_all}
-use Rattle.std.proofs.lemmas.Bool.{eqb-true, eq-eqb}
-use Rattle.st_base.specs.declared.ids.ClientId.{ClientId}
-use Rattle.st_base.specs.declared.ids.ServerId.{ServerId}
-use Rattle.st_base.specs.declared.ids.Life.{Life}
-use Rattle.st_base.specs.declared.ids.FileId.{FileId}
-use Rattle.st_base.specs.declared.ids.PageNo.{PageNo}
-use Rattle.st_base.specs.declared.ids.NodeId.TheVariants as nodes
-use Rattle.st_messages.specs.declared.event.Event.TheVariants as events
-use Rattle.st_rules.specs.declared.log.Cause.{Cause}
-use Rattle.st_rules.specs.declared.log.Cause.TheVariants as causes
-use Rattle.st_rules.specs.declared.log.Fate.{Fate}
-use Rattle.st_rules.specs.declared.log.Fate.TheVariants as fates
-use Rattle.st_rules.specs.declared.log.LogEntry.{LogEntry}
-use Rattle.st_rules.specs.declared.log.LogOwner.{LogOwner}
-use Rattle.st_rules.specs.declared.world.IssuedCommand.{IssuedCommand}
-use Rattle.st_rules.specs.declared.world.LeaseLife.{LeaseLife}
-use Rattle.st_rules.specs.Keys.{same_client, same_server}
-use Rattle.st_rules.specs.FlatLog as log
-use Rattle.st_rules.specs.World.{World, WorldClient, lives_of}
-use Rattle.st_rules.specs.Events as ev
-use Rattle.st_rules.specs.Events.{last_write, present_life, lives_reached}
-use Rattle.st_rules.specs.Safety as safety
-use Rattle.st_rules.specs.Safety.{Step, ends_life_of, reports_failure, is_caused, has_cause, has_cause_for}
+use Rattle.st_lemmas.proofs.Words
+use Words.{◌≡◌, ℕ, ◌+◌, ◌⊎◌, Bool, true, false, not, ◌&&◌, List, [], ◌∷◌, ◌++◌, ◌==◌, Some, refl, sym, ap, ◌∙◌, inl, inr, if◌then◌else◌, nat_le, map}
+use Words.{list_any, list_all, eqb-true, eq-eqb, ClientId, ServerId, Life, FileId, PageNo, Cause, Fate, LogEntry, LogOwner, IssuedCommand, LeaseLife}
+use Words.nodes
+use Words.events
+use Words.causes
+use Words.fates
+use Words.Keys.{same_client, same_server}
+use Words.FlatLog as log
+use Words.World.{World, WorldClient, lives_of}
+use Words.Events as ev
+use Words.Events.{last_write, present_life, lives_reached}
+use Words.Safety as safety
+use Words.Safety.{Step, ends_life_of, reports_failure, is_caused, has_cause, has_cause_for}
+use Words.Lookups.{or_left, or_right, or_cases}
+use Words.Tables.{and_true, and_both}
+use Words.Tests.{any_same, any_with_last}
 use Rattle.st_laws_pages.specs.Drops.Causes.{life_owner, CrashesKnown, CausesHold, CrashOwes, LivesOwe, AdvanceOwes, AdvancesOwe, FailedStay}
-use Rattle.st_lemmas.proofs.Lookups.{or_left, or_right, or_cases}
-use Rattle.st_lemmas.proofs.Tables.{and_true, and_both}
 
 any_more : {A : Type 0} (p : A → Bool) (xs : List A) (x : A) → list_any p xs ≡ true → list_any p (xs ++ x ∷ []) ≡ true
 any_more p [] x e = cc
@@ -36,10 +25,6 @@ any_more p (y ∷ ys) x e = go (or_cases (p y) (list_any p ys) e) (any_more p ys
     go : (p y ≡ true) ⊎ (list_any p ys ≡ true) → (list_any p ys ≡ true → list_any p (ys ++ x ∷ []) ≡ true) → list_any p ((y ∷ ys) ++ x ∷ []) ≡ true
     go (inl q) r = or_left (p y) (list_any p (ys ++ x ∷ [])) q
     go (inr q) r = or_right (p y) (list_any p (ys ++ x ∷ [])) (r q)
-
-any_last : {A : Type 0} (p : A → Bool) (xs : List A) (x : A) → p x ≡ true → list_any p (xs ++ x ∷ []) ≡ true
-any_last p [] x e = or_left (p x) false e
-any_last p (y ∷ ys) x e = or_right (p y) (list_any p (ys ++ x ∷ [])) (any_last p ys x e)
 
 -- causes last, as steps and commands are added
 more_caused : (past : List Step) (x : Step) (v w : World) (e : LogEntry) → ((k : ℕ) → e.fate ≡ fates.Gone (causes.Failed k) → last_write w.commands e.of ≡ last_write v.commands e.of) → has_cause past v e ≡ true → has_cause (past ++ x ∷ []) w e ≡ true
@@ -111,10 +96,6 @@ same_ends : (a b : LogOwner) (x : Step) → a.client ≡ b.client → a.file.ser
 same_ends a b x c s l = ap (λ (k : ClientId). safety.is_crash_of k x.event && ((present_life x.before.world k a.file.server).0 == a.life.0)) c
     ∙ ap (λ (k : ServerId). safety.is_crash_of b.client x.event && ((present_life x.before.world b.client k).0 == a.life.0)) s
     ∙ ap (λ (k : Rattle.st_base.specs.declared.ids.Life.Life). safety.is_crash_of b.client x.event && ((present_life x.before.world b.client b.file.server).0 == k.0)) l
-
-any_same : {A : Type 0} (p q : A → Bool) (xs : List A) → ((x : A) → p x ≡ q x) → list_any p xs ≡ list_any q xs
-any_same p q [] h = refl
-any_same p q (x ∷ xs) h = ap (λ b. b || list_any p xs) (h x) ∙ ap (λ b. q x || b) (any_same p q xs h)
 
 of_life : (l : LeaseLife) (o : LogOwner) (past : List Step) → ev.is_of_life_over l 0 o ≡ true → list_any (ends_life_of (life_owner l)) past ≡ true → list_any (ends_life_of o) past ≡ true
 of_life l o past s h =
@@ -197,7 +178,7 @@ crash_picked past x v w c n (y ∷ es) e b k h = record { one = λ s p. let z = 
         (eq-eqb _ _ (ap (λ (z : Life). z.0) (b y.of.client y.of.file.server) ∙ ap (λ (z : ClientId). (present_life w z y.of.file.server).0) i ∙ l))
 
     go : log.is_of_client c y.of ≡ true → ((present_life w c y.of.file.server).0 ≡ y.of.life.0) ⊎ (list_any (λ l. l.crashed && ev.is_of_life_over l 0 y.of) w.ended ≡ true) → list_any (ends_life_of y.of) (past ++ x ∷ []) ≡ true
-    go s (inl l) = any_last (ends_life_of y.of) past x (its s l)
+    go s (inl l) = any_with_last (ends_life_of y.of) past x (its s l)
     go s (inr l) = any_more (ends_life_of y.of) past x (known_any past y.of w.ended k l)
 
 pub crash_caused : (past : List Step) (x : Step) (w : World) (c : ClientId) (site : WorldClient) → x.event ≡ events.Crash (nodes.Client c) → ((k : ClientId) (s : ServerId) → present_life x.before.world k s ≡ present_life w k s) → CrashOwes w w.log c → CausesHold past w →
@@ -219,7 +200,7 @@ known_lives : (past : List Step) (x : Step) (w : World) (c : ClientId) (es : Lis
 known_lives past x w c [] e b l = record {}
 known_lives past x w c (y ∷ es) e b l =
     record {
-      one = λ q. any_last (ends_life_of (life_owner (ev.crashed_life y))) past x
+      one = λ q. any_with_last (ends_life_of (life_owner (ev.crashed_life y))) past x
           (and_both (safety.is_crash_of y.client x.event) _ (ap (safety.is_crash_of y.client) e ∙ eq-eqb y.client.0 c.0 (ap (λ (z : ClientId). z.0) l.client))
           (eq-eqb _ _ (ap (λ (z : Life). z.0) (b y.client y.server) ∙ ap (λ (z : ClientId). (present_life w z y.server).0) l.client ∙ l.life)));
       rest = known_lives past x w c es e b l.rest;

@@ -1,58 +1,39 @@
 -- What an advance owes for the causes of drops: where a life's end is reached that no crash ended, the last write of each page of which it
 -- has a pending entry was reported failed.
-use Rattle.std.proofs.Common.{◌≡◌, ◌≢◌, ℕ, ◌+◌, ◌≤◌, ◌<◌, ◌⊎◌, Bool, true, false, not, ◌&&◌, ◌||◌, List, [], ◌∷◌, ◌++◌, ◌==◌, Option, Some, None, refl, sym, ap, ◌∙◌, subst, inl, inr, arith}
-use Rattle.std.specs.Prelude.{find, filter, is_some, length, option_map, zero, suc}
-use Rattle.std.specs.List.{list_any}
-use Rattle.std.proofs.lemmas.Bool.{eqb-true}
-use Rattle.st_base.specs.declared.ids.ClientId.{ClientId}
-use Rattle.st_base.specs.declared.ids.PageNo.{PageNo}
-use Rattle.st_base.specs.declared.ids.ServerId.{ServerId}
-use Rattle.st_base.specs.declared.ids.Stamp.{Stamp}
-use Rattle.st_base.specs.declared.ids.NodeId.TheVariants as nodes
-use Rattle.st_messages.specs.declared.event.Event.TheVariants as events
-use Rattle.st_rules.specs.declared.client.PageCommand.{PageCommand}
-use Rattle.st_rules.specs.declared.log.LogEntry.{LogEntry}
-use Rattle.st_rules.specs.declared.log.LogOwner.{LogOwner}
-use Rattle.st_rules.specs.declared.pages.DirtyPage.{DirtyPage}
-use Rattle.st_rules.specs.declared.world.FlushStep.{FlushStep}
-use Rattle.st_rules.specs.declared.world.LeaseLife.{LeaseLife}
-use Rattle.st_rules.specs.Extents.{numbers}
-use Rattle.st_rules.specs.FlatLog as log
-use Rattle.st_rules.specs.ClientLease as lease
-use Rattle.st_rules.specs.ClientPages as pages
-use Rattle.st_rules.specs.Client as cl
-use Rattle.st_rules.specs.ClientState.{Association, ClientSession, is_at}
-use Rattle.st_rules.specs.World as world
-use Rattle.st_rules.specs.World.{World, numbered, site_of, clock_of, ended_of}
-use Rattle.st_rules.specs.Admissible as adm
-use Rattle.st_rules.specs.Events as ev
-use Rattle.st_rules.specs.Events.{last_write, present_lives}
-use Rattle.st_rules.specs.Safety.{Step, reports_failure}
-use Rattle.st_lemmas.specs.Lists.{Has}
-use Rattle.st_lemmas.proofs.Lookups.{some_is}
-use Rattle.st_lemmas.proofs.Numbers.{numbered_below}
-use Rattle.st_lemmas.proofs.Tables.{and_true, has_append, has_filter, has_map_in, none_passes, same_or_not, found_at}
+use Rattle.st_lemmas.proofs.Words
+use Words.{◌≡◌, ℕ, ◌≤◌, ◌⊎◌, Bool, true, false, not, ◌&&◌, ◌||◌, List, [], ◌∷◌, ◌++◌, ◌==◌, Option, Some, None, refl, sym, ap, ◌∙◌, subst, inl}
+use Words.{inr, arith, find, filter, is_some, length, option_map, list_any, eqb-true, ClientId, PageNo, ServerId, Stamp, PageCommand, LogEntry}
+use Words.{LogOwner, DirtyPage, FlushStep, LeaseLife}
+use Words.nodes
+use Words.events
+use Words.Extents.{numbers}
+use Words.FlatLog as log
+use Words.ClientLease as lease
+use Words.ClientPages as pages
+use Words.Client as cl
+use Words.ClientState.{Association, ClientSession, is_at}
+use Words.World as world
+use Words.World.{World, numbered, site_of, clock_of, ended_of}
+use Words.Admissible as adm
+use Words.Events as ev
+use Words.Events.{last_write, present_lives}
+use Words.Safety.{Step, reports_failure}
+use Words.Lists.{Has}
+use Words.Lookups.{some_is}
+use Words.Numbers.{numbered_below}
+use Words.Tables.{and_true, has_append, has_filter, has_map_in, none_passes, found_at}
+use Words.Members.{between_in_numbers, some_member_passes}
+use Words.Truth.{not_both}
+use Words.Worlds.{stands_not}
 use Rattle.st_laws_pages.specs.Drops.Causes.{AdvanceOwes, FlushOwes}
 use Rattle.st_laws_pages.specs.Fates.Fates.{PendingAll, BeforeEnd}
 use Rattle.st_laws_steps.specs.Lives.Lives.{NodeHolds}
 use Rattle.st_laws_pages.specs.Disks.Obligations.{FatesHold}
 use Rattle.st_laws_pages.specs.Flush.Flush.{owner_at_page, DirtyHere, Cared, Covered, FlushHold}
 use Rattle.st_laws_steps.proofs.Lives.Associations.{own_found}
-use Rattle.st_laws_pages.proofs.Disks.Effects.{or_none, stands_not}
-use Rattle.st_laws_pages.proofs.Flush.Ending.{some_has}
+use Rattle.st_laws_pages.proofs.Disks.Effects.{or_none}
 use Rattle.st_laws_pages.proofs.Fates.GoneLaw.{pending_crashed}
 use Rattle.st_laws_pages.proofs.Lives.Lasting.{Present, present_is, present_end_is}
-use Rattle.st_laws_steps.proofs.Clash.{clash}
-
--- The numbers from one to a count.
-numbers_has : (a n i : ℕ) → a ≤ i → i < a + n → Has i (numbers a n)
-unfolding numbers
-numbers_has a zero i l h = absurd (omega (arith, l, h))
-numbers_has a (suc n) i l h = go (same_or_not i a) (λ e. numbers_has (a + 1) n i (omega (arith, l, e)) (omega (arith, h)))
-  where
-    go : (i ≡ a) ⊎ (i ≢ a) → (i ≢ a → Has i (numbers (a + 1) n)) → (i ≡ a) ⊎ Has i (numbers (a + 1) n)
-    go (inl e) f = inl e
-    go (inr e) f = inr (f e)
 
 -- No client comes to a lease end unflushed.
 missed_none : (w : World) (steps : List ℕ) (c : ClientId) (ss : List ServerId) → adm.missed_by w steps c ss ≡ None → (s : ServerId) → Has s ss → adm.missed_at w steps c s (site_of w c) ≡ None
@@ -141,10 +122,10 @@ module _ (past : List Step) (w : World) (steps : List ℕ) (r : adm.refusal w (e
         in_clients = numbered_below w.clients l.client.0 p.site p.there
 
         client : Has l.client (world.all_clients w)
-        client = has_map_in to_client (numbers 1 (length w.clients)) l.client.0 (let x = in_clients.0 in let y = in_clients.1 in numbers_has 1 (length w.clients) l.client.0 x (omega (arith, y)))
+        client = has_map_in to_client (numbers 1 (length w.clients)) l.client.0 (let x = in_clients.0 in let y = in_clients.1 in between_in_numbers 1 (length w.clients) l.client.0 x (omega (arith, y)))
 
         server : Has a.server (world.all_servers w)
-        server = has_map_in to_server (numbers 1 (length w.servers)) a.server.0 (let x = range.0 in let y = range.1 in numbers_has 1 (length w.servers) a.server.0 x (omega (arith, y)))
+        server = has_map_in to_server (numbers 1 (length w.servers)) a.server.0 (let x = range.0 in let y = range.1 in between_in_numbers 1 (length w.servers) a.server.0 x (omega (arith, y)))
 
     store_is : cl.store_at (cl.association_with p.site.node.state a.server) ≡ a.store
     store_is = ap cl.store_at found
@@ -163,7 +144,7 @@ module _ (past : List Step) (w : World) (steps : List ℕ) (r : adm.refusal w (e
 
     -- so each of its dirty pages is covered
     covered : adm.has_flushed w l.client a.server l.end ≡ true → Covered a
-    covered e = go (some_has (adm.is_flush_under l.client a.server (Some has_end.0)) w.flushed (ap (adm.has_flushed w l.client a.server) (sym has_end.1) ∙ e))
+    covered e = go (some_member_passes (adm.is_flush_under l.client a.server (Some has_end.0)) w.flushed (ap (adm.has_flushed w l.client a.server) (sym has_end.1) ∙ e))
       where
         go : (x : FlushStep) × Has x w.flushed × (adm.is_flush_under l.client a.server (Some has_end.0) x ≡ true) → Covered a
         go (x, i, t) =
@@ -206,10 +187,10 @@ module _ (past : List Step) (w : World) (steps : List ℕ) (r : adm.refusal w (e
             z = flushed o.file.ino o.page d e
 
             written : pages.is_being_written a.store.commands o.file.ino o.page ≡ true → ⊥
-            written b = at (some_has (pages.is_write_of o.file.ino o.page) a.store.commands b)
+            written b = at (some_member_passes (pages.is_write_of o.file.ino o.page) a.store.commands b)
               where
                 at : (pc : PageCommand) × Has pc a.store.commands × (pages.is_write_of o.file.ino o.page pc ≡ true) → ⊥
-                at (pc, i, k) = clash (pages.is_write pc.kind) (and_true (pages.is_write pc.kind) _ k).0 (none_passes pages.is_any_write a.store.commands z.1 pc i)
+                at (pc, i, k) = not_both (pages.is_write pc.kind) (and_true (pages.is_write pc.kind) _ k).0 (none_passes pages.is_any_write a.store.commands z.1 pc i)
 
             failed : (n : Option ℕ) → d.failed ≡ n → is_some n ≡ true → list_any (reports_failure (last_write w.commands (owner_at_page l.client a o.file.ino o.page))) past ≡ true
             failed None q k = cc
@@ -230,10 +211,10 @@ module _ (past : List Step) (w : World) (steps : List ℕ) (r : adm.refusal w (e
   -- of a life that ended: what is pending of it is of a crash
   ended_owes : (l : LeaseLife) → Has l w.ended → (es : List LogEntry) → PendingAll (BeforeEnd w) es → AdvanceOwes past w.commands l es
   ended_owes l i [] g = record {}
-  ended_owes l i (e ∷ es) g = record { one = λ n t q. absurd (clash n (crashed t (g.one q))); rest = ended_owes l i es g.rest }
+  ended_owes l i (e ∷ es) g = record { one = λ n t q. absurd (not_both n (crashed t (g.one q))); rest = ended_owes l i es g.rest }
     where
-      clash : l.crashed ≡ false → l.crashed ≡ true → ⊥
-      clash x y = no (sym x ∙ y)
+      not_both : l.crashed ≡ false → l.crashed ≡ true → ⊥
+      not_both x y = no (sym x ∙ y)
         where
           no : ◌≡◌ {A = Bool} false true → ⊥
           no z = cc

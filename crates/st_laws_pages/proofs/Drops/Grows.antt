@@ -1,41 +1,26 @@
 -- Drops have a cause, through every event.
-use Rattle.std.proofs.Common.{◌≡◌, ℕ, Bool, true, false, List, [], ◌∷◌, ◌++◌, Option, Some, None, Ok, Err, refl, sym, subst, if◌then◌else◌}
-use Rattle.std.specs.Prelude.{Result}
-use Rattle.std.specs.List.{list_all}
-use Rattle.st_base.specs.declared.ids.ClientId.{ClientId}
-use Rattle.st_base.specs.declared.ids.ServerId.{ServerId}
-use Rattle.st_base.specs.declared.ids.Stamp.{Stamp}
-use Rattle.st_base.specs.declared.ids.NodeId.{NodeId}
-use Rattle.st_base.specs.declared.ids.NodeId.TheVariants as nodes
-use Rattle.st_messages.specs.declared.message.Message.{Message}
-use Rattle.st_messages.specs.declared.event.Event.{Event}
-use Rattle.st_messages.specs.declared.event.Event.TheVariants as events
-use Rattle.st_messages.specs.declared.output.Note.{Note}
-use Rattle.st_messages.specs.declared.output.Note.TheVariants as notes
-use Rattle.st_messages.specs.declared.output.Output.{Output}
-use Rattle.st_messages.specs.declared.output.Output.TheVariants as outputs
-use Rattle.st_rules.specs.declared.lease.Phase.{Phase}
-use Rattle.st_rules.specs.declared.lease.Phase.TheVariants as phases
-use Rattle.st_rules.specs.declared.client.ClientInput.{ClientInput}
-use Rattle.st_rules.specs.declared.input.ServerInput.{ServerInput}
-use Rattle.st_rules.specs.declared.log.LogEntry.{LogEntry}
-use Rattle.st_rules.specs.declared.world.Carried.{Carried}
-use Rattle.st_rules.specs.declared.node.StepRefusal.{StepRefusal}
-use Rattle.st_rules.specs.declared.world.IssuedCommand.{IssuedCommand}
-use Rattle.st_rules.specs.declared.world.SentMessage.{SentMessage}
-use Rattle.st_rules.specs.FlatLog as log
-use Rattle.st_rules.specs.Disks as disks
-use Rattle.st_rules.specs.Client as cl
-use Rattle.st_rules.specs.Server as server
-use Rattle.st_rules.specs.ClientState.{ClientState}
-use Rattle.st_rules.specs.World as world
-use Rattle.st_rules.specs.Server.{ServerNode}
-use Rattle.st_rules.specs.World.{World, WorldClient, site_of}
-use Rattle.st_rules.specs.Events as ev
-use Rattle.st_rules.specs.Events.{WorldTurn, client_says, client_says_all, client_notes}
-use Rattle.st_rules.specs.Safety.{Step, has_cause}
+use Rattle.st_lemmas.proofs.Words
+use Words.{◌≡◌, ℕ, Bool, true, false, List, [], ◌∷◌, ◌++◌, Option, Some, None, Ok, Err, refl, sym, subst, if◌then◌else◌, Result, list_all, ClientId, ServerId}
+use Words.{Stamp, NodeId, Message, Event, Note, Output, Phase, ClientInput, ServerInput, LogEntry, Carried, StepRefusal, IssuedCommand, SentMessage}
+use Words.nodes
+use Words.events
+use Words.notes
+use Words.outputs
+use Words.phases
+use Words.FlatLog as log
+use Words.Disks as disks
+use Words.Client as cl
+use Words.Server as server
+use Words.ClientState.{ClientState}
+use Words.World as world
+use Words.Server.{ServerNode}
+use Words.World.{World, WorldClient, site_of}
+use Words.Events as ev
+use Words.Events.{WorldTurn, client_says, client_says_all, client_notes}
+use Words.Safety.{Step, has_cause}
 use Rattle.st_laws_pages.specs.Drops.Causes.{CrashesKnown, CausesHold, FailedStay, CausesOwed, CrashSiteOwes}
-use Rattle.st_laws_pages.proofs.Drops.Causes.{same_failed, caused_more, caused_last, caused_harden, crash_caused, crash_known, known_more, known_both, advance_causes}
+use Rattle.st_laws_pages.proofs.Drops.Causes.{same_failed, caused_more, caused_last, caused_harden, crash_caused, crash_known, known_more, known_both}
+use Rattle.st_laws_pages.proofs.Drops.Causes.{advance_causes}
 
 -- the log gets entries that are not gone, or harder ones; the lives that ended get some that no crash ended
 pub record Grows (w v : World) : Type 0 where

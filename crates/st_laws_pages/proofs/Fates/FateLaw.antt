@@ -1,35 +1,25 @@
 -- What is pending is of a life before its lease end: through a step of a client, marks of the log, a crash and a start.
-use Rattle.std.proofs.Common.{◌≡◌, ◌≢◌, ℕ, ◌+◌, ◌⊎◌, Bool, true, false, ◌&&◌, List, [], ◌∷◌, ◌++◌, ◌==◌, Option, Some, None, Ok, refl, sym, ap, ◌∙◌, subst, inl, inr, if◌then◌else◌}
-use Rattle.std.specs.Prelude.{find, map, nat_le, zero, suc, slice_get, option_map}
-use Rattle.std.proofs.lemmas.Bool.{eq-eqb, ne_eqb}
-use Rattle.st_base.specs.declared.ids.ClientId.{ClientId}
-use Rattle.st_base.specs.declared.ids.FileId.{FileId}
-use Rattle.st_base.specs.declared.ids.PageNo.{PageNo}
-use Rattle.st_base.specs.declared.ids.ServerId.{ServerId}
-use Rattle.st_base.specs.declared.ids.Life.{Life}
-use Rattle.st_base.specs.declared.ids.Stamp.{Stamp}
-use Rattle.st_base.specs.declared.ids.NodeId.TheVariants as nodes
-use Rattle.st_rules.specs.declared.client.ClientInput.{ClientInput}
-use Rattle.st_rules.specs.declared.log.Cause.{Cause}
-use Rattle.st_rules.specs.declared.log.Fate.{Fate}
-use Rattle.st_rules.specs.declared.log.Fate.TheVariants as fates
-use Rattle.st_rules.specs.declared.log.LogEntry.{LogEntry}
-use Rattle.st_rules.specs.declared.log.LogOwner.{LogOwner}
-use Rattle.st_rules.specs.declared.world.Carried.{Carried}
-use Rattle.st_rules.specs.declared.world.LeaseLife.{LeaseLife}
-use Rattle.st_rules.specs.Keys.{same_client, same_server}
-use Rattle.st_rules.specs.FlatLog as log
-use Rattle.st_rules.specs.Client as cl
-use Rattle.st_rules.specs.ClientLease as lease
-use Rattle.st_rules.specs.ClientState.{Association, is_at}
-use Rattle.st_rules.specs.World as world
-use Rattle.st_rules.specs.World.{World, WorldClient, numbered, with_numbered, site_of, clock_of, is_life_of, ended_of, end_or_present, lease_end_of, life_of_association, lives_of}
-use Rattle.st_rules.specs.Events as ev
-use Rattle.st_rules.specs.Events.{client_says_all, present_lives}
-use Rattle.st_lemmas.specs.Lists.{Has}
-use Rattle.st_lemmas.proofs.Lookups.{some_is}
-use Rattle.st_lemmas.proofs.Tables.{has_map_in, same_or_not}
-use Rattle.st_lemmas.proofs.Numbers.{numbered_own, numbered_other, numbered_below}
+use Rattle.st_lemmas.proofs.Words
+use Words.{◌≡◌, ◌≢◌, ℕ, ◌+◌, ◌⊎◌, Bool, true, false, ◌&&◌, List, [], ◌∷◌, ◌++◌, ◌==◌, Option, Some, None, Ok, refl, sym, ap, ◌∙◌, subst, inl, inr}
+use Words.{if◌then◌else◌, find, map, nat_le, zero, suc, option_map, eq-eqb, ne_eqb, ClientId, FileId, PageNo, ServerId, Life, Stamp, ClientInput}
+use Words.{Cause, Fate, LogEntry, LogOwner, Carried, LeaseLife}
+use Words.nodes
+use Words.fates
+use Words.Keys.{same_client, same_server}
+use Words.FlatLog as log
+use Words.Client as cl
+use Words.ClientLease as lease
+use Words.ClientState.{Association, is_at}
+use Words.World as world
+use Words.World.{World, WorldClient, numbered, with_numbered, site_of, clock_of, is_life_of, ended_of, end_or_present, lease_end_of, life_of_association}
+use Words.World.{lives_of}
+use Words.Events as ev
+use Words.Events.{client_says_all, present_lives}
+use Words.Lists.{Has}
+use Words.Tables.{has_map_in, same_or_not}
+use Words.Numbers.{numbered_own, numbered_other, numbered_below}
+use Words.Truth.{none_not_some}
+use Words.Worlds.{present_in}
 use Rattle.st_laws_pages.specs.Fates.Fates.{PendingAll, BeforeEnd, FatesAreKept, RowOf}
 use Rattle.st_laws_steps.specs.Lives.Lives.{ended_rows, Stepped, clock_in, IsKnown, NodeHolds, owner_of, LivesHold}
 use Rattle.st_laws_steps.specs.Client.Notes.{NotesAll, IsChangedAt}
@@ -40,7 +30,7 @@ use Rattle.st_laws_pages.proofs.Lives.NodeTurns.{row_is}
 use Rattle.st_laws_steps.proofs.Client.Dirtying.{notes_map}
 use Rattle.st_laws_steps.proofs.Client.Noting.{step_notes}
 use Rattle.st_laws_pages.proofs.Lives.Turning.{Said, says_lives, client_lives}
-use Rattle.st_laws_pages.proofs.Lives.Lasting.{Flushed, flush_parts, no_option}
+use Rattle.st_laws_pages.proofs.Lives.Lasting.{Flushed, flush_parts}
 use Rattle.st_laws_pages.proofs.Lives.LifeSteps.{steps_so}
 use Rattle.st_laws_pages.proofs.Fates.FateSteps.{still_before, changed_before, says_pending}
 
@@ -143,7 +133,7 @@ pending_fewer P n picked cause (e ∷ es) h = go (picked n e.of) (pending_fewer 
 pub known_life : (w : World) (c : ClientId) (site : WorldClient) → site_of w c ≡ Some site → (o : LogOwner) (a : Association) →
     find (is_at o.file.server) site.node.state.associations ≡ Some a → o.client.0 ≡ c.0 → ended_of w o.client o.file.server o.life ≡ None →
     IsKnown w.clients w.ended o.client o.file.server o.life → a.life.0 ≡ o.life.0
-known_life w c site there o a f i n (inl (e, z)) = absurd (no_option e (sym n ∙ z))
+known_life w c site there o a f i n (inl (e, z)) = absurd (none_not_some e (sym n ∙ z))
 known_life w c site there o a f i n (inr z) = ap (λ x. (world.life_at x).0) (sym f) ∙ ap (λ x. (ev.life_of_site o.file.server x).0) (sym there) ∙ ap (λ j. (ev.life_of_site o.file.server (numbered w.clients j)).0) (sym i) ∙ z
 
 -- Crash: the client's lives end with the ends that they had.
@@ -167,7 +157,7 @@ end_crashed w c site there h o kn end is = go (ended_of w o.client o.file.server
     -- the row of the client's own life
     own : (a : Option Association) → find (is_at o.file.server) site.node.state.associations ≡ a → o.client.0 ≡ c.0 → find p w.ended ≡ None →
         lease.end_at site.node.state.config (cl.lease_at a) ≡ Some end → lease_end_of v o.client o.file.server o.life ≡ Some end
-    own None f i n q = absurd (no_option end q)
+    own None f i n q = absurd (none_not_some end q)
     own (Some a) f i n q =
         ap (end_or_present v o.client o.file.server)
         (find_back p w.ended rows n ∙ ap (λ z. find p (map ev.crashed_life (map (life_of_association site.node.state.config z) site.node.state.associations))) (m.id ∙ ap (λ j. record { 0 = j }) (sym i))
@@ -204,7 +194,7 @@ end_started w c site there r h o end is = go (ended_of w o.client o.file.server 
         lease_end_of v o.client o.file.server o.life ≡ Some end
     go (Some e) q i = ap (end_or_present v o.client o.file.server) q ∙ ap (end_or_present w o.client o.file.server) (sym q) ∙ is
     go None q (inl i) =
-        absurd (no_option end
+        absurd (none_not_some end
         (ap (lease.end_at site.node.state.config) (sym (none (find (is_at o.file.server) site.node.state.associations) refl)) ∙ ap (world.present_end w o.file.server) (sym there) ∙ ap (λ j. world.present_end w o.file.server (numbered w.clients j)) (sym i)
         ∙ ap (end_or_present w o.client o.file.server) (sym q) ∙ is))
     go None q (inr i) = ap (end_or_present v o.client o.file.server) q ∙ ap (world.present_end w o.file.server) (numbered_other w.clients c.0 o.client.0 (ev.started_site site) (numbered_below w.clients c.0 site there).0 i) ∙ ap (end_or_present w o.client o.file.server) (sym q) ∙ is
@@ -216,21 +206,6 @@ start_before w c site there r h o b = record { end = b.end; is = end_started w c
 pub pending_known : (P Q : LogOwner → Type 0) (es : List LogEntry) → ((o : LogOwner) → Has o (map owner_of es) → P o → Q o) → PendingAll P es → PendingAll Q es
 pending_known P Q [] f h = h
 pending_known P Q (e ∷ es) f h = record { one = λ q. f e.of (inl refl) (h.one q); rest = pending_known P Q es (λ o i. f o (inr i)) h.rest }
-
-present_in : (sites : List WorldClient) (n : ℕ) (site : WorldClient) (e : LeaseLife) → slice_get sites n ≡ Some site → Has e (lives_of site.node.state) → Has e (present_lives sites)
-unfolding present_lives
-present_in [] n site e q i = cc
-present_in (x ∷ sites) zero site e q i = front (lives_of x.node.state) (present_lives sites) (subst (λ (z : WorldClient). Has e (lives_of z.node.state)) (sym (some_is q)) i)
-  where
-    front : (xs ys : List LeaseLife) → Has e xs → Has e (xs ++ ys)
-    front [] ys i = absurd i
-    front (x ∷ xs) ys (inl q) = inl q
-    front (x ∷ xs) ys (inr i) = inr (front xs ys i)
-present_in (x ∷ sites) (suc n) site e q i = back (lives_of x.node.state) (present_lives sites) (present_in sites n site e q i)
-  where
-    back : (xs ys : List LeaseLife) → Has e ys → Has e (xs ++ ys)
-    back [] ys i = i
-    back (x ∷ xs) ys i = inr (back xs ys i)
 
 pub row_of : (w : World) → LivesHold w → (o : LogOwner) → Has o (map owner_of w.log) → BeforeEnd w o → RowOf w o
 row_of w h o i b = go (h.known.owners o i) (ended_of w o.client o.file.server o.life) refl
@@ -272,8 +247,8 @@ row_of w h o i b = go (h.known.owners o i) (ended_of w o.client o.file.server o.
     present q n = at_site o.client.0 refl (numbered w.clients o.client.0) refl (ap (end_or_present w o.client o.file.server) (sym n) ∙ b.is) q
       where
         at_site : (j : ℕ) → o.client.0 ≡ j → (s : Option WorldClient) → numbered w.clients j ≡ s → world.present_end w o.file.server (numbered w.clients o.client.0) ≡ Some b.end → (ev.present_life w o.client o.file.server).0 ≡ o.life.0 → RowOf w o
-        at_site zero j s f e l = absurd (no_option b.end (ap (λ x. world.present_end w o.file.server (numbered w.clients x)) (sym j) ∙ e))
-        at_site (suc k) j None f e l = absurd (no_option b.end (ap (world.present_end w o.file.server) (sym f) ∙ ap (λ x. world.present_end w o.file.server (numbered w.clients x)) (sym j) ∙ e))
+        at_site zero j s f e l = absurd (none_not_some b.end (ap (λ x. world.present_end w o.file.server (numbered w.clients x)) (sym j) ∙ e))
+        at_site (suc k) j None f e l = absurd (none_not_some b.end (ap (world.present_end w o.file.server) (sym f) ∙ ap (λ x. world.present_end w o.file.server (numbered w.clients x)) (sym j) ∙ e))
         at_site (suc k) j (Some site) f e l = at (find (is_at o.file.server) site.node.state.associations) refl
           where
             there : numbered w.clients o.client.0 ≡ Some site
@@ -286,7 +261,7 @@ row_of w h o i b = go (h.known.owners o i) (ended_of w o.client o.file.server o.
             end = ap (world.present_end w o.file.server) (sym there) ∙ e
 
             at : (x : Option Association) → find (is_at o.file.server) site.node.state.associations ≡ x → RowOf w o
-            at None g = absurd (no_option b.end (ap (λ y. lease.end_at site.node.state.config (cl.lease_at y)) (sym g) ∙ end))
+            at None g = absurd (none_not_some b.end (ap (λ y. lease.end_at site.node.state.config (cl.lease_at y)) (sym g) ∙ end))
             at (Some a) g =
                 let y = found_has o.file.server site.node.state.associations a g in
                 let row : LeaseLife = life_of_association site.node.state.config site.node.state.id a in
@@ -302,5 +277,5 @@ row_of w h o i b = go (h.known.owners o i) (ended_of w o.client o.file.server o.
 
     go : IsKnown w.clients w.ended o.client o.file.server o.life → (x : Option LeaseLife) → ended_of w o.client o.file.server o.life ≡ x → RowOf w o
     go k (Some e) q = ended e q
-    go (inl (e, z)) None q = absurd (no_option e (sym q ∙ z))
+    go (inl (e, z)) None q = absurd (none_not_some e (sym q ∙ z))
     go (inr z) None q = present z q

@@ -1,34 +1,23 @@
 -- What is pending is of a life before its lease end: a client's step, a crash and a start keep it.
-use Rattle.std.proofs.Common.{◌≡◌, ◌≢◌, ◌<◌, ◌⊎◌, Bool, true, false, List, [], ◌∷◌, ◌++◌, Option, Some, None, refl, sym, ap, ◌∙◌, subst, inl, inr, arith, leb-true}
-use Rattle.std.specs.Prelude.{find, map, nat_le, option_map}
-use Rattle.std.proofs.lemmas.Bool.{ne_eqb}
-use Rattle.st_base.specs.declared.config.Config.{Config}
-use Rattle.st_base.specs.declared.ids.ClientId.{ClientId}
-use Rattle.st_base.specs.declared.ids.FileId.{FileId}
-use Rattle.st_base.specs.declared.ids.PageNo.{PageNo}
-use Rattle.st_base.specs.declared.ids.ServerId.{ServerId}
-use Rattle.st_base.specs.declared.ids.Life.{Life}
-use Rattle.st_base.specs.declared.ids.Stamp.{Stamp}
-use Rattle.st_base.specs.declared.ids.NodeId.TheVariants as nodes
-use Rattle.st_messages.specs.declared.output.Note.{Note}
-use Rattle.st_messages.specs.declared.output.Note.TheVariants as notes
-use Rattle.st_messages.specs.declared.output.Output.{Output}
-use Rattle.st_messages.specs.declared.output.Output.TheVariants as outputs
-use Rattle.st_rules.specs.declared.log.LogEntry.{LogEntry}
-use Rattle.st_rules.specs.declared.log.LogOwner.{LogOwner}
-use Rattle.st_rules.specs.declared.world.LeaseLife.{LeaseLife}
-use Rattle.st_rules.specs.FlatLog as log
-use Rattle.st_rules.specs.ClientLease as lease
-use Rattle.st_rules.specs.Client as cl
-use Rattle.st_rules.specs.ClientState.{Association, ClientState, ClientSession, is_at}
-use Rattle.st_rules.specs.World as world
-use Rattle.st_rules.specs.World.{World, WorldClient, numbered, with_numbered, site_of, clock_of, is_life_of, ended_of, end_or_present, lease_end_of}
-use Rattle.st_rules.specs.Events as ev
-use Rattle.st_rules.specs.Events.{WorldTurn, client_says, client_says_all, client_notes}
-use Rattle.st_lemmas.specs.Lists.{Has}
-use Rattle.st_lemmas.proofs.Lookups.{some_is}
-use Rattle.st_lemmas.proofs.Tables.{same_or_not}
-use Rattle.st_lemmas.proofs.Numbers.{numbered_own, numbered_other, numbered_below}
+use Rattle.st_lemmas.proofs.Words
+use Words.{◌≡◌, ◌≢◌, ◌<◌, ◌⊎◌, Bool, true, false, List, [], ◌∷◌, ◌++◌, Option, Some, None, refl, sym, ap, ◌∙◌, subst, inl, inr, arith, leb-true, find, map}
+use Words.{nat_le, option_map, ne_eqb, Config, ClientId, FileId, PageNo, ServerId, Life, Stamp, Note, Output, LogEntry, LogOwner, LeaseLife}
+use Words.nodes
+use Words.notes
+use Words.outputs
+use Words.FlatLog as log
+use Words.ClientLease as lease
+use Words.Client as cl
+use Words.ClientState.{Association, ClientState, ClientSession, is_at}
+use Words.World as world
+use Words.World.{World, WorldClient, numbered, with_numbered, site_of, clock_of, is_life_of, ended_of, end_or_present, lease_end_of}
+use Words.Events as ev
+use Words.Events.{WorldTurn, client_says, client_says_all, client_notes}
+use Words.Lists.{Has}
+use Words.Lookups.{some_is}
+use Words.Tables.{same_or_not}
+use Words.Numbers.{numbered_own, numbered_other, numbered_below}
+use Words.Truth.{none_not_some, not_both}
 use Rattle.st_laws_pages.specs.Fates.Fates.{PendingAll, BeforeEnd}
 use Rattle.st_laws_steps.specs.Client.Losses.{SessionNext, is_ended}
 use Rattle.st_laws_steps.specs.Lives.Lives.{rows_lost, LifeNext, clock_in, NodeHolds, LivesHold}
@@ -38,8 +27,6 @@ use Rattle.st_laws_steps.proofs.Lives.Associations.{own_found, found_has, lost_h
 use Rattle.st_laws_pages.proofs.Lives.NodeTurns.{row_is}
 use Rattle.st_laws_pages.proofs.Lives.Turning.{says_one}
 use Rattle.st_laws_steps.proofs.Client.Dirtying.{note_map}
-use Rattle.st_laws_pages.proofs.Lives.Lasting.{no_option}
-use Rattle.st_laws_steps.proofs.Clash.{clash}
 
 -- no row is lost of a server whose lease is not over
 pub none_lost : (c : ClientId) (s : ClientState) (now : Stamp) (k : Rattle.st_base.specs.declared.config.Config.Config) (ts : List Stamp) (es : List LeaseLife) (n : cl.ClientNode) → n.state ≡ s → NodeHolds k ts es c n → (a : Association) (l : Life) → Has a s.associations → is_ended s.config now a.session ≡ false →
@@ -56,7 +43,7 @@ none_lost c s now k ts es n e h a l i f = go (find (is_life_of c a.server l) (ro
         let w = lost_has c s now s.associations r z.0 in
         let server : w.a.server ≡ a.server = ap (λ (x : LeaseLife). x.server) (sym w.is) ∙ z.2 in
         let same : w.a ≡ a = some_is (sym (own_found s.associations once w.a w.has) ∙ ap (λ v. find (is_at v) s.associations) server ∙ own_found s.associations once a i) in
-        absurd (clash (is_ended s.config now a.session) (ap (λ (x : Association). is_ended s.config now x.session) (sym same) ∙ w.ended) f)
+        absurd (not_both (is_ended s.config now a.session) (ap (λ (x : Association). is_ended s.config now x.session) (sym same) ∙ w.ended) f)
 
 -- what is pending stays before its end, by the parts of a world
 module _ (w v : World) (c : ClientId) (old site : WorldClient) (there : site_of w c ≡ Some old) (h : LivesHold w) (ts : v.clocks ≡ w.clocks) (cs : v.clients ≡ with_numbered c.0 site w.clients)
@@ -125,11 +112,11 @@ module _ (w v : World) (c : ClientId) (old site : WorldClient) (there : site_of 
       inj x y e = cc
 
       session : (a : Association) → find (is_at o.file.server) old.node.state.associations ≡ Some a → (s : Option ClientSession) → a.session ≡ s → lease.end_at old.node.state.config (option_map cl.lease_of_session s) ≡ Some b.end → o.client.0 ≡ c.0 → ended_of w o.client o.file.server o.life ≡ None → BeforeEnd v o
-      session a f None e q i n = absurd (no_option b.end q)
+      session a f None e q i n = absurd (none_not_some b.end q)
       session a f (Some s) e q i n = goes_on o i n a f s e (subst (λ (z : Stamp). (clock_in w.clocks o.client).0 < z.0) (sym (inj _ b.end q)) b.before)
 
       place : (a : Option Association) → find (is_at o.file.server) old.node.state.associations ≡ a → lease.end_at old.node.state.config (cl.lease_at a) ≡ Some b.end → o.client.0 ≡ c.0 → ended_of w o.client o.file.server o.life ≡ None → BeforeEnd v o
-      place None f q i n = absurd (no_option b.end q)
+      place None f q i n = absurd (none_not_some b.end q)
       place (Some a) f q i n = session a f a.session refl q i n
 
       go : (x : Option LeaseLife) → ended_of w o.client o.file.server o.life ≡ x → (o.client.0 ≡ c.0) ⊎ (o.client.0 ≢ c.0) → BeforeEnd v o

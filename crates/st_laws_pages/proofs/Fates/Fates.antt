@@ -1,26 +1,17 @@
 -- After an advance nothing is pending of a life whose end was reached.
-use Rattle.std.proofs.Common.{◌≡◌, ℕ, ◌+◌, ◌<◌, ◌⊎◌, Bool, true, false, ◌&&◌, List, [], ◌∷◌, ◌++◌, ◌==◌, Some, refl, sym, ap, ◌∙◌, subst, inl, inr, if◌then◌else◌}
-use Rattle.std.specs.Prelude.{nat_le, nat_lt, filter}
-use Rattle.std.proofs.lemmas.Bool.{eqb-true, leb-false, lt-ltb}
-use Rattle.st_base.specs.declared.ids.FileId.{FileId}
-use Rattle.st_base.specs.declared.ids.PageNo.{PageNo}
-use Rattle.st_base.specs.declared.ids.ClientId.{ClientId}
-use Rattle.st_base.specs.declared.ids.NodeId.TheVariants as nodes
-use Rattle.st_rules.specs.declared.log.Cause.{Cause}
-use Rattle.st_rules.specs.declared.log.Fate.{Fate}
-use Rattle.st_rules.specs.declared.log.Fate.TheVariants as fates
-use Rattle.st_rules.specs.declared.log.LogEntry.{LogEntry}
-use Rattle.st_rules.specs.declared.log.LogOwner.{LogOwner}
-use Rattle.st_rules.specs.declared.world.IssuedCommand.{IssuedCommand}
-use Rattle.st_rules.specs.declared.world.LeaseLife.{LeaseLife}
-use Rattle.st_rules.specs.Keys.{same_client, same_server}
-use Rattle.st_rules.specs.FlatLog as log
-use Rattle.st_rules.specs.World.{World, clock_of}
-use Rattle.st_rules.specs.Admissible as adm
-use Rattle.st_rules.specs.Events as ev
+use Rattle.st_lemmas.proofs.Words
+use Words.{◌≡◌, ℕ, ◌+◌, ◌<◌, ◌⊎◌, Bool, true, false, ◌&&◌, List, [], ◌∷◌, ◌++◌, ◌==◌, Some, refl, sym, ap, ◌∙◌, subst, inl, inr, if◌then◌else◌, nat_le, nat_lt}
+use Words.{filter, eqb-true, leb-false, lt-ltb, FileId, PageNo, ClientId, Cause, Fate, LogEntry, LogOwner, IssuedCommand, LeaseLife}
+use Words.nodes
+use Words.fates
+use Words.Keys.{same_client, same_server}
+use Words.FlatLog as log
+use Words.World.{World, clock_of}
+use Words.Admissible as adm
+use Words.Events as ev
+use Words.Tables.{and_true, and_both}
+use Words.Truth.{not_both}
 use Rattle.st_laws_pages.specs.Fates.Fates.{PendingAll, BeforeEnd, FatesAreKept, Has, RowOf}
-use Rattle.st_lemmas.proofs.Tables.{and_true, and_both}
-use Rattle.st_laws_steps.proofs.Clash.{clash}
 use Rattle.st_laws_pages.proofs.Disks.Moves.{clock_is}
 
 pub pending_map : (P Q : LogOwner → Type 0) (es : List LogEntry) → ((o : LogOwner) → P o → Q o) → PendingAll P es → PendingAll Q es
@@ -62,7 +53,7 @@ has_filter q x (y ∷ ys) h e = go (q y) refl h (λ i. has_filter q x ys i e)
     go : (b : Bool) → q y ≡ b → (x ≡ y) ⊎ Has x ys → (Has x ys → Has x (filter q ys)) → Has x (if b then y ∷ filter q ys else filter q ys)
     go true f (inl i) r = inl i
     go true f (inr i) r = inr (r i)
-    go false f (inl i) r = absurd (clash (q x) e (ap q i ∙ f))
+    go false f (inl i) r = absurd (not_both (q x) e (ap q i ∙ f))
     go false f (inr i) r = r i
 
 -- an advance leaves nothing pending of a life whose end it reaches
@@ -98,5 +89,5 @@ advance_fates w steps rows h =
             ∙ and_both (nat_lt (clock_of w (nodes.Client o.client)).0 b.end.0) (nat_le b.end.0 ((clock_of w (nodes.Client o.client)).0 + adm.step_of o.client steps)) (lt-ltb _ _ b.before) q
 
         go : (z : Bool) → nat_le b.end.0 ((clock_of w (nodes.Client o.client)).0 + adm.step_of o.client steps) ≡ z → (clock_of (ev.with_clocks steps w) (nodes.Client o.client)).0 < b.end.0
-        go true q = absurd (clash (ev.is_of_life_over r.row 0 o) r.its (n r.row (has_filter (ev.is_reached w steps) r.row (ev.present_lives w.clients ++ w.ended) r.there (reached q))))
+        go true q = absurd (not_both (ev.is_of_life_over r.row 0 o) r.its (n r.row (has_filter (ev.is_reached w steps) r.row (ev.present_lives w.clients ++ w.ended) r.there (reached q))))
         go false q = subst (λ m. m < b.end.0) (sym now) (leb-false b.end.0 _ q)

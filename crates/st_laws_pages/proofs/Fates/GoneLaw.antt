@@ -1,40 +1,28 @@
 -- What is gone is of a life that a crash ended, or whose lease is over: through a step of a client, marks of the log, a crash and a start.
-use Rattle.std.proofs.Common.{◌≡◌, ◌≢◌, ℕ, ◌+◌, ◌≤◌, ◌⊎◌, Bool, true, false, ◌&&◌, not, List, [], ◌∷◌, ◌++◌, ◌==◌, Option, Some, None, Ok, refl, sym, ap, ◌∙◌, subst, inl, inr, arith, if◌then◌else◌, leb-true}
-use Rattle.std.specs.Prelude.{find, filter, map, nat_le, option_map}
-use Rattle.std.proofs.lemmas.Bool.{eqb-true, ne_eqb, le-leb}
-use Rattle.st_base.specs.declared.ids.ClientId.{ClientId}
-use Rattle.st_base.specs.declared.ids.FileId.{FileId}
-use Rattle.st_base.specs.declared.ids.PageNo.{PageNo}
-use Rattle.st_base.specs.declared.ids.ServerId.{ServerId}
-use Rattle.st_base.specs.declared.ids.Life.{Life}
-use Rattle.st_base.specs.declared.ids.Stamp.{Stamp}
-use Rattle.st_base.specs.declared.ids.NodeId.TheVariants as nodes
-use Rattle.st_messages.specs.declared.output.Note.{Note}
-use Rattle.st_messages.specs.declared.output.Note.TheVariants as notes
-use Rattle.st_messages.specs.declared.output.Output.{Output}
-use Rattle.st_messages.specs.declared.output.Output.TheVariants as outputs
-use Rattle.st_rules.specs.declared.log.Cause.{Cause}
-use Rattle.st_rules.specs.declared.log.Cause.TheVariants as causes
-use Rattle.st_rules.specs.declared.log.Fate.{Fate}
-use Rattle.st_rules.specs.declared.log.Fate.TheVariants as fates
-use Rattle.st_rules.specs.declared.log.LogEntry.{LogEntry}
-use Rattle.st_rules.specs.declared.log.LogOwner.{LogOwner}
-use Rattle.st_rules.specs.declared.world.Carried.{Carried}
-use Rattle.st_rules.specs.declared.world.IssuedCommand.{IssuedCommand}
-use Rattle.st_rules.specs.declared.world.LeaseLife.{LeaseLife}
-use Rattle.st_rules.specs.Keys.{same_client, same_server}
-use Rattle.st_rules.specs.FlatLog as log
-use Rattle.st_rules.specs.Client as cl
-use Rattle.st_rules.specs.ClientLease as lease
-use Rattle.st_rules.specs.ClientState.{Association, ClientState, ClientSession, is_at}
-use Rattle.st_rules.specs.World as world
-use Rattle.st_rules.specs.World.{World, WorldClient, numbered, with_numbered, site_of, clock_of, is_life_of, ended_of, end_or_present, lease_end_of, life_of_association, lives_of}
-use Rattle.st_rules.specs.Admissible as adm
-use Rattle.st_rules.specs.Events as ev
-use Rattle.st_rules.specs.Events.{WorldTurn, client_says, client_says_all, client_notes, present_lives}
-use Rattle.st_lemmas.specs.Lists.{Has}
-use Rattle.st_lemmas.proofs.Tables.{has_filter, same_or_not, and_true}
-use Rattle.st_lemmas.proofs.Numbers.{numbered_other, numbered_below}
+use Rattle.st_lemmas.proofs.Words
+use Words.{◌≡◌, ◌≢◌, ℕ, ◌+◌, ◌≤◌, ◌⊎◌, Bool, true, false, ◌&&◌, not, List, [], ◌∷◌, ◌++◌, ◌==◌, Option, Some, None, Ok, refl, sym, ap, ◌∙◌, subst, inl, inr}
+use Words.{arith, if◌then◌else◌, leb-true, find, filter, map, nat_le, option_map, eqb-true, ne_eqb, le-leb, ClientId, FileId, PageNo, ServerId, Life, Stamp}
+use Words.{Note, Output, Cause, Fate, LogEntry, LogOwner, Carried, IssuedCommand, LeaseLife}
+use Words.nodes
+use Words.notes
+use Words.outputs
+use Words.causes
+use Words.fates
+use Words.Keys.{same_client, same_server}
+use Words.FlatLog as log
+use Words.Client as cl
+use Words.ClientLease as lease
+use Words.ClientState.{Association, ClientState, ClientSession, is_at}
+use Words.World as world
+use Words.World.{World, WorldClient, numbered, with_numbered, site_of, clock_of, is_life_of, ended_of, end_or_present, lease_end_of, life_of_association}
+use Words.World.{lives_of}
+use Words.Admissible as adm
+use Words.Events as ev
+use Words.Events.{WorldTurn, client_says, client_says_all, client_notes, present_lives}
+use Words.Lists.{Has}
+use Words.Tables.{has_filter, same_or_not, and_true}
+use Words.Numbers.{numbered_other, numbered_below}
+use Words.Truth.{none_not_some, not_both}
 use Rattle.st_laws_pages.specs.Disks.World.{EndsAt}
 use Rattle.st_laws_pages.specs.Fates.Fates.{PendingAll, BeforeEnd, FatesAreKept, GoneAll, IsCrashed, IsLate, GoneHold}
 use Rattle.st_laws_steps.specs.Client.Losses.{is_ended}
@@ -45,8 +33,7 @@ use Rattle.st_laws_steps.proofs.Lives.Associations.{found_has, lost_found, lost_
 use Rattle.st_laws_pages.proofs.Lives.NodeTurns.{row_is}
 use Rattle.st_laws_pages.proofs.Fates.FateLaw.{end_crashed, end_started, known_life}
 use Rattle.st_laws_pages.proofs.Lives.Turning.{Said, says_lives}
-use Rattle.st_laws_pages.proofs.Lives.Lasting.{Flushed, flush_parts, no_option, end_one}
-use Rattle.st_laws_steps.proofs.Clash.{clash}
+use Rattle.st_laws_pages.proofs.Lives.Lasting.{Flushed, flush_parts, end_one}
 
 -- a crash ended the life, or its lease is over
 abbrev pub Over : World → LogOwner → Type 0
@@ -57,11 +44,11 @@ gone_known P Q [] f h = h
 gone_known P Q (e ∷ es) f h = record { one = λ q. f e.of (inl refl) (h.one q); rest = gone_known P Q es (λ o i. f o (inr i)) h.rest }
 
 pub gone_more : (P : LogOwner → Type 0) (es : List LogEntry) (e : LogEntry) → log.counts e.fate ≡ true → GoneAll P es → GoneAll P (es ++ e ∷ [])
-gone_more P [] e t h = record { one = λ q. absurd (clash (log.counts e.fate) t q); rest = record {} }
+gone_more P [] e t h = record { one = λ q. absurd (not_both (log.counts e.fate) t q); rest = record {} }
 gone_more P (x ∷ es) e t h = record { one = h.one; rest = gone_more P es e t h.rest }
 
 -- A client's step.
-one_gone : (P : LogOwner → Type 0) (c : ClientId) (before : ClientState) (o : Output) (sc : WorldTurn) → GoneAll P sc.world.log → GoneAll P (client_says sc c before o).world.log
+pub one_gone : (P : LogOwner → Type 0) (c : ClientId) (before : ClientState) (o : Output) (sc : WorldTurn) → GoneAll P sc.world.log → GoneAll P (client_says sc c before o).world.log
 unfolding client_says ev.sends ev.submits ev.answers_with client_notes ev.accepts ev.patches ev.loses log.accept log.patch
 one_gone P c before (outputs.Send m) sc h = h
 one_gone P c before (outputs.Answer op a) sc h = h
@@ -100,7 +87,7 @@ module _ (w v : World) (c : ClientId) (old site : WorldClient) (there : site_of 
   step_over o kn (inr x) = inr (go (ended_of w o.client o.file.server o.life) refl (same_or_not o.client.0 c.0))
     where
       by_session : (a : Association) → find (is_at o.file.server) old.node.state.associations ≡ Some a → o.client.0 ≡ c.0 → ended_of w o.client o.file.server o.life ≡ None → (s : Option ClientSession) → a.session ≡ s → lease.end_at old.node.state.config (option_map cl.lease_of_session s) ≡ Some x.end → IsLate v o
-      by_session a f i n None e q = absurd (no_option x.end q)
+      by_session a f i n None e q = absurd (none_not_some x.end q)
       by_session a f i n (Some s) e q =
           record {
             end = x.end;
@@ -129,7 +116,7 @@ module _ (w v : World) (c : ClientId) (old site : WorldClient) (there : site_of 
           life = known_life w c old there o a f i n kn
 
       by_place : (a : Option Association) → find (is_at o.file.server) old.node.state.associations ≡ a → o.client.0 ≡ c.0 → ended_of w o.client o.file.server o.life ≡ None → lease.end_at old.node.state.config (cl.lease_at a) ≡ Some x.end → IsLate v o
-      by_place None f i n q = absurd (no_option x.end q)
+      by_place None f i n q = absurd (none_not_some x.end q)
       by_place (Some a) f i n q = by_session a f i n a.session refl q
 
       go : (y : Option LeaseLife) → ended_of w o.client o.file.server o.life ≡ y → (o.client.0 ≡ c.0) ⊎ (o.client.0 ≢ c.0) → IsLate v o
@@ -288,7 +275,7 @@ crash_over w c site there h o kn x = go (ended_of w o.client o.file.server o.lif
 
     -- the client's own life is ended by the crash
     own : (a : Option Association) → find (is_at o.file.server) site.node.state.associations ≡ a → o.client.0 ≡ c.0 → find p w.ended ≡ None → (end : Stamp) → lease.end_at site.node.state.config (cl.lease_at a) ≡ Some end → Over v o
-    own None f i n end q = absurd (no_option end q)
+    own None f i n end q = absurd (none_not_some end q)
     own (Some a) f i n end q =
         inl (record {
           row = ev.crashed_life (life_of_association site.node.state.config o.client a);
@@ -307,7 +294,7 @@ crash_over w c site there h o kn x = go (ended_of w o.client o.file.server o.lif
     go (Some e) q (inl (inl z)) = inl (record { row = z.row; is = find_front p w.ended rows z.row z.is; crashed = z.crashed })
     go (Some e) q (inl (inr z)) = inr (record { end = z.end; is = end_crashed w c site there h o kn z.end z.is; late = z.late })
     go (Some e) q (inr (i, b)) = inl (record { row = e; is = find_front p w.ended rows e q; crashed = pending_crashed w h o e q b })
-    go None q (inl (inl z)) = absurd (no_option z.row (sym q ∙ z.is))
+    go None q (inl (inl z)) = absurd (none_not_some z.row (sym q ∙ z.is))
     go None q (inl (inr z)) = inr (record { end = z.end; is = end_crashed w c site there h o kn z.end z.is; late = z.late })
     go None q (inr (i, b)) = present i q b.end b.is
 
@@ -322,7 +309,7 @@ pending_at P [] e i h q = absurd i
 pending_at P (x ∷ es) e (inl z) h q = subst (λ (y : LogEntry). P y.of) (sym z) (h.one (ap (λ (y : LogEntry). log.is_pending y.fate) (sym z) ∙ q))
 pending_at P (x ∷ es) e (inr i) h q = pending_at P es e i h.rest q
 
-owner_has : (es : List LogEntry) (e : LogEntry) → Has e es → Has e.of (map owner_of es)
+pub owner_has : (es : List LogEntry) (e : LogEntry) → Has e es → Has e.of (map owner_of es)
 owner_has [] e i = absurd i
 owner_has (x ∷ es) e (inl q) = inl (ap owner_of q)
 owner_has (x ∷ es) e (inr i) = inr (owner_has es e i)

@@ -1,22 +1,15 @@
 -- Every event keeps what holds of lives and fates, with no premise.
-use Rattle.std.proofs.Common.{◌≡◌, true, false, List, [], ◌∷◌, ◌++◌, Option, Some, None, Ok, refl, sym, ap, ◌∙◌, subst, inr}
-use Rattle.std.specs.Prelude.{map}
-use Rattle.st_base.specs.declared.ids.ClientId.{ClientId}
-use Rattle.st_base.specs.declared.ids.FileId.{FileId}
-use Rattle.st_base.specs.declared.ids.PageNo.{PageNo}
-use Rattle.st_messages.specs.declared.event.Event.{Event}
-use Rattle.st_rules.specs.declared.client.ClientInput.{ClientInput}
-use Rattle.st_rules.specs.declared.log.Cause.TheVariants as causes
-use Rattle.st_rules.specs.declared.log.LogEntry.{LogEntry}
-use Rattle.st_rules.specs.declared.log.LogOwner.{LogOwner}
-use Rattle.st_rules.specs.declared.world.Carried.{Carried}
-use Rattle.st_rules.specs.FlatLog as log
-use Rattle.st_rules.specs.Disks.{Disks}
-use Rattle.st_rules.specs.Client as cl
-use Rattle.st_rules.specs.Server.{ServerNode}
-use Rattle.st_rules.specs.World.{World, WorldClient, Net, Tally, site_of}
-use Rattle.st_rules.specs.Admissible as adm
-use Rattle.st_rules.specs.Events as ev
+use Rattle.st_lemmas.proofs.Words
+use Words.{◌≡◌, true, false, List, [], ◌∷◌, ◌++◌, Option, Some, None, Ok, refl, sym, ap, ◌∙◌, subst, inr, map, ClientId, FileId, PageNo, Event, ClientInput}
+use Words.{LogEntry, LogOwner, Carried}
+use Words.causes
+use Words.FlatLog as log
+use Words.Disks.{Disks}
+use Words.Client as cl
+use Words.Server.{ServerNode}
+use Words.World.{World, WorldClient, Net, Tally, site_of}
+use Words.Admissible as adm
+use Words.Events as ev
 use Rattle.st_laws_pages.specs.Fates.Fates.{PendingAll, BeforeEnd, RowOf}
 use Rattle.st_laws_steps.specs.Lives.Lives.{AllKnown, owner_of}
 use Rattle.st_laws_pages.specs.Disks.Obligations.{FatesHold}

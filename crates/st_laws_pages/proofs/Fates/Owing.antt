@@ -1,28 +1,20 @@
 -- What is owed for the causes of drops at a crash, and where commands are submitted, follows from lives and fates.
-use Rattle.std.proofs.Common.{◌≡◌, ℕ, ◌+◌, ◌≤◌, ◌<◌, ◌⊎◌, Bool, true, false, ◌&&◌, List, [], ◌∷◌, ◌++◌, ◌==◌, Option, Some, None, refl, sym, ap, ◌∙◌, subst, inl, inr, arith, if◌then◌else◌}
-use Rattle.std.specs.Prelude.{find, map, nat_le, option_map}
-use Rattle.std.specs.List.{list_any}
-use Rattle.std.proofs.lemmas.Bool.{eqb-true, eq-eqb}
-use Rattle.st_base.specs.declared.ids.ClientId.{ClientId}
-use Rattle.st_base.specs.declared.ids.ServerId.{ServerId}
-use Rattle.st_base.specs.declared.ids.Life.{Life}
-use Rattle.st_base.specs.declared.ids.Stamp.{Stamp}
-use Rattle.st_base.specs.declared.ids.NodeId.TheVariants as nodes
-use Rattle.st_messages.specs.declared.output.Output.{Output}
-use Rattle.st_rules.specs.declared.log.LogEntry.{LogEntry}
-use Rattle.st_rules.specs.declared.log.LogOwner.{LogOwner}
-use Rattle.st_rules.specs.declared.world.IssuedCommand.{IssuedCommand}
-use Rattle.st_rules.specs.declared.world.LeaseLife.{LeaseLife}
-use Rattle.st_rules.specs.Keys.{same_server}
-use Rattle.st_rules.specs.FlatLog as log
-use Rattle.st_rules.specs.Client as cl
-use Rattle.st_rules.specs.ClientLease as lease
-use Rattle.st_rules.specs.ClientState.{Association, ClientState, ClientSession, is_at}
-use Rattle.st_rules.specs.World as world
-use Rattle.st_rules.specs.World.{World, WorldClient, numbered, site_of, clock_of, ended_of, end_or_present, life_of_association, lives_of, life_with}
-use Rattle.st_rules.specs.Events as ev
-use Rattle.st_lemmas.specs.Lists.{Has}
-use Rattle.st_lemmas.proofs.Tables.{some_passes, has_map}
+use Rattle.st_lemmas.proofs.Words
+use Words.{◌≡◌, ℕ, ◌+◌, ◌≤◌, ◌<◌, ◌⊎◌, Bool, true, false, ◌&&◌, List, [], ◌∷◌, ◌++◌, ◌==◌, Option, Some, None, refl, sym, ap, ◌∙◌, subst, inl, inr, arith}
+use Words.{if◌then◌else◌, find, map, nat_le, option_map, list_any, eqb-true, eq-eqb, ClientId, ServerId, Life, Stamp, Output, LogEntry, LogOwner, IssuedCommand}
+use Words.{LeaseLife}
+use Words.nodes
+use Words.Keys.{same_server}
+use Words.FlatLog as log
+use Words.Client as cl
+use Words.ClientLease as lease
+use Words.ClientState.{Association, ClientState, ClientSession, is_at}
+use Words.World as world
+use Words.World.{World, WorldClient, numbered, site_of, clock_of, ended_of, end_or_present, life_of_association, lives_of, life_with}
+use Words.Events as ev
+use Words.Lists.{Has}
+use Words.Tables.{some_passes, has_map}
+use Words.Truth.{none_not_some, not_both}
 use Rattle.st_laws_pages.specs.Drops.Causes.{CrashOwes, LivesOwe}
 use Rattle.st_laws_pages.specs.Disks.Obligations.{FatesHold}
 use Rattle.st_laws_pages.specs.Fates.Fates.{PendingAll, BeforeEnd}
@@ -30,9 +22,7 @@ use Rattle.st_laws_steps.specs.Client.Losses.{is_ended}
 use Rattle.st_laws_steps.specs.Lives.Lives.{LifeNext, Stepped, clock_in, IsKnown, NodeHolds, owner_of, LivesHold}
 use Rattle.st_laws_steps.proofs.Lives.Associations.{own_found, PairFound, pair_found}
 use Rattle.st_laws_pages.proofs.Lives.NodeTurns.{row_is}
-use Rattle.st_laws_pages.proofs.Lives.Lasting.{no_option}
 use Rattle.st_laws_pages.proofs.Fates.GoneLaw.{Over, pending_crashed}
-use Rattle.st_laws_steps.proofs.Clash.{clash}
 
 -- A row that is found passes the test of its life.
 of_life : (o : LogOwner) (e : LeaseLife) → e.client ≡ o.client → e.server ≡ o.file.server → e.life.0 ≡ o.life.0 → ev.is_of_life_over e 0 o ≡ true
@@ -109,7 +99,7 @@ over_apart w c old after out there r st h o kn ov i l = go (find (is_at o.file.s
         absent (Some a) g = absurd (some (Rattle.st_laws_steps.proofs.Lives.Associations.pair_left (LifeNext now old.node.state) (λ x y p. p.server) o.file.server old.node.state.associations after.associations st.pairs a g))
           where
             some : Rattle.st_laws_steps.proofs.Lives.Associations.PairLeft (LifeNext now old.node.state) o.file.server after.associations a → ⊥
-            some p = no_option p.b (sym f ∙ p.is)
+            some p = none_not_some p.b (sym f ∙ p.is)
 
         at : IsKnown w.clients w.ended o.client o.file.server o.life → Over w o → 0 ≡ o.life.0 → ⊥
         at (inl (e, q)) v z = born e q z
@@ -119,7 +109,7 @@ over_apart w c old after out there r st h o kn ov i l = go (find (is_at o.file.s
             late : (y : Option LeaseLife) → ended_of w o.client o.file.server o.life ≡ y → ⊥
             late (Some e) g = born e g z
             late None g =
-                no_option x.end
+                none_not_some x.end
                 (ap (λ y. lease.end_at old.node.state.config (cl.lease_at y)) (sym (absent (find (is_at o.file.server) old.node.state.associations) refl)) ∙ ap (world.present_end w o.file.server) (sym there)
                 ∙ ap (λ j. world.present_end w o.file.server (numbered w.clients j)) (sym i) ∙ ap (end_or_present w o.client o.file.server) (sym g) ∙ x.is)
 
@@ -137,10 +127,10 @@ over_apart w c old after out there r st h o kn ov i l = go (find (is_at o.file.s
             inj x y e = cc
 
             by : (s : Option ClientSession) → p.a.session ≡ s → ⊥
-            by None e = no_option end (ap (λ o. lease.end_at old.node.state.config (option_map cl.lease_of_session o)) (sym e) ∙ q)
+            by None e = none_not_some end (ap (λ o. lease.end_at old.node.state.config (option_map cl.lease_of_session o)) (sym e) ∙ q)
             by (Some s) e =
                 let same : lease.end_of old.node.state.config s.lease ≡ end = inj _ end (ap (λ o. lease.end_at old.node.state.config (option_map cl.lease_of_session o)) (sym e) ∙ q) in
-                clash (nat_le (lease.end_of old.node.state.config s.lease).0 now.0) (Rattle.std.proofs.lemmas.Bool.le-leb (lease.end_of old.node.state.config s.lease).0 now.0 (subst (λ (x : Stamp). x.0 ≤ now.0) (sym same) le)) (ap (is_ended old.node.state.config now) (sym e) ∙ n)
+                not_both (nat_le (lease.end_of old.node.state.config s.lease).0 now.0) (Rattle.std.proofs.lemmas.Bool.le-leb (lease.end_of old.node.state.config s.lease).0 now.0 (subst (λ (x : Stamp). x.0 ≤ now.0) (sym same) le)) (ap (is_ended old.node.state.config now) (sym e) ∙ n)
 
         present : (ev.present_life w o.client o.file.server).0 ≡ p.a.life.0
         present = ap (λ n. (ev.life_of_site o.file.server (numbered w.clients n)).0) i ∙ ap (λ x. (ev.life_of_site o.file.server x).0) there ∙ ap (λ x. (world.life_at x).0) p.is

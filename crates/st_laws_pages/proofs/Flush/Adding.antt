@@ -1,24 +1,17 @@
 -- What the outputs of a client's step add to the commands and the log of the world: one after another, and by each change.
-use Rattle.std.proofs.Common.{◌≡◌, ℕ, List, [], ◌∷◌, ◌++◌, Option, Some, None, refl, ap, ◌∙◌}
-use Rattle.std.specs.Prelude.{zero, suc}
-use Rattle.st_base.specs.declared.disk.BlockAt.{BlockAt}
-use Rattle.st_base.specs.declared.disk.Command.{Command}
-use Rattle.st_base.specs.declared.disk.Command.TheVariants as commands
-use Rattle.st_base.specs.declared.ids.ClientId.{ClientId}
-use Rattle.st_messages.specs.declared.output.Note.{Note}
-use Rattle.st_messages.specs.declared.output.Note.TheVariants as notes
-use Rattle.st_messages.specs.declared.output.Output.{Output}
-use Rattle.st_messages.specs.declared.output.Output.TheVariants as outputs
-use Rattle.st_rules.specs.declared.disks.DiskCommand.{DiskCommand}
-use Rattle.st_rules.specs.declared.world.IssuedCommand.{IssuedCommand}
-use Rattle.st_rules.specs.FlatLog as log
-use Rattle.st_rules.specs.Disks as disks
-use Rattle.st_rules.specs.ClientState.{ClientState}
-use Rattle.st_rules.specs.World.{WorldClient, numbered, site_of}
-use Rattle.st_rules.specs.Events as ev
-use Rattle.st_rules.specs.Events.{WorldTurn, client_says, client_says_all, client_notes}
-use Rattle.st_lemmas.proofs.Numbers.{numbered_old}
-use Rattle.st_laws_steps.proofs.Client.Nexts.{empty_right, append_assoc}
+use Rattle.st_lemmas.proofs.Words
+use Words.{◌≡◌, ℕ, List, [], ◌∷◌, ◌++◌, Option, Some, None, refl, ap, ◌∙◌, BlockAt, Command, ClientId, Note, Output, DiskCommand, IssuedCommand, append_assoc}
+use Words.notes
+use Words.outputs
+use Words.Disks as disks
+use Words.ClientState.{ClientState}
+use Words.World.{WorldClient, numbered, site_of}
+use Words.Events as ev
+use Words.Events.{WorldTurn, client_says, client_says_all, client_notes}
+use Words.Numbers.{numbered_old}
+use Words.Lengths.{nothing_after}
+use Words.Versions.{command_old}
+use Words.Worlds.{says_both}
 use Rattle.st_laws_pages.proofs.Lives.Turning.{says_one}
 use Rattle.st_laws_pages.proofs.Flush.Growing.{AddsNothing}
 
@@ -28,16 +21,10 @@ pub record Grows (os ps : List Output) : Type 0 where
   pub out : ps ≡ os ++ more
 
 pub grows_none : (os : List Output) → Grows os os
-grows_none os = record { more = []; out = empty_right os }
+grows_none os = record { more = []; out = nothing_after os }
 
 pub grows_then : (os ps qs : List Output) → Grows os ps → Grows ps qs → Grows os qs
 grows_then os ps qs a b = record { more = a.more ++ b.more; out = b.out ∙ ap (λ z. z ++ b.more) a.out ∙ append_assoc os a.more b.more }
-
--- What is said in two parts.
-pub says_append : (c : ClientId) (before : ClientState) (os ps : List Output) (sc : WorldTurn) → client_says_all c before (os ++ ps) sc ≡ client_says_all c before ps (client_says_all c before os sc)
-unfolding client_says_all
-says_append c before [] ps sc = refl
-says_append c before (o ∷ os) ps sc = says_append c before os ps (client_says sc c before o)
 
 -- The scene after outputs.
 abbrev pub After : ClientId → ClientState → WorldTurn → List Output → WorldTurn
@@ -81,7 +68,7 @@ still_adds c before (o ∷ os) sc h =
 pub more_still : (c : ClientId) (before : ClientState) (sc : WorldTurn) (os ps : List Output) → AllStill ps → AddsNothing (After c before sc os).world.commands (After c before sc (os ++ ps)).world.commands (After c before sc os).world.log (After c before sc (os ++ ps)).world.log
 more_still c before sc os ps h =
     let a = still_adds c before ps (After c before sc os) h in
-    record { commands = ap (λ (s : WorldTurn). s.world.commands) (says_append c before os ps sc) ∙ a.commands; log = ap (λ (s : WorldTurn). s.world.log) (says_append c before os ps sc) ∙ a.log }
+    record { commands = ap (λ (s : WorldTurn). s.world.commands) (says_both c before os ps sc) ∙ a.commands; log = ap (λ (s : WorldTurn). s.world.log) (says_both c before os ps sc) ∙ a.log }
 
 -- Commands that there are stay, each with its disk command.
 pub after_numbered : (c : ClientId) (before : ClientState) (os : List Output) (sc : WorldTurn) (k : ℕ) (x : IssuedCommand) → numbered sc.world.commands k ≡ Some x → numbered (After c before sc os).world.commands k ≡ Some x
@@ -105,10 +92,6 @@ after_numbered c before (o ∷ os) sc k x i = after_numbered c before os (client
     one (outputs.Answer op a) = i
     one (outputs.Note n) = note n
 
-at_old : (ds : List DiskCommand) (d : DiskCommand) (k : ℕ) (x : DiskCommand) → disks.command_at ds k ≡ Some x → disks.command_at (ds ++ d ∷ []) k ≡ Some x
-at_old ds d zero x e = cc
-at_old ds d (suc k) x e = numbered_old ds d (suc k) x e
-
 pub after_disk : (c : ClientId) (before : ClientState) (os : List Output) (sc : WorldTurn) (k : ℕ) (x : DiskCommand) → disks.command_at sc.world.disks.commands k ≡ Some x → disks.command_at (After c before sc os).world.disks.commands k ≡ Some x
 unfolding client_says_all client_says client_notes ev.sends ev.submits ev.answers_with ev.accepts ev.patches ev.loses
 after_disk c before [] sc k x i = i
@@ -122,7 +105,7 @@ after_disk c before (o ∷ os) sc k x i = after_disk c before os (client_says sc
 
     submit : (number : ℕ) (at : BlockAt) (what : Command) (s : Option WorldClient) → disks.command_at (ev.submits sc c s number at what).world.disks.commands k ≡ Some x
     submit number at what None = i
-    submit number at what (Some site) = at_old sc.world.disks.commands _ k x i
+    submit number at what (Some site) = command_old sc.world.disks.commands _ k x i
 
     one : (o : Output) → disks.command_at (client_says sc c before o).world.disks.commands k ≡ Some x
     one (outputs.Send m) = i

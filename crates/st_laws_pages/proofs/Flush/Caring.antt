@@ -1,34 +1,23 @@
 -- What holds of an association's dirty pages and outstanding writes, as the log and the commands grow elsewhere.
-use Rattle.std.proofs.Common.{◌≡◌, ℕ, ◌+◌, ◌≤◌, ◌<◌, ◌⊎◌, Bool, true, false, not, ◌&&◌, ◌||◌, List, [], ◌∷◌, ◌++◌, ◌==◌, Option, Some, None, refl, sym, ap, ◌∙◌, subst, inl, inr, arith, if◌then◌else◌}
-use Rattle.std.specs.Prelude.{length, suc, find, filter}
-use Rattle.std.specs.List.{list_any}
-use Rattle.std.proofs.lemmas.Bool.{eq-eqb, ne_eqb}
-use Rattle.st_base.specs.declared.ids.ClientId.{ClientId}
-use Rattle.st_base.specs.declared.ids.FileId.{FileId}
-use Rattle.st_base.specs.declared.ids.PageNo.{PageNo}
-use Rattle.st_base.specs.declared.ids.ServerId.{ServerId}
-use Rattle.st_base.specs.declared.ids.Life.{Life}
-use Rattle.st_rules.specs.declared.pages.DirtyPage.{DirtyPage}
-use Rattle.st_rules.specs.declared.client.IoKind.TheVariants as io
-use Rattle.st_rules.specs.declared.client.PageCommand.{PageCommand}
-use Rattle.st_rules.specs.declared.log.LogEntry.{LogEntry}
-use Rattle.st_rules.specs.declared.log.LogOwner.{LogOwner}
-use Rattle.st_rules.specs.declared.world.Carried.{Carried}
-use Rattle.st_rules.specs.declared.world.IssuedCommand.{IssuedCommand}
-use Rattle.st_rules.specs.declared.log.Change.{Change}
-use Rattle.st_rules.specs.Keys.{put, same_client, same_file, same_page, same_server}
-use Rattle.st_rules.specs.FlatLog as log
-use Rattle.st_rules.specs.FlatLog.{owner}
-use Rattle.st_rules.specs.ClientPages as pages
-use Rattle.st_rules.specs.ClientState.{Association}
-use Rattle.st_rules.specs.World.{numbered}
-use Rattle.st_rules.specs.Events as ev
-use Rattle.st_rules.specs.Events.{latest, last_write}
-use Rattle.st_rules.specs.Safety.{Step, reports_failure}
-use Rattle.st_lemmas.specs.Lists.{Has}
-use Rattle.st_lemmas.proofs.Numbers.{numbered_more, numbered_has}
-use Rattle.st_lemmas.proofs.Tables.{and_true, and_both, has_filter, has_append, none_passes}
-use Rattle.st_lemmas.proofs.Lookups.{some_is, or_left, or_right}
+use Rattle.st_lemmas.proofs.Words
+use Words.{◌≡◌, ℕ, ◌+◌, ◌≤◌, ◌<◌, ◌⊎◌, Bool, true, false, not, ◌&&◌, ◌||◌, List, [], ◌∷◌, ◌++◌, ◌==◌, Option, Some, None, refl, sym, ap, ◌∙◌, subst, inl, inr}
+use Words.{arith, if◌then◌else◌, length, suc, find, filter, list_any, eq-eqb, ne_eqb, ClientId, FileId, PageNo, ServerId, Life, DirtyPage, PageCommand}
+use Words.{LogEntry, LogOwner, Carried, IssuedCommand, Change}
+use Words.io
+use Words.Keys.{put, same_client, same_file, same_page, same_server}
+use Words.FlatLog as log
+use Words.FlatLog.{owner}
+use Words.ClientPages as pages
+use Words.ClientState.{Association}
+use Words.World.{numbered}
+use Words.Events as ev
+use Words.Events.{latest, last_write}
+use Words.Safety.{Step, reports_failure}
+use Words.Lists.{Has}
+use Words.Numbers.{numbered_more, numbered_has}
+use Words.Tables.{and_true, and_both, has_filter, has_append, none_passes}
+use Words.Lookups.{some_is, or_left, or_right}
+use Words.Truth.{not_both}
 use Rattle.st_lemmas.proofs.Contents.{Place_is, self_place, one_place}
 use Rattle.st_laws_pages.specs.Fates.Fates.{PendingAll}
 use Rattle.st_laws_steps.proofs.Client.Nexts.{dirty_put}
@@ -37,7 +26,6 @@ use Rattle.st_laws_pages.specs.Flush.Flush.{file_at, owner_at_page, IsIts, Sent,
 use Rattle.st_laws_pages.proofs.Fates.FateSteps.{pending_more}
 use Rattle.st_laws_pages.proofs.Fates.Owing.{last_more}
 use Rattle.st_laws_pages.proofs.Disks.Writer.{latest_last}
-use Rattle.st_laws_steps.proofs.Clash.{clash}
 
 -- one more entry that is not the client's to this page leaves its latest one
 pub latest_stays : (c : ClientId) (f : FileId) (p : PageNo) (es : List LogEntry) (e : LogEntry) → ev.is_entry_of c f p e ≡ false → latest (es ++ e ∷ []) c f p ≡ latest es c f p
@@ -190,7 +178,7 @@ any_kept {A} q r (x ∷ xs) k h = go (q x) refl (r x) refl h (any_kept q r xs k)
   where
     go : (b : Bool) → q x ≡ b → (d : Bool) → r x ≡ d → (b || list_any q xs) ≡ true → (list_any q xs ≡ true → list_any q (filter r xs) ≡ true) → list_any q (if d then x ∷ filter r xs else filter r xs) ≡ true
     go true e true f h g = or_left (q x) (list_any q (filter r xs)) e
-    go true e false f h g = absurd (clash (r x) (k x e) f)
+    go true e false f h g = absurd (not_both (r x) (k x e) f)
     go false e true f h g = or_right (q x) (list_any q (filter r xs)) (g h)
     go false e false f h g = g h
 
@@ -422,8 +410,8 @@ submitted_cared past cs es c starts next a ino p d x is di dp free num xc xl car
     below pc (inr (inl e)) = let z = ap (λ (w : PageCommand). w.number) e in omega (arith, z)
     below pc (inr (inr e)) = absurd e
 
-    clash : (pc : PageCommand) → Has pc a.store.commands → (v : ℕ) → pc.kind ≡ io.Write v → pc.ino ≡ d.ino → pc.page ≡ d.page → ⊥
-    clash pc i v q m n = no (Place_is d.ino d.page pc.ino pc.page) (subst (λ j. Place_is d.ino d.page j pc.page ≡ true) (sym m) (subst (λ r. Place_is d.ino d.page d.ino r ≡ true) (sym n) (self_place d.ino d.page))) (apart pc i v q)
+    not_both : (pc : PageCommand) → Has pc a.store.commands → (v : ℕ) → pc.kind ≡ io.Write v → pc.ino ≡ d.ino → pc.page ≡ d.page → ⊥
+    not_both pc i v q m n = no (Place_is d.ino d.page pc.ino pc.page) (subst (λ j. Place_is d.ino d.page j pc.page ≡ true) (sym m) (subst (λ r. Place_is d.ino d.page d.ino r ≡ true) (sym n) (self_place d.ino d.page))) (apart pc i v q)
       where
         no : (b : Bool) → b ≡ true → b ≡ false → ⊥
         no true a b = cc
@@ -431,9 +419,9 @@ submitted_cared past cs es c starts next a ino p d x is di dp free num xc xl car
 
     once : (pc qc : PageCommand) (v u : ℕ) → pc.kind ≡ io.Write v → qc.kind ≡ io.Write u → pc.ino ≡ qc.ino → pc.page ≡ qc.page → Has pc a.store.commands ⊎ Has pc (new ∷ []) → Has qc a.store.commands ⊎ Has qc (new ∷ []) → pc.number ≡ qc.number
     once pc qc v u q r m n (inl i) (inl j) = h.once pc qc i j v u q r m n
-    once pc qc v u q r m n (inl i) (inr (inl e)) = absurd (clash pc i v q (m ∙ ap (λ (z : PageCommand). z.ino) e) (n ∙ ap (λ (z : PageCommand). z.page) e))
+    once pc qc v u q r m n (inl i) (inr (inl e)) = absurd (not_both pc i v q (m ∙ ap (λ (z : PageCommand). z.ino) e) (n ∙ ap (λ (z : PageCommand). z.page) e))
     once pc qc v u q r m n (inl i) (inr (inr e)) = absurd e
-    once pc qc v u q r m n (inr (inl e)) (inl j) = absurd (clash qc j u r (sym m ∙ ap (λ (z : PageCommand). z.ino) e) (sym n ∙ ap (λ (z : PageCommand). z.page) e))
+    once pc qc v u q r m n (inr (inl e)) (inl j) = absurd (not_both qc j u r (sym m ∙ ap (λ (z : PageCommand). z.ino) e) (sym n ∙ ap (λ (z : PageCommand). z.page) e))
     once pc qc v u q r m n (inr (inl e)) (inr (inl f)) = ap (λ (z : PageCommand). z.number) (e ∙ sym f)
     once pc qc v u q r m n (inr (inl e)) (inr (inr f)) = absurd f
     once pc qc v u q r m n (inr (inr e)) j = absurd e

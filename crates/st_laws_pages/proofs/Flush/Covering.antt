@@ -1,34 +1,27 @@
 -- The flush: after the passes of a step, under a lease that drains, each dirty page has a write outstanding or a failed command.
-use Rattle.std.proofs.Common.{◌≡◌, ℕ, ◌⊎◌, Bool, true, false, not, ◌&&◌, List, [], ◌∷◌, ◌++◌, ◌==◌, Option, Some, None, refl, sym, ap, ◌∙◌, subst, inl, inr, if◌then◌else◌}
-use Rattle.std.specs.Prelude.{find, filter, flat_map, is_some, map, option_map}
-use Rattle.std.specs.List.{list_any}
-use Rattle.st_base.specs.declared.ids.PageNo.{PageNo}
-use Rattle.st_base.specs.declared.ids.Stamp.{Stamp}
-use Rattle.st_messages.specs.declared.message.Body.{Body}
-use Rattle.st_messages.specs.declared.message.Body.TheVariants as bodies
-use Rattle.st_rules.specs.declared.pages.DirtyPage.{DirtyPage}
-use Rattle.st_rules.specs.declared.client.IoKind.TheVariants as io
-use Rattle.st_rules.specs.declared.client.MappedBlock.{MappedBlock}
-use Rattle.st_rules.specs.declared.client.PageCommand.{PageCommand}
-use Rattle.st_rules.specs.declared.client.Release.{Release}
-use Rattle.st_rules.specs.declared.client.Request.{Request}
-use Rattle.st_rules.specs.Keys.{rising, same_page}
-use Rattle.st_rules.specs.ClientLease as lease
-use Rattle.st_rules.specs.ClientPages as pages
-use Rattle.st_rules.specs.ClientPages.{Pages}
-use Rattle.st_rules.specs.ClientPasses as cp
-use Rattle.st_rules.specs.Client as cl
-use Rattle.st_rules.specs.ClientState as state
-use Rattle.st_rules.specs.ClientState.{ClientSession, Turn}
-use Rattle.st_lemmas.specs.Lists.{Has}
+use Rattle.st_lemmas.proofs.Words
+use Words.{◌≡◌, ℕ, ◌⊎◌, Bool, true, false, not, ◌&&◌, List, [], ◌∷◌, ◌++◌, ◌==◌, Option, Some, None, refl, sym, ap, ◌∙◌, subst, inl, inr, if◌then◌else◌, find}
+use Words.{filter, is_some, map, option_map, list_any, PageNo, Stamp, Body, DirtyPage, MappedBlock, PageCommand, Release, Request}
+use Words.bodies
+use Words.io
+use Words.Keys.{rising, same_page}
+use Words.ClientLease as lease
+use Words.ClientPages as pages
+use Words.ClientPages.{Pages}
+use Words.ClientPasses as cp
+use Words.Client as cl
+use Words.ClientState as state
+use Words.ClientState.{ClientSession, Turn}
+use Words.Lists.{Has}
+use Words.Lookups.{some_is}
+use Words.Tables.{and_true, has_filter_in, has_map_in, found_at}
+use Rattle.std.specs.Prelude.{flat_map}
 use Rattle.st_lemmas.proofs.Keys.{rising_has_in}
-use Rattle.st_lemmas.proofs.Lookups.{some_is}
-use Rattle.st_lemmas.proofs.Tables.{and_true, has_filter_in, has_map_in, found_at}
 use Rattle.st_lemmas.proofs.Contents.{Place_is, self_place}
 use Rattle.st_laws_steps.specs.Client.Losses.{Fit}
 use Rattle.st_laws_pages.specs.Flush.Flush.{Covered, PageCovered}
 use Rattle.st_laws_steps.proofs.Client.Nexts.{Next, next_then, changes_next, dirty_on}
-use Rattle.st_laws_steps.proofs.Client.Working.{c_operations, c_reductions}
+use Rattle.st_laws_steps.proofs.Client.Working.{changes_by_operations, changes_by_reductions}
 use Rattle.st_laws_pages.proofs.Flush.Caring.{any_front, any_back}
 
 -- The place of each dirty page is among the places.
@@ -239,7 +232,7 @@ passes_cover now tick t fit s e drains = go u.here.session refl e
     u = cp.reductions (cp.operations now t)
 
     n : Next now t u
-    n = next_then now t (cp.operations now t) u (changes_next now t (cp.operations now t) (c_operations now t)) (changes_next now (cp.operations now t) u (c_reductions now (cp.operations now t)))
+    n = next_then now t (cp.operations now t) u (changes_next now t (cp.operations now t) (changes_by_operations now t)) (changes_next now (cp.operations now t) u (changes_by_reductions now (cp.operations now t)))
 
     End : Option ClientSession → Turn
     End x = cp.requests now tick (cp.greeting now tick (cp.writes_by u now tick x))

@@ -1,41 +1,32 @@
 -- What holds of an association's dirty pages and outstanding writes, as one of its disk commands ends.
-use Rattle.std.proofs.Common.{◌≡◌, ℕ, ◌<◌, ◌⊎◌, Bool, true, false, not, ◌&&◌, ◌||◌, List, [], ◌∷◌, ◌++◌, ◌==◌, Option, Some, None, refl, sym, ap, ◌∙◌, subst, inl, inr, arith, if◌then◌else◌}
-use Rattle.std.specs.Prelude.{find, filter, map, option_map, unwrap_or}
-use Rattle.std.specs.List.{list_any}
-use Rattle.std.proofs.lemmas.Bool.{eqb-true, eq-eqb}
-use Rattle.st_base.specs.declared.ids.ClientId.{ClientId}
-use Rattle.st_base.specs.declared.ids.PageNo.{PageNo}
-use Rattle.st_base.specs.declared.ids.Life.{Life}
-use Rattle.st_base.specs.declared.ids.ServerId.{ServerId}
-use Rattle.st_rules.specs.declared.pages.DirtyPage.{DirtyPage}
-use Rattle.st_rules.specs.declared.client.IoKind.{IoKind}
-use Rattle.st_rules.specs.declared.client.IoKind.TheVariants as io
-use Rattle.st_rules.specs.declared.client.PageCommand.{PageCommand}
-use Rattle.st_rules.specs.declared.log.LogEntry.{LogEntry}
-use Rattle.st_rules.specs.declared.log.LogOwner.{LogOwner}
-use Rattle.st_rules.specs.declared.world.IssuedCommand.{IssuedCommand}
-use Rattle.st_rules.specs.Keys.{same_client, same_server, same_file, same_page}
-use Rattle.st_rules.specs.FlatLog as log
-use Rattle.st_rules.specs.ClientPages as pages
-use Rattle.st_rules.specs.ClientPages.{Pages}
-use Rattle.st_rules.specs.ClientState.{Association}
-use Rattle.st_rules.specs.Events.{last_write}
-use Rattle.st_rules.specs.Safety.{Step, reports_failure}
-use Rattle.st_lemmas.specs.Lists.{Has}
-use Rattle.st_lemmas.proofs.Tables.{and_true, and_both, not_true, has_filter, has_filter_in, has_append, none_passes}
-use Rattle.st_lemmas.proofs.Lookups.{some_is}
+use Rattle.st_lemmas.proofs.Words
+use Words.{◌≡◌, ℕ, ◌<◌, ◌⊎◌, Bool, true, false, not, ◌&&◌, List, [], ◌∷◌, ◌++◌, ◌==◌, Option, Some, None, refl, sym, ap, ◌∙◌, subst, inl, inr, arith}
+use Words.{if◌then◌else◌, find, filter, map, option_map, unwrap_or, list_any, eqb-true, eq-eqb, ClientId, PageNo, Life, ServerId, DirtyPage, IoKind}
+use Words.{PageCommand, LogEntry, LogOwner, IssuedCommand, Stamp}
+use Words.io
+use Words.Keys.{same_client, same_server, same_file, same_page}
+use Words.FlatLog as log
+use Words.ClientPages as pages
+use Words.ClientPages.{Pages}
+use Words.ClientState.{Association, Turn}
+use Words.Events.{last_write}
+use Words.Safety.{Step, reports_failure}
+use Words.Lists.{Has}
+use Words.Tables.{and_true, and_both, not_true, has_filter, has_filter_in, has_append, none_passes}
+use Words.Lookups.{some_is}
+use Words.Client as cl
+use Words.Members.{some_member_passes}
+use Words.Truth.{not_both}
+use Words.Versions.{version_failed, version_hardened}
 use Rattle.st_lemmas.proofs.Contents.{Place_is, self_place, one_place, other_place, find_cut, find_stays}
-use Rattle.st_rules.specs.Client as cl
-use Rattle.st_rules.specs.ClientState.{Turn}
 use Rattle.st_laws_steps.specs.Client.Losses.{IsOutdated, Ends, Unknown, Passes, Hardens, Fails}
 use Rattle.st_laws_pages.specs.Fates.Fates.{PendingAll}
 use Rattle.st_laws_pages.specs.Flush.Flush.{file_at, owner_at_page, DirtyHere, Cared, NumbersApart}
 use Rattle.st_laws_steps.proofs.Client.Nexts.{dirty_on}
 use Rattle.st_laws_pages.proofs.Fates.Fates.{pending_map}
 use Rattle.st_laws_pages.proofs.Flush.Caring.{store_same}
-use Rattle.st_laws_steps.specs.Client.Client.{Change, Says, Operates, Answers, Greets, TellsLost, Begins, Follows, Learns, Forgets, Caches, Writes, Reads, Submits}
-use Rattle.st_base.specs.declared.ids.Stamp.{Stamp}
-use Rattle.st_laws_steps.proofs.Clash.{clash}
+use Rattle.st_laws_steps.specs.Client.Client.{Change, Says, Operates, Answers, Greets, TellsLost, Begins, Follows, Learns, Forgets, Caches, Writes, Reads}
+use Rattle.st_laws_steps.specs.Client.Client.{Submits}
 
 -- The numbers of outstanding commands.
 pub apart_fewer : (q : PageCommand → Bool) (cs : List PageCommand) → NumbersApart cs → NumbersApart (filter q cs)
@@ -53,19 +44,10 @@ apart_more cs new low h = λ pc qc i j n. go pc qc (has_append cs (new ∷ []) p
     go pc qc (inr (inl e)) (inr (inr f)) n = absurd f
     go pc qc (inr (inr e)) j n = absurd e
 
--- one of those that pass
-pub some_has : {A : Type 0} (q : A → Bool) (xs : List A) → list_any q xs ≡ true → (x : A) × Has x xs × (q x ≡ true)
-some_has q [] h = cc
-some_has {A} q (x ∷ xs) h = go (q x) refl h (some_has q xs)
-  where
-    go : (b : Bool) → q x ≡ b → (b || list_any q xs) ≡ true → (list_any q xs ≡ true → (y : A) × Has y xs × (q y ≡ true)) → (y : A) × Has y (x ∷ xs) × (q y ≡ true)
-    go true e h f = (x, inl refl, e)
-    go false e h f = let z = f h in (z.0, inr z.1, z.2)
-
 -- the version of a write
-a_write : (k : IoKind) → pages.is_write k ≡ true → (v : ℕ) × (k ≡ io.Write v)
-a_write io.Read e = cc
-a_write (io.Write v) e = (v, refl)
+is_a_write : (k : IoKind) → pages.is_write k ≡ true → (v : ℕ) × (k ≡ io.Write v)
+is_a_write io.Read e = cc
+is_a_write (io.Write v) e = (v, refl)
 
 -- A command is outstanding no more: where it was a write of a page with a failed command, the page's last write was reported failed.
 pub without_cared : (past : List Step) (cs : List IssuedCommand) (es : List LogEntry) (c : ClientId) (starts next : ℕ) (a : Association) (number : ℕ) →
@@ -90,13 +72,13 @@ without_cared past cs es c starts next a number told h =
         (pages.is_being_written (filter keeps a.store.commands) ino p ≡ true) ⊎ (list_any (reports_failure (last_write cs (owner_at_page c a ino p))) past ≡ true)
     fail ino p d n i q true f x = inl f
     fail ino p d n i q false f (inr r) = inr r
-    fail ino p d n i q false f (inl w) = let z = some_has (pages.is_write_of ino p) a.store.commands w in inr (gone z.0 z.1 z.2 (pages.is_numbered number z.0) refl)
+    fail ino p d n i q false f (inl w) = let z = some_member_passes (pages.is_write_of ino p) a.store.commands w in inr (gone z.0 z.1 z.2 (pages.is_numbered number z.0) refl)
       where
         gone : (pc : PageCommand) → Has pc a.store.commands → pages.is_write_of ino p pc ≡ true → (b : Bool) → pages.is_numbered number pc ≡ b → list_any (reports_failure (last_write cs (owner_at_page c a ino p))) past ≡ true
-        gone pc y t false u = absurd (clash (pages.is_write_of ino p pc) t (none_passes (pages.is_write_of ino p) (filter keeps a.store.commands) f pc (has_filter_in keeps a.store.commands pc y (ap not u))))
+        gone pc y t false u = absurd (not_both (pages.is_write_of ino p pc) t (none_passes (pages.is_write_of ino p) (filter keeps a.store.commands) f pc (has_filter_in keeps a.store.commands pc y (ap not u))))
         gone pc y t true u =
             let k = and_true (pages.is_write pc.kind) ((pc.ino == ino) && same_page pc.page p) t in
-            let v = a_write pc.kind k.0 in
+            let v = is_a_write pc.kind k.0 in
             let o = one_place pc.ino pc.page ino p k.1 in
             subst (λ r. list_any (reports_failure (last_write cs (owner_at_page c a ino r))) past ≡ true) o.1
             (subst (λ j. list_any (reports_failure (last_write cs (owner_at_page c a j pc.page))) past ≡ true) o.0
@@ -119,15 +101,6 @@ pub hardened_is : (ps : Pages) (ino : ℕ) (p : PageNo) (i : ℕ) (q : PageNo) (
 unfolding pages.harden
 hardened_is ps ino p = hardened_at ps ino p (pages.dirty_of ps ino p) refl
 
-next_at : (ps : Pages) (o : Option DirtyPage) → (pages.harden_at ps o).next_version ≡ ps.next_version
-unfolding pages.harden_at pages.harden_page
-next_at ps None = refl
-next_at ps (Some x) = refl
-
-next_is : (ps : Pages) (ino : ℕ) (p : PageNo) → (pages.harden ps ino p).next_version ≡ ps.next_version
-unfolding pages.harden
-next_is ps ino p = next_at ps (pages.dirty_of ps ino p)
-
 -- what nothing pending is of
 abbrev pub NonePending : LogOwner → List LogEntry → Type 0
 NonePending o es = PendingAll (λ x. log.same_owner x o ≡ true → ⊥) es
@@ -142,13 +115,13 @@ cleaned_cared past cs es c starts next a ino p none h =
           let w = h.writes pc i v q in
           record {
             world = λ k x j s. let o = w.world k x j s in record { index = o.index; carries = o.carries; last = o.last; latest_is = λ d y z. o.latest_is d (old pc.ino pc.page d (Place_is ino p pc.ino pc.page) refl y) z };
-            low = subst (λ n. v < n) (sym (next_is a.store.pages ino p)) w.low;
+            low = subst (λ n. v < n) (sym (version_hardened a.store.pages ino p)) w.low;
             link = λ d y. w.link d (old pc.ino pc.page d (Place_is ino p pc.ino pc.page) refl y);
           };
       reads = h.reads;
       below = h.below;
       once = h.once;
-      versions = λ i q d y. subst (λ n. d.version < n) (sym (next_is a.store.pages ino p)) (h.versions i q d (old i q d (Place_is ino p i q) refl y));
+      versions = λ i q d y. subst (λ n. d.version < n) (sym (version_hardened a.store.pages ino p)) (h.versions i q d (old i q d (Place_is ino p i q) refl y));
       failed = λ i q d n y. h.failed i q d n (old i q d (Place_is ino p i q) refl y);
     }
   where
@@ -235,15 +208,11 @@ failed_was ps ino p n i q d e = go (pages.dirty_of ps i q) refl (sym (failed_row
           where
             turned : (b : Bool) → Place_is i q ino p ≡ b → b ≡ false
             turned false t = refl
-            turned true t = let s = one_place i q ino p t in absurd (clash (Place_is ino p i q) (subst (λ j. Place_is j p i q ≡ true) s.0 (subst (λ r. Place_is i r i q ≡ true) s.1 (self_place i q))) z)
+            turned true t = let s = one_place i q ino p t in absurd (not_both (Place_is ino p i q) (subst (λ j. Place_is j p i q ≡ true) s.0 (subst (λ r. Place_is i r i q ≡ true) s.1 (self_place i q))) z)
 
 failed_still : (ps : Pages) (ino : ℕ) (p : PageNo) (n : ℕ) (i : ℕ) (q : PageNo) (d : DirtyPage) → pages.dirty_of ps i q ≡ Some d → pages.dirty_of (pages.fail ps ino p n) i q ≡ Some (pages.fail_of ino p n d)
 unfolding pages.fail pages.failed_by
 failed_still ps ino p n i q d e = failed_rows ino p n i q ps.dirty ∙ ap (option_map (pages.fail_of ino p n)) e
-
-failed_next : (ps : Pages) (ino : ℕ) (p : PageNo) (n : ℕ) → (pages.fail ps ino p n).next_version ≡ ps.next_version
-unfolding pages.fail
-failed_next ps ino p n = refl
 
 -- The write of a page failed: no other is outstanding, and the page's last write was reported failed.
 pub failed_cared : (past : List Step) (cs : List IssuedCommand) (es : List LogEntry) (c : ClientId) (starts next : ℕ) (a : Association) (ino : ℕ) (p : PageNo) (n : ℕ) → pages.is_being_written a.store.commands ino p ≡ false →
@@ -255,13 +224,13 @@ failed_cared past cs es c starts next a ino p n free told h =
           let w = h.writes pc i v q in
           record {
             world = λ k x j s. let o = w.world k x j s in record { index = o.index; carries = o.carries; last = o.last; latest_is = λ d y z. let m = failed_was a.store.pages ino p n pc.ino pc.page d y in o.latest_is m.page m.is (m.version ∙ z) };
-            low = subst (λ x. v < x) (sym (failed_next a.store.pages ino p n)) w.low;
+            low = subst (λ x. v < x) (sym (version_failed a.store.pages ino p n)) w.low;
             link = λ d y. let m = failed_was a.store.pages ino p n pc.ino pc.page d y in subst (λ (x : DirtyPage). (x.version ≡ v) ⊎ (x.failed ≡ None)) (m.other (apart pc i v q)) (w.link m.page m.is);
           };
       reads = h.reads;
       below = h.below;
       once = h.once;
-      versions = λ i q d y. let m = failed_was a.store.pages ino p n i q d y in subst (λ x. d.version < x) (sym (failed_next a.store.pages ino p n)) (subst (λ x. x < a.store.pages.next_version) m.version (h.versions i q m.page m.is));
+      versions = λ i q d y. let m = failed_was a.store.pages ino p n i q d y in subst (λ x. d.version < x) (sym (version_failed a.store.pages ino p n)) (subst (λ x. x < a.store.pages.next_version) m.version (h.versions i q m.page m.is));
       failed = λ i q d k y z. fail i q d k (Place_is ino p i q) refl (failed_was a.store.pages ino p n i q d y) z;
     }
   where
@@ -275,7 +244,7 @@ failed_cared past cs es c starts next a ino p n free told h =
         go false z = refl
         go true z =
             let o = one_place ino p pc.ino pc.page z in
-            absurd (clash (pages.is_write_of ino p pc) (ap (λ k. pages.is_write k && Place_is pc.ino pc.page ino p) q ∙ subst (λ j. Place_is j pc.page ino p ≡ true) o.0 (subst (λ r. Place_is ino r ino p ≡ true) o.1 (self_place ino p)))
+            absurd (not_both (pages.is_write_of ino p pc) (ap (λ k. pages.is_write k && Place_is pc.ino pc.page ino p) q ∙ subst (λ j. Place_is j pc.page ino p ≡ true) o.0 (subst (λ r. Place_is ino r ino p ≡ true) o.1 (self_place ino p)))
             (none_passes (pages.is_write_of ino p) a.store.commands free pc i))
 
     fail : (i : ℕ) (q : PageNo) (d : DirtyPage) (k : ℕ) (t : Bool) → Place_is ino p i q ≡ t → Was a.store.pages ino p i q d → d.failed ≡ Some k → (pages.is_being_written a.store.commands i q ≡ true) ⊎ (list_any (reports_failure (last_write cs (owner_at_page c a i q))) past ≡ true)
@@ -363,15 +332,15 @@ ends_cared past cs es c starts next number ok t _ (Fails pc v e o k) ap_ fo so h
 
     free : (x : Bool) → pages.is_being_written b.store.commands pc.ino pc.page ≡ x → x ≡ false
     free false q = refl
-    free true q = absurd (go (some_has (pages.is_write_of pc.ino pc.page) b.store.commands q))
+    free true q = absurd (go (some_member_passes (pages.is_write_of pc.ino pc.page) b.store.commands q))
       where
         go : (qc : PageCommand) × Has qc b.store.commands × (pages.is_write_of pc.ino pc.page qc ≡ true) → ⊥
         go (qc, i, z) =
             let f = has_filter keeps t.here.store.commands qc i in
             let m = and_true (pages.is_write qc.kind) ((qc.ino == pc.ino) && same_page qc.page pc.page) z in
-            let s = a_write qc.kind m.0 in
+            let s = is_a_write qc.kind m.0 in
             let l = one_place qc.ino qc.page pc.ino pc.page m.1 in
-            clash (pages.is_numbered number qc) (eq-eqb qc.number number (h.once qc pc f.0 is.0 s.0 v s.1 k l.0 l.1 ∙ is.1)) (not_true (pages.is_numbered number qc) f.1)
+            not_both (pages.is_numbered number qc) (eq-eqb qc.number number (h.once qc pc f.0 is.0 s.0 v s.1 k l.0 l.1 ∙ is.1)) (not_true (pages.is_numbered number qc) f.1)
 
 -- A change that changes no page and submits nothing.
 abbrev pub IsQuiet : (now : Stamp) (t u : Turn) → Change now t u → Type 0

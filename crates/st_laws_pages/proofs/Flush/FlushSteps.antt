@@ -1,22 +1,13 @@
 -- The flush in the world: a step of a client keeps what holds of all clients and of the flush steps.
-use Rattle.std.proofs.Common.{◌≡◌, ℕ, ◌+◌, ◌≤◌, true, List, [], Some, sym, ap, ◌∙◌, subst, arith}
-use Rattle.std.specs.Prelude.{length, map}
-use Rattle.std.specs.List.{list_any}
-use Rattle.st_base.specs.declared.config.Config.{Config}
-use Rattle.st_base.specs.declared.ids.ClientId.{ClientId}
-use Rattle.st_base.specs.declared.ids.FileId.{FileId}
-use Rattle.st_base.specs.declared.ids.PageNo.{PageNo}
-use Rattle.st_rules.specs.declared.log.LogEntry.{LogEntry}
-use Rattle.st_rules.specs.declared.log.LogOwner.{LogOwner}
-use Rattle.st_rules.specs.declared.world.FlushStep.{FlushStep}
-use Rattle.st_rules.specs.declared.world.IssuedCommand.{IssuedCommand}
-use Rattle.st_rules.specs.FlatLog as log
-use Rattle.st_rules.specs.ClientLease as lease
-use Rattle.st_rules.specs.World.{World, WorldClient, numbered}
-use Rattle.st_rules.specs.Events.{latest}
-use Rattle.st_rules.specs.Safety.{Step, reports_failure}
-use Rattle.st_lemmas.specs.Lists.{Has}
-use Rattle.st_lemmas.proofs.Numbers.{numbered_below}
+use Rattle.st_lemmas.proofs.Words
+use Words.{◌≡◌, ℕ, ◌+◌, ◌≤◌, true, List, Some, sym, ap, ◌∙◌, subst, arith, length, map, list_any, Config, ClientId, FileId, PageNo, LogEntry, LogOwner}
+use Words.{FlushStep, IssuedCommand}
+use Words.ClientLease as lease
+use Words.World.{World, WorldClient, numbered}
+use Words.Events.{latest}
+use Words.Safety.{Step, reports_failure}
+use Words.Lists.{Has}
+use Words.Numbers.{numbered_below}
 use Rattle.st_laws_pages.specs.Fates.Fates.{PendingAll}
 use Rattle.st_laws_steps.specs.Lives.Lives.{clock_in, owner_of}
 use Rattle.st_laws_pages.specs.Flush.Flush.{DirtyHere, NodeCared, StartsBelow, FlushRight, FlushHold}

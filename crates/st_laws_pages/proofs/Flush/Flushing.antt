@@ -1,29 +1,20 @@
 -- The flush through a step of a client: what holds of all its associations, in the world that its outputs leave.
-use Rattle.std.proofs.Common.{◌≡◌, ℕ, ◌+◌, Bool, true, false, List, [], ◌∷◌, Option, Some, None, refl, sym, ap, ◌∙◌, subst, inl, inr, arith}
-use Rattle.std.specs.Prelude.{find, map, nat_le}
-use Rattle.std.proofs.lemmas.Bool.{leb-false}
-use Rattle.st_base.specs.declared.config.Config.{Config}
-use Rattle.st_base.specs.declared.ids.ClientId.{ClientId}
-use Rattle.st_base.specs.declared.ids.Life.{Life}
-use Rattle.st_base.specs.declared.ids.Stamp.{Stamp}
-use Rattle.st_rules.specs.declared.client.ClientInput.{ClientInput}
-use Rattle.st_rules.specs.declared.client.ClientInput.TheVariants as inputs
-use Rattle.st_rules.specs.declared.log.LogEntry.{LogEntry}
-use Rattle.st_rules.specs.declared.log.LogOwner.{LogOwner}
-use Rattle.st_rules.specs.declared.pages.DirtyPage.{DirtyPage}
-use Rattle.st_rules.specs.declared.world.LeaseLife.{LeaseLife}
-use Rattle.st_rules.specs.ClientLease as lease
-use Rattle.st_rules.specs.ClientPages as pages
-use Rattle.st_rules.specs.ClientPasses as cp
-use Rattle.st_rules.specs.Client as cl
-use Rattle.st_rules.specs.ClientState as state
-use Rattle.st_rules.specs.ClientState.{Association, ClientState, ClientSession, ClientTurn, Turn, client_turn, is_at}
-use Rattle.st_rules.specs.World as world
-use Rattle.st_rules.specs.World.{World, WorldClient, numbered, site_of}
-use Rattle.st_rules.specs.Events as ev
-use Rattle.st_rules.specs.Events.{WorldTurn}
-use Rattle.st_rules.specs.Safety.{Step}
-use Rattle.st_lemmas.specs.Lists.{Has}
+use Rattle.st_lemmas.proofs.Words
+use Words.{◌≡◌, ℕ, ◌+◌, Bool, true, false, List, [], ◌∷◌, Option, Some, None, refl, sym, ap, ◌∙◌, subst, inl, inr, arith, find, map, nat_le, leb-false, Config}
+use Words.{ClientId, Life, Stamp, ClientInput, LogEntry, LogOwner, DirtyPage, LeaseLife}
+use Words.inputs
+use Words.ClientLease as lease
+use Words.ClientPages as pages
+use Words.ClientPasses as cp
+use Words.Client as cl
+use Words.ClientState as state
+use Words.ClientState.{Association, ClientState, ClientSession, ClientTurn, Turn, client_turn, is_at}
+use Words.World as world
+use Words.World.{World, WorldClient, numbered, site_of}
+use Words.Events as ev
+use Words.Events.{WorldTurn}
+use Words.Safety.{Step}
+use Words.Lists.{Has}
 use Rattle.st_laws_pages.specs.Fates.Fates.{PendingAll}
 use Rattle.st_laws_steps.specs.Client.Losses.{Fit, is_ended, SessionNext}
 use Rattle.st_laws_steps.specs.Lives.Lives.{Pairwise, IsKnown, NodeHolds, owner_of, LivesHold}
@@ -100,7 +91,7 @@ InputTold past sc c starts (inputs.Done number result) = Told past sc c starts n
 InputTold past sc c starts input = Unit {0}
 
 -- A session that is not over goes on so.
-open_on : (k : Config) (now : Stamp) (s u : Option ClientSession) → SessionNext k now s u → is_ended k now s ≡ false → is_ended k now u ≡ false
+pub open_on : (k : Config) (now : Stamp) (s u : Option ClientSession) → SessionNext k now s u → is_ended k now s ≡ false → is_ended k now u ≡ false
 open_on k now s None n e = refl
 open_on k now None (Some u) n e = below (nat_le (lease.end_of k u.lease).0 now.0) refl
   where

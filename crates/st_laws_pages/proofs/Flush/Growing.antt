@@ -1,22 +1,18 @@
 -- What holds of an association's dirty pages and outstanding writes, through each change, with what the change adds to the world.
-use Rattle.std.proofs.Common.{◌≡◌, ℕ, ◌<◌, not, List, [], ◌∷◌, ◌++◌, Some, None, sym, subst}
-use Rattle.st_base.specs.declared.ids.ClientId.{ClientId}
-use Rattle.st_base.specs.declared.ids.Stamp.{Stamp}
-use Rattle.st_rules.specs.declared.log.LogEntry.{LogEntry}
-use Rattle.st_rules.specs.declared.pages.DirtyPage.{DirtyPage}
-use Rattle.st_rules.specs.declared.world.IssuedCommand.{IssuedCommand}
-use Rattle.st_rules.specs.FlatLog as log
-use Rattle.st_rules.specs.FlatLog.{owner}
-use Rattle.st_rules.specs.ClientPages as pages
-use Rattle.st_rules.specs.ClientPasses as cp
-use Rattle.st_rules.specs.ClientState.{Turn, note}
-use Rattle.st_rules.specs.Events.{latest}
-use Rattle.st_rules.specs.Safety.{Step}
-use Rattle.st_laws_steps.specs.Client.Client.{Change, Says, Operates, Answers, Greets, TellsLost, Begins, Follows, Learns, Forgets, Caches, Writes, Reads, Submits}
+use Rattle.st_lemmas.proofs.Words
+use Words.{◌≡◌, ℕ, ◌<◌, not, List, [], ◌∷◌, ◌++◌, Some, None, sym, subst, ClientId, Stamp, LogEntry, DirtyPage, IssuedCommand, PageCommand}
+use Words.FlatLog as log
+use Words.FlatLog.{owner}
+use Words.ClientPages as pages
+use Words.ClientPasses as cp
+use Words.ClientState.{Turn, note}
+use Words.Events.{latest}
+use Words.Safety.{Step}
+use Words.Lists.{Has}
+use Words.io
+use Rattle.st_laws_steps.specs.Client.Client.{Change, Says, Operates, Answers, Greets, TellsLost, Begins, Follows, Learns, Forgets, Caches, Writes, Reads}
+use Rattle.st_laws_steps.specs.Client.Client.{Submits}
 use Rattle.st_laws_pages.specs.Flush.Flush.{file_at, Cared, NumbersBelow, NumbersApart}
-use Rattle.st_lemmas.specs.Lists.{Has}
-use Rattle.st_rules.specs.declared.client.PageCommand.{PageCommand}
-use Rattle.st_rules.specs.declared.client.IoKind.TheVariants as io
 use Rattle.st_laws_pages.proofs.Flush.Caring.{written_cared, read_cared, submitted_cared}
 use Rattle.st_laws_pages.proofs.Flush.Ending.{IsQuiet, quiet_cared, apart_fewer, apart_more}
 use Rattle.st_laws_steps.proofs.Client.Nexts.{dirty_on}

@@ -1,28 +1,20 @@
 -- All associations of a client, through changes at one of its servers: what holds of each, in the world after the outputs so far.
-use Rattle.std.proofs.Common.{◌≡◌, ℕ, ◌+◌, ◌<◌, ◌⊎◌, Bool, true, false, ◌&&◌, List, [], ◌∷◌, ◌++◌, ◌==◌, Some, refl, sym, ap, ◌∙◌, subst, inl, inr, arith}
-use Rattle.std.specs.List.{list_any}
-use Rattle.std.proofs.lemmas.Bool.{ne_eqb}
-use Rattle.st_base.specs.declared.ids.ClientId.{ClientId}
-use Rattle.st_base.specs.declared.ids.FileId.{FileId}
-use Rattle.st_base.specs.declared.ids.PageNo.{PageNo}
-use Rattle.st_base.specs.declared.ids.ServerId.{ServerId}
-use Rattle.st_base.specs.declared.ids.Stamp.{Stamp}
-use Rattle.st_rules.specs.declared.client.PageCommand.{PageCommand}
-use Rattle.st_rules.specs.declared.disks.DiskCommand.{DiskCommand}
-use Rattle.st_rules.specs.declared.log.LogEntry.{LogEntry}
-use Rattle.st_rules.specs.declared.world.IssuedCommand.{IssuedCommand}
-use Rattle.st_rules.specs.Keys.{same_client, same_server}
-use Rattle.st_rules.specs.FlatLog as log
-use Rattle.st_rules.specs.Disks as disks
-use Rattle.st_rules.specs.ClientPasses as cp
-use Rattle.st_rules.specs.ClientState.{Association, Turn}
-use Rattle.st_rules.specs.World.{numbered}
-use Rattle.st_rules.specs.Events as ev
-use Rattle.st_rules.specs.Events.{WorldTurn}
-use Rattle.st_rules.specs.Safety.{Step, reports_failure}
-use Rattle.st_lemmas.specs.Lists.{Has}
-use Rattle.st_lemmas.proofs.Tables.{has_append}
-use Rattle.st_laws_steps.specs.Client.Client.{Change, Says, Operates, Answers, Greets, TellsLost, Begins, Follows, Learns, Forgets, Caches, Writes, Reads, Submits}
+use Rattle.st_lemmas.proofs.Words
+use Words.{◌≡◌, ℕ, ◌+◌, ◌<◌, ◌⊎◌, Bool, true, false, ◌&&◌, List, [], ◌∷◌, ◌++◌, ◌==◌, Some, refl, sym, ap, ◌∙◌, subst, inl, inr, arith, list_any, ne_eqb}
+use Words.{ClientId, FileId, PageNo, ServerId, Stamp, PageCommand, DiskCommand, LogEntry, IssuedCommand}
+use Words.Keys.{same_client, same_server}
+use Words.FlatLog as log
+use Words.Disks as disks
+use Words.ClientPasses as cp
+use Words.ClientState.{Association, Turn}
+use Words.World.{numbered}
+use Words.Events as ev
+use Words.Events.{WorldTurn}
+use Words.Safety.{Step, reports_failure}
+use Words.Lists.{Has}
+use Words.Tables.{has_append}
+use Rattle.st_laws_steps.specs.Client.Client.{Change, Says, Operates, Answers, Greets, TellsLost, Begins, Follows, Learns, Forgets, Caches, Writes, Reads}
+use Rattle.st_laws_steps.specs.Client.Client.{Submits}
 use Rattle.st_laws_pages.specs.Flush.Flush.{file_at, owner_at_page, IsIts, Cared, NumbersBelow, NumbersApart}
 use Rattle.st_laws_pages.proofs.Flush.Caring.{entry_elsewhere, command_elsewhere}
 use Rattle.st_laws_pages.proofs.Flush.Growing.{Adds, AddsNothing, AddsEntry, change_cared, change_apart}

@@ -1,20 +1,17 @@
 -- The losses of a client's step: what they say.
-use Rattle.std.proofs.Common.{◌≡◌, ℕ, Bool, true, false, List, [], ◌∷◌, ◌++◌, Option, Some, None, refl, ap, ◌∙◌, if◌then◌else◌}
-use Rattle.st_base.specs.declared.ids.Stamp.{Stamp}
-use Rattle.st_messages.specs.declared.answer.AppAnswer.{AppAnswer}
-use Rattle.st_messages.specs.declared.answer.AppAnswer.TheVariants as answers
-use Rattle.st_messages.specs.declared.ask.Ask.{Ask}
-use Rattle.st_messages.specs.declared.ask.Ask.TheVariants as asks
-use Rattle.st_messages.specs.declared.output.Note.TheVariants as notes
-use Rattle.st_messages.specs.declared.output.Output.{Output}
-use Rattle.st_messages.specs.declared.output.Output.TheVariants as outputs
-use Rattle.st_rules.specs.declared.client.Operation.{Operation}
-use Rattle.st_rules.specs.Client as cl
-use Rattle.st_rules.specs.ClientPages as pages
-use Rattle.st_rules.specs.ClientState as state
-use Rattle.st_rules.specs.ClientState.{Association, ClientState, ClientSession, ClientTurn, Turn, client_turn, enter, leave, at_these, at_each, with_associations, is_sent}
+use Rattle.st_lemmas.proofs.Words
+use Words.{◌≡◌, ℕ, Bool, true, false, List, [], ◌∷◌, ◌++◌, Option, Some, None, refl, ap, ◌∙◌, if◌then◌else◌, Stamp, AppAnswer, Ask, Output, Operation}
+use Words.{append_assoc}
+use Words.answers
+use Words.asks
+use Words.notes
+use Words.outputs
+use Words.Client as cl
+use Words.ClientPages as pages
+use Words.ClientState as state
+use Words.ClientState.{Association, ClientState, ClientSession, ClientTurn, Turn, client_turn, enter, leave, at_these, at_each, with_associations, is_sent}
+use Words.Lengths.{nothing_after}
 use Rattle.st_laws_pages.proofs.Flush.Adding.{AllStill}
-use Rattle.st_laws_steps.proofs.Client.Nexts.{append_assoc, empty_right}
 
 -- The losses say answers and the losses, and submit nothing.
 record IsQuiet (t u : Turn) : Type 0 where
@@ -24,7 +21,7 @@ record IsQuiet (t u : Turn) : Type 0 where
   pub next : u.next_command ≡ t.next_command
 
 quiet_none : (t : Turn) → IsQuiet t t
-quiet_none t = record { more = []; out = empty_right t.out; still = record {}; next = refl }
+quiet_none t = record { more = []; out = nothing_after t.out; still = record {}; next = refl }
 
 still_both : (os ps : List Output) → AllStill os → AllStill ps → AllStill (os ++ ps)
 still_both [] ps a b = b
@@ -92,7 +89,7 @@ pub record AllQuiet (t u : ClientTurn) : Type 0 where
 
 these_quiet : (now : Stamp) (al : List Association) (t : ClientTurn) → AllQuiet t (at_these (cl.lose now) al t)
 unfolding at_these
-these_quiet now [] t = record { more = []; out = empty_right t.out; still = record {}; next = refl }
+these_quiet now [] t = record { more = []; out = nothing_after t.out; still = record {}; next = refl }
 these_quiet now (a ∷ al) t =
     let e = lose_quiet now (enter t a) in
     let r = these_quiet now al (leave t (cl.lose now (enter t a))) in

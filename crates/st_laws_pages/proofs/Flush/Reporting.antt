@@ -1,16 +1,11 @@
 -- What is owed as a disk command ends follows from its report and its effect.
-use Rattle.std.proofs.Common.{◌≡◌, ℕ, true, List, [], Some, sym, subst}
-use Rattle.std.specs.List.{list_any}
-use Rattle.st_base.specs.declared.disk.Command.TheVariants as commands
-use Rattle.st_base.specs.declared.ids.ClientId.{ClientId}
-use Rattle.st_rules.specs.declared.client.IoKind.TheVariants as io
-use Rattle.st_rules.specs.declared.client.PageCommand.{PageCommand}
-use Rattle.st_rules.specs.declared.log.LogEntry.{LogEntry}
-use Rattle.st_rules.specs.declared.world.IssuedCommand.{IssuedCommand}
-use Rattle.st_rules.specs.ClientState.{Association}
-use Rattle.st_rules.specs.World.{numbered}
-use Rattle.st_rules.specs.Safety.{Step, reports_failure}
-use Rattle.st_lemmas.specs.Lists.{Has}
+use Rattle.st_lemmas.proofs.Words
+use Words.{◌≡◌, ℕ, true, List, Some, sym, subst, list_any, ClientId, PageCommand, LogEntry, IssuedCommand}
+use Words.io
+use Words.ClientState.{Association}
+use Words.World.{numbered}
+use Words.Safety.{Step, reports_failure}
+use Words.Lists.{Has}
 use Rattle.st_laws_pages.specs.Flush.Flush.{IsIts, Cared}
 use Rattle.st_laws_pages.proofs.Flush.Ending.{FailureOwed}
 

@@ -1,9 +1,8 @@
 -- One association among those of a client: those before it and those after it.
-use Rattle.std.proofs.Common.{◌≡◌, ◌⊎◌, List, [], ◌∷◌, ◌++◌, refl, sym, ap, ◌∙◌, inl, inr}
-use Rattle.std.specs.Prelude.{map}
-use Rattle.st_base.specs.declared.ids.ServerId.{ServerId}
-use Rattle.st_rules.specs.ClientState.{Association}
-use Rattle.st_lemmas.specs.Lists.{Has}
+use Rattle.st_lemmas.proofs.Words
+use Words.{◌≡◌, ◌⊎◌, List, [], ◌∷◌, ◌++◌, refl, sym, ap, ◌∙◌, inl, inr, map, ServerId}
+use Words.ClientState.{Association}
+use Words.Lists.{Has}
 use Rattle.st_laws_steps.specs.Lives.Lives.{Once, server_number}
 use Rattle.st_laws_steps.proofs.Lives.Associations.{has_number}
 use Rattle.st_laws_pages.proofs.Flush.Keeping.{OfOthers}

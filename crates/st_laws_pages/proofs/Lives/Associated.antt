@@ -1,65 +1,54 @@
 -- A fact of associations holds in every run, where each rule of a client keeps it of associations that fit, and an empty association has it.
-use Rattle.std.proofs.Common.{◌≡◌, ◌≢◌, ◌⊎◌, ℕ, Bool, List, [], ◌∷◌, ◌++◌, Option, Some, None, Result, Ok, Err, refl, sym, ap, ◌∙◌, subst, inl, inr}
-use Rattle.std.specs.Prelude.{map}
-use Rattle.st_base.specs.declared.config.Config.{Config}
-use Rattle.st_base.specs.declared.ids.ClientId.{ClientId}
-use Rattle.st_base.specs.declared.ids.NodeId.TheVariants as nodes
-use Rattle.st_base.specs.declared.ids.Stamp.{Stamp}
-use Rattle.st_messages.specs.declared.event.Event.{Event}
-use Rattle.st_rules.specs.declared.client.ClientInput.{ClientInput}
-use Rattle.st_rules.specs.declared.observation.WorldRefusal.{WorldRefusal}
-use Rattle.st_rules.specs.Admissible as adm
-use Rattle.st_rules.specs.Client as cl
-use Rattle.st_rules.specs.declared.pages.DirtyPage.{DirtyPage}
-use Rattle.st_rules.specs.ClientPages as pages
-use Rattle.st_rules.specs.ClientPasses as cp
-use Rattle.st_rules.specs.ClientReplies as cr
-use Rattle.st_rules.specs.ClientState.{Association, ClientState, Turn, client_turn, only_at}
-use Rattle.st_rules.specs.Events as ev
-use Rattle.st_rules.specs.Events.{WorldTurn, counted, world_step}
-use Rattle.st_rules.specs.Extents.{numbers}
-use Rattle.st_rules.specs.History.{Traced, traced, traced_after}
-use Rattle.st_rules.specs.Safety as safety
-use Rattle.st_rules.specs.Safety.{Promise, Step, Throughout, step, steps}
-use Rattle.st_rules.specs.World as world
-use Rattle.st_rules.specs.World.{World, WorldClient, clock_of, fresh_world, numbered, site_of, with_numbered}
-use Rattle.st_lemmas.specs.Lists.{Has}
-use Rattle.st_lemmas.proofs.Lookups.{some_is}
-use Rattle.st_lemmas.proofs.Numbers.{numbered_below, numbered_other, numbered_own}
+use Rattle.st_lemmas.proofs.Words
+use Words.{◌≡◌, ◌≢◌, ◌⊎◌, ℕ, Bool, List, [], ◌∷◌, ◌++◌, Option, Some, None, Result, Ok, Err, refl, sym, ap, ◌∙◌, subst, inl, inr, map, Config, ClientId, Stamp}
+use Words.{Event, ClientInput, WorldRefusal, DirtyPage, Ask, Body, Header, Tag, ServerId}
+use Words.nodes
+use Words.Admissible as adm
+use Words.Client as cl
+use Words.ClientPages as pages
+use Words.ClientPasses as cp
+use Words.ClientReplies as cr
+use Words.ClientState.{Association, ClientState, Turn, client_turn, only_at}
+use Words.Events as ev
+use Words.Events.{WorldTurn, counted, world_step}
+use Words.Extents.{numbers}
+use Words.History.{Traced, traced, traced_after}
+use Words.Safety as safety
+use Words.Safety.{Promise, Step, Throughout, step, steps}
+use Words.World as world
+use Words.World.{World, WorldClient, clock_of, fresh_world, numbered, site_of, with_numbered}
+use Words.Lists.{Has}
+use Words.Lookups.{some_is}
+use Words.Numbers.{numbered_below, numbered_other, numbered_own}
+use Words.Tables.{has_map, same_or_not}
 use Rattle.st_lemmas.proofs.Steps.{step_happens}
-use Rattle.st_lemmas.proofs.Tables.{has_map, same_or_not}
 use Rattle.st_laws_steps.specs.Client.Losses.{Fit, SessionFresh}
 use Rattle.st_laws_steps.specs.Client.Inputs.{Each}
-use Rattle.st_laws_steps.proofs.Client.Asking.{c_passes}
-use Rattle.st_laws_steps.proofs.Client.Losing.{c_only, lose_is}
+use Rattle.st_laws_steps.proofs.Client.Asking.{changes_by_passes}
+use Rattle.st_laws_steps.proofs.Client.Losing.{changes_by_only, lose_is}
 use Rattle.st_laws_steps.proofs.Client.Nexts.{changes_next}
-use Rattle.st_laws_steps.proofs.Client.Replying.{c_receive}
+use Rattle.st_laws_steps.proofs.Client.Replying.{changes_by_receive}
 use Rattle.st_laws_steps.proofs.Client.Stepping.{finish_next, lost_fit}
 use Rattle.st_laws_steps.proofs.Client.Taking.{each, each_taken, taken}
 use Rattle.st_laws_pages.proofs.Flush.Adding.{after_clients}
 use Rattle.st_laws_pages.proofs.Lives.Each.{Cases, SteppedNode, each_event}
 use Rattle.st_laws_pages.proofs.Lives.Lasting.{flush_parts}
 use Rattle.st_laws_pages.proofs.Disks.Whole.{site_is}
-use Rattle.st_messages.specs.declared.ask.Ask.{Ask}
-use Rattle.st_messages.specs.declared.message.Body.{Body}
-use Rattle.st_messages.specs.declared.message.Header.{Header}
-use Rattle.st_base.specs.declared.disk.Tag.{Tag}
-use Rattle.st_base.specs.declared.ids.ServerId.{ServerId}
 
 -- an association without pages and without a session fits
-none_fit : (a : Association) → a.store ≡ pages.empty_store → a.session ≡ None → Fit a
+pub none_fit : (a : Association) → a.store ≡ pages.empty_store → a.session ≡ None → Fit a
 none_fit a e n = record { mapped = λ ino p d i. absurd (none d (subst (λ (st : pages.Store). pages.dirty_of st.pages ino p ≡ Some d) e i)); fresh = subst (SessionFresh a.store) (sym n) tt }
   where
     none : (d : DirtyPage) → ◌≡◌ {A = Option DirtyPage} None (Some d) → ⊥
     none d q = cc
 
-crashed_fit : (a : Association) → Fit (cl.crashed_association a)
+pub crashed_fit : (a : Association) → Fit (cl.crashed_association a)
 crashed_fit a = none_fit (cl.crashed_association a) refl refl
 
-started_fit : (a : Association) → Fit (cl.started_association a)
+pub started_fit : (a : Association) → Fit (cl.started_association a)
 started_fit a = none_fit (cl.started_association a) refl refl
 
-fresh_fit : (n : ℕ) → Fit (cl.fresh_association n)
+pub fresh_fit : (n : ℕ) → Fit (cl.fresh_association n)
 fresh_fit n = none_fit (cl.fresh_association n) refl refl
 
 module _ (F : Association → Type 0) (empty : (a : Association) → a.session ≡ None → a.store ≡ pages.empty_store → F a)
@@ -87,27 +76,27 @@ module _ (F : Association → Type 0) (empty : (a : Association) → a.session �
   abbrev K : Turn → Turn → Type 0
   K t u = H t.here → H u.here
 
-  h_take : (s : ServerId) (op : ℕ) (ask : Ask) (t : Turn) → K t (only_at s (cl.take_ask op ask) t)
-  h_take s op ask t (f, h) = let now : Stamp = record { 0 = 0 } in ((changes_next now t (only_at s (cl.take_ask op ask) t) (c_only now s op ask t)).fit f, k_take s op ask t h)
+  kept_by_take : (s : ServerId) (op : ℕ) (ask : Ask) (t : Turn) → K t (only_at s (cl.take_ask op ask) t)
+  kept_by_take s op ask t (f, h) = let now : Stamp = record { 0 = 0 } in ((changes_next now t (only_at s (cl.take_ask op ask) t) (changes_by_only now s op ask t)).fit f, k_take s op ask t h)
 
-  h_receive : (now : Stamp) (m : Header) (b : Body) (t : Turn) → K t (cr.receive_at now m b t)
-  h_receive now m b t (f, h) = ((changes_next now t (cr.receive_at now m b t) (c_receive now m b t f.fresh)).fit f, k_receive now m b t f h)
+  kept_by_receive : (now : Stamp) (m : Header) (b : Body) (t : Turn) → K t (cr.receive_at now m b t)
+  kept_by_receive now m b t (f, h) = ((changes_next now t (cr.receive_at now m b t) (changes_by_receive now m b t f.fresh)).fit f, k_receive now m b t f h)
 
-  h_finish : (number : ℕ) (r : Option (Option (Tag × List ℕ))) (t : Turn) → K t (cl.finish number r t)
-  h_finish number r t (f, h) = ((finish_next (record { 0 = 0 }) number r t).fit f, k_finish number r t h)
+  kept_by_finish : (number : ℕ) (r : Option (Option (Tag × List ℕ))) (t : Turn) → K t (cl.finish number r t)
+  kept_by_finish number r t (f, h) = ((finish_next (record { 0 = 0 }) number r t).fit f, k_finish number r t h)
 
-  h_lose : (now : Stamp) (t : Turn) → K t (cl.lose now t)
-  h_lose now t (f, h) = (lost_fit now t (cl.lose now t) (lose_is now t) f, k_lose now t h)
+  kept_by_lose : (now : Stamp) (t : Turn) → K t (cl.lose now t)
+  kept_by_lose now t (f, h) = (lost_fit now t (cl.lose now t) (lose_is now t) f, k_lose now t h)
 
-  h_passes : (now : Stamp) (tick : Bool) (t : Turn) → K t (cp.passes now tick t)
-  h_passes now tick t (f, h) = ((changes_next now t (cp.passes now tick t) (c_passes now tick t)).fit f, k_passes now tick t h)
+  kept_by_passes : (now : Stamp) (tick : Bool) (t : Turn) → K t (cp.passes now tick t)
+  kept_by_passes now tick t (f, h) = ((changes_next now t (cp.passes now tick t) (changes_by_passes now tick t)).fit f, k_passes now tick t h)
 
   step_keeps : (s : ClientState) (now : Stamp) (input : ClientInput) → EachHas s.associations → EachHas (cl.client_step s now input).state.associations
   unfolding cl.client_step cl.work cl.losses
   step_keeps s now input h =
       let t = cl.losses (client_turn s []) now in
-      each H H (cp.passes now (cl.is_tick input)) (h_passes now (cl.is_tick input)) (cl.take_input t now input)
-      (each_taken H (λ m a. Unit {0}) now h_take (λ m u p q. h_receive now m.header m.body u p) h_finish t (cl.take_input t now input) input (taken t now input) (λ m e b a i. tt) (each H H (cl.lose now) (h_lose now) (client_turn s []) h))
+      each H H (cp.passes now (cl.is_tick input)) (kept_by_passes now (cl.is_tick input)) (cl.take_input t now input)
+      (each_taken H (λ m a. Unit {0}) now kept_by_take (λ m u p q. kept_by_receive now m.header m.body u p) kept_by_finish t (cl.take_input t now input) input (taken t now input) (λ m e b a i. tt) (each H H (cl.lose now) (kept_by_lose now) (client_turn s []) h))
 
   all_empty : {A : Type 0} (f : A → Association) → ((x : A) → Fit (f x) × ((f x).session ≡ None) × ((f x).store ≡ pages.empty_store)) → (xs : List A) → EachHas (map f xs)
   all_empty f n xs a i = let z = has_map f xs a i in let y = n z.0 in subst H (sym z.2) (y.0, empty (f z.0) y.1 y.2)

@@ -1,25 +1,16 @@
 -- What goes by a number in a world at its start is the fresh one of that number.
-use Rattle.std.proofs.Common.{◌≡◌, ℕ, zero, suc, ◌+◌, List, [], ◌∷◌, Option, Some, None, refl, sym, ap, ◌∙◌, arith}
-use Rattle.std.specs.Prelude.{map, length, slice_get, option_map}
-use Rattle.st_rules.specs.Extents.{numbers}
-use Rattle.st_rules.specs.World.{numbered}
-use Rattle.st_lemmas.proofs.Lookups.{some_is}
-use Rattle.st_lemmas.proofs.Numbers.{get_map}
+use Rattle.st_lemmas.proofs.Words
+use Words.{◌≡◌, ℕ, zero, suc, ◌+◌, Option, Some, None, refl, sym, ap, ◌∙◌, arith, map, slice_get, option_map}
+use Words.Extents.{numbers}
+use Words.World.{numbered}
+use Words.Lookups.{some_is}
+use Words.Numbers.{get_map}
 
 pub numbers_get : (a c i m : ℕ) → slice_get (numbers a c) i ≡ Some m → m ≡ a + i
 unfolding numbers
 numbers_get a zero i m e = cc
 numbers_get a (suc c) zero m e = let z = some_is e in omega (arith, z)
 numbers_get a (suc c) (suc i) m e = let z = numbers_get (a + 1) c i m e in omega (arith, z)
-
-pub numbers_length : (a c : ℕ) → length (numbers a c) ≡ c
-unfolding numbers
-numbers_length a zero = refl
-numbers_length a (suc c) = ap suc (numbers_length (a + 1) c)
-
-pub length_map : {A B : Type 0} (f : A → B) (xs : List A) → length (map f xs) ≡ length xs
-length_map f [] = refl
-length_map f (x ∷ xs) = ap suc (length_map f xs)
 
 -- what goes by a number at the start is the fresh one of that number
 pub fresh_is : {A : Type 0} (f : ℕ → A) (count n : ℕ) (x : A) → numbered (map f (numbers 1 count)) n ≡ Some x → x ≡ f n

@@ -1,27 +1,24 @@
 -- What was late stays late; and the ends of leases that an advance looks at are the present ones.
-use Rattle.std.proofs.Common.{◌≡◌, ◌≢◌, ℕ, ◌⊎◌, Bool, true, false, List, [], ◌∷◌, ◌++◌, Option, Some, None, Ok, refl, sym, ap, ◌∙◌, inl, inr, arith}
-use Rattle.std.specs.Prelude.{find, nat_le, zero, suc, slice_get, option_map}
-use Rattle.std.proofs.lemmas.Bool.{ne_eqb}
-use Rattle.st_base.specs.declared.ids.ClientId.{ClientId}
-use Rattle.st_base.specs.declared.ids.ServerId.{ServerId}
-use Rattle.st_base.specs.declared.ids.Life.{Life}
-use Rattle.st_base.specs.declared.ids.Stamp.{Stamp}
-use Rattle.st_base.specs.declared.ids.NodeId.TheVariants as nodes
-use Rattle.st_rules.specs.declared.lease.Phase.{Phase}
-use Rattle.st_rules.specs.declared.lease.Phase.TheVariants as phases
-use Rattle.st_rules.specs.declared.observation.WorldRefusal.TheVariants as refusals
-use Rattle.st_rules.specs.declared.world.LeaseLife.{LeaseLife}
-use Rattle.st_rules.specs.ClientLease as lease
-use Rattle.st_rules.specs.Client as cl
-use Rattle.st_rules.specs.ClientState.{Association, ClientState, ClientSession, is_at}
-use Rattle.st_rules.specs.World as world
-use Rattle.st_rules.specs.World.{World, WorldClient, numbered, with_numbered, site_of, clock_of, is_life_of, ended_of, end_or_present, lease_end_of, life_of_association, lives_of}
-use Rattle.st_rules.specs.Admissible as adm
-use Rattle.st_rules.specs.Events as ev
-use Rattle.st_rules.specs.Events.{client_says_all, present_lives}
-use Rattle.st_lemmas.specs.Lists.{Has}
-use Rattle.st_lemmas.proofs.Tables.{has_append, has_map, same_or_not}
-use Rattle.st_lemmas.proofs.Numbers.{numbered_other, numbered_below, numbered_has}
+use Rattle.st_lemmas.proofs.Words
+use Words.{◌≡◌, ◌≢◌, ℕ, ◌⊎◌, Bool, true, false, List, [], ◌∷◌, ◌++◌, Option, Some, None, Ok, refl, sym, ap, ◌∙◌, inl, inr, arith, find, nat_le, suc}
+use Words.{slice_get, option_map, ne_eqb, ClientId, ServerId, Life, Stamp, Phase, LeaseLife}
+use Words.nodes
+use Words.phases
+use Words.refusals
+use Words.ClientLease as lease
+use Words.Client as cl
+use Words.ClientState.{Association, ClientState, ClientSession, is_at}
+use Words.World as world
+use Words.World.{World, WorldClient, numbered, with_numbered, site_of, clock_of, is_life_of, ended_of, end_or_present, lease_end_of, life_of_association}
+use Words.World.{lives_of}
+use Words.Admissible as adm
+use Words.Events as ev
+use Words.Events.{client_says_all, present_lives}
+use Words.Lists.{Has}
+use Words.Tables.{has_append, has_map, same_or_not}
+use Words.Numbers.{numbered_other, numbered_below, numbered_has}
+use Words.Truth.{none_not_some}
+use Words.Worlds.{present_at}
 use Rattle.st_laws_pages.specs.Disks.World.{Timely, LateStays, EndsAt, EndsAgree}
 use Rattle.st_laws_steps.specs.Client.Losses.{is_ended}
 use Rattle.st_laws_steps.specs.Lives.Lives.{ended_rows, rows_lost, Stepped, clock_in, IsKnown, NodeHolds, LivesHold, CrashLives}
@@ -30,15 +27,12 @@ use Rattle.st_laws_steps.proofs.Lives.Associations.{own_found, lost_found, lost_
 use Rattle.st_laws_pages.proofs.Lives.NodeTurns.{row_is}
 use Rattle.st_laws_pages.proofs.Lives.Turning.{Said, says_lives}
 
-pub no_option : {A : Type 0} (x : A) → ◌≡◌ {A = Option A} None (Some x) → ⊥
-no_option x e = cc
-
 -- A command's life that has not ended is the present one.
 pub known_crash : (w : World) (c : ClientId) → LivesHold w → CrashLives w c
 known_crash w c h k x i q n = go (h.known.commands x (numbered_has w.commands k x i))
   where
     go : IsKnown w.clients w.ended x.client x.server x.life → (ev.present_life w x.client x.server).0 ≡ x.life.0
-    go (inl (e, z)) = absurd (no_option e (sym n ∙ z))
+    go (inl (e, z)) = absurd (none_not_some e (sym n ∙ z))
     go (inr z) = z
 
 -- Start: a client that does not run has no session.
@@ -144,7 +138,7 @@ late_parts w v c old site there h ts cs es k x i t = go (ended_of w x.client x.s
         life = known (h.known.commands x (numbered_has w.commands k x i))
           where
             known : IsKnown w.clients w.ended x.client x.server x.life → a.life.0 ≡ x.life.0
-            known (inl (r, z)) = absurd (no_option r (sym n ∙ z))
+            known (inl (r, z)) = absurd (none_not_some r (sym n ∙ z))
             known (inr z) = ap (λ o. (world.life_at o).0) (sym f) ∙ ap (λ o. (ev.life_of_site x.server o).0) (sym there) ∙ ap (λ m. (ev.life_of_site x.server (numbered w.clients m)).0) (sym q) ∙ z
 
         row : LeaseLife
@@ -191,16 +185,6 @@ client_stays w c old site t there same st h =
     f : Flushed u (ev.flushes c t.node.state (world.all_servers u) u)
     f = flush_parts c t.node.state (world.all_servers u) u
 
--- The ends that an advance looks at.
-present_has : (sites : List WorldClient) (e : LeaseLife) → Has e (present_lives sites) → (n : ℕ) × (site : WorldClient) × (slice_get sites n ≡ Some site) × Has e (lives_of site.node.state)
-unfolding present_lives
-present_has [] e i = absurd i
-present_has (x ∷ sites) e i = go (has_append (lives_of x.node.state) (present_lives sites) e i) (present_has sites e)
-  where
-    go : Has e (lives_of x.node.state) ⊎ Has e (present_lives sites) → (Has e (present_lives sites) → (n : ℕ) × (site : WorldClient) × (slice_get sites n ≡ Some site) × Has e (lives_of site.node.state)) → (n : ℕ) × (site : WorldClient) × (slice_get (x ∷ sites) n ≡ Some site) × Has e (lives_of site.node.state)
-    go (inl i) f = (zero, x, refl, i)
-    go (inr i) f = let z = f i in (suc z.0, z.1, z.2, z.3)
-
 -- a present life with a lease end is of a client that runs, and has not ended
 pub record Present (w : World) (e : LeaseLife) : Type 0 where
   pub site : WorldClient
@@ -210,7 +194,7 @@ pub record Present (w : World) (e : LeaseLife) : Type 0 where
   pub is : e ≡ life_of_association w.config e.client a
 
 pub present_is : (w : World) → LivesHold w → (e : LeaseLife) → Has e (present_lives w.clients) → Present w e
-present_is w h e i = go (present_has w.clients e i)
+present_is w h e i = go (present_at w.clients e i)
   where
     go : (n : ℕ) × (site : WorldClient) × (slice_get w.clients n ≡ Some site) × Has e (lives_of site.node.state) → Present w e
     go (n, site, q, i) = at (has_map (life_of_association site.node.state.config site.node.state.id) site.node.state.associations e i)
@@ -245,7 +229,7 @@ present_end_is w h e p t q = go p.site.node.running refl
     end_is = ap (λ (y : LeaseLife). y.end) (sym p.is) ∙ q
 
     go : (b : Bool) → p.site.node.running ≡ b → (p.site.node.running ≡ true) × (ended_of w e.client e.server e.life ≡ None) × (lease_end_of w e.client e.server e.life ≡ Some t)
-    go false r = absurd (no_option t (ap (λ o. lease.end_at w.config (option_map cl.lease_of_session o)) (sym (m.stopped r p.a p.has).session) ∙ end_is))
+    go false r = absurd (none_not_some t (ap (λ o. lease.end_at w.config (option_map cl.lease_of_session o)) (sym (m.stopped r p.a p.has).session) ∙ end_is))
     go true r =
         let n = none (find (is_life_of e.client e.server e.life) w.ended) refl r in (
           r,

@@ -1,35 +1,30 @@
 -- Lives through an advance, and a crash and a start of a client.
-use Rattle.std.proofs.Common.{◌≡◌, ℕ, ◌≤◌, Bool, true, false, not, List, [], ◌∷◌, ◌++◌, Option, Some, None, Ok, Err, refl, sym, ap, ◌∙◌, subst, arith, if◌then◌else◌}
-use Rattle.std.specs.Prelude.{Result, map, zero, suc}
-use Rattle.st_base.specs.declared.ids.ClientId.{ClientId}
-use Rattle.st_base.specs.declared.ids.Stamp.{Stamp}
-use Rattle.st_base.specs.declared.ids.NodeId.TheVariants as nodes
-use Rattle.st_messages.specs.declared.event.Event.TheVariants as events
-use Rattle.st_rules.specs.declared.client.ClientInput.{ClientInput}
-use Rattle.st_rules.specs.declared.log.LogEntry.{LogEntry}
-use Rattle.st_rules.specs.declared.node.StepRefusal.{StepRefusal}
+use Rattle.st_lemmas.proofs.Words
+use Words.{◌≡◌, ℕ, ◌≤◌, Bool, true, false, not, List, [], ◌∷◌, ◌++◌, Option, Some, None, Ok, Err, refl, sym, ap, ◌∙◌, subst, arith, if◌then◌else◌, Result, map}
+use Words.{zero, suc, ClientId, Stamp, ClientInput, LogEntry, StepRefusal, Carried, IssuedCommand, LeaseLife}
+use Words.nodes
+use Words.events
+use Words.refusals
+use Words.FlatLog as log
+use Words.Client as cl
+use Words.ClientState.{Association}
+use Words.World as world
+use Words.World.{World, WorldClient, numbered, site_of, clock_of}
+use Words.Admissible as adm
+use Words.Events as ev
+use Words.Lists.{Has}
+use Words.Lengths.{nothing_after}
+use Words.Worlds.{stands_not}
 use Rattle.st_rules.specs.declared.node.StepRefusal.TheVariants.{Crashed}
-use Rattle.st_rules.specs.declared.observation.WorldRefusal.TheVariants as refusals
-use Rattle.st_rules.specs.declared.world.Carried.{Carried}
-use Rattle.st_rules.specs.declared.world.IssuedCommand.{IssuedCommand}
-use Rattle.st_rules.specs.declared.world.LeaseLife.{LeaseLife}
-use Rattle.st_rules.specs.FlatLog as log
-use Rattle.st_rules.specs.Client as cl
-use Rattle.st_rules.specs.ClientState.{Association}
-use Rattle.st_rules.specs.World as world
-use Rattle.st_rules.specs.World.{World, WorldClient, numbered, site_of, clock_of}
-use Rattle.st_rules.specs.Admissible as adm
-use Rattle.st_rules.specs.Events as ev
-use Rattle.st_lemmas.specs.Lists.{Has}
 use Rattle.st_lemmas.proofs.Marks.{owners_harden, owners_drop}
 use Rattle.st_laws_pages.specs.Disks.World.{LateStays}
 use Rattle.st_laws_steps.specs.Client.Losses.{Fit}
 use Rattle.st_laws_steps.specs.Lives.Lives.{Stepped, clock_in, NodeHolds, EndedHolds, AllKnown, owner_of, LivesHold}
-use Rattle.st_laws_pages.proofs.Disks.Effects.{or_none, stands_not}
+use Rattle.st_laws_pages.proofs.Disks.Effects.{or_none}
 use Rattle.st_laws_pages.proofs.Disks.Moves.{advanced_get, clock_up}
 use Rattle.st_laws_steps.proofs.Client.Stepping.{step_lives}
 use Rattle.st_laws_pages.proofs.Lives.NodeTurns.{turned_lives, turned_all}
-use Rattle.st_laws_pages.proofs.Lives.Turning.{crash_turned, start_turned, lives_by, none_rows}
+use Rattle.st_laws_pages.proofs.Lives.Turning.{crash_turned, start_turned, lives_by}
 use Rattle.st_laws_pages.proofs.Lives.Lasting.{client_stays}
 
 -- A client's node that runs takes an input.
@@ -139,7 +134,7 @@ crash_lives w c site there r h =
 pub start_lives : (w : World) (c : ClientId) (site : WorldClient) → site_of w c ≡ Some site → site.node.running ≡ false → LivesHold w → LivesHold (ev.starts_client w c (Some site))
 unfolding ev.starts_client
 start_lives w c site there r h =
-    lives_by (ev.with_site c (ev.started_site site) w) w.config w.clocks (world.with_numbered c.0 (ev.started_site site) w.clients) (w.ended ++ []) refl refl refl (none_rows w.ended)
+    lives_by (ev.with_site c (ev.started_site site) w) w.config w.clocks (world.with_numbered c.0 (ev.started_site site) w.clients) (w.ended ++ []) refl refl refl (nothing_after w.ended)
     (turned_lives Kind w.config w.clocks w.clients w.ended c site (ev.started_site site) (cl.start_node site.node) [] there refl turned h.lives)
     (turned_all Kind w.config w.clocks w.clients w.ended c site (ev.started_site site) (cl.start_node site.node) [] there refl turned h.lives w.commands (map owner_of w.log) h.known)
   where

@@ -1,26 +1,20 @@
 -- What was late stays late where a client crashes.
-use Rattle.std.proofs.Common.{◌≡◌, Bool, true, false, ◌&&◌, List, [], ◌∷◌, ◌++◌, ◌==◌, Option, Some, None, refl, sym, ap, ◌∙◌, if◌then◌else◌}
-use Rattle.std.specs.Prelude.{find, map, set, pred}
-use Rattle.std.proofs.lemmas.Bool.{eqb-true, eq-eqb}
-use Rattle.st_base.specs.declared.config.Config.{Config}
-use Rattle.st_base.specs.declared.ids.ClientId.{ClientId}
-use Rattle.st_base.specs.declared.ids.ServerId.{ServerId}
-use Rattle.st_base.specs.declared.ids.Life.{Life}
-use Rattle.st_base.specs.declared.ids.Stamp.{Stamp}
-use Rattle.st_base.specs.declared.ids.NodeId.TheVariants as nodes
-use Rattle.st_rules.specs.declared.world.LeaseLife.{LeaseLife}
-use Rattle.st_rules.specs.Keys.{same_client, same_server}
-use Rattle.st_rules.specs.Client as cl
-use Rattle.st_rules.specs.ClientLease.{end_at}
-use Rattle.st_rules.specs.ClientState.{Association, is_at}
-use Rattle.st_rules.specs.World as world
-use Rattle.st_rules.specs.World.{World, WorldClient, site_of, numbered, clock_of, is_life_of, ended_of, end_or_present, life_of_association, lives_of}
-use Rattle.st_rules.specs.Admissible as adm
-use Rattle.st_rules.specs.Events as ev
+use Rattle.st_lemmas.proofs.Words
+use Words.{◌≡◌, Bool, true, false, ◌&&◌, List, [], ◌∷◌, ◌++◌, ◌==◌, Option, Some, None, refl, sym, ap, ◌∙◌, if◌then◌else◌, find, map, set, pred, eqb-true}
+use Words.{eq-eqb, Config, ClientId, ServerId, Life, Stamp, LeaseLife}
+use Words.nodes
+use Words.Keys.{same_client, same_server}
+use Words.Client as cl
+use Words.ClientLease.{end_at}
+use Words.ClientState.{Association, is_at}
+use Words.World as world
+use Words.World.{World, WorldClient, site_of, numbered, clock_of, is_life_of, ended_of, end_or_present, life_of_association, lives_of}
+use Words.Admissible as adm
+use Words.Events as ev
+use Words.Lookups.{some_is}
+use Words.Truth.{not_both}
 use Rattle.st_laws_pages.specs.Disks.World.{Timely, LateStays}
 use Rattle.st_laws_steps.specs.Lives.Lives.{CrashLives}
-use Rattle.st_lemmas.proofs.Lookups.{some_is}
-use Rattle.st_laws_steps.proofs.Clash.{clash}
 use Rattle.st_laws_pages.proofs.Disks.Servers.{numbered_other}
 
 pub find_front : {A : Type 0} (p : A → Bool) (xs ys : List A) (v : A) → find p xs ≡ Some v → find p (xs ++ ys) ≡ Some v
@@ -78,7 +72,7 @@ pub flip_client : (c d : ClientId) → same_client d c ≡ false → same_client
 flip_client c d n = go (same_client c d) refl
   where
     go : (b : Bool) → same_client c d ≡ b → b ≡ false
-    go true e = absurd (clash _ (eq-eqb d.0 c.0 (sym (eqb-true c.0 d.0 e))) n)
+    go true e = absurd (not_both _ (eq-eqb d.0 c.0 (sym (eqb-true c.0 d.0 e))) n)
     go false e = refl
 
 other_site : (w : World) (c d : ClientId) (site new : WorldClient) → site_of w c ≡ Some site → same_client d c ≡ false → numbered (set w.clients (pred c.0) new) d.0 ≡ numbered w.clients d.0

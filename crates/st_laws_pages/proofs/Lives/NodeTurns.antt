@@ -1,25 +1,17 @@
 -- The lives in the world where a client's node turns into another: in a step, a crash or a start.
-use Rattle.std.proofs.Common.{◌≡◌, ◌≢◌, ℕ, ◌≤◌, ◌⊎◌, Bool, true, false, ◌&&◌, List, [], ◌∷◌, ◌++◌, ◌==◌, Option, Some, None, refl, sym, ap, ◌∙◌, subst, inl, inr, arith, if◌then◌else◌}
-use Rattle.std.specs.Prelude.{find}
-use Rattle.std.proofs.lemmas.Bool.{eqb-true}
-use Rattle.st_base.specs.declared.config.Config.{Config}
-use Rattle.st_base.specs.declared.ids.ClientId.{ClientId}
-use Rattle.st_base.specs.declared.ids.ServerId.{ServerId}
-use Rattle.st_base.specs.declared.ids.Life.{Life}
-use Rattle.st_base.specs.declared.ids.Stamp.{Stamp}
-use Rattle.st_rules.specs.declared.log.LogOwner.{LogOwner}
-use Rattle.st_rules.specs.declared.world.IssuedCommand.{IssuedCommand}
-use Rattle.st_rules.specs.declared.world.LeaseLife.{LeaseLife}
-use Rattle.st_rules.specs.Keys.{same_client, same_server}
-use Rattle.st_rules.specs.Client as cl
-use Rattle.st_rules.specs.ClientState.{Association, is_at}
-use Rattle.st_rules.specs.World as world
-use Rattle.st_rules.specs.World.{WorldClient, numbered, with_numbered, is_life_of}
-use Rattle.st_rules.specs.Events as ev
-use Rattle.st_lemmas.specs.Lists.{Has}
-use Rattle.st_lemmas.proofs.Lookups.{some_is}
-use Rattle.st_lemmas.proofs.Tables.{and_true, has_append, same_or_not}
-use Rattle.st_lemmas.proofs.Numbers.{numbered_own, numbered_other, numbered_below}
+use Rattle.st_lemmas.proofs.Words
+use Words.{◌≡◌, ◌≢◌, ℕ, ◌≤◌, ◌⊎◌, Bool, true, false, ◌&&◌, List, [], ◌∷◌, ◌++◌, ◌==◌, Option, Some, None, refl, sym, ap, ◌∙◌, subst, inl, inr, arith}
+use Words.{if◌then◌else◌, find, eqb-true, Config, ClientId, ServerId, Life, Stamp, LogOwner, IssuedCommand, LeaseLife}
+use Words.Keys.{same_client, same_server}
+use Words.Client as cl
+use Words.ClientState.{Association, is_at}
+use Words.World as world
+use Words.World.{WorldClient, numbered, with_numbered, is_life_of}
+use Words.Events as ev
+use Words.Lists.{Has}
+use Words.Lookups.{some_is}
+use Words.Tables.{and_true, has_append, same_or_not}
+use Words.Numbers.{numbered_own, numbered_other, numbered_below}
 use Rattle.st_laws_steps.specs.Client.Losses.{Fit}
 use Rattle.st_laws_steps.specs.Lives.Lives.{Pairwise, Once, clock_in, IsKnown, IsBelow, IsStopped, NodeHolds, EndedHolds, LivesAreKept, AllKnown}
 use Rattle.st_laws_pages.proofs.Lives.Lives.{find_front, find_back}

@@ -1,39 +1,29 @@
 -- The lives in the world: every event keeps what holds of them.
-use Rattle.std.proofs.Common.{◌≡◌, ◌≤◌, ◌⊎◌, Bool, true, false, List, [], ◌∷◌, ◌++◌, Option, Some, None, Ok, refl, sym, ap, ◌∙◌, subst, inl, inr, arith, leb-true}
-use Rattle.std.specs.Prelude.{find, map, option_map}
-use Rattle.st_base.specs.declared.config.Config.{Config}
-use Rattle.st_base.specs.declared.ids.ClientId.{ClientId}
-use Rattle.st_base.specs.declared.ids.ServerId.{ServerId}
-use Rattle.st_base.specs.declared.ids.Life.{Life}
-use Rattle.st_base.specs.declared.ids.Stamp.{Stamp}
-use Rattle.st_base.specs.declared.ids.NodeId.TheVariants as nodes
-use Rattle.st_messages.specs.declared.output.Note.{Note}
-use Rattle.st_messages.specs.declared.output.Note.TheVariants as notes
-use Rattle.st_messages.specs.declared.output.Output.{Output}
-use Rattle.st_messages.specs.declared.output.Output.TheVariants as outputs
-use Rattle.st_rules.specs.declared.pages.DirtyPage.{DirtyPage}
-use Rattle.st_rules.specs.declared.lease.Phase.{Phase}
-use Rattle.st_rules.specs.declared.lease.Phase.TheVariants as phases
-use Rattle.st_rules.specs.declared.log.Change.{Change}
-use Rattle.st_rules.specs.declared.log.LogEntry.{LogEntry}
-use Rattle.st_rules.specs.declared.log.LogOwner.{LogOwner}
-use Rattle.st_rules.specs.declared.world.IssuedCommand.{IssuedCommand}
-use Rattle.st_rules.specs.declared.world.LeaseLife.{LeaseLife}
-use Rattle.st_rules.specs.FlatLog as log
-use Rattle.st_rules.specs.ClientLease as lease
-use Rattle.st_rules.specs.Client as cl
-use Rattle.st_rules.specs.ClientState.{Association, ClientState, ClientSession}
-use Rattle.st_rules.specs.World as world
-use Rattle.st_rules.specs.World.{World, WorldClient, site_of, is_life_of, life_of_association, lives_of}
-use Rattle.st_rules.specs.Events as ev
-use Rattle.st_rules.specs.Events.{WorldTurn, client_says, client_says_all, client_notes}
-use Rattle.st_lemmas.specs.Lists.{Has}
-use Rattle.st_lemmas.proofs.Tables.{has_append, has_map}
+use Rattle.st_lemmas.proofs.Words
+use Words.{◌≡◌, ◌≤◌, ◌⊎◌, Bool, true, false, List, [], ◌∷◌, ◌++◌, Option, Some, None, Ok, refl, sym, ap, ◌∙◌, subst, inl, inr, arith, leb-true, find, map}
+use Words.{option_map, Config, ClientId, ServerId, Life, Stamp, Note, Output, DirtyPage, Phase, Change, LogEntry, LogOwner, IssuedCommand, LeaseLife}
+use Words.nodes
+use Words.notes
+use Words.outputs
+use Words.phases
+use Words.FlatLog as log
+use Words.ClientLease as lease
+use Words.Client as cl
+use Words.ClientState.{Association, ClientState, ClientSession}
+use Words.World as world
+use Words.World.{World, WorldClient, site_of, is_life_of, life_of_association, lives_of}
+use Words.Events as ev
+use Words.Events.{WorldTurn, client_says, client_says_all, client_notes}
+use Words.Lists.{Has}
+use Words.Tables.{has_append, has_map}
+use Words.Lengths.{nothing_after}
 use Rattle.st_laws_steps.specs.Client.Losses.{Fit, is_ended}
-use Rattle.st_laws_steps.specs.Lives.Lives.{rows_said, ended_rows, rows_lost, LifeNext, Pairwise, Stepped, clock_in, IsKnown, IsBelow, IsStopped, NodeHolds, LivesAreKept, AllKnown, owner_of, LivesHold}
+use Rattle.st_laws_steps.specs.Lives.Lives.{rows_said, ended_rows, rows_lost, LifeNext, Pairwise, Stepped, clock_in, IsKnown, IsBelow, IsStopped, NodeHolds}
+use Rattle.st_laws_steps.specs.Lives.Lives.{LivesAreKept, AllKnown, owner_of, LivesHold}
 use Rattle.st_laws_pages.proofs.Lives.Lives.{find_front, find_back, rows_own}
 use Rattle.st_laws_steps.proofs.Lives.Associations.{own_found, lost_has, lost_found, LostOf}
 use Rattle.st_laws_pages.proofs.Lives.NodeTurns.{NewRow, GoesOrEnded, Turned, turned_lives, turned_all}
+use Words.{append_assoc}
 
 -- found in the front or in the back
 found_in : (p : LeaseLife → Bool) (xs ys : List LeaseLife) (e : LeaseLife) → find p ys ≡ Some e → (x : LeaseLife) × (find p (xs ++ ys) ≡ Some x)
@@ -206,21 +196,13 @@ pub record Said (c : ClientId) (rows : List LeaseLife) (v u : World) : Type 0 wh
   pub ended : u.ended ≡ v.ended ++ rows
   pub known : (es : List LeaseLife) → AllKnown v.clients es v.commands (map owner_of v.log) → AllKnown v.clients es u.commands (map owner_of u.log)
 
-pub none_rows : (xs : List LeaseLife) → xs ≡ xs ++ []
-none_rows [] = refl
-none_rows (x ∷ xs) = ap (λ z. x ∷ z) (none_rows xs)
-
-assoc_rows : (xs ys zs : List LeaseLife) → (xs ++ ys) ++ zs ≡ xs ++ (ys ++ zs)
-assoc_rows [] ys zs = refl
-assoc_rows (x ∷ xs) ys zs = ap (λ z. x ∷ z) (assoc_rows xs ys zs)
-
 same_said : (c : ClientId) (v u : World) → u.config ≡ v.config → u.clocks ≡ v.clocks → u.clients ≡ v.clients → u.ended ≡ v.ended → u.commands ≡ v.commands → u.log ≡ v.log → Said c [] v u
 same_said c v u k t s e x l =
     record {
       config = k;
       clocks = t;
       clients = s;
-      ended = e ∙ none_rows v.ended;
+      ended = e ∙ nothing_after v.ended;
       known = λ es a. subst (λ z. AllKnown v.clients es z (map owner_of u.log)) (sym x) (subst (λ z. AllKnown v.clients es v.commands (map owner_of z)) (sym l) a);
     }
 
@@ -247,7 +229,7 @@ entry_said c v o ch q u k t s e x l =
       config = k;
       clocks = t;
       clients = s;
-      ended = e ∙ none_rows v.ended;
+      ended = e ∙ nothing_after v.ended;
       known = λ es a. subst (λ z. AllKnown v.clients es z (map owner_of u.log)) (sym x) (subst (λ z. AllKnown v.clients es v.commands (map owner_of z)) (sym l)
           (subst (AllKnown v.clients es v.commands) (sym (owners_more v.log (log.pending o ch))) (known_owner v.clients es v.commands (map owner_of v.log) o (inr (ap (λ (z : Life). z.0) (sym q))) a)));
     }
@@ -265,7 +247,7 @@ says_one c before (outputs.Submit n at what) sc = go (site_of sc.world c) refl
           config = refl;
           clocks = refl;
           clients = refl;
-          ended = none_rows sc.world.ended;
+          ended = nothing_after sc.world.ended;
           known = λ es a. known_command sc.world.clients es sc.world.commands (map owner_of sc.world.log) (ev.issued sc.world c site n at what) (inr (ap (λ o. (ev.life_of_site (world.server_of_disk sc.world at) o).0) e)) a;
         }
 says_one c before (outputs.Note n) sc = note n
@@ -282,7 +264,7 @@ said_then c r s v u x a b =
       config = b.config ∙ a.config;
       clocks = b.clocks ∙ a.clocks;
       clients = b.clients ∙ a.clients;
-      ended = b.ended ∙ ap (λ z. z ++ s) a.ended ∙ assoc_rows v.ended r s;
+      ended = b.ended ∙ ap (λ z. z ++ s) a.ended ∙ append_assoc v.ended r s;
       known = λ es z. subst (λ y. AllKnown y es x.commands (map owner_of x.log)) a.clients (b.known es (subst (λ y. AllKnown y es u.commands (map owner_of u.log)) (sym a.clients) (a.known es z)));
     }
 

@@ -1,57 +1,39 @@
 -- Cuts are locked: each step keeps what holds of the lock tables, and after a cut its server has an exclusive row of the file.
-use Rattle.std.proofs.Common.{◌≡◌, ◌≢◌, ℕ, ◌+◌, ◌⊎◌, Bool, true, false, List, [], ◌∷◌, ◌++◌, ◌==◌, Option, Some, None, Ok, Err, refl, sym, ap, ◌∙◌, subst, inl, inr, if◌then◌else◌}
-use Rattle.std.specs.Prelude.{Result}
-use Rattle.std.specs.List.{list_all, list_any}
-use Rattle.st_base.specs.declared.ids.ClientId.{ClientId}
-use Rattle.st_base.specs.declared.ids.ServerId.{ServerId}
-use Rattle.st_base.specs.declared.ids.Stamp.{Stamp}
-use Rattle.st_base.specs.declared.ids.NodeId.{NodeId}
-use Rattle.st_base.specs.declared.ids.NodeId.TheVariants as nodes
-use Rattle.st_base.specs.declared.mode.Mode.TheVariants as modes
-use Rattle.st_messages.specs.declared.message.Message.{Message}
-use Rattle.st_messages.specs.declared.event.Event.{Event}
-use Rattle.st_messages.specs.declared.event.Event.TheVariants as events
-use Rattle.st_messages.specs.declared.output.Note.{Note}
-use Rattle.st_messages.specs.declared.output.Note.TheVariants as notes
-use Rattle.st_messages.specs.declared.output.Output.{Output}
-use Rattle.st_messages.specs.declared.output.Output.TheVariants as outputs
-use Rattle.st_rules.specs.declared.input.ServerInput.{ServerInput}
-use Rattle.st_rules.specs.declared.input.ServerInput.TheVariants as serving
-use Rattle.st_rules.specs.declared.client.ClientInput.{ClientInput}
-use Rattle.st_rules.specs.declared.log.Fate.{Fate}
-use Rattle.st_rules.specs.declared.log.Fate.TheVariants as fates
-use Rattle.st_rules.specs.declared.log.LogEntry.{LogEntry}
-use Rattle.st_rules.specs.declared.node.StepRefusal.{StepRefusal}
+use Rattle.st_lemmas.proofs.Words
+use Words.{◌≡◌, ◌≢◌, ℕ, ◌+◌, ◌⊎◌, Bool, true, false, List, [], ◌∷◌, ◌++◌, ◌==◌, Option, Some, None, Ok, Err, refl, sym, ap, ◌∙◌, subst, inl, inr, if◌then◌else◌}
+use Words.{Result, list_all, list_any, ClientId, ServerId, Stamp, NodeId, Message, Event, Note, Output, ServerInput, ClientInput, Fate, LogEntry, StepRefusal}
+use Words.{IssuedCommand, SentMessage}
+use Words.nodes
+use Words.modes
+use Words.events
+use Words.notes
+use Words.outputs
+use Words.serving
+use Words.fates
+use Words.Disks as disks
+use Words.Client as cl
+use Words.ClientState.{ClientState}
+use Words.Locks as locks
+use Words.Locks.{Locks}
+use Words.Server as server
+use Words.Server.{ServerNode, turn, thefts}
+use Words.World as world
+use Words.World.{World, WorldClient, numbered, with_numbered, site_of, node_of, issued_of, clock_of}
+use Words.Events as ev
+use Words.Events.{WorldTurn}
+use Words.History.{is_exclusive_row}
+use Words.Safety.{cuts_under}
+use Words.Lists.{Has}
+use Words.Lookups.{some_is}
+use Words.Numbers.{numbered_own, numbered_other, numbered_below}
+use Words.Tables.{same_or_not, and_both, and_true, found_at, some_passes}
+use Words.Tests.{all_last}
 use Rattle.st_rules.specs.declared.node.StepRefusal.TheVariants.{Crashed}
-use Rattle.st_rules.specs.declared.observation.Observation.{Observation}
-use Rattle.st_rules.specs.declared.world.IssuedCommand.{IssuedCommand}
-use Rattle.st_rules.specs.declared.world.SentMessage.{SentMessage}
-use Rattle.st_rules.specs.Disks as disks
-use Rattle.st_rules.specs.Client as cl
-use Rattle.st_rules.specs.ClientState.{ClientState}
-use Rattle.st_rules.specs.Locks as locks
-use Rattle.st_rules.specs.Locks.{Locks}
-use Rattle.st_rules.specs.Server as server
-use Rattle.st_rules.specs.Server.{ServerNode, turn, thefts}
-use Rattle.st_rules.specs.World as world
-use Rattle.st_rules.specs.World.{World, WorldClient, numbered, with_numbered, site_of, node_of, issued_of, clock_of}
-use Rattle.st_rules.specs.Events as ev
-use Rattle.st_rules.specs.Events.{WorldTurn}
-use Rattle.st_rules.specs.History.{is_exclusive_row}
-use Rattle.st_rules.specs.Safety.{cuts_under}
-use Rattle.st_lemmas.specs.Lists.{Has}
-use Rattle.st_lemmas.proofs.Lookups.{some_is}
 use Rattle.st_lemmas.proofs.Steps.{step_happens}
-use Rattle.st_lemmas.proofs.Numbers.{numbered_own, numbered_other, numbered_below}
-use Rattle.st_lemmas.proofs.Tables.{same_or_not, and_both, and_true, found_at, some_passes}
-use Rattle.st_laws_pages.specs.LockedCuts.CutLocks.{is_cut_locked, TableHolds, IsHeld, CutHeld, CutsHeld, WaitsHold, AtReassertion, AtReceiver, AtMessage, WaitsOwed, StepsLockCuts}
+use Rattle.st_laws_pages.specs.LockedCuts.CutLocks.{is_cut_locked, TableHolds, IsHeld, CutHeld, CutsHeld, WaitsHold, AtReassertion, AtReceiver, AtMessage}
+use Rattle.st_laws_pages.specs.LockedCuts.CutLocks.{WaitsOwed, StepsLockCuts}
 use Rattle.st_laws_pages.proofs.LockedCuts.RowWalk.{Behind, InputAlone, step_rows}
 use Rattle.st_laws_pages.proofs.Lives.Lasting.{flush_parts}
-
--- All that was seen, and one more.
-all_more : (p : Observation → Bool) (os : List Observation) (o : Observation) → list_all p os ≡ true → p o ≡ true → list_all p (os ++ o ∷ []) ≡ true
-all_more p [] o h e = and_both (p o) true e refl
-all_more p (x ∷ os) o h e = let z = and_true (p x) (list_all p os) h in and_both (p x) (list_all p (os ++ o ∷ [])) z.0 (all_more p os o z.1 e)
 
 -- Nothing that a client does is a cut.
 record Unlocked (ns : List ServerNode) (sc : WorldTurn) : Type 0 where
@@ -60,20 +42,20 @@ record Unlocked (ns : List ServerNode) (sc : WorldTurn) : Type 0 where
 
 client_one : (ns : List ServerNode) (c : ClientId) (before : ClientState) (o : Output) (sc : WorldTurn) → Unlocked ns sc → Unlocked ns (ev.client_says sc c before o)
 unfolding ev.client_says ev.sends ev.submits ev.answers_with ev.client_notes ev.accepts ev.patches ev.loses
-client_one ns c before (outputs.Send m) sc h = record { servers = h.servers; seen = all_more (is_cut_locked ns) sc.seen _ h.seen refl }
-client_one ns c before (outputs.Answer op a) sc h = record { servers = h.servers; seen = all_more (is_cut_locked ns) sc.seen _ h.seen refl }
+client_one ns c before (outputs.Send m) sc h = record { servers = h.servers; seen = all_last (is_cut_locked ns) sc.seen _ h.seen refl }
+client_one ns c before (outputs.Answer op a) sc h = record { servers = h.servers; seen = all_last (is_cut_locked ns) sc.seen _ h.seen refl }
 client_one ns c before (outputs.Submit number at what) sc h = go (site_of sc.world c)
   where
     go : (o : Option WorldClient) → Unlocked ns (ev.submits sc c o number at what)
     go None = h
-    go (Some site) = record { servers = h.servers; seen = all_more (is_cut_locked ns) sc.seen _ h.seen refl }
+    go (Some site) = record { servers = h.servers; seen = all_last (is_cut_locked ns) sc.seen _ h.seen refl }
 client_one ns c before (outputs.Note n) sc h = note n
   where
     note : (n : Note) → Unlocked ns (ev.client_notes sc c before n)
-    note (notes.Leased s end) = record { servers = h.servers; seen = all_more (is_cut_locked ns) sc.seen _ h.seen refl }
-    note (notes.Lost s life) = record { servers = h.servers; seen = all_more (is_cut_locked ns) sc.seen _ h.seen refl }
-    note (notes.Accepted f p bytes) = record { servers = h.servers; seen = all_more (is_cut_locked ns) sc.seen _ h.seen refl }
-    note (notes.Patched f p at bytes) = record { servers = h.servers; seen = all_more (is_cut_locked ns) sc.seen _ h.seen refl }
+    note (notes.Leased s end) = record { servers = h.servers; seen = all_last (is_cut_locked ns) sc.seen _ h.seen refl }
+    note (notes.Lost s life) = record { servers = h.servers; seen = all_last (is_cut_locked ns) sc.seen _ h.seen refl }
+    note (notes.Accepted f p bytes) = record { servers = h.servers; seen = all_last (is_cut_locked ns) sc.seen _ h.seen refl }
+    note (notes.Patched f p at bytes) = record { servers = h.servers; seen = all_last (is_cut_locked ns) sc.seen _ h.seen refl }
     note n = h
 
 client_all : (ns : List ServerNode) (c : ClientId) (before : ClientState) (os : List Output) (sc : WorldTurn) → Unlocked ns sc → Unlocked ns (ev.client_says_all c before os sc)
@@ -145,17 +127,17 @@ record ServerSaw (ns : List ServerNode) (sc : WorldTurn) : Type 0 where
 
 server_one : (ns : List ServerNode) (s : ServerId) (n : ServerNode) → numbered ns s.0 ≡ Some n → n.running ≡ true → (o : Output) (sc : WorldTurn) → CutHeld s n.state.locks o → ServerSaw ns sc → ServerSaw ns (ev.server_says sc s o)
 unfolding ev.server_says ev.server_notes ev.cuts ev.sends
-server_one ns s n there r (outputs.Send m) sc c h = record { servers = h.servers; seen = all_more (is_cut_locked ns) sc.seen _ h.seen refl }
+server_one ns s n there r (outputs.Send m) sc c h = record { servers = h.servers; seen = all_last (is_cut_locked ns) sc.seen _ h.seen refl }
 server_one ns s n there r (outputs.Note x) sc c h = note x c
   where
     note : (x : Note) → CutHeld s n.state.locks (outputs.Note x) → ServerSaw ns (ev.server_notes sc s x)
-    note (notes.Suspected d start) c = record { servers = h.servers; seen = all_more (is_cut_locked ns) sc.seen _ h.seen refl }
-    note (notes.Stolen d life) c = record { servers = h.servers; seen = all_more (is_cut_locked ns) sc.seen _ h.seen refl }
+    note (notes.Suspected d start) c = record { servers = h.servers; seen = all_last (is_cut_locked ns) sc.seen _ h.seen refl }
+    note (notes.Stolen d life) c = record { servers = h.servers; seen = all_last (is_cut_locked ns) sc.seen _ h.seen refl }
     note (notes.CutDone f p) c =
         record {
           servers = h.servers;
           seen =
-              all_more (is_cut_locked ns) sc.seen _ h.seen
+              all_last (is_cut_locked ns) sc.seen _ h.seen
               (ap (λ (z : ServerId). cuts_under f.ino (numbered ns z.0)) c.0 ∙ ap (cuts_under f.ino) there ∙ and_both n.running (list_any (is_exclusive_row f.ino) n.state.locks.rows) r (held_listed f.ino n.state.locks c.1));
         }
     note x c = h
@@ -283,8 +265,8 @@ happens_cuts w (events.Start (nodes.Server s)) o h = go (node_of w s) refl
     go (Some node) e = record { locked = refl; holds = with_node_holds w s node (server.start_node node (clock_of w (nodes.Server s))) e (started s node (clock_of w (nodes.Server s)) (h s node e)) h }
 
 -- The law.
-pub law : StepsLockCuts
-law w e sc q o h =
+pub steps_lock_cuts : StepsLockCuts
+steps_lock_cuts w e sc q o h =
     let z = step_happens w e sc q in
     let a = happens_cuts (ev.counted w) e o (same_servers w (ev.counted w) refl h) in
     subst (λ (s : WorldTurn). record { locked : list_all (is_cut_locked s.world.servers) s.seen ≡ true; holds : WaitsHold s.world }) (sym z.1) (record { locked = a.locked; holds = a.holds })

@@ -1,45 +1,32 @@
 -- What a server's step does to its lock table: nobody waits for a file of which it has an exclusive row, and after a cut somebody has an
 -- exclusive row of its file.
-use Rattle.std.proofs.Common.{◌≡◌, ℕ, true, List, [], ◌∷◌, ◌++◌, ◌==◌, refl, sym, ap, ◌∙◌, subst}
-use Rattle.std.specs.Prelude.{Option, Some, None}
-use Rattle.std.proofs.lemmas.Bool.{eq-eqb}
-use Rattle.st_base.specs.declared.ids.ClientId.{ClientId}
-use Rattle.st_base.specs.declared.ids.ServerId.{ServerId}
-use Rattle.st_base.specs.declared.ids.GrantNo.{GrantNo}
-use Rattle.st_base.specs.declared.ids.PageNo.{PageNo}
-use Rattle.st_base.specs.declared.ids.Stamp.{Stamp}
-use Rattle.st_base.specs.declared.mode.Mode.{Mode}
-use Rattle.st_base.specs.declared.mode.Mode.TheVariants as modes
+use Rattle.st_lemmas.proofs.Words
+use Words.{◌≡◌, ℕ, true, List, [], ◌∷◌, ◌++◌, ◌==◌, refl, sym, ap, ◌∙◌, subst, Option, Some, None, eq-eqb, ClientId, ServerId, GrantNo, PageNo, Stamp, Mode}
+use Words.{Header, Message, Body, Note, Output, ServerInput, LockRow, Waiter}
+use Words.modes
+use Words.notes
+use Words.outputs
+use Words.serving.{Tick, Control}
+use Words.Grace as grace
+use Words.Keys.{server_node}
+use Words.Locks as locks
+use Words.Locks.{Locks}
+use Words.Server as sv
+use Words.Server.{ServerState, ServerTurn, turn, with_locks, sender, life_in, reply, tell, steal_from, thefts, suspect_client, keep_and_reply, is_client_node}
+use Words.Server.{server_step}
+use Words.Lists.{Has}
+use Words.Tables.{and_true, and_both}
 use Rattle.st_base.specs.Mode.{covers}
-use Rattle.st_messages.specs.declared.message.Header.{Header}
-use Rattle.st_messages.specs.declared.message.Message.{Message}
-use Rattle.st_messages.specs.declared.message.Body.{Body}
-use Rattle.st_messages.specs.declared.output.Note.{Note}
-use Rattle.st_messages.specs.declared.output.Note.TheVariants as notes
-use Rattle.st_messages.specs.declared.output.Output.{Output}
-use Rattle.st_messages.specs.declared.output.Output.TheVariants as outputs
-use Rattle.st_rules.specs.declared.input.ServerInput.{ServerInput}
-use Rattle.st_rules.specs.declared.input.ServerInput.TheVariants.{Tick, Control}
-use Rattle.st_rules.specs.declared.locks.LockRow.{LockRow}
-use Rattle.st_rules.specs.declared.locks.Waiter.{Waiter}
-use Rattle.st_rules.specs.Grace as grace
-use Rattle.st_rules.specs.Keys.{server_node}
-use Rattle.st_rules.specs.Locks as locks
-use Rattle.st_rules.specs.Locks.{Locks}
-use Rattle.st_rules.specs.Server as sv
-use Rattle.st_rules.specs.Server.{ServerState, ServerTurn, turn, with_locks, sender, life_in, reply, tell, steal_from, thefts, suspect_client}
-use Rattle.st_rules.specs.Server.{keep_and_reply, is_client_node, server_step}
-use Rattle.st_lemmas.specs.Lists.{Has}
-use Rattle.st_lemmas.proofs.Tables.{and_true, and_both}
 use Rattle.st_laws_pages.specs.Disks.World.{NoCut, NoCuts}
 use Rattle.st_laws_pages.specs.LockedCuts.CutLocks.{WaitsApart, IsHeld, CutHeld, CutsHeld, WaitsForNone}
 use Rattle.st_laws_pages.proofs.LockedCuts.Rows.{drop_apart, file_apart, forget_apart, seen_apart, release_apart, queue_apart, install_apart, grant_apart}
 use Rattle.st_laws_pages.proofs.LockedCuts.Rows.{grant_held, demand_apart, demand_held}
 use Rattle.st_trace.specs.Server.Edits as edits
-use Rattle.st_trace.specs.Server.Edits.{AtThefts, AtInput, AtSuspicion, AtGrants, AtDemands, Lacks, AtOnce, InTurn, Ruled, Edit, TakesTimers, Steals}
-use Rattle.st_trace.specs.Server.Edits.{Welcomes, Begins, Replaces, PutsOff, Sees, Reasserts, Serves, Repeats, Refuses, Suspects, Grants, Demands}
+use Rattle.st_trace.specs.Server.Edits.{AtThefts, AtInput, AtSuspicion, AtGrants, AtDemands, Lacks, AtOnce, InTurn, Ruled, Edit, TakesTimers, Steals, Welcomes}
+use Rattle.st_trace.specs.Server.Edits.{Begins, Replaces, PutsOff, Sees, Reasserts, Serves, Repeats, Refuses, Suspects, Grants, Demands}
 use Rattle.st_trace.proofs.Server.Taking.{clash}
 use Rattle.st_trace.proofs.Server.Walk.{walk_in_two}
+use Rattle.st_laws_pages.proofs.Disks.Walk.{none_more}
 
 -- Cuts among the outputs.
 held_one : (s : ServerId) (l m : Locks) → ((i : ℕ) → IsHeld i l → IsHeld i m) → (o : Output) → CutHeld s l o → CutHeld s m o
@@ -69,10 +56,6 @@ no_cut_held s l o h = tt
 none_held : (s : ServerId) (l : Locks) (os : List Output) → NoCuts os → CutsHeld s l os
 none_held s l [] h = record {}
 none_held s l (o ∷ os) h = record { one = no_cut_held s l o h.one; rest = none_held s l os h.rest }
-
-none_more : (os : List Output) (o : Output) → NoCut o → NoCuts os → NoCuts (os ++ o ∷ [])
-none_more [] o n h = record { one = n; rest = record {} }
-none_more (x ∷ os) o n h = record { one = h.one; rest = none_more os o n h.rest }
 
 -- Before the input, and after it.
 record Before (s : ServerId) (t : ServerTurn) : Type 0 where

@@ -1,26 +1,18 @@
 -- The lock table: nobody waits for a file of which it has an exclusive row, through each change of the table; and an exclusive row stays
 -- while locks are granted and demanded.
-use Rattle.std.proofs.Common.{◌≡◌, ℕ, ◌⊎◌, Bool, true, false, not, ◌&&◌, List, [], ◌∷◌, ◌++◌, ◌==◌, Option, Some, None, refl, sym, ap, ◌∙◌, subst, inl, inr}
-use Rattle.std.proofs.Common.{if◌then◌else◌}
-use Rattle.std.specs.Prelude.{find, filter, map, option_map}
-use Rattle.std.proofs.lemmas.Bool.{eqb-true, eq-eqb}
-use Rattle.st_base.specs.declared.ids.ClientId.{ClientId}
-use Rattle.st_base.specs.declared.ids.GrantNo.{GrantNo}
-use Rattle.st_base.specs.declared.ids.Life.{Life}
-use Rattle.st_base.specs.declared.mode.Mode.{Mode}
-use Rattle.st_base.specs.declared.mode.Mode.TheVariants as modes
-use Rattle.st_rules.specs.declared.locks.LockRow.{LockRow}
-use Rattle.st_rules.specs.declared.locks.RowDemand.{RowDemand}
-use Rattle.st_rules.specs.declared.locks.Waiter.{Waiter}
-use Rattle.st_rules.specs.Keys.{same_client}
-use Rattle.st_rules.specs.Locks as locks
-use Rattle.st_rules.specs.Locks.{Locks, is_row_of, is_wait_of, row_of}
-use Rattle.st_lemmas.specs.Lists.{Has}
-use Rattle.st_lemmas.proofs.Lookups.{some_is}
+use Rattle.st_lemmas.proofs.Words
+use Words.{◌≡◌, ℕ, ◌⊎◌, Bool, true, false, not, ◌&&◌, List, [], ◌∷◌, ◌++◌, ◌==◌, Option, Some, None, refl, sym, ap, ◌∙◌, subst, inl, inr, if◌then◌else◌, find}
+use Words.{filter, map, option_map, eqb-true, eq-eqb, ClientId, GrantNo, Life, Mode, LockRow, RowDemand, Waiter}
+use Words.modes
+use Words.Keys.{same_client}
+use Words.Locks as locks
+use Words.Locks.{Locks, is_row_of, is_wait_of, row_of}
+use Words.Lists.{Has}
+use Words.Lookups.{some_is}
+use Words.Tables.{and_true, and_both, not_true, has_filter, has_append, has_map, find_kept, find_gone, find_map}
+use Words.Truth.{not_both}
 use Rattle.st_lemmas.proofs.Puts.{find_put_other}
-use Rattle.st_lemmas.proofs.Tables.{and_true, and_both, not_true, has_filter, has_append, has_map, find_kept, find_gone, find_map}
 use Rattle.st_laws_pages.specs.LockedCuts.CutLocks.{WaitsApart, IsHeld}
-use Rattle.st_laws_steps.proofs.Clash.{clash}
 
 -- Two keys: a client and a file.
 abbrev is_key : ClientId → ℕ → ClientId → ℕ → Bool
@@ -41,7 +33,7 @@ key_other c i d j n r e = go (is_row_of d j r) refl
     go true q =
         let x = key_is r.client r.ino c i e in
         let y = key_is r.client r.ino d j q in
-        absurd (clash (is_key c i d j) (subst (λ z. is_key z i d j ≡ true) x.0 (subst (λ z. is_key r.client z d j ≡ true) x.1 q)) n)
+        absurd (not_both (is_key c i d j) (subst (λ z. is_key z i d j ≡ true) x.0 (subst (λ z. is_key r.client z d j ≡ true) x.1 q)) n)
 
 key_turned : (c : ClientId) (i : ℕ) (d : ClientId) (j : ℕ) → is_key c i d j ≡ false → is_key d j c i ≡ false
 key_turned c i d j n = go (is_key d j c i) refl
@@ -49,7 +41,7 @@ key_turned c i d j n = go (is_key d j c i) refl
     go : (b : Bool) → is_key d j c i ≡ b → b ≡ false
     go false q = refl
     go true q = let x = key_is d j c i q in
-        absurd (clash (is_key c i d j) (subst (λ z. is_key z i d j ≡ true) x.0 (subst (λ z. is_key d z d j ≡ true) x.1 (key_self d j))) n)
+        absurd (not_both (is_key c i d j) (subst (λ z. is_key z i d j ≡ true) x.0 (subst (λ z. is_key d z d j ≡ true) x.1 (key_self d j))) n)
 
 -- Fewer waits.
 waits_fewer : (l : Locks) (ws : List Waiter) → ((w : Waiter) → Has w ws → Has w l.waiters) → WaitsApart l → WaitsApart (record l { waiters = ws })

@@ -1,31 +1,23 @@
 -- A client's step, at an association whose lease is over: the loss empties it, and neither the input nor the passes fill it again.
-use Rattle.std.proofs.Common.{◌≡◌, ℕ, ◌+◌, Bool, true, false, List, [], ◌∷◌, ◌++◌, ◌==◌, Option, Some, None, refl, sym, ap, ◌∙◌, subst, if◌then◌else◌}
-use Rattle.std.specs.Prelude.{find, ◌&&◌, is_some, nat_lt}
-use Rattle.st_base.specs.declared.config.Config.{Config}
-use Rattle.st_base.specs.declared.disk.Tag.{Tag}
-use Rattle.st_base.specs.declared.ids.ClientId.{ClientId}
-use Rattle.st_base.specs.declared.ids.ServerId.{ServerId}
-use Rattle.st_base.specs.declared.ids.Stamp.{Stamp}
-use Rattle.st_messages.specs.declared.ask.Ask.{Ask}
-use Rattle.st_messages.specs.declared.ask.Ask.TheVariants as asks
-use Rattle.st_messages.specs.declared.message.Body.{Body}
-use Rattle.st_messages.specs.declared.message.Body.TheVariants as bodies
-use Rattle.st_messages.specs.declared.message.Header.{Header}
-use Rattle.st_rules.specs.declared.client.ClientInput.{ClientInput}
-use Rattle.st_rules.specs.declared.client.ClientInput.TheVariants as inputs
-use Rattle.st_rules.specs.declared.client.Operation.{Operation}
-use Rattle.st_rules.specs.ClientPages as pages
-use Rattle.st_rules.specs.ClientPages.{Store, empty_store}
-use Rattle.st_rules.specs.ClientPasses as cp
-use Rattle.st_rules.specs.ClientReplies as cr
-use Rattle.st_rules.specs.Client as cl
-use Rattle.st_rules.specs.ClientState as cs
-use Rattle.st_rules.specs.ClientState.{Association, ClientState, ClientTurn, Turn, client_turn, enter, leave, at_these, at_each, with_associations, only_at, is_at, server_of}
-use Rattle.st_lemmas.specs.Lists.{Has}
+use Rattle.st_lemmas.proofs.Words
+use Words.{◌≡◌, ℕ, ◌+◌, Bool, true, false, List, [], ◌∷◌, ◌++◌, ◌==◌, Option, Some, None, refl, sym, ap, ◌∙◌, subst, if◌then◌else◌, find, ◌&&◌, is_some, nat_lt}
+use Words.{Config, Tag, ClientId, ServerId, Stamp, Ask, Body, Header, ClientInput, Operation, append_assoc}
+use Words.asks
+use Words.bodies
+use Words.inputs
+use Words.ClientPages as pages
+use Words.ClientPages.{Store, empty_store}
+use Words.ClientPasses as cp
+use Words.ClientReplies as cr
+use Words.Client as cl
+use Words.ClientState as cs
+use Words.ClientState.{Association, ClientState, ClientTurn, Turn, client_turn, enter, leave, at_these, at_each, with_associations, only_at, is_at, server_of}
+use Words.Lists.{Has}
+use Words.Lookups.{some_is}
+use Words.Lengths.{nothing_after}
+use Words.Truth.{not_both}
 use Rattle.st_laws_steps.specs.Client.Losses.{Fit, is_ended, Loses, Lasts, IsLost}
 use Rattle.st_laws_steps.specs.Lives.Lives.{LifeNext, Pairwise}
-use Rattle.st_lemmas.proofs.Lookups.{some_is}
-use Rattle.st_laws_steps.proofs.Clash.{clash}
 use Rattle.st_laws_steps.proofs.Client.Losing.{lose_is}
 use Rattle.st_laws_steps.proofs.Client.Stepping.{step_lives}
 
@@ -57,7 +49,7 @@ lose_bare : (k : Config) (now : Stamp) (t : Turn) → t.config ≡ k → Over k 
 lose_bare k now t e o = go _ (lose_is now t)
   where
     go : (u : Turn) → Loses now t u → Bare u.here
-    go _ (Lasts n) = absurd (clash (is_ended t.config now t.here.session) (ap (λ z. is_ended z now t.here.session) e ∙ o) n)
+    go _ (Lasts n) = absurd (not_both (is_ended t.config now t.here.session) (ap (λ z. is_ended z now t.here.session) e ∙ o) n)
     go _ (IsLost s i n v m) = record { session = refl; greeting = refl; store = refl }
 
 -- The input.
@@ -144,25 +136,17 @@ record EachGives (k : Config) (P Q : Association → Type 0) (al : List Associat
   pub is : u.state.associations ≡ t.state.associations ++ left
   pub pairs : Pairwise (Gives P Q) al left
 
-none_left : (xs : List Association) → xs ≡ xs ++ []
-none_left [] = refl
-none_left (x ∷ xs) = ap (λ z. x ∷ z) (none_left xs)
-
-assoc_left : (xs ys zs : List Association) → (xs ++ ys) ++ zs ≡ xs ++ (ys ++ zs)
-assoc_left [] ys zs = refl
-assoc_left (x ∷ xs) ys zs = ap (λ z. x ∷ z) (assoc_left xs ys zs)
-
 these : (k : Config) (P Q : Association → Type 0) (rule : Turn → Turn) → ((t : Turn) → t.config ≡ k → P t.here → Q (rule t).here) → (al : List Association) (t : ClientTurn) → t.state.config ≡ k →
     EachGives k P Q al t (at_these rule al t)
 unfolding at_these
-these k P Q rule step [] t c = record { config = c; left = []; is = none_left t.state.associations; pairs = tt }
+these k P Q rule step [] t c = record { config = c; left = []; is = nothing_after t.state.associations; pairs = tt }
 these k P Q rule step (a ∷ al) t c = go (these k P Q rule step al (leave t (rule (enter t a))) c)
   where
     u : Turn
     u = rule (enter t a)
 
     go : EachGives k P Q al (leave t u) (at_these rule al (leave t u)) → EachGives k P Q (a ∷ al) t (at_these rule al (leave t u))
-    go r = record { config = r.config; left = u.here ∷ r.left; is = r.is ∙ assoc_left t.state.associations (u.here ∷ []) r.left; pairs = record { one = step (enter t a) c; rest = r.pairs } }
+    go r = record { config = r.config; left = u.here ∷ r.left; is = r.is ∙ append_assoc t.state.associations (u.here ∷ []) r.left; pairs = record { one = step (enter t a) c; rest = r.pairs } }
 
 record TurnGives (k : Config) (P Q : Association → Type 0) (t u : ClientTurn) : Type 0 where
   pub config : u.state.config ≡ k

@@ -1,16 +1,15 @@
 -- The promise on expired leases from its two halves.
-use Rattle.std.proofs.Common.{◌≡◌, Bool, true, false, not, ◌&&◌, ◌||◌, List, [], ◌∷◌, ◌++◌, refl}
-use Rattle.st_base.specs.declared.ids.ClientId.{ClientId}
-use Rattle.st_base.specs.declared.ids.ServerId.{ServerId}
-use Rattle.st_rules.specs.World.{all_clients, all_servers, fresh_world}
-use Rattle.st_rules.specs.History.{traced}
-use Rattle.st_rules.specs.Safety.{Step, Promise, Throughout, ExpiredLeasesEmptyClients, is_lost_whole, all_lost_whole, steps}
-use Rattle.st_lemmas.specs.Lists.{Has}
-use Rattle.st_lemmas.proofs.Tables.{all_pass, each_passes}
+use Rattle.st_lemmas.proofs.Words
+use Words.{◌≡◌, Bool, true, false, not, ◌&&◌, ◌||◌, List, [], ◌∷◌, ◌++◌, refl, ClientId, ServerId}
+use Words.World.{all_clients, all_servers, fresh_world}
+use Words.History.{traced}
+use Words.Safety.{Step, Promise, Throughout, ExpiredLeasesEmptyClients, is_lost_whole, all_lost_whole, steps}
+use Words.Lists.{Has}
+use Words.Tables.{all_pass, each_passes}
 use Rattle.st_laws_pages.specs.Asks.Law.{InEveryRun, is_unused, all_unused, ExpiredLeasesUseNothing}
 use Rattle.st_laws_pages.proofs.Asks.Law.{unused_law}
 use Rattle.st_laws_pages.specs.Losses.Losses.{is_left_empty, all_left_empty, ExpiredLeasesEmptyAssociations}
-use Rattle.st_laws_pages.proofs.Losses.Law.{law}
+use Rattle.st_laws_pages.proofs.Losses.Law.{runs_empty_associations}
 
 joined : (a b c : Bool) → (not a || b) ≡ true → (not a || not c) ≡ true → (not a || (b && not c)) ≡ true
 joined false b c p q = refl
@@ -34,4 +33,4 @@ throughout_both P Q R f (x ∷ xs) past p q = (f past x p.0 q.0, throughout_both
 pub whole_law : InEveryRun ExpiredLeasesEmptyClients
 whole_law k clients servers d b form es head =
     throughout_both ExpiredLeasesEmptyAssociations ExpiredLeasesUseNothing ExpiredLeasesEmptyClients step_whole (steps es (traced (fresh_world k clients servers d b form))) []
-    (law k clients servers d b form es) (unused_law k clients servers d b form es head)
+    (runs_empty_associations k clients servers d b form es) (unused_law k clients servers d b form es head)

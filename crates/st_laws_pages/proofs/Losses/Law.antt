@@ -1,41 +1,30 @@
 -- An expired lease empties its client's association, in each event and over whole runs.
-use Rattle.std.proofs.Common.{◌≡◌, ℕ, ◌+◌, Bool, true, false, not, ◌&&◌, ◌||◌, [], ◌==◌, Option, Some, None, Ok, Err, refl, sym, ap, ◌∙◌, subst, if◌then◌else◌}
-use Rattle.std.specs.Prelude.{is_some, option_map}
-use Rattle.std.specs.List.{list_all}
-use Rattle.std.specs.Option.{option_or}
-use Rattle.std.proofs.lemmas.Bool.{eqb-true, eq-eqb}
-use Rattle.st_base.specs.declared.config.Config.{Config}
-use Rattle.st_base.specs.declared.ids.ClientId.{ClientId}
-use Rattle.st_base.specs.declared.ids.Life.{Life}
-use Rattle.st_base.specs.declared.ids.NodeId.{NodeId}
-use Rattle.st_base.specs.declared.ids.NodeId.TheVariants as nodes
-use Rattle.st_base.specs.declared.ids.ServerId.{ServerId}
-use Rattle.st_base.specs.declared.ids.Stamp.{Stamp}
-use Rattle.st_messages.specs.declared.ask.Ask.{Ask}
-use Rattle.st_messages.specs.declared.event.Event.{Event}
-use Rattle.st_messages.specs.declared.event.Event.TheVariants as events
-use Rattle.st_rules.specs.declared.client.ClientInput.{ClientInput}
-use Rattle.st_rules.specs.declared.client.ClientInput.TheVariants as inputs
+use Rattle.st_lemmas.proofs.Words
+use Words.{◌≡◌, ℕ, ◌+◌, Bool, true, false, not, ◌&&◌, ◌||◌, [], ◌==◌, Option, Some, None, Ok, Err, refl, sym, ap, ◌∙◌, subst, if◌then◌else◌, is_some}
+use Words.{option_map, list_all, eq-eqb, Config, ClientId, Life, NodeId, ServerId, Stamp, Ask, Event, ClientInput, IssuedCommand}
+use Words.{SentMessage}
+use Words.nodes
+use Words.events
+use Words.inputs
+use Words.Admissible as adm
+use Words.Client as cl
+use Words.ClientLease as lease
+use Words.ClientState.{ClientSession, Association, ClientState}
+use Words.Disks as disks
+use Words.Events as ev
+use Words.Events.{WorldTurn, present_life}
+use Words.History.{Traced, traced, association_of, association_at}
+use Words.World as world
+use Words.World.{World, WorldClient, site_of, site_runs, is_running, numbered, clock_of, same_node, message_of, receiver_of, issued_of, all_clients}
+use Words.World.{all_servers, fresh_world}
+use Words.Safety.{step, takes_step, is_expired, has_reached, is_emptied, is_empty_store, is_told_at}
+use Words.Lists.{Has}
+use Words.Numbers.{numbered_own}
+use Words.Tables.{all_pass, and_both, and_true}
+use Words.Truth.{client_is, or_second}
+use Words.Worlds.{can_step}
 use Rattle.st_rules.specs.declared.node.StepRefusal.TheVariants.{Crashed}
-use Rattle.st_rules.specs.declared.observation.WorldRefusal.{WorldRefusal}
-use Rattle.st_rules.specs.declared.observation.WorldRefusal.TheVariants as refusals
-use Rattle.st_rules.specs.declared.world.IssuedCommand.{IssuedCommand}
-use Rattle.st_rules.specs.declared.world.SentMessage.{SentMessage}
-use Rattle.st_rules.specs.Admissible as adm
-use Rattle.st_rules.specs.Client as cl
-use Rattle.st_rules.specs.ClientLease as lease
-use Rattle.st_rules.specs.ClientState.{ClientSession, Association, ClientState}
-use Rattle.st_rules.specs.Disks as disks
-use Rattle.st_rules.specs.Events as ev
-use Rattle.st_rules.specs.Events.{WorldTurn, present_life}
-use Rattle.st_rules.specs.History.{Traced, traced, association_of, association_at}
-use Rattle.st_rules.specs.World as world
-use Rattle.st_rules.specs.World.{World, WorldClient, site_of, site_runs, is_running, numbered, clock_of, same_node, message_of, receiver_of, issued_of, all_clients, all_servers, fresh_world}
-use Rattle.st_rules.specs.Safety.{step, takes_step, is_expired, has_reached, is_emptied, is_empty_store, is_told_at}
-use Rattle.st_lemmas.specs.Lists.{Has}
-use Rattle.st_lemmas.proofs.Numbers.{numbered_own}
 use Rattle.st_lemmas.proofs.Steps.{throughout, step_happens}
-use Rattle.st_lemmas.proofs.Tables.{all_pass, and_both, and_true}
 use Rattle.st_laws_steps.specs.Client.Losses.{Fit, is_ended}
 use Rattle.st_laws_steps.specs.Lives.Lives.{ended_rows, LivesHold}
 use Rattle.st_laws_pages.specs.Disks.Obligations.{FatesHold}
@@ -159,22 +148,6 @@ told_empties w s k ok y told h x = go (site_of w y.client) refl told
     go None e r = cc
     go (Some site) e r = at site e (and_true site.node.running (site.starts == y.starts) r).0 (ev.is_same_instance y site) r
 
--- Who takes a step runs.
-or_second : (a b : Option WorldRefusal) → option_or a b ≡ None → b ≡ None
-or_second None b e = e
-or_second (Some x) b e = cc
-
-can_step : (w : World) (n : NodeId) → adm.cannot_step w n ≡ None → is_running w n ≡ true
-unfolding adm.stands
-can_step w n e = go (is_running w n) e
-  where
-    go : (b : Bool) → option_or (adm.stands (not b) (refusals.NotRunning n)) (adm.net_full w) ≡ None → b ≡ true
-    go true e = refl
-    go false e = cc
-
-client_is : (d c : ClientId) → (d.0 == c.0) ≡ true → d ≡ c
-client_is d c e = ap (λ n. record { 0 = n }) (eqb-true d.0 c.0 e)
-
 node_is : (n : NodeId) (c : ClientId) → same_node n (nodes.Client c) ≡ true → n ≡ nodes.Client c
 node_is (nodes.Client d) c e = ap (λ z. nodes.Client z) (client_is d c e)
 node_is (nodes.Server d) c e = cc
@@ -230,7 +203,7 @@ step_empty t e sc h q = all_pass (all_left_empty (step t e sc)) (all_clients t.w
         subst (λ (u : WorldTurn). is_emptied (present_life t.world c s) (association_of u.world c s) ≡ true) (sym z.1) (happens_empties t.world e z.0 (counted_fates t.world h).lives c s y x))
 
 -- over whole runs
-pub law : RunsEmptyAssociations
-law k clients servers d b form es =
+pub runs_empty_associations : RunsEmptyAssociations
+runs_empty_associations k clients servers d b form es =
     throughout ExpiredLeasesEmptyAssociations (λ past t. FatesHold t.world) (λ past t e sc h q. (step_empty t e sc h q, fates_law t.world e sc q h)) es []
     (traced (fresh_world k clients servers d b form)) (fresh_fates k clients servers d b form)

@@ -1,35 +1,25 @@
 -- The commands that a client's step adds, and its outstanding writes after it.
-use Rattle.std.proofs.Common.{◌≡◌, ◌≢◌, ℕ, suc, ◌+◌, ◌%◌, ◌≤◌, ◌⊎◌, Bool, true, false, List, [], ◌∷◌, Option, Some, None, refl, sym, ap, ◌∙◌, subst, inl, inr, arith}
-use Rattle.std.specs.Prelude.{find, length, map, pred}
-use Rattle.st_base.specs.declared.disk.BlockAt.{BlockAt}
-use Rattle.st_base.specs.declared.disk.Command.{Command}
-use Rattle.st_base.specs.declared.disk.Command.TheVariants as commands
-use Rattle.st_base.specs.declared.disk.Tag.{Tag}
-use Rattle.st_base.specs.declared.ids.ClientId.{ClientId}
-use Rattle.st_base.specs.declared.ids.Life.{Life}
-use Rattle.st_base.specs.declared.ids.NodeId.TheVariants as nodes
-use Rattle.st_base.specs.declared.ids.Stamp.{Stamp}
-use Rattle.st_messages.specs.declared.output.Note.{Note}
-use Rattle.st_messages.specs.declared.output.Note.TheVariants as notes
-use Rattle.st_messages.specs.declared.output.Output.{Output}
-use Rattle.st_messages.specs.declared.output.Output.TheVariants as outputs
-use Rattle.st_rules.specs.declared.client.ClientInput.{ClientInput}
-use Rattle.st_rules.specs.declared.disks.DiskCommand.{DiskCommand}
-use Rattle.st_rules.specs.declared.disks.Report.TheVariants as reports
-use Rattle.st_rules.specs.declared.world.IssuedCommand.{IssuedCommand}
-use Rattle.st_rules.specs.Client as cl
-use Rattle.st_rules.specs.ClientState.{Association, ClientState, is_at}
-use Rattle.st_rules.specs.Disks as disks
-use Rattle.st_rules.specs.Events as ev
-use Rattle.st_rules.specs.Events.{WorldTurn, client_notes, client_says, client_says_all}
-use Rattle.st_rules.specs.World as world
-use Rattle.st_rules.specs.World.{World, WorldClient, clock_of, life_with, numbered, site_of, with_numbered}
-use Rattle.st_lemmas.specs.Lists.{Has}
-use Rattle.st_lemmas.proofs.Lookups.{some_is}
-use Rattle.st_lemmas.proofs.Numbers.{length_more, numbered_below, numbered_has, numbered_other, numbered_own}
-use Rattle.st_lemmas.proofs.Tables.{same_or_not}
+use Rattle.st_lemmas.proofs.Words
+use Words.{◌≡◌, ◌≢◌, ℕ, suc, ◌+◌, ◌%◌, ◌≤◌, ◌⊎◌, Bool, true, false, List, [], ◌∷◌, Option, Some, None, refl, sym, ap, ◌∙◌, subst, inl, inr, arith, find, length}
+use Words.{map, pred, BlockAt, Command, Tag, ClientId, Life, Stamp, Note, Output, ClientInput, DiskCommand, IssuedCommand}
+use Words.commands
+use Words.nodes
+use Words.notes
+use Words.outputs
+use Words.reports
+use Words.Client as cl
+use Words.ClientState.{Association, ClientState, is_at}
+use Words.Disks as disks
+use Words.Events as ev
+use Words.Events.{WorldTurn, client_notes, client_says, client_says_all}
+use Words.World as world
+use Words.World.{World, WorldClient, clock_of, life_with, numbered, site_of, with_numbered}
+use Words.Lists.{Has}
+use Words.Lookups.{some_is}
+use Words.Numbers.{length_more, numbered_below, numbered_has, numbered_other, numbered_own}
+use Words.Tables.{same_or_not}
 use Rattle.st_laws_steps.specs.Client.Losses.{Fit, is_ended}
-use Rattle.st_laws_steps.specs.Lives.Lives.{IsKnown, LivesHold, NodeHolds, Once, Pairwise, server_number}
+use Rattle.st_laws_steps.specs.Lives.Lives.{IsKnown, LivesHold, NodeHolds, Once, server_number}
 use Rattle.st_laws_steps.proofs.Lives.Associations.{numbers_same, own_found}
 use Rattle.st_laws_pages.proofs.Lives.NodeTurns.{row_is}
 use Rattle.st_laws_pages.proofs.Flush.Adding.{After, after_clients}
@@ -41,6 +31,7 @@ use Rattle.st_laws_pages.proofs.Writes.Listing.{write_said}
 use Rattle.st_laws_pages.proofs.Writes.Walking.{AfterStep, EndedBy, ListedAt, StepKeeps, step_keeps}
 use Rattle.st_laws_pages.proofs.Causes.FlushSteps.{flushes_disks}
 use Rattle.st_laws_pages.proofs.Causes.Commands.{at_more}
+use Rattle.st_laws_pages.proofs.Flush.Flushing.{pair_of}
 
 -- a command that these outputs submit
 pub record IsNew (c : ClientId) (site : WorldClient) (size : ℕ) (os : List Output) (x : IssuedCommand) (d : DiskCommand) : Type 0 where
@@ -165,14 +156,6 @@ life_low w c site there h b i k x is cx sx = go (h.known.commands x (numbered_ha
         let l : (life_with site.node.state b.server).0 ≡ x.life.0 = ap (λ s. (life_with site.node.state s).0) (sym sx) ∙ sym (ap (λ o. (ev.life_of_site x.server o).0) a) ∙ q in
         let f = ap (λ o. (world.life_at o).0) found in omega (arith, l, f)
 
--- one before
-pub pair_before : (R : Association → Association → Type 0) (al bl : List Association) → Pairwise R al bl → (b : Association) → Has b bl → (a : Association) × Has a al × R a b
-pair_before R [] [] p b h = absurd h
-pair_before R [] (y ∷ bl) p b h = absurd p
-pair_before R (x ∷ al) [] p b h = absurd p
-pair_before R (x ∷ al) (y ∷ bl) p b (inl e) = (x, inl refl, subst (R x) (sym e) p.one)
-pair_before R (x ∷ al) (y ∷ bl) p b (inr i) = let z = pair_before R al bl p.rest b i in (z.0, inr z.1, z.2)
-
 -- What an input ends was reported.
 abbrev pub EndsReported : World → ClientId → WorldClient → ClientInput → Type 0
 EndsReported w c old input =
@@ -222,7 +205,7 @@ module _ (w : World) (c : ClientId) (old site : WorldClient) (input : ClientInpu
   -- a command that there was
   mine_old : (a : Association) → Has a turn.node.state.associations → (k : ℕ) (x : IssuedCommand) (d : DiskCommand) (at : BlockAt) (tag : Tag) (bytes : List ℕ) → IsAt sc k x d → d.what ≡ commands.Write at tag bytes → d.report ≡ reports.Open → x.client ≡ c → x.server ≡ a.server → x.life ≡ a.life →
       ListedSince after.starts a x tag
-  mine_old a i k x d at tag bytes is wh op cx sx lx = go (pair_before (AfterStep (EndedBy input) site.node.state.config now) site.node.state.associations turn.node.state.associations k_.pairs a i)
+  mine_old a i k x d at tag bytes is wh op cx sx lx = go (pair_of (AfterStep (EndedBy input) site.node.state.config now) site.node.state.associations turn.node.state.associations k_.pairs a i)
     where
       go : (b : Association) × Has b site.node.state.associations × AfterStep (EndedBy input) site.node.state.config now b a → ListedSince after.starts a x tag
       go (b, j, r) = by (is_ended site.node.state.config now b.session) refl

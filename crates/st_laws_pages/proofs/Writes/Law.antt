@@ -1,51 +1,36 @@
 -- Open writes of present lives are outstanding at their clients: after every event, and in every run.
-use Rattle.std.proofs.Common.{◌≡◌, ◌≢◌, ℕ, zero, suc, ◌+◌, ◌⊎◌, Bool, true, false, ◌==◌, List, [], ◌∷◌, ◌++◌, Option, Some, None, Ok, Err, refl, sym, ap, ◌∙◌, subst, inl, inr, arith, if◌then◌else◌}
-use Rattle.std.specs.Prelude.{Result, length}
-use Rattle.std.proofs.lemmas.Bool.{eqb-true}
-use Rattle.st_base.specs.declared.config.Config.{Config}
-use Rattle.st_base.specs.declared.disk.Command.TheVariants as commands
-use Rattle.st_base.specs.declared.ids.ClientId.{ClientId}
-use Rattle.st_base.specs.declared.ids.Life.{Life}
-use Rattle.st_base.specs.declared.ids.NodeId.{NodeId}
-use Rattle.st_base.specs.declared.ids.NodeId.TheVariants as nodes
-use Rattle.st_base.specs.declared.ids.ServerId.{ServerId}
-use Rattle.st_messages.specs.declared.event.Event.{Event}
-use Rattle.st_messages.specs.declared.event.Event.TheVariants as events
-use Rattle.st_messages.specs.declared.output.Note.{Note}
-use Rattle.st_messages.specs.declared.output.Note.TheVariants as notes
-use Rattle.st_messages.specs.declared.output.Output.{Output}
-use Rattle.st_messages.specs.declared.output.Output.TheVariants as outputs
-use Rattle.st_rules.specs.declared.client.ClientInput.{ClientInput}
-use Rattle.st_rules.specs.declared.client.ClientInput.TheVariants as inputs
-use Rattle.st_rules.specs.declared.disks.DiskCommand.{DiskCommand}
-use Rattle.st_rules.specs.declared.disks.Report.{Report}
-use Rattle.st_rules.specs.declared.disks.Report.TheVariants as reports
-use Rattle.st_rules.specs.declared.input.ServerInput.{ServerInput}
-use Rattle.st_rules.specs.declared.input.ServerInput.TheVariants as serving
-use Rattle.st_rules.specs.declared.node.StepRefusal.{StepRefusal}
+use Rattle.st_lemmas.proofs.Words
+use Words.{◌≡◌, ◌≢◌, ℕ, zero, suc, ◌+◌, ◌⊎◌, Bool, true, false, ◌==◌, List, [], ◌∷◌, ◌++◌, Option, Some, None, Ok, Err, refl, sym, ap, ◌∙◌, subst, inl, inr}
+use Words.{arith, if◌then◌else◌, Result, length, eqb-true, Config, ClientId, Life, NodeId, ServerId, Event, Note, Output, ClientInput, DiskCommand, Report}
+use Words.{ServerInput, StepRefusal, WorldRefusal, IssuedCommand, SentMessage}
+use Words.commands
+use Words.nodes
+use Words.events
+use Words.notes
+use Words.outputs
+use Words.inputs
+use Words.reports
+use Words.serving
+use Words.Admissible as adm
+use Words.Client as cl
+use Words.ClientState.{Association}
+use Words.Disks as disks
+use Words.Events as ev
+use Words.Events.{WorldTurn, counted, world_step}
+use Words.FlatLog as log
+use Words.History.{Traced, traced, traced_after}
+use Words.Safety as safety
+use Words.Safety.{Step, Throughout, step, steps}
+use Words.Server as server
+use Words.Server.{ServerNode}
+use Words.World as world
+use Words.World.{World, WorldClient, clock_of, fresh_world, issued_of, node_of, numbered, site_of, with_numbered}
+use Words.Lists.{Has}
+use Words.Lookups.{some_is}
+use Words.Numbers.{numbered_below, numbered_has, numbered_other, numbered_own, set_length, set_own}
+use Words.Tables.{and_true, has_map, same_or_not}
 use Rattle.st_rules.specs.declared.node.StepRefusal.TheVariants.{Crashed}
-use Rattle.st_rules.specs.declared.observation.WorldRefusal.{WorldRefusal}
-use Rattle.st_rules.specs.declared.world.IssuedCommand.{IssuedCommand}
-use Rattle.st_rules.specs.declared.world.SentMessage.{SentMessage}
-use Rattle.st_rules.specs.Admissible as adm
-use Rattle.st_rules.specs.Client as cl
-use Rattle.st_rules.specs.ClientState.{Association}
-use Rattle.st_rules.specs.Disks as disks
-use Rattle.st_rules.specs.Events as ev
-use Rattle.st_rules.specs.Events.{WorldTurn, counted, world_step}
-use Rattle.st_rules.specs.FlatLog as log
-use Rattle.st_rules.specs.History.{Traced, traced, traced_after}
-use Rattle.st_rules.specs.Safety as safety
-use Rattle.st_rules.specs.Safety.{Step, Throughout, step, steps}
-use Rattle.st_rules.specs.Server as server
-use Rattle.st_rules.specs.Server.{ServerNode}
-use Rattle.st_rules.specs.World as world
-use Rattle.st_rules.specs.World.{World, WorldClient, clock_of, fresh_world, issued_of, node_of, numbered, site_of, with_numbered}
-use Rattle.st_lemmas.specs.Lists.{Has}
-use Rattle.st_lemmas.proofs.Lookups.{some_is}
-use Rattle.st_lemmas.proofs.Numbers.{numbered_below, numbered_has, numbered_other, numbered_own, set_length, set_own}
 use Rattle.st_lemmas.proofs.Steps.{step_happens}
-use Rattle.st_lemmas.proofs.Tables.{and_true, has_map, same_or_not}
 use Rattle.st_laws_pages.specs.Flush.Flush.{WriteCared}
 use Rattle.st_laws_steps.specs.Lives.Lives.{LivesHold}
 use Rattle.st_laws_steps.specs.Client.Losses.{Fit}
@@ -297,6 +282,6 @@ fresh_open k clients servers d b form c site e r a i j x dc at tag bytes is js w
     none zero x e = cc
     none (suc j) x e = cc
 
-pub law : InEveryRun OpenAfter
-law k clients servers d b form es head =
+pub open_after : InEveryRun OpenAfter
+open_after k clients servers d b form es head =
     run es [] (traced (fresh_world k clients servers d b form)) (fresh_places k clients servers d b form) (fresh_stand k clients servers d b form) (fresh_open k clients servers d b form) (places_law k clients servers d b form es head)

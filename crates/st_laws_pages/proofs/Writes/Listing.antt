@@ -1,33 +1,27 @@
 -- What the rules of a client leave of its outstanding writes, and what they submit.
-use Rattle.std.proofs.Common.{◌≡◌, ℕ, ◌⊎◌, Bool, true, false, not, ◌==◌, List, [], ◌∷◌, ◌++◌, Some, if◌then◌else◌, refl, sym, ap, ◌∙◌, subst, inl, inr}
-use Rattle.std.specs.Prelude.{map, find, ◌&&◌}
-use Rattle.std.proofs.lemmas.Bool.{eqb-true, ne_eqb}
-use Rattle.st_base.specs.declared.disk.BlockAt.{BlockAt}
-use Rattle.st_base.specs.declared.disk.Command.TheVariants as commands
-use Rattle.st_base.specs.declared.disk.Tag.{Tag}
-use Rattle.st_base.specs.declared.ids.PageNo.{PageNo}
-use Rattle.st_base.specs.declared.ids.Stamp.{Stamp}
-use Rattle.st_messages.specs.declared.answer.AppAnswer.{AppAnswer}
-use Rattle.st_messages.specs.declared.output.Output.{Output}
-use Rattle.st_messages.specs.declared.output.Output.TheVariants as outputs
-use Rattle.st_rules.specs.declared.client.IoKind.TheVariants as io
-use Rattle.st_rules.specs.declared.client.Operation.{Operation}
-use Rattle.st_rules.specs.declared.client.PageCommand.{PageCommand}
-use Rattle.st_rules.specs.ClientPages as pages
-use Rattle.st_rules.specs.ClientPasses as cp
-use Rattle.st_rules.specs.Client as cl
-use Rattle.st_rules.specs.ClientState.{Association, Turn, answer_to, note}
-use Rattle.st_rules.specs.Keys.{put, same_page}
-use Rattle.st_lemmas.specs.Lists.{Has}
-use Rattle.st_lemmas.proofs.Tables.{found_at, has_append, has_filter_in}
-use Rattle.st_laws_steps.specs.Client.Client.{Change, Changes, Plain, Says, Operates, Answers, Greets, TellsLost, Begins, Follows, Learns, Forgets, Caches, Writes, Reads, Submits, Still, Then}
+use Rattle.st_lemmas.proofs.Words
+use Words.{◌≡◌, ℕ, ◌⊎◌, Bool, true, false, not, ◌==◌, List, [], ◌∷◌, ◌++◌, Some, if◌then◌else◌, refl, sym, ap, ◌∙◌, subst, inl, inr, map, find, ◌&&◌, eqb-true}
+use Words.{ne_eqb, BlockAt, Tag, PageNo, Stamp, AppAnswer, Output, Operation, PageCommand, DirtyPage}
+use Words.commands
+use Words.outputs
+use Words.io
+use Words.ClientPages as pages
+use Words.ClientPasses as cp
+use Words.Client as cl
+use Words.ClientState.{Association, Turn, answer_to, note}
+use Words.Keys.{put, same_page}
+use Words.Lists.{Has}
+use Words.Tables.{found_at, has_append, has_filter_in}
+use Words.Lengths.{nothing_after}
+use Words.Members.{has_last, has_left}
+use Words.Truth.{not_both}
+use Words.Versions.{place_failed}
+use Rattle.st_laws_steps.specs.Client.Client.{Change, Changes, Plain, Says, Operates, Answers, Greets, TellsLost, Begins, Follows, Learns, Forgets, Caches}
+use Rattle.st_laws_steps.specs.Client.Client.{Writes, Reads, Submits, Still, Then}
 use Rattle.st_laws_steps.specs.Client.Losses.{Ends, Unknown, Passes, Hardens, Fails, without}
 use Rattle.st_laws_steps.proofs.Client.Losing.{Finished, rest_of}
-use Rattle.st_laws_steps.proofs.Client.Nexts.{empty_right}
 use Rattle.st_lemmas.proofs.Contents.{Place_is, one_place}
-use Rattle.st_laws_steps.proofs.Clash.{clash}
 use Rattle.st_laws_pages.proofs.Flush.Ending.{hardened_is}
-use Rattle.st_rules.specs.declared.pages.DirtyPage.{DirtyPage}
 use Rattle.st_laws_pages.specs.Writes.Writes.{IsListed, WritesOnce}
 
 -- a write that is submitted
@@ -78,7 +72,7 @@ found_put p q x f (z ∷ zs) d e = go (q z) refl (p z) refl e (λ i. found_put p
   where
     front : (b : Bool) → p x ≡ b → p x ≡ true → (y : DirtyPage) × ((if b then Some x else find p zs) ≡ Some y)
     front true e i = (x, refl)
-    front false e i = absurd (clash (p x) i e)
+    front false e i = absurd (not_both (p x) i e)
 
     behind : (b : Bool) → find p zs ≡ Some d → (y : DirtyPage) × ((if b then Some x else find p zs) ≡ Some y)
     behind true i = (x, refl)
@@ -97,14 +91,6 @@ found_map p g f (z ∷ zs) d e = go (p z) refl e (λ i. found_map p g f zs d i)
     go : (b : Bool) → p z ≡ b → (if b then Some z else find p zs) ≡ Some d → (find p zs ≡ Some d → (y : DirtyPage) × (find p (map g zs) ≡ Some y)) → (y : DirtyPage) × ((if p (g z) then Some (g z) else find p (map g zs)) ≡ Some y)
     go true k e r = (g z, ap (λ b. if b then Some (g z) else find p (map g zs)) (f z ∙ k))
     go false k e r = let y = r e in (y.0, ap (λ b. if b then Some (g z) else find p (map g zs)) (f z ∙ k) ∙ y.1)
-
-fail_place : (i : ℕ) (q : PageNo) (n ino : ℕ) (p : PageNo) (z : DirtyPage) → pages.is_dirty_of ino p (pages.fail_of i q n z) ≡ pages.is_dirty_of ino p z
-unfolding pages.failed_by
-fail_place i q n ino p z = go (pages.is_dirty_of i q z)
-  where
-    go : (b : Bool) → pages.is_dirty_of ino p (if b then pages.failed_by n z else z) ≡ pages.is_dirty_of ino p z
-    go true = refl
-    go false = refl
 
 -- A rule that says something else.
 abbrev Unsubmitted : List Output → Type 0
@@ -147,15 +133,6 @@ read_submits_none k b c n at to tag bytes (inl e) = no e
 not_read : (ino : ℕ) (p : PageNo) (c : PageCommand) (v : ℕ) → c.kind ≡ io.Write v → not (pages.is_read_of ino p c) ≡ true
 not_read ino p c v e = ap (λ k. not (not (pages.is_write k) && ((c.ino == ino) && same_page c.page p))) e
 
-has_left : {A : Type 0} (xs ys : List A) (x : A) → Has x xs → Has x (xs ++ ys)
-has_left [] ys x i = absurd i
-has_left (z ∷ zs) ys x (inl e) = inl e
-has_left (z ∷ zs) ys x (inr i) = inr (has_left zs ys x i)
-
-has_last : {A : Type 0} (xs : List A) (x : A) → Has x (xs ++ x ∷ [])
-has_last [] x = inl refl
-has_last (z ∷ zs) x = inr (has_last zs x)
-
 -- the association's server and commands are as they were, and nothing is submitted
 quietly : (t u : Turn) (os : List Output) → t.here.server ≡ u.here.server → t.here.store.commands ≡ u.here.store.commands → t.here.store.pages.dirty ≡ u.here.store.pages.dirty → u.out ≡ t.out ++ os → Unsubmitted os → Keeps NoneEnds t u
 quietly t u os s e q o f = record { stays = λ n tag g h. same_listed t.here u.here s e q n tag h; said = more_said t u os o f }
@@ -172,15 +149,15 @@ put_place ino p i q z e f =
 change_keeps : (now : Stamp) (t u : Turn) → Change now t u → Keeps NoneEnds t u
 unfolding cp.submit_read cp.submit_write cp.submit_command pages.begin_command pages.forget_read pages.forget_from pages.drop_from pages.written
 change_keeps now t _ (Says _ o p) = quietly t _ (o ∷ []) refl refl refl refl (plain_submits_none o p)
-change_keeps now t _ (Operates _ os) = quietly t _ [] refl refl refl (empty_right t.out) silent
+change_keeps now t _ (Operates _ os) = quietly t _ [] refl refl refl (nothing_after t.out) silent
 change_keeps now t _ (Answers _ os ops a) = quietly t _ (map (answer_to a) ops) refl refl refl refl (answers_submit_none a ops)
-change_keeps now t _ (Greets _ g) = quietly t _ [] refl refl refl (empty_right t.out) silent
-change_keeps now t _ (TellsLost _ lost) = quietly t _ [] refl refl refl (empty_right t.out) silent
-change_keeps now t _ (Begins _ s e b n) = quietly t _ [] refl refl refl (empty_right t.out) silent
-change_keeps now t _ (Follows _ s v e g) = quietly t _ [] refl refl refl (empty_right t.out) silent
-change_keeps now t _ (Learns _ e v n) = quietly t _ [] refl refl refl (empty_right t.out) silent
-change_keeps now t _ (Forgets _ ino p i) = quietly t _ [] refl refl refl (empty_right t.out) silent
-change_keeps now t _ (Caches _ clean) = quietly t _ [] refl refl refl (empty_right t.out) silent
+change_keeps now t _ (Greets _ g) = quietly t _ [] refl refl refl (nothing_after t.out) silent
+change_keeps now t _ (TellsLost _ lost) = quietly t _ [] refl refl refl (nothing_after t.out) silent
+change_keeps now t _ (Begins _ s e b n) = quietly t _ [] refl refl refl (nothing_after t.out) silent
+change_keeps now t _ (Follows _ s v e g) = quietly t _ [] refl refl refl (nothing_after t.out) silent
+change_keeps now t _ (Learns _ e v n) = quietly t _ [] refl refl refl (nothing_after t.out) silent
+change_keeps now t _ (Forgets _ ino p i) = quietly t _ [] refl refl refl (nothing_after t.out) silent
+change_keeps now t _ (Caches _ clean) = quietly t _ [] refl refl refl (nothing_after t.out) silent
 change_keeps now t _ (Writes _ s f p bytes n e sv own m x) =
     record {
       stays = λ k tag g h. listed_with t.here (cp.with_pages_changed (pages.written t.here.store.pages f.ino p bytes) f.ino p (note t n)).here refl k tag h
@@ -257,7 +234,7 @@ ends_keep number ok t _ once (Hardens pc v e o k w) = fewer number t (cl.hardene
         let z = found_at (pages.is_numbered number) t.here.store.commands pc e in
         absurd (f (sym h.number_is ∙ sym (once pc h.command z.1 h.here v h.version k h.kind a.0 a.1) ∙ eqb-true pc.number number z.0))
 ends_keep number ok t _ once (Fails pc v e o k) =
-    fewer number t _ refl refl refl (λ n tag f h. found_map (pages.is_dirty_of h.command.ino h.command.page) (pages.fail_of pc.ino pc.page pc.number) (fail_place pc.ino pc.page pc.number h.command.ino h.command.page) t.here.store.pages.dirty h.dirty h.dirty_is)
+    fewer number t _ refl refl refl (λ n tag f h. found_map (pages.is_dirty_of h.command.ino h.command.page) (pages.fail_of pc.ino pc.page pc.number) (place_failed pc.ino pc.page pc.number h.command.ino h.command.page) t.here.store.pages.dirty h.dirty h.dirty_is)
 
 pub finished_keeps : (now : Stamp) (number : ℕ) (ok : Bool) (t u : Turn) → WritesOnce t.here → Finished now number ok t u → Keeps (λ n. n ≡ number) t u
 finished_keeps now number ok t u once f = keeps_then (λ n. n ≡ number) t f.mid u (ends_keep number ok t f.mid once f.ends) (changes_keep now f.mid u (rest_of f))

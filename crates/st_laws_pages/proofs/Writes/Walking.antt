@@ -1,36 +1,30 @@
 -- Outstanding writes through a whole step of a client, and what it submits.
-use Rattle.std.proofs.Common.{◌≡◌, ℕ, ◌⊎◌, Bool, true, false, List, [], ◌∷◌, ◌++◌, Option, Some, None, refl, sym, ◌∙◌, subst, inl, inr, if◌then◌else◌}
-use Rattle.st_base.specs.declared.config.Config.{Config}
-use Rattle.st_base.specs.declared.disk.BlockAt.{BlockAt}
-use Rattle.st_base.specs.declared.disk.Tag.{Tag}
-use Rattle.st_base.specs.declared.ids.ClientId.{ClientId}
-use Rattle.st_base.specs.declared.ids.Stamp.{Stamp}
-use Rattle.st_messages.specs.declared.answer.AppAnswer.{AppAnswer}
-use Rattle.st_messages.specs.declared.answer.AppAnswer.TheVariants as answers
-use Rattle.st_messages.specs.declared.ask.Ask.{Ask}
-use Rattle.st_messages.specs.declared.ask.Ask.TheVariants as asks
-use Rattle.st_messages.specs.declared.output.Note.TheVariants as notes
-use Rattle.st_messages.specs.declared.output.Output.{Output}
-use Rattle.st_messages.specs.declared.output.Output.TheVariants as outputs
-use Rattle.st_rules.specs.declared.client.ClientInput.{ClientInput}
-use Rattle.st_rules.specs.declared.client.ClientInput.TheVariants as inputs
-use Rattle.st_rules.specs.declared.client.Operation.{Operation}
-use Rattle.st_rules.specs.ClientPages as pages
-use Rattle.st_rules.specs.ClientPasses as cp
-use Rattle.st_rules.specs.ClientReplies as cr
-use Rattle.st_rules.specs.Client as cl
-use Rattle.st_rules.specs.ClientState as state
-use Rattle.st_rules.specs.ClientState.{Association, ClientState, ClientSession, ClientTurn, Turn, client_turn, enter, leave, at_these, at_each, with_associations, only_at, server_of, is_sent}
-use Rattle.st_lemmas.specs.Lists.{Has}
-use Rattle.st_lemmas.proofs.Tables.{has_append}
+use Rattle.st_lemmas.proofs.Words
+use Words.{◌≡◌, ℕ, ◌⊎◌, Bool, true, false, List, [], ◌∷◌, ◌++◌, Option, Some, None, refl, sym, ◌∙◌, subst, inl, inr, if◌then◌else◌, Config, BlockAt, Tag}
+use Words.{ClientId, Stamp, AppAnswer, Ask, Output, ClientInput, Operation}
+use Words.answers
+use Words.asks
+use Words.notes
+use Words.outputs
+use Words.inputs
+use Words.ClientPages as pages
+use Words.ClientPasses as cp
+use Words.ClientReplies as cr
+use Words.Client as cl
+use Words.ClientState as state
+use Words.ClientState.{Association, ClientState, ClientSession, ClientTurn, Turn, client_turn, enter, leave, at_these, at_each, with_associations, only_at}
+use Words.ClientState.{server_of, is_sent}
+use Words.Lists.{Has}
+use Words.Tables.{has_append}
+use Words.Members.{has_last, has_left}
 use Rattle.st_laws_steps.specs.Client.Losses.{Fit, is_ended}
 use Rattle.st_laws_steps.specs.Client.Inputs as taking
 use Rattle.st_laws_steps.specs.Client.Inputs.{Taken}
 use Rattle.st_laws_steps.specs.Lives.Lives.{Pairwise}
 use Rattle.st_laws_steps.proofs.Client.Nexts.{changes_next}
-use Rattle.st_laws_steps.proofs.Client.Asking.{c_passes}
-use Rattle.st_laws_steps.proofs.Client.Replying.{c_receive}
-use Rattle.st_laws_steps.proofs.Client.Losing.{c_only, finish_is, is_done}
+use Rattle.st_laws_steps.proofs.Client.Asking.{changes_by_passes}
+use Rattle.st_laws_steps.proofs.Client.Replying.{changes_by_receive}
+use Rattle.st_laws_steps.proofs.Client.Losing.{changes_by_only, finish_is, is_done}
 use Rattle.st_laws_steps.proofs.Client.Noting.{pair_has}
 use Rattle.st_laws_steps.proofs.Client.Stepping.{each, LostOrNot, Phased, finish_next, pairs_then, pairs_has, pairs_same, phased}
 use Rattle.st_laws_steps.proofs.Client.Taking.{taken}
@@ -64,15 +58,6 @@ ListedAt al n tag = (b : Association) × Has b al × IsListed b n tag
 record AllKeep (E : ℕ → Type 0) (t u : ClientTurn) : Type 0 where
   pairs : Pairwise (FollowsOn E) t.state.associations u.state.associations
   said : (n : ℕ) (at to : BlockAt) (tag : Tag) (bytes : List ℕ) → Has (write_said n at to tag bytes) u.out → Has (write_said n at to tag bytes) t.out ⊎ ListedAt u.state.associations n tag
-
-has_left : {A : Type 0} (xs ys : List A) (x : A) → Has x xs → Has x (xs ++ ys)
-has_left [] ys x i = absurd i
-has_left (z ∷ zs) ys x (inl e) = inl e
-has_left (z ∷ zs) ys x (inr i) = inr (has_left zs ys x i)
-
-has_last : {A : Type 0} (xs : List A) (x : A) → Has x (xs ++ x ∷ [])
-has_last [] x = inl refl
-has_last (z ∷ zs) x = inr (has_last zs x)
 
 these_hold : (rule : Turn → Turn) (al : List Association) (t : ClientTurn) (b : Association) → Has b t.state.associations → Has b (at_these rule al t).state.associations
 unfolding at_these
@@ -145,8 +130,8 @@ input_keeps now _ t _ k f o = go _ _ k
     go _ _ (taking.Nothing i) = record { pairs = pairs_same (FollowsOn (EndedBy i)) (same_on (EndedBy i)) t.state.associations; said = λ n at to tag bytes j. inl j }
     go _ _ (taking.Full op ask e) = at_once op answers.OpsFull
     go _ _ (taking.Unknown op ask e g) = at_once op answers.NoFile
-    go _ _ (taking.Takes op ask e g) = each_keeps Fit NoneEnds (only_at (server_of ask) (cl.take_ask op ask)) (λ u p. changes_rule now u _ (c_only now (server_of ask) op ask u)) t f
-    go _ _ (taking.Receives m e) = each_keeps Fit NoneEnds (cr.receive_at now m.header m.body) (λ u p. changes_rule now u _ (c_receive now m.header m.body u p.fresh)) t f
+    go _ _ (taking.Takes op ask e g) = each_keeps Fit NoneEnds (only_at (server_of ask) (cl.take_ask op ask)) (λ u p. changes_rule now u _ (changes_by_only now (server_of ask) op ask u)) t f
+    go _ _ (taking.Receives m e) = each_keeps Fit NoneEnds (cr.receive_at now m.header m.body) (λ u p. changes_rule now u _ (changes_by_receive now m.header m.body u p.fresh)) t f
     go _ _ (taking.Finishes number result) =
         each_keeps FitOnce (λ n. n ≡ number) (cl.finish number result)
         (λ u p. let n = finish_next now number result u in record { keeps = finished_keeps now number (is_done result) u (cl.finish number result u) p.once (finish_is now number result u); server = n.server; life = n.life }) t
@@ -269,7 +254,7 @@ step_keeps c s now input f o =
     received = input_keeps now input t u (taken t now input) p.fit once_t
 
     worked : AllKeep NoneEnds u v
-    worked = each_keeps Fit NoneEnds (cp.passes now (cl.is_tick input)) (λ x p. changes_rule now x _ (c_passes now (cl.is_tick input) x)) u p.fit_too
+    worked = each_keeps Fit NoneEnds (cp.passes now (cl.is_tick input)) (λ x p. changes_rule now x _ (changes_by_passes now (cl.is_tick input) x)) u p.fit_too
 
     early : (n : ℕ) (at to : BlockAt) (tag : Tag) (bytes : List ℕ) → Has (write_said n at to tag bytes) t.out ⊎ ListedAt u.state.associations n tag → ListedAt v.state.associations n tag
     early n at to tag bytes (inl i) = absurd (silent_none t.out (losses_silent now s) n at to tag bytes i)

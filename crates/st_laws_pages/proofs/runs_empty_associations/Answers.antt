@@ -1,5 +1,5 @@
-use Rattle.st_laws_pages.proofs.Losses.Law.{law}
+use Rattle.st_laws_pages.proofs.Losses.Law.{runs_empty_associations}
 use Rattle.st_laws_pages.proofs.runs_empty_associations.Goals as goal
 
 pub returns : goal.returns
-returns c = law
+returns c = runs_empty_associations

@@ -1,32 +1,24 @@
 -- A pending entry of a present life: its page is dirty under an exclusive lock and a lease that lasts, so no other client has a lock.
-use Rattle.std.proofs.Common.{◌≡◌, ◌≢◌, ℕ, zero, suc, ◌+◌, ◌<◌, ◌≤◌, ◌⊎◌, Bool, true, false, ◌&&◌, ◌==◌, List, [], ◌∷◌, Option, Some, None, refl, sym, ap, ◌∙◌, subst, inl, inr, arith}
-use Rattle.std.specs.Prelude.{find, is_some}
-use Rattle.std.proofs.lemmas.Bool.{eqb-true}
-use Rattle.st_base.specs.declared.ids.ClientId.{ClientId}
-use Rattle.st_base.specs.declared.ids.Life.{Life}
-use Rattle.st_base.specs.declared.ids.NodeId.TheVariants as nodes
-use Rattle.st_base.specs.declared.ids.ServerId.{ServerId}
-use Rattle.st_base.specs.declared.ids.Stamp.{Stamp}
-use Rattle.st_rules.specs.declared.log.Fate.{Fate}
-use Rattle.st_rules.specs.declared.log.Fate.TheVariants as fates
-use Rattle.st_rules.specs.declared.log.LogEntry.{LogEntry}
-use Rattle.st_rules.specs.declared.log.LogOwner.{LogOwner}
-use Rattle.st_rules.specs.declared.pages.DirtyPage.{DirtyPage}
-use Rattle.st_rules.specs.declared.world.LeaseLife.{LeaseLife}
-use Rattle.st_rules.specs.Client as cl
-use Rattle.st_rules.specs.ClientLease as lease
-use Rattle.st_rules.specs.ClientPages.{Store, dirty_of}
-use Rattle.st_rules.specs.ClientState.{Association, ClientSession, is_at}
-use Rattle.st_rules.specs.Events.{is_hard_fate}
-use Rattle.st_rules.specs.FlatLog.{is_of_client, is_pending}
-use Rattle.st_rules.specs.Keys.{client, same_client, same_server, server_node}
-use Rattle.st_rules.specs.Server.{ServerNode}
-use Rattle.st_rules.specs.World.{World, WorldClient, clock_of, end_or_present, ended_of, is_life_of, lease_end_of, node_of, present_end, server, site_of}
+use Rattle.st_lemmas.proofs.Words
+use Words.{◌≡◌, ◌≢◌, ℕ, zero, suc, ◌+◌, ◌<◌, ◌≤◌, ◌⊎◌, Bool, true, false, ◌&&◌, ◌==◌, List, [], ◌∷◌, Option, Some, None, refl, sym, ap, ◌∙◌, subst, inl, inr}
+use Words.{arith, find, is_some, eqb-true, ClientId, Life, ServerId, Stamp, Fate, LogEntry, LogOwner, LeaseLife}
+use Words.nodes
+use Words.fates
+use Words.Client as cl
+use Words.ClientLease as lease
+use Words.ClientPages.{Store, dirty_of}
+use Words.ClientState.{Association, ClientSession, is_at}
+use Words.Events.{is_hard_fate}
+use Words.FlatLog.{is_of_client, is_pending}
+use Words.Keys.{client, same_client, same_server, server_node}
+use Words.Server.{ServerNode}
+use Words.World.{World, WorldClient, clock_of, end_or_present, ended_of, is_life_of, lease_end_of, node_of, present_end, server, site_of}
+use Words.Lists.{Has}
+use Words.Tables.{and_true, found_at}
+use Words.Truth.{some_there}
 use Rattle.st_protocol.specs.Assoc as net
 use Rattle.st_protocol.specs.Assoc.{Alive, Config}
 use Rattle.st_protocol.proofs.World.{exclusive}
-use Rattle.st_lemmas.specs.Lists.{Has}
-use Rattle.st_lemmas.proofs.Tables.{and_true, found_at}
 use Rattle.st_laws_refine.specs.Views.Halves.{client_of, date_in, held_in, leased_in}
 use Rattle.st_laws_refine.specs.Client.Invariants.{Lasts}
 use Rattle.st_laws_refine.specs.Server.Pair.{client_in}
@@ -53,21 +45,17 @@ fate_at c life sv x [] e r h = elim h [ ]
 fate_at c life sv x (y ∷ es) e r (inl q) = subst (λ (z : LogEntry). FateOk c life sv x z) (sym q) r.one
 fate_at c life sv x (y ∷ es) e r (inr h) = fate_at c life sv x es e r.rest h
 
-owner_at : (P : LogOwner → Type 0) (es : List LogEntry) (e : LogEntry) → PendingAll P es → Has e es → is_pending e.fate ≡ true → P e.of
+pub owner_at : (P : LogOwner → Type 0) (es : List LogEntry) (e : LogEntry) → PendingAll P es → Has e es → is_pending e.fate ≡ true → P e.of
 owner_at P [] e r h p = elim h [ ]
 owner_at P (y ∷ es) e r (inl q) p = subst (λ (z : LogEntry). P z.of) (sym q) (r.one (ap (λ (z : LogEntry). is_pending z.fate) (sym q) ∙ p))
 owner_at P (y ∷ es) e r (inr h) p = owner_at P es e r.rest h p
-
-dirty_some : (o : Option DirtyPage) → is_some o ≡ true → (d : DirtyPage) × (o ≡ Some d)
-dirty_some None e = cc
-dirty_some (Some d) e = (d, refl)
 
 -- a lock is under a lease
 pub leased_held : (o : Option ClientSession) (i : ℕ) → 1 ≤ (held_in o i).mode → leased_in o ≡ true
 leased_held None i h = absurd (omega (arith, h))
 leased_held (Some s) i h = refl
 
-lasts_date : (l now : ℕ) (o : Option ClientSession) → leased_in o ≡ true → Lasts l now o → now < date_in o + l
+pub lasts_date : (l now : ℕ) (o : Option ClientSession) → leased_in o ≡ true → Lasts l now o → now < date_in o + l
 lasts_date l now None e h = cc e
 lasts_date l now (Some s) e h = h
 
@@ -161,8 +149,8 @@ module _ (k : Config) (count : ℕ) (w : World) (a : AllStand k count w) (s : �
           none None e = refl
           none (Some t) e = cc e
 
-pub law : PendingPagesStandAlone
-law asked_as k count w c d site other a e all n rc rd copies here p = each other.node.state.associations (λ y h. h)
+pub pending_pages_stand_alone : PendingPagesStandAlone
+pending_pages_stand_alone asked_as k count w c d site other a e all n rc rd copies here p = each other.node.state.associations (λ y h. h)
   where
     of : (is_of_client (client c) e.of ≡ true) × ((same_server e.of.file.server a.server && (e.of.life.0 == a.life.0)) ≡ true)
     of = and_true (same_client e.of.client (client c)) _ p.own
@@ -201,7 +189,7 @@ law asked_as k count w c d site other a e all n rc rd copies here p = each other
 
         go : (is_hard_fate e.fate ≡ true) ⊎ (is_some (dirty_of a.store.pages e.of.file.ino e.of.page) ≡ true) → 2 ≤ (held_in a.session e.of.file.ino).mode
         go (inl h) = absurd (not_hard e.fate p.pending h)
-        go (inr h) = let q = dirty_some _ h in (stands.pages e.of.file.ino e.of.page).mode q.0 q.1
+        go (inr h) = let q = some_there _ h in (stands.pages e.of.file.ino e.of.page).mode q.0 q.1
 
     each : (xs : List Association) → ((y : Association) → Has y xs → Has y other.node.state.associations) → Unheld e.of.file other.node.state.config.lease (clock_of w (nodes.Client (client d))).0 xs
     each [] h = record {}

@@ -1,14 +1,10 @@
 -- A client after its losses: an association with a session is as it was, and its lease lasts.
-use Rattle.std.proofs.Common.{◌≡◌, Bool, true, false, List, [], ◌∷◌, Option, Some, None, refl, sym, ap, ◌∙◌, subst, arith}
-use Rattle.std.proofs.lemmas.Bool.{leb-false}
-use Rattle.st_base.specs.declared.config.Config.{Config}
-use Rattle.st_base.specs.declared.ids.ClientId.{ClientId}
-use Rattle.st_base.specs.declared.ids.Stamp.{Stamp}
-use Rattle.st_rules.specs.declared.world.LeaseLife.{LeaseLife}
-use Rattle.st_rules.specs.Client as cl
-use Rattle.st_rules.specs.ClientLease as lease
-use Rattle.st_rules.specs.ClientState.{Association, ClientSession, ClientState, Turn, client_turn}
-use Rattle.st_lemmas.specs.Lists.{Has}
+use Rattle.st_lemmas.proofs.Words
+use Words.{◌≡◌, Bool, true, false, List, [], ◌∷◌, Option, Some, None, refl, sym, ap, ◌∙◌, subst, arith, leb-false, Config, ClientId, Stamp, LeaseLife}
+use Words.Client as cl
+use Words.ClientLease as lease
+use Words.ClientState.{Association, ClientSession, ClientState, Turn, client_turn}
+use Words.Lists.{Has}
 use Rattle.st_laws_refine.specs.Client.Invariants.{Lasts}
 use Rattle.st_laws_steps.specs.Lives.Lives.{Pairwise}
 use Rattle.st_laws_steps.specs.Client.Losses.{Fit, IsLost, Loses, Lasts as StaysOn, is_ended}
@@ -45,7 +41,7 @@ pub record Behind (s : ClientState) (now : Stamp) (b : Association) : Type 0 whe
   pub was : Has b s.associations
   pub lasts : Lasts s.config.lease now.0 b.session
 
-lasting : (k : Config) (now : Stamp) (o : Option ClientSession) → is_ended k now o ≡ false → Lasts k.lease now.0 o
+pub lasting : (k : Config) (now : Stamp) (o : Option ClientSession) → is_ended k now o ≡ false → Lasts k.lease now.0 o
 lasting k now None e = record {}
 lasting k now (Some s) e = let z = leb-false (lease.end_of k s.lease).0 now.0 e in omega (arith, z)
 

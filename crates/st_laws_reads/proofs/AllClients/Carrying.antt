@@ -1,36 +1,24 @@
 -- The lines of a step: each submitted write carries the content of the log at it.
-use Rattle.std.proofs.Common.{◌≡◌, ℕ, ◌+◌, Bool, true, false, List, [], ◌∷◌, ◌++◌, Option, Some, None, Ok, Err, refl, sym, ap, ◌∙◌, subst, append_assoc, if◌then◌else◌}
-use Rattle.std.specs.Prelude.{length}
-use Rattle.st_base.specs.declared.disk.Command.{Command}
-use Rattle.st_base.specs.declared.disk.Command.TheVariants as commands
-use Rattle.st_base.specs.declared.ids.ClientId.{ClientId}
-use Rattle.st_base.specs.declared.ids.Life.{Life}
-use Rattle.st_base.specs.declared.ids.ServerId.{ServerId}
-use Rattle.st_messages.specs.declared.ask.Ask.{Ask}
-use Rattle.st_messages.specs.declared.event.Event.{Event}
-use Rattle.st_messages.specs.declared.output.Note.{Note}
-use Rattle.st_messages.specs.declared.output.Note.TheVariants as notes
-use Rattle.st_messages.specs.declared.output.Output.{Output}
-use Rattle.st_messages.specs.declared.output.Output.TheVariants as outputs
-use Rattle.st_rules.specs.declared.log.Fate.{Fate}
-use Rattle.st_rules.specs.declared.log.Fate.TheVariants as fates
-use Rattle.st_rules.specs.declared.log.LogEntry.{LogEntry}
+use Rattle.st_lemmas.proofs.Words
+use Words.{◌≡◌, ℕ, ◌+◌, Bool, true, false, List, [], ◌∷◌, ◌++◌, Option, Some, None, Ok, Err, refl, sym, ap, ◌∙◌, subst, append_assoc, if◌then◌else◌, length}
+use Words.{Command, ClientId, Life, ServerId, Ask, Event, Note, Output, Fate, LogEntry, Observation, append-nil}
+use Words.commands
+use Words.notes
+use Words.outputs
+use Words.fates
+use Words.seen
+use Words.Client as cl
+use Words.ClientState.{ClientState}
+use Words.Events as ev
+use Words.Events.{WorldTurn, client_notes, client_says, client_says_all, counted, happens, present_life, world_step}
+use Words.FlatLog as log
+use Words.History.{Traced}
+use Words.Lines.{AtEach, log_behind, log_told}
+use Words.Safety.{Step, step}
+use Words.World.{World, WorldClient, life_with, numbered, site_of}
+use Words.Numbers.{numbered_own}
 use Rattle.st_rules.specs.declared.node.StepRefusal.TheVariants.{Crashed}
-use Rattle.st_rules.specs.declared.observation.Observation.{Observation}
-use Rattle.st_rules.specs.declared.observation.Observation.TheVariants as seen
-use Rattle.st_rules.specs.Client as cl
-use Rattle.st_rules.specs.ClientState.{ClientState}
-use Rattle.st_rules.specs.Events as ev
-use Rattle.st_rules.specs.Events.{WorldTurn, client_notes, client_says, client_says_all, counted, happens, present_life, world_step}
-use Rattle.st_rules.specs.FlatLog as log
-use Rattle.st_rules.specs.History.{Traced}
-use Rattle.st_rules.specs.Lines.{AtEach, log_behind, log_told}
-use Rattle.st_rules.specs.Safety.{Step, step}
-use Rattle.st_rules.specs.Server as server
-use Rattle.st_rules.specs.World.{World, WorldClient, life_with, numbered, site_of}
 use Rattle.st_protocol.specs.Assoc.{Config}
-use Rattle.st_lemmas.proofs.Numbers.{numbered_own}
-use Rattle.st_laws_refine.proofs.Client.Steps.{nothing_more}
 use Rattle.st_laws_refine.proofs.Client.World.{lives_same, told_one}
 use Rattle.st_laws_leases.specs.Sides.World.{AllStand}
 use Rattle.st_laws_reads.specs.Copies.Copies.{Right, RightBehind, RightOne}
@@ -61,7 +49,7 @@ module _ (asked : ℕ → Option Ask) (v : World) (c : ClientId) (before : Clien
       carried (commands.Read to) r = tt
 
       go : (o : Option WorldClient) → SeenCarried v sc.seen sc (ev.submits sc c o n at what)
-      go None = record { more = []; is = sym (nothing_more sc.seen); right = tt; told = refl }
+      go None = record { more = []; is = sym (append-nil sc.seen); right = tt; told = refl }
       go (Some s) = record { more = _ ∷ []; is = refl; right = (carried what r, tt); told = refl }
   seen_one last (outputs.Note n) sc l r = note n
     where
@@ -70,11 +58,11 @@ module _ (asked : ℕ → Option Ask) (v : World) (c : ClientId) (before : Clien
       note (notes.Lost s life) = record { more = seen.Lost c s life ∷ []; is = refl; right = (tt, tt); told = refl }
       note (notes.Accepted f p bytes) = record { more = seen.Wrote (length sc.world.log + 1) c f p bytes ∷ []; is = refl; right = (tt, tt); told = ap (λ (u : ServerId → Life). log.accept sc.world.log c (u f.server) f p bytes) l }
       note (notes.Patched f p at bytes) = record { more = seen.Patched (length sc.world.log + 1) c f p at bytes ∷ []; is = refl; right = (tt, tt); told = ap (λ (u : ServerId → Life). log.patch sc.world.log c (u f.server) f p at bytes) l }
-      note n = record { more = []; is = sym (nothing_more sc.seen); right = tt; told = refl }
+      note n = record { more = []; is = sym (append-nil sc.seen); right = tt; told = refl }
 
   seen_all : (last : Option Output) (os : List Output) (sc : WorldTurn) → ◌≡◌ {A = ServerId → Life} (present_life v c) (present_life sc.world c) → RightBehind asked c (present_life sc.world c) last sc.world.log os → SeenCarried v sc.seen sc (client_says_all c before os sc)
   unfolding client_says_all AtEach log_told
-  seen_all last [] sc l r = record { more = []; is = sym (nothing_more sc.seen); right = tt; told = refl }
+  seen_all last [] sc l r = record { more = []; is = sym (append-nil sc.seen); right = tt; told = refl }
   seen_all last (o ∷ os) sc l r =
       let u : WorldTurn = client_says sc c before o in
       let t = told_one c before o sc in

@@ -1,13 +1,11 @@
 -- Nothing of a file that is clear from a page on is cached from there on.
-use Rattle.std.proofs.Common.{◌≡◌, ℕ, ◌≤◌, Bool, true, false, not, ◌||◌, List, [], ◌∷◌, Some, None, refl, ap, inl, inr, arith, if◌then◌else◌}
-use Rattle.std.specs.Prelude.{find}
-use Rattle.std.specs.List.{list_any}
-use Rattle.st_base.specs.declared.ids.PageNo.{PageNo}
-use Rattle.st_rules.specs.ClientPages as pages
-use Rattle.st_rules.specs.ClientPages.{Store}
-use Rattle.st_lemmas.specs.Lists.{Has}
+use Rattle.st_lemmas.proofs.Words
+use Words.{◌≡◌, ℕ, ◌≤◌, Bool, true, false, not, ◌||◌, List, [], ◌∷◌, Some, None, refl, ap, inl, inr, arith, if◌then◌else◌, find, list_any, PageNo}
+use Words.ClientPages as pages
+use Words.ClientPages.{Store}
+use Words.Lists.{Has}
+use Words.Tables.{and_true}
 use Rattle.st_lemmas.proofs.Contents.{one_place}
-use Rattle.st_lemmas.proofs.Tables.{and_true}
 use Rattle.st_laws_reads.specs.Copies.Copies.{Nothing}
 use Rattle.st_laws_reads.specs.AllClients.CutFiles.{Clear}
 

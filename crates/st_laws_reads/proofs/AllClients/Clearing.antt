@@ -1,55 +1,41 @@
 -- The rules of a client keep what it asks to cut or to remove clear.
-use Rattle.std.proofs.Common.{◌≡◌, ◌⊎◌, ℕ, ◌≤◌, Bool, true, false, not, ◌==◌, List, [], ◌∷◌, Option, Some, None, refl, sym, ap, ◌∙◌, subst, inl, inr, if◌then◌else◌}
-use Rattle.std.proofs.lemmas.Bool.{eq-eqb, le-leb}
-use Rattle.st_base.specs.declared.disk.Tag.{Tag}
-use Rattle.st_base.specs.declared.ids.FileId.{FileId}
-use Rattle.st_base.specs.declared.ids.PageNo.{PageNo}
-use Rattle.st_base.specs.declared.ids.ServerId.{ServerId}
-use Rattle.st_base.specs.declared.ids.Stamp.{Stamp}
-use Rattle.st_messages.specs.declared.answer.AppAnswer.TheVariants as answers
-use Rattle.st_messages.specs.declared.ask.Ask.{Ask}
-use Rattle.st_messages.specs.declared.ask.Ask.TheVariants as asks
-use Rattle.st_messages.specs.declared.message.Body.{Body}
-use Rattle.st_messages.specs.declared.message.Header.{Header}
-use Rattle.st_rules.specs.declared.client.CleanPage.{CleanPage}
-use Rattle.st_rules.specs.declared.client.Ended.{Ended}
-use Rattle.st_rules.specs.declared.client.Ended.TheVariants as ends
-use Rattle.st_rules.specs.declared.client.IoKind.{IoKind}
-use Rattle.st_rules.specs.declared.client.IoKind.TheVariants as io
-use Rattle.st_rules.specs.declared.client.Operation.{Operation}
-use Rattle.st_rules.specs.declared.client.PageCommand.{PageCommand}
-use Rattle.st_rules.specs.declared.client.Request.{Request}
-use Rattle.st_rules.specs.declared.pages.DirtyPage.{DirtyPage}
-use Rattle.st_rules.specs.Client as cl
-use Rattle.st_rules.specs.ClientPages as pages
-use Rattle.st_rules.specs.ClientPages.{Store}
-use Rattle.st_rules.specs.ClientPasses as cp
-use Rattle.st_rules.specs.ClientReplies as cr
-use Rattle.st_rules.specs.ClientState.{Association, ClientSession, Requests, Turn, answer_each, asking, is_at, only_at, with_session, with_store}
-use Rattle.st_lemmas.specs.Lists.{Has}
-use Rattle.st_lemmas.proofs.Lookups.{some_is}
+use Rattle.st_lemmas.proofs.Words
+use Words.{◌≡◌, ◌⊎◌, ℕ, ◌≤◌, Bool, true, false, not, ◌==◌, List, [], ◌∷◌, Option, Some, None, refl, sym, ap, ◌∙◌, subst, inl, inr, if◌then◌else◌, eq-eqb}
+use Words.{le-leb, Tag, FileId, PageNo, ServerId, Stamp, Ask, Body, Header, CleanPage, Ended, IoKind, Operation, PageCommand, Request, DirtyPage}
+use Words.answers
+use Words.asks
+use Words.ends
+use Words.io
+use Words.Client as cl
+use Words.ClientPages as pages
+use Words.ClientPages.{Store}
+use Words.ClientPasses as cp
+use Words.ClientReplies as cr
+use Words.ClientState.{Association, ClientSession, Requests, Turn, answer_each, asking, is_at, only_at, with_session, with_store}
+use Words.Lists.{Has}
+use Words.Lookups.{some_is}
+use Words.Tables.{and_both, and_true, found_at, has_append, has_filter, has_map, none_passes, not_true}
+use Words.Members.{has_take}
+use Words.Truth.{none_not_some, not_both}
 use Rattle.st_lemmas.proofs.Puts.{has_put}
-use Rattle.st_lemmas.proofs.Tables.{and_both, and_true, found_at, has_append, has_filter, has_map, none_passes, not_true}
 use Rattle.st_laws_steps.specs.Client.Client as client
 use Rattle.st_laws_steps.specs.Client.Client.{Change}
 use Rattle.st_laws_steps.specs.Client.Losses.{Fit}
 use Rattle.st_laws_steps.specs.Client.Session.{SessionChange, Keeps, DropsLock, IsReasserted, EndsRequest, NewEpoch, AsksNew, AsksAgain, cuts_from}
-use Rattle.st_laws_steps.proofs.Clash.{clash}
-use Rattle.st_laws_steps.proofs.Client.Asking.{p_passes}
+use Rattle.st_laws_steps.proofs.Client.Asking.{passes_keep_or_ask}
 use Rattle.st_laws_steps.proofs.Client.Calm.{IsCalm}
 use Rattle.st_laws_steps.proofs.Client.Only.{Only, Goes}
 use Rattle.st_laws_steps.proofs.Client.Only as only
 use Rattle.st_laws_steps.proofs.Client.Passing.{IsPassing, KeepsOrAsks, Part, Uncut}
 use Rattle.st_laws_steps.proofs.Client.Replying.{calm_receive}
-use Rattle.st_laws_steps.proofs.Client.Working.{has_take}
 use Rattle.st_laws_reads.specs.AllClients.CutFiles.{Clear, Cleared, Cuts}
 
 abbrev pub K : Turn → Turn → Type 0
 K t u = Cleared t.here → Cleared u.here
 
-k_if : (t : Turn) (b : Bool) (u v : Turn) → K t u → K t v → K t (if b then u else v)
-k_if t true u v f g = f
-k_if t false u v f g = g
+clearing_kept_by_choice : (t : Turn) (b : Bool) (u v : Turn) → K t u → K t v → K t (if b then u else v)
+clearing_kept_by_choice t true u v f g = f
+clearing_kept_by_choice t false u v f g = g
 
 -- Sessions.
 like : (s r : ClientSession) (ino : ℕ) (p : PageNo) → r.requests.asked ≡ s.requests.asked → r.cutting ≡ s.cutting → Cuts (Some r) ino p → Cuts (Some s) ino p
@@ -61,11 +47,8 @@ like s r ino p a q c =
 abbrev Unasked : Association → Type 0
 Unasked a = (s : ClientSession) → a.session ≡ Some s → s.requests.asked ≡ None
 
-none_some : {A : Type 0} (x : A) → ◌≡◌ {A = Option A} None (Some x) → ⊥
-none_some x e = cc
-
 unasked : (a : Association) → Unasked a → Cleared a
-unasked a f ino p c = absurd (none_some c.request (sym (f c.session c.is) ∙ c.asked))
+unasked a f ino p c = absurd (none_not_some c.request (sym (f c.session c.is) ∙ c.asked))
 
 -- Stores.
 -- a page of another file becomes clean
@@ -146,10 +129,10 @@ idle_clear : (x : Store) (ino : ℕ) (p : PageNo) → pages.is_idle x ino ≡ tr
 unfolding pages.forget_from pages.drop_from
 idle_clear x ino p h =
     record {
-      dirty = λ d i e. clash (d.ino == ino) (eq-eqb d.ino ino e) (none_passes (pages.is_dirty_on ino) x.pages.dirty (not_true _ z.0) d i);
-      commands = λ c i e. clash (c.ino == ino) (eq-eqb c.ino ino e) (none_passes (pages.is_command_on ino) x.commands (not_true _ z.1) c i);
-      clean = λ y i e l. clash (pages.is_clean_behind ino p y) (and_both _ _ (eq-eqb y.ino ino e) (le-leb p.0 y.page.0 l)) (not_true _ (has_filter (λ c. not (pages.is_clean_behind ino p c)) x.pages.clean y i).1);
-      known = λ y i e l. clash (pages.is_known_behind ino p y) (and_both _ _ (eq-eqb y.ino ino e) (le-leb p.0 y.page.0 l)) (not_true _ (has_filter (λ c. not (pages.is_known_behind ino p c)) x.extents y i).1);
+      dirty = λ d i e. not_both (d.ino == ino) (eq-eqb d.ino ino e) (none_passes (pages.is_dirty_on ino) x.pages.dirty (not_true _ z.0) d i);
+      commands = λ c i e. not_both (c.ino == ino) (eq-eqb c.ino ino e) (none_passes (pages.is_command_on ino) x.commands (not_true _ z.1) c i);
+      clean = λ y i e l. not_both (pages.is_clean_behind ino p y) (and_both _ _ (eq-eqb y.ino ino e) (le-leb p.0 y.page.0 l)) (not_true _ (has_filter (λ c. not (pages.is_clean_behind ino p c)) x.pages.clean y i).1);
+      known = λ y i e l. not_both (pages.is_known_behind ino p y) (and_both _ _ (eq-eqb y.ino ino e) (le-leb p.0 y.page.0 l)) (not_true _ (has_filter (λ c. not (pages.is_known_behind ino p c)) x.extents y i).1);
     }
   where
     z : (not (pages.has_dirty x.pages ino) ≡ true) × (not (pages.is_outstanding x.commands ino) ≡ true)
@@ -161,8 +144,8 @@ unfolding asking
 follows_clear a s u (Keeps _ _ k) h ino p c = h ino p (like s u ino p (ap (λ (r : Requests). r.asked) k.requests) k.cutting c)
 follows_clear a s _ (DropsLock _ i l) h ino p c = h ino p (like s _ ino p refl refl c)
 follows_clear a s _ (IsReasserted _) h ino p c = h ino p (like s _ ino p refl refl c)
-follows_clear a s _ (EndsRequest _ stamp) h ino p c = absurd (none_some c.request (ap (λ (z : ClientSession). z.requests.asked) (some_is c.is) ∙ c.asked))
-follows_clear a s _ (NewEpoch _ epoch n) h ino p c = absurd (none_some c.request (ap (λ (z : ClientSession). z.requests.asked) (some_is c.is) ∙ c.asked))
+follows_clear a s _ (EndsRequest _ stamp) h ino p c = absurd (none_not_some c.request (ap (λ (z : ClientSession). z.requests.asked) (some_is c.is) ∙ c.asked))
+follows_clear a s _ (NewEpoch _ epoch n) h ino p c = absurd (none_not_some c.request (ap (λ (z : ClientSession). z.requests.asked) (some_is c.is) ∙ c.asked))
 follows_clear a s _ (AsksNew _ r now body cutting k f i) h ino p c =
     let n = some_is c.is in
     let q : body ≡ c.request.body = ap (λ (z : Request). z.body) (some_is (ap (λ (z : ClientSession). z.requests.asked) n ∙ c.asked)) in
@@ -172,8 +155,8 @@ follows_clear a s _ (AsksAgain _ now q e) h ino p c =
     let n = some_is c.is in
     h ino p (record { session = s; is = refl; request = q; asked = e; from = ap (λ (z : Request). cuts_from z.body) (some_is (ap (λ (z : ClientSession). z.requests.asked) n ∙ c.asked)) ∙ c.from; cutting = ap (λ (z : ClientSession). z.cutting) n ∙ c.cutting })
 
-k_follows : (t : Turn) (s u : ClientSession) → t.here.session ≡ Some s → SessionChange t.here.store s u → K t (with_session u t)
-k_follows t s u e c h = follows_clear t.here s u c (λ ino p k. h ino p (subst (λ o. Cuts o ino p) (sym e) k))
+clearing_kept_by_follows : (t : Turn) (s u : ClientSession) → t.here.session ≡ Some s → SessionChange t.here.store s u → K t (with_session u t)
+clearing_kept_by_follows t s u e c h = follows_clear t.here s u c (λ ino p k. h ino p (subst (λ o. Cuts o ino p) (sym e) k))
 
 -- a file that is not cut is another one
 apart : (t : Turn) (f ino : ℕ) (p : PageNo) → Uncut t f → Cuts t.here.session ino p → f ≡ ino → ⊥
@@ -188,7 +171,7 @@ change_passing syncs asks now t _ (client.Answers _ os ops a) q h = absurd q
 change_passing syncs asks now t _ (client.Greets _ g) q h = h
 change_passing syncs asks now t _ (client.TellsLost _ lost) q h = absurd q
 change_passing syncs asks now t _ (client.Begins _ s a b c) q h = absurd q
-change_passing syncs asks now t _ (client.Follows _ s u e g) q h = k_follows t s u e g.how h
+change_passing syncs asks now t _ (client.Follows _ s u e g) q h = clearing_kept_by_follows t s u e g.how h
 change_passing syncs asks now t _ (client.Learns _ e a b) q h = absurd q
 change_passing syncs asks now t _ (client.Forgets _ f r i) q h = λ ino p c. forgotten_clear t.here.store ino p f r (h ino p c)
 change_passing syncs asks now t _ (client.Caches _ clean) q h = λ ino p c. fewer_clean t.here.store ino p clean q (h ino p c)
@@ -201,8 +184,8 @@ changes_passing : (syncs : List Operation) (asks : Part) (now : Stamp) (t u : Tu
 changes_passing syncs asks now t _ (only.Ends _) h = h
 changes_passing syncs asks now t v (Goes _ u _ c q r) h = changes_passing syncs asks now u v r (change_passing syncs asks now t u c q h)
 
-pub k_passes : (now : Stamp) (tick : Bool) (t : Turn) → K t (cp.passes now tick t)
-k_passes now tick t = changes_passing t.operations KeepsOrAsks now t (cp.passes now tick t) (p_passes now tick t)
+pub clearing_kept_by_passes : (now : Stamp) (tick : Bool) (t : Turn) → K t (cp.passes now tick t)
+clearing_kept_by_passes now tick t = changes_passing t.operations KeepsOrAsks now t (cp.passes now tick t) (passes_keep_or_ask now tick t)
 
 -- Each change where a message is received, and such changes.
 change_received : (now : Stamp) (t u : Turn) (c : Change now t u) → IsCalm true now t u c → K t u
@@ -212,7 +195,7 @@ change_received now t _ (client.Answers _ os ops a) q h = h
 change_received now t _ (client.Greets _ g) q h = h
 change_received now t _ (client.TellsLost _ lost) q h = h
 change_received now t _ (client.Begins _ s a b n) q h = unasked (with_session s t).here (λ r e. ap (λ (z : ClientSession). z.requests.asked) (some_is (sym e)) ∙ ap (λ (z : ClientSession). z.requests.asked) n.2)
-change_received now t _ (client.Follows _ s u e g) q h = k_follows t s u e g.how h
+change_received now t _ (client.Follows _ s u e g) q h = clearing_kept_by_follows t s u e g.how h
 change_received now t _ (client.Learns _ e a b) q h = unasked (with_store (record t.here.store { extents = pages.with_known e t.here.store.extents }) t).here (λ s i. subst client.Unasked i a)
 change_received now t _ (client.Forgets _ ino p i) q h = absurd q
 change_received now t _ (client.Caches _ clean) q h = absurd (no q)
@@ -227,16 +210,16 @@ changes_received : (now : Stamp) (t u : Turn) → Only (IsCalm true) now t u →
 changes_received now t _ (only.Ends _) h = h
 changes_received now t v (Goes _ u _ c q r) h = changes_received now u v r (change_received now t u c q h)
 
-pub k_receive : (now : Stamp) (h : Header) (b : Body) (t : Turn) → Fit t.here → K t (cr.receive_at now h b t)
-k_receive now h b t f = changes_received now t (cr.receive_at now h b t) (calm_receive now h b t f.fresh)
+pub clearing_kept_by_receive : (now : Stamp) (h : Header) (b : Body) (t : Turn) → Fit t.here → K t (cr.receive_at now h b t)
+clearing_kept_by_receive now h b t f = changes_received now t (cr.receive_at now h b t) (calm_receive now h b t f.fresh)
 
 -- The end of a command.
 fewer_clear : (x : Store) (ino : ℕ) (p : PageNo) (n : ℕ) → Clear x ino p → Clear (record x { commands = pages.without_command n x.commands }) ino p
 fewer_clear x ino p n h = record { dirty = h.dirty; commands = λ c i. h.commands c (has_filter _ x.commands c i).0; clean = h.clean; known = h.known }
 
-pub k_finish : (number : ℕ) (r : Option (Option (Tag × List ℕ))) (t : Turn) → K t (cl.finish number r t)
+pub clearing_kept_by_finish : (number : ℕ) (r : Option (Option (Tag × List ℕ))) (t : Turn) → K t (cl.finish number r t)
 unfolding cl.finish cl.finish_at cl.finish_by cl.done_by cl.finish_command cl.ended_by cl.finish_as cl.failed_as cl.filled_by cl.hardened cl.mark_failed answer_each pages.end_command pages.end_at
-k_finish number r t = at (pages.command_of t.here.store.commands number) refl
+clearing_kept_by_finish number r t = at (pages.command_of t.here.store.commands number) refl
   where
     without : (c : PageCommand) → Turn
     without c = cl.with_commands (pages.without_command c.number t.here.store.commands) t
@@ -272,16 +255,16 @@ k_finish number r t = at (pages.command_of t.here.store.commands number) refl
 
     which : (c : PageCommand) → Has c t.here.store.commands → (r : Option (Option (Tag × List ℕ))) → K t (cl.finish_by t c r)
     which c i None = command c i false None
-    which c i (Some block) = k_if t (cl.is_result_of c.kind block) _ t (command c i true block) (λ h. h)
+    which c i (Some block) = clearing_kept_by_choice t (cl.is_result_of c.kind block) _ t (command c i true block) (λ h. h)
 
     at : (o : Option PageCommand) → pages.command_of t.here.store.commands number ≡ o → K t (cl.finish_at t o r)
     at None e = λ h. h
     at (Some c) e = which c (found_at (pages.is_numbered number) t.here.store.commands c e).1 r
 
 -- An ask, and losses.
-pub k_take : (s : ServerId) (op : ℕ) (ask : Ask) (t : Turn) → K t (only_at s (cl.take_ask op ask) t)
+pub clearing_kept_by_take : (s : ServerId) (op : ℕ) (ask : Ask) (t : Turn) → K t (only_at s (cl.take_ask op ask) t)
 unfolding only_at cl.take_ask cl.take_by cl.take_sync cl.enqueue cl.tell_lost
-k_take s op ask t = k_if t (is_at s t.here) _ t (by ask) (λ h. h)
+clearing_kept_by_take s op ask t = clearing_kept_by_choice t (is_at s t.here) _ t (by ask) (λ h. h)
   where
     lost : (g : FileId) (b : Bool) → K t (if b then cl.tell_lost t op g.ino else cl.enqueue t op ask)
     lost g true h = h
@@ -291,13 +274,13 @@ k_take s op ask t = k_if t (is_at s t.here) _ t (by ask) (λ h. h)
     by (asks.Sync g) = lost g (pages.has_lost t.here.lost g.ino)
     by a = λ h. h
 
-pub k_lose : (now : Stamp) (t : Turn) → K t (cl.lose now t)
+pub clearing_kept_by_lose : (now : Stamp) (t : Turn) → K t (cl.lose now t)
 unfolding cl.lose cl.lose_by cl.lose_over cl.lose_session
-k_lose now t = go t.here.session
+clearing_kept_by_lose now t = go t.here.session
   where
     empty : (a : Association) → a.session ≡ None → Cleared a
-    empty a e ino p c = absurd (none_some c.session (sym e ∙ c.is))
+    empty a e ino p c = absurd (none_not_some c.session (sym e ∙ c.is))
 
     go : (o : Option ClientSession) → K t (cl.lose_by t now o)
     go None = λ h. h
-    go (Some s) = k_if t (cl.is_over t s now) _ t (λ h. empty (cl.lose_session t s).here refl) (λ h. h)
+    go (Some s) = clearing_kept_by_choice t (cl.is_over t s now) _ t (λ h. empty (cl.lose_session t s).here refl) (λ h. h)

@@ -1,41 +1,31 @@
 -- A cut is free: the client that has the file alone asks for it, and no other client has a lock on the file.
-use Rattle.std.proofs.Common.{◌≡◌, ◌≢◌, ◌⊎◌, ℕ, ◌≤◌, zero, suc, Bool, true, false, List, [], ◌∷◌, ◌++◌, Option, Some, None, Ok, Err, refl, sym, ap, ◌∙◌, subst, inl, inr, arith, if◌then◌else◌}
-use Rattle.st_base.specs.declared.ids.FileId.{FileId}
-use Rattle.st_base.specs.declared.ids.NodeId.{NodeId}
-use Rattle.st_base.specs.declared.ids.NodeId.TheVariants as nodes
-use Rattle.st_base.specs.declared.ids.PageNo.{PageNo}
-use Rattle.st_base.specs.declared.ids.ServerId.{ServerId}
+use Rattle.st_lemmas.proofs.Words
+use Words.{◌≡◌, ◌≢◌, ◌⊎◌, ℕ, ◌≤◌, zero, suc, Bool, true, false, List, [], ◌∷◌, ◌++◌, Option, Some, None, Ok, Err, refl, sym, ap, ◌∙◌, subst, inl, inr, arith}
+use Words.{if◌then◌else◌, FileId, NodeId, PageNo, ServerId, Event, Message, Note, Output, ServerInput, LockRow, Observation, SentMessage}
+use Words.nodes
+use Words.events
+use Words.notes
+use Words.outputs
+use Words.serving
+use Words.seen
+use Words.ClientState.{Association}
+use Words.Events as ev
+use Words.Events.{WorldTurn}
+use Words.Keys.{client}
+use Words.Locks as locks
+use Words.Server as server
+use Words.Server.{ServerNode, thefts, turn}
+use Words.World.{World, WorldClient, clock_of, message_of, node_of, numbered, receiver_of}
+use Words.Lists.{Has}
+use Words.Lookups.{some_is}
+use Words.Numbers.{numbered_own}
+use Words.Tables.{same_or_not}
 use Rattle.st_base.specs.Mode.{number_of}
-use Rattle.st_messages.specs.declared.event.Event.{Event}
-use Rattle.st_messages.specs.declared.event.Event.TheVariants as events
-use Rattle.st_messages.specs.declared.message.Message.{Message}
-use Rattle.st_messages.specs.declared.output.Note.{Note}
-use Rattle.st_messages.specs.declared.output.Note.TheVariants as notes
-use Rattle.st_messages.specs.declared.output.Output.{Output}
-use Rattle.st_messages.specs.declared.output.Output.TheVariants as outputs
-use Rattle.st_rules.specs.declared.input.ServerInput.{ServerInput}
-use Rattle.st_rules.specs.declared.input.ServerInput.TheVariants as serving
-use Rattle.st_rules.specs.declared.locks.LockRow.{LockRow}
 use Rattle.st_rules.specs.declared.node.StepRefusal.TheVariants.{Crashed}
-use Rattle.st_rules.specs.declared.observation.Observation.{Observation}
-use Rattle.st_rules.specs.declared.observation.Observation.TheVariants as seen
-use Rattle.st_rules.specs.declared.world.SentMessage.{SentMessage}
-use Rattle.st_rules.specs.ClientState.{Association}
-use Rattle.st_rules.specs.Events as ev
-use Rattle.st_rules.specs.Events.{WorldTurn}
-use Rattle.st_rules.specs.Keys.{client}
-use Rattle.st_rules.specs.Locks as locks
-use Rattle.st_rules.specs.Server as server
-use Rattle.st_rules.specs.Server.{ServerNode, thefts, turn}
-use Rattle.st_rules.specs.World.{World, WorldClient, clock_of, message_of, node_of, numbered, receiver_of}
 use Rattle.st_protocol.specs.Assoc as net
 use Rattle.st_protocol.specs.Assoc.{Alive, ByHeld, ByRow, Config, Frozen, InService}
 use Rattle.st_protocol.proofs.Claims.{in_service}
 use Rattle.st_protocol.proofs.World as assoc
-use Rattle.st_lemmas.specs.Lists.{Has}
-use Rattle.st_lemmas.proofs.Lookups.{some_is}
-use Rattle.st_lemmas.proofs.Numbers.{numbered_own}
-use Rattle.st_lemmas.proofs.Tables.{same_or_not}
 use Rattle.st_laws_refine.specs.Views.Halves.{held_in, row_or, row_view}
 use Rattle.st_laws_refine.specs.Client.Invariants.{Lasts}
 use Rattle.st_laws_steps.specs.Lives.Lives.{clock_in}
@@ -50,15 +40,7 @@ use Rattle.st_laws_reads.specs.AllClients.Law.{Running}
 use Rattle.st_laws_reads.specs.AllClients.Obligations.{CutAsked, HasAlone, OthersLeft}
 use Rattle.st_laws_reads.proofs.AllClients.Alone.{leased_held, living, z}
 use Rattle.st_laws_reads.proofs.AllClients.ClearPages.{nothing_of}
-
--- Where a client has an exclusive row, no other client has a lock under a lease that lasts.
-pub frozen_or_not : (s : net.Server) → Frozen s ⊎ InService s
-frozen_or_not s = go s.up s.grace refl refl
-  where
-    go : (u g : Bool) → s.up ≡ u → s.grace ≡ g → Frozen s ⊎ InService s
-    go false g p q = inl (inl p)
-    go true true p q = inl (inr q)
-    go true false p q = inr (record { up = p; grace = q })
+use Rattle.st_protocol.proofs.World.{frozen_or_not}
 
 module _ (k : Config) (count : ℕ) (w : World) (a : AllStand k count w) (s : ℕ) (node : ServerNode) (at : node_of w (Rattle.st_rules.specs.World.server s) ≡ Some node) (runs : node.running ≡ true) where
   abbrev u : net.World

@@ -1,34 +1,23 @@
 -- Drops, at an advance and at a crash, keep the copies of the clients that run: what is dropped is of none of their present lives whose
 -- leases last, on files of which they have no lock.
-use Rattle.std.proofs.Common.{◌≡◌, ◌≢◌, ℕ, ◌+◌, ◌≤◌, ◌⊎◌, Bool, true, false, ◌&&◌, ◌==◌, List, [], ◌∷◌, ◌++◌, Option, Some, None, refl, sym, ap, ◌∙◌, subst, inl, inr, arith, leb-true}
-use Rattle.std.specs.Prelude.{find, nat_le}
-use Rattle.std.proofs.lemmas.Bool.{eqb-true}
-use Rattle.st_base.specs.declared.ids.ClientId.{ClientId}
-use Rattle.st_base.specs.declared.ids.FileId.{FileId}
-use Rattle.st_base.specs.declared.ids.Life.{Life}
-use Rattle.st_base.specs.declared.ids.NodeId.TheVariants as nodes
-use Rattle.st_base.specs.declared.ids.ServerId.{ServerId}
-use Rattle.st_base.specs.declared.ids.Stamp.{Stamp}
-use Rattle.st_messages.specs.declared.ask.Ask.{Ask}
-use Rattle.st_rules.specs.declared.log.Cause.{Cause}
-use Rattle.st_rules.specs.declared.log.LogEntry.{LogEntry}
-use Rattle.st_rules.specs.declared.log.LogOwner.{LogOwner}
-use Rattle.st_rules.specs.declared.world.IssuedCommand.{IssuedCommand}
-use Rattle.st_rules.specs.declared.world.LeaseLife.{LeaseLife}
-use Rattle.st_rules.specs.Admissible as adm
-use Rattle.st_rules.specs.Client as cl
-use Rattle.st_rules.specs.ClientLease as lease
-use Rattle.st_rules.specs.ClientState.{Association, ClientSession, ClientState, is_at}
-use Rattle.st_rules.specs.Events as ev
-use Rattle.st_rules.specs.Events.{present_lives}
-use Rattle.st_rules.specs.FlatLog as log
-use Rattle.st_rules.specs.FlatLog.{is_of_client, is_of_life, is_pending}
-use Rattle.st_rules.specs.Keys.{client, same_client, same_server}
-use Rattle.st_rules.specs.World.{World, WorldClient, clock_of, end_or_present, lease_end_of, present_end, site_of}
+use Rattle.st_lemmas.proofs.Words
+use Words.{◌≡◌, ◌≢◌, ℕ, ◌+◌, ◌≤◌, ◌⊎◌, Bool, true, false, ◌&&◌, ◌==◌, List, [], ◌∷◌, ◌++◌, Option, Some, None, refl, sym, ap, ◌∙◌, subst, inl, inr, arith}
+use Words.{leb-true, find, nat_le, eqb-true, ClientId, FileId, Life, ServerId, Stamp, Ask, Cause, LogEntry, LogOwner, IssuedCommand, LeaseLife}
+use Words.nodes
+use Words.Admissible as adm
+use Words.Client as cl
+use Words.ClientLease as lease
+use Words.ClientState.{Association, ClientSession, ClientState, is_at}
+use Words.Events as ev
+use Words.Events.{present_lives}
+use Words.FlatLog as log
+use Words.FlatLog.{is_of_client, is_of_life, is_pending}
+use Words.Keys.{client, same_client, same_server}
+use Words.World.{World, WorldClient, clock_of, end_or_present, lease_end_of, present_end, site_of}
+use Words.Lists.{Has}
+use Words.Lookups.{some_is}
+use Words.Tables.{and_true, has_filter, same_or_not}
 use Rattle.st_protocol.specs.Assoc.{Config}
-use Rattle.st_lemmas.specs.Lists.{Has}
-use Rattle.st_lemmas.proofs.Lookups.{some_is}
-use Rattle.st_lemmas.proofs.Tables.{and_true, has_filter, same_or_not}
 use Rattle.st_laws_refine.specs.Views.Halves.{held_in}
 use Rattle.st_laws_refine.specs.Client.Invariants.{Lasts}
 use Rattle.st_laws_pages.specs.Fates.Fates.{PendingAll}
@@ -38,9 +27,9 @@ use Rattle.st_laws_pages.proofs.Disks.Moves.{clock_is, clock_up}
 use Rattle.st_laws_leases.specs.Sides.World.{AllStand}
 use Rattle.st_laws_reads.specs.Copies.Law.{Apart, ClientCopies}
 use Rattle.st_laws_reads.specs.Copies.World.{ClientRests, DropsUnheld, OfNoPresentLife, Unheld}
-use Rattle.st_laws_reads.proofs.Copies.Drops.{law as drops_law}
+use Rattle.st_laws_reads.proofs.Copies.Drops.{drops_keep_copies as drops_law}
 use Rattle.st_laws_reads.proofs.Copies.Locked.{found_there}
-use Rattle.st_laws_reads.proofs.Copies.Rests.{clocks_law, rests_law}
+use Rattle.st_laws_reads.proofs.Copies.Rests.{clocks_law, rests_law, lasts_before}
 use Rattle.st_laws_reads.specs.AllClients.Events.{OfFrozen, FrozenStandAlone}
 use Rattle.st_laws_reads.specs.AllClients.Law.{Running, UnheldBy}
 use Rattle.st_laws_reads.specs.AllClients.World.{CopiesHold}
@@ -60,10 +49,6 @@ unheld_all f l now (x ∷ xs) g = record { one = g x (inl refl); rest = unheld_a
 no_present : (c : ClientId) (o : LogOwner) (l now : ℕ) (xs : List Association) → ((b : Association) → Has b xs → Lasts l now b.session → is_of_life c b.server b.life o ≡ false) → OfNoPresentLife c o l now xs
 no_present c o l now [] g = record {}
 no_present c o l now (x ∷ xs) g = record { one = g x (inl refl); rest = no_present c o l now xs (λ b i. g b (inr i)) }
-
-lasts_before : (l now then_ : ℕ) → now ≤ then_ → (o : Option ClientSession) → Lasts l then_ o → Lasts l now o
-lasts_before l now then_ le None h = h
-lasts_before l now then_ le (Some s) h = omega (arith, le, h)
 
 -- associations of one server are one
 same_association : (xs : List Association) → Apart xs → (a b : Association) → Has a xs → Has b xs → a.server ≡ b.server → a ≡ b
@@ -178,7 +163,7 @@ module _ (asks : ℕ → ℕ → Option Ask) (k : Config) (count : ℕ) (w : Wor
           at : (y.c ≡ d) ⊎ (y.c ≢ d) → (held_in b.session o.file.ino).mode ≡ 0
           at (inr n) =
               let s = copies y.c y.site y.run.there in
-              from (alone.law (asks y.c) k count w y.c d y.site other y.a p.entry all n y.run runs (s.runs y.run.runs) y.has (record { logged = p.has; pending = p.pending; own = y.own; server = there_at w y.site.node.state.associations y.a s.servers y.has }))
+              from (alone.pending_pages_stand_alone (asks y.c) k count w y.c d y.site other y.a p.entry all n y.run runs (s.runs y.run.runs) y.has (record { logged = p.has; pending = p.pending; own = y.own; server = there_at w y.site.node.state.associations y.a s.servers y.has }))
           at (inl e) =
               let site : y.site ≡ other = some_is (sym y.run.there ∙ ap (λ n. site_of w (client n)) e ∙ runs.there) in
               let ha : Has y.a state.associations = subst (λ (z : WorldClient). Has y.a z.node.state.associations) site y.has in

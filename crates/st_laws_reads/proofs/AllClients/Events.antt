@@ -1,37 +1,27 @@
 -- Every event at which no client takes an input keeps the copies of all clients.
-use Rattle.std.proofs.Common.{◌≡◌, ◌≢◌, ℕ, ◌≤◌, ◌⊎◌, Bool, true, false, ◌&&◌, ◌==◌, List, [], ◌∷◌, ◌++◌, Option, Some, None, Ok, Err, refl, sym, ap, ◌∙◌, subst, inl, inr, arith, leb-true, if◌then◌else◌}
-use Rattle.std.specs.Prelude.{Result, length, map, nat_le, suc, zero}
-use Rattle.std.proofs.lemmas.Bool.{eqb-true, ne_eqb}
-use Rattle.st_base.specs.declared.ids.ClientId.{ClientId}
-use Rattle.st_base.specs.declared.ids.FileId.{FileId}
-use Rattle.st_base.specs.declared.ids.NodeId.TheVariants as nodes
-use Rattle.st_base.specs.declared.ids.PageNo.{PageNo}
-use Rattle.st_base.specs.declared.ids.ServerId.{ServerId}
-use Rattle.st_messages.specs.declared.ask.Ask.{Ask}
-use Rattle.st_messages.specs.declared.output.Note.{Note}
-use Rattle.st_messages.specs.declared.output.Note.TheVariants as notes
-use Rattle.st_messages.specs.declared.output.Output.{Output}
-use Rattle.st_messages.specs.declared.output.Output.TheVariants as outputs
-use Rattle.st_rules.specs.declared.input.ServerInput.{ServerInput}
-use Rattle.st_rules.specs.declared.log.LogEntry.{LogEntry}
-use Rattle.st_rules.specs.declared.node.StepRefusal.{StepRefusal}
-use Rattle.st_rules.specs.declared.world.Carried.{Carried}
-use Rattle.st_rules.specs.Client as cl
-use Rattle.st_rules.specs.ClientState.{Association, ClientState}
-use Rattle.st_rules.specs.Disks as disks
-use Rattle.st_rules.specs.Events as ev
-use Rattle.st_rules.specs.Events.{WorldTurn}
-use Rattle.st_rules.specs.FlatLog as log
-use Rattle.st_rules.specs.FlatLog.{content, is_of_client}
-use Rattle.st_rules.specs.Keys.{client, same_file, same_server}
-use Rattle.st_rules.specs.Server as server
-use Rattle.st_rules.specs.Server.{ServerNode}
-use Rattle.st_rules.specs.World.{World, WorldClient, clock_of, issued_of, numbered, site_of, with_numbered}
+use Rattle.st_lemmas.proofs.Words
+use Words.{◌≡◌, ◌≢◌, ℕ, ◌≤◌, ◌⊎◌, Bool, true, false, ◌&&◌, ◌==◌, List, [], ◌∷◌, ◌++◌, Option, Some, None, Ok, Err, refl, sym, ap, ◌∙◌, subst, inl, inr, arith}
+use Words.{leb-true, if◌then◌else◌, Result, length, map, nat_le, suc, zero, eqb-true, ne_eqb, ClientId, FileId, PageNo, ServerId, Ask, Note, Output}
+use Words.{ServerInput, LogEntry, StepRefusal, Carried}
+use Words.nodes
+use Words.notes
+use Words.outputs
+use Words.Client as cl
+use Words.ClientState.{Association, ClientState}
+use Words.Disks as disks
+use Words.Events as ev
+use Words.Events.{WorldTurn}
+use Words.FlatLog as log
+use Words.FlatLog.{content, is_of_client}
+use Words.Keys.{client, same_file, same_server}
+use Words.Server as server
+use Words.Server.{ServerNode}
+use Words.World.{World, WorldClient, clock_of, issued_of, numbered, site_of, with_numbered}
+use Words.Lookups.{some_is}
+use Words.Numbers.{get_there, numbered_below, numbered_other, numbered_own, set_length}
+use Words.Tables.{and_true, same_or_not}
 use Rattle.st_protocol.specs.Assoc.{Config}
 use Rattle.st_lemmas.proofs.Contents.{content_last}
-use Rattle.st_lemmas.proofs.Lookups.{some_is}
-use Rattle.st_lemmas.proofs.Numbers.{get_there, numbered_below, numbered_other, numbered_own, set_length}
-use Rattle.st_lemmas.proofs.Tables.{and_true, same_or_not}
 use Rattle.st_laws_refine.specs.Views.Halves.{held_in}
 use Rattle.st_laws_steps.specs.Lives.Lives.{clock_in}
 use Rattle.st_laws_leases.specs.Sides.World.{AllStand, There}
@@ -39,7 +29,7 @@ use Rattle.st_laws_reads.specs.Copies.Copies.{FatesOk, Nothing, PageOk, file_at}
 use Rattle.st_laws_reads.specs.Copies.Law.{AllWhile, ClientCopies}
 use Rattle.st_laws_reads.specs.Copies.World.{ClientRests}
 use Rattle.st_laws_reads.proofs.Copies.Others.{effects_law, lived_more, unheld_ok}
-use Rattle.st_laws_reads.proofs.Copies.Restarts.{law as restarts_law}
+use Rattle.st_laws_reads.proofs.Copies.Restarts.{restarts_keep_copies as restarts_law}
 use Rattle.st_laws_reads.proofs.Copies.Rests.{clocks_law, rests_law}
 use Rattle.st_laws_reads.specs.AllClients.Events.{CutFree, CutFreeOf, CutsFree, FrozenStandAlone, ServerFree, TurnFree}
 use Rattle.st_laws_reads.specs.AllClients.Law.{Running}

@@ -1,44 +1,29 @@
 -- Where a write is done and its page was not changed since, the entries of the page in this life are hard.
-use Rattle.std.proofs.Common.{◌≡◌, ℕ, Bool, true, false, ◌&&◌, List, [], ◌∷◌, ◌++◌, ◌==◌, Option, Some, None, refl, sym, ap, ◌∙◌, subst}
-use Rattle.std.specs.Prelude.{option_map, unwrap_or}
-use Rattle.std.proofs.lemmas.Bool.{eqb-true, eq-eqb}
-use Rattle.st_base.specs.declared.disk.Command.{Command}
-use Rattle.st_base.specs.declared.disk.Command.TheVariants as commands
-use Rattle.st_base.specs.declared.ids.ClientId.{ClientId}
-use Rattle.st_base.specs.declared.ids.Life.{Life}
-use Rattle.st_base.specs.declared.ids.NodeId.TheVariants as nodes
-use Rattle.st_base.specs.declared.ids.PageNo.{PageNo}
-use Rattle.st_base.specs.declared.ids.ServerId.{ServerId}
-use Rattle.st_base.specs.declared.ids.Stamp.{Stamp}
-use Rattle.st_messages.specs.declared.event.Event.TheVariants as events
-use Rattle.st_rules.specs.declared.client.ClientInput.{ClientInput}
-use Rattle.st_rules.specs.declared.client.IoKind.TheVariants as io
-use Rattle.st_rules.specs.declared.client.PageCommand.{PageCommand}
-use Rattle.st_rules.specs.declared.disks.DiskCommand.{DiskCommand}
-use Rattle.st_rules.specs.declared.log.Fate.{Fate}
-use Rattle.st_rules.specs.declared.log.Fate.TheVariants as fates
-use Rattle.st_rules.specs.declared.log.LogEntry.{LogEntry}
-use Rattle.st_rules.specs.declared.log.LogOwner.{LogOwner}
-use Rattle.st_rules.specs.declared.pages.DirtyPage.{DirtyPage}
-use Rattle.st_rules.specs.declared.world.Carried.{Carried}
-use Rattle.st_rules.specs.declared.world.IssuedCommand.{IssuedCommand}
-use Rattle.st_rules.specs.Client as cl
-use Rattle.st_rules.specs.ClientPages as pages
-use Rattle.st_rules.specs.ClientState.{Association, client_turn}
-use Rattle.st_rules.specs.Disks as disks
-use Rattle.st_rules.specs.Events as ev
-use Rattle.st_rules.specs.Events.{WorldTurn, is_hard_fate}
-use Rattle.st_rules.specs.FlatLog as log
-use Rattle.st_rules.specs.Keys.{same_client, same_server}
-use Rattle.st_rules.specs.Safety.{Step}
-use Rattle.st_rules.specs.World.{World, WorldClient, clock_of, issued_of, life_with, site_of}
-use Rattle.st_lemmas.specs.Lists.{Has}
-use Rattle.st_lemmas.proofs.Numbers.{numbered_own}
-use Rattle.st_lemmas.proofs.Tables.{and_both, and_true}
+use Rattle.st_lemmas.proofs.Words
+use Words.{◌≡◌, ℕ, Bool, true, false, ◌&&◌, List, [], ◌∷◌, ◌++◌, ◌==◌, Option, Some, None, refl, sym, ap, ◌∙◌, subst, option_map, unwrap_or, eqb-true, eq-eqb}
+use Words.{Command, ClientId, Life, PageNo, ServerId, Stamp, ClientInput, PageCommand, DiskCommand, Fate, LogEntry, LogOwner, DirtyPage, Carried, IssuedCommand}
+use Words.commands
+use Words.nodes
+use Words.events
+use Words.io
+use Words.fates
+use Words.Client as cl
+use Words.ClientPages as pages
+use Words.ClientState.{Association, client_turn}
+use Words.Disks as disks
+use Words.Events as ev
+use Words.Events.{WorldTurn, is_hard_fate}
+use Words.FlatLog as log
+use Words.Keys.{same_client, same_server}
+use Words.Safety.{Step}
+use Words.World.{World, WorldClient, clock_of, issued_of, life_with, site_of}
+use Words.Lists.{Has}
+use Words.Numbers.{numbered_own}
+use Words.Tables.{and_both, and_true}
 use Rattle.st_laws_pages.specs.Fates.Fates.{GoneAll, PendingAll}
 use Rattle.st_laws_pages.specs.Flush.Flush.{Cared, DirtyHere, IsIts, NodeCared, owner_at_page}
 use Rattle.st_laws_pages.specs.Disks.Obligations.{FatesHold}
-use Rattle.st_laws_pages.proofs.Flush.Ending.{NonePending, SuccessOwed}
+use Rattle.st_laws_pages.proofs.Flush.Ending.{NonePending, SuccessOwed, command_is}
 use Rattle.st_laws_pages.proofs.Fates.Fates.{pending_map}
 use Rattle.st_laws_pages.proofs.Flush.Flushing.{InputTold}
 use Rattle.st_laws_pages.proofs.Flush.FlushSteps.{node_fates}
@@ -53,7 +38,6 @@ use Rattle.st_laws_pages.proofs.Causes.Latest.{success_own}
 use Rattle.st_laws_pages.proofs.Causes.Placed.{Placed, PlacesAt, step_placed}
 use Rattle.st_laws_pages.proofs.Causes.Stepping as stepping
 use Rattle.st_laws_reads.specs.Copies.Copies.{HardOn}
-use Rattle.st_laws_pages.proofs.Flush.Ending.{command_is}
 
 -- Nothing of a page is pending in a life of which nothing is gone: so it is hard.
 abbrev NotOf : ClientId → Association → ℕ → PageNo → LogOwner → Type 0

@@ -1,40 +1,33 @@
 -- The law on events at which no client takes an input.
-use Rattle.std.proofs.Common.{◌≡◌, ℕ, Bool, true, false, Option, Some, None, refl, sym, ap, ◌∙◌, subst, if◌then◌else◌}
-use Rattle.st_base.specs.declared.ids.ClientId.{ClientId}
-use Rattle.st_base.specs.declared.ids.NodeId.{NodeId}
-use Rattle.st_base.specs.declared.ids.NodeId.TheVariants as nodes
-use Rattle.st_messages.specs.declared.ask.Ask.{Ask}
-use Rattle.st_messages.specs.declared.event.Event.{Event}
-use Rattle.st_messages.specs.declared.event.Event.TheVariants as events
-use Rattle.st_messages.specs.declared.message.Message.{Message}
-use Rattle.st_rules.specs.declared.client.ClientInput.{ClientInput}
-use Rattle.st_rules.specs.declared.client.ClientInput.TheVariants as inputs
-use Rattle.st_rules.specs.declared.input.ServerInput.TheVariants as serving
-use Rattle.st_rules.specs.declared.world.IssuedCommand.{IssuedCommand}
-use Rattle.st_rules.specs.declared.world.SentMessage.{SentMessage}
-use Rattle.st_rules.specs.Admissible as adm
-use Rattle.st_rules.specs.Disks as disks
-use Rattle.st_rules.specs.Events as ev
-use Rattle.st_rules.specs.Events.{WorldTurn, counted, happens}
-use Rattle.st_rules.specs.Server as server
-use Rattle.st_rules.specs.Server.{ServerNode}
-use Rattle.st_rules.specs.World.{World, WorldClient, issued_of, message_of, node_of, receiver_of, site_of, site_runs}
+use Rattle.st_lemmas.proofs.Words
+use Words.{◌≡◌, ℕ, Bool, true, false, Option, Some, None, refl, sym, ap, ◌∙◌, subst, if◌then◌else◌, ClientId, NodeId, Ask, Event, Message, ClientInput}
+use Words.{IssuedCommand, SentMessage}
+use Words.nodes
+use Words.events
+use Words.inputs
+use Words.serving
+use Words.Admissible as adm
+use Words.Disks as disks
+use Words.Events as ev
+use Words.Events.{WorldTurn, counted, happens}
+use Words.Server as server
+use Words.Server.{ServerNode}
+use Words.World.{World, WorldClient, issued_of, message_of, node_of, receiver_of, site_of, site_runs}
+use Words.Numbers.{set_length}
+use Words.Tables.{not_false}
+use Words.Truth.{some_not_none}
+use Words.Worlds.{stands_not}
 use Rattle.st_protocol.specs.Assoc.{Config}
-use Rattle.st_lemmas.proofs.Numbers.{set_length}
 use Rattle.st_lemmas.proofs.Steps.{step_happens}
-use Rattle.st_lemmas.proofs.Tables.{not_false}
-use Rattle.st_laws_pages.proofs.Disks.Effects.{or_none, stands_not}
+use Rattle.st_laws_pages.proofs.Disks.Effects.{or_none}
 use Rattle.st_laws_leases.specs.Sides.World.{AllStand}
 use Rattle.st_laws_reads.specs.Copies.World.{asking, receiving, receiving_of, taken, taking, told_at, told_of}
 use Rattle.st_laws_reads.specs.AllClients.Events.{FrozenStandAlone, MessageFree, OthersKeepCopies, OthersOwed, ReceiverFree}
 use Rattle.st_laws_reads.specs.AllClients.World.{CopiesHold}
 use Rattle.st_laws_reads.proofs.AllClients.Events.{advance_keeps, crash_keeps, effect_keeps, quiet_keeps, server_keeps, start_keeps}
 
-none_some : {A : Type 0} (x : A) → ◌≡◌ {A = Option A} (Some x) None → ⊥
-none_some x e = cc
-
 -- a client that crashes runs, and one that starts does not
-crash_runs : (w : World) (c : ClientId) → adm.refusal w (events.Crash (nodes.Client c)) ≡ None → site_runs (site_of w c) ≡ true
+pub crash_runs : (w : World) (c : ClientId) → adm.refusal w (events.Crash (nodes.Client c)) ≡ None → site_runs (site_of w c) ≡ true
 unfolding adm.refusal
 crash_runs w c r = not_false _ (stands_not _ _ (or_none _ _ r).1)
 
@@ -47,12 +40,12 @@ module _ (asks : ℕ → ℕ → Option Ask) where
   client_none : (w : World) (c : ClientId) (input : ClientInput) (o : Option WorldClient) → taking w c input o ≡ None → CopiesHold asks w → CopiesHold asks (ev.at_client w c input o).world
   unfolding ev.at_client
   client_none w c input None e h = h
-  client_none w c input (Some site) e h = absurd (none_some _ e)
+  client_none w c input (Some site) e h = absurd (some_not_none _ e)
 
   ask_none : (w : World) (c : ClientId) (ask : Ask) (o : Option WorldClient) → asking w c ask o ≡ None → CopiesHold asks w → CopiesHold asks (ev.asks_at w c ask o).world
   unfolding ev.asks_at
   ask_none w c ask None e h = h
-  ask_none w c ask (Some site) e h = absurd (none_some _ e)
+  ask_none w c ask (Some site) e h = absurd (some_not_none _ e)
 
   node_none : (w : World) (m : Message) (n : NodeId) → receiving w m n ≡ None → ReceiverFree w m n → CopiesHold asks w → CopiesHold asks (ev.delivers_to w m n).world
   unfolding ev.delivers_to
@@ -70,7 +63,7 @@ module _ (asks : ℕ → ℕ → Option Ask) where
   told_none w k ok (Some y) e h = at_site (site_of w y.client) e
     where
       at : (site : WorldClient) (b : Bool) → (if b then taking w y.client (ev.end_told w k ok y) (Some site) else None) ≡ None → CopiesHold asks (if b then ev.client_takes w y.client (ev.end_told w k ok y) site else ev.quiet w).world
-      at site true e = absurd (none_some _ e)
+      at site true e = absurd (some_not_none _ e)
       at site false e = h
 
       at_site : (s : Option WorldClient) → told_at w k ok y s ≡ None → CopiesHold asks (ev.tells_client w k ok y s).world
@@ -121,7 +114,7 @@ module _ (asks : ℕ → ℕ → Option Ask) where
       go None = still w (counted w) refl refl refl refl h
       go (Some node) = still w (ev.with_node s _ (counted w)) refl (set_length w.servers _ _) refl refl h
 
-pub law : OthersKeepCopies
-law asks k count w e sc all step t o h =
+pub others_keep_copies : OthersKeepCopies
+others_keep_copies asks k count w e sc all step t o h =
     let p = step_happens w e sc step in
     subst (λ (s : WorldTurn). CopiesHold asks s.world) (sym p.1) (happens_keeps asks k count w e all p.0 t o h)

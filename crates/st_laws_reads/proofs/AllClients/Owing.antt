@@ -1,39 +1,27 @@
 -- What is owed where a client takes an input, from what is left of it.
-use Rattle.std.proofs.Common.{◌≡◌, ℕ, ◌-◌, Bool, true, false, List, [], ◌∷◌, Option, Some, None, Ok, refl, sym, ap, ◌∙◌, subst, inl, inr, arith, if◌then◌else◌}
-use Rattle.std.specs.Prelude.{length, nat_le}
-use Rattle.st_base.specs.declared.ids.ClientId.{ClientId}
-use Rattle.st_base.specs.declared.ids.Life.{Life}
-use Rattle.st_base.specs.declared.ids.NodeId.{NodeId}
-use Rattle.st_base.specs.declared.ids.NodeId.TheVariants as nodes
-use Rattle.st_base.specs.declared.ids.PageNo.{PageNo}
-use Rattle.st_base.specs.declared.ids.ServerId.{ServerId}
-use Rattle.st_messages.specs.declared.ask.Ask.{Ask}
-use Rattle.st_messages.specs.declared.event.Event.{Event}
-use Rattle.st_messages.specs.declared.event.Event.TheVariants as events
-use Rattle.st_messages.specs.declared.message.Body.{Body}
-use Rattle.st_messages.specs.declared.message.Body.TheVariants as bodies
-use Rattle.st_rules.specs.declared.client.ClientInput.{ClientInput}
-use Rattle.st_rules.specs.declared.client.ClientInput.TheVariants as inputs
-use Rattle.st_rules.specs.declared.client.Request.{Request}
-use Rattle.st_rules.specs.declared.disks.DiskCommand.{DiskCommand}
-use Rattle.st_rules.specs.declared.log.LogEntry.{LogEntry}
-use Rattle.st_rules.specs.declared.world.IssuedCommand.{IssuedCommand}
-use Rattle.st_rules.specs.declared.world.SentMessage.{SentMessage}
-use Rattle.st_rules.specs.Admissible as adm
-use Rattle.st_rules.specs.Client as cl
-use Rattle.st_rules.specs.ClientState.{Association, ClientSession, asks_name, client_turn}
-use Rattle.st_rules.specs.Disks as disks
-use Rattle.st_rules.specs.Events as ev
-use Rattle.st_rules.specs.Events.{WorldTurn, counted, world_step}
-use Rattle.st_rules.specs.History.{Traced}
-use Rattle.st_rules.specs.Keys.{client, page_no}
-use Rattle.st_rules.specs.Safety.{Step, step}
-use Rattle.st_rules.specs.World as world
-use Rattle.st_rules.specs.World.{World, WorldClient, issued_of, life_with, message_of, node_at, receiver_of, site_of}
+use Rattle.st_lemmas.proofs.Words
+use Words.{◌≡◌, ℕ, Bool, true, false, List, [], ◌∷◌, Option, Some, None, Ok, refl, sym, ◌∙◌, subst, inl, inr, arith, if◌then◌else◌, length}
+use Words.{ClientId, Life, NodeId, PageNo, ServerId, Ask, Event, Body, ClientInput, Request, DiskCommand, LogEntry, IssuedCommand, SentMessage}
+use Words.nodes
+use Words.events
+use Words.bodies
+use Words.inputs
+use Words.Admissible as adm
+use Words.Client as cl
+use Words.ClientState.{Association, ClientSession, asks_name, client_turn}
+use Words.Disks as disks
+use Words.Events as ev
+use Words.Events.{WorldTurn, counted, world_step}
+use Words.History.{Traced}
+use Words.Keys.{client, page_no}
+use Words.Safety.{Step, step}
+use Words.World as world
+use Words.World.{World, WorldClient, issued_of, life_with, message_of, receiver_of, site_of}
+use Words.Lists.{Has}
+use Words.Lookups.{some_is}
+use Words.Numbers.{numbered_has}
+use Words.Worlds.{client_at_node}
 use Rattle.st_protocol.specs.Assoc.{Config}
-use Rattle.st_lemmas.specs.Lists.{Has}
-use Rattle.st_lemmas.proofs.Lookups.{some_is}
-use Rattle.st_lemmas.proofs.Numbers.{numbered_has}
 use Rattle.st_lemmas.proofs.Steps.{step_happens}
 use Rattle.st_laws_pages.specs.Asks.Law.{PlacesHold}
 use Rattle.st_laws_pages.specs.Fates.Fates.{BeforeEnd}
@@ -82,19 +70,6 @@ cleared a h s q ino p e asked name cutting = nothing_of a.store ino (page_no 0) 
 abbrev Suffices : Taking → Type 0
 Suffices x = (a : Association) → Has a (left_of x) → LeftAt x.world.log x.input a → OwedAt x.client (life_with (turn_of x).state) x.world.log x.input a
 
--- a node that is a client has its number
-client_number : (n : ℕ) (c : ClientId) → node_at n ≡ nodes.Client c → n ≡ c.0
-unfolding node_at
-client_number n c e = go (nat_le n 16) e
-  where
-    number : NodeId → ℕ
-    number (nodes.Client d) = d.0
-    number (nodes.Server s) = 0
-
-    go : (b : Bool) → (if b then nodes.Client (client n) else nodes.Server (record { 0 = n - 32768 })) ≡ nodes.Client c → n ≡ c.0
-    go true q = ap number q
-    go false q = cc q
-
 module _ (k : Config) (count : ℕ) (past : List Step) (t : Traced) (e : Event) (sc : WorldTurn) (is : world_step t.world e ≡ Ok sc) (all : AllStand k count t.world) (places : PlacesHold t.world) (st : Stand past t) (clear : AllCleared t.world) where
   abbrev w : World
   w = counted t.world
@@ -117,7 +92,7 @@ module _ (k : Config) (count : ℕ) (past : List Step) (t : Traced) (e : Event) 
         sent = numbered_has t.world.net.messages n m found
 
         number : m.message.header.to ≡ c.0
-        number = client_number m.message.header.to c to
+        number = client_at_node m.message.header.to c to
 
         b : Behind site.node.state (now_at x) a
         b = behind c site.node.state (now_at x) (st.fates.lives.lives.sites c site there).fit a i s session

@@ -1,43 +1,29 @@
 -- Each step answers its reads by the log at the answer.
-use Rattle.std.proofs.Common.{◌≡◌, ℕ, ◌+◌, Bool, true, false, List, [], ◌∷◌, ◌++◌, Option, Some, None, Ok, Err, refl, sym, ap, ◌∙◌, subst, if◌then◌else◌, arith}
-use Rattle.std.specs.Prelude.{length, suc}
-use Rattle.std.specs.List.{cons_option}
-use Rattle.std.proofs.lemmas.Bool.{eq-eqb}
-use Rattle.st_base.specs.declared.ids.ClientId.{ClientId}
-use Rattle.st_base.specs.declared.ids.Life.{Life}
-use Rattle.st_base.specs.declared.ids.NodeId.{NodeId}
-use Rattle.st_base.specs.declared.ids.NodeId.TheVariants as nodes
-use Rattle.st_base.specs.declared.ids.ServerId.{ServerId}
-use Rattle.st_messages.specs.declared.ask.Ask.{Ask}
-use Rattle.st_messages.specs.declared.event.Event.{Event}
-use Rattle.st_messages.specs.declared.event.Event.TheVariants as events
-use Rattle.st_messages.specs.declared.message.Message.{Message}
-use Rattle.st_rules.specs.declared.client.ClientInput.{ClientInput}
-use Rattle.st_rules.specs.declared.client.ClientInput.TheVariants as inputs
-use Rattle.st_rules.specs.declared.log.LogEntry.{LogEntry}
+use Rattle.st_lemmas.proofs.Words
+use Words.{◌≡◌, ℕ, ◌+◌, Bool, true, false, List, [], ◌∷◌, ◌++◌, Option, Some, None, Ok, Err, refl, sym, ap, ◌∙◌, subst, if◌then◌else◌, arith, length, suc}
+use Words.{cons_option, eq-eqb, ClientId, Life, NodeId, ServerId, Ask, Event, Message, ClientInput, LogEntry, Observation, Operation, IssuedCommand}
+use Words.{SentMessage}
+use Words.nodes
+use Words.events
+use Words.inputs
+use Words.seen
+use Words.Client as cl
+use Words.Disks as disks
+use Words.Events as ev
+use Words.Events.{WorldTurn, client_says_all, counted, happens, present_life, world_step}
+use Words.History.{Traced}
+use Words.Keys.{client, same_client}
+use Words.Lines.{AtEach, log_behind}
+use Words.Safety as safety
+use Words.Safety.{IsLast, Step, ask_in, step}
+use Words.World.{World, WorldClient, issued_of, life_with, message_of, numbered, receiver_of, site_of}
+use Words.Lookups.{some_is}
+use Words.Numbers.{get_last, numbered_own}
 use Rattle.st_rules.specs.declared.node.StepRefusal.TheVariants.{Crashed}
-use Rattle.st_rules.specs.declared.observation.Observation.{Observation}
-use Rattle.st_rules.specs.declared.observation.Observation.TheVariants as seen
-use Rattle.st_rules.specs.declared.client.Operation.{Operation}
-use Rattle.st_rules.specs.declared.world.IssuedCommand.{IssuedCommand}
-use Rattle.st_rules.specs.declared.world.SentMessage.{SentMessage}
-use Rattle.st_rules.specs.Client as cl
-use Rattle.st_rules.specs.Disks as disks
-use Rattle.st_rules.specs.Events as ev
-use Rattle.st_rules.specs.Events.{WorldTurn, client_says_all, counted, happens, present_life, world_step}
-use Rattle.st_rules.specs.History.{Traced}
-use Rattle.st_rules.specs.Keys.{client, same_client}
-use Rattle.st_rules.specs.Lines.{AtEach, log_behind}
-use Rattle.st_rules.specs.Safety as safety
-use Rattle.st_rules.specs.Safety.{IsLast, Step, ask_in, step}
-use Rattle.st_rules.specs.World.{World, WorldClient, issued_of, life_with, message_of, numbered, receiver_of, site_of}
 use Rattle.st_protocol.specs.Assoc.{Config}
-use Rattle.st_lemmas.proofs.Lookups.{some_is}
-use Rattle.st_lemmas.proofs.Numbers.{get_last, numbered_own}
 use Rattle.st_laws_pages.proofs.Asks.Says.{AllDull, Dull, server_dull}
 use Rattle.st_laws_pages.proofs.Asks.World.{asks_more, asks_of}
 use Rattle.st_laws_pages.proofs.Causes.HardEvents.{AskedHold, asks_grow}
-use Rattle.st_laws_pages.proofs.Causes.HardSeen.{dull_fates}
 use Rattle.st_laws_leases.specs.Sides.World.{AllStand}
 use Rattle.st_laws_reads.specs.Copies.Copies.{AskedSo, Right}
 use Rattle.st_laws_reads.specs.Copies.Law.{SeenRight}
@@ -47,6 +33,7 @@ use Rattle.st_laws_reads.proofs.Copies.Seen as answered
 use Rattle.st_laws_reads.specs.AllClients.World.{CopiesHold, TakingOwed}
 use Rattle.st_laws_reads.proofs.AllClients.Takings.{Takes, keeps, mine_there}
 use Rattle.st_laws_reads.proofs.AllClients.Untaken.{others}
+use Rattle.st_laws_pages.proofs.Asks.Law.{dull_fates}
 
 -- what each client was asked in these steps
 abbrev pub known : List Step → ℕ → ℕ → Option Ask
@@ -163,7 +150,7 @@ module _ (k : Config) (count : ℕ) (past : List Step) (t : Traced) (e : Event) 
 
       right : SeenRight past st x.world.log (client_says_all x.client x.site.node.state (turn_of x).out (ev.quiet v)).seen
       right =
-          answered.law past st x.client x.site.node.state (turn_of x).out v lives
+          answered.steps_answer_right past st x.client x.site.node.state (turn_of x).out v lives
           (subst (λ ls. Right (safety.ask_of past st x.client) x.client ls x.world.log (turn_of x).out) present (keeps asks k count t.world e sc x all after is q tk owed h r).right)
 
   pub reads_taken : TakingOwed asks x → CopiesHold asks t.world → AtEach (IsLast past st) sc.world t.world.log sc.seen

@@ -1,20 +1,17 @@
 -- What holds of a session in which a message of its server comes: each lock has a mode, and a grant above the greatest seen lowers none.
-use Rattle.std.proofs.Common.{◌≡◌, ℕ, ◌+◌, ◌<◌, ◌≤◌, Bool, true, false, List, [], ◌∷◌, ◌==◌, Option, Some, None, refl, sym, ap, ◌∙◌, subst, arith, if◌then◌else◌}
-use Rattle.std.proofs.lemmas.Bool.{ltb-true}
-use Rattle.st_base.specs.declared.ids.GrantNo.{GrantNo}
-use Rattle.st_base.specs.declared.ids.NodeId.TheVariants as nodes
-use Rattle.st_base.specs.declared.mode.Mode.{Mode}
+use Rattle.st_lemmas.proofs.Words
+use Words.{◌≡◌, ℕ, ◌+◌, ◌<◌, ◌≤◌, Bool, true, false, List, [], ◌∷◌, ◌==◌, Option, Some, None, refl, sym, ap, ◌∙◌, subst, arith, if◌then◌else◌, ltb-true}
+use Words.{GrantNo, Mode, Body, SentMessage}
+use Words.nodes
+use Words.bodies
+use Words.ClientLocks.{is_above_seen, lock_of, seen_of}
+use Words.ClientState.{Association, ClientSession}
+use Words.Keys.{client, server_node}
+use Words.World.{World, WorldClient, clock_of}
+use Words.Lists.{Has}
 use Rattle.st_base.specs.Mode.{number_of}
-use Rattle.st_messages.specs.declared.message.Body.{Body}
-use Rattle.st_messages.specs.declared.message.Body.TheVariants as bodies
-use Rattle.st_rules.specs.declared.world.SentMessage.{SentMessage}
-use Rattle.st_rules.specs.ClientLocks.{is_above_seen, lock_of, seen_of}
-use Rattle.st_rules.specs.ClientState.{Association, ClientSession}
-use Rattle.st_rules.specs.Keys.{client, server_node}
-use Rattle.st_rules.specs.World.{World, WorldClient, clock_of}
 use Rattle.st_protocol.specs.Assoc as net
 use Rattle.st_protocol.specs.Assoc.{Alive, Config, Exactly, In, Msg, msg}
-use Rattle.st_lemmas.specs.Lists.{Has}
 use Rattle.st_laws_refine.specs.Views.Halves.{client_of, date_in, held_at, leased_in}
 use Rattle.st_laws_refine.specs.Views.Messages.{Shows, shown, with_date}
 use Rattle.st_laws_refine.specs.Client.Invariants.{HaveModes, Kept, Lasts}

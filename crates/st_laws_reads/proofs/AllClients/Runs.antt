@@ -1,29 +1,30 @@
 -- Reads return the last writes throughout a run in which each step has what is owed of it.
-use Rattle.std.proofs.Common.{◌≡◌, ℕ, ◌+◌, ◌<◌, true, false, List, [], ◌∷◌, ◌++◌, Option, Some, None, Ok, refl, sym, ap, ◌∙◌, subst, inl, inr, arith}
-use Rattle.std.specs.Prelude.{map, suc, zero}
-use Rattle.std.proofs.lemmas.Bool.{ne_eqb}
+use Rattle.st_lemmas.proofs.Words
+use Words.{◌≡◌, ℕ, ◌+◌, ◌<◌, true, false, List, [], ◌∷◌, ◌++◌, Option, Some, None, Ok, refl, sym, ap, ◌∙◌, subst, inl, inr, arith, map, suc, zero, ne_eqb}
+use Words.{Event}
+use Words.nodes
+use Words.Client as cl
+use Words.ClientPages.{empty_store}
+use Words.Events.{WorldTurn, counted, world_step}
+use Words.Extents.{numbers}
+use Words.History.{Traced, traced, traced_after}
+use Words.Keys.{client}
+use Words.Lines.{AtEach}
+use Words.Safety.{IsHead, IsLast, ReadsReturnLastWrites, Step, is_event, step}
+use Words.World.{World, WorldClient, clock_of, fresh_site, fresh_world, node_at_start}
+use Words.Lists.{Has}
+use Words.Lengths.{length_map, numbered_there as numbered_is, numbers_length}
+use Words.Members.{numbers_between}
 use Rattle.st_base.specs.declared.config.Config as base
-use Rattle.st_base.specs.declared.ids.NodeId.TheVariants as nodes
-use Rattle.st_messages.specs.declared.event.Event.{Event}
-use Rattle.st_rules.specs.Client as cl
-use Rattle.st_rules.specs.ClientPages.{empty_store}
-use Rattle.st_rules.specs.Events.{WorldTurn, counted, world_step}
-use Rattle.st_rules.specs.Extents.{numbers}
-use Rattle.st_rules.specs.History.{Traced, traced, traced_after}
-use Rattle.st_rules.specs.Keys.{client}
-use Rattle.st_rules.specs.Lines.{AtEach}
-use Rattle.st_rules.specs.Safety.{IsHead, IsLast, ReadsReturnLastWrites, Step, is_event, step}
-use Rattle.st_rules.specs.World.{World, WorldClient, clock_of, fresh_site, fresh_world, node_at_start}
 use Rattle.st_protocol.specs.Assoc.{Config}
-use Rattle.st_lemmas.specs.Lists.{Has}
 use Rattle.st_lemmas.proofs.Steps.{step_happens}
 use Rattle.st_laws_pages.specs.Asks.Law.{PlacesAfter, PlacesHold}
-use Rattle.st_laws_pages.proofs.Causes.Law.{Stand, fresh_places, fresh_stand, numbers_in, one_step}
-use Rattle.st_laws_pages.proofs.Disks.Whole.{site_is}
+use Rattle.st_laws_pages.proofs.Causes.Law.{Stand, fresh_places, fresh_stand, one_step}
+use Rattle.st_laws_pages.proofs.Disks.Whole.{site_is, fresh_waits}
 use Rattle.st_laws_refine.specs.Server.Pair.{terms_of}
 use Rattle.st_laws_leases.specs.Sides.World.{AllStand, There}
 use Rattle.st_laws_leases.proofs.Sides.FirstWorld.{begun}
-use Rattle.st_laws_leases.proofs.Sides.AllAssociations.{numbered_is, stays}
+use Rattle.st_laws_leases.proofs.Sides.AllAssociations.{stays}
 use Rattle.st_laws_leases.proofs.Sides.Runs.{full}
 use Rattle.st_laws_reads.specs.Copies.Law.{EachStands, Apart, Differs}
 use Rattle.st_laws_reads.specs.Copies.World.{Taking, taken}
@@ -35,8 +36,7 @@ use Rattle.st_laws_reads.proofs.AllClients.Others as others
 use Rattle.st_laws_reads.specs.AllClients.CutFiles.{AllCleared}
 use Rattle.st_laws_reads.proofs.AllClients.Cleared.{clear_step, fresh_clear}
 use Rattle.st_laws_pages.specs.LockedCuts.CutLocks.{WaitsHold}
-use Rattle.st_laws_pages.proofs.LockedCuts.CutLaw.{law as cut_law}
-use Rattle.st_laws_pages.proofs.Disks.Whole.{fresh_waits}
+use Rattle.st_laws_pages.proofs.LockedCuts.CutLaw.{steps_lock_cuts as cut_law}
 use Rattle.st_laws_leases.proofs.Sides.Waiting.{waits_owed}
 use Rattle.st_laws_reads.specs.AllClients.Events.{OthersOwed}
 use Rattle.st_laws_reads.specs.AllClients.Obligations.{CutsAsked}
@@ -47,7 +47,6 @@ use Rattle.st_laws_reads.proofs.AllClients.Owing.{input_owed}
 use Rattle.st_laws_reads.proofs.AllClients.Reading.{dull_reads, known, more_known, numbered_there, others_dull, reads_taken}
 use Rattle.st_laws_reads.proofs.AllClients.Takings as takings
 use Rattle.st_laws_reads.proofs.AllClients.Takings.{Takes, takes_event}
-use Rattle.st_laws_pages.proofs.Lives.Fresh.{length_map, numbers_length}
 
 -- What holds after the steps of a run.
 pub record Stood (k : Config) (count : ℕ) (past : List Step) (t : Traced) : Type 0 where
@@ -83,7 +82,7 @@ module _ (k : Config) (count : ℕ) (past : List Step) (t : Traced) (e : Event) 
               reads = subst (λ os. AtEach (IsLast past st) sc.world t.world.log os) (ap (λ (z : WorldTurn). z.seen) (sym (step_happens t.world e sc is).1)) (dull_reads past st sc.world t.world.log _ (others_dull (counted t.world) e q));
               carry = subst (λ os. AtEach IsCarried sc.world t.world.log os) (ap (λ (z : WorldTurn). z.seen) (sym (step_happens t.world e sc is).1)) (silent_carried sc.world t.world.log _ (others_silent (counted t.world) e q));
             };
-        copies = others.law (known (past ++ st ∷ [])) k count t.world e sc s.all is q free more;
+        copies = others.others_keep_copies (known (past ++ st ∷ [])) k count t.world e sc s.all is q free more;
       }
     where
       free : OthersOwed (counted t.world) e
@@ -93,7 +92,7 @@ module _ (k : Config) (count : ℕ) (past : List Step) (t : Traced) (e : Event) 
   goes (Some x) q o =
       record {
         kept = record { reads = reads_taken k count past t e sc x s.all after is q there owed more; carry = carried_taken k count past t e sc x s.all after is q there owed more };
-        copies = takings.law (known (past ++ st ∷ [])) k count t.world e sc x s.all after is q owed more;
+        copies = takings.takings_keep_copies (known (past ++ st ∷ [])) k count t.world e sc x s.all after is q owed more;
       }
     where
       there : Takes (counted t.world) sc x
@@ -136,7 +135,7 @@ module _ (k : base.Config) (clients servers d b form : ℕ) where
   there : (n : ℕ) → Has n (numbers 1 servers) → There w (record { 0 = n })
   unfolding fresh_world
   there n i =
-      let z = numbers_in 1 servers n i in
+      let z = numbers_between 1 servers n i in
       let x = z.0 in
       let y = z.1 in
       let l = length_map (node_at_start k servers d b) (numbers 1 servers) ∙ numbers_length 1 servers in

@@ -1,24 +1,20 @@
 -- What is pending of a page, at a client that has a lock on its file: its own entries alone, and nothing where the page is not dirty.
-use Rattle.std.proofs.Common.{◌≡◌, ◌⊎◌, ℕ, ◌≤◌, Bool, true, false, ◌&&◌, ◌==◌, List, [], ◌∷◌, Option, None, refl, sym, ap, ◌∙◌, subst, inl, inr, arith}
-use Rattle.std.specs.Prelude.{is_some}
-use Rattle.std.proofs.lemmas.Bool.{eqb-true, eq-eqb}
-use Rattle.st_base.specs.declared.ids.NodeId.TheVariants as nodes
-use Rattle.st_base.specs.declared.ids.PageNo.{PageNo}
-use Rattle.st_messages.specs.declared.ask.Ask.{Ask}
-use Rattle.st_rules.specs.declared.log.Change.{Change}
-use Rattle.st_rules.specs.declared.log.Change.TheVariants as changes
-use Rattle.st_rules.specs.declared.log.Fate.{Fate}
-use Rattle.st_rules.specs.declared.log.Fate.TheVariants as fates
-use Rattle.st_rules.specs.declared.log.LogEntry.{LogEntry}
-use Rattle.st_rules.specs.ClientPages.{dirty_of}
-use Rattle.st_rules.specs.ClientState.{Association}
-use Rattle.st_rules.specs.Events.{is_hard_fate}
-use Rattle.st_rules.specs.FlatLog.{is_of_life, is_pending, owner, reaches, same_owner, touches}
-use Rattle.st_rules.specs.Keys.{client, same_client, same_file, same_server}
-use Rattle.st_rules.specs.World.{World, WorldClient, clock_of}
+use Rattle.st_lemmas.proofs.Words
+use Words.{◌≡◌, ◌⊎◌, ℕ, ◌≤◌, Bool, true, false, ◌&&◌, ◌==◌, List, [], ◌∷◌, Option, None, refl, sym, ap, ◌∙◌, subst, inl, inr, arith, is_some, eqb-true, eq-eqb}
+use Words.{PageNo, Ask, Change, Fate, LogEntry}
+use Words.nodes
+use Words.changes
+use Words.fates
+use Words.ClientPages.{dirty_of}
+use Words.ClientState.{Association}
+use Words.Events.{is_hard_fate}
+use Words.FlatLog.{is_of_life, is_pending, owner, reaches, same_owner, touches}
+use Words.Keys.{client, same_client, same_file, same_server}
+use Words.World.{World, WorldClient, clock_of}
+use Words.Lists.{Has}
+use Words.Tables.{and_both, and_true}
+use Words.Truth.{not_both}
 use Rattle.st_protocol.specs.Assoc.{Config}
-use Rattle.st_lemmas.specs.Lists.{Has}
-use Rattle.st_lemmas.proofs.Tables.{and_both, and_true}
 use Rattle.st_laws_refine.specs.Views.Halves.{held_in}
 use Rattle.st_laws_refine.specs.Client.Invariants.{Lasts}
 use Rattle.st_laws_pages.specs.Disks.Folds.{CutsHard, OnlyOwn, SettledOn}
@@ -31,10 +27,6 @@ use Rattle.st_laws_reads.specs.AllClients.OwnEntries.{LockedPagesAreOwn, LockedP
 use Rattle.st_laws_reads.specs.AllClients.World.{CopiesHold}
 use Rattle.st_laws_reads.proofs.AllClients.Alone.{fate_at, while_at}
 use Rattle.st_laws_reads.proofs.AllClients.Dropping.{own_copies, unheld_for}
-
-clash : (b : Bool) → b ≡ true → b ≡ false → ⊥
-clash true q r = cc
-clash false q r = cc
 
 pending_hard : (z : Fate) → is_pending z ≡ true → is_hard_fate z ≡ true → ⊥
 pending_hard fates.Pending q r = cc r
@@ -75,7 +67,7 @@ module _ (asks : ℕ → ℕ → Option Ask) (k : Config) (count : ℕ) (w : Wor
       own : (b : Bool) → is_of_life (client d) a.server a.life e.of ≡ b → b ≡ true
       own true q = refl
       own false q =
-          let m = unheld_for asks k count w all copies frozen_lives d site run e.of (record { entry = e; has = i; pending = r; is = refl }) (inr tt) a here lasts there (λ z. clash (is_of_life (client d) a.server a.life e.of) z q) in
+          let m = unheld_for asks k count w all copies frozen_lives d site run e.of (record { entry = e; has = i; pending = r; is = refl }) (inr tt) a here lasts there (λ z. not_both (is_of_life (client d) a.server a.life e.of) z q) in
           let n = ap (λ z. (held_in a.session z).mode) file in
           absurd (omega (arith, m, n, held))
 
@@ -96,7 +88,7 @@ module _ (asks : ℕ → ℕ → Option Ask) (k : Config) (count : ℕ) (w : Wor
     where
       mine : is_pending e.fate ≡ true → OwnPending e → (is_hard_fate e.fate ≡ true) ⊎ (is_some (dirty_of a.store.pages e.of.file.ino e.of.page) ≡ true) → ⊥
       mine r o (inl h) = pending_hard e.fate r h
-      mine r o (inr h) = clash (is_some (dirty_of a.store.pages ino p)) (subst (λ z. is_some (dirty_of a.store.pages ino z) ≡ true) o.page (subst (λ n. is_some (dirty_of a.store.pages n e.of.page) ≡ true) o.file h)) (ap (λ o. is_some o) clean)
+      mine r o (inr h) = not_both (is_some (dirty_of a.store.pages ino p)) (subst (λ z. is_some (dirty_of a.store.pages ino z) ≡ true) o.page (subst (λ n. is_some (dirty_of a.store.pages n e.of.page) ≡ true) o.file h)) (ap (λ o. is_some o) clean)
 
       go : (b : Bool) → is_pending e.fate ≡ b → b ≡ false
       go false r = refl
@@ -106,8 +98,8 @@ module _ (asks : ℕ → ℕ → Option Ask) (k : Config) (count : ℕ) (w : Wor
   settled clean [] f c = record {}
   settled clean (e ∷ es) f c = record { one = not_pending clean e (f e (inl refl)) c.one; rest = settled clean es (λ x i. f x (inr i)) c.rest }
 
-pub law : LockedPagesAreSettled
-law asks k count w d site a ino p all copies frozen_lives cuts run here lasts held clean = settled asks k count w d site a ino p all copies frozen_lives run here lasts held clean w.log (λ e i. i) cuts
+pub locked_pages_are_settled : LockedPagesAreSettled
+locked_pages_are_settled asks k count w d site a ino p all copies frozen_lives cuts run here lasts held clean = settled asks k count w d site a ino p all copies frozen_lives run here lasts held clean w.log (λ e i. i) cuts
 
 pub own_law : LockedPagesAreOwn
 own_law asks k count w d site a ino p all copies frozen_lives cuts run here lasts held = only_own asks k count w d site a ino p all copies frozen_lives run here lasts held w.log (λ e i. i) cuts

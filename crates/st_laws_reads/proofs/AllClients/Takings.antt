@@ -1,60 +1,51 @@
 -- An event at which a client takes an input keeps the copies of all clients.
-use Rattle.std.proofs.Common.{◌≡◌, ◌≢◌, ℕ, ◌+◌, ◌⊎◌, Bool, true, false, List, [], ◌∷◌, ◌++◌, Option, Some, None, Ok, Err, refl, sym, ap, ◌∙◌, subst, inl, inr, append_assoc, if◌then◌else◌}
-use Rattle.std.proofs.lemmas.Bool.{eqb-true, ne_eqb}
-use Rattle.st_base.specs.declared.ids.ClientId.{ClientId}
-use Rattle.st_base.specs.declared.ids.NodeId.{NodeId}
-use Rattle.st_base.specs.declared.ids.NodeId.TheVariants as nodes
-use Rattle.st_base.specs.declared.ids.ServerId.{ServerId}
-use Rattle.st_base.specs.declared.ids.Stamp.{Stamp}
-use Rattle.st_messages.specs.declared.ask.Ask.{Ask}
-use Rattle.st_messages.specs.declared.event.Event.{Event}
-use Rattle.st_messages.specs.declared.event.Event.TheVariants as events
-use Rattle.st_messages.specs.declared.message.Message.{Message}
-use Rattle.st_rules.specs.declared.client.ClientInput.{ClientInput}
-use Rattle.st_rules.specs.declared.client.ClientInput.TheVariants as inputs
-use Rattle.st_rules.specs.declared.log.LogEntry.{LogEntry}
+use Rattle.st_lemmas.proofs.Words
+use Words.{◌≡◌, ◌≢◌, ℕ, ◌+◌, ◌⊎◌, Bool, true, false, List, [], ◌∷◌, ◌++◌, Option, Some, None, Ok, Err, refl, sym, ap, ◌∙◌, subst, inl, inr, append_assoc}
+use Words.{if◌then◌else◌, eqb-true, ne_eqb, ClientId, NodeId, ServerId, Stamp, Ask, Event, Message, ClientInput, LogEntry, IssuedCommand, SentMessage}
+use Words.nodes
+use Words.events
+use Words.inputs
+use Words.Client as cl
+use Words.ClientState.{Association, ClientState}
+use Words.Disks as disks
+use Words.Events as ev
+use Words.Events.{WorldTurn, counted, happens, world_step}
+use Words.FlatLog.{is_of_client}
+use Words.Keys.{client}
+use Words.World.{World, WorldClient, clock_of, issued_of, message_of, numbered, receiver_of, site_of}
+use Words.Lists.{Has}
+use Words.Lookups.{some_is}
+use Words.Numbers.{numbered_below, numbered_other, numbered_own}
+use Words.Tables.{and_true, same_or_not}
 use Rattle.st_rules.specs.declared.node.StepRefusal.TheVariants.{Crashed}
-use Rattle.st_rules.specs.declared.world.IssuedCommand.{IssuedCommand}
-use Rattle.st_rules.specs.declared.world.SentMessage.{SentMessage}
-use Rattle.st_rules.specs.Client as cl
-use Rattle.st_rules.specs.ClientState.{Association, ClientState}
-use Rattle.st_rules.specs.Disks as disks
-use Rattle.st_rules.specs.Events as ev
-use Rattle.st_rules.specs.Events.{WorldTurn, counted, happens, world_step}
-use Rattle.st_rules.specs.FlatLog.{is_of_client}
-use Rattle.st_rules.specs.Keys.{client}
-use Rattle.st_rules.specs.World.{World, WorldClient, clock_of, issued_of, message_of, numbered, receiver_of, site_of}
 use Rattle.st_protocol.specs.Assoc.{Config}
-use Rattle.st_lemmas.specs.Lists.{Has}
-use Rattle.st_lemmas.proofs.Lookups.{some_is}
-use Rattle.st_lemmas.proofs.Numbers.{numbered_below, numbered_other, numbered_own}
 use Rattle.st_lemmas.proofs.Steps.{step_happens}
-use Rattle.st_lemmas.proofs.Tables.{and_true, same_or_not}
 use Rattle.st_laws_refine.specs.Client.World.{WorldLeft, site_left, world_left}
 use Rattle.st_laws_refine.proofs.Client.Sim.{world_is}
-use Rattle.st_laws_refine.proofs.Client.Steps.{nothing_more}
 use Rattle.st_laws_steps.specs.Lives.Lives.{LifeNext, Pairwise, clock_in}
 use Rattle.st_laws_steps.specs.Client.Losses.{Fit}
 use Rattle.st_laws_steps.proofs.Client.Stepping.{step_lives}
 use Rattle.st_laws_leases.specs.Sides.World.{AllStand, There}
 use Rattle.st_laws_reads.specs.Copies.Law.{ClientCopies}
-use Rattle.st_laws_reads.specs.Copies.World.{AllOwn, ClientRests, OwnEntry, Taking, Unheld, WorldKeeps, asking, receiving, receiving_of, now_at, taken, taking, told_at, told_of, turn_of}
+use Rattle.st_laws_reads.specs.Copies.World.{AllOwn, ClientRests, OwnEntry, Taking, Unheld, WorldKeeps, asking, receiving, receiving_of, now_at, taken, taking}
+use Rattle.st_laws_reads.specs.Copies.World.{told_at, told_of, turn_of}
 use Rattle.st_laws_reads.proofs.Copies.Others.{entries_law}
 use Rattle.st_laws_reads.proofs.Copies.Rests.{clocks_law, rests_law}
 use Rattle.st_laws_reads.proofs.Copies.World as own
 use Rattle.st_laws_reads.specs.AllClients.World.{AllThere, CopiesHold, SiteHolds, TakingOwed, TakingsKeepCopies}
 use Rattle.st_laws_reads.proofs.AllClients.Alone as alone
+use Words.{append-nil}
 
 -- Entries of other clients join.
 more_copies : (asked_as : ℕ → Option Ask) (c : ClientId) (now : Stamp) (s : ClientState) (es more : List LogEntry) → ((e : LogEntry) → Has e more → is_of_client c e.of ≡ false) →
     ((e : LogEntry) → Has e more → Unheld e.of.file s.config.lease now.0 s.associations) → ClientCopies asked_as c es now s → ClientCopies asked_as c (es ++ more) now s
-more_copies asked_as c now s es [] n u h = subst (λ l. ClientCopies asked_as c l now s) (sym (nothing_more es)) h
+more_copies asked_as c now s es [] n u h = subst (λ l. ClientCopies asked_as c l now s) (sym (append-nil es)) h
 more_copies asked_as c now s es (e ∷ more) n u h =
     subst (λ l. ClientCopies asked_as c l now s) (append_assoc es (e ∷ []) more)
     (more_copies asked_as c now s (es ++ e ∷ []) more (λ x i. n x (inr i)) (λ x i. u x (inr i)) (entries_law asked_as c es now s e (n e (inl refl)) (u e (inl refl)) h))
 
 more_rests : (c : ClientId) (s : ClientState) (es more : List LogEntry) → ((e : LogEntry) → Has e more → is_of_client c e.of ≡ false) → ClientRests c es s → ClientRests c (es ++ more) s
-more_rests c s es [] n h = subst (λ l. ClientRests c l s) (sym (nothing_more es)) h
+more_rests c s es [] n h = subst (λ l. ClientRests c l s) (sym (append-nil es)) h
 more_rests c s es (e ∷ more) n h =
     subst (λ l. ClientRests c l s) (append_assoc es (e ∷ []) more) (more_rests c s (es ++ e ∷ []) more (λ x i. n x (inr i)) ((rests_law c es s h).entry e (n e (inl refl))))
 
@@ -184,7 +175,7 @@ module _ (asks : ℕ → ℕ → Option Ask) (k : Config) (count : ℕ) (w : Wor
 
   pub keeps : WorldKeeps (asks c) x.client x.world.log sc.world.log (turn_of x)
   keeps =
-      own.law (asks c) w e sc x step q runs
+      own.events_keep_copies (asks c) w e sc x step q runs
       (subst (λ (n : cl.ClientNode). ClientCopies (asks c) x.client x.world.log (now_at x) n.state) t.same
       (subst (λ n. ClientCopies (asks c) x.client x.world.log n t.old.node.state) clock_there (subst (λ l. ClientCopies (asks c) x.client l (clock_of w (nodes.Client x.client)) t.old.node.state) (sym t.log) (old_holds.runs old_runs)))) owed.numbered owed.owed
 
@@ -234,7 +225,7 @@ module _ (asks : ℕ → ℕ → Option Ask) (k : Config) (count : ℕ) (w : Wor
       unheld : site.node.running ≡ true → (y : LogEntry) → Has y keeps.more → Unheld y.of.file site.node.state.config.lease (clock_of sc.world (nodes.Client (client d))).0 site.node.state.associations
       unheld r y i =
           let o = own_at x.client (turn_of x).state.associations keeps.more y keeps.own i in
-          alone.law (asks c) k count sc.world c d mine site o.association y after (λ z. n (sym z)) (record { there = mine_there; runs = runs }) (record { there = f; runs = r }) (mine_holds.runs runs) o.listed
+          alone.pending_pages_stand_alone (asks c) k count sc.world c d mine site o.association y after (λ z. n (sym z)) (record { there = mine_there; runs = runs }) (record { there = f; runs = r }) (mine_holds.runs runs) o.listed
           (record { logged = subst (λ l. Has y l) (sym joined) (has_behind w.log keeps.more y i); pending = o.pending; own = o.own; server = there_at sc.world (turn_of x).state.associations o.association mine_holds.servers o.listed })
 
   all_hold : CopiesHold asks sc.world
@@ -260,8 +251,8 @@ stopped asks w sc x t h r = λ d site f.
       rests = λ y. subst (λ l. ClientRests (client d) l site.node.state) (sym log) (s.rests y);
     }
 
-pub law : TakingsKeepCopies
-law asks k count w e sc x all after step q owed h = go x.site.node.running refl
+pub takings_keep_copies : TakingsKeepCopies
+takings_keep_copies asks k count w e sc x all after step q owed h = go x.site.node.running refl
   where
     t : Takes (counted w) sc x
     t = let z = step_happens w e sc step in subst (λ (s : WorldTurn). Takes (counted w) s x) (sym z.1) (takes_event (counted w) e x q)

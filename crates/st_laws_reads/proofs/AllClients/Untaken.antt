@@ -1,48 +1,31 @@
 -- What is observed at an event at which no client takes an input has a fact that servers keep and fates have.
-use Rattle.std.proofs.Common.{◌≡◌, ℕ, Bool, true, false, List, [], Option, Some, None, Ok, Err, if◌then◌else◌}
-use Rattle.std.specs.Prelude.{Result}
-use Rattle.st_base.specs.declared.ids.ClientId.{ClientId}
-use Rattle.st_base.specs.declared.ids.NodeId.{NodeId}
-use Rattle.st_base.specs.declared.ids.NodeId.TheVariants as nodes
-use Rattle.st_base.specs.declared.ids.ServerId.{ServerId}
-use Rattle.st_messages.specs.declared.ask.Ask.{Ask}
-use Rattle.st_messages.specs.declared.event.Event.{Event}
-use Rattle.st_messages.specs.declared.event.Event.TheVariants as events
-use Rattle.st_messages.specs.declared.message.Message.{Message}
-use Rattle.st_messages.specs.declared.output.Output.{Output}
-use Rattle.st_rules.specs.declared.client.ClientInput.{ClientInput}
-use Rattle.st_rules.specs.declared.client.ClientInput.TheVariants as inputs
-use Rattle.st_rules.specs.declared.input.ServerInput.{ServerInput}
-use Rattle.st_rules.specs.declared.input.ServerInput.TheVariants as serving
-use Rattle.st_rules.specs.declared.log.LogEntry.{LogEntry}
-use Rattle.st_rules.specs.declared.node.StepRefusal.{StepRefusal}
-use Rattle.st_rules.specs.declared.observation.Observation.{Observation}
-use Rattle.st_rules.specs.declared.observation.Observation.TheVariants as seen
-use Rattle.st_rules.specs.declared.world.IssuedCommand.{IssuedCommand}
-use Rattle.st_rules.specs.declared.world.SentMessage.{SentMessage}
-use Rattle.st_rules.specs.Disks as disks
-use Rattle.st_rules.specs.Events as ev
-use Rattle.st_rules.specs.Events.{WorldTurn, happens}
-use Rattle.st_rules.specs.FlatLog as log
-use Rattle.st_rules.specs.Server as server
-use Rattle.st_rules.specs.Server.{ServerNode}
-use Rattle.st_rules.specs.World.{World, WorldClient, clock_of, issued_of, message_of, node_of, receiver_of, site_of}
+use Rattle.st_lemmas.proofs.Words
+use Words.{◌≡◌, ℕ, Bool, true, false, List, [], Option, Some, None, Ok, Err, if◌then◌else◌, Result, ClientId, NodeId, ServerId, Ask, Event, Message, Output}
+use Words.{ClientInput, ServerInput, LogEntry, StepRefusal, Observation, IssuedCommand, SentMessage}
+use Words.nodes
+use Words.events
+use Words.inputs
+use Words.serving
+use Words.Disks as disks
+use Words.Events as ev
+use Words.Events.{WorldTurn, happens}
+use Words.Server as server
+use Words.Server.{ServerNode}
+use Words.World.{World, WorldClient, clock_of, issued_of, message_of, node_of, receiver_of, site_of}
+use Words.Truth.{some_not_none}
 use Rattle.st_laws_reads.specs.Copies.World.{asking, receiving, receiving_of, taken, taking, told_at, told_of}
-
-none_some : {A : Type 0} (x : A) → ◌≡◌ {A = Option A} (Some x) None → ⊥
-none_some x e = cc
 
 module _ (S : List Observation → Type 0) (none : S []) (says : (s : ServerId) (os : List Output) (sc : WorldTurn) → S sc.seen → S (ev.server_says_all s os sc).seen)
     (of_fates : (k : ℕ) (es fs : List LogEntry) → S (ev.fates_from k es fs)) where
   at_client : (w : World) (c : ClientId) (input : ClientInput) (o : Option WorldClient) → taking w c input o ≡ None → S (ev.at_client w c input o).seen
   unfolding ev.at_client
   at_client w c input None e = none
-  at_client w c input (Some site) e = absurd (none_some _ e)
+  at_client w c input (Some site) e = absurd (some_not_none _ e)
 
   at_ask : (w : World) (c : ClientId) (ask : Ask) (o : Option WorldClient) → asking w c ask o ≡ None → S (ev.asks_at w c ask o).seen
   unfolding ev.asks_at
   at_ask w c ask None e = none
-  at_ask w c ask (Some site) e = absurd (none_some _ e)
+  at_ask w c ask (Some site) e = absurd (some_not_none _ e)
 
   at_server : (w : World) (s : ServerId) (input : ServerInput) (o : Option ServerNode) → S (ev.at_server w s input o).seen
   unfolding ev.at_server ev.server_takes ev.server_took
@@ -69,7 +52,7 @@ module _ (S : List Observation → Type 0) (none : S []) (says : (s : ServerId) 
   at_end w k ok (Some y) e = at_site (site_of w y.client) e
     where
       at : (site : WorldClient) (b : Bool) → (if b then taking w y.client (ev.end_told w k ok y) (Some site) else None) ≡ None → S (if b then ev.client_takes w y.client (ev.end_told w k ok y) site else ev.quiet w).seen
-      at site true e = absurd (none_some _ e)
+      at site true e = absurd (some_not_none _ e)
       at site false e = none
 
       at_site : (s : Option WorldClient) → told_at w k ok y s ≡ None → S (ev.tells_client w k ok y s).seen

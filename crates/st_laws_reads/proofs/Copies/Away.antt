@@ -1,43 +1,28 @@
 -- What the pass of the operations at one server leaves of the others: only entries of its own files join the log.
-use Rattle.std.proofs.Common.{◌≡◌, ℕ, Bool, true, false, ◌&&◌, List, [], ◌∷◌, ◌++◌, ◌==◌, Option, Some, None, Ok, Err, refl, sym, ap, ◌∙◌, subst, if◌then◌else◌, append_assoc}
-use Rattle.std.specs.Prelude.{Result}
-use Rattle.std.proofs.lemmas.Bool.{eqb-true}
-use Rattle.st_base.specs.declared.ids.ClientId.{ClientId}
-use Rattle.st_base.specs.declared.ids.ServerId.{ServerId}
-use Rattle.st_base.specs.declared.ids.Life.{Life}
-use Rattle.st_base.specs.declared.ids.FileId.{FileId}
-use Rattle.st_base.specs.declared.ids.PageNo.{PageNo}
-use Rattle.st_base.specs.declared.ids.Stamp.{Stamp}
-use Rattle.st_base.specs.Page.{filled}
-use Rattle.st_base.specs.declared.mode.Mode.TheVariants as modes
-use Rattle.st_messages.specs.declared.ask.Ask.{Ask}
-use Rattle.st_messages.specs.declared.ask.Ask.TheVariants as asks
-use Rattle.st_messages.specs.declared.answer.AppAnswer.{AppAnswer}
-use Rattle.st_messages.specs.declared.answer.AppAnswer.TheVariants as answers
-use Rattle.st_messages.specs.declared.output.Note.{Note}
-use Rattle.st_messages.specs.declared.output.Note.TheVariants as notes
-use Rattle.st_messages.specs.declared.output.Output.{Output}
-use Rattle.st_messages.specs.declared.output.Output.TheVariants as outputs
-use Rattle.st_rules.specs.declared.client.KnownExtent.{KnownExtent}
-use Rattle.st_rules.specs.declared.client.MappedBlock.{MappedBlock}
-use Rattle.st_rules.specs.declared.client.WriteRefusal.{WriteRefusal}
-use Rattle.st_rules.specs.declared.client.Operation.{Operation}
-use Rattle.st_rules.specs.declared.log.LogEntry.{LogEntry}
-use Rattle.st_rules.specs.declared.log.Change.TheVariants as changes
-use Rattle.st_rules.specs.Keys.{same_server}
-use Rattle.st_rules.specs.FlatLog as log
-use Rattle.st_rules.specs.FlatLog.{content, after, is_of_life}
-use Rattle.st_rules.specs.ClientPages as pages
-use Rattle.st_rules.specs.ClientPages.{Store}
-use Rattle.st_rules.specs.ClientState as st
-use Rattle.st_rules.specs.ClientState.{ClientSession, Turn, is_of, is_open_file, file_of, server_of, keep}
-use Rattle.st_rules.specs.ClientPasses as cp
+use Rattle.st_lemmas.proofs.Words
+use Words.{◌≡◌, ℕ, Bool, true, false, ◌&&◌, List, [], ◌∷◌, ◌++◌, ◌==◌, Option, Some, None, Ok, Err, refl, sym, ap, ◌∙◌, subst, if◌then◌else◌, append_assoc}
+use Words.{Result, eqb-true, ClientId, ServerId, Life, FileId, PageNo, Stamp, Ask, AppAnswer, Note, Output, KnownExtent, MappedBlock, WriteRefusal, Operation}
+use Words.{LogEntry, append-nil}
+use Words.Page.{filled}
+use Words.modes
+use Words.asks
+use Words.answers
+use Words.notes
+use Words.outputs
+use Words.changes
+use Words.Keys.{same_server}
+use Words.FlatLog as log
+use Words.FlatLog.{content, after, is_of_life}
+use Words.ClientPages as pages
+use Words.ClientPages.{Store}
+use Words.ClientState as st
+use Words.ClientState.{ClientSession, Turn, is_of, is_open_file, file_of, server_of, keep}
+use Words.ClientPasses as cp
+use Words.Lookups.{if_false}
 use Rattle.st_laws_refine.specs.Client.World.{logged, logged_note}
 use Rattle.st_laws_reads.specs.Copies.Copies.{FatesOk, AllOf, Joined, Away, AwayOf, Keeps}
-use Rattle.st_lemmas.proofs.Lookups.{if_false}
 use Rattle.st_lemmas.proofs.Contents.{content_last}
 use Rattle.st_laws_reads.proofs.Copies.Logs.{logged_both, still, away_then, away_out, away_entry}
-use Rattle.st_laws_refine.proofs.Client.Steps.{nothing_more}
 use Rattle.st_laws_reads.proofs.Copies.Copies.{operations_keep}
 
 content_apart : (l : List LogEntry) (e : LogEntry) (f : FileId) (p : PageNo) → same_server e.of.file.server f.server ≡ false → content (l ++ e ∷ []) f p ≡ content l f p
@@ -59,7 +44,7 @@ fates_apart c life x y (z ∷ l) e h r = record { one = r.one; rest = fates_apar
 
 -- what isn't of this server holds in a log that goes on by its entries
 content_joins : (sv : ServerId) (l more : List LogEntry) (f : FileId) (p : PageNo) → AllOf sv more → same_server sv f.server ≡ false → content (l ++ more) f p ≡ content l f p
-content_joins sv l [] f p a h = ap (λ x. content x f p) (nothing_more l)
+content_joins sv l [] f p a h = ap (λ x. content x f p) (append-nil l)
 content_joins sv l (e ∷ more) f p a h =
     ap (λ x. content x f p) (sym (append_assoc l (e ∷ []) more)) ∙ content_joins sv (l ++ e ∷ []) more f p a.rest h ∙ content_apart l e f p (ap (λ s. same_server s f.server) a.one ∙ h)
 
@@ -67,7 +52,7 @@ pub joined_content : (sv : ServerId) (l m : List LogEntry) (f : FileId) (p : Pag
 joined_content sv l m f p j h = ap (λ x. content x f p) j.is ∙ content_joins sv l j.more f p j.own h
 
 fates_join : (c : ClientId) (life : Life) (x : ServerId) (y : Store) (sv : ServerId) (l more : List LogEntry) → AllOf sv more → same_server sv x ≡ false → FatesOk c life x y l → FatesOk c life x y (l ++ more)
-fates_join c life x y sv l [] a h r = subst (λ m. FatesOk c life x y m) (sym (nothing_more l)) r
+fates_join c life x y sv l [] a h r = subst (λ m. FatesOk c life x y m) (sym (append-nil l)) r
 fates_join c life x y sv l (e ∷ more) a h r =
     subst (λ m. FatesOk c life x y m) (append_assoc l (e ∷ []) more)
     (fates_join c life x y sv (l ++ e ∷ []) more a.rest h (fates_apart c life x y l e (ap (λ s. same_server s x) a.one ∙ h) r))
@@ -168,5 +153,5 @@ module _ (c : ClientId) (lives : ServerId → Life) (es : List LogEntry) where
   away_operations n t = away_each n t.operations t.operations (st.with_operations [] t)
 
 -- the pass of the operations keeps the copies, and leaves those at other servers
-pub k_operations : (ask_of : ℕ → Option Ask) (c : ClientId) (lives : ServerId → Life) (es : List LogEntry) (n : Stamp) (t : Turn) → Keeps ask_of c lives es t (cp.operations n t)
-k_operations ask_of c lives es n t = record { keep = operations_keep ask_of c lives es n t; away = away_operations c lives es n t }
+pub copies_kept_by_operations : (ask_of : ℕ → Option Ask) (c : ClientId) (lives : ServerId → Life) (es : List LogEntry) (n : Stamp) (t : Turn) → Keeps ask_of c lives es t (cp.operations n t)
+copies_kept_by_operations ask_of c lives es n t = record { keep = operations_keep ask_of c lives es n t; away = away_operations c lives es n t }

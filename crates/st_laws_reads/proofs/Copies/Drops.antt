@@ -1,32 +1,24 @@
 -- What holds of a client's copies, as entries of others and of its earlier lives are dropped.
-use Rattle.std.proofs.Common.{◌≡◌, ℕ, zero, suc, ◌+◌, ◌⊎◌, Bool, true, false, ◌&&◌, List, [], ◌∷◌, ◌==◌, refl, sym, ap, ◌∙◌, subst, if◌then◌else◌}
-use Rattle.std.specs.Prelude.{is_some}
-use Rattle.std.proofs.lemmas.Bool.{eqb-true}
-use Rattle.st_base.specs.declared.ids.ClientId.{ClientId}
-use Rattle.st_base.specs.declared.ids.FileId.{FileId}
-use Rattle.st_base.specs.declared.ids.PageNo.{PageNo}
-use Rattle.st_base.specs.declared.ids.ServerId.{ServerId}
-use Rattle.st_base.specs.declared.ids.Life.{Life}
-use Rattle.st_base.specs.Page.{filled}
-use Rattle.st_rules.specs.declared.log.Cause.{Cause}
-use Rattle.st_rules.specs.declared.log.Fate.{Fate}
-use Rattle.st_rules.specs.declared.log.Fate.TheVariants as fates
-use Rattle.st_rules.specs.declared.log.LogEntry.{LogEntry}
-use Rattle.st_rules.specs.declared.log.LogOwner.{LogOwner}
-use Rattle.st_rules.specs.Keys.{same_file, same_server}
-use Rattle.st_rules.specs.FlatLog as log
-use Rattle.st_rules.specs.FlatLog.{content, content_from, is_of_life, is_pending}
-use Rattle.st_rules.specs.ClientPages as pages
-use Rattle.st_rules.specs.ClientPages.{Store}
-use Rattle.st_rules.specs.ClientState.{Association}
-use Rattle.st_rules.specs.Events.{is_hard_fate}
+use Rattle.st_lemmas.proofs.Words
+use Words.{◌≡◌, ℕ, zero, suc, ◌+◌, ◌⊎◌, Bool, true, false, ◌&&◌, List, [], ◌∷◌, ◌==◌, refl, sym, ap, ◌∙◌, subst, if◌then◌else◌, is_some, eqb-true, ClientId}
+use Words.{FileId, PageNo, ServerId, Life, Cause, Fate, LogEntry, LogOwner}
+use Words.Page.{filled}
+use Words.fates
+use Words.Keys.{same_file, same_server}
+use Words.FlatLog as log
+use Words.FlatLog.{content, content_from, is_of_life, is_pending}
+use Words.ClientPages as pages
+use Words.ClientPages.{Store}
+use Words.ClientState.{Association}
+use Words.Events.{is_hard_fate}
+use Words.Tables.{and_true}
+use Words.Truth.{not_both}
 use Rattle.st_laws_refine.specs.Views.Halves.{held_in}
-use Rattle.st_lemmas.proofs.Tables.{and_true}
 use Rattle.st_laws_refine.specs.Client.Invariants.{Lasts}
 use Rattle.st_laws_reads.specs.Copies.Copies.{PageOk, FatesOk, file_at}
 use Rattle.st_laws_reads.specs.Copies.Law.{Lived, AllWhile}
 use Rattle.st_laws_reads.specs.Copies.World.{DropsUnheld, DropsKeepCopies}
-use Rattle.st_laws_reads.proofs.Copies.Others.{unheld_ok, no_bool}
+use Rattle.st_laws_reads.proofs.Copies.Others.{unheld_ok}
 
 module _ (picked : ℕ → LogOwner → Bool) (cause : FileId → PageNo → Cause) where
   -- what is dropped is of other files
@@ -92,7 +84,7 @@ module _ (picked : ℕ → LogOwner → Bool) (cause : FileId → PageNo → Cau
       HardOrDirty f = (is_hard_fate f ≡ true) ⊎ (is_some (pages.dirty_of x.pages e.of.file.ino e.of.page) ≡ true)
 
       one : (k : Cause) (f : Fate) → is_of_life c sv life e.of ≡ true → (is_pending f ≡ true → is_of_life c sv life e.of ≡ false) → HardOrDirty f → HardOrDirty (log.lost k f)
-      one k fates.Pending o w q = absurd (no_bool (is_of_life c sv life e.of) o (w refl))
+      one k fates.Pending o w q = absurd (not_both (is_of_life c sv life e.of) o (w refl))
       one k fates.Hard o w q = q
       one k (fates.Gone d) o w q = q
 
@@ -141,5 +133,5 @@ module _ (picked : ℕ → LogOwner → Bool) (cause : FileId → PageNo → Cau
           rest = all_drop c es xs (others c a xs 1 es u) h.rest;
         }
 
-pub law : DropsKeepCopies
-law asked_as c es now s picked cause u h = record { apart = h.apart; copies = all_drop picked cause s.config.lease now.0 c es s.associations u h.copies; asked = h.asked }
+pub drops_keep_copies : DropsKeepCopies
+drops_keep_copies asked_as c es now s picked cause u h = record { apart = h.apart; copies = all_drop picked cause s.config.lease now.0 c es s.associations u h.copies; asked = h.asked }

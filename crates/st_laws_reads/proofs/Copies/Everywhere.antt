@@ -1,19 +1,14 @@
 -- A rule at each server in turn: what is done at one leaves the pages of the others, and all stay as the log has them.
-use Rattle.std.proofs.Common.{◌≡◌, ℕ, Bool, true, false, List, [], ◌∷◌, ◌++◌, ◌==◌, Option, refl, sym, ap, ◌∙◌, subst, append_assoc, inl, inr}
-use Rattle.std.proofs.lemmas.Bool.{eqb-true, eq-eqb}
-use Rattle.st_base.specs.declared.ids.ClientId.{ClientId}
-use Rattle.st_base.specs.declared.ids.ServerId.{ServerId}
-use Rattle.st_base.specs.declared.ids.Life.{Life}
-use Rattle.st_messages.specs.declared.ask.Ask.{Ask}
-use Rattle.st_rules.specs.declared.log.LogEntry.{LogEntry}
-use Rattle.st_rules.specs.Keys.{same_server}
-use Rattle.st_rules.specs.ClientState.{Association, Turn, ClientTurn, enter, leave, at_these, at_each, with_associations}
+use Rattle.st_lemmas.proofs.Words
+use Words.{◌≡◌, ℕ, Bool, true, false, List, [], ◌∷◌, ◌++◌, ◌==◌, Option, refl, sym, ap, ◌∙◌, subst, append_assoc, inl, inr, eqb-true, eq-eqb, ClientId}
+use Words.{ServerId, Life, Ask, LogEntry, append-nil}
+use Words.Keys.{same_server}
+use Words.ClientState.{Association, Turn, ClientTurn, enter, leave, at_these, at_each, with_associations}
 use Rattle.st_laws_refine.specs.Views.Halves.{held_in}
 use Rattle.st_laws_refine.specs.Client.World.{logged}
 use Rattle.st_laws_reads.specs.Copies.Copies.{Right, PageOk, AskedSo, Joined, AllOf, Keeps, Copies, file_at}
 use Rattle.st_laws_reads.specs.Copies.Law.{CopiesAt, AllCopies, Differs, Apart, Listed, AllListed, JoinedBy}
 use Rattle.st_laws_reads.proofs.Copies.Away.{joined_content, joined_fates}
-use Rattle.st_laws_refine.proofs.Client.Steps.{nothing_more}
 
 -- Associations with the same servers and lives, in order.
 abbrev pub SamePlaces : List Association → List Association → Type 0
@@ -128,7 +123,7 @@ all_listed_both xs [] fs a b = b
 all_listed_both xs (e ∷ es) fs a b = record { one = a.one; rest = all_listed_both xs es fs a.rest b }
 
 pub joined_nothing : (xs : List Association) (l m : List LogEntry) → m ≡ l → JoinedBy xs l m
-joined_nothing xs l m e = record { more = []; is = e ∙ sym (nothing_more l); listed = record {} }
+joined_nothing xs l m e = record { more = []; is = e ∙ sym (append-nil l); listed = record {} }
 
 pub joined_next : (xs : List Association) (l m n : List LogEntry) → JoinedBy xs l m → JoinedBy xs m n → JoinedBy xs l n
 joined_next xs l m n p q = record { more = p.more ++ q.more; is = q.is ∙ ap (λ x. x ++ q.more) p.is ∙ append_assoc l p.more q.more; listed = all_listed_both xs p.more q.more p.listed q.listed }
@@ -187,7 +182,7 @@ module _ (ask_of : ℕ → Option Ask) (c : ClientId) (lives : ServerId → Life
   these_keep P f rule k [] T d o =
       record {
         within = λ r. r;
-        places = subst (λ xs. SamePlaces xs T.state.associations) (sym (nothing_more T.state.associations)) (same_self T.state.associations);
+        places = subst (λ xs. SamePlaces xs T.state.associations) (sym (append-nil T.state.associations)) (same_self T.state.associations);
         joined = joined_nothing T.state.associations _ _ refl;
       }
   these_keep P f rule k (a ∷ rest) T d o =
@@ -233,6 +228,6 @@ module _ (ask_of : ℕ → Option Ask) (c : ClientId) (lives : ServerId → Life
       let m = these_keep P f rule k T.state.associations (with_associations [] T) d o in
       record {
         within = λ r. m.within (record { done = record {}; ahead = r.done; right = r.right; asked = r.asked });
-        places = subst (λ xs. SamePlaces xs (at_each rule T).state.associations) (sym (nothing_more T.state.associations)) m.places;
+        places = subst (λ xs. SamePlaces xs (at_each rule T).state.associations) (sym (append-nil T.state.associations)) m.places;
         joined = m.joined;
       }

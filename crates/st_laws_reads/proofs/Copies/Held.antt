@@ -1,28 +1,17 @@
 -- A page that was changed in a step is dirty after it, under an exclusive lock.
-use Rattle.std.proofs.Common.{◌≡◌, ℕ, ◌⊎◌, true, ◌&&◌, List, [], ◌∷◌, ◌++◌, ◌==◌, Option, Some, None, refl, sym, ap, ◌∙◌, subst, inl, inr, append_assoc}
-use Rattle.std.specs.Prelude.{is_some}
-use Rattle.std.proofs.lemmas.Bool.{eq-eqb}
-use Rattle.st_base.specs.declared.ids.ClientId.{ClientId}
-use Rattle.st_base.specs.declared.ids.FileId.{FileId}
-use Rattle.st_base.specs.declared.ids.Life.{Life}
-use Rattle.st_base.specs.declared.ids.PageNo.{PageNo}
-use Rattle.st_base.specs.declared.ids.ServerId.{ServerId}
-use Rattle.st_messages.specs.declared.output.Note.{Note}
-use Rattle.st_messages.specs.declared.ask.Ask.{Ask}
-use Rattle.st_messages.specs.declared.output.Note.TheVariants as notes
-use Rattle.st_messages.specs.declared.output.Output.{Output}
-use Rattle.st_messages.specs.declared.output.Output.TheVariants as outputs
-use Rattle.st_rules.specs.declared.log.Change.{Change}
-use Rattle.st_rules.specs.declared.log.Change.TheVariants as changes
-use Rattle.st_rules.specs.declared.log.LogEntry.{LogEntry}
-use Rattle.st_rules.specs.declared.pages.DirtyPage.{DirtyPage}
-use Rattle.st_rules.specs.FlatLog as log
-use Rattle.st_rules.specs.FlatLog.{is_of_life}
-use Rattle.st_rules.specs.Events.{is_hard_fate}
-use Rattle.st_rules.specs.ClientPages.{dirty_of}
-use Rattle.st_rules.specs.ClientState.{Association, ClientTurn}
+use Rattle.st_lemmas.proofs.Words
+use Words.{◌≡◌, ℕ, ◌⊎◌, true, ◌&&◌, List, [], ◌∷◌, ◌++◌, ◌==◌, Option, Some, refl, sym, ap, ◌∙◌, subst, inl, inr, append_assoc, is_some, eq-eqb, ClientId}
+use Words.{FileId, Life, PageNo, ServerId, Note, Ask, Output, Change, LogEntry, DirtyPage, append-nil}
+use Words.notes
+use Words.outputs
+use Words.changes
+use Words.FlatLog as log
+use Words.FlatLog.{is_of_life}
+use Words.Events.{is_hard_fate}
+use Words.ClientPages.{dirty_of}
+use Words.ClientState.{Association, ClientTurn}
+use Words.Truth.{some_there}
 use Rattle.st_laws_refine.specs.Client.World.{logged}
-use Rattle.st_laws_refine.proofs.Client.Steps.{nothing_more}
 use Rattle.st_laws_reads.specs.Copies.Copies.{FatesOk}
 use Rattle.st_laws_reads.specs.Copies.World.{OwnEntry, AllOwn}
 use Rattle.st_laws_reads.specs.Copies.Law.{StepKeeps, EachStands, LivesAre, Listed, AllListed, HeldPage, AllHeld, ChangesAreHeld}
@@ -43,7 +32,7 @@ entries c lives (outputs.Note n ∷ os) = entries_of c lives n ++ entries c live
 
 logged_is : (c : ClientId) (lives : ServerId → Life) (os : List Output) (es : List LogEntry) → logged c lives os es ≡ es ++ entries c lives os
 unfolding entries entries_of log.accept log.patch
-logged_is c lives [] es = sym (nothing_more es)
+logged_is c lives [] es = sym (append-nil es)
 logged_is c lives (outputs.Send m ∷ os) es = logged_is c lives os es
 logged_is c lives (outputs.Submit n a w ∷ os) es = logged_is c lives os es
 logged_is c lives (outputs.Answer o a ∷ os) es = logged_is c lives os es
@@ -68,10 +57,6 @@ own_life : (c : ClientId) (f : FileId) (p : PageNo) (life : Life) (sv : ServerId
 own_life c f p life sv e =
     ap (λ b. b && ((f.server.0 == sv.0) && (life.0 == life.0))) (eq-eqb c.0 c.0 refl) ∙ ap (λ b. b && (life.0 == life.0)) (eq-eqb f.server.0 sv.0 (ap (λ (v : ServerId). v.0) e)) ∙ eq-eqb life.0 life.0 refl
 
-dirty_found : (o : Option DirtyPage) → is_some o ≡ true → (d : DirtyPage) × (o ≡ Some d)
-dirty_found None e = cc
-dirty_found (Some d) e = (d, refl)
-
 module _ (c : ClientId) (lives : ServerId → Life) (es xs : List LogEntry) where
   -- the association of the file's server has the page dirty
   page_held : (f : FileId) (p : PageNo) (change : Change) (list : List Association) → EachStands c (es ++ xs) list → LivesAre lives list → Listed f.server list →
@@ -80,7 +65,7 @@ module _ (c : ClientId) (lives : ServerId → Life) (es xs : List LogEntry) wher
   page_held f p change (a ∷ list) s l (inr i) g =
       let h = page_held f p change list s.rest l.rest i g in
       record { association = h.association; listed = inr h.listed; there = h.there; exclusive = h.exclusive; dirty = h.dirty }
-  page_held f p change (a ∷ list) s l (inl e) g = by (dirty_found _ (dirty (fate.one (subst (λ life. is_of_life c a.server a.life (log.owner c life f p) ≡ true) (sym same) (own_life c f p a.life a.server (sym e))))))
+  page_held f p change (a ∷ list) s l (inl e) g = by (some_there _ (dirty (fate.one (subst (λ life. is_of_life c a.server a.life (log.owner c life f p) ≡ true) (sym same) (own_life c f p a.life a.server (sym e))))))
     where
       same : lives f.server ≡ a.life
       same = ap lives (sym e) ∙ l.one
@@ -115,8 +100,8 @@ all_held c lives es xs list (outputs.Note (notes.Patched f p at bytes) ∷ os) s
     }
 all_held c lives es xs list (outputs.Note n ∷ os) s l i g = record { one = record {}; rest = all_held c lives es xs list os s l i g }
 
-pub law : ChangesAreHeld
-law asks c lives es t k l =
+pub changes_are_held : ChangesAreHeld
+changes_are_held asks c lives es t k l =
     let xs : List LogEntry = entries c lives t.out in
     let is : logged c lives t.out es ≡ es ++ xs = logged_is c lives t.out es in
     let more : k.joined.more ≡ xs = same_behind es k.joined.more xs (sym k.joined.is ∙ is) in

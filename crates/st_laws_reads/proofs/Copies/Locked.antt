@@ -1,56 +1,29 @@
 -- In the world the changes of a client's step are locked after it.
-use Rattle.std.proofs.Common.{◌≡◌, ℕ, ◌<◌, ◌≤◌, Bool, true, false, List, [], ◌∷◌, ◌++◌, Option, Some, None, refl, sym, ap, ◌∙◌, subst, inl, inr, arith, append_assoc, if◌then◌else◌}
-use Rattle.std.specs.Prelude.{find, is_some, nat_le, nat_lt, option_map}
-use Rattle.std.specs.List.{list_all, list_any}
-use Rattle.std.proofs.lemmas.Bool.{eq-eqb, leb-false, ltb-false}
-use Rattle.st_base.specs.declared.ids.ClientId.{ClientId}
-use Rattle.st_base.specs.declared.ids.FileId.{FileId}
-use Rattle.st_base.specs.declared.ids.NodeId.TheVariants as nodes
-use Rattle.st_base.specs.declared.ids.PageNo.{PageNo}
-use Rattle.st_base.specs.declared.ids.ServerId.{ServerId}
-use Rattle.st_base.specs.declared.ids.Stamp.{Stamp}
-use Rattle.st_base.specs.declared.mode.Mode.TheVariants as modes
-use Rattle.st_base.specs.Mode.{covers, number_of}
-use Rattle.st_messages.specs.declared.output.Note.{Note}
-use Rattle.st_messages.specs.declared.output.Note.TheVariants as notes
-use Rattle.st_messages.specs.declared.output.Output.{Output}
-use Rattle.st_messages.specs.declared.output.Output.TheVariants as outputs
-use Rattle.st_rules.specs.declared.client.HeldLock.{HeldLock}
-use Rattle.st_rules.specs.declared.observation.Observation.{Observation}
-use Rattle.st_rules.specs.declared.pages.DirtyPage.{DirtyPage}
-use Rattle.st_rules.specs.Keys.{same_server}
-use Rattle.st_rules.specs.Client as cl
-use Rattle.st_rules.specs.ClientLease.{end_at}
-use Rattle.st_rules.specs.ClientLocks.{is_lock_on, lock_of}
-use Rattle.st_rules.specs.ClientPages.{is_dirty_of}
-use Rattle.st_rules.specs.ClientState.{Association, ClientSession, ClientState, is_at}
-use Rattle.st_rules.specs.World.{World, WorldClient, clock_of, site_of}
-use Rattle.st_rules.specs.Events as ev
-use Rattle.st_rules.specs.Events.{WorldTurn, client_notes, client_says, client_says_all}
-use Rattle.st_rules.specs.History.{association_of, is_exclusive_on, locks_of_session}
-use Rattle.st_rules.specs.Safety as safety
-use Rattle.st_lemmas.specs.Lists.{Has}
-use Rattle.st_lemmas.proofs.Tables.{and_both}
-use Rattle.st_laws_refine.specs.Views.Halves.{held_at, held_in}
+use Rattle.st_lemmas.proofs.Words
+use Words.{◌≡◌, ℕ, ◌≤◌, true, false, List, [], ◌∷◌, ◌++◌, Option, Some, None, refl, sym, ap, ◌∙◌, subst, inl, inr, arith, append_assoc}
+use Words.{if◌then◌else◌, find, is_some, option_map, list_all, list_any, eq-eqb, ClientId, FileId, PageNo, ServerId}
+use Words.{Stamp, Note, Output, Observation, DirtyPage, lt-ltb, append-nil}
+use Words.nodes
+use Words.notes
+use Words.outputs
+use Words.Keys.{same_server}
+use Words.Client as cl
+use Words.ClientLease.{end_at}
+use Words.ClientPages.{is_dirty_of}
+use Words.ClientState.{Association, ClientSession, ClientState, is_at}
+use Words.World.{World, WorldClient, clock_of, site_of}
+use Words.Events as ev
+use Words.Events.{WorldTurn, client_notes, client_says, client_says_all}
+use Words.History.{association_of}
+use Words.Safety as safety
+use Words.Lists.{Has}
+use Words.Tables.{and_both}
+use Words.Tests.{found_passes}
+use Rattle.st_laws_refine.specs.Views.Halves.{held_in}
 use Rattle.st_laws_refine.specs.Client.Invariants.{Lasts}
-use Rattle.st_laws_refine.proofs.Client.Steps.{nothing_more}
 use Rattle.st_laws_refine.proofs.Client.Work.{any_found}
 use Rattle.st_laws_reads.specs.Copies.Law.{AllHeld, AllLast, Apart, ChangesLieUnderLocks, Differs, HeldPage, NoteHeld}
-use Rattle.st_laws_reads.proofs.Copies.Copies.{found_test}
-
-at_most : (a b : ℕ) → a ≤ b → nat_le a b ≡ true
-at_most a b h = go (nat_le a b) refl
-  where
-    go : (x : Bool) → nat_le a b ≡ x → x ≡ true
-    go true e = refl
-    go false e = let z = leb-false a b e in absurd (omega (arith, h, z))
-
-below : (a b : ℕ) → a < b → nat_lt a b ≡ true
-below a b h = go (nat_lt a b) refl
-  where
-    go : (x : Bool) → nat_lt a b ≡ x → x ≡ true
-    go true e = refl
-    go false e = let z = ltb-false a b e in absurd (omega (arith, h, z))
+use Rattle.st_laws_leases.proofs.Sides.Changes.{exclusive_listed}
 
 -- an association is found by its server
 differs_from : (sv : ServerId) (xs : List Association) (a : Association) → Differs sv xs → Has a xs → same_server sv a.server ≡ false
@@ -68,21 +41,12 @@ lasting lease now [] a l h = elim h [ ]
 lasting lease now (x ∷ xs) a l (inl e) = subst (λ (y : Association). Lasts lease now y.session) (sym e) l.one
 lasting lease now (x ∷ xs) a l (inr h) = lasting lease now xs a l.rest h
 
--- an exclusive lock is listed, and there is a session
-exclusive_listed : (o : Option ClientSession) (ino : ℕ) → 2 ≤ (held_in o ino).mode → list_any (is_exclusive_on ino) (locks_of_session o) ≡ true
-exclusive_listed None ino h = absurd (omega (arith, h))
-exclusive_listed (Some s) ino h = go (lock_of s.locks ino) refl h
-  where
-    go : (l : Option HeldLock) → lock_of s.locks ino ≡ l → 2 ≤ (held_at l).mode → list_any (is_exclusive_on ino) s.locks.rows ≡ true
-    go None e h = absurd (omega (arith, h))
-    go (Some l) e h = any_found (is_lock_on ino) (is_exclusive_on ino) l s.locks.rows e (and_both (is_lock_on ino l) (covers l.mode modes.X) (found_test (is_lock_on ino) s.locks.rows l e) (at_most 2 (number_of l.mode) h))
-
 dirty_listed : (ds : List DirtyPage) (ino : ℕ) (p : PageNo) → is_some (find (is_dirty_of ino p) ds) ≡ true → list_any (is_dirty_of ino p) ds ≡ true
 dirty_listed ds ino p h = go (find (is_dirty_of ino p) ds) refl h
   where
     go : (o : Option DirtyPage) → find (is_dirty_of ino p) ds ≡ o → is_some o ≡ true → list_any (is_dirty_of ino p) ds ≡ true
     go None e h = cc
-    go (Some d) e h = any_found (is_dirty_of ino p) (is_dirty_of ino p) d ds e (found_test (is_dirty_of ino p) ds d e)
+    go (Some d) e h = any_found (is_dirty_of ino p) (is_dirty_of ino p) d ds e (found_passes (is_dirty_of ino p) ds d e)
 
 module _ (w : World) (c : ClientId) (site : WorldClient) (there : site_of w c ≡ Some site) (runs : site.node.running ≡ true) (apart : Apart site.node.state.associations)
     (last : AllLast site.node.state.config.lease (clock_of w (nodes.Client c)).0 site.node.state.associations) where
@@ -117,7 +81,7 @@ module _ (w : World) (c : ClientId) (site : WorldClient) (there : site_of w c �
         where
           by : (o : Option ClientSession) → 2 ≤ (held_in o f.ino).mode → Lasts site.node.state.config.lease Now.0 o → safety.is_before Now (end_at site.node.state.config (option_map cl.lease_of_session o)) ≡ true
           by None m l = absurd (omega (arith, m))
-          by (Some s) m l = below Now.0 _ l
+          by (Some s) m l = lt-ltb Now.0 _ l
 
   record LockedSeen (old new : List Observation) : Type 0 where
     pub more : List Observation
@@ -129,7 +93,7 @@ module _ (w : World) (c : ClientId) (site : WorldClient) (there : site_of w c �
 
   locked_all : (before : ClientState) (os : List Output) (sc : WorldTurn) → AllHeld site.node.state.associations os → LockedSeen sc.seen (client_says_all c before os sc).seen
   unfolding client_says_all client_says ev.sends ev.submits ev.answers_with client_notes ev.accepts ev.patches ev.loses
-  locked_all before [] sc r = record { more = []; is = sym (nothing_more sc.seen); right = refl }
+  locked_all before [] sc r = record { more = []; is = sym (append-nil sc.seen); right = refl }
   locked_all before (outputs.Send m ∷ os) sc r = line_then sc.seen _ _ refl (locked_all before os (client_says sc c before (outputs.Send m)) r.rest)
   locked_all before (outputs.Answer op a ∷ os) sc r = line_then sc.seen _ _ refl (locked_all before os (client_says sc c before (outputs.Answer op a)) r.rest)
   locked_all before (outputs.Submit n at what ∷ os) sc r = go (site_of sc.world c) (λ sc. locked_all before os sc r.rest)
@@ -146,7 +110,7 @@ module _ (w : World) (c : ClientId) (site : WorldClient) (there : site_of w c �
       note (notes.Patched g p at bytes) h f = line_then sc.seen _ _ (locked g p h) (f (client_notes sc c before (notes.Patched g p at bytes)))
       note n h f = f sc
 
-pub law : ChangesLieUnderLocks
-law w v c site before os there runs apart last held =
+pub changes_lie_under_locks : ChangesLieUnderLocks
+changes_lie_under_locks w v c site before os there runs apart last held =
     let q = locked_all w c site there runs apart last before os (ev.quiet v) held in
     ap (λ ys. list_all (safety.is_change_locked w) ys) q.is ∙ q.right

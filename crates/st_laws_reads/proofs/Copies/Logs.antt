@@ -1,14 +1,9 @@
 -- The log after outputs, in two parts.
-use Rattle.std.proofs.Common.{◌≡◌, ℕ, List, [], ◌∷◌, ◌++◌, Option, Some, None, refl, sym, ap, ◌∙◌, subst, append_assoc}
-use Rattle.st_base.specs.declared.ids.ClientId.{ClientId}
-use Rattle.st_base.specs.declared.ids.ServerId.{ServerId}
-use Rattle.st_base.specs.declared.ids.Life.{Life}
-use Rattle.st_messages.specs.declared.ask.Ask.{Ask}
-use Rattle.st_messages.specs.declared.output.Output.{Output}
-use Rattle.st_rules.specs.declared.log.LogEntry.{LogEntry}
+use Rattle.st_lemmas.proofs.Words
+use Words.{◌≡◌, ℕ, List, [], ◌∷◌, ◌++◌, Option, Some, None, refl, sym, ap, ◌∙◌, subst, append_assoc, ClientId, ServerId, Life, Ask, Output, LogEntry}
 use Rattle.st_laws_refine.specs.Client.World.{logged, logged_one}
 use Rattle.st_laws_reads.specs.Copies.Copies.{Right, RightBehind, last_of, AllOf, Joined, Away}
-use Rattle.st_laws_refine.proofs.Client.Steps.{nothing_more}
+use Words.{append-nil}
 
 pub logged_both : (c : ClientId) (lives : ServerId → Life) (os ps : List Output) (es : List LogEntry) → logged c lives (os ++ ps) es ≡ logged c lives ps (logged c lives os es)
 logged_both c lives [] ps es = refl
@@ -28,7 +23,7 @@ last_end last (x ∷ os) o = last_end (Some x) os o
 
 -- Logs that go on by entries of one server's files.
 pub joined_same : (sv : ServerId) (l : List LogEntry) → Joined sv l l
-joined_same sv l = record { more = []; is = sym (nothing_more l); own = record {} }
+joined_same sv l = record { more = []; is = sym (append-nil l); own = record {} }
 
 all_both : (sv : ServerId) (ms ns : List LogEntry) → AllOf sv ms → AllOf sv ns → AllOf sv (ms ++ ns)
 all_both sv [] ns a b = b

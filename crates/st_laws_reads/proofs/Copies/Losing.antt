@@ -1,28 +1,19 @@
 -- A lease that is over leaves nothing cached: the losses at the head of a step.
-use Rattle.std.proofs.Common.{◌≡◌, ℕ, ◌<◌, ◌≤◌, Bool, true, false, not, List, [], ◌∷◌, ◌==◌, Option, Some, None, refl, sym, ap, ◌∙◌, subst, arith, if◌then◌else◌}
-use Rattle.std.specs.Prelude.{filter}
-use Rattle.std.proofs.lemmas.Bool.{eqb-true}
-use Rattle.st_base.specs.declared.ids.ClientId.{ClientId}
-use Rattle.st_base.specs.declared.ids.ServerId.{ServerId}
-use Rattle.st_base.specs.declared.ids.Life.{Life}
-use Rattle.st_base.specs.declared.ids.Stamp.{Stamp}
-use Rattle.st_messages.specs.declared.ask.Ask.{Ask}
-use Rattle.st_messages.specs.declared.ask.Ask.TheVariants as asks
-use Rattle.st_messages.specs.declared.answer.AppAnswer.TheVariants as answers
-use Rattle.st_messages.specs.declared.output.Note.TheVariants as notes
-use Rattle.st_messages.specs.declared.output.Output.{Output}
-use Rattle.st_messages.specs.declared.output.Output.TheVariants as outputs
-use Rattle.st_rules.specs.declared.client.LostPage.{LostPage}
-use Rattle.st_rules.specs.declared.client.Operation.{Operation}
-use Rattle.st_rules.specs.declared.log.LogEntry.{LogEntry}
-use Rattle.st_rules.specs.FlatLog.{is_of_life, is_of_client}
-use Rattle.st_rules.specs.Keys.{same_server}
-use Rattle.st_rules.specs.Client as cl
-use Rattle.st_rules.specs.ClientPages as pages
-use Rattle.st_rules.specs.ClientPages.{Store, empty_store}
-use Rattle.st_rules.specs.ClientState as st
-use Rattle.st_rules.specs.ClientState.{ClientSession, Turn, is_of, with_operations, answered, with_lost_rows, note}
-use Rattle.st_lemmas.proofs.Tables.{and_true}
+use Rattle.st_lemmas.proofs.Words
+use Words.{◌≡◌, ℕ, ◌<◌, ◌≤◌, Bool, true, false, not, List, [], ◌∷◌, ◌==◌, Option, Some, None, refl, sym, ap, ◌∙◌, subst, arith, if◌then◌else◌, filter, eqb-true}
+use Words.{ClientId, ServerId, Life, Stamp, Ask, Output, LostPage, Operation, LogEntry}
+use Words.asks
+use Words.answers
+use Words.notes
+use Words.outputs
+use Words.FlatLog.{is_of_life, is_of_client}
+use Words.Keys.{same_server}
+use Words.Client as cl
+use Words.ClientPages as pages
+use Words.ClientPages.{Store, empty_store}
+use Words.ClientState as st
+use Words.ClientState.{ClientSession, Turn, is_of, with_operations, answered, with_lost_rows, note}
+use Words.Tables.{and_true}
 use Rattle.st_laws_refine.specs.Client.World.{logged}
 use Rattle.st_laws_refine.specs.Client.Invariants.{Lasts}
 use Rattle.st_laws_refine.proofs.Client.Losses.{not_over}

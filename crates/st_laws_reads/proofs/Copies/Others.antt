@@ -1,29 +1,22 @@
 -- What holds of a client's copies, as the log changes elsewhere.
-use Rattle.std.proofs.Common.{◌≡◌, ℕ, ◌+◌, ◌⊎◌, Bool, true, false, ◌&&◌, List, [], ◌∷◌, ◌++◌, ◌==◌, Option, Some, None, refl, sym, ap, ◌∙◌, subst, inl, inr, arith, if◌then◌else◌}
-use Rattle.std.specs.Prelude.{is_some, nat_le}
-use Rattle.std.proofs.lemmas.Bool.{eqb-true}
-use Rattle.st_base.specs.declared.ids.ClientId.{ClientId}
-use Rattle.st_base.specs.declared.ids.FileId.{FileId}
-use Rattle.st_base.specs.declared.ids.PageNo.{PageNo}
-use Rattle.st_base.specs.declared.ids.ServerId.{ServerId}
-use Rattle.st_base.specs.declared.ids.Life.{Life}
-use Rattle.st_base.specs.Page.{filled}
-use Rattle.st_rules.specs.declared.log.Fate.{Fate}
-use Rattle.st_rules.specs.declared.log.Fate.TheVariants as fates
-use Rattle.st_rules.specs.declared.log.LogEntry.{LogEntry}
-use Rattle.st_rules.specs.declared.log.LogOwner.{LogOwner}
-use Rattle.st_rules.specs.Keys.{same_file, same_server}
-use Rattle.st_rules.specs.FlatLog as log
-use Rattle.st_rules.specs.FlatLog.{content, after, is_of_client}
-use Rattle.st_rules.specs.ClientPages as pages
-use Rattle.st_rules.specs.ClientPages.{Store}
-use Rattle.st_rules.specs.ClientState.{Association}
-use Rattle.st_rules.specs.Events.{is_hard_fate}
+use Rattle.st_lemmas.proofs.Words
+use Words.{◌≡◌, ℕ, ◌+◌, ◌⊎◌, Bool, true, false, ◌&&◌, List, [], ◌∷◌, ◌++◌, ◌==◌, Option, Some, None, refl, sym, ap, ◌∙◌, subst, inl, inr, arith, if◌then◌else◌}
+use Words.{is_some, nat_le, eqb-true, ClientId, FileId, PageNo, ServerId, Life, Fate, LogEntry, LogOwner}
+use Words.Page.{filled}
+use Words.fates
+use Words.Keys.{same_file, same_server}
+use Words.FlatLog as log
+use Words.FlatLog.{content, after, is_of_client}
+use Words.ClientPages as pages
+use Words.ClientPages.{Store}
+use Words.ClientState.{Association}
+use Words.Events.{is_hard_fate}
+use Words.Lookups.{if_false}
+use Words.Tables.{and_true}
+use Words.Truth.{not_both}
 use Rattle.st_laws_refine.specs.Views.Halves.{held_in}
 use Rattle.st_lemmas.proofs.Contents.{content_last}
-use Rattle.st_lemmas.proofs.Lookups.{if_false}
 use Rattle.st_lemmas.proofs.Marks.{content_hard}
-use Rattle.st_lemmas.proofs.Tables.{and_true}
 use Rattle.st_laws_reads.specs.Copies.Copies.{PageOk, FatesOk, file_at}
 use Rattle.st_laws_reads.specs.Copies.Law.{Lived, AllWhile}
 use Rattle.st_laws_reads.specs.Copies.World.{Unheld, EntriesKeepCopies, EffectsKeepCopies}
@@ -56,16 +49,12 @@ page_more es e a h ino p r = go (same_file e.of.file (file_at a.server ino)) ref
         unheld_ok (held_in a.session ino).mode _ _ a.store ino p (ap (λ n. (held_in a.session n).mode) (sym (eqb-true e.of.file.ino ino z.1)) ∙ h (ap (λ n. record { 0 = n }) (eqb-true e.of.file.server.0 a.server.0 z.0))) r
     go false q = subst (λ bytes. PageOk (held_in a.session ino).mode bytes a.store ino p) (sym (content_other es e (file_at a.server ino) p q)) r
 
-pub no_bool : (b : Bool) → b ≡ true → b ≡ false → ⊥
-no_bool true x y = cc
-no_bool false x y = cc
-
 fates_more : (c : ClientId) (life : Life) (sv : ServerId) (x : Store) (es : List LogEntry) (e : LogEntry) → is_of_client c e.of ≡ false → FatesOk c life sv x es → FatesOk c life sv x (es ++ e ∷ [])
-fates_more c life sv x [] e n h = record { one = λ q. absurd (no_bool (is_of_client c e.of) (and_true (is_of_client c e.of) _ q).0 n); rest = record {} }
+fates_more c life sv x [] e n h = record { one = λ q. absurd (not_both (is_of_client c e.of) (and_true (is_of_client c e.of) _ q).0 n); rest = record {} }
 fates_more c life sv x (y ∷ es) e n h = record { one = h.one; rest = fates_more c life sv x es e n h.rest }
 
 pub lived_more : (c : ClientId) (sv : ServerId) (life : Life) (es : List LogEntry) (e : LogEntry) → is_of_client c e.of ≡ false → Lived c sv life es → Lived c sv life (es ++ e ∷ [])
-lived_more c sv life [] e n h = record { one = λ q s. absurd (no_bool (is_of_client c e.of) q n); rest = record {} }
+lived_more c sv life [] e n h = record { one = λ q s. absurd (not_both (is_of_client c e.of) q n); rest = record {} }
 lived_more c sv life (y ∷ es) e n h = record { one = h.one; rest = lived_more c sv life es e n h.rest }
 
 all_more : (lease now : ℕ) (c : ClientId) (es : List LogEntry) (e : LogEntry) (xs : List Association) → is_of_client c e.of ≡ false → Unheld e.of.file lease now xs → AllWhile lease now c es xs → AllWhile lease now c (es ++ e ∷ []) xs

@@ -1,49 +1,35 @@
 -- Receiving a message keeps the copies, under what its sender owes.
-use Rattle.std.proofs.Common.{◌≡◌, ℕ, ◌≤◌, Bool, true, false, List, [], ◌==◌, Option, Some, None, refl, sym, ap, ◌∙◌, subst, if◌then◌else◌}
-use Rattle.std.proofs.lemmas.Bool.{eqb-true}
-use Rattle.st_base.specs.declared.ids.ClientId.{ClientId}
-use Rattle.st_base.specs.declared.ids.Epoch.{Epoch}
-use Rattle.st_base.specs.declared.ids.GrantNo.{GrantNo}
-use Rattle.st_base.specs.declared.ids.ServerId.{ServerId}
-use Rattle.st_base.specs.declared.ids.Life.{Life}
-use Rattle.st_base.specs.declared.ids.PageNo.{PageNo}
-use Rattle.st_base.specs.declared.ids.Stamp.{Stamp}
-use Rattle.st_base.specs.declared.rows.ExtentRow.{ExtentRow}
-use Rattle.st_base.specs.Page.{filled}
-use Rattle.st_messages.specs.declared.ask.Ask.{Ask}
-use Rattle.st_messages.specs.declared.answer.AppAnswer.TheVariants as answers
-use Rattle.st_messages.specs.declared.message.Body.{Body}
-use Rattle.st_messages.specs.declared.message.Body.TheVariants as bodies
-use Rattle.st_messages.specs.declared.message.Header.{Header}
-use Rattle.st_messages.specs.declared.message.NameReply.{NameReply}
-use Rattle.st_messages.specs.declared.message.Why.{Why}
-use Rattle.st_messages.specs.declared.message.Why.TheVariants as why
-use Rattle.st_rules.specs.declared.client.HeldLock.{HeldLock}
-use Rattle.st_rules.specs.declared.client.Request.{Request}
-use Rattle.st_rules.specs.declared.log.LogEntry.{LogEntry}
-use Rattle.st_rules.specs.FlatLog.{content}
-use Rattle.st_rules.specs.ClientLease as lease
-use Rattle.st_rules.specs.ClientLocks as locks
-use Rattle.st_rules.specs.ClientLocks.{lock_of, is_lock_on}
-use Rattle.st_rules.specs.ClientState as st
-use Rattle.st_rules.specs.ClientState.{ClientSession, Turn, with_session, is_asked, file_asked, asks_name}
-use Rattle.st_rules.specs.ClientReplies as cr
-use Rattle.st_rules.specs.Keys.{server_node}
+use Rattle.st_lemmas.proofs.Words
+use Words.{◌≡◌, ℕ, ◌≤◌, Bool, true, false, List, [], ◌==◌, Option, Some, None, refl, sym, ap, ◌∙◌, subst, if◌then◌else◌, eqb-true, ClientId, Epoch, GrantNo}
+use Words.{ServerId, Life, PageNo, Stamp, ExtentRow, Ask, Body, Header, NameReply, Why, HeldLock, Request, LogEntry}
+use Words.Page.{filled}
+use Words.answers
+use Words.bodies
+use Words.why
+use Words.FlatLog.{content}
+use Words.ClientLease as lease
+use Words.ClientLocks as locks
+use Words.ClientLocks.{lock_of, is_lock_on}
+use Words.ClientState as st
+use Words.ClientState.{ClientSession, Turn, with_session, is_asked, file_asked, asks_name}
+use Words.ClientReplies as cr
+use Words.Keys.{server_node}
+use Words.Tables.{and_true}
 use Rattle.st_laws_refine.specs.Views.Halves.{held_at, held_in}
 use Rattle.st_laws_refine.specs.Client.World.{logged}
 use Rattle.st_laws_refine.specs.Client.Invariants.{HaveModes}
 use Rattle.st_laws_refine.proofs.Client.Replies.{mode_found}
-use Rattle.st_lemmas.proofs.Tables.{and_true}
 use Rattle.st_laws_reads.specs.Copies.Copies.{PageOk, file_at, Keeps}
 use Rattle.st_laws_reads.specs.Copies.Obligations.{ReplyOwed, MessageOwed}
 use Rattle.st_laws_reads.proofs.Copies.Logs.{logged_both, still}
-use Rattle.st_laws_reads.proofs.Copies.Copies.{k_same, k_then, k_if}
-use Rattle.st_laws_reads.proofs.Copies.Caches.{k_granted}
-use Rattle.st_laws_reads.proofs.Copies.Receives.{Owed, k_like, k_effect, k_condemn, k_demand, k_lease, k_each}
+use Rattle.st_laws_reads.proofs.Copies.Copies.{copies_kept_by_same, copies_kept_by_sequence, copies_kept_by_choice}
+use Rattle.st_laws_reads.proofs.Copies.Caches.{copies_kept_by_granted}
+use Rattle.st_laws_reads.proofs.Copies.Receives.{Owed, copies_kept_by_like, copies_kept_by_effect, copies_kept_by_condemn, copies_kept_by_demand, copies_kept_by_lease, copies_kept_by_each}
 use Rattle.st_laws_reads.proofs.Copies.Passes.{with_it}
 
 -- the lock of the file is held under a mode, where a reply on its extents counts
-held_current : (c : locks.LockCache) (ino : ℕ) (asked : Body) → HaveModes c.rows → st.maps ino asked ≡ true → cr.is_current c asked ≡ true → 1 ≤ (held_at (lock_of c ino)).mode
+held_current : (c : locks.LockCache) (ino : ℕ) (asked : Body) → HaveModes c.rows → st.maps ino asked ≡ true → cr.is_current c asked ≡ true →
+    1 ≤ (held_at (lock_of c ino)).mode
 held_current c ino (bodies.Map i g p) m f h = subst (λ j. 1 ≤ (held_at (lock_of c j)).mode) (eqb-true _ _ f) (held_of (lock_of c i) refl h)
   where
     held_of : (o : Option HeldLock) → lock_of c i ≡ o → cr.is_grant g o ≡ true → 1 ≤ (held_at (lock_of c i)).mode
@@ -65,7 +51,8 @@ module _ (ask_of : ℕ → Option Ask) (c : ClientId) (lives : ServerId → Life
   LogAt t = logged c lives t.out es
 
   -- what a counting reply owes, by what is owed of the message
-  owed_reply : (t : Turn) (s : ClientSession) (h : Header) (body : Body) (q : Request) → s.requests.asked ≡ Some q → cr.is_counting h.number body q ≡ true → ReplyOwed (LogAt t) t.here s h body → Owed ask_of c lives es t s body q.body (file_asked s.cutting q.body)
+  owed_reply : (t : Turn) (s : ClientSession) (h : Header) (body : Body) (q : Request) → s.requests.asked ≡ Some q → cr.is_counting h.number body q ≡ true →
+      ReplyOwed (LogAt t) t.here s h body → Owed ask_of c lives es t s body q.body (file_asked s.cutting q.body)
   owed_reply t s h body q is counts w =
       record {
         up = w.up;
@@ -83,28 +70,34 @@ module _ (ask_of : ℕ → Option Ask) (c : ClientId) (lives : ServerId → Life
       fits_name : (r : NameReply) → body ≡ bodies.Named r → asks_name q.body ≡ true
       fits_name r e = subst (λ b. st.fits b q.body ≡ true) e fit
 
-      zeros : (ino : ℕ) (rows : List ExtentRow) → body ≡ bodies.Extents ino rows → cr.is_current s.locks q.body ≡ true → (i : ℕ) (g : GrantNo) (p : PageNo) → q.body ≡ bodies.Map i g p → rows ≡ [] → filled 0 ≡ content (LogAt t) (file_at t.here.server ino) p
+      zeros : (ino : ℕ) (rows : List ExtentRow) → body ≡ bodies.Extents ino rows → cr.is_current s.locks q.body ≡ true → (i : ℕ) (g : GrantNo) (p : PageNo) →
+          q.body ≡ bodies.Map i g p → rows ≡ [] → filled 0 ≡ content (LogAt t) (file_at t.here.server ino) p
       zeros ino rows e current i g p a n =
           let same : i ≡ ino = eqb-true _ _ (subst (λ b. st.maps ino b ≡ true) a (fits_extents ino rows e)) in
           w.zeros q ino g p is (a ∙ ap (λ j. bodies.Map j g p) same) (e ∙ ap (λ x. bodies.Extents ino x) n) counts current
 
   -- a note of a lease leaves what is owed
-  owed_noted : (t : Turn) (l : lease.ClientLease) (s : ClientSession) (body asked : Body) (file : Option ℕ) → Owed ask_of c lives es t s body asked file → Owed ask_of c lives es (cr.note_lease l t) s body asked file
+  owed_noted : (t : Turn) (l : lease.ClientLease) (s : ClientSession) (body asked : Body) (file : Option ℕ) → Owed ask_of c lives es t s body asked file →
+      Owed ask_of c lives es (cr.note_lease l t) s body asked file
   unfolding cr.note_lease
   owed_noted t l s body asked file w =
       record {
         up = w.up;
         held = w.held;
-        zero = λ ino rows e current i g p a n. w.zero ino rows e current i g p a n ∙ ap (λ x. content x (file_at t.here.server ino) p) (sym (logged_both c lives t.out _ es));
+        zero = λ ino rows e current i g p a n. w.zero ino rows e current i g p a n ∙
+            ap (λ x. content x (file_at t.here.server ino) p) (sym (logged_both c lives t.out _ es));
         none = w.none;
       }
 
-  owed_ended : (t : Turn) (s : ClientSession) (stamp : Stamp) (body asked : Body) (file : Option ℕ) → Owed ask_of c lives es t s body asked file → Owed ask_of c lives es t (cr.ended_by stamp s) body asked file
+  owed_ended : (t : Turn) (s : ClientSession) (stamp : Stamp) (body asked : Body) (file : Option ℕ) → Owed ask_of c lives es t s body asked file →
+      Owed ask_of c lives es t (cr.ended_by stamp s) body asked file
   owed_ended t s stamp body asked file w = record { up = w.up; held = w.held; zero = w.zero; none = w.none }
 
-  k_reply_to : (t : Turn) (s : ClientSession) (n stamp : Stamp) (body asked : Body) → Owed ask_of c lives es t s body asked (file_asked s.cutting asked) → Keeps ask_of c lives es (with_session s t) (cr.reply_to (with_session s t) s n stamp body asked)
+  copies_kept_by_reply_to : (t : Turn) (s : ClientSession) (n stamp : Stamp) (body asked : Body) →
+      Owed ask_of c lives es t s body asked (file_asked s.cutting asked) →
+      Keeps ask_of c lives es (with_session s t) (cr.reply_to (with_session s t) s n stamp body asked)
   unfolding cr.reply_to cr.end_request cr.note_renewal cr.note_lease
-  k_reply_to t s n stamp body asked w = go (lease.is_renewal stamp s.lease)
+  copies_kept_by_reply_to t s n stamp body asked w = go (lease.is_renewal stamp s.lease)
     where
       u : ClientSession
       u = cr.ended_by stamp s
@@ -112,93 +105,121 @@ module _ (ask_of : ℕ → Option Ask) (c : ClientId) (lives : ServerId → Life
       l : lease.ClientLease
       l = lease.renewed stamp s.lease
 
-      noted : Keeps ask_of c lives es (with_session s t) (cr.effect (with_session u (cr.note_lease l (with_session s t))) u n body (file_asked s.cutting asked) asked)
+      noted : Keeps ask_of c lives es (with_session s t)
+          (cr.effect (with_session u (cr.note_lease l (with_session s t))) u n body (file_asked s.cutting asked) asked)
       noted =
-          k_then ask_of c lives es (with_session s t) (with_session s (cr.note_lease l t)) _ (k_lease ask_of c lives es (with_session s t) l)
-          (k_then ask_of c lives es (with_session s (cr.note_lease l t)) (with_session u (cr.note_lease l t)) _ (k_like ask_of c lives es (cr.note_lease l t) s u refl)
-          (k_effect ask_of c lives es (cr.note_lease l t) u n body (file_asked s.cutting asked) asked (owed_noted t l u body asked _ (owed_ended t s stamp body asked _ w))))
+          copies_kept_by_sequence ask_of c lives es (with_session s t) (with_session s (cr.note_lease l t)) _
+          (copies_kept_by_lease ask_of c lives es (with_session s t) l)
+          (copies_kept_by_sequence ask_of c lives es (with_session s (cr.note_lease l t)) (with_session u (cr.note_lease l t)) _
+          (copies_kept_by_like ask_of c lives es (cr.note_lease l t) s u refl)
+          (copies_kept_by_effect ask_of c lives es (cr.note_lease l t) u n body (file_asked s.cutting asked) asked
+          (owed_noted t l u body asked _ (owed_ended t s stamp body asked _ w))))
 
-      go : (b : Bool) → Keeps ask_of c lives es (with_session s t) (cr.effect (with_session u (if b then cr.note_lease l (with_session s t) else with_session s t)) u n body (file_asked s.cutting asked) asked)
+      go : (b : Bool) → Keeps ask_of c lives es (with_session s t)
+          (cr.effect (with_session u (if b then cr.note_lease l (with_session s t) else with_session s t)) u n body (file_asked s.cutting asked) asked)
       go true = noted
       go false =
-          k_then ask_of c lives es (with_session s t) (with_session u t) _ (k_like ask_of c lives es t s u refl)
-          (k_effect ask_of c lives es t u n body (file_asked s.cutting asked) asked (owed_ended t s stamp body asked _ w))
+          copies_kept_by_sequence ask_of c lives es (with_session s t) (with_session u t) _ (copies_kept_by_like ask_of c lives es t s u refl)
+          (copies_kept_by_effect ask_of c lives es t u n body (file_asked s.cutting asked) asked (owed_ended t s stamp body asked _ w))
 
   -- a reply of the session's epoch
-  k_reply : (t : Turn) (s : ClientSession) (n : Stamp) (h : Header) (body : Body) → ReplyOwed (LogAt t) t.here s h body → Keeps ask_of c lives es (with_session s t) (cr.reply_of (with_session s t) s n h body)
+  copies_kept_by_reply : (t : Turn) (s : ClientSession) (n : Stamp) (h : Header) (body : Body) → ReplyOwed (LogAt t) t.here s h body →
+      Keeps ask_of c lives es (with_session s t) (cr.reply_of (with_session s t) s n h body)
   unfolding cr.reply_of cr.counted cr.by_request cr.count_reply
-  k_reply t s n h body w = go s.requests.asked refl
+  copies_kept_by_reply t s n h body w = go s.requests.asked refl
     where
-      go : (o : Option Request) → s.requests.asked ≡ o → Keeps ask_of c lives es (with_session s t) (cr.counted (with_session s t) s n h.number (record { 0 = h.stamp }) body o)
-      go None e = k_same ask_of c lives es (with_session s t)
+      go : (o : Option Request) → s.requests.asked ≡ o →
+          Keeps ask_of c lives es (with_session s t) (cr.counted (with_session s t) s n h.number (record { 0 = h.stamp }) body o)
+      go None e = copies_kept_by_same ask_of c lives es (with_session s t)
       go (Some q) e =
-          k_if ask_of c lives es (with_session s t) (cr.is_counting h.number body q) _ _
-          (λ counts. k_if ask_of c lives es (with_session s t) (cr.refuses_reassertion body q.body) _ _ (λ r. k_condemn ask_of c lives es t s) (λ r. k_reply_to t s n (record { 0 = h.stamp }) body q.body (owed_reply t s h body q e counts w)))
-          (λ counts. k_same ask_of c lives es (with_session s t))
+          copies_kept_by_choice ask_of c lives es (with_session s t) (cr.is_counting h.number body q) _ _
+          (λ counts. copies_kept_by_choice ask_of c lives es (with_session s t) (cr.refuses_reassertion body q.body) _ _
+          (λ r. copies_kept_by_condemn ask_of c lives es t s)
+          (λ r. copies_kept_by_reply_to t s n (record { 0 = h.stamp }) body q.body (owed_reply t s h body q e counts w)))
+          (λ counts. copies_kept_by_same ask_of c lives es (with_session s t))
 
-  k_nack : (t : Turn) (s : ClientSession) (n : Stamp) (h : Header) (y : Why) (a b : ℕ) → ReplyOwed (LogAt t) t.here s h (bodies.Nack y a b) → Keeps ask_of c lives es (with_session s t) (cr.nack (with_session s t) s n h y a b)
-  k_nack t s n h why.Suspect a b w = k_condemn ask_of c lives es t s
-  k_nack t s n h why.NoSession a b w = k_condemn ask_of c lives es t s
-  k_nack t s n h why.OtherEpoch a b w = k_same ask_of c lives es (with_session s t)
-  k_nack t s n h why.Grace a b w = k_same ask_of c lives es (with_session s t)
-  k_nack t s n h why.GraceOver a b w = k_condemn ask_of c lives es t s
-  k_nack t s n h why.Conflict a b w = k_condemn ask_of c lives es t s
-  k_nack t s n h y a b w = k_reply t s n h (bodies.Nack y a b) w
+  copies_kept_by_nack : (t : Turn) (s : ClientSession) (n : Stamp) (h : Header) (y : Why) (a b : ℕ) → ReplyOwed (LogAt t) t.here s h (bodies.Nack y a b) →
+      Keeps ask_of c lives es (with_session s t) (cr.nack (with_session s t) s n h y a b)
+  copies_kept_by_nack t s n h why.Suspect a b w = copies_kept_by_condemn ask_of c lives es t s
+  copies_kept_by_nack t s n h why.NoSession a b w = copies_kept_by_condemn ask_of c lives es t s
+  copies_kept_by_nack t s n h why.OtherEpoch a b w = copies_kept_by_same ask_of c lives es (with_session s t)
+  copies_kept_by_nack t s n h why.Grace a b w = copies_kept_by_same ask_of c lives es (with_session s t)
+  copies_kept_by_nack t s n h why.GraceOver a b w = copies_kept_by_condemn ask_of c lives es t s
+  copies_kept_by_nack t s n h why.Conflict a b w = copies_kept_by_condemn ask_of c lives es t s
+  copies_kept_by_nack t s n h y a b w = copies_kept_by_reply t s n h (bodies.Nack y a b) w
 
-  k_of_epoch : (t : Turn) (s : ClientSession) (n : Stamp) (h : Header) (body : Body) → ReplyOwed (LogAt t) t.here s h body → Keeps ask_of c lives es (with_session s t) (cr.of_epoch (with_session s t) s n h body)
+  copies_kept_by_of_epoch : (t : Turn) (s : ClientSession) (n : Stamp) (h : Header) (body : Body) → ReplyOwed (LogAt t) t.here s h body →
+      Keeps ask_of c lives es (with_session s t) (cr.of_epoch (with_session s t) s n h body)
   unfolding cr.of_epoch cr.grant_or_reply
-  k_of_epoch t s n h (bodies.Nack y a b) w = k_nack t s n h y a b w
-  k_of_epoch t s n h (bodies.Granted ino g mode) w = k_if ask_of c lives es (with_session s t) (h.number == 0) _ _ (λ e. k_granted ask_of c lives es t s ino g mode (w.up ino g mode refl)) (λ e. k_reply t s n h (bodies.Granted ino g mode) w)
-  k_of_epoch t s n h (bodies.Demand ino g to) w = k_demand ask_of c lives es t s ino g to
-  k_of_epoch t s n h body w = k_reply t s n h body w
+  copies_kept_by_of_epoch t s n h (bodies.Nack y a b) w = copies_kept_by_nack t s n h y a b w
+  copies_kept_by_of_epoch t s n h (bodies.Granted ino g mode) w =
+      copies_kept_by_choice ask_of c lives es (with_session s t) (h.number == 0) _ _
+      (λ e. copies_kept_by_granted ask_of c lives es t s ino g mode (w.up ino g mode refl)) (λ e. copies_kept_by_reply t s n h (bodies.Granted ino g mode) w)
+  copies_kept_by_of_epoch t s n h (bodies.Demand ino g to) w = copies_kept_by_demand ask_of c lives es t s ino g to
+  copies_kept_by_of_epoch t s n h body w = copies_kept_by_reply t s n h body w
 
   -- a newer epoch leaves the locks and the pages
-  k_newer : (t : Turn) (s : ClientSession) (epoch : Epoch) → Keeps ask_of c lives es (with_session s t) (cr.newer_epoch (with_session s t) s epoch)
+  copies_kept_by_newer : (t : Turn) (s : ClientSession) (epoch : Epoch) → Keeps ask_of c lives es (with_session s t) (cr.newer_epoch (with_session s t) s epoch)
   unfolding cr.newer_epoch cr.follow_epoch locks.forget_demands
-  k_newer t s epoch =
+  copies_kept_by_newer t s epoch =
       let u : Turn = with_session (cr.in_epoch epoch s) (with_session s t) in
-      k_if ask_of c lives es (with_session s t) (cr.is_newer s epoch) _ _
-      (λ h. k_then ask_of c lives es (with_session s t) u _ (k_like ask_of c lives es t s (cr.in_epoch epoch s) refl) (k_each ask_of c lives es (is_asked t.here.server) (answers.Uncertain s.epoch.0 epoch.0) u (λ last x op. record {})))
-      (λ h. k_same ask_of c lives es (with_session s t))
+      copies_kept_by_choice ask_of c lives es (with_session s t) (cr.is_newer s epoch) _ _
+      (λ h. copies_kept_by_sequence ask_of c lives es (with_session s t) u _ (copies_kept_by_like ask_of c lives es t s (cr.in_epoch epoch s) refl)
+      (copies_kept_by_each ask_of c lives es (is_asked t.here.server) (answers.Uncertain s.epoch.0 epoch.0) u (λ last x op. record {})))
+      (λ h. copies_kept_by_same ask_of c lives es (with_session s t))
 
-  k_other : (t : Turn) (s : ClientSession) (epoch : Epoch) (body : Body) → Keeps ask_of c lives es (with_session s t) (cr.of_other_epoch (with_session s t) s epoch body)
+  copies_kept_by_other : (t : Turn) (s : ClientSession) (epoch : Epoch) (body : Body) →
+      Keeps ask_of c lives es (with_session s t) (cr.of_other_epoch (with_session s t) s epoch body)
   unfolding cr.of_other_epoch
-  k_other t s epoch (bodies.Nack why.OtherEpoch a b) = k_newer t s epoch
-  k_other t s epoch (bodies.Nack y a b) = k_same ask_of c lives es (with_session s t)
-  k_other t s epoch body = k_same ask_of c lives es (with_session s t)
+  copies_kept_by_other t s epoch (bodies.Nack why.OtherEpoch a b) = copies_kept_by_newer t s epoch
+  copies_kept_by_other t s epoch (bodies.Nack y a b) = copies_kept_by_same ask_of c lives es (with_session s t)
+  copies_kept_by_other t s epoch body = copies_kept_by_same ask_of c lives es (with_session s t)
 
-  k_with : (t : Turn) (s : ClientSession) (n : Stamp) (h : Header) (body : Body) → (h.epoch ≡ s.epoch.0 → ReplyOwed (LogAt t) t.here s h body) → Keeps ask_of c lives es (with_session s t) (cr.with_a_session (with_session s t) s n h body)
+  copies_kept_by_with : (t : Turn) (s : ClientSession) (n : Stamp) (h : Header) (body : Body) → (h.epoch ≡ s.epoch.0 → ReplyOwed (LogAt t) t.here s h body) →
+      Keeps ask_of c lives es (with_session s t) (cr.with_a_session (with_session s t) s n h body)
   unfolding cr.with_a_session
-  k_with t s n h body w =
-      k_if ask_of c lives es (with_session s t) (h.epoch == s.epoch.0) _ _ (λ e. k_of_epoch t s n h body (w (eqb-true _ _ e))) (λ e. k_other t s (record { 0 = h.epoch }) body)
+  copies_kept_by_with t s n h body w =
+      copies_kept_by_choice ask_of c lives es (with_session s t) (h.epoch == s.epoch.0) _ _ (λ e. copies_kept_by_of_epoch t s n h body (w (eqb-true _ _ e)))
+      (λ e. copies_kept_by_other t s (record { 0 = h.epoch }) body)
 
   -- a session begins without locks
-  k_begin : (t : Turn) (epoch : Epoch) (stamp : Stamp) → t.here.session ≡ None → Keeps ask_of c lives es t (cr.begin_session t epoch stamp)
+  copies_kept_by_begin : (t : Turn) (epoch : Epoch) (stamp : Stamp) → t.here.session ≡ None → Keeps ask_of c lives es t (cr.begin_session t epoch stamp)
   unfolding cr.begin_session
-  k_begin t epoch stamp e =
+  copies_kept_by_begin t epoch stamp e =
       let s : ClientSession = cr.new_session epoch stamp in
       let u : Turn = cr.begin_here s t in
-      k_then ask_of c lives es t u _
+      copies_kept_by_sequence ask_of c lives es t u _
       (record {
-        keep = λ r. record { pages = λ ino p. subst (λ (o : Option ClientSession). PageOk (held_in o ino).mode (content (LogAt t) (file_at t.here.server ino) p) t.here.store ino p) e (r.pages ino p); right = r.right; asked = r.asked; fates = r.fates };
+        keep = λ r. record {
+          pages =
+              λ ino p. subst (λ (o : Option ClientSession). PageOk (held_in o ino).mode (content (LogAt t) (file_at t.here.server ino) p) t.here.store ino p) e
+              (r.pages ino p);
+          right = r.right;
+          asked = r.asked;
+          fates = r.fates;
+        };
         away = still _ _ _;
       })
-      (k_lease ask_of c lives es u (lease.new_lease stamp))
+      (copies_kept_by_lease ask_of c lives es u (lease.new_lease stamp))
 
-  k_without : (t : Turn) (n : Stamp) (h : Header) (body : Body) → t.here.session ≡ None → Keeps ask_of c lives es t (cr.without_session t n h body)
+  copies_kept_by_without : (t : Turn) (n : Stamp) (h : Header) (body : Body) → t.here.session ≡ None → Keeps ask_of c lives es t (cr.without_session t n h body)
   unfolding cr.without_session cr.welcome
-  k_without t n h bodies.Welcome e = k_if ask_of c lives es t (cr.is_timely t n (record { 0 = h.stamp })) _ t (λ x. k_begin t (record { 0 = h.epoch }) (record { 0 = h.stamp }) e) (λ x. k_same ask_of c lives es t)
-  k_without t n h body e = k_same ask_of c lives es t
+  copies_kept_by_without t n h bodies.Welcome e = copies_kept_by_choice ask_of c lives es t (cr.is_timely t n (record { 0 = h.stamp })) _ t
+      (λ x. copies_kept_by_begin t (record { 0 = h.epoch }) (record { 0 = h.stamp }) e) (λ x. copies_kept_by_same ask_of c lives es t)
+  copies_kept_by_without t n h body e = copies_kept_by_same ask_of c lives es t
 
   -- a message keeps the copies
-  pub k_receive : (n : Stamp) (h : Header) (body : Body) (t : Turn) → MessageOwed (LogAt t) t.here h body → Keeps ask_of c lives es t (cr.receive_at n h body t)
+  pub copies_kept_by_receive : (n : Stamp) (h : Header) (body : Body) (t : Turn) → MessageOwed (LogAt t) t.here h body →
+      Keeps ask_of c lives es t (cr.receive_at n h body t)
   unfolding cr.receive_at cr.by_session
-  k_receive n h body t w =
-      k_if ask_of c lives es t (cr.is_received t n h) _ t
-      (λ x. let p = and_true (h.from == server_node t.here.server) _ x in go (eqb-true _ _ p.0) (eqb-true _ _ (and_true (h.life == t.here.life.0) _ p.1).0) t.here.session refl) (λ x. k_same ask_of c lives es t)
+  copies_kept_by_receive n h body t w =
+      copies_kept_by_choice ask_of c lives es t (cr.is_received t n h) _ t
+      (λ x. let p = and_true (h.from == server_node t.here.server) _ x in
+      go (eqb-true _ _ p.0) (eqb-true _ _ (and_true (h.life == t.here.life.0) _ p.1).0) t.here.session refl) (λ x. copies_kept_by_same ask_of c lives es t)
     where
-      go : h.from ≡ server_node t.here.server → h.life ≡ t.here.life.0 → (o : Option ClientSession) → t.here.session ≡ o → Keeps ask_of c lives es t (cr.by_session t n h body o)
-      go f l None e = k_without t n h body e
+      go : h.from ≡ server_node t.here.server → h.life ≡ t.here.life.0 → (o : Option ClientSession) → t.here.session ≡ o →
+          Keeps ask_of c lives es t (cr.by_session t n h body o)
+      go f l None e = copies_kept_by_without t n h body e
       go f l (Some s) e =
           subst (λ u. Keeps ask_of c lives es u (cr.with_a_session u s n h body)) (sym (with_it ask_of c lives es t (Some s) e))
-          (k_with t s n h body (λ g. w s e f l g))
+          (copies_kept_by_with t s n h body (λ g. w s e f l g))

@@ -1,14 +1,9 @@
 -- A client that crashes has nothing cached, and starts in lives that no entry of it reached.
-use Rattle.std.proofs.Common.{ℕ, ◌<◌, List, [], ◌∷◌, Option, refl, arith}
-use Rattle.std.specs.Prelude.{map}
-use Rattle.st_base.specs.declared.ids.ClientId.{ClientId}
-use Rattle.st_base.specs.declared.ids.ServerId.{ServerId}
-use Rattle.st_base.specs.declared.ids.Stamp.{Stamp}
-use Rattle.st_messages.specs.declared.ask.Ask.{Ask}
-use Rattle.st_rules.specs.declared.log.LogEntry.{LogEntry}
-use Rattle.st_rules.specs.Client as cl
-use Rattle.st_rules.specs.ClientPages.{empty_store}
-use Rattle.st_rules.specs.ClientState.{Association, ClientState}
+use Rattle.st_lemmas.proofs.Words
+use Words.{ℕ, ◌<◌, List, [], ◌∷◌, Option, refl, arith, map, ClientId, ServerId, Stamp, Ask, LogEntry}
+use Words.Client as cl
+use Words.ClientPages.{empty_store}
+use Words.ClientState.{Association, ClientState}
 use Rattle.st_laws_reads.specs.Copies.Law.{Apart, Differs, AllLived, EachStands, AllWhile, ClientStands, ClientCopies}
 use Rattle.st_laws_reads.specs.Copies.World.{ClientRests, RestartsKeepCopies}
 use Rattle.st_laws_reads.proofs.Copies.Caches.{nothing_ok}
@@ -58,5 +53,5 @@ module _ (asked_as : ℕ → Option Ask) (c : ClientId) (es : List LogEntry) whe
   unfolding cl.start
   starts s h = record { apart = started_apart s.associations h.apart; copies = started_stand s.associations h.lived; asked = record {} }
 
-pub law : RestartsKeepCopies
-law asked_as c es now s = record { crashes = crashes asked_as c es now s; starts = starts asked_as c es s }
+pub restarts_keep_copies : RestartsKeepCopies
+restarts_keep_copies asked_as c es now s = record { crashes = crashes asked_as c es now s; starts = starts asked_as c es s }

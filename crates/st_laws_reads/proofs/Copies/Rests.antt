@@ -1,16 +1,10 @@
 -- What holds of a client that does not run as the log changes elsewhere, and of one that runs as its clock goes on.
-use Rattle.std.proofs.Common.{◌≡◌, ℕ, ◌≤◌, Bool, false, List, [], ◌∷◌, ◌++◌, Option, Some, None, arith}
-use Rattle.st_base.specs.declared.ids.ClientId.{ClientId}
-use Rattle.st_base.specs.declared.ids.FileId.{FileId}
-use Rattle.st_base.specs.declared.ids.PageNo.{PageNo}
-use Rattle.st_rules.specs.declared.log.Cause.{Cause}
-use Rattle.st_rules.specs.declared.log.LogEntry.{LogEntry}
-use Rattle.st_rules.specs.declared.log.LogOwner.{LogOwner}
-use Rattle.st_rules.specs.declared.world.Carried.{Carried}
-use Rattle.st_rules.specs.ClientState.{Association, ClientSession}
-use Rattle.st_rules.specs.Events as ev
-use Rattle.st_rules.specs.FlatLog as log
-use Rattle.st_rules.specs.FlatLog.{is_of_client}
+use Rattle.st_lemmas.proofs.Words
+use Words.{◌≡◌, ℕ, ◌≤◌, Bool, false, List, [], ◌∷◌, ◌++◌, Option, Some, None, arith, ClientId, FileId, PageNo, Cause, LogEntry, LogOwner, Carried}
+use Words.ClientState.{Association, ClientSession}
+use Words.Events as ev
+use Words.FlatLog as log
+use Words.FlatLog.{is_of_client}
 use Rattle.st_laws_refine.specs.Client.Invariants.{Lasts}
 use Rattle.st_laws_reads.specs.Copies.Law.{AllLived, EachStands, AllWhile}
 use Rattle.st_laws_reads.specs.Copies.World.{ClientRests, RestsStay, ClocksKeepCopies}
@@ -49,7 +43,7 @@ rests_law c es s h =
     effect (Some x) = record { apart = h.apart; lived = at x.index (log.entry_at es x.index) }
 
 -- Clocks.
-lasts_before : (lease now then_ : ℕ) → now ≤ then_ → (o : Option ClientSession) → Lasts lease then_ o → Lasts lease now o
+pub lasts_before : (lease now then_ : ℕ) → now ≤ then_ → (o : Option ClientSession) → Lasts lease then_ o → Lasts lease now o
 lasts_before lease now then_ le None l = record {}
 lasts_before lease now then_ le (Some s) l = omega (arith, le, l)
 

@@ -1,30 +1,20 @@
 -- What is observed of a client's outputs in the world: its reads and its syncs are answered by the log at them.
-use Rattle.std.proofs.Common.{◌≡◌, ℕ, ◌+◌, true, List, [], ◌∷◌, ◌++◌, Option, Some, None, refl, sym, ap, ◌∙◌, subst, append_assoc}
-use Rattle.std.specs.Prelude.{length}
-use Rattle.std.specs.List.{list_all}
-use Rattle.st_base.specs.declared.ids.ClientId.{ClientId}
-use Rattle.st_base.specs.declared.ids.ServerId.{ServerId}
-use Rattle.st_base.specs.declared.ids.Life.{Life}
-use Rattle.st_messages.specs.declared.ask.Ask.{Ask}
-use Rattle.st_messages.specs.declared.ask.Ask.TheVariants as asks
-use Rattle.st_messages.specs.declared.answer.AppAnswer.{AppAnswer}
-use Rattle.st_messages.specs.declared.answer.AppAnswer.TheVariants as answers
-use Rattle.st_messages.specs.declared.output.Note.{Note}
-use Rattle.st_messages.specs.declared.output.Note.TheVariants as notes
-use Rattle.st_messages.specs.declared.output.Output.{Output}
-use Rattle.st_messages.specs.declared.output.Output.TheVariants as outputs
-use Rattle.st_rules.specs.declared.log.LogEntry.{LogEntry}
-use Rattle.st_rules.specs.declared.log.Cause.TheVariants as causes
-use Rattle.st_rules.specs.declared.observation.Observation.{Observation}
-use Rattle.st_rules.specs.declared.observation.Observation.TheVariants as seen
-use Rattle.st_rules.specs.ClientState.{ClientState}
-use Rattle.st_rules.specs.World.{World, WorldClient, site_of}
-use Rattle.st_rules.specs.Events as ev
-use Rattle.st_rules.specs.Events.{WorldTurn, client_says, client_says_all, client_notes, present_life}
-use Rattle.st_rules.specs.FlatLog as log
-use Rattle.st_rules.specs.Lines.{AtEach, log_behind, log_told}
-use Rattle.st_rules.specs.Safety as safety
-use Rattle.st_laws_refine.proofs.Client.Steps.{nothing_more}
+use Rattle.st_lemmas.proofs.Words
+use Words.{◌≡◌, ℕ, ◌+◌, true, List, [], ◌∷◌, ◌++◌, Option, Some, None, refl, sym, ap, ◌∙◌, subst, append_assoc, length, list_all, ClientId, ServerId, Life, Ask}
+use Words.{AppAnswer, Note, Output, LogEntry, Observation, append-nil}
+use Words.asks
+use Words.answers
+use Words.notes
+use Words.outputs
+use Words.causes
+use Words.seen
+use Words.ClientState.{ClientState}
+use Words.World.{World, WorldClient, site_of}
+use Words.Events as ev
+use Words.Events.{WorldTurn, client_says, client_says_all, client_notes, present_life}
+use Words.FlatLog as log
+use Words.Lines.{AtEach, log_behind, log_told}
+use Words.Safety as safety
 use Rattle.st_laws_refine.specs.Client.World.{logged_one}
 use Rattle.st_laws_refine.proofs.Client.World.{told_one, lives_same}
 use Rattle.st_laws_reads.specs.Copies.Copies.{RightOne, RightBehind, Noted, HardRight}
@@ -62,7 +52,7 @@ seen_one past x c before last (outputs.Answer op a) sc l r = record { more = see
 seen_one past x c before last (outputs.Submit n at what) sc l r = go (site_of sc.world c)
   where
     go : (o : Option WorldClient) → SeenRight past x sc.seen sc (ev.submits sc c o n at what)
-    go None = record { more = []; is = sym (nothing_more sc.seen); right = tt; log = refl }
+    go None = record { more = []; is = sym (append-nil sc.seen); right = tt; log = refl }
     go (Some s) = record { more = _ ∷ []; is = refl; right = ((tt, refl), tt); log = refl }
 seen_one past x c before last (outputs.Note n) sc l r = note n
   where
@@ -71,13 +61,13 @@ seen_one past x c before last (outputs.Note n) sc l r = note n
     note (notes.Lost s life) = record { more = seen.Lost c s life ∷ []; is = refl; right = ((tt, refl), tt); log = refl }
     note (notes.Accepted f p bytes) = record { more = seen.Wrote (length sc.world.log + 1) c f p bytes ∷ []; is = refl; right = ((tt, refl), tt); log = ap (λ (v : ServerId → Life). log.accept sc.world.log c (v f.server) f p bytes) l }
     note (notes.Patched f p at bytes) = record { more = seen.Patched (length sc.world.log + 1) c f p at bytes ∷ []; is = refl; right = ((tt, refl), tt); log = ap (λ (v : ServerId → Life). log.patch sc.world.log c (v f.server) f p at bytes) l }
-    note n = record { more = []; is = sym (nothing_more sc.seen); right = tt; log = refl }
+    note n = record { more = []; is = sym (append-nil sc.seen); right = tt; log = refl }
 
 -- reads return the last write, in one step of a client: from what its outputs are
 pub seen_all : (past : List safety.Step) (x : safety.Step) (c : ClientId) (before : ClientState) (last : Option Output) (os : List Output) (sc : WorldTurn) → ◌≡◌ {A = ServerId → Life} (present_life x.after.world c) (present_life sc.world c) →
     RightBehind (safety.ask_of past x c) c (present_life sc.world c) last sc.world.log os → SeenRight past x sc.seen sc (client_says_all c before os sc)
 unfolding client_says_all AtEach log_told
-seen_all past x c before last [] sc l r = record { more = []; is = sym (nothing_more sc.seen); right = nothing; log = refl }
+seen_all past x c before last [] sc l r = record { more = []; is = sym (append-nil sc.seen); right = nothing; log = refl }
   where
     nothing : AtEach (Fact past x) x.after.world sc.world.log []
     nothing = tt
@@ -135,7 +125,7 @@ line_then past x line old o new w r = record { more = o ∷ r.more; is = r.is �
 written_all : (past : List safety.Step) (x : safety.Step) (c : ClientId) (before : ClientState) (lives : ServerId → Life) (last : Option Output) (line : Option Observation) (os : List Output) (es : List LogEntry) (sc : WorldTurn) → LineOf c last line →
     RightBehind (safety.ask_of past x c) c lives last es os → WrittenSeen past x line sc.seen (client_says_all c before os sc).seen
 unfolding client_says_all client_says ev.sends ev.submits ev.answers_with client_notes ev.accepts ev.patches ev.loses
-written_all past x c before lives last line [] es sc l r = record { more = []; is = sym (nothing_more sc.seen); right = record {} }
+written_all past x c before lives last line [] es sc l r = record { more = []; is = sym (append-nil sc.seen); right = record {} }
 written_all past x c before lives last line (outputs.Send m ∷ os) es sc l r =
     line_then past x line sc.seen _ _ (record {}) (written_all past x c before lives (Some (outputs.Send m)) _ os es (client_says sc c before (outputs.Send m)) (record {}) r.rest)
 written_all past x c before lives last line (outputs.Answer op a ∷ os) es sc l r =
@@ -162,8 +152,8 @@ written_all past x c before lives last line (outputs.Note n ∷ os) es sc l r =
     note (notes.Patched g p at bytes) f r = line_then past x line sc.seen _ _ (record {}) (f _ _ (client_notes sc c before (notes.Patched g p at bytes)) (_, refl) r)
     note n f r = f line _ sc (record {}) r
 
-pub law : StepsAnswerRight
-law past x c before os v l r =
+pub steps_answer_right : StepsAnswerRight
+steps_answer_right past x c before os v l r =
     let q = seen_all past x c before None os (ev.quiet v) l r in
     let z = written_all past x c before (present_life v c) None None os v.log (ev.quiet v) (record {}) r in
     record {

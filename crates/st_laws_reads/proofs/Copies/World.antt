@@ -1,42 +1,32 @@
 -- In the world: an event at which a client takes an input keeps its copies.
-use Rattle.std.proofs.Common.{◌≡◌, ℕ, ◌+◌, Bool, true, false, List, [], ◌∷◌, Option, Some, None, Ok, Err, refl, sym, ap, ◌∙◌, subst, inl, inr, if◌then◌else◌}
-use Rattle.std.specs.Prelude.{find}
-use Rattle.st_base.specs.declared.ids.ClientId.{ClientId}
-use Rattle.st_base.specs.declared.ids.ServerId.{ServerId}
-use Rattle.st_base.specs.declared.ids.Life.{Life}
-use Rattle.st_base.specs.declared.ids.Stamp.{Stamp}
-use Rattle.st_base.specs.declared.ids.NodeId.{NodeId}
-use Rattle.st_base.specs.declared.ids.NodeId.TheVariants as nodes
-use Rattle.st_messages.specs.declared.ask.Ask.{Ask}
-use Rattle.st_messages.specs.declared.event.Event.{Event}
-use Rattle.st_messages.specs.declared.event.Event.TheVariants as events
-use Rattle.st_messages.specs.declared.message.Message.{Message}
-use Rattle.st_rules.specs.declared.client.ClientInput.{ClientInput}
-use Rattle.st_rules.specs.declared.client.ClientInput.TheVariants as inputs
-use Rattle.st_rules.specs.declared.lease.Phase.{Phase}
-use Rattle.st_rules.specs.declared.lease.Phase.TheVariants as phases
+use Rattle.st_lemmas.proofs.Words
+use Words.{◌≡◌, ℕ, ◌+◌, Bool, true, false, List, [], ◌∷◌, Option, Some, None, Ok, Err, refl, sym, ap, ◌∙◌, subst, inl, inr, if◌then◌else◌, find, ClientId}
+use Words.{ServerId, Life, NodeId, Ask, Event, Message, ClientInput, IssuedCommand, SentMessage}
+use Words.nodes
+use Words.events
+use Words.inputs
+use Words.Client as cl
+use Words.ClientState.{Association, ClientState, is_at}
+use Words.Disks as disks
+use Words.World as world
+use Words.World.{World, WorldClient, site_of, issued_of, life_with, message_of, receiver_of}
+use Words.Events as ev
+use Words.Events.{WorldTurn, present_life}
+use Words.Lists.{Has}
+use Words.Lookups.{some_is}
+use Words.Numbers.{numbered_own}
+use Words.Worlds.{flushes_log}
 use Rattle.st_rules.specs.declared.node.StepRefusal.TheVariants.{Crashed}
-use Rattle.st_rules.specs.declared.world.IssuedCommand.{IssuedCommand}
-use Rattle.st_rules.specs.declared.world.SentMessage.{SentMessage}
-use Rattle.st_rules.specs.Client as cl
-use Rattle.st_rules.specs.ClientState.{Association, ClientState, is_at}
-use Rattle.st_rules.specs.Disks as disks
-use Rattle.st_rules.specs.World as world
-use Rattle.st_rules.specs.World.{World, WorldClient, site_of, clock_of, issued_of, life_with, message_of, receiver_of}
-use Rattle.st_rules.specs.Events as ev
-use Rattle.st_rules.specs.Events.{WorldTurn, present_life}
-use Rattle.st_lemmas.specs.Lists.{Has}
-use Rattle.st_lemmas.proofs.Lookups.{some_is}
-use Rattle.st_lemmas.proofs.Numbers.{numbered_own}
 use Rattle.st_lemmas.proofs.Steps.{step_happens}
 use Rattle.st_laws_refine.specs.Client.World.{logged}
 use Rattle.st_laws_refine.proofs.Client.World.{told_all}
 use Rattle.st_laws_reads.specs.Copies.Obligations.{Numbered}
 use Rattle.st_laws_reads.specs.Copies.Law.{Apart, LivesAre, ClientStands, ClientCopies, StepKeeps}
-use Rattle.st_laws_reads.specs.Copies.World.{Taking, taking, asking, receiving, receiving_of, told_at, told_of, taken, now_at, turn_of, OwedOf, WorldKeeps, EventsKeepCopies}
+use Rattle.st_laws_reads.specs.Copies.World.{Taking, taking, asking, receiving, receiving_of, told_at, told_of, taken, now_at, turn_of, OwedOf, WorldKeeps}
+use Rattle.st_laws_reads.specs.Copies.World.{EventsKeepCopies}
 use Rattle.st_laws_reads.proofs.Copies.Held.{Owns, entries_own}
 use Rattle.st_laws_reads.proofs.Copies.Locked.{found_there}
-use Rattle.st_laws_reads.proofs.Copies.Step.{law as step_law, step_apart}
+use Rattle.st_laws_reads.proofs.Copies.Step.{steps_keep_copies as step_law, step_apart}
 
 -- The lives of associations with servers that differ are what is looked up.
 lives_found : (s : ClientState) (xs : List Association) → ((a : Association) → Has a xs → find (is_at a.server) s.associations ≡ Some a) → LivesAre (life_with s) xs
@@ -45,24 +35,6 @@ lives_found s (a ∷ xs) f = record { one = ap world.life_at (f a (inl refl)); r
 
 lives_are : (s : ClientState) → Apart s.associations → LivesAre (life_with s) s.associations
 lives_are s d = lives_found s s.associations (λ a i. found_there s.associations a d i)
-
--- flush steps leave the log
-flushes_log : (c : ClientId) (s : ClientState) (ss : List ServerId) (w : World) → (ev.flushes c s ss w).log ≡ w.log
-unfolding ev.flushes
-flushes_log c s [] w = refl
-flushes_log c s (y ∷ ss) w = flushes_log c s ss (ev.flushed_at w c y s) ∙ in_phase (cl.lease_end_with s y) (cl.phase_with s y (clock_of w (nodes.Client c)))
-  where
-    under : (o : Option Stamp) → (ev.flushed_under w c y o).log ≡ w.log
-    under None = refl
-    under (Some e) = refl
-
-    in_phase : (o : Option Stamp) (p : Option Phase) → (ev.flushed_in w c y o p).log ≡ w.log
-    in_phase o (Some phases.Flush) = under o
-    in_phase o (Some phases.Valid) = refl
-    in_phase o (Some phases.Renewal) = refl
-    in_phase o (Some phases.Quiesce) = refl
-    in_phase o (Some phases.Expired) = refl
-    in_phase o None = refl
 
 -- A client takes an input.
 takes_keep : (asked_as : ℕ → Option Ask) (x : Taking) (old : WorldClient) → site_of x.world x.client ≡ Some old → x.site.node.running ≡ true → ClientCopies asked_as x.client x.world.log (now_at x) x.site.node.state → Numbered asked_as x.input → OwedOf x →
@@ -152,5 +124,5 @@ module _ (asked_as : ℕ → Option Ask) where
   by_event w (events.Report k ok) x q = by_report (ev.with_disks (ev.disks_after w.disks (disks.done w.disks k ok)) w) k ok (issued_of w k) x q
   by_event w e x q = cc q
 
-pub law : EventsKeepCopies
-law asked_as w e sc x is q = let z = step_happens w e sc is in subst (λ (s : WorldTurn). KeepsAt asked_as s x) (sym z.1) (by_event asked_as (ev.counted w) e x q)
+pub events_keep_copies : EventsKeepCopies
+events_keep_copies asked_as w e sc x is q = let z = step_happens w e sc is in subst (λ (s : WorldTurn). KeepsAt asked_as s x) (sym z.1) (by_event asked_as (ev.counted w) e x q)

@@ -1,16 +1,13 @@
 -- What is pending of lives that are over stands alone at each step of every run.
-use Rattle.std.proofs.Common.{◌≡◌, ℕ, ◌+◌, true, List, [], ◌∷◌, ◌++◌, Ok, Err, refl}
-use Rattle.std.specs.Prelude.{Result}
-use Rattle.std.specs.List.{list_all}
-use Rattle.st_messages.specs.declared.event.Event.{Event}
-use Rattle.st_rules.specs.declared.observation.WorldRefusal.{WorldRefusal}
-use Rattle.st_rules.specs.Events.{WorldTurn, world_step}
-use Rattle.st_rules.specs.History.{Traced, traced, traced_after}
-use Rattle.st_rules.specs.Safety as safety
-use Rattle.st_rules.specs.Safety.{Step, Throughout, is_event, step, steps}
-use Rattle.st_rules.specs.World.{fresh_world}
+use Rattle.st_lemmas.proofs.Words
+use Words.{◌≡◌, ℕ, ◌+◌, true, List, [], ◌∷◌, ◌++◌, Ok, Err, refl, Result, list_all, Event, WorldRefusal}
+use Words.Events.{WorldTurn, world_step}
+use Words.History.{Traced, traced, traced_after}
+use Words.Safety as safety
+use Words.Safety.{Step, Throughout, is_event, step, steps}
+use Words.World.{fresh_world}
+use Words.Tables.{and_true}
 use Rattle.st_protocol.specs.Assoc.{Config}
-use Rattle.st_lemmas.proofs.Tables.{and_true}
 use Rattle.st_laws_pages.specs.Asks.Law.{PlacesAfter, PlacesHold}
 use Rattle.st_laws_pages.proofs.Asks.Law.{places_law}
 use Rattle.st_laws_pages.proofs.Causes.Law.{Stand, fresh_places, fresh_stand, one_step}

@@ -1,36 +1,31 @@
 -- What is pending of lives that are over stands alone: such a life is frozen with an exclusive lock on the file.
-use Rattle.std.proofs.Common.{◌≡◌, ℕ, ◌+◌, ◌<◌, ◌≤◌, Bool, true, false, ◌&&◌, ◌==◌, List, [], ◌∷◌, Option, Some, None, refl, sym, ap, ◌∙◌, subst, inl, inr, arith}
-use Rattle.std.specs.Prelude.{length, find, map, option_map}
-use Rattle.std.proofs.lemmas.Bool.{eq-eqb}
-use Rattle.st_base.specs.declared.ids.ClientId.{ClientId}
-use Rattle.st_base.specs.declared.ids.NodeId.TheVariants as nodes
-use Rattle.st_base.specs.declared.ids.ServerId.{ServerId}
-use Rattle.st_rules.specs.declared.log.LogEntry.{LogEntry}
-use Rattle.st_rules.specs.declared.log.LogOwner.{LogOwner}
-use Rattle.st_rules.specs.declared.world.LeaseLife.{LeaseLife}
-use Rattle.st_rules.specs.Client as cl
-use Rattle.st_rules.specs.ClientLease as lease
-use Rattle.st_rules.specs.ClientState.{Association, ClientSession, is_at}
-use Rattle.st_rules.specs.Events as ev
-use Rattle.st_rules.specs.FlatLog.{is_of_life, is_pending}
-use Rattle.st_rules.specs.Keys.{client, server_node}
-use Rattle.st_rules.specs.Server.{ServerNode}
-use Rattle.st_rules.specs.World as world
-use Rattle.st_rules.specs.World.{World, WorldClient, clock_of, end_or_present, ended_of, node_of, server, site_of}
+use Rattle.st_lemmas.proofs.Words
+use Words.{◌≡◌, ℕ, ◌+◌, ◌<◌, ◌≤◌, Bool, true, false, ◌&&◌, ◌==◌, List, [], ◌∷◌, Option, Some, None, refl, sym, ap, ◌∙◌, subst, inl, inr, arith, length, find}
+use Words.{option_map, eq-eqb, ClientId, ServerId, LogEntry, LogOwner, LeaseLife}
+use Words.nodes
+use Words.Client as cl
+use Words.ClientLease as lease
+use Words.ClientState.{Association, ClientSession, is_at}
+use Words.Events as ev
+use Words.FlatLog.{is_of_life, is_pending}
+use Words.Keys.{client, server_node}
+use Words.Server.{ServerNode}
+use Words.World as world
+use Words.World.{World, WorldClient, clock_of, end_or_present, ended_of, node_of, server, site_of}
+use Words.Lists.{Has}
+use Words.Lengths.{numbered_there}
+use Words.Truth.{none_not_some}
 use Rattle.st_protocol.specs.Assoc as net
 use Rattle.st_protocol.specs.Assoc.{Alive, Config}
-use Rattle.st_lemmas.specs.Lists.{Has}
-use Rattle.st_laws_refine.specs.Views.Halves.{client_of, date_in, held_in, leased_in}
+use Rattle.st_laws_refine.specs.Views.Halves.{client_of, held_in, leased_in}
 use Rattle.st_laws_refine.specs.Client.Invariants.{Lasts}
 use Rattle.st_laws_refine.specs.Server.Pair.{client_in, stamp_number}
 use Rattle.st_laws_pages.specs.Fates.Fates.{BeforeEnd}
-use Rattle.st_laws_steps.specs.Lives.Lives.{IsKnown, owner_of}
+use Rattle.st_laws_steps.specs.Lives.Lives.{IsKnown}
 use Rattle.st_laws_steps.proofs.Lives.Associations.{found_has}
-use Rattle.st_laws_pages.proofs.Lives.Lasting.{no_option}
 use Rattle.st_laws_pages.proofs.Lives.NodeTurns.{row_is}
 use Rattle.st_laws_leases.specs.Sides.Invariants.{Standing}
 use Rattle.st_laws_leases.specs.Sides.World.{ServerStands, There}
-use Rattle.st_laws_leases.proofs.Sides.AllAssociations.{numbered_is}
 use Rattle.st_laws_leases.proofs.Sides.Pairs.{only_here, own_view}
 use Rattle.st_laws_reads.specs.Copies.World.{Unheld}
 use Rattle.st_laws_reads.specs.AllClients.Events.{OfFrozen, FrozenStandAlone}
@@ -38,18 +33,11 @@ use Rattle.st_laws_reads.specs.AllClients.Law.{Running}
 use Rattle.st_laws_reads.specs.AllClients.World.{AllThere}
 use Rattle.st_laws_reads.specs.FrozenLives.PendingEntries.{FrozenHold, OfCrashed, StandsStill, StoodLife}
 use Rattle.st_laws_leases.specs.Sides.Paths.{pairs_of}
-use Rattle.st_laws_reads.proofs.FrozenLives.Falling.{owner_at}
-use Rattle.st_laws_reads.proofs.FrozenLives.Stepping.{ahead, clock_there, site_there}
+use Rattle.st_laws_reads.proofs.FrozenLives.Stepping.{ahead, site_there}
 use Rattle.st_laws_reads.proofs.FrozenLives.Walks.{stand_alone}
-
-lasts_date : (l now : ℕ) (o : Option ClientSession) → leased_in o ≡ true → Lasts l now o → now < date_in o + l
-lasts_date l now None e h = cc e
-lasts_date l now (Some s) e h = h
-
-owner_has : (es : List LogEntry) (e : LogEntry) → Has e es → Has e.of (map owner_of es)
-owner_has [] e h = elim h [ ]
-owner_has (x ∷ es) e (inl q) = inl (ap (λ (z : LogEntry). z.of) q)
-owner_has (x ∷ es) e (inr h) = inr (owner_has es e h)
+use Rattle.st_laws_pages.proofs.Fates.GoneLaw.{owner_has}
+use Rattle.st_laws_reads.proofs.AllClients.Alone.{lasts_date, owner_at}
+use Rattle.st_laws_refine.proofs.Server.Late.{clock_in}
 
 module _ (k : Config) (count : ℕ) (w : World) (h : FrozenHold k count w) (e : LogEntry) (logged : Has e w.log) (pending : is_pending e.fate ≡ true) (elder : OfFrozen w e) where
   abbrev o : LogOwner
@@ -69,11 +57,11 @@ module _ (k : Config) (count : ℕ) (w : World) (h : FrozenHold k count w) (e : 
   present n l = at_site (site_of w o.client) refl l (ap (end_or_present w o.client o.file.server) (sym n) ∙ before.is)
     where
       at_site : (s : Option WorldClient) → site_of w o.client ≡ s → (ev.life_of_site o.file.server s).0 ≡ o.life.0 → world.present_end w o.file.server s ≡ Some before.end → ⊥
-      at_site None f l q = no_option before.end q
+      at_site None f l q = none_not_some before.end q
       at_site (Some site) f l q = at (find (is_at o.file.server) site.node.state.associations) refl l q
         where
           at : (x : Option Association) → find (is_at o.file.server) site.node.state.associations ≡ x → (world.life_at x).0 ≡ o.life.0 → lease.end_at site.node.state.config (cl.lease_at x) ≡ Some before.end → ⊥
-          at None g l q = no_option before.end q
+          at None g l q = none_not_some before.end q
           at (Some a) g l q = by site.node.running refl
             where
               found : Has a site.node.state.associations × (a.server ≡ o.file.server)
@@ -87,14 +75,14 @@ module _ (k : Config) (count : ℕ) (w : World) (h : FrozenHold k count w) (e : 
               by : (b : Bool) → site.node.running ≡ b → ⊥
               by true r = elder o.client.0 site a (record { there = f; runs = r }) found.0 own
               by false r =
-                  no_option before.end
+                  none_not_some before.end
                   (ap (λ s. lease.end_at site.node.state.config (option_map cl.lease_of_session s)) (sym ((h.all.fates.lives.lives.sites o.client site f).stopped r a found.0).session) ∙ q)
 
   crashed_row : CrashedRow
   crashed_row = go (ended_of w o.client o.file.server o.life) refl (h.all.fates.lives.known.owners o (owner_has w.log e logged))
     where
       go : (x : Option LeaseLife) → ended_of w o.client o.file.server o.life ≡ x → IsKnown w.clients w.ended o.client o.file.server o.life → CrashedRow
-      go None q (inl (y, f)) = absurd (no_option y (sym q ∙ f))
+      go None q (inl (y, f)) = absurd (none_not_some y (sym q ∙ f))
       go None q (inr l) = absurd (present q l)
       go (Some row) q kn = by row.crashed refl
         where
@@ -140,7 +128,7 @@ module _ (k : Config) (count : ℕ) (w : World) (h : FrozenHold k count w) (e : 
       clock : (client_in w o.client.0 s (z.ended o.client.0)).clock < x.half.date + k.lease
       clock =
           let f = site_there w h.all.fates.lives o crashed_row.row crashed_row.is in
-          let t = clock_there w o.client.0 s (z.ended o.client.0) f.0 f.1 in
+          let t = clock_in w o.client.0 s (z.ended o.client.0) f.0 f.1 in
           let a = ahead w o before crashed_row.row crashed_row.is in
           let b = x.end in omega (arith, t, a, b)
 
@@ -167,4 +155,4 @@ frozen_alone k count w h placed e logged pending elder d other run =
   where
     there : (xs : List Association) → ((a : Association) → Has a xs → (1 ≤ a.server.0) × (a.server.0 ≤ length w.servers)) → AllThere w xs
     there [] f = record {}
-    there (a ∷ xs) f = let z = f a (inl refl) in let n = numbered_is w.servers a.server.0 z.0 z.1 in record { one = record { node = n.0; is = n.1 }; rest = there xs (λ y i. f y (inr i)) }
+    there (a ∷ xs) f = let z = f a (inl refl) in let n = numbered_there w.servers a.server.0 z.0 z.1 in record { one = record { node = n.0; is = n.1 }; rest = there xs (λ y i. f y (inr i)) }

@@ -1,25 +1,24 @@
 -- A client's crash, in the machine of each server: the client is in its next life, and all else is as it was.
-use Rattle.std.proofs.Common.{◌≡◌, ◌≢◌, ℕ, ◌+◌, ◌*◌, true, false, refl, sym, ap, ◌∙◌}
-use Rattle.std.specs.Prelude.{length, Option, Some, None, unwrap_or}
-use Rattle.st_base.specs.declared.ids.Stamp.{Stamp}
-use Rattle.st_base.specs.declared.ids.NodeId.TheVariants as nodes
-use Rattle.st_rules.specs.Keys.{client}
-use Rattle.st_rules.specs.ClientPages.{empty_store}
-use Rattle.st_rules.specs.ClientState.{Association}
-use Rattle.st_rules.specs.Client as cl
-use Rattle.st_rules.specs.World.{World, WorldClient, numbered, site_of, clock_of, stamp, server}
-use Rattle.st_rules.specs.Server.{ServerNode}
-use Rattle.st_rules.specs.Events as ev
+use Rattle.st_lemmas.proofs.Words
+use Words.{◌≡◌, ◌≢◌, ℕ, ◌+◌, ◌*◌, true, false, refl, sym, ap, ◌∙◌, length, Option, Some, None, unwrap_or, Stamp}
+use Words.nodes
+use Words.Keys.{client}
+use Words.ClientPages.{empty_store}
+use Words.ClientState.{Association}
+use Words.Client as cl
+use Words.World.{World, WorldClient, numbered, site_of, clock_of, stamp, server}
+use Words.Server.{ServerNode}
+use Words.Events as ev
+use Words.Numbers.{numbered_own, numbered_other, numbered_below, set_length}
 use Rattle.st_protocol.specs.Assoc as net
 use Rattle.st_protocol.specs.Assoc.{Config, ConfigOk, upd, next_life}
 use Rattle.st_protocol.proofs.Lists.{upd-same, upd-other}
-use Rattle.st_lemmas.proofs.Numbers.{numbered_own, numbered_other}
 use Rattle.st_laws_refine.specs.Views.Halves.{client_at, client_of, Ghost, half_of}
 use Rattle.st_laws_refine.specs.Server.Pair.{client_view, client_at_site, client_in, pair}
 use Rattle.st_laws_refine.specs.Server.Invariants.{pairs}
 use Rattle.st_laws_refine.specs.Client.Law.{Place}
 use Rattle.st_laws_leases.specs.Sides.Invariants.{Standing, Both}
-use Rattle.st_laws_leases.proofs.Sides.Pairs.{length_set, numbered_some, found_at_place, own_view}
+use Rattle.st_laws_leases.proofs.Sides.Pairs.{found_at_place, own_view}
 use Rattle.st_laws_reads.specs.FrozenLives.Frozen.{Crashed}
 use Rattle.st_laws_leases.proofs.Sides.Crashes.{crashed, place_map}
 
@@ -59,7 +58,7 @@ module _ (k : Config) (ok : ConfigOk k) (s : ℕ) (w : World) (node : ServerNode
       after E = ap (client_at_site v c s E) here ∙ ap (client_view false E clock) (found_at_place s last.node.state (cl.crashed_association a) place)
 
       many : length v.clients ≡ length w.clients
-      many = length_set w.clients _ last
+      many = set_length w.clients _ last
 
       clock_s : clock_of v (nodes.Server (server s)) ≡ clock_of w (nodes.Server (server s))
       clock_s = λ j. unwrap_or (numbered w.clocks (many j + s)) (stamp 0)
@@ -71,7 +70,7 @@ module _ (k : Config) (ok : ConfigOk k) (s : ℕ) (w : World) (node : ServerNode
       own = λ j. record { c = view j; s = half_of (client c) (clock_s j) node.running node.state (G c); net = (G c).net }
 
       site_d : (d : ℕ) → d ≢ c → site_of v (client d) ≡ site_of w (client d)
-      site_d d n = numbered_other w.clients c d last (numbered_some w.clients c site there).0 n
+      site_d d n = numbered_other w.clients c d last (numbered_below w.clients c site there).0 n
 
       same_view : (d : ℕ) (e : ℕ → ℕ) (o : Option WorldClient) → client_at_site v d s e o ≡ client_at_site w d s e o
       same_view d e None = λ j. client_at (w.config.den * (clock_s j).0) 1 None empty_store (λ l. 0)

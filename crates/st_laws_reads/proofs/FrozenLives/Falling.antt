@@ -1,45 +1,38 @@
 -- A client's crash: the lives that it ends are frozen, with the locks of what is pending, and those that were frozen stay so.
-use Rattle.std.proofs.Common.{Bool, ◌||◌, ◌≡◌, ◌≢◌, ℕ, ◌+◌, ◌<◌, ◌≤◌, ◌⊎◌, true, false, List, [], ◌∷◌, Option, Some, None, refl, sym, ap, ◌∙◌, subst, inl, inr, arith, eqb}
-use Rattle.std.specs.Prelude.{find, map, option_map}
+use Rattle.st_lemmas.proofs.Words
+use Words.{◌||◌, ◌≡◌, ◌≢◌, ℕ, ◌+◌, ◌<◌, ◌≤◌, ◌⊎◌, true, false, List, [], ◌∷◌, Option, Some, None, refl, sym, ap, ◌∙◌, subst, inl, inr, arith, eqb, find}
+use Words.{map, option_map, ClientId, Life, LogEntry, LogOwner, DirtyPage, LeaseLife, PageNo, list_any}
+use Words.nodes
+use Words.Client as cl
+use Words.ClientLease as lease
+use Words.ClientPages.{has_dirty, has_write_on, is_dirty_of, is_dirty_on}
+use Words.ClientState.{Association, ClientSession}
+use Words.Events as ev
+use Words.Events.{counted}
+use Words.FlatLog as log
+use Words.FlatLog.{is_pending}
+use Words.Keys.{client, server_node}
+use Words.Server.{ServerNode}
+use Words.World.{World, WorldClient, clock_of, end_or_present, ended_of, is_life_of, life_of_association, lives_of, node_of, server, site_of}
+use Words.Lists.{Has}
+use Words.Tables.{and_true, found_at, has_map, some_passes}
+use Words.Numbers.{set_length}
 use Rattle.std.proofs.lemmas.Bool.Decides.{eqb_tells}
 use Rattle.st_base.specs.declared.config.Config as base
-use Rattle.st_base.specs.declared.ids.ClientId.{ClientId}
-use Rattle.st_base.specs.declared.ids.Life.{Life}
-use Rattle.st_base.specs.declared.ids.NodeId.TheVariants as nodes
-use Rattle.st_rules.specs.declared.log.LogEntry.{LogEntry}
-use Rattle.st_rules.specs.declared.log.LogOwner.{LogOwner}
-use Rattle.st_rules.specs.declared.pages.DirtyPage.{DirtyPage}
-use Rattle.st_rules.specs.declared.world.LeaseLife.{LeaseLife}
-use Rattle.st_rules.specs.Client as cl
-use Rattle.st_rules.specs.ClientLease as lease
-use Rattle.st_rules.specs.ClientPages.{has_dirty, has_write_on, is_dirty_of, is_dirty_on}
-use Rattle.st_rules.specs.ClientState.{Association, ClientSession}
-use Rattle.st_rules.specs.Events as ev
-use Rattle.st_rules.specs.Events.{counted}
-use Rattle.st_rules.specs.FlatLog as log
-use Rattle.st_rules.specs.FlatLog.{is_pending}
-use Rattle.st_rules.specs.Keys.{client, server_node}
-use Rattle.st_rules.specs.Server.{ServerNode}
-use Rattle.st_rules.specs.World.{World, WorldClient, clock_of, end_or_present, ended_of, is_life_of, life_of_association, lives_of, node_of, server, site_of}
 use Rattle.st_protocol.proofs.World.{exactly}
 use Rattle.st_protocol.specs.Assoc as net
 use Rattle.st_protocol.specs.Assoc.{Config, Crashes, GoesOn, Moves, Row, Stays, upd}
-use Rattle.st_lemmas.specs.Lists.{Has}
-use Rattle.st_lemmas.proofs.Tables.{and_true, found_at, has_map}
 use Rattle.st_laws_refine.specs.Views.Halves.{client_of, date_in, held_in, leased_in}
 use Rattle.st_laws_refine.specs.Server.Pair.{client_in, stamp_number}
 use Rattle.st_laws_refine.proofs.Server.Counts.{few_more}
 use Rattle.st_laws_pages.specs.Fates.Fates.{BeforeEnd, PendingAll}
 use Rattle.st_laws_pages.specs.Flush.Flush.{DirtyHere}
-use Rattle.st_base.specs.declared.ids.PageNo.{PageNo}
-use Rattle.st_rules.specs.declared.pages.DirtyPage.{DirtyPage}
-use Rattle.std.specs.List.{list_any}
 use Rattle.st_laws_pages.proofs.Fates.FateLaw.{pending_fewer}
 use Rattle.st_laws_pages.proofs.Lives.Lives.{find_back, find_front}
 use Rattle.st_laws_pages.proofs.Lives.NodeTurns.{row_is}
 use Rattle.st_laws_leases.specs.Sides.Invariants.{Both, Standing}
 use Rattle.st_laws_leases.specs.Sides.World.{AllStand, ServerStands}
-use Rattle.st_laws_leases.proofs.Sides.Pairs.{length_set, only_here, own_view}
+use Rattle.st_laws_leases.proofs.Sides.Pairs.{only_here, own_view}
 use Rattle.st_laws_reads.specs.FrozenLives.PendingEntries.{FrozenHold, OfCrashed, StandsStill, StoodLife}
 use Rattle.st_laws_reads.specs.FrozenLives.Frozen.{Crashed, FrozenLife}
 use Rattle.st_laws_refine.specs.Server.Paths.{Here, Path, WorkedOn}
@@ -50,6 +43,7 @@ use Rattle.st_laws_leases.proofs.Sides.AllAssociations.{timed_on}
 use Rattle.st_laws_leases.proofs.Sides.Fold.{counted_same, same}
 use Rattle.st_laws_reads.proofs.FrozenLives.Stepping.{still_on}
 use Rattle.st_laws_reads.proofs.FrozenLives.Walks.{begins}
+use Rattle.st_laws_reads.proofs.AllClients.Alone.{owner_at}
 
 -- A crash is a step of the machine.
 module _ (k : Config) (c : ℕ) (A B : net.World) (x : Crashed k c A B) where
@@ -79,28 +73,13 @@ module _ (k : Config) (c : ℕ) (A B : net.World) (x : Crashed k c A B) where
             let r = h y z i ne (omega (arith, p, e)) (omega (arith, q, f)) in omega (arith, r, e, f);
       })
 
--- members
-pub owner_at : (P : LogOwner → Type 0) (es : List LogEntry) (e : LogEntry) → PendingAll P es → Has e es → is_pending e.fate ≡ true → P e.of
-owner_at P [] e r h p = elim h [ ]
-owner_at P (y ∷ es) e r (inl q) p = subst (λ (z : LogEntry). P z.of) (sym q) (r.one (ap (λ (z : LogEntry). is_pending z.fate) (sym q) ∙ p))
-owner_at P (y ∷ es) e r (inr h) p = owner_at P es e r.rest h p
-
 pending_from : (P : LogOwner → Type 0) (es : List LogEntry) → ((e : LogEntry) → Has e es → is_pending e.fate ≡ true → P e.of) → PendingAll P es
 pending_from P [] f = record {}
 pending_from P (e ∷ es) f = record { one = f e (inl refl); rest = pending_from P es (λ x i. f x (inr i)) }
 
-has_any : {A : Type 0} (q : A → Bool) (xs : List A) (x : A) → Has x xs → q x ≡ true → list_any q xs ≡ true
-has_any q [] x h r = elim h [ ]
-has_any q (y ∷ ys) x (inl e) r = ap (λ b. b || list_any q ys) (ap q (sym e) ∙ r)
-has_any q (y ∷ ys) x (inr h) r = or_right (q y) (list_any q ys) (has_any q ys x h r)
-  where
-    or_right : (a b : Bool) → b ≡ true → (a || b) ≡ true
-    or_right true b e = refl
-    or_right false b e = e
-
 -- a file of a dirty page has a dirty page
 pub dirty_any : (ino : ℕ) (p : PageNo) (xs : List DirtyPage) (d : DirtyPage) → find (is_dirty_of ino p) xs ≡ Some d → list_any (is_dirty_on ino) xs ≡ true
-dirty_any ino p xs d e = let f = found_at (is_dirty_of ino p) xs d e in has_any (is_dirty_on ino) xs d f.1 (and_true (is_dirty_on ino d) _ f.0).0
+dirty_any ino p xs d e = let f = found_at (is_dirty_of ino p) xs d e in some_passes (is_dirty_on ino) xs d f.1 (and_true (is_dirty_on ino d) _ f.0).0
 
 -- a lock is under a lease, which has an end
 leased_held : (o : Option ClientSession) (i : ℕ) → 2 ≤ (held_in o i).mode → leased_in o ≡ true
@@ -132,7 +111,7 @@ module _ (k : Config) (count : ℕ) (w : World) (c : ℕ) (site : WorldClient) (
         ended = upd z.ended c x.ends;
         ghosts = z.ghosts;
         both = x.both;
-        timed = timed_on k s w V z.ghosts z.ghosts z.timed refl refl refl (length_set w.clients _ (ev.stopped_site site)) refl (λ d. refl);
+        timed = timed_on k s w V z.ghosts z.ghosts z.timed refl refl refl (set_length w.clients _ (ev.stopped_site site)) refl (λ d. refl);
         calm = z.calm;
         few = few_more w.net.bytes V.net.bytes node.state (omega arith) z.few;
       }

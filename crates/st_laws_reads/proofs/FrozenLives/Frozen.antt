@@ -1,6 +1,10 @@
 -- A life that a crash ended is frozen through the moves of its association, up to its lease end.
-use Rattle.std.proofs.Common.{◌≡◌, ℕ, ◌+◌, ◌<◌, ◌≤◌, ◌⊎◌, Bool, true, false, List, ◌∷◌, refl, sym, ◌∙◌, subst, inl, inr, arith}
-use Rattle.st_protocol.specs.Assoc.{Config, ConfigOk, Msg, Client, Assoc, In, msg, Move, Moves, Stays, GoesOn, steady, Works, Hello, Reassert, Reasserted, Welcome, OfOtherEpoch, Advance, Greets, Asks, Loses, Crashes, Begins, Renews, Installs, AskedOfNone, Asked, Declines, Repeats, Again, Sweeps, Reduces, Adopts, Reasserts, Settles, Rests, Welcomes, WelcomesAgain, Acks, Refuses, Accepts, Suspects, Steals, GraceEnds, Grants, GrantsAgain, Demands, Releases, Rises, Stops, Starts}
+use Rattle.st_lemmas.proofs.Words
+use Words.{◌≡◌, ℕ, ◌+◌, ◌<◌, ◌≤◌, ◌⊎◌, Bool, true, false, List, ◌∷◌, refl, sym, ◌∙◌, subst, inl, inr, arith}
+use Rattle.st_protocol.specs.Assoc.{Config, ConfigOk, Msg, Client, Assoc, In, msg, Move, Moves, Stays, GoesOn, steady, Works, Hello, Reassert, Reasserted}
+use Rattle.st_protocol.specs.Assoc.{Welcome, OfOtherEpoch, Advance, Greets, Asks, Loses, Crashes, Begins, Renews, Installs, AskedOfNone, Asked, Declines}
+use Rattle.st_protocol.specs.Assoc.{Repeats, Again, Sweeps, Reduces, Adopts, Reasserts, Settles, Rests, Welcomes, WelcomesAgain, Acks, Refuses, Accepts}
+use Rattle.st_protocol.specs.Assoc.{Suspects, Steals, GraceEnds, Grants, GrantsAgain, Demands, Releases, Rises, Stops, Starts}
 use Rattle.st_protocol.proofs.Claims.{in_service}
 use Rattle.st_protocol.proofs.Invariant.{Invariant, kept_one}
 use Rattle.st_laws_reads.specs.FrozenLives.Frozen.{is_bare, stood, Split, Unserved}

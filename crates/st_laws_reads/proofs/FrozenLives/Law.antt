@@ -1,36 +1,28 @@
 -- The lives of pending entries that a crash ended are frozen from the start of a run on, and through every event.
-use Rattle.std.proofs.Common.{List, ◌≡◌, ℕ, true, Option, Some, None, Ok, refl, sym, ap, ◌∙◌, subst}
-use Rattle.st_base.specs.declared.ids.ClientId.{ClientId}
-use Rattle.st_base.specs.declared.ids.NodeId.TheVariants as nodes
-use Rattle.st_messages.specs.declared.event.Event.{Event}
-use Rattle.st_messages.specs.declared.event.Event.TheVariants as events
-use Rattle.st_rules.specs.Admissible as adm
-use Rattle.st_rules.specs.Events as ev
-use Rattle.st_rules.specs.Events.{WorldTurn, counted, happens, world_step}
-use Rattle.st_rules.specs.World.{World, WorldClient, fresh_world, site_of, site_runs}
+use Rattle.st_lemmas.proofs.Words
+use Words.{List, ◌≡◌, ℕ, true, Option, Some, None, Ok, refl, sym, ap, ◌∙◌, subst, ClientId, Event}
+use Words.nodes
+use Words.events
+use Words.Events as ev
+use Words.Events.{WorldTurn, counted, happens, world_step}
+use Words.World.{World, WorldClient, fresh_world, site_of, site_runs}
+use Words.Keys.{client}
+use Words.Safety.{Step}
 use Rattle.st_protocol.specs.Assoc.{Config}
 use Rattle.st_lemmas.proofs.Steps.{step_happens}
-use Rattle.st_laws_pages.proofs.Disks.Effects.{or_none, stands_not}
-use Rattle.st_lemmas.proofs.Tables.{not_false}
 use Rattle.st_laws_leases.specs.Sides.World.{AllStand, IsFull}
 use Rattle.st_laws_leases.proofs.Sides.FirstWorld.{begun}
 use Rattle.st_laws_leases.proofs.Sides.AllAssociations.{stays}
-use Rattle.st_rules.specs.Keys.{client}
-use Rattle.st_rules.specs.Safety.{Step}
 use Rattle.st_laws_pages.specs.Flush.Flush.{FlushHold}
 use Rattle.st_laws_reads.specs.FrozenLives.PendingEntries.{FrozenBegin, FrozenHold, FrozenLivesStandAlone, EventsKeepFrozen}
 use Rattle.st_laws_reads.proofs.FrozenLives.Aloneness.{frozen_alone}
 use Rattle.st_laws_reads.proofs.FrozenLives.Falling.{frozen_fall}
 use Rattle.st_laws_reads.proofs.FrozenLives.Stepping.{frozen_go_on}
+use Rattle.st_laws_reads.proofs.AllClients.Others.{crash_runs}
 
 pub first : FrozenBegin
 unfolding fresh_world
 first k clients servers disks blocks form head = record { all = begun k clients servers disks blocks form head; frozen_lives = record {} }
-
--- a client that crashes runs
-crash_runs : (w : World) (c : ClientId) → adm.refusal w (events.Crash (nodes.Client c)) ≡ None → site_runs (site_of w c) ≡ true
-unfolding adm.refusal
-crash_runs w c r = not_false _ (stands_not _ _ (or_none _ _ r).1)
 
 module _ (past : List Step) (k : Config) (count : ℕ) (w : World) (h : FrozenHold k count w) (flush : FlushHold past w) where
   crash : (c : ClientId) (sc : WorldTurn) → IsFull w (events.Crash (nodes.Client c)) → world_step w (events.Crash (nodes.Client c)) ≡ Ok sc → FrozenHold k count sc.world

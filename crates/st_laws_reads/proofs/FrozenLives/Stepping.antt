@@ -1,26 +1,18 @@
 -- Lives that a crash ended are frozen through each event at which no client crashes.
-use Rattle.std.proofs.Common.{◌≡◌, ℕ, ◌<◌, ◌⊎◌, List, [], ◌∷◌, Option, Some, None, Ok, refl, sym, ap, ◌∙◌, subst, inl, inr, arith}
-use Rattle.st_base.specs.declared.ids.ClientId.{ClientId}
-use Rattle.st_base.specs.declared.ids.NodeId.TheVariants as nodes
-use Rattle.st_messages.specs.declared.event.Event.{Event}
-use Rattle.st_messages.specs.declared.event.Event.TheVariants as events
-use Rattle.st_rules.specs.declared.log.LogEntry.{LogEntry}
-use Rattle.st_rules.specs.declared.log.LogOwner.{LogOwner}
-use Rattle.st_rules.specs.declared.world.LeaseLife.{LeaseLife}
-use Rattle.st_rules.specs.Admissible as adm
-use Rattle.st_rules.specs.Client.{association_with}
-use Rattle.st_rules.specs.ClientState.{Association}
-use Rattle.st_rules.specs.Events.{WorldTurn, counted, world_step}
-use Rattle.st_rules.specs.Keys.{client}
-use Rattle.st_rules.specs.Server.{ServerNode}
-use Rattle.st_rules.specs.World as world
-use Rattle.st_rules.specs.World.{World, WorldClient, clock_of, end_or_present, ended_of, server, site_of}
+use Rattle.st_lemmas.proofs.Words
+use Words.{◌≡◌, ℕ, ◌<◌, ◌⊎◌, List, [], ◌∷◌, Some, Ok, sym, ap, ◌∙◌, subst, inl, inr, arith, ClientId, Event, LogEntry, LogOwner, LeaseLife}
+use Words.nodes
+use Words.events
+use Words.Events.{WorldTurn, counted, world_step}
+use Words.Server.{ServerNode}
+use Words.World.{World, WorldClient, clock_of, end_or_present, ended_of, site_of}
+use Words.Worlds.{counted_admits}
 use Rattle.st_protocol.specs.Assoc.{Config}
 use Rattle.st_lemmas.proofs.Steps.{step_happens}
 use Rattle.st_laws_pages.specs.Fates.Fates.{BeforeEnd, PendingAll}
 use Rattle.st_laws_steps.specs.Lives.Lives.{LivesHold}
 use Rattle.st_laws_pages.proofs.Lives.NodeTurns.{row_is}
-use Rattle.st_laws_refine.specs.Server.Pair.{client_at_site, client_in, client_view, stamp_number}
+use Rattle.st_laws_refine.specs.Server.Pair.{stamp_number}
 use Rattle.st_laws_leases.specs.Sides.World.{AllStand, IsFull, ServerStands}
 use Rattle.st_laws_leases.specs.Sides.Paths.{CameFrom, Followed, pairs_of}
 use Rattle.st_laws_reads.specs.FrozenLives.Frozen.{FrozenLife, IsOver}
@@ -28,19 +20,12 @@ use Rattle.st_laws_reads.specs.FrozenLives.PendingEntries.{FrozenHold, OfCrashed
 use Rattle.st_laws_leases.proofs.Sides.Paths.{follows}
 use Rattle.st_laws_reads.proofs.FrozenLives.Tracked.{tracked}
 use Rattle.st_laws_reads.proofs.FrozenLives.Walks.{paths_keep}
+use Rattle.st_laws_refine.proofs.Server.Late.{clock_in}
 
 -- two facts of what is pending
 pub pending_both : (P Q R : LogOwner → Type 0) (es : List LogEntry) → ((o : LogOwner) → P o → Q o → R o) → PendingAll P es → PendingAll Q es → PendingAll R es
 pending_both P Q R [] f a b = record {}
 pending_both P Q R (e ∷ es) f a b = record { one = λ p. f e.of (a.one p) (b.one p); rest = pending_both P Q R es f a.rest b.rest }
-
--- a client's clock in the machine
-pub clock_there : (w : World) (c s : ℕ) (ended : ℕ → ℕ) (site : WorldClient) → site_of w (client c) ≡ Some site → (client_in w c s ended).clock ≡ (clock_of w (nodes.Client (client c))).0
-clock_there w c s ended site e = ap (λ (o : Option WorldClient). (client_at_site w c s ended o).clock) e ∙ go (association_with site.node.state (server s))
-  where
-    go : (o : Option Association) → (client_view site.node.running ended (clock_of w (nodes.Client (client c))) o).clock ≡ (clock_of w (nodes.Client (client c))).0
-    go None = refl
-    go (Some a) = refl
 
 -- the lease end of a life that ended is ahead
 pub ahead : (w : World) (o : LogOwner) → BeforeEnd w o → (row : LeaseLife) → ended_of w o.client o.file.server o.life ≡ Some row → (clock_of w (nodes.Client o.client)).0 < stamp_number row.end
@@ -52,10 +37,6 @@ site_there w h o row q =
     let y = row_is o.client o.file.server o.life w.ended row q in
     let x = h.lives.ends row y.0 in
     (x.site, subst (λ (c : ClientId). site_of w c ≡ Some x.site) y.1 x.there)
-
-same_refusal : (w : World) (e : Event) → adm.refusal w e ≡ None → adm.refusal (counted w) e ≡ None
-unfolding adm.refusal adm.refused_delivery adm.clocks_refused adm.flush_missed adm.refused_effect adm.refused_report world.node_of_place adm.missed_by
-same_refusal w e z = z
 
 -- A life that was frozen still is at the end of a path.
 module _ (k : Config) (count : ℕ) (w v : World) (all : AllStand k count w) (after : AllStand k count v) (o : LogOwner) (row : LeaseLife) (q : ended_of v o.client o.file.server o.life ≡ Some row) (b : BeforeEnd v o) where
@@ -74,7 +55,7 @@ module _ (k : Config) (count : ℕ) (w v : World) (all : AllStand k count w) (af
       still (inr g) = g
       still (inl over) =
           let x = site_there v after.fates.lives o row q in
-          let t = clock_there v o.client.0 o.file.server.0 (z.ended o.client.0) x.0 x.1 in
+          let t = clock_in v o.client.0 o.file.server.0 (z.ended o.client.0) x.0 x.1 in
           let a = ahead v o b row q in
           let d = y.end in
           absurd (omega (arith, over, t, a, d))
@@ -87,7 +68,7 @@ module _ (k : Config) (count : ℕ) (w : World) (h : FrozenHold k count w) (e : 
   was =
       let p = step_happens w e sc taken in
       subst (λ (x : WorldTurn). Tracked (StandsStill k count w h.all) x.world) (sym p.1)
-      (tracked (StandsStill k count w h.all) (counted w) e never (same_refusal w e p.0) (record { lives = record { lives = h.all.fates.lives.lives; known = h.all.fates.lives.known }; pending = h.frozen_lives }))
+      (tracked (StandsStill k count w h.all) (counted w) e never (counted_admits w e p.0) (record { lives = record { lives = h.all.fates.lives.lives; known = h.all.fates.lives.known }; pending = h.frozen_lives }))
 
   pub frozen_go_on : FrozenHold k count sc.world
   frozen_go_on =

@@ -1,41 +1,28 @@
 -- What is pending of lives that a crash ended was so before, through each event at which no client crashes.
-use Rattle.std.proofs.Common.{◌≡◌, ℕ, Bool, true, false, List, [], ◌∷◌, ◌++◌, Option, Some, None, Ok, refl, sym, ap, ◌∙◌, subst, inl, inr, arith}
-use Rattle.std.specs.Prelude.{find, map}
-use Rattle.st_base.specs.declared.ids.ClientId.{ClientId}
-use Rattle.st_base.specs.declared.ids.FileId.{FileId}
-use Rattle.st_base.specs.declared.ids.Life.{Life}
-use Rattle.st_base.specs.declared.ids.NodeId.TheVariants as nodes
-use Rattle.st_base.specs.declared.ids.PageNo.{PageNo}
-use Rattle.st_base.specs.declared.ids.Stamp.{Stamp}
-use Rattle.st_messages.specs.declared.event.Event.{Event}
-use Rattle.st_messages.specs.declared.event.Event.TheVariants as events
-use Rattle.st_messages.specs.declared.output.Note.{Note}
-use Rattle.st_messages.specs.declared.output.Note.TheVariants as notes
-use Rattle.st_messages.specs.declared.output.Output.{Output}
-use Rattle.st_messages.specs.declared.output.Output.TheVariants as outputs
-use Rattle.st_rules.specs.declared.client.ClientInput.{ClientInput}
-use Rattle.st_rules.specs.declared.log.LogEntry.{LogEntry}
-use Rattle.st_rules.specs.declared.log.LogOwner.{LogOwner}
-use Rattle.st_rules.specs.declared.world.Carried.{Carried}
-use Rattle.st_rules.specs.declared.world.IssuedCommand.{IssuedCommand}
-use Rattle.st_rules.specs.declared.world.LeaseLife.{LeaseLife}
-use Rattle.st_rules.specs.Admissible as adm
-use Rattle.st_rules.specs.Client as cl
-use Rattle.st_rules.specs.ClientState.{Association, ClientState, is_at}
-use Rattle.st_rules.specs.Disks.{Disks}
-use Rattle.st_rules.specs.Events as ev
-use Rattle.st_rules.specs.Events.{client_says_all}
-use Rattle.st_rules.specs.FlatLog as log
-use Rattle.st_rules.specs.Server.{ServerNode}
-use Rattle.st_rules.specs.World as world
-use Rattle.st_rules.specs.World.{World, WorldClient, Net, Tally, clock_of, is_life_of, numbered, site_of, with_numbered}
-use Rattle.st_lemmas.specs.Lists.{Has}
-use Rattle.st_lemmas.proofs.Numbers.{numbered_own}
+use Rattle.st_lemmas.proofs.Words
+use Words.{◌≡◌, ℕ, Bool, true, false, List, [], ◌∷◌, ◌++◌, Option, Some, None, Ok, refl, sym, ap, ◌∙◌, subst, inl, inr, arith, find, map, ClientId, FileId}
+use Words.{Life, PageNo, Stamp, Event, Note, Output, ClientInput, LogEntry, LogOwner, Carried, IssuedCommand, LeaseLife}
+use Words.nodes
+use Words.events
+use Words.notes
+use Words.outputs
+use Words.Admissible as adm
+use Words.Client as cl
+use Words.ClientState.{Association, ClientState, is_at}
+use Words.Disks.{Disks}
+use Words.Events as ev
+use Words.Events.{client_says_all}
+use Words.FlatLog as log
+use Words.Server.{ServerNode}
+use Words.World as world
+use Words.World.{World, WorldClient, Net, Tally, clock_of, is_life_of, numbered, site_of, with_numbered}
+use Words.Lists.{Has}
+use Words.Numbers.{numbered_own}
+use Words.Truth.{not_both}
 use Rattle.st_laws_pages.specs.Fates.Fates.{PendingAll}
 use Rattle.st_laws_steps.specs.Lives.Lives.{AllKnown, ended_rows, LivesHold, NodeHolds, owner_of, Stepped}
 use Rattle.st_laws_steps.specs.Client.Losses.{Fit}
 use Rattle.st_laws_steps.specs.Client.Notes.{IsChangedAt, NotesAll}
-use Rattle.st_laws_steps.proofs.Clash.{clash}
 use Rattle.st_laws_steps.proofs.Lives.Associations.{own_found}
 use Rattle.st_laws_steps.proofs.Client.Dirtying.{notes_map}
 use Rattle.st_laws_pages.proofs.Lives.Each.{Besides, SteppedNode, each_event}
@@ -78,7 +65,7 @@ module _ (P : LeaseLife → LogOwner → Type 0) where
 
       go : (x : Option LeaseLife) → find p w.ended ≡ x → P row o
       go (Some y) z = f row (z ∙ sym (find_front p w.ended rows y z) ∙ there) crashed
-      go None z = absurd (clash row.crashed crashed (lost row (row_is o.client o.file.server o.life rows row (sym (find_back p w.ended rows z) ∙ there)).0))
+      go None z = absurd (not_both row.crashed crashed (lost row (row_is o.client o.file.server o.life rows row (sym (find_back p w.ended rows z) ∙ there)).0))
 
   -- a page that was changed is of a life that is not over
   unended : (v : World) (c : ClientId) (site : WorldClient) (now : Stamp) → site_of v c ≡ Some site → site.node.running ≡ true → LivesHold v → (f : FileId) (p : PageNo) → IsChangedAt v.config now site.node.state.associations f p →

@@ -1,11 +1,14 @@
 -- A life that a crash ended is frozen along the machine's paths; it begins at the crash; and no lock is beside it.
-use Rattle.std.proofs.Common.{◌≡◌, ◌≢◌, ℕ, zero, suc, ◌+◌, ◌<◌, ◌≤◌, ◌⊎◌, Bool, true, false, List, refl, sym, ap, ◌∙◌, subst, inl, inr, arith}
-use Rattle.st_protocol.specs.Assoc.{Alive, Config, ConfigOk, Msg, Row, upd, Client, Assoc, Move, Moves, Stays, GoesOn, steady, World, Shared, InService, RowsCompat, Step, Work, Reached, Then, Works}
+use Rattle.st_lemmas.proofs.Words
+use Words.{◌≡◌, ◌≢◌, ℕ, zero, suc, ◌+◌, ◌<◌, ◌≤◌, ◌⊎◌, Bool, true, false, List, refl, sym, ap, ◌∙◌, subst, inl, inr, arith}
+use Rattle.st_protocol.specs.Assoc.{Alive, Config, ConfigOk, Msg, Row, upd, Client, Assoc, Move, Moves, Stays, GoesOn, steady, World, Shared, InService}
+use Rattle.st_protocol.specs.Assoc.{RowsCompat, Step, Work, Reached, Then, Works}
 use Rattle.st_protocol.proofs.Lists.{upd_all, upd_both, upd-same, upd-other}
 use Rattle.st_protocol.proofs.Invariant.{Invariant}
 use Rattle.st_protocol.proofs.World.{invariant, exclusive}
 use Rattle.st_laws_refine.specs.Server.Paths.{Path, Here, SteppedOn, WorkedOn}
-use Rattle.st_laws_reads.specs.FrozenLives.Frozen.{stood, Unserved, replaced, FrozenLife, IsOver, LockedHalf, PathsKeepLives, CrashesLeaveLives, LivesStandAlone}
+use Rattle.st_laws_reads.specs.FrozenLives.Frozen.{stood, Unserved, replaced, FrozenLife, IsOver, LockedHalf, PathsKeepLives, CrashesLeaveLives}
+use Rattle.st_laws_reads.specs.FrozenLives.Frozen.{LivesStandAlone}
 use Rattle.st_laws_reads.proofs.FrozenLives.Frozen.{one, all, no_less}
 
 -- What the server has is the same, also where an association is replaced.

@@ -1,37 +1,28 @@
 -- A write that a client's step submits is the only one of its page that may have its effect.
-use Rattle.std.proofs.Common.{◌≡◌, ◌≢◌, ℕ, suc, ◌≤◌, ◌⊎◌, Bool, true, false, List, [], ◌∷◌, ◌++◌, Option, Some, None, refl, sym, ap, ◌∙◌, subst, inl, inr, arith}
-use Rattle.std.specs.Prelude.{find, length, map, option_map}
-use Rattle.std.proofs.lemmas.Bool.{leb-true, ne_eqb}
-use Rattle.st_base.specs.declared.disk.BlockAt.{BlockAt}
-use Rattle.st_base.specs.declared.disk.Command.TheVariants as commands
-use Rattle.st_base.specs.declared.disk.Tag.{Tag}
-use Rattle.st_base.specs.declared.ids.FileId.{FileId}
-use Rattle.st_base.specs.declared.ids.NodeId.TheVariants as nodes
-use Rattle.st_base.specs.declared.ids.ServerId.{ServerId}
-use Rattle.st_base.specs.declared.ids.Stamp.{Stamp}
-use Rattle.st_messages.specs.declared.ask.Ask.{Ask}
-use Rattle.st_messages.specs.declared.output.Output.{Output}
-use Rattle.st_messages.specs.declared.output.Output.TheVariants as outputs
-use Rattle.st_rules.specs.declared.client.ClientInput.{ClientInput}
-use Rattle.st_rules.specs.declared.disks.DiskCommand.{DiskCommand}
-use Rattle.st_rules.specs.declared.world.IssuedCommand.{IssuedCommand}
-use Rattle.st_rules.specs.declared.world.LeaseLife.{LeaseLife}
-use Rattle.st_rules.specs.Admissible as adm
-use Rattle.st_rules.specs.Client as cl
-use Rattle.st_rules.specs.ClientLease as lease
-use Rattle.st_rules.specs.ClientState.{Association, ClientSession, is_at}
-use Rattle.st_rules.specs.Disks as disks
-use Rattle.st_rules.specs.Disks.{Disks}
-use Rattle.st_rules.specs.Events as ev
-use Rattle.st_rules.specs.Events.{WorldTurn, client_says_all}
-use Rattle.st_rules.specs.Keys.{client}
-use Rattle.st_rules.specs.Safety.{Step}
-use Rattle.st_rules.specs.World as world
-use Rattle.st_rules.specs.World.{World, WorldClient, clock_of, end_or_present, ended_of, is_life_of, lease_end_of, life_with, numbered, present_end, site_of, with_numbered}
+use Rattle.st_lemmas.proofs.Words
+use Words.{◌≡◌, ◌≢◌, ℕ, suc, ◌≤◌, ◌⊎◌, Bool, true, false, List, [], ◌∷◌, ◌++◌, Option, Some, None, refl, sym, ap, ◌∙◌, subst, inl, inr, arith, find, length}
+use Words.{map, option_map, leb-true, ne_eqb, BlockAt, Tag, FileId, ServerId, Stamp, Ask, Output, ClientInput, DiskCommand, IssuedCommand, LeaseLife}
+use Words.commands
+use Words.nodes
+use Words.outputs
+use Words.Admissible as adm
+use Words.Client as cl
+use Words.ClientLease as lease
+use Words.ClientState.{Association, ClientSession, is_at}
+use Words.Disks as disks
+use Words.Disks.{Disks}
+use Words.Events as ev
+use Words.Events.{WorldTurn, client_says_all}
+use Words.Keys.{client}
+use Words.Safety.{Step}
+use Words.World as world
+use Words.World.{World, WorldClient, clock_of, end_or_present, ended_of, is_life_of, lease_end_of, life_with, numbered, present_end, site_of, with_numbered}
+use Words.Lists.{Has}
+use Words.Numbers.{numbered_below, numbered_has, numbered_other, numbered_own}
+use Words.Tables.{same_or_not}
+use Words.Truth.{none_not_some}
+use Words.Worlds.{says_both}
 use Rattle.st_protocol.specs.Assoc.{Config}
-use Rattle.st_lemmas.specs.Lists.{Has}
-use Rattle.st_lemmas.proofs.Numbers.{numbered_below, numbered_has, numbered_other, numbered_own}
-use Rattle.st_lemmas.proofs.Tables.{same_or_not}
 use Rattle.st_laws_refine.specs.Views.Halves.{held_in}
 use Rattle.st_laws_refine.specs.Client.Invariants.{Lasts}
 use Rattle.st_laws_pages.specs.Flush.Flush.{Cared, FlushHold, NodeCared}
@@ -42,7 +33,7 @@ use Rattle.st_laws_pages.specs.Disks.Pages.{same_place}
 use Rattle.st_laws_pages.specs.Disks.World.{Living, Timely}
 use Rattle.st_laws_steps.proofs.Lives.Associations.{lost_other, own_found}
 use Rattle.st_laws_pages.proofs.Lives.Each.{SteppedNode}
-use Rattle.st_laws_pages.proofs.Lives.Lasting.{Flushed, flush_parts, no_option}
+use Rattle.st_laws_pages.proofs.Lives.Lasting.{Flushed, flush_parts}
 use Rattle.st_laws_pages.proofs.Disks.Law.{same_place_is}
 use Rattle.st_laws_pages.proofs.Lives.Lives.{find_back, find_front}
 use Rattle.st_laws_pages.proofs.Lives.LifeSteps.{steps_so}
@@ -53,15 +44,17 @@ use Rattle.st_laws_reads.specs.AllClients.World.{CopiesHold}
 use Rattle.st_laws_reads.proofs.AllClients.Alone.{while_at}
 use Rattle.st_laws_reads.proofs.AllClients.Takings.{there_at}
 use Rattle.st_laws_pages.specs.Writes.Writes.{IsListed, ListedSince, OpenHold, WritesOnce}
-use Rattle.st_laws_pages.proofs.Writes.Joining.{IsNew, all_say, pair_before, placed_at}
+use Rattle.st_laws_pages.proofs.Writes.Joining.{IsNew, all_say, placed_at}
 use Rattle.st_laws_pages.proofs.Writes.Listing.{write_said}
 use Rattle.st_laws_pages.proofs.Writes.Walking.{AfterStep, EndedBy, ListedAt, StepKeeps, step_keeps}
 use Rattle.st_laws_reads.specs.OpenWrites.StandAlone.{OfLife}
 use Rattle.st_laws_reads.specs.OpenWrites.StandStill.{WritesHold}
-use Rattle.st_laws_reads.proofs.OpenWrites.Cases.{living_own, timely_end}
-use Rattle.st_laws_reads.proofs.OpenWrites.Growing.{Grows, Submitted, grows_all, says_both, submitted}
+use Rattle.st_laws_reads.proofs.OpenWrites.Cases.{living_own}
+use Rattle.st_laws_reads.proofs.OpenWrites.Growing.{Grows, Submitted, grows_all, submitted}
 use Rattle.st_laws_reads.proofs.OpenWrites.Lasting.{step_lasts}
 use Rattle.st_laws_pages.proofs.Causes.FlushSteps.{flushes_disks}
+use Rattle.st_laws_pages.proofs.Flush.Flushing.{pair_of}
+use Rattle.st_laws_reads.proofs.OpenWrites.Locked.{timely_end}
 
 -- What is of other clients or of lives that ended is as late as it was.
 pub record StepsOn (w v : World) (c : ℕ) (old new : WorldClient) : Type 0 where
@@ -296,7 +289,7 @@ module _ (w : World) (c : ℕ) (old site : WorldClient) (input : ClientInput) (t
               (subst (λ (f : FileId). 1 ≤ (held_in b.session f.ino).mode) (sym places.0) (omega (arith, mode)))).of
 
           present : y.client.0 ≡ c → ended_of w y.client y.server y.life ≡ None → ⊥
-          present e none = go (pair_before (AfterStep (EndedBy input) site.node.state.config now) site.node.state.associations mine.node.state.associations keeps.pairs b here)
+          present e none = go (pair_of (AfterStep (EndedBy input) site.node.state.config now) site.node.state.associations mine.node.state.associations keeps.pairs b here)
             where
               go : (p : Association) × Has p site.node.state.associations × AfterStep (EndedBy input) site.node.state.config now p b → ⊥
               go (p, pi, r) = by (is_ended site.node.state.config now p.session) refl
@@ -317,7 +310,7 @@ module _ (w : World) (c : ℕ) (old site : WorldClient) (input : ClientInput) (t
                   life = known (lives.known.commands y (numbered_has w.commands j y i))
                     where
                       known : IsKnown w.clients w.ended y.client y.server y.life → p.life.0 ≡ y.life.0
-                      known (inl (q, z)) = absurd (no_option q (sym none ∙ z))
+                      known (inl (q, z)) = absurd (none_not_some q (sym none ∙ z))
                       known (inr z) = ap (λ o. (world.life_at o).0) (sym found) ∙ ap (λ o. (ev.life_of_site y.server o).0) (sym its_site) ∙ z
 
                   ends : lease_end_of w y.client y.server y.life ≡ lease.end_at old.node.state.config (cl.lease_at (Some p))

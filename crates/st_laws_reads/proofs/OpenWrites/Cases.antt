@@ -1,38 +1,28 @@
 -- A write that may have its effect is of a present life whose lease lasts, and outstanding there; or of a life that a crash ended, which is frozen.
-use Rattle.std.proofs.Common.{◌≡◌, ◌≢◌, ℕ, ◌+◌, ◌<◌, ◌≤◌, ◌⊎◌, Bool, true, false, List, [], ◌∷◌, ◌++◌, Option, Some, None, refl, sym, ap, ◌∙◌, subst, inl, inr, arith}
-use Rattle.std.specs.Prelude.{find, option_map}
-use Rattle.std.proofs.lemmas.Bool.{leb-false}
-use Rattle.st_base.specs.declared.disk.BlockAt.{BlockAt}
-use Rattle.st_base.specs.declared.disk.Tag.{Tag}
-use Rattle.st_base.specs.declared.ids.ClientId.{ClientId}
-use Rattle.st_base.specs.declared.ids.NodeId.TheVariants as nodes
-use Rattle.st_base.specs.declared.ids.ServerId.{ServerId}
-use Rattle.st_base.specs.declared.ids.Stamp.{Stamp}
-use Rattle.st_messages.specs.declared.ask.Ask.{Ask}
-use Rattle.st_rules.specs.declared.world.IssuedCommand.{IssuedCommand}
-use Rattle.st_rules.specs.declared.world.LeaseLife.{LeaseLife}
-use Rattle.st_rules.specs.Admissible as adm
-use Rattle.st_rules.specs.Client as cl
-use Rattle.st_rules.specs.ClientLease as lease
-use Rattle.st_rules.specs.ClientState.{Association, ClientSession, is_at}
-use Rattle.st_rules.specs.Events as ev
-use Rattle.st_rules.specs.Keys.{client, server_node}
-use Rattle.st_rules.specs.Server.{ServerNode}
-use Rattle.st_rules.specs.World as world
-use Rattle.st_rules.specs.World.{World, WorldClient, clock_of, end_or_present, ended_of, lease_end_of, node_of, present_end, server, site_of}
+use Rattle.st_lemmas.proofs.Words
+use Words.{◌≡◌, ◌≢◌, ℕ, ◌+◌, ◌<◌, ◌≤◌, ◌⊎◌, Bool, true, false, List, [], ◌∷◌, ◌++◌, Option, Some, None, refl, sym, ap, ◌∙◌, subst, inl, inr, arith, find}
+use Words.{option_map, BlockAt, Tag, ClientId, ServerId, Stamp, Ask, IssuedCommand, LeaseLife}
+use Words.nodes
+use Words.Client as cl
+use Words.ClientLease as lease
+use Words.ClientState.{Association, ClientSession, is_at}
+use Words.Events as ev
+use Words.Keys.{client, server_node}
+use Words.Server.{ServerNode}
+use Words.World as world
+use Words.World.{World, WorldClient, clock_of, end_or_present, ended_of, lease_end_of, node_of, present_end, server, site_of}
+use Words.Lists.{Has}
+use Words.Numbers.{numbered_has}
+use Words.Tables.{same_or_not}
+use Words.Truth.{none_not_some}
 use Rattle.st_protocol.specs.Assoc as net
 use Rattle.st_protocol.specs.Assoc.{Alive, Config}
-use Rattle.st_lemmas.specs.Lists.{Has}
-use Rattle.st_lemmas.proofs.Numbers.{numbered_has}
-use Rattle.st_lemmas.proofs.Tables.{same_or_not}
-use Rattle.st_laws_refine.specs.Views.Halves.{client_of, date_in, held_in, leased_in}
+use Rattle.st_laws_refine.specs.Views.Halves.{client_of, held_in, leased_in}
 use Rattle.st_laws_refine.specs.Client.Invariants.{Lasts}
 use Rattle.st_laws_refine.specs.Server.Pair.{client_in, stamp_number}
 use Rattle.st_laws_steps.specs.Lives.Lives.{IsKnown}
 use Rattle.st_laws_pages.specs.Disks.World.{Living, Timely}
 use Rattle.st_laws_steps.proofs.Lives.Associations.{own_found}
-use Rattle.st_laws_pages.proofs.Disks.Effects.{stands_not}
-use Rattle.st_laws_pages.proofs.Lives.Lasting.{no_option}
 use Rattle.st_laws_pages.proofs.Lives.NodeTurns.{row_is}
 use Rattle.st_laws_leases.specs.Sides.Invariants.{Standing}
 use Rattle.st_laws_leases.specs.Sides.World.{AllStand, ServerStands, There}
@@ -40,23 +30,16 @@ use Rattle.st_laws_leases.proofs.Sides.Pairs.{only_here, own_view}
 use Rattle.st_laws_reads.specs.Copies.Law.{StandsAt}
 use Rattle.st_laws_reads.specs.AllClients.Law.{Running}
 use Rattle.st_laws_reads.specs.AllClients.World.{CopiesHold}
-use Rattle.st_laws_reads.proofs.AllClients.Alone.{while_at}
-use Rattle.st_laws_reads.proofs.OpenWrites.Locked.{no_lock}
+use Rattle.st_laws_reads.proofs.AllClients.Alone.{while_at, lasts_date}
+use Rattle.st_laws_reads.proofs.OpenWrites.Locked.{no_lock, timely_end}
 use Rattle.st_laws_pages.specs.Writes.Writes.{ListedSince, OpenHold}
 use Rattle.st_laws_reads.specs.OpenWrites.StandAlone.{OfLife}
 use Rattle.st_laws_reads.specs.FrozenLives.PendingEntries.{StoodLife}
 use Rattle.st_laws_leases.specs.Sides.Paths.{pairs_of}
-use Rattle.st_laws_reads.proofs.FrozenLives.Stepping.{clock_there, site_there}
+use Rattle.st_laws_reads.proofs.FrozenLives.Stepping.{site_there}
 use Rattle.st_laws_reads.proofs.FrozenLives.Walks.{stand_alone}
 use Rattle.st_laws_reads.specs.OpenWrites.StandStill.{OpenWrite, OverOrStill, WritesHold, writer}
-
--- a test that refuses nothing
-pub timely_end : (clock : Stamp) (o : Option Stamp) (e : Stamp) → o ≡ Some e → adm.late_at clock o ≡ None → clock.0 < e.0
-timely_end clock o e q h = let v = leb-false e.0 clock.0 (stands_not _ _ (subst (λ y. adm.late_at clock y ≡ None) q h)) in omega (arith, v)
-
-lasts_date : (l now : ℕ) (o : Option ClientSession) → leased_in o ≡ true → Lasts l now o → now < date_in o + l
-lasts_date l now None e h = cc e
-lasts_date l now (Some s) e h = h
+use Rattle.st_laws_refine.proofs.Server.Late.{clock_in}
 
 -- It is of a present life.
 pub record PresentWrite (w : World) (x : IssuedCommand) (tag : Tag) : Type 0 where
@@ -162,14 +145,14 @@ module _ (k : Config) (count : ℕ) (w : World) (h : WritesHold k count w) (open
           }
       go false r =
           let s = (h.all.fates.lives.lives.sites x.client site f).stopped r a here in
-          absurd (no_option s.row (sym none ∙ ap (λ z. ended_of w x.client x.server z) same_life ∙ ap (λ z. ended_of w x.client z a.life) (sym st.sim.place.here) ∙ s.is))
+          absurd (none_not_some s.row (sym none ∙ ap (λ z. ended_of w x.client x.server z) same_life ∙ ap (λ z. ended_of w x.client z a.life) (sym st.sim.place.here) ∙ s.is))
 
   pub living_is : PresentWrite w x tag ⊎ CrashedWrite k count w h.all x tag
   living_is = go (ended_of w x.client x.server x.life) refl (h.all.fates.lives.known.commands x (numbered_has w.commands n x l.issued))
     where
       go : (o : Option LeaseLife) → ended_of w x.client x.server x.life ≡ o → IsKnown w.clients w.ended x.client x.server x.life → PresentWrite w x tag ⊎ CrashedWrite k count w h.all x tag
       go (Some row) q z = inr (by_row row q)
-      go None q (inl (y, f)) = absurd (no_option y (sym q ∙ f))
+      go None q (inl (y, f)) = absurd (none_not_some y (sym q ∙ f))
       go None q (inr life) = inl (present q life)
 
 -- Beside a life that is frozen with an exclusive lock on a file no client that runs has a lock on it.
@@ -204,7 +187,7 @@ crashed_alone k count w all x tag z d other run y here there lasts sv = go (leas
     clock : (client_in w x.client.0 s (v.ended x.client.0)).clock < st.half.date + k.lease
     clock =
         let f = site_there w all.fates.lives (writer x tag) z.row z.is in
-        let t = clock_there w x.client.0 s (v.ended x.client.0) f.0 f.1 in
+        let t = clock_in w x.client.0 s (v.ended x.client.0) f.0 f.1 in
         let a = z.before in
         let e = ap stamp_number z.end_is in
         let b = st.end in omega (arith, t, a, b, e)

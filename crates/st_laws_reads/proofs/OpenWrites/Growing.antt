@@ -1,21 +1,16 @@
 -- What the outputs of a client leave of commands and servers, one after another.
-use Rattle.std.proofs.Common.{◌≡◌, ℕ, zero, suc, List, [], ◌∷◌, ◌++◌, Option, Some, None, refl, ap, ◌∙◌}
-use Rattle.std.specs.Prelude.{length}
-use Rattle.st_base.specs.declared.disk.BlockAt.{BlockAt}
-use Rattle.st_base.specs.declared.disk.Command.{Command}
-use Rattle.st_base.specs.declared.ids.ClientId.{ClientId}
-use Rattle.st_messages.specs.declared.output.Note.{Note}
-use Rattle.st_messages.specs.declared.output.Note.TheVariants as notes
-use Rattle.st_messages.specs.declared.output.Output.{Output}
-use Rattle.st_messages.specs.declared.output.Output.TheVariants as outputs
-use Rattle.st_rules.specs.declared.disks.DiskCommand.{DiskCommand}
-use Rattle.st_rules.specs.declared.world.IssuedCommand.{IssuedCommand}
-use Rattle.st_rules.specs.ClientState.{ClientState}
-use Rattle.st_rules.specs.Disks as disks
-use Rattle.st_rules.specs.Events as ev
-use Rattle.st_rules.specs.Events.{WorldTurn, client_says, client_says_all}
-use Rattle.st_rules.specs.World.{World, WorldClient, numbered, site_of}
-use Rattle.st_lemmas.proofs.Numbers.{get_last, get_old, numbered_old}
+use Rattle.st_lemmas.proofs.Words
+use Words.{◌≡◌, ℕ, suc, List, [], ◌∷◌, Option, Some, None, refl, ap, ◌∙◌, length, BlockAt, Command, ClientId, Note, Output, DiskCommand}
+use Words.{IssuedCommand}
+use Words.notes
+use Words.outputs
+use Words.ClientState.{ClientState}
+use Words.Disks as disks
+use Words.Events as ev
+use Words.Events.{WorldTurn, client_says, client_says_all}
+use Words.World.{World, WorldClient, numbered, site_of}
+use Words.Numbers.{get_last, numbered_old}
+use Words.Versions.{command_old}
 
 -- Commands stay, and servers are the same.
 pub record Grows (w u : World) : Type 0 where
@@ -26,10 +21,6 @@ pub record Grows (w u : World) : Type 0 where
 
 same_grows : (w u : World) → u.commands ≡ w.commands → u.disks ≡ w.disks → u.servers ≡ w.servers → u.clients ≡ w.clients → Grows w u
 same_grows w u c d s e = record { issued = λ k x i. ap (λ cs. numbered cs k) c ∙ i; command = λ k x i. ap (λ (z : disks.Disks). disks.command_at z.commands k) d ∙ i; servers = s; clients = e }
-
-command_old : (ds : List DiskCommand) (y : DiskCommand) (k : ℕ) (d : DiskCommand) → disks.command_at ds k ≡ Some d → disks.command_at (ds ++ y ∷ []) k ≡ Some d
-command_old ds y zero d e = cc
-command_old ds y (suc k) d e = get_old ds y k d e
 
 grows_one : (c : ClientId) (before : ClientState) (o : Output) (sc : WorldTurn) → Grows sc.world (client_says sc c before o).world
 unfolding client_says ev.client_notes ev.sends ev.submits ev.answers_with ev.accepts ev.patches ev.loses
@@ -55,12 +46,6 @@ grows_all c before (o ∷ os) sc =
     let a = grows_one c before o sc in
     let b = grows_all c before os (client_says sc c before o) in
     record { issued = λ k x i. b.issued k x (a.issued k x i); command = λ k d i. b.command k d (a.command k d i); servers = b.servers ∙ a.servers; clients = b.clients ∙ a.clients }
-
--- outputs in two parts
-pub says_both : (c : ClientId) (before : ClientState) (pre rest : List Output) (sc : WorldTurn) → client_says_all c before (pre ++ rest) sc ≡ client_says_all c before rest (client_says_all c before pre sc)
-unfolding client_says_all
-says_both c before [] rest sc = refl
-says_both c before (o ∷ pre) rest sc = says_both c before pre rest (client_says sc c before o)
 
 -- A command that is submitted is the last one.
 pub record Submitted (c : ClientId) (site : WorldClient) (number : ℕ) (at : BlockAt) (what : Command) (w u : World) : Type 0 where

@@ -1,22 +1,14 @@
 -- After a step of a client each of its leases lasts.
-use Rattle.std.proofs.Common.{◌≡◌, false, Option, Some, None, sym, ◌∙◌, subst, arith}
-use Rattle.std.proofs.lemmas.Bool.{leb-false}
-use Rattle.st_base.specs.declared.config.Config.{Config}
-use Rattle.st_base.specs.declared.ids.ClientId.{ClientId}
-use Rattle.st_base.specs.declared.ids.Stamp.{Stamp}
-use Rattle.st_rules.specs.declared.client.ClientInput.{ClientInput}
-use Rattle.st_rules.specs.Client as cl
-use Rattle.st_rules.specs.ClientLease as lease
-use Rattle.st_rules.specs.ClientState.{Association, ClientSession, ClientState, ClientTurn}
-use Rattle.st_lemmas.specs.Lists.{Has}
+use Rattle.st_lemmas.proofs.Words
+use Words.{◌≡◌, Option, Some, None, sym, ◌∙◌, subst, arith, Config, ClientId, Stamp, ClientInput}
+use Words.Client as cl
+use Words.ClientState.{Association, ClientSession, ClientState, ClientTurn}
+use Words.Lists.{Has}
 use Rattle.st_laws_refine.specs.Client.Invariants.{Lasts}
 use Rattle.st_laws_steps.specs.Lives.Lives.{Pairwise}
-use Rattle.st_laws_steps.specs.Client.Losses.{Fit, SessionNext, is_ended}
+use Rattle.st_laws_steps.specs.Client.Losses.{Fit, SessionNext}
 use Rattle.st_laws_steps.proofs.Client.Stepping.{Goes, LostOrNot, Phased, pairs_has, phased}
-
-ongoing_lasts : (k : Config) (now : Stamp) (a : Option ClientSession) → is_ended k now a ≡ false → Lasts k.lease now.0 a
-ongoing_lasts k now None e = tt
-ongoing_lasts k now (Some s) e = let z = leb-false (lease.end_of k s.lease).0 now.0 e in omega (arith, z)
+use Rattle.st_laws_reads.proofs.AllClients.Behind.{lasting}
 
 session_lasts : (k : Config) (now : Stamp) (a b : Option ClientSession) → Lasts k.lease now.0 a → SessionNext k now a b → Lasts k.lease now.0 b
 session_lasts k now None None e n = tt
@@ -35,7 +27,7 @@ step_lasts c s now input f = go _ _ _ (phased c s now input f)
     go t u v p = on u v u.state.config (sym (p.lost.config ∙ p.received.config)) p.worked.pairs (on t u t.state.config (sym p.lost.config) p.received.pairs going)
       where
         going : (a : Association) → Has a t.state.associations → Last a
-        going = pairs_has (LostOrNot s.config now) (λ a. Unit {0}) Last (λ a b r z. ongoing_lasts s.config now b.session r.going) s.associations t.state.associations p.lost.pairs (λ a i. tt)
+        going = pairs_has (LostOrNot s.config now) (λ a. Unit {0}) Last (λ a b r z. lasting s.config now b.session r.going) s.associations t.state.associations p.lost.pairs (λ a i. tt)
 
         on : (x y : ClientTurn) (k : Config) → k ≡ s.config → Pairwise (Goes k now) x.state.associations y.state.associations →
             ((a : Association) → Has a x.state.associations → Last a) → (b : Association) → Has b y.state.associations → Last b

@@ -1,21 +1,17 @@
 -- Lives that a crash ended, of which a write is not reported, are frozen up to their lease ends, through each event at which no client crashes.
-use Rattle.std.proofs.Common.{◌≡◌, ℕ, ◌≤◌, ◌⊎◌, true, false, List, Some, None, Ok, sym, ap, ◌∙◌, subst, inl, inr, arith}
-use Rattle.std.specs.Prelude.{length}
-use Rattle.st_base.specs.declared.ids.ClientId.{ClientId}
-use Rattle.st_base.specs.declared.ids.NodeId.TheVariants as nodes
-use Rattle.st_base.specs.declared.ids.Stamp.{Stamp}
-use Rattle.st_messages.specs.declared.event.Event.{Event}
-use Rattle.st_messages.specs.declared.event.Event.TheVariants as events
-use Rattle.st_rules.specs.declared.client.ClientInput.{ClientInput}
-use Rattle.st_rules.specs.declared.log.LogOwner.{LogOwner}
-use Rattle.st_rules.specs.declared.world.LeaseLife.{LeaseLife}
-use Rattle.st_rules.specs.Admissible as adm
-use Rattle.st_rules.specs.Client as cl
-use Rattle.st_rules.specs.Events as ev
-use Rattle.st_rules.specs.Events.{WorldTurn, client_says_all, counted, world_step}
-use Rattle.st_rules.specs.Server.{ServerNode}
-use Rattle.st_rules.specs.World as world
-use Rattle.st_rules.specs.World.{World, WorldClient, clock_of, ended_of, node_of, numbered, server, site_of}
+use Rattle.st_lemmas.proofs.Words
+use Words.{◌≡◌, ℕ, ◌≤◌, ◌⊎◌, true, false, List, Some, None, Ok, sym, ap, ◌∙◌, subst, inl, inr, arith, length, ClientId, Stamp, Event, ClientInput, LogOwner}
+use Words.{LeaseLife}
+use Words.nodes
+use Words.events
+use Words.Admissible as adm
+use Words.Client as cl
+use Words.Events as ev
+use Words.Events.{WorldTurn, client_says_all, counted, world_step}
+use Words.Server.{ServerNode}
+use Words.World as world
+use Words.World.{World, WorldClient, clock_of, ended_of, node_of, numbered, server, site_of}
+use Words.Worlds.{counted_admits}
 use Rattle.st_protocol.specs.Assoc.{Config}
 use Rattle.st_lemmas.proofs.Steps.{step_happens}
 use Rattle.st_laws_pages.proofs.Lives.Each.{SteppedNode, each_event}
@@ -28,10 +24,11 @@ use Rattle.st_laws_reads.specs.FrozenLives.PendingEntries.{StoodLife}
 use Rattle.st_laws_reads.specs.FrozenLives.Frozen.{FrozenLife, IsOver}
 use Rattle.st_laws_leases.specs.Sides.Paths.{CameFrom, Followed, pairs_of}
 use Rattle.st_laws_leases.proofs.Sides.Paths.{follows}
-use Rattle.st_laws_reads.proofs.FrozenLives.Stepping.{clock_there, site_there}
+use Rattle.st_laws_reads.proofs.FrozenLives.Stepping.{site_there}
 use Rattle.st_laws_reads.proofs.FrozenLives.Walks.{paths_keep}
 use Rattle.st_laws_reads.specs.OpenWrites.StandStill.{OpenTracked, OverOrStill, WritesHold, writer}
 use Rattle.st_laws_reads.proofs.OpenWrites.Tracked.{tracked}
+use Rattle.st_laws_refine.proofs.Server.Late.{clock_in}
 
 -- A client's clock goes on.
 module _ (d : ClientId) (n : ℕ) where
@@ -72,10 +69,6 @@ module _ (d : ClientId) (n : ℕ) where
   reads_on w e never r h =
       each_event (λ c. ⊥) Reads (record { besides = λ w n s d t g h. h; cut = λ w f p g. g; hard = λ w x g. g; client = reads_step; advance = reads_advance; crash = λ w c site no. absurd no; start = reads_start }) w e never r h
 
-same_refusal : (w : World) (e : Event) → adm.refusal w e ≡ None → adm.refusal (counted w) e ≡ None
-unfolding adm.refusal adm.refused_delivery adm.clocks_refused adm.flush_missed adm.refused_effect adm.refused_report world.node_of_place adm.missed_by
-same_refusal w e z = z
-
 -- A life that was frozen still is at the end of a path, or its lease is over.
 module _ (k : Config) (count : ℕ) (w v : World) (all : AllStand k count w) (after : AllStand k count v) (o : LogOwner) (row : LeaseLife) (q : ended_of v o.client o.file.server o.life ≡ Some row) (end : Stamp) (is : row.end ≡ Some end) where
   pub still_on : (next : ServerNode) (z : ServerStands k v o.file.server.0 next) (from : CameFrom k count w all v o.file.server.0 next z) → StoodLife k w o.file.server.0 from.node (all.servers o.file.server.0 from.node from.before) row o →
@@ -88,7 +81,7 @@ module _ (k : Config) (count : ℕ) (w v : World) (all : AllStand k count w) (af
       still (inl over) =
           inl
           (let x = site_there v after.fates.lives o row q in
-          let t = clock_there v o.client.0 o.file.server.0 (z.ended o.client.0) x.0 x.1 in
+          let t = clock_in v o.client.0 o.file.server.0 (z.ended o.client.0) x.0 x.1 in
           let d = y.end in
           let s = ap stamp_number is in
           omega (arith, over, t, d, s))
@@ -101,7 +94,7 @@ module _ (k : Config) (count : ℕ) (w : World) (h : WritesHold k count w) (coun
   was =
       let p = step_happens w e sc taken in
       subst (λ (x : WorldTurn). OpenTracked (OverOrStill k count w h.all) x.world) (sym p.1)
-      (tracked (OverOrStill k count w h.all) (counted w) e never (same_refusal w e p.0)
+      (tracked (OverOrStill k count w h.all) (counted w) e never (counted_admits w e p.0)
       (record {
         lives = record { lives = h.all.fates.lives.lives; known = h.all.fates.lives.known };
         counts = counts;
@@ -112,7 +105,7 @@ module _ (k : Config) (count : ℕ) (w : World) (h : WritesHold k count w) (coun
   later : (d : ClientId) (n : ℕ) → n ≤ (clock_of w (nodes.Client d)).0 → n ≤ (clock_of sc.world (nodes.Client d)).0
   later d n l =
       let p = step_happens w e sc taken in
-      subst (λ (x : WorldTurn). n ≤ (clock_of x.world (nodes.Client d)).0) (sym p.1) (reads_on d n (counted w) e never (same_refusal w e p.0) l)
+      subst (λ (x : WorldTurn). n ≤ (clock_of x.world (nodes.Client d)).0) (sym p.1) (reads_on d n (counted w) e never (counted_admits w e p.0) l)
 
   pub writes_go_on : WritesHold k count sc.world
   writes_go_on =

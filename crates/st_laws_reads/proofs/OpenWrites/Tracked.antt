@@ -1,46 +1,31 @@
 -- A write that is not reported, of a life that a crash ended, was so before, through each event at which no client crashes.
-use Rattle.std.proofs.Common.{◌≡◌, ℕ, suc, ◌⊎◌, true, false, List, [], ◌∷◌, ◌++◌, Option, Some, None, Ok, refl, sym, ap, ◌∙◌, subst, inl, inr, arith}
-use Rattle.std.specs.Prelude.{find, length, map, pred}
-use Rattle.st_base.specs.declared.ids.ClientId.{ClientId}
-use Rattle.st_base.specs.declared.ids.FileId.{FileId}
-use Rattle.st_base.specs.declared.ids.Life.{Life}
-use Rattle.st_base.specs.declared.ids.NodeId.TheVariants as nodes
-use Rattle.st_base.specs.declared.ids.PageNo.{PageNo}
-use Rattle.st_base.specs.declared.ids.Stamp.{Stamp}
-use Rattle.st_messages.specs.declared.event.Event.{Event}
-use Rattle.st_messages.specs.declared.event.Event.TheVariants as events
-use Rattle.st_messages.specs.declared.output.Note.{Note}
-use Rattle.st_messages.specs.declared.output.Note.TheVariants as notes
-use Rattle.st_messages.specs.declared.output.Output.{Output}
-use Rattle.st_messages.specs.declared.output.Output.TheVariants as outputs
-use Rattle.st_rules.specs.declared.client.ClientInput.{ClientInput}
-use Rattle.st_rules.specs.declared.log.LogOwner.{LogOwner}
-use Rattle.st_rules.specs.declared.world.Carried.{Carried}
-use Rattle.st_rules.specs.declared.world.IssuedCommand.{IssuedCommand}
-use Rattle.st_rules.specs.declared.world.LeaseLife.{LeaseLife}
-use Rattle.st_rules.specs.Admissible as adm
-use Rattle.st_rules.specs.Client as cl
-use Rattle.st_rules.specs.ClientState.{Association, ClientState, is_at}
-use Rattle.st_rules.specs.Disks.{Disks}
-use Rattle.st_rules.specs.Events as ev
-use Rattle.st_rules.specs.Events.{client_says_all}
-use Rattle.st_rules.specs.FlatLog as log
-use Rattle.st_rules.specs.Server.{ServerNode}
-use Rattle.st_rules.specs.World as world
-use Rattle.st_rules.specs.World.{World, WorldClient, Net, Tally, clock_of, numbered, site_of, with_numbered}
-use Rattle.st_lemmas.specs.Lists.{Has}
-use Rattle.st_lemmas.proofs.Numbers.{length_more, numbered_below, numbered_own}
-use Rattle.st_laws_leases.proofs.Sides.AllAssociations.{numbered_is}
-use Rattle.st_laws_leases.proofs.Sides.Pairs.{length_set}
+use Rattle.st_lemmas.proofs.Words
+use Words.{◌≡◌, ℕ, suc, ◌⊎◌, true, false, List, [], ◌∷◌, ◌++◌, Option, Some, None, Ok, refl, sym, ap, ◌∙◌, subst, inl, inr, arith, find, length, map, pred}
+use Words.{ClientId, FileId, Life, PageNo, Stamp, Event, Note, Output, ClientInput, LogOwner, Carried, IssuedCommand, LeaseLife, BlockAt, Tag}
+use Words.nodes
+use Words.events
+use Words.notes
+use Words.outputs
+use Words.Admissible as adm
+use Words.Client as cl
+use Words.ClientState.{Association, ClientState, is_at}
+use Words.Disks.{Disks}
+use Words.Events as ev
+use Words.Events.{client_says_all}
+use Words.FlatLog as log
+use Words.Server.{ServerNode}
+use Words.World as world
+use Words.World.{World, WorldClient, Net, Tally, clock_of, numbered, site_of, with_numbered}
+use Words.Lists.{Has}
+use Words.Numbers.{length_more, numbered_below, numbered_own, set_length}
+use Words.Disks as disks
+use Words.Lengths.{numbered_there}
 use Rattle.st_laws_steps.specs.Lives.Lives.{AllKnown, ended_rows, LivesHold, NodeHolds, owner_of, Stepped}
 use Rattle.st_laws_pages.proofs.Lives.Each.{Besides, SteppedNode, each_event}
 use Rattle.st_laws_pages.proofs.Lives.Lasting.{Flushed, flush_parts}
 use Rattle.st_laws_pages.proofs.Lives.LifeSteps.{advance_lives, owners_hard, same_owners, start_lives, steps_so}
 use Rattle.st_laws_pages.proofs.Lives.NodeTurns.{row_is}
 use Rattle.st_laws_pages.proofs.Lives.Turning.{Said, client_lives, known_owner, owners_more, says_lives}
-use Rattle.st_base.specs.declared.disk.BlockAt.{BlockAt}
-use Rattle.st_base.specs.declared.disk.Tag.{Tag}
-use Rattle.st_rules.specs.Disks as disks
 use Rattle.st_laws_reads.specs.FrozenLives.PendingEntries.{OfCrashed}
 use Rattle.st_laws_reads.proofs.FrozenLives.Tracked.{older, uncrashed}
 use Rattle.st_laws_pages.proofs.Writes.Joining.{IsNew, all_say}
@@ -50,7 +35,7 @@ use Rattle.st_laws_pages.proofs.Causes.FlushSteps.{flushes_disks}
 
 -- a client that is there stays there
 pub site_kept : (xs : List WorldClient) (c d : ℕ) (new s : WorldClient) → numbered xs d ≡ Some s → (y : WorldClient) × (numbered (with_numbered c new xs) d ≡ Some y)
-site_kept xs c d new s e = let z = numbered_below xs d s e in numbered_is (with_numbered c new xs) d z.0 (let l = length_set xs (pred c) new in let u = z.1 in omega (arith, l, u))
+site_kept xs c d new s e = let z = numbered_below xs d s e in numbered_there (with_numbered c new xs) d z.0 (let l = set_length xs (pred c) new in let u = z.1 in omega (arith, l, u))
 
 -- Outputs submit as many commands as they issue.
 one_counts : (c : ClientId) (before : ClientState) (o : Output) (sc : ev.WorldTurn) → length sc.world.commands ≡ length sc.world.disks.commands → length (ev.client_says sc c before o).world.commands ≡ length (ev.client_says sc c before o).world.disks.commands

@@ -1,12 +1,12 @@
-use Rattle.st_laws_reads.proofs.Copies.World.{law}
+use Rattle.st_laws_reads.proofs.Copies.World.{events_keep_copies}
 use Rattle.st_laws_reads.proofs.Copies.Others.{entries_law, effects_law}
-use Rattle.st_laws_reads.proofs.Copies.Restarts.{law as restarts_law}
-use Rattle.st_laws_reads.proofs.Copies.Drops.{law as drops_law}
+use Rattle.st_laws_reads.proofs.Copies.Restarts.{restarts_keep_copies as restarts_law}
+use Rattle.st_laws_reads.proofs.Copies.Drops.{drops_keep_copies as drops_law}
 use Rattle.st_laws_reads.proofs.Copies.Rests.{rests_law, clocks_law}
 use Rattle.st_laws_reads.proofs.events_keep_copies.Goals as goal
 
 pub returns-clause-own : goal.returns-clause-own
-returns-clause-own c = law
+returns-clause-own c = events_keep_copies
 
 pub returns-clause-entries : goal.returns-clause-entries
 returns-clause-entries c = entries_law

@@ -1,5 +1,5 @@
-use Rattle.st_laws_reads.proofs.Copies.Copies.{law}
+use Rattle.st_laws_reads.proofs.Copies.Copies.{operations_keep_copies}
 use Rattle.st_laws_reads.proofs.operations_keep_copies.Goals as goal
 
 pub returns : goal.returns
-returns c = law
+returns c = operations_keep_copies

@@ -1,5 +1,5 @@
-use Rattle.st_laws_reads.proofs.AllClients.Cleared.{law}
+use Rattle.st_laws_reads.proofs.AllClients.Cleared.{runs_clear}
 use Rattle.st_laws_reads.proofs.runs_clear.Goals as goal
 
 pub returns : goal.returns
-returns c = law
+returns c = runs_clear

@@ -1,5 +1,5 @@
-use Rattle.st_laws_reads.proofs.AllClients.Takings.{law}
+use Rattle.st_laws_reads.proofs.AllClients.Takings.{takings_keep_copies}
 use Rattle.st_laws_reads.proofs.takings_keep_copies.Goals as goal
 
 pub returns : goal.returns
-returns c = law
+returns c = takings_keep_copies

@@ -1,43 +1,31 @@
 -- What a message does: condemning, renewing, the effects of replies, epochs, welcome, and hearing.
-use Rattle.std.proofs.Common.{◌≡◌, ℕ, ◌+◌, ◌<◌, ◌≤◌, Bool, true, false, List, [], ◌∷◌, ◌==◌, Option, Some, None, refl, sym, ap, ◌∙◌, subst, inl, inr, arith, if◌then◌else◌, ltb-true}
-use Rattle.std.specs.Prelude.{map, nat_lt, is_some}
-use Rattle.std.proofs.lemmas.Bool.{eqb-true}
-use Rattle.st_base.specs.declared.ids.PageNo.{PageNo}
-use Rattle.st_base.specs.declared.ids.Stamp.{Stamp}
-use Rattle.st_base.specs.declared.ids.Epoch.{Epoch}
-use Rattle.st_base.specs.declared.rows.ExtentRow.{ExtentRow}
-use Rattle.st_base.specs.declared.mode.Mode.{Mode}
-use Rattle.st_base.specs.declared.mode.Mode.TheVariants as modes
+use Rattle.st_lemmas.proofs.Words
+use Words.{◌≡◌, ℕ, ◌+◌, ◌<◌, ◌≤◌, Bool, true, false, List, [], ◌∷◌, ◌==◌, Option, Some, None, refl, sym, ap, ◌∙◌, subst, inl, inr, arith, if◌then◌else◌}
+use Words.{ltb-true, map, nat_lt, is_some, eqb-true, PageNo, Stamp, Epoch, ExtentRow, Mode, AppAnswer, Body, Header, NameReply, Why, HeldLock, Request}
+use Words.modes
+use Words.answers
+use Words.bodies
+use Words.replies
+use Words.why
+use Words.ClientLocks as locks
+use Words.ClientLocks.{lock_of, is_lock_on}
+use Words.ClientLease as lease
+use Words.ClientPages.{Store}
+use Words.ClientState as st
+use Words.ClientState.{ClientSession, Turn, with_session, answer_each, is_asked, fits, reasserts, is_request_of, file_asked}
+use Words.Keys.{server_node}
+use Words.ClientReplies as cr
+use Words.Lookups.{if_true, if_false}
+use Words.Tables.{and_true}
 use Rattle.st_base.specs.Mode.{number_of, covers}
-use Rattle.st_messages.specs.declared.answer.AppAnswer.{AppAnswer}
-use Rattle.st_messages.specs.declared.answer.AppAnswer.TheVariants as answers
-use Rattle.st_messages.specs.declared.message.Body.{Body}
-use Rattle.st_messages.specs.declared.message.Body.TheVariants as bodies
-use Rattle.st_messages.specs.declared.message.Header.{Header}
-use Rattle.st_messages.specs.declared.message.NameReply.{NameReply}
-use Rattle.st_messages.specs.declared.message.NameReply.TheVariants as replies
-use Rattle.st_messages.specs.declared.message.Why.{Why}
-use Rattle.st_messages.specs.declared.message.Why.TheVariants as why
-use Rattle.st_rules.specs.declared.client.HeldLock.{HeldLock}
-use Rattle.st_rules.specs.declared.client.Request.{Request}
-use Rattle.st_rules.specs.ClientLocks as locks
-use Rattle.st_rules.specs.ClientLocks.{lock_of, is_lock_on}
-use Rattle.st_rules.specs.ClientLease as lease
-use Rattle.st_rules.specs.ClientPages.{Store}
-use Rattle.st_rules.specs.ClientState as st
-use Rattle.st_rules.specs.ClientState.{ClientSession, Turn, with_session, answer_each, is_asked, fits, reasserts, is_request_of, file_asked}
-use Rattle.st_rules.specs.Keys.{server_node}
-use Rattle.st_rules.specs.ClientReplies as cr
-use Rattle.st_protocol.specs.Assoc.{Config, Lock, Msg, msg, In, Joined, Settled, Renews, Reduces, Adopts, Settles, Begins}
+use Rattle.st_protocol.specs.Assoc.{Config, Lock, Msg, msg, In, Joined, Settled, Renews, Reduces, Adopts, Settles, Begins, Stays}
 use Rattle.st_protocol.specs.Assoc as net
 use Rattle.st_laws_refine.specs.Views.Messages.{Fine, shown, with_date, Shows}
 use Rattle.st_laws_refine.specs.Views.Halves.{held_at, busy_in, client_of}
-use Rattle.st_protocol.specs.Assoc.{Stays}
 use Rattle.st_laws_refine.specs.Client.Invariants.{at, Beside, Outstanding, Quiet, KeptIn, Ready, Frame, Result, Goes}
-use Rattle.st_lemmas.proofs.Lookups.{if_true, if_false}
-use Rattle.st_lemmas.proofs.Tables.{and_true}
 use Rattle.st_laws_refine.proofs.Views.Moves.{one, one_to}
-use Rattle.st_laws_refine.proofs.Client.Goes.{frame_then, frame_same, frame_more, said_both, waiting_both, ready_more, alive, goes_same, goes_then, if_goes, if_within, ops_goes, each_goes, rests_goes}
+use Rattle.st_laws_refine.proofs.Client.Goes.{frame_then, frame_same, frame_more, said_both, waiting_both, ready_more, alive, goes_same, goes_then, if_goes}
+use Rattle.st_laws_refine.proofs.Client.Goes.{if_within, ops_goes, each_goes, rests_goes}
 use Rattle.st_laws_refine.proofs.Client.Replies.{lock_cut, told_filter, modes_filter, mode_found, wait_gone, granted_goes, demand_goes}
 
 -- what of a reply its effect reads

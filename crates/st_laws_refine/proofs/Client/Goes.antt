@@ -1,28 +1,17 @@
 -- A rule of the client is a list of moves of its association: the frame.
-use Rattle.std.proofs.Common.{◌≡◌, ℕ, ◌≤◌, Bool, true, false, List, [], ◌∷◌, ◌++◌, ◌==◌, ◌⊎◌, inl, inr, Option, Some, None, refl, sym, ap, ◌∙◌, subst, if◌then◌else◌}
-use Rattle.st_base.specs.declared.ids.ServerId.{ServerId}
+use Rattle.st_lemmas.proofs.Words
+use Words.{◌≡◌, ℕ, ◌≤◌, Bool, true, false, List, [], ◌∷◌, ◌++◌, ◌==◌, ◌⊎◌, inl, inr, Option, Some, None, refl, sym, ap, ◌∙◌, subst, if◌then◌else◌, ServerId}
+use Words.{Message, Life, Note, Output, DemandedFile, Release, Request, eq-eqb, Operation, AppAnswer, map, filter, not}
+use Words.notes
+use Words.outputs
+use Words.ClientPages.{Store}
+use Words.ClientState.{ClientSession, Turn, with_session, with_store, answer_each, answer_to, is_file}
+use Words.Keys.{server_node}
+use Words.ClientLocks.{lock_of}
 use Rattle.st_base.specs.declared.config.Config as base
-use Rattle.st_messages.specs.declared.message.Message.{Message}
-use Rattle.st_base.specs.declared.ids.Life.{Life}
-use Rattle.st_messages.specs.declared.output.Note.{Note}
-use Rattle.st_messages.specs.declared.output.Note.TheVariants as notes
-use Rattle.st_messages.specs.declared.output.Output.{Output}
-use Rattle.st_messages.specs.declared.output.Output.TheVariants as outputs
-use Rattle.st_rules.specs.declared.client.DemandedFile.{DemandedFile}
-use Rattle.st_rules.specs.declared.client.Release.{Release}
-use Rattle.st_rules.specs.declared.client.Request.{Request}
-use Rattle.st_rules.specs.ClientPages.{Store}
-use Rattle.st_rules.specs.ClientState.{ClientSession, Turn, with_session, with_store, answer_each, answer_to, is_file}
-use Rattle.st_rules.specs.Keys.{server_node}
-use Rattle.st_rules.specs.ClientLocks.{lock_of}
-use Rattle.std.proofs.lemmas.Bool.{eq-eqb}
-use Rattle.st_rules.specs.declared.client.Operation.{Operation}
-use Rattle.st_messages.specs.declared.answer.AppAnswer.{AppAnswer}
-use Rattle.std.specs.Prelude.{map, filter, not}
-use Rattle.st_protocol.specs.Assoc.{Config, Msg, Alive, Rests, Works}
+use Rattle.st_protocol.specs.Assoc.{Config, Msg, Alive, Rests, Works, Stays}
 use Rattle.st_laws_refine.specs.Views.Messages.{shown}
 use Rattle.st_laws_refine.specs.Views.Halves.{held_at, busy_in, client_of}
-use Rattle.st_protocol.specs.Assoc.{Stays}
 use Rattle.st_laws_refine.specs.Client.Invariants.{Losses, LostNote, at, Beside, Quiet, Said, Waiting, AllTold, Outstanding, KeptIn, Kept, Ready, Frame, Goes}
 use Rattle.st_laws_refine.proofs.Views.Moves.{moves_on, one, Grows, shows_more, received_more}
 

@@ -1,44 +1,26 @@
 -- Hard stays hard, over every run; and what an effect and a report do.
-use Rattle.std.proofs.Common.{◌≡◌, Bool, true, false, List, [], ◌∷◌, Option, Some, None, Ok, Err, refl, sym, ◌∙◌, subst, if◌then◌else◌}
-use Rattle.std.specs.Prelude.{Result}
-use Rattle.st_rules.specs.Client as cl
-use Rattle.st_rules.specs.declared.log.Cause.TheVariants as causes
-use Rattle.st_base.specs.declared.ids.Life.{Life}
-use Rattle.st_base.specs.declared.ids.ClientId.{ClientId}
-use Rattle.st_base.specs.declared.ids.ServerId.{ServerId}
-use Rattle.st_base.specs.declared.ids.Stamp.{Stamp}
-use Rattle.st_base.specs.declared.ids.NodeId.{NodeId}
-use Rattle.st_base.specs.declared.ids.NodeId.TheVariants as nodes
-use Rattle.st_messages.specs.declared.event.Event.{Event}
-use Rattle.st_messages.specs.declared.event.Event.TheVariants as events
-use Rattle.st_messages.specs.declared.message.Message.{Message}
-use Rattle.st_messages.specs.declared.output.Note.{Note}
-use Rattle.st_messages.specs.declared.output.Note.TheVariants as notes
-use Rattle.st_messages.specs.declared.output.Output.{Output}
-use Rattle.st_messages.specs.declared.output.Output.TheVariants as outputs
-use Rattle.st_rules.specs.declared.lease.Phase.{Phase}
-use Rattle.st_rules.specs.declared.lease.Phase.TheVariants as phases
-use Rattle.st_rules.specs.declared.input.ServerInput.{ServerInput}
-use Rattle.st_rules.specs.declared.client.ClientInput.{ClientInput}
-use Rattle.st_rules.specs.declared.log.LogEntry.{LogEntry}
-use Rattle.st_rules.specs.declared.world.Carried.{Carried}
-use Rattle.st_rules.specs.declared.world.IssuedCommand.{IssuedCommand}
-use Rattle.st_rules.specs.declared.world.LeaseLife.{LeaseLife}
-use Rattle.st_rules.specs.declared.world.SentMessage.{SentMessage}
-use Rattle.st_rules.specs.FlatLog as log
-use Rattle.st_rules.specs.Disks as disks
-use Rattle.st_rules.specs.ClientState.{ClientState}
-use Rattle.st_rules.specs.World as world
-use Rattle.st_rules.specs.World.{World, WorldClient, site_of}
-use Rattle.st_rules.specs.Server.{ServerNode}
-use Rattle.st_rules.specs.Events as ev
-use Rattle.st_rules.specs.Events.{WorldTurn, happens}
-use Rattle.st_rules.specs.Server as server
-use Rattle.st_rules.specs.Safety.{HardStaysHard, steps}
+use Rattle.st_lemmas.proofs.Words
+use Words.{Bool, true, false, List, [], ◌∷◌, Option, Some, None, Ok, Err, sym, ◌∙◌, subst, if◌then◌else◌, Result, Life, ClientId, ServerId}
+use Words.{NodeId, Event, Message, Note, Output, ServerInput, ClientInput, LogEntry, Carried, IssuedCommand, LeaseLife, SentMessage, StepRefusal}
+use Words.Client as cl
+use Words.causes
+use Words.nodes
+use Words.events
+use Words.notes
+use Words.outputs
+use Words.FlatLog as log
+use Words.Disks as disks
+use Words.World as world
+use Words.World.{World, WorldClient, site_of}
+use Words.Server.{ServerNode}
+use Words.Events as ev
+use Words.Events.{WorldTurn, happens}
+use Words.Server as server
+use Words.Safety.{HardStaysHard, steps}
+use Words.Worlds.{flushes_log}
 use Rattle.st_laws_refine.specs.Client.World.{logged, logged_one}
 use Rattle.st_laws_refine.specs.Client.Law.{RunsKeepHard}
 use Rattle.st_lemmas.proofs.Marks.{Kept_hard, hard_more, hard_same, hard_then, hard_harden, hard_drop}
-use Rattle.st_rules.specs.declared.node.StepRefusal.{StepRefusal}
 use Rattle.st_lemmas.proofs.Steps.{step_happens, throughout_all}
 use Rattle.st_laws_refine.proofs.Client.World.{told_all}
 
@@ -66,24 +48,6 @@ hard_logged_one c lives o es = hard_same es
 hard_logged : (c : ClientId) (lives : ServerId → Life) (os : List Output) (es : List LogEntry) → Kept_hard es (logged c lives os es)
 hard_logged c lives [] es = hard_same es
 hard_logged c lives (o ∷ os) es = hard_then es (logged_one c lives o es) _ (hard_logged_one c lives o es) (hard_logged c lives os (logged_one c lives o es))
-
--- flush steps leave the log
-flushes_log : (c : ClientId) (s : ClientState) (ss : List ServerId) (w : World) → (ev.flushes c s ss w).log ≡ w.log
-unfolding ev.flushes
-flushes_log c s [] w = refl
-flushes_log c s (x ∷ ss) w = flushes_log c s ss (ev.flushed_at w c x s) ∙ in_phase (cl.lease_end_with s x) (cl.phase_with s x (world.clock_of w (nodes.Client c)))
-  where
-    under : (o : Option Stamp) → (ev.flushed_under w c x o).log ≡ w.log
-    under None = refl
-    under (Some e) = refl
-
-    in_phase : (o : Option Stamp) (p : Option Phase) → (ev.flushed_in w c x o p).log ≡ w.log
-    in_phase o (Some phases.Flush) = under o
-    in_phase o (Some phases.Valid) = refl
-    in_phase o (Some phases.Renewal) = refl
-    in_phase o (Some phases.Quiesce) = refl
-    in_phase o (Some phases.Expired) = refl
-    in_phase o None = refl
 
 hard_client : (w : World) (c : ClientId) (input : ClientInput) (site : WorldClient) → Kept_hard w.log (ev.client_takes w c input site).world.log
 unfolding ev.client_takes ev.client_took
@@ -189,5 +153,5 @@ hard_happens w (events.Start (nodes.Server s)) = go (world.node_of w s)
     go (Some node) = hard_same w.log
 
 -- Hard stays hard, from every world and over every list of events
-pub law : RunsKeepHard
-law es t = throughout_all HardStaysHard (λ past t e sc f. subst (λ sc. Kept_hard t.world.log sc.world.log) (sym (step_happens t.world e sc f).1) (hard_happens (ev.counted t.world) e)) es [] t
+pub runs_keep_hard : RunsKeepHard
+runs_keep_hard es t = throughout_all HardStaysHard (λ past t e sc f. subst (λ sc. Kept_hard t.world.log sc.world.log) (sym (step_happens t.world e sc f).1) (hard_happens (ev.counted t.world) e)) es [] t

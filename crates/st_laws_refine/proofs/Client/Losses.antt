@@ -1,28 +1,20 @@
 -- Losses: a lease that is over takes its association to the next life.
-use Rattle.std.proofs.Common.{◌≡◌, ℕ, ◌+◌, ◌<◌, ◌≤◌, Bool, true, false, not, ◌||◌, List, [], ◌∷◌, Option, Some, None, refl, inl, inr, sym, ap, ◌∙◌, subst, arith, if◌then◌else◌, leb-true, leb-false}
-use Rattle.std.specs.Prelude.{filter, nat_le}
-use Rattle.st_base.specs.declared.ids.Life.{Life}
-use Rattle.st_base.specs.declared.ids.ServerId.{ServerId}
-use Rattle.st_base.specs.declared.ids.ClientId.{ClientId}
-use Rattle.st_base.specs.declared.ids.Stamp.{Stamp}
+use Rattle.st_lemmas.proofs.Words
+use Words.{◌≡◌, ℕ, ◌+◌, ◌<◌, ◌≤◌, Bool, true, false, not, ◌||◌, List, [], ◌∷◌, Option, Some, None, refl, inl, inr, sym, ap, ◌∙◌, subst, arith, if◌then◌else◌}
+use Words.{leb-true, leb-false, filter, nat_le, Life, ServerId, ClientId, Stamp, Ask, AppAnswer, Operation, LostPage}
+use Words.asks
+use Words.notes
+use Words.phases
+use Words.phases.{Expired}
+use Words.Leases.{phase, phase_living, phase_serving, phase_young}
+use Words.ClientLease as lease
+use Words.ClientState as st
+use Words.ClientState.{ClientSession, Turn, with_session, is_of}
+use Words.Client as cl
 use Rattle.st_base.specs.declared.config.Config as base
-use Rattle.st_messages.specs.declared.ask.Ask.{Ask}
-use Rattle.st_messages.specs.declared.ask.Ask.TheVariants as asks
-use Rattle.st_messages.specs.declared.answer.AppAnswer.{AppAnswer}
-use Rattle.st_rules.specs.declared.client.Operation.{Operation}
-use Rattle.st_rules.specs.declared.client.LostPage.{LostPage}
-use Rattle.st_messages.specs.declared.output.Note.TheVariants as notes
-use Rattle.st_rules.specs.declared.lease.Phase.TheVariants as phases
-use Rattle.st_rules.specs.declared.lease.Phase.TheVariants.{Expired}
-use Rattle.st_rules.specs.Leases.{phase, phase_living, phase_serving, phase_young}
-use Rattle.st_rules.specs.ClientLease as lease
-use Rattle.st_rules.specs.ClientState as st
-use Rattle.st_rules.specs.ClientState.{ClientSession, Turn, with_session, is_of}
-use Rattle.st_rules.specs.Client as cl
 use Rattle.st_laws_refine.specs.Client.Law.{LifeEnds}
-use Rattle.st_protocol.specs.Assoc.{upd, end_now, Config, Msg, In, Loses}
+use Rattle.st_protocol.specs.Assoc.{upd, end_now, Config, Msg, In, Loses, Stays}
 use Rattle.st_laws_refine.specs.Views.Halves.{client_of}
-use Rattle.st_protocol.specs.Assoc.{Stays}
 use Rattle.st_laws_refine.specs.Client.Invariants.{at, Beside, Said, Kept, Losses, Leaves, Lasts, Result}
 use Rattle.st_laws_refine.proofs.Views.Moves.{one_to}
 use Rattle.st_laws_refine.proofs.Client.Goes.{losses_both, said_both}

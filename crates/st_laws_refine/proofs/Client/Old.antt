@@ -1,20 +1,16 @@
 -- Old messages change nothing at a client.
-use Rattle.std.proofs.Common.{◌≡◌, Bool, true, false, not, ◌&&◌, ◌||◌, List, [], ◌∷◌, ◌++◌, ◌==◌, Option, Some, None, refl, sym, ap, ◌∙◌, if◌then◌else◌, append_assoc}
-use Rattle.std.specs.Prelude.{nat_lt, nat_le}
-use Rattle.std.specs.List.{list_all}
-use Rattle.st_base.specs.declared.ids.Stamp.{Stamp}
-use Rattle.st_messages.specs.declared.message.Header.{Header}
-use Rattle.st_messages.specs.declared.message.Body.{Body}
-use Rattle.st_messages.specs.declared.message.Body.TheVariants as bodies
-use Rattle.st_messages.specs.declared.message.Why.TheVariants as why
-use Rattle.st_rules.specs.ClientState.{ClientSession, Association, Turn, ClientTurn, enter, leave, at_these, at_each, with_associations}
-use Rattle.st_rules.specs.Keys.{server_node}
-use Rattle.st_rules.specs.ClientReplies as cr
-use Rattle.st_rules.specs.Client as cl
-use Rattle.st_rules.specs.Safety as safety
-use Rattle.st_lemmas.proofs.Lookups.{if_false}
-use Rattle.st_lemmas.proofs.Tables.{and_true, not_true}
-use Rattle.st_laws_refine.proofs.Client.Steps.{nothing_more}
+use Rattle.st_lemmas.proofs.Words
+use Words.{◌≡◌, Bool, true, false, not, ◌&&◌, ◌||◌, List, [], ◌∷◌, ◌++◌, ◌==◌, Option, Some, None, refl, sym, ap, ◌∙◌, if◌then◌else◌, append_assoc, nat_lt}
+use Words.{nat_le, list_all, Stamp, Header, Body, append-nil}
+use Words.bodies
+use Words.why
+use Words.ClientState.{ClientSession, Association, Turn, ClientTurn, enter, leave, at_these, at_each, with_associations}
+use Words.Keys.{server_node}
+use Words.ClientReplies as cr
+use Words.Client as cl
+use Words.Safety as safety
+use Words.Lookups.{if_false}
+use Words.Tables.{and_true, not_true}
 
 abbrev AllOld : Header → Body → List Association → Type 0
 AllOld h body [] = Unit {0}
@@ -64,15 +60,15 @@ receives n h body t e = go (cr.is_received t n h) refl
 
 these_receive : (n : Stamp) (h : Header) (body : Body) (list : List Association) (T : ClientTurn) → AllOld h body list → at_these (cr.receive_at n h body) list T ≡ with_associations (T.state.associations ++ list) T
 unfolding at_these
-these_receive n h body [] T o = ap (λ x. with_associations x T) (sym (nothing_more T.state.associations))
+these_receive n h body [] T o = ap (λ x. with_associations x T) (sym (append-nil T.state.associations))
 these_receive n h body (a ∷ rest) T o =
     ap (λ r. at_these (cr.receive_at n h body) rest (leave T r)) (receives n h body (enter T a) o.one)
     ∙ these_receive n h body rest (leave T (enter T a)) o.rest
     ∙ ap (λ x. with_associations x T) (append_assoc T.state.associations (a ∷ []) rest)
 
-pub law : safety.OldMessagesChangeNoClient
+pub old_messages_change_no_client : safety.OldMessagesChangeNoClient
 unfolding cl.take_input cr.receive cr.receive_here at_each
-law t n m e = go (m.header.to == t.state.id.0)
+old_messages_change_no_client t n m e = go (m.header.to == t.state.id.0)
   where
     go : (b : Bool) → (if b then at_these (cr.receive_at n m.header m.body) t.state.associations (with_associations [] t) else t) ≡ t
     go true = these_receive n m.header m.body t.state.associations (with_associations [] t) (all_old m.header m.body t.state.associations e)

@@ -1,26 +1,24 @@
 -- Reductions of demanded files.
-use Rattle.std.proofs.Common.{◌≡◌, ℕ, ◌≤◌, Bool, true, false, not, ◌||◌, List, [], ◌∷◌, Option, Some, None, refl, sym, ap, ◌∙◌, subst, inl, inr, arith, if◌then◌else◌}
-use Rattle.std.specs.Prelude.{find}
-use Rattle.std.specs.List.{list_any}
-use Rattle.st_base.specs.declared.mode.Mode.{Mode}
-use Rattle.st_base.specs.declared.mode.Mode.TheVariants as modes
+use Rattle.st_lemmas.proofs.Words
+use Words.{◌≡◌, ℕ, ◌≤◌, Bool, true, false, not, ◌||◌, List, [], ◌∷◌, Option, Some, None, refl, sym, ap, subst, inl, inr, arith, if◌then◌else◌, find}
+use Words.{Mode, HeldLock, DemandedFile}
+use Words.modes
+use Words.ClientLocks as locks
+use Words.ClientLocks.{lock_of, is_lock_on, is_demand_on, held_lock}
+use Words.ClientPages as pages
+use Words.ClientPages.{Store, is_write}
+use Words.ClientState as st
+use Words.ClientState.{ClientSession, Turn, with_session}
+use Words.ClientPasses as cp
+use Words.Lookups.{some_is, found_ino}
+use Words.Tables.{and_true, not_true}
+use Words.Tests.{none_of_fewer}
 use Rattle.st_base.specs.Mode.{number_of}
-use Rattle.st_rules.specs.declared.client.HeldLock.{HeldLock}
-use Rattle.st_rules.specs.declared.client.DemandedFile.{DemandedFile}
-use Rattle.st_rules.specs.ClientLocks as locks
-use Rattle.st_rules.specs.ClientLocks.{lock_of, is_lock_on, is_demand_on, held_lock}
-use Rattle.st_rules.specs.ClientPages as pages
-use Rattle.st_rules.specs.ClientPages.{Store, is_write}
-use Rattle.st_rules.specs.ClientState as st
-use Rattle.st_rules.specs.ClientState.{ClientSession, Turn, with_session}
-use Rattle.st_rules.specs.ClientPasses as cp
 use Rattle.st_protocol.specs.Assoc.{Config, Lock, Msg, msg, In, Demanded, Reduces}
 use Rattle.st_protocol.specs.Assoc as net
 use Rattle.st_laws_refine.specs.Views.Messages.{released_to}
 use Rattle.st_laws_refine.specs.Views.Halves.{held_at, busy_in, client_of}
 use Rattle.st_laws_refine.specs.Client.Invariants.{at, Beside, Told, AllTold, Ready, Result, Goes}
-use Rattle.st_lemmas.proofs.Lookups.{some_is, found_ino}
-use Rattle.st_lemmas.proofs.Tables.{and_true, not_true}
 use Rattle.st_laws_refine.proofs.Views.Moves.{one_to}
 use Rattle.st_laws_refine.proofs.Client.Goes.{frame_same, waiting_both, ready_more, alive, goes_same, goes_then, if_goes, rests_goes}
 use Rattle.st_laws_refine.proofs.Client.Replies.{lock_set, told_filter, modes_put, mode_found, wait_gone}
@@ -34,21 +32,10 @@ told_found life epoch p (x ∷ ds) d N s e = go (p x) e (told_found life epoch p
     go true e f = subst (λ z. Told life epoch z N) (some_is e) s.one
     go false e f = f e
 
--- an idle file is not busy
-any_less : {A : Type 0} (p q : A → Bool) → ((x : A) → p x ≡ true → q x ≡ true) → (xs : List A) → list_any q xs ≡ false → list_any p xs ≡ false
-any_less p q h [] e = e
-any_less {A} p q h (x ∷ xs) e = go (p x) (q x) refl refl e (any_less p q h xs)
-  where
-    go : (a b : Bool) → p x ≡ a → q x ≡ b → (b || list_any q xs) ≡ false → (list_any q xs ≡ false → list_any p xs ≡ false) → (a || list_any p xs) ≡ false
-    go true true u v e f = cc
-    go true false u v e f = let z = sym (h x u) ∙ v in cc
-    go false true u v e f = cc
-    go false false u v e f = f e
-
 pub idle_free : (x : Store) (ino : ℕ) → pages.is_idle x ino ≡ true → busy_in x ino ≡ false
 idle_free x ino e =
     let p = and_true (not (pages.has_dirty x.pages ino)) (not (pages.is_outstanding x.commands ino)) e in
-    go (pages.has_dirty x.pages ino) (pages.has_write_on x.commands ino) (not_true _ p.0) (any_less (pages.is_write_on ino) (pages.is_command_on ino) (λ c h. (and_true (is_write c.kind) _ h).1) x.commands (not_true _ p.1))
+    go (pages.has_dirty x.pages ino) (pages.has_write_on x.commands ino) (not_true _ p.0) (none_of_fewer (pages.is_write_on ino) (pages.is_command_on ino) (λ c h. (and_true (is_write c.kind) _ h).1) x.commands (not_true _ p.1))
   where
     go : (a b : Bool) → a ≡ false → b ≡ false → (a || b) ≡ false
     go true b f g = cc

@@ -1,26 +1,21 @@
 -- Grants, demands and replies.
-use Rattle.std.proofs.Common.{◌≡◌, ℕ, ◌<◌, ◌≤◌, Bool, true, false, List, [], ◌∷◌, ◌++◌, Option, Some, None, refl, sym, ap, ◌∙◌, subst, inl, inr, arith, if◌then◌else◌, ltb-true, leb-true}
-use Rattle.std.specs.Prelude.{find, filter, nat_le, unwrap_or, option_map, is_some}
-use Rattle.st_base.specs.declared.ids.GrantNo.{GrantNo}
-use Rattle.st_base.specs.declared.mode.Mode.{Mode}
-use Rattle.st_base.specs.declared.mode.Mode.TheVariants as modes
+use Rattle.st_lemmas.proofs.Words
+use Words.{◌≡◌, ℕ, ◌<◌, ◌≤◌, Bool, true, false, List, [], ◌∷◌, ◌++◌, Option, Some, None, refl, sym, ap, ◌∙◌, subst, inl, inr, arith, if◌then◌else◌, ltb-true}
+use Words.{leb-true, find, filter, nat_le, unwrap_or, option_map, is_some, GrantNo, Mode, HeldLock, SeenGrant, DemandedFile}
+use Words.modes
+use Words.ClientLocks as locks
+use Words.ClientLocks.{lock_of, seen_of, g_seen, no_grant, is_lock_on, is_seen_on, with_lock, without_lock, with_seen, held_lock}
+use Words.ClientState as st
+use Words.ClientState.{ClientSession, Turn, send, with_session}
+use Words.ClientReplies as cr
+use Words.Keys.{put}
+use Words.Lookups.{some_is, or_false}
 use Rattle.st_base.specs.Mode.{number_of}
-use Rattle.st_rules.specs.declared.client.HeldLock.{HeldLock}
-use Rattle.st_rules.specs.declared.client.SeenGrant.{SeenGrant}
-use Rattle.st_rules.specs.declared.client.DemandedFile.{DemandedFile}
 use Rattle.st_rules.specs.declared.client.LockWait.{LockWait}
-use Rattle.st_rules.specs.ClientLocks as locks
-use Rattle.st_rules.specs.ClientLocks.{lock_of, seen_of, g_seen, no_grant, is_lock_on, is_seen_on, with_lock, without_lock, with_seen, held_lock}
-use Rattle.st_rules.specs.ClientState as st
-use Rattle.st_rules.specs.ClientState.{ClientSession, Turn, send, with_session}
-use Rattle.st_rules.specs.ClientReplies as cr
-use Rattle.st_rules.specs.Keys.{put}
-use Rattle.st_protocol.specs.Assoc.{Config, no_lock, Msg, msg, In, upd, Installs, Declines, AskedOfNone, Asked}
+use Rattle.st_protocol.specs.Assoc.{Config, no_lock, Msg, msg, In, upd, Installs, Declines, AskedOfNone, Asked, Moves, Stays}
 use Rattle.st_protocol.specs.Assoc as net
 use Rattle.st_laws_refine.specs.Views.Halves.{held_at, client_of}
-use Rattle.st_protocol.specs.Assoc.{Moves, Stays}
 use Rattle.st_laws_refine.specs.Client.Invariants.{at, Beside, Told, AllTold, HaveModes, Ready, Result, Goes}
-use Rattle.st_lemmas.proofs.Lookups.{some_is, or_false}
 use Rattle.st_laws_refine.proofs.Views.Places.{put_at, cut_at}
 use Rattle.st_laws_refine.proofs.Views.Moves.{one_to}
 use Rattle.st_laws_refine.proofs.Client.Goes.{frame_same, frame_send, said_both, waiting_both, ready_more, alive, goes_same, goes_then, if_within}

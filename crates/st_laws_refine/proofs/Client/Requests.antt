@@ -1,39 +1,28 @@
 -- Greeting and requests: the outstanding one again, the reassertion, releases, what operations ask, keep-alives.
-use Rattle.std.proofs.Common.{◌≡◌, ℕ, ◌≤◌, ◌⊎◌, Bool, true, false, ◌||◌, List, [], ◌∷◌, ◌==◌, Option, Some, None, refl, sym, ap, ◌∙◌, subst, inl, inr, arith, if◌then◌else◌}
-use Rattle.std.specs.Prelude.{find, filter_map, map, option_map, nat_lt}
-use Rattle.std.specs.List.{list_any, cons_option}
-use Rattle.std.proofs.lemmas.Bool.{eqb-true, ne_eqb}
-use Rattle.st_base.specs.declared.ids.GrantNo.{GrantNo}
-use Rattle.st_base.specs.declared.ids.PageNo.{PageNo}
-use Rattle.st_base.specs.declared.ids.Stamp.{Stamp}
-use Rattle.st_base.specs.declared.mode.Mode.{Mode}
+use Rattle.st_lemmas.proofs.Words
+use Words.{◌≡◌, ℕ, ◌≤◌, ◌⊎◌, Bool, true, false, ◌||◌, List, [], ◌∷◌, ◌==◌, Option, Some, None, refl, sym, ap, ◌∙◌, subst, inl, inr, arith, if◌then◌else◌, find}
+use Words.{filter_map, map, option_map, nat_lt, list_any, cons_option, eqb-true, ne_eqb, GrantNo, PageNo, Stamp, Mode, Ask, Body, HeldLock, Request, Release}
+use Words.{Operation}
+use Words.asks
+use Words.bodies
+use Words.ServerInvariants.{are_once}
+use Words.Keys.{rising, with_key, placed, past}
+use Words.ClientLocks as locks
+use Words.ClientLocks.{LockCache, lock_of, is_lock_on, lock_row_at, ino_of_lock, all_locks}
+use Words.ClientPages as pages
+use Words.ClientPages.{Store}
+use Words.ClientState as st
+use Words.ClientState.{ClientSession, Turn, with_session, with_store, with_operations, send, asking, reasserts}
+use Words.ClientPasses as cp
+use Words.ClientPasses.{Wanted, Asking}
+use Words.Lookups.{if_true, if_false, some_is, found_ino}
+use Words.Lists.{Has, Rises}
 use Rattle.st_base.specs.Mode.{number_of, covers}
-use Rattle.st_messages.specs.declared.ask.Ask.{Ask}
-use Rattle.st_messages.specs.declared.ask.Ask.TheVariants as asks
-use Rattle.st_messages.specs.declared.message.Body.{Body}
-use Rattle.st_messages.specs.declared.message.Body.TheVariants as bodies
-use Rattle.st_rules.specs.declared.client.HeldLock.{HeldLock}
-use Rattle.st_rules.specs.declared.client.Request.{Request}
-use Rattle.st_rules.specs.declared.client.Release.{Release}
-use Rattle.st_rules.specs.declared.client.Operation.{Operation}
-use Rattle.st_rules.specs.ServerInvariants.{are_once}
-use Rattle.st_rules.specs.Keys.{rising, with_key, placed, past}
-use Rattle.st_rules.specs.ClientLocks as locks
-use Rattle.st_rules.specs.ClientLocks.{LockCache, lock_of, is_lock_on, lock_row_at, ino_of_lock, all_locks}
-use Rattle.st_rules.specs.ClientPages as pages
-use Rattle.st_rules.specs.ClientPages.{Store}
-use Rattle.st_rules.specs.ClientState as st
-use Rattle.st_rules.specs.ClientState.{ClientSession, Turn, with_session, with_store, with_operations, send, asking, reasserts}
-use Rattle.st_rules.specs.ClientPasses as cp
-use Rattle.st_rules.specs.ClientPasses.{Wanted, Asking}
-use Rattle.st_protocol.specs.Assoc.{Config, Lock, no_lock, Msg, msg, Alive, Greets, Asks, Repeats, Reasserts, of_request}
+use Rattle.st_protocol.specs.Assoc.{Config, Lock, no_lock, Msg, msg, Alive, Greets, Asks, Repeats, Reasserts, of_request, Moves, Stays, GoesOn}
 use Rattle.st_protocol.specs.Assoc as net
 use Rattle.st_laws_refine.specs.Views.Messages.{is_clients, epoch_shown, Wishes, released_to, shown, lock_in, lock_in_row, is_row_on, Shows, on_same_file}
 use Rattle.st_laws_refine.specs.Views.Halves.{held_at, busy_in, client_of}
-use Rattle.st_protocol.specs.Assoc.{Moves, Stays, GoesOn}
 use Rattle.st_laws_refine.specs.Client.Invariants.{at, Beside, is_request, Waiting, Standing, Outstanding, Quiet, Ready, Result, Goes, HaveModes}
-use Rattle.st_lemmas.proofs.Lookups.{if_true, if_false, some_is, found_ino}
-use Rattle.st_lemmas.specs.Lists.{Has, Rises}
 use Rattle.st_lemmas.proofs.Keys.{rising_rises}
 use Rattle.st_lemmas.proofs.Once.{once_none, once_both}
 use Rattle.st_laws_refine.proofs.Views.Moves.{one, Grows, shows_more}

@@ -1,33 +1,27 @@
 -- A step of a client in the world: moves of its association with each server, and nothing for other clients.
-use Rattle.std.proofs.Common.{◌≡◌, Bool, true, false, List, [], ◌∷◌, ◌++◌, ◌==◌, Option, Some, None, refl, sym, ap, ◌∙◌, subst, if◌then◌else◌, append_assoc}
-use Rattle.st_base.specs.declared.ids.ClientId.{ClientId}
-use Rattle.st_base.specs.declared.ids.ServerId.{ServerId}
-use Rattle.st_base.specs.declared.ids.Stamp.{Stamp}
-use Rattle.st_base.specs.declared.ids.NodeId.TheVariants as nodes
-use Rattle.st_messages.specs.declared.output.Output.{Output}
-use Rattle.st_messages.specs.declared.output.Output.TheVariants as outputs
-use Rattle.st_rules.specs.declared.lease.Phase.{Phase}
-use Rattle.st_rules.specs.declared.lease.Phase.TheVariants as phases
-use Rattle.st_rules.specs.declared.client.ClientInput.{ClientInput}
-use Rattle.st_rules.specs.declared.client.ClientInput.TheVariants as inputs
-use Rattle.st_rules.specs.ClientState as st
-use Rattle.st_rules.specs.ClientState.{ClientState, ClientTurn, Turn, Association, at_these, at_each, with_associations}
-use Rattle.st_rules.specs.ClientReplies as cr
-use Rattle.st_rules.specs.ClientPasses as cp
-use Rattle.st_rules.specs.Client as cl
-use Rattle.st_rules.specs.World as world
-use Rattle.st_rules.specs.World.{World, WorldClient, site_of, numbered, clock_of, all_servers}
-use Rattle.st_rules.specs.Events as ev
-use Rattle.st_rules.specs.Events.{WorldTurn}
+use Rattle.st_lemmas.proofs.Words
+use Words.{◌≡◌, Bool, true, false, List, [], ◌∷◌, ◌++◌, ◌==◌, Option, Some, None, refl, sym, ap, ◌∙◌, subst, if◌then◌else◌, append_assoc, ClientId, ServerId}
+use Words.{Stamp, Output, Phase, ClientInput, Note, append-nil}
+use Words.nodes
+use Words.outputs
+use Words.phases
+use Words.inputs
+use Words.ClientState as st
+use Words.ClientState.{ClientState, ClientTurn, Turn, Association, at_these, at_each, with_associations}
+use Words.ClientReplies as cr
+use Words.ClientPasses as cp
+use Words.Client as cl
+use Words.World as world
+use Words.World.{World, WorldClient, site_of, numbered, clock_of, all_servers}
+use Words.Events as ev
+use Words.Events.{WorldTurn}
+use Words.Numbers.{numbered_other}
+use Words.notes
 use Rattle.st_laws_refine.specs.Client.Invariants.{Said}
 use Rattle.st_laws_refine.specs.Client.Law.{ClientResult, ClientStep, Comes}
 use Rattle.st_laws_refine.specs.Client.World.{lost_life, lost_lives, stepped, site_left, WorldLeft, OwnAssociationsMove, OtherAssociationsStay}
 use Rattle.st_laws_refine.proofs.Client.Steps.{step_moves}
 use Rattle.st_laws_refine.proofs.Client.World.{told_all}
-use Rattle.st_lemmas.proofs.Numbers.{numbered_other}
-use Rattle.st_messages.specs.declared.output.Note.{Note}
-use Rattle.st_messages.specs.declared.output.Note.TheVariants as notes
-use Rattle.st_laws_refine.proofs.Client.Steps.{nothing_more}
 
 -- what flush steps leave
 record Flushed (w v : World) : Type 0 where
@@ -56,30 +50,30 @@ flushes_leave c s (x ∷ ss) w =
 
 ended_one : (c : ClientId) (before : ClientState) (o : Output) (sc : WorldTurn) → ((ev.client_says sc c before o).world.config ≡ sc.world.config) × ((ev.client_says sc c before o).world.ended ≡ sc.world.ended ++ lost_lives c before (o ∷ []))
 unfolding ev.client_says ev.sends ev.submits ev.answers_with ev.client_notes ev.accepts ev.patches ev.loses
-ended_one c before (outputs.Send m) sc = (refl, sym (nothing_more sc.world.ended))
-ended_one c before (outputs.Answer op a) sc = (refl, sym (nothing_more sc.world.ended))
+ended_one c before (outputs.Send m) sc = (refl, sym (append-nil sc.world.ended))
+ended_one c before (outputs.Answer op a) sc = (refl, sym (append-nil sc.world.ended))
 ended_one c before (outputs.Submit n at what) sc = go (site_of sc.world c)
   where
     go : (o : Option WorldClient) → ((ev.submits sc c o n at what).world.config ≡ sc.world.config) × ((ev.submits sc c o n at what).world.ended ≡ sc.world.ended ++ [])
-    go None = (refl, sym (nothing_more sc.world.ended))
-    go (Some s) = (refl, sym (nothing_more sc.world.ended))
+    go None = (refl, sym (append-nil sc.world.ended))
+    go (Some s) = (refl, sym (append-nil sc.world.ended))
 ended_one c before (outputs.Note n) sc = note n
   where
     note : (n : Note) → ((ev.client_notes sc c before n).world.config ≡ sc.world.config) × ((ev.client_notes sc c before n).world.ended ≡ sc.world.ended ++ (lost_life c before n ++ []))
     note (notes.Lost s life) = (refl, refl)
-    note (notes.Accepted f p bytes) = (refl, sym (nothing_more sc.world.ended))
-    note (notes.Patched f p at bytes) = (refl, sym (nothing_more sc.world.ended))
-    note n = (refl, sym (nothing_more sc.world.ended))
+    note (notes.Accepted f p bytes) = (refl, sym (append-nil sc.world.ended))
+    note (notes.Patched f p at bytes) = (refl, sym (append-nil sc.world.ended))
+    note n = (refl, sym (append-nil sc.world.ended))
 
 lives_both : (c : ClientId) (before : ClientState) (o : Output) (os : List Output) → lost_lives c before (o ∷ []) ++ lost_lives c before os ≡ lost_lives c before (o ∷ os)
 lives_both c before (outputs.Send m) os = refl
 lives_both c before (outputs.Answer op a) os = refl
 lives_both c before (outputs.Submit n at what) os = refl
-lives_both c before (outputs.Note n) os = ap (λ x. x ++ lost_lives c before os) (nothing_more (lost_life c before n))
+lives_both c before (outputs.Note n) os = ap (λ x. x ++ lost_lives c before os) (append-nil (lost_life c before n))
 
 ended_all : (c : ClientId) (before : ClientState) (os : List Output) (sc : WorldTurn) → ((ev.client_says_all c before os sc).world.config ≡ sc.world.config) × ((ev.client_says_all c before os sc).world.ended ≡ sc.world.ended ++ lost_lives c before os)
 unfolding ev.client_says_all
-ended_all c before [] sc = (refl, sym (nothing_more sc.world.ended))
+ended_all c before [] sc = (refl, sym (append-nil sc.world.ended))
 ended_all c before (o ∷ os) sc =
     let p = ended_one c before o sc in
     let q = ended_all c before os (ev.client_says sc c before o) in

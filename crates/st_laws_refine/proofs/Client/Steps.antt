@@ -1,29 +1,20 @@
 -- A client's whole step, for its association with one server: the passes at each server in turn.
-use Rattle.std.proofs.Common.{◌≡◌, ℕ, ◌+◌, ◌≤◌, Bool, true, false, List, [], ◌∷◌, ◌++◌, ◌==◌, Some, refl, sym, ap, ◌∙◌, subst, inl, inr, if◌then◌else◌, arith, append_assoc}
-use Rattle.std.specs.Prelude.{map}
-use Rattle.std.proofs.lemmas.Bool.{eqb-true}
+use Rattle.st_lemmas.proofs.Words
+use Words.{◌≡◌, ℕ, ◌+◌, ◌≤◌, Bool, true, false, List, [], ◌∷◌, ◌++◌, ◌==◌, Some, refl, sym, ap, ◌∙◌, subst, inl, inr, if◌then◌else◌, arith, append_assoc, map}
+use Words.{eqb-true, ServerId, Stamp, ClientId, Ask, AppAnswer, ClientInput, Header, Body, Output, Life, append-nil}
+use Words.answers
+use Words.inputs
+use Words.ClientState as st
+use Words.ClientState.{ClientSession, Turn, ClientTurn, ClientState, Association, enter, leave, at_these, at_each, with_associations}
+use Words.Keys.{server_node}
+use Words.ClientReplies as cr
+use Words.ClientPasses as cp
+use Words.Client as cl
+use Words.Lists.{Has}
 use Rattle.st_base.specs.declared.config.Config as base
-use Rattle.st_base.specs.declared.ids.ServerId.{ServerId}
-use Rattle.st_base.specs.declared.ids.Stamp.{Stamp}
-use Rattle.st_base.specs.declared.ids.ClientId.{ClientId}
-use Rattle.st_messages.specs.declared.ask.Ask.{Ask}
-use Rattle.st_messages.specs.declared.answer.AppAnswer.{AppAnswer}
-use Rattle.st_messages.specs.declared.answer.AppAnswer.TheVariants as answers
-use Rattle.st_rules.specs.declared.client.ClientInput.{ClientInput}
-use Rattle.st_rules.specs.declared.client.ClientInput.TheVariants as inputs
-use Rattle.st_messages.specs.declared.message.Header.{Header}
-use Rattle.st_messages.specs.declared.message.Body.{Body}
-use Rattle.st_messages.specs.declared.output.Output.{Output}
-use Rattle.st_rules.specs.ClientState as st
-use Rattle.st_rules.specs.ClientState.{ClientSession, Turn, ClientTurn, ClientState, Association, enter, leave, at_these, at_each, with_associations}
-use Rattle.st_rules.specs.Keys.{server_node}
-use Rattle.st_rules.specs.ClientReplies as cr
-use Rattle.st_rules.specs.ClientPasses as cp
-use Rattle.st_rules.specs.Client as cl
-use Rattle.st_protocol.specs.Assoc.{Config, no_row, Msg, msg, In}
+use Rattle.st_protocol.specs.Assoc.{Config, no_row, Msg, msg, In, Stays}
 use Rattle.st_protocol.specs.Assoc as net
 use Rattle.st_laws_refine.specs.Views.Messages.{Fine, shown, Shows}
-use Rattle.st_protocol.specs.Assoc.{Stays}
 use Rattle.st_laws_refine.specs.Client.Invariants.{Beside, Said, Kept, Ready, Losses, Leaves, Frame, Result, Goes}
 use Rattle.st_laws_refine.specs.Client.Law.{ReceivedOf, LifeEnds, Apart, Place, ClientResult, ClientStep, Comes, ClientStepsAreMoves, IsOver, LostLeasesAreOver}
 use Rattle.st_laws_refine.proofs.Views.Moves.{lives_up, moves_on, shows_more}
@@ -33,12 +24,6 @@ use Rattle.st_laws_refine.proofs.Client.Reductions.{reductions_goes}
 use Rattle.st_laws_refine.proofs.Client.Requests.{requests_goes, greeting_goes}
 use Rattle.st_laws_refine.proofs.Client.Work.{operations_goes, writes_goes, finish_goes, take_goes}
 use Rattle.st_laws_refine.proofs.Client.Losses.{lose_goes, lose_losses, lose_frame}
-use Rattle.st_base.specs.declared.ids.Life.{Life}
-use Rattle.st_lemmas.specs.Lists.{Has}
-
-pub nothing_more : {A : Type 0} (xs : List A) → xs ++ [] ≡ xs
-nothing_more [] = refl
-nothing_more (x ∷ xs) = ap (λ ys. x ∷ ys) (nothing_more xs)
 
 -- a rule at associations with other servers
 pub record Passed (own : ServerId) (T U : ClientTurn) : Type 0 where
@@ -62,7 +47,7 @@ leaves f = record { id_ = f.id_; server = f.server; config = f.config; said = f.
 
 passed : (own : ServerId) (rule : Turn → Turn) → Framed rule → (xs : List Association) (T : ClientTurn) → Apart own xs → Passed own T (at_these rule xs T)
 unfolding at_these
-passed own rule f [] T p = record { added = []; is = sym (nothing_more T.state.associations); apart = record {}; config = refl; id_ = refl; said = λ N s. s }
+passed own rule f [] T p = record { added = []; is = sym (append-nil T.state.associations); apart = record {}; config = refl; id_ = refl; said = λ N s. s }
 passed own rule f (x ∷ xs) T p =
     let r : Turn = rule (enter T x) in
     let U : ClientTurn = leave T r in
@@ -266,8 +251,8 @@ step_moves k sv now hs own s input a N le p pos kept c g =
     let r : ClientResult k sv d now.0 hs own a (cl.client_step s now input) N = result_then k d now.0 hs own sv a T _ N l.result (λ b M pb rb. taken k d now hs own s input T b M (these_id k sv now hs own (cl.lose now) s.associations _) c pb rb) in
     record { ended = l.ended; result = r; ends = later k now.0 a l.result.last.life.0 r.last.life.0 sv.ended l.ended (lives_up (taken k d now hs own s input T l.result.last l.result.net (these_id k sv now hs own (cl.lose now) s.associations _) c l.result.place l.result.ready).moves) l.ends }
 
-pub law : ClientStepsAreMoves
-law k sv now hs own s input a N le p pos kept c g = step_moves k sv now hs own s input a N le p pos kept c g
+pub client_steps_are_moves : ClientStepsAreMoves
+client_steps_are_moves k sv now hs own s input a N le p pos kept c g = step_moves k sv now hs own s input a N le p pos kept c g
 
 -- a life is lost only where its lease is over; of the machine's settings and server nothing is needed
 any_config : Config

@@ -1,51 +1,34 @@
 -- Operations, writes and the ends of disk commands: what is busy.
-use Rattle.std.proofs.Common.{◌≡◌, ℕ, ◌+◌, ◌≤◌, ◌⊎◌, Bool, true, false, not, ◌||◌, List, [], ◌∷◌, ◌++◌, ◌==◌, Option, Some, None, Ok, Err, refl, sym, ap, ◌∙◌, subst, inl, inr, if◌then◌else◌, leb-true}
-use Rattle.std.specs.Prelude.{find, filter, map}
-use Rattle.std.specs.List.{list_any}
-use Rattle.std.proofs.lemmas.Bool.{eqb-true, eq-eqb}
-use Rattle.st_base.specs.declared.ids.FileId.{FileId}
-use Rattle.st_base.specs.declared.ids.PageNo.{PageNo}
-use Rattle.st_base.specs.declared.ids.Stamp.{Stamp}
-use Rattle.st_base.specs.declared.disk.Tag.{Tag}
-use Rattle.st_base.specs.declared.mode.Mode.TheVariants as modes
+use Rattle.st_lemmas.proofs.Words
+use Words.{◌≡◌, ℕ, ◌+◌, ◌≤◌, ◌⊎◌, Bool, true, false, not, ◌||◌, List, [], ◌∷◌, ◌++◌, ◌==◌, Option, Some, None, Ok, Err, refl, sym, ◌∙◌, subst, inl, inr}
+use Words.{if◌then◌else◌, leb-true, find, filter, list_any, eqb-true, eq-eqb, FileId, PageNo, Stamp, Tag, Ask, AppAnswer, Note, DirtyPage, HeldLock}
+use Words.{CleanPage, KnownExtent, MappedBlock, LostPage, IoKind, PageCommand, Ended, Operation, ServerId}
+use Words.modes
+use Words.Page.{filled}
+use Words.asks
+use Words.answers
+use Words.io
+use Words.writing as refusals
+use Words.ends
+use Words.FlatLog.{overlay}
+use Words.ClientLocks.{lock_of, mode_at, is_demanded}
+use Words.ClientPages as pages
+use Words.Keys.{put}
+use Words.ClientPages.{Pages, Store}
+use Words.ClientState as st
+use Words.ClientState.{ClientSession, Turn, with_session, with_store, note, is_of, is_file, is_open_file, file_of, keep}
+use Words.ClientPasses as cp
+use Words.Client as cl
+use Words.Lookups.{some_is, any_filter, any_last, or_false, or_cases, or_left, or_right}
+use Words.Tables.{and_true, not_true}
+use Words.Tests.{any_map}
 use Rattle.st_base.specs.Mode.{number_of}
-use Rattle.st_base.specs.Page.{filled}
-use Rattle.st_messages.specs.declared.ask.Ask.{Ask}
-use Rattle.st_messages.specs.declared.ask.Ask.TheVariants as asks
-use Rattle.st_messages.specs.declared.answer.AppAnswer.{AppAnswer}
-use Rattle.st_messages.specs.declared.answer.AppAnswer.TheVariants as answers
-use Rattle.st_messages.specs.declared.output.Note.{Note}
-use Rattle.st_rules.specs.declared.pages.DirtyPage.{DirtyPage}
-use Rattle.st_rules.specs.declared.client.HeldLock.{HeldLock}
-use Rattle.st_rules.specs.declared.client.CleanPage.{CleanPage}
-use Rattle.st_rules.specs.declared.client.KnownExtent.{KnownExtent}
-use Rattle.st_rules.specs.declared.client.MappedBlock.{MappedBlock}
-use Rattle.st_rules.specs.declared.client.LostPage.{LostPage}
-use Rattle.st_rules.specs.declared.client.IoKind.{IoKind}
-use Rattle.st_rules.specs.declared.client.IoKind.TheVariants as io
-use Rattle.st_rules.specs.declared.client.PageCommand.{PageCommand}
-use Rattle.st_rules.specs.declared.client.WriteRefusal.TheVariants as refusals
-use Rattle.st_rules.specs.declared.client.Ended.{Ended}
-use Rattle.st_rules.specs.declared.client.Ended.TheVariants as ends
-use Rattle.st_rules.specs.declared.client.Operation.{Operation}
-use Rattle.st_rules.specs.FlatLog.{overlay}
-use Rattle.st_base.specs.declared.ids.ServerId.{ServerId}
-use Rattle.st_rules.specs.ClientLocks.{lock_of, mode_at, is_demanded}
-use Rattle.st_rules.specs.ClientPages as pages
-use Rattle.st_rules.specs.Keys.{put}
 use Rattle.st_lemmas.proofs.Puts.{any_put}
-use Rattle.st_rules.specs.ClientPages.{Pages, Store}
-use Rattle.st_rules.specs.ClientState as st
-use Rattle.st_rules.specs.ClientState.{ClientSession, Turn, with_session, with_store, note, is_of, is_file, is_open_file, file_of, keep}
-use Rattle.st_rules.specs.ClientPasses as cp
-use Rattle.st_rules.specs.Client as cl
-use Rattle.st_protocol.specs.Assoc.{Config, Msg}
+use Rattle.st_protocol.specs.Assoc.{Config, Msg, Stays}
 use Rattle.st_laws_refine.specs.Views.Halves.{held_at, busy_in}
-use Rattle.st_protocol.specs.Assoc.{Stays}
 use Rattle.st_laws_refine.specs.Client.Invariants.{at, Beside, Goes}
-use Rattle.st_lemmas.proofs.Lookups.{some_is, any_filter, any_last, or_false, or_cases, or_left, or_right}
-use Rattle.st_lemmas.proofs.Tables.{and_true, not_true}
-use Rattle.st_laws_refine.proofs.Client.Goes.{is_loss, no_loss, frame_more, said_both, goes_same, goes_then, if_goes, aside_goes, ops_goes, each_goes, rests_goes, works_goes}
+use Rattle.st_laws_refine.proofs.Client.Goes.{is_loss, no_loss, frame_more, said_both, goes_same, goes_then, if_goes, aside_goes, ops_goes, each_goes}
+use Rattle.st_laws_refine.proofs.Client.Goes.{rests_goes, works_goes}
 use Rattle.st_laws_refine.proofs.Client.Reductions.{with_it}
 
 -- what is found passes any test that follows
@@ -56,10 +39,6 @@ any_found p q v (x ∷ xs) e h = go (p x) e (any_found p q v xs)
     go : (b : Bool) → (if b then Some x else find p xs) ≡ Some v → (find p xs ≡ Some v → q v ≡ true → list_any q xs ≡ true) → (q x || list_any q xs) ≡ true
     go true e f = or_left (q x) _ (subst (λ z. q z ≡ true) (sym (some_is e)) h)
     go false e f = or_right (q x) _ (f e h)
-
-any_map : {A : Type 0} (p : A → Bool) (f : A → A) → ((x : A) → p (f x) ≡ p x) → (xs : List A) → list_any p (map f xs) ≡ list_any p xs
-any_map p f h [] = refl
-any_map p f h (x ∷ xs) = ap (λ b. b || list_any p (map f xs)) (h x) ∙ ap (λ b. p x || b) (any_map p f h xs)
 
 -- what is busy, by its two parts
 busy_by : (x y : Store) (i : ℕ) → (pages.has_dirty x.pages i ≡ true → pages.has_dirty y.pages i ≡ true) → (pages.has_write_on x.commands i ≡ true → pages.has_write_on y.commands i ≡ true) → busy_in x i ≡ true → busy_in y i ≡ true
@@ -72,7 +51,7 @@ busy_by x y i f g e = go (or_cases _ _ e)
 free_of : (all : List Operation) (server : ServerId) (s : ClientSession) (ino : ℕ) → st.is_open all server s ino ≡ true → is_file ino s.cutting ≡ false
 free_of all server s ino h = (or_false (is_file ino s.cutting) (list_any (st.is_sent_on server ino) all) (not_true (st.is_busy all server s ino) (and_true (not (is_demanded s.locks ino)) (not (st.is_busy all server s ino)) h).1)).0
 
-same_mode : (o : Option HeldLock) → number_of (mode_at o) ≡ (held_at o).mode
+pub same_mode : (o : Option HeldLock) → number_of (mode_at o) ≡ (held_at o).mode
 same_mode None = refl
 same_mode (Some l) = refl
 

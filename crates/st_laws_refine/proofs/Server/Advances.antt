@@ -1,29 +1,27 @@
 -- Time passes for all clients of a server at once, in both forms of the head: the clocks move, and then grace may end.
-use Rattle.std.proofs.Common.{◌≡◌, ℕ, zero, suc, ◌+◌, ◌*◌, ◌<◌, ◌≤◌, Bool, true, false, List, [], ◌∷◌, ◌==◌, if◌then◌else◌, refl, sym, ap, ◌∙◌, subst, inl, arith}
-use Rattle.std.specs.Prelude.{pred, length, get_or, slice_index, unwrap_or, Option, Some, None, Ok}
-use Rattle.std.specs.Option.{option_or}
-use Rattle.st_base.specs.declared.ids.Stamp.{Stamp}
+use Rattle.st_lemmas.proofs.Words
+use Words.{◌≡◌, ℕ, zero, suc, ◌+◌, ◌*◌, ◌<◌, ◌≤◌, Bool, true, false, List, [], ◌∷◌, ◌==◌, if◌then◌else◌, refl, sym, ap, ◌∙◌, subst, inl, arith, pred, length}
+use Words.{get_or, slice_index, unwrap_or, Option, Some, None, Ok, Stamp, LogEntry}
+use Words.nodes
+use Words.events
+use Words.Keys.{client}
+use Words.ClientPages.{empty_store}
+use Words.ClientState.{Association}
+use Words.Client.{association_with}
+use Words.Grace as grace
+use Words.Server.{ServerNode}
+use Words.World.{World, WorldClient, numbered, site_of, clock_of, server, stamp}
+use Words.Admissible.{refusal, clocks_refused}
+use Words.Events.{WorldTurn, counted, with_log, with_clocks, drift_with, advanced, advances, marks, log_ended_all, lives_reached, happens, world_step}
+use Words.Leases.{drift_after}
+use Words.Numbers.{numbered_below, get_there}
+use Words.Truth.{or_first}
 use Rattle.st_base.specs.declared.config.Config as base
-use Rattle.st_base.specs.declared.ids.NodeId.TheVariants as nodes
-use Rattle.st_messages.specs.declared.event.Event.TheVariants as events
-use Rattle.st_rules.specs.declared.log.LogEntry.{LogEntry}
-use Rattle.st_rules.specs.declared.observation.WorldRefusal.{WorldRefusal}
-use Rattle.st_rules.specs.Keys.{client}
-use Rattle.st_rules.specs.ClientPages.{empty_store}
-use Rattle.st_rules.specs.ClientState.{Association}
-use Rattle.st_rules.specs.Client.{association_with}
-use Rattle.st_rules.specs.Grace as grace
-use Rattle.st_rules.specs.Server.{ServerNode}
-use Rattle.st_rules.specs.World.{World, WorldClient, numbered, site_of, clock_of, server, stamp}
-use Rattle.st_rules.specs.Admissible.{refusal, clocks_refused}
-use Rattle.st_rules.specs.Events.{WorldTurn, counted, with_log, with_clocks, drift_with, advanced, advances, marks, log_ended_all, lives_reached, happens, world_step}
-use Rattle.st_rules.specs.Leases.{drift_after}
 use Rattle.st_rules.proofs.Drift.{IsSquare, pair_at, square_after}
 use Rattle.st_protocol.specs.Assoc as net
 use Rattle.st_protocol.specs.Assoc.{Config, ConfigOk, Assoc, Reached, Then, Advance, GraceEnds, Move}
 use Rattle.st_protocol.proofs.World.{invariant}
 use Rattle.st_laws_refine.specs.Views.Halves.{Ghost, client_at, half_of}
-use Rattle.st_lemmas.proofs.Numbers.{numbered_below, get_there}
 use Rattle.st_lemmas.proofs.Steps.{step_happens}
 use Rattle.st_laws_refine.specs.Server.View.{StandsAt}
 use Rattle.st_laws_refine.specs.Server.Pair.{client_view, client_at_site, client_in, pair, drift_between, terms_of, Timed}
@@ -60,13 +58,9 @@ advance_is : (w : World) (steps : List ℕ) → (happens (counted w) (events.Adv
 unfolding happens advances marks
 advance_is w steps = refl
 
-none_first : (a b : Option WorldRefusal) → option_or a b ≡ None → a ≡ None
-none_first None b e = refl
-none_first (Some x) b e = cc
-
 advance_ok : (w : World) (steps : List ℕ) → refusal w (events.Advance steps) ≡ None → clocks_refused w steps ≡ None
 unfolding refusal
-advance_ok w steps e = none_first _ _ e
+advance_ok w steps e = or_first _ _ e
 
 distributes : (d a b : ℕ) → d * (a + b) ≡ d * a + d * b
 distributes d a b = omega arith

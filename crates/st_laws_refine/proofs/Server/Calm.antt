@@ -1,38 +1,31 @@
 -- A client has one row on a file, and no reply is a conflict: what a whole step keeps.
-use Rattle.std.proofs.Common.{◌≡◌, ℕ, ◌⊎◌, true, false, List, [], ◌∷◌, ◌++◌, refl, sym, subst, inl, inr}
-use Rattle.std.specs.Prelude.{Some, None, Err}
-use Rattle.st_base.specs.declared.ids.ClientId.{ClientId}
-use Rattle.st_base.specs.declared.ids.GrantNo.{GrantNo}
-use Rattle.st_base.specs.declared.ids.ServerId.{ServerId}
-use Rattle.st_base.specs.declared.ids.Stamp.{Stamp}
+use Rattle.st_lemmas.proofs.Words
+use Words.{◌≡◌, ℕ, ◌⊎◌, true, false, List, [], ◌∷◌, ◌++◌, refl, sym, subst, inl, inr, Some, None, Err, ClientId, GrantNo, ServerId, Stamp, Mode, Message, Body}
+use Words.{Output, AcceptRefusal, ServerInput, Session, SessionState}
+use Words.outputs
+use Words.serving.{Control}
+use Words.states.{Live, Ended}
+use Words.Locks.{row_of}
+use Words.ServerInvariants.{are_once, same_row}
+use Words.Sessions as sessions
+use Words.Sessions.{Sessions}
+use Words.Grace as grace
+use Words.Server.{ServerState, ServerTurn, sender, life_in, reply, tell, steal_from, suspect_client, keep_and_reply, refused_reassertion, server_step, crash}
+use Words.Server.{start, begin_epoch, fresh_server}
+use Words.Safety.{is_conflict}
+use Words.Lists.{Has}
+use Words.Tables.{cond_either, found_at, has_map}
 use Rattle.st_base.specs.declared.config.Config as base
-use Rattle.st_base.specs.declared.mode.Mode.{Mode}
-use Rattle.st_messages.specs.declared.message.Message.{Message}
-use Rattle.st_messages.specs.declared.message.Body.{Body}
-use Rattle.st_messages.specs.declared.output.Output.{Output}
-use Rattle.st_messages.specs.declared.output.Output.TheVariants as outputs
-use Rattle.st_rules.specs.declared.authority.AcceptRefusal.{AcceptRefusal}
-use Rattle.st_rules.specs.declared.input.ServerInput.{ServerInput}
-use Rattle.st_rules.specs.declared.input.ServerInput.TheVariants.{Control}
-use Rattle.st_rules.specs.declared.sessions.Session.{Session}
-use Rattle.st_rules.specs.declared.sessions.SessionState.{SessionState}
-use Rattle.st_rules.specs.declared.sessions.SessionState.TheVariants.{Live, Ended}
-use Rattle.st_rules.specs.Locks.{row_of}
-use Rattle.st_rules.specs.ServerInvariants.{are_once, same_row}
-use Rattle.st_rules.specs.Sessions as sessions
-use Rattle.st_rules.specs.Sessions.{Sessions}
-use Rattle.st_rules.specs.Grace as grace
-use Rattle.st_rules.specs.Server.{ServerState, ServerTurn, sender, life_in, reply, tell, steal_from, suspect_client, keep_and_reply, refused_reassertion, server_step, crash, start, begin_epoch, fresh_server}
-use Rattle.st_rules.specs.Safety.{is_conflict}
 use Rattle.st_laws_refine.specs.Views.Messages.{on_same_file}
-use Rattle.st_lemmas.specs.Lists.{Has}
-use Rattle.st_lemmas.proofs.Tables.{cond_either, found_at, has_map}
 use Rattle.st_lemmas.proofs.Once.{once_none}
 use Rattle.st_lemmas.proofs.Puts.{has_put}
 use Rattle.st_laws_refine.specs.Server.Invariants.{CalmState, Calm}
-use Rattle.st_laws_refine.specs.Server.Edits.{WishInput, InGrace, Edit, TakesTimers, Steals, Suspects, Begins, DropsWaits, Keeps, Reasserts, Sees, Acquires, Releases, DropsFile, Grants, Demands, NamesChange, ExtentsChange, Cuts, Replies, Repeats, Refuses, TellsGrant, TellsDemand}
+use Rattle.st_laws_refine.specs.Server.Edits.{WishInput, InGrace, Edit, TakesTimers, Steals, Suspects, Begins, DropsWaits, Keeps, Reasserts, Sees, Acquires}
+use Rattle.st_laws_refine.specs.Server.Edits.{Releases, DropsFile, Grants, Demands, NamesChange, ExtentsChange, Cuts, Replies, Repeats, Refuses, TellsGrant}
+use Rattle.st_laws_refine.specs.Server.Edits.{TellsDemand}
 use Rattle.st_laws_refine.proofs.Server.Walk.{kept_calm, walk}
-use Rattle.st_laws_refine.proofs.Server.OneRow.{OnceEach, forget_once, drop_once, file_once, seen_once, demanded_once, released_once, granted_once, acquired_once, installed_once}
+use Rattle.st_laws_refine.proofs.Server.OneRow.{OnceEach, forget_once, drop_once, file_once, seen_once, demanded_once, released_once, granted_once}
+use Rattle.st_laws_refine.proofs.Server.OneRow.{acquired_once, installed_once}
 
 -- No conflict is put out, and none is kept.
 abbrev pub AllCalm : List Output → Type 0

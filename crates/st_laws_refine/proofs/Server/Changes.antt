@@ -1,23 +1,16 @@
 -- What the changes of the tables are for this client: those of other clients' rows, and of its own.
-use Rattle.std.proofs.Common.{◌≡◌, ◌≢◌, ℕ, ◌⊎◌, Bool, true, false, List, [], ◌∷◌, ◌==◌, refl, sym, ap, ◌∙◌, subst, inl, inr}
-use Rattle.std.specs.Prelude.{not, cond, nat_lt, find, Option, Some, None, option_map}
-use Rattle.std.proofs.lemmas.Bool.{eq-eqb, ne_eqb, eqb-true}
-use Rattle.st_base.specs.declared.ids.ClientId.{ClientId}
-use Rattle.st_base.specs.declared.ids.Life.{Life}
-use Rattle.st_rules.specs.declared.locks.LockRow.{LockRow}
-use Rattle.st_base.specs.declared.mode.Mode.{Mode}
-use Rattle.st_rules.specs.declared.locks.RowDemand.{RowDemand}
-use Rattle.st_rules.specs.declared.locks.Waiter.{Waiter}
-use Rattle.st_rules.specs.declared.sessions.Session.{Session}
-use Rattle.st_rules.specs.declared.authority.Suspect.{Suspect}
-use Rattle.st_rules.specs.Keys.{client}
-use Rattle.st_rules.specs.Locks.{Locks, is_row_by, is_row_of, is_wait_by, is_wait_of, row_of, forget, drop_waits, grant, new_row, demanded, demand_of, with_demand}
-use Rattle.st_rules.specs.Sessions.{Sessions, is_session_of, session_of, with_session, ended, end}
-use Rattle.st_rules.specs.Authority.{is_suspect, with_suspect, suspect_placed}
+use Rattle.st_lemmas.proofs.Words
+use Words.{◌≡◌, ◌≢◌, ℕ, Bool, true, false, List, [], ◌∷◌, ◌==◌, refl, sym, ap, ◌∙◌, subst, not, cond, nat_lt, find, Option, Some, None}
+use Words.{option_map, eq-eqb, ne_eqb, eqb-true, ClientId, Life, LockRow, Mode, RowDemand, Waiter, Session, Suspect}
+use Words.Keys.{client}
+use Words.Locks.{Locks, is_row_by, is_row_of, is_wait_by, is_wait_of, row_of, forget, drop_waits, grant, new_row, demanded, demand_of, with_demand}
+use Words.Sessions.{Sessions, is_session_of, session_of, with_session, ended, end}
+use Words.Authority.{is_suspect, with_suspect, suspect_placed}
+use Words.Lists.{Has}
+use Words.Tables.{and_true, and_both, and_left, and_right, not_true, cond_false, cond_either, find_map, find_kept, find_gone, find_first, find_next, has_filter}
+use Words.Tables.{find_other, find_own}
 use Rattle.st_laws_refine.specs.Views.Halves.{row_view}
-use Rattle.st_lemmas.specs.Lists.{Has}
 use Rattle.st_lemmas.proofs.Puts.{find_put, find_put_by, find_put_other}
-use Rattle.st_lemmas.proofs.Tables.{and_true, and_both, and_left, and_right, not_true, cond_false, cond_either, find_map, find_kept, find_gone, find_first, find_next, has_filter, find_other, find_own}
 
 -- tests of one client fail at another's rows
 pub is_not : (c d x : ℕ) → c ≢ d → (x == d) ≡ true → (x == c) ≡ false
@@ -82,21 +75,6 @@ suspect_own s d e (x ∷ xs) h =
         cond (is_suspect (client d) x) (Some x) (find (is_suspect (client d)) (with_suspect s xs)) ≡ Some s
     go true g h i = cc
     go false g h i = cond_false _ _ _ g ∙ i h
-
-pub has_suspect : (s : Suspect) (xs : List Suspect) (y : Suspect) → Has y (with_suspect s xs) → (y ≡ s) ⊎ Has y xs
-unfolding with_suspect suspect_placed
-has_suspect s [] y (inl e) = inl e
-has_suspect s [] y (inr h) = elim h [ ]
-has_suspect s (x ∷ xs) y h =
-    cond_either (λ ys. Has y ys → (y ≡ s) ⊎ Has y (x ∷ xs)) (nat_lt s.client.0 x.client.0) (s ∷ (x ∷ xs)) (x ∷ with_suspect s xs) (λ e i. i) (λ e i. go i (λ j. has_suspect s xs y j)) h
-  where
-    go : (y ≡ x) ⊎ Has y (with_suspect s xs) → (Has y (with_suspect s xs) → (y ≡ s) ⊎ Has y xs) → (y ≡ s) ⊎ Has y (x ∷ xs)
-    go (inl e) r = inr (inl e)
-    go (inr j) r = go2 (r j)
-      where
-        go2 : (y ≡ s) ⊎ Has y xs → (y ≡ s) ⊎ Has y (x ∷ xs)
-        go2 (inl e) = inl e
-        go2 (inr i) = inr (inr i)
 
 -- a grant
 pub grant_other : (l : Locks) (c : ClientId) (life : Life) (ino : ℕ) (mode : Mode) (d i : ℕ) → c.0 ≢ d → row_of (grant l c life ino mode) (client d) i ≡ row_of l (client d) i

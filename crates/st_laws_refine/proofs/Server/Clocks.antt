@@ -1,13 +1,13 @@
 -- An advance that is accepted moves the clocks of two nodes as the association wants it, in both forms of the head.
-use Rattle.std.proofs.Common.{◌≡◌, ℕ, zero, suc, ◌+◌, ◌*◌, ◌<◌, ◌≤◌, Bool, true, false, List, [], ◌∷◌, ◌==◌, refl, ap, arith}
-use Rattle.std.specs.Prelude.{not, length, slice_index, slice_get, Option, Some, None, if◌then◌else◌}
-use Rattle.st_base.specs.declared.ids.Stamp.{Stamp}
-use Rattle.st_rules.specs.declared.lease.Excess.{Excess}
-use Rattle.st_rules.specs.declared.observation.WorldRefusal.{WorldRefusal}
-use Rattle.st_rules.specs.Leases.{drift_after, first_excess}
-use Rattle.st_rules.specs.World.{World}
-use Rattle.st_rules.specs.Admissible.{stands, rate_refused, drift_refused, excess_with, clocks_refused}
-use Rattle.st_rules.specs.Events.{drift_with, advanced}
+use Rattle.st_lemmas.proofs.Words
+use Words.{◌≡◌, ℕ, zero, suc, ◌+◌, ◌*◌, ◌<◌, ◌≤◌, Bool, true, false, List, [], ◌∷◌, ◌==◌, ap, arith, length, slice_index, slice_get, Option, Some}
+use Words.{None, if◌then◌else◌, Stamp}
+use Words.Leases.{drift_after, first_excess}
+use Words.World.{World}
+use Words.Admissible.{rate_refused, drift_refused, excess_with, clocks_refused}
+use Words.Events.{drift_with, advanced}
+use Words.Tables.{not_false}
+use Words.Worlds.{no_excess, stands_not}
 use Rattle.st_rules.proofs.Drift.{IsSquare, pair_at, square_after, pair_after, none_from, covers_step}
 use Rattle.st_rules.proofs.Rates.{rated}
 
@@ -16,19 +16,6 @@ pub record Rated (w : World) (steps : List ℕ) (nodes m n : ℕ) : Type 0 where
   pub rate : pair_at w.drift m n + w.config.den * slice_index steps m ≤ pair_at (drift_with w steps) m n + w.config.num * slice_index steps n
   pub limit : pair_at (drift_with w steps) m n ≤ w.config.den * w.config.grain
   pub square : IsSquare (drift_with w steps) nodes
-
-stands_not : (b : Bool) (r : WorldRefusal) → stands b r ≡ None → b ≡ false
-unfolding stands
-stands_not true r e = cc
-stands_not false r e = refl
-
-not_false : (b : Bool) → not b ≡ false → b ≡ true
-not_false true e = refl
-not_false false e = cc
-
-no_excess : (w : World) (o : Option Excess) → drift_refused w o ≡ None → o ≡ None
-no_excess w None e = refl
-no_excess w (Some x) e = cc
 
 pub accepted : (w : World) (steps : List ℕ) (nodes m n : ℕ) → clocks_refused w steps ≡ None → length steps ≡ nodes → IsSquare w.drift nodes → m < nodes → n < nodes → pair_at w.drift m n ≤ w.config.den * w.config.grain → Rated w steps nodes m n
 unfolding clocks_refused drift_with first_excess

@@ -1,27 +1,20 @@
 -- Rows of one file are compatible, through a whole step of a server.
-use Rattle.std.proofs.Common.{◌≡◌, ◌≢◌, ℕ, ◌≤◌, ◌⊎◌, Bool, true, false, ◌&&◌, List, [], ◌∷◌, ◌==◌, refl, sym, ap, ◌∙◌, subst, inl, inr, arith}
-use Rattle.std.specs.Prelude.{not, find, filter, map, Option, Some, None, option_map}
-use Rattle.std.specs.List.{list_any}
+use Rattle.st_lemmas.proofs.Words
+use Words.{◌≡◌, ◌≢◌, ℕ, ◌≤◌, ◌⊎◌, Bool, true, false, ◌&&◌, List, [], ◌∷◌, ◌==◌, refl, sym, ap, ◌∙◌, subst, inl, inr, arith, not, find, filter, map, Option}
+use Words.{Some, None, option_map, list_any, ne_eqb, eqb-true, ClientId, GrantNo, Life, Stamp, Mode, ServerInput, LockRow, RowDemand, Waiter}
+use Words.modes
+use Words.Keys.{client}
+use Words.Locks as locks
+use Words.Locks.{Locks, is_row_of, row_of, is_wait_by, is_wait_on, stands_against, client_of_row, grant, new_row, queue, wait_of, wait_for, lowered, release_to}
+use Words.Locks.{observe, answered_row, demanded, demand_of, with_demand, installed, with_rows, holder_against, conflict_or, first_conflict}
+use Words.Server.{ServerState, server_step}
+use Words.Lists.{Has}
+use Words.Tables.{same_or_not, and_true, and_both, cond_either, find_map, find_own, find_gone, found_at, has_filter, has_filter_in, has_map, has_map_in}
+use Words.Tables.{none_passes}
+use Words.Serving.{released_waits}
 use Rattle.std.specs.Option.{option_or}
-use Rattle.std.proofs.lemmas.Bool.{ne_eqb, eqb-true}
 use Rattle.std.proofs.lemmas.List.Folds.{find-append}
-use Rattle.st_base.specs.declared.ids.ClientId.{ClientId}
-use Rattle.st_base.specs.declared.ids.GrantNo.{GrantNo}
-use Rattle.st_base.specs.declared.ids.Life.{Life}
-use Rattle.st_base.specs.declared.ids.Stamp.{Stamp}
-use Rattle.st_base.specs.declared.mode.Mode.{Mode}
-use Rattle.st_base.specs.declared.mode.Mode.TheVariants as modes
 use Rattle.st_base.specs.Mode.{number_of, conflicts}
-use Rattle.st_rules.specs.declared.input.ServerInput.{ServerInput}
-use Rattle.st_rules.specs.declared.locks.LockRow.{LockRow}
-use Rattle.st_rules.specs.declared.locks.RowDemand.{RowDemand}
-use Rattle.st_rules.specs.declared.locks.Waiter.{Waiter}
-use Rattle.st_rules.specs.Keys.{client}
-use Rattle.st_rules.specs.Locks as locks
-use Rattle.st_rules.specs.Locks.{Locks, is_row_of, row_of, is_wait_by, is_wait_on, stands_against, client_of_row, grant, new_row, queue, wait_of, wait_for, lowered, release_to, observe, answered_row, demanded, demand_of, with_demand, installed, with_rows, holder_against, conflict_or, first_conflict}
-use Rattle.st_rules.specs.Server.{ServerState, server_step}
-use Rattle.st_lemmas.specs.Lists.{Has}
-use Rattle.st_lemmas.proofs.Tables.{same_or_not, and_true, and_both, cond_either, find_map, find_own, find_gone, found_at, has_filter, has_filter_in, has_map, has_map_in, none_passes}
 use Rattle.st_laws_refine.proofs.Server.Changes.{forget_row, forget_own, forget_wait, grant_other, grant_elsewhere, grant_own, grant_wait}
 use Rattle.st_laws_refine.proofs.Server.Reasserting.{least_none}
 use Rattle.st_laws_refine.proofs.Server.Locking.{QueuedWait, Old, New, Raised, queue_rows, queue_waits, raised_mode, released_other, released_elsewhere}
@@ -89,16 +82,16 @@ mapped f (Some q) r e = (q, refl, some_is (f q) r e)
 same_rows : (l v : Locks) → v.rows ≡ l.rows → FromOld l v
 same_rows l v e c i r f = (r, ap (find (is_row_of c i)) (sym e) ∙ f, inl refl)
 
-c_forget : (l : Locks) (c : ClientId) → Compat l → Compat (locks.forget l c)
-c_forget l c k = smaller l (locks.forget l c) (λ d i r e. go d i r e (same_or_not c.0 d.0)) (λ w h. k.waits w (forget_wait l c w h).0) k
+compatible_after_forget : (l : Locks) (c : ClientId) → Compat l → Compat (locks.forget l c)
+compatible_after_forget l c k = smaller l (locks.forget l c) (λ d i r e. go d i r e (same_or_not c.0 d.0)) (λ w h. k.waits w (forget_wait l c w h).0) k
   where
     go : (d : ClientId) (i : ℕ) (r : LockRow) → row_of (locks.forget l c) d i ≡ Some r → (c.0 ≡ d.0) ⊎ (c.0 ≢ d.0) → (q : LockRow) × (row_of l d i ≡ Some q) × Below r.mode q.mode
     go d i r e (inl f) = let z = forget_own l c d.0 i f in cc
     go d i r e (inr ne) = (r, sym (forget_row l c d.0 i ne) ∙ e, inl refl)
 
-c_seen : (l : Locks) (c : ClientId) (ino : ℕ) (g : GrantNo) → Compat l → Compat (locks.demand_seen l c ino g)
+compatible_after_seen : (l : Locks) (c : ClientId) (ino : ℕ) (g : GrantNo) → Compat l → Compat (locks.demand_seen l c ino g)
 unfolding locks.demand_seen answered_row
-c_seen l c ino g k =
+compatible_after_seen l c ino g k =
     smaller l (locks.demand_seen l c ino g)
     (λ d i r e. let m = mapped (observe c ino g) (row_of l d i) r (sym (find_map (is_row_of d i) (observe c ino g) (λ x. cond_either (λ z. is_row_of d i z ≡ is_row_of d i x) (is_row_of c ino x && (x.g.0 == g.0)) (answered_row x) x (λ e. refl) (λ e. refl)) l.rows) ∙ e) in
     (m.0, m.1, inl (ap (λ (r : LockRow). r.mode) (sym m.2) ∙ same m.0))) k.waits k
@@ -106,9 +99,9 @@ c_seen l c ino g k =
     same : (x : LockRow) → (observe c ino g x).mode ≡ x.mode
     same x = cond_either (λ (z : LockRow). z.mode ≡ x.mode) (is_row_of c ino x && (x.g.0 == g.0)) (answered_row x) x (λ e. refl) (λ e. refl)
 
-c_demanded : (l : Locks) (r : LockRow) (x : RowDemand) → Compat l → Compat (with_demand r x l)
+compatible_after_demanded : (l : Locks) (r : LockRow) (x : RowDemand) → Compat l → Compat (with_demand r x l)
 unfolding demanded
-c_demanded l r0 x k =
+compatible_after_demanded l r0 x k =
     smaller l (with_demand r0 x l)
     (λ d i r e. let m = mapped (demand_of r0.client r0.ino x) (row_of l d i) r (sym (find_map (is_row_of d i) (demand_of r0.client r0.ino x) (λ y. cond_either (λ z. is_row_of d i z ≡ is_row_of d i y) (is_row_of r0.client r0.ino y) (demanded x y) y (λ e. refl) (λ e. refl)) l.rows) ∙ e) in
     (m.0, m.1, inl (ap (λ (r : LockRow). r.mode) (sym m.2) ∙ same m.0))) k.waits k
@@ -116,9 +109,9 @@ c_demanded l r0 x k =
     same : (y : LockRow) → (demand_of r0.client r0.ino x y).mode ≡ y.mode
     same y = cond_either (λ (z : LockRow). z.mode ≡ y.mode) (is_row_of r0.client r0.ino y) (demanded x y) y (λ e. refl) (λ e. refl)
 
-c_queued : (l : Locks) (c : ClientId) (life : Life) (ino : ℕ) (mode : Mode) → 1 ≤ number_of mode → Compat l → Compat (queue l c life ino mode)
+compatible_after_queued : (l : Locks) (c : ClientId) (life : Life) (ino : ℕ) (mode : Mode) → 1 ≤ number_of mode → Compat l → Compat (queue l c life ino mode)
 unfolding queue wait_for
-c_queued l c life ino mode some k =
+compatible_after_queued l c life ino mode some k =
     smaller l (queue l c life ino mode) (same_rows l (queue l c life ino mode) (queue_rows l c life ino mode (wait_of l c ino))) (λ w h. go w (queue_waits l c life ino mode (wait_of l c ino) w h)) k
   where
     go : (w : Waiter) → QueuedWait l c life ino mode w → 1 ≤ number_of w.mode
@@ -132,14 +125,8 @@ released_row l c ino modes.None r e = let z = find_gone (is_row_of c ino) (λ r.
 released_row l c ino modes.S r e = let m = mapped lowered (row_of l c ino) r (sym (find_own (is_row_of c ino) (is_row_of c ino) lowered (λ r. refl) (λ r h. h) l.rows) ∙ e) in (m.0, m.1, inr (ap (λ (r : LockRow). r.mode) (sym m.2)))
 released_row l c ino modes.X r e = let m = mapped lowered (row_of l c ino) r (sym (find_own (is_row_of c ino) (is_row_of c ino) lowered (λ r. refl) (λ r h. h) l.rows) ∙ e) in (m.0, m.1, inr (ap (λ (r : LockRow). r.mode) (sym m.2)))
 
-released_ws : (l : Locks) (c : ClientId) (ino : ℕ) (to : Mode) → (release_to l c ino to).waiters ≡ l.waiters
-unfolding release_to
-released_ws l c ino modes.None = refl
-released_ws l c ino modes.S = refl
-released_ws l c ino modes.X = refl
-
-c_released : (l : Locks) (c : ClientId) (ino : ℕ) (to : Mode) → Compat l → Compat (release_to l c ino to)
-c_released l c ino to k = smaller l (release_to l c ino to) (λ d i r e. go d i r e (same_or_not c.0 d.0) (same_or_not i ino)) (λ w h. k.waits w (subst (λ ws. Has w ws) (released_ws l c ino to) h)) k
+compatible_after_released : (l : Locks) (c : ClientId) (ino : ℕ) (to : Mode) → Compat l → Compat (release_to l c ino to)
+compatible_after_released l c ino to k = smaller l (release_to l c ino to) (λ d i r e. go d i r e (same_or_not c.0 d.0) (same_or_not i ino)) (λ w h. k.waits w (subst (λ ws. Has w ws) (released_waits l c ino to) h)) k
   where
     T : ClientId → ℕ → LockRow → Type 0
     T d i r = row_of (release_to l c ino to) d i ≡ Some r → (q : LockRow) × (row_of l d i ≡ Some q) × Below r.mode q.mode
@@ -150,8 +137,8 @@ c_released l c ino to k = smaller l (release_to l c ino to) (λ d i r e. go d i 
     go d i r e (inl f) (inr ne) = subst (λ n. T (client n) i r) f (λ e. (r, sym (released_elsewhere l c ino to i ne) ∙ e, inl refl)) e
 
 -- a grant that nobody's row conflicts with
-c_granted : (l : Locks) (c : ClientId) (life : Life) (ino : ℕ) (mode : Mode) → Wanted l mode → list_any (stands_against c ino mode) l.rows ≡ false → Compat l → Compat (grant l c life ino mode)
-c_granted l c life ino mode want free k =
+compatible_after_granted : (l : Locks) (c : ClientId) (life : Life) (ino : ℕ) (mode : Mode) → Wanted l mode → list_any (stands_against c ino mode) l.rows ≡ false → Compat l → Compat (grant l c life ino mode)
+compatible_after_granted l c life ino mode want free k =
     record {
       rows = λ d i r e. row_some d i r e (place d i);
       waits = λ w h. k.waits w (grant_wait l c life ino mode w h).0;
@@ -227,9 +214,9 @@ no_client : (o : Option ℕ) → option_map client o ≡ None → o ≡ None
 no_client None e = refl
 no_client (Some x) e = cc
 
-c_installed : (l : Locks) (c : ClientId) (life : Life) (rs : List (ℕ × GrantNo × Mode)) → AllSome rs → first_conflict l c rs ≡ None → Compat l → Compat (with_rows l c life rs)
+compatible_after_installed : (l : Locks) (c : ClientId) (life : Life) (rs : List (ℕ × GrantNo × Mode)) → AllSome rs → first_conflict l c rs ≡ None → Compat l → Compat (with_rows l c life rs)
 unfolding with_rows
-c_installed l c life rs some free k =
+compatible_after_installed l c life rs some free k =
     record {
       rows = λ d i r e. row_some d i r (place d i r e);
       waits = k.waits;
@@ -274,16 +261,16 @@ c_installed l c life rs some free k =
     both d e i r q ne (inl x) (inr y) =
         ap (λ (q : LockRow). conflicts r.mode q.mode) y.3 ∙ against d y.1 r y.2 (λ z. ne (sym z ∙ y.0)) (subst (λ i. row_of l d i ≡ Some r) (sym y.4) x)
 
-c_drop : (l : Locks) (c : ClientId) → Compat l → Compat (locks.drop_waits l c)
+compatible_after_drop : (l : Locks) (c : ClientId) → Compat l → Compat (locks.drop_waits l c)
 unfolding locks.drop_waits
-c_drop l c k = record { rows = k.rows; waits = λ w h. k.waits w (has_filter (λ w. not (is_wait_by c w)) l.waiters w h).0; fits = k.fits }
+compatible_after_drop l c k = record { rows = k.rows; waits = λ w h. k.waits w (has_filter (λ w. not (is_wait_by c w)) l.waiters w h).0; fits = k.fits }
 
-c_file : (l : Locks) (ino : ℕ) → Compat l → Compat (locks.drop_file_waits l ino)
+compatible_after_file : (l : Locks) (ino : ℕ) → Compat l → Compat (locks.drop_file_waits l ino)
 unfolding locks.drop_file_waits
-c_file l ino k = record { rows = k.rows; waits = λ w h. k.waits w (has_filter (λ w. not (is_wait_on ino w)) l.waiters w h).0; fits = k.fits }
+compatible_after_file l ino k = record { rows = k.rows; waits = λ w h. k.waits w (has_filter (λ w. not (is_wait_on ino w)) l.waiters w h).0; fits = k.fits }
 
 compat_closed : Closed Compat
-compat_closed = record { forget = c_forget; drop = c_drop; drop_file = c_file; seen = c_seen; install = c_installed; granted = c_granted; queued = c_queued; released = c_released; demanded = c_demanded }
+compat_closed = record { forget = compatible_after_forget; drop = compatible_after_drop; drop_file = compatible_after_file; seen = compatible_after_seen; install = compatible_after_installed; granted = compatible_after_granted; queued = compatible_after_queued; released = compatible_after_released; demanded = compatible_after_demanded }
 
 -- a whole step keeps rows compatible
 pub compat_step : (n : ServerState) (now : Stamp) (i : ServerInput) → WishInput i → Compat n.locks → Compat (server_step n now i).state.locks

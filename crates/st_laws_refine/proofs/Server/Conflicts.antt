@@ -1,33 +1,28 @@
 -- No conflict is sent: at a step of a server, from what holds of all its clients.
-use Rattle.std.proofs.Common.{◌≡◌, ℕ, ◌+◌, ◌<◌, ◌≤◌, Bool, true, false, not, List, [], ◌∷◌, ◌==◌, refl, sym, ap, ◌∙◌, subst, inl, inr, arith}
-use Rattle.std.specs.Prelude.{find, filter, map, cond, Option, Some, None, option_map, Result as Res, Err}
-use Rattle.std.proofs.lemmas.Bool.{eqb-true, eq-eqb, ltb-true}
-use Rattle.st_base.specs.declared.ids.ClientId.{ClientId}
-use Rattle.st_base.specs.declared.ids.GrantNo.{GrantNo}
-use Rattle.st_base.specs.declared.ids.Stamp.{Stamp}
-use Rattle.st_base.specs.declared.ids.NodeId.TheVariants as nodes
-use Rattle.st_base.specs.declared.mode.Mode.{Mode}
-use Rattle.st_base.specs.declared.mode.Mode.TheVariants as modes
+use Rattle.st_lemmas.proofs.Words
+use Words.{◌≡◌, ℕ, ◌+◌, ◌<◌, ◌≤◌, Bool, true, false, not, List, [], ◌∷◌, ◌==◌, refl, sym, ap, ◌∙◌, subst, inl, inr, arith, find, filter, map, cond, Option}
+use Words.{Some, None, option_map, Result as Res, Err, eqb-true, eq-eqb, ltb-true, ClientId, GrantNo, Stamp, Mode, Message, AcceptRefusal, ServerInput, LockRow}
+use Words.{Waiter, Session}
+use Words.nodes
+use Words.modes
+use Words.bodies as bd
+use Words.serving.{Tick, Control}
+use Words.Keys.{client, least}
+use Words.Locks.{Locks, is_row_by, is_row_of, row_of, stands_against, client_of_row, ino_of_row, holder_against, conflict_or, first_conflict, install}
+use Words.Locks.{install_at}
+use Words.Sessions as sessions
+use Words.Sessions.{session_of}
+use Words.Authority as authority
+use Words.Grace as grace
+use Words.Grace.{accept, accept_rows, accept_earlier, accept_own, accept_installed, is_row_below, own_older}
+use Words.Server.{ServerState, ServerNode, ServerTurn, turn, with_authority, sender, life_in, is_client_node, steal_at, steal_from, steal, steal_each, thefts}
+use Words.Server.{refused_reassertion}
+use Words.World.{World, clock_of, server}
+use Words.Safety.{is_conflict}
+use Words.Lists.{Has}
+use Words.Tables.{and_true, and_both, has_filter, has_map, none_has, not_true}
 use Rattle.st_base.specs.Mode.{number_of, conflicts}
-use Rattle.st_messages.specs.declared.message.Message.{Message}
-use Rattle.st_messages.specs.declared.message.Body.TheVariants as bd
-use Rattle.st_rules.specs.declared.authority.AcceptRefusal.{AcceptRefusal}
 use Rattle.st_rules.specs.declared.authority.AcceptRefusal.TheVariants as refusals
-use Rattle.st_rules.specs.declared.input.ServerInput.{ServerInput}
-use Rattle.st_rules.specs.declared.input.ServerInput.TheVariants.{Tick, Control}
-use Rattle.st_rules.specs.declared.locks.LockRow.{LockRow}
-use Rattle.st_rules.specs.declared.locks.Waiter.{Waiter}
-use Rattle.st_rules.specs.declared.sessions.Session.{Session}
-use Rattle.st_rules.specs.Keys.{client, least}
-use Rattle.st_rules.specs.Locks.{Locks, is_row_by, is_row_of, row_of, stands_against, client_of_row, ino_of_row, holder_against, conflict_or, first_conflict, install, install_at}
-use Rattle.st_rules.specs.Sessions as sessions
-use Rattle.st_rules.specs.Sessions.{session_of}
-use Rattle.st_rules.specs.Authority as authority
-use Rattle.st_rules.specs.Grace as grace
-use Rattle.st_rules.specs.Grace.{accept, accept_rows, accept_earlier, accept_own, accept_installed, is_row_below, own_older}
-use Rattle.st_rules.specs.Server.{ServerState, ServerNode, ServerTurn, turn, with_authority, sender, life_in, is_client_node, steal_at, steal_from, steal, steal_each, thefts, refused_reassertion}
-use Rattle.st_rules.specs.World.{World, clock_of, server}
-use Rattle.st_rules.specs.Safety.{is_conflict}
 use Rattle.st_protocol.specs.Assoc as net
 use Rattle.st_protocol.specs.Assoc.{Config, ConfigOk, In, msg}
 use Rattle.st_protocol.proofs.Invariant.{Invariant}
@@ -35,8 +30,6 @@ use Rattle.st_protocol.proofs.Lives.{first_in_grace}
 use Rattle.st_protocol.proofs.World.{invariant, no_conflict}
 use Rattle.st_laws_refine.specs.Views.Messages.{lock_in_row, lock_in, shown, Shows, epoch_shown, Wishes, Received}
 use Rattle.st_laws_refine.specs.Views.Halves.{Ghost, life_view, live_view, row_view, row_or}
-use Rattle.st_lemmas.specs.Lists.{Has}
-use Rattle.st_lemmas.proofs.Tables.{and_true, and_both, has_filter, has_map, none_has, not_true}
 use Rattle.st_lemmas.proofs.Keys.{least_some}
 use Rattle.st_laws_refine.specs.Server.View.{at, RowOk, NotEnded, ServesLife, Sound}
 use Rattle.st_laws_refine.specs.Server.Pair.{client_in}

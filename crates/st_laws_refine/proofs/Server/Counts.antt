@@ -1,57 +1,39 @@
 -- How many locks a server granted in its epoch, and how many wait: in a step at most one more, and then a message is sent.
-use Rattle.std.proofs.Common.{◌≡◌, ℕ, ◌+◌, ◌^◌, ◌<◌, ◌≤◌, ◌⊎◌, Bool, true, false, List, [], ◌∷◌, ◌++◌, if◌then◌else◌, refl, sym, ap, subst, inl, inr, arith}
-use Rattle.std.specs.Prelude.{not, filter, map, length, Option, Some, None}
-use Rattle.st_base.specs.declared.ids.ClientId.{ClientId}
-use Rattle.st_base.specs.declared.ids.GrantNo.{GrantNo}
-use Rattle.st_base.specs.declared.ids.Life.{Life}
-use Rattle.st_base.specs.declared.ids.ServerId.{ServerId}
-use Rattle.st_base.specs.declared.ids.Stamp.{Stamp}
+use Rattle.st_lemmas.proofs.Words
+use Words.{◌≡◌, ℕ, ◌+◌, ◌^◌, ◌<◌, ◌≤◌, ◌⊎◌, Bool, true, false, List, [], ◌∷◌, ◌++◌, if◌then◌else◌, refl, sym, ap, subst, inl, inr, arith, not, filter}
+use Words.{length, Option, Some, None, ClientId, GrantNo, Life, ServerId, Stamp, Mode, Message, Output, ServerInput, Waiter, Session, eq-eqb}
+use Words.modes
+use Words.notes
+use Words.outputs
+use Words.Locks as locks
+use Words.Locks.{Locks, is_wait_of, wait_of, grant, queue, queue_at, raise, release_to, with_rows}
+use Words.Sessions as sessions
+use Words.Authority as authority
+use Words.Server.{ServerState, ServerTurn, turn, sender, life_in, reply, tell, steal_at, steal_from, steal, steal_each, thefts, suspect_client, keep_and_reply}
+use Words.Server.{server_step, crash, start, begin_epoch, fresh_server}
+use Words.Events.{WorldTurn, sends, cuts, server_notes, server_says, server_says_all}
+use Words.Lists.{Has}
+use Words.Numbers.{length_more}
+use Words.Tables.{and_both}
+use Words.Lengths.{length_map}
+use Words.Tests.{filtered_no_longer}
 use Rattle.st_base.specs.declared.config.Config as base
-use Rattle.st_base.specs.declared.mode.Mode.{Mode}
-use Rattle.st_base.specs.declared.mode.Mode.TheVariants as modes
-use Rattle.st_messages.specs.declared.message.Message.{Message}
-use Rattle.st_messages.specs.declared.output.Note.TheVariants as notes
-use Rattle.st_messages.specs.declared.output.Output.{Output}
-use Rattle.st_messages.specs.declared.output.Output.TheVariants as outputs
 use Rattle.st_messages.specs.Sizes.{size_of}
-use Rattle.st_rules.specs.declared.input.ServerInput.{ServerInput}
-use Rattle.st_rules.specs.declared.locks.Waiter.{Waiter}
-use Rattle.st_rules.specs.declared.sessions.Session.{Session}
-use Rattle.st_rules.specs.Locks as locks
-use Rattle.st_rules.specs.Locks.{Locks, is_wait_of, wait_of, grant, queue, queue_at, raise, release_to, with_rows}
-use Rattle.st_rules.specs.Sessions as sessions
-use Rattle.st_rules.specs.Authority as authority
-use Rattle.st_rules.specs.Server.{ServerState, ServerTurn, turn, sender, life_in, reply, tell, steal_at, steal_from, steal, steal_each, thefts, suspect_client, keep_and_reply, server_step, crash, start, begin_epoch, fresh_server}
-use Rattle.st_rules.specs.Events.{WorldTurn, sends, cuts, server_notes, server_says, server_says_all}
-use Rattle.st_lemmas.specs.Lists.{Has}
-use Rattle.st_lemmas.proofs.Numbers.{length_more}
-use Rattle.st_lemmas.proofs.Tables.{and_both}
-use Rattle.std.proofs.lemmas.Bool.{eq-eqb}
-use Rattle.st_laws_refine.specs.Server.Edits.{WishInput, Acquired, AtOnce, InTurn, Edit, TakesTimers, Steals, Suspects, Begins, DropsWaits, Keeps, Reasserts, Sees, Acquires, Releases, DropsFile, Grants, Demands, NamesChange, ExtentsChange, Cuts, Replies, Repeats, Refuses, TellsGrant, TellsDemand}
+use Rattle.st_laws_refine.specs.Server.Edits.{WishInput, Acquired, AtOnce, InTurn, Edit, TakesTimers, Steals, Suspects, Begins, DropsWaits, Keeps, Reasserts}
+use Rattle.st_laws_refine.specs.Server.Edits.{Sees, Acquires, Releases, DropsFile, Grants, Demands, NamesChange, ExtentsChange, Cuts, Replies, Repeats, Refuses}
+use Rattle.st_laws_refine.specs.Server.Edits.{TellsGrant, TellsDemand}
 use Rattle.st_laws_refine.specs.Server.Invariants.{taken_locks, Few}
 use Rattle.st_laws_refine.proofs.Server.Walk.{walk}
 
-fewer : {A : Type 0} (p : A → Bool) (xs : List A) → length (filter p xs) ≤ length xs
-fewer p [] = omega arith
-fewer {A} p (x ∷ xs) = go (p x) (fewer p xs)
-  where
-    go : (b : Bool) → length (filter p xs) ≤ length xs → length (if b then x ∷ filter p xs else filter p xs) ≤ length (x ∷ xs)
-    go true h = omega arith
-    go false h = omega arith
-
 one_less : {A : Type 0} (p : A → Bool) (xs : List A) (x : A) → Has x xs → p x ≡ true → length (filter (λ x. not (p x)) xs) < length xs
 one_less p [] x h e = elim h [ ]
-one_less {A} p (y ∷ ys) x h e = go (p y) refl h (fewer (λ x. not (p x)) ys) (λ i. one_less p ys x i e)
+one_less {A} p (y ∷ ys) x h e = go (p y) refl h (filtered_no_longer (λ x. not (p x)) ys) (λ i. one_less p ys x i e)
   where
     go : (b : Bool) → p y ≡ b → (x ≡ y) ⊎ Has x ys → length (filter (λ x. not (p x)) ys) ≤ length ys → (Has x ys → length (filter (λ x. not (p x)) ys) < length ys) →
         length (if not b then y ∷ filter (λ x. not (p x)) ys else filter (λ x. not (p x)) ys) < length (y ∷ ys)
     go true f h l k = omega arith
     go false f (inl i) l k = let z = ap p i in cc
     go false f (inr i) l k = let z = k i in omega arith
-
-same_many : {A B : Type 0} (f : A → B) (xs : List A) → length (map f xs) ≡ length xs
-same_many f [] = refl
-same_many f (x ∷ xs) = let z = same_many f xs in omega arith
 
 -- how many messages are sent
 abbrev pub sent : List Output → ℕ
@@ -67,57 +49,57 @@ sent_more (outputs.Answer x y ∷ os) o = sent_more os o
 sent_more (outputs.Submit x y z ∷ os) o = sent_more os o
 
 -- the changes of the table
-t_forget : (l : Locks) (c : ClientId) → taken_locks (locks.forget l c) ≤ taken_locks l
+taken_after_forget : (l : Locks) (c : ClientId) → taken_locks (locks.forget l c) ≤ taken_locks l
 unfolding locks.forget
-t_forget l c = let z = fewer (λ w. not (locks.is_wait_by c w)) l.waiters in omega arith
+taken_after_forget l c = let z = filtered_no_longer (λ w. not (locks.is_wait_by c w)) l.waiters in omega arith
 
-t_drop : (l : Locks) (c : ClientId) → taken_locks (locks.drop_waits l c) ≤ taken_locks l
+taken_after_drop : (l : Locks) (c : ClientId) → taken_locks (locks.drop_waits l c) ≤ taken_locks l
 unfolding locks.drop_waits
-t_drop l c = let z = fewer (λ w. not (locks.is_wait_by c w)) l.waiters in omega arith
+taken_after_drop l c = let z = filtered_no_longer (λ w. not (locks.is_wait_by c w)) l.waiters in omega arith
 
-t_file : (l : Locks) (ino : ℕ) → taken_locks (locks.drop_file_waits l ino) ≤ taken_locks l
+taken_after_file : (l : Locks) (ino : ℕ) → taken_locks (locks.drop_file_waits l ino) ≤ taken_locks l
 unfolding locks.drop_file_waits
-t_file l ino = let z = fewer (λ w. not (locks.is_wait_on ino w)) l.waiters in omega arith
+taken_after_file l ino = let z = filtered_no_longer (λ w. not (locks.is_wait_on ino w)) l.waiters in omega arith
 
-t_grant : (l : Locks) (c : ClientId) (life : Life) (ino : ℕ) (mode : Mode) → taken_locks (grant l c life ino mode) ≤ taken_locks l + 1
+taken_after_grant : (l : Locks) (c : ClientId) (life : Life) (ino : ℕ) (mode : Mode) → taken_locks (grant l c life ino mode) ≤ taken_locks l + 1
 unfolding grant
-t_grant l c life ino mode = let z = fewer (λ w. not (is_wait_of c ino w)) l.waiters in omega arith
+taken_after_grant l c life ino mode = let z = filtered_no_longer (λ w. not (is_wait_of c ino w)) l.waiters in omega arith
 
-t_waiter : (l : Locks) (w : Waiter) → Has w l.waiters → taken_locks (grant l w.client w.life w.ino w.mode) ≤ taken_locks l
+taken_after_waiter : (l : Locks) (w : Waiter) → Has w l.waiters → taken_locks (grant l w.client w.life w.ino w.mode) ≤ taken_locks l
 unfolding grant
-t_waiter l w h = let z = one_less (is_wait_of w.client w.ino) l.waiters w h (and_both _ _ (eq-eqb w.client.0 w.client.0 refl) (eq-eqb w.ino w.ino refl)) in omega arith
+taken_after_waiter l w h = let z = one_less (is_wait_of w.client w.ino) l.waiters w h (and_both _ _ (eq-eqb w.client.0 w.client.0 refl) (eq-eqb w.ino w.ino refl)) in omega arith
 
-t_queue : (l : Locks) (c : ClientId) (life : Life) (ino : ℕ) (mode : Mode) → taken_locks (queue l c life ino mode) ≤ taken_locks l + 1
+taken_after_queue : (l : Locks) (c : ClientId) (life : Life) (ino : ℕ) (mode : Mode) → taken_locks (queue l c life ino mode) ≤ taken_locks l + 1
 unfolding queue queue_at
-t_queue l c life ino mode = go (wait_of l c ino)
+taken_after_queue l c life ino mode = go (wait_of l c ino)
   where
     go : (o : Option Waiter) → taken_locks (queue_at l c life ino mode o) ≤ taken_locks l + 1
     go None = let z = length_more l.waiters (locks.new_wait c life ino mode) in omega arith
-    go (Some w) = let z = same_many (raise c ino mode) l.waiters in omega arith
+    go (Some w) = let z = length_map (raise c ino mode) l.waiters in omega arith
 
-t_release : (l : Locks) (c : ClientId) (ino : ℕ) (to : Mode) → taken_locks (release_to l c ino to) ≡ taken_locks l
+taken_after_release : (l : Locks) (c : ClientId) (ino : ℕ) (to : Mode) → taken_locks (release_to l c ino to) ≡ taken_locks l
 unfolding release_to
-t_release l c ino modes.None = refl
-t_release l c ino modes.S = refl
-t_release l c ino modes.X = refl
+taken_after_release l c ino modes.None = refl
+taken_after_release l c ino modes.S = refl
+taken_after_release l c ino modes.X = refl
 
-t_seen : (l : Locks) (c : ClientId) (ino : ℕ) (g : GrantNo) → taken_locks (locks.demand_seen l c ino g) ≡ taken_locks l
+taken_after_seen : (l : Locks) (c : ClientId) (ino : ℕ) (g : GrantNo) → taken_locks (locks.demand_seen l c ino g) ≡ taken_locks l
 unfolding locks.demand_seen
-t_seen l c ino g = refl
+taken_after_seen l c ino g = refl
 
-t_rows : (l : Locks) (c : ClientId) (life : Life) (rows : List (ℕ × GrantNo × Mode)) → taken_locks (with_rows l c life rows) ≡ taken_locks l
+taken_after_rows : (l : Locks) (c : ClientId) (life : Life) (rows : List (ℕ × GrantNo × Mode)) → taken_locks (with_rows l c life rows) ≡ taken_locks l
 unfolding with_rows
-t_rows l c life rows = refl
+taken_after_rows l c life rows = refl
 
-t_acquired : (g : Bool) (l : Locks) (c : ClientId) (life : Life) (ino : ℕ) (mode : Mode) (v : Locks) → Acquired g l c life ino mode v → taken_locks v ≤ taken_locks l + 1
-t_acquired g l c life ino mode v (AtOnce off w f nobody) = t_grant l c life ino mode
-t_acquired g l c life ino mode v (InTurn w) = t_queue l c life ino mode
+taken_after_acquired : (g : Bool) (l : Locks) (c : ClientId) (life : Life) (ino : ℕ) (mode : Mode) (v : Locks) → Acquired g l c life ino mode v → taken_locks v ≤ taken_locks l + 1
+taken_after_acquired g l c life ino mode v (AtOnce off w f nobody) = taken_after_grant l c life ino mode
+taken_after_acquired g l c life ino mode v (InTurn w) = taken_after_queue l c life ino mode
 
 -- thefts take none
 steal_taken : (t : ServerTurn) (c : ClientId) (o : Option Session) → taken_locks (steal_at t c o).state.locks ≤ taken_locks t.state.locks
 unfolding steal_at steal_from
 steal_taken t c None = omega arith
-steal_taken t c (Some s) = t_forget t.state.locks c
+steal_taken t c (Some s) = taken_after_forget t.state.locks c
 
 steals_taken : (cs : List ClientId) (t : ServerTurn) → taken_locks (steal_each cs t).state.locks ≤ taken_locks t.state.locks
 unfolding steal_each steal
@@ -148,20 +130,20 @@ pub record TakenTurn (n : ServerState) (t : ServerTurn) : Type 0 where
 taken_edit : (n : ServerState) (now : Stamp) (i : ServerInput) (t u : ServerTurn) → Edit n now i t u → TakenTurn n t → TakenTurn n u
 unfolding steal_from suspect_client keep_and_reply reply tell
 taken_edit n now i t u (TakesTimers _ first) o = record { one = o.one; paid = o.paid }
-taken_edit n now i t u (Steals _ c s h e) o = let z = t_forget t.state.locks c in let y = sent_more t.out (outputs.Note (notes.Stolen c s.life)) in record { one = let a = o.one in omega arith; paid = let a = o.paid in omega arith }
-taken_edit n now i t u (Suspects _ c s f q) o = let z = t_drop t.state.locks c in let y = sent_more t.out (outputs.Note (notes.Suspected c now)) in record { one = let a = o.one in omega arith; paid = let a = o.paid in omega arith }
+taken_edit n now i t u (Steals _ c s h e) o = let z = taken_after_forget t.state.locks c in let y = sent_more t.out (outputs.Note (notes.Stolen c s.life)) in record { one = let a = o.one in omega arith; paid = let a = o.paid in omega arith }
+taken_edit n now i t u (Suspects _ c s f q) o = let z = taken_after_drop t.state.locks c in let y = sent_more t.out (outputs.Note (notes.Suspected c now)) in record { one = let a = o.one in omega arith; paid = let a = o.paid in omega arith }
 taken_edit n now i t u (Begins _ c life) o = record { one = o.one; paid = o.paid }
-taken_edit n now i t u (DropsWaits _ m s is b e lower) o = let z = t_drop t.state.locks (sender m.header) in record { one = let a = o.one in omega arith; paid = let a = o.paid in omega arith }
+taken_edit n now i t u (DropsWaits _ m s is b e lower) o = let z = taken_after_drop t.state.locks (sender m.header) in record { one = let a = o.one in omega arith; paid = let a = o.paid in omega arith }
 taken_edit n now i t u (Keeps _ c number b e) o = record { one = o.one; paid = o.paid }
-taken_edit n now i t u (Reasserts _ m rows is w g f) o = let z = t_rows t.state.locks (sender m.header) (life_in m.header) rows in record { one = let a = o.one in omega arith; paid = let a = o.paid in omega arith }
-taken_edit n now i t u (Sees _ m ino g is fi b) o = let z = t_seen t.state.locks (sender m.header) ino g in record { one = let a = o.one in omega arith; paid = let a = o.paid in omega arith }
+taken_edit n now i t u (Reasserts _ m rows is w g f) o = let z = taken_after_rows t.state.locks (sender m.header) (life_in m.header) rows in record { one = let a = o.one in omega arith; paid = let a = o.paid in omega arith }
+taken_edit n now i t u (Sees _ m ino g is fi b) o = let z = taken_after_seen t.state.locks (sender m.header) ino g in record { one = let a = o.one in omega arith; paid = let a = o.paid in omega arith }
 taken_edit n now i t u (Acquires _ m ino mode l b s is fi eb es el ok k a) o =
-    let z = t_acquired _ t.state.locks (sender m.header) (life_in m.header) ino mode l a in
+    let z = taken_after_acquired _ t.state.locks (sender m.header) (life_in m.header) ino mode l a in
     let f = subst (λ (t : ServerTurn). taken_locks t.state.locks ≤ taken_locks n.locks) (sym fi) (thefts_taken n now) in
     record { one = within_one _ _ _ z f; paid = paid_for _ _ _ _ _ z o.paid (sent_send t.out _) }
-taken_edit n now i t u (Releases _ m ino g to r is fi b er eu) o = let z = t_release t.state.locks (sender m.header) ino to in record { one = let a = o.one in omega arith; paid = let a = o.paid in omega arith }
-taken_edit n now i t u (DropsFile _ m dir name g ino is b e) o = let z = t_file t.state.locks ino in record { one = let a = o.one in omega arith; paid = let a = o.paid in omega arith }
-taken_edit n now i t u (Grants _ w off h first f) o = let z = t_waiter t.state.locks w h in record { one = let a = o.one in omega arith; paid = let a = o.paid in omega arith }
+taken_edit n now i t u (Releases _ m ino g to r is fi b er eu) o = let z = taken_after_release t.state.locks (sender m.header) ino to in record { one = let a = o.one in omega arith; paid = let a = o.paid in omega arith }
+taken_edit n now i t u (DropsFile _ m dir name g ino is b e) o = let z = taken_after_file t.state.locks ino in record { one = let a = o.one in omega arith; paid = let a = o.paid in omega arith }
+taken_edit n now i t u (Grants _ w off h first f) o = let z = taken_after_waiter t.state.locks w h in record { one = let a = o.one in omega arith; paid = let a = o.paid in omega arith }
 taken_edit n now i t u (Demands _ r x to er ed) o = record { one = o.one; paid = o.paid }
 taken_edit n now i t u (NamesChange _ v) o = record { one = o.one; paid = o.paid }
 taken_edit n now i t u (ExtentsChange _ v) o = record { one = o.one; paid = o.paid }

@@ -1,37 +1,27 @@
 -- The replies by which leases are dated, through a step of their server.
-use Rattle.std.proofs.Common.{◌≡◌, ◌≢◌, ℕ, ◌+◌, ◌<◌, ◌⊎◌, Bool, true, false, ◌&&◌, not, List, [], ◌∷◌, ◌++◌, ◌==◌, refl, sym, ap, ◌∙◌, subst, inl, inr, arith}
-use Rattle.std.specs.Prelude.{cond, filter, length, Option, Some, None, is_some}
-use Rattle.std.proofs.lemmas.Bool.{eq-eqb, lt-leb}
-use Rattle.st_base.specs.declared.ids.ClientId.{ClientId}
-use Rattle.st_base.specs.declared.ids.ServerId.{ServerId}
-use Rattle.st_base.specs.declared.ids.Stamp.{Stamp}
-use Rattle.st_messages.specs.declared.message.Message.{Message}
-use Rattle.st_messages.specs.declared.message.Header.{Header}
-use Rattle.st_messages.specs.declared.message.Body.{Body}
-use Rattle.st_messages.specs.declared.message.Body.TheVariants as bd
-use Rattle.st_base.specs.declared.ids.GrantNo.{GrantNo}
-use Rattle.st_base.specs.declared.mode.Mode.{Mode}
-use Rattle.st_messages.specs.declared.output.Note.TheVariants as notes
-use Rattle.st_messages.specs.declared.output.Output.{Output}
-use Rattle.st_messages.specs.declared.output.Output.TheVariants as outputs
-use Rattle.st_rules.specs.declared.authority.Suspect.{Suspect}
-use Rattle.st_rules.specs.declared.input.ServerInput.{ServerInput}
-use Rattle.st_rules.specs.declared.input.ServerInput.TheVariants.{Control}
-use Rattle.st_rules.specs.declared.observation.Observation.{Observation}
-use Rattle.st_rules.specs.declared.sessions.Session.{Session}
-use Rattle.st_rules.specs.Keys.{client}
-use Rattle.st_rules.specs.Authority as authority
-use Rattle.st_rules.specs.Authority.{Authority, suspect_of, is_over}
-use Rattle.st_rules.specs.Server.{ServerState, ServerTurn, reply, tell, steal_from, suspect_client, keep_and_reply, with_authority, sender, reply_header, own_header}
-use Rattle.st_rules.specs.World.{World}
-use Rattle.st_rules.specs.Events.{WorldTurn, sends, cuts, server_notes, server_says, server_says_all}
-use Rattle.st_rules.specs.History.{History, TimerStart, timer_start, is_timer_of, recall, recall_all}
-use Rattle.st_rules.specs.Dating.{is_request, may_date, goes_back, answers_to, is_reply_to}
-use Rattle.st_lemmas.specs.Lists.{Has}
-use Rattle.st_lemmas.proofs.Tables.{same_or_not, and_both, not_true, not_false, cond_either, find_kept_in, has_append, has_filter}
+use Rattle.st_lemmas.proofs.Words
+use Words.{◌≡◌, ◌≢◌, ℕ, ◌+◌, ◌<◌, ◌⊎◌, Bool, true, false, ◌&&◌, not, List, [], ◌∷◌, ◌++◌, ◌==◌, refl, sym, ap, ◌∙◌, subst, inl, inr, arith, cond, filter}
+use Words.{length, Option, Some, None, is_some, eq-eqb, lt-leb, ClientId, ServerId, Stamp, Message, Header, Body, GrantNo, Mode, Output, Suspect, ServerInput}
+use Words.{Observation, Session}
+use Words.bodies as bd
+use Words.notes
+use Words.outputs
+use Words.serving.{Control}
+use Words.Keys.{client}
+use Words.Authority as authority
+use Words.Authority.{Authority, suspect_of, is_over}
+use Words.Server.{ServerState, ServerTurn, reply, tell, steal_from, suspect_client, keep_and_reply, with_authority, sender, reply_header, own_header}
+use Words.World.{World}
+use Words.Events.{WorldTurn, sends, cuts, server_notes, server_says, server_says_all}
+use Words.History.{History, TimerStart, timer_start, is_timer_of, recall, recall_all}
+use Words.Dating.{is_request, may_date, goes_back, answers_to, is_reply_to}
+use Words.Lists.{Has}
+use Words.Tables.{same_or_not, and_both, not_true, not_false, cond_either, find_kept_in, has_append, has_filter}
+use Words.Serving.{has_suspect, suspect_wait}
 use Rattle.st_trace.specs.Server.Edits.{NoSends}
-use Rattle.st_laws_refine.specs.Server.Edits.{Edit, TakesTimers, Steals, Suspects, Begins, DropsWaits, Keeps, Reasserts, Sees, Acquires, Releases, DropsFile, Grants, Demands, NamesChange, ExtentsChange, Cuts, Replies, Repeats, Refuses, TellsGrant, TellsDemand}
-use Rattle.st_laws_refine.proofs.Server.Changes.{has_suspect, suspect_own, suspect_other}
+use Rattle.st_laws_refine.specs.Server.Edits.{Edit, TakesTimers, Steals, Suspects, Begins, DropsWaits, Keeps, Reasserts, Sees, Acquires, Releases, DropsFile}
+use Rattle.st_laws_refine.specs.Server.Edits.{Grants, Demands, NamesChange, ExtentsChange, Cuts, Replies, Repeats, Refuses, TellsGrant, TellsDemand}
+use Rattle.st_laws_refine.proofs.Server.Changes.{suspect_own, suspect_other}
 
 -- The timers that the history has after outputs of a server.
 abbrev pub timers_by : World → ServerId → List Output → List TimerStart → List TimerStart
@@ -174,11 +164,6 @@ kept_wait : (a : Authority) (now : Stamp) → (authority.still_running a now).wa
 unfolding authority.still_running
 kept_wait a now = refl
 
--- a timer that starts
-wait_same : (a : Authority) (c : ClientId) (now : Stamp) → (authority.suspect a c now).wait ≡ a.wait
-unfolding authority.suspect authority.start_timer
-wait_same a c now = cond_either (λ (b : Authority). b.wait ≡ a.wait) (authority.may_ack a c) (record a { suspects = authority.with_suspect (authority.new_suspect c now) a.suspects }) a (λ e. refl) (λ e. refl)
-
 suspect_there : (a : Authority) (c : ClientId) (now : Stamp) → is_some (suspect_of (authority.suspect a c now) c) ≡ true
 unfolding authority.suspect authority.start_timer
 suspect_there a c now =
@@ -195,7 +180,7 @@ suspect_apart a c now d ne h =
     cond_either (λ (b : Authority). is_some (suspect_of b d) ≡ true) (authority.may_ack a c) (record a { suspects = authority.with_suspect (authority.new_suspect c now) a.suspects }) a
     (λ e. ap is_some (suspect_other (authority.new_suspect c now) d.0 ne a.suspects) ∙ h) (λ e. h)
 
-suspect_stays : (a : Authority) (c : ClientId) (now : Stamp) (d : ClientId) → is_some (suspect_of a d) ≡ true → is_some (suspect_of (authority.suspect a c now) d) ≡ true
+pub suspect_stays : (a : Authority) (c : ClientId) (now : Stamp) (d : ClientId) → is_some (suspect_of a d) ≡ true → is_some (suspect_of (authority.suspect a c now) d) ≡ true
 suspect_stays a c now d h = go (same_or_not c.0 d.0)
   where
     go : (c.0 ≡ d.0) ⊎ (c.0 ≢ d.0) → is_some (suspect_of (authority.suspect a c now) d) ≡ true
@@ -260,7 +245,7 @@ module _ (w : World) (s : ℕ) (n : ServerState) (now : Stamp) (i : ServerInput)
   unfolding suspect_client
   starts_timer t c quiet free d = record {
     id = d.id;
-    wait = subst (λ a. 0 < a) (sym (wait_same t.state.authority c now)) d.wait;
+    wait = subst (λ a. 0 < a) (sym (suspect_wait t.state.authority c now)) d.wait;
     young = young_more t.state.authority c now d.wait d.young;
     timers = λ x h f. by x f (has_append (timers_by w S t.out ts) (timer_start w S c ∷ []) x (subst (Has x) (timers_more w S t.out (outputs.Note (notes.Suspected c now)) ts) h));
     sends = λ m h e. absurd (none_sent t.out (outputs.Note (notes.Suspected c now)) quiet m h (λ z. cc));

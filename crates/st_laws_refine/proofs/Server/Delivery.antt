@@ -1,35 +1,30 @@
 -- A server's step in the world, for one client: by a tick, or by a message that comes.
-use Rattle.std.proofs.Common.{◌≡◌, if◌then◌else◌, ℕ, zero, suc, ◌+◌, ◌≤◌, ◌⊎◌, Bool, true, false, List, [], ◌∷◌, refl, sym, ap, ◌∙◌, subst, inl, inr, arith, leb-true}
-use Rattle.std.specs.Prelude.{◌-◌, nat_le, pred, set, slice_get, cond, length, unwrap_or, Option, Some, None, Result as Res, Ok, Err}
-use Rattle.st_base.specs.declared.ids.ServerId.{ServerId}
-use Rattle.st_base.specs.declared.ids.Stamp.{Stamp}
-use Rattle.st_base.specs.declared.ids.NodeId.{NodeId}
-use Rattle.st_base.specs.declared.ids.NodeId.TheVariants as nodes
-use Rattle.st_messages.specs.declared.message.Message.{Message}
-use Rattle.st_messages.specs.declared.output.Note.TheVariants as notes
-use Rattle.st_messages.specs.declared.output.Output.{Output}
-use Rattle.st_messages.specs.declared.output.Output.TheVariants as outputs
-use Rattle.st_messages.specs.declared.event.Event.{Event}
-use Rattle.st_messages.specs.declared.event.Event.TheVariants as events
-use Rattle.st_rules.specs.declared.input.ServerInput.{ServerInput}
-use Rattle.st_rules.specs.declared.input.ServerInput.TheVariants.{Tick, Control}
-use Rattle.st_rules.specs.declared.observation.WorldRefusal.{WorldRefusal}
-use Rattle.st_rules.specs.declared.world.SentMessage.{SentMessage}
-use Rattle.st_rules.specs.Keys.{client}
+use Rattle.st_lemmas.proofs.Words
+use Words.{◌≡◌, if◌then◌else◌, ℕ, zero, suc, ◌+◌, ◌≤◌, ◌⊎◌, Bool, true, false, List, [], ◌∷◌, refl, sym, ap, ◌∙◌, subst, inl, inr, arith, leb-true, ◌-◌, nat_le}
+use Words.{pred, set, slice_get, cond, length, unwrap_or, Option, Some, None, Result as Res, Ok, Err, ServerId, Stamp, NodeId, Message, Output, Event}
+use Words.{ServerInput, WorldRefusal, SentMessage}
+use Words.nodes
+use Words.notes
+use Words.outputs
+use Words.events
+use Words.serving.{Tick, Control}
+use Words.Keys.{client}
+use Words.Leases.{steal_wait}
+use Words.Server.{ServerState, ServerNode, ServerTurn, server_step, node_turn, node_step, is_client_node}
+use Words.World.{World, numbered, node_of, clock_of, message_of, receiver_of, server, stamp, node_at}
+use Words.Admissible.{refusal}
+use Words.Events.{WorldTurn, quiet, counted, with_node, sends, cuts, server_notes, server_says, server_says_all, server_took, server_takes, ticks, at_server}
+use Words.Events.{delivers_to, delivers, happens, world_by, world_step}
+use Words.Lists.{Has}
+use Words.Tables.{has_append, and_true}
+use Words.Numbers.{get_has}
 use Rattle.st_rules.specs.declared.node.StepRefusal.TheVariants.{Crashed}
-use Rattle.st_rules.specs.Leases.{steal_wait}
-use Rattle.st_rules.specs.Server.{ServerState, ServerNode, ServerTurn, server_step, node_turn, node_step, is_client_node}
-use Rattle.st_rules.specs.World.{World, numbered, node_of, clock_of, message_of, receiver_of, server, stamp, node_at}
-use Rattle.st_rules.specs.Admissible.{refusal}
-use Rattle.st_rules.specs.Events.{WorldTurn, quiet, counted, with_node, sends, cuts, server_notes, server_says, server_says_all, server_took, server_takes, ticks, at_server, delivers_to, delivers, happens, world_by, world_step}
 use Rattle.st_protocol.proofs.Invariant.{Invariant}
 use Rattle.st_protocol.specs.Assoc.{Config, ConfigOk, Msg, Moves}
 use Rattle.st_laws_refine.specs.Views.Halves.{Ghost, half_of}
-use Rattle.st_lemmas.specs.Lists.{Has}
 use Rattle.st_laws_refine.specs.Server.View.{at, SaidOne, Said, Sound, StandsAt}
 use Rattle.st_laws_refine.specs.Server.Pair.{client_at_site, client_in, pair, Wire, Wires, Served}
 use Rattle.st_laws_refine.specs.Server.Edits.{WishInput}
-use Rattle.st_lemmas.proofs.Tables.{has_append, and_true}
 use Rattle.st_laws_refine.proofs.Views.Moves.{received_more, moved, Grows, moves_grow, shown_more}
 use Rattle.st_laws_refine.proofs.Server.Outputs.{all_has, step_outs}
 use Rattle.st_laws_refine.proofs.Server.Step.{ReceivedInput, step_goes}
@@ -138,18 +133,6 @@ taken w e sc h = go (refusal w e) h
     go : (o : Option WorldRefusal) → world_by w e o ≡ Ok sc → happens (counted w) e ≡ sc
     go None h = ok_is (happens (counted w) e) sc h
     go (Some r) h = cc
-
-get_has : {A : Type 0} (xs : List A) (i : ℕ) (x : A) → slice_get xs i ≡ Some x → Has x xs
-get_has [] i x e = cc
-get_has (y ∷ ys) zero x e = inl (sym (some_is y x e))
-  where
-    some_is : {A : Type 0} (x y : A) → ◌≡◌ {A = Option A} (Some x) (Some y) → x ≡ y
-    some_is {A} x y e = ap value e
-      where
-        value : Option A → A
-        value None = x
-        value (Some z) = z
-get_has (y ∷ ys) (suc i) x e = inr (get_has ys i x e)
 
 pub message_has : (w : World) (n : ℕ) (m : SentMessage) → message_of w n ≡ Some m → Has m w.net.messages
 message_has w zero m e = cc

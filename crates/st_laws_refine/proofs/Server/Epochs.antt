@@ -1,12 +1,10 @@
 -- Time that passes, and a server that stops and starts, for one client: what holds before it holds after it.
-use Rattle.std.proofs.Common.{◌≡◌, ℕ, ◌+◌, ◌^◌, ◌<◌, ◌≤◌, Bool, true, false, refl, sym, ap, arith, lt-ltb}
-use Rattle.std.specs.Prelude.{Option, Some, None}
-use Rattle.std.proofs.lemmas.Bool.{ltb-false, le-ltb}
-use Rattle.st_base.specs.declared.ids.Stamp.{Stamp}
-use Rattle.st_rules.specs.Leases.{steal_wait}
-use Rattle.st_rules.specs.Grace as grace
-use Rattle.st_rules.specs.Grace.{Grace}
-use Rattle.st_rules.specs.Server.{ServerState, begin_epoch, start, crash}
+use Rattle.st_lemmas.proofs.Words
+use Words.{◌≡◌, ℕ, ◌+◌, ◌^◌, ◌<◌, ◌≤◌, Bool, true, false, refl, sym, ap, arith, lt-ltb, Option, Some, None, ltb-false, le-ltb, Stamp}
+use Words.Leases.{steal_wait}
+use Words.Grace as grace
+use Words.Grace.{Grace}
+use Words.Server.{ServerState, begin_epoch, start, crash}
 use Rattle.st_laws_refine.specs.Views.Halves.{Ghost}
 use Rattle.st_laws_refine.specs.Server.View.{GraceIs, Sound, Stopped}
 

@@ -1,19 +1,17 @@
 -- A server that crashes and starts: one step of the machine for all clients at once.
-use Rattle.std.proofs.Common.{◌≡◌, ℕ, ◌^◌, ◌<◌, Bool, true, false, refl, sym, ap, ◌∙◌, subst, inl}
-use Rattle.std.specs.Prelude.{Some, Ok}
-use Rattle.st_base.specs.declared.ids.ClientId.{ClientId}
-use Rattle.st_base.specs.declared.ids.Stamp.{Stamp}
-use Rattle.st_base.specs.declared.ids.NodeId.TheVariants as nodes
-use Rattle.st_messages.specs.declared.event.Event.TheVariants as events
-use Rattle.st_rules.specs.Keys.{client}
-use Rattle.st_rules.specs.Leases.{steal_wait}
-use Rattle.st_rules.specs.Server.{ServerState, ServerNode, crash, crash_node, start, start_node, begin_epoch}
-use Rattle.st_rules.specs.World.{World, node_of, clock_of, server}
-use Rattle.st_rules.specs.Events.{WorldTurn, quiet, counted, with_node, crashes, crashes_server, starts, starts_server, happens, world_step}
+use Rattle.st_lemmas.proofs.Words
+use Words.{◌≡◌, ℕ, ◌^◌, ◌<◌, Bool, true, false, refl, sym, ap, ◌∙◌, subst, inl, Some, Ok, ClientId, Stamp}
+use Words.nodes
+use Words.events
+use Words.Keys.{client}
+use Words.Leases.{steal_wait}
+use Words.Server.{ServerState, ServerNode, crash, crash_node, start, start_node, begin_epoch}
+use Words.World.{World, node_of, clock_of, server}
+use Words.Events.{WorldTurn, quiet, counted, with_node, crashes, crashes_server, starts, starts_server, happens, world_step}
+use Words.Numbers.{numbered_own}
 use Rattle.st_protocol.specs.Assoc as net
 use Rattle.st_protocol.specs.Assoc.{Config, ConfigOk, Then, Stops, Starts, Move}
 use Rattle.st_laws_refine.specs.Views.Halves.{Ghost, half_of}
-use Rattle.st_lemmas.proofs.Numbers.{numbered_own}
 use Rattle.st_laws_refine.specs.Server.View.{Stopped, StandsAt}
 use Rattle.st_laws_refine.specs.Server.Pair.{client_in, pair}
 use Rattle.st_laws_refine.specs.Server.Paths.{Leads, SteppedOn}

@@ -1,20 +1,17 @@
 -- Before the first event: what holds of each client at a fresh server.
-use Rattle.std.proofs.Common.{ℕ, true, [], refl, arith}
-use Rattle.std.specs.Prelude.{Some, None}
-use Rattle.st_base.specs.declared.ids.ServerId.{ServerId}
-use Rattle.st_base.specs.declared.ids.Stamp.{Stamp}
+use Rattle.st_lemmas.proofs.Words
+use Words.{ℕ, true, [], refl, arith, Some, None, ServerId, Stamp}
+use Words.Keys.{client}
+use Words.Leases.{steal_wait}
+use Words.Client.{fresh_association}
+use Words.Server.{fresh_server}
+use Words.ClientPages.{empty_store}
 use Rattle.st_base.specs.declared.config.Config as base
-use Rattle.st_rules.specs.Keys.{client}
-use Rattle.st_rules.specs.Leases.{steal_wait}
-use Rattle.st_rules.specs.Client.{fresh_association}
-use Rattle.st_rules.specs.Server.{fresh_server}
 use Rattle.st_protocol.specs.Assoc.{BeginsAt}
-use Rattle.st_laws_refine.specs.Views.Halves.{Ghost}
+use Rattle.st_laws_refine.specs.Views.Halves.{Ghost, client_at}
 use Rattle.st_laws_refine.specs.Server.View.{at, Sound}
 use Rattle.st_laws_refine.specs.Server.Pair.{client_view}
 use Rattle.st_laws_refine.specs.Server.Invariants.{Compat}
-use Rattle.st_laws_refine.specs.Views.Halves.{client_at}
-use Rattle.st_rules.specs.ClientPages.{empty_store}
 
 abbrev pub no_ghost : Ghost
 no_ghost = record { start = 0; base = 0; gstart = 0; gbase = 0; glife = 0; top = 0; drift = 0; net = [] }

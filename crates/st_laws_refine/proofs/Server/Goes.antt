@@ -1,29 +1,22 @@
 -- What a rule of the server is for one client: moves of its association, and what is ready stays so.
-use Rattle.std.proofs.Common.{◌≡◌, ◌≢◌, ℕ, ◌+◌, ◌<◌, ◌≤◌, Bool, true, false, List, [], ◌∷◌, ◌++◌, refl, sym, ap, ◌∙◌, subst, arith}
-use Rattle.std.specs.Prelude.{cond, Option, Some, None, is_some}
-use Rattle.st_base.specs.declared.ids.Stamp.{Stamp}
+use Rattle.st_lemmas.proofs.Words
+use Words.{◌≡◌, ◌≢◌, ℕ, ◌+◌, ◌<◌, ◌≤◌, Bool, true, false, List, [], ◌∷◌, ◌++◌, refl, sym, ap, ◌∙◌, subst, arith, cond, Option, Some, None, is_some, Stamp}
+use Words.{Header, Body, Output, Waiter, Suspect, Session, SessionState}
+use Words.outputs
+use Words.states.{Live, Ended}
+use Words.Keys.{client}
+use Words.Locks as locks
+use Words.Sessions as sessions
+use Words.Authority as authority
+use Words.Grace as grace
+use Words.Server.{ServerState, ServerTurn, reply}
+use Words.Lists.{Has}
 use Rattle.st_base.specs.Mode.{number_of}
-use Rattle.st_messages.specs.declared.message.Header.{Header}
-use Rattle.st_messages.specs.declared.message.Body.{Body}
-use Rattle.st_messages.specs.declared.output.Output.{Output}
-use Rattle.st_messages.specs.declared.output.Output.TheVariants as outputs
-use Rattle.st_rules.specs.declared.locks.Waiter.{Waiter}
-use Rattle.st_rules.specs.declared.authority.Suspect.{Suspect}
-use Rattle.st_rules.specs.declared.sessions.Session.{Session}
-use Rattle.st_rules.specs.declared.sessions.SessionState.{SessionState}
-use Rattle.st_rules.specs.declared.sessions.SessionState.TheVariants.{Live, Ended}
-use Rattle.st_rules.specs.Keys.{client}
-use Rattle.st_rules.specs.Locks as locks
-use Rattle.st_rules.specs.Sessions as sessions
-use Rattle.st_rules.specs.Authority as authority
-use Rattle.st_rules.specs.Grace as grace
-use Rattle.st_rules.specs.Server.{ServerState, ServerTurn, reply}
 use Rattle.st_protocol.specs.Assoc as net
 use Rattle.st_protocol.specs.Assoc.{Config, Msg, Assoc, Moves, Stays}
 use Rattle.st_laws_refine.proofs.Views.Moves.{moves_on, moved, Grows, moves_grow, shows_more, shown_more}
 use Rattle.st_laws_refine.specs.Views.Messages.{shown, Shows}
 use Rattle.st_laws_refine.specs.Views.Halves.{Ghost, half, row_or, row_view, life_view, live_view}
-use Rattle.st_lemmas.specs.Lists.{Has}
 use Rattle.st_laws_refine.specs.Server.View.{at, TimerIs, GraceIs, SaidOne, Said, ServesLife, RowOk, Asked, WaitOk, KeptState, Kept, NotEnded, Sound, Ready}
 
 pub said_one_more : (d : ℕ) (o : Output) (N M : List Msg) → Grows N M → SaidOne d o N → SaidOne d o M

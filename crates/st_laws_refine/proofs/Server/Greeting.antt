@@ -1,37 +1,31 @@
 -- A greeting: of this client, and of another.
-use Rattle.std.proofs.Common.{◌≡◌, ◌≢◌, ℕ, ◌<◌, ◌≤◌, ◌⊎◌, Bool, true, false, [], ◌∷◌, ◌==◌, refl, sym, ap, ◌∙◌, subst, inl, inr, arith}
-use Rattle.std.specs.Prelude.{nat_lt, nat_le, Option, Some, None}
-use Rattle.std.proofs.lemmas.Bool.{eq-eqb, eqb-true, ltb-false, leb-false}
-use Rattle.st_base.specs.declared.ids.ClientId.{ClientId}
-use Rattle.st_base.specs.declared.ids.Life.{Life}
-use Rattle.st_base.specs.declared.ids.Stamp.{Stamp}
-use Rattle.st_messages.specs.declared.message.Header.{Header}
-use Rattle.st_messages.specs.declared.message.Body.{Body}
-use Rattle.st_messages.specs.declared.message.Body.TheVariants as bd
-use Rattle.st_messages.specs.declared.message.Why.TheVariants as why
-use Rattle.st_rules.specs.declared.locks.LockRow.{LockRow}
-use Rattle.st_rules.specs.declared.locks.Waiter.{Waiter}
-use Rattle.st_rules.specs.declared.sessions.Session.{Session}
-use Rattle.st_rules.specs.declared.sessions.Hello.{Hello}
-use Rattle.st_rules.specs.declared.sessions.Hello.TheVariants as hellos
-use Rattle.st_rules.specs.Keys.{client}
-use Rattle.st_rules.specs.Locks as locks
-use Rattle.st_rules.specs.Locks.{Locks, is_row_by, is_row_of, row_of, has_rows}
-use Rattle.st_rules.specs.Sessions as sessions
-use Rattle.st_rules.specs.Sessions.{Sessions, session_of, with_new_session, new_session, is_live, is_past, greeted, begin_session, hello_higher, hello_again, hello_live, hello_ended, hello_by, hello_at}
-use Rattle.st_rules.specs.Authority.{may_ack}
-use Rattle.st_rules.specs.Grace as grace
-use Rattle.st_rules.specs.Server.{ServerState, ServerTurn, with_locks, with_sessions, in_grace, sender, life_in, reply, suspect_client, greet_as, greet_by, greet, refuse_in_grace, hello}
+use Rattle.st_lemmas.proofs.Words
+use Words.{◌≡◌, ◌≢◌, ℕ, ◌<◌, ◌≤◌, ◌⊎◌, Bool, true, false, [], ◌∷◌, ◌==◌, refl, sym, ap, ◌∙◌, subst, inl, inr, arith, nat_lt, nat_le, Option, Some, None, eq-eqb}
+use Words.{eqb-true, ltb-false, leb-false, ClientId, Life, Stamp, Header, Body, LockRow, Waiter, Session, Hello}
+use Words.bodies as bd
+use Words.why
+use Words.hellos
+use Words.Keys.{client}
+use Words.Locks as locks
+use Words.Locks.{Locks, is_row_by, is_row_of, row_of, has_rows}
+use Words.Sessions as sessions
+use Words.Sessions.{Sessions, session_of, with_new_session, new_session, is_live, is_past, greeted, begin_session, hello_higher, hello_again, hello_live}
+use Words.Sessions.{hello_ended, hello_by, hello_at}
+use Words.Authority.{may_ack}
+use Words.Grace as grace
+use Words.Server.{ServerState, ServerTurn, with_locks, with_sessions, in_grace, sender, life_in, reply, suspect_client, greet_as, greet_by, greet}
+use Words.Server.{refuse_in_grace, hello}
+use Words.Lists.{Has}
+use Words.Tables.{same_or_not, and_true, not_true, cond_either, found_at, none_passes}
 use Rattle.st_protocol.specs.Assoc as net
 use Rattle.st_protocol.specs.Assoc.{Config, msg, In, Welcomes, WelcomesAgain, Moves, Stays}
 use Rattle.st_laws_refine.specs.Views.Messages.{shown, Shows}
 use Rattle.st_laws_refine.specs.Views.Halves.{Ghost, half, row_or, row_view, life_view, live_view}
-use Rattle.st_lemmas.specs.Lists.{Has}
 use Rattle.st_laws_refine.specs.Server.View.{ServesLife, RowOk, Kept, Sound, Ready}
-use Rattle.st_lemmas.proofs.Tables.{same_or_not, and_true, not_true, cond_either, found_at, none_passes}
 use Rattle.st_laws_refine.proofs.Server.Changes.{drop_wait, session_other, session_own}
 use Rattle.st_laws_refine.proofs.Views.Moves.{one, moved}
-use Rattle.st_laws_refine.proofs.Server.Goes.{said_append, said_more, Frame, observe, Goes, Result, goes_same, goes_then, unseen, first_unseen, replies, replies_other}
+use Rattle.st_laws_refine.proofs.Server.Goes.{said_append, said_more, Frame, observe, Goes, Result, goes_same, goes_then, unseen, first_unseen, replies}
+use Rattle.st_laws_refine.proofs.Server.Goes.{replies_other}
 use Rattle.st_laws_refine.proofs.Server.Passes.{suspect_goes}
 
 -- what becomes of the sessions is of the greeting client alone

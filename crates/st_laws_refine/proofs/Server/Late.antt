@@ -1,37 +1,29 @@
 -- Thefts come late, at each step of a server.
-use Rattle.std.proofs.Common.{◌≡◌, ◌||◌, ℕ, ◌+◌, ◌≤◌, Bool, true, false, ◌&&◌, List, [], ◌∷◌, ◌==◌, refl, sym, ap, ◌∙◌, subst, arith, leb-true}
-use Rattle.std.specs.Prelude.{not, nat_le, Option, Some, None, is_some, option_map}
-use Rattle.std.specs.List.{list_all}
+use Rattle.st_lemmas.proofs.Words
+use Words.{◌≡◌, ◌||◌, ℕ, ◌+◌, ◌≤◌, Bool, true, false, ◌&&◌, List, [], ◌∷◌, ◌==◌, refl, sym, ap, ◌∙◌, subst, arith, leb-true, not, nat_le, Option, Some, None}
+use Words.{is_some, option_map, list_all, le-leb, eqb-true, ClientId, Life, Stamp, Output, ServerInput, LeaseLife}
+use Words.Tables.{found_at, and_true, and_both, all_pass}
+use Words.nodes
+use Words.notes
+use Words.outputs
+use Words.ClientLease.{end_at}
+use Words.Keys.{client}
+use Words.Authority.{suspect_of, over}
+use Words.ClientState.{ClientSession, Association}
+use Words.Client.{association_with, lease_at, lease_of_session}
+use Words.World.{World, WorldClient, site_of, clock_of, server, ended_of, present_end, end_or_present, lease_end_of, is_life_of}
+use Words.Events.{WorldTurn, counted, sends, cuts, server_notes, server_says, server_says_all, server_takes}
+use Words.Server.{ServerNode, ServerState, server_step}
+use Words.Safety.{is_past, is_date_past, all_dates_past, is_late}
+use Words.History.{Traced, LeaseDate}
+use Words.Lists.{Has}
 use Rattle.std.proofs.lemmas.List.Folds.{list_all-append}
-use Rattle.std.proofs.lemmas.Bool.{le-leb, eqb-true}
-use Rattle.st_lemmas.proofs.Tables.{found_at, and_true, and_both, all_pass}
-use Rattle.st_base.specs.declared.ids.ClientId.{ClientId}
-use Rattle.st_base.specs.declared.ids.Life.{Life}
-use Rattle.st_base.specs.declared.ids.Stamp.{Stamp}
-use Rattle.st_base.specs.declared.ids.NodeId.TheVariants as nodes
-use Rattle.st_messages.specs.declared.output.Note.TheVariants as notes
-use Rattle.st_messages.specs.declared.output.Output.{Output}
-use Rattle.st_messages.specs.declared.output.Output.TheVariants as outputs
-use Rattle.st_rules.specs.declared.input.ServerInput.{ServerInput}
-use Rattle.st_rules.specs.declared.world.LeaseLife.{LeaseLife}
 use Rattle.st_base.specs.declared.config.Config as base
-use Rattle.st_rules.specs.ClientLease.{end_at}
-use Rattle.st_rules.specs.Keys.{client}
-use Rattle.st_rules.specs.Authority.{suspect_of, over}
-use Rattle.st_rules.specs.ClientState.{ClientSession, Association}
-use Rattle.st_rules.specs.Client.{association_with, lease_at, lease_of_session}
-use Rattle.st_rules.specs.World.{World, WorldClient, site_of, clock_of, server, ended_of, present_end, end_or_present, lease_end_of, is_life_of}
-use Rattle.st_rules.specs.Events.{WorldTurn, counted, sends, cuts, server_notes, server_says, server_says_all, server_takes}
-use Rattle.st_rules.specs.Server.{ServerNode, ServerState, server_step}
-use Rattle.st_rules.specs.Safety.{is_past, is_date_past, all_dates_past, is_late}
-use Rattle.st_rules.specs.History.{Traced, LeaseDate}
 use Rattle.st_protocol.specs.Assoc as net
 use Rattle.st_protocol.specs.Assoc.{Config, ConfigOk}
 use Rattle.st_protocol.proofs.Timing.{Timing, late, replies_late}
-use Rattle.st_laws_refine.specs.Views.Halves.{Ghost}
-use Rattle.st_lemmas.specs.Lists.{Has}
+use Rattle.st_laws_refine.specs.Views.Halves.{Ghost, leased_in, date_in}
 use Rattle.st_laws_refine.specs.Server.View.{at, TimerIs, Sound}
-use Rattle.st_laws_refine.specs.Views.Halves.{leased_in, date_in}
 use Rattle.st_laws_refine.specs.Server.Pair.{client_view, stamp_number, EndedBy, client_at_site, client_in, pair, Served, DatesShown, DatesKnown}
 use Rattle.st_laws_refine.specs.Server.Invariants.{Settings}
 use Rattle.st_laws_refine.specs.Server.Edits.{WishInput}

@@ -1,12 +1,12 @@
 -- The laws of the server's side, from the rules and from the events.
-use Rattle.std.proofs.Common.{◌≡◌, subst}
-use Rattle.std.specs.Prelude.{Ok}
-use Rattle.st_rules.specs.Events.{world_step}
-use Rattle.st_rules.specs.declared.input.ServerInput.{ServerInput}
-use Rattle.st_rules.specs.declared.input.ServerInput.TheVariants.{Tick, Control}
+use Rattle.st_lemmas.proofs.Words
+use Words.{◌≡◌, subst, Ok, ServerInput}
+use Words.Events.{world_step}
+use Words.serving.{Tick, Control}
 use Rattle.st_protocol.proofs.Invariant.{Invariant}
 use Rattle.st_protocol.proofs.World.{invariant}
-use Rattle.st_laws_refine.specs.Server.Law.{Comes, ServerStepsAreMoves, RowsStayCompatible, StepsKeepServers, AdvancesKeepServers, CrashesKeepServers, StartsKeepServers, ServersWait, CalmStays, FewStay}
+use Rattle.st_laws_refine.specs.Server.Law.{Comes, ServerStepsAreMoves, RowsStayCompatible, StepsKeepServers, AdvancesKeepServers, CrashesKeepServers}
+use Rattle.st_laws_refine.specs.Server.Law.{StartsKeepServers, ServersWait, CalmStays, FewStay}
 use Rattle.st_laws_refine.specs.Server.Invariants.{ByTick, ByMessage}
 use Rattle.st_laws_refine.proofs.Server.Step.{ReceivedInput, step_goes}
 use Rattle.st_laws_refine.proofs.Server.Compat.{compat_step}
@@ -17,8 +17,8 @@ use Rattle.st_laws_refine.proofs.Server.Calm.{calm_fresh, calm_crash, calm_start
 use Rattle.st_laws_refine.proofs.Server.Counts.{few_fresh, few_more, few_crash, few_start, few_grants}
 use Rattle.st_laws_refine.proofs.Server.Waits.{server_waits}
 
-pub law : ServerStepsAreMoves
-law k w cl now d n x i ok reached is comes ready =
+pub server_steps_are_moves : ServerStepsAreMoves
+server_steps_are_moves k w cl now d n x i ok reached is comes ready =
     let r = step_goes k cl now d n x i ok (received i comes) (subst (Invariant k) is (invariant k w ok reached d)) ready in
     record { ghost = r.ghost; moves = r.moves; ready = r.ready }
   where

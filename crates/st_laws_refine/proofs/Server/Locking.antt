@@ -1,38 +1,31 @@
 -- Acquire and release.
-use Rattle.std.proofs.Common.{◌≡◌, ◌≢◌, ℕ, ◌<◌, ◌≤◌, ◌⊎◌, Bool, true, false, List, [], ◌∷◌, ◌==◌, refl, sym, ap, ◌∙◌, subst, inl, inr, arith}
-use Rattle.std.specs.Prelude.{not, cond, find, Option, Some, None, is_some, option_map, Result as Res, Ok, Err}
-use Rattle.std.proofs.lemmas.Bool.{eqb-true, leb-false}
-use Rattle.st_base.specs.declared.ids.ClientId.{ClientId}
-use Rattle.st_base.specs.declared.ids.GrantNo.{GrantNo}
-use Rattle.st_base.specs.declared.ids.Life.{Life}
-use Rattle.st_base.specs.declared.ids.Stamp.{Stamp}
-use Rattle.st_base.specs.declared.mode.Mode.{Mode}
-use Rattle.st_base.specs.declared.mode.Mode.TheVariants as modes
+use Rattle.st_lemmas.proofs.Words
+use Words.{◌≡◌, ◌≢◌, ℕ, ◌<◌, ◌≤◌, ◌⊎◌, Bool, true, false, List, [], ◌∷◌, ◌==◌, refl, sym, ap, ◌∙◌, subst, inl, inr, arith, not, cond, find, Option, Some, None}
+use Words.{is_some, option_map, Result as Res, Ok, Err, eqb-true, leb-false, ClientId, GrantNo, Life, Stamp, Mode, Header, LockRow, AcquireRefusal, Waiter}
+use Words.{Session}
+use Words.modes
+use Words.bodies as bd
+use Words.Keys.{client}
+use Words.Locks as locks
+use Words.Locks.{Locks, Acquired, Released, is_row_of, row_of, is_wait_of, wait_of, grant, next_grant, greater, wait_for, raise, new_wait, queue_at, queue}
+use Words.Locks.{may_grant, has_place, acquire_granted, acquire_queued, acquire_held, acquire_more, acquire_new, acquire_over, acquire_at, lowered, release_to}
+use Words.Locks.{release, not_released, is_under, released_at}
+use Words.Sessions as sessions
+use Words.Sessions.{session_of}
+use Words.Authority.{suspect_of}
+use Words.Grace as grace
+use Words.Server as sv
+use Words.Server.{ServerState, ServerTurn, Replied, replied, with_locks, sender, life_in, is_file, grants_now, acquire_by, acquire_lock, no_file, released_by}
+use Words.Lists.{Has}
+use Words.Tables.{same_or_not, and_true, not_true, cond_either, cond_false, find_kept, find_gone, find_other, find_own, has_append, has_map}
 use Rattle.st_base.specs.Mode.{number_of, covers}
-use Rattle.st_messages.specs.declared.message.Header.{Header}
-use Rattle.st_messages.specs.declared.message.Body.TheVariants as bd
-use Rattle.st_rules.specs.declared.locks.LockRow.{LockRow}
-use Rattle.st_rules.specs.declared.locks.AcquireRefusal.{AcquireRefusal}
 use Rattle.st_rules.specs.declared.locks.AcquireRefusal.TheVariants.{TooManyLocks}
-use Rattle.st_rules.specs.declared.locks.Waiter.{Waiter}
-use Rattle.st_rules.specs.declared.sessions.Session.{Session}
-use Rattle.st_rules.specs.Keys.{client}
-use Rattle.st_rules.specs.Locks as locks
-use Rattle.st_rules.specs.Locks.{Locks, Acquired, Released, is_row_of, row_of, is_wait_of, wait_of, grant, next_grant, greater, wait_for, raise, new_wait, queue_at, queue, may_grant, has_place, acquire_granted, acquire_queued, acquire_held, acquire_more, acquire_new, acquire_over, acquire_at, lowered, release_to, release, not_released, is_under, released_at}
-use Rattle.st_rules.specs.Sessions as sessions
-use Rattle.st_rules.specs.Sessions.{session_of}
-use Rattle.st_rules.specs.Authority.{suspect_of}
-use Rattle.st_rules.specs.Grace as grace
-use Rattle.st_rules.specs.Server as sv
-use Rattle.st_rules.specs.Server.{ServerState, ServerTurn, Replied, replied, with_locks, sender, life_in, is_file, grants_now, acquire_by, acquire_lock, no_file, released_by}
 use Rattle.st_protocol.specs.Assoc as net
 use Rattle.st_protocol.specs.Assoc.{Config, Msg, msg, In, Assoc, upd, Again, GrantsAgain, Releases, Sweeps, Moves}
 use Rattle.st_protocol.proofs.Lists.{upd-same, upd-other}
 use Rattle.st_laws_refine.specs.Views.Messages.{released_to, with_date, Shows}
 use Rattle.st_laws_refine.specs.Views.Halves.{Ghost, half, row_seen, row_or, row_view, life_view, live_view}
-use Rattle.st_lemmas.specs.Lists.{Has}
 use Rattle.st_laws_refine.specs.Server.View.{ServesLife, RowOk, WaitOk, AllKept, Sound, Ready}
-use Rattle.st_lemmas.proofs.Tables.{same_or_not, and_true, not_true, cond_either, cond_false, find_kept, find_gone, find_other, find_own, has_append, has_map}
 use Rattle.st_laws_refine.proofs.Server.Changes.{row_not, row_not_ino}
 use Rattle.st_laws_refine.proofs.Views.Moves.{one, moved, moves_on, moves_grow}
 use Rattle.st_laws_refine.proofs.Server.Goes.{said_more, kept_more, wait_kept, wait_more, sound_more, Frame, frame_same, observe, received_more}

@@ -1,21 +1,17 @@
 -- A client has one row on a file, through every change of a lock table.
-use Rattle.std.proofs.Common.{◌≡◌, ℕ, Bool, true, false, ◌&&◌, List, [], ◌∷◌, ◌==◌, refl, sym, ap, ◌∙◌}
-use Rattle.std.specs.Prelude.{not, find, map, Some, None}
-use Rattle.std.proofs.lemmas.Bool.{eq-eqb, eqb-true}
-use Rattle.st_base.specs.declared.ids.ClientId.{ClientId}
-use Rattle.st_base.specs.declared.ids.GrantNo.{GrantNo}
-use Rattle.st_base.specs.declared.ids.Life.{Life}
-use Rattle.st_base.specs.declared.mode.Mode.{Mode}
-use Rattle.st_base.specs.declared.mode.Mode.TheVariants as modes
-use Rattle.st_rules.specs.declared.locks.LockRow.{LockRow}
-use Rattle.st_rules.specs.declared.locks.RowDemand.{RowDemand}
-use Rattle.st_rules.specs.Locks as locks
-use Rattle.st_rules.specs.Locks.{Locks, is_row_of, is_row_by, row_of, new_row, grant, queue, wait_of, lowered, lower, release_to, observe, answered_row, demanded, demand_of, with_demand, installed, with_rows}
-use Rattle.st_rules.specs.ServerInvariants.{are_once, same_row}
+use Rattle.st_lemmas.proofs.Words
+use Words.{◌≡◌, ℕ, Bool, true, false, ◌&&◌, List, [], ◌∷◌, ◌==◌, refl, sym, ap, ◌∙◌, not, find, map, Some, None, eq-eqb, eqb-true, ClientId, GrantNo, Life}
+use Words.{Mode, LockRow, RowDemand}
+use Words.modes
+use Words.Locks as locks
+use Words.Locks.{Locks, is_row_of, is_row_by, row_of, new_row, grant, queue, wait_of, lowered, lower, release_to, observe, answered_row, demanded, demand_of}
+use Words.Locks.{with_demand, installed, with_rows}
+use Words.ServerInvariants.{are_once, same_row}
+use Words.Lists.{Has}
+use Words.Tables.{and_true, and_both, and_right, cond_either, none_has, has_map}
+use Words.Truth.{eqb_turned}
 use Rattle.st_laws_refine.specs.Views.Messages.{is_row_on, on_same_file}
-use Rattle.st_lemmas.specs.Lists.{Has}
 use Rattle.st_lemmas.proofs.Once.{once_none, once_filter, once_map, once_put, once_append, once_first, once_rest, once_both, found_once}
-use Rattle.st_lemmas.proofs.Tables.{and_true, and_both, and_right, cond_either, none_has, has_map}
 use Rattle.st_laws_refine.proofs.Server.Locking.{queue_rows}
 use Rattle.st_laws_refine.specs.Server.Edits.{Acquired, AtOnce, InTurn}
 
@@ -27,21 +23,8 @@ OnceEach l = are_once same_row l.rows ≡ true
 own_row : (r : LockRow) → same_row r r ≡ true
 own_row r = and_both _ _ (eq-eqb r.client.0 r.client.0 refl) (eq-eqb r.ino r.ino refl)
 
-clash : (b : Bool) → b ≡ true → b ≡ false → ⊥
-clash true e f = cc
-clash false e f = cc
-
-number_flip : (m n : ℕ) → (m == n) ≡ (n == m)
-number_flip m n = go (m == n) refl (n == m) refl
-  where
-    go : (a : Bool) → (m == n) ≡ a → (b : Bool) → (n == m) ≡ b → (m == n) ≡ (n == m)
-    go true e true f = e ∙ sym f
-    go false e false f = e ∙ sym f
-    go true e false f = absurd (clash (n == m) (eq-eqb n m (sym (eqb-true m n e))) f)
-    go false e true f = absurd (clash (m == n) (eq-eqb m n (sym (eqb-true n m f))) e)
-
 row_flip : (r q : LockRow) → same_row r q ≡ same_row q r
-row_flip r q = ap (λ a. a && (q.ino == r.ino)) (number_flip q.client.0 r.client.0) ∙ ap (λ b. (r.client.0 == q.client.0) && b) (number_flip q.ino r.ino)
+row_flip r q = ap (λ a. a && (q.ino == r.ino)) (eqb_turned q.client.0 r.client.0) ∙ ap (λ b. (r.client.0 == q.client.0) && b) (eqb_turned q.ino r.ino)
 
 -- so it is found by client and file
 pub row_found : (l : Locks) → OnceEach l → (r : LockRow) → Has r l.rows → row_of l r.client r.ino ≡ Some r
@@ -49,7 +32,7 @@ row_found l e r h = found_once same_row own_row row_flip l.rows e r h
 
 -- so is a row of a reassertion
 pub alone : (rows : List (ℕ × GrantNo × Mode)) → are_once on_same_file rows ≡ true → (r : ℕ × GrantNo × Mode) → Has r rows → find (is_row_on r.0) rows ≡ Some r
-alone rows e r h = found_once on_same_file (λ x. eq-eqb x.0 x.0 refl) (λ x y. number_flip y.0 x.0) rows e r h
+alone rows e r h = found_once on_same_file (λ x. eq-eqb x.0 x.0 refl) (λ x y. eqb_turned y.0 x.0) rows e r h
 
 -- a change of rows that leaves client and file
 record Keyed (f : LockRow → LockRow) : Type 0 where

@@ -1,17 +1,14 @@
 -- What a server's step puts out: each message is from this server, and thefts are those of timers that are over.
-use Rattle.std.proofs.Common.{◌≡◌, ℕ, ◌+◌, List, [], ◌∷◌, ◌++◌, sym, ap, subst, inl, inr}
-use Rattle.st_base.specs.declared.ids.ClientId.{ClientId}
-use Rattle.st_base.specs.declared.ids.Life.{Life}
-use Rattle.st_base.specs.declared.ids.Stamp.{Stamp}
+use Rattle.st_lemmas.proofs.Words
+use Words.{◌≡◌, ℕ, ◌+◌, List, [], ◌∷◌, ◌++◌, sym, ap, subst, inl, inr, ClientId, Life, Stamp, Output, ServerInput}
+use Words.notes
+use Words.outputs
+use Words.Authority as authority
+use Words.Server.{ServerState, ServerTurn, reply, tell, steal_from, suspect_client, keep_and_reply, server_step}
+use Words.Lists.{Has}
 use Rattle.st_base.specs.declared.config.Config as base
-use Rattle.st_messages.specs.declared.output.Note.TheVariants as notes
-use Rattle.st_messages.specs.declared.output.Output.{Output}
-use Rattle.st_messages.specs.declared.output.Output.TheVariants as outputs
-use Rattle.st_rules.specs.declared.input.ServerInput.{ServerInput}
-use Rattle.st_rules.specs.Authority as authority
-use Rattle.st_rules.specs.Server.{ServerState, ServerTurn, reply, tell, steal_from, suspect_client, keep_and_reply, server_step}
-use Rattle.st_lemmas.specs.Lists.{Has}
-use Rattle.st_laws_refine.specs.Server.Edits.{WishInput, Edit, TakesTimers, Steals, Suspects, Begins, DropsWaits, Keeps, Reasserts, Sees, Acquires, Releases, DropsFile, Grants, Demands, NamesChange, ExtentsChange, Cuts, Replies, Repeats, Refuses, TellsGrant, TellsDemand}
+use Rattle.st_laws_refine.specs.Server.Edits.{WishInput, Edit, TakesTimers, Steals, Suspects, Begins, DropsWaits, Keeps, Reasserts, Sees, Acquires, Releases}
+use Rattle.st_laws_refine.specs.Server.Edits.{DropsFile, Grants, Demands, NamesChange, ExtentsChange, Cuts, Replies, Repeats, Refuses, TellsGrant, TellsDemand}
 use Rattle.st_laws_refine.proofs.Server.Walk.{walk}
 
 -- a message is from this server, and a theft is one of these

@@ -1,48 +1,39 @@
 -- The passes: suspecting, granting and demanding.
-use Rattle.std.proofs.Common.{◌≡◌, ◌≢◌, ℕ, zero, suc, ◌<◌, ◌≤◌, ◌⊎◌, Bool, true, false, List, [], ◌∷◌, ◌++◌, ◌==◌, refl, sym, ap, ◌∙◌, subst, inl, inr, arith}
-use Rattle.std.specs.Prelude.{not, cond, find, length, Option, Some, None, is_some}
-use Rattle.std.specs.List.{list_any}
-use Rattle.std.proofs.lemmas.Bool.{eq-eqb, eqb-true}
-use Rattle.st_base.specs.declared.ids.ClientId.{ClientId}
-use Rattle.st_base.specs.declared.ids.GrantNo.{GrantNo}
-use Rattle.st_base.specs.declared.ids.Life.{Life}
-use Rattle.st_base.specs.declared.ids.Stamp.{Stamp}
+use Rattle.st_lemmas.proofs.Words
+use Words.{◌≡◌, ◌≢◌, ℕ, zero, suc, ◌<◌, ◌≤◌, ◌⊎◌, Bool, true, false, List, [], ◌∷◌, ◌++◌, ◌==◌, refl, sym, ap, ◌∙◌, subst, inl, inr, arith, not, cond, find}
+use Words.{length, Option, Some, None, is_some, list_any, eq-eqb, eqb-true, ClientId, GrantNo, Life, Stamp, Mode, Body, LockRow, RowDemand, Waiter, Session}
+use Words.{Suspect, ServerInput}
+use Words.modes
+use Words.bodies as bd
+use Words.serving.{Tick, Control}
+use Words.Keys.{client, same_client}
+use Words.Locks as locks
+use Words.Locks.{Locks, Granting, Demanding, row_of, is_row_of, grant, new_row, next_grant, is_wait_on, stands_against, grantable, next_waiter, grant_waiter}
+use Words.Locks.{grant_and, grant_file, grant_files, next_grants, with_demand, demand_now, demand_with, demand_row, demand_clients, to_demand, is_among}
+use Words.Locks.{demand_for, demand_files, demands_due, wish, waited_files}
+use Words.Sessions as sessions
+use Words.Authority as authority
+use Words.Authority.{Authority, is_suspect, suspect_of, new_suspect, may_ack, start_timer, suspects_of, client_of_suspect}
+use Words.Grace as grace
+use Words.Server.{ServerState, ServerTurn, with_locks, in_grace, tell, suspect_client, suspect_unless, suspect_each, suspecting, suspecting_on, tell_granted}
+use Words.Server.{grant_by, grant_waiting, granting, tell_demanded, demand_by, is_tick, demanding}
+use Words.Lists.{Has}
+use Words.Tables.{same_or_not, and_true, not_true, cond_either, found_at, none_has, has_filter, has_map_in, none_passes}
+use Words.Serving.{has_suspect}
+use Words.Truth.{none_there}
 use Rattle.st_base.specs.declared.config.Config as base
-use Rattle.st_base.specs.declared.mode.Mode.{Mode}
-use Rattle.st_base.specs.declared.mode.Mode.TheVariants as modes
 use Rattle.st_base.specs.Mode.{number_of}
-use Rattle.st_messages.specs.declared.message.Body.{Body}
-use Rattle.st_messages.specs.declared.message.Body.TheVariants as bd
-use Rattle.st_rules.specs.declared.locks.LockRow.{LockRow}
-use Rattle.st_rules.specs.declared.locks.RowDemand.{RowDemand}
-use Rattle.st_rules.specs.declared.locks.Waiter.{Waiter}
-use Rattle.st_rules.specs.declared.sessions.Session.{Session}
-use Rattle.st_rules.specs.declared.authority.Suspect.{Suspect}
-use Rattle.st_rules.specs.declared.input.ServerInput.{ServerInput}
-use Rattle.st_rules.specs.declared.input.ServerInput.TheVariants.{Tick, Control}
-use Rattle.st_rules.specs.Keys.{client, same_client}
-use Rattle.st_rules.specs.Locks as locks
-use Rattle.st_rules.specs.Locks.{Locks, Granting, Demanding, row_of, is_row_of, grant, new_row, next_grant, is_wait_on, stands_against, grantable, next_waiter, grant_waiter, grant_and, grant_file, grant_files, next_grants, with_demand, demand_now, demand_with, demand_row, demand_clients, to_demand, is_among, demand_for, demand_files, demands_due, wish, waited_files}
-use Rattle.st_rules.specs.Sessions as sessions
-use Rattle.st_rules.specs.Authority as authority
-use Rattle.st_rules.specs.Authority.{Authority, is_suspect, suspect_of, new_suspect, may_ack, start_timer, suspects_of, client_of_suspect}
-use Rattle.st_rules.specs.Grace as grace
-use Rattle.st_rules.specs.Server.{ServerState, ServerTurn, with_locks, in_grace, tell, suspect_client, suspect_unless, suspect_each, suspecting, suspecting_on, tell_granted, grant_by, grant_waiting, granting, tell_demanded, demand_by, is_tick, demanding}
 use Rattle.st_protocol.specs.Assoc as net
 use Rattle.st_protocol.specs.Assoc.{Config, Msg, msg, In, upd, Suspects, Grants, Demands, Moves, Stays}
 use Rattle.st_protocol.proofs.Lists.{upd-same, upd-other}
 use Rattle.st_laws_refine.specs.Views.Messages.{shown, with_date, Shows}
 use Rattle.st_laws_refine.specs.Views.Halves.{Ghost, half, row_or, row_view, life_view, live_view}
-use Rattle.st_lemmas.specs.Lists.{Has}
 use Rattle.st_laws_refine.specs.Server.View.{TimerIs, Said, ServesLife, RowOk, WaitOk, Sound, Ready}
-use Rattle.st_lemmas.proofs.Tables.{same_or_not, and_true, not_true, cond_either, found_at, none_has, has_filter, has_map_in, none_passes}
-use Rattle.st_laws_refine.proofs.Server.Changes.{drop_wait, suspect_other, suspect_own, has_suspect, grant_other, grant_elsewhere, grant_own, grant_wait, demand_view}
+use Rattle.st_laws_refine.proofs.Server.Changes.{drop_wait, suspect_other, suspect_own, grant_other, grant_elsewhere, grant_own, grant_wait}
+use Rattle.st_laws_refine.proofs.Server.Changes.{demand_view}
 use Rattle.st_laws_refine.proofs.Views.Moves.{one, moved, moves_on, Grows, moves_grow, shows_more}
-use Rattle.st_laws_refine.proofs.Server.Goes.{said_append, said_more, wait_more, wait_kept, kept_more, sound_more, Frame, frame_sound, frame_at, observe, Goes, Result, goes_same, goes_then, if_goes, unseen}
-
-none_some : {A : Type 0} (o : Option A) → not (is_some o) ≡ true → o ≡ None
-none_some None e = refl
-none_some (Some x) e = cc
+use Rattle.st_laws_refine.proofs.Server.Goes.{said_append, said_more, wait_more, wait_kept, kept_more, sound_more, Frame, frame_sound, frame_at, observe, Goes}
+use Rattle.st_laws_refine.proofs.Server.Goes.{Result, goes_same, goes_then, if_goes, unseen}
 
 two : (m : Mode) → number_of m ≤ 2
 two modes.None = omega arith
@@ -88,7 +79,7 @@ module _ (k : Config) (cl : net.Client) (d : ℕ) (now : Stamp) where
       v = record { state = record t.state { locks = locks.drop_waits t.state.locks c; authority = a }; out = (suspect_client t now c).out }
 
       none : suspect_of t.state.authority (client d) ≡ None
-      none = subst (λ d. suspect_of t.state.authority (client d) ≡ None) e (none_some (suspect_of t.state.authority c) m)
+      none = subst (λ d. suspect_of t.state.authority (client d) ≡ None) e (none_there (suspect_of t.state.authority c) m)
 
       begun : suspect_of a (client d) ≡ Some (new_suspect c now)
       begun = suspect_own (new_suspect c now) d e t.state.authority.suspects none

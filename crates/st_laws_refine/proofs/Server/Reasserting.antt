@@ -1,47 +1,37 @@
 -- Kept replies, and reassertion.
-use Rattle.std.proofs.Common.{◌≡◌, ◌≢◌, ℕ, ◌+◌, ◌<◌, ◌≤◌, ◌⊎◌, Bool, true, false, ◌&&◌, ◌||◌, List, [], ◌∷◌, ◌==◌, refl, sym, ap, ◌∙◌, subst, inl, inr, arith, lt-ltb}
-use Rattle.std.specs.Prelude.{cond, nat_lt, find, filter, map, slice_get, Option, Some, None, is_some, Result as Res, Ok, Err}
-use Rattle.std.proofs.lemmas.Bool.{eq-eqb, ne_eqb, eqb-true, ltb-false}
+use Rattle.st_lemmas.proofs.Words
+use Words.{◌≡◌, ◌≢◌, ℕ, ◌+◌, ◌<◌, ◌≤◌, ◌⊎◌, Bool, true, false, ◌&&◌, ◌||◌, List, [], ◌∷◌, ◌==◌, refl, sym, ap, ◌∙◌, subst, inl, inr, arith, lt-ltb, cond}
+use Words.{nat_lt, find, filter, map, slice_get, Option, Some, None, is_some, Result as Res, Ok, Err, eq-eqb, ne_eqb, eqb-true, ltb-false, ClientId, GrantNo}
+use Words.{Epoch, Life, Stamp, Mode, Header, Body, LockRow, Waiter, Session, SessionState, Taken, AcceptRefusal}
+use Words.bodies as bd
+use Words.why
+use Words.states.{Live, Ended}
+use Words.takes
+use Words.Keys.{client, least, rising, with_key, placed, past}
+use Words.Locks.{Locks, is_row_of, row_of, installed, with_rows, install, install_at, first_conflict, ino_of_row, first_after}
+use Words.Sessions as sessions
+use Words.Sessions.{Sessions, session_of, is_live, again, take_next, take_from, take_number, take_state, take_past, take_life, take_at, reasserted_session}
+use Words.Sessions.{knows_at}
+use Words.Authority.{suspect_of}
+use Words.Grace as grace
+use Words.Grace.{is_new_grant, is_row_below, own_older, accepted, accept_installed, accept_own, accept_earlier, accept_rows, accept}
+use Words.Server.{ServerState, ServerTurn, with_locks, with_sessions, sender, life_in, reply, take, refused_reassertion, reassert_by, reassert_new}
+use Words.Server.{reassert_again, reassert}
+use Words.Lists.{Has}
+use Words.Tables.{same_or_not, and_true, and_both, and_left, not_true, cond_either, cond_true, cond_false, found_at, has_map_in, has_filter_in}
 use Rattle.std.proofs.lemmas.List.Folds.{find-append}
 use Rattle.std.specs.Option.{option_or}
-use Rattle.st_base.specs.declared.ids.ClientId.{ClientId}
-use Rattle.st_base.specs.declared.ids.GrantNo.{GrantNo}
-use Rattle.st_base.specs.declared.ids.Epoch.{Epoch}
-use Rattle.st_base.specs.declared.ids.Life.{Life}
-use Rattle.st_base.specs.declared.ids.Stamp.{Stamp}
-use Rattle.st_base.specs.declared.mode.Mode.{Mode}
 use Rattle.st_base.specs.Mode.{number_of}
-use Rattle.st_messages.specs.declared.message.Header.{Header}
-use Rattle.st_messages.specs.declared.message.Body.{Body}
-use Rattle.st_messages.specs.declared.message.Body.TheVariants as bd
-use Rattle.st_messages.specs.declared.message.Why.TheVariants as why
-use Rattle.st_rules.specs.declared.locks.LockRow.{LockRow}
-use Rattle.st_rules.specs.declared.locks.Waiter.{Waiter}
-use Rattle.st_rules.specs.declared.sessions.Session.{Session}
-use Rattle.st_rules.specs.declared.sessions.SessionState.{SessionState}
-use Rattle.st_rules.specs.declared.sessions.SessionState.TheVariants.{Live, Ended}
-use Rattle.st_rules.specs.declared.sessions.Taken.{Taken}
-use Rattle.st_rules.specs.declared.sessions.Taken.TheVariants as takes
-use Rattle.st_rules.specs.declared.authority.AcceptRefusal.{AcceptRefusal}
 use Rattle.st_rules.specs.declared.authority.AcceptRefusal.TheVariants as refusals
-use Rattle.st_rules.specs.Keys.{client, least, rising, with_key, placed, past}
-use Rattle.st_rules.specs.Locks.{Locks, is_row_of, row_of, installed, with_rows, install, install_at, first_conflict, ino_of_row, first_after}
-use Rattle.st_rules.specs.Sessions as sessions
-use Rattle.st_rules.specs.Sessions.{Sessions, session_of, is_live, again, take_next, take_from, take_number, take_state, take_past, take_life, take_at, reasserted_session, knows_at}
-use Rattle.st_rules.specs.Authority.{suspect_of}
-use Rattle.st_rules.specs.Grace as grace
-use Rattle.st_rules.specs.Grace.{is_new_grant, is_row_below, own_older, accepted, accept_installed, accept_own, accept_earlier, accept_rows, accept}
-use Rattle.st_rules.specs.Server.{ServerState, ServerTurn, with_locks, with_sessions, sender, life_in, reply, take, refused_reassertion, reassert_by, reassert_new, reassert_again, reassert}
 use Rattle.st_protocol.specs.Assoc as net
 use Rattle.st_protocol.specs.Assoc.{Config, Msg, msg, In, Server, Again, Acks, Accepts, Sweeps, Moves, Stays, GoesOn}
 use Rattle.st_laws_refine.specs.Views.Messages.{lock_in_row, lock_in, is_row_on, shown, Shows}
 use Rattle.st_laws_refine.specs.Views.Halves.{Ghost, half, row_or, row_view, life_view, live_view}
-use Rattle.st_lemmas.specs.Lists.{Has}
 use Rattle.st_laws_refine.specs.Server.View.{RowOk, AllKept, KeptAt, KeptState, Kept, NotEnded, Sound, Ready}
-use Rattle.st_lemmas.proofs.Tables.{same_or_not, and_true, and_both, and_left, not_true, cond_either, cond_true, cond_false, found_at, has_map_in, has_filter_in}
 use Rattle.st_laws_refine.proofs.Server.Changes.{session_other, session_own}
 use Rattle.st_laws_refine.proofs.Views.Moves.{one, moved, moves_on, moves_grow, shows_more}
-use Rattle.st_laws_refine.proofs.Server.Goes.{said_append, said_more, Frame, observe, Goes, Result, goes_same, goes_then, if_goes, unseen, replies, replies_other}
+use Rattle.st_laws_refine.proofs.Server.Goes.{said_append, said_more, Frame, observe, Goes, Result, goes_same, goes_then, if_goes, unseen, replies}
+use Rattle.st_laws_refine.proofs.Server.Goes.{replies_other}
 use Rattle.st_laws_refine.proofs.Server.Greeting.{refused}
 
 -- What a request by life and number tells of the session.

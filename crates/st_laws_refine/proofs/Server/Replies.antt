@@ -1,34 +1,26 @@
 -- The replies by which leases are dated, through a whole step of their server in the world.
-use Rattle.std.proofs.Common.{◌≡◌, ℕ, ◌+◌, ◌<◌, ◌≤◌, ◌⊎◌, Bool, true, false, not, List, [], ◌∷◌, ◌++◌, ◌==◌, refl, sym, ap, ◌∙◌, subst, inl, inr, arith}
-use Rattle.std.specs.Prelude.{suc, cond, find, filter, length, Option, Some, None, Ok, is_some}
-use Rattle.std.proofs.lemmas.Bool.{eq-eqb, eqb-true}
-use Rattle.st_base.specs.declared.ids.ClientId.{ClientId}
-use Rattle.st_base.specs.declared.ids.ServerId.{ServerId}
-use Rattle.st_base.specs.declared.ids.Stamp.{Stamp}
-use Rattle.st_base.specs.declared.ids.NodeId.{NodeId}
-use Rattle.st_base.specs.declared.ids.NodeId.TheVariants as nodes
-use Rattle.st_messages.specs.declared.event.Event.TheVariants as events
-use Rattle.st_messages.specs.declared.message.Message.{Message}
-use Rattle.st_messages.specs.declared.output.Note.TheVariants as notes
-use Rattle.st_messages.specs.declared.output.Output.{Output}
-use Rattle.st_messages.specs.declared.output.Output.TheVariants as outputs
-use Rattle.st_rules.specs.declared.authority.Suspect.{Suspect}
-use Rattle.st_rules.specs.declared.input.ServerInput.{ServerInput}
-use Rattle.st_rules.specs.declared.input.ServerInput.TheVariants.{Tick, Control}
-use Rattle.st_rules.specs.declared.sessions.Session.{Session}
-use Rattle.st_rules.specs.declared.world.SentMessage.{SentMessage}
-use Rattle.st_rules.specs.Keys.{client}
-use Rattle.st_rules.specs.Authority as authority
-use Rattle.st_rules.specs.Authority.{Authority, suspect_of, is_over, is_suspect}
-use Rattle.st_rules.specs.Sessions.{session_of}
-use Rattle.st_rules.specs.Server.{ServerState, ServerNode, ServerTurn, turn, with_authority, steal_at, steal_from, steal, steal_each, thefts, server_step}
-use Rattle.st_rules.specs.World.{World, numbered, node_of, clock_of, server}
-use Rattle.st_rules.specs.Events.{WorldTurn, quiet, counted, with_node, sends, cuts, server_notes, server_says, server_says_all, server_takes, world_step}
-use Rattle.st_rules.specs.History.{Traced, History, TimerStart, is_timer_of, recall_all, remember, traced_after}
-use Rattle.st_rules.specs.Dating.{is_request, is_reply_to}
-use Rattle.st_lemmas.specs.Lists.{Has}
-use Rattle.st_lemmas.proofs.Tables.{and_both, cond_true, cond_false, found_at, has_filter, not_true}
-use Rattle.st_lemmas.proofs.Numbers.{numbered_more, numbered_below, numbered_own}
+use Rattle.st_lemmas.proofs.Words
+use Words.{◌≡◌, ℕ, ◌+◌, ◌<◌, ◌≤◌, ◌⊎◌, Bool, true, false, not, List, [], ◌∷◌, ◌==◌, refl, sym, ap, ◌∙◌, subst, inl, inr, arith, suc, cond, find, filter}
+use Words.{length, Option, Some, None, Ok, is_some, eq-eqb, eqb-true, ClientId, ServerId, Stamp, NodeId, Message, Output, Suspect, ServerInput, Session}
+use Words.{SentMessage}
+use Words.nodes
+use Words.events
+use Words.notes
+use Words.outputs
+use Words.serving.{Tick, Control}
+use Words.Keys.{client}
+use Words.Authority as authority
+use Words.Authority.{Authority, suspect_of, is_over, is_suspect}
+use Words.Sessions.{session_of}
+use Words.Server.{ServerState, ServerNode, ServerTurn, turn, with_authority, steal_at, steal_from, steal, steal_each, thefts, server_step}
+use Words.World.{World, numbered, node_of, clock_of, server}
+use Words.Events.{WorldTurn, quiet, counted, with_node, sends, cuts, server_notes, server_says, server_says_all, server_takes, world_step}
+use Words.History.{Traced, History, TimerStart, is_timer_of, recall_all, remember, traced_after}
+use Words.Dating.{is_request, is_reply_to}
+use Words.Lists.{Has}
+use Words.Tables.{and_both, cond_true, cond_false, found_at, has_filter, not_true}
+use Words.Numbers.{numbered_more, numbered_below, numbered_own}
+use Words.Members.{has_left}
 use Rattle.st_laws_refine.specs.Server.Edits.{WishInput}
 use Rattle.st_trace.specs.Server.Edits.{NoSends}
 use Rattle.st_laws_refine.specs.Server.Pair.{terms_of}
@@ -176,11 +168,6 @@ all_numbered s (o ∷ os) sc n m e = go (all_numbered s os (server_says sc s o) 
     go (inl i) = one (says_numbered s o sc n m i)
     go (inr h) = inr (inr h)
 
-has_left : {A : Type 0} (xs ys : List A) (x : A) → Has x xs → Has x (xs ++ ys)
-has_left [] ys x h = elim h [ ]
-has_left (z ∷ zs) ys x (inl e) = inl e
-has_left (z ∷ zs) ys x (inr h) = inr (has_left zs ys x h)
-
 says_keeps : (s : ServerId) (o : Output) (sc : WorldTurn) (m : SentMessage) → Has m sc.world.net.messages → Has m (server_says sc s o).world.net.messages
 unfolding server_says server_notes sends cuts
 says_keeps s (outputs.Send q) sc m h = has_left sc.world.net.messages _ m h
@@ -275,19 +262,19 @@ after s t node i found runs id pos known wish came d =
     }
 
 -- A tick and a delivery are remembered by what is observed alone.
-tick_remembered : (n : NodeId) (h : History) → remember (events.Tick n) h ≡ h
+tick_remembered : (w : World) (n : NodeId) (h : History) → remember w (events.Tick n) h ≡ h
 unfolding remember
-tick_remembered n h = refl
+tick_remembered w n h = refl
 
-delivery_remembered : (n : ℕ) (h : History) → remember (events.Deliver n) h ≡ h
+delivery_remembered : (w : World) (n : ℕ) (h : History) → remember w (events.Deliver n) h ≡ h
 unfolding remember
-delivery_remembered n h = refl
+delivery_remembered w n h = refl
 
 pub replies_stay : RepliesStayDated
 replies_stay s t node e sc pos found runs id wait known wishes taken_ok (ByTick is) d =
     subst (λ sc. DatedAfter s (traced_after e t sc)) (sym (tick_is (terms_of t.world.config) 0 s (λ l. 0) t.world node found) ∙ taken t.world (events.Tick (nodes.Server (server s))) sc (subst (λ e. world_step t.world e ≡ Ok sc) is taken_ok))
     (subst (λ h. DatedAfter s (record { world = (server_takes (counted t.world) (server s) Tick node).world; history = recall_all t.world (server_takes (counted t.world) (server s) Tick node).world (server_takes (counted t.world) (server s) Tick node).seen h }))
-    (sym (ap (λ e. remember e t.history) is ∙ tick_remembered (nodes.Server (server s)) t.history))
+    (sym (ap (λ e. remember t.world e t.history) is ∙ tick_remembered t.world (nodes.Server (server s)) t.history))
     (after s t node Tick found runs id wait known tt (λ q e. absurd (never q e)) d))
   where
     never : (q : Message) → ◌≡◌ {A = ServerInput} Tick (Control q) → ⊥
@@ -295,7 +282,7 @@ replies_stay s t node e sc pos found runs id wait known wishes taken_ok (ByTick 
 replies_stay s t node e sc pos found runs id wait known wishes taken_ok (ByMessage n m is there to) d =
     subst (λ sc. DatedAfter s (traced_after e t sc)) (sym (delivery_is (terms_of t.world.config) 0 s (λ l. 0) t.world n m node there to found) ∙ taken t.world (events.Deliver n) sc (subst (λ e. world_step t.world e ≡ Ok sc) is taken_ok))
     (subst (λ h. DatedAfter s (record { world = (server_takes (counted t.world) (server s) (Control m.message) node).world; history = recall_all t.world (server_takes (counted t.world) (server s) (Control m.message) node).world (server_takes (counted t.world) (server s) (Control m.message) node).seen h }))
-    (sym (ap (λ e. remember e t.history) is ∙ delivery_remembered n t.history))
+    (sym (ap (λ e. remember t.world e t.history) is ∙ delivery_remembered t.world n t.history))
     (after s t node (Control m.message) found runs id wait known (wishes m (message_has t.world n m there)) came d))
   where
     same : (q : Message) → ◌≡◌ {A = ServerInput} (Control m.message) (Control q) → m.message ≡ q

@@ -1,37 +1,29 @@
 -- Requests by their session: what a rule answers, and that its reply is kept.
-use Rattle.std.proofs.Common.{◌≡◌, ◌≢◌, ℕ, ◌≤◌, true, false, List, [], ◌∷◌, ◌==◌, refl, sym, ap, ◌∙◌, subst, inl, arith}
-use Rattle.std.specs.Prelude.{not, Option, Some, None, is_some, option_map, Result as Res, Ok, Err}
-use Rattle.st_base.specs.declared.ids.ClientId.{ClientId}
-use Rattle.st_base.specs.declared.ids.GrantNo.{GrantNo}
-use Rattle.st_base.specs.declared.ids.PageNo.{PageNo}
-use Rattle.st_base.specs.declared.ids.Stamp.{Stamp}
-use Rattle.st_base.specs.declared.mode.Mode.TheVariants as modes
-use Rattle.st_rules.specs.declared.names.EntryRefusal.{EntryRefusal}
+use Rattle.st_lemmas.proofs.Words
+use Words.{◌≡◌, ◌≢◌, ℕ, ◌≤◌, true, false, List, [], ◌∷◌, ◌==◌, refl, sym, ap, ◌∙◌, subst, inl, arith, not, Option, Some, None, is_some, option_map}
+use Words.{Result as Res, Ok, Err, ClientId, GrantNo, PageNo, Stamp, EntryRefusal, NameRow, Header, Body, NameOp, AllocateRefusal, Session}
+use Words.modes
+use Words.ops.{Lookup, Create, Mkdir, Remove, Rename, List as ListFrom}
+use Words.wants
+use Words.states.{Live}
+use Words.Keys.{client, page_no}
+use Words.Extents.{Extents}
+use Words.Names as names
+use Words.Locks.{row_of, drop_file_waits, is_wait_on}
+use Words.Sessions as sessions
+use Words.Sessions.{Sessions, session_of, is_session_of, is_live, keep_reply, store, kept_state}
+use Words.Authority.{suspect_of}
+use Words.Server as sv
+use Words.Server.{ServerState, ServerTurn, Replied, replied, with_locks, with_sessions, sender, reply, is_file, holds, map_page, map_held, no_file, not_holder}
+use Words.Server.{with_extents_told, allocate_by, allocate_pages, allocate_held, allocate, cut_pages, cut_from, cut_held, cut, name_refused, name_found}
+use Words.Server.{name_changed, names_listed, remove_dir, cut_whole, remove_by, remove_file, remove_ino, remove_found, remove, name, keep_and_reply}
+use Words.Tables.{cond_either, find_other, find_own, has_filter}
 use Rattle.st_rules.specs.declared.names.EntryRefusal.TheVariants.{IsDir}
-use Rattle.st_base.specs.declared.names.NameRow.{NameRow}
-use Rattle.st_messages.specs.declared.message.Header.{Header}
-use Rattle.st_messages.specs.declared.message.Body.{Body}
-use Rattle.st_messages.specs.declared.message.NameOp.{NameOp}
-use Rattle.st_messages.specs.declared.message.NameOp.TheVariants.{Lookup, Create, Mkdir, Remove, Rename, List as ListFrom}
-use Rattle.st_rules.specs.declared.extents.AllocateRefusal.{AllocateRefusal}
-use Rattle.st_rules.specs.declared.extents.AllocateRefusal.TheVariants as wants
-use Rattle.st_rules.specs.declared.sessions.Session.{Session}
-use Rattle.st_rules.specs.declared.sessions.SessionState.TheVariants.{Live}
-use Rattle.st_rules.specs.Keys.{client, page_no}
-use Rattle.st_rules.specs.Extents.{Extents}
-use Rattle.st_rules.specs.Names as names
-use Rattle.st_rules.specs.Locks.{row_of, drop_file_waits, is_wait_on}
-use Rattle.st_rules.specs.Sessions as sessions
-use Rattle.st_rules.specs.Sessions.{Sessions, session_of, is_session_of, is_live, keep_reply, store, kept_state}
-use Rattle.st_rules.specs.Authority.{suspect_of}
-use Rattle.st_rules.specs.Server as sv
-use Rattle.st_rules.specs.Server.{ServerState, ServerTurn, Replied, replied, with_locks, with_sessions, sender, reply, is_file, holds, map_page, map_held, no_file, not_holder, with_extents_told, allocate_by, allocate_pages, allocate_held, allocate, cut_pages, cut_from, cut_held, cut, name_refused, name_found, name_changed, names_listed, remove_dir, cut_whole, remove_by, remove_file, remove_ino, remove_found, remove, name, keep_and_reply}
 use Rattle.st_protocol.specs.Assoc as net
 use Rattle.st_protocol.specs.Assoc.{Config, Msg, msg, In, Acks, Moves}
 use Rattle.st_laws_refine.specs.Views.Messages.{shown, Shows}
 use Rattle.st_laws_refine.specs.Views.Halves.{Ghost, half, row_view, life_view, live_view}
 use Rattle.st_laws_refine.specs.Server.View.{Said, ServesLife, RowOk, AllKept, Kept, NotEnded, Sound, Ready}
-use Rattle.st_lemmas.proofs.Tables.{cond_either, find_other, find_own, has_filter}
 use Rattle.st_laws_refine.proofs.Server.Changes.{is_not}
 use Rattle.st_laws_refine.proofs.Views.Moves.{one, moved}
 use Rattle.st_laws_refine.proofs.Server.Goes.{said_append, Frame, frame_same, frame_then, frame_sound, frame_at, observe, Result, received_more}

@@ -1,42 +1,32 @@
 -- All clients at one server: a step of the server is one step of the law, and thefts in it are late.
-use Rattle.std.proofs.Common.{◌≡◌, ◌≢◌, leb-false, if◌then◌else◌, ℕ, ◌+◌, ◌<◌, ◌≤◌, ◌&&◌, not, Bool, true, false, List, [], ◌∷◌, refl, sym, ap, ◌∙◌, subst, arith}
-use Rattle.std.specs.Prelude.{nat_le, Option, Some, None, Ok}
-use Rattle.std.specs.List.{list_all}
-use Rattle.st_base.specs.declared.ids.ClientId.{ClientId}
-use Rattle.st_base.specs.declared.ids.NodeId.TheVariants as nodes
-use Rattle.st_base.specs.declared.mode.Mode.{Mode}
-use Rattle.st_base.specs.declared.mode.Mode.TheVariants as modes
+use Rattle.st_lemmas.proofs.Words
+use Words.{◌≡◌, ◌≢◌, leb-false, if◌then◌else◌, ℕ, ◌+◌, ◌<◌, ◌≤◌, ◌&&◌, not, Bool, true, false, List, [], ◌∷◌, refl, sym, ap, ◌∙◌, subst, arith, nat_le, Option}
+use Words.{Some, None, Ok, list_all, ClientId, Mode, Body, ServerInput, LockRow, SentMessage, Output, ServerId}
+use Words.nodes
+use Words.modes
+use Words.bodies as bd
+use Words.events
+use Words.serving.{Tick, Control}
+use Words.Keys.{client}
+use Words.Locks.{Locks, row_of}
+use Words.Server.{ServerNode, is_client_node, server_step}
+use Words.World.{World, clock_of, message_of, receiver_of, server}
+use Words.Events.{WorldTurn, counted, server_takes, world_step, sends, cuts, server_notes, server_says, server_says_all, quiet as quiet_scene, with_node}
+use Words.Safety.{is_late, is_no_conflict}
+use Words.notes
+use Words.outputs
+use Words.Tables.{and_both}
+use Words.refusals
+use Words.Admissible.{stands, net_full, not_running, link_cut, is_lost, refused_delivery, refusal}
+use Words.History.{Traced}
+use Words.Truth.{or_second}
 use Rattle.st_base.specs.Mode.{number_of, conflicts}
-use Rattle.st_messages.specs.declared.message.Body.{Body}
-use Rattle.st_messages.specs.declared.message.Body.TheVariants as bd
-use Rattle.st_messages.specs.declared.event.Event.TheVariants as events
-use Rattle.st_rules.specs.declared.input.ServerInput.{ServerInput}
-use Rattle.st_rules.specs.declared.input.ServerInput.TheVariants.{Tick, Control}
-use Rattle.st_rules.specs.declared.locks.LockRow.{LockRow}
-use Rattle.st_rules.specs.declared.world.SentMessage.{SentMessage}
-use Rattle.st_rules.specs.Keys.{client}
-use Rattle.st_rules.specs.Locks.{Locks, row_of}
-use Rattle.st_rules.specs.Server.{ServerNode, is_client_node, server_step}
-use Rattle.st_rules.specs.World.{World, clock_of, message_of, receiver_of, server}
-use Rattle.st_rules.specs.Events.{WorldTurn, counted, server_takes, world_step, sends, cuts, server_notes, server_says, server_says_all, quiet as quiet_scene, with_node}
-use Rattle.st_rules.specs.Safety.{is_late, is_no_conflict}
-use Rattle.st_messages.specs.declared.output.Note.TheVariants as notes
-use Rattle.st_messages.specs.declared.output.Output.{Output}
-use Rattle.st_messages.specs.declared.output.Output.TheVariants as outputs
-use Rattle.st_lemmas.proofs.Tables.{and_both}
 use Rattle.std.proofs.lemmas.List.Folds.{list_all-append}
-use Rattle.st_laws_refine.specs.Server.Paths.{Leads}
-use Rattle.st_laws_refine.specs.Server.Paths.{WorkedOn}
+use Rattle.st_laws_refine.specs.Server.Paths.{Leads, WorkedOn}
 use Rattle.st_laws_refine.proofs.Server.Calm.{Reassertions, AllCalm, calm_step}
 use Rattle.st_laws_refine.proofs.Server.Counts.{taken_step, all_bytes}
 use Rattle.st_lemmas.proofs.Steps.{step_happens}
-use Rattle.std.specs.Option.{option_or}
-use Rattle.st_base.specs.declared.ids.ServerId.{ServerId}
-use Rattle.st_rules.specs.declared.observation.WorldRefusal.{WorldRefusal}
-use Rattle.st_rules.specs.declared.observation.WorldRefusal.TheVariants as refusals
-use Rattle.st_rules.specs.Admissible.{stands, net_full, not_running, link_cut, is_lost, refused_delivery, refusal}
 use Rattle.st_laws_refine.proofs.Server.Conflicts.{reassertions, no_reassertions}
-use Rattle.st_rules.specs.History.{Traced}
 use Rattle.st_protocol.proofs.Timing.{Timing}
 use Rattle.st_protocol.specs.Assoc as net
 use Rattle.st_protocol.specs.Assoc.{Config, ConfigOk, Works}
@@ -70,10 +60,6 @@ rows_fit l c d i k ne = go (row_of l c i) (row_of l d i) refl refl
     go (Some r) None e f a b = absurd (omega arith)
     go (Some r) (Some q) e f a b = fits r.mode q.mode (k.fits c d i r q ne e f) a b
 
-none_right : (a b : Option WorldRefusal) → option_or a b ≡ None → b ≡ None
-none_right None b e = e
-none_right (Some x) b e = cc
-
 below_full : (w : World) → net_full w ≡ None → w.net.bytes < 536870912
 unfolding stands
 below_full w e = go (nat_le 536870912 w.net.bytes) refl e
@@ -84,11 +70,11 @@ below_full w e = go (nat_le 536870912 w.net.bytes) refl e
 
 tick_below : (w : World) (s : ServerId) → refusal w (events.Tick (nodes.Server s)) ≡ None → w.net.bytes < 536870912
 unfolding refusal
-tick_below w s e = below_full w (none_right _ _ (none_right _ _ e))
+tick_below w s e = below_full w (or_second _ _ (or_second _ _ e))
 
 delivery_below : (w : World) (n : ℕ) (m : SentMessage) → refusal w (events.Deliver n) ≡ None → message_of w n ≡ Some m → w.net.bytes < 536870912
 unfolding refusal refused_delivery
-delivery_below w n m e there = let z = subst (λ o. refused_delivery w n o ≡ None) there e in below_full w (none_right (not_running w (receiver_of m)) _ (none_right (link_cut w m) _ (none_right (is_lost n m) _ z)))
+delivery_below w n m e there = let z = subst (λ o. refused_delivery w n o ≡ None) there e in below_full w (or_second (not_running w (receiver_of m)) _ (or_second (link_cut w m) _ (or_second (is_lost n m) _ z)))
 
 pub wish_of : (b : Body) → Wishes b → Wish b
 wish_of (bd.Acquire i m) w = w

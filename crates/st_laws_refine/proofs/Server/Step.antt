@@ -1,30 +1,23 @@
 -- The whole step of a server, for one client.
-use Rattle.std.proofs.Common.{◌≡◌, ◌≢◌, ℕ, ◌≤◌, ◌⊎◌, Bool, true, false, ◌&&◌, List, [], ◌∷◌, ◌==◌, refl, sym, ap, ◌∙◌, subst, inl, inr, arith}
-use Rattle.std.specs.Prelude.{not, Option, Some, None, is_some, option_map, Result as Res, Ok, Err}
-use Rattle.std.proofs.lemmas.Bool.{ne_eqb, eqb-true}
-use Rattle.st_base.specs.declared.ids.ClientId.{ClientId}
-use Rattle.st_base.specs.declared.ids.GrantNo.{GrantNo}
-use Rattle.st_base.specs.declared.ids.Stamp.{Stamp}
-use Rattle.st_base.specs.declared.mode.Mode.{Mode}
-use Rattle.st_messages.specs.declared.message.Header.{Header}
-use Rattle.st_messages.specs.declared.message.Body.{Body}
-use Rattle.st_messages.specs.declared.message.Body.TheVariants as bd
-use Rattle.st_messages.specs.declared.message.Why.TheVariants as why
-use Rattle.st_rules.specs.declared.input.ServerInput.{ServerInput}
-use Rattle.st_rules.specs.declared.input.ServerInput.TheVariants.{Tick, Control}
-use Rattle.st_rules.specs.declared.locks.LockRow.{LockRow}
-use Rattle.st_rules.specs.declared.locks.AcquireRefusal.{AcquireRefusal}
-use Rattle.st_rules.specs.declared.sessions.Session.{Session}
-use Rattle.st_rules.specs.declared.sessions.Taken.{Taken}
-use Rattle.st_rules.specs.declared.sessions.Taken.TheVariants as takes
-use Rattle.st_rules.specs.declared.authority.Suspect.{Suspect}
-use Rattle.st_rules.specs.Keys.{client, server_node}
-use Rattle.st_rules.specs.Locks as locks
-use Rattle.st_rules.specs.Locks.{Locks, Acquired, is_row_of, row_of, observe, answered_row}
-use Rattle.st_rules.specs.Sessions.{session_of, store}
-use Rattle.st_rules.specs.Authority.{suspect_of, start_of, may_ack}
-use Rattle.st_rules.specs.Server as sv
-use Rattle.st_rules.specs.Server.{ServerState, ServerTurn, Replied, turn, silent, with_sessions, sender, life_in, reply, is_file, take, thefts, hello, observe_demand, demand_seen, is_served, refuse_epoch, keep_alive, acquire_by, acquire_lock, no_file, rule, keep_and_reply, keep, serve, request_by, request, of_epoch, by_body, refuse_suspect, by_suspicion, is_for, is_client_node, receive_from, receive, take_input, suspecting_on, granting, server_step}
+use Rattle.st_lemmas.proofs.Words
+use Words.{◌≡◌, ◌≢◌, ℕ, ◌≤◌, ◌⊎◌, Bool, true, false, ◌&&◌, List, [], ◌∷◌, ◌==◌, refl, sym, ap, ◌∙◌, subst, inl, inr, arith, not, Option, Some, None, is_some}
+use Words.{option_map, Result as Res, Ok, Err, ne_eqb, eqb-true, ClientId, GrantNo, Stamp, Mode, Header, Body, ServerInput, LockRow, AcquireRefusal, Session}
+use Words.{Taken, Suspect}
+use Words.bodies as bd
+use Words.why
+use Words.serving.{Tick, Control}
+use Words.takes
+use Words.Keys.{client, server_node}
+use Words.Locks as locks
+use Words.Locks.{Locks, Acquired, is_row_of, row_of, observe, answered_row}
+use Words.Sessions.{session_of, store}
+use Words.Authority.{suspect_of, start_of, may_ack}
+use Words.Server as sv
+use Words.Server.{ServerState, ServerTurn, Replied, turn, silent, with_sessions, sender, life_in, reply, is_file, take, thefts, hello, observe_demand}
+use Words.Server.{demand_seen, is_served, refuse_epoch, keep_alive, acquire_by, acquire_lock, no_file, rule, keep_and_reply, keep, serve, request_by, request}
+use Words.Server.{of_epoch, by_body, refuse_suspect, by_suspicion, is_for, is_client_node, receive_from, receive, take_input, suspecting_on, granting}
+use Words.Server.{server_step}
+use Words.Tables.{same_or_not, and_true, not_true, cond_either, find_map}
 use Rattle.st_protocol.specs.Assoc as net
 use Rattle.st_protocol.proofs.Invariant.{Invariant, kept_by}
 use Rattle.st_protocol.proofs.Lives.{first_in_grace}
@@ -32,7 +25,6 @@ use Rattle.st_protocol.specs.Assoc.{Config, ConfigOk, Msg, msg, In, Refuses}
 use Rattle.st_laws_refine.specs.Views.Messages.{lock_in_row, lock_in, shown, Shows, epoch_shown, is_clients, Wishes, Received}
 use Rattle.st_laws_refine.specs.Views.Halves.{Ghost, row_view, life_view}
 use Rattle.st_laws_refine.specs.Server.View.{ServesLife, Said, Sound, Ready}
-use Rattle.st_lemmas.proofs.Tables.{same_or_not, and_true, not_true, cond_either, find_map}
 use Rattle.st_laws_refine.proofs.Views.Moves.{received_more, one, moves_on, Grows, moves_grow}
 use Rattle.st_laws_refine.proofs.Server.Goes.{Frame, frame_same, Goes, Result, goes_same, goes_then, if_goes, unseen, replies, replies_other, observe as view}
 use Rattle.st_laws_refine.proofs.Server.OneRow.{alone}
@@ -40,7 +32,8 @@ use Rattle.st_laws_refine.proofs.Server.Thefts.{thefts_go}
 use Rattle.st_laws_refine.proofs.Server.Passes.{suspecting_goes, granting_goes, demanding_goes}
 use Rattle.st_laws_refine.proofs.Server.Greeting.{refused, hello_goes}
 use Rattle.st_laws_refine.proofs.Server.Reasserting.{TakeOk, taken_ok, again_goes, Reassertion, lower, reassert_goes}
-use Rattle.st_laws_refine.proofs.Server.Requests.{Quiet, quiet_answer, map_quiet, allocate_quiet, cut_quiet, name_quiet, Serving, Rule, quiet_rule, keeps, store_other}
+use Rattle.st_laws_refine.proofs.Server.Requests.{Quiet, quiet_answer, map_quiet, allocate_quiet, cut_quiet, name_quiet, Serving, Rule, quiet_rule, keeps}
+use Rattle.st_laws_refine.proofs.Server.Requests.{store_other}
 use Rattle.st_laws_refine.proofs.Server.Locking.{released_rule, released_frame, acquire_rule, acquire_frame}
 
 -- requests that are answered by their session or their epoch

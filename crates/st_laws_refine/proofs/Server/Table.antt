@@ -1,22 +1,14 @@
 -- What every change of the lock table keeps, a whole step keeps.
-use Rattle.std.proofs.Common.{◌≡◌, Bool, ℕ, ◌≤◌, ◌⊎◌, false, List, refl, inl, inr}
-use Rattle.std.specs.Prelude.{None}
-use Rattle.std.specs.List.{list_any}
-use Rattle.st_base.specs.declared.ids.ClientId.{ClientId}
-use Rattle.st_base.specs.declared.ids.GrantNo.{GrantNo}
-use Rattle.st_base.specs.declared.ids.Life.{Life}
-use Rattle.st_base.specs.declared.ids.Stamp.{Stamp}
-use Rattle.st_base.specs.declared.mode.Mode.{Mode}
+use Rattle.st_lemmas.proofs.Words
+use Words.{◌≡◌, Bool, ℕ, ◌≤◌, ◌⊎◌, false, List, refl, inl, inr, None, list_any, ClientId, GrantNo, Life, Stamp, Mode, ServerInput, LockRow, RowDemand, Waiter}
+use Words.Locks as locks
+use Words.Locks.{Locks, stands_against, grant, queue, release_to, first_conflict, with_rows, with_demand}
+use Words.Server.{ServerState, ServerTurn, sender, life_in, reply, tell, steal_from, suspect_client, keep_and_reply, server_step}
+use Words.Lists.{Has}
 use Rattle.st_base.specs.Mode.{number_of}
-use Rattle.st_rules.specs.declared.input.ServerInput.{ServerInput}
-use Rattle.st_rules.specs.declared.locks.LockRow.{LockRow}
-use Rattle.st_rules.specs.declared.locks.RowDemand.{RowDemand}
-use Rattle.st_rules.specs.declared.locks.Waiter.{Waiter}
-use Rattle.st_rules.specs.Locks as locks
-use Rattle.st_rules.specs.Locks.{Locks, stands_against, grant, queue, release_to, first_conflict, with_rows, with_demand}
-use Rattle.st_rules.specs.Server.{ServerState, ServerTurn, sender, life_in, reply, tell, steal_from, suspect_client, keep_and_reply, server_step}
-use Rattle.st_lemmas.specs.Lists.{Has}
-use Rattle.st_laws_refine.specs.Server.Edits.{AllSome, WishInput, Acquired, AtOnce, InTurn, Edit, TakesTimers, Steals, Suspects, Begins, DropsWaits, Keeps, Reasserts, Sees, Acquires, Releases, DropsFile, Grants, Demands, NamesChange, ExtentsChange, Cuts, Replies, Repeats, Refuses, TellsGrant, TellsDemand}
+use Rattle.st_laws_refine.specs.Server.Edits.{AllSome, WishInput, Acquired, AtOnce, InTurn, Edit, TakesTimers, Steals, Suspects, Begins, DropsWaits, Keeps}
+use Rattle.st_laws_refine.specs.Server.Edits.{Reasserts, Sees, Acquires, Releases, DropsFile, Grants, Demands, NamesChange, ExtentsChange, Cuts, Replies}
+use Rattle.st_laws_refine.specs.Server.Edits.{Repeats, Refuses, TellsGrant, TellsDemand}
 use Rattle.st_laws_refine.proofs.Server.Walk.{walk}
 
 -- a mode that is asked for now, or that a waiter asked for

@@ -1,25 +1,20 @@
 -- Thefts: one move of the client whose timer is over, and none of the others.
-use Rattle.std.proofs.Common.{◌≡◌, ◌≢◌, ℕ, ◌+◌, ◌<◌, ◌≤◌, ◌⊎◌, Bool, true, false, List, [], ◌∷◌, refl, sym, ap, ◌∙◌, subst, inl, inr, arith, ltb-true, leb-true}
-use Rattle.std.specs.Prelude.{not, filter, Option, Some, None, option_map, is_some}
-use Rattle.std.proofs.lemmas.Bool.{eq-eqb, eqb-true}
-use Rattle.st_base.specs.declared.ids.ClientId.{ClientId}
-use Rattle.st_base.specs.declared.ids.Stamp.{Stamp}
-use Rattle.st_rules.specs.declared.locks.Waiter.{Waiter}
-use Rattle.st_rules.specs.declared.sessions.Session.{Session}
-use Rattle.st_rules.specs.declared.authority.Suspect.{Suspect}
-use Rattle.st_rules.specs.Keys.{client}
-use Rattle.st_rules.specs.Locks as locks
-use Rattle.st_rules.specs.Sessions as sessions
-use Rattle.st_rules.specs.Authority.{Authority, is_suspect, is_over, client_of_suspect, suspect_of, over, still_running}
-use Rattle.st_rules.specs.Grace as grace
-use Rattle.st_rules.specs.Grace.{Grace}
-use Rattle.st_rules.specs.Server.{ServerState, ServerTurn, with_authority, steal_from, steal_at, steal, steal_each, thefts}
+use Rattle.st_lemmas.proofs.Words
+use Words.{◌≡◌, ◌≢◌, ℕ, ◌+◌, ◌<◌, ◌≤◌, ◌⊎◌, Bool, true, false, List, [], ◌∷◌, refl, sym, ap, ◌∙◌, subst, inl, inr, arith, ltb-true, leb-true, not, filter}
+use Words.{Option, Some, None, option_map, is_some, eq-eqb, eqb-true, ClientId, Stamp, Waiter, Session, Suspect, false_from_ne_true}
+use Words.Keys.{client}
+use Words.Locks as locks
+use Words.Sessions as sessions
+use Words.Authority.{Authority, is_suspect, is_over, client_of_suspect, suspect_of, over, still_running}
+use Words.Grace as grace
+use Words.Grace.{Grace}
+use Words.Server.{ServerState, ServerTurn, with_authority, steal_from, steal_at, steal, steal_each, thefts}
+use Words.Lists.{Has}
+use Words.Tables.{same_or_not, not_true, find_kept_in, find_gone_in, none_has, has_filter, has_map, has_filter_in, has_map_in, found_at}
 use Rattle.st_protocol.specs.Assoc as net
 use Rattle.st_protocol.specs.Assoc.{Config, Msg, Steals}
 use Rattle.st_laws_refine.specs.Views.Halves.{Ghost, half, row_or, row_view, life_view, live_view}
-use Rattle.st_lemmas.specs.Lists.{Has}
 use Rattle.st_laws_refine.specs.Server.View.{TimerIs, GraceIs, Said, RowOk, WaitOk, Kept, Sound, Ready}
-use Rattle.st_lemmas.proofs.Tables.{same_or_not, not_true, find_kept_in, find_gone_in, none_has, has_filter, has_map, has_filter_in, has_map_in, found_at}
 use Rattle.st_laws_refine.proofs.Server.Changes.{forget_row, forget_own, forget_wait, end_other, end_own}
 use Rattle.st_laws_refine.proofs.Views.Moves.{one, moved}
 use Rattle.st_laws_refine.proofs.Server.Goes.{Frame, frame_same, frame_then, said_append, observe, Goes, Result, unseen}
@@ -237,10 +232,6 @@ pub within : (wait : ℕ) (now : Stamp) (o : Option Grace) (gstart : ℕ) → Gr
 within wait now None gstart g e = cc
 within wait now (Some s) gstart g e = let z = ltb-true now.0 (s.start.0 + s.wait) e in let a = g.wait in let b = g.start in omega arith
 
-bool_false : (b : Bool) → (b ≡ true → ⊥) → b ≡ false
-bool_false true h = absurd (h refl)
-bool_false false h = refl
-
 module _ (k : Config) (cl : net.Client) (d : ℕ) (now : Stamp) where
   some_is : (x y : Suspect) → ◌≡◌ {A = Option Suspect} (Some x) (Some y) → x ≡ y
   some_is x y e = ap (λ (o : Option Suspect). unwrap o) e
@@ -290,7 +281,7 @@ module _ (k : Config) (cl : net.Client) (d : ℕ) (now : Stamp) where
       late = let z = leb-true (s.start.0 + a.wait) now.0 o in let b = began in let w = r.sound.await in omega arith
 
       off : grace.is_on n.grace now ≡ false
-      off = bool_false _ (λ g. let z = within k.wait now n.grace x.gstart r.sound.gstart g in let y = r.sound.timer timed in let l = late in omega arith)
+      off = false_from_ne_true _ (λ g. let z = within k.wait now n.grace x.gstart r.sound.gstart g in let y = r.sound.timer timed in let l = late in omega arith)
 
       gone : suspect_of u.authority (client d) ≡ None
       gone = st.suspect ∙ find_gone_in (is_suspect (client d)) (λ s. not (is_over a.wait now s)) a.suspects

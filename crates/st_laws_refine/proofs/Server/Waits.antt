@@ -1,20 +1,18 @@
 -- Grace waits: outside grace every lease of an earlier epoch has ended.
-use Rattle.std.proofs.Common.{◌≡◌, ℕ, ◌<◌, ◌≤◌, Bool, true, false, not, ◌&&◌, ◌||◌, ◌==◌, refl, ap, ◌∙◌, subst, arith}
-use Rattle.std.specs.Prelude.{nat_le, nat_lt, Some}
-use Rattle.std.proofs.lemmas.Bool.{le-leb, eqb-true, ltb-true}
-use Rattle.st_base.specs.declared.ids.ClientId.{ClientId}
-use Rattle.st_base.specs.declared.ids.NodeId.TheVariants as nodes
-use Rattle.st_rules.specs.Keys.{client}
-use Rattle.st_rules.specs.Grace as grace
-use Rattle.st_rules.specs.Server.{ServerNode}
-use Rattle.st_rules.specs.World.{site_of, clock_of, all_clients, server}
-use Rattle.st_rules.specs.History.{Traced, LeaseDate}
-use Rattle.st_rules.specs.Safety.{is_waited_for, client_waited_for, is_out_of_grace, all_waited_for, node_waited, has_waited}
+use Rattle.st_lemmas.proofs.Words
+use Words.{◌≡◌, ℕ, ◌<◌, ◌≤◌, Bool, true, false, not, ◌&&◌, ◌||◌, ◌==◌, refl, ap, ◌∙◌, subst, arith, nat_le, nat_lt, Some, le-leb, eqb-true, ltb-true, ClientId}
+use Words.nodes
+use Words.Keys.{client}
+use Words.Grace as grace
+use Words.Server.{ServerNode}
+use Words.World.{site_of, clock_of, all_clients, server}
+use Words.History.{Traced, LeaseDate}
+use Words.Safety.{is_waited_for, client_waited_for, is_out_of_grace, all_waited_for, node_waited, has_waited}
+use Words.Lists.{Has}
+use Words.Tables.{and_true, not_true, all_pass}
 use Rattle.st_protocol.specs.Assoc.{Config, ConfigOk}
 use Rattle.st_protocol.proofs.World.{invariant}
 use Rattle.st_laws_refine.specs.Views.Halves.{Ghost}
-use Rattle.st_lemmas.specs.Lists.{Has}
-use Rattle.st_lemmas.proofs.Tables.{and_true, not_true, all_pass}
 use Rattle.st_laws_refine.specs.Server.Pair.{DatesShown, DatesKnown}
 use Rattle.st_laws_refine.specs.Server.Invariants.{pairs, Stands}
 use Rattle.st_laws_refine.proofs.Server.Late.{clock_in}

@@ -1,38 +1,30 @@
 -- What every small change of a step keeps, the whole step keeps: each change of the trace is a list of small ones.
-use Rattle.std.proofs.Common.{◌≡◌, ℕ, Bool, true, false, List, [], refl, sym, ap, ◌∙◌, subst, inl, inr}
-use Rattle.std.specs.Prelude.{cond, Option, is_some, Result as Res, Ok, Err}
-use Rattle.st_base.specs.declared.ids.ClientId.{ClientId}
-use Rattle.st_base.specs.declared.ids.GrantNo.{GrantNo}
-use Rattle.st_base.specs.declared.ids.Life.{Life}
-use Rattle.st_base.specs.declared.ids.Stamp.{Stamp}
-use Rattle.st_base.specs.declared.mode.Mode.{Mode}
-use Rattle.st_messages.specs.declared.message.Message.{Message}
-use Rattle.st_messages.specs.declared.message.Body.{Body}
-use Rattle.st_messages.specs.declared.message.Body.TheVariants as bd
-use Rattle.st_messages.specs.declared.message.Why.TheVariants as why
-use Rattle.st_rules.specs.declared.input.ServerInput.{ServerInput}
-use Rattle.st_rules.specs.declared.input.ServerInput.TheVariants.{Tick, Control}
-use Rattle.st_rules.specs.declared.authority.AcceptRefusal.{AcceptRefusal}
+use Rattle.st_lemmas.proofs.Words
+use Words.{◌≡◌, ℕ, Bool, true, false, List, [], refl, sym, ap, ◌∙◌, subst, inl, inr, cond, Option, is_some, Result as Res, Ok, Err, ClientId, GrantNo, Life}
+use Words.{Stamp, Mode, Message, Body, ServerInput, AcceptRefusal}
+use Words.bodies as bd
+use Words.why
+use Words.serving.{Tick, Control}
+use Words.Authority as authority
+use Words.Dating.{is_request, may_date}
+use Words.Grace as grace
+use Words.Grace.{accept, accept_rows}
+use Words.Locks as locks
+use Words.Locks.{Locks}
+use Words.Names as names
+use Words.Safety.{is_conflict}
+use Words.Sessions as sessions
+use Words.Server as sv
+use Words.Server.{ServerState, ServerTurn, turn, with_locks, sender, life_in, reply, thefts, keep_and_reply, take_input, suspecting, granting, demanding}
+use Words.Server.{server_step, refused_reassertion}
+use Words.Tables.{not_true}
 use Rattle.st_rules.specs.declared.authority.AcceptRefusal.TheVariants as refusals
-use Rattle.st_rules.specs.Authority as authority
-use Rattle.st_rules.specs.Dating.{is_request, may_date}
-use Rattle.st_rules.specs.Grace as grace
-use Rattle.st_rules.specs.Grace.{accept, accept_rows}
-use Rattle.st_rules.specs.Locks as locks
-use Rattle.st_rules.specs.Locks.{Locks}
-use Rattle.st_rules.specs.Names as names
-use Rattle.st_rules.specs.Safety.{is_conflict}
-use Rattle.st_rules.specs.Sessions as sessions
-use Rattle.st_rules.specs.Server as sv
-use Rattle.st_rules.specs.Server.{ServerState, ServerTurn, turn, with_locks, sender, life_in, reply, thefts, keep_and_reply, take_input, suspecting}
-use Rattle.st_rules.specs.Server.{granting, demanding, server_step, refused_reassertion}
 use Rattle.st_trace.specs.Server.Edits as tr
 use Rattle.st_trace.specs.Server.Edits.{NoSends}
 use Rattle.st_trace.proofs.Server.Walk as trace
-use Rattle.st_lemmas.proofs.Tables.{not_true}
 use Rattle.st_laws_refine.specs.Server.Edits.{Wish, WishInput, is_kept, Acquired, AtOnce, InTurn, InGrace, Edit, TakesTimers, Steals, Suspects, Begins}
-use Rattle.st_laws_refine.specs.Server.Edits.{DropsWaits, Keeps, Reasserts, Sees, Acquires, Releases, DropsFile, Grants, Demands, NamesChange}
-use Rattle.st_laws_refine.specs.Server.Edits.{ExtentsChange, Cuts, Replies, Repeats, Refuses, TellsGrant, TellsDemand}
+use Rattle.st_laws_refine.specs.Server.Edits.{DropsWaits, Keeps, Reasserts, Sees, Acquires, Releases, DropsFile, Grants, Demands, NamesChange, ExtentsChange}
+use Rattle.st_laws_refine.specs.Server.Edits.{Cuts, Replies, Repeats, Refuses, TellsGrant, TellsDemand}
 
 -- what is kept isn't a conflict
 pub kept_calm : (b : Body) → is_kept b ≡ true → is_conflict b ≡ false
@@ -190,18 +182,18 @@ pub walk_on : (n : ServerState) (now : Stamp) (i : ServerInput) (P : ServerTurn 
 walk_on n now i P k w p = trace.walk_on n now i P (small n now i P k w) p
 
 -- and its parts
-pub w_message : (n : ServerState) (now : Stamp) (m : Message) (P : ServerTurn → Type 0) → ((t u : ServerTurn) → Edit n now (Control m) t u → P t → P u) →
+pub kept_by_message : (n : ServerState) (now : Stamp) (m : Message) (P : ServerTurn → Type 0) → ((t u : ServerTurn) → Edit n now (Control m) t u → P t → P u) →
     WishInput (Control m) → P (thefts (turn n []) now) → P (take_input (thefts (turn n []) now) now (Control m))
-w_message n now m P k w p = trace.w_input n now (Control m) P P (λ t q. q) (small_input n now (Control m) P k w) p
+kept_by_message n now m P k w p = trace.walk_of_input n now (Control m) P P (λ t q. q) (small_input n now (Control m) P k w) p
 
-pub w_suspecting : (n : ServerState) (now : Stamp) (P : ServerTurn → Type 0) → ((t u : ServerTurn) → Edit n now Tick t u → P t → P u) →
+pub kept_by_suspicions : (n : ServerState) (now : Stamp) (P : ServerTurn → Type 0) → ((t u : ServerTurn) → Edit n now Tick t u → P t → P u) →
     (t : ServerTurn) → NoSends t.out → P t → P (suspecting t now)
-w_suspecting n now P k t q p = trace.w_suspecting n now Tick P (small_suspicion n now Tick P k) t refl q p
+kept_by_suspicions n now P k t q p = trace.walk_of_suspecting n now Tick P (small_suspicion n now Tick P k) t refl q p
 
-pub w_granting : (n : ServerState) (now : Stamp) (i : ServerInput) (P : ServerTurn → Type 0) → ((t u : ServerTurn) → Edit n now i t u → P t → P u) →
+pub kept_by_grants : (n : ServerState) (now : Stamp) (i : ServerInput) (P : ServerTurn → Type 0) → ((t u : ServerTurn) → Edit n now i t u → P t → P u) →
     (t : ServerTurn) → P t → P (granting t now)
-w_granting n now i P k t p = trace.w_granting n now i P (small_grants n now i P k) t p
+kept_by_grants n now i P k t p = trace.walk_of_granting n now i P (small_grants n now i P k) t p
 
-pub w_demanding : (n : ServerState) (now : Stamp) (i : ServerInput) (P : ServerTurn → Type 0) → ((t u : ServerTurn) → Edit n now i t u → P t → P u) →
+pub kept_by_demands : (n : ServerState) (now : Stamp) (i : ServerInput) (P : ServerTurn → Type 0) → ((t u : ServerTurn) → Edit n now i t u → P t → P u) →
     (t : ServerTurn) → P t → P (demanding t now i)
-w_demanding n now i P k t p = trace.w_demanding n now i P (small_demands n now i P k) t p
+kept_by_demands n now i P k t p = trace.walk_of_demanding n now i P (small_demands n now i P k) t p

@@ -1,8 +1,6 @@
 -- Lists of moves, and what is in a network that grows.
-use Rattle.std.proofs.Common.{refl, ◌∙◌, ◌≡◌, ℕ, ◌≤◌, arith, true, List, [], ◌∷◌, subst}
-use Rattle.st_messages.specs.declared.message.Message.{Message}
-use Rattle.st_messages.specs.declared.message.Header.{Header}
-use Rattle.st_messages.specs.declared.message.Body.{Body}
+use Rattle.st_lemmas.proofs.Words
+use Words.{refl, ◌∙◌, ◌≡◌, ℕ, ◌≤◌, arith, true, List, [], ◌∷◌, subst, Message, Header, Body}
 use Rattle.st_protocol.specs.Assoc as net
 use Rattle.st_protocol.specs.Assoc.{Config, Msg, In, Assoc, Move, Moves, Stays, GoesOn, steady, Loses, Crashes, Advance, Stops, Starts, GraceEnds}
 use Rattle.st_protocol.proofs.Timing.{grows}

@@ -1,9 +1,9 @@
 -- What is read of a table by a number, after a row was put, cut or appended, as a function of the number.
-use Rattle.std.proofs.Common.{◌≡◌, ℕ, not, List, [], ◌∷◌, ◌++◌, ◌==◌, Option, Some, None, ap, ◌∙◌}
-use Rattle.std.specs.Prelude.{find, filter}
+use Rattle.st_lemmas.proofs.Words
+use Words.{◌≡◌, ℕ, not, List, ◌∷◌, ◌++◌, ◌==◌, Option, Some, None, ap, ◌∙◌, find, filter}
+use Words.Keys.{put}
+use Words.Lookups.{find_without, if_ap}
 use Rattle.st_protocol.specs.Assoc.{upd}
-use Rattle.st_rules.specs.Keys.{put}
-use Rattle.st_lemmas.proofs.Lookups.{find_without, if_ap}
 use Rattle.st_lemmas.proofs.Puts.{find_put_at}
 
 pub put_at : {A B : Type 0} (ino : A → ℕ) (f : Option A → B) (v : A) (rows : List A) (d : ℕ) →

@@ -1,44 +1,29 @@
 -- What a client's rules do to the requests of a session, to the operations that wait for one, and to what is sent and answered.
-use Rattle.std.proofs.Common.{◌≡◌, ℕ, ◌≤◌, ◌<◌, ◌⊎◌, Bool, true, false, ◌&&◌, List, [], ◌∷◌, ◌++◌, Option, Some, refl, sym, ap, ◌∙◌}
-use Rattle.std.proofs.Common.{subst, inl, inr, arith, append_assoc}
-use Rattle.std.specs.Prelude.{filter, map}
-use Rattle.std.proofs.lemmas.Bool.{eqb-true, eq-eqb}
-use Rattle.st_base.specs.declared.disk.Tag.{Tag}
-use Rattle.st_base.specs.declared.disk.Command.TheVariants as commands
-use Rattle.st_base.specs.declared.ids.ClientId.{ClientId}
-use Rattle.st_base.specs.declared.ids.PageNo.{PageNo}
-use Rattle.st_base.specs.declared.ids.ServerId.{ServerId}
-use Rattle.st_base.specs.declared.ids.Stamp.{Stamp}
-use Rattle.st_messages.specs.declared.answer.AppAnswer.{AppAnswer}
-use Rattle.st_messages.specs.declared.answer.AppAnswer.TheVariants as answers
-use Rattle.st_messages.specs.declared.ask.Ask.{Ask}
-use Rattle.st_messages.specs.declared.message.Body.{Body}
-use Rattle.st_messages.specs.declared.message.Body.TheVariants as bodies
-use Rattle.st_messages.specs.declared.message.Header.{Header}
-use Rattle.st_messages.specs.declared.message.Message.{Message}
-use Rattle.st_messages.specs.declared.message.NameReply.TheVariants as replies
-use Rattle.st_messages.specs.declared.output.Output.{Output}
-use Rattle.st_messages.specs.declared.output.Output.TheVariants as outputs
-use Rattle.st_rules.specs.declared.client.IoKind.TheVariants as io
-use Rattle.st_rules.specs.declared.client.Operation.{Operation}
-use Rattle.st_rules.specs.declared.client.Request.{Request}
-use Rattle.st_rules.specs.Client as cl
-use Rattle.st_rules.specs.ClientLocks as locks
-use Rattle.st_rules.specs.ClientPages as pages
-use Rattle.st_rules.specs.ClientPasses as cp
-use Rattle.st_rules.specs.ClientReplies as cr
-use Rattle.st_rules.specs.ClientState as cs
-use Rattle.st_rules.specs.ClientState.{ClientSession, Association, Turn, answer_to, server_of, say, with_session, with_store, with_operations}
-use Rattle.st_rules.specs.Keys.{server_node}
-use Rattle.st_lemmas.specs.Lists.{Has}
-use Rattle.st_lemmas.proofs.Tables.{and_true, has_append, has_filter, has_map}
+use Rattle.st_lemmas.proofs.Words
+use Words.{◌≡◌, ℕ, ◌≤◌, ◌<◌, ◌⊎◌, Bool, true, false, ◌&&◌, List, [], ◌∷◌, ◌++◌, Option, Some, refl, sym, ap, ◌∙◌, subst, inl, inr, arith, append_assoc, filter}
+use Words.{map, eqb-true, eq-eqb, Tag, ClientId, PageNo, ServerId, Stamp, AppAnswer, Ask, Body, Header, Message, Output, Operation, Request, nat_lt, ltb-true}
+use Words.commands
+use Words.answers
+use Words.bodies
+use Words.replies
+use Words.outputs
+use Words.io
+use Words.Client as cl
+use Words.ClientLocks as locks
+use Words.ClientPages as pages
+use Words.ClientPasses as cp
+use Words.ClientReplies as cr
+use Words.ClientState as cs
+use Words.ClientState.{ClientSession, Association, Turn, answer_to, server_of, say, with_session, with_store, with_operations}
+use Words.Keys.{server_node}
+use Words.Lists.{Has}
+use Words.Tables.{and_true, has_append, has_filter, has_map}
+use Words.Members.{has_middle}
 use Rattle.st_laws_requests.specs.Cuts.Cuts.{AsksFor, Given, Keyed, SameBody, Waits, WaitsAt, is_report, view}
-use Rattle.st_laws_requests.proofs.Cuts.Asking.{w_idle, w_requests}
-use Rattle.std.specs.Prelude.{nat_lt}
-use Rattle.std.proofs.lemmas.Bool.{ltb-true}
-use Rattle.st_laws_requests.proofs.Cuts.Keeping.{Answers, C, CIn, Free, K, Okay, Plain, W, WIn, Whole, asked_of, b_begins, b_fewer, b_more, b_refused, b_say}
-use Rattle.st_laws_requests.proofs.Cuts.Keeping.{free_all, freed, granted_view, has_middle, into, no_acquire, no_map, no_reassert}
-use Rattle.st_laws_requests.proofs.Cuts.Keeping.{only_own, said_of, w_answers, w_fewer, w_follows, w_say, w_stuck, w_view}
+use Rattle.st_laws_requests.proofs.Cuts.Asking.{whole_after_idle, whole_after_requests}
+use Rattle.st_laws_requests.proofs.Cuts.Keeping.{Answers, C, CIn, Free, K, Okay, Plain, W, WIn, Whole, asked_of, base_after_begins, base_after_fewer, base_after_longer_list, base_after_refused, base_after_say}
+use Rattle.st_laws_requests.proofs.Cuts.Keeping.{free_all, freed, granted_view, into, no_acquire, no_map, no_reassert, only_own, said_of, whole_after_answers}
+use Rattle.st_laws_requests.proofs.Cuts.Keeping.{whole_after_fewer, whole_after_follows, whole_after_say, whole_after_stuck, whole_after_view}
 use Rattle.st_trace.specs.Client.Commands as ending
 use Rattle.st_trace.specs.Client.Commands.{Finishes, Takes}
 use Rattle.st_trace.specs.Client.Losses as losing
@@ -72,9 +57,9 @@ module _ (M : List Message) (c : ClientId) (Known : ℕ → Ask → Type 0) (Bef
       h = m.header
 
       -- the request ends: nothing is outstanding, and who waited is yet to be answered
-      b_ended : (t : Turn) (x : ClientSession) (stamp : Stamp) → (CIn M c Known Before Done s B out0) t x → (CIn M c Known Before Done s B out0) t
+      base_after_ended : (t : Turn) (x : ClientSession) (stamp : Stamp) → (CIn M c Known Before Done s B out0) t x → (CIn M c Known Before Done s B out0) t
           (cr.ended_by stamp x)
-      b_ended t x stamp b =
+      base_after_ended t x stamp b =
           record {
             id_ = b.id_;
             server = b.server;
@@ -102,7 +87,7 @@ module _ (M : List Message) (c : ClientId) (Known : ℕ → Ask → Type 0) (Bef
         here = refl;
         operations = refl;
         base =
-            (b_say M c Known Before Done s B out0) t.id t.here.server t.here.life.0 (view (Some y)) t.operations t.out _ tt b;
+            (base_after_say M c Known Before Done s B out0) t.id t.here.server t.here.life.0 (view (Some y)) t.operations t.out _ tt b;
       }
       noted t x y stamp _ (trace.IsNoLater e) b = record { here = refl; operations = refl; base = b }
 
@@ -135,14 +120,14 @@ module _ (M : List Message) (c : ClientId) (Known : ℕ → Ask → Type 0) (Bef
               (subst (λ r. SameBody r y) e ((w.base.numbers.placed y (inl j) k.between (k.of_life ∙ lf) (omega (arith, g, u))).same (k.of_epoch ∙ ep))) k.under
 
       -- What a reply does, besides ending the request.
-      w_told : (u : Turn) (answer : AppAnswer) → (C M c Known Before Done s B out0) u →
+      whole_after_told : (u : Turn) (answer : AppAnswer) → (C M c Known Before Done s B out0) u →
           ((o : Operation) → Has o u.operations → cs.is_asked u.here.server o ≡ true → Done o.op o.ask answer) →
           (W M c Known Before Done s B out0) (cs.answer_each (cs.is_asked u.here.server) answer u)
       unfolding cs.answer_each
-      w_told u answer b f =
+      whole_after_told u answer b f =
           record {
-            base = (b_more M c Known Before Done s B out0) u.id u.here.server u.here.life.0 (view u.here.session) _ u.out _ okay
-                ((b_fewer M c Known Before Done s B out0) u.id u.here.server u.here.life.0 (view u.here.session) u.operations _ u.out
+            base = (base_after_longer_list M c Known Before Done s B out0) u.id u.here.server u.here.life.0 (view u.here.session) _ u.out _ okay
+                ((base_after_fewer M c Known Before Done s B out0) u.id u.here.server u.here.life.0 (view u.here.session) u.operations _ u.out
                 (λ o i. (has_filter _ u.operations o i).0) b);
             waits = λ o i a. absurd ((freed M c Known Before Done s B out0) u answer o i a);
             alone = λ o p i j a g. absurd ((freed M c Known Before Done s B out0) u answer o i a);
@@ -156,11 +141,11 @@ module _ (M : List Message) (c : ClientId) (Known : ℕ → Ask → Type 0) (Bef
               subst ((Okay M c Known Before Done) u.here.server u.here.life.0) (sym z.2)
               ((said_of M c Known Before Done) z.0.op answer (z.0.ask, b.asked z.0 y.0, f z.0 y.0 y.1))
 
-      w_effect : (t u : Turn) (x y : ClientSession) (q : Request) (b : Body) (file : Option ℕ) (r : Turn) → Replied now h b t x q →
+      whole_after_effect : (t u : Turn) (x y : ClientSession) (q : Request) (b : Body) (file : Option ℕ) (r : Turn) → Replied now h b t x q →
           (WIn M c Known Before Done s B out0) t x → u.here ≡ record t.here { session = Some y } → u.operations ≡ t.operations →
           (C M c Known Before Done s B out0) u → (is_report b ≡ true → Told b t.here.server) → Effect now u y file q.body b r → WW r
       unfolding cs.answer_each
-      w_effect t u x y q b file r rep w here ops base told f = go b r rep.fits told f
+      whole_after_effect t u x y q b file r rep w here ops base told f = go b r rep.fits told f
         where
           same_server : t.here.server ≡ u.here.server
           same_server = sym (ap (λ (a : Association). a.server) here)
@@ -184,47 +169,49 @@ module _ (M : List Message) (c : ClientId) (Known : ℕ → Ask → Type 0) (Bef
               (subst (Has o) ops i) (subst (λ z. cs.is_asked z o ≡ true) (sym same_server) a)
 
           go : (b : Body) (r : Turn) → cs.fits b q.body ≡ true → (is_report b ≡ true → Told b t.here.server) → Effect now u y file q.body b r → WW r
-          go _ _ f k (trace.IsGranted ino g mode v i) = (w_view M c Known Before Done s B out0) u y v
+          go _ _ f k (trace.IsGranted ino g mode v i) = (whole_after_view M c Known Before Done s B out0) u y v
               ((granted_view M c Known Before Done s B out0) y ino g mode v i) (whole_in (no_acquire ino q.body f))
           go _ _ f k (trace.IsQueued ino mode e) = (whole_in (no_acquire ino q.body f))
           go _ _ f k (trace.HoldsAlready ino mode e) = whole_in (no_acquire ino q.body f)
           go _ _ f k (trace.IsToldExtents ino rows e) = whole (no_map ino q.body f)
           go _ _ f k (trace.IsToldLate ino rows e) = whole (no_map ino q.body f)
-          go _ _ f k trace.IsAcknowledged = w_told u answers.Cut base (done bodies.Ack answers.Cut refl (k refl) f)
-          go _ _ f k (trace.IsNamed n i) = w_told u (cr.name_answer n) base (done (bodies.Named n) (cr.name_answer n) refl (k refl) f)
+          go _ _ f k trace.IsAcknowledged = whole_after_told u answers.Cut base (done bodies.Ack answers.Cut refl (k refl) f)
+          go _ _ f k (trace.IsNamed n i) = whole_after_told u (cr.name_answer n) base (done (bodies.Named n) (cr.name_answer n) refl (k refl) f)
           go _ _ f k (trace.IsRemoved ino removed l e i) =
               let v = cs.answer_each (cs.is_asked u.here.server) (answers.Named ino) u in
               ((into M c Known Before Done s B out0) v y session
-              (w_told u (answers.Named ino) base (done (bodies.Named (replies.Ino ino)) (answers.Named ino) refl (k refl) f)))
+              (whole_after_told u (answers.Named ino) base (done (bodies.Named (replies.Ino ino)) (answers.Named ino) refl (k refl) f)))
           go _ _ f k trace.IsReasserted = (whole_in (no_reassert q.body f))
-          go _ _ f k (trace.Effect.IsRefused z a b v i) = (w_stuck M c Known Before Done s B out0) v
-              ((b_refused M c Known Before Done s B out0) u z a b file q.body v i base)
+          go _ _ f k (trace.Effect.IsRefused z a b v i) = (whole_after_stuck M c Known Before Done s B out0) v
+              ((base_after_refused M c Known Before Done s B out0) u z a b file q.body v i base)
 
-      w_heard : (t : Turn) (b : Body) (u : Turn) → (is_report b ≡ true → (sv : ServerId) → h.from ≡ server_node sv → Told b sv) → Receives now h t b u → WW t →
+      whole_after_heard : (t : Turn) (b : Body) (u : Turn) → (is_report b ≡ true → (sv : ServerId) → h.from ≡ server_node sv → Told b sv) →
+          Receives now h t b u → WW t →
           WW u
-      w_heard t _ _ told (trace.PassesOver b) w = w
-      w_heard t _ _ told (trace.Begins r e i) w =
-          let x = cr.new_session (trace.epoch_of h) (trace.stamp_of h) in (w_say M c Known Before Done s B out0) (cr.begin_here x t) _ tt
-          ((b_begins M c Known Before Done s B out0) t x e refl w)
-      w_heard t _ _ told (trace.FollowsEpoch x a b k e) w =
-          (w_follows M c Known Before Done s B out0) t x (trace.epoch_of h) k.session (ltb-true x.epoch.0 h.epoch (and_true (nat_lt x.epoch.0 h.epoch) _ e).0) w
-      w_heard t _ _ told (trace.IsCondemned b x k i) w = (into M c Known Before Done s B out0) t x k.session w
-      w_heard t _ _ told (trace.IsGrantedLater ino g mode x v k e i) w = (w_view M c Known Before Done s B out0) t x v
+      whole_after_heard t _ _ told (trace.PassesOver b) w = w
+      whole_after_heard t _ _ told (trace.Begins r e i) w =
+          let x = cr.new_session (trace.epoch_of h) (trace.stamp_of h) in (whole_after_say M c Known Before Done s B out0) (cr.begin_here x t) _ tt
+          ((base_after_begins M c Known Before Done s B out0) t x e refl w)
+      whole_after_heard t _ _ told (trace.FollowsEpoch x a b k e) w =
+          (whole_after_follows M c Known Before Done s B out0) t x (trace.epoch_of h) k.session
+          (ltb-true x.epoch.0 h.epoch (and_true (nat_lt x.epoch.0 h.epoch) _ e).0) w
+      whole_after_heard t _ _ told (trace.IsCondemned b x k i) w = (into M c Known Before Done s B out0) t x k.session w
+      whole_after_heard t _ _ told (trace.IsGrantedLater ino g mode x v k e i) w = (whole_after_view M c Known Before Done s B out0) t x v
           ((granted_view M c Known Before Done s B out0) x ino g mode v i) ((into M c Known Before Done s B out0) t x k.session w)
-      w_heard t _ _ told (trace.SeesDemand ino g to x k e) w =
-          let l = cs.with_cache (locks.demand x.locks ino g to).locks x in (w_idle M c Known Before Done s B out0) (with_session l t) _ _ _
-          ((w_view M c Known Before Done s B out0) t x l refl ((into M c Known Before Done s B out0) t x k.session w))
-      w_heard t _ _ told (trace.GivesUp ino g to x k e i) w = (into M c Known Before Done s B out0) t x k.session w
-      w_heard t _ _ told (trace.HasGivenUp ino g to x k e i) w = (into M c Known Before Done s B out0) t x k.session w
-      w_heard t _ u told (trace.IsAnswered b x q v _ r n f) w =
+      whole_after_heard t _ _ told (trace.SeesDemand ino g to x k e) w =
+          let l = cs.with_cache (locks.demand x.locks ino g to).locks x in (whole_after_idle M c Known Before Done s B out0) (with_session l t) _ _ _
+          ((whole_after_view M c Known Before Done s B out0) t x l refl ((into M c Known Before Done s B out0) t x k.session w))
+      whole_after_heard t _ _ told (trace.GivesUp ino g to x k e i) w = (into M c Known Before Done s B out0) t x k.session w
+      whole_after_heard t _ _ told (trace.HasGivenUp ino g to x k e i) w = (into M c Known Before Done s B out0) t x k.session w
+      whole_after_heard t _ u told (trace.IsAnswered b x q v _ r n f) w =
           let y = cr.ended_by (trace.stamp_of h) x in let j = (into M c Known Before Done s B out0) t x r.heard.session w in
-          let z = noted t x y (trace.stamp_of h) v n (b_ended t x (trace.stamp_of h) j.base) in
-          w_effect t (with_session y v) x y q b (cs.file_asked x.cutting q.body) u r j
+          let z = noted t x y (trace.stamp_of h) v n (base_after_ended t x (trace.stamp_of h) j.base) in
+          whole_after_effect t (with_session y v) x y q b (cs.file_asked x.cutting q.body) u r j
           (ap (λ (a : Association). record a { session = Some y }) z.here) z.operations z.base (λ i. told i t.here.server r.heard.received.from) f
 
-      pub w_receive : (t : Turn) → (is_report m.body ≡ true → (sv : ServerId) → h.from ≡ server_node sv → Told m.body sv) → WW t → WW
+      pub whole_after_receive : (t : Turn) → (is_report m.body ≡ true → (sv : ServerId) → h.from ≡ server_node sv → Told m.body sv) → WW t → WW
           (cr.receive_at now h m.body t)
-      w_receive t told w = w_heard t m.body (cr.receive_at now h m.body t) told (receives now h t m.body) w
+      whole_after_receive t told w = whole_after_heard t m.body (cr.receive_at now h m.body t) told (receives now h t m.body) w
 
     -- Losses: the operations of the server are answered, and the next life begins.
     record Losing (sv : ServerId) (all : List Operation) (t : Turn) : Type 0 where
@@ -241,25 +228,25 @@ module _ (M : List Message) (c : ClientId) (Known : ℕ → Ask → Type 0) (Bef
         away p (inr (inl q)) = (subst (λ z. Has z all) (sym q) h, subst (λ z. cs.is_of sv z ≡ false) (sym q) (subst (λ z. cs.is_of z o ≡ false) w.server_ e))
         away p (inr (inr i)) = absurd i
     ended sv all x o t _ (losing.IsUncertain own e) h w = record {
-      base = (b_say M c Known Before Done s B out0) t.id t.here.server t.here.life.0
+      base = (base_after_say M c Known Before Done s B out0) t.id t.here.server t.here.life.0
           (view t.here.session) all t.out _ tt w.base;
       server_ = w.server_;
       away = w.away;
     }
     ended sv all x o t _ (losing.IsToldLost f own e q l) h w = record {
-      base = (b_say M c Known Before Done s B out0) t.id t.here.server t.here.life.0
+      base = (base_after_say M c Known Before Done s B out0) t.id t.here.server t.here.life.0
           (view t.here.session) all t.out _ tt w.base;
       server_ = w.server_;
       away = w.away;
     }
     ended sv all x o t _ (losing.LostNothing f own e q l) h w = record {
-      base = (b_say M c Known Before Done s B out0) t.id t.here.server t.here.life.0
+      base = (base_after_say M c Known Before Done s B out0) t.id t.here.server t.here.life.0
           (view t.here.session) all t.out _ tt w.base;
       server_ = w.server_;
       away = w.away;
     }
     ended sv all x o t _ (losing.IsQuiesced own e n) h w = record {
-      base = (b_say M c Known Before Done s B out0) t.id t.here.server t.here.life.0
+      base = (base_after_say M c Known Before Done s B out0) t.id t.here.server t.here.life.0
           (view t.here.session) all t.out _ tt w.base;
       server_ = w.server_;
       away = w.away;
@@ -289,7 +276,7 @@ module _ (M : List Message) (c : ClientId) (Known : ℕ → Ask → Type 0) (Bef
         }
       where
         b : (K M c Known Before Done s B out0) u.id u.here.server u.here.life.0 (view u.here.session) u.operations u.out
-        b = (b_fewer M c Known Before Done s B out0) u.id u.here.server u.here.life.0 (view u.here.session) all u.operations u.out
+        b = (base_after_fewer M c Known Before Done s B out0) u.id u.here.server u.here.life.0 (view u.here.session) all u.operations u.out
             (λ o h. (r.away o h).0) r.base
 
         clash : {b : Bool} → b ≡ true → b ≡ false → ⊥
@@ -298,8 +285,8 @@ module _ (M : List Message) (c : ClientId) (Known : ℕ → Ask → Type 0) (Bef
         gone : (o : Operation) → Has o u.operations → cs.is_of u.here.server o ≡ true → ⊥
         gone o h e = clash (subst (λ z. cs.is_of z o ≡ true) r.server_ e) (r.away o h).1
 
-    pub w_lose : (now : Stamp) (t : Turn) → WW t → WW (cl.lose now t)
-    w_lose now t w = go (cl.lose now t) (loses now t)
+    pub whole_after_lose : (now : Stamp) (t : Turn) → WW t → WW (cl.lose now t)
+    whole_after_lose now t w = go (cl.lose now t) (loses now t)
       where
         go : (u : Turn) → Loses now t u → WW u
         go _ (losing.HasNoSession e) = w
@@ -310,7 +297,7 @@ module _ (M : List Message) (c : ClientId) (Known : ℕ → Ask → Type 0) (Bef
             (with_operations [] (losing.loss_noted t)) u p (
               λ o h. h,
               record {
-                base = (b_say M c Known Before Done s B out0) t.id t.here.server t.here.life.0
+                base = (base_after_say M c Known Before Done s B out0) t.id t.here.server t.here.life.0
                     (view t.here.session) t.operations t.out _ tt w.base;
                 server_ = refl;
                 away = λ o h. absurd h;
@@ -319,8 +306,8 @@ module _ (M : List Message) (c : ClientId) (Known : ℕ → Ask → Type 0) (Bef
             lost t.operations t.here.server u z.1
 
     -- Ends of commands.
-    pub w_finish : (number : ℕ) (r : Option (Option (Tag × List ℕ))) (t : Turn) → WW t → WW (cl.finish number r t)
-    w_finish number r t w = go (cl.finish number r t) (finishes number r t)
+    pub whole_after_finish : (number : ℕ) (r : Option (Option (Tag × List ℕ))) (t : Turn) → WW t → WW (cl.finish number r t)
+    whole_after_finish number r t w = go (cl.finish number r t) (finishes number r t)
       where
         go : (u : Turn) → Finishes number r t u → WW u
         go _ (ending.IsUnknown e) = w
@@ -328,53 +315,53 @@ module _ (M : List Message) (c : ClientId) (Known : ℕ → Ask → Type 0) (Bef
         go _ (ending.Fills x block o i e) = w
         go _ (ending.Hardens x v o i e j) = w
         go _ (ending.WroteOlder x v o i e j) = w
-        go _ (ending.FailsToRead x o i e) = (w_answers M c Known Before Done s B out0) (ending.without x t) _ _ (λ op. tt) w
-        go _ (ending.FailsToWrite x v o i e j) = (w_answers M c Known Before Done s B out0)
+        go _ (ending.FailsToRead x o i e) = (whole_after_answers M c Known Before Done s B out0) (ending.without x t) _ _ (λ op. tt) w
+        go _ (ending.FailsToWrite x v o i e j) = (whole_after_answers M c Known Before Done s B out0)
             (ending.with_pages (pages.fail t.here.store.pages x.ino x.page x.number) (ending.without x t)) _ _ (λ op. tt) w
-        go _ (ending.FailsToWriteOlder x v o i e j) = (w_answers M c Known Before Done s B out0) (ending.without x t) _ _ (λ op. tt) w
+        go _ (ending.FailsToWriteOlder x v o i e j) = (whole_after_answers M c Known Before Done s B out0) (ending.without x t) _ _ (λ op. tt) w
 
     -- The pass over the operations: those that were not yet looked at come after those that stay.
     abbrev R : List Operation → Turn → Type 0
     R os t = (Whole M c Known Before Done) s B out0 t.id t.here.server t.here.life.0 (view t.here.session) (t.operations ++ os) t.out
 
-    r_keep : (os : List Operation) (o : Operation) (t : Turn) → R (o ∷ os) t → R os (cs.keep o t)
-    r_keep os o t r = subst (λ x. (Whole M c Known Before Done) s B out0 t.id t.here.server t.here.life.0 (view t.here.session) x t.out)
+    rest_after_keeping : (os : List Operation) (o : Operation) (t : Turn) → R (o ∷ os) t → R os (cs.keep o t)
+    rest_after_keeping os o t r = subst (λ x. (Whole M c Known Before Done) s B out0 t.id t.here.server t.here.life.0 (view t.here.session) x t.out)
         (sym (append_assoc t.operations (o ∷ []) os)) r
 
-    r_answer : (os : List Operation) (o : Operation) (a : AppAnswer) (t : Turn) → (Plain M c Known Before Done s B out0) a → R (o ∷ os) t → R os
+    rest_after_answer : (os : List Operation) (o : Operation) (a : AppAnswer) (t : Turn) → (Plain M c Known Before Done s B out0) a → R (o ∷ os) t → R os
         (cp.answer o a t)
-    r_answer os o a t p r =
-        let z = (w_fewer M c Known Before Done s B out0) t.id t.here.server t.here.life.0 (view t.here.session) (t.operations ++ o ∷ os)
+    rest_after_answer os o a t p r =
+        let z = (whole_after_fewer M c Known Before Done s B out0) t.id t.here.server t.here.life.0 (view t.here.session) (t.operations ++ o ∷ os)
         (t.operations ++ os) t.out (λ x h. has_middle o x t.operations os h) r in
         record {
-          base = (b_say M c Known Before Done s B out0) t.id t.here.server t.here.life.0 (view t.here.session) (t.operations ++ os) t.out _
+          base = (base_after_say M c Known Before Done s B out0) t.id t.here.server t.here.life.0 (view t.here.session) (t.operations ++ os) t.out _
               (p o.op) z.base;
           waits = z.waits;
           alone = z.alone;
         }
 
-    r_say : (os : List Operation) (t : Turn) (o : Output) → (Okay M c Known Before Done) t.here.server t.here.life.0 o → R os t → R os (say t o)
-    r_say os t o k r = record {
-      base = (b_say M c Known Before Done s B out0) t.id t.here.server t.here.life.0 (view t.here.session)
+    rest_after_say : (os : List Operation) (t : Turn) (o : Output) → (Okay M c Known Before Done) t.here.server t.here.life.0 o → R os t → R os (say t o)
+    rest_after_say os t o k r = record {
+      base = (base_after_say M c Known Before Done s B out0) t.id t.here.server t.here.life.0 (view t.here.session)
           (t.operations ++ os) t.out o k r.base;
       waits = r.waits;
       alone = r.alone;
     }
 
-    r_operated : (now : Stamp) (all os : List Operation) (o : Operation) (t u : Turn) → Operated now all o t u → R (o ∷ os) t → R os u
-    r_operated now all os o t _ pass.Waits r = r_keep os o t r
-    r_operated now all os o t _ (pass.IsHard f h e q) r = r_answer os o answers.Hard t (λ op. tt) r
-    r_operated now all os o t _ (pass.IsQuiesced x h n a b d) r = r_answer os o answers.Quiesced t (λ op. tt) r
-    r_operated now all os o t _ (pass.ChangesPage x f p bytes n v d m e) r =
-        r_answer os o answers.Written (cp.with_pages_changed (pages.written t.here.store.pages f.ino p bytes) f.ino p (cs.note t n)) (λ op. tt)
-        (r_say (o ∷ os) t (outputs.Note n) tt r)
-    r_operated now all os o t _ (pass.IsDirtyFull x f p bytes n v d m e) r = r_answer os o answers.DirtyFull t (λ op. tt) r
-    r_operated now all os o t _ (pass.Fetches x f p m v n a e b) r = r_keep os o
+    rest_after_operated : (now : Stamp) (all os : List Operation) (o : Operation) (t u : Turn) → Operated now all o t u → R (o ∷ os) t → R os u
+    rest_after_operated now all os o t _ pass.Waits r = rest_after_keeping os o t r
+    rest_after_operated now all os o t _ (pass.IsHard f h e q) r = rest_after_answer os o answers.Hard t (λ op. tt) r
+    rest_after_operated now all os o t _ (pass.IsQuiesced x h n a b d) r = rest_after_answer os o answers.Quiesced t (λ op. tt) r
+    rest_after_operated now all os o t _ (pass.ChangesPage x f p bytes n v d m e) r =
+        rest_after_answer os o answers.Written (cp.with_pages_changed (pages.written t.here.store.pages f.ino p bytes) f.ino p (cs.note t n)) (λ op. tt)
+        (rest_after_say (o ∷ os) t (outputs.Note n) tt r)
+    rest_after_operated now all os o t _ (pass.IsDirtyFull x f p bytes n v d m e) r = rest_after_answer os o answers.DirtyFull t (λ op. tt) r
+    rest_after_operated now all os o t _ (pass.Fetches x f p m v n a e b) r = rest_after_keeping os o
         (say (cp.with_command f.ino p io.Read t) (outputs.Submit t.next_command m.at (commands.Read m.at)))
-        (r_say (o ∷ os) (cp.with_command f.ino p io.Read t) _ tt r)
-    r_operated now all os o t _ (pass.ReadsCached x f p bytes v e h q) r = r_answer os o (answers.Read bytes)
+        (rest_after_say (o ∷ os) (cp.with_command f.ino p io.Read t) _ tt r)
+    rest_after_operated now all os o t _ (pass.ReadsCached x f p bytes v e h q) r = rest_after_answer os o (answers.Read bytes)
         (with_store (record t.here.store { pages = pages.use_page t.here.store.pages f.ino p }) t) (λ op. tt) r
-    r_operated now all os o t _ (pass.ReadsZeros x f p e v a h q k m) r = r_answer os o _ t (λ op. tt) r
+    rest_after_operated now all os o t _ (pass.ReadsZeros x f p e v a h q k m) r = rest_after_answer os o _ t (λ op. tt) r
 
     has_none : {A : Type 0} (xs : List A) (x : A) → Has x xs → Has x (xs ++ [])
     has_none (y ∷ ys) x (inl e) = inl e
@@ -382,38 +369,41 @@ module _ (M : List Message) (c : ClientId) (Known : ℕ → Ask → Type 0) (Bef
     has_none [] x h = h
 
     -- Reductions, writes and greeting.
-    w_reduced : (ino : ℕ) (t u : Turn) → Reduced ino t u → WW t → WW u
-    w_reduced ino t _ StaysHeld w = w
-    w_reduced ino t _ (IsReduced x g to e m q) w = (into M c Known Before Done s B out0) t x e w
+    whole_after_reduced : (ino : ℕ) (t u : Turn) → Reduced ino t u → WW t → WW u
+    whole_after_reduced ino t _ StaysHeld w = w
+    whole_after_reduced ino t _ (IsReduced x g to e m q) w = (into M c Known Before Done s B out0) t x e w
 
-    w_written : (now : Stamp) (tick : Bool) (y : ℕ × PageNo) (t u : Turn) → WritesOut now tick y t u → WW t → WW u
-    w_written now tick y t _ StaysDirty w = w
-    w_written now tick y t _ (IsWritten x d m e q k i) w = (w_say M c Known Before Done s B out0) (cp.with_command d.ino d.page (io.Write d.version) t) _ tt w
+    whole_after_written : (now : Stamp) (tick : Bool) (y : ℕ × PageNo) (t u : Turn) → WritesOut now tick y t u → WW t → WW u
+    whole_after_written now tick y t _ StaysDirty w = w
+    whole_after_written now tick y t _ (IsWritten x d m e q k i) w =
+        (whole_after_say M c Known Before Done s B out0) (cp.with_command d.ino d.page (io.Write d.version) t) _ tt w
 
-    w_greeted : (now : Stamp) (tick : Bool) (t u : Turn) → Greets now tick t u → WW t → WW u
-    w_greeted now tick t _ asking.IsSilent w = w
-    w_greeted now tick t _ (asking.SaysHello e m) w = (w_idle M c Known Before Done s B out0) (cp.with_greeting now t) 0 now.0 bodies.Hello w
+    whole_after_greeted : (now : Stamp) (tick : Bool) (t u : Turn) → Greets now tick t u → WW t → WW u
+    whole_after_greeted now tick t _ asking.IsSilent w = w
+    whole_after_greeted now tick t _ (asking.SaysHello e m) w =
+        (whole_after_idle M c Known Before Done s B out0) (cp.with_greeting now t) 0 now.0 bodies.Hello w
 
-    pub w_passes : ((sv : ServerId) (life epoch number op : ℕ) → ((m : Message) → Has m M → Keyed c sv life epoch number m → ⊥) →
+    pub whole_after_passes : ((sv : ServerId) (life epoch number op : ℕ) → ((m : Message) → Has m M → Keyed c sv life epoch number m → ⊥) →
         Before sv life epoch number op) →
         (now : Stamp) (tick : Bool) (t : Turn) → (W M c Known Before Done s B out0) t → (W M c Known Before Done s B out0) (cp.passes now tick t)
     unfolding cp.passes
-    w_passes fresh now tick t w =
+    whole_after_passes fresh now tick t w =
         let o = cp.operations now t in let r = cp.reductions o in let v = cp.writes now tick r in
-        let z = each_lasts (Operated now t.operations) (λ os u. R os u) (λ p os u x step y. r_operated now t.operations os p u x step y) t.operations
+        let z = each_lasts (Operated now t.operations) (λ os u. R os u) (λ p os u x step y. rest_after_operated now t.operations os p u x step y) t.operations
         (with_operations [] t) o (operations now t) w in
-        (w_requests M c Known Before Done s B out0) fresh now tick _
-        (w_greeted now tick v (cp.greeting now tick v) (greets now tick v)
-        (each_lasts (WritesOut now tick) (λ xs u. WW u) (λ x xs u y step i. w_written now tick x u y step i) (places_of r.here.session r.here.store.pages) r v
+        (whole_after_requests M c Known Before Done s B out0) fresh now tick _
+        (whole_after_greeted now tick v (cp.greeting now tick v) (greets now tick v)
+        (each_lasts (WritesOut now tick) (λ xs u. WW u) (λ x xs u y step i. whole_after_written now tick x u y step i)
+        (places_of r.here.session r.here.store.pages) r v
         (writes now tick r)
-        (each_lasts Reduced (λ inos u. WW u) (λ ino inos u y step i. w_reduced ino u y step i) (cp.files_demanded o.here.session) o r (reductions o)
-        ((w_fewer M c Known Before Done s B out0) o.id o.here.server o.here.life.0 (view o.here.session) (o.operations ++ []) o.operations o.out
+        (each_lasts Reduced (λ inos u. WW u) (λ ino inos u y step i. whole_after_reduced ino u y step i) (cp.files_demanded o.here.session) o r (reductions o)
+        ((whole_after_fewer M c Known Before Done s B out0) o.id o.here.server o.here.life.0 (view o.here.session) (o.operations ++ []) o.operations o.out
         (λ p h. has_none o.operations p h) z))))
 
     -- Asks of applications.
-    pub w_take : (op : ℕ) (ask : Ask) → Known op ask → (t : Turn) → (W M c Known Before Done s B out0) t → (W M c Known Before Done s B out0)
+    pub whole_after_take : (op : ℕ) (ask : Ask) → Known op ask → (t : Turn) → (W M c Known Before Done s B out0) t → (W M c Known Before Done s B out0)
         (cs.only_at (server_of ask) (cl.take_ask op ask) t)
-    w_take op ask k t w = at_server (λ u. WW u) (server_of ask) (cl.take_ask op ask) t (λ e. by e (cl.take_ask op ask t) (takes op ask t)) (λ e. w)
+    whole_after_take op ask k t w = at_server (λ u. WW u) (server_of ask) (cl.take_ask op ask) t (λ e. by e (cl.take_ask op ask t) (takes op ask t)) (λ e. w)
       where
         new : Operation
         new = cs.new_operation op ask
@@ -473,6 +463,6 @@ module _ (M : List Message) (c : ClientId) (Known : ℕ → Ask → Type 0) (Bef
             waits o (inr (inr i)) e = absurd i
 
         by : cs.is_at (server_of ask) t.here ≡ true → (u : Turn) → Takes op ask t u → WW u
-        by at _ (ending.TellsLost f q h) = (w_say M c Known Before Done s B out0) (cs.with_lost_rows (pages.untold t.here.lost f.ino) t) _ tt w
+        by at _ (ending.TellsLost f q h) = (whole_after_say M c Known Before Done s B out0) (cs.with_lost_rows (pages.untold t.here.lost f.ino) t) _ tt w
         by at _ (ending.WaitsForSync f q h) = enqueued at
         by at _ (ending.Waits n) = enqueued at

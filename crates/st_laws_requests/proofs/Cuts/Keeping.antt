@@ -1,32 +1,19 @@
 -- What holds within a client's rule at a server, of its requests, of who waits for one and of what is sent and answered; and what small changes, refusals and
 -- new sessions leave of it.
-use Rattle.std.proofs.Common.{◌≡◌, ℕ, ◌≤◌, ◌<◌, ◌⊎◌, Bool, true, false, not, ◌&&◌, ◌==◌, List, [], ◌∷◌, ◌++◌, Option, Some, None, refl, sym, ap, ◌∙◌, subst}
-use Rattle.std.proofs.Common.{inl, inr, arith, if◌then◌else◌}
-use Rattle.std.specs.Prelude.{map}
-use Rattle.st_base.specs.declared.ids.ClientId.{ClientId}
-use Rattle.st_base.specs.declared.ids.Epoch.{Epoch}
-use Rattle.st_base.specs.declared.ids.GrantNo.{GrantNo}
-use Rattle.st_base.specs.declared.ids.ServerId.{ServerId}
-use Rattle.st_base.specs.declared.mode.Mode.{Mode}
-use Rattle.st_messages.specs.declared.answer.AppAnswer.{AppAnswer}
-use Rattle.st_messages.specs.declared.answer.AppAnswer.TheVariants as answers
-use Rattle.st_messages.specs.declared.ask.Ask.{Ask}
-use Rattle.st_messages.specs.declared.ask.Ask.TheVariants as asks
-use Rattle.st_messages.specs.declared.message.Body.{Body}
-use Rattle.st_messages.specs.declared.message.Body.TheVariants as bodies
-use Rattle.st_messages.specs.declared.message.Message.{Message}
-use Rattle.st_messages.specs.declared.message.Why.{Why}
-use Rattle.st_messages.specs.declared.output.Output.{Output}
-use Rattle.st_messages.specs.declared.output.Output.TheVariants as outputs
-use Rattle.st_rules.specs.declared.client.Operation.{Operation}
-use Rattle.st_rules.specs.declared.client.Request.{Request}
-use Rattle.st_rules.specs.declared.client.Stage.TheVariants as stages
-use Rattle.st_rules.specs.ClientReplies as cr
-use Rattle.st_rules.specs.ClientState as cs
-use Rattle.st_rules.specs.ClientState.{ClientSession, Turn, Requests, answer_to, server_of, say, with_session}
-use Rattle.st_lemmas.specs.Lists.{Has}
-use Rattle.st_lemmas.proofs.Tables.{and_true, has_append, has_filter, has_map, not_true}
-use Rattle.st_laws_leases.proofs.Dates.Known.{has_left}
+use Rattle.st_lemmas.proofs.Words
+use Words.{◌≡◌, ℕ, ◌≤◌, ◌<◌, ◌⊎◌, Bool, true, false, not, ◌&&◌, ◌==◌, List, [], ◌∷◌, ◌++◌, Option, Some, None, refl, sym, ap, ◌∙◌, subst, inl, inr, arith}
+use Words.{if◌then◌else◌, map, ClientId, Epoch, GrantNo, ServerId, Mode, AppAnswer, Ask, Body, Message, Why, Output, Operation, Request}
+use Words.answers
+use Words.asks
+use Words.bodies
+use Words.outputs
+use Words.stages
+use Words.ClientReplies as cr
+use Words.ClientState as cs
+use Words.ClientState.{ClientSession, Turn, Requests, answer_to, server_of, say, with_session}
+use Words.Lists.{Has}
+use Words.Tables.{and_true, has_append, has_filter, has_map, not_true}
+use Words.Members.{has_left}
 use Rattle.st_laws_requests.specs.Cuts.Cuts.{AllWait, AsksFor, Between, Counts, IsSent, Numbers, OneWaits, Placed, SentIn, WaitsAt, view}
 use Rattle.st_trace.specs.Client.Messages as trace
 use Rattle.st_trace.specs.Client.Messages.{Grants, Refusal}
@@ -57,11 +44,6 @@ no_reassert b h e = cc
 pub if_both : (P : Turn → Type 0) (b : Bool) (t u : Turn) → P t → P u → P (if b then t else u)
 if_both P true t u x y = x
 if_both P false t u x y = y
-
-pub has_middle : {A : Type 0} (k p : A) (xs ys : List A) → Has p (xs ++ ys) → Has p (xs ++ k ∷ ys)
-has_middle k p [] ys h = inr h
-has_middle k p (x ∷ xs) ys (inl e) = inl e
-has_middle k p (x ∷ xs) ys (inr h) = inr (has_middle k p xs ys h)
 
 -- an outstanding request that was sent is among more messages
 pub sent_more : (S T : Message → Type 0) (c : ClientId) (s : ServerId) (life : ℕ) (v : Option (ℕ × Requests)) → ((m : Message) → S m → T m) →
@@ -164,9 +146,9 @@ module _ (M : List Message) (c : ClientId) (Known : ℕ → Ask → Type 0) (Bef
 
     -- Small changes.
     -- more outputs, none of them a request
-    pub b_more : (id : ClientId) (sv : ServerId) (life : ℕ) (v : Option (ℕ × Requests)) (ops : List Operation) (out os : List Output) →
+    pub base_after_longer_list : (id : ClientId) (sv : ServerId) (life : ℕ) (v : Option (ℕ × Requests)) (ops : List Operation) (out os : List Output) →
         ((o : Output) → Has o os → Okay sv life o) → K id sv life v ops out → K id sv life v ops (out ++ os)
-    b_more id sv life v ops out os k b =
+    base_after_longer_list id sv life v ops out os k b =
         record {
           id_ = b.id_;
           server = b.server;
@@ -225,21 +207,21 @@ module _ (M : List Message) (c : ClientId) (Known : ℕ → Ask → Type 0) (Bef
     one_okay sv life o k x (inl e) = subst (Okay sv life) (sym e) k
     one_okay sv life o k x (inr i) = absurd i
 
-    pub b_say : (id : ClientId) (sv : ServerId) (life : ℕ) (v : Option (ℕ × Requests)) (ops : List Operation) (out : List Output) (o : Output) →
+    pub base_after_say : (id : ClientId) (sv : ServerId) (life : ℕ) (v : Option (ℕ × Requests)) (ops : List Operation) (out : List Output) (o : Output) →
         Okay sv life o → K id sv life v ops out → K id sv life v ops (out ++ o ∷ [])
-    b_say id sv life v ops out o k b = b_more id sv life v ops out (o ∷ []) (one_okay sv life o k) b
+    base_after_say id sv life v ops out o k b = base_after_longer_list id sv life v ops out (o ∷ []) (one_okay sv life o k) b
 
-    pub w_say : (t : Turn) (o : Output) → Okay t.here.server t.here.life.0 o → W t → W (say t o)
-    w_say t o k w = record {
-      base = b_say t.id t.here.server t.here.life.0 (view t.here.session) t.operations t.out o k w.base;
+    pub whole_after_say : (t : Turn) (o : Output) → Okay t.here.server t.here.life.0 o → W t → W (say t o)
+    whole_after_say t o k w = record {
+      base = base_after_say t.id t.here.server t.here.life.0 (view t.here.session) t.operations t.out o k w.base;
       waits = w.waits;
       alone = w.alone;
     }
 
     -- fewer operations
-    pub b_fewer : (id : ClientId) (sv : ServerId) (life : ℕ) (v : Option (ℕ × Requests)) (ops qs : List Operation) (out : List Output) →
+    pub base_after_fewer : (id : ClientId) (sv : ServerId) (life : ℕ) (v : Option (ℕ × Requests)) (ops qs : List Operation) (out : List Output) →
         ((o : Operation) → Has o qs → Has o ops) → K id sv life v ops out → K id sv life v qs out
-    b_fewer id sv life v ops qs out f b =
+    base_after_fewer id sv life v ops qs out f b =
         record {
           id_ = b.id_;
           server = b.server;
@@ -251,10 +233,10 @@ module _ (M : List Message) (c : ClientId) (Known : ℕ → Ask → Type 0) (Bef
           said = b.said;
         }
 
-    pub w_fewer : (id : ClientId) (sv : ServerId) (life : ℕ) (v : Option (ℕ × Requests)) (ops qs : List Operation) (out : List Output) →
+    pub whole_after_fewer : (id : ClientId) (sv : ServerId) (life : ℕ) (v : Option (ℕ × Requests)) (ops qs : List Operation) (out : List Output) →
         ((o : Operation) → Has o qs → Has o ops) → Whole s B out0 id sv life v ops out → Whole s B out0 id sv life v qs out
-    w_fewer id sv life v ops qs out f w = record {
-      base = b_fewer id sv life v ops qs out f w.base;
+    whole_after_fewer id sv life v ops qs out f w = record {
+      base = base_after_fewer id sv life v ops qs out f w.base;
       waits = λ o h e. w.waits o (f o h) e;
       alone = λ o p h i. w.alone o p (f o h) (f p i);
     }
@@ -266,17 +248,17 @@ module _ (M : List Message) (c : ClientId) (Known : ℕ → Ask → Type 0) (Bef
     pub okay_answers : (sv : ServerId) (life : ℕ) (a : AppAnswer) (xs : List Operation) → Plain a → (x : Output) → Has x (map (answer_to a) xs) → Okay sv life x
     okay_answers sv life a xs p x h = let z = has_map (answer_to a) xs x h in subst (Okay sv life) (sym z.2) (p z.0.op)
 
-    pub b_answers : (t : Turn) (picked : Operation → Bool) (a : AppAnswer) → Plain a → C t → C (cs.answer_each picked a t)
+    pub base_after_answers : (t : Turn) (picked : Operation → Bool) (a : AppAnswer) → Plain a → C t → C (cs.answer_each picked a t)
     unfolding cs.answer_each
-    b_answers t picked a p b =
-        b_more t.id t.here.server t.here.life.0 (view t.here.session) _ t.out _ (okay_answers t.here.server t.here.life.0 a _ p)
-        (b_fewer t.id t.here.server t.here.life.0 (view t.here.session) t.operations _ t.out (λ o h. (has_filter _ t.operations o h).0) b)
+    base_after_answers t picked a p b =
+        base_after_longer_list t.id t.here.server t.here.life.0 (view t.here.session) _ t.out _ (okay_answers t.here.server t.here.life.0 a _ p)
+        (base_after_fewer t.id t.here.server t.here.life.0 (view t.here.session) t.operations _ t.out (λ o h. (has_filter _ t.operations o h).0) b)
 
-    pub w_answers : (t : Turn) (picked : Operation → Bool) (a : AppAnswer) → Plain a → W t → W (cs.answer_each picked a t)
+    pub whole_after_answers : (t : Turn) (picked : Operation → Bool) (a : AppAnswer) → Plain a → W t → W (cs.answer_each picked a t)
     unfolding cs.answer_each
-    w_answers t picked a p w =
+    whole_after_answers t picked a p w =
         record {
-          base = b_answers t picked a p w.base;
+          base = base_after_answers t picked a p w.base;
           waits = λ o h e. w.waits o (has_filter _ t.operations o h).0 e;
           alone = λ o q h i. w.alone o q
               (has_filter _ t.operations o h).0 (has_filter _ t.operations q i).0;
@@ -297,16 +279,16 @@ module _ (M : List Message) (c : ClientId) (Known : ℕ → Ask → Type 0) (Bef
     granted_view x ino g mode _ (trace.Declines a p) = refl
     granted_view x ino g mode _ (trace.IsOld a) = refl
 
-    pub w_view : (t : Turn) (x y : ClientSession) → view (Some y) ≡ view (Some x) → WIn t x → WIn t y
-    w_view t x y e w = subst (λ v. Whole s B out0 t.id t.here.server t.here.life.0 v t.operations t.out) (sym e) w
+    pub whole_after_view : (t : Turn) (x y : ClientSession) → view (Some y) ≡ view (Some x) → WIn t x → WIn t y
+    whole_after_view t x y e w = subst (λ v. Whole s B out0 t.id t.here.server t.here.life.0 v t.operations t.out) (sym e) w
 
     -- Refusals.
-    pub b_refused : (t : Turn) (y : Why) (a b : ℕ) (file : Option ℕ) (asked : Body) (u : Turn) → Refusal t file asked y a b u → C t → C u
-    b_refused t _ a b file asked _ (trace.NoFile _ _ ino e) w = b_answers t _ _ (λ op. tt) w
-    b_refused t _ a b file asked _ (trace.TooManyLocks _ _ ino e) w = b_answers t _ _ (λ op. tt) w
-    b_refused t _ a b file asked _ (trace.NoSpace _ _ ino p e q) w = b_answers t _ _ (λ op. tt) w
-    b_refused t _ a b file asked _ (trace.NotHolder _ _ e) w = b_answers t _ _ (λ op. tt) w
-    b_refused t y a b file asked _ (trace.AnswersNone _ _ _) w = w
+    pub base_after_refused : (t : Turn) (y : Why) (a b : ℕ) (file : Option ℕ) (asked : Body) (u : Turn) → Refusal t file asked y a b u → C t → C u
+    base_after_refused t _ a b file asked _ (trace.NoFile _ _ ino e) w = base_after_answers t _ _ (λ op. tt) w
+    base_after_refused t _ a b file asked _ (trace.TooManyLocks _ _ ino e) w = base_after_answers t _ _ (λ op. tt) w
+    base_after_refused t _ a b file asked _ (trace.NoSpace _ _ ino p e q) w = base_after_answers t _ _ (λ op. tt) w
+    base_after_refused t _ a b file asked _ (trace.NotHolder _ _ e) w = base_after_answers t _ _ (λ op. tt) w
+    base_after_refused t y a b file asked _ (trace.AnswersNone _ _ _) w = w
 
     -- an operation that is stuck waits no more
     pub record StuckOf (t : Turn) (o p : Operation) : Type 0 where
@@ -338,8 +320,8 @@ module _ (M : List Message) (c : ClientId) (Known : ℕ → Ask → Type 0) (Bef
     abbrev pub From : Turn → Operation → Type 0
     From t o = (p : Operation) × Has p t.operations × (o ≡ cr.stuck t p)
 
-    pub w_stuck : (t : Turn) → C t → W (trace.left_stuck t)
-    w_stuck t b =
+    pub whole_after_stuck : (t : Turn) → C t → W (trace.left_stuck t)
+    whole_after_stuck t b =
         record {
           base = record {
             id_ = b.id_;
@@ -374,8 +356,8 @@ module _ (M : List Message) (c : ClientId) (Known : ℕ → Ask → Type 0) (Bef
         free o (p, h, e) f = (stuck_is t p).free (subst (λ q. cs.is_asked t.here.server q ≡ true) e f)
 
     -- A session that begins: nothing is known of its numbers, and nobody waits.
-    pub b_begins : (t : Turn) (x : ClientSession) → t.here.session ≡ None → x.requests ≡ cs.no_requests → W t → WIn t x
-    b_begins t x e n w = free_all t.id t.here.server t.here.life.0 (view (Some x)) t.operations t.out free base
+    pub base_after_begins : (t : Turn) (x : ClientSession) → t.here.session ≡ None → x.requests ≡ cs.no_requests → W t → WIn t x
+    base_after_begins t x e n w = free_all t.id t.here.server t.here.life.0 (view (Some x)) t.operations t.out free base
       where
         none : Whole s B out0 t.id t.here.server t.here.life.0 None t.operations t.out
         none = subst (λ o. Whole s B out0 t.id t.here.server t.here.life.0 (view o) t.operations t.out) e w
@@ -407,12 +389,12 @@ module _ (M : List Message) (c : ClientId) (Known : ℕ → Ask → Type 0) (Bef
             })
 
     -- A newer epoch: its numbers begin anew, and who waited is answered.
-    pub w_follows : (t : Turn) (x : ClientSession) (epoch : Epoch) → t.here.session ≡ Some x → x.epoch.0 < epoch.0 → W t →
+    pub whole_after_follows : (t : Turn) (x : ClientSession) (epoch : Epoch) → t.here.session ≡ Some x → x.epoch.0 < epoch.0 → W t →
         W (cs.answer_each (cs.is_asked t.here.server) (answers.Uncertain x.epoch.0 epoch.0) (with_session (cr.in_epoch epoch x) t))
     unfolding cs.answer_each
-    w_follows t x epoch e l w =
+    whole_after_follows t x epoch e l w =
         record {
-          base = b_answers (with_session y t) (cs.is_asked t.here.server) (answers.Uncertain x.epoch.0 epoch.0) (λ op. tt) moved;
+          base = base_after_answers (with_session y t) (cs.is_asked t.here.server) (answers.Uncertain x.epoch.0 epoch.0) (λ op. tt) moved;
           waits = λ o h a. absurd (freed (with_session y t) (answers.Uncertain x.epoch.0 epoch.0) o h a);
           alone = λ o p h i a f. absurd (freed (with_session y t) (answers.Uncertain x.epoch.0 epoch.0) o h a);
         }

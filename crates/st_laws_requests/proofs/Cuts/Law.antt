@@ -1,27 +1,21 @@
 -- Answers are logged: at the start, after every event, and over whole runs.
-use Rattle.std.proofs.Common.{◌≡◌, ℕ, ◌⊎◌, List, [], ◌∷◌, ◌++◌, Option, Some, None, Ok, refl, sym, subst, inl, inr, arith}
-use Rattle.std.specs.Prelude.{true, nat_le}
-use Rattle.std.proofs.lemmas.Bool.{leb-true}
-use Rattle.st_base.specs.declared.config.Config.{Config}
-use Rattle.st_base.specs.declared.ids.ClientId.{ClientId}
-use Rattle.st_base.specs.declared.ids.ServerId.{ServerId}
-use Rattle.st_messages.specs.declared.answer.AppAnswer.TheVariants as answers
-use Rattle.st_messages.specs.declared.event.Event.{Event}
-use Rattle.st_messages.specs.declared.message.Message.{Message}
-use Rattle.st_rules.specs.declared.observation.Observation.{Observation}
-use Rattle.st_rules.specs.declared.observation.Observation.TheVariants as seen
-use Rattle.st_rules.specs.declared.sessions.Session.{Session}
-use Rattle.st_rules.specs.Extents.{numbers}
-use Rattle.st_rules.specs.Keys.{client, server_node}
-use Rattle.st_rules.specs.Client as cl
-use Rattle.st_rules.specs.Server as server
-use Rattle.st_rules.specs.World.{fresh_site, fresh_world, node_at_start}
-use Rattle.st_rules.specs.Events.{WorldTurn, world_step}
-use Rattle.st_rules.specs.History.{Traced, traced, traced_after}
-use Rattle.st_rules.specs.Safety.{AnswersAreLogged, AreLogged, IsHead, IsLogged, Step, Throughout, step, steps}
-use Rattle.st_lemmas.specs.Lists.{Has}
+use Rattle.st_lemmas.proofs.Words
+use Words.{◌≡◌, ℕ, ◌⊎◌, List, [], ◌∷◌, ◌++◌, Option, Some, None, Ok, refl, sym, subst, inl, inr, arith, true, nat_le, leb-true, Config, ClientId, ServerId}
+use Words.{Event, Message, Observation, Session}
+use Words.answers
+use Words.seen
+use Words.Extents.{numbers}
+use Words.Keys.{client, server_node}
+use Words.Client as cl
+use Words.Server as server
+use Words.World.{fresh_site, fresh_world, node_at_start}
+use Words.Events.{WorldTurn, world_step}
+use Words.History.{Traced, traced, traced_after}
+use Words.Safety.{AnswersAreLogged, AreLogged, IsHead, IsLogged, Step, Throughout, step, steps}
+use Words.Lists.{Has}
+use Words.Tables.{and_true, has_append, has_map}
+use Words.Lengths.{length_map, numbers_length}
 use Rattle.st_lemmas.proofs.Steps.{step_happens, throughout}
-use Rattle.st_lemmas.proofs.Tables.{and_true, has_append, has_map}
 use Rattle.st_laws_leases.specs.Dates.Dates.{messages}
 use Rattle.st_laws_pages.proofs.Disks.Steps.{fates_law}
 use Rattle.st_laws_pages.proofs.Disks.Whole.{fresh_fates}
@@ -30,7 +24,7 @@ use Rattle.st_laws_pages.proofs.Asks.Law.{written_law}
 use Rattle.st_laws_requests.specs.Cuts.Cuts.{Acked, ClientOk, CutsHold, ServerOk, is_report}
 use Rattle.st_laws_requests.specs.Cuts.Law.{RunsLogAnswers, CutsAreLogged, NamesAreSaid}
 use Rattle.st_laws_requests.proofs.Cuts.World.{Next, acked_more, happens}
-use Rattle.st_laws_pages.proofs.Lives.Fresh.{fresh_is, length_map, numbers_length}
+use Rattle.st_laws_pages.proofs.Lives.Fresh.{fresh_is}
 
 -- Both halves of a line.
 both : (past : List Step) (x : Step) (line : Option Observation) (o : Observation) → IsWrittenLogged past x line o → ((c : ClientId) (op : ℕ) → o ≡ seen.Answered c op answers.Cut → IsLogged past x line o) → IsLogged past x line o
@@ -117,7 +111,7 @@ fresh_holds k clients servers disks blocks form head =
       few = let z = length_map (fresh_site k servers) (numbers 1 clients) in let y = numbers_length 1 clients in let q = leb-true clients 16 (and_true (nat_le 1 clients) (nat_le clients 16) head.some_clients).1 in omega (arith, z, y, q);
     }
 
-pub law : RunsLogAnswers
-law k clients servers disks blocks form es head events =
+pub runs_log_answers : RunsLogAnswers
+runs_log_answers k clients servers disks blocks form es head events =
     throughout_both (steps es (traced (fresh_world k clients servers disks blocks form))) [] (written_law k clients servers disks blocks form es head)
     (throughout CutsAreLogged CutsHold one es [] (traced (fresh_world k clients servers disks blocks form)) (fresh_holds k clients servers disks blocks form head))

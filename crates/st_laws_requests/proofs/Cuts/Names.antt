@@ -1,34 +1,25 @@
 -- Names answer truly: what they said to the request of an ask is what they say to the ask.
-use Rattle.std.proofs.Common.{◌≡◌, ℕ, Bool, true, false, ◌||◌, not, ◌==◌, List, [], ◌∷◌, Option, Some, None, refl, sym, ◌∙◌, subst, inl, inr, if◌then◌else◌}
-use Rattle.std.specs.Prelude.{Result as Res, Ok, Err, bytes_eq}
-use Rattle.std.specs.List.{list_any}
-use Rattle.std.proofs.lemmas.Bool.{eq-eqb}
+use Rattle.st_lemmas.proofs.Words
+use Words.{◌≡◌, ℕ, Bool, true, false, ◌||◌, not, ◌==◌, List, [], ◌∷◌, Option, Some, None, refl, sym, ◌∙◌, subst, inl, inr, if◌then◌else◌, Result as Res, Ok}
+use Words.{Err, bytes_eq, list_any, eq-eqb, ClientId, GrantNo, NameAsk, NameRow, AppAnswer, Ask, EntryRefusal, NameEntry, Observation}
+use Words.names.{Lookup, Create, Mkdir, Remove, Rename, List as ListFrom}
+use Words.answers
+use Words.asks
+use Words.seen
+use Words.ClientPasses.{name_op}
+use Words.Names as names
+use Words.Names.{Names}
+use Words.History.{traced}
+use Words.Safety.{Step, ask_of, step}
+use Words.World.{fresh_world, node_of}
+use Words.Lists.{Has}
+use Words.Tables.{all_pass, and_both, some_passes}
 use Rattle.std.proofs.lemmas.Slice.Eq.{bytes_eq-Decides}
-use Rattle.st_base.specs.declared.ids.ClientId.{ClientId}
-use Rattle.st_base.specs.declared.ids.GrantNo.{GrantNo}
-use Rattle.st_base.specs.declared.names.NameAsk.{NameAsk}
-use Rattle.st_base.specs.declared.names.NameAsk.TheVariants.{Lookup, Create, Mkdir, Remove, Rename, List as ListFrom}
-use Rattle.st_base.specs.declared.names.NameRow.{NameRow}
-use Rattle.st_messages.specs.declared.answer.AppAnswer.{AppAnswer}
-use Rattle.st_messages.specs.declared.answer.AppAnswer.TheVariants as answers
-use Rattle.st_messages.specs.declared.ask.Ask.{Ask}
-use Rattle.st_messages.specs.declared.ask.Ask.TheVariants as asks
-use Rattle.st_rules.specs.declared.names.EntryRefusal.{EntryRefusal}
 use Rattle.st_rules.specs.declared.names.EntryRefusal.TheVariants.{IsDir}
-use Rattle.st_rules.specs.declared.names.NameEntry.{NameEntry}
-use Rattle.st_rules.specs.declared.observation.Observation.{Observation}
-use Rattle.st_rules.specs.declared.observation.Observation.TheVariants as seen
-use Rattle.st_rules.specs.ClientPasses.{name_op}
-use Rattle.st_rules.specs.Names as names
-use Rattle.st_rules.specs.Names.{Names}
-use Rattle.st_rules.specs.History.{traced}
-use Rattle.st_rules.specs.Safety.{Step, ask_of, step}
-use Rattle.st_rules.specs.World.{fresh_world, node_of}
-use Rattle.st_lemmas.specs.Lists.{Has}
 use Rattle.st_lemmas.proofs.Steps.{throughout}
-use Rattle.st_lemmas.proofs.Tables.{all_pass, and_both, some_passes}
 use Rattle.st_laws_leases.specs.Sides.Law.{InEveryRun}
-use Rattle.st_promises.specs.NameAnswers.{NamesAnswerTruly, Saying, changed, is_moment, is_of_names, is_saying, is_told_truly, refused, removes, said, same_answer, same_entries, same_entry, same_mark, same_names, same_row, same_rows, says, says_at, was_said}
+use Rattle.st_promises.specs.NameAnswers.{NamesAnswerTruly, Saying, changed, is_moment, is_of_names, is_saying, is_told_truly, refused, removes, said}
+use Rattle.st_promises.specs.NameAnswers.{same_answer, same_entries, same_entry, same_mark, same_names, same_row, same_rows, says, says_at, was_said}
 use Rattle.st_laws_requests.specs.Cuts.Cuts.{CutsHold, MeansNone, does, does_remove}
 use Rattle.st_laws_requests.specs.Cuts.Law.{NameAskSaid, NamesAreSaid}
 use Rattle.st_laws_requests.proofs.Cuts.Law as runs
@@ -65,10 +56,10 @@ says_it n (Rename dir x dir2 x2) g m = inl refl
 says_it n (ListFrom dir after) g m = inl refl
 
 -- The same is the same.
-bytes_same : (xs : List ℕ) → bytes_eq xs xs ≡ true
+pub bytes_same : (xs : List ℕ) → bytes_eq xs xs ≡ true
 bytes_same xs = (bytes_eq-Decides xs xs).1 refl
 
-mark_same : (b : Bool) → same_mark b b ≡ true
+pub mark_same : (b : Bool) → same_mark b b ≡ true
 mark_same true = refl
 mark_same false = refl
 
@@ -83,10 +74,10 @@ entries_same (e ∷ es) = and_both _ _ (entry_same e) (entries_same es)
 pub names_same : (n : Names) → same_names n n ≡ true
 names_same n = and_both _ _ (entries_same n.entries) (eq-eqb n.next n.next refl)
 
-row_same : (r : NameRow) → same_row r r ≡ true
+pub row_same : (r : NameRow) → same_row r r ≡ true
 row_same r = and_both _ _ (eq-eqb r.ino r.ino refl) (and_both _ _ (mark_same r.directory) (bytes_same r.name))
 
-rows_same : (rs : List NameRow) → same_rows rs rs ≡ true
+pub rows_same : (rs : List NameRow) → same_rows rs rs ≡ true
 unfolding same_rows
 rows_same [] = refl
 rows_same (r ∷ rs) = and_both _ _ (row_same r) (rows_same rs)
@@ -121,7 +112,7 @@ truly past x k = all_pass (is_told_truly past x) x.seen one
         go false f = refl
     one o h = refl
 
-pub law : InEveryRun NamesAnswerTruly
-law k clients servers disks blocks form es head events =
+pub names_answer_truly : InEveryRun NamesAnswerTruly
+names_answer_truly k clients servers disks blocks form es head events =
     throughout NamesAnswerTruly CutsHold (λ past t e sc d h. (truly past (step t e sc) (runs.said past t e sc d h), (runs.one past t e sc d h).1)) es []
     (traced (fresh_world k clients servers disks blocks form)) (runs.fresh_holds k clients servers disks blocks form head)

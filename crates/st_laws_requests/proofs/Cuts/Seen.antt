@@ -1,29 +1,19 @@
 -- What is observed of the outputs of clients and servers: which lines answer, and which tell a cut.
-use Rattle.std.proofs.Common.{◌≡◌, ℕ, ◌+◌, ◌⊎◌, false, List, [], ◌∷◌, ◌++◌, Option, Some, None, refl, sym, subst, inl, inr}
-use Rattle.std.specs.Prelude.{length}
-use Rattle.st_base.specs.declared.ids.ClientId.{ClientId}
-use Rattle.st_base.specs.declared.ids.ServerId.{ServerId}
-use Rattle.st_base.specs.declared.ids.FileId.{FileId}
-use Rattle.st_base.specs.declared.ids.PageNo.{PageNo}
-use Rattle.st_messages.specs.declared.answer.AppAnswer.{AppAnswer}
-use Rattle.st_messages.specs.declared.message.Message.{Message}
-use Rattle.st_messages.specs.declared.output.Note.{Note}
-use Rattle.st_messages.specs.declared.output.Note.TheVariants as notes
-use Rattle.st_messages.specs.declared.output.Output.{Output}
-use Rattle.st_messages.specs.declared.output.Output.TheVariants as outputs
-use Rattle.st_rules.specs.declared.log.Fate.{Fate}
-use Rattle.st_rules.specs.declared.log.Fate.TheVariants as fates
-use Rattle.st_rules.specs.declared.log.LogEntry.{LogEntry}
-use Rattle.st_rules.specs.declared.observation.Observation.{Observation}
-use Rattle.st_rules.specs.declared.observation.Observation.TheVariants as seen
-use Rattle.st_rules.specs.ClientState.{ClientState}
-use Rattle.st_rules.specs.Events as ev
-use Rattle.st_rules.specs.Events.{WorldTurn, client_says, client_says_all, server_says, server_says_all}
-use Rattle.st_rules.specs.World.{WorldClient, site_of}
-use Rattle.st_lemmas.specs.Lists.{Has}
-use Rattle.st_lemmas.proofs.Tables.{has_append, has_map_in}
+use Rattle.st_lemmas.proofs.Words
+use Words.{◌≡◌, ℕ, ◌+◌, ◌⊎◌, false, List, [], ◌∷◌, ◌++◌, Option, Some, None, refl, sym, subst, inl, inr, length, ClientId, ServerId, FileId, PageNo, AppAnswer}
+use Words.{Message, Note, Output, Fate, LogEntry, Observation}
+use Words.notes
+use Words.outputs
+use Words.fates
+use Words.seen
+use Words.ClientState.{ClientState}
+use Words.Events as ev
+use Words.Events.{WorldTurn, client_says, client_says_all, server_says, server_says_all}
+use Words.World.{WorldClient, site_of}
+use Words.Lists.{Has}
+use Words.Tables.{has_append, has_map_in}
+use Words.Members.{has_right}
 use Rattle.st_laws_leases.specs.Dates.Dates.{message_in, messages}
-use Rattle.st_laws_leases.proofs.Dates.Known.{has_right}
 use Rattle.st_laws_leases.proofs.Dates.SentMessages.{client_said, server_said}
 
 -- Observations.

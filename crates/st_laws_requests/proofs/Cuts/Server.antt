@@ -1,65 +1,49 @@
 -- Replies of a kind: each that a server sends or keeps is of a request that it served, or refuses a reassertion; a cut that it acknowledges
 -- was noted, and names did and said what a reply for a name says.
-use Rattle.std.proofs.Common.{◌≡◌, ℕ, ◌⊎◌, Bool, true, false, List, [], ◌∷◌, ◌++◌, ◌==◌, refl, sym, ap, ◌∙◌, subst, inl, inr, if◌then◌else◌}
-use Rattle.std.specs.Prelude.{Option, Some, None, Result as Res, Ok, Err, option_map}
-use Rattle.std.proofs.lemmas.Bool.{eqb-true, eq-eqb}
-use Rattle.st_base.specs.declared.ids.ClientId.{ClientId}
-use Rattle.st_base.specs.declared.ids.Epoch.{Epoch}
-use Rattle.st_base.specs.declared.ids.ServerId.{ServerId}
-use Rattle.st_base.specs.declared.ids.GrantNo.{GrantNo}
-use Rattle.st_base.specs.declared.ids.Life.{Life}
-use Rattle.st_base.specs.declared.ids.Stamp.{Stamp}
-use Rattle.st_base.specs.declared.mode.Mode.{Mode}
-use Rattle.st_base.specs.declared.mode.Mode.TheVariants as modes
-use Rattle.st_base.specs.declared.names.NameRow.{NameRow}
-use Rattle.st_messages.specs.declared.answer.AppAnswer.TheVariants as answers
-use Rattle.st_messages.specs.declared.message.Header.{Header}
-use Rattle.st_messages.specs.declared.message.Message.{Message}
-use Rattle.st_messages.specs.declared.message.Body.{Body}
-use Rattle.st_messages.specs.declared.message.Body.TheVariants as bd
-use Rattle.st_messages.specs.declared.message.NameOp.{NameOp}
-use Rattle.st_messages.specs.declared.message.NameOp.TheVariants.{Lookup, Create, Mkdir, Remove, Rename, List as ListFrom}
-use Rattle.st_messages.specs.declared.message.NameReply.TheVariants as replies
-use Rattle.st_messages.specs.declared.message.Why.{Why}
-use Rattle.st_messages.specs.declared.message.Why.TheVariants as why
-use Rattle.st_messages.specs.declared.output.Note.{Note}
-use Rattle.st_messages.specs.declared.output.Note.TheVariants as notes
-use Rattle.st_messages.specs.declared.output.Output.{Output}
-use Rattle.st_messages.specs.declared.output.Output.TheVariants as outputs
-use Rattle.st_rules.specs.declared.input.ServerInput.{ServerInput}
-use Rattle.st_rules.specs.declared.input.ServerInput.TheVariants.{Tick, Control}
-use Rattle.st_rules.specs.declared.names.EntryRefusal.{EntryRefusal}
+use Rattle.st_lemmas.proofs.Words
+use Words.{◌≡◌, ℕ, ◌⊎◌, Bool, true, false, List, [], ◌∷◌, ◌++◌, ◌==◌, refl, sym, ap, ◌∙◌, subst, inl, inr, if◌then◌else◌, Option, Some, None, Result as Res, Ok}
+use Words.{Err, option_map, eqb-true, eq-eqb, ClientId, Epoch, ServerId, GrantNo, Life, Stamp, Mode, NameRow, Header, Message, Body, NameOp, Why, Note, Output}
+use Words.{ServerInput, EntryRefusal, Session, SessionState}
+use Words.modes
+use Words.answers
+use Words.bodies as bd
+use Words.ops.{Lookup, Create, Mkdir, Remove, Rename, List as ListFrom}
+use Words.replies
+use Words.why
+use Words.notes
+use Words.outputs
+use Words.serving.{Tick, Control}
+use Words.states
+use Words.takes
+use Words.Locks as locks
+use Words.Locks.{Locks}
+use Words.Sessions as sessions
+use Words.ClientReplies as cr
+use Words.ClientState.{reasserts}
+use Words.Keys.{client, server_node}
+use Words.Names as names
+use Words.Names.{Names}
+use Words.Server as sv
+use Words.Server.{ServerState, Stable, ServerTurn, Replied, turn, with_locks, with_sessions, sender, life_in, note, reply, say, tell, steal_from, thefts}
+use Words.Server.{suspect_client, rule, keep_and_reply, server_step}
+use Words.Lists.{Has}
+use Words.Lookups.{some_is}
+use Words.Tables.{find_map, found_at, has_append}
+use Words.Members.{has_left, has_right}
+use Words.Serving.{end_client}
+use Words.Truth.{client_is, if_either}
 use Rattle.st_rules.specs.declared.names.EntryRefusal.TheVariants.{IsDir}
-use Rattle.st_rules.specs.declared.sessions.Session.{Session}
-use Rattle.st_rules.specs.declared.sessions.SessionState.{SessionState}
-use Rattle.st_rules.specs.declared.sessions.SessionState.TheVariants as states
-use Rattle.st_rules.specs.declared.sessions.Taken.TheVariants as takes
-use Rattle.st_rules.specs.Locks as locks
-use Rattle.st_rules.specs.Locks.{Locks}
-use Rattle.st_rules.specs.Sessions as sessions
-use Rattle.st_rules.specs.ClientReplies as cr
-use Rattle.st_rules.specs.ClientState.{reasserts}
-use Rattle.st_rules.specs.Keys.{client, server_node}
-use Rattle.st_rules.specs.Names as names
-use Rattle.st_rules.specs.Names.{Names}
-use Rattle.st_rules.specs.Server as sv
-use Rattle.st_rules.specs.Server.{ServerState, Stable, ServerTurn, Replied, turn, with_locks, with_sessions, sender, life_in, note, reply, say, tell}
-use Rattle.st_rules.specs.Server.{steal_from, thefts, suspect_client, rule, keep_and_reply, server_step}
-use Rattle.st_lemmas.specs.Lists.{Has}
-use Rattle.st_lemmas.proofs.Lookups.{some_is}
 use Rattle.st_lemmas.proofs.Puts.{find_put_by, find_put_other}
-use Rattle.st_lemmas.proofs.Tables.{find_map, found_at, has_append}
-use Rattle.st_laws_leases.proofs.Dates.Known.{has_left, has_right}
 use Rattle.st_promises.specs.NameAnswers.{Saying, changed, found, listed, refused, said}
 use Rattle.st_laws_requests.specs.Cuts.Cuts.{KeptBy, does, does_remove, does_remove_dir, is_report}
 use Rattle.st_trace.specs.Server.Edits as edits
 use Rattle.st_trace.specs.Server.Edits.{AtThefts, AtInput, AtSuspicion, AtGrants, AtDemands, Came, Served, Refused, IsSuspect, GreetsInGrace, OfOtherEpoch}
-use Rattle.st_trace.specs.Server.Edits.{HasNoSession, IsRefusedRows, Edit, TakesTimers, Steals, Welcomes, Begins, Replaces, PutsOff, Sees, Reasserts}
-use Rattle.st_trace.specs.Server.Edits.{Repeats, Refuses, Suspects, Grants, Demands}
-use Rattle.st_trace.proofs.Server.Input.{w_thefts}
-use Rattle.st_trace.proofs.Server.Taking.{if_either, clash}
+use Rattle.st_trace.specs.Server.Edits.{HasNoSession, IsRefusedRows, Edit, TakesTimers, Steals, Welcomes, Begins, Replaces, PutsOff, Sees, Reasserts, Repeats}
+use Rattle.st_trace.specs.Server.Edits.{Refuses, Suspects, Grants, Demands}
+use Rattle.st_trace.proofs.Server.Input.{walk_of_thefts}
+use Rattle.st_trace.proofs.Server.Taking.{clash}
 use Rattle.st_trace.proofs.Server.Walk.{walk_in_two}
-use Rattle.st_laws_requests.proofs.Clients.{client_same, end_client, keep_client}
+use Rattle.st_laws_requests.proofs.Clients.{keep_client}
 use Rattle.st_laws_requests.proofs.Rules.{ruled}
 
 -- Replies of a kind: none of them greets, tells of a lock, or refuses a client.
@@ -132,7 +116,7 @@ module _ (Q : Body → Bool) (A : ClientId → ℕ → ℕ → Body → Type 0) 
       go : (d : ClientId) (x : Session) → sessions.session_of t d ≡ Some x → (z : Bool) → sessions.is_session_of c x ≡ z →
           KeptBy Q (A d (if z then sessions.keep_reply number b x else x).life.0) (if z then sessions.keep_reply number b x else x).state
       go d x e true q =
-          let same = client_same d c
+          let same = client_is d c
           (eq-eqb d.0 c.0 (sym (eqb-true x.client.0 d.0 (found_at (sessions.is_session_of d) t.rows x e).0) ∙ eqb-true x.client.0 c.0 q)) in
           kept (A d x.life.0) x.state (λ f. subst (λ y. A y x.life.0 number b) (sym same) (w f x (subst (λ y. sessions.session_of t y ≡ Some x) same e)))
       go d x e false q = o d x e
@@ -221,56 +205,58 @@ module _ (Q : Body → Bool) (kind : Kind Q) (s : ServerId) (e : Epoch) (F : Lis
       pub names : t.state.stable.names ≡ n
 
     -- other parts of the state
-    o_state : (t : ServerTurn) (x : ServerState) → x.id ≡ t.state.id → x.stable ≡ t.state.stable → x.sessions ≡ t.state.sessions → O t →
+    own_after_state : (t : ServerTurn) (x : ServerState) → x.id ≡ t.state.id → x.stable ≡ t.state.stable → x.sessions ≡ t.state.sessions → O t →
         O (record t { state = x })
-    o_state t x a b c o = record { acks = acks_state t x a (ap (λ (y : Stable). y.epoch) b) c o.acks; names = ap (λ (y : Stable). y.names) b ∙ o.names }
+    own_after_state t x a b c o = record { acks = acks_state t x a (ap (λ (y : Stable). y.epoch) b) c o.acks; names = ap (λ (y : Stable). y.names) b ∙ o.names }
 
-    o_sessions : (t : ServerTurn) (x : sessions.Sessions) → Keeps Q (F t.out) x → O t → O (with_sessions x t)
-    o_sessions t x k o = record { acks = record { id = o.acks.id; epoch = o.acks.epoch; kept = k; sent = o.acks.sent }; names = o.names }
+    own_after_sessions : (t : ServerTurn) (x : sessions.Sessions) → Keeps Q (F t.out) x → O t → O (with_sessions x t)
+    own_after_sessions t x k o = record { acks = record { id = o.acks.id; epoch = o.acks.epoch; kept = k; sent = o.acks.sent }; names = o.names }
 
-    o_note : (t : ServerTurn) (x : Note) → O t → O (note t x)
-    o_note t x o = record { acks = acks_note t x o.acks; names = o.names }
+    own_after_note : (t : ServerTurn) (x : Note) → O t → O (note t x)
+    own_after_note t x o = record { acks = acks_note t x o.acks; names = o.names }
 
-    pub o_reply : (t : ServerTurn) (h : Header) (b : Body) → (Q b ≡ true → F t.out (client h.from) h.life h.number b) → O t → O (reply t h b)
+    pub own_after_reply : (t : ServerTurn) (h : Header) (b : Body) → (Q b ≡ true → F t.out (client h.from) h.life h.number b) → O t → O (reply t h b)
     unfolding reply
-    o_reply t h b w o = record { acks = acks_reply t h b w o.acks; names = o.names }
+    own_after_reply t h b w o = record { acks = acks_reply t h b w o.acks; names = o.names }
 
-    o_tell : (t : ServerTurn) (c : ClientId) (life : Life) (b : Body) → (Q b ≡ true → ⊥) → O t → O (tell t c life b)
+    own_after_tell : (t : ServerTurn) (c : ClientId) (life : Life) (b : Body) → (Q b ≡ true → ⊥) → O t → O (tell t c life b)
     unfolding tell
-    o_tell t c life b w o = record { acks = acks_tell t c life b w o.acks; names = o.names }
+    own_after_tell t c life b w o = record { acks = acks_tell t c life b w o.acks; names = o.names }
 
-    o_suspect : (t : ServerTurn) (now : Stamp) (c : ClientId) → O t → O (suspect_client t now c)
+    own_after_suspect : (t : ServerTurn) (now : Stamp) (c : ClientId) → O t → O (suspect_client t now c)
     unfolding suspect_client
-    o_suspect t now c o = o_state _ _ refl refl refl (o_note t _ o)
+    own_after_suspect t now c o = own_after_state _ _ refl refl refl (own_after_note t _ o)
 
     module _ (x : ServerState) (now : Stamp) (i : ServerInput) where
-      o_steals : (t u : ServerTurn) → Edit x now i AtThefts t u → O t → O u
+      own_after_steals : (t u : ServerTurn) → Edit x now i AtThefts t u → O t → O u
       unfolding steal_from
-      o_steals t u (TakesTimers _ k) o = o_state t _ refl refl refl o
-      o_steals t u (Steals _ c y h k) o =
-          let v = o_note t (notes.Stolen c y.life) o in
-          o_sessions (with_locks (locks.forget t.state.locks c) (note t (notes.Stolen c y.life))) _
-          (kept_ended Q (F (t.out ++ outputs.Note (notes.Stolen c y.life) ∷ [])) t.state.sessions c v.acks.kept) (o_state _ _ refl refl refl v)
+      own_after_steals t u (TakesTimers _ k) o = own_after_state t _ refl refl refl o
+      own_after_steals t u (Steals _ c y h k) o =
+          let v = own_after_note t (notes.Stolen c y.life) o in
+          own_after_sessions (with_locks (locks.forget t.state.locks c) (note t (notes.Stolen c y.life))) _
+          (kept_ended Q (F (t.out ++ outputs.Note (notes.Stolen c y.life) ∷ [])) t.state.sessions c v.acks.kept) (own_after_state _ _ refl refl refl v)
 
-      o_suspects : (t u : ServerTurn) → Edit x now i AtSuspicion t u → O t → O u
-      o_suspects t u (Suspects _ c r is q f h k z) o = o_suspect t now c o
+      own_after_suspects : (t u : ServerTurn) → Edit x now i AtSuspicion t u → O t → O u
+      own_after_suspects t u (Suspects _ c r is q f h k z) o = own_after_suspect t now c o
 
-      o_grants : (t u : ServerTurn) → Edit x now i AtGrants t u → O t → O u
-      o_grants t u (Grants _ w off h k f) o = o_tell _ w.client w.life _ (λ q. clash q (kind.granted _ _ _)) (o_state t _ refl refl refl o)
+      own_after_grants : (t u : ServerTurn) → Edit x now i AtGrants t u → O t → O u
+      own_after_grants t u (Grants _ w off h k f) o = own_after_tell _ w.client w.life _ (λ q. clash q (kind.granted _ _ _))
+          (own_after_state t _ refl refl refl o)
 
-      o_demands : (t u : ServerTurn) → Edit x now i AtDemands t u → O t → O u
-      o_demands t u (Demands _ w r y k h f q d) o = o_tell _ r.client r.life _ (λ z. clash z (kind.demand _ _ _)) (o_state t _ refl refl refl o)
+      own_after_demands : (t u : ServerTurn) → Edit x now i AtDemands t u → O t → O u
+      own_after_demands t u (Demands _ w r y k h f q d) o =
+          own_after_tell _ r.client r.life _ (λ z. clash z (kind.demand _ _ _)) (own_after_state t _ refl refl refl o)
 
-      o_begins : (t : ServerTurn) (c : ClientId) (life : Life) → O t → O (with_sessions (sessions.with_new_session c life t.state.sessions) t)
-      o_begins t c life o = o_sessions t _ (kept_new Q (F t.out) t.state.sessions (sessions.new_session c life) (λ B. tt) o.acks.kept) o
+      own_after_begins : (t : ServerTurn) (c : ClientId) (life : Life) → O t → O (with_sessions (sessions.with_new_session c life t.state.sessions) t)
+      own_after_begins t c life o = own_after_sessions t _ (kept_new Q (F t.out) t.state.sessions (sessions.new_session c life) (λ B. tt) o.acks.kept) o
 
-      o_reasserts : (t : ServerTurn) (l : Locks) (c : ClientId) (life : Life) → O t →
+      own_after_reasserts : (t : ServerTurn) (l : Locks) (c : ClientId) (life : Life) → O t →
           O (with_sessions (sessions.reasserted t.state.sessions c life) (with_locks l t))
-      o_reasserts t l c life o = o_sessions (with_locks l t) _ (kept_reasserted Q (F t.out) t.state.sessions c life kind.reasserted o.acks.kept)
-          (o_state t _ refl refl refl o)
+      own_after_reasserts t l c life o = own_after_sessions (with_locks l t) _ (kept_reasserted Q (F t.out) t.state.sessions c life kind.reasserted o.acks.kept)
+          (own_after_state t _ refl refl refl o)
 
-    pub o_thefts : (x : ServerState) (now : Stamp) → O (turn x []) → O (thefts (turn x []) now)
-    o_thefts x now o = w_thefts x now Tick O (o_steals x now Tick) o
+    pub own_after_thefts : (x : ServerState) (now : Stamp) → O (turn x []) → O (thefts (turn x []) now)
+    own_after_thefts x now o = walk_of_thefts x now Tick O (own_after_steals x now Tick) o
 
 -- A step of a server with an input, from these names.
 module _ (Q : Body → Bool) (kind : Kind Q) (s : ServerId) (e : Epoch) (i : ServerInput) (n : Names) (Old : ClientId → ℕ → ℕ → Body →
@@ -389,59 +375,60 @@ module _ (Q : Body → Bool) (kind : Kind Q) (s : ServerId) (e : Epoch) (i : Ser
   telling : (x : Saying) (m : Names) (b : Body) → IsSaid x m b → Telling x m (Some b)
   telling x m b k c q = subst (IsSaid x m) (some_is q) k
 
-  t_refused : (t : ServerTurn) (r : EntryRefusal) → TellingBy (refused t.state.stable.names r) (sv.name_refused t r)
+  telling_refused : (t : ServerTurn) (r : EntryRefusal) → TellingBy (refused t.state.stable.names r) (sv.name_refused t r)
   unfolding sv.name_refused
-  t_refused t r = telling (refused t.state.stable.names r) t.state.stable.names (bd.Named (replies.Refused (names.code_of r))) refl
+  telling_refused t r = telling (refused t.state.stable.names r) t.state.stable.names (bd.Named (replies.Refused (names.code_of r))) refl
 
-  t_found : (t : ServerTurn) (r : Res ℕ EntryRefusal) → TellingBy (found t.state.stable.names r) (sv.name_found t r)
+  telling_found : (t : ServerTurn) (r : Res ℕ EntryRefusal) → TellingBy (found t.state.stable.names r) (sv.name_found t r)
   unfolding sv.name_found
-  t_found t (Ok ino) = telling (said t.state.stable.names (answers.Named ino)) t.state.stable.names (bd.Named (replies.Ino ino)) refl
-  t_found t (Err r) = t_refused t r
+  telling_found t (Ok ino) = telling (said t.state.stable.names (answers.Named ino)) t.state.stable.names (bd.Named (replies.Ino ino)) refl
+  telling_found t (Err r) = telling_refused t r
 
-  t_changed : (t : ServerTurn) (r : Res names.Changed EntryRefusal) → TellingBy (changed t.state.stable.names r) (sv.name_changed t r)
+  telling_changed : (t : ServerTurn) (r : Res names.Changed EntryRefusal) → TellingBy (changed t.state.stable.names r) (sv.name_changed t r)
   unfolding sv.name_changed
-  t_changed t (Ok d) = telling (said d.names (answers.Named d.ino)) d.names (bd.Named (replies.Ino d.ino)) refl
-  t_changed t (Err r) = t_refused t r
+  telling_changed t (Ok d) = telling (said d.names (answers.Named d.ino)) d.names (bd.Named (replies.Ino d.ino)) refl
+  telling_changed t (Err r) = telling_refused t r
 
-  t_listed : (t : ServerTurn) (r : Res (List NameRow) EntryRefusal) → TellingBy (listed t.state.stable.names r) (sv.names_listed t r)
+  telling_listed : (t : ServerTurn) (r : Res (List NameRow) EntryRefusal) → TellingBy (listed t.state.stable.names r) (sv.names_listed t r)
   unfolding sv.names_listed
-  t_listed t (Ok rows) = telling (said t.state.stable.names (answers.Listed rows)) t.state.stable.names (bd.Named (replies.Listed rows)) refl
-  t_listed t (Err r) = t_refused t r
+  telling_listed t (Ok rows) = telling (said t.state.stable.names (answers.Listed rows)) t.state.stable.names (bd.Named (replies.Listed rows)) refl
+  telling_listed t (Err r) = telling_refused t r
 
-  t_removed : (t : ServerTurn) (r : Res names.Changed EntryRefusal) → TellingBy (changed t.state.stable.names r) (sv.remove_by t r)
+  telling_removed : (t : ServerTurn) (r : Res names.Changed EntryRefusal) → TellingBy (changed t.state.stable.names r) (sv.remove_by t r)
   unfolding sv.remove_by sv.cut_whole sv.cut_pages
-  t_removed t (Ok d) = telling (said d.names (answers.Named d.ino)) d.names (bd.Named (replies.Ino d.ino)) refl
-  t_removed t (Err r) = t_refused t r
+  telling_removed t (Ok d) = telling (said d.names (answers.Named d.ino)) d.names (bd.Named (replies.Ino d.ino)) refl
+  telling_removed t (Err r) = telling_refused t r
 
-  t_if : (c : Bool) (x y : Saying) (a b : Replied) → TellingBy x a → TellingBy y b → TellingBy (if c then x else y) (if c then a else b)
-  t_if true x y a b p q = p
-  t_if false x y a b p q = q
+  telling_choice : (c : Bool) (x y : Saying) (a b : Replied) → TellingBy x a → TellingBy y b → TellingBy (if c then x else y) (if c then a else b)
+  telling_choice true x y a b p q = p
+  telling_choice false x y a b p q = q
 
-  t_held : (c : Bool) (x : Saying) (t : ServerTurn) (ino : ℕ) (g : GrantNo) (a : Replied) → t.state.stable.names ≡ n → TellingBy x a →
+  telling_held : (c : Bool) (x : Saying) (t : ServerTurn) (ino : ℕ) (g : GrantNo) (a : Replied) → t.state.stable.names ≡ n → TellingBy x a →
       TellingBy x (if c then a else sv.not_holder t ino g)
   unfolding sv.not_holder
-  t_held true x t ino g a at p = p
-  t_held false x t ino g a at p = telling x t.state.stable.names (bd.Nack why.NotHolder ino g.0) at
+  telling_held true x t ino g a at p = p
+  telling_held false x t ino g a at p = telling x t.state.stable.names (bd.Nack why.NotHolder ino g.0) at
 
-  t_remove : (t : ServerTurn) (h : Header) (dir : ℕ) (x : List ℕ) (g : GrantNo) (r : Res ℕ EntryRefusal) → t.state.stable.names ≡ n →
+  telling_remove : (t : ServerTurn) (h : Header) (dir : ℕ) (x : List ℕ) (g : GrantNo) (r : Res ℕ EntryRefusal) → t.state.stable.names ≡ n →
       TellingBy (does_remove t.state.stable.names dir x g r) (sv.remove_found t h dir x g r)
   unfolding sv.remove_found sv.remove_ino sv.remove_file sv.remove_dir
-  t_remove t h dir x g (Err r) at = t_refused t r
-  t_remove t h dir x g (Ok ino) at =
-      t_if (sv.is_file t ino) (changed t.state.stable.names (names.remove t.state.stable.names dir x)) (does_remove_dir t.state.stable.names dir x g) _ _
-      (t_held (sv.holds t h ino g modes.X) (changed t.state.stable.names (names.remove t.state.stable.names dir x)) t ino g
-      (sv.remove_by t (names.remove t.state.stable.names dir x)) at (t_removed t (names.remove t.state.stable.names dir x)))
-      (t_if (g.0 == 0) (changed t.state.stable.names (names.remove t.state.stable.names dir x)) (refused t.state.stable.names IsDir) _ _
-      (t_changed t (names.remove t.state.stable.names dir x)) (t_refused t IsDir))
+  telling_remove t h dir x g (Err r) at = telling_refused t r
+  telling_remove t h dir x g (Ok ino) at =
+      telling_choice (sv.is_file t ino) (changed t.state.stable.names (names.remove t.state.stable.names dir x)) (does_remove_dir t.state.stable.names dir x g)
+      _ _
+      (telling_held (sv.holds t h ino g modes.X) (changed t.state.stable.names (names.remove t.state.stable.names dir x)) t ino g
+      (sv.remove_by t (names.remove t.state.stable.names dir x)) at (telling_removed t (names.remove t.state.stable.names dir x)))
+      (telling_choice (g.0 == 0) (changed t.state.stable.names (names.remove t.state.stable.names dir x)) (refused t.state.stable.names IsDir) _ _
+      (telling_changed t (names.remove t.state.stable.names dir x)) (telling_refused t IsDir))
 
-  pub t_name : (t : ServerTurn) (h : Header) (op : NameOp) → t.state.stable.names ≡ n → TellingBy (does t.state.stable.names op) (sv.name t h op)
+  pub telling_name : (t : ServerTurn) (h : Header) (op : NameOp) → t.state.stable.names ≡ n → TellingBy (does t.state.stable.names op) (sv.name t h op)
   unfolding sv.name sv.remove
-  t_name t h (Lookup dir x) at = t_found t _
-  t_name t h (Create dir x) at = t_changed t _
-  t_name t h (Mkdir dir x) at = t_changed t _
-  t_name t h (Remove dir x g) at = t_remove t h dir x g _ at
-  t_name t h (Rename dir x dir2 x2) at = t_changed t _
-  t_name t h (ListFrom dir after) at = t_listed t _
+  telling_name t h (Lookup dir x) at = telling_found t _
+  telling_name t h (Create dir x) at = telling_changed t _
+  telling_name t h (Mkdir dir x) at = telling_changed t _
+  telling_name t h (Remove dir x g) at = telling_remove t h dir x g _ at
+  telling_name t h (Rename dir x dir2 x2) at = telling_changed t _
+  telling_name t h (ListFrom dir after) at = telling_listed t _
 
   -- a cut that is acknowledged was noted, and a reply for a name tells what names did
   abbrev Noting : Body → Replied → Type 0
@@ -459,7 +446,7 @@ module _ (Q : Body → Bool) (kind : Kind Q) (s : ServerId) (e : Epoch) (i : Ser
       cut b q f = subst (Noted (bd.Cut k g p) (sv.cut_from t k p).turn.out (sv.cut_from t k p).turn.state.stable.names) (some_is q)
           (has_right t.out (outputs.Note (notes.CutDone (sv.file t k) p) ∷ []) _
           (inl (ap (λ (y : ServerId). outputs.Note (notes.CutDone (record { server = y; ino = k }) p)) (sym id))))
-  rule_notes t now h (bd.Name op) id at = λ b q f. subst (λ y. IsSaid (does y op) (sv.name t h op).turn.state.stable.names b) at (t_name t h op at b q)
+  rule_notes t now h (bd.Name op) id at = λ b q f. subst (λ y. IsSaid (does y op) (sv.name t h op).turn.state.stable.names b) at (telling_name t h op at b q)
   rule_notes t now h m id at = λ b q f. tt
 
   -- the request that is served
@@ -519,7 +506,7 @@ module _ (Q : Body → Bool) (kind : Kind Q) (s : ServerId) (e : Epoch) (i : Ser
     serves_it = (
       y,
       (
-        o_reply Q kind s e (Good y) (good_more y) y _ m.header b good
+        own_after_reply Q kind s e (Good y) (good_more y) y _ m.header b good
             (record {
               acks = record {
                 id = r.0.id;
@@ -545,14 +532,14 @@ module _ (Q : Body → Bool) (kind : Kind Q) (s : ServerId) (e : Epoch) (i : Ser
 
   -- a message that is refused
   refuses : (t : ServerTurn) (m : Message) (b : Body) → Refused state now i t m b → Ob t → Left (reply t m.header b)
-  refuses t m b (IsSuspect since c r k) o = left _ (o_reply Q kind s e Before before_more n t m.header _ (λ f. absurd (clash f (kind.suspect _ _))) o)
-  refuses t m b (GreetsInGrace h k g) o = left _ (o_reply Q kind s e Before before_more n t m.header _ (λ f. absurd (clash f (kind.grace _ _))) o)
-  refuses t m b (OfOtherEpoch h r) o = left _ (o_reply Q kind s e Before before_more n t m.header _ (λ f. absurd (clash f (kind.other_epoch _ _))) o)
-  refuses t m b (HasNoSession a k) o = left _ (o_reply Q kind s e Before before_more n t m.header _ (λ f. absurd (clash f (kind.no_session _ _))) o)
+  refuses t m b (IsSuspect since c r k) o = left _ (own_after_reply Q kind s e Before before_more n t m.header _ (λ f. absurd (clash f (kind.suspect _ _))) o)
+  refuses t m b (GreetsInGrace h k g) o = left _ (own_after_reply Q kind s e Before before_more n t m.header _ (λ f. absurd (clash f (kind.grace _ _))) o)
+  refuses t m b (OfOtherEpoch h r) o = left _ (own_after_reply Q kind s e Before before_more n t m.header _ (λ f. absurd (clash f (kind.other_epoch _ _))) o)
+  refuses t m b (HasNoSession a k) o = left _ (own_after_reply Q kind s e Before before_more n t m.header _ (λ f. absurd (clash f (kind.no_session _ _))) o)
   refuses t m b (IsRefusedRows rows r a k) o = (
     n,
     (
-      o_reply Q kind s e (Good n) (good_more n) n t m.header b
+      own_after_reply Q kind s e (Good n) (good_more n) n t m.header b
           (λ q. inr (record {
             by = m;
             is = a.asked.heard.came.is;
@@ -569,29 +556,29 @@ module _ (Q : Body → Bool) (kind : Kind Q) (s : ServerId) (e : Epoch) (i : Ser
   )
 
   takes_input : (t u : ServerTurn) → Edit state now i AtInput t u → Ob t → Left u
-  takes_input t u (Welcomes _ m y g k a f) o = left _ (o_reply Q kind s e Before before_more n t m.header _ (λ q. absurd (clash q kind.welcome)) o)
+  takes_input t u (Welcomes _ m y g k a f) o = left _ (own_after_reply Q kind s e Before before_more n t m.header _ (λ q. absurd (clash q kind.welcome)) o)
   takes_input t u (Begins _ m g f) o =
-      left _ (o_reply Q kind s e Before before_more n _ m.header _ (λ q. absurd (clash q kind.welcome))
-      (o_begins Q kind s e Before before_more n state now i t (sender m.header) (life_in m.header) o))
+      left _ (own_after_reply Q kind s e Before before_more n _ m.header _ (λ q. absurd (clash q kind.welcome))
+      (own_after_begins Q kind s e Before before_more n state now i t (sender m.header) (life_in m.header) o))
   takes_input t u (Replaces _ m y g k a f r) o =
-      left _ (o_reply Q kind s e Before before_more n _ m.header _ (λ q. absurd (clash q kind.welcome))
-      (o_state Q kind s e Before before_more n (with_sessions (sessions.with_new_session (sender m.header) (life_in m.header) t.state.sessions) t) _
+      left _ (own_after_reply Q kind s e Before before_more n _ m.header _ (λ q. absurd (clash q kind.welcome))
+      (own_after_state Q kind s e Before before_more n (with_sessions (sessions.with_new_session (sender m.header) (life_in m.header) t.state.sessions) t) _
       refl refl refl
-      (o_begins Q kind s e Before before_more n state now i t (sender m.header) (life_in m.header) o)))
+      (own_after_begins Q kind s e Before before_more n state now i t (sender m.header) (life_in m.header) o)))
   takes_input t u (PutsOff _ m y g k a f r) o =
-      left _ (o_reply Q kind s e Before before_more n _ m.header _ (λ q. absurd (clash q (kind.suspect _ _)))
-      (o_suspect Q kind s e Before before_more n t now (sender m.header) o))
-  takes_input t u (Sees _ m ino g h b k) o = left _ (o_state Q kind s e Before before_more n t _ refl refl refl o)
+      left _ (own_after_reply Q kind s e Before before_more n _ m.header _ (λ q. absurd (clash q (kind.suspect _ _)))
+      (own_after_suspect Q kind s e Before before_more n t now (sender m.header) o))
+  takes_input t u (Sees _ m ino g h b k) o = left _ (own_after_state Q kind s e Before before_more n t _ refl refl refl o)
   takes_input t u (Reasserts _ m rows r on f) o =
-      left _ (o_reply Q kind s e Before before_more n _ m.header _ (λ q. absurd (clash q kind.reasserted))
-      (o_reasserts Q kind s e Before before_more n state now i t (locks.with_rows t.state.locks (sender m.header) (life_in m.header) rows)
+      left _ (own_after_reply Q kind s e Before before_more n _ m.header _ (λ q. absurd (clash q kind.reasserted))
+      (own_after_reasserts Q kind s e Before before_more n state now i t (locks.with_rows t.state.locks (sender m.header) (life_in m.header) rows)
       (sender m.header) (life_in m.header) o))
   takes_input t u (edits.Serves _ m v b y k r) o =
       serves_it t v m b y k
       (ruled (Acks Q kind s e Before before_more) (acks_state Q kind s e Before before_more)
       (acks_note Q kind s e Before before_more) now t m.header m.body v b r o.acks) o
   takes_input t u (Repeats _ m y b k a f g st) o =
-      left _ (o_reply Q kind s e Before before_more n t m.header b
+      left _ (own_after_reply Q kind s e Before before_more n t m.header b
       (λ q. subst (λ l. Before t.out (sender m.header) l m.header.number b) g
       ((subst (KeptBy Q (Before t.out (sender m.header) y.life.0)) st (o.acks.kept (sender m.header) y f)) q)) o)
   takes_input t u (Refuses _ m b r) o = refuses t m b r o
@@ -599,7 +586,7 @@ module _ (Q : Body → Bool) (kind : Kind Q) (s : ServerId) (e : Epoch) (i : Ser
   -- The whole step, and the names that it leaves.
   pub served : Ob (turn state []) → Left (server_step state now i)
   served o =
-      walk_in_two state now i Ob Left (o_steals Q kind s e Before before_more n state now i) left takes_input
-      (λ t u k z. (z.0, (o_suspects Q kind s e (Good z.0) (good_more z.0) z.0 state now i t u k z.1.0, z.1.1)))
-      (λ t u k z. (z.0, (o_grants Q kind s e (Good z.0) (good_more z.0) z.0 state now i t u k z.1.0, z.1.1)))
-      (λ t u k z. (z.0, (o_demands Q kind s e (Good z.0) (good_more z.0) z.0 state now i t u k z.1.0, z.1.1))) o
+      walk_in_two state now i Ob Left (own_after_steals Q kind s e Before before_more n state now i) left takes_input
+      (λ t u k z. (z.0, (own_after_suspects Q kind s e (Good z.0) (good_more z.0) z.0 state now i t u k z.1.0, z.1.1)))
+      (λ t u k z. (z.0, (own_after_grants Q kind s e (Good z.0) (good_more z.0) z.0 state now i t u k z.1.0, z.1.1)))
+      (λ t u k z. (z.0, (own_after_demands Q kind s e (Good z.0) (good_more z.0) z.0 state now i t u k z.1.0, z.1.1))) o

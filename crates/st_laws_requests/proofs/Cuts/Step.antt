@@ -1,33 +1,22 @@
 -- A whole step of a client keeps what holds of its requests at all its servers.
-use Rattle.std.proofs.Common.{◌≡◌, ℕ, ◌≤◌, ◌⊎◌, Bool, true, false, ◌==◌, List, [], ◌∷◌, ◌++◌, refl, sym, ap, ◌∙◌, subst, inl, inr, arith, if◌then◌else◌}
-use Rattle.std.specs.Prelude.{map}
-use Rattle.std.proofs.lemmas.Bool.{eqb-true}
-use Rattle.st_base.specs.declared.ids.ClientId.{ClientId}
-use Rattle.st_base.specs.declared.ids.ServerId.{ServerId}
-use Rattle.st_base.specs.declared.ids.Stamp.{Stamp}
-use Rattle.st_messages.specs.declared.answer.AppAnswer.{AppAnswer}
-use Rattle.st_messages.specs.declared.answer.AppAnswer.TheVariants as answers
-use Rattle.st_messages.specs.declared.ask.Ask.{Ask}
-use Rattle.st_messages.specs.declared.message.Body.{Body}
-use Rattle.st_messages.specs.declared.message.Message.{Message}
-use Rattle.st_messages.specs.declared.output.Output.{Output}
-use Rattle.st_messages.specs.declared.output.Output.TheVariants as outputs
-use Rattle.st_rules.specs.declared.client.ClientInput.{ClientInput}
-use Rattle.st_rules.specs.declared.client.ClientInput.TheVariants as inputs
-use Rattle.st_rules.specs.declared.client.Operation.{Operation}
-use Rattle.st_rules.specs.declared.client.Request.{Request}
-use Rattle.st_rules.specs.Client as cl
-use Rattle.st_rules.specs.ClientPasses as cp
-use Rattle.st_rules.specs.ClientReplies as cr
-use Rattle.st_rules.specs.ClientState as cs
-use Rattle.st_rules.specs.ClientState.{Association, ClientState, ClientTurn, Turn, at_each, at_these, client_turn, enter, leave, server_of, with_associations}
-use Rattle.st_rules.specs.Keys.{server_node}
-use Rattle.st_lemmas.specs.Lists.{Has}
-use Rattle.st_lemmas.proofs.Tables.{has_append, has_map_in}
+use Rattle.st_lemmas.proofs.Words
+use Words.{◌≡◌, ℕ, ◌≤◌, ◌⊎◌, Bool, true, false, ◌==◌, List, [], ◌∷◌, ◌++◌, refl, sym, ap, ◌∙◌, subst, inl, inr, arith, if◌then◌else◌, map, eqb-true, ClientId}
+use Words.{ServerId, Stamp, AppAnswer, Ask, Body, Message, Output, ClientInput, Operation, Request}
+use Words.answers
+use Words.outputs
+use Words.inputs
+use Words.Client as cl
+use Words.ClientPasses as cp
+use Words.ClientReplies as cr
+use Words.ClientState as cs
+use Words.ClientState.{Association, ClientState, ClientTurn, Turn, at_each, at_these, client_turn, enter, leave, server_of, with_associations}
+use Words.Keys.{server_node}
+use Words.Lists.{Has}
+use Words.Tables.{has_append, has_map_in}
+use Words.Members.{has_left}
 use Rattle.st_laws_steps.specs.Lives.Lives.{Once, server_number}
-use Rattle.st_laws_leases.proofs.Dates.Known.{has_left}
 use Rattle.st_laws_requests.specs.Cuts.Cuts.{AllWait, AsksFor, Between, Keyed, Numbers, OneWaits, is_report, view}
-use Rattle.st_laws_requests.proofs.Cuts.Client.{w_finish, w_receive, w_lose, w_passes, w_take}
+use Rattle.st_laws_requests.proofs.Cuts.Client.{whole_after_finish, whole_after_receive, whole_after_lose, whole_after_passes, whole_after_take}
 use Rattle.st_laws_requests.proofs.Cuts.Keeping.{Answers, SaidOf, Sent, Whole, asked_of, sent_more}
 
 -- associations of servers that differ
@@ -39,7 +28,7 @@ pub onces : (al : List Association) → Once (map server_number al) → Onces al
 onces [] o = tt
 onces (a ∷ al) o = record { first = λ b h e. o.first (server_number b) (has_map_in server_number al b h) e; rest = onces al o.rest }
 
-onces_last : (xs : List Association) (a : Association) → Onces xs → ((b : Association) → Has b xs → b.server.0 ≡ a.server.0 → ⊥) → Onces (xs ++ a ∷ [])
+pub onces_last : (xs : List Association) (a : Association) → Onces xs → ((b : Association) → Has b xs → b.server.0 ≡ a.server.0 → ⊥) → Onces (xs ++ a ∷ [])
 onces_last [] a o f = record { first = λ b h e. absurd h; rest = tt }
 onces_last (x ∷ xs) a o f = record { first = λ b h e. first b (has_append xs (a ∷ []) b h) e; rest = onces_last xs a o.rest (λ b h e. f b (inr h) e) }
   where
@@ -74,7 +63,8 @@ module _ (M : List Message) (c : ClientId) (Known : ℕ → Ask → Type 0) (Bef
   RuleOk rule = (s : ServerId) (B : List Operation) (out0 : List Output) (t : Turn) → WOf s B out0 t → WOf s B out0 (rule t)
 
   -- an association with another server than that of the rule
-  elsewhere : (t : ClientTurn) (a : Association) (u : Turn) → WOf a.server t.state.operations t.out u → (b : Association) → (b.server.0 ≡ a.server.0 → ⊥) → At t.state.operations t.out b → At u.operations u.out b
+  elsewhere : (t : ClientTurn) (a : Association) (u : Turn) → WOf a.server t.state.operations t.out u → (b : Association) → (b.server.0 ≡ a.server.0 → ⊥) →
+      At t.state.operations t.out b → At u.operations u.out b
   elsewhere t a u w b ne k =
       record {
         numbers = record {
@@ -124,7 +114,13 @@ module _ (M : List Message) (c : ClientId) (Known : ℕ → Ask → Type 0) (Bef
 
       w : WOf a.server t.state.operations t.out u
       w = ok a.server t.state.operations t.out (enter t a)
-          (record { base = record { id_ = k.id_; server = refl; asked = k.asked; others = λ o h e. h; numbers = here.numbers; sent = λ m h. inl h; kept = λ m h. h; said = k.said }; waits = here.waits; alone = here.alone })
+          (record {
+            base =
+                record
+                { id_ = k.id_; server = refl; asked = k.asked; others = λ o h e. h; numbers = here.numbers; sent = λ m h. inl h; kept = λ m h. h; said = k.said };
+            waits = here.waits;
+            alone = here.alone;
+          })
 
       server : u.here.server.0 ≡ a.server.0
       server = ap (λ (v : ServerId). v.0) w.base.server
@@ -161,7 +157,18 @@ module _ (M : List Message) (c : ClientId) (Known : ℕ → Ask → Type 0) (Bef
   unfolding at_each
   each rule ok t k =
       these rule ok t.state.associations (with_associations [] t)
-      (record { id_ = k.id_; asked = k.asked; done = λ a h. absurd h; todo = k.done; said = k.said; from = k.from; once_done = tt; once_todo = k.once_done; apart = λ a b h i e. absurd h })
+      (record {
+        id_ = k.id_;
+        asked = k.asked;
+        done = λ a h. absurd h;
+        todo = k.done;
+        said = k.said;
+        from = k.from;
+        once_done = tt;
+        once_todo =
+            k.once_done;
+        apart = λ a b h i e. absurd h;
+      })
 
   -- an answer at once
   at_once : (t : ClientTurn) (op : ℕ) (a : AppAnswer) → ((x : ℕ) → SaidOf M c Known Before Done x a) → Held [] t → Held [] (cl.answered_at_once t op a)
@@ -175,7 +182,8 @@ module _ (M : List Message) (c : ClientId) (Known : ℕ → Ask → Type 0) (Bef
                 lives = λ m i y. z.numbers.lives m (was m i) y;
                 placed = λ m i y. z.numbers.placed m (was m i) y;
                 one = λ m p i j. z.numbers.one m p (was m i) (was p j);
-                sent = sent_more (Sent M c Known Before Done t.out) (Sent M c Known Before Done (t.out ++ outputs.Answer op a ∷ [])) c b.server b.life.0 (view b.session) more z.numbers.sent;
+                sent = sent_more (Sent M c Known Before Done t.out) (Sent M c Known Before Done (t.out ++ outputs.Answer op a ∷ [])) c b.server b.life.0
+                    (view b.session) more z.numbers.sent;
                 counts = z.numbers.counts;
               };
               waits = z.waits;
@@ -215,10 +223,13 @@ module _ (M : List Message) (c : ClientId) (Known : ℕ → Ask → Type 0) (Bef
       from m (inr (inl e)) = cc e
       from m (inr (inr i)) = absurd i
 
-  module _ (fresh : (sv : ServerId) (life epoch number op : ℕ) → ((m : Message) → Has m M → Keyed c sv life epoch number m → ⊥) → Before sv life epoch number op)
+  module _ (fresh : (sv : ServerId) (life epoch number op : ℕ) → ((m : Message) → Has m M → Keyed c sv life epoch number m → ⊥) →
+      Before sv life epoch number op)
       (Told : Message → Body → ServerId → Type 0)
-      (ends : (m : Message) (sv : ServerId) (b : Body) (a : AppAnswer) → Told m b sv → Answers b a → (q : Request) (o : Operation) → server_of o.ask ≡ sv → 1 ≤ q.number → m.header.number ≡ q.number → AsksFor o.ask q.body → cs.fits b q.body ≡ true →
-      ((y : Message) → Has y M → Keyed c sv m.header.life m.header.epoch q.number y → y.body ≡ q.body) → Before sv m.header.life m.header.epoch q.number o.op → Done o.op o.ask a) where
+      (ends : (m : Message) (sv : ServerId) (b : Body) (a : AppAnswer) → Told m b sv → Answers b a → (q : Request) (o : Operation) → server_of o.ask ≡ sv →
+      1 ≤ q.number → m.header.number ≡ q.number → AsksFor o.ask q.body → cs.fits b q.body ≡ true →
+      ((y : Message) → Has y M → Keyed c sv m.header.life m.header.epoch q.number y → y.body ≡ q.body) → Before sv m.header.life m.header.epoch q.number o.op →
+      Done o.op o.ask a) where
     -- what an input tells
     abbrev pub InputOk : ClientInput → Type 0
     InputOk inputs.Tick = Unit {0}
@@ -235,20 +246,24 @@ module _ (M : List Message) (c : ClientId) (Known : ℕ → Ask → Type 0) (Bef
     taken t now inputs.Tick g k = k
     taken t now (inputs.App op ask) g k =
         if_held (cl.is_full t.state) _ _ (at_once t op answers.OpsFull (λ x. tt) k)
-        (if_held (cl.is_configured t.state (server_of ask)) _ _ (each (cs.only_at (server_of ask) (cl.take_ask op ask)) (λ s B out0 u w. w_take M c Known Before Done s B out0 op ask g u w) t k) (at_once t op answers.NoFile (λ x. tt) k))
+        (if_held (cl.is_configured t.state (server_of ask)) _ _
+        (each (cs.only_at (server_of ask) (cl.take_ask op ask)) (λ s B out0 u w. whole_after_take M c Known Before Done s B out0 op ask g u w) t k)
+        (at_once t op answers.NoFile (λ x. tt) k))
     taken t now (inputs.Control m) g k = go (m.header.to == t.state.id.0) refl
       where
         received : m.header.to ≡ c.0 → Held [] (at_each (cr.receive_at now m.header m.body) t)
-        received to = each (cr.receive_at now m.header m.body) (λ s B out0 u w. w_receive M c Known Before Done s B out0 now m (Told m) (ends m) u (g to) w) t k
+        received to = each (cr.receive_at now m.header m.body)
+            (λ s B out0 u w. whole_after_receive M c Known Before Done s B out0 now m (Told m) (ends m) u (g to) w) t k
 
         go : (b : Bool) → (m.header.to == t.state.id.0) ≡ b → Held [] (if b then at_each (cr.receive_at now m.header m.body) t else t)
         go true e = received (eqb-true m.header.to t.state.id.0 e ∙ ap (λ (v : ClientId). v.0) k.id_)
         go false e = k
-    taken t now (inputs.Done number result) g k = each (cl.finish number result) (λ s B out0 u w. w_finish M c Known Before Done s B out0 number result u w) t k
+    taken t now (inputs.Done number result) g k = each (cl.finish number result)
+        (λ s B out0 u w. whole_after_finish M c Known Before Done s B out0 number result u w) t k
 
     -- the whole step
     pub stepped : (x : ClientState) (now : Stamp) (i : ClientInput) → InputOk i → Held [] (client_turn x []) → Held [] (cl.client_step x now i)
     unfolding cl.client_step cl.work cl.losses
     stepped x now i g k =
-        each (cp.passes now (cl.is_tick i)) (λ s B out0 u w. w_passes M c Known Before Done s B out0 fresh now (cl.is_tick i) u w) _
-        (taken _ now i g (each (cl.lose now) (λ s B out0 u w. w_lose M c Known Before Done s B out0 now u w) (client_turn x []) k))
+        each (cp.passes now (cl.is_tick i)) (λ s B out0 u w. whole_after_passes M c Known Before Done s B out0 fresh now (cl.is_tick i) u w) _
+        (taken _ now i g (each (cl.lose now) (λ s B out0 u w. whole_after_lose M c Known Before Done s B out0 now u w) (client_turn x []) k))

@@ -1,71 +1,51 @@
 -- Every event keeps what holds of requests and their replies.
-use Rattle.std.proofs.Common.{◌==◌, ◌≡◌, ◌≢◌, ℕ, ◌+◌, ◌≤◌, ◌⊎◌, Bool, true, false, not, List, [], ◌∷◌, ◌++◌, Option, Some, None, Ok, Err, refl, sym, ap, ◌∙◌, subst, inl, inr, arith, if◌then◌else◌}
-use Rattle.std.specs.Prelude.{map, length, suc, nat_le, pred}
-use Rattle.std.specs.List.{cons_option}
-use Rattle.std.proofs.lemmas.Bool.{eqb-true, eq-eqb, le-leb}
-use Rattle.st_base.specs.declared.ids.ClientId.{ClientId}
-use Rattle.st_base.specs.declared.ids.ServerId.{ServerId}
-use Rattle.st_base.specs.declared.ids.Stamp.{Stamp}
-use Rattle.st_base.specs.declared.ids.FileId.{FileId}
-use Rattle.st_base.specs.declared.ids.GrantNo.{GrantNo}
-use Rattle.st_base.specs.declared.ids.PageNo.{PageNo}
-use Rattle.st_base.specs.declared.names.NameAsk.{NameAsk}
-use Rattle.st_base.specs.declared.ids.NodeId.{NodeId}
-use Rattle.st_base.specs.declared.ids.NodeId.TheVariants as nodes
-use Rattle.st_messages.specs.declared.ask.Ask.{Ask}
-use Rattle.st_messages.specs.declared.ask.Ask.TheVariants as asks
-use Rattle.st_messages.specs.declared.answer.AppAnswer.{AppAnswer}
-use Rattle.st_messages.specs.declared.answer.AppAnswer.TheVariants as answers
-use Rattle.st_messages.specs.declared.message.Body.{Body}
-use Rattle.st_messages.specs.declared.message.Body.TheVariants as bodies
-use Rattle.st_messages.specs.declared.message.Message.{Message}
-use Rattle.st_messages.specs.declared.message.NameOp.{NameOp}
-use Rattle.st_messages.specs.declared.message.NameReply.{NameReply}
-use Rattle.st_messages.specs.declared.message.NameReply.TheVariants as replies
-use Rattle.st_messages.specs.declared.event.Event.{Event}
-use Rattle.st_messages.specs.declared.event.Event.TheVariants as events
-use Rattle.st_messages.specs.declared.output.Output.TheVariants as outputs
-use Rattle.st_rules.specs.declared.client.ClientInput.{ClientInput}
-use Rattle.st_rules.specs.declared.client.ClientInput.TheVariants as inputs
-use Rattle.st_rules.specs.declared.client.Operation.{Operation}
-use Rattle.st_rules.specs.declared.client.Request.{Request}
-use Rattle.st_rules.specs.declared.input.ServerInput.{ServerInput}
-use Rattle.st_rules.specs.declared.input.ServerInput.TheVariants as serving
+use Rattle.st_lemmas.proofs.Words
+use Words.{◌==◌, ◌≡◌, ◌≢◌, ℕ, ◌+◌, ◌≤◌, ◌⊎◌, Bool, true, false, not, List, [], ◌∷◌, ◌++◌, Option, Some, None, Ok, Err, refl, sym, ap, ◌∙◌, subst, inl, inr}
+use Words.{arith, if◌then◌else◌, map, length, suc, nat_le, pred, cons_option, eqb-true, eq-eqb, le-leb, ClientId, ServerId, Stamp, FileId, GrantNo, PageNo}
+use Words.{NameAsk, NodeId, Ask, AppAnswer, Body, Message, NameOp, NameReply, Event, ClientInput, Operation, Request, ServerInput, Session, SessionState}
+use Words.{IssuedCommand, SentMessage}
+use Words.nodes
+use Words.asks
+use Words.answers
+use Words.bodies
+use Words.replies
+use Words.events
+use Words.outputs
+use Words.inputs
+use Words.serving
+use Words.seen
+use Words.states
+use Words.Keys.{client, server_node}
+use Words.Admissible as adm
+use Words.Client as cl
+use Words.ClientPasses.{name_op}
+use Words.ClientReplies.{name_answer}
+use Words.ClientState as cs
+use Words.ClientState.{Association, ClientTurn, client_turn}
+use Words.Events as ev
+use Words.Events.{WorldTurn}
+use Words.History.{Traced}
+use Words.Names.{Names}
+use Words.Server as server
+use Words.Server.{ServerNode}
+use Words.World as world
+use Words.World.{World, WorldClient, site_of, node_of, numbered, with_numbered, clock_of}
+use Words.Safety as safety
+use Words.Safety.{Step, ask_in, ask_of_client, cuts_after, is_after_ask, is_cut_at, step, was_cut}
+use Words.Lists.{Has}
+use Words.Numbers.{get_last, length_more, numbered_below, numbered_has, numbered_old, numbered_own, set_length}
+use Words.Tables.{and_both, has_append, has_map, has_map_in, some_passes}
+use Words.Members.{has_left, has_right}
+use Words.Worlds.{client_at_node}
 use Rattle.st_rules.specs.declared.node.StepRefusal.TheVariants.{Crashed}
-use Rattle.st_rules.specs.declared.observation.Observation.TheVariants as seen
-use Rattle.st_rules.specs.declared.sessions.Session.{Session}
-use Rattle.st_rules.specs.declared.sessions.SessionState.{SessionState}
-use Rattle.st_rules.specs.declared.sessions.SessionState.TheVariants as states
-use Rattle.st_rules.specs.declared.world.IssuedCommand.{IssuedCommand}
-use Rattle.st_rules.specs.declared.world.SentMessage.{SentMessage}
-use Rattle.st_rules.specs.Keys.{client, server_node}
-use Rattle.st_rules.specs.Admissible as adm
-use Rattle.st_rules.specs.Client as cl
-use Rattle.st_rules.specs.ClientPasses.{name_op}
-use Rattle.st_rules.specs.ClientReplies.{name_answer}
-use Rattle.st_rules.specs.ClientState as cs
-use Rattle.st_rules.specs.ClientState.{Association, ClientTurn, client_turn}
-use Rattle.st_rules.specs.Events as ev
-use Rattle.st_rules.specs.Events.{WorldTurn}
-use Rattle.st_rules.specs.History.{Traced}
-use Rattle.st_rules.specs.Names.{Names}
-use Rattle.st_rules.specs.Server as server
-use Rattle.st_rules.specs.Server.{ServerNode}
-use Rattle.st_rules.specs.World as world
-use Rattle.st_rules.specs.World.{World, WorldClient, site_of, node_of, numbered, with_numbered, clock_of}
-use Rattle.st_rules.specs.Safety as safety
-use Rattle.st_rules.specs.Safety.{Step, ask_in, ask_of_client, cuts_after, is_after_ask, is_cut_at, step, was_cut}
-use Rattle.st_lemmas.specs.Lists.{Has}
-use Rattle.st_lemmas.proofs.Numbers.{get_last, length_more, numbered_below, numbered_has, numbered_old, numbered_own, set_length}
-use Rattle.st_lemmas.proofs.Tables.{and_both, has_append, has_map, has_map_in, some_passes}
 use Rattle.st_laws_leases.specs.Dates.Dates.{message_in, messages}
-use Rattle.st_laws_leases.proofs.Dates.Known.{has_left, has_right}
 use Rattle.st_laws_leases.proofs.Dates.Leaving.{Leaves, client_leaves, leaves_from, lost_same, server_leaves, server_not_client, set_cases}
 use Rattle.st_laws_leases.proofs.Dates.SentMessages.{flushed}
 use Rattle.st_laws_pages.proofs.Asks.World.{asks_more}
 use Rattle.st_laws_steps.specs.Lives.Lives.{NodeHolds}
 use Rattle.st_promises.specs.NameAnswers.{is_of_names, said}
-use Rattle.st_laws_requests.specs.Cuts.Cuts.{Acked, AsksFor, Between, ClientOk, IsCutDone, IsDone, IsNameDone, IsNameSaid, CutsHold, Early, Fulfilled, KeptState, Keyed, MeansNone, NameSaid, Numbers, OneBody, ServerOk, Waits, WaitsAt, asks_of, does, is_report, view}
+use Rattle.st_laws_requests.specs.Cuts.Cuts.{Acked, AsksFor, Between, ClientOk, IsCutDone, IsDone, IsNameDone, IsNameSaid, CutsHold, Early, Fulfilled}
+use Rattle.st_laws_requests.specs.Cuts.Cuts.{KeptState, Keyed, MeansNone, NameSaid, Numbers, OneBody, ServerOk, Waits, WaitsAt, asks_of, does, is_report, view}
 use Rattle.st_laws_requests.specs.Cuts.Law.{CutsAreLogged, NameAskSaid, NamesAreSaid}
 use Rattle.st_laws_requests.proofs.Cuts.Keeping.{Answers, SaidOf, Sent, sent_more}
 use Rattle.st_laws_requests.proofs.Cuts.Step.{Held, onces, stepped}
@@ -671,18 +651,6 @@ started_server past ms s node now e = record { id = e; kept = λ c x h. none h }
     none : {A : Type 0} {x : Session} → ◌≡◌ {A = Option Session} None (Some x) → A
     none h = cc
 
--- the client of a node number
-client_at : (n : ℕ) (c : ClientId) → world.node_at n ≡ nodes.Client c → n ≡ c.0
-unfolding world.node_at
-client_at n c e = go (nat_le n 16) e
-  where
-    go : (b : Bool) → (if b then nodes.Client (client n) else nodes.Server (world.server (Rattle.std.specs.Prelude.◌-◌ n 32768))) ≡ nodes.Client c → n ≡ c.0
-    go true q = same q
-      where
-        same : nodes.Client (client n) ≡ nodes.Client c → n ≡ c.0
-        same q = cc
-    go false q = cc
-
 -- Every event.
 module _ (past : List Step) (t : Traced) (d : CutsHold past t) where
   abbrev w : World
@@ -770,7 +738,7 @@ module _ (past : List Step) (t : Traced) (d : CutsHold past t) where
       e = events.Deliver k
 
       to : (m : Message) (n : NodeId) → world.node_at m.header.to ≡ n → Has m (messages t.world) → Next past t e d (ev.delivers_to w m n)
-      to m (nodes.Client c) r h = at_client e (λ c. refl) c (inputs.Control m) (h, client_at m.header.to c r)
+      to m (nodes.Client c) r h = at_client e (λ c. refl) c (inputs.Control m) (h, client_at_node m.header.to c r)
       to m (nodes.Server s) r h = at_server e (λ c. refl) s (serving.Control m) h
 
       go : (o : Option SentMessage) → world.message_of w k ≡ o → Next past t e d (ev.delivers w o)

@@ -1,19 +1,13 @@
 -- The rules of a client keep the outstanding request the last one.
-use Rattle.std.proofs.Common.{◌≡◌, ℕ, ◌+◌, Bool, List, Option, Some, None, refl, sym, ap, ◌∙◌, subst}
-use Rattle.st_base.specs.declared.disk.Tag.{Tag}
-use Rattle.st_base.specs.declared.ids.ServerId.{ServerId}
-use Rattle.st_base.specs.declared.ids.Stamp.{Stamp}
-use Rattle.st_messages.specs.declared.ask.Ask.{Ask}
-use Rattle.st_messages.specs.declared.message.Body.{Body}
-use Rattle.st_messages.specs.declared.message.Header.{Header}
-use Rattle.st_rules.specs.declared.client.Request.{Request}
-use Rattle.st_rules.specs.Client as cl
-use Rattle.st_rules.specs.ClientPasses as cp
-use Rattle.st_rules.specs.ClientPages.{Store}
-use Rattle.st_rules.specs.ClientReplies as cr
-use Rattle.st_rules.specs.ClientReplies.{ended_by, in_epoch}
-use Rattle.st_rules.specs.ClientState.{ClientSession, Turn, asking, only_at}
-use Rattle.st_lemmas.proofs.Lookups.{some_is}
+use Rattle.st_lemmas.proofs.Words
+use Words.{◌≡◌, ℕ, ◌+◌, Bool, List, Option, Some, None, refl, sym, ap, ◌∙◌, subst, Tag, ServerId, Stamp, Ask, Body, Header, Request}
+use Words.Client as cl
+use Words.ClientPasses as cp
+use Words.ClientPages.{Store}
+use Words.ClientReplies as cr
+use Words.ClientReplies.{ended_by, in_epoch}
+use Words.ClientState.{ClientSession, Turn, asking, only_at}
+use Words.Lookups.{some_is}
 use Rattle.st_laws_steps.proofs.Client.Sessions as sessions
 use Rattle.st_laws_steps.specs.Client.Client.{IsBegun}
 use Rattle.st_laws_steps.specs.Client.Losses.{Fit}
@@ -48,17 +42,17 @@ first : (server : ServerId) (life : ℕ) (s : ClientSession) → IsBegun s → A
 first server life s b h = none_last s (ap (λ (z : ClientSession). z.requests.asked) b.2)
 
 -- The rules.
-pub k_passes : (now : Stamp) (tick : Bool) (t : Turn) → K t (cp.passes now tick t)
-k_passes = sessions.k_passes (λ s l o. AsksLast o) follows first
+pub requests_kept_by_passes : (now : Stamp) (tick : Bool) (t : Turn) → K t (cp.passes now tick t)
+requests_kept_by_passes = sessions.sessions_kept_by_passes (λ s l o. AsksLast o) follows first
 
-pub k_receive : (now : Stamp) (h : Header) (b : Body) (t : Turn) → Fit t.here → K t (cr.receive_at now h b t)
-k_receive now h b t f = sessions.k_receive (λ s l o. AsksLast o) follows first now h b t f.fresh
+pub requests_kept_by_receive : (now : Stamp) (h : Header) (b : Body) (t : Turn) → Fit t.here → K t (cr.receive_at now h b t)
+requests_kept_by_receive now h b t f = sessions.sessions_kept_by_receive (λ s l o. AsksLast o) follows first now h b t f.fresh
 
-pub k_finish : (number : ℕ) (r : Option (Option (Tag × List ℕ))) (t : Turn) → K t (cl.finish number r t)
-k_finish = sessions.k_finish (λ s l o. AsksLast o)
+pub requests_kept_by_finish : (number : ℕ) (r : Option (Option (Tag × List ℕ))) (t : Turn) → K t (cl.finish number r t)
+requests_kept_by_finish = sessions.sessions_kept_by_finish (λ s l o. AsksLast o)
 
-pub k_take : (s : ServerId) (op : ℕ) (ask : Ask) (t : Turn) → K t (only_at s (cl.take_ask op ask) t)
-k_take = sessions.k_take (λ s l o. AsksLast o)
+pub requests_kept_by_take : (s : ServerId) (op : ℕ) (ask : Ask) (t : Turn) → K t (only_at s (cl.take_ask op ask) t)
+requests_kept_by_take = sessions.sessions_kept_by_take (λ s l o. AsksLast o)
 
-pub k_lose : (now : Stamp) (t : Turn) → K t (cl.lose now t)
-k_lose = sessions.k_lose (λ s l o. AsksLast o) (λ server life. tt)
+pub requests_kept_by_lose : (now : Stamp) (t : Turn) → K t (cl.lose now t)
+requests_kept_by_lose = sessions.sessions_kept_by_lose (λ s l o. AsksLast o) (λ server life. tt)

@@ -1,35 +1,30 @@
 -- Every event keeps what the messages of servers say, and so does every run.
-use Rattle.std.proofs.Common.{◌≡◌, ◌≢◌, ℕ, ◌+◌, ◌≤◌, ◌⊎◌, true, false, List, [], ◌∷◌, ◌++◌, Some, Result, Ok, Err, refl, sym, ap, ◌∙◌, subst, inl, inr, arith}
-use Rattle.st_base.specs.declared.ids.ClientId.{ClientId}
-use Rattle.st_base.specs.declared.ids.ServerId.{ServerId}
-use Rattle.st_base.specs.declared.ids.Stamp.{Stamp}
-use Rattle.st_base.specs.declared.ids.NodeId.TheVariants as nodes
-use Rattle.st_messages.specs.declared.message.Message.{Message}
-use Rattle.st_messages.specs.declared.event.Event.{Event}
-use Rattle.st_messages.specs.declared.output.Output.TheVariants as outputs
-use Rattle.st_rules.specs.declared.client.ClientInput.{ClientInput}
-use Rattle.st_rules.specs.declared.client.ClientInput.TheVariants as inputs
-use Rattle.st_rules.specs.declared.input.ServerInput.{ServerInput}
-use Rattle.st_rules.specs.Keys.{client, server_node}
-use Rattle.st_rules.specs.Client as cl
-use Rattle.st_rules.specs.Events as ev
-use Rattle.st_rules.specs.Events.{WorldTurn, world_step}
-use Rattle.st_rules.specs.History.{Traced, traced, traced_after}
-use Rattle.st_rules.specs.declared.observation.WorldRefusal.{WorldRefusal}
-use Rattle.st_rules.specs.Sessions as sessions
-use Rattle.st_rules.specs.Server as server
-use Rattle.st_rules.specs.Server.{ServerNode}
-use Rattle.st_rules.specs.World as world
-use Rattle.st_rules.specs.World.{World, WorldClient, fresh_world, site_of, node_of, numbered, with_numbered, clock_of}
-use Rattle.st_rules.specs.Safety as safety
-use Rattle.st_rules.specs.Safety.{Step, Throughout, step, steps}
-use Rattle.st_lemmas.specs.Lists.{Has}
-use Rattle.st_lemmas.proofs.Numbers.{numbered_below}
+use Rattle.st_lemmas.proofs.Words
+use Words.{◌≡◌, ◌≢◌, ◌+◌, ◌≤◌, ◌⊎◌, true, false, List, [], ◌∷◌, ◌++◌, Some, Result, Ok, Err, refl, sym, ap, ◌∙◌, subst, inl, inr, arith, ClientId, ServerId}
+use Words.{Stamp, Message, Event, ClientInput, ServerInput, WorldRefusal}
+use Words.nodes
+use Words.outputs
+use Words.inputs
+use Words.Keys.{client, server_node}
+use Words.Client as cl
+use Words.Events as ev
+use Words.Events.{WorldTurn, world_step}
+use Words.History.{Traced, traced, traced_after}
+use Words.Sessions as sessions
+use Words.Server as server
+use Words.Server.{ServerNode}
+use Words.World as world
+use Words.World.{World, WorldClient, fresh_world, site_of, node_of, numbered, with_numbered, clock_of}
+use Words.Safety as safety
+use Words.Safety.{Step, Throughout, step, steps}
+use Words.Lists.{Has}
+use Words.Numbers.{numbered_below}
 use Rattle.st_laws_leases.specs.Dates.Dates.{Dated, messages}
 use Rattle.st_laws_leases.proofs.Dates.Leaving.{Leaves, leaves_from, server_not_client, set_cases}
 use Rattle.st_laws_leases.proofs.Dates.Receiving.{Ever, Held, ever_on, step_held}
 use Rattle.st_laws_leases.proofs.Dates.Law as dates
-use Rattle.st_laws_requests.specs.Replies.ServedRequests.{InputNew, IsBehind, NewOwed, ReassertionsNew, Refusal, RepliesAfter, RepliesAreReached, RepliesSay, Says}
+use Rattle.st_laws_requests.specs.Replies.ServedRequests.{InputNew, IsBehind, NewOwed, ReassertionsNew, Refusal, RepliesAfter, RepliesAreReached, RepliesSay}
+use Rattle.st_laws_requests.specs.Replies.ServedRequests.{Says}
 use Rattle.st_laws_requests.proofs.Replies.EachEvent.{Brings, ClientTook, Comes, NodeAfter, ServerLeft, ServerTook, SiteAfter, event_leaves}
 use Rattle.st_laws_requests.proofs.Replies.Served.{Refused, Served, served}
 
@@ -193,7 +188,7 @@ run (e ∷ es) past t d f = go (world_step t.world e) refl f (run es)
     go (Err r) q f k = tt
     go (Ok sc) q f k = let z = one past t e sc d f.0 q in (z.replies, k (past ++ step t e sc ∷ []) (traced_after e t sc) z f.1)
 
-pub law : RepliesAreReached
+pub replies_are_reached : RepliesAreReached
 unfolding fresh_world
-law c clients servers disks blocks form es head f =
+replies_are_reached c clients servers disks blocks form es head f =
     run es [] (traced (fresh_world c clients servers disks blocks form)) (record { dated = dates.fresh_dated c clients servers disks blocks form head; replies = λ s n at m h. absurd h }) f

@@ -1,61 +1,40 @@
 -- In a step of a server sessions only go on, and a reply that ends a request says that the session of its life reached the request's number.
-use Rattle.std.proofs.Common.{◌≡◌, ℕ, ◌≤◌, ◌<◌, ◌≢◌, ◌⊎◌, Bool, true, false, ◌&&◌, List, [], ◌∷◌, ◌==◌, refl, sym, ap, ◌∙◌, subst, inl, inr, arith}
-use Rattle.std.proofs.Common.{if◌then◌else◌}
-use Rattle.std.specs.Prelude.{Option, Some, None, nat_le, nat_lt, option_map}
-use Rattle.std.proofs.lemmas.Bool.{eq-eqb, eqb-true, le-leb, leb-true, ltb-false, ltb-true}
-use Rattle.st_base.specs.declared.ids.ClientId.{ClientId}
-use Rattle.st_base.specs.declared.ids.Epoch.{Epoch}
-use Rattle.st_base.specs.declared.ids.ServerId.{ServerId}
-use Rattle.st_base.specs.declared.ids.GrantNo.{GrantNo}
-use Rattle.st_base.specs.declared.ids.Life.{Life}
-use Rattle.st_base.specs.declared.ids.Stamp.{Stamp}
-use Rattle.st_base.specs.declared.mode.Mode.{Mode}
-use Rattle.st_messages.specs.declared.message.Header.{Header}
-use Rattle.st_messages.specs.declared.message.Message.{Message}
-use Rattle.st_messages.specs.declared.message.Body.{Body}
-use Rattle.st_messages.specs.declared.message.Body.TheVariants as bd
-use Rattle.st_messages.specs.declared.output.Note.{Note}
-use Rattle.st_messages.specs.declared.output.Note.TheVariants as notes
-use Rattle.st_messages.specs.declared.output.Output.{Output}
-use Rattle.st_messages.specs.declared.output.Output.TheVariants as outputs
-use Rattle.st_rules.specs.declared.input.ServerInput.{ServerInput}
-use Rattle.st_rules.specs.declared.input.ServerInput.TheVariants.{Control}
-use Rattle.st_rules.specs.declared.authority.AcceptRefusal.{AcceptRefusal}
+use Rattle.st_lemmas.proofs.Words
+use Words.{◌≡◌, ℕ, ◌≤◌, ◌<◌, ◌≢◌, ◌⊎◌, Bool, true, false, ◌&&◌, List, [], ◌∷◌, ◌==◌, refl, sym, ap, ◌∙◌, subst, inl, inr, arith, if◌then◌else◌, Option, Some}
+use Words.{None, nat_le, nat_lt, option_map, eq-eqb, eqb-true, leb-true, ltb-false, ClientId, Epoch, ServerId, GrantNo, Life, Stamp, Mode}
+use Words.{Header, Message, Body, Note, Output, ServerInput, AcceptRefusal, Session, SessionState, leb-false}
+use Words.bodies as bd
+use Words.notes
+use Words.outputs
+use Words.serving.{Control}
+use Words.states
+use Words.ClientState.{is_refusal}
+use Words.Locks as locks
+use Words.Sessions as sessions
+use Words.Grace as grace
+use Words.Keys.{client, server_node}
+use Words.Server as sv
+use Words.Server.{ServerState, ServerTurn, turn, with_locks, with_sessions, sender, life_in, note, reply, say, tell, steal_from, thefts, suspect_client}
+use Words.Server.{keep_and_reply, server_step}
+use Words.Lists.{Has}
+use Words.Lookups.{or_false, some_is}
+use Words.Tables.{and_both, find_map, found_at, has_append, same_or_not}
+use Words.Serving.{end_client}
+use Words.Truth.{client_is}
 use Rattle.st_rules.specs.declared.authority.AcceptRefusal.TheVariants as refusals
-use Rattle.st_rules.specs.declared.sessions.Session.{Session}
-use Rattle.st_rules.specs.declared.sessions.SessionState.{SessionState}
-use Rattle.st_rules.specs.declared.sessions.SessionState.TheVariants as states
-use Rattle.st_rules.specs.ClientState.{is_refusal}
-use Rattle.st_rules.specs.Locks as locks
-use Rattle.st_rules.specs.Sessions as sessions
-use Rattle.st_rules.specs.Grace as grace
-use Rattle.st_rules.specs.Keys.{client, server_node}
-use Rattle.st_rules.specs.Server as sv
-use Rattle.st_rules.specs.Server.{ServerState, ServerTurn, turn, with_locks, with_sessions, sender, life_in, note, reply, say, tell, steal_from, thefts}
-use Rattle.st_rules.specs.Server.{suspect_client, keep_and_reply, server_step}
-use Rattle.st_lemmas.specs.Lists.{Has}
-use Rattle.st_lemmas.proofs.Lookups.{or_false, some_is}
 use Rattle.st_lemmas.proofs.Puts.{find_put_by, find_put_other}
-use Rattle.st_lemmas.proofs.Tables.{and_both, find_map, found_at, has_append, same_or_not}
 use Rattle.st_laws_requests.specs.Replies.ServedRequests.{Ends, FindsNew, InputNew, IsBehind, Reached}
 use Rattle.st_trace.specs.Server.Edits as edits
 use Rattle.st_trace.specs.Server.Edits.{Phase, Came, Reasserted, Edit, TakesTimers, Steals, Welcomes, Begins, Replaces, PutsOff, Sees, Reasserts, Serves}
 use Rattle.st_trace.specs.Server.Edits.{Repeats, Refuses, Suspects, Grants, Demands}
 use Rattle.st_trace.proofs.Server.Taking.{clash, FreshState}
 use Rattle.st_trace.proofs.Server.Walk.{walk}
-use Rattle.st_laws_requests.proofs.Clients.{client_same, end_client, keep_client}
+use Rattle.st_laws_requests.proofs.Clients.{keep_client}
 use Rattle.st_laws_requests.proofs.Rules.{ruled}
 
 -- Sessions that go on.
 abbrev pub GoesOn : sessions.Sessions → sessions.Sessions → Type 0
 GoesOn t u = (c : ClientId) (life n : ℕ) → IsBehind (sessions.session_of t c) life n → IsBehind (sessions.session_of u c) life n
-
-past_over : (a b : ℕ) → nat_le a b ≡ false → b < a
-past_over a b x = go (nat_lt b a) refl
-  where
-    go : (z : Bool) → nat_lt b a ≡ z → b < a
-    go true e = ltb-true b a e
-    go false e = let p = ltb-false b a e in absurd (clash (le-leb a b p) x)
 
 -- a session of a higher life than its client's
 on_new : (t : sessions.Sessions) (x : Session) → ((y : Session) → sessions.session_of t x.client ≡ Some y → y.life.0 < x.life.0) →
@@ -82,7 +61,7 @@ on_new t x k d life n h = go (sessions.is_session_of d x) refl
     go true e =
         let i = find_put_by (sessions.is_session_of d) (sessions.is_session_of x.client) x t.rows e
         (λ z f. eq-eqb z.client.0 x.client.0 (eqb-true _ _ f ∙ sym (eqb-true _ _ e))) in
-        subst (λ o. IsBehind o life n) (sym i) (inl (lower (sessions.session_of t d) refl (client_same x.client d e) h))
+        subst (λ o. IsBehind o life n) (sym i) (inl (lower (sessions.session_of t d) refl (client_is x.client d e) h))
     go false e = subst (λ o. IsBehind o life n)
         (sym (find_put_other (sessions.is_session_of d) (sessions.is_session_of x.client) x t.rows e (λ z f. other z e f))) h
 
@@ -118,7 +97,7 @@ on_stored t c number b w = on_map t (sessions.keep_of c number b) (keep_client c
     go : (d : ClientId) (x : Session) → sessions.session_of t d ≡ Some x → (z : Bool) → sessions.is_session_of c x ≡ z → (life n : ℕ) →
         IsBehind (Some x) life n → IsBehind (Some (if z then sessions.keep_reply number b x else x)) life n
     go d x e true q life n h =
-        let same = client_same d c
+        let same = client_is d c
         (eq-eqb d.0 c.0 (sym (eqb-true x.client.0 d.0 (found_at (sessions.is_session_of d) t.rows x e).0) ∙ eqb-true x.client.0 c.0 q)) in
         kept x life n (w x (subst (λ y. sessions.session_of t y ≡ Some x) same e)) h
     go d x e false q life n h = h
@@ -207,37 +186,37 @@ module _ (s : ServerId) (e : Epoch) (i : ServerInput) (before : sessions.Session
       go (inr h) = inr h
 
   -- other parts of the state
-  o_state : (t : ServerTurn) (x : ServerState) → x.id ≡ t.state.id → x.stable.epoch ≡ t.state.stable.epoch → x.sessions ≡ t.state.sessions → O t →
+  served_after_state : (t : ServerTurn) (x : ServerState) → x.id ≡ t.state.id → x.stable.epoch ≡ t.state.stable.epoch → x.sessions ≡ t.state.sessions → O t →
       O (record t { state = x })
-  o_state t x a b c o = record {
+  served_after_state t x a b c o = record {
     id = a ∙ o.id;
     epoch = b ∙ o.epoch;
     goes = subst (GoesOn before) (sym c) o.goes;
     sent = λ y h. subst (λ z. Said z y) (sym c) (o.sent y h);
   }
 
-  o_sessions : (t : ServerTurn) (x : sessions.Sessions) → GoesOn t.state.sessions x → O t → O (with_sessions x t)
-  o_sessions t x g o = record {
+  served_after_sessions : (t : ServerTurn) (x : sessions.Sessions) → GoesOn t.state.sessions x → O t → O (with_sessions x t)
+  served_after_sessions t x g o = record {
     id = o.id;
     epoch = o.epoch;
     goes = λ c life n h. g c life n (o.goes c life n h);
     sent = λ y h. said_on t.state.sessions x g y (o.sent y h);
   }
 
-  o_say : (t : ServerTurn) (o : Output) → ((x : Message) → outputs.Send x ≡ o → Said t.state.sessions x) → O t → O (say t o)
-  o_say t o f k = record { id = k.id; epoch = k.epoch; goes = k.goes; sent = λ x h. go x (has_append t.out (o ∷ []) (outputs.Send x) h) }
+  served_after_say : (t : ServerTurn) (o : Output) → ((x : Message) → outputs.Send x ≡ o → Said t.state.sessions x) → O t → O (say t o)
+  served_after_say t o f k = record { id = k.id; epoch = k.epoch; goes = k.goes; sent = λ x h. go x (has_append t.out (o ∷ []) (outputs.Send x) h) }
     where
       go : (x : Message) → Has (outputs.Send x) t.out ⊎ Has (outputs.Send x) (o ∷ []) → Said t.state.sessions x
       go x (inl h) = k.sent x h
       go x (inr (inl q)) = f x q
       go x (inr (inr n)) = absurd n
 
-  o_note : (t : ServerTurn) (x : Note) → O t → O (note t x)
-  o_note t x o = o_say t (outputs.Note x) (λ y q. cc q) o
+  served_after_note : (t : ServerTurn) (x : Note) → O t → O (note t x)
+  served_after_note t x o = served_after_say t (outputs.Note x) (λ y q. cc q) o
 
-  o_reply : (t : ServerTurn) (h : Header) (b : Body) → Tells t.state.sessions h.from h.life h.number b → O t → O (reply t h b)
+  served_after_reply : (t : ServerTurn) (h : Header) (b : Body) → Tells t.state.sessions h.from h.life h.number b → O t → O (reply t h b)
   unfolding reply
-  o_reply t h b w o = o_say t (outputs.Send m) (λ x q. subst (Said t.state.sessions) (sym (same x q)) (
+  served_after_reply t h b w o = served_after_say t (outputs.Send m) (λ x q. subst (Said t.state.sessions) (sym (same x q)) (
     ap server_node o.id,
     ap (λ (y : Epoch). y.0) o.epoch,
     w,
@@ -249,10 +228,10 @@ module _ (s : ServerId) (e : Epoch) (i : ServerInput) (before : sessions.Session
       same : (x : Message) → outputs.Send x ≡ outputs.Send m → x ≡ m
       same x q = cc
 
-  o_tell : (t : ServerTurn) (c : ClientId) (life : Life) (b : Body) → O t → O (tell t c life b)
+  served_after_tell : (t : ServerTurn) (c : ClientId) (life : Life) (b : Body) → O t → O (tell t c life b)
   unfolding tell
-  o_tell t c life b o =
-      o_say t (outputs.Send m) (λ x q. subst (Said t.state.sessions) (sym (same x q)) (
+  served_after_tell t c life b o =
+      served_after_say t (outputs.Send m) (λ x q. subst (Said t.state.sessions) (sym (same x q)) (
         ap server_node o.id,
         ap (λ (y : Epoch). y.0) o.epoch,
         λ k n. absurd (omega (arith, n)),
@@ -264,11 +243,11 @@ module _ (s : ServerId) (e : Epoch) (i : ServerInput) (before : sessions.Session
       same : (x : Message) → outputs.Send x ≡ outputs.Send m → x ≡ m
       same x q = cc
 
-  o_steal : (t : ServerTurn) (c : ClientId) (x : Session) → O t → O (steal_from t c x)
+  served_after_steal : (t : ServerTurn) (c : ClientId) (x : Session) → O t → O (steal_from t c x)
   unfolding steal_from
-  o_steal t c x o =
-      o_sessions (with_locks (locks.forget t.state.locks c) (note t (notes.Stolen c x.life))) _ (on_ended t.state.sessions c)
-      (o_state _ _ refl refl refl (o_note t (notes.Stolen c x.life) o))
+  served_after_steal t c x o =
+      served_after_sessions (with_locks (locks.forget t.state.locks c) (note t (notes.Stolen c x.life))) _ (on_ended t.state.sessions c)
+      (served_after_state _ _ refl refl refl (served_after_note t (notes.Stolen c x.life) o))
 
   -- a life that the sessions do not know is above what its client has
   unknown : (m : Message) (t : ServerTurn) (now : Stamp) → FindsNew t now m.header m.body → (rows : List (ℕ × GrantNo × Mode)) →
@@ -325,33 +304,33 @@ module _ (s : ServerId) (e : Epoch) (i : ServerInput) (before : sessions.Session
 
     begins : (t : ServerTurn) (c : ClientId) (life : Life) → ((y : Session) → sessions.session_of t.state.sessions c ≡ Some y → y.life.0 < life.0) → O t →
         O (with_sessions (sessions.with_new_session c life t.state.sessions) t)
-    begins t c life f o = o_sessions t _ (on_new t.state.sessions (sessions.new_session c life) f) o
+    begins t c life f o = served_after_sessions t _ (on_new t.state.sessions (sessions.new_session c life) f) o
 
     reasserts : (t : ServerTurn) (m : Message) (rows : List (ℕ × GrantNo × Mode)) → Reasserted x now i t m rows → grace.is_on t.state.grace now ≡ true → O t →
         O (reply (with_sessions (sessions.reasserted t.state.sessions (sender m.header) (life_in m.header))
         (with_locks (locks.with_rows t.state.locks (sender m.header) (life_in m.header) rows) t)) m.header bd.Reasserted)
     reasserts t m rows r on o =
-        o_reply _ m.header _ (λ q n. says (nat_le m.header.number 1) refl)
-        (o_sessions (with_locks (locks.with_rows t.state.locks (sender m.header) (life_in m.header) rows) t) _
+        served_after_reply _ m.header _ (λ q n. says (nat_le m.header.number 1) refl)
+        (served_after_sessions (with_locks (locks.with_rows t.state.locks (sender m.header) (life_in m.header) rows) t) _
         (on_reasserted t.state.sessions (sender m.header) (life_in m.header) (unknown m t now (finds_new t m r.asked.heard.came) rows r.asks on r.new))
-        (o_state t _ refl refl refl o))
+        (served_after_state t _ refl refl refl o))
       where
         says : (b : Bool) → nat_le m.header.number 1 ≡ b →
             IsBehind (sessions.session_of (sessions.reasserted t.state.sessions (sender m.header) (life_in m.header)) (sender m.header)) m.header.life
             m.header.number
             ⊎ Refused m.header.from m.header.life m.header.number bd.Reasserted
         says true l = inl (reasserted_reached t.state.sessions (sender m.header) (life_in m.header) m.header.number (leb-true _ _ l))
-        says false l = inr (asserts t m rows r o bd.Reasserted (inl (let y = past_over m.header.number 1 l in omega (arith, y))))
+        says false l = inr (asserts t m rows r o bd.Reasserted (inl (let y = leb-false m.header.number 1 l in omega (arith, y))))
 
     serves : (t : ServerTurn) (m : Message) (u : ServerTurn) (b : Body) → edits.Served x now i t m → O u × (u.state.sessions ≡ t.state.sessions) →
         O (keep_and_reply u m.header b)
     unfolding keep_and_reply
     serves t m u b y r =
-        o_reply _ m.header b
+        served_after_reply _ m.header b
         (λ k n. inl (subst (λ l. IsBehind (sessions.session_of (sessions.store u.state.sessions (sender m.header) m.header.number b)
         (sender m.header)) l m.header.number) z.of_life
         (stored_reached u.state.sessions (sender m.header) m.header.number b z.session found next)))
-        (o_sessions u _ (on_stored u.state.sessions (sender m.header) m.header.number b (λ w j. subst
+        (served_after_sessions u _ (on_stored u.state.sessions (sender m.header) m.header.number b (λ w j. subst
         (λ (v : Session). FreshState m.header.number v.state) (some_is (sym found ∙ j)) next)) r.0)
       where
         z : edits.InLife t m.header
@@ -365,26 +344,28 @@ module _ (s : ServerId) (e : Epoch) (i : ServerInput) (before : sessions.Session
 
     served_edit : (a : Phase) (t u : ServerTurn) → Edit x now i a t u → O t → O u
     unfolding suspect_client
-    served_edit a t u (TakesTimers _ e) o = o_state t _ refl refl refl o
-    served_edit a t u (Steals _ c y h e) o = o_steal t c y o
-    served_edit a t u (Welcomes _ m y g e k f) o = o_reply t m.header _ (λ q n. absurd q) o
-    served_edit a t u (Begins _ m g f) o = o_reply _ m.header _ (λ q n. absurd q) (begins t (sender m.header) (life_in m.header) (λ y h. (f y h).1) o)
+    served_edit a t u (TakesTimers _ e) o = served_after_state t _ refl refl refl o
+    served_edit a t u (Steals _ c y h e) o = served_after_steal t c y o
+    served_edit a t u (Welcomes _ m y g e k f) o = served_after_reply t m.header _ (λ q n. absurd q) o
+    served_edit a t u (Begins _ m g f) o = served_after_reply _ m.header _ (λ q n. absurd q)
+        (begins t (sender m.header) (life_in m.header) (λ y h. (f y h).1) o)
     served_edit a t u (Replaces _ m y g e k f r) o =
-        o_reply _ m.header _ (λ q n. absurd q)
-        (o_state (with_sessions (sessions.with_new_session (sender m.header) (life_in m.header) t.state.sessions) t) _ refl refl refl
+        served_after_reply _ m.header _ (λ q n. absurd q)
+        (served_after_state (with_sessions (sessions.with_new_session (sender m.header) (life_in m.header) t.state.sessions) t) _ refl refl refl
         (begins t (sender m.header) (life_in m.header) (λ z h. subst (λ (v : Session). v.life.0 < m.header.life) (some_is (sym e ∙ h)) f) o))
     served_edit a t u (PutsOff _ m y g e k f r) o =
-        o_reply _ m.header _ (λ q n. absurd q) (o_state (note t (notes.Suspected (sender m.header) now)) _ refl refl refl (o_note t _ o))
-    served_edit a t u (Sees _ m ino g h b e) o = o_state t _ refl refl refl o
+        served_after_reply _ m.header _ (λ q n. absurd q)
+        (served_after_state (note t (notes.Suspected (sender m.header) now)) _ refl refl refl (served_after_note t _ o))
+    served_edit a t u (Sees _ m ino g h b e) o = served_after_state t _ refl refl refl o
     served_edit a t u (Reasserts _ m rows r on f) o = reasserts t m rows r on o
-    served_edit a t u (Serves _ m v b y e r) o = serves t m v b y (ruled O o_state o_note now t m.header m.body v b r o)
+    served_edit a t u (Serves _ m v b y e r) o = serves t m v b y (ruled O served_after_state served_after_note now t m.header m.body v b r o)
     served_edit a t u (Repeats _ m y b k e f g q) o =
-        o_reply t m.header b (λ d n. inl (subst (λ z. IsBehind z m.header.life m.header.number) (sym f)
+        served_after_reply t m.header b (λ d n. inl (subst (λ z. IsBehind z m.header.life m.header.number) (sym f)
         (inr (sym g, subst (Reached m.header.number) (sym q) (omega arith))))) o
-    served_edit a t u (Refuses _ m b r) o = o_reply t m.header b (refused_tells t m b r o) o
-    served_edit a t u (Suspects _ c r is q f h e k) o = o_state (note t (notes.Suspected c now)) _ refl refl refl (o_note t _ o)
-    served_edit a t u (Grants _ w off h e f) o = o_tell _ w.client w.life _ (o_state t _ refl refl refl o)
-    served_edit a t u (Demands _ w r y e k f q d) o = o_tell _ r.client r.life _ (o_state t _ refl refl refl o)
+    served_edit a t u (Refuses _ m b r) o = served_after_reply t m.header b (refused_tells t m b r o) o
+    served_edit a t u (Suspects _ c r is q f h e k) o = served_after_state (note t (notes.Suspected c now)) _ refl refl refl (served_after_note t _ o)
+    served_edit a t u (Grants _ w off h e f) o = served_after_tell _ w.client w.life _ (served_after_state t _ refl refl refl o)
+    served_edit a t u (Demands _ w r y e k f q d) o = served_after_tell _ r.client r.life _ (served_after_state t _ refl refl refl o)
 
   -- The whole step.
   pub served : (x : ServerState) (now : Stamp) → InputNew (thefts (turn x []) now) now i → O (turn x []) → O (server_step x now i)

@@ -1,17 +1,11 @@
 -- What a client receives, is asked and loses is made of changes that submit nothing and change no page.
-use Rattle.std.proofs.Common.{◌≡◌, ℕ, ◌<◌, Bool, true, false, List, ◌++◌, ◌∷◌, [], Option, Some, None, refl, if◌then◌else◌}
-use Rattle.std.specs.Prelude.{map}
-use Rattle.st_base.specs.declared.ids.Stamp.{Stamp}
-use Rattle.st_messages.specs.declared.answer.AppAnswer.{AppAnswer}
-use Rattle.st_messages.specs.declared.output.Output.{Output}
-use Rattle.st_messages.specs.declared.output.Output.TheVariants as outputs
-use Rattle.st_rules.specs.declared.client.CleanPage.{CleanPage}
-use Rattle.st_rules.specs.declared.client.KnownExtent.{KnownExtent}
-use Rattle.st_rules.specs.declared.client.LostPage.{LostPage}
-use Rattle.st_rules.specs.declared.client.Operation.{Operation}
-use Rattle.st_rules.specs.ClientLease as lease
-use Rattle.st_rules.specs.ClientPages as pages
-use Rattle.st_rules.specs.ClientState.{ClientSession, Turn, answer_each, answer_to, answered, keep, say, with_lost_rows, with_operations, with_session, with_store}
+use Rattle.st_lemmas.proofs.Words
+use Words.{◌≡◌, ℕ, ◌<◌, Bool, true, false, List, ◌++◌, ◌∷◌, [], Option, Some, None, refl, if◌then◌else◌, map, Stamp, AppAnswer, Output, CleanPage, KnownExtent}
+use Words.{LostPage, Operation}
+use Words.outputs
+use Words.ClientLease as lease
+use Words.ClientPages as pages
+use Words.ClientState.{ClientSession, Turn, answer_each, answer_to, answered, keep, say, with_lost_rows, with_operations, with_session, with_store}
 use Rattle.st_laws_steps.specs.Client.Client as client
 use Rattle.st_laws_steps.specs.Client.Client.{Change, GoesOn, IsBegun, Plain, Unasked, Unhard, UnhardAnswer, with_greeted}
 use Rattle.st_laws_steps.proofs.Client.Only.{Only, all, joined, single, Ends}
@@ -85,12 +79,12 @@ Learns {now} t e a b = single (IsCalm true) now t _ (client.Learns t e a b) refl
 pub Caches : {now : Stamp} (t : Turn) (clean : List CleanPage) → Changes false now t (with_store (record t.here.store { pages = record t.here.store.pages { clean = clean } }) t)
 Caches {now} t clean = single (IsCalm false) now t _ (client.Caches t clean) refl
 
-pub k_keep : {receives : Bool} {now : Stamp} (t : Turn) (o : Operation) → Changes receives now t (keep o t)
-k_keep t o = Operates t (t.operations ++ o ∷ [])
+pub changes_by_keeping : {receives : Bool} {now : Stamp} (t : Turn) (o : Operation) → Changes receives now t (keep o t)
+changes_by_keeping t o = Operates t (t.operations ++ o ∷ [])
 
-pub k_answer : {receives : Bool} {now : Stamp} (t : Turn) (op : ℕ) (a : AppAnswer) → UnhardAnswer a → Changes receives now t (answered t op a)
-k_answer t op a q = Says t (outputs.Answer op a) tt q
+pub changes_by_answer : {receives : Bool} {now : Stamp} (t : Turn) (op : ℕ) (a : AppAnswer) → UnhardAnswer a → Changes receives now t (answered t op a)
+changes_by_answer t op a q = Says t (outputs.Answer op a) tt q
 
-pub k_each : {receives : Bool} {now : Stamp} (picked : Operation → Bool) (a : AppAnswer) (t : Turn) → UnhardAnswer a → Changes receives now t (answer_each picked a t)
+pub changes_by_each_answer : {receives : Bool} {now : Stamp} (picked : Operation → Bool) (a : AppAnswer) (t : Turn) → UnhardAnswer a → Changes receives now t (answer_each picked a t)
 unfolding answer_each
-k_each picked a t q = Answers t _ _ a q
+changes_by_each_answer picked a t q = Answers t _ _ a q

@@ -1,12 +1,9 @@
 -- A client's rules as lists of changes: how lists are put together.
-use Rattle.std.proofs.Common.{◌≡◌, ◌≤◌, ℕ, List, [], ◌∷◌, ◌++◌, refl, ap, sym, ◌∙◌, inl, arith, if◌then◌else◌}
-use Rattle.st_base.specs.declared.ids.Stamp.{Stamp}
-use Rattle.st_messages.specs.declared.answer.AppAnswer.{AppAnswer}
-use Rattle.st_rules.specs.declared.client.KnownExtent.{KnownExtent}
-use Rattle.st_rules.specs.declared.client.Operation.{Operation}
-use Rattle.st_rules.specs.ClientPages.{Store}
-use Rattle.st_rules.specs.ClientState.{ClientSession, Requests, Turn, keep, answered}
-use Rattle.st_laws_steps.specs.Client.Client.{Asks, GoesOn, Change, Says, Operates, Changes, Still, Then, map_asked}
+use Rattle.st_lemmas.proofs.Words
+use Words.{◌≡◌, ◌≤◌, List, ◌∷◌, ◌++◌, refl, ap, sym, ◌∙◌, inl, arith, if◌then◌else◌, Stamp, KnownExtent}
+use Words.ClientPages.{Store}
+use Words.ClientState.{ClientSession, Requests, Turn, keep}
+use Rattle.st_laws_steps.specs.Client.Client.{Asks, GoesOn, Change, Changes, Still, Then, map_asked}
 use Rattle.st_laws_steps.specs.Client.Session.{AsksNothing, Keeps, LocksStay}
 
 pub one : {now : Stamp} {t u : Turn} → Change now t u → Changes now t u

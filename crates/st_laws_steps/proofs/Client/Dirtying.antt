@@ -1,30 +1,23 @@
 -- Changes leave dirty what is dirty; and each page that they note as changed is dirty, under a lease that is not over.
-use Rattle.std.proofs.Common.{◌≡◌, ℕ, ◌+◌, ◌<◌, Bool, true, false, List, [], ◌∷◌, ◌++◌, Option, Some, None, refl, sym, ap, ◌∙◌, subst, arith, if◌then◌else◌}
-use Rattle.std.specs.Prelude.{find, map, nat_le}
-use Rattle.std.proofs.lemmas.Bool.{leb-false}
-use Rattle.st_base.specs.declared.config.Config.{Config}
-use Rattle.st_base.specs.declared.ids.FileId.{FileId}
-use Rattle.st_base.specs.declared.ids.PageNo.{PageNo}
-use Rattle.st_base.specs.declared.ids.Stamp.{Stamp}
-use Rattle.st_messages.specs.declared.answer.AppAnswer.{AppAnswer}
-use Rattle.st_messages.specs.declared.output.Note.{Note}
-use Rattle.st_messages.specs.declared.output.Note.TheVariants as notes
-use Rattle.st_messages.specs.declared.output.Output.{Output}
-use Rattle.st_messages.specs.declared.output.Output.TheVariants as outputs
-use Rattle.st_rules.specs.declared.lease.Phase.TheVariants as phases
-use Rattle.st_rules.specs.declared.pages.DirtyPage.{DirtyPage}
-use Rattle.st_rules.specs.declared.client.Operation.{Operation}
-use Rattle.st_rules.specs.Keys.{put}
-use Rattle.st_rules.specs.Leases as leases
-use Rattle.st_rules.specs.ClientLease as lease
-use Rattle.st_rules.specs.ClientPages as pages
-use Rattle.st_rules.specs.ClientPasses as cp
-use Rattle.st_rules.specs.ClientState.{ClientSession, Association, Turn, answer_to, is_serving}
+use Rattle.st_lemmas.proofs.Words
+use Words.{◌≡◌, ℕ, ◌+◌, ◌<◌, Bool, true, false, List, [], ◌∷◌, ◌++◌, Option, Some, None, refl, sym, ap, ◌∙◌, subst, arith, if◌then◌else◌, find, map, nat_le}
+use Words.{leb-false, Config, FileId, PageNo, Stamp, AppAnswer, Note, Output, DirtyPage, Operation, append_assoc}
+use Words.notes
+use Words.outputs
+use Words.phases
+use Words.Keys.{put}
+use Words.Leases as leases
+use Words.ClientLease as lease
+use Words.ClientPages as pages
+use Words.ClientPasses as cp
+use Words.ClientState.{ClientSession, Association, Turn, answer_to, is_serving}
+use Words.Lengths.{nothing_after}
 use Rattle.st_lemmas.proofs.Contents.{Place_is, self_place}
-use Rattle.st_laws_steps.specs.Client.Client.{Plain, PlainNote, ChangesPage, Change, Says, Operates, Answers, Greets, TellsLost, Begins, Follows, Learns, Forgets, Caches, Writes, Reads, Submits, Changes, Still, Then}
+use Rattle.st_laws_steps.specs.Client.Client.{Plain, PlainNote, ChangesPage, Change, Says, Operates, Answers, Greets, TellsLost, Begins, Follows, Learns}
+use Rattle.st_laws_steps.specs.Client.Client.{Forgets, Caches, Writes, Reads, Submits, Changes, Still, Then}
 use Rattle.st_laws_steps.specs.Client.Losses.{SessionNext}
 use Rattle.st_laws_steps.specs.Client.Notes.{NoteAt, NotesAll, IsChanged, StaysDirty}
-use Rattle.st_laws_steps.proofs.Client.Nexts.{Next, next_then, changes_next, change_next, dirty_put, empty_right, append_assoc}
+use Rattle.st_laws_steps.proofs.Client.Nexts.{Next, next_then, changes_next, change_next, dirty_put}
 
 pub notes_both : (Q : FileId → PageNo → Type 0) (os ps : List Output) → NotesAll Q os → NotesAll Q ps → NotesAll Q (os ++ ps)
 notes_both Q [] ps a b = b
@@ -124,15 +117,15 @@ written_here ps ino p bytes = dirty_put (pages.new_dirty ps ino p bytes) ps.dirt
 change_dirty : (now : Stamp) (t u : Turn) → Change now t u → Dirtied now t u
 unfolding cp.submit_read cp.submit_write cp.submit_command pages.forget_from pages.drop_from
 change_dirty now t _ (Says _ o p) = record { next = change_next now t _ (Says t o p); dirty = same_dirty t.here; more = o ∷ []; out = refl; noted = record { one = plain_note _ o p; rest = record {} } }
-change_dirty now t _ (Operates _ os) = record { next = change_next now t _ (Operates t os); dirty = same_dirty t.here; more = []; out = empty_right t.out; noted = record {} }
+change_dirty now t _ (Operates _ os) = record { next = change_next now t _ (Operates t os); dirty = same_dirty t.here; more = []; out = nothing_after t.out; noted = record {} }
 change_dirty now t _ (Answers _ os ops a) = record { next = change_next now t _ (Answers t os ops a); dirty = same_dirty t.here; more = _; out = refl; noted = answers_notes _ a ops }
-change_dirty now t _ (Greets _ g) = record { next = change_next now t _ (Greets t g); dirty = λ ino p d e. (d, e); more = []; out = empty_right t.out; noted = record {} }
-change_dirty now t _ (TellsLost _ lost) = record { next = change_next now t _ (TellsLost t lost); dirty = λ ino p d e. (d, e); more = []; out = empty_right t.out; noted = record {} }
-change_dirty now t _ (Begins _ s e b n) = record { next = change_next now t _ (Begins t s e b n); dirty = λ ino p d e. (d, e); more = []; out = empty_right t.out; noted = record {} }
-change_dirty now t _ (Follows _ s u e g) = record { next = change_next now t _ (Follows t s u e g); dirty = λ ino p d e. (d, e); more = []; out = empty_right t.out; noted = record {} }
-change_dirty now t _ (Learns _ e u h) = record { next = change_next now t _ (Learns t e u h); dirty = λ ino p d e. (d, e); more = []; out = empty_right t.out; noted = record {} }
-change_dirty now t _ (Forgets _ ino p i) = record { next = change_next now t _ (Forgets t ino p i); dirty = λ ino p d e. (d, e); more = []; out = empty_right t.out; noted = record {} }
-change_dirty now t _ (Caches _ clean) = record { next = change_next now t _ (Caches t clean); dirty = λ ino p d e. (d, e); more = []; out = empty_right t.out; noted = record {} }
+change_dirty now t _ (Greets _ g) = record { next = change_next now t _ (Greets t g); dirty = λ ino p d e. (d, e); more = []; out = nothing_after t.out; noted = record {} }
+change_dirty now t _ (TellsLost _ lost) = record { next = change_next now t _ (TellsLost t lost); dirty = λ ino p d e. (d, e); more = []; out = nothing_after t.out; noted = record {} }
+change_dirty now t _ (Begins _ s e b n) = record { next = change_next now t _ (Begins t s e b n); dirty = λ ino p d e. (d, e); more = []; out = nothing_after t.out; noted = record {} }
+change_dirty now t _ (Follows _ s u e g) = record { next = change_next now t _ (Follows t s u e g); dirty = λ ino p d e. (d, e); more = []; out = nothing_after t.out; noted = record {} }
+change_dirty now t _ (Learns _ e u h) = record { next = change_next now t _ (Learns t e u h); dirty = λ ino p d e. (d, e); more = []; out = nothing_after t.out; noted = record {} }
+change_dirty now t _ (Forgets _ ino p i) = record { next = change_next now t _ (Forgets t ino p i); dirty = λ ino p d e. (d, e); more = []; out = nothing_after t.out; noted = record {} }
+change_dirty now t _ (Caches _ clean) = record { next = change_next now t _ (Caches t clean); dirty = λ ino p d e. (d, e); more = []; out = nothing_after t.out; noted = record {} }
 change_dirty now t _ (Writes _ s f p bytes n e sv own m h) =
     record {
       next = change_next now t _ (Writes t s f p bytes n e sv own m h);
@@ -145,5 +138,5 @@ change_dirty now t _ (Reads _ ino p m i clean) = record { next = change_next now
 change_dirty now t _ (Submits _ s ino p d m e i k w) = record { next = change_next now t _ (Submits t s ino p d m e i k w); dirty = λ ino p d e. (d, e); more = _; out = refl; noted = record { one = tt; rest = record {} } }
 
 pub changes_dirty : (now : Stamp) (t u : Turn) → Changes now t u → Dirtied now t u
-changes_dirty now t _ (Still _) = record { next = changes_next now t t (Still t); dirty = same_dirty t.here; more = []; out = empty_right t.out; noted = record {} }
+changes_dirty now t _ (Still _) = record { next = changes_next now t t (Still t); dirty = same_dirty t.here; more = []; out = nothing_after t.out; noted = record {} }
 changes_dirty now t _ (Then _ u v c cs) = dirtied_then now t u v (change_dirty now t u c) (changes_dirty now u v cs)

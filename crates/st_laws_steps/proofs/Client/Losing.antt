@@ -1,31 +1,23 @@
 -- A client's losses, its applications' asks and the ends of its commands, as changes.
-use Rattle.std.proofs.Common.{◌≡◌, ℕ, ◌+◌, Bool, true, false, ◌&&◌, ◌||◌, List, [], ◌∷◌, ◌==◌, Option, Some, None, refl, sym, ap, ◌∙◌, subst, if◌then◌else◌}
-use Rattle.std.specs.Prelude.{find, is_some, nat_le, unwrap_or, option_map}
-use Rattle.std.proofs.lemmas.Bool.{eqb-true, eq-eqb}
-use Rattle.st_base.specs.declared.config.Config.{Config}
-use Rattle.st_base.specs.declared.disk.Tag.{Tag}
-use Rattle.st_base.specs.declared.ids.ServerId.{ServerId}
-use Rattle.st_base.specs.declared.ids.Stamp.{Stamp}
-use Rattle.st_messages.specs.declared.ask.Ask.{Ask}
-use Rattle.st_messages.specs.declared.ask.Ask.TheVariants as asks
-use Rattle.st_messages.specs.declared.answer.AppAnswer.TheVariants as answers
-use Rattle.st_messages.specs.declared.output.Note.TheVariants as notes
-use Rattle.st_rules.specs.declared.lease.Phase.TheVariants as phases
-use Rattle.st_rules.specs.declared.pages.DirtyPage.{DirtyPage}
-use Rattle.st_rules.specs.declared.client.Ended.TheVariants as ends
-use Rattle.st_rules.specs.declared.client.IoKind.{IoKind}
-use Rattle.st_rules.specs.declared.client.IoKind.TheVariants as io
-use Rattle.st_rules.specs.declared.client.Operation.{Operation}
-use Rattle.st_rules.specs.declared.client.PageCommand.{PageCommand}
-use Rattle.st_rules.specs.Leases as leases
-use Rattle.st_rules.specs.ClientLease as lease
-use Rattle.st_rules.specs.ClientPages as pages
-use Rattle.st_rules.specs.Client as cl
-use Rattle.st_rules.specs.ClientState.{ClientSession, Turn, note, is_at, is_sent, only_at, new_operation}
+use Rattle.st_lemmas.proofs.Words
+use Words.{◌≡◌, ℕ, ◌+◌, Bool, true, false, ◌&&◌, ◌||◌, List, [], ◌∷◌, ◌==◌, Option, Some, None, refl, sym, ap, ◌∙◌, subst, if◌then◌else◌, is_some, nat_le}
+use Words.{unwrap_or, option_map, eqb-true, eq-eqb, Config, Tag, ServerId, Stamp, Ask, DirtyPage, IoKind, Operation, PageCommand}
+use Words.asks
+use Words.answers
+use Words.notes
+use Words.phases
+use Words.ends
+use Words.io
+use Words.Leases as leases
+use Words.ClientLease as lease
+use Words.ClientPages as pages
+use Words.Client as cl
+use Words.ClientState.{ClientSession, Turn, note, is_at, is_sent, only_at, new_operation}
+use Words.Truth.{not_both}
+use Words.Versions.{command_number}
 use Rattle.st_laws_steps.specs.Client.Client as client
 use Rattle.st_laws_steps.specs.Client.Losses.{is_ended, Loses, Lasts, IsLost, IsOutdated, without, Ends, Unknown, Passes, Hardens, Fails}
-use Rattle.st_laws_steps.proofs.Clash.{clash}
-use Rattle.st_laws_steps.proofs.Client.Calm.{changes, Operates, Caches, TellsLost, Changes, Still, one, both, if_changes, k_keep, k_answer, k_each}
+use Rattle.st_laws_steps.proofs.Client.Calm.{changes, Operates, Caches, TellsLost, Changes, Still, one, both, if_changes, changes_by_keeping, changes_by_answer, changes_by_each_answer}
 
 -- a lease is over from its end on
 pub over_is : (k : Config) (l : lease.ClientLease) (now : Stamp) → lease.must_discard (lease.standing_of k l now) ≡ nat_le (lease.end_of k l).0 now.0
@@ -52,30 +44,32 @@ module _ (now : Stamp) where
   abbrev C : Turn → Turn → Type 0
   C t u = Changes false now t u
 
-  c_tell : (t : Turn) (op ino : ℕ) → C t (cl.tell_lost t op ino)
+  changes_by_tell : (t : Turn) (op ino : ℕ) → C t (cl.tell_lost t op ino)
   unfolding cl.tell_lost
-  c_tell t op ino = both (one (TellsLost t (pages.untold t.here.lost ino))) (k_answer _ op _ tt)
+  changes_by_tell t op ino = both (one (TellsLost t (pages.untold t.here.lost ino))) (changes_by_answer _ op _ tt)
 
-  c_end : (t : Turn) (s : ClientSession) (o : Operation) → C t (cl.end_operation t s o)
+  changes_by_end : (t : Turn) (s : ClientSession) (o : Operation) → C t (cl.end_operation t s o)
   unfolding cl.end_operation cl.end_unsent cl.end_sync
-  c_end t s o = if_changes (is_sent o) t _ _ (λ e. k_answer t o.op _ tt) (λ e. unsent o.ask)
+  changes_by_end t s o = if_changes (is_sent o) t _ _ (λ e. changes_by_answer t o.op _ tt) (λ e. unsent o.ask)
     where
       unsent : (a : Ask) → C t (cl.end_unsent t o a)
-      unsent (asks.Sync f) = if_changes (pages.has_lost t.here.lost f.ino) t _ _ (λ e. c_tell t o.op f.ino) (λ e. k_answer t o.op _ tt)
-      unsent a = k_answer t o.op _ tt
+      unsent (asks.Sync f) = if_changes (pages.has_lost t.here.lost f.ino) t _ _ (λ e. changes_by_tell t o.op f.ino) (λ e. changes_by_answer t o.op _ tt)
+      unsent a = changes_by_answer t o.op _ tt
 
-  pub c_end_each : (s : ClientSession) (os : List Operation) (t : Turn) → C t (cl.end_each s os t)
+  pub changes_by_end_each : (s : ClientSession) (os : List Operation) (t : Turn) → C t (cl.end_each s os t)
   unfolding cl.end_each
-  c_end_each s [] t = Still t
-  c_end_each s (o ∷ os) t = both (c_end t s o) (c_end_each s os (cl.end_operation t s o))
+  changes_by_end_each s [] t = Still t
+  changes_by_end_each s (o ∷ os) t = both (changes_by_end t s o) (changes_by_end_each s os (cl.end_operation t s o))
 
   pub lose_is : (t : Turn) → Loses now t (cl.lose now t)
   unfolding cl.lose cl.lose_by cl.lose_over cl.lose_session cl.end_operations
   lose_is t = go t.here.session refl
     where
-      by : (s : ClientSession) (b : Bool) → t.here.session ≡ Some s → cl.is_over t s now ≡ b → is_ended t.config now t.here.session ≡ b → Loses now t (if b then cl.lose_session t s else t)
+      by : (s : ClientSession) (b : Bool) → t.here.session ≡ Some s → cl.is_over t s now ≡ b → is_ended t.config now t.here.session ≡ b →
+          Loses now t (if b then cl.lose_session t s else t)
       by s true e o i =
-          IsLost s e i _ (changes (both (one (TellsLost (note t (notes.Lost t.here.server t.here.life)) _)) (both (one (Operates _ _)) (c_end_each s _ _))))
+          IsLost s e i _
+          (changes (both (one (TellsLost (note t (notes.Lost t.here.server t.here.life)) _)) (both (one (Operates _ _)) (changes_by_end_each s _ _))))
       by s false e o i = Lasts i
 
       go : (x : Option ClientSession) → t.here.session ≡ x → Loses now t (cl.lose_by t now x)
@@ -83,29 +77,18 @@ module _ (now : Stamp) where
       go (Some s) e = by s (cl.is_over t s now) e refl (ap (is_ended t.config now) e ∙ sym (over_is t.config s.lease now))
 
   -- an ask
-  pub c_take : (op : ℕ) (ask : Ask) (t : Turn) → C t (cl.take_ask op ask t)
+  pub changes_by_take : (op : ℕ) (ask : Ask) (t : Turn) → C t (cl.take_ask op ask t)
   unfolding cl.take_ask cl.take_by cl.take_sync cl.enqueue
-  c_take op ask t = go ask
+  changes_by_take op ask t = go ask
     where
       go : (a : Ask) → C t (cl.take_by t op ask a)
-      go (asks.Sync f) = if_changes (pages.has_lost t.here.lost f.ino) t _ _ (λ e. c_tell t op f.ino) (λ e. k_keep t (new_operation op ask))
-      go a = k_keep t (new_operation op ask)
+      go (asks.Sync f) = if_changes (pages.has_lost t.here.lost f.ino) t _ _ (λ e. changes_by_tell t op f.ino)
+          (λ e. changes_by_keeping t (new_operation op ask))
+      go a = changes_by_keeping t (new_operation op ask)
 
   pub calm_only : (s : ServerId) (op : ℕ) (ask : Ask) (t : Turn) → C t (only_at s (cl.take_ask op ask) t)
   unfolding only_at
-  calm_only s op ask t = if_changes (is_at s t.here) t _ _ (λ e. c_take op ask t) (λ e. Still t)
-
--- a command that is found has its number
-command_number : (cs : List PageCommand) (n : ℕ) (c : PageCommand) → pages.command_of cs n ≡ Some c → c.number ≡ n
-command_number [] n c e = cc
-command_number (x ∷ xs) n c e = go (x.number == n) refl e (command_number xs n c)
-  where
-    go : (b : Bool) → (x.number == n) ≡ b → (if b then Some x else find (pages.is_numbered n) xs) ≡ Some c → (find (pages.is_numbered n) xs ≡ Some c → c.number ≡ n) → c.number ≡ n
-    go true q e f = ap (λ (z : PageCommand). z.number) (sym (inj e)) ∙ eqb-true x.number n q
-      where
-        inj : Some x ≡ Some c → x ≡ c
-        inj z = cc
-    go false q e f = f e
+  calm_only s op ask t = if_changes (is_at s t.here) t _ _ (λ e. changes_by_take op ask t) (λ e. Still t)
 
 -- How the end of a command is a change of pages, and then changes.
 pub record Finished (now : Stamp) (number : ℕ) (ok : Bool) (t u : Turn) : Type 0 where
@@ -124,13 +107,16 @@ abbrev pub is_done : Option (Option (Tag × List ℕ)) → Bool
 is_done None = false
 is_done (Some block) = true
 
-version_is : (ps : pages.Pages) (ino : ℕ) (p : Rattle.st_base.specs.declared.ids.PageNo.PageNo) (d : DirtyPage) → pages.dirty_of ps ino p ≡ Some d → pages.version_of ps ino p ≡ d.version
+version_is : (ps : pages.Pages) (ino : ℕ) (p : Rattle.st_base.specs.declared.ids.PageNo.PageNo) (d : DirtyPage) → pages.dirty_of ps ino p ≡ Some d →
+    pages.version_of ps ino p ≡ d.version
 version_is ps ino p d e = ap (λ o. unwrap_or (option_map pages.version_of_dirty o) 0) e
 
-end_is : (now : Stamp) (number : ℕ) (ok : Bool) (t : Turn) (c : PageCommand) (block : Option (Tag × List ℕ)) → pages.command_of t.here.store.commands number ≡ Some c → Finished now number ok t (cl.finish_command t c ok block)
+end_is : (now : Stamp) (number : ℕ) (ok : Bool) (t : Turn) (c : PageCommand) (block : Option (Tag × List ℕ)) →
+    pages.command_of t.here.store.commands number ≡ Some c → Finished now number ok t (cl.finish_command t c ok block)
 unfolding cl.finish_command cl.ended_by cl.finish_as cl.filled_by cl.failed_as cl.mark_failed pages.end_command pages.end_at pages.fill
 end_is now number ok t c block e =
-    subst (λ m. Finished now number ok t (cl.ended_by t c block (pages.end_at t.here.store.commands m ok version (pages.command_of t.here.store.commands m)))) (sym n)
+    subst (λ m. Finished now number ok t (cl.ended_by t c block (pages.end_at t.here.store.commands m ok version (pages.command_of t.here.store.commands m))))
+    (sym n)
     (subst (λ o. Finished now number ok t (cl.ended_by t c block (pages.end_at t.here.store.commands number ok version o))) (sym e) (by_ok ok refl))
   where
     n : c.number ≡ number
@@ -156,42 +142,56 @@ end_is now number ok t c block e =
     filled r (Some b) = record { mid = u; ends = Passes c e (read_apart r); calm = one (Caches u _) }
 
     outdated : (v : ℕ) → c.kind ≡ io.Write v → (v == version) ≡ false → IsOutdated t c
-    outdated v k f w d q i r = clash (v == version) (eq-eqb v version (kind_is v w (sym k ∙ q) ∙ sym r ∙ sym (version_is t.here.store.pages c.ino c.page d i))) f
+    outdated v k f w d q i r = not_both (v == version) (eq-eqb v version (kind_is v w (sym k ∙ q) ∙ sym r ∙ sym (version_is t.here.store.pages c.ino c.page d i)))
+        f
 
-    written : (v : ℕ) → c.kind ≡ io.Write v → ok ≡ true → (b : Bool) → (v == version) ≡ b → Finished now number ok t (cl.finish_as u c block (if b then ends.Hard else ends.Redirty))
+    written : (v : ℕ) → c.kind ≡ io.Write v → ok ≡ true → (b : Bool) → (v == version) ≡ b →
+        Finished now number ok t (cl.finish_as u c block (if b then ends.Hard else ends.Redirty))
     written v k o true f = record { mid = cl.hardened u c; ends = Hardens c v e o k (sym (eqb-true v version f)); calm = Still _ }
     written v k o false f = record { mid = u; ends = Passes c e (outdated v k f); calm = Still u }
 
     failed : (v : ℕ) → c.kind ≡ io.Write v → ok ≡ false → (b : Bool) → cl.is_present u c v ≡ b → Finished now number ok t (cl.failed_as u c (io.Write v))
     failed v k o true f =
-        subst (λ b. Finished now number ok t (Rattle.st_rules.specs.ClientState.answer_each (cl.waits_for_write u c) (answers.DiskFault c.number) (if b then cl.with_failed c u else u))) (sym f)
-        (record { mid = cl.with_failed c u; ends = Fails c v e o k; calm = k_each (cl.waits_for_write u c) (answers.DiskFault c.number) (cl.with_failed c u) tt })
+        subst (λ b. Finished now number ok t
+        (Rattle.st_rules.specs.ClientState.answer_each (cl.waits_for_write u c) (answers.DiskFault c.number) (if b then cl.with_failed c u else u))) (sym f)
+        (record {
+          mid = cl.with_failed c u;
+          ends = Fails c v e o k;
+          calm =
+              changes_by_each_answer (cl.waits_for_write u c) (answers.DiskFault c.number) (cl.with_failed c u) tt;
+        })
     failed v k o false f =
-        subst (λ b. Finished now number ok t (Rattle.st_rules.specs.ClientState.answer_each (cl.waits_for_write u c) (answers.DiskFault c.number) (if b then cl.with_failed c u else u))) (sym f)
-        (record { mid = u; ends = Passes c e absent; calm = k_each (cl.waits_for_write u c) (answers.DiskFault c.number) u tt })
+        subst (λ b. Finished now number ok t
+        (Rattle.st_rules.specs.ClientState.answer_each (cl.waits_for_write u c) (answers.DiskFault c.number) (if b then cl.with_failed c u else u))) (sym f)
+        (record { mid = u; ends = Passes c e absent; calm = changes_by_each_answer (cl.waits_for_write u c) (answers.DiskFault c.number) u tt })
       where
         absent : IsOutdated t c
         absent w d q i r =
-            clash (cl.is_present u c v)
+            not_both (cl.is_present u c v)
             (ap (λ (z : Option DirtyPage). is_some z && (pages.version_of t.here.store.pages c.ino c.page == v)) i
-            ∙ eq-eqb (pages.version_of t.here.store.pages c.ino c.page) v (version_is t.here.store.pages c.ino c.page d i ∙ r ∙ sym (kind_is v w (sym k ∙ q)))) f
+            ∙ eq-eqb (pages.version_of t.here.store.pages c.ino c.page) v (version_is t.here.store.pages c.ino c.page d i ∙ r ∙ sym (kind_is v w (sym k ∙ q))))
+            f
 
-    kinds : (k : IoKind) → c.kind ≡ k → (b : Bool) → ok ≡ b → Finished now number ok t (cl.finish_as u c block (if b then pages.done_as k version else ends.Failed))
+    kinds : (k : IoKind) → c.kind ≡ k → (b : Bool) → ok ≡ b →
+        Finished now number ok t (cl.finish_as u c block (if b then pages.done_as k version else ends.Failed))
     kinds io.Read k true o = filled k block
     kinds (io.Write v) k true o = written v k o (v == version) refl
     kinds io.Read k false o =
-        subst (λ z. Finished now number ok t (cl.failed_as u c z)) (sym k) (record { mid = u; ends = Passes c e (read_apart k); calm = k_each (cl.waits_for_read u c) (answers.DiskFault c.number) u tt })
+        subst (λ z. Finished now number ok t (cl.failed_as u c z)) (sym k)
+        (record { mid = u; ends = Passes c e (read_apart k); calm = changes_by_each_answer (cl.waits_for_read u c) (answers.DiskFault c.number) u tt })
     kinds (io.Write v) k false o = subst (λ z. Finished now number ok t (cl.failed_as u c z)) (sym k) (failed v k o (cl.is_present u c v) refl)
 
     by_ok : (b : Bool) → ok ≡ b → Finished now number ok t (cl.finish_as u c block (pages.ended_as c ok version))
     by_ok true o = subst (λ b. Finished now number ok t (cl.finish_as u c block (pages.ended_as c b version))) (sym o) (kinds c.kind refl true o)
     by_ok false o = subst (λ b. Finished now number ok t (cl.finish_as u c block (pages.ended_as c b version))) (sym o) (kinds c.kind refl false o)
 
-pub finish_is : (now : Stamp) (number : ℕ) (result : Option (Option (Tag × List ℕ))) (t : Turn) → Finished now number (is_done result) t (cl.finish number result t)
+pub finish_is : (now : Stamp) (number : ℕ) (result : Option (Option (Tag × List ℕ))) (t : Turn) →
+    Finished now number (is_done result) t (cl.finish number result t)
 unfolding cl.finish cl.finish_at cl.finish_by cl.done_by
 finish_is now number result t = go (pages.command_of t.here.store.commands number) refl result
   where
-    go : (o : Option PageCommand) → pages.command_of t.here.store.commands number ≡ o → (r : Option (Option (Tag × List ℕ))) → Finished now number (is_done r) t (cl.finish_at t o r)
+    go : (o : Option PageCommand) → pages.command_of t.here.store.commands number ≡ o → (r : Option (Option (Tag × List ℕ))) →
+        Finished now number (is_done r) t (cl.finish_at t o r)
     go None e r = same_finished now number (is_done r) t
     go (Some c) e None = end_is now number false t c None e
     go (Some c) e (Some block) = at (cl.is_result_of c.kind block)
@@ -200,5 +200,5 @@ finish_is now number result t = go (pages.command_of t.here.store.commands numbe
         at true = end_is now number true t c block e
         at false = same_finished now number true t
 
-pub c_only : (now : Stamp) (s : ServerId) (op : ℕ) (ask : Ask) (t : Turn) → client.Changes now t (only_at s (cl.take_ask op ask) t)
-c_only now s op ask t = changes (calm_only now s op ask t)
+pub changes_by_only : (now : Stamp) (s : ServerId) (op : ℕ) (ask : Ask) (t : Turn) → client.Changes now t (only_at s (cl.take_ask op ask) t)
+changes_by_only now s op ask t = changes (calm_only now s op ask t)

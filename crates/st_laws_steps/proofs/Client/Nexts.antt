@@ -1,33 +1,24 @@
 -- What a list of changes leaves of an association: its server and life, its session or a later one, what fits, and no note of a loss.
-use Rattle.std.proofs.Common.{◌≡◌, ℕ, ◌⊎◌, Bool, true, false, not, ◌&&◌, List, [], ◌∷◌, ◌++◌, ◌==◌, Option, Some, None, refl, sym, ap, ◌∙◌, subst, inl, inr, arith, if◌then◌else◌}
-use Rattle.std.specs.Prelude.{find, filter, is_some, nat_le, map}
-use Rattle.std.specs.List.{list_any}
-use Rattle.std.proofs.lemmas.Bool.{eqb-true}
-use Rattle.st_base.specs.declared.config.Config.{Config}
-use Rattle.st_base.specs.declared.ids.FileId.{FileId}
-use Rattle.st_base.specs.declared.ids.PageNo.{PageNo}
-use Rattle.st_base.specs.declared.ids.Stamp.{Stamp}
-use Rattle.st_messages.specs.declared.answer.AppAnswer.{AppAnswer}
-use Rattle.st_messages.specs.declared.output.Note.{Note}
-use Rattle.st_messages.specs.declared.output.Note.TheVariants as notes
-use Rattle.st_messages.specs.declared.output.Output.{Output}
-use Rattle.st_messages.specs.declared.output.Output.TheVariants as outputs
-use Rattle.st_rules.specs.declared.pages.DirtyPage.{DirtyPage}
-use Rattle.st_rules.specs.declared.client.KnownExtent.{KnownExtent}
-use Rattle.st_rules.specs.declared.client.MappedBlock.{MappedBlock}
-use Rattle.st_rules.specs.declared.client.Operation.{Operation}
-use Rattle.st_rules.specs.Keys.{put, same_page}
-use Rattle.st_rules.specs.ClientPages as pages
-use Rattle.st_rules.specs.ClientPages.{Pages, Store}
-use Rattle.st_rules.specs.ClientPasses as cp
-use Rattle.st_rules.specs.ClientState.{ClientSession, Association, Turn, answer_to}
-use Rattle.st_lemmas.proofs.Lookups.{or_false, some_is}
+use Rattle.st_lemmas.proofs.Words
+use Words.{◌≡◌, ℕ, ◌⊎◌, Bool, true, false, not, ◌&&◌, List, [], ◌∷◌, ◌++◌, ◌==◌, Option, Some, None, refl, sym, ap, ◌∙◌, subst, inl, inr, arith, if◌then◌else◌}
+use Words.{find, filter, is_some, nat_le, map, list_any, eqb-true, Config, FileId, PageNo, Stamp, AppAnswer, Note, Output, DirtyPage, KnownExtent, MappedBlock}
+use Words.{Operation, append_assoc}
+use Words.notes
+use Words.outputs
+use Words.Keys.{put, same_page}
+use Words.ClientPages as pages
+use Words.ClientPages.{Pages, Store}
+use Words.ClientPasses as cp
+use Words.ClientState.{ClientSession, Association, Turn, answer_to}
+use Words.Lookups.{or_false, some_is}
+use Words.Tables.{and_true, not_true}
+use Words.Lengths.{nothing_after}
+use Words.Truth.{not_both}
 use Rattle.st_lemmas.proofs.Puts.{find_put_by, find_put_other}
 use Rattle.st_lemmas.proofs.Contents.{Place_is, one_place, other_place, find_stays}
-use Rattle.st_lemmas.proofs.Tables.{and_true, not_true}
-use Rattle.st_laws_steps.specs.Client.Client.{Plain, PlainNote, ChangesPage, GoesOn, Unasked, Change, Says, Operates, Answers, Greets, TellsLost, Begins, Follows, Learns, Forgets, Caches, Writes, Reads, Submits, Changes, Still, Then}
+use Rattle.st_laws_steps.specs.Client.Client.{Plain, PlainNote, ChangesPage, GoesOn, Unasked, Change, Says, Operates, Answers, Greets, TellsLost, Begins}
+use Rattle.st_laws_steps.specs.Client.Client.{Follows, Learns, Forgets, Caches, Writes, Reads, Submits, Changes, Still, Then}
 use Rattle.st_laws_steps.specs.Client.Losses.{AskedFresh, SessionFresh, SessionNext, Fit}
-use Rattle.st_laws_steps.proofs.Clash.{clash}
 
 -- no output notes a loss
 abbrev pub Unlost : Output → Type 0
@@ -84,16 +75,8 @@ session_then k now (Some a) None c x y = absurd x
 session_then k now (Some a) (Some b) None x y = absurd y
 session_then k now (Some a) (Some b) (Some c) x y = omega (arith, x, y)
 
-pub empty_right : (os : List Output) → os ≡ os ++ []
-empty_right [] = refl
-empty_right (o ∷ os) = ap (λ z. o ∷ z) (empty_right os)
-
-pub append_assoc : (os ps qs : List Output) → (os ++ ps) ++ qs ≡ os ++ (ps ++ qs)
-append_assoc [] ps qs = refl
-append_assoc (o ∷ os) ps qs = ap (λ z. o ∷ z) (append_assoc os ps qs)
-
 pub next_same : (now : Stamp) (t : Turn) → Next now t t
-next_same now t = record { id = refl; config = refl; server = refl; life = refl; session = session_same t.config now t.here.session; fit = λ f. f; more = []; out = empty_right t.out; unlost = record {} }
+next_same now t = record { id = refl; config = refl; server = refl; life = refl; session = session_same t.config now t.here.session; fit = λ f. f; more = []; out = nothing_after t.out; unlost = record {} }
 
 pub next_then : (now : Stamp) (t u v : Turn) → Next now t u → Next now u v → Next now t v
 next_then now t u v a b =
@@ -153,7 +136,7 @@ not_idle st ino p d e i = go st.pages.dirty e (not_true (pages.has_dirty st.page
     go (x ∷ xs) e n = at (pages.is_dirty_of ino p x) refl e (λ e n. go xs e n)
       where
         at : (b : Bool) → pages.is_dirty_of ino p x ≡ b → (if b then Some x else find (pages.is_dirty_of ino p) xs) ≡ Some d → (find (pages.is_dirty_of ino p) xs ≡ Some d → list_any (pages.is_dirty_on ino) xs ≡ false → ⊥) → ⊥
-        at true q e f = clash (x.ino == ino) (and_true (x.ino == ino) (same_page x.page p) q).0 (or_false (x.ino == ino) (list_any (pages.is_dirty_on ino) xs) n).0
+        at true q e f = not_both (x.ino == ino) (and_true (x.ino == ino) (same_page x.page p) q).0 (or_false (x.ino == ino) (list_any (pages.is_dirty_on ino) xs) n).0
         at false q e f = f e (or_false (x.ino == ino) (list_any (pages.is_dirty_on ino) xs) n).1
 
 -- what is found among fewer rows is found among all, by its place
@@ -259,10 +242,10 @@ plain_next now t u more i k s l e f o n =
 pub change_next : (now : Stamp) (t u : Turn) → Change now t u → Next now t u
 unfolding cp.submit_read cp.submit_write cp.submit_command
 change_next now t _ (Says _ o p) = plain_next now t _ (o ∷ []) refl refl refl refl refl (λ f. f) refl (record { one = plain_unlost o p; rest = record {} })
-change_next now t _ (Operates _ os) = plain_next now t _ [] refl refl refl refl refl (λ f. f) (empty_right t.out) (record {})
+change_next now t _ (Operates _ os) = plain_next now t _ [] refl refl refl refl refl (λ f. f) (nothing_after t.out) (record {})
 change_next now t _ (Answers _ os ops a) = plain_next now t _ _ refl refl refl refl refl (λ f. f) refl (answers_unlost a ops)
-change_next now t _ (Greets _ g) = plain_next now t _ [] refl refl refl refl refl (λ f. record { mapped = f.mapped; fresh = f.fresh }) (empty_right t.out) (record {})
-change_next now t _ (TellsLost _ lost) = plain_next now t _ [] refl refl refl refl refl (λ f. record { mapped = f.mapped; fresh = f.fresh }) (empty_right t.out) (record {})
+change_next now t _ (Greets _ g) = plain_next now t _ [] refl refl refl refl refl (λ f. record { mapped = f.mapped; fresh = f.fresh }) (nothing_after t.out) (record {})
+change_next now t _ (TellsLost _ lost) = plain_next now t _ [] refl refl refl refl refl (λ f. record { mapped = f.mapped; fresh = f.fresh }) (nothing_after t.out) (record {})
 change_next now t _ (Begins _ s e b n) =
     record {
       id = refl;
@@ -272,7 +255,7 @@ change_next now t _ (Begins _ s e b n) =
       session = subst (λ z. SessionNext t.config now z (Some s)) (sym e) b;
       fit = λ f. record { mapped = f.mapped; fresh = unasked_fresh t.here.store (Some s) (ap (λ (z : ClientSession). z.requests.asked) n.2) };
       more = [];
-      out = empty_right t.out;
+      out = nothing_after t.out;
       unlost = record {};
     }
 change_next now t _ (Follows _ s u e g) =
@@ -284,13 +267,13 @@ change_next now t _ (Follows _ s u e g) =
       session = subst (λ z. SessionNext t.config now z (Some u)) (sym e) g.date;
       fit = λ f. record { mapped = f.mapped; fresh = follow_fresh t.here.store s u g (subst (SessionFresh t.here.store) e f.fresh) };
       more = [];
-      out = empty_right t.out;
+      out = nothing_after t.out;
       unlost = record {};
     }
 change_next now t _ (Learns _ e u h) =
-    plain_next now t _ [] refl refl refl refl refl (λ f. record { mapped = λ j q d i. mapped_learn e t.here.store.extents j q h (f.mapped j q d i); fresh = unasked_fresh (record t.here.store { extents = pages.with_known e t.here.store.extents }) t.here.session u }) (empty_right t.out) (record {})
-change_next now t _ (Forgets _ ino p i) = plain_next now t _ [] refl refl refl refl refl (λ f. forget_fit t.here ino p i f) (empty_right t.out) (record {})
-change_next now t _ (Caches _ clean) = plain_next now t _ [] refl refl refl refl refl (λ f. record { mapped = f.mapped; fresh = fresh t.here.session f.fresh }) (empty_right t.out) (record {})
+    plain_next now t _ [] refl refl refl refl refl (λ f. record { mapped = λ j q d i. mapped_learn e t.here.store.extents j q h (f.mapped j q d i); fresh = unasked_fresh (record t.here.store { extents = pages.with_known e t.here.store.extents }) t.here.session u }) (nothing_after t.out) (record {})
+change_next now t _ (Forgets _ ino p i) = plain_next now t _ [] refl refl refl refl refl (λ f. forget_fit t.here ino p i f) (nothing_after t.out) (record {})
+change_next now t _ (Caches _ clean) = plain_next now t _ [] refl refl refl refl refl (λ f. record { mapped = f.mapped; fresh = fresh t.here.session f.fresh }) (nothing_after t.out) (record {})
   where
     fresh : (s : Option ClientSession) → SessionFresh t.here.store s → SessionFresh (record t.here.store { pages = record t.here.store.pages { clean = clean } }) s
     fresh None x = x

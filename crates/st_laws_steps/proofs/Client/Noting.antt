@@ -1,34 +1,26 @@
 -- What a step of a client notes as changed, at each of its servers in turn.
-use Rattle.std.proofs.Common.{◌≡◌, ℕ, Bool, true, false, List, [], ◌∷◌, ◌++◌, Option, Some, None, refl, sym, ap, ◌∙◌, subst, inl, inr, if◌then◌else◌}
-use Rattle.st_base.specs.declared.config.Config.{Config}
-use Rattle.st_base.specs.declared.disk.Tag.{Tag}
-use Rattle.st_base.specs.declared.ids.ClientId.{ClientId}
-use Rattle.st_base.specs.declared.ids.FileId.{FileId}
-use Rattle.st_base.specs.declared.ids.PageNo.{PageNo}
-use Rattle.st_base.specs.declared.ids.Stamp.{Stamp}
-use Rattle.st_messages.specs.declared.ask.Ask.{Ask}
-use Rattle.st_messages.specs.declared.ask.Ask.TheVariants as asks
-use Rattle.st_messages.specs.declared.answer.AppAnswer.TheVariants as answers
-use Rattle.st_messages.specs.declared.answer.AppAnswer.{AppAnswer}
-use Rattle.st_messages.specs.declared.output.Output.{Output}
-use Rattle.st_messages.specs.declared.output.Output.TheVariants as outputs
-use Rattle.st_rules.specs.declared.client.ClientInput.{ClientInput}
-use Rattle.st_rules.specs.declared.client.Operation.{Operation}
-use Rattle.st_rules.specs.ClientPages as pages
-use Rattle.st_rules.specs.ClientState.{ClientSession, Association, ClientState, ClientTurn, Turn, client_turn, enter, leave, at_these, at_each, with_associations, only_at, server_of, is_sent}
-use Rattle.st_rules.specs.ClientPasses as cp
-use Rattle.st_rules.specs.ClientReplies as cr
-use Rattle.st_rules.specs.Client as cl
-use Rattle.st_lemmas.specs.Lists.{Has}
+use Rattle.st_lemmas.proofs.Words
+use Words.{◌≡◌, ℕ, Bool, true, false, List, [], ◌∷◌, ◌++◌, Option, Some, None, refl, sym, ap, ◌∙◌, subst, inl, inr, if◌then◌else◌, Config, Tag, ClientId}
+use Words.{FileId, PageNo, Stamp, Ask, AppAnswer, Output, ClientInput, Operation, append_assoc}
+use Words.asks
+use Words.answers
+use Words.outputs
+use Words.ClientPages as pages
+use Words.ClientState.{ClientSession, Association, ClientState, ClientTurn, Turn, client_turn, enter, leave, at_these, at_each, with_associations, only_at}
+use Words.ClientState.{server_of, is_sent}
+use Words.ClientPasses as cp
+use Words.ClientReplies as cr
+use Words.Client as cl
+use Words.Lists.{Has}
+use Words.Lengths.{nothing_after}
 use Rattle.st_laws_steps.specs.Client.Losses.{Fit, Ends, Unknown, Passes, Hardens, Fails}
 use Rattle.st_laws_steps.specs.Lives.Lives.{Pairwise}
 use Rattle.st_laws_steps.specs.Client.Notes.{NotesAll, IsChanged, IsChangedAt}
 use Rattle.st_laws_steps.specs.Client.Inputs as taking
 use Rattle.st_laws_steps.specs.Client.Inputs.{Taken}
-use Rattle.st_laws_steps.proofs.Client.Nexts.{empty_right, append_assoc}
-use Rattle.st_laws_steps.proofs.Client.Asking.{c_passes}
-use Rattle.st_laws_steps.proofs.Client.Replying.{c_receive}
-use Rattle.st_laws_steps.proofs.Client.Losing.{c_only, Finished, finish_is, is_done, rest_of}
+use Rattle.st_laws_steps.proofs.Client.Asking.{changes_by_passes}
+use Rattle.st_laws_steps.proofs.Client.Replying.{changes_by_receive}
+use Rattle.st_laws_steps.proofs.Client.Losing.{changes_by_only, Finished, finish_is, is_done, rest_of}
 use Rattle.st_laws_steps.proofs.Client.Stepping.{Phased, StaysChanged, changes_last, phased}
 use Rattle.st_laws_steps.proofs.Client.Taking.{taken}
 use Rattle.st_laws_steps.proofs.Client.Dirtying.{Dirtied, changes_dirty, notes_both, notes_map}
@@ -47,7 +39,7 @@ record More (P : List Output → Type 0) (os ps : List Output) : Type 0 where
   pub is : P more
 
 quiet_none : (os : List Output) → More Quiet os os
-quiet_none os = record { more = []; out = empty_right os; is = record {} }
+quiet_none os = record { more = []; out = nothing_after os; is = record {} }
 
 quiet_then : (os ps qs : List Output) → More Quiet os ps → More Quiet ps qs → More Quiet os qs
 quiet_then os ps qs a b = record { more = a.more ++ b.more; out = b.out ∙ ap (λ z. z ++ b.more) a.out ∙ append_assoc os a.more b.more; is = notes_both (λ f p. ⊥) a.more b.more a.is b.is }
@@ -97,18 +89,10 @@ record NotedThese (k : Config) (now : Stamp) (t u : ClientTurn) : Type 0 where
   pub out : u.out ≡ t.out ++ more
   pub noted : NotesAll (IsChangedAt k now left) more
 
-assoc_left : (xs ys zs : List Association) → (xs ++ ys) ++ zs ≡ xs ++ (ys ++ zs)
-assoc_left [] ys zs = refl
-assoc_left (x ∷ xs) ys zs = ap (λ z. x ∷ z) (assoc_left xs ys zs)
-
-none_left : (xs : List Association) → xs ≡ xs ++ []
-none_left [] = refl
-none_left (x ∷ xs) = ap (λ z. x ∷ z) (none_left xs)
-
 noted_these : (k : Config) (now : Stamp) (rule : Turn → Turn) → ((t : Turn) → t.config ≡ k → Fit t.here → More (NotesAll (IsChanged k now (rule t).here)) t.out (rule t).out) →
     (al : List Association) (t : ClientTurn) → t.state.config ≡ k → ((a : Association) → Has a al → Fit a) → NotedThese k now t (at_these rule al t)
 unfolding at_these
-noted_these k now rule step [] t c f = record { left = []; is = none_left t.state.associations; more = []; out = empty_right t.out; noted = record {} }
+noted_these k now rule step [] t c f = record { left = []; is = nothing_after t.state.associations; more = []; out = nothing_after t.out; noted = record {} }
 noted_these k now rule step (a ∷ al) t c f = go (step (enter t a) c (f a (inl refl))) (noted_these k now rule step al (leave t (rule (enter t a))) c (λ b h. f b (inr h)))
   where
     u : Turn
@@ -118,7 +102,7 @@ noted_these k now rule step (a ∷ al) t c f = go (step (enter t a) c (f a (inl 
     go m r =
         record {
           left = u.here ∷ r.left;
-          is = r.is ∙ assoc_left t.state.associations (u.here ∷ []) r.left;
+          is = r.is ∙ append_assoc t.state.associations (u.here ∷ []) r.left;
           more = m.more ++ r.more;
           out = r.out ∙ ap (λ z. z ++ r.more) m.out ∙ append_assoc t.out m.more r.more;
           noted =
@@ -167,8 +151,8 @@ input_noted : (now : Stamp) (input : ClientInput) (t u : ClientTurn) → Taken t
 input_noted now _ t _ (taking.Nothing i) f = quiet_all t.state.config now t t (quiet_none t.out)
 input_noted now _ t _ (taking.Full op ask e) f = quiet_all t.state.config now t (cl.answered_at_once t op answers.OpsFull) (quiet_answer t.out op answers.OpsFull)
 input_noted now _ t _ (taking.Unknown op ask e g) f = quiet_all t.state.config now t (cl.answered_at_once t op answers.NoFile) (quiet_answer t.out op answers.NoFile)
-input_noted now _ t _ (taking.Takes op ask e g) f = noted_each now (only_at (server_of ask) (cl.take_ask op ask)) t (λ u p. dirtied_more now u _ (changes_dirty now u _ (c_only now (server_of ask) op ask u))) f
-input_noted now _ t _ (taking.Receives m e) f = noted_each now (cr.receive_at now m.header m.body) t (λ u p. dirtied_more now u _ (changes_dirty now u _ (c_receive now m.header m.body u p.fresh))) f
+input_noted now _ t _ (taking.Takes op ask e g) f = noted_each now (only_at (server_of ask) (cl.take_ask op ask)) t (λ u p. dirtied_more now u _ (changes_dirty now u _ (changes_by_only now (server_of ask) op ask u))) f
+input_noted now _ t _ (taking.Receives m e) f = noted_each now (cr.receive_at now m.header m.body) t (λ u p. dirtied_more now u _ (changes_dirty now u _ (changes_by_receive now m.header m.body u p.fresh))) f
 input_noted now _ t _ (taking.Finishes number result) f = noted_each now (cl.finish number result) t (λ u p. finish_more now number result u) f
 
 losses_quiet : (now : Stamp) (al : List Association) (t : ClientTurn) → More Quiet t.out (at_these (cl.lose now) al t).out
@@ -198,7 +182,7 @@ step_notes c s now input f = go (losses_quiet now s.associations (with_associati
     v = cl.work u now input
 
     go : More Quiet [] t.out → Phased c s now t u v → NotesAll (IsChangedAt s.config now v.state.associations) v.out
-    go q r = received (input_noted now input t u (taken t now input) r.fit) (noted_each now (cp.passes now (cl.is_tick input)) u (λ x p. dirtied_more now x _ (changes_dirty now x _ (c_passes now (cl.is_tick input) x))) r.fit_too)
+    go q r = received (input_noted now input t u (taken t now input) r.fit) (noted_each now (cp.passes now (cl.is_tick input)) u (λ x p. dirtied_more now x _ (changes_dirty now x _ (changes_by_passes now (cl.is_tick input) x))) r.fit_too)
       where
         received : NotedAll t.state.config now t u → NotedAll u.state.config now u v → NotesAll (IsChangedAt s.config now v.state.associations) v.out
         received i w =

@@ -1,7 +1,7 @@
 -- Changes of some kinds alone, one after another: a walk that makes no other kind says so by its type.
-use Rattle.std.specs.Prelude.{if◌then◌else◌, ◌≡◌}
-use Rattle.st_base.specs.declared.ids.Stamp.{Stamp}
-use Rattle.st_rules.specs.ClientState.{Turn}
+use Rattle.st_lemmas.proofs.Words
+use Words.{if◌then◌else◌, ◌≡◌, Stamp}
+use Words.ClientState.{Turn}
 use Rattle.st_laws_steps.specs.Client.Client.{Change, Changes, Still, Then}
 
 -- changes that a fact lets pass

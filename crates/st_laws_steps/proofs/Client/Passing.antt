@@ -1,26 +1,16 @@
 -- The passes of a client's step are made of changes that begin no session and learn of no page.
-use Rattle.std.proofs.Common.{◌≡◌, ℕ, Bool, true, false, List, ◌++◌, ◌∷◌, [], Option, Some, None, refl, if◌then◌else◌}
-use Rattle.st_base.specs.declared.ids.FileId.{FileId}
-use Rattle.st_base.specs.declared.ids.PageNo.{PageNo}
-use Rattle.st_base.specs.declared.ids.Stamp.{Stamp}
-use Rattle.st_messages.specs.declared.answer.AppAnswer.{AppAnswer}
-use Rattle.st_messages.specs.declared.answer.AppAnswer.TheVariants as answers
-use Rattle.st_messages.specs.declared.ask.Ask.TheVariants.{Sync}
-use Rattle.st_messages.specs.declared.message.Body.TheVariants as bodies
-use Rattle.st_messages.specs.declared.message.Message.{Message}
-use Rattle.st_messages.specs.declared.output.Note.{Note}
-use Rattle.st_messages.specs.declared.output.Output.{Output}
-use Rattle.st_messages.specs.declared.output.Output.TheVariants as outputs
-use Rattle.st_rules.specs.declared.client.CleanPage.{CleanPage}
-use Rattle.st_rules.specs.declared.client.MappedBlock.{MappedBlock}
-use Rattle.st_rules.specs.declared.client.Operation.{Operation}
-use Rattle.st_rules.specs.declared.client.Request.{Request}
-use Rattle.st_rules.specs.declared.pages.DirtyPage.{DirtyPage}
-use Rattle.st_rules.specs.ClientPages as pages
-use Rattle.st_rules.specs.ClientPages.{Store}
-use Rattle.st_rules.specs.ClientPasses as passes
-use Rattle.st_rules.specs.ClientState.{ClientSession, Turn, answered, header_of, is_serving, keep, note, say, with_operations, with_session, with_store}
-use Rattle.st_lemmas.specs.Lists.{Has}
+use Rattle.st_lemmas.proofs.Words
+use Words.{◌≡◌, ℕ, Bool, true, false, List, ◌++◌, ◌∷◌, [], Option, Some, None, refl, if◌then◌else◌, FileId, PageNo, Stamp, AppAnswer, Message, Note, Output}
+use Words.{CleanPage, MappedBlock, Operation, Request, DirtyPage}
+use Words.answers
+use Words.asks.{Sync}
+use Words.bodies
+use Words.outputs
+use Words.ClientPages as pages
+use Words.ClientPages.{Store}
+use Words.ClientPasses as passes
+use Words.ClientState.{ClientSession, Turn, answered, header_of, is_serving, keep, note, say, with_operations, with_session, with_store}
+use Words.Lists.{Has}
 use Rattle.st_laws_steps.specs.Client.Client as client
 use Rattle.st_laws_steps.specs.Client.Client.{Change, ChangesPage, GoesOn, Plain, with_greeted}
 use Rattle.st_laws_steps.specs.Client.Session.{SessionChange, Keeps, DropsLock, IsReasserted, EndsRequest, NewEpoch, AsksNew, AsksAgain}
@@ -199,9 +189,9 @@ pub Submits : {syncs : List Operation} {asks : Part} {now : Stamp} (t : Turn) (s
     pages.mapping_of t.here.store.extents d.ino d.page ≡ Some m → pages.is_being_written t.here.store.commands d.ino d.page ≡ false → Changes syncs asks now t (passes.submit_write t d m)
 Submits {syncs} {asks} {now} t s ino p d m se e i w = single (IsPassing syncs asks) now t _ (client.Submits t s ino p d m se e i w) tt
 
-pub k_keep : {syncs : List Operation} {asks : Part} {now : Stamp} (t : Turn) (o : Operation) → Changes syncs asks now t (keep o t)
-k_keep t o = Operates t (t.operations ++ o ∷ [])
+pub changes_by_keeping : {syncs : List Operation} {asks : Part} {now : Stamp} (t : Turn) (o : Operation) → Changes syncs asks now t (keep o t)
+changes_by_keeping t o = Operates t (t.operations ++ o ∷ [])
 
-pub k_answer : {syncs : List Operation} {asks : Part} {now : Stamp} (t : Turn) (op : ℕ) (a : AppAnswer) → AnswersRight syncs t op a →
+pub changes_by_answer : {syncs : List Operation} {asks : Part} {now : Stamp} (t : Turn) (op : ℕ) (a : AppAnswer) → AnswersRight syncs t op a →
     Changes syncs asks now t (answered t op a)
-k_answer t op a q = Says t (outputs.Answer op a) tt q
+changes_by_answer t op a q = Says t (outputs.Answer op a) tt q

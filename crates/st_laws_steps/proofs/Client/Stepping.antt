@@ -1,37 +1,30 @@
 -- A step of a client, at each of its servers in turn: what it does to its lives.
-use Rattle.std.proofs.Common.{◌≡◌, ℕ, Bool, true, false, List, [], ◌∷◌, ◌++◌, Option, Some, None, refl, sym, ap, ◌∙◌, subst, inl, inr, if◌then◌else◌}
-use Rattle.st_base.specs.declared.config.Config.{Config}
-use Rattle.st_base.specs.declared.ids.ClientId.{ClientId}
-use Rattle.st_base.specs.declared.ids.Stamp.{Stamp}
-use Rattle.st_messages.specs.declared.answer.AppAnswer.TheVariants as answers
-use Rattle.st_messages.specs.declared.output.Note.{Note}
-use Rattle.st_messages.specs.declared.output.Note.TheVariants as notes
-use Rattle.st_messages.specs.declared.output.Output.{Output}
-use Rattle.st_messages.specs.declared.output.Output.TheVariants as outputs
-use Rattle.st_base.specs.declared.disk.Tag.{Tag}
-use Rattle.st_rules.specs.declared.pages.DirtyPage.{DirtyPage}
-use Rattle.st_rules.specs.declared.client.ClientInput.{ClientInput}
-use Rattle.st_rules.specs.declared.world.LeaseLife.{LeaseLife}
-use Rattle.st_rules.specs.ClientPages as pages
-use Rattle.st_rules.specs.ClientState.{ClientSession, Association, ClientState, ClientTurn, Turn, client_turn, enter, leave, at_these, at_each, with_associations, only_at, server_of, note}
-use Rattle.st_rules.specs.ClientPasses as cp
-use Rattle.st_rules.specs.ClientReplies as cr
-use Rattle.st_rules.specs.Client as cl
-use Rattle.st_lemmas.specs.Lists.{Has}
+use Rattle.st_lemmas.proofs.Words
+use Words.{◌≡◌, ℕ, Bool, true, false, List, [], ◌∷◌, ◌++◌, Option, Some, None, refl, sym, ap, ◌∙◌, subst, inl, inr, if◌then◌else◌, Config, ClientId, Stamp}
+use Words.{Note, Output, Tag, DirtyPage, ClientInput, LeaseLife, FileId, PageNo, append_assoc}
+use Words.answers
+use Words.notes
+use Words.outputs
+use Words.ClientPages as pages
+use Words.ClientState.{ClientSession, Association, ClientState, ClientTurn, Turn, client_turn, enter, leave, at_these, at_each, with_associations, only_at}
+use Words.ClientState.{server_of, note}
+use Words.ClientPasses as cp
+use Words.ClientReplies as cr
+use Words.Client as cl
+use Words.Lists.{Has}
+use Words.Lengths.{nothing_after}
+use Words.Truth.{not_both}
 use Rattle.st_laws_steps.specs.Client.Losses.{SessionFresh, SessionNext, Fit, is_ended, Loses, Lasts, IsLost, Ends, Unknown, Passes, Hardens, Fails, without}
 use Rattle.st_laws_steps.specs.Lives.Lives.{rows_said, ended_rows, row_lost, rows_lost, LifeNext, Pairwise, Stepped}
-use Rattle.st_base.specs.declared.ids.FileId.{FileId}
-use Rattle.st_base.specs.declared.ids.PageNo.{PageNo}
 use Rattle.st_laws_steps.specs.Client.Notes.{IsChanged}
 use Rattle.st_laws_steps.specs.Client.Inputs as taking
 use Rattle.st_laws_steps.specs.Client.Inputs.{Taken}
 use Rattle.st_laws_steps.proofs.Client.Dirtying.{Dirtied, changes_dirty, changed_lasts}
-use Rattle.st_laws_steps.proofs.Client.Nexts.{Unlost, AllUnlost, Next, next_same, next_then, changes_next, empty_right, session_same, session_then}
-use Rattle.st_laws_steps.proofs.Client.Asking.{c_passes}
-use Rattle.st_laws_steps.proofs.Client.Replying.{c_receive}
-use Rattle.st_laws_steps.proofs.Client.Losing.{lose_is, c_only, Finished, finish_is, rest_of}
+use Rattle.st_laws_steps.proofs.Client.Nexts.{Unlost, AllUnlost, Next, next_same, next_then, changes_next, session_same, session_then}
+use Rattle.st_laws_steps.proofs.Client.Asking.{changes_by_passes}
+use Rattle.st_laws_steps.proofs.Client.Replying.{changes_by_receive}
+use Rattle.st_laws_steps.proofs.Client.Losing.{lose_is, changes_by_only, Finished, finish_is, rest_of}
 use Rattle.st_laws_steps.proofs.Client.Taking.{taken}
-use Rattle.st_laws_steps.proofs.Clash.{clash}
 
 -- the lives that outputs say to be lost
 rows_unlost : (c : ClientId) (s : ClientState) (os : List Output) → AllUnlost os → ended_rows c s os ≡ []
@@ -67,22 +60,6 @@ pub all_rows : (f : Association → List LeaseLife) → List Association → Lis
 all_rows f [] = []
 all_rows f (a ∷ al) = f a ++ all_rows f al
 
-assoc_rows : (xs ys zs : List LeaseLife) → (xs ++ ys) ++ zs ≡ xs ++ (ys ++ zs)
-assoc_rows [] ys zs = refl
-assoc_rows (x ∷ xs) ys zs = ap (λ z. x ∷ z) (assoc_rows xs ys zs)
-
-none_rows : (xs : List LeaseLife) → xs ≡ xs ++ []
-none_rows [] = refl
-none_rows (x ∷ xs) = ap (λ z. x ∷ z) (none_rows xs)
-
-pub assoc_left : (xs ys zs : List Association) → (xs ++ ys) ++ zs ≡ xs ++ (ys ++ zs)
-assoc_left [] ys zs = refl
-assoc_left (x ∷ xs) ys zs = ap (λ z. x ∷ z) (assoc_left xs ys zs)
-
-pub none_left : (xs : List Association) → xs ≡ xs ++ []
-none_left [] = refl
-none_left (x ∷ xs) = ap (λ z. x ∷ z) (none_left xs)
-
 -- what the rule leaves at one server, with the lives that it says to be lost
 pub record Left (R : Association → Association → Type 0) (f : Association → List LeaseLife) (rows : List Output → List LeaseLife) (t u : Turn) : Type 0 where
   pub one : R t.here u.here
@@ -99,7 +76,7 @@ record EachIs (R : Association → Association → Type 0) (f : Association → 
 these : (P : Association → Type 0) (R : Association → Association → Type 0) (f : Association → List LeaseLife) (rows : List Output → List LeaseLife) (rule : Turn → Turn) (k : Config) →
     ((t : Turn) → t.config ≡ k → P t.here → Left R f rows t (rule t)) → (al : List Association) (t : ClientTurn) → t.state.config ≡ k → ((a : Association) → Has a al → P a) → EachIs R f rows al t (at_these rule al t)
 unfolding at_these all_rows
-these P R f rows rule k step [] t c p = record { id = refl; config = refl; left = []; is = none_left t.state.associations; pairs = tt; out = none_rows (rows t.out) }
+these P R f rows rule k step [] t c p = record { id = refl; config = refl; left = []; is = nothing_after t.state.associations; pairs = tt; out = nothing_after (rows t.out) }
 these P R f rows rule k step (a ∷ al) t c p = go (step (enter t a) c (p a (inl refl))) (these P R f rows rule k step al (leave t (rule (enter t a))) c (λ b h. p b (inr h)))
   where
     u : Turn
@@ -111,9 +88,9 @@ these P R f rows rule k step (a ∷ al) t c p = go (step (enter t a) c (p a (inl
           id = r.id;
           config = r.config;
           left = u.here ∷ r.left;
-          is = r.is ∙ assoc_left t.state.associations (u.here ∷ []) r.left;
+          is = r.is ∙ append_assoc t.state.associations (u.here ∷ []) r.left;
           pairs = record { one = l.one; rest = r.pairs };
-          out = r.out ∙ ap (λ z. z ++ all_rows f al) l.said ∙ assoc_rows (rows t.out) (f a) (all_rows f al);
+          out = r.out ∙ ap (λ z. z ++ all_rows f al) l.said ∙ append_assoc (rows t.out) (f a) (all_rows f al);
         }
 
 -- after a rule at each server, the associations are the ones that it left
@@ -170,7 +147,7 @@ unfolding no_rows
 next_left c s k now t u e n =
     record {
       one = record { server = n.server; life = n.life; session = subst (λ z. SessionNext z now t.here.session u.here.session) e n.session; fit = n.fit };
-      said = ap (ended_rows c s) n.out ∙ rows_more c s t.out n.more n.unlost ∙ none_rows (ended_rows c s t.out);
+      said = ap (ended_rows c s) n.out ∙ rows_more c s t.out n.more n.unlost ∙ nothing_after (ended_rows c s t.out);
     }
 
 goes_same : (k : Config) (now : Stamp) (a : Association) → Goes k now a a
@@ -195,7 +172,7 @@ pub left_each : (c : ClientId) (s : ClientState) (now : Stamp) (rule : Turn → 
 left_each c s now rule t step f = go (each Fit (Goes t.state.config now) no_rows (ended_rows c s) rule t (λ u e p. next_left c s t.state.config now u (rule u) e (step u p)) f)
   where
     go : EachServer (Goes t.state.config now) no_rows (ended_rows c s) t (at_each rule t) → LeftAll c s t.state.config now t (at_each rule t)
-    go r = record { id = r.id; config = r.config; pairs = r.pairs; out = r.out ∙ ap (λ z. ended_rows c s t.out ++ z) (no_all_rows t.state.associations) ∙ sym (none_rows (ended_rows c s t.out)) }
+    go r = record { id = r.id; config = r.config; pairs = r.pairs; out = r.out ∙ ap (λ z. ended_rows c s t.out ++ z) (no_all_rows t.state.associations) ∙ sym (nothing_after (ended_rows c s t.out)) }
 
 all_same : (c : ClientId) (s : ClientState) (k : Config) (now : Stamp) (t : ClientTurn) → LeftAll c s k now t t
 all_same c s k now t = record { id = refl; config = refl; pairs = pairs_same (Goes k now) (goes_same k now) t.state.associations; out = refl }
@@ -208,12 +185,12 @@ all_then c s k now t u v p q =
 ends_fit : (now : Stamp) (number : ℕ) (ok : Bool) (t u : Turn) → Ends number ok t u → Next now t u
 unfolding cl.hardened pages.harden pages.harden_at pages.harden_page pages.fail pages.failed_by
 ends_fit now number ok t _ Unknown = next_same now t
-ends_fit now number ok t _ (Passes c e o) = record { id = refl; config = refl; server = refl; life = refl; session = session_same t.config now t.here.session; fit = λ f. record { mapped = f.mapped; fresh = fresh t.here.session f.fresh }; more = []; out = empty_right t.out; unlost = record {} }
+ends_fit now number ok t _ (Passes c e o) = record { id = refl; config = refl; server = refl; life = refl; session = session_same t.config now t.here.session; fit = λ f. record { mapped = f.mapped; fresh = fresh t.here.session f.fresh }; more = []; out = nothing_after t.out; unlost = record {} }
   where
     fresh : (s : Option ClientSession) → SessionFresh t.here.store s → SessionFresh (without number t).here.store s
     fresh None x = x
     fresh (Some s) x = x
-ends_fit now number ok t _ (Hardens c v e o k w) = record { id = refl; config = refl; server = refl; life = refl; session = session_same t.config now t.here.session; fit = λ f. record { mapped = λ ino p d i. go ino p d f (pages.dirty_of t.here.store.pages c.ino c.page) i; fresh = fresh t.here.session f.fresh }; more = []; out = empty_right t.out; unlost = record {} }
+ends_fit now number ok t _ (Hardens c v e o k w) = record { id = refl; config = refl; server = refl; life = refl; session = session_same t.config now t.here.session; fit = λ f. record { mapped = λ ino p d i. go ino p d f (pages.dirty_of t.here.store.pages c.ino c.page) i; fresh = fresh t.here.session f.fresh }; more = []; out = nothing_after t.out; unlost = record {} }
   where
     fresh : (s : Option ClientSession) → SessionFresh t.here.store s → SessionFresh (cl.hardened (without number t) c).here.store s
     fresh None x = x
@@ -222,7 +199,7 @@ ends_fit now number ok t _ (Hardens c v e o k w) = record { id = refl; config = 
     go : (ino : ℕ) (p : Rattle.st_base.specs.declared.ids.PageNo.PageNo) (d : DirtyPage) → Fit t.here → (o : Option DirtyPage) → pages.dirty_of (pages.harden_at t.here.store.pages o) ino p ≡ Some d → pages.is_mapped t.here.store.extents ino p ≡ true
     go ino p d f None i = f.mapped ino p d i
     go ino p d f (Some x) i = let z = Rattle.st_laws_steps.proofs.Client.Nexts.found_fewer (pages.is_dirty_of ino p) _ t.here.store.pages.dirty d i in f.mapped ino p z.0 z.1
-ends_fit now number ok t _ (Fails c v e o k) = record { id = refl; config = refl; server = refl; life = refl; session = session_same t.config now t.here.session; fit = λ f. record { mapped = λ ino p d i. go ino p d f i; fresh = fresh t.here.session f.fresh }; more = []; out = empty_right t.out; unlost = record {} }
+ends_fit now number ok t _ (Fails c v e o k) = record { id = refl; config = refl; server = refl; life = refl; session = session_same t.config now t.here.session; fit = λ f. record { mapped = λ ino p d i. go ino p d f i; fresh = fresh t.here.session f.fresh }; more = []; out = nothing_after t.out; unlost = record {} }
   where
     fresh : (s : Option ClientSession) → SessionFresh t.here.store s → SessionFresh (cl.with_failed c (without number t)).here.store s
     fresh None x = x
@@ -248,8 +225,8 @@ input_left c s now input t f = go (cl.take_input t now input) input (taken t now
     go _ _ (taking.Nothing i) = all_same c s t.state.config now t
     go _ _ (taking.Full op ask e) = at_once op answers.OpsFull
     go _ _ (taking.Unknown op ask e g) = at_once op answers.NoFile
-    go _ _ (taking.Takes op ask e g) = left_each c s now (only_at (server_of ask) (cl.take_ask op ask)) t (λ u p. changes_next now u _ (c_only now (server_of ask) op ask u)) f
-    go _ _ (taking.Receives m e) = left_each c s now (cr.receive_at now m.header m.body) t (λ u p. changes_next now u _ (c_receive now m.header m.body u p.fresh)) f
+    go _ _ (taking.Takes op ask e g) = left_each c s now (only_at (server_of ask) (cl.take_ask op ask)) t (λ u p. changes_next now u _ (changes_by_only now (server_of ask) op ask u)) f
+    go _ _ (taking.Receives m e) = left_each c s now (cr.receive_at now m.header m.body) t (λ u p. changes_next now u _ (changes_by_receive now m.header m.body u p.fresh)) f
     go _ _ (taking.Finishes number result) = left_each c s now (cl.finish number result) t (λ u p. finish_next now number result u) f
 
 -- an association before and after its loss, or as it was
@@ -276,8 +253,8 @@ lose_left : (c : ClientId) (s : ClientState) (k : Config) (now : Stamp) (t u : T
 unfolding row_lost ended_rows
 lose_left c s k now t _ e q (Lasts n) =
     record {
-      one = record { server = refl; fit = λ f. f; lasts = λ z. refl; lost = λ z. absurd (clash _ z (ap (λ w. is_ended w now t.here.session) (sym e) ∙ n)); emptied = λ z. absurd (clash _ z (ap (λ w. is_ended w now t.here.session) (sym e) ∙ n)); going = ap (λ w. is_ended w now t.here.session) (sym e) ∙ n };
-      said = none_rows (ended_rows c s t.out) ∙ ap (λ b. ended_rows c s t.out ++ (if b then Rattle.st_laws_steps.specs.Lives.Lives.lost_row c s t.here.server t.here.life ∷ [] else [])) (sym (ap (λ w. is_ended w now t.here.session) (q ∙ sym e) ∙ n));
+      one = record { server = refl; fit = λ f. f; lasts = λ z. refl; lost = λ z. absurd (not_both _ z (ap (λ w. is_ended w now t.here.session) (sym e) ∙ n)); emptied = λ z. absurd (not_both _ z (ap (λ w. is_ended w now t.here.session) (sym e) ∙ n)); going = ap (λ w. is_ended w now t.here.session) (sym e) ∙ n };
+      said = nothing_after (ended_rows c s t.out) ∙ ap (λ b. ended_rows c s t.out ++ (if b then Rattle.st_laws_steps.specs.Lives.Lives.lost_row c s t.here.server t.here.life ∷ [] else [])) (sym (ap (λ w. is_ended w now t.here.session) (q ∙ sym e) ∙ n));
     }
 lose_left c s k now t _ e q (IsLost x i n v m) = go (changes_next now (note t (notes.Lost t.here.server t.here.life)) v m)
   where
@@ -287,7 +264,7 @@ lose_left c s k now t _ e q (IsLost x i n v m) = go (changes_next now (note t (n
     go : Next now (note t (notes.Lost t.here.server t.here.life)) v → Left (LostOrNot k now) (row_lost c s now) (ended_rows c s) t (cl.empty_here v)
     go n2 =
         record {
-          one = record { server = n2.server; fit = λ f. empty_fit v.here; lasts = λ z. absurd (clash _ (ap (λ w. is_ended w now t.here.session) (sym e) ∙ n) z); lost = λ z. ap cl.next_life n2.life; emptied = λ z. refl; going = refl };
+          one = record { server = n2.server; fit = λ f. empty_fit v.here; lasts = λ z. absurd (not_both _ (ap (λ w. is_ended w now t.here.session) (sym e) ∙ n) z); lost = λ z. ap cl.next_life n2.life; emptied = λ z. refl; going = refl };
           said =
               ap (ended_rows c s) n2.out ∙ rows_more c s (t.out ++ outputs.Note (notes.Lost t.here.server t.here.life) ∷ []) n2.more n2.unlost
               ∙ rows_both c s t.out (outputs.Note (notes.Lost t.here.server t.here.life) ∷ [])
@@ -333,7 +310,7 @@ pub record Phased (c : ClientId) (s : ClientState) (now : Stamp) (t u v : Client
 pub phased : (c : ClientId) (s : ClientState) (now : Stamp) (input : ClientInput) → ((a : Association) → Has a s.associations → Fit a) →
     Phased c s now (cl.losses (client_turn s []) now) (cl.take_input (cl.losses (client_turn s []) now) now input) (cl.work (cl.take_input (cl.losses (client_turn s []) now) now input) now input)
 unfolding cl.work
-phased c s now input f = record { lost = lost; fit = fit; received = received; fit_too = fit_too; worked = left_each c s now (cp.passes now (cl.is_tick input)) u (λ x p. changes_next now x _ (c_passes now (cl.is_tick input) x)) fit_too }
+phased c s now input f = record { lost = lost; fit = fit; received = received; fit_too = fit_too; worked = left_each c s now (cp.passes now (cl.is_tick input)) u (λ x p. changes_next now x _ (changes_by_passes now (cl.is_tick input) x)) fit_too }
   where
     t : ClientTurn
     t = cl.losses (client_turn s []) now
@@ -377,7 +354,7 @@ pub changes_last : (c : ClientId) (s : ClientState) (now : Stamp) (input : Clien
     Pairwise (StaysChanged s.config now) u.state.associations (cl.work u now input).state.associations
 unfolding cl.work no_rows
 changes_last c s now input t u r =
-    (each Fit (StaysChanged s.config now) no_rows (λ os. []) (cp.passes now (cl.is_tick input)) u (λ x q p. one u.state.config (sym (r.lost.config ∙ r.received.config)) x _ q (changes_dirty now x _ (c_passes now (cl.is_tick input) x))) r.fit_too).pairs
+    (each Fit (StaysChanged s.config now) no_rows (λ os. []) (cp.passes now (cl.is_tick input)) u (λ x q p. one u.state.config (sym (r.lost.config ∙ r.received.config)) x _ q (changes_dirty now x _ (changes_by_passes now (cl.is_tick input) x))) r.fit_too).pairs
   where
     one : (k : Config) → k ≡ s.config → (x y : Turn) → x.config ≡ k → Dirtied now x y → Left (StaysChanged s.config now) no_rows (λ os. []) x y
     one k e x y q d =

@@ -1,19 +1,15 @@
 -- What a client does with an input is one of a few things, so what holds after each of them holds after the input. A fact of each association holds after a
 -- rule at each server, if the rule brings it about at one.
-use Rattle.std.proofs.Common.{◌≡◌, ◌⊎◌, ℕ, Bool, true, false, ◌==◌, List, [], ◌∷◌, Option, refl, sym, subst, inl, inr, if◌then◌else◌}
-use Rattle.st_base.specs.declared.disk.Tag.{Tag}
-use Rattle.st_base.specs.declared.ids.ServerId.{ServerId}
-use Rattle.st_base.specs.declared.ids.Stamp.{Stamp}
-use Rattle.st_messages.specs.declared.answer.AppAnswer.TheVariants as answers
-use Rattle.st_messages.specs.declared.ask.Ask.{Ask}
-use Rattle.st_messages.specs.declared.message.Message.{Message}
-use Rattle.st_rules.specs.declared.client.ClientInput.{ClientInput}
-use Rattle.st_rules.specs.declared.client.ClientInput.TheVariants as inputs
-use Rattle.st_rules.specs.Client as cl
-use Rattle.st_rules.specs.ClientReplies as cr
-use Rattle.st_rules.specs.ClientState.{Association, ClientTurn, Turn, at_each, at_these, enter, leave, only_at, server_of, with_associations}
-use Rattle.st_lemmas.specs.Lists.{Has}
-use Rattle.st_lemmas.proofs.Tables.{has_append}
+use Rattle.st_lemmas.proofs.Words
+use Words.{◌≡◌, ◌⊎◌, ℕ, Bool, true, false, ◌==◌, List, [], ◌∷◌, Option, refl, sym, subst, inl, inr, if◌then◌else◌, Tag, ServerId, Stamp, Ask, Message}
+use Words.{ClientInput}
+use Words.answers
+use Words.inputs
+use Words.Client as cl
+use Words.ClientReplies as cr
+use Words.ClientState.{Association, ClientTurn, Turn, at_each, at_these, enter, leave, only_at, server_of, with_associations}
+use Words.Lists.{Has}
+use Words.Tables.{has_append}
 use Rattle.st_laws_steps.specs.Client.Inputs.{Each, Taken, Nothing, Full, Unknown, Takes, Receives, Finishes}
 
 pub taken : (t : ClientTurn) (now : Stamp) (input : ClientInput) → Taken t now input (cl.take_input t now input)

@@ -1,17 +1,12 @@
 -- Look-ups among the associations of a client, and among the lives that a step says to be lost.
-use Rattle.std.proofs.Common.{◌≡◌, Bool, true, false, ◌&&◌, List, [], ◌∷◌, ◌++◌, ◌==◌, Some, None, refl, sym, ap, ◌∙◌, subst, inl, inr, if◌then◌else◌}
-use Rattle.std.specs.Prelude.{find, map}
-use Rattle.std.proofs.lemmas.Bool.{eqb-true, eq-eqb}
-use Rattle.st_base.specs.declared.ids.ClientId.{ClientId}
-use Rattle.st_base.specs.declared.ids.ServerId.{ServerId}
-use Rattle.st_base.specs.declared.ids.Life.{Life}
-use Rattle.st_base.specs.declared.ids.Stamp.{Stamp}
-use Rattle.st_rules.specs.declared.world.LeaseLife.{LeaseLife}
-use Rattle.st_rules.specs.Keys.{same_client, same_server}
-use Rattle.st_rules.specs.ClientState.{Association, ClientState, is_at}
-use Rattle.st_rules.specs.World.{is_life_of}
-use Rattle.st_lemmas.specs.Lists.{Has}
-use Rattle.st_lemmas.proofs.Lookups.{some_is}
+use Rattle.st_lemmas.proofs.Words
+use Words.{◌≡◌, Bool, true, false, ◌&&◌, List, [], ◌∷◌, ◌++◌, ◌==◌, Some, None, refl, sym, ap, ◌∙◌, subst, inl, inr, if◌then◌else◌, find, map, eqb-true, eq-eqb}
+use Words.{ClientId, ServerId, Life, Stamp, LeaseLife}
+use Words.Keys.{same_client, same_server}
+use Words.ClientState.{Association, ClientState, is_at}
+use Words.World.{is_life_of}
+use Words.Lists.{Has}
+use Words.Lookups.{some_is}
 use Rattle.st_laws_steps.specs.Client.Losses.{is_ended}
 use Rattle.st_laws_steps.specs.Lives.Lives.{lost_row, row_lost, rows_lost, Pairwise, Once, server_number}
 

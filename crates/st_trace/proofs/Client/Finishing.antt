@@ -1,20 +1,16 @@
 -- An ask of an application, and the end of a disk command, walked at one server.
-use Rattle.std.proofs.Common.{◌≡◌, ℕ, Bool, true, false, ◌==◌, List, Option, Some, None, refl, sym, ap, ◌∙◌, subst, if◌then◌else◌}
-use Rattle.std.proofs.lemmas.Bool.{eqb-true}
-use Rattle.st_base.specs.declared.disk.Tag.{Tag}
-use Rattle.st_base.specs.declared.ids.ServerId.{ServerId}
-use Rattle.st_messages.specs.declared.ask.Ask.{Ask}
-use Rattle.st_messages.specs.declared.ask.Ask.TheVariants as asks
-use Rattle.st_rules.specs.declared.client.Ended.TheVariants as ends
-use Rattle.st_rules.specs.declared.client.IoKind.{IoKind}
-use Rattle.st_rules.specs.declared.client.IoKind.TheVariants as io
-use Rattle.st_rules.specs.declared.client.PageCommand.{PageCommand}
-use Rattle.st_rules.specs.Client as cl
-use Rattle.st_rules.specs.ClientPages as pages
-use Rattle.st_rules.specs.ClientState.{Turn, is_at, is_sync, only_at}
-use Rattle.st_lemmas.proofs.Tables.{cond_either, found_at}
-use Rattle.st_trace.specs.Client.Commands.{Takes, TellsLost, WaitsForSync, Waits, Finishes, IsOutstanding, IsUnknown, IsOfOtherKind, Fills, Hardens}
-use Rattle.st_trace.specs.Client.Commands.{WroteOlder, FailsToRead, FailsToWrite, FailsToWriteOlder, without}
+use Rattle.st_lemmas.proofs.Words
+use Words.{◌≡◌, ℕ, Bool, true, false, ◌==◌, List, Option, Some, None, refl, sym, ap, ◌∙◌, subst, if◌then◌else◌, eqb-true, Tag, ServerId, Ask, IoKind}
+use Words.{PageCommand}
+use Words.asks
+use Words.ends
+use Words.io
+use Words.Client as cl
+use Words.ClientPages as pages
+use Words.ClientState.{Turn, is_at, is_sync, only_at}
+use Words.Tables.{cond_either, found_at}
+use Rattle.st_trace.specs.Client.Commands.{Takes, TellsLost, WaitsForSync, Waits, Finishes, IsOutstanding, IsUnknown, IsOfOtherKind, Fills, Hardens, WroteOlder}
+use Rattle.st_trace.specs.Client.Commands.{FailsToRead, FailsToWrite, FailsToWriteOlder, without}
 
 -- a rule for one server does nothing at another
 pub at_server : (P : Turn → Type 0) (v : ServerId) (rule : Turn → Turn) (t : Turn) → (is_at v t.here ≡ true → P (rule t)) → (is_at v t.here ≡ false → P t) → P

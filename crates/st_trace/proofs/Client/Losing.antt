@@ -1,20 +1,15 @@
 -- A client's losses at one server, walked: nothing is lost, or the loss is noted, each operation is answered or stays, and the association is emptied.
-use Rattle.std.proofs.Common.{◌≡◌, Bool, true, false, not, List, [], ◌∷◌, ◌++◌, Option, Some, None, refl, sym, ap, ◌∙◌, subst, if◌then◌else◌}
-use Rattle.std.specs.Prelude.{filter}
+use Rattle.st_lemmas.proofs.Words
+use Words.{◌≡◌, Bool, true, false, not, List, [], ◌∷◌, ◌++◌, Option, Some, None, refl, sym, ap, ◌∙◌, subst, if◌then◌else◌, filter, FileId, ServerId, Stamp, Ask}
+use Words.{Operation, append-nil}
+use Words.answers
+use Words.asks
+use Words.Client as cl
+use Words.ClientPages as pages
+use Words.ClientState.{ClientSession, Turn, answered, is_of, is_sent, is_sync, keep, with_operations}
+use Words.Tables.{cond_either}
 use Rattle.std.proofs.lemmas.List.{append_assoc}
-use Rattle.st_base.specs.declared.ids.FileId.{FileId}
-use Rattle.st_base.specs.declared.ids.ServerId.{ServerId}
-use Rattle.st_base.specs.declared.ids.Stamp.{Stamp}
-use Rattle.st_messages.specs.declared.answer.AppAnswer.TheVariants as answers
-use Rattle.st_messages.specs.declared.ask.Ask.{Ask}
-use Rattle.st_messages.specs.declared.ask.Ask.TheVariants as asks
-use Rattle.st_rules.specs.declared.client.Operation.{Operation}
-use Rattle.st_rules.specs.Client as cl
-use Rattle.st_rules.specs.ClientPages as pages
-use Rattle.st_rules.specs.ClientState.{ClientSession, Turn, answered, is_of, is_sent, is_sync, keep, with_operations}
-use Rattle.st_lemmas.proofs.Tables.{cond_either}
 use Rattle.st_trace.specs.Client.Each.{Each, Ends, Next}
-use Rattle.st_trace.proofs.Client.Lists.{none_more}
 use Rattle.st_trace.specs.Client.Losses.{Ended, IsElsewhere, IsUncertain, IsToldLost, LostNothing, IsQuiesced, Loses, HasNoSession, Lasts, IsLost, loss_noted}
 
 -- one operation of this server
@@ -75,7 +70,7 @@ after v s os t = with_operations (t.operations ++ others v os) (cl.end_each s (f
 
 none_after : (v : ServerId) (s : ClientSession) (t : Turn) → after v s [] t ≡ t
 unfolding after others cl.end_each
-none_after v s t = ap (λ z. with_operations z t) (none_more t.operations)
+none_after v s t = ap (λ z. with_operations z t) (append-nil t.operations)
 
 after_other : (v : ServerId) (s : ClientSession) (o : Operation) (os : List Operation) (t : Turn) → is_of v o ≡ false → after v s os (keep o t) ≡ after v s
     (o ∷ os) t

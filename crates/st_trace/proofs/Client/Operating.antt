@@ -1,22 +1,16 @@
 -- A client's pass over its operations, walked.
-use Rattle.std.proofs.Common.{◌≡◌, ℕ, Bool, true, false, List, [], ◌∷◌, Option, Some, None, Ok, Err, refl, ap, if◌then◌else◌}
-use Rattle.st_base.specs.declared.ids.FileId.{FileId}
-use Rattle.st_base.specs.declared.ids.PageNo.{PageNo}
-use Rattle.st_base.specs.declared.ids.Stamp.{Stamp}
-use Rattle.st_base.specs.declared.mode.Mode.TheVariants as modes
-use Rattle.st_messages.specs.declared.ask.Ask.{Ask}
-use Rattle.st_messages.specs.declared.ask.Ask.TheVariants as asks
-use Rattle.st_messages.specs.declared.output.Note.{Note}
-use Rattle.st_messages.specs.declared.output.Note.TheVariants as notes
-use Rattle.st_rules.specs.declared.client.KnownExtent.{KnownExtent}
-use Rattle.st_rules.specs.declared.client.MappedBlock.{MappedBlock}
-use Rattle.st_rules.specs.declared.client.Operation.{Operation}
-use Rattle.st_rules.specs.declared.client.WriteRefusal.TheVariants as refusals
-use Rattle.st_rules.specs.FlatLog.{overlay}
-use Rattle.st_rules.specs.ClientPages as pages
-use Rattle.st_rules.specs.ClientPasses as cp
-use Rattle.st_rules.specs.ClientState.{ClientSession, Turn, file_of, is_of, is_open_file, is_sent, is_serving, is_sync, keep}
-use Rattle.st_lemmas.proofs.Tables.{cond_either}
+use Rattle.st_lemmas.proofs.Words
+use Words.{◌≡◌, ℕ, Bool, true, false, List, [], ◌∷◌, Option, Some, None, Ok, Err, refl, ap, if◌then◌else◌, FileId, PageNo, Stamp, Ask, Note, KnownExtent}
+use Words.{MappedBlock, Operation}
+use Words.modes
+use Words.asks
+use Words.notes
+use Words.writing as refusals
+use Words.FlatLog.{overlay}
+use Words.ClientPages as pages
+use Words.ClientPasses as cp
+use Words.ClientState.{ClientSession, Turn, file_of, is_of, is_open_file, is_sent, is_serving, is_sync, keep}
+use Words.Tables.{cond_either}
 use Rattle.st_trace.specs.Client.Each.{Each, Ends, Next}
 use Rattle.st_trace.specs.Client.Operations.{Served, Changed, IsWritten, IsPatched, Needs, ToRead, ToPatch, Operated, Waits, IsHard, IsQuiesced, ChangesPage}
 use Rattle.st_trace.specs.Client.Operations.{IsDirtyFull, Fetches, ReadsCached, ReadsZeros}

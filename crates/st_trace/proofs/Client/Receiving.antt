@@ -1,38 +1,27 @@
 -- What a client does with a message, walked at one server.
-use Rattle.std.proofs.Common.{◌≡◌, ℕ, true, false, not, ◌==◌, Option, Some, None, refl, ap}
-use Rattle.std.specs.Prelude.{◌&&◌, nat_le}
-use Rattle.std.proofs.lemmas.Bool.{eqb-true, leb-true}
-use Rattle.st_base.specs.declared.ids.GrantNo.{GrantNo}
-use Rattle.st_base.specs.declared.ids.PageNo.{PageNo}
-use Rattle.st_base.specs.declared.ids.Stamp.{Stamp}
-use Rattle.st_base.specs.declared.mode.Mode.{Mode}
-use Rattle.st_base.specs.declared.mode.Mode.TheVariants as modes
+use Rattle.st_lemmas.proofs.Words
+use Words.{◌≡◌, ℕ, true, false, not, ◌==◌, Option, Some, None, refl, ap, ◌&&◌, nat_le, eqb-true, leb-true, GrantNo, PageNo, Stamp, Mode, Body, Header}
+use Words.{NameReply, Why, Asked, HeldLock, Request}
+use Words.modes
+use Words.answers
+use Words.bodies
+use Words.replies as names
+use Words.why
+use Words.Dating.{may_date}
+use Words.Keys.{server_node}
+use Words.ClientLease as lease
+use Words.ClientLocks as locks
+use Words.ClientReplies as cr
+use Words.ClientState as cs
+use Words.ClientState.{ClientSession, Turn, with_cache, with_release, with_session}
+use Words.Tables.{and_true, cond_either}
 use Rattle.st_base.specs.Mode.{covers}
-use Rattle.st_messages.specs.declared.answer.AppAnswer.TheVariants as answers
-use Rattle.st_messages.specs.declared.message.Body.{Body}
-use Rattle.st_messages.specs.declared.message.Body.TheVariants as bodies
-use Rattle.st_messages.specs.declared.message.Header.{Header}
-use Rattle.st_messages.specs.declared.message.NameReply.{NameReply}
-use Rattle.st_messages.specs.declared.message.NameReply.TheVariants as names
-use Rattle.st_messages.specs.declared.message.Why.{Why}
-use Rattle.st_messages.specs.declared.message.Why.TheVariants as why
-use Rattle.st_rules.specs.declared.client.Asked.{Asked}
 use Rattle.st_rules.specs.declared.client.Asked.TheVariants as demands
-use Rattle.st_rules.specs.declared.client.HeldLock.{HeldLock}
-use Rattle.st_rules.specs.declared.client.Request.{Request}
-use Rattle.st_rules.specs.Dating.{may_date}
-use Rattle.st_rules.specs.Keys.{server_node}
-use Rattle.st_rules.specs.ClientLease as lease
-use Rattle.st_rules.specs.ClientLocks as locks
-use Rattle.st_rules.specs.ClientReplies as cr
-use Rattle.st_rules.specs.ClientState as cs
-use Rattle.st_rules.specs.ClientState.{ClientSession, Turn, with_cache, with_release, with_session}
-use Rattle.st_lemmas.proofs.Tables.{and_true, cond_either}
-use Rattle.st_trace.specs.Client.Messages.{stamp_of, epoch_of, Received, Met, Heard, Condemns, IsSuspect, HasNoSession, IsAfterGrace, Conflicts}
-use Rattle.st_trace.specs.Client.Messages.{RefusesLocks, Grants, Installs, Declines, IsOld, Refusal, NoFile, TooManyLocks, NoSpace, NotHolder, AnswersNone}
-use Rattle.st_trace.specs.Client.Messages.{HasNoFile, HoldsNone, IsListed, Effect, IsGranted, IsQueued, HoldsAlready, IsToldExtents, IsToldLate}
-use Rattle.st_trace.specs.Client.Messages.{IsAcknowledged, IsNamed, IsRemoved, IsReasserted, Renews, IsLater, IsNoLater, Receives, PassesOver, Begins}
-use Rattle.st_trace.specs.Client.Messages.{FollowsEpoch, IsCondemned, IsGrantedLater, SeesDemand, GivesUp, HasGivenUp, IsAnswered}
+use Rattle.st_trace.specs.Client.Messages.{stamp_of, epoch_of, Received, Met, Heard, Condemns, IsSuspect, HasNoSession, IsAfterGrace, Conflicts, RefusesLocks}
+use Rattle.st_trace.specs.Client.Messages.{Grants, Installs, Declines, IsOld, Refusal, NoFile, TooManyLocks, NoSpace, NotHolder, AnswersNone, HasNoFile}
+use Rattle.st_trace.specs.Client.Messages.{HoldsNone, IsListed, Effect, IsGranted, IsQueued, HoldsAlready, IsToldExtents, IsToldLate, IsAcknowledged, IsNamed}
+use Rattle.st_trace.specs.Client.Messages.{IsRemoved, IsReasserted, Renews, IsLater, IsNoLater, Receives, PassesOver, Begins, FollowsEpoch, IsCondemned}
+use Rattle.st_trace.specs.Client.Messages.{IsGrantedLater, SeesDemand, GivesUp, HasGivenUp, IsAnswered}
 use Rattle.st_trace.specs.Client.Messages as trace
 
 -- What becomes of a grant

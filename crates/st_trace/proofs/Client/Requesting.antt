@@ -1,23 +1,19 @@
 -- What a client sends to a server at the end of a step, walked: a greeting, and a request.
-use Rattle.std.proofs.Common.{◌≡◌, ℕ, Bool, true, false, List, [], ◌∷◌, ◌++◌, Option, Some, None, refl, sym, ap, ◌∙◌, subst, inl, inr, if◌then◌else◌}
-use Rattle.st_base.specs.declared.ids.Stamp.{Stamp}
-use Rattle.st_base.specs.declared.mode.Mode.TheVariants as modes
+use Rattle.st_lemmas.proofs.Words
+use Words.{◌≡◌, ℕ, Bool, true, false, List, [], ◌∷◌, ◌++◌, Option, Some, None, refl, sym, ap, ◌∙◌, subst, inl, inr, if◌then◌else◌, Stamp, Ask, HeldLock}
+use Words.{Operation, Release, Request}
+use Words.modes
+use Words.asks
+use Words.bodies
+use Words.ClientLease as lease
+use Words.ClientLocks as locks
+use Words.ClientPages as pages
+use Words.ClientPasses as cp
+use Words.ClientState.{ClientSession, Turn, file_of, is_serving, is_sync, wait_of, with_operations, with_store}
+use Words.Lists.{Has}
+use Words.Lookups.{some_is}
+use Words.Tables.{cond_either}
 use Rattle.st_base.specs.Mode.{covers}
-use Rattle.st_messages.specs.declared.ask.Ask.{Ask}
-use Rattle.st_messages.specs.declared.ask.Ask.TheVariants as asks
-use Rattle.st_messages.specs.declared.message.Body.TheVariants as bodies
-use Rattle.st_rules.specs.declared.client.HeldLock.{HeldLock}
-use Rattle.st_rules.specs.declared.client.Operation.{Operation}
-use Rattle.st_rules.specs.declared.client.Release.{Release}
-use Rattle.st_rules.specs.declared.client.Request.{Request}
-use Rattle.st_rules.specs.ClientLease as lease
-use Rattle.st_rules.specs.ClientLocks as locks
-use Rattle.st_rules.specs.ClientPages as pages
-use Rattle.st_rules.specs.ClientPasses as cp
-use Rattle.st_rules.specs.ClientState.{ClientSession, Turn, file_of, is_serving, is_sync, wait_of, with_operations, with_store}
-use Rattle.st_lemmas.specs.Lists.{Has}
-use Rattle.st_lemmas.proofs.Lookups.{some_is}
-use Rattle.st_lemmas.proofs.Tables.{cond_either}
 use Rattle.st_trace.specs.Client.Requests.{Greets, IsSilent, SaysHello, Wants, ForLock, ForPlace, ToWrite, ToPatch, ToCut, ToRemove, ToName, AsksFirst, MayAsk}
 use Rattle.st_trace.specs.Client.Requests.{IsFree, asked, Requests, AsksNothing, AsksAgain, Reasserts, Releases, AsksFor, KeepsAlive}
 

@@ -1,16 +1,11 @@
 -- A client's passes at a server, walked whole; and folds over a pass.
-use Rattle.std.proofs.Common.{◌≡◌, ℕ, Bool, true, List, [], ◌∷◌, Option, Some, None, refl, ◌∙◌}
-use Rattle.st_base.specs.declared.ids.GrantNo.{GrantNo}
-use Rattle.st_base.specs.declared.ids.PageNo.{PageNo}
-use Rattle.st_base.specs.declared.ids.Stamp.{Stamp}
-use Rattle.st_base.specs.declared.mode.Mode.{Mode}
-use Rattle.st_rules.specs.declared.pages.DirtyPage.{DirtyPage}
-use Rattle.st_rules.specs.declared.client.MappedBlock.{MappedBlock}
-use Rattle.st_rules.specs.ClientLocks as locks
-use Rattle.st_rules.specs.ClientPages as pages
-use Rattle.st_rules.specs.ClientPasses as cp
-use Rattle.st_rules.specs.ClientState.{ClientSession, Turn, with_cache}
-use Rattle.st_lemmas.proofs.Tables.{cond_either}
+use Rattle.st_lemmas.proofs.Words
+use Words.{◌≡◌, ℕ, Bool, true, List, [], ◌∷◌, Option, Some, None, refl, ◌∙◌, GrantNo, PageNo, Stamp, Mode, DirtyPage, MappedBlock}
+use Words.ClientLocks as locks
+use Words.ClientPages as pages
+use Words.ClientPasses as cp
+use Words.ClientState.{ClientSession, Turn, with_cache}
+use Words.Tables.{cond_either}
 use Rattle.st_trace.specs.Client.Each.{Each, Ends, Next}
 use Rattle.st_trace.specs.Client.Passes.{Reduced, StaysHeld, IsReduced, WritesOut, StaysDirty, IsWritten, places_of, Passed}
 use Rattle.st_trace.proofs.Client.Operating.{operations}

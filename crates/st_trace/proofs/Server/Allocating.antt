@@ -1,12 +1,9 @@
 -- What an allocation leaves: the pages that had no block are placed.
-use Rattle.std.proofs.Common.{◌≡◌, ℕ, Bool, true, false, List, length, if◌then◌else◌, Result, Ok, Err}
-use Rattle.std.specs.Prelude.{nat_le}
-use Rattle.st_base.specs.declared.ids.FileId.{FileId}
-use Rattle.st_base.specs.declared.ids.PageNo.{PageNo}
-use Rattle.st_rules.specs.declared.extents.AllocateRefusal.{AllocateRefusal}
-use Rattle.st_rules.specs.declared.extents.AllocateRefusal.TheVariants.{NoSpace}
-use Rattle.st_rules.specs.Extents as extents
-use Rattle.st_rules.specs.Extents.{Extents}
+use Rattle.st_lemmas.proofs.Words
+use Words.{◌≡◌, ℕ, Bool, true, false, List, length, if◌then◌else◌, Result, Ok, Err, nat_le, FileId, PageNo, AllocateRefusal}
+use Words.wants.{NoSpace}
+use Words.Extents as extents
+use Words.Extents.{Extents}
 
 pub allocated_pages_are_placed : (x : Extents) (f : FileId) (p : PageNo) (count : ℕ) (y : Extents) → extents.allocate x f p count ≡ Ok y →
     extents.place_pages f (extents.unmapped x f p count) x ≡ y

@@ -1,32 +1,24 @@
 -- A step of a server lets its stable part grow little: at most one inode number more, and a birth for each page that was asked for.
-use Rattle.std.proofs.Common.{◌≡◌, ℕ, zero, suc, ◌+◌, ◌≤◌, Bool, true, false, List, [], ◌∷◌, length, refl, sym, ap, ◌∙◌, subst, arith, leb-true}
-use Rattle.std.proofs.Common.{if◌then◌else◌, Result, Ok, Err}
-use Rattle.std.specs.Prelude.{not, filter, map, nat_le, nat_lt, is_some, Option, Some, None}
-use Rattle.std.proofs.lemmas.List.{length-map}
-use Rattle.st_base.specs.declared.disk.BlockAt.{BlockAt}
-use Rattle.st_base.specs.declared.ids.FileId.{FileId}
-use Rattle.st_base.specs.declared.ids.PageNo.{PageNo}
-use Rattle.st_base.specs.declared.ids.Stamp.{Stamp}
-use Rattle.st_messages.specs.declared.message.Body.{Body}
-use Rattle.st_messages.specs.declared.message.Header.{Header}
-use Rattle.st_rules.specs.declared.extents.AllocateRefusal.{AllocateRefusal}
-use Rattle.st_rules.specs.declared.extents.AllocateRefusal.TheVariants.{NoSpace}
-use Rattle.st_rules.specs.declared.input.ServerInput.{ServerInput}
-use Rattle.st_rules.specs.declared.names.EntryRefusal.{EntryRefusal}
+use Rattle.st_lemmas.proofs.Words
+use Words.{◌≡◌, ℕ, ◌+◌, ◌≤◌, Bool, true, false, List, [], ◌∷◌, length, refl, sym, ◌∙◌, subst, arith, leb-true, if◌then◌else◌, Result, Ok, Err}
+use Words.{not, nat_le, nat_lt, is_some, Option, Some, None, length-map, BlockAt, FileId, PageNo, Stamp, Body, Header, AllocateRefusal}
+use Words.{ServerInput, EntryRefusal, NameEntry}
+use Words.wants.{NoSpace}
+use Words.Extents as extents
+use Words.Extents.{Extents, numbers}
+use Words.Keys.{page_no}
+use Words.Names as names
+use Words.Names.{Changed, Names}
+use Words.Server as sv
+use Words.Server.{ServerState, Stable, ServerTurn}
+use Words.Lengths.{numbers_length}
+use Words.Tests.{filtered_no_longer}
+use Words.Truth.{if_either}
 use Rattle.st_rules.specs.declared.names.EntryRefusal.TheVariants.{Cycle, Exists, NotEmpty, TooMany}
-use Rattle.st_rules.specs.declared.names.NameEntry.{NameEntry}
-use Rattle.st_rules.specs.Extents as extents
-use Rattle.st_rules.specs.Extents.{Extents, numbers}
-use Rattle.st_rules.specs.Keys.{page_no}
-use Rattle.st_rules.specs.Names as names
-use Rattle.st_rules.specs.Names.{Changed, Names}
-use Rattle.st_rules.specs.Server as sv
-use Rattle.st_rules.specs.Server.{ServerState, Stable, ServerTurn}
 use Rattle.st_trace.specs.Server.Changing.{StableChange, Stays, Changes}
 use Rattle.st_trace.specs.Server.Edits.{Ruled, Tells, Acquires, Releases, Allocates, Cuts, Creates, MakesDir, Renames, RemovesDir, RemovesFile}
 use Rattle.st_trace.specs.Server.Growth.{GrowsLittle, pages_asked, pages_in}
 use Rattle.st_trace.proofs.Server.StableParts.{step_stable}
-use Rattle.st_trace.proofs.Server.Taking.{if_either}
 
 -- Names: at most one inode number more.
 abbrev OneMore : Names → Result Changed EntryRefusal → Type 0
@@ -100,20 +92,6 @@ release_blocks : (f : FileId) (p : PageNo) (x : Extents) → extents.own_blocks 
 unfolding extents.release_from extents.own_blocks
 release_blocks f p x = refl
 
--- those that pass a test are no more
-pub picked_are_fewer : {A : Type 0} (p : A → Bool) (xs : List A) → length (filter p xs) ≤ length xs
-picked_are_fewer p [] = omega arith
-picked_are_fewer {A} p (x ∷ xs) = go (p x) (picked_are_fewer p xs)
-  where
-    go : (b : Bool) → length (filter p xs) ≤ length xs → length (if b then x ∷ filter p xs else filter p xs) ≤ length (x ∷ xs)
-    go true h = omega arith
-    go false h = omega arith
-
-numbers_are_many : (a n : ℕ) → length (numbers a n) ≡ n
-unfolding numbers
-numbers_are_many a zero = refl
-numbers_are_many a (suc n) = ap suc (numbers_are_many (a + 1) n)
-
 record Places (asked : ℕ) (x y : Extents) : Type 0 where
   births : y.births ≤ x.births + asked
   placed : y.births ≤ x.births + length (extents.own_blocks x)
@@ -135,11 +113,11 @@ allocate_places x f p count = go (nat_le (length ps) (extents.free x)) refl
     go false e = tt
     go true e =
         let a = pages_births f ps x in
-        let b = picked_are_fewer (λ q. not (extents.is_mapped x f q)) (extents.pages_from p count) in
+        let b = filtered_no_longer (λ q. not (extents.is_mapped x f q)) (extents.pages_from p count) in
         let c = length-map (numbers p.0 count) page_no in
-        let d = numbers_are_many p.0 count in
+        let d = numbers_length p.0 count in
         let l = leb-true (length ps) (extents.free x) e in
-        let m = picked_are_fewer (extents.is_free x) (extents.own_blocks x) in
+        let m = filtered_no_longer (extents.is_free x) (extents.own_blocks x) in
         record { births = omega (arith, a, b, c, d); placed = omega (arith, a, l, m); blocks = pages_blocks f ps x }
 
 -- What the rule of a request leaves.

@@ -1,65 +1,47 @@
 -- The rules of the server for its input, walked once: right after the thefts they leave all as it was, or make one change.
-use Rattle.std.proofs.Common.{◌≡◌, ℕ, ◌+◌, ◌<◌, Bool, true, false, not, List, [], ◌∷◌, ◌++◌, ◌==◌, refl, sym, ap, ◌∙◌, subst, inl, inr, ◌⊎◌, arith}
-use Rattle.std.specs.Prelude.{cond, find, Option, Some, None, is_some, option_map, Result as Res, Ok, Err, nat_lt, nat_le}
-use Rattle.std.proofs.lemmas.Bool.{eqb-true, eq-eqb, ltb-true, ltb-false, leb-false}
-use Rattle.st_base.specs.declared.ids.ClientId.{ClientId}
-use Rattle.st_base.specs.declared.ids.GrantNo.{GrantNo}
-use Rattle.st_base.specs.declared.ids.Life.{Life}
-use Rattle.st_base.specs.declared.ids.PageNo.{PageNo}
-use Rattle.st_base.specs.declared.ids.Stamp.{Stamp}
-use Rattle.st_base.specs.declared.mode.Mode.{Mode}
-use Rattle.st_base.specs.declared.mode.Mode.TheVariants as modes
-use Rattle.st_base.specs.declared.names.NameRow.{NameRow}
+use Rattle.st_lemmas.proofs.Words
+use Words.{◌≡◌, ℕ, ◌<◌, Bool, true, false, not, List, [], ◌∷◌, ◌++◌, ◌==◌, refl, sym, ap, ◌∙◌, subst, inl, inr, ◌⊎◌, arith, cond, find, Option, Some, None}
+use Words.{is_some, option_map, Result as Res, Ok, Err, nat_lt, eqb-true, eq-eqb, ltb-true, ltb-false, ClientId, GrantNo, Life, PageNo}
+use Words.{Stamp, Mode, NameRow, Header, Message, Body, NameOp, Output, AcceptRefusal, Suspect, AllocateRefusal, ServerInput, AcquireRefusal, LockRow}
+use Words.{EntryRefusal, NameEntry, Session, Taken, leb-false}
+use Words.modes
+use Words.bodies as bd
+use Words.ops
+use Words.replies
+use Words.outputs
+use Words.wants
+use Words.serving.{Tick, Control}
+use Words.hellos
+use Words.states.{Live}
+use Words.takes
+use Words.Authority as authority
+use Words.Dating.{is_request}
+use Words.Extents as extents
+use Words.Extents.{Extents}
+use Words.Grace as grace
+use Words.Grace.{accept, accept_rows, accept_earlier, accept_own, accept_installed, accepted}
+use Words.Keys.{server_node}
+use Words.Locks as locks
+use Words.Locks.{Locks, row_of, may_grant, first_conflict, with_rows, install, install_at}
+use Words.Names as names
+use Words.Server as sv
+use Words.Server.{ServerState, ServerTurn, Replied, turn, with_locks, with_sessions, with_names, sender, life_in, reply, thefts}
+use Words.Sessions as sessions
+use Words.Lists.{Has}
+use Words.Tables.{cond_either, and_true, not_true, find_gone, find_kept, find_map}
+use Words.Serving.{end_client}
+use Words.Truth.{none_not_some}
 use Rattle.st_base.specs.Mode.{covers}
-use Rattle.st_messages.specs.declared.message.Header.{Header}
-use Rattle.st_messages.specs.declared.message.Message.{Message}
-use Rattle.st_messages.specs.declared.message.Body.{Body}
-use Rattle.st_messages.specs.declared.message.Body.TheVariants as bd
-use Rattle.st_messages.specs.declared.message.NameOp.{NameOp}
-use Rattle.st_messages.specs.declared.message.NameOp.TheVariants as ops
-use Rattle.st_messages.specs.declared.message.NameReply.TheVariants as replies
-use Rattle.st_messages.specs.declared.output.Output.{Output}
-use Rattle.st_messages.specs.declared.output.Output.TheVariants as outputs
-use Rattle.st_rules.specs.declared.authority.AcceptRefusal.{AcceptRefusal}
 use Rattle.st_rules.specs.declared.authority.AcceptRefusal.TheVariants as refusals
-use Rattle.st_rules.specs.declared.authority.Suspect.{Suspect}
-use Rattle.st_rules.specs.declared.extents.AllocateRefusal.{AllocateRefusal}
-use Rattle.st_rules.specs.declared.extents.AllocateRefusal.TheVariants as wants
-use Rattle.st_rules.specs.declared.input.ServerInput.{ServerInput}
-use Rattle.st_rules.specs.declared.input.ServerInput.TheVariants.{Tick, Control}
-use Rattle.st_rules.specs.declared.locks.AcquireRefusal.{AcquireRefusal}
 use Rattle.st_rules.specs.declared.locks.AcquireRefusal.TheVariants.{TooManyLocks}
-use Rattle.st_rules.specs.declared.locks.LockRow.{LockRow}
-use Rattle.st_rules.specs.declared.names.EntryRefusal.{EntryRefusal}
 use Rattle.st_rules.specs.declared.names.EntryRefusal.TheVariants as refused
-use Rattle.st_rules.specs.declared.names.NameEntry.{NameEntry}
-use Rattle.st_rules.specs.declared.sessions.Hello.TheVariants as hellos
-use Rattle.st_rules.specs.declared.sessions.Session.{Session}
-use Rattle.st_rules.specs.declared.sessions.SessionState.TheVariants.{Live}
-use Rattle.st_rules.specs.declared.sessions.Taken.{Taken}
-use Rattle.st_rules.specs.declared.sessions.Taken.TheVariants as takes
-use Rattle.st_rules.specs.Authority as authority
-use Rattle.st_rules.specs.Dating.{is_request}
-use Rattle.st_rules.specs.Extents as extents
-use Rattle.st_rules.specs.Extents.{Extents}
-use Rattle.st_rules.specs.Grace as grace
-use Rattle.st_rules.specs.Grace.{accept, accept_rows, accept_earlier, accept_own, accept_installed, accepted}
-use Rattle.st_rules.specs.Keys.{server_node}
-use Rattle.st_rules.specs.Locks as locks
-use Rattle.st_rules.specs.Locks.{Locks, row_of, may_grant, first_conflict, with_rows, install, install_at}
-use Rattle.st_rules.specs.Names as names
-use Rattle.st_rules.specs.Server as sv
-use Rattle.st_rules.specs.Server.{ServerState, ServerTurn, Replied, turn, with_locks, with_sessions, with_names, sender, life_in, reply, thefts}
-use Rattle.st_rules.specs.Sessions as sessions
-use Rattle.st_lemmas.specs.Lists.{Has}
-use Rattle.st_lemmas.proofs.Tables.{cond_either, and_true, not_true, find_gone, find_kept, find_map}
 use Rattle.st_trace.proofs.Server.Taking.{clash, found_for, again_state, fresh_state}
 use Rattle.st_trace.specs.Server.Edits.{AtThefts, AtInput, NoSends, Begun, Came, Heard, Greeted, Asked, Served, Reasserted, NameRefused, NoLookup, NoCreate}
-use Rattle.st_trace.specs.Server.Edits.{NoMkdir, NoRename, NoList, NoEntry, NoRemove, IsFolder, file_in, lock_in, Told, IsAlive, IsHeld, HasTooMany}
-use Rattle.st_trace.specs.Server.Edits.{HasNoRow, IsMapped, IsNoFile, HoldsNot, HasNoSpace, IsNamed, AreListed, IsRefused, RemovesNot, AtOnce, InTurn}
-use Rattle.st_trace.specs.Server.Edits.{Lacks, Ruled, Tells, Acquires, Releases, Allocates, Cuts, Creates, MakesDir, Renames, RemovesDir, RemovesFile}
-use Rattle.st_trace.specs.Server.Edits.{Refused, IsSuspect, GreetsInGrace, OfOtherEpoch, HasNoSession, IsRefusedRows, Edit, TakesTimers, Steals, Welcomes}
-use Rattle.st_trace.specs.Server.Edits.{Begins, Replaces, PutsOff, Sees, Reasserts, Serves, Repeats, Refuses}
+use Rattle.st_trace.specs.Server.Edits.{NoMkdir, NoRename, NoList, NoEntry, NoRemove, IsFolder, file_in, lock_in, Told, IsAlive, IsHeld, HasTooMany, HasNoRow}
+use Rattle.st_trace.specs.Server.Edits.{IsMapped, IsNoFile, HoldsNot, HasNoSpace, IsNamed, AreListed, IsRefused, RemovesNot, AtOnce, InTurn, Lacks, Ruled}
+use Rattle.st_trace.specs.Server.Edits.{Tells, Acquires, Releases, Allocates, Cuts, Creates, MakesDir, Renames, RemovesDir, RemovesFile, Refused, IsSuspect}
+use Rattle.st_trace.specs.Server.Edits.{GreetsInGrace, OfOtherEpoch, HasNoSession, IsRefusedRows, Edit, TakesTimers, Steals, Welcomes, Begins, Replaces}
+use Rattle.st_trace.specs.Server.Edits.{PutsOff, Sees, Reasserts, Serves, Repeats, Refuses}
 
 -- The thefts.
 
@@ -73,17 +55,6 @@ no_sends_note (outputs.Submit c d e ∷ os) o a b = no_sends_note os o a b
 some_is : {A : Type 0} {x y : A} → Some x ≡ Some y → x ≡ y
 some_is e = cc
 
-no_some : {A : Type 0} (x : A) → ◌≡◌ {A = Option A} None (Some x) → ⊥
-no_some x e = cc
-
-end_client : (c : ClientId) (x : Session) → (sessions.end_of c x).client ≡ x.client
-unfolding sessions.ended
-end_client c x = go (sessions.is_session_of c x)
-  where
-    go : (b : Bool) → (cond b (sessions.ended x) x).client ≡ x.client
-    go true = refl
-    go false = refl
-
 ended_from : (t : sessions.Sessions) (c d : ClientId) (y : Session) → sessions.session_of (sessions.end t c) d ≡ Some y → sessions.is_live y ≡ true →
     sessions.session_of t d ≡ Some y
 unfolding sessions.end sessions.ended
@@ -96,7 +67,7 @@ ended_from t c d y e l =
     at x false q = some_is q
 
     go : (o : Option Session) → sessions.session_of t d ≡ o → option_map (sessions.end_of c) o ≡ Some y → o ≡ Some y
-    go None f q = absurd (no_some y q)
+    go None f q = absurd (none_not_some y q)
     go (Some x) f q = ap Some (at x (sessions.is_session_of c x) q)
 
 forget_from : (l : Locks) (c d : ClientId) (i : ℕ) (r : LockRow) → locks.row_of (locks.forget l c) d i ≡ Some r → locks.row_of l d i ≡ Some r
@@ -111,7 +82,7 @@ forget_from l c d i r e = go (d.0 == c.0) refl
     pick x f h false q = refl
 
     go : (b : Bool) → (d.0 == c.0) ≡ b → locks.row_of l d i ≡ Some r
-    go true f = absurd (no_some r
+    go true f = absurd (none_not_some r
         (sym (find_gone (locks.is_row_of d i) (λ r. not (locks.is_row_by c r)) (λ x h. ap not (eq-eqb x.client.0 c.0 (of x h ∙ eqb-true _ _ f))) l.rows) ∙ e))
     go false f = sym (find_kept (locks.is_row_of d i) (λ r. not (locks.is_row_by c r)) (λ x h. pick x f h (x.client.0 == c.0) refl) l.rows) ∙ e
 
@@ -147,20 +118,21 @@ thefts_begun n now = steals_begun n (authority.over n.authority now) _ (record {
 })
 
 module _ (n : ServerState) (now : Stamp) (i : ServerInput) (P : ServerTurn → Type 0) (keeps : (t u : ServerTurn) → Edit n now i AtThefts t u → P t → P u) where
-  w_steal : (t : ServerTurn) (c : ClientId) (o : Option Session) → sessions.session_of t.state.sessions c ≡ o →
+  walk_of_steal : (t : ServerTurn) (c : ClientId) (o : Option Session) → sessions.session_of t.state.sessions c ≡ o →
       Has c (authority.over n.authority now) → P t → P (sv.steal_at t c o)
   unfolding sv.steal_at
-  w_steal t c None e h p = p
-  w_steal t c (Some s) e h p = keeps t _ (Steals t c s h e) p
+  walk_of_steal t c None e h p = p
+  walk_of_steal t c (Some s) e h p = keeps t _ (Steals t c s h e) p
 
-  w_steals : (cs : List ClientId) (t : ServerTurn) → ((c : ClientId) → Has c cs → Has c (authority.over n.authority now)) → P t → P (sv.steal_each cs t)
+  walk_of_steals : (cs : List ClientId) (t : ServerTurn) → ((c : ClientId) → Has c cs → Has c (authority.over n.authority now)) → P t → P (sv.steal_each cs t)
   unfolding sv.steal_each sv.steal
-  w_steals [] t h p = p
-  w_steals (c ∷ cs) t h p = w_steals cs (sv.steal t c) (λ d k. h d (inr k)) (w_steal t c (sessions.session_of t.state.sessions c) refl (h c (inl refl)) p)
+  walk_of_steals [] t h p = p
+  walk_of_steals (c ∷ cs) t h p = walk_of_steals cs (sv.steal t c) (λ d k. h d (inr k))
+      (walk_of_steal t c (sessions.session_of t.state.sessions c) refl (h c (inl refl)) p)
 
-  pub w_thefts : P (turn n []) → P (thefts (turn n []) now)
+  pub walk_of_thefts : P (turn n []) → P (thefts (turn n []) now)
   unfolding thefts
-  w_thefts p = w_steals (authority.over n.authority now) _ (λ c h. h) (keeps _ _ (TakesTimers (turn n []) refl) p)
+  walk_of_thefts p = walk_of_steals (authority.over n.authority now) _ (λ c h. h) (keeps _ _ (TakesTimers (turn n []) refl) p)
 
 -- What rules find.
 
@@ -220,9 +192,6 @@ accepted_is g now l t c life rs a e = graced (grace.is_on g now) refl e
 same_session : (x y : Session) → ◌≡◌ {A = Option Session} (Some x) (Some y) → x ≡ y
 same_session x y e = cc
 
-past_below : (a b : ℕ) → nat_le a b ≡ false → b < a
-past_below a b e = leb-false a b e
-
 -- a life that is neither below a session's nor its own is above it
 above : (a b : ℕ) → nat_lt b a ≡ false → (b == a) ≡ false → a < b
 above a b l e = go (nat_lt a b) refl
@@ -272,14 +241,14 @@ module _ (now : Stamp) (t : ServerTurn) (h : Header) where
   made_by_row ino mode f None e =
       cond_either (AcquiredBy ino mode) (locks.has_place t.state.locks (sender h) ino)
       (Ok (locks.acquire_more t.state.locks (sender h) (life_in h) ino mode (sv.grants_now t now))) (Err TooManyLocks)
-      (λ q. made_more ino mode f (record { covered = λ r x. absurd (no_some r (sym e ∙ x)); place = λ x. q })) (λ q. told _ _ (HasTooMany ino mode f e q))
+      (λ q. made_more ino mode f (record { covered = λ r x. absurd (none_not_some r (sym e ∙ x)); place = λ x. q })) (λ q. told _ _ (HasTooMany ino mode f e q))
   made_by_row ino mode f (Some r) e =
       cond_either (λ (a : locks.Acquired). AcquiredBy ino mode (Ok a)) (covers r.mode mode) (locks.acquire_held t.state.locks r)
       (locks.acquire_more t.state.locks (sender h) (life_in h) ino mode (sv.grants_now t now)) (λ q. told _ _ (IsHeld ino mode r f e q))
       (λ q. made_more ino mode f
       (record {
         covered = λ s x. subst (λ (y : LockRow). covers y.mode mode ≡ false) (some_is (sym e ∙ x)) q;
-        place = λ x. absurd (no_some r (sym x ∙ e));
+        place = λ x. absurd (none_not_some r (sym x ∙ e));
       }))
 
   made_acquire : (ino : ℕ) (mode : Mode) → Made now t h (bd.Acquire ino mode) (sv.acquire t now h ino mode)
@@ -463,21 +432,21 @@ module _ (n : ServerState) (now : Stamp) (m : Message) (t : ServerTurn) (came : 
           (λ a. cond_either By (sessions.is_past (life_in h) s) (sessions.greeted hellos.Old t.state.sessions)
           (sessions.begin_session hellos.Welcome (sender h) (life_in h) t.state.sessions) (λ b. inl refl)
           (λ b. inr (Begins t m greeting (λ x f. let q = same_session s x (sym e ∙ f) in
-          (subst (λ (y : Session). sessions.is_live y ≡ false) q a, subst (λ (y : Session). y.life.0 < h.life) q (past_below h.life s.life.0 b))))))
+          (subst (λ (y : Session). sessions.is_live y ≡ false) q a, subst (λ (y : Session). y.life.0 < h.life) q (leb-false h.life s.life.0 b))))))
         where
           rows : Bool
           rows = locks.has_rows t.state.locks (sender h)
 
-    w_hello : m.body ≡ bd.Hello → Once (sv.hello t now h)
+    walk_of_hello : m.body ≡ bd.Hello → Once (sv.hello t now h)
     unfolding sv.hello sv.greet sv.refuse_in_grace sessions.hello
-    w_hello b =
+    walk_of_hello b =
         cond_either Once (sv.in_grace t now) (sv.refuse_in_grace t h) (sv.greet t now h)
         (λ e. refuses _ (GreetsInGrace heard b e)) (λ e. by_session b e (sessions.session_of t.state.sessions (sender h)) refl)
 
     -- Seen demands.
-    w_seen : (ino : ℕ) (g : GrantNo) → m.body ≡ bd.DemandSeen ino g → Once (sv.demand_seen t h ino g)
+    walk_of_seen : (ino : ℕ) (g : GrantNo) → m.body ≡ bd.DemandSeen ino g → Once (sv.demand_seen t h ino g)
     unfolding sv.demand_seen sv.observe_demand
-    w_seen ino g b = cond_either Once (sv.is_served t h) (sv.observe_demand t h ino g) t (λ e. inr (Sees t m ino g heard b e)) (λ e. inl refl)
+    walk_of_seen ino g b = cond_either Once (sv.is_served t h) (sv.observe_demand t h ino g) t (λ e. inr (Sees t m ino g heard b e)) (λ e. inl refl)
 
     -- Requests of this epoch.
     module _ (request : is_request m.body ≡ true) (epoch : h.epoch ≡ t.state.stable.epoch.0) where
@@ -491,29 +460,29 @@ module _ (n : ServerState) (now : Stamp) (m : Message) (t : ServerTurn) (came : 
           inr (Repeats t m z.session b asked e z.is z.of_life z.state)
 
       -- Reassertion.
-      w_again : (tk : Taken Body) → sv.take t h ≡ tk → Once (sv.reassert_again t h tk)
+      walk_of_again : (tk : Taken Body) → sv.take t h ≡ tk → Once (sv.reassert_again t h tk)
       unfolding sv.reassert_again
-      w_again (takes.Again b) e = repeats b e
-      w_again takes.OtherEpoch e = inl refl
-      w_again takes.NoSession e = inl refl
-      w_again takes.Stale e = inl refl
-      w_again takes.Fresh e = inl refl
-      w_again takes.OutOfOrder e = inl refl
+      walk_of_again (takes.Again b) e = repeats b e
+      walk_of_again takes.OtherEpoch e = inl refl
+      walk_of_again takes.NoSession e = inl refl
+      walk_of_again takes.Stale e = inl refl
+      walk_of_again takes.Fresh e = inl refl
+      walk_of_again takes.OutOfOrder e = inl refl
 
-      w_accept : (rs : List (ℕ × GrantNo × Mode)) → Reasserted n now (Control m) t m rs → (x : Res grace.Accepted AcceptRefusal) →
+      walk_of_accept : (rs : List (ℕ × GrantNo × Mode)) → Reasserted n now (Control m) t m rs → (x : Res grace.Accepted AcceptRefusal) →
           accept t.state.grace now (sender h) (life_in h) rs t.state.locks t.state.sessions ≡ x → Once (sv.reassert_by t h x)
       unfolding sv.reassert_by
-      w_accept rs r (Err q) e = refuses _ (IsRefusedRows rs q r e)
-      w_accept rs r (Ok a) e =
+      walk_of_accept rs r (Err q) e = refuses _ (IsRefusedRows rs q r e)
+      walk_of_accept rs r (Ok a) e =
           let z = accepted_is t.state.grace now t.state.locks t.state.sessions (sender h) (life_in h) rs a e in
           subst (λ (a : grace.Accepted). Once (reply (with_sessions a.sessions (with_locks a.locks t)) h bd.Reasserted)) (sym z.is)
           (inr (Reasserts t m rs r z.on z.free))
 
-      w_reassert : (rs : List (ℕ × GrantNo × Mode)) → m.body ≡ bd.Reassert rs → Once (sv.reassert t now h rs)
+      walk_of_reassert : (rs : List (ℕ × GrantNo × Mode)) → m.body ≡ bd.Reassert rs → Once (sv.reassert t now h rs)
       unfolding sv.reassert sv.reassert_new
-      w_reassert rs b =
+      walk_of_reassert rs b =
           cond_either Once (sessions.knows t.state.sessions (sender h) (life_in h)) (sv.reassert_again t h (sv.take t h)) (sv.reassert_new t now h rs)
-          (λ e. w_again (sv.take t h) refl) (λ e. w_accept rs (record { asked = asked; asks = b; new = e }) _ refl)
+          (λ e. walk_of_again (sv.take t h) refl) (λ e. walk_of_accept rs (record { asked = asked; asks = b; new = e }) _ refl)
 
       -- The next request of a session is served.
       served : sv.take t h ≡ takes.Fresh → Served n now (Control m) t m
@@ -535,53 +504,53 @@ module _ (n : ServerState) (now : Stamp) (m : Message) (t : ServerTurn) (came : 
             next = f.next;
           }
 
-      w_made : Served n now (Control m) t m → (a : Replied) → sv.rule t now h m.body ≡ a → Made now t h m.body a → Once (sv.serve h a)
+      walk_of_made : Served n now (Control m) t m → (a : Replied) → sv.rule t now h m.body ≡ a → Made now t h m.body a → Once (sv.serve h a)
       unfolding sv.serve sv.keep
-      w_made s a e Silent = inl refl
-      w_made s a e (Answered u b r) = inr (Serves t m u b s e r)
+      walk_of_made s a e Silent = inl refl
+      walk_of_made s a e (Answered u b r) = inr (Serves t m u b s e r)
 
-      w_serve : sv.take t h ≡ takes.Fresh → Once (sv.serve h (sv.rule t now h m.body))
-      w_serve e = w_made (served e) (sv.rule t now h m.body) refl (made now t h m.body)
+      walk_of_serve : sv.take t h ≡ takes.Fresh → Once (sv.serve h (sv.rule t now h m.body))
+      walk_of_serve e = walk_of_made (served e) (sv.rule t now h m.body) refl (made now t h m.body)
 
-      w_taken : (tk : Taken Body) → sv.take t h ≡ tk → Once (sv.request_by t now h m.body tk)
+      walk_of_taken : (tk : Taken Body) → sv.take t h ≡ tk → Once (sv.request_by t now h m.body tk)
       unfolding sv.request_by sv.refuse_epoch
-      w_taken takes.OtherEpoch e = refuses _ (OfOtherEpoch heard request)
-      w_taken takes.NoSession e = refuses _ (HasNoSession asked e)
-      w_taken takes.Stale e = inl refl
-      w_taken (takes.Again b) e = repeats b e
-      w_taken takes.OutOfOrder e = inl refl
-      w_taken takes.Fresh e = w_serve e
+      walk_of_taken takes.OtherEpoch e = refuses _ (OfOtherEpoch heard request)
+      walk_of_taken takes.NoSession e = refuses _ (HasNoSession asked e)
+      walk_of_taken takes.Stale e = inl refl
+      walk_of_taken (takes.Again b) e = repeats b e
+      walk_of_taken takes.OutOfOrder e = inl refl
+      walk_of_taken takes.Fresh e = walk_of_serve e
 
-      w_request : (b : Body) → m.body ≡ b → Once (sv.request t now h b)
+      walk_of_request : (b : Body) → m.body ≡ b → Once (sv.request t now h b)
       unfolding sv.request
-      w_request (bd.Reassert rs) e = w_reassert rs e
-      w_request b e = subst (λ b. Once (sv.request_by t now h b (sv.take t h))) e (w_taken (sv.take t h) refl)
+      walk_of_request (bd.Reassert rs) e = walk_of_reassert rs e
+      walk_of_request b e = subst (λ b. Once (sv.request_by t now h b (sv.take t h))) e (walk_of_taken (sv.take t h) refl)
 
-    w_of_epoch : (b : Body) → m.body ≡ b → is_request m.body ≡ true → Once (sv.of_epoch t now h b)
+    walk_of_of_epoch : (b : Body) → m.body ≡ b → is_request m.body ≡ true → Once (sv.of_epoch t now h b)
     unfolding sv.of_epoch sv.refuse_epoch
-    w_of_epoch b e r =
+    walk_of_of_epoch b e r =
         cond_either Once (h.epoch == t.state.stable.epoch.0) (sv.request t now h b) (sv.refuse_epoch t h)
-        (λ q. w_request r (eqb-true _ _ q) b e) (λ q. refuses _ (OfOtherEpoch heard r))
+        (λ q. walk_of_request r (eqb-true _ _ q) b e) (λ q. refuses _ (OfOtherEpoch heard r))
 
-    w_by_body : (b : Body) → m.body ≡ b → Once (sv.by_body t now h b)
+    walk_of_by_body : (b : Body) → m.body ≡ b → Once (sv.by_body t now h b)
     unfolding sv.by_body
-    w_by_body bd.Hello e = w_hello e
-    w_by_body (bd.DemandSeen i g) e = w_seen i g e
-    w_by_body b e = w_of_epoch b e (ap is_request e)
+    walk_of_by_body bd.Hello e = walk_of_hello e
+    walk_of_by_body (bd.DemandSeen i g) e = walk_of_seen i g e
+    walk_of_by_body b e = walk_of_of_epoch b e (ap is_request e)
 
-  w_refuse : (start : Stamp) (b : Body) → m.body ≡ b → authority.started t.state.authority (sender h) ≡ Some start → Once (sv.refuse_suspect t h start b)
+  walk_of_refuse : (start : Stamp) (b : Body) → m.body ≡ b → authority.started t.state.authority (sender h) ≡ Some start → Once (sv.refuse_suspect t h start b)
   unfolding sv.refuse_suspect
-  w_refuse start (bd.DemandSeen i g) e s = inl refl
-  w_refuse start b e s = refuses _ (IsSuspect start came (ap is_request e) s)
+  walk_of_refuse start (bd.DemandSeen i g) e s = inl refl
+  walk_of_refuse start b e s = refuses _ (IsSuspect start came (ap is_request e) s)
 
-  w_by_suspicion : (x : Option Stamp) → authority.started t.state.authority (sender h) ≡ x → Once (sv.by_suspicion t now h m.body x)
+  walk_of_by_suspicion : (x : Option Stamp) → authority.started t.state.authority (sender h) ≡ x → Once (sv.by_suspicion t now h m.body x)
   unfolding sv.by_suspicion
-  w_by_suspicion None e = w_by_body (none_runs (authority.suspect_of t.state.authority (sender h)) e) m.body refl
+  walk_of_by_suspicion None e = walk_of_by_body (none_runs (authority.suspect_of t.state.authority (sender h)) e) m.body refl
     where
       none_runs : (o : Option Suspect) → option_map authority.start_of o ≡ None → not (is_some o) ≡ true
       none_runs None e = refl
       none_runs (Some s) e = cc
-  w_by_suspicion (Some start) e = w_refuse start m.body refl e
+  walk_of_by_suspicion (Some start) e = walk_of_refuse start m.body refl e
 
 -- What the input of a step does, right after the thefts: nothing, or one change.
 pub input_once : (n : ServerState) (now : Stamp) (i : ServerInput) →
@@ -593,7 +562,7 @@ input_once n now (Control m) =
     cond_either (λ u. (u ≡ thefts (turn n []) now) ⊎ Edit n now (Control m) AtInput (thefts (turn n []) now) u)
     (sv.is_for (thefts (turn n []) now).state m.header) _ (thefts (turn n []) now)
     (λ e. let z = and_true (m.header.to == server_node (thefts (turn n []) now).state.id) _ e in
-    w_by_suspicion n now m (thefts (turn n []) now) (record {
+    walk_of_by_suspicion n now m (thefts (turn n []) now) (record {
       is = refl;
       first = refl;
       begun = thefts_begun n now;

@@ -1,7 +1,7 @@
 -- A step leaves the stable part of a server as it was, or makes of it what one request asked for.
-use Rattle.st_base.specs.declared.ids.Stamp.{Stamp}
-use Rattle.st_rules.specs.declared.input.ServerInput.{ServerInput}
-use Rattle.st_rules.specs.Server.{ServerState, ServerTurn, reply, tell, steal_from, suspect_client, keep_and_reply, server_step}
+use Rattle.st_lemmas.proofs.Words
+use Words.{Stamp, ServerInput}
+use Words.Server.{ServerState, ServerTurn, reply, tell, steal_from, suspect_client, keep_and_reply, server_step}
 use Rattle.st_trace.specs.Server.Changing.{StableChange, Stays, Changes}
 use Rattle.st_trace.specs.Server.Edits.{Phase, Edit, TakesTimers, Steals, Welcomes, Begins, Replaces, PutsOff, Sees, Reasserts, Serves, Repeats, Refuses}
 use Rattle.st_trace.specs.Server.Edits.{Suspects, Grants, Demands}

@@ -1,22 +1,11 @@
 -- What a request finds of its client's session at a server, and how a number is taken there.
-use Rattle.std.proofs.Common.{◌≡◌, ℕ, ◌+◌, Bool, true, false, ◌==◌, refl, sym, ap, ◌∙◌, arith, if◌then◌else◌}
-use Rattle.std.specs.Prelude.{Option, Some, None, nat_lt}
-use Rattle.std.proofs.lemmas.Bool.{eqb-true, ltb-false}
-use Rattle.st_base.specs.declared.ids.ClientId.{ClientId}
-use Rattle.st_base.specs.declared.ids.Epoch.{Epoch}
-use Rattle.st_base.specs.declared.ids.Life.{Life}
-use Rattle.st_messages.specs.declared.message.Body.{Body}
-use Rattle.st_rules.specs.declared.sessions.Session.{Session}
-use Rattle.st_rules.specs.declared.sessions.SessionState.{SessionState}
-use Rattle.st_rules.specs.declared.sessions.SessionState.TheVariants as states
-use Rattle.st_rules.specs.declared.sessions.Taken.{Taken}
-use Rattle.st_rules.specs.declared.sessions.Taken.TheVariants as takes
-use Rattle.st_rules.specs.Sessions as sessions
-use Rattle.st_rules.specs.Server.{reply}
-
-pub if_either : {A : Type 0} (P : A → Type 0) (b : Bool) (x y : A) → P x → P y → P (if b then x else y)
-if_either P true x y p q = p
-if_either P false x y p q = q
+use Rattle.st_lemmas.proofs.Words
+use Words.{◌≡◌, ℕ, ◌+◌, Bool, true, false, ◌==◌, refl, sym, ap, ◌∙◌, arith, if◌then◌else◌, Option, Some, None, nat_lt, eqb-true, ltb-false, ClientId, Epoch}
+use Words.{Life, Body, Session, SessionState, Taken}
+use Words.states
+use Words.takes
+use Words.Sessions as sessions
+use Words.Server.{reply}
 
 pub if_cases : {A : Type 0} (P : A → Type 0) (b : Bool) (x y : A) → (b ≡ true → P x) → (b ≡ false → P y) → P (if b then x else y)
 if_cases P true x y p q = p refl

@@ -1,40 +1,28 @@
 -- The rules of the server, walked once: what every change of a step keeps, the step keeps.
-use Rattle.std.proofs.Common.{◌≡◌, ℕ, zero, suc, ◌+◌, Bool, true, false, List, [], ◌∷◌, ◌++◌, ◌==◌, refl, sym, ap, ◌∙◌, subst, inl, inr, ◌⊎◌}
-use Rattle.std.specs.Prelude.{cond, not, find, filter, map, length, Option, Some, None}
-use Rattle.std.specs.List.{list_any}
-use Rattle.std.proofs.lemmas.Bool.{eqb-true}
-use Rattle.st_base.specs.declared.ids.ClientId.{ClientId}
-use Rattle.st_base.specs.declared.ids.GrantNo.{GrantNo}
-use Rattle.st_base.specs.declared.ids.Life.{Life}
-use Rattle.st_base.specs.declared.ids.Stamp.{Stamp}
-use Rattle.st_base.specs.declared.config.Config.{Config}
-use Rattle.st_base.specs.declared.mode.Mode.{Mode}
-use Rattle.st_messages.specs.declared.message.Body.TheVariants as bd
-use Rattle.st_rules.specs.declared.input.ServerInput.{ServerInput}
-use Rattle.st_rules.specs.declared.input.ServerInput.TheVariants.{Tick, Control}
-use Rattle.st_rules.specs.declared.locks.LockRow.{LockRow}
-use Rattle.st_rules.specs.declared.locks.RowDemand.{RowDemand}
-use Rattle.st_rules.specs.declared.locks.Waiter.{Waiter}
-use Rattle.st_rules.specs.Authority as authority
-use Rattle.st_rules.specs.Grace as grace
-use Rattle.st_rules.specs.Keys.{client, rising}
-use Rattle.st_rules.specs.Locks as locks
-use Rattle.st_rules.specs.Locks.{Locks, Granting, Demanding, row_of, stands_against, grantable, next_waiter, grant_waiter, grant_and, grant_file}
-use Rattle.st_rules.specs.Locks.{grant_files, next_grants, demand_now, demand_with, demand_row, demand_clients, demand_for, demand_files, demands_due}
-use Rattle.st_rules.specs.Locks.{grant, to_demand, with_demand}
-use Rattle.st_rules.specs.Server as sv
-use Rattle.st_rules.specs.Server.{ServerState, ServerTurn, turn, with_locks, tell, thefts, suspect_client, tell_granted, tell_demanded, server_step}
-use Rattle.st_lemmas.specs.Lists.{Has}
-use Rattle.st_lemmas.proofs.Tables.{cond_either, and_true, found_at, has_map, has_filter}
+use Rattle.st_lemmas.proofs.Words
+use Words.{◌≡◌, ℕ, zero, suc, ◌+◌, Bool, true, false, List, [], ◌∷◌, ◌++◌, ◌==◌, refl, sym, ap, ◌∙◌, subst, inl, inr, ◌⊎◌, cond, not, find, filter, map, length}
+use Words.{Option, Some, None, list_any, eqb-true, ClientId, GrantNo, Life, Stamp, Config, Mode, ServerInput, LockRow, RowDemand, Waiter}
+use Words.bodies as bd
+use Words.serving.{Tick, Control}
+use Words.Authority as authority
+use Words.Grace as grace
+use Words.Keys.{client, rising}
+use Words.Locks as locks
+use Words.Locks.{Locks, Granting, Demanding, row_of, stands_against, grantable, next_waiter, grant_waiter, grant_and, grant_file, grant_files, next_grants}
+use Words.Locks.{demand_now, demand_with, demand_row, demand_clients, demand_for, demand_files, demands_due, grant, to_demand, with_demand}
+use Words.Server as sv
+use Words.Server.{ServerState, ServerTurn, turn, with_locks, tell, thefts, suspect_client, tell_granted, tell_demanded, server_step}
+use Words.Lists.{Has}
+use Words.Tables.{cond_either, and_true, found_at, has_map, has_filter}
 use Rattle.st_lemmas.proofs.Keys.{rising_has}
 use Rattle.st_trace.specs.Server.Edits.{NoSends, Phase, AtThefts, AtInput, AtSuspicion, AtGrants, AtDemands, Edit, Suspects, Grants, Demands}
-use Rattle.st_trace.proofs.Server.Input.{thefts_begun, no_sends_note, w_thefts, input_once}
+use Rattle.st_trace.proofs.Server.Input.{thefts_begun, no_sends_note, walk_of_thefts, input_once}
 
 -- The input, from a fact that holds after the thefts to another.
 module _ (n : ServerState) (now : Stamp) (i : ServerInput) (P Q : ServerTurn → Type 0) (becomes : (t : ServerTurn) → P t → Q t)
     (keeps : (t u : ServerTurn) → Edit n now i AtInput t u → P t → Q u) where
-  pub w_input : P (thefts (turn n []) now) → Q (sv.take_input (thefts (turn n []) now) now i)
-  w_input p = go (input_once n now i)
+  pub walk_of_input : P (thefts (turn n []) now) → Q (sv.take_input (thefts (turn n []) now) now i)
+  walk_of_input p = go (input_once n now i)
     where
       go : (sv.take_input (thefts (turn n []) now) now i ≡ thefts (turn n []) now) ⊎
           Edit n now i AtInput (thefts (turn n []) now) (sv.take_input (thefts (turn n []) now) now i) → Q (sv.take_input (thefts (turn n []) now) now i)
@@ -68,20 +56,20 @@ module _ (n : ServerState) (now : Stamp) (i : ServerInput) (P : ServerTurn → T
         quiet = no_sends_note t.out _ s.quiet tt;
       }
 
-  w_suspects : (k : Config) (rows : List LockRow) (cs : List ClientId) (t : ServerTurn) → i ≡ Tick →
+  walk_of_suspects : (k : Config) (rows : List LockRow) (cs : List ClientId) (t : ServerTurn) → i ≡ Tick →
       ((c : ClientId) → Has c cs → (r : LockRow) × Has r rows × (r.client ≡ c) × (locks.is_overdue k now r ≡ true)) → Suspecting k rows t →
       Suspecting k rows (sv.suspect_each now cs t)
   unfolding sv.suspect_each sv.suspect_unless
-  w_suspects k rows [] t is f s = s
-  w_suspects k rows (c ∷ cs) t is f s =
-      w_suspects k rows cs _ is (λ d j. f d (inr j))
+  walk_of_suspects k rows [] t is f s = s
+  walk_of_suspects k rows (c ∷ cs) t is f s =
+      walk_of_suspects k rows cs _ is (λ d j. f d (inr j))
       (cond_either (Suspecting k rows) (authority.may_ack t.state.authority c) (suspect_client t now c) t (λ q. let z = f c (inl refl) in
       suspected k rows t c is z.0 z.1 z.2 z.3 q s) (λ q. s))
 
-  pub w_suspecting : (t : ServerTurn) → i ≡ Tick → NoSends t.out → P t → P (sv.suspecting t now)
+  pub walk_of_suspecting : (t : ServerTurn) → i ≡ Tick → NoSends t.out → P t → P (sv.suspecting t now)
   unfolding sv.suspecting locks.unanswered
-  w_suspecting t is q p =
-      (w_suspects t.state.config t.state.locks.rows _ t is
+  walk_of_suspecting t is q p =
+      (walk_of_suspects t.state.config t.state.locks.rows _ t is
       (λ c k. let a = has_map client (rising (map locks.client_of_row (filter (locks.is_overdue t.state.config now) t.state.locks.rows))) c k in
       let b = has_map locks.client_of_row (filter (locks.is_overdue t.state.config now) t.state.locks.rows) a.0 (rising_has _ a.0 a.1) in
       let f = has_filter (locks.is_overdue t.state.config now) t.state.locks.rows b.0 b.1 in
@@ -137,19 +125,20 @@ module _ (n : ServerState) (now : Stamp) (i : ServerInput) (P : ServerTurn → T
   grant_at : (u : ServerTurn) (w : Waiter) (l : Locks) → u.state.locks ≡ l → GrantAt u w l
   grant_at u w l e = subst (GrantAt u w) e (λ off has first free q. keeps u _ (Grants u w off has first free) q)
 
-  w_grant : (t : ServerTurn) (p : Granting) (w : Waiter) → grace.is_on t.state.grace now ≡ false → Has w p.locks.waiters →
+  walk_of_grant : (t : ServerTurn) (p : Granting) (w : Waiter) → grace.is_on t.state.grace now ≡ false → Has w p.locks.waiters →
       find (locks.is_wait_on w.ino) p.locks.waiters ≡ Some w →
       list_any (stands_against w.client w.ino w.mode) p.locks.rows ≡ false → P (GrantsTold t p) → P (GrantsTold t (grant_waiter p w))
   unfolding grant_waiter
-  w_grant t p w off has first free q =
+  walk_of_grant t p w off has first free q =
       let e = granted_state p.granted (with_locks p.locks t) in
       subst P (sym (granted_more t p.locks (grant p.locks w.client w.life w.ino w.mode) p.granted (w.client, w.life, w.ino, locks.next_grant p.locks, w.mode)))
       (grant_at (GrantsTold t p) w p.locks (ap (λ (s : ServerState). s.locks) e) (ap (λ (s : ServerState). grace.is_on s.grace now) e ∙ off) has first free q)
 
-  w_file : (t : ServerTurn) (ino k : ℕ) (p : Granting) → grace.is_on t.state.grace now ≡ false → P (GrantsTold t p) → P (GrantsTold t (grant_file ino k p))
+  walk_of_file : (t : ServerTurn) (ino k : ℕ) (p : Granting) → grace.is_on t.state.grace now ≡ false → P (GrantsTold t p) →
+      P (GrantsTold t (grant_file ino k p))
   unfolding grant_file
-  w_file t ino zero p off q = q
-  w_file t ino (suc k) p off q = go (next_waiter p.locks ino) refl (λ r s. w_file t ino k r off s)
+  walk_of_file t ino zero p off q = q
+  walk_of_file t ino (suc k) p off q = go (next_waiter p.locks ino) refl (λ r s. walk_of_file t ino k r off s)
     where
       go : (o : Option Waiter) → next_waiter p.locks ino ≡ o → ((r : Granting) → P (GrantsTold t r) → P (GrantsTold t (grant_file ino k r))) →
           P (GrantsTold t (grant_and (grant_file ino k) p o))
@@ -157,17 +146,19 @@ module _ (n : ServerState) (now : Stamp) (i : ServerInput) (P : ServerTurn → T
       go (Some w) e r =
           let f = waiter_is p.locks (find (locks.is_wait_on ino) p.locks.waiters) w e in
           r (grant_waiter p w)
-          (w_grant t p w off (found_at (locks.is_wait_on ino) p.locks.waiters w f).1 (own_wait p.locks.waiters w ino f)
+          (walk_of_grant t p w off (found_at (locks.is_wait_on ino) p.locks.waiters w f).1 (own_wait p.locks.waiters w ino f)
           (waiter_free p.locks (find (locks.is_wait_on ino) p.locks.waiters) w e) q)
 
-  w_files : (t : ServerTurn) (inos : List ℕ) (p : Granting) → grace.is_on t.state.grace now ≡ false → P (GrantsTold t p) → P (GrantsTold t (grant_files inos p))
+  walk_of_files : (t : ServerTurn) (inos : List ℕ) (p : Granting) → grace.is_on t.state.grace now ≡ false → P (GrantsTold t p) →
+      P (GrantsTold t (grant_files inos p))
   unfolding grant_files
-  w_files t [] p off q = q
-  w_files t (ino ∷ inos) p off q = w_files t inos _ off (w_file t ino (length p.locks.waiters) p off q)
+  walk_of_files t [] p off q = q
+  walk_of_files t (ino ∷ inos) p off q = walk_of_files t inos _ off (walk_of_file t ino (length p.locks.waiters) p off q)
 
-  pub w_granting : (t : ServerTurn) → P t → P (sv.granting t now)
+  pub walk_of_granting : (t : ServerTurn) → P t → P (sv.granting t now)
   unfolding sv.granting sv.grant_waiting sv.grant_by next_grants tell_granted
-  w_granting t p = cond_either P (sv.in_grace t now) t _ (λ e. p) (λ e. w_files t (locks.waited_files t.state.locks) (locks.nothing_granted t.state.locks) e p)
+  walk_of_granting t p = cond_either P (sv.in_grace t now) t _ (λ e. p)
+      (λ e. walk_of_files t (locks.waited_files t.state.locks) (locks.nothing_granted t.state.locks) e p)
 
 -- what a change of each member leaves of those that a test picks
 picked_stay : {A B : Type 0} (f : A → A) (test : A → Bool) (read : A → B) → ((x : A) → test (f x) ≡ test x) → ((x : A) → read (f x) ≡ read x) → (xs : List A) →
@@ -252,12 +243,12 @@ module _ (n : ServerState) (now : Stamp) (i : ServerInput) (P : ServerTurn → T
     first : find (locks.is_wait_on w.ino) p.locks.waiters ≡ Some w
     clients : to_demand p.locks (suspects_in t) w ≡ cs
 
-  w_with : (t : ServerTurn) (w : Waiter) (cs : List ClientId) (p : Demanding) (r : LockRow) (x : Option RowDemand) → IsRowOf p.locks r.client w.ino r →
+  walk_of_with : (t : ServerTurn) (w : Waiter) (cs : List ClientId) (p : Demanding) (r : LockRow) (x : Option RowDemand) → IsRowOf p.locks r.client w.ino r →
       Has r.client cs → demand_now t.state.config now (sv.is_tick i) (locks.wish w.mode) r.demand ≡ x →
       Demanded t w cs p → Demanded t w cs (demand_with p r x)
   unfolding demand_with
-  w_with t w cs p r None z h d q = q
-  w_with t w cs p r (Some x) z h d q =
+  walk_of_with t w cs p r None z h d q = q
+  walk_of_with t w cs p r (Some x) z h d q =
       let e = demanded_state p.due (with_locks p.locks t) in
       record {
         holds = subst P (sym (demanded_more t p.locks (with_demand r x p.locks) p.due (r.client, r.life, r.ino, r.g, x.to)))
@@ -269,36 +260,37 @@ module _ (n : ServerState) (now : Stamp) (i : ServerInput) (P : ServerTurn → T
         clients = to_demand_stays p.locks (suspects_in t) w r x ∙ q.clients;
       }
 
-  w_row : (t : ServerTurn) (w : Waiter) (cs : List ClientId) (c : ClientId) (o : Option LockRow) (p : Demanding) → row_of p.locks c w.ino ≡ o → Has c cs →
+  walk_of_row : (t : ServerTurn) (w : Waiter) (cs : List ClientId) (c : ClientId) (o : Option LockRow) (p : Demanding) → row_of p.locks c w.ino ≡ o → Has c cs →
       Demanded t w cs p → Demanded t w cs (demand_row t.state.config now (sv.is_tick i) (locks.wish w.mode) o p)
   unfolding demand_row
-  w_row t w cs c None p e h q = q
-  w_row t w cs c (Some r) p e h q =
+  walk_of_row t w cs c None p e h q = q
+  walk_of_row t w cs c (Some r) p e h q =
       let z = is_row p.locks c w.ino r e in
-      w_with t w cs p r _ (record { own = z.own; of_file = z.of_file; of_client = refl }) (subst (λ (d : ClientId). Has d cs) (sym z.of_client) h) refl q
+      walk_of_with t w cs p r _ (record { own = z.own; of_file = z.of_file; of_client = refl }) (subst (λ (d : ClientId). Has d cs) (sym z.of_client) h) refl q
 
-  w_clients : (t : ServerTurn) (w : Waiter) (cs ds : List ClientId) (p : Demanding) → ((c : ClientId) → Has c ds → Has c cs) → Demanded t w cs p →
+  walk_of_clients : (t : ServerTurn) (w : Waiter) (cs ds : List ClientId) (p : Demanding) → ((c : ClientId) → Has c ds → Has c cs) → Demanded t w cs p →
       Demanded t w cs (demand_clients t.state.config now (sv.is_tick i) w.ino (locks.wish w.mode) ds p)
   unfolding demand_clients
-  w_clients t w cs [] p h q = q
-  w_clients t w cs (c ∷ ds) p h q = w_clients t w cs ds _ (λ d k. h d (inr k)) (w_row t w cs c (row_of p.locks c w.ino) p refl (h c (inl refl)) q)
+  walk_of_clients t w cs [] p h q = q
+  walk_of_clients t w cs (c ∷ ds) p h q = walk_of_clients t w cs ds _ (λ d k. h d (inr k))
+      (walk_of_row t w cs c (row_of p.locks c w.ino) p refl (h c (inl refl)) q)
 
-  w_for : (t : ServerTurn) (ino : ℕ) (o : Option Waiter) (p : Demanding) → find (locks.is_wait_on ino) p.locks.waiters ≡ o → P (DemandsTold t p) →
+  walk_of_for : (t : ServerTurn) (ino : ℕ) (o : Option Waiter) (p : Demanding) → find (locks.is_wait_on ino) p.locks.waiters ≡ o → P (DemandsTold t p) →
       P (DemandsTold t (demand_for t.state.config now (sv.is_tick i) (suspects_in t) o p))
   unfolding demand_for
-  w_for t ino None p e q = q
-  w_for t ino (Some w) p e q =
-      (w_clients t w _ _ p (λ c h. h) (record { holds = q; first = own_wait p.locks.waiters w ino e; clients = refl })).holds
+  walk_of_for t ino None p e q = q
+  walk_of_for t ino (Some w) p e q =
+      (walk_of_clients t w _ _ p (λ c h. h) (record { holds = q; first = own_wait p.locks.waiters w ino e; clients = refl })).holds
 
-  w_demand_files : (t : ServerTurn) (inos : List ℕ) (p : Demanding) → P (DemandsTold t p) →
+  walk_of_demand_files : (t : ServerTurn) (inos : List ℕ) (p : Demanding) → P (DemandsTold t p) →
       P (DemandsTold t (demand_files t.state.config now (sv.is_tick i) (suspects_in t) inos p))
   unfolding demand_files
-  w_demand_files t [] p q = q
-  w_demand_files t (ino ∷ inos) p q = w_demand_files t inos _ (w_for t ino (find (locks.is_wait_on ino) p.locks.waiters) p refl q)
+  walk_of_demand_files t [] p q = q
+  walk_of_demand_files t (ino ∷ inos) p q = walk_of_demand_files t inos _ (walk_of_for t ino (find (locks.is_wait_on ino) p.locks.waiters) p refl q)
 
-  pub w_demanding : (t : ServerTurn) → P t → P (sv.demanding t now i)
+  pub walk_of_demanding : (t : ServerTurn) → P t → P (sv.demanding t now i)
   unfolding sv.demanding sv.demand_by demands_due tell_demanded
-  w_demanding t p = w_demand_files t (locks.waited_files t.state.locks) (locks.nothing_demanded t.state.locks) p
+  walk_of_demanding t p = walk_of_demand_files t (locks.waited_files t.state.locks) (locks.nothing_demanded t.state.locks) p
 
 -- The step after its thefts.
 pub walk_after_thefts : (n : ServerState) (now : Stamp) (i : ServerInput) (P : ServerTurn → Type 0) →
@@ -307,10 +299,10 @@ pub walk_after_thefts : (n : ServerState) (now : Stamp) (i : ServerInput) (P : S
     ((t u : ServerTurn) → Edit n now i AtDemands t u → P t → P u) → P (thefts (turn n []) now) → P (server_step n now i)
 unfolding server_step sv.take_input sv.suspecting_on
 walk_after_thefts n now Tick P takes suspects grants demands p =
-    w_demanding n now Tick P demands _ (w_granting n now Tick P grants _
-    (w_suspecting n now Tick P suspects (thefts (turn n []) now) refl (thefts_begun n now).quiet p))
+    walk_of_demanding n now Tick P demands _ (walk_of_granting n now Tick P grants _
+    (walk_of_suspecting n now Tick P suspects (thefts (turn n []) now) refl (thefts_begun n now).quiet p))
 walk_after_thefts n now (Control m) P takes suspects grants demands p =
-    w_demanding n now (Control m) P demands _ (w_granting n now (Control m) P grants _ (w_input n now (Control m) P P (λ t q. q) takes p))
+    walk_of_demanding n now (Control m) P demands _ (walk_of_granting n now (Control m) P grants _ (walk_of_input n now (Control m) P P (λ t q. q) takes p))
 
 -- The whole step: what holds through the thefts, and then what it becomes by the input and holds through the passes.
 pub walk_in_two : (n : ServerState) (now : Stamp) (i : ServerInput) (P Q : ServerTurn → Type 0) → ((t u : ServerTurn) → Edit n now i AtThefts t u → P t → P u) →
@@ -320,11 +312,11 @@ pub walk_in_two : (n : ServerState) (now : Stamp) (i : ServerInput) (P Q : Serve
     P (turn n []) → Q (server_step n now i)
 unfolding server_step sv.take_input sv.suspecting_on
 walk_in_two n now Tick P Q steals becomes takes suspects grants demands p =
-    w_demanding n now Tick Q demands _ (w_granting n now Tick Q grants _
-    (w_suspecting n now Tick Q suspects (thefts (turn n []) now) refl (thefts_begun n now).quiet (becomes _ (w_thefts n now Tick P steals p))))
+    walk_of_demanding n now Tick Q demands _ (walk_of_granting n now Tick Q grants _
+    (walk_of_suspecting n now Tick Q suspects (thefts (turn n []) now) refl (thefts_begun n now).quiet (becomes _ (walk_of_thefts n now Tick P steals p))))
 walk_in_two n now (Control m) P Q steals becomes takes suspects grants demands p =
-    w_demanding n now (Control m) Q demands _ (w_granting n now (Control m) Q grants _
-    (w_input n now (Control m) P Q becomes takes (w_thefts n now (Control m) P steals p)))
+    walk_of_demanding n now (Control m) Q demands _ (walk_of_granting n now (Control m) Q grants _
+    (walk_of_input n now (Control m) P Q becomes takes (walk_of_thefts n now (Control m) P steals p)))
 
 -- with one fact for all changes
 pub walk_on : (n : ServerState) (now : Stamp) (i : ServerInput) (P : ServerTurn → Type 0) → ((a : Phase) (t u : ServerTurn) → Edit n now i a t u → P t → P u) →
@@ -334,4 +326,4 @@ walk_on n now i P k p = walk_after_thefts n now i P (k AtInput) (k AtSuspicion) 
 -- what holds at its beginning, and is kept by each change, holds at its end
 pub walk : (n : ServerState) (now : Stamp) (i : ServerInput) (P : ServerTurn → Type 0) → ((a : Phase) (t u : ServerTurn) → Edit n now i a t u → P t → P u) →
     P (turn n []) → P (server_step n now i)
-walk n now i P k p = walk_on n now i P k (w_thefts n now i P (k AtThefts) p)
+walk n now i P k p = walk_on n now i P k (walk_of_thefts n now i P (k AtThefts) p)

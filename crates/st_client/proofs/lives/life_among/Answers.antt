@@ -1,4 +1,5 @@
-use Rattle.std.proofs.Common.{sym, ◌∙◌}
+use Rattle.st_lemmas.proofs.Words
+use Words.{sym, ◌∙◌}
 use Rattle.st_client.proofs.Crashing.{life_next}
 use Rattle.st_client.proofs.lives.life_among.Goals as goal
 

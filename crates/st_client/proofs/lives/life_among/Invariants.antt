@@ -1,4 +1,5 @@
-use Rattle.std.proofs.Common.{◌≡◌, drop}
+use Rattle.st_lemmas.proofs.Words
+use Words.{◌≡◌, drop}
 use Rattle.st_client.specs.Nodes.{life_in}
 use Rattle.st_client.proofs.lives.life_among.Given as goal
 

@@ -1,4 +1,5 @@
-use Rattle.std.proofs.Common.{◌≡◌, ◌+◌, ◌≤◌, ◌++◌, drop, length, vec_len, vec_capacity}
+use Rattle.st_lemmas.proofs.Words
+use Words.{◌≡◌, ◌+◌, ◌≤◌, ◌++◌, drop, length, vec_len, vec_capacity}
 use Rattle.st_client.specs.Nodes.{crashed_lives}
 use Rattle.st_client.proofs.lives.push_crashed.Given as goal
 

@@ -1,5 +1,6 @@
-use Rattle.std.proofs.Common.{ap}
-use Rattle.st_rules.specs.ClientState.{ClientState}
+use Rattle.st_lemmas.proofs.Words
+use Words.{ap}
+use Words.ClientState.{ClientState}
 use Rattle.st_client.proofs.Running.{start_is}
 use Rattle.st_client.proofs.lives.started.Goals as goal
 

@@ -1,6 +1,6 @@
-use Rattle.std.proofs.Common.{◌≡◌, drop, map, true}
-use Rattle.std.specs.List.{list_all}
-use Rattle.st_rules.specs.Client.{start, started_association}
+use Rattle.st_lemmas.proofs.Words
+use Words.{◌≡◌, drop, map, true, list_all}
+use Words.Client.{start, started_association}
 use Rattle.st_client.specs.Nodes.{crashed_at, crashed_client, is_low, is_server, with_more}
 use Rattle.st_client.proofs.lives.started.Given as goal
 

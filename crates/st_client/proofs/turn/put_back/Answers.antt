@@ -1,4 +1,5 @@
-use Rattle.std.proofs.Common.{◌<◌, [], ◌∷◌, ◌++◌, get_or, length, sym, ap, ◌∙◌, arith}
+use Rattle.st_lemmas.proofs.Words
+use Words.{◌<◌, [], ◌∷◌, ◌++◌, get_or, length, sym, ap, ◌∙◌, arith}
 use Rattle.std.specs.Prelude.{slice_set}
 use Rattle.st_client.proofs.Returning.{returned_before}
 use Rattle.st_client.proofs.turn.put_back.Goals as goal

@@ -1,5 +1,6 @@
-use Rattle.std.proofs.Common.{◌∙◌}
-use Rattle.st_rules.specs.ClientPages.{with_lost}
+use Rattle.st_lemmas.proofs.Words
+use Words.{◌∙◌}
+use Words.ClientPages.{with_lost}
 use Rattle.st_client_association.proofs.LostRows.{lost_more}
 use Rattle.st_client_association.proofs.lease_loss.put_lost.Goals as goal
 

@@ -1,5 +1,6 @@
-use Rattle.std.proofs.Common.{◌≡◌, take}
-use Rattle.st_rules.specs.ClientPages.{with_lost_pages}
+use Rattle.st_lemmas.proofs.Words
+use Words.{◌≡◌, take}
+use Words.ClientPages.{with_lost_pages}
 use Rattle.st_client_association.proofs.lease_loss.put_lost.Given as goal
 
 abbrev pub invariant-loop-i : goal.invariant-loop-i

@@ -1,5 +1,6 @@
-use Rattle.std.proofs.Common.{◌≡◌, OnOk, subst, sym, ◌∙◌}
-use Rattle.st_rules.specs.ClientState.{Turn}
+use Rattle.st_lemmas.proofs.Words
+use Words.{◌≡◌, OnOk, subst, sym, ◌∙◌}
+use Words.ClientState.{Turn}
 use Rattle.st_client_rules.proofs.Lost.{sync_is, other_is}
 use Rattle.st_client_rules.proofs.asks.take_ask.Goals as goal
 

@@ -1,4 +1,5 @@
-use Rattle.std.proofs.Common.{◌∙◌, ap, sym}
+use Rattle.st_lemmas.proofs.Words
+use Words.{◌∙◌, ap, sym}
 use Rattle.st_client_rules.specs.CommandEnds.{is_clean, is_free}
 use Rattle.st_client_rules.proofs.Commands.{ended_free, filled_clean}
 use Rattle.st_client_rules.proofs.command_ends.finish_command.Goals as goal

@@ -1,5 +1,5 @@
-use Rattle.std.proofs.Common.{◌≡◌, subst}
-use Rattle.std.specs.Prelude.{OnOk}
+use Rattle.st_lemmas.proofs.Words
+use Words.{◌≡◌, subst, OnOk}
 use Rattle.st_client_rules.proofs.Commands.{failed_write}
 use Rattle.st_client_rules.proofs.command_ends.write_failed.Goals as goal
 

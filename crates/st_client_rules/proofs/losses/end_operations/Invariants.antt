@@ -1,5 +1,6 @@
-use Rattle.std.proofs.Common.{◌≡◌, length}
-use Rattle.st_rules.specs.Client.{end_each, end_operations}
+use Rattle.st_lemmas.proofs.Words
+use Words.{◌≡◌, length}
+use Words.Client.{end_each, end_operations}
 use Rattle.st_client_rules.specs.Inputs.{session_in}
 use Rattle.st_client_rules.proofs.losses.end_operations.Given as goal
 

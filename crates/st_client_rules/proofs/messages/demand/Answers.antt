@@ -1,5 +1,6 @@
-use Rattle.std.proofs.Common.{◌≡◌, OnOk, subst}
-use Rattle.st_rules.specs.ClientState.{Turn}
+use Rattle.st_lemmas.proofs.Words
+use Words.{◌≡◌, OnOk, subst}
+use Words.ClientState.{Turn}
 use Rattle.st_client_rules.proofs.Replied.{demand_is}
 use Rattle.st_client_rules.proofs.messages.demand.Goals as goal
 

@@ -1,5 +1,6 @@
-use Rattle.std.proofs.Common.{◌≡◌, OnOk, sym, ◌∙◌, subst}
-use Rattle.st_rules.specs.ClientState.{Turn}
+use Rattle.st_lemmas.proofs.Words
+use Words.{◌≡◌, OnOk, sym, ◌∙◌, subst}
+use Words.ClientState.{Turn}
 use Rattle.st_client_association.specs.Turns.{session_of}
 use Rattle.st_client_rules.proofs.Replied.{count_refused, count_other}
 use Rattle.st_client_rules.proofs.replies.count_reply.Goals as goal

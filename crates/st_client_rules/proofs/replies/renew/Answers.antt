@@ -1,7 +1,8 @@
-use Rattle.std.proofs.Common.{◌≡◌, OnOk, ap, sym, ◌∙◌, subst}
+use Rattle.st_lemmas.proofs.Words
+use Words.{◌≡◌, OnOk, ap, sym, ◌∙◌, subst}
+use Words.ClientLease.{is_renewal}
+use Words.ClientState.{Turn}
 use Rattle.st_client_session.specs.Sessions.{ServerSession}
-use Rattle.st_rules.specs.ClientLease.{is_renewal}
-use Rattle.st_rules.specs.ClientState.{Turn}
 use Rattle.st_client_rules.proofs.Replied.{renewal_noted, renewal_none}
 use Rattle.st_client_rules.proofs.replies.renew.Goals as goal
 

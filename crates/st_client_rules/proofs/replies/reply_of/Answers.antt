@@ -1,5 +1,6 @@
-use Rattle.std.proofs.Common.{◌≡◌, OnOk, sym, ◌∙◌, subst}
-use Rattle.st_rules.specs.ClientState.{Turn}
+use Rattle.st_lemmas.proofs.Words
+use Words.{◌≡◌, OnOk, sym, ◌∙◌, subst}
+use Words.ClientState.{Turn}
 use Rattle.st_client_rules.proofs.Replied.{counts_is, counts_not}
 use Rattle.st_client_rules.proofs.replies.reply_of.Goals as goal
 

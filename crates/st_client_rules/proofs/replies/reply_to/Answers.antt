@@ -1,6 +1,7 @@
-use Rattle.std.proofs.Common.{◌≡◌, OnOk, ap, sym, ◌∙◌, subst}
+use Rattle.st_lemmas.proofs.Words
+use Words.{◌≡◌, OnOk, ap, ◌∙◌, subst}
+use Words.ClientState.{Turn, file_asked}
 use Rattle.st_client_session.specs.Sessions.{ServerSession}
-use Rattle.st_rules.specs.ClientState.{Turn, file_asked}
 use Rattle.st_client_rules.proofs.Replied.{reply_is}
 use Rattle.st_client_rules.proofs.replies.reply_to.Goals as goal
 

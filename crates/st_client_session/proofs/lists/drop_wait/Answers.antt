@@ -1,4 +1,5 @@
-use Rattle.std.proofs.Common.{rules}
+use Rattle.st_lemmas.proofs.Words
+use Words.{rules}
 use Rattle.std.proofs.lemmas.Fn.{filter_same}
 use Rattle.st_client_session.proofs.lists.drop_wait.Goals as goal
 

@@ -1,7 +1,8 @@
-use Rattle.std.proofs.Common.{ap, ◌∙◌}
+use Rattle.st_lemmas.proofs.Words
+use Words.{ap, ◌∙◌}
+use Words.ClientLease.{must_discard}
 use Rattle.st_lease_client.specs.Standings.{kind_of}
 use Rattle.st_lease_client.specs.ServerLease.{begun, kind, settled_at}
-use Rattle.st_rules.specs.ClientLease.{must_discard}
 use Rattle.st_client_session.proofs.Lasting.{kind_settled, new_lasts}
 use Rattle.st_client_session.proofs.permits.begun.Goals as goal
 

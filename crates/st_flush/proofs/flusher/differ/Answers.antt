@@ -1,8 +1,6 @@
-use Rattle.std.proofs.Common.{◌≡◌, ℕ, ◌+◌, ◌-◌, ◌∙◌, ◌&&◌, Bool, true, false, sym, ap, not, List, length, take, drop, get_or, arith, length-drop}
-use Rattle.std.proofs.lemmas.List.{take_all}
-use Rattle.std.specs.List.{list_any}
-use Rattle.st_base.specs.declared.ids.PageNo.{PageNo}
-use Rattle.st_rules.specs.ServerInvariants.{are_once}
+use Rattle.st_lemmas.proofs.Words
+use Words.{◌≡◌, ℕ, ◌+◌, ◌-◌, ◌∙◌, ◌&&◌, Bool, true, false, sym, ap, not, List, length, take, drop, get_or, arith, length-drop, take_all, list_any, PageNo}
+use Words.ServerInvariants.{are_once}
 use Rattle.st_flush.specs.Calls.{same_page_write}
 use Rattle.st_flush.proofs.Begun.{once_end, once_step}
 use Rattle.st_flush.proofs.flusher.differ.Goals as goal

@@ -1,5 +1,6 @@
-use Rattle.std.proofs.Common.{◌≡◌, drop}
-use Rattle.st_rules.specs.ServerInvariants.{are_once}
+use Rattle.st_lemmas.proofs.Words
+use Words.{◌≡◌, drop}
+use Words.ServerInvariants.{are_once}
 use Rattle.st_flush.specs.Calls.{same_page_write}
 use Rattle.st_flush.proofs.flusher.differ.Given as goal
 

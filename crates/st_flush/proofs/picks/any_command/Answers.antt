@@ -1,5 +1,5 @@
-use Rattle.std.proofs.Common.{◌∙◌, ap}
-use Rattle.std.specs.Prelude.{is_some}
+use Rattle.st_lemmas.proofs.Words
+use Words.{◌∙◌, ap, is_some}
 use Rattle.st_flush.proofs.Picked.{some_found}
 use Rattle.st_flush.proofs.picks.any_command.Goals as goal
 

@@ -1,4 +1,5 @@
-use Rattle.std.proofs.Common.{◌∙◌, sym}
+use Rattle.st_lemmas.proofs.Words
+use Words.{◌∙◌, sym}
 use Rattle.st_flush.proofs.Picked.{find_here, find_past}
 use Rattle.st_flush.proofs.picks.find_command.Goals as goal
 

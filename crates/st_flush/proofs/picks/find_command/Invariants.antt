@@ -1,5 +1,5 @@
-use Rattle.std.proofs.Common.{◌≡◌, drop}
-use Rattle.std.specs.Prelude.{find}
+use Rattle.st_lemmas.proofs.Words
+use Words.{◌≡◌, drop, find}
 use Rattle.st_flush.proofs.picks.find_command.Given as goal
 
 abbrev pub invariant-loop-i : goal.invariant-loop-i

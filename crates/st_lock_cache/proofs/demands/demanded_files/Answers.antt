@@ -1,6 +1,7 @@
-use Rattle.std.proofs.Common.{◌∙◌, ap, arith}
-use Rattle.st_rules.specs.Keys.{with_key}
-use Rattle.st_rules.specs.ClientLocks.{ino_of_demand}
+use Rattle.st_lemmas.proofs.Words
+use Words.{◌∙◌, ap, arith}
+use Words.Keys.{with_key}
+use Words.ClientLocks.{ino_of_demand}
 use Rattle.st_lock_cache.proofs.Tables.{keys_end, keys_more}
 use Rattle.st_lock_cache.proofs.demands.demanded_files.Goals as goal
 

@@ -1,4 +1,5 @@
-use Rattle.std.proofs.Common.{rules}
+use Rattle.st_lemmas.proofs.Words
+use Words.{rules}
 use Rattle.std.proofs.lemmas.Fn.{filter_same}
 use Rattle.st_lock_cache.proofs.demands.drop_demand.Goals as goal
 

@@ -1,5 +1,6 @@
-use Rattle.std.proofs.Common.{◌∙◌}
-use Rattle.st_rules.specs.ClientLocks.{ino_of_lock}
+use Rattle.st_lemmas.proofs.Words
+use Words.{◌∙◌}
+use Words.ClientLocks.{ino_of_lock}
 use Rattle.st_lock_cache.proofs.Tables.{put_over}
 use Rattle.st_lock_cache.proofs.held_locks.overwrite.Goals as goal
 

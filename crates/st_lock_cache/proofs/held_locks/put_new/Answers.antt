@@ -1,5 +1,6 @@
-use Rattle.std.proofs.Common.{◌∙◌, refl, eq-eqb}
-use Rattle.st_rules.specs.ClientLocks.{is_lock_on}
+use Rattle.st_lemmas.proofs.Words
+use Words.{◌∙◌, refl, eq-eqb}
+use Words.ClientLocks.{is_lock_on}
 use Rattle.st_lock_cache.proofs.Tables.{put_out}
 use Rattle.st_lock_cache.proofs.held_locks.put_new.Goals as goal
 

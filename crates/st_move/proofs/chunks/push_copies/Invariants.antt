@@ -1,4 +1,5 @@
-use Rattle.std.proofs.Common.{◌≡◌, ◌++◌, take}
+use Rattle.st_lemmas.proofs.Words
+use Words.{◌≡◌, ◌++◌, take}
 use Rattle.st_move.proofs.chunks.push_copies.Given as goal
 
 abbrev pub invariant-loop-item : goal.invariant-loop-item

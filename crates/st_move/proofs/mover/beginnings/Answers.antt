@@ -1,5 +1,5 @@
-use Rattle.std.proofs.Common.{◌++◌, ◌∷◌, [], ◌+◌, ◌-◌, ◌∙◌, sym, ap, append_assoc}
-use Rattle.std.proofs.lemmas.List.{append-nil}
+use Rattle.st_lemmas.proofs.Words
+use Words.{◌++◌, ◌∷◌, [], ◌+◌, ◌-◌, ◌∙◌, sym, ap, append_assoc, append-nil}
 use Rattle.st_move.specs.Containers.{beginning, beginnings}
 use Rattle.st_move.proofs.Loops.{beginnings_end, beginnings_next}
 use Rattle.st_move.proofs.mover.beginnings.Goals as goal

@@ -1,4 +1,5 @@
-use Rattle.std.proofs.Common.{◌≡◌, ◌++◌, ◌-◌}
+use Rattle.st_lemmas.proofs.Words
+use Words.{◌≡◌, ◌++◌, ◌-◌}
 use Rattle.st_move.specs.Containers.{beginnings}
 use Rattle.st_move.proofs.mover.beginnings.Given as goal
 

@@ -1,5 +1,5 @@
-use Rattle.std.proofs.Common.{◌++◌, ◌∷◌, [], ◌+◌, ◌-◌, ◌∙◌, sym, ap, append_assoc}
-use Rattle.std.proofs.lemmas.List.{append-nil}
+use Rattle.st_lemmas.proofs.Words
+use Words.{◌++◌, ◌∷◌, [], ◌+◌, ◌-◌, ◌∙◌, sym, ap, append_assoc, append-nil}
 use Rattle.st_move.specs.World.{fresh_site, sites_behind}
 use Rattle.st_move.proofs.Loops.{sites_end, sites_next}
 use Rattle.st_move.proofs.parts.fresh_sites.Goals as goal

@@ -1,4 +1,5 @@
-use Rattle.std.proofs.Common.{◌≡◌, ◌++◌, ◌-◌}
+use Rattle.st_lemmas.proofs.Words
+use Words.{◌≡◌, ◌++◌, ◌-◌}
 use Rattle.st_move.specs.World.{sites_behind}
 use Rattle.st_move.proofs.parts.fresh_sites.Given as goal
 

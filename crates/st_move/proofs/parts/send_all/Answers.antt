@@ -1,7 +1,7 @@
-use Rattle.std.proofs.lemmas.List.{append-nil}
+use Rattle.st_lemmas.proofs.Words
+use Words.{append-nil, ◌≡◌, ◌++◌, ◌∷◌, [], length, map, sym}
 use Rattle.st_move.specs.World.{sends_behind}
 use Rattle.st_move.specs.World as worlds
-use Rattle.std.proofs.Common.{◌≡◌, ◌++◌, ◌∷◌, [], length, map, sym}
 use Rattle.st_move.proofs.Networks.{send_turn}
 use Rattle.st_move.proofs.parts.send_all.Goals as goal
 

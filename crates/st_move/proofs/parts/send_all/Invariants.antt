@@ -1,4 +1,5 @@
-use Rattle.std.proofs.Common.{◌≡◌, ◌++◌, length, map}
+use Rattle.st_lemmas.proofs.Words
+use Words.{◌≡◌, ◌++◌, length, map}
 use Rattle.st_move.specs.World.{sends_behind, sent_move}
 use Rattle.st_move.proofs.parts.send_all.Given as goal
 

@@ -1,5 +1,6 @@
+use Rattle.st_lemmas.proofs.Words
+use Words.{◌≡◌, ◌≢◌}
 use Rattle.st_lock_tables.specs.declared.refusal.LockRefusal.TheVariants as lock_refusals
-use Rattle.std.proofs.Common.{◌≡◌, ◌≢◌}
 use Rattle.st_move.specs.World.{locked}
 use Rattle.st_move.proofs.Networks.{acquire_ok, acquire_refused, on_ok}
 use Rattle.st_move.proofs.site.acquire.Goals as goal

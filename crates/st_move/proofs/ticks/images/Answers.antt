@@ -1,5 +1,5 @@
-use Rattle.std.proofs.Common.{◌++◌, ◌<◌, ◌≤◌, ◌+◌, ◌∙◌, length, drop, get_or, false, sym, ap, append_assoc, arith}
-use Rattle.std.proofs.lemmas.List.{append-nil}
+use Rattle.st_lemmas.proofs.Words
+use Words.{◌++◌, ◌<◌, ◌≤◌, ◌+◌, ◌∙◌, length, drop, get_or, false, sym, ap, append_assoc, arith, append-nil}
 use Rattle.st_move.specs.Calls.{sent_by}
 use Rattle.st_move.specs.Containers.{image_of, images_from, sent_if}
 use Rattle.st_move.proofs.Loops.{images_end, images_next}

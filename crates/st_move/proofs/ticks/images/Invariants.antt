@@ -1,4 +1,5 @@
-use Rattle.std.proofs.Common.{◌≡◌, ◌++◌, drop}
+use Rattle.st_lemmas.proofs.Words
+use Words.{◌≡◌, ◌++◌, drop}
 use Rattle.st_move.specs.Calls.{sent_by}
 use Rattle.st_move.specs.Containers.{images_from}
 use Rattle.st_move.proofs.ticks.images.Given as goal

@@ -1,5 +1,5 @@
-use Rattle.std.proofs.Common.{◌∙◌, ap, length}
-use Rattle.std.specs.Prelude.{not, ◌==◌}
+use Rattle.st_lemmas.proofs.Words
+use Words.{◌∙◌, ap, length, not, ◌==◌}
 use Rattle.st_move.proofs.Locked.{holders_are}
 use Rattle.st_move.proofs.ticks.is_locked.Goals as goal
 

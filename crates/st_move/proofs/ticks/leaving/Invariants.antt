@@ -1,4 +1,5 @@
-use Rattle.std.proofs.Common.{◌≡◌, ◌++◌, drop}
+use Rattle.st_lemmas.proofs.Words
+use Words.{◌≡◌, ◌++◌, drop}
 use Rattle.st_move.specs.Calls.{leaving_from}
 use Rattle.st_move.proofs.ticks.leaving.Given as goal
 

@@ -1,6 +1,6 @@
-use Rattle.std.proofs.Common.{◌≡◌, ◌++◌, ◌<◌, ◌≤◌, ◌+◌, ◌∙◌, length, take, drop, get_or, set, false, sym, ap, subst, arith}
-use Rattle.std.specs.List.{list_all}
-use Rattle.std.proofs.lemmas.List.{append-nil, drop-set-lt, take_all}
+use Rattle.st_lemmas.proofs.Words
+use Words.{◌≡◌, ◌++◌, ◌<◌, ◌≤◌, ◌+◌, ◌∙◌, length, take, drop, get_or, set, false, sym, ap, subst, arith, list_all, append-nil, take_all}
+use Rattle.std.proofs.lemmas.List.{drop-set-lt}
 use Rattle.st_move.specs.Calls.{sent_by}
 use Rattle.st_move.specs.Containers.{has_next, sent_if}
 use Rattle.st_move.proofs.Loops.{next_at, sent_end, sent_turn}

@@ -1,5 +1,5 @@
-use Rattle.std.proofs.Common.{◌≡◌, ◌++◌, take, drop, true}
-use Rattle.std.specs.List.{list_all}
+use Rattle.st_lemmas.proofs.Words
+use Words.{◌≡◌, ◌++◌, take, drop, true, list_all}
 use Rattle.st_move.specs.Calls.{sent_by}
 use Rattle.st_move.specs.Containers.{has_next}
 use Rattle.st_move.proofs.ticks.send.Given as goal

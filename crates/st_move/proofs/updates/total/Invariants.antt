@@ -1,5 +1,5 @@
-use Rattle.std.proofs.Common.{◌≡◌, take, true}
-use Rattle.std.specs.List.{list_all}
+use Rattle.st_lemmas.proofs.Words
+use Words.{◌≡◌, take, true, list_all}
 use Rattle.st_move.specs.Updates.{bytes_of, is_update}
 use Rattle.st_move.proofs.updates.total.Given as goal
 

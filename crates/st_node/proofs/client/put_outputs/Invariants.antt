@@ -1,6 +1,6 @@
 -- What was put and what is left to put are all of it.
-use Rattle.std.proofs.Common.{◌≡◌, ◌++◌, true, length}
-use Rattle.std.specs.List.{list_all, flat_map}
+use Rattle.st_lemmas.proofs.Words
+use Words.{◌≡◌, ◌++◌, true, length, list_all, flat_map}
 use Rattle.st_client.specs.Inputs.{is_sent}
 use Rattle.st_node.specs.Runs.{client_frame}
 use Rattle.st_node.proofs.client.put_outputs.Given as goal

@@ -1,4 +1,5 @@
-use Rattle.std.proofs.Common.{subst}
+use Rattle.st_lemmas.proofs.Words
+use Words.{subst}
 use Rattle.st_node.specs.Room.{ClientHasRoom, HasRoomFor}
 use Rattle.st_node.specs.Runs.{client_stepped}
 use Rattle.st_node.proofs.ClientRoom.{client_now, client_stepped_room}

@@ -1,6 +1,6 @@
 -- What was put and what is left to put are all of it.
-use Rattle.std.proofs.Common.{◌≡◌, ◌++◌, true, length}
-use Rattle.std.specs.List.{list_all, flat_map}
+use Rattle.st_lemmas.proofs.Words
+use Words.{◌≡◌, ◌++◌, true, length, list_all, flat_map}
 use Rattle.st_server.specs.Invariants.{is_sent}
 use Rattle.st_node.specs.Runs.{server_frame}
 use Rattle.st_node.proofs.server.put_outputs.Given as goal

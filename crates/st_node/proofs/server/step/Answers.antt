@@ -1,4 +1,5 @@
-use Rattle.std.proofs.Common.{subst}
+use Rattle.st_lemmas.proofs.Words
+use Words.{subst}
 use Rattle.st_node.specs.Room.{HasRoomFor, ServerHasRoom}
 use Rattle.st_node.specs.Runs.{server_stepped}
 use Rattle.st_node.proofs.Room.{room_stepped}

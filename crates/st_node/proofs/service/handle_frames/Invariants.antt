@@ -1,5 +1,6 @@
 -- The frames so far were handled.
-use Rattle.std.proofs.Common.{◌≤◌, ◌+◌, length}
+use Rattle.st_lemmas.proofs.Words
+use Words.{◌≤◌, ◌+◌, length}
 use Rattle.st_node.specs.Room.{HasRoomFor}
 use Rattle.st_node.specs.Service.{Carries, GoesOn, room_for}
 use Rattle.st_node.proofs.service.handle_frames.Given as goal

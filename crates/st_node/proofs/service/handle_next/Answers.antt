@@ -1,4 +1,5 @@
-use Rattle.std.proofs.Common.{◌≡◌, ◌+◌, ◌-◌, ◌<◌, sym, subst, arith}
+use Rattle.st_lemmas.proofs.Words
+use Words.{◌≡◌, ◌+◌, ◌-◌, ◌<◌, sym, subst, arith}
 use Rattle.st_codec.specs.Frames.{next}
 use Rattle.st_node.specs.Room.{HasRoomFor}
 use Rattle.st_node.proofs.Runs.{handled_goes}

@@ -1,4 +1,5 @@
-use Rattle.std.proofs.Common.{rules, ◌≡◌, ◌<◌, ◌≤◌, ◌+◌, ◌∙◌, ap, sym, subst, refl, take, length, arith}
+use Rattle.st_lemmas.proofs.Words
+use Words.{rules, ◌≡◌, ◌<◌, ◌≤◌, ◌+◌, ◌∙◌, ap, sym, subst, refl, take, length, arith}
 use Rattle.std.specs.Io.KnownBytes.{Consumes}
 use Rattle.st_node.specs.Runs.{MOST}
 use Rattle.st_node.specs.Service.{room_for}

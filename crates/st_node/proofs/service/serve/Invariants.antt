@@ -1,5 +1,6 @@
 -- What was taken was handled, and what came of it was written.
-use Rattle.std.proofs.Common.{◌≡◌, ◌-◌, length}
+use Rattle.st_lemmas.proofs.Words
+use Words.{◌≡◌, ◌-◌, length}
 use Rattle.st_node.specs.Room.{HasRoomFor}
 use Rattle.st_node.specs.Service.{room_for}
 use Rattle.st_node.proofs.Streams.{Streams}

@@ -1,4 +1,5 @@
-use Rattle.std.proofs.Common.{subst}
+use Rattle.st_lemmas.proofs.Words
+use Words.{subst}
 use Rattle.st_link.specs.Prefixes.{AppendsPrefix}
 use Rattle.st_codec.specs.Frames.{fed}
 use Rattle.st_node.proofs.Turns.{piece_torn}

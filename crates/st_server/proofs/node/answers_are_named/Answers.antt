@@ -1,4 +1,5 @@
-use Rattle.st_rules.specs.declared.input.ServerInput.TheVariants.{Control}
+use Rattle.st_lemmas.proofs.Words
+use Words.serving.{Control}
 use Rattle.st_server.proofs.SoundSteps.{answers_named, goes_on, only_memory}
 use Rattle.st_server.proofs.node.answers_are_named.Goals as goal
 

@@ -1,4 +1,5 @@
-use Rattle.std.proofs.Common.{◌∙◌}
+use Rattle.st_lemmas.proofs.Words
+use Words.{◌∙◌}
 use Rattle.st_server.proofs.Ranges.{rows_more, rows_all}
 use Rattle.st_server.proofs.page_requests.rows_of_range.Goals as goal
 

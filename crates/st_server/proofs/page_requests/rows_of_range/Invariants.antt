@@ -1,6 +1,7 @@
-use Rattle.std.proofs.Common.{◌≡◌, ◌+◌, ◌-◌, ◌++◌}
-use Rattle.st_rules.specs.Extents.{extent_rows}
-use Rattle.st_rules.specs.Keys.{page_no}
+use Rattle.st_lemmas.proofs.Words
+use Words.{◌≡◌, ◌+◌, ◌-◌, ◌++◌}
+use Words.Extents.{extent_rows}
+use Words.Keys.{page_no}
 use Rattle.st_server.proofs.page_requests.rows_of_range.Given as goal
 
 -- the rows so far, and those of the pages that are left

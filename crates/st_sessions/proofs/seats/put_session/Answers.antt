@@ -1,7 +1,7 @@
 use Rattle.std.proofs.Common.{◌≡◌, List, OnOk, sym, subst, ◌∙◌}
 use Rattle.st_rules.specs.declared.sessions.Session.{Session}
 use Rattle.st_rules.specs.Sessions.{is_session_of}
-use Rattle.st_tables.proofs.Puts.{put_at, put_behind}
+use Rattle.st_lemmas.proofs.PutPlaces.{put_at, put_behind}
 use Rattle.st_sessions.proofs.Seated.{place_in, seated_put}
 use Rattle.st_sessions.proofs.seats.put_session.Goals as goal
 

@@ -1,4 +1,5 @@
-use Rattle.std.proofs.Common.{◌≡◌, drop}
+use Rattle.st_lemmas.proofs.Words
+use Words.{◌≡◌, drop}
 use Rattle.st_shared.specs.Shared.{busy_above}
 use Rattle.st_shared.proofs.commands.busy_command.Given as goal
 

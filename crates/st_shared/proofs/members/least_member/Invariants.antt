@@ -1,4 +1,5 @@
-use Rattle.std.proofs.Common.{◌≡◌, ◌≤◌, drop, length}
+use Rattle.st_lemmas.proofs.Words
+use Words.{◌≡◌, ◌≤◌, drop, length}
 use Rattle.st_shared.specs.Shared.{least_member}
 use Rattle.st_shared.proofs.members.least_member.Given as goal
 

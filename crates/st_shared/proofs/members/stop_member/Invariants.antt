@@ -1,5 +1,5 @@
-use Rattle.std.proofs.Common.{◌≡◌, ◌++◌, drop, take}
-use Rattle.std.specs.Prelude.{map}
+use Rattle.st_lemmas.proofs.Words
+use Words.{◌≡◌, ◌++◌, drop, take, map}
 use Rattle.st_shared.specs.Shared.{stop_member}
 use Rattle.st_shared.proofs.members.stop_member.Given as goal
 

@@ -1,5 +1,5 @@
-use Rattle.std.proofs.Common.{◌≡◌, sym, subst}
-use Rattle.std.specs.Prelude.{Some, None}
+use Rattle.st_lemmas.proofs.Words
+use Words.{◌≡◌, sym, subst, Some, None}
 use Rattle.std.specs.Bool.{OnTrue, OnFalse}
 use Rattle.st_shared.specs.Rows.{holder_of}
 use Rattle.st_shared.proofs.OneRow.{granted_holder, granted_table, refused_holder}

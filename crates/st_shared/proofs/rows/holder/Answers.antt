@@ -1,4 +1,5 @@
-use Rattle.std.proofs.Common.{arith}
+use Rattle.st_lemmas.proofs.Words
+use Words.{arith}
 use Rattle.st_shared.proofs.OneRow.{nobody_holds}
 use Rattle.st_shared.proofs.rows.holder.Goals as goal
 

@@ -1,6 +1,7 @@
-use Rattle.std.proofs.Common.{◌≡◌, ℕ, ◌<◌, ◌≤◌, false}
-use Rattle.st_rules.specs.Keys.{client}
-use Rattle.st_rules.specs.Locks.{has_rows}
+use Rattle.st_lemmas.proofs.Words
+use Words.{◌≡◌, ℕ, ◌<◌, ◌≤◌, false}
+use Words.Keys.{client}
+use Words.Locks.{has_rows}
 use Rattle.st_shared.proofs.rows.holder.Given as goal
 
 abbrev pub invariant-loop-number : goal.invariant-loop-number

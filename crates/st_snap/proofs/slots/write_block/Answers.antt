@@ -1,4 +1,5 @@
-use Rattle.std.proofs.Common.{sym, ◌∙◌}
+use Rattle.st_lemmas.proofs.Words
+use Words.{sym, ◌∙◌}
 use Rattle.st_snap.proofs.Written.{written}
 use Rattle.st_snap.proofs.slots.write_block.Goals as goal
 

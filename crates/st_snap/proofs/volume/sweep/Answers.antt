@@ -1,6 +1,6 @@
-use Rattle.std.proofs.Common.{◌≡◌, ◌<◌, true, cond, None, subst, sym, ◌∙◌}
+use Rattle.st_lemmas.proofs.Words
+use Words.{◌≡◌, ◌<◌, true, cond, None, subst, sym, ◌∙◌, Option}
 use Rattle.st_snap.specs.declared.versions.VersionKey.{VersionKey}
-use Rattle.std.proofs.Common.{Option}
 use Rattle.std.specs.Ordering.{is_lt}
 use Rattle.st_snap.specs.Versions.{IsLastBelow, Versions, has_version, key_order, latest, same_key, version}
 use Rattle.st_snap.specs.Volumes.{IsSeen, take_of}

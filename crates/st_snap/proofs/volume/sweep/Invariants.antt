@@ -1,4 +1,5 @@
-use Rattle.std.proofs.Common.{◌≡◌, true}
+use Rattle.st_lemmas.proofs.Words
+use Words.{◌≡◌, true}
 use Rattle.st_snap.specs.declared.versions.VersionKey.{VersionKey}
 use Rattle.st_snap.specs.Versions.{has_version, latest, version}
 use Rattle.st_snap.specs.Volumes.{IsSeen, is_among, take_of}

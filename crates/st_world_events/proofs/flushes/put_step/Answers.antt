@@ -1,6 +1,6 @@
 use Rattle.std.proofs.Common.{sym, ◌∙◌}
 use Rattle.st_rules.specs.World.{is_flush_of}
-use Rattle.st_world_events.proofs.Puts.{put_at, put_behind}
+use Rattle.st_lemmas.proofs.PutPlaces.{put_at, put_behind}
 use Rattle.st_world_events.proofs.flushes.put_step.Goals as goal
 
 pub returns-in_ok-push-in-None : goal.returns-in_ok-push-in-None

@@ -1,5 +1,5 @@
-use Rattle.std.proofs.Common.{refl, vec_capacity}
-use Rattle.std.specs.Prelude.{None}
+use Rattle.st_lemmas.proofs.Words
+use Words.{refl, vec_capacity, None}
 use Rattle.st_client.proofs.Running.{crashed_is, crashes_in}
 use Rattle.st_client.proofs.node.ClientNode.crash.Goals as goal
 

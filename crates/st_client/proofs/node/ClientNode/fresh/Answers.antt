@@ -1,5 +1,5 @@
-use Rattle.std.proofs.Common.{rules, ◌≡◌, ◌≤◌, length, vec_capacity}
-use Rattle.std.specs.Prelude.{Ok}
+use Rattle.st_lemmas.proofs.Words
+use Words.{rules, ◌≡◌, ◌≤◌, length, vec_capacity, Ok}
 use Rattle.st_base.specs.Config.{check}
 use Rattle.st_client.proofs.Running.{fresh_in}
 use Rattle.st_client.proofs.node.ClientNode.fresh.Goals as goal

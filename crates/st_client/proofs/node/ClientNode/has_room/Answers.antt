@@ -1,8 +1,7 @@
-use Rattle.std.proofs.Common.{ap, sym, subst, ◌∙◌}
-use Rattle.std.specs.Prelude.{IsTrue, ◌↔◌}
-use Rattle.std.specs.List.{list_all}
-use Rattle.st_rules.specs.Client.{ClientNode}
-use Rattle.st_rules.specs.ClientState.{ClientState}
+use Rattle.st_lemmas.proofs.Words
+use Words.{ap, sym, subst, ◌∙◌, IsTrue, ◌↔◌, list_all}
+use Words.Client.{ClientNode}
+use Words.ClientState.{ClientState}
 use Rattle.st_client.proofs.Crashing.{room_there}
 use Rattle.st_client.proofs.Resting.{room_is}
 use Rattle.st_client.specs.Nodes.{crashed_client, is_low, state_of}

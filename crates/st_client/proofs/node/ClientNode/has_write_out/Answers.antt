@@ -1,5 +1,6 @@
-use Rattle.std.proofs.Common.{ap, sym, ◌∙◌}
-use Rattle.st_rules.specs.Client.{ClientNode, has_write_with}
+use Rattle.st_lemmas.proofs.Words
+use Words.{ap, sym, ◌∙◌}
+use Words.Client.{ClientNode, has_write_with}
 use Rattle.st_client.proofs.Crashing.{nothing_out}
 use Rattle.st_client.specs.Nodes.{state_of}
 use Rattle.st_client.proofs.node.ClientNode.has_write_out.Goals as goal

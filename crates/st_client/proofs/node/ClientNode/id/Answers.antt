@@ -1,11 +1,7 @@
-use Rattle.std.proofs.Common.{◌≡◌, List, refl, ap, sym, ◌∙◌}
-use Rattle.std.specs.Prelude.{Option, Some, None}
-use Rattle.st_base.specs.declared.config.Config.{Config}
-use Rattle.st_base.specs.declared.ids.ClientId.{ClientId}
-use Rattle.st_base.specs.declared.ids.Life.{Life}
-use Rattle.st_base.specs.declared.ids.ServerId.{ServerId}
-use Rattle.st_rules.specs.Client.{ClientNode}
-use Rattle.st_rules.specs.ClientState.{ClientState}
+use Rattle.st_lemmas.proofs.Words
+use Words.{◌≡◌, List, refl, ap, sym, ◌∙◌, Option, Some, None, Config, ClientId, Life, ServerId}
+use Words.Client.{ClientNode}
+use Words.ClientState.{ClientState}
 use Rattle.st_client.specs.Nodes.{RunsAs, state_of}
 use Rattle.st_client.proofs.node.ClientNode.id.Goals as goal
 

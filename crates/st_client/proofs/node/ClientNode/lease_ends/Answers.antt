@@ -1,8 +1,6 @@
-use Rattle.std.proofs.Common.{◌≡◌, true, ap, subst, sym, ◌∙◌}
-use Rattle.std.specs.Prelude.{None, map}
-use Rattle.std.specs.List.{list_all}
-use Rattle.st_base.specs.declared.ids.ServerId.{ServerId}
-use Rattle.st_rules.specs.Client.{ClientNode, lease_end_with}
+use Rattle.st_lemmas.proofs.Words
+use Words.{◌≡◌, true, ap, subst, sym, ◌∙◌, None, map, list_all, ServerId}
+use Words.Client.{ClientNode, lease_end_with}
 use Rattle.st_client.proofs.Crashing.{no_end}
 use Rattle.st_client.proofs.Running.{ends_are, servers_of}
 use Rattle.st_client.specs.Nodes.{is_server, server_at, state_of}

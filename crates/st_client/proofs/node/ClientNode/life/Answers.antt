@@ -1,6 +1,7 @@
-use Rattle.std.proofs.Common.{ap, ◌∙◌}
-use Rattle.st_rules.specs.Client.{ClientNode}
-use Rattle.st_rules.specs.World.{life_with}
+use Rattle.st_lemmas.proofs.Words
+use Words.{ap, ◌∙◌}
+use Words.Client.{ClientNode}
+use Words.World.{life_with}
 use Rattle.st_client.proofs.Crashing.{life_is}
 use Rattle.st_client.specs.Nodes.{life_in}
 use Rattle.st_client.proofs.node.ClientNode.life.Goals as goal

@@ -1,5 +1,6 @@
-use Rattle.std.proofs.Common.{ap, ◌∙◌}
-use Rattle.st_rules.specs.Client.{ClientNode, lives}
+use Rattle.st_lemmas.proofs.Words
+use Words.{ap, ◌∙◌}
+use Words.Client.{ClientNode, lives}
 use Rattle.st_client.proofs.Crashing.{lives_are}
 use Rattle.st_client.proofs.node.ClientNode.lives.Goals as goal
 

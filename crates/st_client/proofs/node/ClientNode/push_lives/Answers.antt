@@ -1,7 +1,7 @@
-use Rattle.std.proofs.Common.{◌≡◌, ◌++◌, length, map, ap, sym, subst, ◌∙◌, arith}
-use Rattle.std.proofs.lemmas.List.{length-map}
-use Rattle.st_rules.specs.Client.{ClientNode}
-use Rattle.st_rules.specs.World.{lives_of}
+use Rattle.st_lemmas.proofs.Words
+use Words.{◌≡◌, ◌++◌, length, map, ap, sym, subst, ◌∙◌, arith, length-map}
+use Words.Client.{ClientNode}
+use Words.World.{lives_of}
 use Rattle.st_client.proofs.Crashing.{crashed_lives_are}
 use Rattle.st_client.proofs.Running.{servers_of}
 use Rattle.st_client.specs.Nodes.{crashed_lives, server_at, state_of}

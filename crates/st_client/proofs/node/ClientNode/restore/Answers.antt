@@ -1,5 +1,5 @@
-use Rattle.std.proofs.Common.{◌≡◌, refl, vec_capacity, rules}
-use Rattle.std.specs.Prelude.{Ok}
+use Rattle.st_lemmas.proofs.Words
+use Words.{◌≡◌, refl, vec_capacity, rules, Ok}
 use Rattle.st_base.specs.Config.{check}
 use Rattle.st_client.proofs.Restarts.{restored_in, restored_is}
 use Rattle.st_client.proofs.node.ClientNode.restore.Goals as goal

@@ -1,7 +1,7 @@
-use Rattle.std.proofs.Common.{ap, sym, subst, ◌∙◌, vec_capacity}
-use Rattle.std.specs.List.{list_all}
+use Rattle.st_lemmas.proofs.Words
+use Words.{ap, sym, subst, ◌∙◌, vec_capacity, list_all}
+use Words.Client.{ClientNode, start}
 use Rattle.st_client_association.specs.Associations.{has_room_at}
-use Rattle.st_rules.specs.Client.{ClientNode, start}
 use Rattle.st_client.proofs.Crashing.{low_there, none_runs}
 use Rattle.st_client.proofs.Running.{started_fits, starts_in}
 use Rattle.st_client.proofs.Sends.{start_sound}

@@ -1,5 +1,6 @@
-use Rattle.std.proofs.Common.{ap, sym, subst, ◌∙◌}
-use Rattle.st_rules.specs.Client.{ClientNode}
+use Rattle.st_lemmas.proofs.Words
+use Words.{ap, sym, subst, ◌∙◌}
+use Words.Client.{ClientNode}
 use Rattle.st_client.proofs.NodeSteps.{node_discards, node_sends, runs_steps}
 use Rattle.st_client.specs.Invariants.{IsSound}
 use Rattle.st_client.proofs.node.ClientNode.step.Goals as goal

@@ -1,4 +1,5 @@
-use Rattle.std.proofs.Common.{sym, ◌∙◌, vec_capacity}
+use Rattle.st_lemmas.proofs.Words
+use Words.{sym, ◌∙◌, vec_capacity}
 use Rattle.st_client.proofs.Running.{crashed_is, crashes_in, kept_fits, stepped, steps_in}
 use Rattle.st_client.proofs.node.ClientNode.step_running.Goals as goal
 

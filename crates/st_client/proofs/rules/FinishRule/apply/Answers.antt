@@ -1,5 +1,6 @@
+use Rattle.st_lemmas.proofs.Words
+use Words.Client.{finish}
 use Rattle.st_client.proofs.InputsGrow.{finish_grows}
-use Rattle.st_rules.specs.Client.{finish}
 use Rattle.st_client.proofs.Advancing.{advanced}
 use Rattle.st_client.proofs.rules.FinishRule.apply.Goals as goal
 

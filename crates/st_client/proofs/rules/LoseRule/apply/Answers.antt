@@ -1,5 +1,6 @@
+use Rattle.st_lemmas.proofs.Words
+use Words.Client.{lose}
 use Rattle.st_client.proofs.InputsGrow.{lose_grows}
-use Rattle.st_rules.specs.Client.{lose}
 use Rattle.st_client.proofs.Advancing.{advanced}
 use Rattle.st_client.proofs.rules.LoseRule.apply.Goals as goal
 

@@ -1,5 +1,6 @@
+use Rattle.st_lemmas.proofs.Words
+use Words.ClientPasses.{passes}
 use Rattle.st_client.proofs.PassesGrow.{passes_grow}
-use Rattle.st_rules.specs.ClientPasses.{passes}
 use Rattle.st_client.proofs.Advancing.{advanced}
 use Rattle.st_client.proofs.rules.PassesRule.apply.Goals as goal
 

@@ -1,4 +1,5 @@
-use Rattle.std.proofs.Common.{sym, ◌∙◌}
+use Rattle.st_lemmas.proofs.Words
+use Words.{sym, ◌∙◌}
 use Rattle.st_client.proofs.Sleeping.{idle_passes}
 use Rattle.st_client.proofs.rules.PassesRule.touches.Goals as goal
 

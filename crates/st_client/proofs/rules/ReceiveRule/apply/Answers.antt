@@ -1,5 +1,6 @@
+use Rattle.st_lemmas.proofs.Words
+use Words.ClientReplies.{receive_at}
 use Rattle.st_client.proofs.ReceiveGrows.{receive_grows}
-use Rattle.st_rules.specs.ClientReplies.{receive_at}
 use Rattle.st_client.proofs.Advancing.{advanced}
 use Rattle.st_client.proofs.rules.ReceiveRule.apply.Goals as goal
 

@@ -1,6 +1,6 @@
-use Rattle.std.proofs.Common.{ap, ◌∙◌}
-use Rattle.std.specs.Prelude.{◌==◌}
-use Rattle.st_rules.specs.Keys.{server_node}
+use Rattle.st_lemmas.proofs.Words
+use Words.{ap, ◌∙◌, ◌==◌}
+use Words.Keys.{server_node}
 use Rattle.st_client.proofs.Sleeping.{idle_receive}
 use Rattle.st_client.proofs.rules.ReceiveRule.touches.Goals as goal
 

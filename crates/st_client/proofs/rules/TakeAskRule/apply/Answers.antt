@@ -1,6 +1,7 @@
+use Rattle.st_lemmas.proofs.Words
+use Words.Client.{take_ask}
 use Rattle.st_client.proofs.Advancing.{advanced}
 use Rattle.st_client.proofs.InputsGrow.{take_ask_grows}
-use Rattle.st_rules.specs.Client.{take_ask}
 use Rattle.st_client.proofs.rules.TakeAskRule.apply.Goals as goal
 
 pub returns-in_ok-copy-clause-advances : goal.returns-in_ok-copy-clause-advances

@@ -1,6 +1,7 @@
-use Rattle.std.proofs.Common.{ap, ◌∙◌}
-use Rattle.st_rules.specs.ClientState.{server_of}
-use Rattle.st_rules.specs.Keys.{same_server}
+use Rattle.st_lemmas.proofs.Words
+use Words.{ap, ◌∙◌}
+use Words.ClientState.{server_of}
+use Words.Keys.{same_server}
 use Rattle.st_client.proofs.Sleeping.{idle_ask}
 use Rattle.st_client.proofs.rules.TakeAskRule.touches.Goals as goal
 

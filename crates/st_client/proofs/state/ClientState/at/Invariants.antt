@@ -1,8 +1,8 @@
-use Rattle.std.proofs.Common.{◌≡◌, map, drop}
-use Rattle.std.specs.Prelude.{find}
+use Rattle.st_lemmas.proofs.Words
+use Words.{◌≡◌, map, drop, find}
+use Words.ClientState.{is_at}
 use Rattle.st_client.specs.Machines.{here_of}
 use Rattle.st_client.specs.Nodes.{AreGiven}
-use Rattle.st_rules.specs.ClientState.{is_at}
 use Rattle.st_client.proofs.state.ClientState.at.Given as goal
 
 abbrev pub invariant-loop-a : goal.invariant-loop-a

@@ -1,7 +1,7 @@
-use Rattle.std.proofs.Common.{◌^◌, ◌<◌, ap, sym, subst, ◌∙◌}
-use Rattle.std.specs.List.{list_all}
+use Rattle.st_lemmas.proofs.Words
+use Words.{◌^◌, ◌<◌, ap, sym, subst, ◌∙◌, list_all}
+use Words.ClientState.{ClientState}
 use Rattle.st_client_association.specs.Associations.{has_room_at}
-use Rattle.st_rules.specs.ClientState.{ClientState}
 use Rattle.st_client.proofs.Resting.{begins}
 use Rattle.st_client.proofs.state.ClientState.begin.Goals as goal
 

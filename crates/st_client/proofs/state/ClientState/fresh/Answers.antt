@@ -1,8 +1,9 @@
-use Rattle.std.proofs.Common.{rules, ◌+◌, ◌≤◌, List, [], ◌∷◌, ap, sym, ◌∙◌}
+use Rattle.st_lemmas.proofs.Words
+use Words.{rules, ◌+◌, ◌≤◌, List, [], ◌∷◌, ap, sym, ◌∙◌}
+use Words.Client.{fresh_association}
+use Words.ClientState.{Association}
 use Rattle.st_client.proofs.Growing.{numbers_next}
 use Rattle.st_client.specs.Nodes.{with_more}
-use Rattle.st_rules.specs.Client.{fresh_association}
-use Rattle.st_rules.specs.ClientState.{Association}
 use Rattle.st_client.proofs.state.ClientState.fresh.Goals as goal
 
 pub loop-server-preserved : goal.loop-server-preserved

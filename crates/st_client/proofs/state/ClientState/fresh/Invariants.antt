@@ -1,7 +1,7 @@
-use Rattle.std.proofs.Common.{◌≡◌, ◌≤◌, ◌-◌, []}
-use Rattle.std.specs.Prelude.{map}
-use Rattle.st_rules.specs.Client.{fresh_association}
-use Rattle.st_rules.specs.Extents.{numbers}
+use Rattle.st_lemmas.proofs.Words
+use Words.{◌≡◌, ◌≤◌, ◌-◌, [], map}
+use Words.Client.{fresh_association}
+use Words.Extents.{numbers}
 use Rattle.st_client.proofs.state.ClientState.fresh.Given as goal
 
 abbrev pub invariant-loop-server : goal.invariant-loop-server

@@ -1,6 +1,5 @@
-use Rattle.std.proofs.Common.{◌≡◌, map, drop}
-use Rattle.std.specs.Prelude.{◌&&◌}
-use Rattle.std.specs.List.{list_all}
+use Rattle.st_lemmas.proofs.Words
+use Words.{◌≡◌, map, drop, ◌&&◌, list_all}
 use Rattle.st_client_association.specs.Associations.{has_room_at}
 use Rattle.st_client.specs.Machines.{here_of}
 use Rattle.st_client.proofs.state.ClientState.has_room.Given as goal

@@ -1,11 +1,10 @@
-use Rattle.std.proofs.Common.{◌≡◌, ◌-◌, ◌≤◌, [], drop, get_or, sym, ap, subst, ◌∙◌, arith}
-use Rattle.st_base.specs.declared.config.Config.{Config}
-use Rattle.st_base.specs.declared.ids.ServerId.{ServerId}
+use Rattle.st_lemmas.proofs.Words
+use Words.{◌≡◌, ◌-◌, ◌≤◌, [], drop, get_or, sym, ap, subst, ◌∙◌, arith, Config, ServerId}
+use Words.ClientState.{ClientState}
 use Rattle.st_client.specs.declared.ends.LeaseEnds.{LeaseEnds}
 use Rattle.st_client.specs.declared.parts.ClientParts.{ClientParts}
 use Rattle.st_client.specs.Nodes.{AreGiven}
 use Rattle.st_client.proofs.Ending.{AreEnds, drop_all, ends_next, next_place, no_ends, place_in, server_at_place}
-use Rattle.st_rules.specs.ClientState.{ClientState}
 use Rattle.st_client.proofs.state.ClientState.lease_ends.Goals as goal
 
 pub loop-i-init : goal.loop-i-init

@@ -1,4 +1,5 @@
-use Rattle.std.proofs.Common.{◌≤◌, drop, length}
+use Rattle.st_lemmas.proofs.Words
+use Words.{◌≤◌, drop, length}
 use Rattle.st_client.proofs.Ending.{AreEnds}
 use Rattle.st_client.proofs.state.ClientState.lease_ends.Given as goal
 

@@ -1,7 +1,8 @@
-use Rattle.std.proofs.Common.{◌≡◌, ◌+◌, ◌≤◌, ◌++◌, length, map, vec_len, vec_capacity, drop}
+use Rattle.st_lemmas.proofs.Words
+use Words.{◌≡◌, ◌+◌, ◌≤◌, ◌++◌, length, map, vec_len, vec_capacity, drop}
+use Words.World.{life_of_association, lives_of}
 use Rattle.st_client.specs.Machines.{here_of}
 use Rattle.st_client.specs.Nodes.{AreGiven}
-use Rattle.st_rules.specs.World.{life_of_association, lives_of}
 use Rattle.st_client.proofs.state.ClientState.push_lives.Given as goal
 
 abbrev pub invariant-loop-a : goal.invariant-loop-a

@@ -1,4 +1,5 @@
-use Rattle.std.proofs.Common.{◌≡◌, ◌++◌, map, drop}
+use Rattle.st_lemmas.proofs.Words
+use Words.{◌≡◌, ◌++◌, map, drop}
 use Rattle.st_client.specs.Machines.{here_of}
 use Rattle.st_client.specs.Nodes.{server_at}
 use Rattle.st_client.proofs.state.ClientState.servers.Given as goal

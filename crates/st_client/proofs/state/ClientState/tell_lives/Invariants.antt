@@ -1,6 +1,7 @@
-use Rattle.std.proofs.Common.{◌≡◌, ◌+◌, ◌≤◌, ◌++◌, length, map, vec_len, vec_capacity, drop}
+use Rattle.st_lemmas.proofs.Words
+use Words.{◌≡◌, ◌+◌, ◌≤◌, ◌++◌, length, map, vec_len, vec_capacity, drop}
+use Words.Client.{life_of_association, lives}
 use Rattle.st_client.specs.Machines.{here_of}
-use Rattle.st_rules.specs.Client.{life_of_association, lives}
 use Rattle.st_client.proofs.state.ClientState.tell_lives.Given as goal
 
 abbrev pub invariant-loop-a : goal.invariant-loop-a

@@ -1,4 +1,5 @@
-use Rattle.std.proofs.Common.{sym, subst}
+use Rattle.st_lemmas.proofs.Words
+use Words.{sym, subst}
 use Rattle.st_client.proofs.Resting.{given_last}
 use Rattle.st_client.specs.Nodes.{IsResting}
 use Rattle.st_client.proofs.state.ClientState.with_server.Goals as goal

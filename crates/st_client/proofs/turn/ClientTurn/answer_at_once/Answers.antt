@@ -1,4 +1,5 @@
-use Rattle.std.proofs.Common.{sym, subst}
+use Rattle.st_lemmas.proofs.Words
+use Words.{sym, subst}
 use Rattle.st_client.proofs.Growing.{machine_said}
 use Rattle.st_client.specs.Machines.{IsMachineOf}
 use Rattle.st_client.proofs.turn.ClientTurn.answer_at_once.Goals as goal

@@ -1,11 +1,11 @@
-use Rattle.std.proofs.Common.{◌≡◌, true, ap, ◌∙◌}
+use Rattle.st_lemmas.proofs.Words
+use Words.{◌≡◌, true, ap, ◌∙◌}
+use Words.ClientInvariants.{all_last}
+use Words.ClientState.{ClientTurn, at_each, only_at, server_of}
+use Words.Ranges.{is_ask}
+use Words.Client.{take_ask}
 use Rattle.st_client.proofs.Advancing.{ok_by}
-use Rattle.st_rules.specs.ClientInvariants.{all_last}
-use Rattle.st_rules.specs.ClientState.{ClientTurn, at_each}
 use Rattle.st_client.proofs.AllLast.{all_same, taken_last}
-use Rattle.st_messages.specs.Ranges.{is_ask}
-use Rattle.st_rules.specs.Client.{take_ask}
-use Rattle.st_rules.specs.ClientState.{only_at, server_of}
 use Rattle.st_client.proofs.turn.ClientTurn.ask_each.Goals as goal
 
 pub at_each-requires : goal.at_each-requires

@@ -1,4 +1,5 @@
-use Rattle.std.proofs.Common.{◌≤◌, arith}
+use Rattle.st_lemmas.proofs.Words
+use Words.{◌≤◌, arith}
 use Rattle.st_client.proofs.Placing.{all_done, next_done, next_ready, next_within, none_done}
 use Rattle.st_client.proofs.turn.ClientTurn.at_each.Goals as goal
 

@@ -1,5 +1,6 @@
+use Rattle.st_lemmas.proofs.Words
+use Words.ClientState.{at_each}
 use Rattle.st_client.proofs.Placing.{IsDone}
-use Rattle.st_rules.specs.ClientState.{at_each}
 use Rattle.st_client.proofs.turn.ClientTurn.at_each.Given as goal
 
 abbrev pub invariant-loop-place : goal.invariant-loop-place

@@ -1,4 +1,5 @@
-use Rattle.std.proofs.Common.{sym}
+use Rattle.st_lemmas.proofs.Words
+use Words.{sym}
 use Rattle.st_client.proofs.turn.ClientTurn.at_next.Goals as goal
 
 pub returns-else-is_touched_at : goal.returns-else-is_touched_at

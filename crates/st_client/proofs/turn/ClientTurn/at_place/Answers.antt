@@ -1,10 +1,10 @@
-use Rattle.std.proofs.Common.{◌≡◌, ◌≤◌, true, length, map, refl, ap, sym, subst, ◌∙◌, arith}
-use Rattle.std.specs.Prelude.{remove}
+use Rattle.st_lemmas.proofs.Words
+use Words.{◌≡◌, ◌≤◌, true, length, map, refl, ap, sym, subst, ◌∙◌, arith, remove}
+use Words.ClientState.{ClientTurn, with_associations}
 use Rattle.st_client_association.specs.Associations.{IsCounted}
 use Rattle.st_client.proofs.Growing.{machine_run, one_in, others_in}
 use Rattle.st_client.proofs.Placing.{entered_is, place_fits, place_is, placed_is, within_items}
 use Rattle.st_client.specs.Machines.{IsMachineOf, at_place, here_of, is_ready_at, turn_of}
-use Rattle.st_rules.specs.ClientState.{ClientTurn, with_associations}
 use Rattle.st_client.proofs.turn.ClientTurn.at_place.Goals as goal
 
 pub swap_remove-a-requires : goal.swap_remove-a-requires

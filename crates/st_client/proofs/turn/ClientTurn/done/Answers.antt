@@ -1,9 +1,10 @@
-use Rattle.std.proofs.Common.{◌≡◌, true, refl, ap, ◌∙◌}
+use Rattle.st_lemmas.proofs.Words
+use Words.{◌≡◌, true, refl, ap, ◌∙◌}
+use Words.ClientInvariants.{all_last}
+use Words.ClientState.{ClientTurn, at_each}
+use Words.Client.{finish}
 use Rattle.st_client.proofs.Advancing.{ok_by}
-use Rattle.st_rules.specs.ClientInvariants.{all_last}
-use Rattle.st_rules.specs.ClientState.{ClientTurn, at_each}
 use Rattle.st_client.proofs.AllLast.{all_same, done_last}
-use Rattle.st_rules.specs.Client.{finish}
 use Rattle.st_client.proofs.turn.ClientTurn.done.Goals as goal
 
 pub at_each-requires : goal.at_each-requires

@@ -1,8 +1,7 @@
-use Rattle.std.proofs.Common.{◌≡◌, drop}
-use Rattle.std.specs.Prelude.{◌||◌, map}
-use Rattle.std.specs.List.{list_any}
+use Rattle.st_lemmas.proofs.Words
+use Words.{◌≡◌, drop, ◌||◌, map, list_any}
+use Words.ClientState.{is_at}
 use Rattle.st_client.specs.Machines.{here_of}
-use Rattle.st_rules.specs.ClientState.{is_at}
 use Rattle.st_client.proofs.turn.ClientTurn.is_configured.Given as goal
 
 abbrev pub invariant-loop-a : goal.invariant-loop-a

@@ -1,5 +1,6 @@
-use Rattle.std.proofs.Common.{ap, subst, ◌∙◌}
-use Rattle.st_rules.specs.ClientState.{ClientTurn}
+use Rattle.st_lemmas.proofs.Words
+use Words.{ap, subst, ◌∙◌}
+use Words.ClientState.{ClientTurn}
 use Rattle.st_client.specs.declared.parts.ClientParts.{ClientParts}
 use Rattle.st_client.specs.IdleRules.{IsIdle}
 use Rattle.st_client.proofs.turn.ClientTurn.is_touched.Goals as goal

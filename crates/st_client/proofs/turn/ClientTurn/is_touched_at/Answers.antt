@@ -1,8 +1,9 @@
-use Rattle.std.proofs.Common.{get_or, ap, ◌∙◌}
+use Rattle.st_lemmas.proofs.Words
+use Words.{get_or, ap, ◌∙◌}
+use Words.ClientState.{ClientTurn}
 use Rattle.st_client.specs.declared.parts.ClientParts.{ClientParts}
 use Rattle.st_client.proofs.Growing.{one_in}
 use Rattle.st_client.proofs.Placing.{place_idle, within_items}
-use Rattle.st_rules.specs.ClientState.{ClientTurn}
 use Rattle.st_client.proofs.turn.ClientTurn.is_touched_at.Goals as goal
 
 pub returns : goal.returns

@@ -1,4 +1,5 @@
-use Rattle.std.proofs.Common.{true, refl}
+use Rattle.st_lemmas.proofs.Words
+use Words.{true, refl}
 use Rattle.st_client.proofs.AllLast.{all_same}
 use Rattle.st_client.proofs.turn.ClientTurn.losses.Goals as goal
 

@@ -1,12 +1,10 @@
-use Rattle.std.proofs.Common.{◌≡◌, true, ap, ◌∙◌}
+use Rattle.st_lemmas.proofs.Words
+use Words.{◌≡◌, true, ap, ◌∙◌, ◌^◌, nat_le}
+use Words.ClientInvariants.{all_last, lasts_here}
+use Words.ClientState.{ClientTurn, at_each}
+use Words.ClientReplies.{receive_at}
 use Rattle.st_client.proofs.Advancing.{ok_by}
-use Rattle.st_rules.specs.ClientInvariants.{all_last}
-use Rattle.st_rules.specs.ClientState.{ClientTurn, at_each}
-use Rattle.std.proofs.Common.{◌^◌}
-use Rattle.std.specs.Prelude.{nat_le}
 use Rattle.st_client.proofs.AllLast.{all_both, received_last, leb-is}
-use Rattle.st_rules.specs.ClientReplies.{receive_at}
-use Rattle.st_rules.specs.ClientInvariants.{lasts_here}
 use Rattle.st_client.proofs.turn.ClientTurn.receive_here.Goals as goal
 
 pub at_each-requires : goal.at_each-requires

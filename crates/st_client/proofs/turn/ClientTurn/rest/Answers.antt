@@ -1,4 +1,5 @@
-use Rattle.std.proofs.Common.{ap, sym, subst, ◌∙◌}
+use Rattle.st_lemmas.proofs.Words
+use Words.{ap, sym, subst, ◌∙◌}
 use Rattle.st_client.proofs.Resting.{rests}
 use Rattle.st_client.specs.Machines.{IsMachineOf}
 use Rattle.st_client.proofs.turn.ClientTurn.rest.Goals as goal

@@ -1,5 +1,5 @@
-use Rattle.std.proofs.Common.{◌≡◌, ◌∙◌, sym, subst, refl}
-use Rattle.std.specs.Prelude.{Option, Some}
+use Rattle.st_lemmas.proofs.Words
+use Words.{◌≡◌, ◌∙◌, sym, subst, refl, Option, Some}
 use Rattle.st_client_session.specs.Sessions.{ServerSession}
 use Rattle.st_client_association.specs.Turns.{IsTurn}
 use Rattle.st_client_association.specs.contracts.turn.Turn.{the_view}

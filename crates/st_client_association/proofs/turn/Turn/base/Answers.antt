@@ -1,5 +1,5 @@
-use Rattle.std.proofs.Common.{subst}
-use Rattle.std.specs.Prelude.{Option}
+use Rattle.st_lemmas.proofs.Words
+use Words.{subst, Option}
 use Rattle.st_client_session.specs.Sessions.{ServerSession}
 use Rattle.st_client_association.specs.Turns.{IsTurn}
 use Rattle.st_client_association.proofs.TurnInvariants.{lent}

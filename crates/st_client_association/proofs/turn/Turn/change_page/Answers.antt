@@ -1,7 +1,7 @@
-use Rattle.std.proofs.Common.{ap, subst}
-use Rattle.std.specs.Prelude.{Option}
+use Rattle.st_lemmas.proofs.Words
+use Words.{ap, subst, Option}
+use Words.ClientPages.{forget_read}
 use Rattle.st_client_session.specs.Sessions.{ServerSession}
-use Rattle.st_rules.specs.ClientPages.{forget_read}
 use Rattle.st_client_association.specs.Turns.{IsTurn}
 use Rattle.st_client_association.proofs.TurnInvariants.{below_fewer, lent, turn_written, version_written}
 use Rattle.st_client_association.proofs.turn.Turn.change_page.Goals as goal

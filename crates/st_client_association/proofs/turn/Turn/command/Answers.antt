@@ -1,7 +1,7 @@
-use Rattle.std.proofs.Common.{◌∙◌, sym}
-use Rattle.std.specs.Prelude.{option_map}
+use Rattle.st_lemmas.proofs.Words
+use Words.{◌∙◌, sym, option_map}
+use Words.ClientPages.{command_of}
 use Rattle.st_flush.specs.Calls.{told}
-use Rattle.st_rules.specs.ClientPages.{command_of}
 use Rattle.st_client_association.proofs.Done.{some_told}
 use Rattle.st_client_association.proofs.turn.Turn.command.Goals as goal
 

@@ -1,4 +1,5 @@
-use Rattle.std.proofs.Common.{refl}
+use Rattle.st_lemmas.proofs.Words
+use Words.{refl}
 use Rattle.st_client_association.proofs.TurnInvariants.{lent, store_changed}
 use Rattle.st_client_association.proofs.Done.{below_ended}
 use Rattle.st_client_association.proofs.turn.Turn.end_command.Goals as goal

@@ -1,5 +1,6 @@
-use Rattle.std.proofs.Common.{refl}
-use Rattle.st_rules.specs.ClientPages.{forget_from, drop_from}
+use Rattle.st_lemmas.proofs.Words
+use Words.{refl}
+use Words.ClientPages.{forget_from, drop_from}
 use Rattle.st_client_association.proofs.TurnInvariants.{lent, store_changed}
 use Rattle.st_client_association.proofs.turn.Turn.forget_from.Goals as goal
 

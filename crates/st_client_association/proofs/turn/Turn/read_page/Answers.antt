@@ -1,5 +1,5 @@
-use Rattle.std.proofs.Common.{subst, refl}
-use Rattle.std.specs.Prelude.{Option}
+use Rattle.st_lemmas.proofs.Words
+use Words.{subst, refl, Option}
 use Rattle.st_client_session.specs.Sessions.{ServerSession}
 use Rattle.st_client_association.specs.Turns.{IsTurn}
 use Rattle.st_client_association.proofs.TurnInvariants.{lent, turn_changed, versions_used}

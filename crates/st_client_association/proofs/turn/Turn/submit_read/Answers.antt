@@ -1,8 +1,8 @@
-use Rattle.std.proofs.Common.{subst, refl}
-use Rattle.std.specs.Prelude.{Option}
+use Rattle.st_lemmas.proofs.Words
+use Words.{subst, refl, Option}
+use Words.io.{Read}
 use Rattle.st_client_session.specs.Sessions.{ServerSession}
 use Rattle.st_flush.proofs.Places.{no_number}
-use Rattle.st_rules.specs.declared.client.IoKind.TheVariants.{Read}
 use Rattle.st_client_association.specs.Turns.{IsTurn}
 use Rattle.st_client_association.proofs.TurnInvariants.{lent, turn_begun}
 use Rattle.st_client_association.proofs.turn.Turn.submit_read.Goals as goal

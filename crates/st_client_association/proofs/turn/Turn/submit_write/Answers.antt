@@ -1,7 +1,7 @@
-use Rattle.std.proofs.Common.{◌≡◌, ap, sym, ◌∙◌}
-use Rattle.std.specs.Prelude.{Some, is_some}
-use Rattle.st_rules.specs.ClientPages.{dirty_of, is_being_written}
-use Rattle.st_rules.specs.ClientState.{Turn}
+use Rattle.st_lemmas.proofs.Words
+use Words.{◌≡◌, ap, sym, ◌∙◌, Some, is_some}
+use Words.ClientPages.{dirty_of, is_being_written}
+use Words.ClientState.{Turn}
 use Rattle.st_client_association.proofs.Sending.{place_found}
 use Rattle.st_client_association.proofs.turn.Turn.submit_write.Goals as goal
 

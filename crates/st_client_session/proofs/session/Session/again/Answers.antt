@@ -1,4 +1,5 @@
-use Rattle.std.proofs.Common.{refl}
+use Rattle.st_lemmas.proofs.Words
+use Words.{refl}
 use Rattle.st_client_session.proofs.Again.{asks_again, session_again, told_again}
 use Rattle.st_client_session.proofs.session.Session.again.Goals as goal
 

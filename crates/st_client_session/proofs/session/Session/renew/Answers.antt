@@ -1,7 +1,8 @@
-use Rattle.std.proofs.Common.{◌≡◌, ap, ◌∙◌, subst, sym, true, false}
+use Rattle.st_lemmas.proofs.Words
+use Words.{◌≡◌, ap, ◌∙◌, subst, sym, true, false}
+use Words.Tables.{not_true}
+use Words.ClientLease.{renewed, must_discard, standing_of}
 use Rattle.st_lease_client.specs.Standings.{kind_of}
-use Rattle.st_lemmas.proofs.Tables.{not_true}
-use Rattle.st_rules.specs.ClientLease.{renewed, must_discard, standing_of}
 use Rattle.st_client_session.specs.Sessions.{ServerSession, lasts, lease_of}
 use Rattle.st_client_session.proofs.Lasting.{kind_settled, renewed_lasts}
 use Rattle.st_client_session.proofs.session.Session.renew.Goals as goal

@@ -1,7 +1,7 @@
-use Rattle.std.proofs.Common.{◌≡◌, None, false, refl}
-use Rattle.std.specs.Prelude.{is_some}
-use Rattle.st_rules.specs.ClientPages.{dirty_of, is_being_read}
-use Rattle.st_rules.specs.declared.client.IoKind.TheVariants.{Read}
+use Rattle.st_lemmas.proofs.Words
+use Words.{◌≡◌, None, false, refl}
+use Words.ClientPages.{dirty_of, is_being_read}
+use Words.io.{Read}
 use Rattle.st_client_store.proofs.Matching.{matched_more, none_read}
 use Rattle.st_client_store.proofs.store.Store.begin_read.Goals as goal
 

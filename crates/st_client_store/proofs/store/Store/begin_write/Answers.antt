@@ -1,7 +1,7 @@
-use Rattle.std.proofs.Common.{◌≡◌, true, false}
-use Rattle.std.specs.Prelude.{is_some}
-use Rattle.st_rules.specs.ClientPages.{dirty_of, is_being_written}
-use Rattle.st_rules.specs.declared.client.IoKind.TheVariants.{Write}
+use Rattle.st_lemmas.proofs.Words
+use Words.{◌≡◌, true, false, is_some}
+use Words.ClientPages.{dirty_of, is_being_written}
+use Words.io.{Write}
 use Rattle.st_client_store.proofs.Matching.{matched_more, none_written}
 use Rattle.st_client_store.proofs.store.Store.begin_write.Goals as goal
 

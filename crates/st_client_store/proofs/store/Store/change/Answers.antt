@@ -1,4 +1,5 @@
-use Rattle.std.proofs.Common.{◌≡◌, ◌∙◌, sym}
+use Rattle.st_lemmas.proofs.Words
+use Words.{◌≡◌, ◌∙◌, sym}
 use Rattle.st_client_store.proofs.Matching.{matched_written}
 use Rattle.st_client_store.proofs.store.Store.change.Goals as goal
 

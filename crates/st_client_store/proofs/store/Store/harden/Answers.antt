@@ -1,5 +1,6 @@
-use Rattle.std.proofs.Common.{◌≡◌, None}
-use Rattle.st_rules.specs.ClientPages.{command_on}
+use Rattle.st_lemmas.proofs.Words
+use Words.{◌≡◌, None}
+use Words.ClientPages.{command_on}
 use Rattle.st_client_store.proofs.Matching.{matched_hardened}
 use Rattle.st_client_store.proofs.store.Store.harden.Goals as goal
 

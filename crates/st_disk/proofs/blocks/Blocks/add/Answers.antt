@@ -1,13 +1,13 @@
-use Rattle.std.proofs.Common.{◌≡◌, sym, ap, ◌∙◌, if◌then◌else◌}
+use Rattle.std.proofs.Common.{sym, ap, ◌∙◌, if◌then◌else◌}
 use Rattle.std.specs.Prelude.{Some, None}
 use Rattle.std.specs.List.{position}
 use Rattle.std.specs.Map.{lookup}
 use Rattle.indexmap.specs.IndexMap.{get}
 use Rattle.st_rules.specs.Disks.{is_block_at}
 use Rattle.st_rules.specs.Keys.{put}
+use Rattle.st_lemmas.proofs.PutPlaces.{put_behind}
 use Rattle.st_disk.specs.Indexes.{place_key, same_place}
 use Rattle.st_disk.proofs.Places.{index_more}
-use Rattle.st_disk.proofs.Puts.{put_behind}
 use Rattle.st_disk.proofs.blocks.Blocks.add.Goals as goal
 
 pub invariant_of-self-2 : goal.invariant_of-self-2

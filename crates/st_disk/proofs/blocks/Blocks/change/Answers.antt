@@ -1,8 +1,8 @@
 use Rattle.std.proofs.Common.{sym, ap, ◌∙◌, set}
 use Rattle.std.specs.List.{position}
 use Rattle.st_rules.specs.Disks.{is_block_at}
+use Rattle.st_lemmas.proofs.PutPlaces.{put_at}
 use Rattle.st_disk.proofs.Places.{index_kept}
-use Rattle.st_disk.proofs.Puts.{put_at}
 use Rattle.st_disk.proofs.blocks.Blocks.change.Goals as goal
 
 pub invariant_of-self : goal.invariant_of-self

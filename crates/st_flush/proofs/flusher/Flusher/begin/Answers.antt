@@ -1,5 +1,6 @@
-use Rattle.std.proofs.Common.{◌≡◌, None}
-use Rattle.st_rules.specs.ClientPages.{command_of, command_on}
+use Rattle.st_lemmas.proofs.Words
+use Words.{◌≡◌, None}
+use Words.ClientPages.{command_of, command_on}
 use Rattle.st_flush.proofs.Begun.{more_apart}
 use Rattle.st_flush.proofs.flusher.Flusher.begin.Goals as goal
 

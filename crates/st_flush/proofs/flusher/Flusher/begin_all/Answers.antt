@@ -1,4 +1,5 @@
-use Rattle.std.proofs.Common.{◌∙◌, ap}
+use Rattle.st_lemmas.proofs.Words
+use Words.{◌∙◌, ap}
 use Rattle.st_flush.specs.Calls.{ServerCommands}
 use Rattle.st_flush.proofs.Begun.{here_new, step_begun, step_may}
 use Rattle.st_flush.proofs.flusher.Flusher.begin_all.Goals as goal

@@ -1,5 +1,6 @@
-use Rattle.std.proofs.Common.{◌≡◌, ◌+◌, drop}
-use Rattle.st_rules.specs.ClientPages.{begin_writes}
+use Rattle.st_lemmas.proofs.Words
+use Words.{◌≡◌, ◌+◌, drop}
+use Words.ClientPages.{begin_writes}
 use Rattle.st_flush.proofs.Begun.{MayBegin}
 use Rattle.st_flush.proofs.flusher.Flusher.begin_all.Given as goal
 

@@ -1,8 +1,8 @@
-use Rattle.std.proofs.Common.{◌≡◌, ◌∙◌, ◌++◌, sym, ap, take, map}
-use Rattle.std.specs.Prelude.{filter_map, option_map, option_to_list}
-use Rattle.std.proofs.lemmas.List.{take_all}
-use Rattle.st_rules.specs.Keys.{rising}
-use Rattle.st_rules.specs.ClientLocks.{all_locks, ino_of_lock, lock_in_list, lock_row_at}
+use Rattle.st_lemmas.proofs.Words
+use Words.{◌≡◌, ◌∙◌, ◌++◌, sym, ap, take, map, filter_map, option_map, take_all}
+use Words.Keys.{rising}
+use Words.ClientLocks.{all_locks, ino_of_lock, lock_in_list, lock_row_at}
+use Rattle.std.specs.Prelude.{option_to_list}
 use Rattle.st_tables.proofs.RisingKeys.{filter_map_take}
 use Rattle.st_lock_cache.specs.Calls.{ServerLocks}
 use Rattle.st_lock_cache.proofs.Tables.{filter_true}

@@ -1,6 +1,6 @@
-use Rattle.std.proofs.Common.{◌≡◌, take}
-use Rattle.std.specs.Prelude.{filter_map}
-use Rattle.st_rules.specs.ClientLocks.{lock_row_at}
+use Rattle.st_lemmas.proofs.Words
+use Words.{◌≡◌, take, filter_map}
+use Words.ClientLocks.{lock_row_at}
 use Rattle.st_lock_cache.proofs.cache.LockCache.all.Given as goal
 
 abbrev pub invariant-loop-ino : goal.invariant-loop-ino

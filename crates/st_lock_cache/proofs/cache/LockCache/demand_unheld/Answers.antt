@@ -1,6 +1,6 @@
-use Rattle.std.proofs.Common.{◌≡◌, ◌∙◌, ap, sym}
-use Rattle.st_base.specs.declared.ids.GrantNo.{GrantNo}
-use Rattle.st_rules.specs.ClientLocks.{greater_grant, seen_of}
+use Rattle.st_lemmas.proofs.Words
+use Words.{◌≡◌, ◌∙◌, ap, sym, GrantNo}
+use Words.ClientLocks.{greater_grant, seen_of}
 use Rattle.st_lock_cache.specs.Calls.{ServerLocks, tables}
 use Rattle.st_lock_cache.proofs.CacheInvariants.{greater_kept}
 use Rattle.st_lock_cache.proofs.cache.LockCache.demand_unheld.Goals as goal

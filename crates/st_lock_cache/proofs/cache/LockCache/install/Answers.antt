@@ -1,5 +1,6 @@
-use Rattle.std.proofs.Common.{◌≡◌, true, ◌∙◌, sym}
-use Rattle.st_rules.specs.ClientLocks.{is_above_seen}
+use Rattle.st_lemmas.proofs.Words
+use Words.{◌≡◌, true, ◌∙◌, sym}
+use Words.ClientLocks.{is_above_seen}
 use Rattle.st_lock_cache.specs.Calls.{tables}
 use Rattle.st_lock_cache.proofs.CacheInvariants.{installed_kept}
 use Rattle.st_lock_cache.proofs.cache.LockCache.install.Goals as goal

@@ -1,5 +1,6 @@
-use Rattle.std.proofs.Common.{◌≡◌, true}
-use Rattle.st_rules.specs.ClientLocks.{is_above_seen}
+use Rattle.st_lemmas.proofs.Words
+use Words.{◌≡◌, true}
+use Words.ClientLocks.{is_above_seen}
 use Rattle.st_lock_cache.specs.Calls.{tables}
 use Rattle.st_lock_cache.proofs.CacheInvariants.{seen_kept}
 use Rattle.st_lock_cache.proofs.cache.LockCache.observe.Goals as goal

@@ -1,5 +1,6 @@
-use Rattle.std.proofs.Common.{◌≡◌, Some}
-use Rattle.st_rules.specs.ClientLocks.{lock_of}
+use Rattle.st_lemmas.proofs.Words
+use Words.{◌≡◌, Some}
+use Words.ClientLocks.{lock_of}
 use Rattle.st_lock_cache.specs.Calls.{tables}
 use Rattle.st_lock_cache.proofs.CacheInvariants.{lowered_kept}
 use Rattle.st_lock_cache.proofs.cache.LockCache.reduce_lock.Goals as goal

@@ -1,4 +1,5 @@
-use Rattle.std.proofs.Common.{ap, length, arith}
+use Rattle.st_lemmas.proofs.Words
+use Words.{ap, length, arith}
 use Rattle.st_move.specs.Chunks.{chunks_of}
 use Rattle.st_move.proofs.InChunks.{kept_length}
 use Rattle.st_move.proofs.chunks.UpdateList.len.Goals as goal

@@ -1,4 +1,5 @@
-use Rattle.std.proofs.Common.{◌≡◌, ◌∙◌, length, ap, arith}
+use Rattle.st_lemmas.proofs.Words
+use Words.{◌≡◌, ◌∙◌, length, ap, arith}
 use Rattle.st_move.proofs.Loops.{beginnings_length}
 use Rattle.st_move.proofs.mover.Mover.new.Goals as goal
 

@@ -1,7 +1,7 @@
-use Rattle.std.proofs.Common.{◌≡◌, ◌<◌, length, ap, sym, subst, ◌∙◌, refl}
-use Rattle.std.specs.Prelude.{set, slice_get, Some, None}
+use Rattle.st_lemmas.proofs.Words
+use Words.{◌≡◌, ◌<◌, length, ap, sym, subst, ◌∙◌, refl, set, slice_get, Some, None}
+use Words.World.{numbered}
 use Rattle.std.proofs.lemmas.Result.{err_from_is_err_and}
-use Rattle.st_rules.specs.World.{numbered}
 use Rattle.st_move.specs.declared.refusal.MoveRefusal.TheVariants as refusals
 use Rattle.std.proofs.lemmas.Option.{slice_get-get_or}
 use Rattle.st_move.specs.Calls.{Counts, count_at}

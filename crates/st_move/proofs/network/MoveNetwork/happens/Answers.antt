@@ -1,4 +1,5 @@
-use Rattle.std.proofs.Common.{◌≡◌, ◌<◌, ◌+◌, ◌^◌, ap, sym, subst}
+use Rattle.st_lemmas.proofs.Words
+use Words.{◌≡◌, ◌<◌, ◌+◌, ◌^◌, ap, sym, subst}
 use Rattle.st_move.specs.Network.{MoveNetwork, turned}
 use Rattle.st_move.specs.World.{happens}
 use Rattle.st_move.proofs.Networks.{are_kept, can_happen, reached_next}

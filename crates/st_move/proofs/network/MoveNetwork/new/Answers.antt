@@ -1,4 +1,5 @@
-use Rattle.std.proofs.Common.{sym, subst}
+use Rattle.st_lemmas.proofs.Words
+use Words.{sym, subst}
 use Rattle.st_move.specs.Network.{IsReached}
 use Rattle.st_move.specs.World.{MoveWorld}
 use Rattle.st_move.proofs.Networks.{are_kept, reached_fresh}

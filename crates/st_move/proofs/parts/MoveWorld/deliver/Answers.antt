@@ -1,7 +1,7 @@
-use Rattle.std.proofs.Common.{◌≡◌, ◌<◌, ◌≤◌, ◌∙◌, length, ap, sym, subst}
-use Rattle.std.specs.Prelude.{Some, slice_get}
+use Rattle.st_lemmas.proofs.Words
+use Words.{◌≡◌, ◌<◌, ◌≤◌, ◌∙◌, length, ap, sym, subst, Some, slice_get}
+use Words.World.{numbered}
 use Rattle.std.proofs.lemmas.Option.{slice_get-get_or}
-use Rattle.st_rules.specs.World.{numbered}
 use Rattle.st_move.specs.declared.world.SentMove.{SentMove}
 use Rattle.st_move.specs.Containers.{container_of}
 use Rattle.st_move.specs.Network.{turned}

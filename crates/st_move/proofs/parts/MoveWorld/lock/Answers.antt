@@ -1,7 +1,7 @@
-use Rattle.std.proofs.Common.{◌≡◌, ◌<◌, ◌∙◌, length, ap, sym, subst}
-use Rattle.std.specs.Prelude.{IfOk, Some, set, slice_get}
+use Rattle.st_lemmas.proofs.Words
+use Words.{◌≡◌, ◌<◌, ◌∙◌, length, ap, sym, subst, IfOk, Some, set, slice_get}
+use Words.World.{numbered}
 use Rattle.std.proofs.lemmas.Option.{slice_get-get_or}
-use Rattle.st_rules.specs.World.{numbered}
 use Rattle.st_move.specs.World.{MoveWorld, lock_at, told}
 use Rattle.st_move.proofs.Networks.{at_server, each_ok, lock_nowhere, numbered_at}
 use Rattle.st_move.proofs.parts.MoveWorld.lock.Goals as goal

@@ -1,8 +1,8 @@
-use Rattle.std.proofs.Common.{◌≡◌, ◌<◌, ◌∙◌, length, ap, sym, subst, false}
-use Rattle.std.specs.Prelude.{Some, set, slice_get}
+use Rattle.st_lemmas.proofs.Words
+use Words.{◌≡◌, ◌<◌, ◌∙◌, length, ap, sym, subst, false, Some, set, slice_get}
+use Words.World.{numbered}
+use Words.Lookups.{some_is}
 use Rattle.std.proofs.lemmas.Option.{slice_get-get_or}
-use Rattle.st_rules.specs.World.{numbered}
-use Rattle.st_lemmas.proofs.Lookups.{some_is}
 use Rattle.st_move.specs.declared.world.SentMove.{SentMove}
 use Rattle.st_move.specs.Network.{turned}
 use Rattle.st_move.specs.World.{MoveWorld, lose_at, lost_move}

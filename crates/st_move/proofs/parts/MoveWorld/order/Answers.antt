@@ -1,7 +1,7 @@
-use Rattle.std.proofs.Common.{◌≡◌, ◌∙◌}
-use Rattle.std.specs.Prelude.{Some, slice_get}
+use Rattle.st_lemmas.proofs.Words
+use Words.{◌≡◌, ◌∙◌, Some, slice_get}
+use Words.Numbers.{get_there}
 use Rattle.st_move.specs.declared.site.MoveSite.{MoveSite}
-use Rattle.st_lemmas.proofs.Numbers.{get_there}
 use Rattle.st_move.proofs.Networks.{each_ok, order_nowhere, order_some}
 use Rattle.st_move.proofs.parts.MoveWorld.order.Goals as goal
 

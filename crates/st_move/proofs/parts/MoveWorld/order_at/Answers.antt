@@ -1,10 +1,9 @@
-use Rattle.std.proofs.Common.{◌≡◌, ◌<◌, ◌+◌, ◌∙◌, length, ap, sym, subst}
-use Rattle.std.specs.Prelude.{IfOk, Some, set, slice_get}
+use Rattle.st_lemmas.proofs.Words
+use Words.{◌≡◌, ◌<◌, ◌+◌, ◌∙◌, length, ap, sym, subst, IfOk, Some, set, slice_get, ServerId}
+use Words.Lookups.{some_is}
+use Words.Numbers.{get_there}
+use Words.World.{numbered}
 use Rattle.std.proofs.lemmas.Option.{slice_get-get_or}
-use Rattle.st_base.specs.declared.ids.ServerId.{ServerId}
-use Rattle.st_lemmas.proofs.Lookups.{some_is}
-use Rattle.st_lemmas.proofs.Numbers.{get_there}
-use Rattle.st_rules.specs.World.{numbered}
 use Rattle.st_move.specs.declared.site.MoveSite.{MoveSite}
 use Rattle.st_move.specs.World.{MoveWorld, order_for, told}
 use Rattle.st_move.proofs.Networks.{each_ok, order_there, order_to_nowhere}

@@ -1,4 +1,5 @@
-use Rattle.std.proofs.Common.{ap, sym, ◌∙◌}
+use Rattle.st_lemmas.proofs.Words
+use Words.{ap, sym, ◌∙◌}
 use Rattle.st_move.specs.Network.{turned}
 use Rattle.st_move.proofs.Networks.{each_ok, numbered_at, take_nowhere}
 use Rattle.st_move.proofs.parts.MoveWorld.take.Goals as goal

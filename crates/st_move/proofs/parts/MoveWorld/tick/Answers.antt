@@ -1,4 +1,5 @@
-use Rattle.std.proofs.Common.{ap, sym, ◌∙◌}
+use Rattle.st_lemmas.proofs.Words
+use Words.{ap, sym, ◌∙◌}
 use Rattle.st_move.specs.Network.{turned}
 use Rattle.st_move.proofs.Networks.{each_ok, tick_nowhere}
 use Rattle.st_move.proofs.parts.MoveWorld.tick.Goals as goal

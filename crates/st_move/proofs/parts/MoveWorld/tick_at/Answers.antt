@@ -1,7 +1,7 @@
-use Rattle.std.proofs.Common.{◌≡◌, ◌++◌, ◌<◌, ◌∙◌, length, map, ap, sym, subst}
-use Rattle.std.specs.Prelude.{IfOk, Some, set, slice_get}
+use Rattle.st_lemmas.proofs.Words
+use Words.{◌≡◌, ◌++◌, ◌<◌, ◌∙◌, length, map, ap, sym, subst, IfOk, Some, set, slice_get}
+use Words.World.{numbered}
 use Rattle.std.proofs.lemmas.Option.{slice_get-get_or}
-use Rattle.st_rules.specs.World.{numbered}
 use Rattle.st_move.specs.Network.{turned}
 use Rattle.st_move.specs.World.{MoveWorld, sends_behind, sent_move, tick_at}
 use Rattle.st_move.proofs.Networks.{both_ok, numbered_at, tick_there}

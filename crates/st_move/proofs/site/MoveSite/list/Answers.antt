@@ -1,5 +1,5 @@
-use Rattle.std.proofs.Common.{ap, sym, ◌∙◌}
-use Rattle.std.specs.Prelude.{Ok}
+use Rattle.st_lemmas.proofs.Words
+use Words.{ap, sym, ◌∙◌, Ok}
 use Rattle.st_move.specs.Network.{Refuses}
 use Rattle.st_move.proofs.Networks.{each_ok, list_err, list_ok}
 use Rattle.st_move.proofs.site.MoveSite.list.Goals as goal

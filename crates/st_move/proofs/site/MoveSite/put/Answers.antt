@@ -1,5 +1,5 @@
-use Rattle.std.proofs.Common.{List, ℕ, subst}
-use Rattle.std.specs.Prelude.{Err}
+use Rattle.st_lemmas.proofs.Words
+use Words.{List, ℕ, subst, Err}
 use Rattle.st_move.specs.Calls.{Counts, count_at}
 use Rattle.st_move.specs.Containers.{after_put}
 use Rattle.st_move.specs.Network.{Refuses}

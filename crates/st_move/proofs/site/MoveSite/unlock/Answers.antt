@@ -1,5 +1,5 @@
-use Rattle.std.proofs.Common.{Bool, true, false, ap, sym, ◌∙◌}
-use Rattle.std.specs.Prelude.{if◌then◌else◌}
+use Rattle.st_lemmas.proofs.Words
+use Words.{Bool, true, false, ap, sym, ◌∙◌, if◌then◌else◌}
 use Rattle.st_move.specs.World.{unlocked}
 use Rattle.st_move.proofs.Networks.{unlock_does}
 use Rattle.st_move.proofs.site.MoveSite.unlock.Goals as goal

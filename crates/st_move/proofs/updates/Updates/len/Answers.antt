@@ -1,4 +1,5 @@
-use Rattle.std.proofs.Common.{◌≤◌, length, arith}
+use Rattle.st_lemmas.proofs.Words
+use Words.{◌≤◌, length, arith}
 use Rattle.st_move.specs.Updates.{bytes_of}
 use Rattle.st_move.proofs.Bytes.{count_few}
 use Rattle.st_move.proofs.updates.Updates.len.Goals as goal

@@ -1,4 +1,5 @@
-use Rattle.std.proofs.Common.{sym, subst}
+use Rattle.st_lemmas.proofs.Words
+use Words.{sym, subst}
 use Rattle.st_node.specs.Room.{ClientHasRoom}
 use Rattle.st_node.specs.Runs.{MOST}
 use Rattle.st_node.proofs.ClientRoom.{fresh_client_room}

@@ -1,4 +1,5 @@
-use Rattle.std.proofs.Common.{◌≤◌, length, arith}
+use Rattle.st_lemmas.proofs.Words
+use Words.{◌≤◌, length, arith}
 use Rattle.st_page_cache.proofs.Changes.{sound_written}
 use Rattle.st_page_cache.proofs.cache.PageCache.change.Goals as goal
 

@@ -1,5 +1,6 @@
-use Rattle.std.specs.Prelude.{not}
-use Rattle.st_rules.specs.ClientPages.{is_clean_behind}
+use Rattle.st_lemmas.proofs.Words
+use Words.{not}
+use Words.ClientPages.{is_clean_behind}
 use Rattle.st_page_cache.proofs.Changes.{sound_dropped}
 use Rattle.st_page_cache.proofs.cache.PageCache.drop_from.Goals as goal
 

@@ -1,5 +1,6 @@
-use Rattle.std.proofs.Common.{◌≡◌, ◌∙◌, refl, sym}
-use Rattle.st_rules.specs.ClientPages.{clean_page, harden, with_newest, without_dirty}
+use Rattle.st_lemmas.proofs.Words
+use Words.{◌≡◌, ◌∙◌, refl, sym}
+use Words.ClientPages.{clean_page, harden, with_newest, without_dirty}
 use Rattle.st_page_cache.specs.Caches.{pages_of}
 use Rattle.st_page_cache.proofs.Changes.{sound_hardened, harden_found}
 use Rattle.st_page_cache.proofs.cache.PageCache.harden.Goals as goal

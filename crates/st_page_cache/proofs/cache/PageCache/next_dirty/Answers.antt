@@ -1,4 +1,5 @@
-use Rattle.std.proofs.Common.{◌∙◌}
+use Rattle.st_lemmas.proofs.Words
+use Words.{◌∙◌}
 use Rattle.st_page_cache.specs.Caches.{pages_of}
 use Rattle.st_page_cache.proofs.Places.{nearest_is_next}
 use Rattle.st_page_cache.proofs.cache.PageCache.next_dirty.Goals as goal

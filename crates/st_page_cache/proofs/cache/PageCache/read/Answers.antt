@@ -1,5 +1,6 @@
-use Rattle.std.proofs.Common.{◌∙◌, ap, refl}
-use Rattle.st_rules.specs.ClientPages.{cached}
+use Rattle.st_lemmas.proofs.Words
+use Words.{◌∙◌, ap, refl}
+use Words.ClientPages.{cached}
 use Rattle.st_page_cache.specs.Caches.{ServerPages}
 use Rattle.st_page_cache.proofs.Used.{cached_used}
 use Rattle.st_page_cache.proofs.cache.PageCache.read.Goals as goal

@@ -1,6 +1,6 @@
-use Rattle.std.proofs.Common.{refl}
-use Rattle.std.specs.Prelude.{find}
-use Rattle.st_rules.specs.ClientPages.{is_clean_of}
+use Rattle.st_lemmas.proofs.Words
+use Words.{refl, find}
+use Words.ClientPages.{is_clean_of}
 use Rattle.st_page_cache.proofs.Changes.{sound_touched}
 use Rattle.st_page_cache.proofs.cache.PageCache.use_page.Goals as goal
 

@@ -1,4 +1,5 @@
-use Rattle.std.proofs.Common.{sym, subst}
+use Rattle.st_lemmas.proofs.Words
+use Words.{sym, subst}
 use Rattle.st_page_cache.specs.KeyedPages.{IsCache}
 use Rattle.st_page_cache.proofs.CleanRows.{cache_emptied}
 use Rattle.st_page_cache.proofs.clean_pages.CleanPages.clear.Goals as goal

@@ -1,6 +1,6 @@
-use Rattle.std.proofs.Common.{◌<◌, ◌∙◌, ap, sym, subst, length}
-use Rattle.std.specs.Prelude.{filter, not}
-use Rattle.st_rules.specs.ClientPages.{is_clean_behind}
+use Rattle.st_lemmas.proofs.Words
+use Words.{◌<◌, ◌∙◌, ap, sym, subst, length, filter, not}
+use Words.ClientPages.{is_clean_behind}
 use Rattle.st_page_cache.proofs.Dropping.{key_fewer, key_none, key_step}
 use Rattle.st_page_cache.proofs.clean_pages.CleanPages.drop_from.Goals as goal
 

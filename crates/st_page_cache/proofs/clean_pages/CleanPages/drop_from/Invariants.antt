@@ -1,6 +1,6 @@
-use Rattle.std.proofs.Common.{◌≡◌, length}
-use Rattle.std.specs.Prelude.{filter, not}
-use Rattle.st_rules.specs.ClientPages.{is_clean_behind}
+use Rattle.st_lemmas.proofs.Words
+use Words.{◌≡◌, length, filter, not}
+use Words.ClientPages.{is_clean_behind}
 use Rattle.st_page_cache.proofs.clean_pages.CleanPages.drop_from.Given as goal
 
 abbrev pub invariant-loop-at : goal.invariant-loop-at

@@ -1,11 +1,10 @@
-use Rattle.std.proofs.Common.{◌≡◌, ◌∙◌, refl, sym, ap, rules}
-use Rattle.std.specs.Prelude.{find, option_map, ◌&&◌, ◌==◌, nat_le}
+use Rattle.st_lemmas.proofs.Words
+use Words.{◌≡◌, ◌∙◌, refl, sym, ap, rules, find, option_map, ◌&&◌, ◌==◌, nat_le, CleanPage}
+use Words.ClientPages.{is_clean_behind}
 use Rattle.std.specs.Map.Iter.{deref_pair}
 use Rattle.std.proofs.Common.{tests}
 use Rattle.std.proofs.lemmas.Iterator.Consumers.{YieldsList-from_rest}
 use Rattle.std.proofs.lemmas.Iterator.Search.{find_from_yields_List}
-use Rattle.st_rules.specs.ClientPages.{is_clean_behind}
-use Rattle.st_rules.specs.declared.client.CleanPage.{CleanPage}
 use Rattle.st_page_cache.specs.declared.key.PageKey.{PageKey}
 use Rattle.st_page_cache.proofs.CleanRows.{first_key}
 use Rattle.st_page_cache.proofs.clean_pages.CleanPages.first_behind.Goals as goal

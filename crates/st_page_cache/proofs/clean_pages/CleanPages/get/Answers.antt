@@ -1,4 +1,5 @@
-use Rattle.std.proofs.Common.{◌∙◌}
+use Rattle.st_lemmas.proofs.Words
+use Words.{◌∙◌}
 use Rattle.st_page_cache.proofs.CleanRows.{page_found}
 use Rattle.st_page_cache.proofs.clean_pages.CleanPages.get.Goals as goal
 

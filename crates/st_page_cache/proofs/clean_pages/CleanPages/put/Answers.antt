@@ -1,4 +1,5 @@
-use Rattle.std.proofs.Common.{◌≡◌, ◌≤◌, ◌∙◌, ap, refl, length, arith}
+use Rattle.st_lemmas.proofs.Words
+use Words.{◌≡◌, ◌≤◌, ◌∙◌, ap, refl, length, arith}
 use Rattle.std.specs.Map.{values_of, lookup_entry}
 use Rattle.st_page_cache.specs.KeyedPages.{same_key}
 use Rattle.st_page_cache.proofs.CleanRows.{page_put, keyed_put}

@@ -1,4 +1,5 @@
-use Rattle.std.proofs.Common.{◌≡◌, ◌≤◌, ◌∙◌, ap, length, arith}
+use Rattle.st_lemmas.proofs.Words
+use Words.{◌≡◌, ◌≤◌, ◌∙◌, ap, length, arith}
 use Rattle.std.specs.Map.{values_of}
 use Rattle.st_page_cache.specs.KeyedPages.{clean_key, same_key}
 use Rattle.st_page_cache.proofs.Keyed.{keyed_remove}

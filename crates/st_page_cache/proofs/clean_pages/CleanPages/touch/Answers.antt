@@ -1,4 +1,5 @@
-use Rattle.std.proofs.Common.{◌≡◌, ◌≤◌, ◌∙◌, ap, length, arith}
+use Rattle.st_lemmas.proofs.Words
+use Words.{◌≡◌, ◌≤◌, ◌∙◌, ap, length, arith}
 use Rattle.std.specs.Map.{values_of}
 use Rattle.st_page_cache.proofs.CleanRows.{keyed_touched, page_touched}
 use Rattle.st_page_cache.proofs.clean_pages.CleanPages.touch.Goals as goal

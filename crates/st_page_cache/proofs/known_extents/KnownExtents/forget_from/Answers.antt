@@ -1,8 +1,8 @@
-use Rattle.std.proofs.Common.{◌≡◌, ◌∙◌, ap, filter, rules}
-use Rattle.std.specs.Prelude.{not}
+use Rattle.st_lemmas.proofs.Words
+use Words.{◌≡◌, ◌∙◌, ap, filter, rules, not}
+use Words.ClientPages.{is_known_behind}
 use Rattle.std.specs.Map.{values_of}
 use Rattle.indexmap.proofs.CallerLemmas.{filter-RetainsPairs}
-use Rattle.st_rules.specs.ClientPages.{is_known_behind}
 use Rattle.st_page_cache.proofs.KnownRows.{keyed_kept, values_kept}
 use Rattle.st_page_cache.proofs.known_extents.KnownExtents.forget_from.Goals as goal
 

@@ -1,4 +1,5 @@
-use Rattle.std.proofs.Common.{◌∙◌}
+use Rattle.st_lemmas.proofs.Words
+use Words.{◌∙◌}
 use Rattle.st_page_cache.proofs.KnownRows.{known_found}
 use Rattle.st_page_cache.proofs.known_extents.KnownExtents.get.Goals as goal
 

@@ -1,4 +1,5 @@
-use Rattle.std.proofs.Common.{◌≡◌, ◌∙◌, ap}
+use Rattle.st_lemmas.proofs.Words
+use Words.{◌≡◌, ◌∙◌, ap}
 use Rattle.std.specs.Map.{values_of}
 use Rattle.indexmap.specs.IndexMap.{insert_entry}
 use Rattle.st_page_cache.specs.KeyedPages.{known_key, same_key}

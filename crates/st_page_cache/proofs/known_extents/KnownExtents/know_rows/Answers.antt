@@ -1,6 +1,7 @@
-use Rattle.std.proofs.Common.{◌≡◌, ◌+◌, ◌∙◌, ap, arith, drop, sym}
+use Rattle.st_lemmas.proofs.Words
+use Words.{◌≡◌, ◌+◌, ◌∙◌, ap, arith, drop, sym}
+use Words.ClientPages.{with_known, with_known_rows}
 use Rattle.std.specs.Map.{values_of}
-use Rattle.st_rules.specs.ClientPages.{with_known, with_known_rows}
 use Rattle.st_page_cache.proofs.KnownRows.{known_put, rows_more, table_known}
 use Rattle.st_page_cache.proofs.known_extents.KnownExtents.know_rows.Goals as goal
 

@@ -1,7 +1,8 @@
-use Rattle.std.proofs.Common.{◌≡◌, ◌+◌, ◌≤◌, drop, length}
+use Rattle.st_lemmas.proofs.Words
+use Words.{◌≡◌, ◌+◌, ◌≤◌, drop, length}
+use Words.ClientPages.{with_known_rows}
 use Rattle.std.specs.Map.{values_of}
 use Rattle.indexmap.specs.IndexMap.{spare}
-use Rattle.st_rules.specs.ClientPages.{with_known_rows}
 use Rattle.st_page_cache.specs.KeyedPages.{IsKnown}
 use Rattle.st_page_cache.proofs.known_extents.KnownExtents.know_rows.Given as goal
 

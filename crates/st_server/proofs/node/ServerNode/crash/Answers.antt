@@ -1,5 +1,6 @@
-use Rattle.std.proofs.Common.{ap, sym, subst}
-use Rattle.st_rules.specs.Server.{ServerTurn}
+use Rattle.st_lemmas.proofs.Words
+use Words.{ap, sym, subst}
+use Words.Server.{ServerTurn}
 use Rattle.st_server.specs.Room.{taken_locks}
 use Rattle.st_server.specs.Invariants.{IsSound}
 use Rattle.st_server.proofs.Begins.{crash_sound}

@@ -1,6 +1,6 @@
-use Rattle.std.proofs.Common.{subst}
-use Rattle.std.specs.Prelude.{IsTrue, ◌↔◌}
-use Rattle.st_rules.specs.Server.{ServerNode}
+use Rattle.st_lemmas.proofs.Words
+use Words.{subst, IsTrue, ◌↔◌}
+use Words.Server.{ServerNode}
 use Rattle.st_server.specs.Room.{HasRoom}
 use Rattle.st_server.proofs.Counters.{room_is}
 use Rattle.st_server.proofs.node.ServerNode.has_room.Goals as goal

@@ -1,5 +1,6 @@
-use Rattle.std.proofs.Common.{subst}
-use Rattle.st_rules.specs.Server.{ServerNode}
+use Rattle.st_lemmas.proofs.Words
+use Words.{subst}
+use Words.Server.{ServerNode}
 use Rattle.st_server.specs.Invariants.{IsSound}
 use Rattle.st_server.proofs.node.ServerNode.running.Goals as goal
 

@@ -1,7 +1,6 @@
-use Rattle.std.proofs.Common.{◌≡◌, ap, sym, subst, ◌∙◌, List, true}
-use Rattle.std.specs.List.{list_all}
-use Rattle.st_messages.specs.declared.output.Output.{Output}
-use Rattle.st_rules.specs.Server.{ServerNode, ServerTurn}
+use Rattle.st_lemmas.proofs.Words
+use Words.{◌≡◌, ap, sym, subst, ◌∙◌, List, true, list_all, Output}
+use Words.Server.{ServerNode, ServerTurn}
 use Rattle.st_server.specs.Room.{HasRoom}
 use Rattle.st_server.specs.Invariants.{IsSound, is_sent}
 use Rattle.st_server.specs.Steps.{stepped}

@@ -1,5 +1,6 @@
-use Rattle.std.proofs.Common.{◌≡◌, arith, refl}
-use Rattle.std.specs.Prelude.{Result, Ok, Err, IsOk}
+use Rattle.st_lemmas.proofs.Words
+use Words.{◌≡◌, arith, refl, Result, Ok, Err}
+use Rattle.std.specs.Prelude.{IsOk}
 use Rattle.st_server.proofs.turn.ServerTurn.fresh.Goals as goal
 
 is_unit : {E : Type 0} (r : Result Unit E) → IsOk r → r ≡ Ok tt

@@ -1,8 +1,9 @@
-use Rattle.std.proofs.Common.{◌∙◌}
+use Rattle.st_lemmas.proofs.Words
+use Words.{◌∙◌}
+use Words.Locks.{has_rows}
+use Words.Sessions as sessions
+use Words.Server.{ServerTurn, life_in}
 use Rattle.std.proofs.lemmas.Result.{on_ok_weaker}
-use Rattle.st_rules.specs.Locks.{has_rows}
-use Rattle.st_rules.specs.Sessions as sessions
-use Rattle.st_rules.specs.Server.{ServerTurn, life_in}
 use Rattle.st_server.specs.Parts.{stable_of}
 use Rattle.st_server.proofs.Crashes.{greet_told}
 use Rattle.st_server.proofs.turn.ServerTurn.greet.Goals as goal

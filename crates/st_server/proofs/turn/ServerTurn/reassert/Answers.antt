@@ -1,6 +1,7 @@
-use Rattle.std.proofs.Common.{ap, sym, ◌∙◌}
-use Rattle.st_rules.specs.Sessions.{knows}
-use Rattle.st_rules.specs.Server.{ServerTurn, sender, life_in}
+use Rattle.st_lemmas.proofs.Words
+use Words.{ap, sym, ◌∙◌}
+use Words.Sessions.{knows}
+use Words.Server.{ServerTurn, sender, life_in}
 use Rattle.st_server.proofs.Served.{older}
 use Rattle.st_server.proofs.turn.ServerTurn.reassert.Goals as goal
 

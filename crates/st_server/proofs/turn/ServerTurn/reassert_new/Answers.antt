@@ -1,7 +1,6 @@
-use Rattle.std.proofs.Common.{◌≡◌, sym, subst, true, List, ℕ}
-use Rattle.std.specs.List.{IsDistinct, list_all}
-use Rattle.st_base.specs.declared.ids.GrantNo.{GrantNo}
-use Rattle.st_base.specs.declared.mode.Mode.{Mode}
+use Rattle.st_lemmas.proofs.Words
+use Words.{◌≡◌, sym, subst, true, List, ℕ, list_all, GrantNo, Mode}
+use Rattle.std.specs.List.{IsDistinct}
 use Rattle.st_locks.specs.Calls.{is_lock_row, same_file}
 use Rattle.st_server.proofs.Distinct.{distinct, lock_modes}
 use Rattle.st_server.proofs.turn.ServerTurn.reassert_new.Goals as goal

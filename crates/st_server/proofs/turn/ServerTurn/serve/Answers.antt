@@ -1,4 +1,5 @@
-use Rattle.st_rules.specs.Server.{rule}
+use Rattle.st_lemmas.proofs.Words
+use Words.Server.{rule}
 use Rattle.st_server.proofs.Crashes.{on_err, serve_fails, serve_fails_after}
 use Rattle.st_server.proofs.turn.ServerTurn.serve.Goals as goal
 

@@ -1,7 +1,8 @@
-use Rattle.std.proofs.Common.{◌≡◌, ap, sym, ◌∙◌, Some}
+use Rattle.st_lemmas.proofs.Words
+use Words.{◌≡◌, ap, sym, ◌∙◌, Some}
+use Words.Sessions.{life_of}
+use Words.Server.{ServerTurn}
 use Rattle.std.proofs.lemmas.Result.{on_ok_weaker}
-use Rattle.st_rules.specs.Sessions.{life_of}
-use Rattle.st_rules.specs.Server.{ServerTurn}
 use Rattle.st_server.proofs.Crashes.{steal_life, steal_none}
 use Rattle.st_server.proofs.turn.ServerTurn.steal.Goals as goal
 

@@ -1,5 +1,6 @@
-use Rattle.std.proofs.Common.{◌≡◌, drop}
-use Rattle.st_rules.specs.Server.{steal_each, crash}
+use Rattle.st_lemmas.proofs.Words
+use Words.{◌≡◌, drop}
+use Words.Server.{steal_each, crash}
 use Rattle.st_server.proofs.turn.ServerTurn.steal_each.Given as goal
 
 abbrev pub invariant-loop-client : goal.invariant-loop-client

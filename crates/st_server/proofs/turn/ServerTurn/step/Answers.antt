@@ -1,5 +1,6 @@
-use Rattle.std.proofs.Common.{◌≡◌, ◌<◌, ◌^◌, ap, sym, subst, ◌∙◌}
-use Rattle.st_rules.specs.Server.{ServerTurn, thefts, take_input, suspecting_on}
+use Rattle.st_lemmas.proofs.Words
+use Words.{◌≡◌, ◌<◌, ◌^◌, ap, sym, subst, ◌∙◌}
+use Words.Server.{ServerTurn, thefts, take_input, suspecting_on}
 use Rattle.st_server.specs.RuleConditions.{AreServed}
 use Rattle.st_server.specs.Room.{HasRoom, taken_locks}
 use Rattle.st_server.proofs.Crashes.{on_err}

@@ -1,5 +1,6 @@
-use Rattle.std.proofs.Common.{◌≡◌, drop}
-use Rattle.st_rules.specs.Server.{tell_demanded, crash}
+use Rattle.st_lemmas.proofs.Words
+use Words.{◌≡◌, drop}
+use Words.Server.{tell_demanded, crash}
 use Rattle.st_server.proofs.turn.ServerTurn.tell_demanded.Given as goal
 
 abbrev pub invariant-loop-demand : goal.invariant-loop-demand

@@ -1,5 +1,6 @@
-use Rattle.std.proofs.Common.{◌≡◌, drop}
-use Rattle.st_rules.specs.Server.{tell_granted, crash}
+use Rattle.st_lemmas.proofs.Words
+use Words.{◌≡◌, drop}
+use Words.Server.{tell_granted, crash}
 use Rattle.st_server.proofs.turn.ServerTurn.tell_granted.Given as goal
 
 abbrev pub invariant-loop-grant : goal.invariant-loop-grant

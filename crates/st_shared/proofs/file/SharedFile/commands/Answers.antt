@@ -1,5 +1,5 @@
-use Rattle.std.proofs.Common.{◌∙◌, ap}
-use Rattle.std.specs.Prelude.{length}
+use Rattle.st_lemmas.proofs.Words
+use Words.{◌∙◌, ap, length}
 use Rattle.st_shared.proofs.EveryHistory.{each_issued}
 use Rattle.st_shared.proofs.file.SharedFile.commands.Goals as goal
 

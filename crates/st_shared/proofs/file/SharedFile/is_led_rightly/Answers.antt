@@ -1,4 +1,5 @@
-use Rattle.std.proofs.Common.{subst}
+use Rattle.st_lemmas.proofs.Words
+use Words.{subst}
 use Rattle.st_shared.specs.History.{IsLedRightly}
 use Rattle.st_shared.proofs.Led.{led_rightly}
 use Rattle.st_shared.proofs.file.SharedFile.is_led_rightly.Goals as goal

@@ -1,4 +1,5 @@
-use Rattle.std.proofs.Common.{subst, sym}
+use Rattle.st_lemmas.proofs.Words
+use Words.{subst, sym}
 use Rattle.st_shared.specs.History.{IsLedTo}
 use Rattle.st_shared.proofs.Led.{fresh_led}
 use Rattle.st_shared.proofs.file.SharedFile.new.Goals as goal

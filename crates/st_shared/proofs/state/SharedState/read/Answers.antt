@@ -1,5 +1,6 @@
-use Rattle.std.proofs.Common.{sym, ◌∙◌}
-use Rattle.st_base.specs.declared.disk.Command.TheVariants as commands
+use Rattle.st_lemmas.proofs.Words
+use Words.{sym, ◌∙◌}
+use Words.commands
 use Rattle.st_shared.specs.Shared.{block_of}
 use Rattle.st_shared.proofs.Refusing.{submit_refused}
 use Rattle.st_shared.proofs.state.SharedState.read.Goals as goal

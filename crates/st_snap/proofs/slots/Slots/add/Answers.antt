@@ -1,5 +1,5 @@
-use Rattle.std.proofs.Common.{◌==◌, cond, Some, filter, not, sym, ap, ◌∙◌}
-use Rattle.std.specs.Prelude.{is_some}
+use Rattle.st_lemmas.proofs.Words
+use Words.{◌==◌, cond, Some, filter, not, sym, ap, ◌∙◌, is_some}
 use Rattle.st_snap.specs.Slots.{Slots, slot_at}
 use Rattle.st_snap.proofs.Slotted.{added_and_gone, added_there, cond_twice, err_of, found_last, ok_of}
 use Rattle.st_snap.proofs.slots.Slots.add.Goals as goal

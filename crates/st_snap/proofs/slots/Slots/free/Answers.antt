@@ -1,4 +1,5 @@
-use Rattle.std.proofs.Common.{arith}
+use Rattle.st_lemmas.proofs.Words
+use Words.{arith}
 use Rattle.st_snap.proofs.Slotted.{free_count, slots_long}
 use Rattle.st_snap.proofs.slots.Slots.free.Goals as goal
 

@@ -1,10 +1,10 @@
-use Rattle.std.proofs.Common.{Some, sym, ap, subst, ◌∙◌}
+use Rattle.st_lemmas.proofs.Words
+use Words.{Some, sym, ap, subst, ◌∙◌, BlockAt}
+use Words.Extents as extents
+use Words.Disks.{block}
+use Words.Keys.{page_no}
 use Rattle.std.proofs.lemmas.Option.{none-some, some_pair_parts}
 use Rattle.std.specs.Option.{option_map}
-use Rattle.st_base.specs.declared.disk.BlockAt.{BlockAt}
-use Rattle.st_rules.specs.Extents as extents
-use Rattle.st_rules.specs.Disks.{block}
-use Rattle.st_rules.specs.Keys.{page_no}
 use Rattle.st_disk.specs.Calls.{HasBlock}
 use Rattle.st_snap.proofs.Slotted.{bytes_at, extent_there, has_block, map_there, slot_found}
 use Rattle.st_snap.proofs.slots.Slots.get.Goals as goal

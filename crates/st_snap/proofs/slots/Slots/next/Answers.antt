@@ -1,4 +1,5 @@
-use Rattle.std.proofs.Common.{◌+◌, arith, sym, ◌∙◌}
+use Rattle.st_lemmas.proofs.Words
+use Words.{◌+◌, arith, sym, ◌∙◌}
 use Rattle.st_snap.proofs.Slotted.{bytes_at, fresh_slot, more_slots, new_slots, next_slot}
 use Rattle.st_snap.proofs.slots.Slots.next.Goals as goal
 

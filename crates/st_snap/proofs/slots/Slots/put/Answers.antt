@@ -1,8 +1,9 @@
-use Rattle.std.proofs.Common.{◌==◌, cond, Some, sym, ap, ◌∙◌}
+use Rattle.st_lemmas.proofs.Words
+use Words.{◌==◌, cond, Some, sym, ap, ◌∙◌}
+use Words.Extents as extents
+use Words.Keys.{page_no}
 use Rattle.st_snap.specs.Slots.{slot_at, slots_of}
 use Rattle.std.proofs.lemmas.Option.{none-some, some_pair_parts}
-use Rattle.st_rules.specs.Extents as extents
-use Rattle.st_rules.specs.Keys.{page_no}
 use Rattle.st_snap.proofs.Slotted.{extent_there, map_there, on_ok, put_slots}
 use Rattle.st_snap.proofs.slots.Slots.put.Goals as goal
 

@@ -1,7 +1,8 @@
-use Rattle.std.proofs.Common.{◌+◌, length, sym, ap, subst, ◌∙◌}
-use Rattle.st_rules.specs.Extents as extents
-use Rattle.st_rules.specs.Extents.{Extents}
-use Rattle.st_rules.specs.Keys.{page_no}
+use Rattle.st_lemmas.proofs.Words
+use Words.{◌+◌, length, sym, ap, subst, ◌∙◌}
+use Words.Extents as extents
+use Words.Extents.{Extents}
+use Words.Keys.{page_no}
 use Rattle.st_extents.specs.Ownership.{IsOwned}
 use Rattle.st_snap.specs.Slots.{AreSlots, slot_at, slots_of}
 use Rattle.st_snap.proofs.Slotted.{fewer_slots, gone, left_blocks, left_slots, one_gone}

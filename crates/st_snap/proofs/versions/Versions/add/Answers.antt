@@ -1,4 +1,5 @@
-use Rattle.std.proofs.Common.{ap, sym, ◌∙◌}
+use Rattle.st_lemmas.proofs.Words
+use Words.{ap, sym, ◌∙◌}
 use Rattle.st_snap.specs.Versions.{page_in, slot_under}
 use Rattle.st_snap.proofs.Slotted.{err_of, ok_of}
 use Rattle.st_snap.proofs.Shelved.{add_kept, version_undone}

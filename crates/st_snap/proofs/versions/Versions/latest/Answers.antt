@@ -1,4 +1,5 @@
-use Rattle.std.proofs.Common.{◌≡◌, arith, subst, sym}
+use Rattle.st_lemmas.proofs.Words
+use Words.{◌≡◌, arith, subst, sym}
 use Rattle.st_snap.specs.Versions.{IsLastBelow, key_of}
 use Rattle.st_snap.proofs.Shelved.{latest_here, latest_nothing, latest_other}
 use Rattle.st_snap.proofs.versions.Versions.latest.Goals as goal

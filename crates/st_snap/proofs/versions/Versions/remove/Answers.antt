@@ -1,5 +1,5 @@
-use Rattle.std.proofs.Common.{ap, sym, ◌∙◌}
-use Rattle.std.specs.Prelude.{is_some}
+use Rattle.st_lemmas.proofs.Words
+use Words.{ap, sym, ◌∙◌, is_some}
 use Rattle.st_snap.proofs.Shelved.{remove_kept, version_gone}
 use Rattle.st_snap.proofs.versions.Versions.remove.Goals as goal
 

@@ -1,4 +1,5 @@
-use Rattle.std.proofs.Common.{Some, sym, ◌∙◌}
+use Rattle.st_lemmas.proofs.Words
+use Words.{Some, sym, ◌∙◌}
 use Rattle.st_snap.proofs.Slotted.{on_ok}
 use Rattle.st_snap.proofs.Shelved.{slot_changed}
 use Rattle.st_snap.proofs.versions.Versions.set.Goals as goal

@@ -1,6 +1,5 @@
-use Rattle.std.proofs.Common.{◌∷◌, ◌==◌, List, ℕ, ap, refl, subst, sym, ◌∙◌}
-use Rattle.std.specs.Prelude.{not}
-use Rattle.std.specs.List.{AllByRecursion, list_any}
+use Rattle.st_lemmas.proofs.Words
+use Words.{◌∷◌, ◌==◌, List, ℕ, ap, refl, subst, sym, ◌∙◌, not, AllByRecursion, list_any}
 use Rattle.st_snap.specs.Changes.{Forgot}
 use Rattle.st_snap.specs.Volumes.{AreRising, IsAfter, IsHeld, IsSwept, IsTaken}
 use Rattle.st_snap.proofs.Invariant.{held_left}

@@ -1,4 +1,5 @@
-use Rattle.std.proofs.Common.{arith}
+use Rattle.st_lemmas.proofs.Words
+use Words.{arith}
 use Rattle.st_snap.proofs.Counting.{counted}
 use Rattle.st_snap.proofs.volume.Volume.free.Goals as goal
 

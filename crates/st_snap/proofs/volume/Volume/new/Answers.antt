@@ -1,5 +1,5 @@
-use Rattle.std.proofs.Common.{List, ap, subst, sym}
-use Rattle.std.specs.Prelude.{is_some}
+use Rattle.st_lemmas.proofs.Words
+use Words.{List, ap, subst, sym, is_some}
 use Rattle.st_snap.specs.Versions.{page_in, slot_under}
 use Rattle.st_snap.specs.Volumes.{IsAfter}
 use Rattle.st_snap.proofs.KeptViews.{started}

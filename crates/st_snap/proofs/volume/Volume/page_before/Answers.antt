@@ -1,4 +1,5 @@
-use Rattle.std.proofs.Common.{sym, ◌∙◌}
+use Rattle.st_lemmas.proofs.Words
+use Words.{sym, ◌∙◌}
 use Rattle.st_snap.specs.Versions.{has_version}
 use Rattle.st_snap.proofs.Latest.{latest_some}
 use Rattle.st_snap.proofs.volume.Volume.page_before.Goals as goal

@@ -1,4 +1,5 @@
-use Rattle.std.proofs.Common.{ap, subst, sym, ◌∙◌, Ok}
+use Rattle.st_lemmas.proofs.Words
+use Words.{ap, subst, sym, ◌∙◌, Ok}
 use Rattle.st_snap.specs.Versions.{has_version, latest, page_at}
 use Rattle.st_snap.specs.Volumes.{IsTakeOf}
 use Rattle.st_snap.proofs.Rules.{refused_read, told}

@@ -1,4 +1,5 @@
-use Rattle.std.proofs.Common.{◌∷◌, ◌+◌, ℕ, List, refl, arith, subst, sym}
+use Rattle.st_lemmas.proofs.Words
+use Words.{◌∷◌, ◌+◌, ℕ, List, refl, arith, subst, sym}
 use Rattle.st_snap.specs.Changes.{Took}
 use Rattle.st_snap.specs.Volumes.{IsAfter, IsHeld}
 use Rattle.st_snap.proofs.KeptViews.{took}

@@ -1,4 +1,5 @@
-use Rattle.std.proofs.Common.{ap, subst, ◌∙◌}
+use Rattle.st_lemmas.proofs.Words
+use Words.{ap, subst, ◌∙◌}
 use Rattle.st_snap.specs.Versions.{has_version}
 use Rattle.st_snap.specs.Volumes.{IsHeld, IsUnshared, Puts}
 use Rattle.st_snap.proofs.Latest.{latest_some}
