@@ -1,0 +1,197 @@
+/* asks.c: the asks of applications and of the folder, on their way to the client and back. */
+#include "tankd.h"
+#include <string.h>
+
+enum {
+    PENDING_MOST = 16,  /* asks that a client of the first two forms takes at once */
+    WRITTEN_MOST = 32,  /* pages that patient requests write before a sync of all files begins */
+    RESERVED = 1 << 20, /* numbers of asks that are reserved at once */
+};
+
+/* A file that was written, and the number of the newest write that was answered. */
+struct written {
+    uint64_t op;
+    uint32_t ino;
+    uint16_t server;
+};
+
+static struct queue waiting[SERVERS_MOST + 1]; /* by server; 0 has those of others */
+static struct queue stalled;                   /* wait for a sync of all files */
+static struct {
+    struct request *request; /* null if it was forgotten */
+    struct tank_ask ask;     /* its `op` is 0 in a place that is free */
+} pending[PENDING_MOST];     /* given to the client */
+static int pending_at[SERVERS_MOST + 1], all_pending;
+static struct written *written;
+static size_t written_count;
+static unsigned syncs, pages; /* syncs of all files that are under way; pages since they began */
+static bool is_ending;
+
+static int place_of(uint16_t server) { return server <= config.servers ? server : 0; }
+
+void asks_put(struct request *it) {
+    if (is_ending) it->answered(it, NULL);
+    else queue_put(&waiting[place_of(it->ask.server)], it);
+}
+
+void asks_forget(struct request *it) {
+    queue_remove(&waiting[place_of(it->ask.server)], it);
+    queue_remove(&stalled, it);
+    for (int i = 0; i < PENDING_MOST; i++)
+        if (pending[i].request == it) pending[i].request = NULL;
+}
+
+/* The files that were written */
+
+static void synced(struct request *it, const struct reply *reply) {
+    uint32_t answer = reply ? reply->answer.answer : TANK_ANSWER_LOST;
+    bool is_lost = answer != TANK_ANSWER_HARD && answer != TANK_ANSWER_QUIESCED;
+    if (is_lost) folder_lost(it->ask.server, it->ask.ino);
+    if (is_ending && answer != TANK_ANSWER_HARD)
+        say(LEVEL_WARNING, "file %d:%u: not everything that was written is on the disks",
+            it->ask.server, it->ask.ino);
+    free(it);
+    if (--syncs) return;
+    for (struct request *other; (other = queue_take(&stalled));) asks_put(other);
+}
+
+static void sync_all(void) {
+    pages = 0;
+    for (size_t i = 0; i < written_count; i++) {
+        struct request *it = taken(sizeof *it);
+        it->ask = (struct tank_ask){
+            .ask = TANK_ASK_SYNC, .server = written[i].server, .ino = written[i].ino};
+        it->answered = synced;
+        asks_put(it);
+        syncs++;
+    }
+}
+
+void asks_end(void) {
+    sync_all();
+    is_ending = true;
+}
+
+bool asks_are_synced(void) { return !syncs; }
+
+static struct written *find_written(uint16_t server, uint32_t ino) {
+    for (size_t i = 0; i < written_count; i++)
+        if (written[i].ino == ino && written[i].server == server) return &written[i];
+    return NULL;
+}
+
+static void note_write(const struct request *it, const struct tank_ask *ask) {
+    struct written *found = find_written(ask->server, ask->ino);
+    if (!found) {
+        written = enlarged(written, (written_count + 1) * sizeof *written);
+        found = &written[written_count++];
+    }
+    *found = (struct written){ask->op, ask->ino, ask->server};
+    if (it && it->is_patient && ++pages >= WRITTEN_MOST && !syncs) sync_all();
+}
+
+/* What was written before this ask needs no other sync. */
+static void note_synced(const struct tank_ask *ask, uint32_t ino) {
+    struct written *it = find_written(ask->server, ino);
+    if (it && it->op < ask->op) *it = written[--written_count];
+}
+
+static void note(const struct request *it, const struct tank_ask *ask, uint32_t answer) {
+    if (answer == TANK_ANSWER_WRITTEN) note_write(it, ask);
+    if (answer == TANK_ANSWER_HARD || answer == TANK_ANSWER_LOST) note_synced(ask, ask->ino);
+    if (answer == TANK_ANSWER_NAMED && ask->ask == TANK_ASK_REMOVE) note_synced(ask, ask->other);
+    if (answer >= TANK_ANSWER_QUIESCED) count(COUNT_REFUSED);
+}
+
+/* To the client and back */
+
+/* An ask's number is used once: numbers are reserved on the disk before the first of them is used.
+ * After 4,294,967,295 asks, none of the first ones waits. */
+static uint64_t new_op(void) {
+    static uint64_t next;
+    if (!next) next = lives.asks;
+    if (next > UINT32_MAX) next = 1;
+    if (next >= lives.asks || next == 1) {
+        lives.asks = next + RESERVED;
+        lives_keep();
+    }
+    return next++;
+}
+
+static void give_one(struct request *it, int place) {
+    static uint8_t frame[TANK_FRAME_MOST];
+    size_t size;
+    it->ask.op = new_op();
+    it->ask.client = config.number;
+    uint32_t result = tank_encode_ask(&it->ask, it->bytes, it->length, it->other, it->other_length,
+                                      frame, sizeof frame, &size);
+    if (result != TANK_DONE) {
+        say(LEVEL_ERROR, "an ask can't be encoded: %s", tank_text(result));
+        it->answered(it, NULL);
+        return;
+    }
+    int i = 0;
+    while (pending[i].ask.op) i++;
+    pending[i].request = it;
+    pending[i].ask = it->ask;
+    pending_at[place]++;
+    all_pending++;
+    count(COUNT_ASKS);
+    node_take(frame, size);
+}
+
+/* No server takes all the room that the client has, so that one that doesn't answer doesn't keep
+ * back the asks of others. */
+void asks_give(void) {
+    const int share = PENDING_MOST / (int)config.servers;
+    for (int place = 0; place <= (int)config.servers; place++)
+        while (waiting[place].first && all_pending < PENDING_MOST && pending_at[place] < share)
+            give_one(queue_take(&waiting[place]), place);
+}
+
+static struct request *take_pending(int place, struct tank_ask *ask) {
+    *ask = pending[place].ask;
+    pending[place].ask.op = 0;
+    pending_at[place_of(ask->server)]--;
+    all_pending--;
+    return pending[place].request;
+}
+
+void asks_answer(const uint8_t *frame, size_t size) {
+    static uint8_t page[TANK_PAGE];
+    struct reply reply = {.page = page, .frame = frame, .size = size};
+    struct tank_ask ask;
+    int i = 0;
+    must(tank_decode_answer(frame, size, &reply.answer, page, sizeof page));
+    while (i < PENDING_MOST && pending[i].ask.op != reply.answer.op) i++;
+    if (i == PENDING_MOST) return;
+    struct request *it = take_pending(i, &ask);
+    note(it, &ask, reply.answer.answer);
+    bool is_stalled = it && it->is_patient && reply.answer.answer == TANK_ANSWER_DIRTY_FULL;
+    if (is_stalled && !syncs) sync_all();
+    if (is_stalled && syncs) queue_put(&stalled, it);
+    else if (it) it->answered(it, &reply);
+}
+
+bool asks_wait_for(uint16_t server, uint32_t ino) {
+    for (int i = 0; i < PENDING_MOST; i++) {
+        const struct tank_ask *it = &pending[i].ask;
+        if (it->op && it->server == server &&
+            (it->ask == TANK_ASK_REMOVE ? it->other : it->ino) == ino)
+            return true;
+    }
+    return false;
+}
+
+void asks_drop(void) {
+    struct tank_ask ask;
+    struct queue all = stalled;
+    stalled = (struct queue){0};
+    for (int i = 0; i < PENDING_MOST; i++)
+        if (pending[i].ask.op && take_pending(i, &ask)) queue_put(&all, pending[i].request);
+    for (int place = 0; place <= SERVERS_MOST; place++)
+        for (void *it; (it = queue_take(&waiting[place]));) queue_put(&all, it);
+    for (size_t i = 0; i < written_count; i++) folder_lost(written[i].server, written[i].ino);
+    written_count = 0;
+    for (struct request *it; (it = queue_take(&all));) it->answered(it, NULL);
+}

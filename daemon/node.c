@@ -1,0 +1,369 @@
+/* node.c: the node itself. This is the one place where a step is taken, what it changed is kept,
+ * and what it gave leaves the daemon. What a program around a node owes (docs/PROTOCOL.md,
+ * "Building on it"), and where it is done:
+ *
+ *   Lives before frames: step and begin_client keep them; give_all comes later.
+ *   The record, then the gate, then the frames: keep_record, before give_all.
+ *   A journal's disk, and one journal for each server: keep.c.
+ *   One clock for each node, which never falls: keep.c.
+ *   The clocks' rates: keep.c. CLOCK_BOOTTIME counts while the machine sleeps.
+ *   The reading is taken when the step is taken: node_take.
+ *   Ticks, and a flush that was missed: tick, is_flush_missed, fence.
+ *   Disk commands in time, and disks of blocks: disks.c.
+ *   An ask's number is used once: asks.c, new_op.
+ *   Frames arrive as they were sent, and `from` is that of the peer: links.c, node_hear.
+ *   Frames from and to node 0 stay here: node_hear, give.
+ *   Demands after grants: node_hear, is_early.
+ *
+ * The library doesn't have groups of changes, snapshots, events, `due` and `leave` yet. When it
+ * does, groups and snapshots belong in keep_record, events in give_all, and `due` in tick; `leave`
+ * in node_end, and whether a demand is early in is_early. */
+#include "tankd.h"
+#include <endian.h>
+#include <inttypes.h>
+#include <string.h>
+
+enum {
+    TICK = 100 * MILLISECOND,
+    BODY = 4 + 38, /* where the body of a message begins in its frame ("Wire") */
+    SUSPECT = 1,   /* the first byte of a refusal's body */
+    FLUSH = 4,     /* a phase of a lease */
+    GRANTS = 64,   /* the newest grants, which are remembered */
+};
+
+static struct lease { /* what the client had at a server after its last step */
+    struct tank_association at;
+    uint64_t flushed; /* the end of the lease that a step found in flush */
+} leases[SERVERS_MOST + 1];
+
+static struct grant { /* of a lock, by a server */
+    uint64_t moment;
+    uint32_t ino;
+    uint16_t from;
+} grants[GRANTS];
+
+struct held { /* a demand that is held back */
+    struct item item;
+    uint64_t due;
+    size_t size;
+    uint16_t from;
+    uint8_t frame[];
+};
+
+static struct tank_client client = TANK_CLIENT_CLOSED;
+static struct tank_server server = TANK_SERVER_CLOSED;
+static struct bytes given; /* the frames of the last step */
+static struct queue held;
+static struct timer held_timer, tick_timer;
+static uint64_t gate;   /* a server's, of its journal */
+static uint64_t end_by; /* the moment at which the daemon ends, at the latest; 0 before SIGTERM */
+
+/* Keeping what a step changed */
+
+/* Keeps the change of a server's step: the record, a sync, its gate, a sync. */
+static void keep_record(void) {
+    uint8_t bytes[TANK_RECORD_MOST];
+    struct tank_record record;
+    must(tank_server_record(&server, bytes, sizeof bytes, &record));
+    if (!record.size) return;
+    journal_write(record.gate + 1, bytes, record.size);
+    journal_write(record.gate, "\1", 1);
+    must(tank_server_kept(&server));
+    gate = record.gate + record.size;
+    count(COUNT_CHANGES);
+}
+
+static void keep_lives(uint64_t moment) {
+    for (uint16_t number = 1; number <= config.servers; number++)
+        lives.life[number] = leases[number].at.life;
+    lives.moment = clock_told(moment); /* as in the trace */
+    lives_keep();
+}
+
+static void note_leases(uint64_t now) {
+    for (uint16_t number = 1; number <= config.servers; number++) {
+        struct tank_association *at = &leases[number].at;
+        must(tank_client_at(&client, number, now, at));
+        if (at->phase == FLUSH) leases[number].flushed = at->lease_end;
+        disks_lease(number, at->life, at->lease_end);
+    }
+}
+
+/* Opening */
+
+static void begin_server(void) {
+    const struct tank_shape shape = {.id = config.number,
+                                     .servers = (uint16_t)config.servers,
+                                     .disks = (uint16_t)config.disks,
+                                     .blocks = (uint32_t)config.blocks};
+    size_t size;
+    uint64_t at = 0, moment = clock_moment(), now = clock_for_step(moment);
+    uint8_t *journal = journal_read(&size);
+    bool is_again = journal[0] == 1;
+    trace_start(is_again, moment, now);
+    uint32_t result = tank_server_open(&server, &config.settings, &shape, now, journal, size, &at);
+    if (result != TANK_DONE)
+        fail("the journal, at byte %" PRIu64 ": %s: %s", at, tank_name(result), tank_text(result));
+    free(journal);
+    keep_record();
+    trace_started(is_again);
+    if (config.is_traced) mark_keep(gate);
+    say(LEVEL_NOTICE, "epoch %" PRIu64 " begins; the journal has %" PRIu64 " of %zu bytes",
+        tank_server_epoch(&server), gate, size);
+}
+
+/* Opens the client, in the lives after those that were kept. */
+static void begin_client(void) {
+    uint64_t moment = clock_moment(), now = clock_for_step(moment), *life = lives.life + 1;
+    bool is_again = *life != 0;
+    trace_start(is_again, moment, now);
+    must(tank_client_open(&client, &config.settings, config.number, life, config.servers));
+    memset(leases, 0, sizeof leases);
+    note_leases(now);
+    keep_lives(moment);
+    trace_started(is_again);
+}
+
+/* A client whose flush was missed */
+
+/* Whether a lease ended while pages were dirty and no step found it in flush, or while a write was
+ * still under way: the client wasn't woken in time. */
+static bool is_flush_missed(uint64_t now) {
+    for (uint16_t number = 1; number <= config.servers; number++) {
+        const struct lease *it = &leases[number];
+        uint64_t end = it->at.lease_end;
+        bool is_flushed = it->flushed == end && !disks_write(number);
+        if (end && now >= end && it->at.dirty && !is_flushed) return true;
+    }
+    return false;
+}
+
+/* Closes the client. What its disks have done is in the trace; they do no more of it. */
+static void close_client(void) {
+    tank_client_close(&client);
+    disks_drop();
+    for (void *it; (it = queue_take(&held));) free(it);
+}
+
+/* The client counts as crashed after its last step: what it had is dropped, its applications see
+ * the ends of their connections, and it begins again in its next lives. */
+static void fence(void) {
+    say(LEVEL_WARNING,
+        "a lease ended before its dirty pages were written: the client fences itself");
+    count(COUNT_FENCED);
+    close_client();
+    asks_drop();
+    begin_client();
+}
+
+/* What a step gave */
+
+/* What is known of a suspicion without the library's events: the first request that the server
+ * refuses since its client is suspected. */
+static void note_refusal(uint16_t peer, uint16_t kind, uint8_t cause) {
+    static bool is_suspect[CLIENTS_MOST + 1];
+    if (kind == TANK_KIND_WELCOME) is_suspect[peer] = false;
+    if (kind != TANK_KIND_NACK || cause != SUSPECT) return;
+    count(COUNT_SUSPECTED);
+    if (is_suspect[peer]) return;
+    is_suspect[peer] = true;
+    say(LEVEL_WARNING, "client %d is suspected", peer);
+    hook_run("suspected", peer);
+}
+
+static void give_all(void) {
+    struct tank_frame frame;
+    for (; bytes_count(&given); bytes_drop(&given, frame.size)) {
+        const uint8_t *bytes = bytes_front(&given);
+        must(tank_frame_at(bytes, bytes_count(&given), &frame));
+        if (frame.kind == TANK_KIND_APPDONE) asks_answer(bytes, frame.size);
+        else if (frame.kind == TANK_KIND_SUBMIT) disks_submit(bytes, frame.size);
+        else link_send(frame.to, bytes, frame.size);
+        if (config.is_server && frame.to <= CLIENTS_MOST)
+            note_refusal(frame.to, frame.kind, bytes[BODY]);
+    }
+}
+
+/* Steps */
+
+/* Takes a step, keeps what must be kept, and takes out the frames that it gave. */
+static uint32_t step(uint64_t moment, uint64_t now, const uint8_t *frame, size_t size) {
+    struct tank_server_stepped of_server = {0};
+    struct tank_client_stepped of_client = {0};
+    uint32_t result = config.is_server ? tank_server_step(&server, now, frame, size, &of_server)
+                                       : tank_client_step(&client, now, frame, size, &of_client);
+    if (result != TANK_DONE) return result;
+    if (of_server.record) keep_record();
+    if (!config.is_server) note_leases(now);
+    if (of_client.new_lives) keep_lives(moment);
+    for (size_t count = 1; count; given.last += count) {
+        uint8_t *room = bytes_room(&given, TANK_FRAME_MOST);
+        must(config.is_server ? tank_server_take(&server, room, TANK_FRAME_MOST, &count)
+                              : tank_client_take(&client, room, TANK_FRAME_MOST, &count));
+    }
+    return TANK_DONE;
+}
+
+/* A step that wasn't taken: the frame counts as lost, unless the node can't go on. */
+static void note_untaken(uint32_t result) {
+    static bool is_said;
+    if (result >= TANK_CUT && result <= TANK_TOO_LONG) count(COUNT_FRAMES_BAD);
+    else if (result != TANK_JOURNAL_FULL && result != TANK_NO_MEMORY) must(result);
+    if (result != TANK_JOURNAL_FULL) return;
+    count(COUNT_JOURNAL_FULL);
+    if (!is_said)
+        say(LEVEL_ERROR, "the journal is full: nothing that changes names or extents is served");
+    is_said = true;
+}
+
+/* If the client fences itself, the frame is lost with what it had. */
+void node_take(const uint8_t *frame, size_t size) {
+    uint64_t moment = clock_moment(), now = clock_for_step(moment), old_gate = gate;
+    if (!config.is_server && is_flush_missed(now)) {
+        fence();
+        return;
+    }
+    trace_step(moment, now, frame, size);
+    uint32_t result = step(moment, now, frame, size);
+    trace_stepped(&given, result == TANK_DONE);
+    if (config.is_traced && gate != old_gate) mark_keep(gate);
+    if (result != TANK_DONE) {
+        note_untaken(result);
+        return;
+    }
+    count(COUNT_STEPS);
+    give_all();
+}
+
+static void tick(struct timer *timer) {
+    uint8_t frame[64];
+    size_t size;
+    uint64_t now = clock_moment(), next = timer->at + TICK;
+    timer_set(timer, next > now ? next : now + TICK);
+    must(tank_encode_tick(config.node, frame, sizeof frame, &size));
+    node_take(frame, size);
+}
+
+/* Its effect is in the trace before the client hears of it. */
+void node_command_ended(const struct tank_done *done, const uint8_t *page, uint64_t effect) {
+    static uint8_t frame[TANK_FRAME_MOST];
+    size_t size;
+    if (effect) trace_effect(effect, done->number);
+    if (!client.full) return; /* it is closed */
+    must(tank_encode_done(done, page, TANK_PAGE, frame, sizeof frame, &size));
+    node_take(frame, size);
+}
+
+/* Frames of other nodes */
+
+static uint32_t ino_in(const uint8_t *frame) {
+    uint32_t it;
+    memcpy(&it, frame + BODY, sizeof it);
+    return be32toh(it);
+}
+
+/* Whether a demand comes so soon after the grant of its file's lock that the ask which wanted the
+ * lock still waits. */
+static bool is_early(const uint8_t *frame, uint16_t from, uint64_t now) {
+    uint32_t ino = ino_in(frame);
+    if (!asks_wait_for(from - TANK_SERVER_NODE(0), ino)) return false;
+    for (const struct grant *it = grants; it < grants + GRANTS; it++)
+        if (it->ino == ino && it->from == from && now < it->moment + config.hold * MILLISECOND)
+            return true;
+    return false;
+}
+
+/* Takes the demands that are no longer early. */
+static void take_held(void) {
+    struct queue still = {0};
+    uint64_t now = clock_moment();
+    for (struct held *it; (it = queue_take(&held));) {
+        if (now < it->due && is_early(it->frame, it->from, now)) {
+            queue_put(&still, it);
+            continue;
+        }
+        node_take(it->frame, it->size);
+        free(it);
+    }
+    held = still;
+    if (held.first) timer_set(&held_timer, ((struct held *)held.first)->due);
+}
+
+static void held_is_due(struct timer *timer) { (void)timer; /* node_between takes it */ }
+
+static bool is_input(uint16_t kind) {
+    return config.is_server ? kind >= TANK_KIND_HELLO && kind <= TANK_KIND_DEMANDSEEN
+                            : kind >= TANK_KIND_WELCOME && kind <= TANK_KIND_REASSERTED;
+}
+
+void node_hear(const uint8_t *frame, size_t size) {
+    static unsigned granted;
+    struct tank_frame front;
+    must(tank_frame_at(frame, size, &front));
+    if (front.to != config.node || !is_input(front.kind) || size < BODY) {
+        count(COUNT_FRAMES_BAD);
+        return;
+    }
+    uint64_t now = clock_moment();
+    bool has_ino = size >= BODY + sizeof(uint32_t);
+    if (front.kind == TANK_KIND_GRANTED && has_ino)
+        grants[granted++ % GRANTS] = (struct grant){now, ino_in(frame), front.from};
+    if (front.kind != TANK_KIND_DEMAND || !has_ino || !is_early(frame, front.from, now)) {
+        node_take(frame, size);
+        return;
+    }
+    struct held *it = taken(sizeof *it + size);
+    it->due = now + config.hold * MILLISECOND;
+    it->from = front.from;
+    it->size = size;
+    memcpy(it->frame, frame, size);
+    queue_put(&held, it);
+    count(COUNT_HELD);
+}
+
+void node_between(void) {
+    if (config.is_server) return;
+    do {
+        take_held();
+        asks_give();
+        take_held();
+    } while (folder_goes_on());
+    if (end_by && (asks_are_synced() || clock_moment() >= end_by)) loop_end();
+}
+
+/* The beginning and the end */
+
+void node_begin(void) {
+    held_timer.due = held_is_due;
+    tick_timer.due = tick;
+    if (!config.is_server) disks_begin();
+    if (config.is_server) begin_server();
+    else begin_client();
+    timer_set(&tick_timer, clock_moment());
+}
+
+void node_end(void) {
+    if (config.is_server) loop_end();
+    else asks_end();
+    end_by = clock_moment() + config.settings.lease * MILLISECOND;
+}
+
+void node_close(void) {
+    if (config.is_server) tank_server_close(&server);
+    else close_client();
+    trace_end(clock_moment());
+}
+
+void node_print(struct bytes *text) {
+    if (config.is_server) {
+        metric(text, "epoch", "gauge", "The server's epoch.", tank_server_epoch(&server));
+        metric(text, "journal_bytes", "gauge", "Bytes of the journal that are used.", gate);
+        metric(text, "journal_room_bytes", "gauge", "Bytes of the journal.", journal_room);
+        return;
+    }
+    metric_head(text, "lease_phase", "gauge",
+                "The lease: 1 valid, 2 renewal, 3 quiesce, 4 flush, 5 expired, 0 none.");
+    for (uint16_t number = 1; number <= config.servers; number++)
+        bytes_print(text, "tank_lease_phase{node=\"%s\",server=\"s%d\"} %" PRIu32 "\n", config.name,
+                    number, leases[number].at.phase);
+}
