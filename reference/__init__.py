@@ -1,4 +1,4 @@
-"""A second implementation of the protocol, written from docs/PROTOCOL.md alone, by somebody who had
+"""A second implementation of the protocol, written only from docs/PROTOCOL.md, by somebody who had
 seen no code or definition of this repository.
 
     python3 -m reference replay < schedules/theft.schedule

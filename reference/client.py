@@ -25,7 +25,7 @@ class Client(Inputs, Passes):
         self.next_command = 1
 
     def crash(self):
-        """A crash keeps the lives alone. Section "Crash and start". Chapter "The client"."""
+        """A crash keeps only the lives. Section "Crash and start". Chapter "The client"."""
         self.running = False
         self.begin([association.life for association in self.associations])
 

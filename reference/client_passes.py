@@ -2,7 +2,7 @@
 
 from . import wire
 from .client_parts import UNMAPPED, Outstanding, Request
-from .clocks import FLUSH, QUIESCE, RENEWAL, VALID, phase
+from .clocks import FLUSH, QUIESCE, RENEWAL, VALID, lease_end, phase
 from .disks import ZEROS
 from .modes import EXCLUSIVE, NONE
 
@@ -239,7 +239,7 @@ class Passes:
         session, store = association.session, association.store
         if not self.is_leaving(association) or session.locks or session.releases or session.request or store.dirty or store.commands:
             return
-        self.note("ended", association.server, association.life)
+        self.note("ended", association.server, association.life, lease_end(self.settings, session.date))
         association.empty()
         association.life += 1
 

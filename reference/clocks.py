@@ -10,7 +10,7 @@ def steal_wait(settings):
 
 
 def advance_in_bound(settings, increments):
-    """An advance in bound, judged alone. Chapter "Clocks and leases"."""
+    """An advance in bound, judged by itself. Chapter "Clocks and leases"."""
     greatest, least = max(increments), min(increments)
     return least >= 1 and settings.den * greatest <= settings.num * least
 

@@ -133,7 +133,7 @@ class LockTable:
         self.forget_waits(client)
 
     def forget_waits(self, client):
-        """Rule "Forgetting": the waits of a client alone. Chapter "Locks"."""
+        """Rule "Forgetting": only the waits of a client. Chapter "Locks"."""
         for ino in list(self.waits):
             self.forget_wait(ino, client)
 
@@ -154,7 +154,7 @@ class LockTable:
         return None
 
     def demand_seen(self, ino, client, grant):
-        """Rule "A seen demand" waits for no answer any more. Chapter "Locks"."""
+        """Rule "A seen demand" no longer waits for an answer. Chapter "Locks"."""
         row = self.row(ino, client)
         if row is not None and row.grant == grant and row.demand is not None:
             row.demand.since = None

@@ -17,8 +17,8 @@ class Record:
 
 
 class Mover:
-    """The records of a server, and which clients have a lock row of a container: client 1 alone has
-    one in a script.
+    """The records of a server, and which clients have a lock row of a container: only client 1
+    has one in a script.
     """
 
     def __init__(self, server, servers, containers):

@@ -113,7 +113,7 @@ class Server:
             self.request(now, message)
 
     def seen_demand(self, message):
-        """Rule "Seen demand": of this epoch and of the living session's life alone. Chapter "The
+        """Rule "Seen demand": only with this epoch and the living session's life. Chapter "The
         server".
         """
         session = self.sessions.of.get(message.sender)
@@ -297,12 +297,12 @@ class Server:
             self.locks.forget_waits(client)
 
     def suspecting(self, now):
-        """The pass "suspecting", on a tick alone. Chapter "The server"."""
+        """The pass "suspecting", only on a tick. Chapter "The server"."""
         for client in self.locks.suspecting(now, self.settings.demand):
             self.suspect(now, client)
 
     def granting(self):
-        """The pass "granting", outside grace alone. Chapter "The server"."""
+        """The pass "granting", only outside grace. Chapter "The server"."""
         for ino, client, row in self.locks.granting():
             self.send_own(client, row.life, wire.GRANTED, (ino, row.grant, row.mode))
 

@@ -70,7 +70,7 @@ class Sessions:
         self.of[client] = Session(life, 1, reply)
 
     def end(self, client):
-        """Rule "Ending": the session serves nothing any more; its life stays. Its life, or 0.
+        """Rule "Ending": the session no longer serves anything; its life stays. Its life, or 0.
         Chapter "Sessions".
         """
         session = self.of.get(client)

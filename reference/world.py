@@ -403,8 +403,8 @@ class World:
         elif kind == "dated":
             self.seen.append(("dated", number, *output[1:]))
         else:
-            _, server, life = output
-            self.ended[number, server, life] = (ends[server - 1], False)
+            _, server, life, *end = output
+            self.ended[number, server, life] = (end[0] if kind == "ended" else ends[server - 1], False)
             self.seen.append((kind, number, server, life))
 
     def submitted(self, client, own, disk, block, write):
