@@ -1,13 +1,10 @@
 // What the page of tools/picture does in the browser: it shows the lines of whatever is pointed at,
 // hides rows and columns, and jumps from theft to theft. A layout gives what is hidden neither
-// height nor width. Only the elements near the window are part of the page; they are moved to their
-// places when they come into view.
+// height nor width. The page holds its elements as text: a browser makes few of them a second, so
+// only those near the window are made, and moved to their places.
 const byId = it => document.getElementById(it), told = JSON.parse(byId('told').textContent);
-const drawn = byId('drawn'), whole = drawn.content.querySelector('svg'), run = document.importNode(whole, false);
-const about = byId('about'), seek = byId('seek'), fold = byId('fold'), file = byId('file'), found = byId('found'), strip = byId('strip');
-const header = document.querySelector('#lanes svg'), main = document.querySelector('main');
-const marks = document.importNode(whole.querySelector('defs'), true);
-main.append(run);
+const run = byId('run'), about = byId('about'), seek = byId('seek'), fold = byId('fold'), file = byId('file'), found = byId('found'), strip = byId('strip');
+const header = document.querySelector('#lanes svg'), main = document.querySelector('main'), marks = run.querySelector('defs');
 let fixed = false, layoutDone = null;
 
 // The lines of what is pointed at.
@@ -18,26 +15,64 @@ function tell(place) {
 document.addEventListener('mouseover', it => { const place = it.target.closest('[data-e]'); if (place && !fixed) tell(place); });
 main.addEventListener('click', it => { const place = it.target.closest('[data-e]'); fixed = !!place && !fixed; if (place) tell(place); });
 
-// Every element, with its places as drawn. `at` is the height that decides whether it is shown.
-const rows = [...whole.querySelectorAll('rect.row')].map(it => ({it, e: +it.dataset.e, top: +it.getAttribute('y'), high: +it.getAttribute('height')}));
+// The rows, with their places as drawn, and the texts of all other elements, with the heights that
+// each reaches from and to.
+const rows = told.tops.slice(0, -1).map((top, at) => ({e: told.from + at, top, high: told.tops[at + 1] - top, kind: told.loud[told.from + at], clocks: told.clocks[at], parts: null}));
+const rowOf = e => rows[e - told.from];
+const drawn = byId('drawn').textContent.split('\n').filter(Boolean), from = new Float64Array(drawn.length), to = new Float64Array(drawn.length);
 const width = +run.getAttribute('width'), height = +run.getAttribute('height');
-const number = (it, name) => parseFloat(it.getAttribute(name)), listed = (it, name) => (it.getAttribute(name) || '').split(' ').filter(Boolean);
+const valueIn = (text, name) => parseFloat(text.slice(text.indexOf(` ${name}="`) + name.length + 3));
+const keysIn = text => (/ data-k="([^"]*)"/.exec(text) || ['', ''])[1].split(' ').filter(Boolean);
+const pointsOf = d => [...d.matchAll(/[ML](-?[\d.]+) (-?[\d.]+)/g)].map(p => [+p[1], +p[2]]);
+const isLane = text => text.startsWith('<line class="lane"');
+drawn.forEach((text, n) => {
+  if (text[1] == 'p') { const ys = pointsOf(/ d="([^"]*)"/.exec(text)[1]).map(p => p[1]); from[n] = Math.min(...ys); to[n] = Math.max(...ys); }
+  else if (text[1] == 'l') { from[n] = valueIn(text, 'y1'); to[n] = valueIn(text, 'y2'); }
+  else { from[n] = valueIn(text, text[1] == 'c' ? 'cy' : 'y'); to[n] = from[n] + (text[1] == 'r' ? valueIn(text, 'height') : 0); }
+});
+
+// Makes elements of their texts. Each has its keys, and its places as drawn.
+const nursery = document.createElementNS('http://www.w3.org/2000/svg', 'svg');
+const number = (it, name) => parseFloat(it.getAttribute(name));
 function element(it) {
-  const made = {it, tag: it.tagName, keys: listed(it, 'data-k'), events: listed(it, 'data-e').map(Number)};
+  const made = {it, tag: it.tagName, keys: (it.dataset.k || '').split(' ').filter(Boolean), version: 0};
   if (made.tag == 'rect') Object.assign(made, {x: number(it, 'x'), y: number(it, 'y'), w: number(it, 'width'), h: number(it, 'height')});
   else if (made.tag == 'line') Object.assign(made, {x: number(it, 'x1'), y: number(it, 'y1'), x2: number(it, 'x2'), y2: number(it, 'y2')});
   else if (made.tag == 'circle') Object.assign(made, {x: number(it, 'cx'), y: number(it, 'cy')});
   else if (made.tag == 'text') Object.assign(made, {x: number(it, 'x'), y: number(it, 'y')});
   else {
     made.d = it.getAttribute('d');
-    made.points = [...made.d.matchAll(/[ML](-?[\d.]+) (-?[\d.]+)/g)].map(p => [+p[1], +p[2]]);
+    made.points = pointsOf(made.d);
     [made.x, made.y] = made.points[0];
   }
   return made;
 }
-const elements = [...whole.children].filter(it => it.tagName != 'defs').map(element);
-drawn.remove();
-let folded = [], nearTop = 0, nearBottom = -1, everything = false;
+function make(texts) {
+  nursery.innerHTML = texts.join('');
+  return [...nursery.children].map(element);
+}
+const ready = [];  // the elements of `drawn` that are made
+function ensure(wanted) {
+  const lacking = wanted.filter(n => !ready[n]);
+  make(lacking.map(n => drawn[n])).forEach((one, at) => { ready[lacking[at]] = one; });
+}
+
+// A row: its ground, and then its number, its line and the clocks that it changed.
+const escaped = text => text.replace(/[&<>"]/g, c => `&#${c.charCodeAt(0)};`), short = text => text.length > told.most ? text.slice(0, told.most - 1) + '\u2026' : text;
+function rowTexts({e, top, high, kind, clocks}) {
+  const y = top + 15, bad = told.refused && e == told.lines.length - 1, line = e == 0 && !bad ? 'start' : e < told.lines.length ? short(told.lines[e]) : 'end';
+  const text = (x, kind, words, end) => `<text x="${x}" y="${y}" class="${kind}" data-e="${e}"${end ? ' text-anchor="end"' : ''}>${escaped(words)}</text>`;
+  const texts = [`<rect class="row ${kind || (e % 2 ? 'even' : '')}" x="0" y="${top}" width="${width}" height="${high}" data-e="${e}"/>`, text(told.places.line, bad ? 'line bad' : 'line', line)];
+  if (e > 0 && e < told.lines.length) texts.push(text(told.places.number, 'no', String(e), true));
+  for (let at = 0; at < clocks.length; at += 2) texts.push(text(told.places.clocks[clocks[at]], 'clock', String(clocks[at + 1]), true));
+  return texts;
+}
+function ensureRows(wanted) {
+  const lacking = wanted.filter(row => !row.parts), texts = lacking.map(rowTexts), made = make(texts.flat());
+  let at = 0;
+  lacking.forEach((row, n) => { row.parts = made.slice(at, at += texts[n].length); row.it = row.parts[0].it; });
+}
+let folded = [], nearTop = 0, nearBottom = -1, everything = false, version = 0;
 const titles = [...header.children].map(element);
 
 // What the rows are about: thefts, losses and refusals, and which are quiet.
@@ -49,10 +84,9 @@ for (const {e} of rows) {
   if (texts.some(t => /^(lost|drop) |^answer c\d+ \d+ lost/.test(t))) kinds.l.push(e);
   if (texts.some(t => /^send \d+ \w+ \w+ nack|^answer c\d+ \d+ refused|^line /.test(t))) kinds.r.push(e);
 }
-for (const one of elements) if (one.keys.length && !(one.tag == 'line' && one.it.classList.contains('lane'))) {
-  const ends = one.tag == 'rect' || one.tag == 'text' ? [] : one.events;
-  if (one.it.classList.contains('step')) continue;
-  ends.forEach(e => busy.add(e));
+for (const text of drawn) if ((text[1] == 'p' || text[1] == 'c' || text[1] == 'l') && !text.startsWith('<circle class="step"')) {
+  const events = / data-e="([^"]*)"/.exec(text);
+  if (events && text.includes(' data-k="')) events[1].split(' ').forEach(e => busy.add(+e));
 }
 function quiet() {
   const stretches = [];
@@ -75,6 +109,7 @@ function pieces(cuts, end) {
   const place = v => { let low = 0, high = starts.length - 1; while (low < high) { const mid = (low + high + 1) >> 1; if (starts[mid] <= v) low = mid; else high = mid - 1; } return low; };
   const map = v => { const i = place(v); return goals[i] + Math.min(v - starts[i], i < starts.length - 1 ? sizes[i] : v - starts[i]); };
   map.hides = v => { const i = place(v); return i < starts.length - 1 && sizes[i] == 0; };
+  map.back = v => { let low = 0, high = goals.length - 1; while (low < high) { const mid = (low + high + 1) >> 1; if (goals[mid] <= v) low = mid; else high = mid - 1; } return starts[low] + v - goals[low]; };
   return map;
 }
 const joined = cuts => cuts.sort((a, b) => a[0] - b[0]);
@@ -85,27 +120,23 @@ function wanted() {
 
 function layout() {
   const words = wanted(), files = told.columns.map(c => c[0]).filter(k => k[0] == 'f');
-  const hits = words.length ? elements.filter(it => words.some(w => it.keys.includes(w)) && !it.it.classList.contains('lane')) : [];
-  const hitSet = new Set(hits.map(it => it.it)), shownRows = new Set();
+  const hits = new Set(words.length ? drawn.flatMap((text, n) => !isLane(text) && text.includes(' data-k="') && keysIn(text).some(k => words.includes(k)) ? [n] : []) : []);
+  const filters = hits.size > 0, shownRows = new Set();
   // the nodes and files in view: those that the filter names, and those of what it finds
   const inView = new Set(words.length ? words : told.nodes);
-  hits.forEach(it => { it.events.forEach(e => shownRows.add(e)); it.keys.forEach(k => { if (/^[csd]\d/.test(k)) inView.add(k); }); });
+  for (const n of hits) {
+    ((/ data-e="([^"]*)"/.exec(drawn[n]) || [])[1] || '').split(' ').filter(Boolean).forEach(e => shownRows.add(+e));
+    keysIn(drawn[n]).forEach(k => { if (/^[csd]\d/.test(k)) inView.add(k); });
+  }
   const named = words.filter(w => w[0] == 'f');
   const shownFiles = new Set(named.length ? named : file.value == 'all' ? files : [file.value]);
   const stretches = fold.checked && !words.length ? quiet() : [];
   const hidden = new Set();
-  rows.forEach((row, at) => { if (words.length && hits.length && !shownRows.has(row.e) && at > 0 && at < rows.length - 1) hidden.add(at); });
+  rows.forEach((row, at) => { if (filters && !shownRows.has(row.e) && at > 0 && at < rows.length - 1) hidden.add(at); });
   stretches.forEach(([from, to]) => { for (let at = from + 1; at < to; at++) hidden.add(at); });
   const my = pieces(joined([...hidden].map(at => [rows[at].top, rows[at].top + rows[at].high])), height);
-  const mx = pieces(joined(told.columns.filter(([k]) => k[0] == 'f' ? !shownFiles.has(k) : words.length && hits.length && !inView.has(k)).map(([, from, to]) => [from, to])), width);
+  const mx = pieces(joined(told.columns.filter(([k]) => k[0] == 'f' ? !shownFiles.has(k) : filters && !inView.has(k)).map(([, from, to]) => [from, to])), width);
   folded = [];
-  // leases, timers and nodes that do not run stay beside what the filter finds
-  const isBeside = it => /\b(lease|timer|grace|cut|down|downdots)\b/.test(it.it.getAttribute('class')) && it.keys.every(k => inView.has(k));
-  for (const it of elements) {
-    it.off = words.length && hits.length && it.keys.length && !hitSet.has(it.it) && !it.it.classList.contains('lane') && !isBeside(it);
-    [it.low, it.high] = heights(it, my);
-    it.placed = false;
-  }
   for (const it of titles) place(it, mx, null, false);
   const first = titles.find(it => it.it.classList.contains('locks')), lane = titles.find(it => it.keys.some(k => shownFiles.has(k)));
   if (first && lane) { first.it.classList.remove('off'); first.it.setAttribute('x', mx(lane.x)); }
@@ -113,32 +144,46 @@ function layout() {
   const w = mx(width), h = my(height);
   run.setAttribute('width', w); run.setAttribute('height', h); run.setAttribute('viewBox', `0 0 ${w} ${h}`);
   header.setAttribute('width', w); header.setAttribute('viewBox', `0 0 ${w} 32`);
-  found.textContent = words.length ? (hits.length ? rows.length - hidden.size + ' of ' + rows.length + ' rows' : 'no matches') : '';
-  layoutDone = {mx, my, hidden, notes: mx(told.notes), width: w};
+  found.textContent = words.length ? (filters ? rows.length - hidden.size + ' of ' + rows.length + ' rows' : 'no matches') : '';
+  layoutDone = {mx, my, hidden, hits, filters, inView, notes: mx(told.notes), width: w};
   document.body.dataset.rows = rows.length - hidden.size;
+  version++;
   nearBottom = -1;
   near();
-  overview();
+  setTimeout(overview);
 }
 
-// From which height to which an element reaches.
-function heights(one, my) {
-  const ys = one.points ? one.points.map(p => p[1]) : [one.y, one.tag == 'rect' ? one.y + one.h : one.tag == 'line' ? one.y2 : one.y];
-  return [my(Math.min(...ys)), my(Math.max(...ys))];
+// Whether the filter hides an element. Leases, timers and nodes that aren't running stay beside
+// what it finds.
+function isOff(one, n) {
+  const {filters, hits, inView} = layoutDone;
+  if (!filters || !one.keys.length || hits.has(n) || isLane(drawn[n])) return false;
+  return !(/\b(lease|timer|grace|cut|down|downdots)\b/.test(one.it.getAttribute('class')) && one.keys.every(k => inView.has(k)));
 }
 
 // Puts the elements near the window into the page, and takes the others out; all of them for paper.
-const BEYOND = 1500;
+// At first, only what is in the window is put there, so that the page opens at once.
+const BEYOND = 800;
+let beyond = 0;
 function near() {
   const top = -main.getBoundingClientRect().top, bottom = top + innerHeight;
   if (nearBottom >= 0 && (everything || top >= nearTop && bottom <= nearBottom)) return;
-  [nearTop, nearBottom] = [top - BEYOND, bottom + BEYOND];
-  const {mx, my} = layoutDone, live = [];
-  for (const one of elements) {
-    if (!everything && (one.high < nearTop - 20 || one.low > nearBottom + 20) && one != behind) continue;
-    if (!one.placed) { place(one, mx, my, one.off); one.placed = true; }
-    if (!one.it.classList.contains('off') || one == behind) live.push(one.it);
+  [nearTop, nearBottom] = everything ? [-Infinity, Infinity] : [top - beyond, bottom + beyond];
+  beyond = BEYOND;
+  const {mx, my, hidden} = layoutDone, first = my.back(nearTop - 20), last = my.back(nearBottom + 20);
+  const wantedRows = rows.filter((row, at) => row.top + row.high >= first && row.top <= last && !hidden.has(at)), wanted = [];
+  for (let n = 0; n < drawn.length; n++) {
+    if (to[n] >= first && from[n] <= last && !(my.hides(from[n]) && my(from[n]) == my(to[n])) || n == behindAt) wanted.push(n);
   }
+  ensureRows(wantedRows);
+  ensure(wanted);
+  const live = [], show = (one, off) => {
+    if (one.version != version) { place(one, mx, my, off()); one.version = version; }
+    if (!one.it.classList.contains('off') || one == behind) live.push(one.it);
+  };
+  wantedRows.forEach(row => show(row.parts[0], () => false));
+  wantedRows.forEach(row => row.parts.slice(1).forEach(one => show(one, () => false)));
+  wanted.forEach(n => show(ready[n], () => isOff(ready[n], n)));
   run.replaceChildren(marks, ...live, ...folded);
   moved = null;
   keepNotes();
@@ -148,7 +193,9 @@ addEventListener('afterprint', () => { everything = false; nearBottom = -1; near
 
 // The column that says what happened stays in sight: if the page is wider than the window, the
 // column moves over the lanes, as far as the middle of the window.
-const behind = elements.find(it => it.tag == 'rect' && it.it.classList.contains('behind'));
+const behindAt = drawn.findIndex(text => text.startsWith('<rect class="behind'));
+ensure([behindAt]);
+const behind = ready[behindAt];
 let moved = 0;
 function keepNotes() {
   const wide = document.documentElement.clientWidth, left = Math.max(wide * 0.55, wide - told.strip - (layoutDone.width - layoutDone.notes));
@@ -191,10 +238,10 @@ function foldedText(row, count, last, mx, my) {
 
 // The overview strip: the whole run from top to bottom.
 function overview() {
-  const total = layoutDone.my(height);
+  const total = layoutDone.my(height), losses = new Set(kinds.l);
   strip.textContent = '';
   for (const row of rows) {
-    const kind = ['steal', 'refused', 'lost', 'crash', 'start'].find(k => row.it.classList.contains(k)) || (kinds.l.includes(row.e) ? 'drop' : null);
+    const kind = ['steal', 'refused', 'lost', 'crash', 'start'].find(k => row.kind == k) || (losses.has(row.e) ? 'drop' : null);
     if (kind) { const mark = document.createElement('i'); mark.className = kind; mark.style.top = 100 * layoutDone.my(row.top) / total + '%'; strip.append(mark); }
   }
   strip.append(document.createElement('b'));
@@ -212,8 +259,9 @@ strip.addEventListener('click', it => scrollTo(scrollX, main.offsetTop + layoutD
 // Going to events.
 let here = null, at = -1;
 function go(e) {
-  const row = rows.find(row => row.e == e);
+  const row = rowOf(e);
   if (!row) return;
+  ensureRows([row]);
   if (here) here.classList.remove('here');
   here = row.it; at = e;
   here.classList.add('here');
@@ -223,7 +271,7 @@ function go(e) {
   document.body.dataset.here = Math.round(row.it.getBoundingClientRect().top);
 }
 function next(kind, back) {
-  const shown = kinds[kind].filter(e => !layoutDone.my.hides(rows.find(row => row.e == e).top));
+  const shown = kinds[kind].filter(e => !layoutDone.my.hides(rowOf(e).top));
   const to = back ? shown.filter(e => e < at).pop() : shown.find(e => e > at);
   found.textContent = to === undefined ? `no ${back ? 'earlier' : 'later'} ${names[kind]} (${shown.length} in total)` : `${names[kind]} ${shown.indexOf(to) + 1} of ${shown.length}, event ${to}`;
   if (to !== undefined) go(to);
@@ -240,8 +288,9 @@ document.addEventListener('keydown', it => {
 // (only=1:2+c1&fold=1&file=1:2&at=714&key=t).
 const state = {...told.first, ...Object.fromEntries(new URLSearchParams(location.hash.slice(1)))}, all = told.columns.filter(c => c[0][0] == 'f').map(c => c[0]);
 for (const k of ['all', ...all]) file.append(new Option(k == 'all' ? 'all files' : k.slice(1), k));
-const stolen = elements.filter(it => it.tag == 'rect' && it.it.classList.contains('lock')).map(it => it.keys[0]);
-const most = all.reduce((best, k) => stolen.filter(it => it == k).length > stolen.filter(it => it == best).length ? k : best, all[0]);
+const locks = {};
+for (const text of drawn) if (text.startsWith('<rect class="lock ')) { const [k] = keysIn(text); locks[k] = (locks[k] || 0) + 1; }
+const most = all.reduce((best, k) => (locks[k] || 0) > (locks[best] || 0) ? k : best, all[0]);
 file.value = state.file ? 'f' + state.file : all.length > 3 ? most : 'all';
 seek.value = state.only || '';
 fold.checked = state.fold === true || state.fold == '1';

@@ -209,7 +209,7 @@ def read_run(schedule_path, report_path, report_lines=None):
         walk.begin()
         body = lines[1:stop - 1] if refused else lines[1:]
         if not refused and (not body or body.pop() != "end"):
-            raise Bad(foreign + "it says that the run went through its end, and the schedule's last line is not 'end'.")
+            raise Bad(foreign + "it says that the run reached its end, but the schedule's last line is not 'end'.")
         if refused and refused[2] == "AfterEnd" and body and body[-1] == "end":
             body.pop()
         for at, line in enumerate(body, 2):

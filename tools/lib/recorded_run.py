@@ -82,8 +82,10 @@ class Item:
         stays, and the check finds that the stamp is another one.
         """
         self.low, self.high, self.reading = low, high, low
+        if low == high:
+            return
         stamps = [stamp for stamp in map(stamp_of, self.told.outputs or ()) if stamp is not None and low <= stamp <= high]
-        if low < high and stamps:
+        if stamps:
             self.settle(stamps[0])
 
     def settle(self, reading):
@@ -415,11 +417,13 @@ class Command:
     def __init__(self, node, own, disk, block, write):
         self.node, self.own, self.place, self.write = node, own, (disk, block), write
         self.effected = self.reported = False
-        self.sample = self.submitted = None
+        self.sample = None
+        self.stopped = None  # the place among the entries of the crash before which it may have been done
+        self.before = self.after = 0  # how many entries there were after the last command on its block before it, and after it
 
 
 class Problem(Exception):
-    """What can be told from the traces alone, before a replay: a premise's name, and what to say
+    """What can be found in the traces, before a replay: a premise's name, and what to say
     about it.
     """
 
@@ -433,8 +437,9 @@ class Join:
     texts that the report must have of it.
     """
 
-    def __init__(self, nodes, disk=None, unknown=(), made=()):
-        self.nodes, self.disk, self.unknown, self.made = nodes, disk, dict(unknown), set(made)
+    def __init__(self, nodes, program, disk=None, unknown=None, made=()):
+        self.nodes, self.program, self.disk, self.made = nodes, program, disk, set(made)
+        self.unknown = {} if unknown is None else unknown
         self.words = next(iter(nodes.values())).words
         self.clients, self.servers = int(self.words[9]), int(self.words[10])
         self.names = [f"c{i + 1}" for i in range(self.clients)] + [f"s{i + 1}" for i in range(self.servers)]
@@ -442,11 +447,13 @@ class Join:
         self.messages, self.sent, self.delivered = 0, collections.defaultdict(list), set()
         self.senders = []
         self.commands, self.numbers, self.blocks = [], {}, {}
+        self.used = {}  # by block, how many entries there were after the last command on it
         self.asks, self.ops, self.read = collections.Counter(), {}, {}
         self.found = []  # the page and the content of each read that was answered
         self.contents = Contents(any(is_mixed(it) for node in nodes.values() for it in node.steps))
         self.unsure = None
         self.ever = {data for node in nodes.values() for it in node.steps if it.what == "step" for data in it.told.outputs or ()}
+        self.effects = {(node.name, it.life, it.told.command) for node in nodes.values() for it in node.effects}
         self.begun = first = min((it.at for node in nodes.values() for it in node.steps), default=0)
         self.clocks = Clocks(self.names, nodes, first // 1_000_000 - 1)
 
@@ -464,8 +471,7 @@ class Join:
         """Compares each block that the run wrote with the file of the disks, if there is one."""
         for place, held in sorted(self.blocks.items()) if self.disk else ():
             found = text.block_of(self.disk, *place, int(self.words[12]))
-            if found != held:
-                self.explain(len(self.commands) + 1, place, found)
+            if found != held and not self.explain(len(self.commands) + 1, place, found):
                 raise Problem("DiskOrder", f"block {place[0]}:{place[1]} of the disks at the end of the run",
                               f"it has          {block_text(found)}", f"its last write  {block_text(held)}{self.writer(place, held)}")
 
@@ -518,15 +524,14 @@ class Join:
         number = self.numbers.get((it.node, it.life, own))
         if number is None:
             return False
-        is_told = any(effect.told.command == own and effect.life == it.life for effect in self.nodes[it.node].effects)
-        return self.commands[number - 1].effected or not is_told
+        return self.commands[number - 1].effected or (it.node, it.life, own) not in self.effects
 
     def stuck(self, items):
         """Nothing can happen next: a message was never sent, or a command never submitted."""
         it = min(items, key=lambda one: one.at)
         if it.what == "step" and not is_local(it.told.taken):
             return Problem("MessageUnknown", f"{it.node} took it at line {it.line} of its trace: {text.message_text(it.told.taken)}")
-        return Problem("DiskOrder", f"line {it.line} of the trace of {it.node} tells of a command that the node never gave")
+        return Problem("DiskOrder", f"line {it.line} of the trace of {it.node} mentions a command that the node never gave")
 
     # The events
 
@@ -549,6 +554,8 @@ class Join:
                 self.effect(number, it)
         for command in self.commands:
             if command.node == it.node:
+                if not command.reported:
+                    command.stopped = len(self.entries)
                 command.reported = True
         self.add(f"crash {it.node}", it, [])
 
@@ -560,6 +567,8 @@ class Join:
 
     def effect(self, number, it):
         command = self.commands[number - 1]
+        command.before, command.after = self.used.get(command.place, 0), len(self.entries) + 1
+        self.used[command.place] = command.after
         if command.write is None:
             command.sample = self.blocks.get(command.place, UNWRITTEN)
         else:
@@ -622,7 +631,11 @@ class Join:
         order does.
         """
         command = self.commands[number - 1]
-        self.explain(number, command.place, found)
+        if self.used[command.place] == command.after:  # only this command used it
+            self.used[command.place] = command.before
+        if self.explain(number, command.place, found):
+            self.used[command.place] = command.after
+            return
         held = command.sample
         raise Problem(
             "DiskOrder",
@@ -632,12 +645,30 @@ class Join:
 
     def explain(self, number, place, found):
         """Takes an earlier write of which nobody knows whether it was done as done, where that
-        explains what was found.
+        explains what was found; whether there is one. If the block was used since then, the run
+        must be joined once more.
         """
         for other, write in enumerate(self.commands[:number - 1], 1):
-            if write.place == place and write.write == found and not write.effected and other not in self.made:
+            if write.place != place or write.write != found or write.effected or other in self.made:
+                continue
+            if write.stopped is None or self.used.get(place, 0) > write.stopped:
                 self.unsure = other
                 raise Problem("Unsure")
+            self.insert(write.stopped, f"effect {other}")
+            write.effected = True
+            self.blocks[place] = found
+            return True
+        return False
+
+    def insert(self, at, line):
+        """Puts an event before the entry at this place, with the same item."""
+        self.entries.insert(at, (line, self.entries[at][1], []))
+        self.senders = [entry + (entry >= at) for entry in self.senders]
+        self.used = {block: count + (count > at) for block, count in self.used.items()}
+        for command in self.commands:
+            command.before, command.after = command.before + (command.before > at), command.after + (command.after > at)
+            if command.stopped is not None:
+                command.stopped += command.stopped >= at
 
     def writer(self, place, held):
         for number in range(len(self.commands), 0, -1):
@@ -647,12 +678,12 @@ class Join:
         return ""
 
     def unknown_outputs(self, it):
-        """What a step gave in which its node stopped is as the report tells it, or not known yet.
-        """
-        kinds = self.unknown.get((it.node, it.line))
-        if kinds is None:
-            raise Problem("Unknown")
-        for kind in kinds:
+        """What a step gave in which its node stopped is as the report tells it."""
+        if (it.node, it.line) not in self.unknown:
+            lines, events = self.schedule()
+            told = told_of(self.program, lines)[0].get(len(events), ())
+            self.unknown[it.node, it.line] = [words.split(" ")[0] for words in told]
+        for kind in self.unknown[it.node, it.line]:
             if kind == "send":
                 self.messages += 1
                 self.senders.append(len(self.entries))
@@ -741,16 +772,10 @@ def joined(nodes, program, disk=None):
     """
     unknown, made = {}, set()
     while True:
-        join = Join(nodes, disk, unknown, made).make()
-        name = join.problem.name if join.problem else None
-        if name == "Unsure":
-            made.add(join.unsure)
-        elif name == "Unknown":
-            it = join.entries[-1][1]
-            lines, events = join.schedule()
-            unknown[it.node, it.line] = [words.split(" ")[0] for words in told_of(program, lines)[0].get(len(events), ())]
-        else:
+        join = Join(nodes, program, disk, unknown, made).make()
+        if not join.problem or join.problem.name != "Unsure":
             return join
+        made.add(join.unsure)
 
 
 def told_of(program, lines):
@@ -803,7 +828,7 @@ def different(join, entry, told):
              f"the node gave     {expected[place] if place < len(expected) else 'nothing more'}",
              f"the report has    {told[place] if place < len(told) else 'nothing more'}"]
     if it.life > 1:
-        lines.append(f"{it.node} was started again before: a change that it told of may not have outlived its stop")
+        lines.append(f"{it.node} was started again before: a change that it reported may not have outlived its stop")
     return lines
 
 

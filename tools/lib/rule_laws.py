@@ -3,7 +3,7 @@
 A proof speaks of a rule where a lemma names one of its definitions, or a change of st_trace that
 the rule makes. Such a change has a type that names a definition of the rule, or a lemma of st_trace
 gets it from one. A law is a public function of a law crate. Its proof consists of the lemmas that
-the file of its name takes, of those of the same crate that they name, and so on.
+the file of its name takes, of those of the same crate and of st_lemmas that they name, and so on.
 """
 import collections
 import functools
@@ -15,6 +15,22 @@ USE = re.compile(r"^(?:pub )?use ([\w.]+?)(?:\.\{([^}]*)\})?(?: as (\w+))?\s*$",
 DECLARATION = re.compile(r"( *)(?:(?:pub|unfoldable|abbrev|data|record) )*([^\s:(){}]+)")
 NO_LAWS = ("st_laws_steps", "st_laws_refine", "st_laws_safe")  # walks of all rules, and the theorem
 Lemma = collections.namedtuple("Lemma", "module name")
+WORDS = "st_lemmas.proofs.Words"
+
+
+def passed_on():
+    """What Words passes on: its modules by their names there, and its items by theirs."""
+    modules, items = {}, {}
+    for path, names, short in USE.findall((ROOT / "crates/st_lemmas/proofs/Words.antt").read_text()):
+        module = path.removeprefix("Rattle.")
+        if not names:
+            modules[short or module.rsplit(".", 1)[-1]] = module
+        for name in filter(None, (it.strip() for it in names.split(","))):
+            items[name] = Lemma(module, name)
+    return modules, items
+
+
+PASSED_MODULES, PASSED_ITEMS = passed_on()
 
 
 class File:
@@ -28,11 +44,14 @@ class File:
         for path, items, short in USE.findall(text):
             first, dot, rest = path.partition(".")
             module = rest if first == "Rattle" else self.modules.get(first, first) + dot + rest
+            if module.startswith(WORDS + "."):
+                inner, dot, rest = module.removeprefix(WORDS + ".").partition(".")
+                module = PASSED_MODULES.get(inner, inner) + dot + rest
             if not items:
                 self.modules[short or module.rsplit(".", 1)[-1]] = module
             for item in filter(None, (it.strip() for it in items.split(","))):
                 name, _, other = item.partition(" as ")
-                self.names[other or name] = Lemma(module, name)
+                self.names[other or name] = PASSED_ITEMS[name] if module == WORDS else Lemma(module, name)
         self.texts = self.divide(USE.sub("", text))
 
     @staticmethod
@@ -101,7 +120,7 @@ def proof_of(crate, law):
         if lemma in seen:
             continue
         seen.add(lemma)
-        left += named_by(lemma) if lemma.module.startswith(f"{crate}.") else ()
+        left += named_by(lemma) if lemma.module.startswith((f"{crate}.", "st_lemmas.proofs.")) else ()
     return seen
 
 

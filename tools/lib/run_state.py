@@ -131,6 +131,8 @@ class Told:
     def saw_lost(self, client, server, _life):
         self.end_life(client, server)
 
+    saw_end = saw_lost
+
     # questions
 
     def end_of(self, command):

@@ -67,10 +67,10 @@ FORMS = {
 
 
 class Head:
-    """A head's settings and counts."""
+    """A head's settings and counts, and in the third form its limits."""
 
-    def __init__(self, form, settings, counts):
-        self.form, self.settings = form, settings
+    def __init__(self, form, settings, counts, limits=()):
+        self.form, self.settings, self.limits = form, settings, limits
         self.clients, self.servers, self.disks, self.blocks = counts
         self.nodes = [f"c{i + 1}" for i in range(self.clients)] + [f"s{i + 1}" for i in range(self.servers)]
 

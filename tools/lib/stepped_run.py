@@ -5,8 +5,8 @@ observed before it.
 observed before it reads on, but does not say when an event's observations are complete. So the run
 has one client more than the schedule, the *bell*: asked to read a file of a server that is not
 configured, it answers at once, sends nothing, and changes nothing of any other node. Its answer
-ends what is read. The schedule that is kept has no bell; its report differs by the bell's lines
-alone. Where the head has all sixteen clients, one of them that no event speaks of is the bell.
+ends what is read. The schedule that is kept has no bell; its report differs only by the
+bell's lines. If the head has all sixteen clients, one that no event mentions is the bell.
 """
 import fcntl
 import pathlib
@@ -38,7 +38,7 @@ def report_of(program, lines):
 def head_line(head, clients):
     """The head's line with another number of clients."""
     values = [value for name, value in head.settings.items() if name not in ("CLIENTS", "SERVERS", "DISKS", "BLOCKS")]
-    return " ".join(map(str, ["tank", head.form, *values, clients, head.servers, head.disks, head.blocks]))
+    return " ".join(map(str, ["tank", head.form, *values, clients, head.servers, head.disks, head.blocks, *head.limits]))
 
 
 class Refused(Exception):

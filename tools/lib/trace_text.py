@@ -11,7 +11,7 @@ import struct
 from typing import NamedTuple, Optional
 
 RUN = re.compile(rb"(.)\1{15,}", re.DOTALL)
-PIECE = re.compile(r"\(([0-9a-f]{2})\*([0-9]+)\)|((?:[0-9a-f]{2})+)")
+RUN_TEXT = re.compile(r"([0-9a-f]{2})\*([0-9]+)\)(.*)")
 LOW, MADE, UNMADE = "..", "?", "-"
 TAG = struct.Struct(">HIIQ")  # of a block in the file of the disks: server, inode, page, birth; the page's bytes follow
 PAGE, SLOT = 4096, 8192
@@ -73,14 +73,14 @@ def message_text(data):
 
 def message_bytes(text):
     """The bytes of a message's text."""
-    parts, place = [], 0
-    for piece in PIECE.finditer(text):
-        if piece.start() != place:
-            break
-        parts.append(bytes.fromhex(piece[3]) if piece[3] else bytes.fromhex(piece[1]) * int(piece[2]))
-        place = piece.end()
-    if place != len(text):
-        raise Wrong(f"no message {text[:40]}")
+    first, *runs = text.split("(")
+    try:
+        parts = [bytes.fromhex(first)]
+        for run in runs:
+            byte, count, more = RUN_TEXT.fullmatch(run).groups()
+            parts += [bytes.fromhex(byte) * int(count), bytes.fromhex(more)]
+    except (AttributeError, ValueError):
+        raise Wrong(f"no message {text[:40]}") from None
     return b"".join(parts)
 
 

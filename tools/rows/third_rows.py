@@ -21,7 +21,7 @@ class Story:
         head = HEAD.format(clients=clients, blocks=blocks, limits=limits)
         self.head = read_head(head.encode(), FORMS)
         self.world, self.lines = World(self.head), [head]
-        self.messages, self.commands, self.held = [], [], ()
+        self.messages, self.commands, self.answers, self.held = [], [], [], ()
 
     def say(self, *lines):
         """These events happen."""
@@ -35,6 +35,8 @@ class Story:
                     self.messages.append(one[1])
                 elif one[0] == "submit":
                     self.commands.append(one[1])
+                elif one[0] == "answer":
+                    self.answers.append(one[1])
         return self
 
     def kind(self, number):
@@ -67,6 +69,12 @@ class Story:
                 self.say(f"effect {number}", f"report {number} ok")
             else:
                 return self
+
+    def trip(self):
+        """A message and a disk command take this time, all the same: what is on the way arrives."""
+        messages, commands, self.messages, self.commands = self.messages, self.commands, [], []
+        self.say("adv 2", *(f"deliver {number}" for number in messages))
+        return self.say(*(line for number in commands for line in (f"effect {number}", f"report {number} ok")))
 
     def texts(self):
         schedule = "\n".join([*self.lines, "end", ""])
@@ -153,10 +161,22 @@ def run_on_two_blocks():
     return story.settle().hold().settle()
 
 
+def two_writers():
+    """Two clients write one page three times each, while all messages take equal times."""
+    story = Story(clients=2).say("app c1 write 1:2 0 1", "app c2 write 1:2 0 2")
+    while len(story.answers) < 6:
+        answered = len(story.answers)
+        story.trip()
+        for client in story.answers[answered:]:
+            if story.answers.count(client) < 3:
+                story.say(f"app c{client} write 1:2 0 {client + 2 * story.answers.count(client)}")
+    return story
+
+
 STORIES = {
     "used-once": used_once, "room": room, "room-failed": room_failed, "give-back": give_back, "give-back-stuck": give_back_stuck, "leave": leave,
     "leave-unsynced": leave_unsynced, "leave-fails": leave_fails, "answered": answered, "fresh-welcome": fresh, "run": run_of_pages,
-    "run-on-two-blocks": run_on_two_blocks,
+    "run-on-two-blocks": run_on_two_blocks, "two-writers": two_writers,
 }
 
 

@@ -314,7 +314,7 @@ class Row:
         fields = {f: plain for f in FIELDS}
         fields["reads"], fields["hard"], fields["logged"] = at_each(owed), at_each(lambda o: "refl"), at_each(logged)
         fields["told"] = nested([f"record {{ entries = through ({log}) refl refl; numbers = refl }}" for log in self.logs])
-        fields["history"] = each(lambda os: "record { timers = refl; dates = refl; grants = refl }")
+        fields["history"] = each(lambda os: "record { timers = refl; started = refl; graces = refl; begun = refl; dates = refl; grants = refl }")
         fields["losses"] = at_each(lost)
         fields["held"] = nested([nested([f"through {data} refl refl" for data in held]) for held in self.held])
         fields["numbers"] = each(lambda os: "record { messages = refl; commands = refl; told = refl; counts = refl }")
