@@ -193,7 +193,7 @@ def epochs(Row):
     r.hear(0, 1, 0, Reasserted(), epoch=3)
     yield r
 
-    r = Row("a_refused_reassertion_condemns", "A refusal of the reassertion condemns the lease: nothing is asked any more, what is pending is quiesced, and in flush pages are written.").leased()
+    r = Row("a_refused_reassertion_condemns", "A refusal of the reassertion condemns the lease: nothing more is asked, what is pending is quiesced, and in flush pages are written.").leased()
     r.hear(0, 0, 0, Nack(3, 1, 2), epoch=2)
     r.hear(0, 1, 0, Nack(7, 2, G1), epoch=2)
     r.read(0, 2, 0)
@@ -376,7 +376,7 @@ def reads(Row):
     r.done(0, 2, (Tag(File(1, 2), 1, 8), uniform_page(6)))
     yield r
 
-    r = Row("a_failed_read_answers_who_waits_for_it", "A read that failed is told to the reads and patches of its page, and the next one reads again.")
+    r = Row("a_failed_read_answers_who_waits_for_it", "A failed read is reported to the reads and patches of its page, and the next one reads again.")
     r.read(0, 2, 0)
     r.hear(0, 0, 0, Welcome())
     r.hear(0, 1, 0, Granted(2, G1, X))
@@ -464,7 +464,7 @@ def refused_asks(Row):
     r.hear(0, 4, 0, Named(1, (NameRow(10, 2, b"d"), NameRow(3, 1, b"f3"))))
     yield r
 
-    r = Row("a_refused_file_answers_all_its_operations", "No file: all reads, writes, patches, cuts and removes of it, and not its syncs; too many locks likewise.").leased()
+    r = Row("a_refused_file_answers_all_its_operations", "No file: all reads, writes, patches, cuts and removes of it, and not its syncs; the same for too many locks.").leased()
     r.read(0, 3, 0)
     r.write(0, 3, 0, 1)
     r.cut(0, 3, 0)

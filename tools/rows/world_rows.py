@@ -53,7 +53,7 @@ FILES = {
         ("schedules/link-cut", "link_cut", "A reply of a cut direction is not delivered."),
         ("schedules/rows/healed", "healed", "A healed direction delivers."),
         ("schedules/rows/link-cut-from-a-client", "request_cut", "A request of a cut direction is not delivered."),
-        ("schedules/rules/cut-twice", "cut_twice", "A direction that was cut twice is healed once; a cut speaks of its own direction alone."),
+        ("schedules/rules/cut-twice", "cut_twice", "A direction that was cut twice is healed once; a cut concerns only its own direction."),
         ("schedules/lost-message", "lost_message", "A message that was lost is not delivered."),
         ("schedules/rows/no-node", "no_node", "A node that is not there."),
     ],

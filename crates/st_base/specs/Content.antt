@@ -14,7 +14,7 @@ abbrev pub kept_byte : Content → Option ℕ
 kept_byte (Filled byte) = Some byte
 kept_byte (Mixed bytes) = None
 
--- 4,096 bytes, kept as one byte exactly where they are all equal
+-- 4,096 bytes, kept as one byte exactly if they are all equal
 pub record IsPage (content : Content) : Type 0 where
   pub whole : length (bytes_of content) ≡ 4096
   pub kept : kept_byte content ≡ repeated_of (bytes_of content)

@@ -23,7 +23,7 @@ impl ServerId {
     }
 
     /// The number of the server as a node, whatever the server's own number is. It has sixteen bits
-    /// where that is below 32,768.
+    /// if that is below 32,768.
     pub fn node_as_u32(self) -> u32
         ensures { result ≡ server_node self }
     {

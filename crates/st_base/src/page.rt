@@ -6,7 +6,7 @@ use std::alloc::{AllocError, Global};
 use std::marker::Model;
 use std::rc::Rc;
 
-/// The bytes of a page: one byte where all 4,096 are equal, and otherwise all of them, shared by
+/// The bytes of a page: one byte if all 4,096 are equal, and otherwise all of them, shared by
 /// the copies of the page.
 #[derive(Drop)]
 enum Content {
@@ -94,7 +94,7 @@ impl PageBytes {
         }
     }
 
-    /// Makes a page of a copy of these 4,096 bytes. It does not allocate where they are all equal.
+    /// Makes a page of a copy of these 4,096 bytes. It does not allocate if they are all equal.
     pub fn from_slice(alloc: Global, bytes: &[u8]) -> Result<PageBytes, AllocError>
         requires { length bytes.now ≡ 4096 }
         ensures { IfOk result (λ p. p ≡ bytes.now) }

@@ -40,7 +40,7 @@ low_there (s ∷ ss) (l ∷ ls) e = ap (λ b. b && list_all has_room_at (crashed
     alone true = refl
     alone false = refl
 
--- a client that crashed keeps its lives alone
+-- a client that crashed keeps only its lives
 pub crashes : (id : ClientId) (config : Config) (ss : List ServerId) (ls : List Life) (o : Option ClientState) → RunsAs id config ss ls o →
     crashed_client id config ss ls ≡ crash (state_of id config ss ls o)
 unfolding crash

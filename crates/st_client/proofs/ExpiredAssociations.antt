@@ -133,7 +133,7 @@ module _ (v : ServerId) (known : BlockAt → Bool) (os : List Operation) where
 
   -- Messages.
 
-  -- what a message tells of places is of another server
+  -- what a message says about places concerns another server
   abbrev pub FineBody : Body → Type 0
   FineBody (bodies.Extents ino rows) = list_all is_row_placed rows ≡ true
   FineBody b = ⊤

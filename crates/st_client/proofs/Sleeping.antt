@@ -151,7 +151,7 @@ with_session_idle now tick t (Some s) h e f =
     ∙ ap (requests_by t now tick) h
     ∙ requests_idle now tick t s e q.1
 
--- Without a session, where no greeting is due: syncs alone do anything.
+-- Without a session, if no greeting is due: only syncs do anything.
 
 ask_kept : (all : List Operation) (now : Stamp) (o : Operation) (t : Turn) (ask : Ask) → t.here.session ≡ None → is_sync ask ≡ false → operate_on all t now o ask ≡ keep o t
 unfolding operate_on operate_by

@@ -1,4 +1,4 @@
--- What a step of a client discards, where it begins with the lease of a server over.
+-- What a step of a client discards if the lease of a server is over when it begins.
 use Rattle.std.specs.Prelude.{◌≡◌, ℕ, Bool, true, false, ◌&&◌, ◌||◌, not, ◌==◌, List, [], ◌∷◌, ◌++◌, Option, Some, None}
 use Rattle.std.specs.List.{list_all, list_any}
 use Rattle.st_base.specs.declared.config.Config.{Config}

@@ -109,7 +109,7 @@ pub record IsRunning (client : ClientId) (settings : Config) (ss : List ServerId
   pub servers : map server_at c.associations ≡ ss
   pub lives : map life_of_association c.associations ≡ ls
 
--- where it runs
+-- if it runs
 abbrev pub RunsAs : ClientId → Config → List ServerId → List Life → Option ClientState → Type 0
 RunsAs id config servers lives None = ⊤
 RunsAs id config servers lives (Some c) = IsRunning id config servers lives c

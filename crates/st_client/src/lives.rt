@@ -10,7 +10,7 @@ use st_base::{ClientId, Config, Life, ServerId};
 use st_rules::LeaseLife;
 use std::alloc::{AllocError, Global};
 
-/// The life at a server, or life 0 where there is no such server.
+/// The life at a server, or life 0 if there is no such server.
 pub(crate) fn life_among(servers: &[ServerId], lives: &[Life], server: ServerId) -> Life
     requires { length lives.now ≡ length servers.now }
     ensures { result ≡ life_in servers.now lives.now server }

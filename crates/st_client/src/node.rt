@@ -122,14 +122,14 @@ impl ClientNode {
         self.lives.as_slice()
     }
 
-    /// The life at a server, or life 0 where there is no such server.
+    /// The life at a server, or life 0 if there is no such server.
     pub fn life(&self, server: ServerId) -> Life
         ensures { result ≡ world.life_with self.now.state server }
     {
         life_among(self.servers.as_slice(), self.lives.as_slice(), server)
     }
 
-    /// The phase of the lease at a server, where one is held.
+    /// The phase of the lease at a server, if one is held.
     pub fn phase(&self, server: ServerId, now: Stamp) -> Option<Phase>
         ensures { result ≡ client.phase_with self.now.state server now }
     {
@@ -139,7 +139,7 @@ impl ClientNode {
         }
     }
 
-    /// The end of the lease at a server, where one is held.
+    /// The end of the lease at a server, if one is held.
     pub fn lease_end(&self, server: ServerId) -> Option<Stamp>
         ensures { result ≡ client.lease_end_with self.now.state server }
     {
@@ -267,10 +267,10 @@ impl ClientNode {
     /// Takes a step at this moment, and returns its outputs in order. Moments never fall.
     ///
     /// # Errors
-    /// `Crashed` where the node does not run; then nothing changes. `Memory` if memory runs out:
+    /// `Crashed` if the node does not run; then nothing changes. `Memory` if memory runs out:
     /// then the node is crashed, in the lives from before the step.
     ///
-    /// Where the lease of a server is over at this moment, nothing of that server is left, and
+    /// If the lease of a server is over at this moment, nothing of that server is left, and
     /// nothing of it goes out.
     #[tactic(auto, unfolding(st_rules::specs::Client::node_step))]
     pub fn step(&mut self, now: Stamp, input: ClientInput) -> Result<Outputs, StepFault>

@@ -114,7 +114,7 @@ impl ClientState {
         None
     }
 
-    /// The phase of the lease at a server, where one is held.
+    /// The phase of the lease at a server, if one is held.
     pub(crate) fn phase(&self, server: ServerId, now: Stamp) -> Option<Phase>
         ensures { result ≡ client.phase_with self.now server now }
     {
@@ -124,7 +124,7 @@ impl ClientState {
         }
     }
 
-    /// The end of the lease at a server, where one is held.
+    /// The end of the lease at a server, if one is held.
     pub(crate) fn lease_end(&self, server: ServerId) -> Option<Stamp>
         ensures { result ≡ client.lease_end_with self.now server }
     {

@@ -37,14 +37,14 @@ impl ClientTurn {
         self.at_each(&Receive { now, message })
     }
 
-    /// Whether a message is to this client.
+    /// Whether a message is addressed to this client.
     fn is_to(&self, header: &Header) -> bool
         ensures { result ≡ (header.now.to == self.now.state.id.0) }
     {
         header.to == self.parts.id.0
     }
 
-    /// A message, where it is to this client.
+    /// A message, if it is addressed to this client.
     #[tactic(auto, unfolding(st_rules::specs::ClientReplies::receive))]
     pub(crate) fn receive(self, now: Stamp, message: &Message) -> Result<ClientTurn, AllocError>
         requires last { all_last self.state now ≡ true }

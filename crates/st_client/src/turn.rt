@@ -84,7 +84,7 @@ impl ClientTurn {
         self.is_touched(rule, &self.parts.associations[place])
     }
 
-    /// A rule at the association at a place, which is not moved where the rule does nothing there.
+    /// A rule at the association at a place, which is not moved if the rule does nothing there.
     fn at_next<R: Rule>(self, rule: &R, place: usize) -> Result<ClientTurn, AllocError>
         requires within { place < length self.state.associations }
         requires ready { is_ready_at (R.is_ready rule.now self.state.config) place self.state.associations ≡ true }

@@ -22,6 +22,6 @@ is_awake_by k now tick st (Some s) = is_any (demanded_files s.locks) || (is_any 
 abbrev pub is_awake : Config → Stamp → Bool → Association → Bool
 is_awake k now tick a = is_awake_by k now tick a.store a.session
 
--- with a session, or where a greeting is due, each pending operation may do something
+-- with a session, or if a greeting is due, each pending operation may do something
 abbrev pub takes_all : Config → Stamp → Bool → Association → Bool
 takes_all k now tick a = is_some a.session || is_greeting_due k now tick a.greeting

@@ -28,7 +28,7 @@ use Rattle.st_rules.specs.ClientReplies.{new_session}
 use Rattle.st_rules.specs.ClientState.{ClientSession, Turn, is_again_due, note, say, with_cache, with_session, with_store}
 use Rattle.st_client_store.specs.Stores.{ServerStore}
 
--- The session in a step; if there is none, one that nothing speaks of.
+-- The session in a step; if there is none, one about which nothing is said.
 abbrev pub session_of : Turn → ClientSession
 session_of t = unwrap_or t.here.session (new_session (record { 0 = 0 }) (record { 0 = 0 }))
 
@@ -54,7 +54,7 @@ abbrev pub AsksBelow : ℕ → Option ServerSession → Type 0
 AsksBelow most None = ⊤
 AsksBelow most (Some s) = s.session.requests.next < most
 
--- where counters end: a counter rises only with an output
+-- if counters end: a counter rises only with an output
 abbrev pub most_of : List Output → ℕ
 most_of out = 2 ^ 62 + length out
 
@@ -86,7 +86,7 @@ Changes old new true ino p bytes n =
     record { written : pages.write old.here.store.pages ino p bytes ≡ Ok new.here.store.pages; is : new ≡ passes.with_pages_changed new.here.store.pages ino p (note old n) }
 Changes old new false ino p bytes n = record { full : pages.write old.here.store.pages ino p bytes ≡ Err writing.DirtyFull; same : new ≡ old }
 
--- a lock is reduced, and what is given up is told
+-- a lock is reduced, and what is given up is reported
 abbrev pub Reduces : Turn → Turn → Option (GrantNo × Mode) → ℕ → Type 0
 Reduces old new given ino =
     record {
@@ -103,7 +103,7 @@ TakesRelease old (Some r) new =
       is : new ≡ with_session (record (session_of old) { releases = (session_of new).releases }) old;
     }
 
--- the outstanding request is sent once more, where it was last sent long ago
+-- the outstanding request is sent once more, if it was last sent long ago
 abbrev pub again_if_due : Turn → ClientSession → Stamp → Option Request → Turn
 again_if_due t s now None = t
 again_if_due t s now (Some q) = if is_again_due t.config.retry now q then passes.ask_again t s now q else t

@@ -41,8 +41,8 @@ impl Turn {
         self.here.store.version(ino, page)
     }
 
-    /// A command ended, as done or as failed; `version` is that of its page now. It is outstanding
-    /// no more. It does not allocate.
+    /// A command ended, as done or as failed; `version` is that of its page now. It is no longer
+    /// outstanding. It does not allocate.
     pub fn end_command(&mut self, number: u64, ok: bool, version: u64) -> Ended
         ensures ended { result ≡ (pages.end_command self.old.here.store.commands number ok version).ended }
         ensures left { self.new ≡ client.with_store (record self.old.here.store { commands = (pages.end_command self.old.here.store.commands number ok version).commands }) self.old }
@@ -60,7 +60,7 @@ impl Turn {
         Ok(())
     }
 
-    /// The dirty page becomes the newest clean one, where it is dirty. No command for it is
+    /// The dirty page becomes the newest clean one, if it is dirty. No command for it is
     /// outstanding. The bytes are shared.
     pub fn harden(&mut self, ino: u32, page: PageNo) -> Result<(), AllocError>
         requires { pages.command_on self.old.here.store.commands ino page ≡ None }
@@ -70,7 +70,7 @@ impl Turn {
         Ok(())
     }
 
-    /// The command is the last one that failed for the page, where it is dirty. It does not
+    /// The command is the last one that failed for the page, if it is dirty. It does not
     /// allocate.
     pub fn fail(&mut self, ino: u32, page: PageNo, command: u64)
         ensures { self.new ≡ with_pages (pages.fail self.old.here.store.pages ino page command) self.old }

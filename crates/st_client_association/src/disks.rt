@@ -35,7 +35,7 @@ impl Turn {
         }
     }
 
-    /// Reads a page: `None` where it is neither dirty nor clean; then nothing changes. A clean page
+    /// Reads a page: `None` if it is neither dirty nor clean; then nothing changes. A clean page
     /// becomes the newest one. The bytes are shared.
     pub fn read(
         &mut self,
@@ -50,7 +50,7 @@ impl Turn {
         self.read_page(now, ino, page)
     }
 
-    /// The bytes that a patch of a page changes: `None` where the page is neither dirty nor clean.
+    /// The bytes that a patch of a page changes: `None` if the page is neither dirty nor clean.
     /// The bytes are shared.
     pub fn base(
         &mut self,
@@ -123,7 +123,7 @@ impl Turn {
         self.submit_dirty(now, dirty, mapping)
     }
 
-    /// Changes a page, with this note. `false` where 64 others are dirty; then nothing changes. The
+    /// Changes a page, with this note. `false` if 64 others are dirty; then nothing changes. The
     /// bytes are shared.
     pub fn change_page(
         &mut self,

@@ -14,7 +14,7 @@ use st_messages::{AppAnswer, Note};
 use st_rules::{DirtyPage, LostPage};
 use std::alloc::AllocError;
 
-/// The failed command, else the outstanding one, else 0.
+/// The failed command, or else the outstanding one, or else 0.
 fn lost_command(failed: Option<u64>, write: Option<u64>) -> u64
     ensures { result ≡ unwrap_or failed (unwrap_or write 0) }
 {

@@ -59,7 +59,7 @@ impl Turn {
         self.operations.mark_sent(place)
     }
 
-    /// Answers the operations that pass the test, in order; they are pending no more.
+    /// Answers the operations that pass the test, in order; they are no longer pending.
     #[tactic(auto, unfolding(st_rules::specs::ClientState::answer_each))]
     pub fn answer_each<T: Test<Operation>>(
         &mut self,

@@ -1,4 +1,4 @@
-// What an association tells of itself between steps.
+// What an association says about itself between steps.
 ghost use Rattle.std.specs.Prelude.{◌≡◌, ◌+◌, false, nat_le, not, Some};
 ghost use Rattle.std.specs.List.{list_any};
 ghost use Rattle.st_client_association.specs.Associations.{has_room_at, may_ask};
@@ -23,7 +23,7 @@ impl Association {
         self.here.life
     }
 
-    /// The moment from which the lease is over, where one is held.
+    /// The moment from which the lease is over, if one is held.
     pub fn lease_end(&self) -> Option<Stamp>
         ensures { result ≡ leases.end_at self.now.config (client.lease_at (Some self.now.here)) }
     {
@@ -33,7 +33,7 @@ impl Association {
         }
     }
 
-    /// The phase of the lease, where one is held.
+    /// The phase of the lease, if one is held.
     pub fn phase(&self, now: Stamp) -> Option<Phase>
         ensures { result ≡ leases.phase_at self.now.config (client.lease_at (Some self.now.here)) now }
     {
@@ -114,7 +114,7 @@ impl Association {
     }
 
     /// Whether each pending operation of the server may do something there: with a session, or
-    /// where a greeting is due.
+    /// if a greeting is due.
     pub fn takes_all(&self, now: Stamp, tick: bool) -> bool
         ensures { result ≡ takes_all self.now.config now tick self.now.here }
     {

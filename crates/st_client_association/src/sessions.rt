@@ -164,7 +164,7 @@ impl Turn {
         self.queue_release(ino, g, to)
     }
 
-    /// A grant: above the greatest seen it is installed where there is a place for it, and
+    /// A grant: above the greatest seen it is installed if there is a place for it, and
     /// otherwise declined.
     pub fn grant(&mut self, ino: u32, g: GrantNo, mode: Mode) -> Result<(), AllocError>
         requires { has_session self.old ≡ true }
@@ -244,7 +244,7 @@ impl Turn {
         }
     }
 
-    /// The locks need not be reasserted any more.
+    /// The locks need no longer be reasserted.
     pub fn reasserted(&mut self)
         requires { has_session self.old ≡ true }
         ensures { self.new ≡ client.with_session (record (session_of self.old) { due = false }) self.old }
@@ -278,7 +278,7 @@ impl Turn {
         }
     }
 
-    /// The lease is renewed, where it is not condemned and the stamp is later than its date.
+    /// The lease is renewed, if it is not condemned and the stamp is later than its date.
     pub fn renew(&mut self, stamp: Stamp, now: Stamp)
         requires session { has_session self.old ≡ true }
         requires lasting { lasts_here self.old.config now self.old.here ≡ true }
@@ -292,7 +292,7 @@ impl Turn {
         }
     }
 
-    /// The lease is renewed no more.
+    /// The lease is no longer renewed.
     pub fn condemn(&mut self, now: Stamp)
         requires session { has_session self.old ≡ true }
         requires lasting { lasts_here self.old.config now self.old.here ≡ true }
@@ -322,7 +322,7 @@ impl Turn {
         Ok(())
     }
 
-    /// The message of the outstanding request, sent now, where it was last sent long ago.
+    /// The message of the outstanding request, sent now, if it was last sent long ago.
     fn again(&mut self, now: Stamp) -> Result<Option<Message>, AllocError>
         requires { has_session self.old ≡ true }
         ensures { IfOk result (λ m. SendsAgain self.old self.new m now (session_of self.old).requests.asked) }
@@ -334,7 +334,7 @@ impl Turn {
         Ok(message)
     }
 
-    /// The outstanding request is sent once more, where it was last sent long ago.
+    /// The outstanding request is sent once more, if it was last sent long ago.
     pub fn ask_again(&mut self, now: Stamp) -> Result<(), AllocError>
         requires { has_session self.old ≡ true }
         ensures { OnOk result (self.new ≡ again_if_due self.old (session_of self.old) now (session_of self.old).requests.asked) }

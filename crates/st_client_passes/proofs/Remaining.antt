@@ -64,7 +64,7 @@ module _ (sent : List Operation) (now : Stamp) where
       ap (operate_each sent now (drop (suc place) all)) (sym (behind_operate (take place all) sent t now o) ∙ ap (λ u. operate sent u now o) (behind_none (take place all) t e))
       ∙ (λ i. operate_each sent now (sym (drop_place all place o g) i) (with_operations (take place all) t))
 
-  -- it stays, or it is pending no more
+  -- it stays, or it is no longer pending
   next_place : (all : List Operation) (place : ℕ) (t u : Turn) (o : Operation) (stays : Bool) → u.operations ≡ [] → slice_get all place ≡ Some o →
       remaining sent now (if stays then place + 1 else place) (if stays then all else remove all place) u
       ≡ operate_each sent now (drop (suc place) all) (behind (take place all) (put_back o stays u))

@@ -29,7 +29,7 @@ module _ (t : Turn) (s : ClientSession) (now : Stamp) where
   asked_new tick None h = refl
   asked_new tick (Some q) h = absurd (true≢false h)
 
--- a release is asked, or what else there is
+-- a release is asked, or whatever else is due
 module _ (t u : Turn) (now : Stamp) where
   pub no_release : (session_of t).releases ≡ [] → u ≡ t → ask_next u (session_of u) now ≡ ask_by t (session_of t) now (session_of t).releases
   unfolding ask_by

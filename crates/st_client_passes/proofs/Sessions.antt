@@ -1,4 +1,4 @@
--- What is done with a session, by the session that there is.
+-- What is done with a session, by whether there is one.
 use Rattle.std.proofs.Common.{◌≡◌, ℕ, Bool, true, false, not, List, [], ◌∷◌, map, Option, Some, None, refl, sym, ap, ◌∙◌, true≢false}
 use Rattle.std.specs.Prelude.{is_some}
 use Rattle.st_base.specs.declared.ids.Stamp.{Stamp}

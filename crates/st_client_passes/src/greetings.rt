@@ -52,7 +52,7 @@ fn greet(t: &mut Turn, now: Stamp, tick: bool) -> Result<(), AllocError>
     }
 }
 
-/// Greeting: without a session, where an operation of this server is pending.
+/// Greeting: without a session, if an operation of this server is pending.
 pub fn greeting(t: &mut Turn, now: Stamp, tick: bool) -> Result<(), AllocError>
     ensures { OnOk result (t.new ≡ passes.greeting now tick t.old) }
 {

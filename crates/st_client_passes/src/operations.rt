@@ -15,7 +15,7 @@ use st_operations::{Operations, file_of, is_of, is_sent};
 use st_rules::Operation;
 use std::alloc::AllocError;
 
-/// A sync is hard where its file has no dirty page and no outstanding write.
+/// A sync is hard if its file has no dirty page and no outstanding write.
 #[tactic(auto, unfolding(st_rules::specs::ClientPasses::sync))]
 fn sync(t: &mut Turn, o: &Operation, file: FileId) -> Result<bool, AllocError>
     ensures left { OnOk result (t.new.operations ≡ t.old.operations) }
@@ -165,7 +165,7 @@ fn stays_at(
     }
 }
 
-/// The operation at a place stays there, or is pending no more. Returns the place of the next one.
+/// The operation at a place stays there or is no longer pending. Returns the place of the next one.
 fn settle(all: &mut Operations, place: usize, stays: bool) -> usize
     requires within { place < length all.old }
     requires small { place < 2 ^ 63 }
@@ -180,7 +180,7 @@ fn settle(all: &mut Operations, place: usize, stays: bool) -> usize
     }
 }
 
-/// The operations go through the pass, in order; each stays in its place, or is pending no more.
+/// The operations go through the pass, in order; each stays in its place, or is no longer pending.
 fn operate_each(
     sent: &Operations,
     t: &mut Turn,
@@ -210,7 +210,7 @@ fn operate_all(t: &mut Turn, now: Stamp) -> Result<(), AllocError>
     Ok(())
 }
 
-/// Operations. Where none of this server is pending, or only others than syncs without a session,
+/// Operations. If none of this server is pending, or only others than syncs without a session,
 /// all stay.
 pub fn operations(t: &mut Turn, now: Stamp) -> Result<(), AllocError>
     ensures { OnOk result (t.new ≡ passes.operations now t.old) }

@@ -14,7 +14,7 @@ use st_messages::{AppAnswer, Note, PatchBytes};
 use st_rules::Operation;
 use std::alloc::{AllocError, Global};
 
-/// Answers the operation, which is pending no more.
+/// Answers the operation, which is no longer pending.
 pub fn answer(t: &mut Turn, o: &Operation, a: AppAnswer) -> Result<bool, AllocError>
     ensures left { OnOk result (t.new.operations ≡ t.old.operations) }
     ensures stays { IfOk result (λ stays. put_back o.now stays t.new ≡ passes.answer o.now a t.old) }

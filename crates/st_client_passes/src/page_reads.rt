@@ -41,8 +41,8 @@ pub fn fetch(
     }
 }
 
-/// A read of a page that the file's lock covers: of its bytes where it is dirty or clean, of zeros
-/// where it is known as unmapped. A page that is known as mapped is fetched.
+/// A read of a page that the file's lock covers: of its bytes if it is dirty or clean, of zeros
+/// if it is known as unmapped. A page that is known as mapped is fetched.
 #[tactic(auto, unfolding(st_rules::specs::ClientPasses::read_at, st_rules::specs::ClientPasses::read_cached, st_rules::specs::ClientPasses::read_uncached, st_rules::specs::ClientPasses::read_known))]
 fn read_held(
     t: &mut Turn,

@@ -9,7 +9,7 @@ use st_base::{GrantNo, Mode, PageNo};
 use st_client_association::Turn;
 use std::alloc::AllocError;
 
-/// Where the lock is gone, the clean pages and extents of the file go too.
+/// If the lock is gone, the clean pages and extents of the file go too.
 fn forget(t: &mut Turn, ino: u32, to: Mode)
     ensures { t.new ≡ client_state.with_store (passes.forgotten_at ino to t.old.here.store) t.old }
 {
@@ -89,7 +89,7 @@ fn reduce_all(t: &mut Turn) -> Result<(), AllocError>
     reduce_each(t, files.as_slice())
 }
 
-/// Where no file is demanded there are none.
+/// If no file is demanded there are none.
 fn reduce_demanded(t: &mut Turn) -> Result<(), AllocError>
     requires { has_session t.old ≡ true }
     ensures { OnOk result (t.new ≡ passes.reductions t.old) }

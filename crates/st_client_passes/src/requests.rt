@@ -102,7 +102,7 @@ fn ask_next(t: &mut Turn, now: Stamp) -> Result<(), AllocError>
     }
 }
 
-/// A release, or what else there is.
+/// A release, or whatever else is due.
 fn ask_by(t: &mut Turn, now: Stamp) -> Result<(), AllocError>
     requires session { has_session t.old ≡ true }
     requires free { is_free t.old ≡ true }

@@ -94,7 +94,7 @@ fn is_writable(t: &Turn, now: Stamp, tick: bool, page: &DirtyRow<'_>) -> bool
     !t.is_being_written(page.ino(), page.page()) && is_due(t, now, tick, page)
 }
 
-/// The page, which is dirty and not being written, is written where it is known to lie.
+/// The page, which is dirty and not being written, is written if it is known to lie.
 #[tactic(auto, unfolding(st_rules::specs::ClientPasses::write_out, st_rules::specs::ClientPasses::write_out_at))]
 fn write_out(t: &mut Turn, now: Stamp, ino: u32, page: PageNo) -> Result<(), AllocError>
     requires session { has_session t.old ≡ true }
@@ -123,7 +123,7 @@ fn is_place_due(t: &Turn, now: Stamp, tick: bool, ino: u32, page: PageNo) -> boo
     }
 }
 
-/// The page of a place, where it is dirty and due.
+/// The page of a place, if it is dirty and due.
 fn write_page(
     t: &mut Turn,
     now: Stamp,
@@ -178,7 +178,7 @@ fn wants(t: &Turn) -> bool
     t.has_demands() || t.operations().any(&here)
 }
 
-/// In other phases than flush: where no file is wanted, no page is looked at.
+/// In other phases than flush: if no file is wanted, no page is looked at.
 fn write_wanted(t: &mut Turn, now: Stamp, tick: bool) -> Result<(), AllocError>
     requires session { has_session t.old ≡ true }
     requires lasting { lasts_here t.old.config now t.old.here ≡ true }

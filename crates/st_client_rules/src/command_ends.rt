@@ -39,7 +39,7 @@ fn found_under(
     }
 }
 
-/// What a read found: the block's bytes where its tag is that of the known mapping, and otherwise
+/// What a read found: the block's bytes if its tag is that of the known mapping, and otherwise
 /// zeros. The bytes are shared.
 #[tactic(auto, unfolding(st_rules::specs::ClientPages::found, st_rules::specs::ClientPages::found_at))]
 fn found(
@@ -98,7 +98,7 @@ fn is_present(t: &Turn, c: PageCommand, version: u64) -> bool
     t.dirty(c.ino, c.page).is_some() && t.version(c.ino, c.page) == version
 }
 
-/// Where the page was not changed since, that is its failed command.
+/// If the page was not changed since, that is its failed command.
 #[tactic(auto, unfolding(st_rules::specs::Client::mark_failed))]
 fn mark_failed(t: &mut Turn, c: PageCommand, version: u64)
     ensures { t.new ≡ rules.mark_failed t.old c version }
@@ -219,7 +219,7 @@ fn finish_by(
     }
 }
 
-/// A command of this number ended, where it is outstanding at this server: it failed (`None`), it
+/// A command of this number ended, if it is outstanding at this server: it failed (`None`), it
 /// wrote its block (`Some(None)`), or it read this tag and these bytes.
 #[tactic(auto, unfolding(st_rules::specs::Client::finish, st_rules::specs::Client::finish_at))]
 pub fn finish(

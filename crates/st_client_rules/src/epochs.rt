@@ -116,7 +116,7 @@ fn refused_in(turn: &mut Turn, epoch: Epoch, why: Why) -> Result<(), AllocError>
     }
 }
 
-/// A message of another epoch: only a refusal as of another epoch tells of a newer one.
+/// A message of another epoch: only a refusal as of another epoch reports a newer one.
 #[tactic(auto, unfolding(st_rules::specs::ClientReplies::of_other_epoch))]
 pub fn of_other_epoch(turn: &mut Turn, epoch: Epoch, body: &Body) -> Result<(), AllocError>
     requires { has_session turn.old ≡ true }

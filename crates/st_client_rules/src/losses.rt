@@ -46,7 +46,7 @@ fn end_operation(turn: &mut Turn, epoch: Epoch, o: &Operation) -> Result<(), All
     }
 }
 
-/// The server's operations are answered, in order, and are pending no more.
+/// The server's operations are answered, in order, and are no longer pending.
 #[tactic(auto, unfolding(st_rules::specs::Client::end_operations, st_rules::specs::Client::end_each))]
 fn end_operations(turn: &mut Turn, epoch: Epoch) -> Result<(), AllocError>
     ensures { OnOk result (turn.new ≡ client.end_operations turn.old (session_in epoch)) }
@@ -84,7 +84,7 @@ fn lose_over(turn: &mut Turn, now: Stamp) -> Result<(), AllocError>
     }
 }
 
-/// The loss at a server: where a session's lease is over, everything that rested on it is
+/// The loss at a server: if a session's lease is over, everything that rested on it is
 /// discarded.
 #[tactic(auto, unfolding(st_rules::specs::Client::lose, st_rules::specs::Client::lose_by))]
 pub fn lose(turn: &mut Turn, now: Stamp) -> Result<(), AllocError>

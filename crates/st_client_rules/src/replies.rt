@@ -36,7 +36,7 @@ fn refuses(turn: &Turn, reply: &Body) -> bool
     }
 }
 
-/// The lease is renewed, where the reply's stamp is later than its date, and is noted then.
+/// The lease is renewed, if the reply's stamp is later than its date, and is noted then.
 fn renew(turn: &mut Turn, now: Stamp, stamp: Stamp) -> Result<(), AllocError>
     requires session { has_session turn.old ≡ true }
     requires lasting { lasts_here turn.old.config now turn.old.here ≡ true }

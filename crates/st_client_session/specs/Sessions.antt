@@ -68,7 +68,7 @@ message x number body now = record { header = header x number now; body = body }
 abbrev pub again : Request → Stamp → ServerSession → ServerSession
 again q now x = with_session (record x.session { requests = asked_again q now x.session.requests }) x
 
--- Asking again: the message of the outstanding request where it was last sent long ago, and otherwise none.
+-- Asking again: the message of the outstanding request if it was last sent long ago, and otherwise none.
 abbrev pub Again : ServerSession → ServerSession → Option Message → Stamp → Option Request → Type 0
 Again old new None now None = new ≡ old
 Again old new (Some m) now None = ⊥

@@ -1,4 +1,4 @@
-// The waits that were reported to a client, and the releases that it is to send.
+// The waits that were reported to a client, and the releases that it must send.
 ghost use Rattle.std.specs.Prelude.{◌≡◌, ◌<◌, ◌≤◌, ◌++◌, ◌∷◌, [], find, vec_capacity, vec_len};
 ghost use Rattle.std.specs.List.{list_any};
 ghost use Rattle.st_rules.specs.ClientState as client;

@@ -132,7 +132,7 @@ impl Session {
         }
     }
 
-    /// A grant: above the greatest seen it is installed where there is a place for it, and
+    /// A grant: above the greatest seen it is installed if there is a place for it, and
     /// otherwise declined. If the call runs out of memory, nothing changes.
     #[tactic(auto, unfolding(st_rules::specs::ClientReplies::grant))]
     pub fn grant(&mut self, ino: u32, g: GrantNo, mode: Mode) -> Result<(), AllocError>

@@ -20,7 +20,7 @@ use st_lock_cache::LockCache;
 use st_requests::Requests;
 use std::alloc::{AllocError, Global};
 
-/// Gives a standing back, where the lease is not over.
+/// Gives a standing back, if the lease is not over.
 fn close(lease: &mut Lease, standing: Standing)
     requires server { server_of standing ≡ lease.old.server }
     requires lasting { leases.must_discard (kind_of standing) ≡ false }
@@ -165,7 +165,7 @@ impl Session {
         changed
     }
 
-    /// Reads a page of the store: `None` where it is neither dirty nor clean. A clean page becomes
+    /// Reads a page of the store: `None` if it is neither dirty nor clean. A clean page becomes
     /// the newest one.
     pub fn read(
         &mut self,
@@ -186,7 +186,7 @@ impl Session {
         bytes
     }
 
-    /// The bytes that a patch of a page of the store changes: `None` where the page is neither
+    /// The bytes that a patch of a page of the store changes: `None` if the page is neither
     /// dirty nor clean.
     pub fn base(
         &mut self,
@@ -289,7 +289,7 @@ impl Session {
         }
     }
 
-    /// The lease is renewed, where it is not condemned and the stamp is later than its date.
+    /// The lease is renewed, if it is not condemned and the stamp is later than its date.
     #[tactic(auto, unfolding(st_rules::specs::ClientLease::renewed, st_rules::specs::ClientLease::dated))]
     pub fn renew(&mut self, stamp: Stamp, now: Stamp)
         requires lasting { lasts self.old now ≡ true }
@@ -306,7 +306,7 @@ impl Session {
         }
     }
 
-    /// The lease is renewed no more.
+    /// The lease is no longer renewed.
     #[tactic(auto, unfolding(st_rules::specs::ClientLease::condemned))]
     pub fn condemn(&mut self, now: Stamp)
         requires lasting { lasts self.old now ≡ true }

@@ -119,7 +119,7 @@ impl Session {
         self.releases.clear();
     }
 
-    /// Asks again: the message of the outstanding request, sent now, or `None` where none is
+    /// Asks again: the message of the outstanding request, sent now, or `None` if none is
     /// outstanding or it was last sent a short time ago. If the call runs out of memory, nothing
     /// changes.
     pub fn again(&mut self, now: Stamp) -> Result<Option<Message>, AllocError>

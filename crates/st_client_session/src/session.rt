@@ -132,7 +132,7 @@ impl Session {
         self.cutting
     }
 
-    /// The locks need not be reasserted any more.
+    /// The locks need no longer be reasserted.
     pub fn reasserted(&mut self)
         ensures { self.new ≡ with_session (record self.old.session { due = false }) self.old }
     {

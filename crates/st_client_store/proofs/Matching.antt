@@ -87,7 +87,7 @@ matched_more dirty cs number ino p kind a m =
     by c (inr (inl e)) = ap (is_matched dirty) e ∙ a
     by c (inr (inr h)) = elim h [ ]
 
--- a page without a command is dirty no more
+-- a page without a command is no longer dirty
 pub matched_without : (dirty : List DirtyPage) (ino : ℕ) (p : PageNo) (cs : List PageCommand) → command_on cs ino p ≡ None → AreMatched dirty cs → AreMatched (without_dirty ino p dirty) cs
 matched_without dirty ino p cs n m = all_pass (is_matched (without_dirty ino p dirty)) cs one
   where

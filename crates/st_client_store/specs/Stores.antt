@@ -31,7 +31,7 @@ abbrev pub agree : Bool → Bool → Bool
 agree true b = b
 agree false b = not b
 
--- a command writes exactly where its page is dirty
+-- a command writes exactly if its page is dirty
 abbrev pub is_matched : List DirtyPage → PageCommand → Bool
 is_matched dirty c = agree (is_write c.kind) (is_some (find (is_dirty_of c.ino c.page) dirty))
 
@@ -43,7 +43,7 @@ AreMatched dirty cs = list_all (is_matched dirty) cs ≡ true
 abbrev pub changed : ℕ → PageNo → Pages → ServerStore → ServerStore
 changed ino p ps s = record s { store = record s.store { pages = ps; commands = pages.forget_read s.store.commands ino p } }
 
--- a change answers as its definition; where it refuses and if memory runs out nothing changes
+-- a change answers as its definition; if it refuses and if memory runs out nothing changes
 abbrev pub Changes : ServerStore → ServerStore → Result (Unit {0}) CacheRefusal → ℕ → PageNo → Result Pages WriteRefusal → Type 0
 Changes old new (Ok v) ino p machine = record { written : machine ≡ Ok new.store.pages; left : new ≡ changed ino p new.store.pages old }
 Changes old new (Err DirtyFull) ino p machine = record { full : machine ≡ Err writing.DirtyFull; same : new ≡ old }

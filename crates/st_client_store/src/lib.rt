@@ -1,4 +1,4 @@
-//! All that a client has of a server's disks: what it knows of the places of pages, the clean and
+//! All that a client has of a server's disks: what it knows about where pages lie, the clean and
 //! the dirty pages, the outstanding disk commands, and the pages that a lease loss lost and that no
 //! application was told about yet. `docs/PROTOCOL.md`, "Leases, locks, pages and commands", has the
 //! rules.

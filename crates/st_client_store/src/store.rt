@@ -88,7 +88,7 @@ impl Store {
         self.pages.is_cached(ino, page)
     }
 
-    /// The bytes that a patch of a page changes: `None` where the page is neither dirty nor clean.
+    /// The bytes that a patch of a page changes: `None` if the page is neither dirty nor clean.
     /// A clean page stays in its place. The bytes are shared.
     pub fn base(
         &self,
@@ -133,7 +133,7 @@ impl Store {
         self.commands.write_on(ino, page)
     }
 
-    /// The file, the page and the kind of the command of this number, or `None` where it is not
+    /// The file, the page and the kind of the command of this number, or `None` if it is not
     /// outstanding.
     pub fn command(&self, number: u64) -> Option<(u32, PageNo, IoKind)>
         ensures { result ≡ option_map told (pages.command_of self.now.store.commands number) }
@@ -217,7 +217,7 @@ impl Store {
         self.pages.drop_from(ino, page);
     }
 
-    /// Reads a page: `None` where it is neither dirty nor clean. A clean page becomes the newest
+    /// Reads a page: `None` if it is neither dirty nor clean. A clean page becomes the newest
     /// one. The bytes are shared.
     pub fn read(
         &mut self,
@@ -236,7 +236,7 @@ impl Store {
     }
 
     /// Changes a page: it is dirty with these bytes, and an outstanding read of it is forgotten. It
-    /// is refused exactly where 64 other pages are dirty. The bytes are shared.
+    /// is refused exactly if 64 other pages are dirty. The bytes are shared.
     pub fn change(
         &mut self,
         permit: &UsePermit,
@@ -302,8 +302,8 @@ impl Store {
         Ok(())
     }
 
-    /// A command ended, as done or as failed; `version` is that of its page now. It is outstanding
-    /// no more. It does not allocate.
+    /// A command ended, as done or as failed; `version` is that of its page now. It is no longer
+    /// outstanding. It does not allocate.
     pub fn done(&mut self, number: u64, ok: bool, version: u64) -> Ended
         ensures { Ends self.old self.new result (pages.end_command self.old.store.commands number ok version) }
     {
@@ -322,7 +322,7 @@ impl Store {
         Ok(())
     }
 
-    /// The dirty page becomes the newest clean one, where it is dirty. No command for it is
+    /// The dirty page becomes the newest clean one, if it is dirty. No command for it is
     /// outstanding. The bytes are shared.
     pub fn harden(&mut self, ino: u32, page: PageNo) -> Result<(), AllocError>
         requires { pages.command_on self.old.store.commands ino page ≡ None }
@@ -333,7 +333,7 @@ impl Store {
         Ok(())
     }
 
-    /// The command is the last one that failed for the page, where it is dirty. It does not
+    /// The command is the last one that failed for the page, if it is dirty. It does not
     /// allocate.
     pub fn fail(&mut self, ino: u32, page: PageNo, command: u64)
         ensures { self.new ≡ with_pages (pages.fail self.old.store.pages ino page command) self.old }

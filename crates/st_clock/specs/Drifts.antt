@@ -5,7 +5,7 @@ use Rattle.st_base.specs.declared.config.Config.{Config}
 use Rattle.st_rules.specs.declared.lease.Excess.{Excess}
 use Rattle.st_rules.specs.Leases.{AllAccepted, AllFull, AllRated, AllRunning, IsInBound, drift_after, gain, no_drift}
 
--- without a grain, a run whose increments are all at least 1 is in bound exactly where each of its advances is
+-- without a grain, a run whose increments are all at least 1 is in bound exactly if each of its advances is
 abbrev pub InBoundWhereRated : Type 0
 InBoundWhereRated =
     (k : Config) (nodes : ℕ) (advances : List (List ℕ)) → k.grain ≡ 0 → AllFull nodes advances → AllRunning advances →
@@ -66,7 +66,7 @@ pub record IsFirstExcess (k : Config) (nodes : ℕ) (advances : List (List ℕ))
   pub above : k.den * k.grain < x.excess
   pub first : (m n e : ℕ) → m < nodes → n < nodes → Before m n x.m x.n → IsExcess k advances m n e → e ≤ k.den * k.grain
 
--- what an answer says of the accepted advances and the last one: they are in bound over every interval, or the first pair is
+-- what an answer says about the accepted advances and the last one: they are in bound over every interval, or the first pair is
 -- named that ran apart too far, and how far
 pub record IsVerdict (k : Config) (nodes : ℕ) (advances : List (List ℕ)) (result : Result Unit Excess) : Type 0 where
   pub in_bound : IsOk result ↔ IsInBound k nodes advances

@@ -9,7 +9,7 @@ after [] = []
 after (x ∷ []) = x ∷ []
 after (x ∷ (y ∷ rest)) = y ∷ rest
 
--- the reading was the first of those to come, where the clock tells them
+-- the reading was the first of those to come, if the clock tells them
 abbrev pub Tells : Option (List Stamp) → Option (List Stamp) → Stamp → Type 0
 Tells None new reading = new ≡ None
 Tells (Some rs) new reading = (slice_get rs 0 ≡ Some reading) × (new ≡ Some (after rs))

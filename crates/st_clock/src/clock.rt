@@ -12,7 +12,7 @@ pub trait Clock {
     /// The last reading, or 0 before the first.
     ghost latest: { Self → ℕ };
 
-    /// The readings to come, where the clock knows them; the last of them is repeated for ever.
+    /// The readings to come, if the clock knows them; the last of them is repeated for ever.
     ghost readings: { Self → Option (List Stamp) };
 
     /// The next reading. It is never below an earlier one, and at most 2^62.

@@ -78,7 +78,7 @@ impl Drift {
         Ok(Drift { rows })
     }
 
-    /// Whether one more advance keeps every number within the limit, else the first pair that is
+    /// Whether one more advance keeps every number within the limit, or the first pair that is
     /// above it.
     #[tactic(auto, unfolding(st_rules::specs::Leases::leases_open))]
     fn judge(&self, steps: &[u64], num: u64, den: u64, grain: u64) -> Result<(), Excess>
@@ -91,7 +91,7 @@ impl Drift {
         }
     }
 
-    /// Takes one more advance where `judge` accepts it.
+    /// Takes one more advance if `judge` accepts it.
     #[tactic(auto, unfolding(st_rules::specs::Leases::leases_open))]
     fn advance(&mut self, steps: &[u64], num: u64, den: u64, grain: u64) -> Result<(), Excess>
         requires nodes { length steps.now ≡ length self.old }

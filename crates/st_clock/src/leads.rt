@@ -25,7 +25,7 @@ impl Model for Leads {
     ghost invariant = { λ r. IsLow r.numbers.items };
 }
 
-/// The lead of a node that gained `sm` over one that gained `sn`, where it was `e` before.
+/// The lead of a node that gained `sm` over one that gained `sn`, if it was `e` before.
 fn raised(e: u128, sm: u64, sn: u64, num: u64, den: u64) -> u128
     requires { e ≤ 2 ^ 60 }
     ensures { result ≡ leases.raised num den e sm sn }

@@ -9,7 +9,7 @@ use std::time::Clock as SystemClock;
 const LAST: u64 = 1 << 62;
 
 /// A clock that counts the milliseconds of the machine's monotonic clock. It keeps its greatest
-/// reading and returns it again where the machine's clock fails or went back, so it never fails and
+/// reading and returns it again if the machine's clock fails or went back, so it never fails and
 /// never goes back. It does not say which readings come next: that the machine's clock runs in time
 /// is not proved.
 #[derive(Drop)]

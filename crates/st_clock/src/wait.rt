@@ -55,7 +55,7 @@ fn all_moving(steps: &[u64]) -> bool
 pub fn rate_ok(steps: &[u64], num: u64, den: u64) -> bool
     requires some { 0 < length steps.now }
     ensures exact { result ≡ leases.rate_ok steps.now num den }
-    // Without a grain, a run in which every clock moves at each advance is in bound exactly where
+    // Without a grain, a run in which every clock moves at each advance is in bound exactly if
     // each advance is.
     ensures law { InBoundWhereRated }
 {

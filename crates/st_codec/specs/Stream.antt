@@ -90,7 +90,7 @@ ReadsAfter moves = AreBytes (stream_of moves) → Reads (stream_of moves) (ran m
 abbrev pub ReadsOnce : List ℕ → List Message → List Message → List ℕ → List ℕ → Type 0
 ReadsOnce stream ms ns r q = IsStream stream ms r → IsStream stream ns q → IsAtEnd r → IsAtEnd q → (ms ≡ ns) × (r ≡ q)
 
--- where `next` gives no message, no frame of a message begins what is held
+-- if `next` gives no message, no frame of a message begins what is held
 abbrev pub EndsWhereNoneIs : Frames → Type 0
 EndsWhereNoneIs s = AreBytes s.rest → s.refusal ≡ None → (next s).1 ≡ None → IsAtEnd s.rest
 

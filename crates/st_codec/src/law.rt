@@ -36,10 +36,10 @@ pub fn frames_in_any_pieces()
     // After any pieces and calls of `next` the stream so far is the frames of the messages given,
     // and what is held.
     ensures reads { (moves : List streams.Move) → streams.ReadsAfter moves }
-    // No other messages are: where no frame of a message begins the rests, they and the messages
+    // No other messages are: if no frame of a message begins the rests, they and the messages
     // are the same.
     ensures once { (stream : List ℕ) (ms ns : List Message) (r q : List ℕ) → streams.ReadsOnce stream ms ns r q }
-    // Where `next` gives no message, no frame of a message begins what is held.
+    // If `next` gives no message, no frame of a message begins what is held.
     ensures ends { (s : frames.Frames) → streams.EndsWhereNoneIs s }
     // A frame's message is given, whatever follows.
     ensures gives { (m : Message) (after : List ℕ) (s : frames.Frames) → streams.GivesNext m after s }

@@ -63,7 +63,7 @@ made make fields bytes = do
   a ← fields bytes
   Ok (make a.0, a.1)
 
--- a field in its range; else the fault is where the field begins
+-- a field in its range; otherwise the fault is where the field begins
 abbrev pub checked : {A : Type 0} → (A → Bool) → Reader A → Reader A
 checked test field bytes = do
   a ← field bytes

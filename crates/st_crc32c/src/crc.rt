@@ -21,7 +21,7 @@ fn byte_out(c: u32) -> u32
     bit_out(bit_out(bit_out(bit_out(c))))
 }
 
-/// The remainder after more bytes, where it was this one before them. It begins as 2^32 - 1.
+/// The remainder after more bytes, if it was this one before them. It begins as 2^32 - 1.
 pub fn after(c: u32, bytes: &[u8]) -> u32
     ensures { result ≡ crc.after_bytes c bytes.now }
 {

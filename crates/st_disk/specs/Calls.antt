@@ -46,7 +46,7 @@ abbrev pub told : Result Disks CommandRefusal → Result Disks DiskRefusal
 told (Ok d) = Ok d
 told (Err r) = Err (as_told r)
 
--- a call did what the rule says, or ran out of memory; where it refused, nothing changed
+-- a call did what the rule says, or ran out of memory; if it refused, nothing changed
 abbrev pub Answers : Disks → Disks → Result Unit DiskRefusal → Result Disks CommandRefusal → Type 0
 Answers old new (Ok u) rule = rule ≡ Ok new
 Answers old new (Err refusals.Memory) rule = new ≡ old

@@ -114,7 +114,7 @@ missing n dir name q = go (names.place_refusal n dir name)
     go None = ap (λ (o : Option NameEntry). found_mark (names.ino_of o)) q
 
 module _ (n : Names) (dir : ℕ) (name : List ℕ) where
-  -- the name was found, and is not any more
+  -- the name was found, and no longer is
   abbrev Goes : Result Changed EntryRefusal → Type 0
   Goes (Ok d) = (found_mark (names.lookup n dir name) ≡ 1) × (found_mark (names.lookup d.names dir name) ≡ 0)
   Goes (Err r) = Unit {0}

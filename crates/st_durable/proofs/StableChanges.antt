@@ -53,7 +53,7 @@ follows_after (Some x) t u v k (inl e) = inl (e ∙ k)
 follows_after (Some x) t u v k (inr a) =
     inr (record { id = a.id ∙ kept_id t u k; applied = ap (λ (s : Stable). journal.apply s x) (sym (kept_stable t u k)) ∙ a.applied })
 
--- what a crash makes of a server is of its number, its settings and its stable part alone
+-- what a crash makes of a server depends only on its number, its settings and its stable part
 crashed : (s t : ServerState) → t.id ≡ s.id → t.config ≡ s.config → t.stable ≡ s.stable → crash t ≡ crash s
 unfolding crash
 crashed s t a b c = ap (λ x. of x t.config t.stable) a ∙ ap (λ x. of s.id x t.stable) b ∙ ap (λ (x : Stable). of s.id s.config x) c

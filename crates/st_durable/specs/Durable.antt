@@ -66,7 +66,7 @@ abbrev pub found_mark : Result ℕ EntryRefusal → ℕ
 found_mark (Ok ino) = 1
 found_mark (Err r) = 0
 
--- a number that stays the same exactly where the change leaves the stable part as it was
+-- a number that stays the same exactly if the change leaves the stable part as it was
 abbrev pub mark : Stable → Change → ℕ
 mark t changes.Epoch = t.epoch.0
 mark t (changes.Allocate ino page count) = t.extents.births + 1

@@ -26,7 +26,7 @@ use st_server::{ServerNode, ServerStable};
 use std::alloc::{AllocError, Global};
 use std::marker::Model;
 
-/// A server whose stable part is to outlive a crash of the machine: each step and each start tells
+/// A server whose stable part must outlive a crash of the machine: each step and each start tells
 /// the one change that it made to it. Contracts see it as its node, and that change.
 #[derive(Drop)]
 pub struct DurableServer {
@@ -111,7 +111,7 @@ fn asked(input: &ServerInput) -> Result<Option<Change>, AllocError>
     }
 }
 
-/// 1 where the name is found, else 0.
+/// 1 if the name is found, and otherwise 0.
 fn found_mark(entries: &Names, dir: u32, name: &Name) -> u64
     ensures { result ≡ durable.found_mark (names.lookup entries.now dir name.now) }
 {
@@ -121,7 +121,7 @@ fn found_mark(entries: &Names, dir: u32, name: &Name) -> u64
     }
 }
 
-/// A number that stays the same exactly where the change leaves the stable part as it was.
+/// A number that stays the same exactly if the change leaves the stable part as it was.
 fn mark(stable: &ServerStable, change: &Change) -> u64
     ensures { result ≡ durable.mark (stable_of stable.now) change.now }
 {
@@ -143,7 +143,7 @@ struct Stepped {
     changed: Option<Change>,
 }
 
-/// The change, where its mark moved.
+/// The change, if its mark moved.
 fn if_moved(before: u64, after: u64, change: Change) -> Option<Change>
     ensures { result ≡ (if after == before then None else Some change) }
 {
@@ -318,7 +318,7 @@ impl DurableServer {
         &self.node
     }
 
-    /// The one change that the last step or start made to the stable part; `None` exactly where it
+    /// The one change that the last step or start made to the stable part; `None` exactly if it
     /// left that part as it was.
     pub fn changed(&self) -> Option<&Change>
         ensures { option_copied result ≡ self.now.changed }
@@ -362,7 +362,7 @@ impl DurableServer {
     /// outputs is sent.
     ///
     /// # Errors
-    /// `Crashed` where the node does not run; then nothing changes. `Memory` if memory runs out:
+    /// `Crashed` if the node does not run; then nothing changes. `Memory` if memory runs out:
     /// then the node is crashed, and its stable part is that from before the step or that which the
     /// step leaves.
     pub fn step(&mut self, now: Stamp, input: ServerInput) -> Result<Outputs, StepFault>

@@ -9,7 +9,7 @@ use Rattle.st_embed.specs.declared.outbox.Sender.{Sender}
 use Rattle.st_embed.specs.declared.outbox.Sender.TheVariants.{Client, Server}
 use Rattle.st_embed.specs.declared.pending_frames.Unspelled.{Unspelled}
 
--- The first bytes of those that were left, as many as there is room for, come first where they were put, and the others are left.
+-- The first bytes of those that were left, as many as there is room for, come first if they were put, and the others are left.
 pub record Takes (old new before now : List ℕ) (count : ℕ) : Type 0 where
   pub all : count ≡ min (length before) (length old)
   pub first : take count now ≡ take count old

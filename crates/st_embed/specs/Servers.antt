@@ -68,7 +68,7 @@ pub record IsOfServer (id : ServerId) (t : Stable) : Type 0 where
   pub mapped : AreMapped t.extents
   pub own : t.extents.server ≡ id
 
--- the server that so many changes lead to: a fresh one if there is none, and otherwise the one that crashed with this stable part and is started
+-- the server that this many changes lead to: a fresh one if there is none, and otherwise the one that crashed with this stable part and is started
 abbrev pub begun : ServerId → Config → Shape → Stamp → ℕ → Stable → ServerNode
 begun id k w now zero stable = fresh_node id k w.servers w.disks w.blocks
 begun id k w now (suc n) stable = start_node (crashed_node id k stable) now
@@ -81,7 +81,7 @@ pub record MayOpen (id : ServerId) (k : Config) (w : Shape) (now : Stamp) (size 
   pub some : 1 ≤ size
   pub small : size < 4294967296
 
--- a server that so many changes lead to may be started: it was never started before, or an epoch was begun and another one is left
+-- a server that this many changes lead to may be started: it was never started before, or an epoch was begun and another one is left
 abbrev pub MayStart : ℕ → Stable → Type 0
 MayStart n s = (n ≡ 0) ⊎ ((1 ≤ s.epoch.0) × (s.epoch.0 < 4294967295))
 
@@ -108,7 +108,7 @@ NotStarted s opening.Epochs = 4294967295 ≤ s.epoch.0
 NotStarted s opening.Memory = Unit {0}
 NotStarted s f = ⊥
 
--- the same, of a server whose journal has so many changes
+-- the same, of a server whose journal has this many changes
 abbrev pub NotStartedAfter : ℕ → Stable → ServerFault → Type 0
 NotStartedAfter n s opening.Memory = Unit {0}
 NotStartedAfter n s f = (1 ≤ n) × NotStarted s f
@@ -226,6 +226,6 @@ len_by (Some x) = room_for x
 abbrev pub gate_by : Option Change → ℕ → ℕ
 gate_by o gate = gate + len_by o
 
--- nothing must be kept any more
+-- nothing need be kept from then on
 abbrev pub kept : EmbeddedServer → EmbeddedServer
 kept e = record e { gate = gate_by (to_keep e) e.gate; unkept = false }

@@ -176,21 +176,21 @@ impl EmbeddedClient {
         self.node.running()
     }
 
-    /// The life at a server, or life 0 where there is no such server.
+    /// The life at a server, or life 0 if there is no such server.
     pub fn life(&self, server: ServerId) -> Life
         ensures { result ≡ world.life_with self.now.node.state server }
     {
         self.node.life(server)
     }
 
-    /// The phase of the lease at a server, where one is held.
+    /// The phase of the lease at a server, if one is held.
     pub fn phase(&self, server: ServerId, now: Stamp) -> Option<Phase>
         ensures { result ≡ client.phase_with self.now.node.state server now }
     {
         self.node.phase(server, now)
     }
 
-    /// The end of the lease at a server, where one is held.
+    /// The end of the lease at a server, if one is held.
     pub fn lease_end(&self, server: ServerId) -> Option<Stamp>
         ensures { result ≡ client.lease_end_with self.now.node.state server }
     {

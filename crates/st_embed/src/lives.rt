@@ -8,7 +8,7 @@ use st_base::{Life, ServerId};
 use st_client::ClientNode;
 use std::alloc::{AllocError, Global};
 
-/// The lives at servers 1 to 4; 0 where there is no such server.
+/// The lives at servers 1 to 4; 0 if there is no such server.
 #[derive(Clone, Copy)]
 pub struct FourLives {
     pub(crate) first: Life,

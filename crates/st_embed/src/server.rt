@@ -47,7 +47,7 @@ pub struct Shape {
 }
 
 /// A server inside another program. Contracts see the server with the change of its last step or
-/// start; where the gate is after the changes that are kept in its journal, and how many bytes the
+/// start; where the gate after the changes that are kept in its journal, and how many bytes the
 /// journal has; whether the change must still be kept; the bytes of its frames that must still be
 /// taken out; and the moment of its last step.
 #[derive(Drop)]
@@ -149,7 +149,7 @@ fn fresh(
     }
 }
 
-/// The server that so many changes lead to, with this stable part.
+/// The server that this many changes lead to, with this stable part.
 fn opened(
     alloc: Global,
     id: ServerId,

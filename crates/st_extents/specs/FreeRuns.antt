@@ -11,7 +11,7 @@ holds i r = nat_le r.start i && nat_lt i r.end
 abbrev pub is_free : List FreeRun → ℕ → Bool
 is_free rs i = list_any (holds i) rs
 
--- for so many places, from one on, whether each is taken
+-- for this many places, from one on, whether each is taken
 unfoldable pub taken_from : List FreeRun → ℕ → ℕ → List Bool
 taken_from rs i zero = []
 taken_from rs i (suc n) = not (is_free rs i) ∷ taken_from rs (i + 1) n
@@ -22,7 +22,7 @@ abbrev pub AreBelow : ℕ → List FreeRun → Type 0
 AreBelow n [] = ⊤
 AreBelow n (r ∷ rs) = (r.start < r.end) × ((r.end < n) × AreBelow r.start rs)
 
--- the start of the last run, or the number where there is no run
+-- the start of the last run, or the number if there is no run
 abbrev pub first_of : ℕ → List FreeRun → ℕ
 first_of n [] = n
 first_of n (r ∷ rs) = first_of r.start rs
@@ -52,7 +52,7 @@ pub record IsGap (p : ℕ) (above below : List FreeRun) : Type 0 where
   pub begun : BeginsUpTo p below
   pub ended : ends_above p below ≡ false
 
--- the runs stay in order, and the place is in none any more; all other places stay as they are
+-- the runs stay in order, and the place is no longer in any of them; all other places stay as they are
 abbrev pub IsTakenFrom : ℕ → List FreeRun → List FreeRun → Type 0
 IsTakenFrom p old new = (n : ℕ) → AreBelow n old → AreBelow n new × ((j : ℕ) → is_free new j ≡ (is_free old j && not (j == p)))
 
@@ -60,7 +60,7 @@ IsTakenFrom p old new = (n : ℕ) → AreBelow n old → AreBelow n new × ((j :
 abbrev pub IsGivenTo : ℕ → List FreeRun → List FreeRun → Type 0
 IsGivenTo p old new = (n : ℕ) → p + 1 < n → AreBelow n old → AreBelow n new × ((j : ℕ) → is_free new j ≡ (is_free old j || (j == p)))
 
--- so many places, of which so many are free, as runs in order, in a space for more runs than there can be
+-- this many places, of which this many are free, as runs in order, in a space for more runs than there can be
 pub record IsFreeTable (places free space : ℕ) (rs : List FreeRun) : Type 0 where
   pub below : AreBelow (places + 1) rs
   pub counted : free ≡ length (filter not (taken_from rs 0 places))

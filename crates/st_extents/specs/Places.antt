@@ -11,7 +11,7 @@ use Rattle.st_extents.specs.Ownership.{of_one_page, on_one_block}
 use Rattle.st_extents.specs.Runs.{RunKey, mapped_to}
 use Rattle.st_extents.specs.declared.run_map.Run.{Run}
 
--- a block's number among the blocks of all disks, where a disk has at most 2^32 blocks
+-- a block's number among the blocks of all disks, if a disk has at most 2^32 blocks
 abbrev pub rank : BlockAt → ℕ
 rank b = b.disk.0 * 4294967296 + b.block
 
@@ -25,7 +25,7 @@ abbrev pub is_among : List BlockAt → BlockAt → Bool
 is_among own at = list_any (λ b. same_block b at) own
 
 -- the server's blocks are in order; each mapped page lies on one of them, no page is mapped twice, and no block has two
--- pages; a place is taken exactly where its block has a page
+-- pages; a place is taken exactly if its block has a page
 pub record IsLaid (own : List BlockAt) (taken : List Bool) (rows : List Extent) : Type 0 where
   pub order : AreInOrder own
   pub as_long : length taken ≡ length own

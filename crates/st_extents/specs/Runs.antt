@@ -129,11 +129,11 @@ longer r = record r { length = r.length + 1 }
 abbrev pub shorter : Run → Option Run
 shorter r = if r.length == 1 then None else Some (record r { length = r.length - 1 })
 
--- where a page goes on where this run ends, the run with the page, else a run of that page
+-- if a page continues this run, the run with the page, and otherwise a run of that page
 abbrev pub grown_by : RunKey × Run → RunKey × Run → RunKey × Run
 grown_by e new = if goes_on e new then (e.0, longer e.1) else new
 
--- the same, where there may be no run before the page
+-- the same, if there may be no run before the page
 abbrev pub grown : Option (RunKey × Run) → RunKey × Run → RunKey × Run
 grown None new = new
 grown (Some e) new = grown_by e new

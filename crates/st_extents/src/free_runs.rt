@@ -14,7 +14,7 @@ pub struct FreeRun {
     pub end: u32,
 }
 
-/// The runs of so many places, all of which are free, with room for one run more than there can be.
+/// The runs of this many places, all of which are free, with room for one run more than can exist.
 pub fn all_free(alloc: Global, places: u32) -> Result<VecDeque<FreeRun>, AllocError>
     ensures runs { IfOk result (λ v. v.items ≡ (if places == 0 then [] else record { start = 0; end = places } ∷ [])) }
     ensures room { IfOk result (λ v. places + 1 < 2 * deque_capacity v) }

@@ -15,7 +15,7 @@ use st_rules::Extent;
 use std::alloc::{AllocError, Global};
 use std::marker::Model;
 
-/// A block's number among the blocks of all disks, where a disk has at most 2^32 blocks.
+/// A block's number among the blocks of all disks, if a disk has at most 2^32 blocks.
 fn rank(at: BlockAt) -> u64
     ensures { result ≡ rank at }
 {

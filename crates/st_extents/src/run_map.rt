@@ -34,7 +34,7 @@ pub fn last_up_to(map: &RunMap, file: FileId, page: PageNo) -> Option<(RunKey, R
 }
 
 /// Puts a run in the place of the one that begins there, or beside the others. An error changes
-/// nothing, and comes only where none begins there.
+/// nothing, and comes only if none begins there.
 pub fn put(map: &mut RunMap, key: RunKey, run: Run) -> Result<(), AllocError>
     ensures ok { OnOk result ((q : RunKey) → run_at map.new.entries q ≡ cond (same_start key q) (Some run) (run_at map.old.entries q)) }
     ensures err { OnErr result (map.new.entries ≡ map.old.entries) }

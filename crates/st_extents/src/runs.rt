@@ -30,7 +30,7 @@ fn extent_in(key: RunKey, run: Run, place: u32) -> Extent
     }
 }
 
-/// The run with one page more, where the page goes on where it ends, else a run of that page.
+/// The run with one page more if the page continues it; otherwise a run of that page.
 fn grown_by(key: RunKey, run: Run, new_key: RunKey, new: Run) -> (RunKey, Run)
     requires file { runs.file_of key ≡ runs.file_of new_key }
     requires page { key.1.0 + run.length < 2 ^ 32 - 1 }
@@ -56,7 +56,7 @@ fn grown_by(key: RunKey, run: Run, new_key: RunKey, new: Run) -> (RunKey, Run)
     }
 }
 
-/// The same, where there may be no run before the page.
+/// The same, if there may be no run before the page.
 fn grown(before: Option<(RunKey, Run)>, new_key: RunKey, new: Run) -> (RunKey, Run)
     requires file { IfSome before (λ e. runs.file_of e.0 ≡ runs.file_of new_key) }
     requires page { IfSome before (λ e. e.0.1.0 + e.1.length < 2 ^ 32 - 1) }
@@ -159,7 +159,7 @@ impl Runs {
         Ok(())
     }
 
-    /// Unmaps the last page of the file, where it is `page` or a later one, and returns what it was
+    /// Unmaps the last page of the file, if it is `page` or a later one, and returns what it was
     /// mapped to. It takes no memory.
     pub fn pop_from(&mut self, file: FileId, page: PageNo) -> Option<Extent>
         ensures some { IfSome result (λ e. extents.is_at_or_behind file page e ≡ true) }

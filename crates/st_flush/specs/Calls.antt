@@ -41,7 +41,7 @@ same_page_write w v = (v.0 == w.0) && same_page v.1 w.1
 abbrev pub is_taken_in : List PageCommand → ℕ × PageNo × ℕ → Bool
 is_taken_in cs w = is_some (command_on cs w.0 w.1)
 
--- the command has one of so many numbers from the first one on
+-- the command has one of this many numbers from the first one on
 abbrev pub is_in_range : ℕ → ℕ → PageCommand → Bool
 is_in_range first many c = nat_le first c.number && nat_lt c.number (first + many)
 

@@ -33,7 +33,7 @@ drained_to d (Some m) = Some (record { page = d; mapping = m })
 abbrev pub drained_by : Store → DirtyPage → Option Draining
 drained_by st d = if is_drained st d then drained_to d (pages.mapping_of st.extents d.ino d.page) else None
 
--- where the page is dirty
+-- if the page is dirty
 abbrev pub drained_of : Store → Option DirtyPage → Option Draining
 drained_of st None = None
 drained_of st (Some d) = drained_by st d

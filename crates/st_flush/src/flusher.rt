@@ -36,7 +36,7 @@ impl Model for Flusher {
     ghost invariant = { λ f. AreApart f.commands };
 }
 
-/// How a write of a version ended, where the page is at this version now.
+/// How a write of a version ended, if the page is at this version now.
 fn write_ended(version: u64, now: u64) -> Ended
     ensures { result ≡ pages.write_ended version now }
 {
@@ -111,7 +111,7 @@ impl Flusher {
         })
     }
 
-    /// The file, the page and the kind of the command of this number, or `None` where it is not
+    /// The file, the page and the kind of the command of this number, or `None` if it is not
     /// outstanding. It does not allocate.
     pub fn of(&self, number: u64) -> Option<(u32, PageNo, IoKind)>
         ensures { result ≡ option_map told (pages.command_of self.now.commands number) }
@@ -174,9 +174,9 @@ impl Flusher {
     }
 
     /// A command ended, as done or as failed; `version` is that of its page now. It returns what
-    /// became of it: `Unknown` where no outstanding command has the number; `Failed` where it
-    /// failed; `Filled` of a read; and of a write `Hard` where it wrote this version, and otherwise
-    /// `Redirty`. It is outstanding no more. It does not allocate.
+    /// became of it: `Unknown` if no outstanding command has the number; `Failed` if it
+    /// failed; `Filled` of a read; and of a write `Hard` if it wrote this version, and otherwise
+    /// `Redirty`. It is no longer outstanding. It does not allocate.
     #[tactic(auto, unfolding(st_rules::specs::ClientPages::end_command, st_rules::specs::ClientPages::end_at))]
     pub fn done(&mut self, number: u64, ok: bool, version: u64) -> Ended
         ensures { Ends self.old self.new result (pages.end_command self.old.commands number ok version) }

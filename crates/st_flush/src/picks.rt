@@ -165,7 +165,7 @@ impl Test<PageCommand> for AnyWrite {
     }
 }
 
-/// The commands of so many numbers from the first one on.
+/// The commands of this many numbers from the first one on.
 #[derive(Clone, Copy)]
 pub struct InRange {
     pub first: u64,

@@ -1,4 +1,4 @@
--- What is promised of generated schedules, over all lengths and seeds.
+-- What is promised about generated schedules, over all lengths and seeds.
 use Rattle.std.specs.Prelude.{◌≡◌, ◌≤◌, ◌+◌, ℕ, true, List, [], ◌∷◌, ◌++◌, length, None, Result, Ok, Err, ⊤}
 use Rattle.std.specs.List.{list_all, AllByRecursion}
 use Rattle.st_messages.specs.declared.event.Event.{Event}
@@ -66,6 +66,6 @@ pub record HasFew (n seed : ℕ) : Type 0 where
   pub sent : (work n seed).sent ≤ MOST_NUMBER
   pub commands : (work n seed).commands ≤ MOST_NUMBER
 
--- Each event has a line, where messages and commands have numbers of a line.
+-- Each event has a line, if messages and commands have numbers of a line.
 abbrev pub Each_has_a_line : Type 0
 Each_has_a_line = (n seed : ℕ) → HasFew n seed → AllByRecursion (Fits 1 5) (generate n seed)

@@ -1,4 +1,4 @@
-//! Generated schedules: the definition of their events and their text, and what is promised of them
+//! Generated schedules: the definition of their events and text, and what is promised about them,
 //! over all lengths and seeds.
 #![tactic(auto)]
 
@@ -24,7 +24,7 @@ pub fn runs_come_to_the_end()
     ensures told { Is_reported_whole }
 {}
 
-/// The head has a line (`head`), and so has each event, where at most 4,294,967,295 messages were
+/// The head has a line (`head`), and so has each event, if at most 4,294,967,295 messages were
 /// sent and as many commands submitted (`events`).
 pub fn events_have_lines()
     ensures head { Head_has_a_line }

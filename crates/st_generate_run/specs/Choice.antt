@@ -4,7 +4,7 @@ use Rattle.st_messages.specs.declared.event.Event.{Event}
 use Rattle.st_rules.specs.World.{World}
 use Rattle.st_rules.specs.Generator.{candidate_in, try_first}
 
--- the event in its place, where one was found
+-- the event in its place, if one was found
 abbrev pub found : Bool → Event → Option Event
 found b e = if b then Some e else None
 

@@ -11,7 +11,7 @@ pub record Writes (before now : Option (List ℕ)) (text rest : List ℕ) : Type
   pub wrote : Appends before now written
   pub whole : written ++ rest ≡ text
 
--- the count of the sink's faults rose where a write failed, and stayed otherwise
+-- the count of the sink's faults rose if a write failed, and stayed otherwise
 abbrev pub HasCauses : {T : Type 0} → Result T WorkFault → ℕ → ℕ → Type 0
 HasCauses (Ok r) before now = now ≡ before
 HasCauses (Err faults.Write) before now = Rose before now

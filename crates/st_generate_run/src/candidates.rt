@@ -75,7 +75,7 @@ fn ask_sync(draws: &mut Draws, event: &mut Event)
     *event = Event::App { client, ask };
 }
 
-/// One of the last 12 messages is delivered. It returns false where none was sent.
+/// One of the last 12 messages is delivered. It returns false if none was sent.
 #[tactic(auto, unfolding(st_rules::specs::Generator::deliver))]
 fn deliver(draws: &mut Draws, event: &mut Event, sent: u64) -> bool
     ensures { (found result event.new, draws.new) ≡ generator.deliver sent draws.old }
@@ -89,7 +89,7 @@ fn deliver(draws: &mut Draws, event: &mut Event, sent: u64) -> bool
     }
 }
 
-/// One of the last 12 messages is lost. It returns false where none was sent.
+/// One of the last 12 messages is lost. It returns false if none was sent.
 #[tactic(auto, unfolding(st_rules::specs::Generator::lose))]
 fn lose(draws: &mut Draws, event: &mut Event, sent: u64) -> bool
     ensures { (found result event.new, draws.new) ≡ generator.lose sent draws.old }
@@ -103,7 +103,7 @@ fn lose(draws: &mut Draws, event: &mut Event, sent: u64) -> bool
     }
 }
 
-/// One of the last 6 commands has its effect. It returns false where none was submitted.
+/// One of the last 6 commands has its effect. It returns false if none was submitted.
 #[tactic(auto, unfolding(st_rules::specs::Generator::effect))]
 fn effect(draws: &mut Draws, event: &mut Event, submitted: u64) -> bool
     ensures { (found result event.new, draws.new) ≡ generator.effect submitted draws.old }
@@ -117,7 +117,7 @@ fn effect(draws: &mut Draws, event: &mut Event, submitted: u64) -> bool
     }
 }
 
-/// One of the last 6 commands is reported as a success. It returns false where none was submitted.
+/// One of the last 6 commands is reported as a success. It returns false if none was submitted.
 #[tactic(auto, unfolding(st_rules::specs::Generator::report_success))]
 fn report_success(draws: &mut Draws, event: &mut Event, submitted: u64) -> bool
     ensures { (found result event.new, draws.new) ≡ generator.report_success submitted draws.old }
@@ -131,7 +131,7 @@ fn report_success(draws: &mut Draws, event: &mut Event, submitted: u64) -> bool
     }
 }
 
-/// One report in eight is of a failure. It returns false where there is no command.
+/// One report in eight is of a failure. It returns false if there is no command.
 #[tactic(auto, unfolding(st_rules::specs::Generator::outcome))]
 fn outcome(draws: &mut Draws, event: &mut Event, command: Option<u64>) -> bool
     ensures { (found result event.new, draws.new) ≡ generator.outcome command draws.old }
@@ -146,7 +146,7 @@ fn outcome(draws: &mut Draws, event: &mut Event, command: Option<u64>) -> bool
     }
 }
 
-/// One of the last 6 commands is reported. It returns false where none was submitted.
+/// One of the last 6 commands is reported. It returns false if none was submitted.
 #[tactic(auto, unfolding(st_rules::specs::Generator::report))]
 fn report(draws: &mut Draws, event: &mut Event, submitted: u64) -> bool
     ensures { (found result event.new, draws.new) ≡ generator.report submitted draws.old }
@@ -268,7 +268,7 @@ fn candidate_of(
     }
 }
 
-/// Draws a candidate for an event, where `sent` messages were sent and `submitted` commands
+/// Draws a candidate for an event, if `sent` messages were sent and `submitted` commands
 /// submitted, and writes it into `event`. It returns false if there is none; nothing is promised
 /// about `event` then. Only an advance takes memory.
 #[tactic(auto, unfolding(st_rules::specs::Generator::candidate))]

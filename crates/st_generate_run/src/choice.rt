@@ -24,14 +24,14 @@ pub trait Judge {
     fn submitted(&self) -> u64
         ensures { result ≡ length (world self.now).commands };
 
-    /// Returns true where the event is admissible.
+    /// Returns true if the event is admissible.
     fn admits(&self, event: &Event) -> bool
         requires event { is_event (length (world self.now).clocks) event.now ≡ true }
         requires room { (world self.now).tally.events < 2 ^ 29 }
         ensures { result ≡ is_none (refusal (world self.now) event.now) };
 }
 
-/// A try. It returns true where there is a candidate and it is admissible; the candidate is in
+/// A try. It returns true if there is a candidate and it is admissible; the candidate is in
 /// `event` then.
 fn try_one<J: Judge>(
     draws: &mut Draws,

@@ -114,7 +114,7 @@ impl Draws {
         self.draw(256) as u8
     }
 
-    /// A clock's increment where clocks advance one by one.
+    /// A clock's increment if clocks advance one by one.
     pub fn increment(&mut self) -> u64
         ensures value { result ≡ generator.increment 1 self.old }
         ensures state { self.new ≡ generator.state_after 1 self.old }
@@ -122,7 +122,7 @@ impl Draws {
         100 + self.draw(2)
     }
 
-    /// The number of one of the `last` last ones of `count`, from 1. Where there is none, nothing
+    /// The number of one of the `last` last ones of `count`, from 1. If there is none, nothing
     /// is drawn.
     #[tactic(auto, unfolding(st_rules::specs::Generator::recent))]
     pub fn recent(&mut self, count: u64, last: u64) -> Option<u64>

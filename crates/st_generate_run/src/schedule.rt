@@ -38,7 +38,7 @@ fn put_next(
     run_event(alloc, world, &event, seen)
 }
 
-/// Chooses the next event, appends its line and runs it, and writes the text where it is long.
+/// Chooses the next event, appends its line and runs it, and writes the text if it is long.
 fn write_next<O: Sink>(
     alloc: Global,
     world: &mut World,
@@ -109,13 +109,13 @@ fn write_schedule<O: Sink>(
 /// Writes the schedule of `n` events that this seed gives. It is written in pieces of some
 /// kilobytes as it is made, and not kept.
 ///
-/// It returns `Write` where a write failed, and `Memory` if memory ran out.
+/// It returns `Write` if a write failed, and `Memory` if memory ran out.
 pub fn generate<O: Sink>(alloc: Global, seed: u64, n: u32, out: &mut O) -> Result<(), WorkFault>
     requires { n ≤ 2 ^ 29 }
     ensures text { OnOk result (Appends (O.written out.old) (O.written out.new) (generate_text n seed)) }
     // After an error a prefix of the text was written, maybe nothing.
     ensures front { OnErr result (AppendsPrefix (O.written out.old) (O.written out.new) (generate_text n seed)) }
-    // `Write` comes only where the count of faults rose; it stays at `Ok` and at `Memory`.
+    // `Write` comes only if the count of faults rose; it stays at `Ok` and at `Memory`.
     ensures causes { HasCauses result (O.faults out.old) (O.faults out.new) }
 {
     let mut world = fresh(alloc)?;

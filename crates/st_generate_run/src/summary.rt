@@ -59,7 +59,7 @@ fn put_summary<O: Sink>(alloc: Global, summary: Summary, out: &mut O) -> Result<
 /// Runs the schedule of `n` events that this seed gives, writes the last line of its report, and
 /// returns what the line tells.
 ///
-/// It returns `Write` where a write failed, and `Memory` if memory ran out.
+/// It returns `Write` if a write failed, and `Memory` if memory ran out.
 #[tactic(auto, unfolding(st_generate::specs::GeneratedText::work_text))]
 pub fn put_work<O: Sink>(
     alloc: Global,
@@ -72,7 +72,7 @@ pub fn put_work<O: Sink>(
     ensures text { OnOk result (Appends (O.written out.old) (O.written out.new) (work_text n seed)) }
     // After an error a prefix of the line was written, maybe nothing.
     ensures front { OnErr result (AppendsPrefix (O.written out.old) (O.written out.new) (work_text n seed)) }
-    // `Write` comes only where the count of faults rose; it stays at `Ok` and at `Memory`.
+    // `Write` comes only if the count of faults rose; it stays at `Ok` and at `Memory`.
     ensures causes { HasCauses result (O.faults out.old) (O.faults out.new) }
 {
     let summary = work(alloc, seed, n)?;

@@ -53,7 +53,7 @@ pub(crate) fn flush<O: Sink>(out: &mut O, text: &mut Vec<u8>) -> Result<(), Fail
     }
 }
 
-/// Writes the text, and empties it, where it has at least `LONG` bytes.
+/// Writes the text, and empties it, if it has at least `LONG` bytes.
 pub(crate) fn flush_long<O: Sink>(out: &mut O, text: &mut Vec<u8>) -> Result<(), Failed>
     ensures ok { OnOk result (Writes (O.written out.old) (O.written out.new) text.old.items text.new.items) }
     ensures failed { OnErr result (AppendsPrefix (O.written out.old) (O.written out.new) text.old.items) }

@@ -21,7 +21,7 @@ abbrev pub spelled : Result Message CodecRefusal → Result Message FrameFault
 spelled (Ok m) = Ok m
 spelled (Err r) = Err (Refused r)
 
--- a frame that is whole, where nothing follows it
+-- a frame that is whole, if nothing follows it
 abbrev pub received_whole : List ℕ → ℕ → Result Message FrameFault
 received_whole bytes n = if nat_lt (4 + n) (length bytes) then Err Extra else spelled (decoded (drop 4 bytes))
 

@@ -26,7 +26,7 @@ pub record IsJournal (bytes : List ℕ) (xs : List Change) : Type 0 where
   pub closed : gate ≢ 1
   pub ranges : list_all fits xs ≡ true
 
--- The stable part that a list of bytes stands for: what the changes of its journal make of the one at the start, where none of
+-- The stable part that a list of bytes stands for: what the changes of its journal make of the one at the start, if none of
 -- them is refused.
 pub record StandsFor (start : Stable) (bytes : List ℕ) (xs : List Change) (state : Stable) : Type 0 where
   pub journal : IsJournal bytes xs

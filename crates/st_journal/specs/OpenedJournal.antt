@@ -97,7 +97,7 @@ NotAppended seen faults old new x Store =
     (old.broken ≡ false) × (room_for x ≤ room_behind (length (seen old.store)) old.gate) × Rose (faults old.store) (faults new.store) × (new ≡ record old { store = new.store; broken = true })
 NotAppended seen faults old new x (Damaged at) = ⊥
 
--- which calls of the store an append made, where it made any
+-- which calls of the store an append made, if it made any
 abbrev pub Calls : {D : Type 0} → (D → ℕ → List ℕ → Result Unit Failed → D → Type 0) → Step D → Opened D → Opened D → Change → Result Unit JournalFault → Type 0
 Calls writes syncs old new x (Ok done) = Puts writes syncs old.gate (framed x ++ 0 ∷ []) old.store (Ok tt) new.store
 Calls writes syncs old new x (Err Store) = (f : Failed) × Puts writes syncs old.gate (framed x ++ 0 ∷ []) old.store (Err f) new.store

@@ -85,7 +85,7 @@ abbrev pub NotTaken : List ℕ → Stable → ℕ → ℕ → ℕ → JournalFau
 NotTaken bytes state at before now (Damaged place) = (place ≡ at) × IsDeadAt bytes state at
 NotTaken bytes state at before now f = NotReached before now f
 
--- the counters after so many changes on a fresh stable part
+-- the counters after this many changes on a fresh stable part
 pub record AreLow (n : ℕ) (t : Stable) : Type 0 where
   pub epochs : t.epoch.0 ≤ n
   pub inodes : t.names.next ≤ n + 10

@@ -78,17 +78,17 @@ abbrev pub kept : Result Stable ChangeRefusal → Option Stable
 kept (Ok t) = Some t
 kept (Err r) = None
 
--- one more change, where none was refused yet
+-- one more change, if none was refused yet
 abbrev pub then_apply : Option Stable → Change → Option Stable
 then_apply None x = None
 then_apply (Some t) x = kept (apply t x)
 
--- The stable part after these changes, where none of them is refused.
+-- The stable part after these changes, if none of them is refused.
 abbrev pub after_changes : Option Stable → List Change → Option Stable
 after_changes o [] = o
 after_changes o (x ∷ xs) = after_changes (then_apply o x) xs
 
--- Counters: a change has room where the counter that it raises is not at its end.
+-- Counters: a change has room if the counter that it raises is not at its end.
 abbrev pub HasRoom : Stable → Change → Type 0
 HasRoom t kinds.Epoch = t.epoch.0 < 2 ^ 64 - 1
 HasRoom t (kinds.Allocate ino page count) = t.extents.births < 2 ^ 62

@@ -21,7 +21,7 @@ is_kept call byte = nat_le 3 call && byte == 1
 abbrev pub after_stop : ℕ → ℕ → Change → List Change → List Change
 after_stop call byte x acked = if is_kept call byte then acked ++ x ∷ [] else acked
 
--- The append answers that the store failed. The journal has the change where the stop left an open gate, and otherwise as before; or the store found no memory
+-- The append answers that the store failed. The journal has the change if the stop left an open gate, and otherwise as before; or the store found no memory
 -- for its record.
 abbrev pub EndsAtStop : InMemory → List Change → Change → ℕ → ℕ → Result Unit JournalFault → Type 0
 EndsAtStop store acked x call byte (Ok done) = ⊥

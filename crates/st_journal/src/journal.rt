@@ -214,7 +214,7 @@ impl<D: Store + Drop> Journal<D> {
         ensures err { IfErr result (NotAppended D.seen D.faults self.old self.new change.now) }
         ensures calls { opened.Calls D.writes D.syncs self.old self.new change.now result }
         ensures kept { D.keeps self.old.store self.new.store }
-        // It records the change where it is acknowledged, and has it under way where the store
+        // It records the change if it is acknowledged, and has it under way if the store
         // failed.
         ensures records { (acked : List Change) (under_way : Option Change) → Records D.seen D.may_leave self.old acked under_way
             → Records D.seen D.may_leave self.new (opened.acked_after result change.now acked) (opened.under_way_after result change.now under_way) }

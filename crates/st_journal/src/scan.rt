@@ -175,7 +175,7 @@ fn apply_read(stable: &mut Stable, change: &Change, gate: u64) -> Result<(), Jou
     }
 }
 
-/// Reads one change and applies it, or nothing, where the gate is not open.
+/// Reads one change and applies it, or nothing, if the gate is not open.
 fn read_one<D: Store>(
     alloc: Global,
     store: &mut D,

@@ -161,7 +161,7 @@ impl Stable {
         }
     }
 
-    /// Whether a name in a directory is that of a file, where the place is not refused.
+    /// Whether a name in a directory is that of a file, if the place is not refused.
     fn is_file_at(&self, dir: u32, name: &[u8]) -> bool
         ensures { result ≡ parts.is_file_at self.now.names (names.lookup self.now.names dir name.now) }
     {
@@ -171,7 +171,7 @@ impl Stable {
         }
     }
 
-    /// An entry that went takes its extents with it, where it was a file's.
+    /// An entry that went takes its extents with it, if it was a file's.
     fn release_all(&mut self, ino: u32, is_file: bool)
         ensures { parts.stable_of self.new ≡ (if is_file then stable.released (parts.stable_of self.old) ino (page_no 0) else parts.stable_of self.old) }
     {

@@ -14,7 +14,7 @@ pub record IsUnread (bytes : List ℕ) : Type 0 where
   pub closed : IsClosed bytes → ⊥
   pub open_so : (record_bytes rest : List ℕ) → length record_bytes < 2 ^ 32 → bytes ≡ opened plain record_bytes ++ rest → ⊥
 
--- The bytes are records after open gates, so many of them, and then a closed gate after so many bytes.
+-- The bytes are records after open gates, this many of them, and then a closed gate after this many bytes.
 pub record HasRecords (bytes : List ℕ) (e : AreaEnd) : Type 0 where
   pub records : List (List ℕ)
   pub rest : List ℕ
@@ -22,7 +22,7 @@ pub record HasRecords (bytes : List ℕ) (e : AreaEnd) : Type 0 where
   pub gate : e.gate ≡ length (all_opened plain records)
   pub count : e.records ≡ length records
 
--- They are some records after open gates, and then nothing that can be read; so many bytes are in front of it.
+-- They are some records after open gates, and then nothing that can be read; this many bytes are in front of it.
 pub record StopsAt (bytes : List ℕ) (at : ℕ) : Type 0 where
   pub records : List (List ℕ)
   pub rest : List ℕ

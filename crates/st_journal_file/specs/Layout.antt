@@ -3,7 +3,7 @@ use Rattle.std.specs.Prelude.{◌≡◌, ℕ, Bool, true, false, List, [], ◌�
 use Rattle.std.specs.List.{flat_map}
 use Rattle.std.specs.Int.{w32, to_be_bytes}
 
--- How a file spells states and changes, what a change makes of a state where it is not refused, and the sum of some bytes. Which sum it is matters to damage
+-- How a file spells states and changes, what a change makes of a state if it is not refused, and the sum of some bytes. Which sum it is matters to damage
 -- alone.
 pub record Format (S C : Type 0) : Type 0 where
   pub snapshot : S → List ℕ
@@ -37,7 +37,7 @@ all_opened f (x ∷ xs) = opened f x ++ all_opened f xs
 abbrev pub front : {S C : Type 0} → Format S C → S → List C → List ℕ
 front f t xs = part f (f.snapshot t) ++ all_opened f xs
 
--- the state after these changes, where none of them is refused
+-- the state after these changes, if none of them is refused
 abbrev pub after_change : {S C : Type 0} → Format S C → Option S → C → Option S
 after_change f None x = None
 after_change f (Some t) x = f.apply t x

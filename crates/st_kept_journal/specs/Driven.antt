@@ -39,7 +39,7 @@ pub record IsGateOf {S C : Type 0} (f : Format S C) (start : S) (area : List ℕ
   pub at : place ≡ length (front f snapshot records)
   pub leads : after_changes f (Some snapshot) records ≡ after_changes f (Some start) kept
 
--- a group of so many bytes is kept, at this gate
+-- a group of this many bytes is kept, at this gate
 pub record IsGroupOf {S C : Type 0} (f : Format S C) (gate count : ℕ) (g : Gate S C) : Type 0 where
   pub place : gate ≡ length (front f g.snapshot g.records)
   pub size : count ≡ length (all_opened f (group_of g))

@@ -58,7 +58,7 @@ fn drop_front(bytes: &mut Vec<u8>, count: u64)
 }
 
 impl JournalKeeper {
-    /// The file of a journal whose areas have so many bytes, less than 2^32, and of which one
+    /// The file of a journal whose areas have this many bytes, less than 2^32, and of which one
     /// counts, with its closed gate at this place.
     pub fn new(alloc: Global, area: u64, second: bool, gate: u64) -> JournalKeeper
         requires within { gate < area }

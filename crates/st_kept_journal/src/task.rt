@@ -5,9 +5,9 @@ use thiserror::Error;
 pub enum Task {
     /// Nothing.
     Rest,
-    /// So many bytes of records are written as a group.
+    /// This many bytes of records are written as a group.
     Group { count: u64 },
-    /// A snapshot with so many bytes of records is written, with its closed gate at this place of
+    /// A snapshot with this many bytes of records is written, with its closed gate at this place of
     /// the other area.
     Switch { count: u64, gate: u64 },
 }

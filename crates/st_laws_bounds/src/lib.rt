@@ -72,7 +72,7 @@ pub fn generated_events_have_lines()
 }
 
 /// The reader reads the first line of a generated schedule as its head (`head`), and the whole text
-/// as the events, to the end, where at most 100,000 events were asked for (`text`).
+/// as the events, to the end, if at most 100,000 events were asked for (`text`).
 pub fn texts_are_read_back()
     ensures head { HeadIsRead }
     ensures text { TextIsRead }
@@ -82,7 +82,7 @@ pub fn texts_are_read_back()
     schedules_are_long_enough();
 }
 
-/// Where at most 100,000 events were asked for, the replay of a generated text refuses no line and
+/// If at most 100,000 events were asked for, the replay of a generated text refuses no line and
 /// goes through the end (`end`), and its report is that of the run of the events (`report`).
 pub fn texts_are_replayed()
     ensures end { TextIsReplayed }

@@ -6,7 +6,7 @@ use Words.outputs
 use Words.ClientState.{answer_to}
 use Words.Lists.{Has}
 
--- 1 where it is so
+-- 1 if it holds
 abbrev pub one_if : Bool → ℕ
 one_if true = 1
 one_if false = 0

@@ -110,7 +110,7 @@ module _ (k : Config) (count : ℕ) (past : List Step) (t : Traced) (h : Hold k 
       by : OpenAsk past (gifts k count t.world h.all (client z.message.header.from) f.server) (client z.message.header.from) f.server z.message.body → list_any (is_open_cut past (client z.message.header.from) f p) (numbered_asks past (client z.message.header.from)) ≡ true
       by o = some_passes (is_open_cut past (client z.message.header.from) f p) _ (o.op, o.ask) (opened.under k count past t h d f.server served own o.op o.ask o.asked) (and_both _ _ (asks_it o.ask z.message.body o.means z.by.asks) (ap not o.unsettled))
 
-  -- the client had the file alone
+  -- only the client had the file
   pub alone : has_alone_at (client z.message.header.from) f.ino (node_of t.world f.server) ≡ true
   alone = subst (λ o. has_alone_at (client z.message.header.from) f.ino o ≡ true) (sym z.there) (and_both _ _ z.running (subst (λ o. is_exclusive o ≡ true) (sym z.by.found) (ap (λ x. covers x modes.X) z.by.exclusive)))
 

@@ -176,7 +176,7 @@ AllOver w Left =
     (m : Message) → Has m (messages w) → Between c a.server m → 1 ≤ m.header.number → asks_cut_or_name m.body ≡ true →
     (m.header.life < a.life.0) ⊎ (site.node.running ≡ false) → Over w Left c a.server site.node.state.operations m
 
--- an operation waits for the reply to a message; when it is pending no more, and was answered with `uncertain` alone, it is left
+-- an operation waits for the reply to a message; when it is no longer pending, and was answered only with `uncertain`, it is left
 abbrev pub Waits : WorldTurn → LeftOver → LeftOver
 Waits sc Now c s os m =
     (o : Operation) × Has o os × (is_asked s o ≡ true) ×

@@ -1,4 +1,4 @@
--- What holds within a client's rule at a server: its pending operations and the answers are of known asks, what it sends is of its life, and the operation of
+-- What holds within a client's rule at a server: its pending operations and the answers have known asks, what it sends has its life, and the operation of
 -- the outstanding request is pending. What small changes and replies leave of it.
 use Rattle.st_lemmas.proofs.Words
 use Words.{◌≡◌, ℕ, ◌+◌, ◌≤◌, ◌⊎◌, Bool, true, false, not, List, [], ◌∷◌, ◌++◌, Option, Some, None, refl, sym, ap, ◌∙◌, subst, inl, inr, arith, if◌then◌else◌}
@@ -150,7 +150,7 @@ module _ (c : ClientId) (K : ℕ → Type 0) (G : List Output) where
         }
 
     -- Answers.
-    -- a test that picks operations of this server alone
+    -- a test that picks only operations of this server
     abbrev pub Own : ServerId → (Operation → Bool) → Type 0
     Own sv picked = (o : Operation) → cs.is_of sv o ≡ false → picked o ≡ false
 

@@ -1,4 +1,4 @@
--- A whole step of a client: what is pending and answered is of known asks, what is sent is of the life that the step leaves, and the
+-- A whole step of a client: what is pending and answered belongs to known asks, what is sent belongs to the life that the step leaves, and the
 -- operation of each outstanding request is pending.
 use Rattle.st_lemmas.proofs.Words
 use Words.{◌≡◌, ℕ, ◌+◌, ◌≤◌, ◌⊎◌, Bool, true, false, ◌==◌, List, [], ◌∷◌, Option, Some, None, refl, sym, ap, ◌∙◌, subst, inl, inr, arith, if◌then◌else◌}
@@ -149,7 +149,7 @@ module _ (c : ClientId) (K : ℕ → Type 0) (G : List Output) where
   unfolding at_each
   each Pre rule ok t p k = these Pre rule ok t.state.associations (with_associations [] t) p (opened t k)
 
-  -- An ask is taken at its server alone.
+  -- An ask is taken only at its server.
   module _ (op : ℕ) (ask : Ask) (known_ask : K op) where
     -- at the servers after it
     passes_over : (rest : List Association) → ((a : Association) → Has a rest → cs.is_at (server_of ask) a ≡ false) → (t : ClientTurn) → Held rest t → Held [] (at_these (cs.only_at (server_of ask) (cl.take_ask op ask)) rest t)

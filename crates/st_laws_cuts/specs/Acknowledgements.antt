@@ -15,7 +15,7 @@ a_cut = seen.CutAt 1 (record { server = record { 0 = 1 }; ino = 2 }) (record { 0
 abbrev pub a_message : Body → Observation
 a_message body = seen.Sent 1 (record { header = record { from = 32769; to = 1; life = 1; epoch = 1; number = 1; stamp = 0 }; body = body })
 
--- A cut that is done and refused is refused, and one of which nothing is said; a cut that is acknowledged is not, nor a refusal without a cut.
+-- The promise refuses a cut that is done and refused, and one about which nothing is sent; a cut that is acknowledged is not, nor a refusal without a cut.
 pub record WrongCutsAreRefused : Type 0 where
   pub holder : are_acknowledged (a_cut ∷ a_message (bodies.Nack why.NotHolder 2 0) ∷ []) ≡ false
   pub name : are_acknowledged (a_cut ∷ a_message (bodies.Named (replies.Refused 5)) ∷ []) ≡ false

@@ -44,11 +44,11 @@ MeansTo G s (asks.Cut f p) (bodies.Cut ino g q) = (f.server ≡ s) × (f.ino ≡
 MeansTo G s (asks.Name sv ask) (bodies.Name op) = (sv ≡ s) × MeansGrant G ask op
 MeansTo G s ask body = ⊥
 
--- a server serves the message no more
+-- a server no longer serves the message
 abbrev pub AllPast : World → ClientId → ServerId → Message → Type 0
 AllPast w c s m = (n : ServerNode) → node_of w s ≡ Some n → IsPast c n m
 
--- the ask of a message is pending no more, and was not settled
+-- the ask of a message is no longer pending, and was not settled
 pub record IsLeft (past : List Step) (G : ℕ → GrantNo → Type 0) (c : ClientId) (s : ServerId) (os : List Operation) (m : Message) : Type 0 where
   pub op : ℕ
   pub ask : Ask

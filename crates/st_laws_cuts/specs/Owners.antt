@@ -1,4 +1,4 @@
--- The operation whose request is the outstanding one, where that cuts a file or is for a name.
+-- The operation whose request is the outstanding one, if that cuts a file or is for a name.
 use Rattle.std.specs.Prelude.{◌≡◌, ℕ, ◌≤◌, true, List, Option, Some, None}
 use Rattle.st_base.specs.declared.ids.GrantNo.{GrantNo}
 use Rattle.st_base.specs.declared.ids.ServerId.{ServerId}
@@ -48,7 +48,7 @@ pub record Owner (s : ServerId) (cutting : Option ℕ) (body : Body) (os : List 
   pub asked : is_asked s operation ≡ true
   pub means : Means operation.ask cutting body
 
--- where the outstanding request is one
+-- if the outstanding request is one
 abbrev pub OwnedBy : ServerId → Option ℕ → List Operation → Option Request → Type 0
 OwnedBy s cutting os None = Unit {0}
 OwnedBy s cutting os (Some q) = asks_cut_or_name q.body ≡ true → Owner s cutting q.body os

@@ -18,7 +18,7 @@ use Rattle.st_laws_leases.specs.Dates.Dates.{messages}
 use Rattle.st_promises.specs.NameAnswers.{said}
 use Rattle.st_laws_requests.specs.Cuts.Cuts.{does}
 
--- A message is served: it is of the server's epoch, with the next number of its client's session, which lives.
+-- A message is served: it has the server's epoch, and the next number of its client's session, which lives.
 pub record IsServedBy (x : ServerState) (m : Message) : Type 0 where
   pub client : is_client_node m.header.from ≡ true
   pub to : m.header.to ≡ server_node x.id

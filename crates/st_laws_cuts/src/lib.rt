@@ -21,13 +21,13 @@ pub fn cuts_are_acknowledged()
     ensures { InEveryRun CutsAreAcknowledged }
 {}
 
-/// A cut that is done and refused is refused, and one of which nothing is said; a cut that is
+/// This promise refuses a cut that is done and refused, and one without an answer; a cut that is
 /// acknowledged is not, nor a refusal without a cut.
 pub fn wrong_cuts_are_refused()
     ensures { WrongCutsAreRefused }
 {}
 
-/// In every run names change as asked: where an event changed the names of a server, an ask of a
+/// In every run names change as asked: if an event changed the names of a server, an ask of a
 /// client was made before it, and was not answered before, or with `uncertain`, and the names
 /// became what this ask makes of them.
 pub fn names_change_as_asked()

@@ -39,13 +39,13 @@ pub fn numbers_name_files()
 {}
 
 /// In every run, before each step: a message with the next number of its client's session, of its
-/// life and epoch, is the outstanding request of that client, where it runs and its lease there is
+/// life and epoch, is the outstanding request of that client, if it runs and its lease there is
 /// not over.
 pub fn fresh_requests_are_outstanding()
     ensures { InEveryRun FreshAreOutstanding }
 {}
 
-/// In every run each cut that a step logs is asked: a client that has the file alone, with a lock
+/// In every run each cut that a step logs is asked: the only client that has the file, with a lock
 /// of it under a lease that is not over, has a request for the cut outstanding, from that page or
 /// an earlier one, or one to remove the file.
 pub fn cuts_are_asked()
@@ -97,7 +97,7 @@ pub fn replies_tell_present_extents()
 
 /// In every such run each reply of extents that a client receives, to its outstanding request,
 /// under the lock under which it asked, tells the extents that the server has; what clients know of
-/// where pages lie is so; and each write that is submitted goes to there.
+/// where pages lie is right; and each write that is submitted goes there.
 pub fn known_extents_are_told()
     ensures told { InRunsAsked IsTold }
     ensures known { InRunsAsked KnownAfter }
@@ -105,7 +105,7 @@ pub fn known_extents_are_told()
 {}
 
 /// In every such run a map's reply that a client receives, under the lock under which it asked, and
-/// that tells of no block, is right: the server has none for the page.
+/// that reports no block, is right: the server has none for the page.
 pub fn unmapped_pages_are_told()
     ensures { InRunsAsked MapsAt }
 {}
@@ -124,8 +124,8 @@ pub fn replies_tell_extents_in_every_run()
 {}
 
 /// In every run each reply of extents that a client receives, to its outstanding request, under the
-/// lock under which it asked, tells the extents that the server has; what clients know of where
-/// pages lie is so; each write that is submitted goes to there; and a map's reply that tells of no
+/// lock under which it asked, has the extents that the server has; what clients know of where
+/// pages lie is right; each write that is submitted goes there; and a map's reply that reports no
 /// block is right.
 pub fn extents_are_known_in_every_run()
     ensures told { InEveryRun IsTold }

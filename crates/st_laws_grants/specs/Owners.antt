@@ -26,7 +26,7 @@ use Rattle.st_laws_refine.specs.Client.Invariants.{Kept}
 use Rattle.st_laws_refine.specs.Views.Halves.{held_in}
 use Rattle.st_laws_refine.specs.Views.Messages.{Received, Shown}
 
--- the client and the file of a number, where it was given
+-- the client and the file of a number, if it was given
 abbrev pub Owner : Type 0
 Owner = ℕ → Option (ℕ × ℕ)
 

@@ -6,7 +6,7 @@ ghost use Rattle.st_promises.specs.Grants.{GrantNumbersAreGivenOnce, GrantNumber
 ghost use Rattle.st_laws_leases.specs.Sides.Law.{InEveryRun};
 
 /// In every run grant numbers are given once: all grants that a server ever sent under one number
-/// are to one client, of one file.
+/// go to one client, for one file.
 pub fn grant_numbers_are_given_once()
     ensures { InEveryRun GrantNumbersAreGivenOnce }
 {}

@@ -27,7 +27,7 @@ no_timer a c e = go (authority.suspect_of a c) refl
     go (Some x) q = absurd (not_both (not (is_some (authority.suspect_of a c))) e (ap (λ (o : Option Suspect). not (is_some o)) q))
 
 module _ (now : Stamp) (h : Header) (t : ServerTurn) where
-  -- What a welcome greeting leaves: only the welcome is said, and the sender's session is of the greeting's life, anew or as it was.
+  -- What a welcome greeting leaves: only the welcome is said, and the sender's session belongs to the greeting's life, anew or as it was.
   pub record IsWelcome (u : ServerTurn) : Type 0 where
     pub out : u.out ≡ t.out ++ reply_in now h t bd.Welcome ∷ []
     pub session : Session
@@ -39,7 +39,7 @@ module _ (now : Stamp) (h : Header) (t : ServerTurn) where
   abbrev Free : ServerTurn → Type 0
   Free u = may_ack u.state.authority (sv.sender h) ≡ true
 
-  -- the sender's session is of an earlier life, or it lives in the greeting's
+  -- the sender's session belongs to an earlier life, or it lives in the greeting's
   abbrev pub NoLater : Type 0
   NoLater = (y : Session) → sessions.session_of t.state.sessions (sv.sender h) ≡ Some y → (y.life.0 < h.life) ⊎
       ((y.life.0 ≡ h.life) × (sessions.is_live y ≡ true))

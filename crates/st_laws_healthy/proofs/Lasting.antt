@@ -66,7 +66,7 @@ once_same (x ∷ xs) o a b (inr i) (inr j) e = once_same xs o.rest a b i j e
 
 module _ (k : Config) (count : ℕ) (c : ClientId) (s : ServerId) (gap d : ℕ) (read : World → ℕ) (delay : ℕ)
     (same_read : (v w : World) → v.clocks ≡ w.clocks → length v.clients ≡ length w.clients → read v ≡ read w) (fits : longest k gap d ≤ k.lease) where
-  -- what holds after every event, but for what is known of the client's associations
+  -- what holds after every event, except for what is known about the client's associations
   pub record Base (past : List Step) (t : Traced) : Type 0 where
     pub cuts : CutsHold past t
     pub dated : Dated past t

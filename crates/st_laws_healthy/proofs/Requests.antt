@@ -42,7 +42,7 @@ not_unknown v h y there life =
         (λ a. cond_either N (h.number == last) (sessions.again old) (sessions.take_next last h.number) (λ b. kept old)
         (λ b. cond_either N (h.number == last + 1) takes.Fresh takes.OutOfOrder (λ d f. cc) (λ d f. cc)))
 
--- what is taken anew, or again, is of the sessions' epoch
+-- what is taken anew, or again, belongs to the sessions' epoch
 pub in_epoch : (v : sessions.Sessions) (h : Header) → (sessions.take v (sv.sender h) (sv.life_in h) (sv.epoch_in h) h.number ≡ takes.OtherEpoch → ⊥) →
     h.epoch ≡ v.epoch.0
 unfolding sessions.take

@@ -50,7 +50,7 @@ module _ (c : ClientId) (s : ServerId) where
     pub among : Has m ms
     pub to : m.header.to ≡ server_node s
 
-  -- The client's session is of this life and lives; it served up to this number, and the reply that it keeps counts for that request.
+  -- The client's session belongs to this life and lives; it served up to this number, and the reply that it keeps counts for that request.
   pub record IsServed (ms : List Message) (v : Sessions) (life epoch last : ℕ) : Type 0 where
     pub session : Session
     pub is : sessions.session_of v c ≡ Some session
@@ -289,7 +289,7 @@ module _ (c : ClientId) (s : ServerId) where
         answered top x r (inl i) g = absurd (quiet n now r i)
         answered top x r (inr e) g = let y = its_epoch r x e in IsReplied y.0 y.1 (subst (IsGood ns w life epoch top) (sym e) g)
 
-        -- what the step says, where its rule says this alone
+        -- what the step says, if its rule says only this
         told_by : (top : ℕ) → ((r : Message) → Has (outputs.Send r) v.out → IsTold ns w life epoch top r) → (r : Message) →
             Has (outputs.Send r) (server_step n now (Control m)).out → From r →
             IsTold ns w life epoch top r

@@ -114,7 +114,7 @@ module _ (k : Config) (c : ClientId) (s : ServerId) (gap d : ℕ) (read : World 
       go (inl e) = inl (ap (λ z. serving.Control z) (delivered_is k c s gap d past x w ns more keeps m b.0 y (ap (λ z. numbered ms z) e ∙ q)))
       go (inr ne) = inr (λ e. ne (number_is (sym b.0.event ∙ e)))
 
-  -- the client's session is of a life that was born
+  -- the client's session belongs to a life that was born
   born_after : (j : ServerInput) → BringsServer w x.event (server_node s) j →
       ((y : Session) → sessions.session_of n.sessions c ≡ Some y → 1 ≤ y.life.0) →
       (y : Session) → sessions.session_of (server_step n when j).state.sessions c ≡ Some y → 1 ≤ y.life.0

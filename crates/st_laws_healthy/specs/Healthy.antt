@@ -1,4 +1,4 @@
--- Healthy clients: a client that ticks in time at a server that runs and does not suspect it, where each message between the two comes in time. Its lease
+-- Healthy clients: a client that ticks in time at a server that runs and does not suspect it, if each message between the two comes in time. Its lease
 -- at that server lasts, and if few of its releases wait, the server does not come to suspect it.
 use Rattle.std.specs.Prelude.{◌≡◌, ◌≢◌, ◌≤◌, ◌<◌, ◌+◌, ◌*◌, ◌&&◌, ◌||◌, ◌==◌, ℕ, Bool, true, false, length, max, List, [], ◌∷◌, ◌++◌, Some}
 use Rattle.std.specs.List.{list_all}
@@ -55,7 +55,7 @@ LeasesLast k c s gap d past x =
     a.session ≡ Some z →
     (client_clock c x.after.world < z.lease.date.0 + longest k gap d) × (z.lease.condemned ≡ false)
 
--- What holds in every run in which a client is healthy at a server after each step, where a lease that is younger than that is not over.
+-- What holds in every run in which a client is healthy at a server after each step, if a lease that is younger than that is not over.
 abbrev pub InHealthyRuns : (Config → ClientId → ServerId → ℕ → ℕ → Promise) → Type 0
 InHealthyRuns promise =
     (k : Config) (clients servers disks blocks form : ℕ) (es : List Event) (c : ClientId) (s : ServerId) (gap d : ℕ) →

@@ -13,8 +13,8 @@ pub fn leases_last()
 {}
 
 /// Takes the runs in which, after every event, a client and a server run, the client ticked in
-/// time, and messages between the two came in time. The server never suspects the client, if at
-/// most so many of its releases wait at any time that these and one request before them, one after
+/// time, and messages between the two came in time. The server never suspects the client, if so
+/// few of its releases wait at any time that these and one request before them, one after
 /// another, take less than the demand time.
 pub fn healthy_clients_are_not_suspected()
     ensures { InPromptRuns HealthyClientsAreNotSuspected }

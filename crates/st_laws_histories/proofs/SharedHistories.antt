@@ -314,7 +314,7 @@ effect_goes s past n k = go (disks.effect s.disk n) (effect_long s.disk n)
     go (Ok d) long = timely d (is_expired (numbered s.issuers n)) long
     go (Err r) long = record { knows = refused s past (Effect n) _ k; cause = tt }
 
--- what a report is told says nothing about commands and clients
+-- the answer to a report says nothing about commands and clients
 abbrev Tells : Answer → Type 0
 Tells Done = ⊥
 Tells (Number n) = ⊥

@@ -1,4 +1,4 @@
--- Histories of a volume with images: writes, reads, takes and drops, and what is promised of all of them.
+-- Histories of a volume with images: writes, reads, takes and drops, and what is promised about all of them.
 use Rattle.std.specs.Prelude.{◌≡◌, ◌≤◌, ◌==◌, ℕ, Bool, true, false, not, ◌&&◌, if◌then◌else◌, List, [], ◌∷◌, ◌++◌, Option, Some, Result, Ok, Err}
 use Rattle.std.specs.List.{list_any}
 use Rattle.st_snap.specs.Changes.{Change, Took, is_view, same_page}
@@ -39,7 +39,7 @@ pub record IsOneMoment (blocks : ℕ) (calls : List Call) (image : ℕ) : Type 0
   pub taken : take (after_calls blocks earlier) ≡ Ok (image, Took ∷ after_calls blocks earlier)
   pub same : (file page : ℕ) → read (after_calls blocks calls) image file page ≡ live (after_calls blocks earlier) file page
 
--- what a live page answers after a call: a write that is not refused changes its page alone, and no other call changes any
+-- what a live page answers after a call: a write that is not refused changes only its page, and no other call changes any
 abbrev pub live_after : ℕ → List Change → Call → ℕ → ℕ → Result (Option (List ℕ)) SnapRefusal
 live_after blocks changes (Write file page bytes) f p = if not (is_full blocks changes file page) && same_page file page f p then Ok (Some bytes) else live changes f p
 live_after blocks changes (Read image file page) f p = live changes f p

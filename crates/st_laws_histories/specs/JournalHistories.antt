@@ -1,4 +1,4 @@
--- Histories of a journal: appends, failed appends, crashes and openings, and what is promised of all of them.
+-- Histories of a journal: appends, failed appends, crashes and openings, and what is promised about all of them.
 use Rattle.std.specs.Prelude.{◌≡◌, ◌⊎◌, ◌≤◌, ◌+◌, ℕ, Bool, true, false, List, [], ◌∷◌, ◌++◌, length, Option, Some, None, Ok}
 use Rattle.st_extents.specs.Layout.{Shape}
 use Rattle.st_rules.specs.Server.{Stable}

@@ -1,4 +1,4 @@
--- Histories of containers that move while servers crash and start, and what is promised of all of them.
+-- Histories of containers that move while servers crash and start, and what is promised about all of them.
 use Rattle.std.specs.Prelude.{◌≡◌, ◌≤◌, ℕ, zero, suc, ◌+◌, Bool, not, ◌==◌, if◌then◌else◌, List, [], ◌∷◌, ◌++◌, length, filter, Option, Some, None}
 use Rattle.std.specs.List.{list_any}
 use Rattle.st_base.specs.declared.ids.ServerId.{ServerId}

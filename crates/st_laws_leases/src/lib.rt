@@ -27,7 +27,7 @@ pub fn histories_are_the_worlds()
     ensures { HistoriesAreTheWorlds }
 {}
 
-/// In every run each date of the history is of a client of the world, and of a reply: a message of
+/// In every run each date of the history belongs to a client of the world and a reply: a message of
 /// its server to its client, of its life and epoch, that renews a lease.
 pub fn dates_are_of_replies()
     ensures { RunsDateFromReplies }
@@ -101,7 +101,7 @@ pub fn locks_stay_in_order()
     ensures cuts { CutsStayBelow }
 {}
 
-/// In the world every event leaves numbers below the locks of every server's associations, where
+/// In the world every event leaves numbers below the locks of every server's associations, if
 /// they were below them.
 pub fn events_keep_order()
     ensures { EventsKeepOrder }

@@ -51,7 +51,7 @@ abbrev pub All_free : (ℕ → Type 0) → Type 0 → Type 0 → List Output →
 All_free Failed Full Told os = (o : Output) → Has o os → Free Failed Full Told o
 
 -- Losses end operations, and begin none.
--- what ends is pending no more, and nothing else joins it
+-- what ends is no longer pending, and nothing else joins it
 fewer_ended : (s : ClientSession) (n : ℕ) (o : Operation) (os : List Operation) (t u : Turn) → Ended s o t u → length t.operations + length (o ∷ os) ≤ n →
     length u.operations + length os ≤ n
 fewer_ended s n o os t _ (losing.IsElsewhere e) h = let z = length-append t.operations (o ∷ []) in omega (arith, h, z)

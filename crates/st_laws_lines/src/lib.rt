@@ -1,4 +1,4 @@
-//! Laws of the lines of a report, over the definitions alone: what they count, what is on the
+//! Laws of the lines of a report, over only the definitions: what they count, what is on the
 //! disks, and why a fault is answered.
 #![tactic(auto)]
 
@@ -16,9 +16,9 @@ pub fn counts_are_true()
     ensures { InEveryRun TheCountsAreTrue }
 {}
 
-/// In every run a fault has its cause: `diskfault` is answered where the command that it names is
-/// reported failed, and nowhere else; and `opsfull` only to a client of which 16 operations are
-/// pending. What a server refused is answered only where its refusal is delivered.
+/// In every run a fault has its cause: `diskfault` is answered when the command that it names is
+/// reported failed, and at no other time; and `opsfull` only to a client of which 16 operations are
+/// pending. What a server refused is answered only when its refusal is delivered.
 pub fn faults_have_a_cause()
     ensures { InEveryRun FaultsHaveACause }
 {}

@@ -149,7 +149,7 @@ rename_other n dir x dir2 x2 = go _
 
 -- What is said.
 
--- an inode that is told of a change
+-- an inode that is reported for a change
 told_other : (n m : Names) (ino : ℕ) (r : Res Changed EntryRefusal) → Other n r → changed n r ≡ said m (answers.Named ino) → same_names n m ≡ false
 told_other n m ino (Ok d) o e = subst (λ (v : Names). same_names n v ≡ false) (ap (λ (s : Saying). s.names) e) o
 told_other n m ino (Err r) o e = cc (ap (λ (s : Saying). s.answer) e)

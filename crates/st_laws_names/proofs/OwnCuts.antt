@@ -208,7 +208,7 @@ module _ (past : List Step) (w : World) (d : Known past w) where
     pub own_lines : list_all (is_own_line y.before.world o.c o.ask) y.seen ≡ true
     own_lines = all_pass (is_own_line y.before.world o.c o.ask) y.seen (λ x k. own_line x k)
 
--- Two owners of one event are of one client, and their requests are under one key.
+-- Two owners of one event belong to one client, and their requests are under one key.
 pub same_event : (y : Step) (c d : ClientId) (s u : ServerId) (l1 e1 n1 l2 e2 n2 : ℕ) (r q : Body) → ServedAt y c s l1 e1 n1 r → ServedAt y d u l2 e2 n2 q → (c ≡ d) × SameKey s u l1 e1 n1 l2 e2 n2
 same_event y c d s u l1 e1 n1 l2 e2 n2 r q a b = (ap (λ n. record { 0 = n }) (sym a.serves.keyed.between.0 ∙ ap (λ (m : SentMessage). m.message.header.from) sent ∙ b.serves.keyed.between.0), record { server = servers; life_ = sym a.serves.keyed.of_life ∙ ap (λ (m : SentMessage). m.message.header.life) sent ∙ b.serves.keyed.of_life; epoch_ = sym a.serves.keyed.of_epoch ∙ ap (λ (m : SentMessage). m.message.header.epoch) sent ∙ b.serves.keyed.of_epoch; number_ = sym a.serves.keyed.under ∙ ap (λ (m : SentMessage). m.message.header.number) sent ∙ b.serves.keyed.under })
   where

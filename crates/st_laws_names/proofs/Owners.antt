@@ -60,7 +60,7 @@ abbrev pub is_kept_refusal : Body → Bool
 is_kept_refusal (bodies.Nack w a b) = is_kept_why w
 is_kept_refusal b = false
 
--- an answer to what asked before tells a final reply under its key: `uncertain` alone does not
+-- an answer to what asked before tells a final reply under its key: `uncertain` by itself does not
 pub record Received (past : List Step) (w : World) (c : ClientId) (op : ℕ) (a : AppAnswer) (k : Asked past w c op) : Type 0 where
   pub message : Message
   pub among : Has message (messages w)
@@ -154,7 +154,7 @@ became_so y s ask reply z = subst (λ o. becomes_at ask o (node_of y.after.world
     one = some_passes (leaves z.new.state.stable.names) (says z.old.state.stable.names ask) (said z.new.state.stable.names (name_answer reply))
         (subst (λ w. Has w (says z.old.state.stable.names ask)) z.did (says_it z.old.state.stable.names ask z.g z.none)) (names_same z.new.state.stable.names)
 
--- an inode that is told to a create, mkdir, remove or rename tells of a change
+-- an inode that answers a create, mkdir, remove or rename reports a change
 told_change : (y : Step) (s : ServerId) (ask : NameAsk) (reply : NameReply) (ino : ℕ) → is_change_of s (asks.Name s ask) ≡ true → name_answer reply ≡ answers.Named ino → SaidAt y s ask reply → changes_in s y ≡ true
 told_change y s ask reply ino f e z = subst (λ o. changes_at o (node_of y.after.world s) ≡ true) (sym z.was) (subst (λ o. changes_at (Some z.old) o ≡ true) (sym z.became)
     (ap not (named_changes s z.old.state.stable.names z.new.state.stable.names ask z.g ino f (z.did ∙ ap (said z.new.state.stable.names) e))))

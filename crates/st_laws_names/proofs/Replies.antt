@@ -285,7 +285,7 @@ module _ (k : Config) (count : ℕ) (past : List Step) (t : Traced) (e : Event) 
     delivered : (m : Message) → i ≡ serving.Control m → Delivered m
     delivered m q = subst B q brings
 
-    -- what is served is of a session that lived before the thefts
+    -- what is served belongs to a session that lived before the thefts
     is_served : (m : Message) → m.header.to ≡ server_node s → m.header.epoch ≡ epoch.0 → server.is_client_node m.header.from ≡ true →
         server.take (behind_thefts t.world s node.state) m.header ≡ takes.Fresh → IsServedBy node.state m
     is_served m to ep client_node fresh =
@@ -609,7 +609,7 @@ module _ (k : Config) (count : ℕ) (past : List Step) (t : Traced) (e : Event) 
       (λ c site at q. begun c site) (λ s node at q. crashed s node at) (λ s node at q. started s node at) sc
       (owed k count past t e sc ranges h.base taken) taken refl
 
-  -- A key that was served is served no more.
+  -- A key that was served is no longer served.
   pub not_again : (y : Step) → Has y past → (c : ClientId) (s : ServerId) (life epoch number : ℕ) (r q : Body) → ServedAt y c s life epoch number r →
       ServedAt (step t e sc) c s life epoch number q → ⊥
   not_again y i c s life epoch number r q a b =

@@ -28,7 +28,7 @@ use Rattle.st_laws_names.proofs.World.{Worlds}
 use Rattle.st_laws_names.proofs.Waiting.{Pending, Row, alive}
 use Rattle.st_laws_pages.proofs.Asks.Asks.{any_last_none}
 
--- the ask of a message is pending no more, and was not settled; it waited under the key of the message
+-- the ask of a message is no longer pending, and was not settled; it waited under the key of the message
 pub record Left (past : List Step) (G : ℕ → GrantNo → Type 0) (w : World) (c : ClientId) (s : ServerId) (os : List Operation) (m : Message) : Type 0 where
   pub op : ℕ
   pub ask : Ask
@@ -128,7 +128,7 @@ module _ (k : Config) (count : ℕ) (past : List Step) (t : Traced) (e : Event) 
         unsettled = any_last_none (settles_in c z.op) past x z.unsettled (unsettled_in c z.op sc.seen (λ a i. absurd (y.1 a i)));
       }
 
-  -- an operation that was pending is left, where it is pending no more, and answered with `uncertain` alone
+  -- an operation that was pending is left, where it is no longer pending, and answered only with `uncertain`
   now_left : (c : ClientId) (site : WorldClient) → site_of t.world c ≡ Some site → (s : ServerId) (qs : List Operation) (m : Message) →
       (z : Pending past (gifts k count t.world h.base.all c s) t.world c s site.node.state.operations m) →
       ((o : Operation) → Has o qs → o.op ≡ z.operation.op → ⊥) → ((a : AppAnswer) → Has (seen.Answered c z.operation.op a) sc.seen → is_uncertain a ≡ true) →

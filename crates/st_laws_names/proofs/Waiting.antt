@@ -1,4 +1,4 @@
--- A request to cut a file or for a name, of the present life of a client that runs: its server serves it no more, or an operation waits
+-- A request to cut a file or for a name, of the present life of a client that runs: its server no longer serves it, or an operation waits
 -- for its reply, under its own key.
 use Rattle.st_lemmas.proofs.Words
 use Words.{◌≡◌, ◌≢◌, ◌⊎◌, ℕ, ◌≤◌, ◌<◌, zero, suc, List, true, Option, Some, None, refl, sym, ap, ◌∙◌, subst, inl, inr, arith, eqb-true, ClientId, GrantNo}

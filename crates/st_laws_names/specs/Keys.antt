@@ -57,7 +57,7 @@ pub record RepliesTo (c : ClientId) (s : ServerId) (life epoch number : ℕ) (m 
   pub of_epoch : m.header.epoch ≡ epoch
   pub under : m.header.number ≡ number
 
--- what names did where a request for a name was served and replied to so: what it asks, as the reply says, or nothing
+-- what names did if a request for a name was served and replied to so: what it asks, as the reply says, or nothing
 abbrev pub NamesDid : Names → Names → Body → Body → Type 0
 NamesDid n m (bodies.Name op) (bodies.Named reply) = does n op ≡ said m (name_answer reply)
 NamesDid n m (bodies.Name op) reply = m ≡ n

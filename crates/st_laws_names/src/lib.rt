@@ -9,7 +9,7 @@ ghost use Rattle.st_laws_names.specs.OutstandingKeys.{KeysHaveOneOperation, Oper
 ghost use Rattle.st_promises.specs.Refusals.{RefusalsChangeNothing};
 ghost use Rattle.st_promises.specs.NamesOnce.{NamesChangeOnce};
 
-/// In every run operations ask once: where a client waits for the reply to the request of an
+/// In every run operations ask once: if a client waits for the reply to the request of an
 /// operation, that request never had another key, which is a server, a life, an epoch and a number.
 pub fn operations_ask_once()
     ensures { InEveryRun OperationsAskOnce }

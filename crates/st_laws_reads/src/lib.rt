@@ -27,7 +27,7 @@ pub fn steps_keep_copies()
 {}
 
 /// In the world, a client whose outputs are right by the log answers its reads with the last
-/// writes, and a sync `hard` only where the writes of the asker's present life to the file are
+/// writes, and a sync `hard` only if the writes of the asker's present life to the file are
 /// hard.
 pub fn steps_answer_right()
     ensures { StepsAnswerRight }
@@ -38,7 +38,7 @@ pub fn changes_are_held()
     ensures { ChangesAreHeld }
 {}
 
-/// In the world, after a client's step, each write or patch that the step logged is of a client
+/// In the world, after a client's step, each write or patch that the step logged is by a client
 /// whose lease lasts and which has an exclusive lock on the file; and its page is dirty.
 pub fn changes_are_under_locks()
     ensures { ChangesLieUnderLocks }
@@ -49,7 +49,7 @@ pub fn changes_are_under_locks()
 /// leaves, under what other laws owe of it. An entry of nobody or of another client, on a file of
 /// which this client has no lock, leaves its copies. So does the effect of a disk command, and so
 /// does the drop of entries of others or of its earlier lives, on such files. A client that crashes
-/// and starts has its copies again: there are none. All this speaks of the servers where its lease
+/// and starts has its copies again: there are none. All this is about servers at which its lease
 /// is not over, since a lease that is over is lost before anything else is done; so what holds at a
 /// moment holds later. A client that does not run goes on to rest.
 pub fn events_keep_copies()
@@ -62,7 +62,7 @@ pub fn events_keep_copies()
     ensures clocks { ClocksKeepCopies }
 {}
 
-/// In a world where everything holds, while an entry of a running client's present life is pending,
+/// In a world in which all holds, while an entry of a running client's present life is pending,
 /// no other client has a lock on its file under a lease that is not over.
 pub fn pending_pages_stand_alone()
     ensures { PendingPagesStandAlone }
@@ -74,7 +74,7 @@ pub fn locked_pages_are_settled()
     ensures { LockedPagesAreSettled }
 {}
 
-/// And what is pending of a page is then of that client's present life alone.
+/// Then what is pending of a page belongs only to that client's present life.
 pub fn locked_pages_are_own()
     ensures { LockedPagesAreOwn }
 {}
@@ -87,7 +87,7 @@ pub fn takings_keep_copies()
 {}
 
 /// Every other event keeps the copies of all clients: crashes and starts, effects of disk commands,
-/// steps of servers and advances, where each cut is of a file that no client has in use, and what
+/// steps of servers and advances, if each cut is of a file that no client has in use, and what
 /// is pending of lives that are over stands alone.
 pub fn others_keep_copies()
     ensures { OthersKeepCopies }
@@ -110,7 +110,7 @@ pub fn lives_stand_still()
 
 /// What is pending of lives that are over stands alone: the lives of pending entries that a crash
 /// ended are frozen, with an exclusive lock on the file, from the start of a run on and through
-/// every event, where what is pending of present lives is dirty before it; and so no client that
+/// every event, if what is pending of present lives is dirty before it; and so no client that
 /// runs has a lock on the file, under a lease that is not over.
 pub fn frozen_lives_stand_alone()
     ensures begin { FrozenBegin }
@@ -124,7 +124,7 @@ pub fn frozen_are_alone()
     ensures { InEveryRun FrozenAreAlone }
 {}
 
-/// In a world where everything holds, while a write command of a running client's present life may
+/// In a world in which all holds, while a write command of a running client's present life may
 /// still have its effect, no other client that runs has a lock on its file under a lease that is
 /// not over.
 pub fn open_writes_stand_alone()

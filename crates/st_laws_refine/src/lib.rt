@@ -67,7 +67,7 @@ pub fn other_associations_stay()
     ensures { OtherAssociationsStay }
 {}
 
-/// A client loses a life only where its lease is over.
+/// A client loses a life only if its lease is over.
 pub fn lost_leases_are_over()
     ensures { LostLeasesAreOver }
 {}

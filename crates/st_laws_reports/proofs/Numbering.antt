@@ -1,4 +1,4 @@
--- The lines of an event give the next numbers, and each tells of what is there under its number.
+-- The lines of an event give the next numbers, and each describes what has its number.
 use Rattle.st_lemmas.proofs.Words
 use Words.{◌≡◌, ℕ, ◌+◌, Bool, true, ◌&&◌, ◌==◌, List, [], ◌∷◌, ◌++◌, Option, Some, None, refl, sym, ap, ◌∙◌, subst, arith, inl, inr, append_assoc}
 use Words.{length-append, eq-eqb, cons_option, drop, length, filter_map, map, option_map, slice_get, suc, take, zero, ClientId, Header, Message, Observation}

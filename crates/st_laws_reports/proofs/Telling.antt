@@ -1,4 +1,4 @@
--- What a client tells of lost pages: what its rules answer, and what they leave of the lost pages.
+-- What a client reports about lost pages: what its rules answer, and what they leave of the lost pages.
 use Rattle.st_lemmas.proofs.Words
 use Words.{◌≡◌, ℕ, ◌⊎◌, Bool, true, false, List, [], ◌∷◌, ◌++◌, Option, Some, None, refl, sym, ap, ◌∙◌, subst, inl, inr, if◌then◌else◌, cons_option}
 use Words.{drop, filter, filter_map, map, not, suc, zero, eqb-true, eq-eqb, Tag, FileId, PageNo, ServerId, Stamp, AppAnswer, Ask, Body, Header, Note}
@@ -183,7 +183,7 @@ module _ (asked : ℕ → Option Ask) (had : ServerId → Option Association) wh
     abbrev pub K : Rows → Turn → Type 0
     K R t = Keeps R t.here.server t.here.lost t.out t.operations
 
-    -- a rule may change what is owed of this server alone
+    -- a rule may change only what is owed at this server
     pub record Moved (R : Rows) (u : Turn) : Type 0 where
       pub now : Rows
       pub keeps : K now u
@@ -221,7 +221,7 @@ module _ (asked : ℕ → Option Ask) (had : ServerId → Option Association) wh
     along_answers a p [] r rows = refl
     along_answers a p (o ∷ xs) r rows = along_answers a p xs r (behind r rows (answer_to a o)) ∙ plain_behind (answer_to a o) p r rows
 
-    -- an operation that waits no more, or is sent
+    -- an operation that no longer waits, or is sent
     staged : (R : Rows) (o : Operation) (st : Stage) → (cs.is_sent o ≡ true ⊎ IsNoSync o.ask) → OpOk R o → OpOk R (cs.at_stage st o)
     staged R o st w k = record { known = k.known; sync = go o.ask w k.sync }
       where
@@ -386,7 +386,7 @@ module _ (asked : ℕ → Option Ask) (had : ServerId → Option Association) wh
           (w.ops, record { at = w.at; rows = w.rows; here = w.here; fine = w.fine; ops = λ o h. absurd h }) in
           requested now tick b (cp.requests now tick b) (requests now tick b) (rested now tick a z.1)
 
-    -- What is reported is owed no more.
+    -- What is reported is no longer owed.
     told_here : (f : FileId) (rows : List LostPage) → f.server ≡ s → told_by (Some (asks.Sync f)) s rows ≡ pages.untold rows f.ino
     told_here f rows e = ap (λ b. if b then still_owed rows f.ino else rows) (eq-eqb f.server.0 s.0 (ap (λ (z : ServerId). z.0) e)) ∙ still_owed_is rows f.ino
 

@@ -38,7 +38,7 @@ abbrev pub MayFollow : List SessionCall → Sessions → Type 0
 MayFollow [] t = Unit {0}
 MayFollow (call ∷ calls) t = MayCall call t × MayFollow calls (called call t)
 
--- The number is fresh no more, in any epoch. While it is the latest, which is while the next one is fresh, it gets this reply.
+-- The number is no longer fresh, in any epoch. While it is the latest, which is while the next one is fresh, it gets this reply.
 pub record IsTaken (t : Sessions) (c : ClientId) (life : Life) (number : ℕ) (reply : Body) : Type 0 where
   pub never : (epoch : Epoch) → ¬ (take t c life epoch number ≡ Fresh)
   pub latest : (epoch : Epoch) → take t c life epoch (number + 1) ≡ Fresh → take t c life epoch number ≡ Again reply

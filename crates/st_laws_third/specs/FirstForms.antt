@@ -24,7 +24,7 @@ use Rattle.st_rules.specs.declared.observation.Observation.{Observation}
 abbrev pub as_third : Event → ThirdEvent
 as_third e = third.Plain e
 
--- what was observed at an event, likewise
+-- what was observed at an event, in the same way
 abbrev pub all_as_third : List Observation → List ThirdObservation
 all_as_third os = map plain_seen os
 

@@ -34,7 +34,7 @@ key_by op ask = (op, ask)
 abbrev asked_of : ClientId → Ask → ClientId × FileId
 asked_of c ask = (c, file_of ask)
 
--- What is seen of a step is told of the asks of a client.
+-- What is seen of a step concerns the asks of a client.
 abbrev pub asked_once : Ask → AsksOf → AsksOf
 asked_once ask a = record { count = a.count + 1; pending = a.pending ++ (a.count + 1, ask) ∷ [] }
 

@@ -136,7 +136,7 @@ record IsFresh (c : ClientId) (site : WorldClient) (x : IssuedCommand) (d : Disk
 abbrev IsAt : World → ℕ → IssuedCommand → DiskCommand → Type 0
 IsAt w k x d = (numbered w.commands k ≡ Some x) × (disks.command_at w.disks.commands k ≡ Some d)
 
--- What outputs leave: the clients and the clocks, and as many commands more as are told to the disks.
+-- What outputs leave: the clients and the clocks, and as many more commands as are issued to the disks.
 record Says (c : ClientId) (site : WorldClient) (v u : World) : Type 0 where
   more : ℕ
   commands : length u.commands ≡ length v.commands + more

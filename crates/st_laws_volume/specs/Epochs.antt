@@ -8,7 +8,7 @@ use Rattle.st_laws_volume.specs.Options.{OnSome}
 use Rattle.st_laws_volume.specs.Witness.{led_by, led_to}
 use Rattle.st_volume.specs.Volume.{Volume, epoch}
 
--- each server that there is
+-- each existing server
 abbrev pub HasEpochsOf : World → Volume → Type 0
 HasEpochsOf w v =
     (s : ServerId) (node : ServerNode)

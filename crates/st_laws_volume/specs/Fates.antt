@@ -1,4 +1,4 @@
--- What becomes of entries where no node takes a step: the volume takes these events.
+-- What becomes of entries if no node takes a step: the volume takes these events.
 use Rattle.std.specs.Prelude.{◌≡◌, Bool, true, false, is_some}
 use Rattle.st_messages.specs.declared.event.Event.{Event}
 use Rattle.st_messages.specs.declared.event.Event.TheVariants as events

@@ -12,7 +12,7 @@ use Rattle.st_volume.specs.Volume.{Volume, run}
 abbrev pub StepsShowTheEvent : Type 0
 StepsShowTheEvent = (t : Witness) (v : Volume) (x : Step) → filter is_seen (steps_of t v x) ≡ seen_of x
 
--- Parts: steps and then others are taken where the others are taken after the first ones.
+-- Parts: steps and then others are taken if the others are taken after the first ones.
 abbrev pub RunsInParts : Type 0
 RunsInParts =
     (xs ys : List VolumeStep) (v : Volume) → run (xs ++ ys) v ≡ option_and_then (run ys) (run xs v)

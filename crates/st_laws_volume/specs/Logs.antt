@@ -59,7 +59,7 @@ pub record IsLogOf (os : List LogEntry) (v : Volume) : Type 0 where
 abbrev pub LogsAgree : Promise
 LogsAgree past x = OnSome (IsLogOf x.after.world.log) (led_by (led_to past x) x).volume
 
--- In every run: what is promised is so at every step, from the world of every head and over every
+-- In every run: what is promised holds at every step, from the world of every head and over every
 -- list of events in their ranges.
 abbrev pub InEveryRun : Promise → Type 0
 InEveryRun promise =

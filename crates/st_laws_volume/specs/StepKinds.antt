@@ -10,7 +10,7 @@ use Rattle.st_volume.specs.declared.step.VolumeStep.{VolumeStep}
 use Rattle.st_volume.specs.declared.step.VolumeStep.TheVariants as kinds
 use Rattle.st_volume.specs.Volume.{Volume, run, step}
 
--- the volume takes those steps that pass a test, where it has taken all before them
+-- the volume takes those steps that pass a test, if it has taken all before them
 unfoldable pub AreTaken : (VolumeStep → Bool) → List VolumeStep → Volume → Type 0
 AreTaken which [] v = ⊤
 AreTaken which (it ∷ rest) v =

@@ -119,7 +119,7 @@ waiting w = flat_map waiting_of w.clients
 
 -- The steps of an event.
 
--- a server serves a request: it is of its client's session, in its turn, and of its epoch
+-- a server serves a request: it belongs to its client's session, is next, and has the server's epoch
 abbrev pub is_fresh : Taken Body → Bool
 is_fresh takes.Fresh = true
 is_fresh taken = false
@@ -177,7 +177,7 @@ is_request_for s (bodies.Cut ino g from) (asks.Cut f p) =
 is_request_for s (bodies.Name op) (asks.Name r ask) = (r.0 == s.0) && is_name_for ask op
 is_request_for s body ask = false
 
--- the ask that led to a request takes effect; where there is none, a number that no ask has
+-- the ask that led to a request takes effect; if there is none, a number that no ask has
 abbrev pub is_behind : ServerId → Header → Behind → Bool
 is_behind s h b =
     ((b.client.0 == h.from) && (b.server.0 == s.0))

@@ -1,5 +1,5 @@
 //! Every run of the world is a run of the volume: what is seen of an event as steps of the volume,
-//! and the steps that it is. Only parts of the law itself are proved: those that say "where the
+//! and the steps that it is. Only parts of the law itself are proved: those that say "if the
 //! volume has taken the steps" don't say that it takes them.
 #![tactic(auto)]
 
@@ -20,7 +20,7 @@ pub fn steps_show_the_event()
     ensures { StepsShowTheEvent }
 {}
 
-/// The volume takes steps and then others where it takes the others after the first ones.
+/// The volume takes steps and then others if it takes the others after the first ones.
 pub fn runs_go_on_in_parts()
     ensures { RunsInParts }
 {}
@@ -43,7 +43,7 @@ pub fn pages_agree()
 {}
 
 /// In every run the volume takes the steps of an event at which no node takes a step and no clock
-/// advances, where it has taken those of all events before it.
+/// advances, if it has taken those of all events before it.
 pub fn still_events_are_taken()
     ensures { InEveryRun StillEventsAreTaken }
 {}
@@ -89,37 +89,37 @@ pub fn kinds_are_enough()
     ensures { KindsAreEnough }
 {}
 
-/// In every run the volume takes each crash of a client, start of a server and failed read, where
+/// In every run the volume takes each crash of a client, start of a server and failed read, if
 /// it has taken all steps before it.
 pub fn free_steps_are_taken()
     ensures { InEveryRun (StepsAreTaken is_free) }
 {}
 
-/// In every run the volume takes each ask that comes, where it has taken all steps before it: at
+/// In every run the volume takes each ask that comes, if it has taken all steps before it: at
 /// most sixteen asks of its client are open.
 pub fn asks_are_taken()
     ensures { InEveryRun (StepsAreTaken is_ask) }
 {}
 
-/// In every run the volume takes each line of a write or a patch, where it has taken all steps
+/// In every run the volume takes each line of a write or a patch, if it has taken all steps
 /// before it: it is the next one, and tells what took effect just before it.
 pub fn change_lines_are_taken()
     ensures { InEveryRun (StepsAreTaken is_change_line) }
 {}
 
-/// In every run the volume takes the line of each entry, where it has taken all steps before it: a
+/// In every run the volume takes the line of each entry, if it has taken all steps before it: a
 /// cut that a server tells has just taken effect, as the server served the request for it.
 pub fn lines_are_taken()
     ensures { InEveryRun (StepsAreTaken is_line) }
 {}
 
-/// In every run each entry that joins the log of the volume has its line in that event, where the
+/// In every run each entry that joins the log of the volume has its line in that event, if the
 /// volume has taken all steps before it.
 pub fn entries_are_told()
     ensures { InEveryRun EntriesAreTold }
 {}
 
-/// In every run the volume takes each failed write of which a client is told, where it has taken
+/// In every run the volume takes each failed write of which a client is told, if it has taken
 /// all steps before it: the write carried an entry of the log.
 pub fn failed_writes_are_taken()
     ensures { InEveryRun (StepsAreTaken is_failed_write) }

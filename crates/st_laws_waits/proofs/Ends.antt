@@ -227,7 +227,7 @@ module _ (w : Waiter) (n : ServerState) (now : Stamp) (i : ServerInput) (known :
       kept : IsFirst w l → IsFirst w (locks.forget l c)
       kept f = first_among w l (λ v. not (is_wait_by c v)) (other_client w c ne) f
 
-  -- after the thefts its client's session is of its life
+  -- after the thefts its client's session belongs to its life
   lives_there : (s : Session) → sessions.session_of (thefts (turn n []) now).state.sessions w.client ≡ Some s → s.life.0 ≡ w.life.0
   lives_there s e = lives s (sym ((left n.config n.authority.wait 0 now n known).sessions w.client not_robbed) ∙ e)
 

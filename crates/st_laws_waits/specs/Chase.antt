@@ -28,7 +28,7 @@ abbrev pub Silent : ServerInput → ℕ → GrantNo → ClientId → Type 0
 Silent Tick ino g c = Unit {0}
 Silent (Control m) ino g c = m.header.from ≡ c.0 → answers_for ino g m.body ≡ true → ⊥
 
--- A demand since a moment: answered, it was sent before the moment, and it is not old; else it waits since less than a retry and a gap.
+-- A demand since a moment: answered, it was sent before the moment, and it is not old; otherwise it has waited for less than a retry and a gap.
 abbrev pub ChasedSince : ℕ → Config → ℕ → ℕ → ℕ → Option Stamp → Type 0
 ChasedSince from k gap last sent None = (sent ≤ from) × (last < from + k.retry)
 ChasedSince from k gap last sent (Some t) = t.0 < from + k.retry + gap

@@ -13,7 +13,7 @@ use Rattle.st_rules.specs.Names as names
 use Rattle.st_rules.specs.Names.{Names}
 use Rattle.st_laws_waits.specs.Chase.{IsFirst}
 
--- The lock that was waited for is there: its client has a row of the wait's life and mode, and waits for the file no more.
+-- The lock that was waited for is there: its client has a row of the wait's life and mode, and no longer waits for the file.
 pub record IsGranted (w : Waiter) (l : Locks) : Type 0 where
   pub row : LockRow
   pub found : row_of l w.client w.ino ≡ Some row
@@ -34,7 +34,7 @@ abbrev pub RemovesFile : Waiter → Names → Message → Type 0
 RemovesFile w ns m =
     (dir : ℕ) × ((name : List ℕ) × ((g : GrantNo) × ((m.body ≡ bodies.Name (Remove dir name g)) × (names.lookup ns dir name ≡ Ok w.ino))))
 
--- Why a wait is the first of its file no more, by the message that the server received, if it received one, the names that it had, and the timers and
+-- Why a wait is no longer the first of its file, by the message that the server received, if it received one, the names that it had, and the timers and
 -- locks that it has now.
 pub data EndsBy (w : Waiter) (received : Option Message) (ns : Names) (a : Authority) (l : Locks) : Type 0 where
   Granted : IsGranted w l → EndsBy w received ns a l

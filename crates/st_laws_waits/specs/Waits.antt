@@ -1,4 +1,4 @@
--- What is promised of locks that are waited for. Under one premise, that a running server takes a tick at least once in a gap of its own clock:
+-- What is promised about locks that are waited for. Under one premise, that a running server takes a tick at least once in a gap of its own clock:
 -- demands are sent again and answered, or their clients are suspected; suspects are robbed; and no lock is kept for long from the client that waits
 -- first for it. Under none: for which reasons a wait ends, and that grace ends.
 use Rattle.std.specs.Prelude.{◌≡◌, ◌⊎◌, ℕ, ◌+◌, ◌*◌, ◌≤◌, ◌<◌, Bool, true, false, ◌&&◌, not, ◌==◌, if◌then◌else◌, List, [], ◌∷◌, ◌++◌, Option, Some, None}
@@ -148,14 +148,14 @@ DemandsAreRepeated k s gap past x =
     (server_clock s x.after.world < d.sent.0 + k.retry + gap) ⊎ (server_clock s x.after.world ≤ server_clock s i.after.world + gap)
 
 -- Locks come back: while a wait is the first of its file and no other client answers for the file, at most a retry, the demand time, the
--- steal wait and three gaps go by, less three ticks, by the server's clock. So this long after the last answer it is the first no more.
+-- steal wait and three gaps go by, less three ticks, by the server's clock. So this long after the last answer it is no longer the first.
 abbrev pub LocksComeBack : Config → ServerId → ℕ → Promise
 LocksComeBack k s gap past x =
     (before : List Step) (i : Step) (during : List Step) (w : Waiter) → past ++ x ∷ [] ≡ before ++ i ∷ during → FirstSince s w i during →
     NoneAnswers s w during →
     server_clock s x.after.world + 3 ≤ server_clock s i.after.world + k.retry + k.demand + steal_wait k + 3 * gap
 
--- Locks come back after a start too: where the wait is the first of its file from any moment on, in grace too, the bound is one steal wait more, less
+-- Locks come back after a start too: if the wait is the first of its file from any moment on, in grace too, the bound is one steal wait more, less
 -- one tick.
 abbrev pub LocksComeBackAfterStarts : Config → ServerId → ℕ → Promise
 LocksComeBackAfterStarts k s gap past x =
@@ -165,7 +165,7 @@ LocksComeBackAfterStarts k s gap past x =
 
 -- How waits and graces end.
 
--- the message, where it is to this server
+-- the message, if it goes to this server
 abbrev pub received_in : ServerId → Option SentMessage → Option Message
 received_in s None = None
 received_in s (Some m) = if m.message.header.to == server_node s then Some m.message else None

@@ -13,7 +13,7 @@ use Rattle.st_laws_waits.specs.Bounds.{RowsInTime}
 abbrev pub TimersRun : ℕ → Authority → Type 0
 TimersRun now a = (x : Suspect) → Has x a.suspects → (x.start.0 ≤ now) × (now < x.start.0 + a.wait)
 
--- a step so far, after the thefts, where the last tick was before this moment
+-- a step so far, after the thefts, if the last tick was before this moment
 pub record WithinStep (k : Config) (wait last : ℕ) (now : Stamp) (g : Option Grace) (t : ServerTurn) : Type 0 where
   pub config : t.state.config ≡ k
   pub wait_is : t.state.authority.wait ≡ wait

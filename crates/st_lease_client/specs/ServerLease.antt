@@ -21,11 +21,11 @@ pub record ServerLease : Type 0 where
 abbrev pub no_lease : ServerId → Config → ServerLease
 no_lease server config = record { server = server; config = config; lease = None }
 
--- the phase, where a lease is held
+-- the phase, if a lease is held
 abbrev pub phase : ServerLease → Stamp → Option Phase
 phase l now = leases.phase_at l.config l.lease now
 
--- the end, where a lease is held
+-- the end, if a lease is held
 abbrev pub end : ServerLease → Option Stamp
 end l = leases.end_at l.config l.lease
 

@@ -46,7 +46,7 @@ impl Lease {
         }
     }
 
-    /// The phase of the lease at a moment, or `None` where no lease is held.
+    /// The phase of the lease at a moment, or `None` if no lease is held.
     pub fn phase(&self, now: Stamp) -> Option<Phase>
         ensures { result ≡ leases.phase self.now now }
     {
@@ -54,7 +54,7 @@ impl Lease {
         Some(held.phase(&self.config, now))
     }
 
-    /// The moment from which the lease is over, or `None` where no lease is held.
+    /// The moment from which the lease is over, or `None` if no lease is held.
     pub fn end(&self) -> Option<Stamp>
         ensures { result ≡ leases.end self.now }
     {
@@ -105,7 +105,7 @@ impl Lease {
         self.standing(now)
     }
 
-    /// Renews the lease: its date becomes the stamp, where the lease is not condemned and the stamp
+    /// Renews the lease: its date becomes the stamp, if the lease is not condemned and the stamp
     /// is later. The standing is given back as it is then, at its own moment.
     pub fn renew(&mut self, standing: Standing, stamp: Stamp, now: Stamp) -> Standing
         requires server { server_of standing ≡ self.old.server }
@@ -122,7 +122,7 @@ impl Lease {
         self.standing(now)
     }
 
-    /// Condemns the lease: it is not renewed any more, and is at least in quiesce. The standing is
+    /// Condemns the lease: it is no longer renewed, and is at least in quiesce. The standing is
     /// given back as it is then, at its own moment.
     pub fn condemn(&mut self, standing: Standing) -> Standing
         requires server { server_of standing ≡ self.old.server }
@@ -144,7 +144,7 @@ impl Lease {
         let _at = receipt.spend();
     }
 
-    /// Ends a lost lease whose pages, locks and commands were discarded: no lease is held any more.
+    /// Ends a lost lease whose pages, locks and commands were discarded: no lease is held then.
     pub fn close_lost(
         &mut self,
         pages: PagesGone,

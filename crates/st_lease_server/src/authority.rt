@@ -91,7 +91,7 @@ impl Authority {
         timer_of(&self.timers, client).is_none()
     }
 
-    /// Since when the client's timer runs, or `None` where it does not run. It does not allocate.
+    /// Since when the client's timer runs, or `None` if it does not run. It does not allocate.
     pub fn started(&self, client: ClientId) -> Option<Stamp>
         ensures { result ≡ authority.started self.now client }
     {
@@ -99,7 +99,7 @@ impl Authority {
         Some(timer.start)
     }
 
-    /// Whether no timer is over. It looks at the earliest one alone.
+    /// Whether no timer is over. It looks only at the earliest one.
     fn none_over(&self, now: Stamp) -> bool
         ensures { OnTrue result (list_any (authority.is_over self.now.wait now) self.now.suspects ≡ false) }
     {

@@ -1,4 +1,4 @@
--- The names at which a link was attached, where it tells them.
+-- The names at which a link was attached, if it tells them.
 use Rattle.std.specs.Prelude.{◌≡◌, ℕ, List, [], ◌∷◌, ◌++◌, ◌⊎◌}
 use Rattle.std.specs.declared.option.Option.{Option}
 use Rattle.std.specs.declared.option.Option.TheVariants.{None, Some}

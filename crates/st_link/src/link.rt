@@ -54,7 +54,7 @@ pub trait Link: Source + Sink {
     /// The names that `attach` was called with, if the link knows them.
     ghost attached: { Self → Option (List (List ℕ)) };
 
-    /// Attaches the link at this name. Where it fails, the link may not tell the name.
+    /// Attaches the link at this name. If it fails, the link may not tell the name.
     fn attach(&mut self, name: &str) -> Result<(), Failed>
         ensures called { OnOk result (Attaches (attached self.old) (attached self.new) name.now) }
         ensures told { OnErr result (MayAttach (attached self.old) (attached self.new) name.now) }

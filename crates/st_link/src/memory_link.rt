@@ -141,7 +141,7 @@ impl Link for MemoryLink {
 
     ghost one_count = { λ x. refl };
 
-    /// It fails if the number of the call is in the list, or if it runs out of memory, where it
+    /// It fails if the number of the call is in the list, or if it runs out of memory; then it
     /// does not tell the name.
     fn attach(&mut self, name: &str) -> Result<(), Failed>
         ensures called { OnOk result (Attaches (Some self.old.names) (Some self.new.names) name.now) }

@@ -55,7 +55,7 @@ impl<R: Files + Net + Drop> UnixLink<R> {
         Failed
     }
 
-    /// Accepts one stream of the listener: the link reads and writes it from now on. Where it
+    /// Accepts one stream of the listener: the link reads and writes it from now on. If it
     /// fails, the link keeps the stream that it had.
     pub fn adopt(&mut self, listener: UnixListener) -> Result<(), Failed>
         ensures cause { HasCause self.old.faults self.new.faults result }
@@ -128,7 +128,7 @@ impl<R: Files + Net + Drop> Link for UnixLink<R> {
 
     ghost one_count = { λ x. refl };
 
-    /// Binds a listener at this path, and adopts the first stream that comes. Where it fails, the
+    /// Binds a listener at this path, and adopts the first stream that comes. If it fails, the
     /// link keeps the stream that it had.
     fn attach(&mut self, name: &str) -> Result<(), Failed>
         ensures called { OnOk result (Attaches None None name.now) }

@@ -29,7 +29,7 @@ no_locks_of s = record { server = s; locks = no_cached_locks }
 abbrev pub with_locks : LockCache → ServerLocks → ServerLocks
 with_locks c s = record s { locks = c }
 
--- What always holds: a file has one lock, one greatest grant and one demand; a lock is demanded only where it is held; no lock's grant is above the greatest
+-- What always holds: a file has one lock, one greatest grant and one demand; a lock is demanded only if it is held; no lock's grant is above the greatest
 -- seen of its file.
 pub record IsCached (c : LockCache) : Type 0 where
   pub rows_once : are_once same_lock c.rows ≡ true
@@ -38,7 +38,7 @@ pub record IsCached (c : LockCache) : Type 0 where
   pub demanded_held : list_all (is_held_for c) c.demanded ≡ true
   pub rows_seen : list_all (is_seen c) c.rows ≡ true
 
--- an install takes the grant exactly where it is above the greatest seen
+-- an install takes the grant exactly if it is above the greatest seen
 abbrev pub Installs : ServerLocks → ServerLocks → Bool → ℕ → GrantNo → Mode → Type 0
 Installs old new taken ino g mode = (taken ≡ is_above_seen old.locks ino g) × (new ≡ with_locks (install_grant old.locks ino g mode) old)
 

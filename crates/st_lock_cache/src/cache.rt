@@ -182,7 +182,7 @@ impl LockCache {
         Ok(())
     }
 
-    /// A grant of the file in this mode. It is taken, and `true` is returned, exactly where its
+    /// A grant of the file in this mode. It is taken, and `true` is returned, exactly if its
     /// number is above the greatest seen of the file: then it is the file's lock and the greatest
     /// seen, and the file's demand is forgotten. If the call runs out of memory, nothing changes.
     #[tactic(auto, unfolding(st_rules::specs::ClientLocks::install_grant, st_rules::specs::ClientLocks::installed))]
@@ -279,9 +279,9 @@ impl LockCache {
         Some((lock.g, demand.to))
     }
 
-    /// Reduces the lock of a demanded file: demanded to `None` it goes, else it is shared. The
+    /// Reduces the lock of a demanded file: demanded to `None` it goes, otherwise it is shared. The
     /// demand is forgotten. It returns the lock's grant and the mode that was demanded, or `None`
-    /// where the file is not demanded. It does not allocate.
+    /// if the file is not demanded. It does not allocate.
     #[tactic(auto, unfolding(st_rules::specs::ClientLocks::reduce, st_rules::specs::ClientLocks::reduce_at))]
     pub fn reduce(&mut self, ino: u32) -> Option<(GrantNo, Mode)>
         ensures { Reduces self.old self.new result (locks.reduce self.old.locks ino) }

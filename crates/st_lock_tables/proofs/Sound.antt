@@ -122,7 +122,7 @@ less_if : (b : Bool) (new old : LockRow) → Less new old → Less (cond b new o
 less_if true new old l = l
 less_if false new old l = record { client = refl; ino = refl; g = refl; mode = inl refl }
 
--- a change of some rows alone
+-- a change of only some rows
 pub weakens_some : (p : LockRow → Bool) (f : LockRow → LockRow) (r : LockRow) → Weakens f r → Less (if p r then f r else r) r
 weakens_some p f r w = less_if (p r) (f r) r w
 

@@ -58,7 +58,7 @@ has_no_row rows c ino = not (is_some (find (is_row_of c ino) rows))
 abbrev pub waits_alone : List LockRow → ClientId → Waiter → Bool
 waits_alone rows c w = is_wait_by c w && has_no_row rows c w.ino
 
--- a row as it is told
+-- a row as it is reported
 abbrev pub told : Option LockRow → Option (GrantNo × Mode)
 told None = None
 told (Some r) = Some (r.g, r.mode)
@@ -67,7 +67,7 @@ told (Some r) = Some (r.g, r.mode)
 abbrev pub acquired : Locks → Verdict → Acquired
 acquired l v = record { locks = l; verdict = v }
 
--- an acquire answers as its definition; where it refuses and if memory runs out nothing changes
+-- an acquire answers as its definition; if it refuses and if memory runs out nothing changes
 abbrev pub Answers : Locks → Locks → Result Verdict LockRefusal → Result Acquired AcquireRefusal → Type 0
 Answers old new (Ok v) machine = machine ≡ Ok (acquired new v)
 Answers old new (Err Memory) machine = new ≡ old
@@ -95,7 +95,7 @@ same_file a b = a.0 == b.0
 abbrev pub with_one : Locks → LockRow → Locks
 with_one l r = record l { rows = l.rows ++ r ∷ [] }
 
--- an install answers as its definition; where it refuses nothing changes, and if memory runs out nothing is said
+-- an install answers as its definition; if it refuses nothing changes, and if memory runs out nothing is promised
 abbrev pub Installs : Locks → Locks → Result (Unit {0}) LockRefusal → Result Locks InstallRefusal → Type 0
 Installs old new (Ok v) machine = machine ≡ Ok new
 Installs old new (Err Memory) machine = Unit {0}
@@ -114,7 +114,7 @@ clients_of p rows = map client (rising (map client_of_row (filter p rows)))
 abbrev pub file_granted : ℕ → Granting → Granting
 file_granted ino p = grant_file ino (length p.locks.waiters) p
 
--- the client's row of the file is demanded, where that is due
+-- the client's row of the file is demanded, if that is due
 abbrev pub row_demanded : Pass → Mode → ClientId → ℕ → Demanding → Demanding
 row_demanded pass to c ino d = demand_row pass.config pass.now pass.tick to (row_of d.locks c ino) d
 

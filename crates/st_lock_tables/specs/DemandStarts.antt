@@ -43,7 +43,7 @@ abbrev pub KeepsSince : Option Stamp → Option Stamp → Type 0
 KeepsSince None new = ⊤
 KeepsSince (Some since) new = new ≡ Some since
 
--- the set has each row's moment, file and client, where the row waits for an answer, and nothing else
+-- the set has each row's moment, file and client, if the row waits for an answer, and nothing else
 abbrev pub AreListed : List LockRow → BTreeSet (Stamp × ℕ × ClientId) → Type 0
 AreListed rows set = (s : Stamp) (i : ℕ) (c : ClientId) → contains wait_order set (s, i, c) ≡ is_since s (since_of (find (is_row_of c i) rows))
 
@@ -55,7 +55,7 @@ Waits = BTreeSet (Stamp × ℕ × ClientId)
 abbrev pub is_wait : Option Stamp → ℕ → ClientId → Stamp → ℕ → ClientId → Bool
 is_wait since ino client s i c = is_since s since && (same_client c client && (i == ino))
 
--- one demand, if it waits, is in the set no more
+-- one demand, if it waits, is no longer in the set
 abbrev pub TakesOut : Option Stamp → ℕ → ClientId → Waits → Waits → Type 0
 TakesOut since ino client old new =
     (s : Stamp) (i : ℕ) (c : ClientId) → contains wait_order new (s, i, c) ≡ contains wait_order old (s, i, c) && not (is_wait since ino client s i c)
@@ -65,7 +65,7 @@ abbrev pub PutsIn : Option Stamp → ℕ → ClientId → Waits → Waits → Ty
 PutsIn since ino client old new =
     (s : Stamp) (i : ℕ) (c : ClientId) → contains wait_order new (s, i, c) ≡ contains wait_order old (s, i, c) || is_wait since ino client s i c
 
--- no demand on this client is in the set any more
+-- the set no longer has a demand on this client
 abbrev pub Forgets : ClientId → Waits → Waits → Type 0
 Forgets client old new =
     (s : Stamp) (i : ℕ) (c : ClientId) → contains wait_order new (s, i, c) ≡ contains wait_order old (s, i, c) && not (same_client c client)

@@ -125,14 +125,14 @@ fn drop_among(clients: &mut Vec<ClientId>, suspects: &[ClientId])
 }
 
 impl PlainTable {
-    /// The first waiter of the file, where no other client's row conflicts.
+    /// The first waiter of the file, if no other client's row conflicts.
     fn next_waiter(&self, ino: u32) -> Option<Waiter>
         ensures next { result ≡ locks.next_waiter self.now ino }
         ensures client { IfSome result (λ w. IsClient w.client) }
         ensures lock { IfSome result (λ w. is_lock w.mode ≡ true) }
         ensures free { IfSome result (λ w. list_any (locks.stands_against w.client w.ino w.mode) self.now.rows ≡ false) }
     {
-        // For its clause `clients`: who waits is one of clients 1 to 16.
+        // For its clause `clients`: whoever waits is one of clients 1 to 16.
         let _waits = self.waits.len();
         let w = self.waits.first_on(ino)?;
         if self.rows.stands_against(w.client, w.ino, w.mode) {
@@ -193,7 +193,7 @@ impl PlainTable {
         Ok(())
     }
 
-    /// The client's row of the file is demanded, where that is due.
+    /// The client's row of the file is demanded, if that is due.
     #[tactic(auto, unfolding(st_rules::specs::Locks::demand_row, st_rules::specs::Locks::demand_with))]
     fn demand_row(
         &mut self,

@@ -83,7 +83,7 @@ fn remove_wait(waits: &mut ClientTable<Waiter>, client: ClientId, ino: u32)
     }
 }
 
-/// One more, where it is so.
+/// One more, if it is true.
 fn one_more(count: u64, so: bool) -> u64
     requires { count + 1 < 2 ^ 64 }
     ensures more { result ≡ count + (if so then 1 else 0) }
@@ -221,7 +221,7 @@ impl PlainTable {
     }
 
     /// The demands that wait for an answer: since when, of which file, of which client; a row is
-    /// there exactly where its demand waits.
+    /// there exactly if its demand waits.
     pub fn by_since(&self) -> &BTreeSet<Unanswered>
         ensures { (s : Stamp) (i : ℕ) (c : ClientId) → contains wait_order result.now (s, i, c) ≡ is_since s (since_of (locks.row_of self.now c i)) }
     {
@@ -403,7 +403,7 @@ impl PlainTable {
         }
     }
 
-    /// The client has rows or waits on fewer than 1,024 files. Its waits are looked at only where
+    /// The client has rows or waits on fewer than 1,024 files. Its waits are looked at only if
     /// it has fewer rows, and waits that could make up the number.
     fn has_few(&self, client: ClientId) -> Result<bool, AllocError>
         ensures { IfOk result (λ few. few ≡ nat_lt (length (locks.files_of self.now client)) 1024) }
@@ -481,7 +481,7 @@ impl PlainTable {
     /// granted at all.
     ///
     /// # Errors
-    /// `TooManyLocks` where the client has neither row nor wait on the file and has 1,024 files
+    /// `TooManyLocks` if the client has neither row nor wait on the file and has 1,024 files
     /// with one of them; `Memory` if memory runs out. Then nothing changed.
     #[tactic(auto, unfolding(st_rules::specs::Locks::acquire, st_rules::specs::Locks::acquire_at))]
     pub fn acquire(

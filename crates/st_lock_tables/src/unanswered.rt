@@ -10,7 +10,7 @@ use std::collections::BTreeSet;
 /// A demand that waits for an answer: since when, of which file, and of which client.
 pub type Unanswered = (Stamp, u32, ClientId);
 
-/// The demand waits no longer, where it did since this moment.
+/// The demand waits no longer, if it did since this moment.
 pub fn take_out(set: &mut BTreeSet<Unanswered>, since: Option<Stamp>, ino: u32, client: ClientId)
     ensures { TakesOut since ino client set.old set.new }
 {
@@ -19,7 +19,7 @@ pub fn take_out(set: &mut BTreeSet<Unanswered>, since: Option<Stamp>, ino: u32, 
     }
 }
 
-/// The demand waits since this moment, where it waits.
+/// The demand waits since this moment, if it waits.
 pub fn put_in(
     set: &mut BTreeSet<Unanswered>,
     since: Option<Stamp>,

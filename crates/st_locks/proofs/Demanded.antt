@@ -350,7 +350,7 @@ module _ (k : Config) (now : Stamp) (tick : Bool) where
       let q = demand_for k now tick cs (find (is_wait_on x) p.locks.waiters) p in
       lowers_over p.locks q.locks (demand_files k now tick cs xs q).locks (lowers_for cs (find (is_wait_on x) p.locks.waiters) p) (lowers_files cs xs q)
 
--- what is so of each row in the way of a file's first waiter is so where nobody waits
+-- what holds of each row in the way of a file's first waiter holds if nobody waits
 pub none_waits : (l : Locks) (cs : List ClientId) (j : ℕ) (P : Waiter → Option RowDemand → Bool) → find (is_wait_on j) l.waiters ≡ None → EachInWay l cs j P
 none_waits l cs j P q w f c t r e = let u : None ≡ Some w = sym q ∙ f in cc
 

@@ -222,7 +222,7 @@ not_of_file c j i r e n = ap (λ z. (r.client.0 == c.0) && z) (ap (λ z. r.ino =
     no true = refl
     no false = refl
 
--- what is so of the rows in a file's way, in two tables that have the same rows of it
+-- what holds of the rows in a file's way, in two tables that have the same rows of it
 pub each_same : (P : Waiter → Option RowDemand → Bool) (j : ℕ) (l m : Locks) (cs : List ClientId) → SameOn j l m → EachInWay l cs j P → EachInWay m cs j P
 each_same P j l m cs s d w f c t r e =
     let first = sym (first_same j l m s) ∙ f in

@@ -188,7 +188,7 @@ full_settled m h k ms cs a b = record {
 
 -- Marks of one file after another.
 
--- the file is marked, where this is so
+-- the file is marked, if this is true
 pub marked_if : (b : Bool) (ino : ℕ) (old new : TouchedFiles) → b ≡ true → Marks ino old new → MarksAll (λ j. b && (ino == j)) old new
 marked_if b ino old new q a = subst (λ d. MarksAll (λ j. d && (ino == j)) old new) (sym q) a
 

@@ -134,7 +134,7 @@ module _ (k : Config) (now : Stamp) (tick : Bool) (besides cs : List ClientId) (
 
 -- Before the pass.
 
--- files that are marked no more keep what is so of them
+-- files that are no longer marked keep what holds of them
 pub settled_noted : (l : Locks) (g d e : TouchedFiles) (ms : Moments) (was cs : List ClientId) → IsSettled l g d ms was → NotesSuspects d was e cs → IsSettled l g e ms cs
 settled_noted l g d e ms was cs s h = record {
   granted = s.granted;

@@ -90,11 +90,11 @@ KeepsOthers ino old new = (j : ℕ) (s : Stamp) → (ino == j) ≡ false → is_
 abbrev pub IsQuiet : Config → Stamp → Bool → Moments → Type 0
 IsQuiet k now tick ms = tick ≡ true → list_any (is_old k now) ms ≡ false
 
--- files that are marked no more keep their moments; the others were marked or are marked now
+-- files that are no longer marked keep their moments; the others were marked or are marked now
 abbrev pub Wakes : TouchedFiles → Moments → TouchedFiles → Moments → Type 0
 Wakes old was new ms = (j : ℕ) → is_marked new j ≡ false → (is_marked old j ≡ false) × ((s : Stamp) → is_kept was j s ≡ true → is_kept ms j s ≡ true)
 
--- where some file is not marked, it was not, and the clients are the same
+-- if some file is not marked, it was not, and the clients are the same
 abbrev pub NotesSuspects : TouchedFiles → List ClientId → TouchedFiles → List ClientId → Type 0
 NotesSuspects old was new cs = (j : ℕ) → is_marked new j ≡ false → (is_marked old j ≡ false) × (cs ≡ was)
 
@@ -128,11 +128,11 @@ is_shared_wait l c j = list_any (is_wait_of c j) l.waiters && is_waited_besides 
 abbrev pub is_file_of : List (ℕ × GrantNo × Mode) → ℕ → Bool
 is_file_of rows j = list_any (λ r. r.0 == j) rows
 
--- the file is marked too, where somebody waits for it
+-- the file is marked too, if somebody waits for it
 abbrev pub MarksWaited : Locks → ℕ → TouchedFiles → TouchedFiles → Type 0
 MarksWaited l ino old new = MarksAll (λ j. is_waited l ino && (ino == j)) old new
 
--- all files are timed, where those that were not walked were
+-- all files are timed, if those that were not walked were
 abbrev pub Times : List ClientId → (ℕ → Bool) → Locks → Moments → Locks → Moments → Type 0
 Times besides walked l was m ms = (j : ℕ) → (walked j ≡ false → AreTimed was l besides j) → AreTimed ms m besides j
 

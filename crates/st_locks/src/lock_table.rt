@@ -90,7 +90,7 @@ impl LockTable {
     }
 
     /// The demands that wait for an answer: since when, of which file, of which client; a row is
-    /// there exactly where its demand waits.
+    /// there exactly if its demand waits.
     pub fn by_since(&self) -> &BTreeSet<Unanswered>
         ensures { (s : Stamp) (i : ℕ) (c : ClientId) → contains wait_order result.now (s, i, c) ≡ is_since s (since_of (locks.row_of self.now c i)) }
     {
@@ -110,7 +110,7 @@ impl LockTable {
     /// granted at all.
     ///
     /// # Errors
-    /// `TooManyLocks` where the client has neither row nor wait on the file and has 1,024 files
+    /// `TooManyLocks` if the client has neither row nor wait on the file and has 1,024 files
     /// with one of them; `Memory` if memory runs out. Then nothing changed.
     pub fn acquire(
         &mut self,
@@ -301,7 +301,7 @@ impl LockTable {
 
     /// All demands that are due now; `tick` tells whether the old ones are sent once more. It looks
     /// at the rows of the files that a call touched, and on a tick of those of which a demand is
-    /// old; where the suspects changed, of all that are waited for.
+    /// old; if the suspects changed, of all that are waited for.
     pub fn demands_due(
         &mut self,
         now: Stamp,

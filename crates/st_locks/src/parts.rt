@@ -53,7 +53,7 @@ fn are_same(a: &[ClientId], b: &[ClientId]) -> bool
     a == b
 }
 
-/// The clients of which the next pass demands nothing; where they are not those of the last pass,
+/// The clients of which the next pass demands nothing; if they are not those of the last pass,
 /// all files are touched.
 fn note_suspects(
     besides: &mut Vec<ClientId>,
@@ -73,7 +73,7 @@ fn note_suspects(
     }
 }
 
-/// The file was touched, where somebody waits for it.
+/// The file was touched, if somebody waits for it.
 pub(crate) fn touch_waited(
     table: &PlainTable,
     granting: &mut TouchedFiles,
@@ -88,7 +88,7 @@ pub(crate) fn touch_waited(
     demanding.touch_if(ino, waited);
 }
 
-/// The files of some rows were touched, where somebody waits for them.
+/// The files of some rows were touched, if somebody waits for them.
 pub(crate) fn touch_rows(
     table: &PlainTable,
     marks: &mut TouchedFiles,
@@ -101,7 +101,7 @@ pub(crate) fn touch_rows(
     }
 }
 
-/// Files of a client were touched, where another client waits for them.
+/// Files of a client were touched, if another client waits for them.
 pub(crate) fn touch_files(
     table: &PlainTable,
     marks: &mut TouchedFiles,
@@ -115,14 +115,14 @@ pub(crate) fn touch_files(
     }
 }
 
-/// The files of which the client has a row were touched, where another client waits for them.
+/// The files of which the client has a row were touched, if another client waits for them.
 pub(crate) fn touch_locks(table: &PlainTable, marks: &mut TouchedFiles, client: ClientId)
     ensures { MarksAll (is_held_up table.now client) marks.old marks.new }
 {
     touch_files(table, marks, client, table.row_files(client));
 }
 
-/// The files for which the client waits were touched, where another client waits for them too.
+/// The files for which the client waits were touched, if another client waits for them too.
 pub(crate) fn touch_waits(table: &PlainTable, marks: &mut TouchedFiles, client: ClientId)
     ensures { MarksAll (is_shared_wait table.now client) marks.old marks.new }
 {

@@ -8,7 +8,7 @@ use st_tables::rising;
 use std::alloc::{AllocError, Global};
 use std::marker::Model;
 
-/// How many files calls note one by one. Where they touch more, all files count as touched, until a
+/// How many files calls note one by one. If they touch more, all files count as touched, until a
 /// pass has walked them.
 const MOST: usize = 64;
 
@@ -67,7 +67,7 @@ impl TouchedFiles {
         self.all
     }
 
-    /// The files of the list, in rising order. Where there is at most one, the room of the spare
+    /// The files of the list, in rising order. If there is at most one, the room of the spare
     /// list is used.
     pub fn rising(&self, alloc: Global, spare: Vec<u32>) -> Result<Vec<u32>, AllocError>
         ensures { IfOk result (λ v. v.items ≡ keys.rising self.now.files) }
@@ -99,7 +99,7 @@ impl TouchedFiles {
         }
     }
 
-    /// Puts a file last in the list. It takes no memory: where the list is full, all files are
+    /// Puts a file last in the list. It takes no memory: if the list is full, all files are
     /// touched.
     pub fn keep(&mut self, ino: u32)
         ensures { Marks ino self.old self.new }
@@ -113,7 +113,7 @@ impl TouchedFiles {
         }
     }
 
-    /// Puts a file last in the list, where it has fewer than 64 files; else all files are touched.
+    /// Puts a file last in the list if it has fewer than 64; otherwise all files are touched.
     fn keep_few(&mut self, ino: u32)
         ensures { Marks ino self.old self.new }
     {
@@ -124,7 +124,7 @@ impl TouchedFiles {
         }
     }
 
-    /// The file was touched. Where the list has 64 files already, all files are touched: a call
+    /// The file was touched. If the list has 64 files already, all files are touched: a call
     /// never looks through more.
     pub fn touch(&mut self, ino: u32)
         ensures { Marks ino self.old self.new }
@@ -134,7 +134,7 @@ impl TouchedFiles {
         }
     }
 
-    /// The file was touched, where this is so.
+    /// The file was touched, if this is true.
     pub fn touch_if(&mut self, ino: u32, yes: bool)
         ensures { MarksAll (λ j. yes && (ino == j)) self.old self.new }
     {

@@ -56,7 +56,7 @@ impl WakeTimes {
         }
     }
 
-    /// Takes out the first moment where it is old, and gives its file.
+    /// Takes out the first moment if it is old, and gives its file.
     fn pop_old(&mut self, pass: Pass) -> Option<u32>
         ensures others { IfSome result (λ ino. KeepsOthers ino self.old self.new) }
         ensures fewer { IfSome result (λ ino. length self.new < length self.old) }

@@ -34,7 +34,7 @@ pub fn client(number: u16) -> Option<ClientId>
     }
 }
 
-/// The mode of a lock, which is 1 where it is shared and 2 where it is exclusive.
+/// The mode of a lock, which is 1 if it is shared and 2 if it is exclusive.
 pub fn lock(number: u8) -> Option<Mode>
     ensures { IfSome result (λ m. is_lock m ≡ true) }
 {

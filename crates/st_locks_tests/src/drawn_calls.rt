@@ -280,7 +280,7 @@ fn agree(alloc: Global, locks: &LockTable, plain: &Plain, ask: Ask) -> Result<bo
     )
 }
 
-/// A file for which many clients ask, or one of many files, for most of which client 1 alone asks.
+/// A file for which many clients ask, or one of many files, for most of which only client 1 asks.
 fn drawn_ino(draws: &mut Draws, client: u16) -> u32 {
     if client == 1 && draws.draw(4) != 0 {
         return 17 + draws.draw(4_000) as u32;

@@ -10,7 +10,7 @@ pub struct Asked {
     since: Option<u64>,
 }
 
-/// A lock as a plain row; its mode is 1 where it is shared, and 2 where it is exclusive.
+/// A lock as a plain row; its mode is 1 if it is shared, and 2 if it is exclusive.
 #[derive(Clone, Copy)]
 pub struct Row {
     pub client: u16,

@@ -1,4 +1,4 @@
--- How many bytes a message has, from its fields alone.
+-- How many bytes a message has: this follows from its fields.
 use Rattle.std.specs.Prelude.{ℕ, List, [], ◌∷◌, length, ◌+◌, ◌*◌}
 use Rattle.st_base.specs.declared.disk.Command.{Command}
 use Rattle.st_base.specs.declared.disk.Command.TheVariants as commands

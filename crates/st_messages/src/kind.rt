@@ -33,7 +33,7 @@ pub enum Kind {
     Done,
 }
 
-/// Who sends or receives a message.
+/// The nodes that send or receive a message.
 #[derive(Clone, Copy, Debug, PartialEq, Eq)]
 pub enum Party {
     Client,

@@ -1,4 +1,4 @@
--- What the last entry of a page tells of its bytes.
+-- What the last entry of a page says about its bytes.
 use Rattle.std.specs.Prelude.{◌≡◌, ℕ, ◌+◌, true, false, List, ◌∷◌, ◌++◌, length, Option, Some, None}
 use Rattle.std.specs.List.{list_any}
 use Rattle.st_base.specs.Page.{filled}
@@ -24,7 +24,7 @@ pub record IsUntouched (log : List LogEntry) (f : FileId) (p : PageNo) : Type 0 
   pub alone : list_any (matters f p) log ≡ false
   pub zeros : content log f p ≡ filled 0
 
--- what the answer of `last` says of the page
+-- what the answer of `last` says about the page
 abbrev pub LastTells : List LogEntry → FileId → PageNo → Option ℕ → Type 0
 LastTells log f p None = IsUntouched log f p
 LastTells log f p (Some n) = IsLast log f p n

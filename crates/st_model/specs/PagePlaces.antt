@@ -24,7 +24,7 @@ file_page f p = record { server = f.server.0; ino = f.ino; page = p.0 }
 abbrev pub at : {S : Type 0} → IndexMap FilePage (List ℕ) S → FilePage → List ℕ
 at m q = unwrap_or (get same_file_page m q) []
 
--- places with one more, where a test holds
+-- places with one more, if a test holds
 abbrev pub one_more : Bool → List ℕ → ℕ → List ℕ
 one_more b ks k = if b then ks ++ k ∷ [] else ks
 
@@ -65,7 +65,7 @@ abbrev pub last_num : (LogEntry → Bool) → ℕ → ℕ → List LogEntry → 
 last_num m number before [] = before
 last_num m number before (e ∷ es) = last_num m (number + 1) (if m e then number else before) es
 
--- a number, where it is not 0
+-- a number, if it is not 0
 abbrev pub option_of : ℕ → Option ℕ
 option_of zero = None
 option_of (suc n) = Some (suc n)

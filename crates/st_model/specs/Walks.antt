@@ -15,7 +15,7 @@ use Rattle.st_rules.specs.declared.observation.Observation.{Observation}
 use Rattle.st_rules.specs.FlatLog.{is_pending, hard_cut, same_owner, is_of_client, drop_picked, always}
 use Rattle.st_rules.specs.Events.{fate_seen, fates_from}
 
--- a fate, where a pending one becomes the next
+-- a fate, if a pending one becomes the next
 abbrev pub marked_fate : Fate → Fate → Fate
 marked_fate Pending next = next
 marked_fate Hard next = Hard
@@ -43,7 +43,7 @@ pending_from k (e ∷ es) = if is_pending e.fate then k ∷ pending_from (k + 1)
 abbrev pub nth : List LogEntry → ℕ → LogEntry
 nth es k = get_or es k (hard_cut (record { server = record { 0 = 0 }; ino = 0 }) (record { 0 = 0 }))
 
--- what becomes of the entry of a place, where it is pending
+-- what becomes of the entry of a place, if it is pending
 abbrev pub next_at : (ℕ → LogOwner → Fate) → ℕ → List LogEntry → Fate
 next_at next k es = next (k + 1) (nth es k).of
 
@@ -60,7 +60,7 @@ abbrev pub walk : (ℕ → LogOwner → Fate) → List ℕ → List LogEntry →
 walk next [] es = es
 walk next (k ∷ ks) es = walk next ks (step next k es)
 
--- a place, where the fate is pending
+-- a place, if the fate is pending
 abbrev pub if_pending : Fate → ℕ → List ℕ
 if_pending fate k = if is_pending fate then k ∷ [] else []
 

@@ -246,7 +246,7 @@ impl FlatLog {
     }
 
     /// Makes the entry hard if it is pending, and so each earlier pending write and patch of the
-    /// same client, life, file and page. It reads the pending entries alone, and does not allocate.
+    /// same client, life, file and page. It reads only the pending entries, and does not allocate.
     pub fn harden(&mut self, index: u64)
         requires some { 1 ≤ index }
         requires known { index ≤ length self.old }
@@ -267,7 +267,7 @@ impl FlatLog {
         self.observe(&Hardening { index, of }, seen)
     }
 
-    /// Makes the entry gone with this cause if it is pending. It reads the pending entries alone,
+    /// Makes the entry gone with this cause if it is pending. It reads only the pending entries,
     /// and does not allocate.
     #[tactic(auto, using(crate::proofs::Markings::gone_is))]
     pub fn gone(&mut self, index: u64, cause: Cause)
@@ -279,7 +279,7 @@ impl FlatLog {
     }
 
     /// Makes the pending entries of a client that crashed gone, except those that a spare names. It
-    /// reads the pending entries alone, and does not allocate.
+    /// reads only the pending entries, and does not allocate.
     #[tactic(auto, using(crate::proofs::Markings::drop_picked_is))]
     pub fn crash(&mut self, client: ClientId, spared: &[Spare])
         ensures { self.new ≡ walks.without_crashed client spared.now self.old }
@@ -313,7 +313,7 @@ impl FlatLog {
     }
 
     /// Returns the number of the last entry that touches the page and is not gone, if there is one.
-    /// It reads the page's writes and patches and the file's cuts alone, the last ones first, and
+    /// It reads only the page's writes and patches and the file's cuts, the last ones first, and
     /// does not allocate.
     pub fn last(&self, file: FileId, page: PageNo) -> Option<u64>
         ensures last { result ≡ flat_log.last self.now file page }
@@ -338,8 +338,8 @@ impl FlatLog {
     }
 
     /// Writes the bytes of a page into a slice of 4,096 bytes: zeros, changed by the entries that
-    /// touch the page and are not gone, in order. It reads the page's writes and patches and the
-    /// file's cuts alone, and does not allocate.
+    /// touch the page and are not gone, in order. It reads only its writes and patches and the
+    /// file's cuts, and does not allocate.
     pub fn content(&self, file: FileId, page: PageNo, into: &mut [u8])
         requires { length into.old ≡ 4096 }
         ensures { into.new ≡ flat_log.content self.now file page }

@@ -1,4 +1,4 @@
-// What the entries of a log say of one page: the last one that counts, and the bytes that they
+// What the entries of a log say about one page: the last one that counts, and the bytes that they
 // give.
 ghost use Rattle.std.specs.Prelude.{◌≡◌, ◌+◌, ◌<◌, ◌≤◌, ◌&&◌, if◌then◌else◌, nat_le, ℕ, length, get_or, max};
 ghost use Rattle.st_base.specs.Page.{filled};

@@ -323,7 +323,7 @@ module _ (containers : ℕ) (h : MoveHistory) (st : Stands containers h) (k : Se
   abbrev after_world : MoveWorld
   after_world = world_with h.world k.to.0 (site_with x taken_containers) all_sent
 
-  -- what is sent besides is an answer of the container and the version
+  -- what is also sent is an answer of the container and the version
   answer_is : (message : MoveMessage) (q : SentMove) → Has q (answer_sent k (answer_to message)) → (v : ℕ) × (us : List (List ℕ)) × (message ≡ Image (container_of message) v us) × (q.message ≡ Taken (container_of message) v)
   unfolding answer_sent
   answer_is (Taken d v) q j = absurd j

@@ -8,7 +8,7 @@ use Rattle.st_move.specs.declared.refusal.MoveRefusal.TheVariants as refusals
 use Rattle.st_move.specs.Containers.{Containers, leaves, sent_if}
 use Rattle.st_move.specs.Updates.{added}
 
--- a call did what the rule says, or ran out of memory; where it refused, nothing changed
+-- a call did what the rule says, or ran out of memory; if it refused, nothing changed
 abbrev pub Answers : {S : Type 0} → S → S → Result Unit MoveRefusal → Result S MoveRefusal → Type 0
 Answers old new (Ok u) rule = rule ≡ Ok new
 Answers old new (Err refusals.Memory) rule = new ≡ old
@@ -47,7 +47,7 @@ unfoldable pub there : Result ContainerRecord MoveRefusal → Result (Option Con
 there (Ok r) = Ok (Some r)
 there (Err e) = Err e
 
--- the record, where a call is allowed
+-- the record, if a call is allowed
 abbrev pub allowed : ContainerRecord → Result Unit MoveRefusal → Result ContainerRecord MoveRefusal
 allowed r (Ok u) = Ok r
 allowed r (Err e) = Err e
@@ -63,7 +63,7 @@ unfoldable pub leaving_from : Locks → ℕ → List (Option ContainerRecord) �
 leaving_from l place [] = []
 leaving_from l place (r ∷ rs) = leaves l (place + 1) r ∷ leaving_from l (place + 1) rs
 
--- the place of a container among the records, from 0, or the refusal where there is no such container
+-- the place of a container among the records, from 0, or the refusal if there is no such container
 abbrev pub IsPlace : List (Option ContainerRecord) → ℕ → Result ℕ MoveRefusal → Type 0
 IsPlace rs c (Ok p) = (c ≡ p + 1) × (p < length rs)
 IsPlace rs c (Err e) = (e ≡ refusals.NoContainer c) × (numbered rs c ≡ None)

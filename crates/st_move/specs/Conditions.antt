@@ -15,7 +15,7 @@ use Rattle.st_move.specs.Containers.{container_of, has_next}
 use Rattle.st_move.specs.Law.{fresh_history, record_at, run_moves}
 use Rattle.st_move.specs.World.{MoveWorld, first, locked, one}
 
--- What a lock of client 1 needs: one more may be granted, it is granted wherever it is asked for, and it is of the first life.
+-- What a lock of client 1 needs: one more may be granted, it is granted wherever it is asked for, and it is for the first life.
 pub record CanLock (l : Locks) : Type 0 where
   pub room : l.grants + 1 < 2 ^ 32
   pub acquires : (c : ℕ) → (v : Verdict) × (acquire l one first c modes.X true ≡ Ok (acquired (locked l c) v))

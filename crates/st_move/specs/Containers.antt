@@ -35,7 +35,7 @@ begins_at server servers place = (place % servers + 1) == server.0
 unfoldable pub beginning : ServerId → ℕ → ℕ → Option ContainerRecord
 beginning server servers place = if begins_at server servers place then Some (recorded 1 Holding []) else None
 
--- so many containers from this place on, as they begin
+-- this many containers from this place on, as they begin
 unfoldable pub beginnings : ServerId → ℕ → ℕ → ℕ → List (Option ContainerRecord)
 beginnings server servers place zero = []
 beginnings server servers place (suc n) = beginning server servers place ∷ beginnings server servers (place + 1) n
@@ -80,7 +80,7 @@ changeable (Err e) = Err e
 abbrev pub held : Containers → ℕ → Result ContainerRecord MoveRefusal
 held m c = changeable (found m.records c)
 
--- Whether the server serves a container: exactly where it holds it and is not about to send it.
+-- Whether the server serves a container: exactly if it holds it and is not about to send it.
 abbrev pub is_holding : ContainerState → Bool
 is_holding Holding = true
 is_holding s = false
@@ -130,7 +130,7 @@ changed m c (Err e) = Err e
 abbrev pub after_put : Containers → ℕ → List ℕ → Result Containers MoveRefusal
 after_put m c u = changed m c (updated u (held m c))
 
--- Order: a held container is to leave for another server.
+-- Order: a held container must leave for another server.
 abbrev pub with_state : ContainerRecord → ContainerState → ContainerRecord
 with_state r s = record { version = r.version; state = s; updates = r.updates }
 

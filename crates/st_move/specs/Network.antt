@@ -1,4 +1,4 @@
--- Servers with containers in code: what a call at one of them does to all, and what is so of them after a run.
+-- Servers with containers in code: what a call at one of them does to all, and what holds of them after a run.
 use Rattle.std.specs.Prelude.{◌≡◌, ◌≢◌, ◌≤◌, ◌<◌, ◌+◌, ℕ, true, List, [], ◌∷◌, length, Option, Some, None}
 use Rattle.std.specs.List.{list_all}
 use Rattle.st_base.specs.declared.ids.ServerId.{ServerId}
@@ -18,7 +18,7 @@ use Rattle.st_move.specs.World.{MoveTurn, MoveWorld, told, with_site}
 
 -- Calls at one server.
 
--- a call at a server leaves it so and answers so, as the rule says of every world in which the server was as it was
+-- a call at a server leaves it and answers as the rule says, in every world in which the server was as it was
 abbrev pub DoesAt : MoveSite → MoveSite → MoveAnswer → (MoveWorld → ServerId → MoveTurn) → Type 0
 DoesAt old new answer rule = (w : MoveWorld) (s : ServerId) → numbered w.sites s.0 ≡ Some old → rule w s ≡ told (with_site s new w) answer
 
@@ -30,12 +30,12 @@ Refuses why answer = (answer ≡ Refused why) × (why ≢ refusals.Memory)
 abbrev pub with_containers : MoveSite → Containers → MoveSite
 with_containers x m = record { containers = m; locks = x.locks }
 
--- the place of a server among all, from 0, or none where there is no such server
+-- the place of a server among all, from 0, or none if there is no such server
 abbrev pub IsSiteAt : List MoveSite → ServerId → Option ℕ → Type 0
 IsSiteAt sites s None = numbered sites s.0 ≡ None
 IsSiteAt sites s (Some p) = (s.0 ≡ p + 1) × (p < length sites)
 
--- the place of a message among those that were sent, from 0, or none where there is no such message
+-- the place of a message among those that were sent, from 0, or none if there is no such message
 abbrev pub IsSentAt : List SentMove → ℕ → Option ℕ → Type 0
 IsSentAt sent k None = numbered sent k ≡ None
 IsSentAt sent k (Some p) = (k ≡ p + 1) × (p < length sent)

@@ -46,7 +46,7 @@ unfoldable pub sites_behind : ℕ → ℕ → ℕ → ℕ → List MoveSite
 sites_behind servers containers s zero = []
 sites_behind servers containers s (suc n) = fresh_site servers containers (s + 1) ∷ sites_behind servers containers (s + 1) n
 
--- that many servers with so many containers
+-- that many servers with this many containers
 abbrev pub fresh_world : ℕ → ℕ → MoveWorld
 fresh_world servers containers = record { sites = sites_behind servers containers 0 servers; sent = [] }
 
@@ -82,7 +82,7 @@ unfoldable pub list_at : MoveWorld → ServerId → ℕ → Option MoveSite → 
 list_at w s c None = told w (NoServer s)
 list_at w s c (Some x) = list_told w (listed x.containers c)
 
--- Lock and unlock: client 1 has an exclusive lock of the container, or has none. A lock is granted where the container is
+-- Lock and unlock: client 1 has an exclusive lock of the container, or has none. A lock is granted if the container is
 -- served, and refused as a put is.
 abbrev pub one : ClientId
 one = record { 0 = 1 }

@@ -205,7 +205,7 @@ impl UpdateList {
         }
     }
 
-    /// Makes a chunk of the updates that the list has alone, if they are as many as a chunk has.
+    /// Makes a chunk of the updates that no other list shares, if they are as many as a chunk has.
     fn close_chunk(&mut self) -> Result<(), AllocError>
         ensures { self.new ≡ self.old }
     {
@@ -230,8 +230,8 @@ impl UpdateList {
         Ok(())
     }
 
-    /// A copy. It shares the chunks, and takes a copy of a pointer for each update that the list
-    /// has alone: at most 32, except for a list that was made by `from_vec`.
+    /// A copy. It shares the chunks, and takes a copy of a pointer for each update that no other
+    /// list shares: at most 32, except for a list that was made by `from_vec`.
     pub(crate) fn copy(&self) -> Result<UpdateList, AllocError>
         ensures { IfOk result (λ us. us ≡ self.now) }
     {

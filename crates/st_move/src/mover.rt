@@ -151,7 +151,7 @@ impl Mover {
     /// copy of the update, and each 32nd time that of a pointer for each 32 updates.
     ///
     /// # Errors
-    /// `NoContainer`, `Absent`, `Leaving` and `Redirect`; `Full` where the updates would have more
+    /// `NoContainer`, `Absent`, `Leaving` and `Redirect`; `Full` if the updates would have more
     /// than 60,000 bytes; `Memory` if memory runs out. Then nothing changed.
     pub fn put(&mut self, c: u32, update: &[u8]) -> Result<u32, MoveRefusal>
         requires { is_update update.now ≡ true }
@@ -161,10 +161,10 @@ impl Mover {
         put_in(&mut self.records[place], update)
     }
 
-    /// The container is to move to another server, as soon as nobody has a lock row of it.
+    /// The container must move to another server, as soon as nobody has a lock row of it.
     ///
     /// # Errors
-    /// `NoContainer`, `Absent`, `Leaving` and `Redirect`; `Same` where the order is to move it to
+    /// `NoContainer`, `Absent`, `Leaving` and `Redirect`; `Same` if the order is to move it to
     /// this server. Then nothing changed.
     pub fn order(&mut self, c: u32, to: ServerId) -> Result<(), MoveRefusal>
         ensures { Answers self.old self.new result (containers.after_order self.old c to) }

@@ -38,7 +38,7 @@ fn one(alloc: Global, answer: MoveAnswer) -> Result<Vec<MoveAnswer>, AllocError>
     Ok(answers)
 }
 
-/// So many servers as they begin.
+/// This many servers as they begin.
 fn fresh_sites(alloc: Global, servers: u16, containers: u32) -> Result<Vec<MoveSite>, AllocError>
     requires { 1 ≤ servers }
     ensures { IfOk result (λ v. v.items ≡ worlds.sites_behind servers containers 0 servers) }
@@ -107,7 +107,7 @@ fn send_all(
 }
 
 impl MoveWorld {
-    /// So many servers with so many containers, as they begin.
+    /// This many servers with this many containers, as they begin.
     pub(crate) fn new(alloc: Global, servers: u16, containers: u32) -> Result<MoveWorld, AllocError>
         requires { 1 ≤ servers }
         ensures { IfOk result (λ w. w ≡ worlds.fresh_world servers containers) }

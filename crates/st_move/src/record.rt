@@ -185,7 +185,7 @@ pub(crate) fn put_in(entry: &mut Option<ContainerRecord>, update: &[u8]) -> Resu
     }
 }
 
-/// The record's container is to leave.
+/// The record's container must leave.
 #[tactic(auto, unfolding(crate::specs::Containers::found_at, crate::specs::Containers::ordered, crate::specs::Containers::changeable, crate::specs::Calls::there))]
 pub(crate) fn order_in(
     entry: &mut Option<ContainerRecord>,

@@ -5,7 +5,7 @@ use st_base::ServerId;
 use std::alloc::{AllocError, AllocFailed};
 use thiserror::Error;
 
-/// Why a server refuses a call on a container. Where several hold, the first of this list is
+/// Why a server refuses a call on a container. If several hold, the first of this list is
 /// answered, except for `Same`, which comes before `Full`.
 #[derive(Clone, Copy, Debug, PartialEq, Eq, Error)]
 pub enum MoveRefusal {
@@ -24,7 +24,7 @@ pub enum MoveRefusal {
     /// The updates would have that many bytes, more than 60,000.
     #[error("the updates would have {0} bytes")]
     Full(u64),
-    /// The order is to move the container to where it is.
+    /// The order would move the container to where it is.
     #[error("the container is here")]
     Same,
     #[error("out of memory")]

@@ -69,7 +69,7 @@ fn acquire(locks: &mut LockTable, c: u32) -> Result<(), AllocError>
     }
 }
 
-/// Client 1 has no lock of the container; false where it had none.
+/// Client 1 has no lock of the container; false if it had none.
 fn release(locks: &mut LockTable, c: u32) -> bool
     requires { CanLock locks.old }
     ensures had { result ≡ worlds.has_lock locks.old c }
@@ -148,7 +148,7 @@ impl MoveSite {
         }
     }
 
-    /// The container is to move to another server, which is there.
+    /// The container must move to another server, which exists.
     pub(crate) fn order(&mut self, c: u32, to: ServerId) -> Result<MoveAnswer, AllocError>
         ensures { IfOk result (λ a. DoesAt self.old self.new a (λ w s. worlds.order_told w s self.old (containers.after_order self.old.containers c to))) }
     {

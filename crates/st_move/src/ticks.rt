@@ -99,7 +99,7 @@ fn number_of(place: usize) -> u32
     place as u32 + 1
 }
 
-/// The images that are sent, where these records leave.
+/// The images that are sent, if these records leave.
 pub(crate) fn images(
     alloc: Global,
     records: &[Option<ContainerRecord>],

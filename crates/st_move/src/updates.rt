@@ -84,7 +84,7 @@ impl Updates {
     /// Adds a copy of an update of 1 to 139 bytes, and returns the number of updates.
     ///
     /// # Errors
-    /// `Full` where the updates would have more than 60,000 bytes; `Memory` if memory runs out.
+    /// `Full` if the updates would have more than 60,000 bytes; `Memory` if memory runs out.
     /// Then nothing changed.
     #[tactic(auto, unfolding(crate::specs::Updates::added))]
     pub fn push(&mut self, update: &[u8]) -> Result<u32, MoveRefusal>

@@ -41,7 +41,7 @@ pub enum MoveEvent {
     Lock(ServerId, u32),
     /// Client 1 releases its lock of the container.
     Unlock(ServerId, u32),
-    /// The container is to move to another server, which comes last.
+    /// The container must move to another server, which comes last.
     Order(ServerId, u32, ServerId),
     /// The server's tick.
     Tick(ServerId),

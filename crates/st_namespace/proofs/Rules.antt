@@ -15,7 +15,7 @@ err_to : Result ℕ NameRefusal → Result Changed NameRefusal
 err_to (Ok k) = Err told.NoEntry
 err_to (Err r) = Err r
 
--- a refusal that is told is the rule's
+-- a refusal that is returned is the rule's
 pub told_refusal : (t : Result Changed EntryRefusal) (r : NameRefusal) → Err r ≡ ino_told t → answer t ≡ Err r
 unfolding err_to
 told_refusal (Ok c) r h = absurd (true≢false (sym (ap is_ok h)))

@@ -18,7 +18,7 @@ as_told refusals.Cycle = told.Cycle
 as_told refusals.BadName = told.BadName
 as_told refusals.TooMany = told.TooMany
 
--- what a call answers where it does not run out of memory
+-- what a call answers if it does not run out of memory
 abbrev pub answer : {A : Type 0} → Result A EntryRefusal → Result A NameRefusal
 answer (Ok x) = Ok x
 answer (Err r) = Err (as_told r)

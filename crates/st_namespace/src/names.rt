@@ -105,7 +105,7 @@ impl Names {
         self.entry_at(dir, name).is_some()
     }
 
-    /// Whether an inode of this server is a directory; `None` where the server has no such inode.
+    /// Whether an inode of this server is a directory; `None` if the server has no such inode.
     fn kind_of(&self, ino: u32) -> Option<bool>
         ensures { result ≡ names.kind_of self.now ino }
     {
@@ -307,7 +307,7 @@ impl Names {
         directory && self.is_under(ino, dir2)
     }
 
-    /// The inode of an entry that may move, else the refusal, where both directories and both names
+    /// The inode of an entry that may move, or the refusal, if both directories and both names
     /// are good.
     fn moved(&self, dir: u32, name: &[u8], dir2: u32, name2: &[u8]) -> Result<u32, NameRefusal>
         ensures told { result ≡ ino_told (names.rename_found self.now dir name.now dir2 name2.now (names.entry_at self.now dir name.now)) }

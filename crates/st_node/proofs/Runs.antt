@@ -118,15 +118,15 @@ pub some_readings : (told : Option (List Stamp)) → OfReadings told (λ reading
 some_readings None = record { readings = record { 0 = 0 } ∷ []; are = omega arith; holds = tt }
 some_readings (Some rs) = record { readings = rs; are = refl; holds = tt }
 
--- what is so of all readings
+-- what holds of all readings
 pub each_reading : (told : Option (List Stamp)) (fact : List Stamp → Type 0) → ((rs : List Stamp) → fact rs) → OfReadings told fact
 each_reading told fact all = let some = some_readings told in record { readings = some.readings; are = some.are; holds = all some.readings }
 
--- what follows from what is so of some readings
+-- what follows from what holds of some readings
 pub map_readings : (told : Option (List Stamp)) (one two : List Stamp → Type 0) → ((rs : List Stamp) → one rs → two rs) → OfReadings told one → OfReadings told two
 map_readings told one two so h = record { readings = h.readings; are = h.are; holds = so h.readings h.holds }
 
--- what is so of readings whatever comes later
+-- what holds of readings whatever comes later
 pub from_first : (a b : Option (List Stamp)) (fact : List Stamp → List Stamp → Type 0) (goal : List Stamp → Type 0) →
     Carries a b fact → ((rs later : List Stamp) → AreReadings b later → fact rs later → goal rs) → OfReadings a goal
 from_first a b fact goal goes so =

@@ -92,7 +92,7 @@ torn_here (Err (faults.Frame at r)) k n f before now w wn j p g text goes stops 
 torn_here (Err faults.TooManyFrames) k n f before now w wn j p g text goes stops idle wrote isnt =
     record { out = text; wrote = wrote; front = front_of_stop before now k n p f text faults.TooManyFrames stops }
 
--- what a call promised of a reader that was fed, and of no text
+-- what a call promised about a reader that was fed, and about no text
 abbrev Promised : Result Unit NodeFault → ℕ → Node → Option (List Stamp) → Option (List Stamp) → ℕ → Node → Frames → List ℕ → Frames → List ℕ → Type 0
 Promised r k n before now j p g text f old =
     OnOk r (Carries before now (GoesOn k n f old j p g text)) × OnStop r (λ stop. Carries before now (StopsAt k n f old p text stop))

@@ -123,7 +123,7 @@ handle n now m = if m.header.to == number_of n then handle_own n now m else pass
 
 -- A stream.
 
--- the node at the end of a run, all bytes that it wrote, the readings of the clock that it left, and why it stopped: nothing where the
+-- the node at the end of a run, all bytes that it wrote, the readings of the clock that it left, and why it stopped: nothing if the
 -- stream ended at a frame's boundary
 pub record Run : Type 0 where
   pub node : Node
@@ -149,7 +149,7 @@ abbrev pub end_at : ℕ → List ℕ → Result Unit NodeFault
 end_at offset [] = Ok tt
 end_at offset (b ∷ bs) = Err (faults.Cut offset)
 
--- the same where no frame more may begin
+-- the same if no frame more may begin
 abbrev pub full_at : List ℕ → Result Unit NodeFault
 full_at [] = Ok tt
 full_at (b ∷ bs) = Err faults.TooManyFrames

@@ -10,12 +10,12 @@ use Rattle.st_node.specs.declared.fault.NodeFault.{NodeFault}
 use Rattle.st_node.specs.declared.fault.NodeFault.TheVariants as faults
 use Rattle.st_node.specs.Runs.{Run, behind, run, node_run}
 
--- Readings as a clock has them: those to come where it tells them, and otherwise any, at least one.
+-- Readings as a clock has them: those to come if it tells them, and otherwise any, at least one.
 abbrev pub AreReadings : Option (List Stamp) → List Stamp → Type 0
 AreReadings None readings = 1 ≤ length readings
 AreReadings (Some told) readings = readings ≡ told
 
--- A fact of a clock's readings: of those to come where it tells them, and otherwise of some.
+-- A fact of a clock's readings: of those to come if it tells them, and otherwise of some.
 pub record OfReadings (told : Option (List Stamp)) (fact : List Stamp → Type 0) : Type 0 where
   pub readings : List Stamp
   pub are : AreReadings told readings
@@ -53,7 +53,7 @@ Breaks (Err faults.Write) old new readings told left_before left_now written_bef
     IsCutShort old new readings told left_before left_now written_before written_now
 Breaks result old new readings told left_before left_now written_before written_now = Unit {0}
 
--- The link's count of faults rose at `Read` and at `Write`; it stayed where the stream ended or the run stopped.
+-- The link's count of faults rose at `Read` and at `Write`; it stayed if the stream ended or the run stopped.
 abbrev pub HasCauses : Result Unit NodeFault → ℕ → ℕ → Type 0
 HasCauses (Err faults.Read) before now = Rose before now
 HasCauses (Err faults.Write) before now = Rose before now
@@ -66,7 +66,7 @@ HasCauses result before now = now ≡ before
 pub record Carries (before now : Option (List Stamp)) (fact : List Stamp → List Stamp → Type 0) : Type 0 where
   pub each : (later : List Stamp) → AreReadings now later → OfReadings before (λ readings. fact readings later)
 
--- the fact holds of why a run stopped inside of the stream; nothing is said if memory ran out
+-- the fact holds of why a run stopped inside of the stream; nothing is promised if memory ran out
 abbrev pub OnStop : {T : Type 0} → Result T NodeFault → (NodeFault → Type 0) → Type 0
 OnStop (Ok x) fact = Unit {0}
 OnStop (Err faults.Memory) fact = Unit {0}

@@ -49,7 +49,7 @@ fn own_input(message: Message) -> ClientInput
     }
 }
 
-/// The input of a client that the message is, where it is one.
+/// The input of a client that the message is, if it is one.
 pub fn input_of(message: Message) -> Option<ClientInput>
     requires { fits message ≡ true }
     ensures exact { result ≡ runs.client_input message }
@@ -155,7 +155,7 @@ fn step(
     }
 }
 
-/// Takes a message at this moment: one step where it is an input of the client, and nothing else.
+/// Takes a message at this moment: one step if it is an input of the client, and nothing else.
 /// Appends the frames of what goes out.
 #[tactic(auto, unfolding(crate::specs::Runs::handle))]
 pub(crate) fn handle_client(

@@ -11,7 +11,7 @@ pub fn whole_frames_run_through()
     ensures { (n : Node) (readings : List Stamp) (ms : List Message) → RunsThrough n readings ms }
 {}
 
-/// Why a run over a stream stops, and at which offset, follows from the stream's bytes alone: every
+/// Only the bytes of a stream determine why a run over it stops, and at which offset: every
 /// node and every clock's readings have the same stop.
 #[tactic(auto, using(crate::proofs::Stops::stops_by_bytes))]
 pub fn bytes_tell_why_a_run_stops()

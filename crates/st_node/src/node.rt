@@ -65,7 +65,7 @@ impl Node {
         Ok(Node::Client(client))
     }
 
-    /// Takes a message at this moment: one step where it is an input of the node, and nothing else.
+    /// Takes a message at this moment: one step if it is an input of the node, and nothing else.
     /// Appends the frames of what goes out. If memory runs out, the node may be crashed.
     pub(crate) fn handle(
         &mut self,

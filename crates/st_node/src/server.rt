@@ -16,7 +16,7 @@ use st_rules::ServerInput;
 use st_server::ServerNode;
 use std::alloc::AllocError;
 
-/// The input of a server that the message is, where it is one.
+/// The input of a server that the message is, if it is one.
 pub fn input_of(message: Message) -> Option<ServerInput>
     requires { fits message ≡ true }
     ensures exact { result ≡ runs.server_input message }
@@ -78,7 +78,7 @@ fn step(
     }
 }
 
-/// Takes a message at this moment: one step where it is an input of the server, and nothing else.
+/// Takes a message at this moment: one step if it is an input of the server, and nothing else.
 /// Appends the frames of what the server sends.
 #[tactic(auto, unfolding(crate::specs::Runs::handle))]
 pub(crate) fn handle_server(

@@ -158,8 +158,8 @@ pub fn serve<L: Link, C: Clock>(
     node: &mut Node,
 ) -> Result<(), NodeFault>
     requires room { HasRoomFor MOST node.old }
-    // The run over all the bytes that the link held, where it tells them, at the clock's readings:
-    // those to come where the clock tells them, and otherwise some readings. All of it where the
+    // The run over all the bytes that the link held, if it tells them, at the clock's readings:
+    // those to come if the clock tells them, and otherwise some readings. All of it if the
     // stream ended or the run stopped, and then the clock has the readings that the run left;
     // otherwise a prefix of what is written in it.
     ensures run { IfSome (L.left link.old) (λ bytes. OfReadings (C.readings clock.old) (λ readings.
@@ -169,7 +169,7 @@ pub fn serve<L: Link, C: Clock>(
     // taken; of what it writes a front was written, and after `Read` all.
     ensures breaks { OfReadings (C.readings clock.old) (λ readings.
         Breaks result node.old node.new readings (C.readings clock.new) (L.left link.old) (L.left link.new) (L.written link.old) (L.written link.new)) }
-    // `Read` and `Write` come only where the count of faults rose; elsewhere but at `Memory` it
+    // `Read` and `Write` come only if the count of faults rose; elsewhere but at `Memory` it
     // stayed.
     ensures causes { HasCauses result (L.Source.faults link.old) (L.Source.faults link.new) }
     // The link is attached at no name.

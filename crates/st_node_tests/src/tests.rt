@@ -354,7 +354,7 @@ fn crashed(alloc: Global) -> Result<ServerNode, AllocError> {
     Ok(server)
 }
 
-/// Starts a server that does not run, where it may be started.
+/// Starts a server that does not run, if it may be started.
 fn start(server: &mut ServerNode) -> Result<bool, AllocError> {
     if server.running() || server.stable().epoch.0 >= 4_294_967_295 {
         return Ok(false);

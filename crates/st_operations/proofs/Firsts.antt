@@ -29,7 +29,7 @@ counted_marked os i n new e h = record {
   count = h.count ∙ sym (marked_count os i) ∙ sym (ap count_syncs e);
 }
 
--- the stage alone changes
+-- only the stage changes
 stuck_ask : (server : ServerId) (o : Operation) → (stuck server o).ask ≡ o.ask
 stuck_ask server o = by (is_asked server o)
   where
@@ -177,7 +177,7 @@ any_counted (x ∷ xs) = by (asks_sync x) (any_counted xs)
 pub any_sync : (os : List Operation) (n : ℕ) → AreCounted os n → nat_lt 0 n ≡ list_any asks_sync os
 any_sync os n h = ap (nat_lt 0) h.count ∙ any_counted os
 
--- syncs alone may do anything, and there is none
+-- only syncs may do anything, and there is none
 pub none_acts : (server : ServerId) (os : List Operation) → list_any asks_sync os ≡ false → list_any (may_act server false) os ≡ false
 none_acts server [] e = refl
 none_acts server (o ∷ os) e = by (asks_sync o) (is_of server o) e (none_acts server os)

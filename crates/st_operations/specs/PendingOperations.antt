@@ -1,4 +1,4 @@
--- Pending operations: what is left where the first one is taken, and the operations after one was sent or is stuck.
+-- Pending operations: what is left if the first one is taken, and the operations after one was sent or is stuck.
 use Rattle.std.specs.Prelude.{◌≡◌, ℕ, ◌+◌, if◌then◌else◌, Bool, true, ◌&&◌, ◌||◌, List, [], ◌∷◌, Option, Some, None}
 use Rattle.std.specs.List.{list_all}
 use Rattle.st_base.specs.declared.ids.ServerId.{ServerId}
@@ -20,7 +20,7 @@ AreFit os = list_all is_fit os ≡ true
 abbrev pub asks_sync : Operation → Bool
 asks_sync o = is_sync o.ask
 
--- an operation that may do something at the server: each of its own, or its syncs alone
+-- an operation that may do something at the server: each of its own, or only its syncs
 abbrev pub may_act : ServerId → Bool → Operation → Bool
 may_act server all o = (all || asks_sync o) && is_of server o
 

@@ -182,8 +182,8 @@ impl Operations {
         self.rows.any(test)
     }
 
-    /// Whether a pending operation may do something at a server: each of its own, or its syncs
-    /// alone. Where only syncs may, and none is pending, it looks at no operation.
+    /// Whether a pending operation may do something at a server: each of its own, or only its
+    /// alone. If only syncs may, and none is pending, it looks at no operation.
     pub fn any_may_act(&self, server: ServerId, all: bool) -> bool
         ensures { result ≡ list_any (may_act server all) self.now }
     {
@@ -223,7 +223,7 @@ impl Operations {
         }
     }
 
-    /// The operation at a place is pending no more. It does not allocate.
+    /// The operation at a place is no longer pending. It does not allocate.
     pub fn remove(&mut self, place: usize)
         requires { place < length self.old }
         ensures { self.new ≡ remove self.old place }
@@ -273,7 +273,7 @@ impl Operations {
         }
     }
 
-    /// The operation at a place stays where it fails the test, and otherwise is pending no more.
+    /// The operation at a place stays if it fails the test, and otherwise is no longer pending.
     /// Returns the place of the next one.
     fn sift<T: Test<Operation>>(&mut self, place: usize, test: &T) -> usize
         requires { place < length self.old }
@@ -289,7 +289,7 @@ impl Operations {
         }
     }
 
-    /// The operations that pass the test are pending no more. It does not allocate.
+    /// The operations that pass the test are no longer pending. It does not allocate.
     fn drop_each<T: Test<Operation>>(&mut self, test: &T)
         ensures { self.new ≡ filter (λ o. not (T.passes test.now o)) self.old }
     {

@@ -22,7 +22,7 @@ impl Test<Operation> for OfServer {
     }
 }
 
-/// The operations that may do something at a server: each of its own, or its syncs alone.
+/// The operations that may do something at a server: each of its own, or only its syncs.
 #[derive(Clone, Copy)]
 pub struct MayAct {
     pub server: ServerId,

@@ -34,7 +34,7 @@ pub record ArePages (ps : Pages) : Type 0 where
   pub few_dirty : length ps.dirty ≤ 64
   pub versions : list_all (has_version ps) ps.dirty ≡ true
 
--- the pages of these lists, where this is the next version
+-- the pages of these lists, if this is the next version
 abbrev pub pages_of : List CleanPage → List DirtyPage → ℕ → Pages
 pages_of clean dirty next = record { clean = clean; dirty = dirty; next_version = next }
 
@@ -58,7 +58,7 @@ shown d = (d.bytes.now, d.version, d.failed)
 abbrev pub facts_of : DirtyPage → List ℕ × ℕ × Option ℕ
 facts_of d = (d.bytes, d.version, d.failed)
 
--- a write answers as its definition; where it refuses and if memory runs out nothing changes
+-- a write answers as its definition; if it refuses and if memory runs out nothing changes
 abbrev pub Writes : ServerPages → ServerPages → Result (Unit {0}) CacheRefusal → Result Pages WriteRefusal → Type 0
 Writes old new (Ok v) machine = record { written : machine ≡ Ok new.pages; server : new.server ≡ old.server }
 Writes old new (Err DirtyFull) machine = record { full : machine ≡ Err writing.DirtyFull; same : new ≡ old }

@@ -51,6 +51,6 @@ pub record IsKnown (es : List (PageKey × KnownExtent)) : Type 0 where
   pub keyed : IsKeyed known_key es
   pub distinct : IsDistinct same_key (keys_of es)
 
--- the page of this key is marked as failed by a command, where it is there
+-- the page of this key is marked as failed by a command, if it is there
 abbrev pub Marks : PageKey → ℕ → List (PageKey × DirtyPage) → List (PageKey × DirtyPage) → Type 0
 Marks at command old new = (d : DirtyPage) → lookup (same_key at) old ≡ Some d → new ≡ set_value (same_key at) old (failed_by command d)

@@ -77,7 +77,7 @@ impl PageCache {
         self.dirty.get(ino, page)
     }
 
-    /// The bytes of the dirty page, its version and its failed command. `None` exactly where the
+    /// The bytes of the dirty page, its version and its failed command. `None` exactly if the
     /// page is not dirty.
     pub fn dirty(&self, ino: u32, page: PageNo) -> Option<Dirty<'_>>
         ensures { option_map shown result ≡ option_map facts_of (pages.dirty_of self.now.pages ino page) }
@@ -153,7 +153,7 @@ impl PageCache {
         self.dirty.next(after)
     }
 
-    /// A page that is read becomes the newest clean one, where it is clean and not dirty. It does
+    /// A page that is read becomes the newest clean one, if it is clean and not dirty. It does
     /// not allocate.
     #[tactic(auto, unfolding(st_rules::specs::ClientPages::use_page, st_rules::specs::ClientPages::use_clean, st_rules::specs::ClientPages::use_at))]
     pub(crate) fn use_page(&mut self, permit: &UsePermit, ino: u32, page: PageNo)
@@ -165,7 +165,7 @@ impl PageCache {
         }
     }
 
-    /// Changes a page, where fewer than 64 others are dirty: it is dirty with these bytes, the next
+    /// Changes a page, if fewer than 64 others are dirty: it is dirty with these bytes, the next
     /// version and no failed command, and its clean copy goes. The bytes are shared.
     #[tactic(auto, unfolding(st_rules::specs::ClientPages::written))]
     fn change(&mut self, ino: u32, page: PageNo, bytes: &PageBytes) -> Result<(), AllocError>
@@ -188,7 +188,7 @@ impl PageCache {
     }
 
     /// Changes a page: it is dirty with these bytes, the next version and no failed command, and
-    /// its clean copy goes. It is refused exactly where 64 other pages are dirty. The bytes are
+    /// its clean copy goes. It is refused exactly if 64 other pages are dirty. The bytes are
     /// shared.
     #[tactic(auto, unfolding(st_rules::specs::ClientPages::write))]
     pub fn write(
@@ -210,7 +210,7 @@ impl PageCache {
         }
     }
 
-    /// The command is the last one that failed for the page, where it is dirty. It does not
+    /// The command is the last one that failed for the page, if it is dirty. It does not
     /// allocate.
     #[tactic(auto, unfolding(st_rules::specs::ClientPages::fail))]
     pub fn fail(&mut self, ino: u32, page: PageNo, command: u64)
@@ -232,7 +232,7 @@ impl PageCache {
         Ok(())
     }
 
-    /// The dirty page becomes the newest clean one, where it is dirty. The bytes are shared.
+    /// The dirty page becomes the newest clean one, if it is dirty. The bytes are shared.
     #[tactic(auto, unfolding(st_rules::specs::ClientPages::harden, st_rules::specs::ClientPages::harden_at, st_rules::specs::ClientPages::harden_page))]
     pub fn harden(&mut self, ino: u32, page: PageNo) -> Result<(), AllocError>
         ensures ok { OnOk result (self.new ≡ with_pages (pages.harden self.old.pages ino page) self.old) }

@@ -72,7 +72,7 @@ impl CleanPages {
         Ok(())
     }
 
-    /// The page goes, where it is clean.
+    /// The page goes, if it is clean.
     pub fn remove(&mut self, ino: u32, page: PageNo)
         ensures { self.new ≡ pages.without_clean ino page self.old }
     {
@@ -81,11 +81,11 @@ impl CleanPages {
         let _len = self.pages.len();
     }
 
-    /// The page becomes the newest one, where it is clean.
+    /// The page becomes the newest one, if it is clean.
     pub fn touch(&mut self, ino: u32, page: PageNo)
         ensures { self.new ≡ touched (find (pages.is_clean_of ino page) self.old) self.old }
     {
-        // Where it is not there nothing changes. `len` is called for its clauses `few` and `once`.
+        // If it is not there nothing changes. `len` is called for its clauses `few` and `once`.
         let _found = self.pages.promote(&key(ino, page));
         let _len = self.pages.len();
     }

@@ -1,4 +1,4 @@
-// What a client was told of the places of pages.
+// What a client was told about the places of pages.
 ghost use Rattle.std.specs.Prelude.{◌≡◌, ◌≤◌, ◌<◌, ◌+◌, [], OnOk, OnErr, length, true};
 ghost use Rattle.indexmap.specs.IndexMap.{IsUnique, insert_entry, spare};
 ghost use Rattle.st_rules.specs.ClientInvariants.{same_known};
@@ -38,7 +38,7 @@ fn told(ino: u32, row: &ExtentRow) -> KnownExtent
     }
 }
 
-/// What a client knows of the places of a server's pages. Contracts see the list of what is known,
+/// What a client knows about where a server's pages lie. Contracts see the list of what is known,
 /// of each page once.
 #[derive(Drop)]
 pub struct KnownExtents {

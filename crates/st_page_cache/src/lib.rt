@@ -1,5 +1,5 @@
 //! The pages that a client has of one server: at most 64 dirty ones and at most 256 clean ones, the
-//! most recently used first; and what it knows of the places of pages. `docs/PROTOCOL.md`, "Leases,
+//! most recently used first; and what it knows about where pages lie. `docs/PROTOCOL.md`, "Leases,
 //! locks, pages and commands", has the rules.
 #![tactic(auto)]
 

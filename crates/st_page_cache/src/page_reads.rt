@@ -12,7 +12,7 @@ use st_base::{PageBytes, PageNo};
 use st_lease_client::UsePermit;
 
 impl PageCache {
-    /// Reads a page: `Miss` exactly where it is neither dirty nor clean. A clean page becomes the
+    /// Reads a page: `Miss` exactly if it is neither dirty nor clean. A clean page becomes the
     /// newest one. It does not allocate.
     pub fn read(&mut self, permit: &UsePermit, ino: u32, page: PageNo) -> Page<'_>
         requires { permit.now.server ≡ self.old.server }
@@ -26,7 +26,7 @@ impl PageCache {
         }
     }
 
-    /// The bytes that a patch of a page changes: `None` exactly where the page is neither dirty nor
+    /// The bytes that a patch of a page changes: `None` exactly if the page is neither dirty nor
     /// clean. A clean page stays in its place. It does not allocate.
     pub fn base(&self, permit: &UsePermit, ino: u32, page: PageNo) -> Option<&PageBytes>
         requires { permit.now.server ≡ self.now.server }

@@ -1,4 +1,4 @@
--- The counts are true: what the lines of an event tell of messages and commands, and what they count.
+-- The counts are true: what the lines of an event say about messages and commands, and what they count.
 use Rattle.std.specs.Prelude.{◌≡◌, ℕ, ◌+◌, Bool, true, false, List, [], ◌∷◌, ◌++◌, length, drop, filter, filter_map, map, take, Option, Some, None, ⊤}
 use Rattle.st_base.specs.declared.disk.Command.{Command}
 use Rattle.st_base.specs.declared.ids.ClientId.{ClientId}

@@ -11,7 +11,7 @@ use Rattle.st_promises.specs.CutAsks.{numbered_asks}
 abbrev pub is_given : ClientId → ℕ → ClientId × ℕ → Bool
 is_given c op d = same_client d.0 c && (d.1 == op)
 
--- the rest can be done where this ask is given to the event
+-- the rest can be done if this ask is given to the event
 abbrev pub given_by : (List Step → Step → ClientId → ℕ × Ask → Bool) → List Step → List (ClientId × ℕ) → (List (ClientId × ℕ) → Bool) → Step → ClientId → ℕ × Ask → Bool
 given_by fits past given rest y c k = not (list_any (is_given c k.0) given) && (fits past y c k && rest ((c, k.0) ∷ given))
 

@@ -21,7 +21,7 @@ abbrev pub is_of_file : ℕ → Body → Bool
 is_of_file ino (bodies.Granted i g mode) = i == ino
 is_of_file ino body = false
 
--- the server's grants under this number are to this client, of this file
+-- the server's grants under this number go to this client, for this file
 abbrev pub agrees : ServerId → ℕ → ℕ → GrantNo → Message → Bool
 agrees s to ino g m = not ((m.header.from == server_node s) && has_number g m.body) || ((m.header.to == to) && is_of_file ino m.body)
 
@@ -38,7 +38,7 @@ is_given_once s ms m = not (m.header.from == server_node s) || grants_once s ms 
 abbrev pub gives_once : List Message → ServerId → Bool
 gives_once ms s = list_all (is_given_once s ms) ms
 
--- Grant numbers are given once: of all messages that were ever sent, the grants of a server under one number are to one client, of one file.
+-- Grant numbers are given once: of all messages that were ever sent, the grants of a server under one number go to one client, for one file.
 abbrev pub GrantNumbersAreGivenOnce : Promise
 GrantNumbersAreGivenOnce past x = list_all (gives_once (map message_in x.after.world.net.messages)) (all_servers x.after.world) ≡ true
 

@@ -17,7 +17,7 @@ use Rattle.st_rules.specs.Server.{ServerNode}
 use Rattle.st_rules.specs.World.{World, node_of}
 use Rattle.st_rules.specs.Safety.{Promise}
 
--- a page after one more entry, where that is hard
+-- a page after one more entry, if that is hard
 abbrev pub hard_after : FileId → PageNo → LogEntry → List ℕ → List ℕ
 hard_after f p e page = if log.touches f p e && is_hard_fate e.fate then log.changed e.change page else page
 

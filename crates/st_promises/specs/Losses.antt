@@ -21,7 +21,7 @@ use Rattle.st_rules.specs.History.{association_of}
 use Rattle.st_rules.specs.Safety.{Promise, Step, ask_of, is_crash_of}
 use Rattle.st_rules.specs.World.{World}
 
--- What is owed is said in words of its own, apart from the rules of a client.
+-- What is owed has its own definitions, apart from the rules of a client.
 
 -- a command that writes
 abbrev pub is_to_write : IoKind → Bool
@@ -32,7 +32,7 @@ is_to_write (io.Write version) = true
 abbrev pub writes_page : DirtyPage → PageCommand → Bool
 writes_page d k = is_to_write k.kind && ((k.ino == d.ino) && (k.page.0 == d.page.0))
 
--- the failed command, else the outstanding one, else 0
+-- the failed command, or else the outstanding one, or else 0
 abbrev pub writer : Option ℕ → Option PageCommand → ℕ
 writer None None = 0
 writer None (Some k) = k.number
@@ -94,7 +94,7 @@ row_of_page rows ino p = find (λ r. (r.ino == ino) && (r.page.0 == p)) rows
 unfoldable pub rows_of_file : List LostPage → ℕ → List LostPage
 rows_of_file rows ino = filter_map (row_of_page rows ino) (in_order (map page_number (filter (is_of_file ino) rows)))
 
--- a row, as it is told
+-- a row, as it is reported
 abbrev pub as_told : LostPage → LostRow
 as_told r = record { page = r.page; command = r.command }
 
@@ -112,7 +112,7 @@ told_by (Some (asks.Sync f)) s rows = if same_server f.server s then still_owed 
 told_by ask s rows = rows
 
 -- What a client must still report of a server after one more line of an event, by what it was asked and the world before the event: if its lease is lost, the
--- pages that were dirty join; and what a sync is told is no longer owed.
+-- pages that were dirty join; and what a sync was told is no longer owed.
 abbrev pub owed_behind : (ℕ → Option Ask) → World → ClientId → ServerId → List LostPage → Observation → List LostPage
 owed_behind asked w c s rows (seen.Lost d t life) = if same_client d c && same_server t s then with_dirty (association_of w c s) rows else rows
 owed_behind asked w c s rows (seen.Answered d op (answers.Lost told)) = if same_client d c then told_by (asked op) s rows else rows
@@ -123,7 +123,7 @@ unfoldable pub owed_along : (ℕ → Option Ask) → World → ClientId → Serv
 owed_along asked w c s rows [] = rows
 owed_along asked w c s rows (o ∷ os) = owed_along asked w c s (owed_behind asked w c s rows o) os
 
--- an answer to a sync: where pages of its file are owed it tells exactly these, by rising page, at most 1,024 at once, or it is refused since 16 operations are
+-- an answer to a sync: if pages of its file are owed it tells exactly these, by rising page, at most 1,024 at once, or it is refused since 16 operations are
 -- pending; and if none are owed it reports none
 abbrev pub IsToldBy : Bool → List LostRow → AppAnswer → Type 0
 IsToldBy true rows (answers.Lost told) = told ≡ rows
@@ -168,7 +168,7 @@ unfoldable pub AreLossesTold : List Step → Step → List Observation → List 
 AreLossesTold past x os [] = ⊤
 AreLossesTold past x os (o ∷ rest) = IsLossTold past x os o × AreLossesTold past x (os ++ o ∷ []) rest
 
--- Losses are told
+-- Losses are reported
 abbrev pub LossesAreTold : Promise
 LossesAreTold past x = AreLossesTold past x [] x.seen
 

@@ -34,17 +34,17 @@ said n answer = record { names = n; answer = answer }
 abbrev pub refused : Names → EntryRefusal → Saying
 refused n r = said n (answers.Refused (names.code_of r))
 
--- an inode is told
+-- an inode is answered
 abbrev pub found : Names → Result ℕ EntryRefusal → Saying
 found n (Ok ino) = said n (answers.Named ino)
 found n (Err r) = refused n r
 
--- entries are told
+-- entries are answered
 abbrev pub listed : Names → Result (List NameRow) EntryRefusal → Saying
 listed n (Ok rows) = said n (answers.Listed rows)
 listed n (Err r) = refused n r
 
--- the names are changed, and an inode is told
+-- the names are changed, and an inode is answered
 abbrev pub changed : Names → Result names.Changed EntryRefusal → Saying
 changed n (Ok d) = said d.names (answers.Named d.ino)
 changed n (Err r) = refused n r
@@ -57,7 +57,7 @@ removes_dir n dir name = changed n (names.remove n dir name) ∷ refused n IsDir
 abbrev pub removes_ino : Names → ℕ → List ℕ → ℕ → ℕ → List Saying
 removes_ino n dir name ino there = if names.is_file n there || (ino == 0) then changed n (names.remove n dir name) ∷ [] else removes_dir n dir name
 
--- where there is an entry
+-- if there is an entry
 abbrev pub removes : Names → ℕ → List ℕ → ℕ → Result ℕ EntryRefusal → List Saying
 removes n dir name ino (Ok there) = removes_ino n dir name ino there
 removes n dir name ino (Err r) = refused n r ∷ []

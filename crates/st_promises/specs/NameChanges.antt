@@ -28,7 +28,7 @@ changes_by past x s c = list_any (is_open_change past x s c) (numbered_asks past
 abbrev pub is_change_asked : List Step → Step → ServerId → Bool
 is_change_asked past x s = not (changes_in s x) || list_any (changes_by past x s) (all_clients x.before.world)
 
--- Names change as asked: where an event changed the names of a server, an ask of a client was made before it, and was not answered before, or
+-- Names change as asked: if an event changed the names of a server, an ask of a client was made before it, and was not answered before, or
 -- with `uncertain`, and the names became what this ask makes of them.
 abbrev pub NamesChangeAsAsked : Promise
 NamesChangeAsAsked past x = list_all (is_change_asked past x) (all_servers x.after.world) ≡ true

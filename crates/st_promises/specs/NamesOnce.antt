@@ -22,7 +22,7 @@ use Rattle.st_promises.specs.NameAnswers.{becomes_at, changes_in, says_in}
 abbrev pub is_given : ClientId → ℕ → ClientId × ℕ → Bool
 is_given c op d = same_client d.0 c && (d.1 == op)
 
--- where it was answered, the answer is what names said at this event, or `uncertain`
+-- if it was answered, the answer is what names said at this event, or `uncertain`
 abbrev pub answered_so : ServerId → NameAsk → Step → ClientId → ℕ → Observation → Bool
 answered_so s ask y c op (seen.Answered d n answer) = not (same_client d c && (n == op)) || (is_uncertain answer || says_in s ask answer y)
 answered_so s ask y c op o = true
@@ -39,7 +39,7 @@ is_of_ask all past s y c op (asks.Name t ask) =
     && (is_after_ask c op y && (not (list_any (settles_in c op) past) && list_all (answered_so_in s ask y c op) all)))
 is_of_ask all past s y c op ask = false
 
--- an ask that changes names where it is not refused
+-- an ask that changes names if it is not refused
 abbrev pub is_change_of : ServerId → Ask → Bool
 is_change_of s (asks.Name t (Create dir name)) = same_server t s
 is_change_of s (asks.Name t (Mkdir dir name)) = same_server t s
@@ -64,7 +64,7 @@ has_event all s given c k = not (is_change_of s k.1 && list_any (names_it_in c k
 abbrev pub all_have_events : List Step → ServerId → List (ClientId × ℕ) → ClientId → Bool
 all_have_events all s given c = list_all (has_event all s given c) (numbered_asks all c)
 
--- the rest can be done where this ask is given to the event
+-- the rest can be done if this ask is given to the event
 abbrev pub is_done_by : List Step → List Step → ServerId → List (ClientId × ℕ) → (List (ClientId × ℕ) → Bool) → Step → ClientId → ℕ × Ask → Bool
 is_done_by all past s given rest y c k = not (list_any (is_given c k.0) given) && (is_of_ask all past s y c k.0 k.1 && rest ((c, k.0) ∷ given))
 
@@ -86,7 +86,7 @@ abbrev pub is_changed_once : List ClientId → List Step → ServerId → Bool
 is_changed_once cs all s = are_done cs all s [] all []
 
 -- Names change once: to each event that changed the names of a server one ask can be given that did it, each ask to one event at most: it was
--- asked before and not settled, the names became what it makes of them, and where it was answered, it was with what they said then, or with
+-- asked before and not settled, the names became what it makes of them, and if it was answered, it was with what they said then, or with
 -- `uncertain`. And each create, remove or rename that was answered with an inode is given its event.
 abbrev pub NamesChangeOnce : Promise
 NamesChangeOnce past x = list_all (is_changed_once (all_clients x.after.world) (past ++ x ∷ [])) (all_servers x.after.world) ≡ true

@@ -1,4 +1,4 @@
--- The numbers that the lines of an event give to messages and commands, and what they tell of them.
+-- The numbers that the lines of an event give to messages and commands, and what they say about them.
 use Rattle.std.specs.Prelude.{◌≡◌, ℕ, ◌+◌, Bool, true, false, ◌&&◌, ◌==◌, List, [], ◌∷◌, length, filter_map, Option, Some, None, ⊤}
 use Rattle.std.specs.List.{list_all}
 use Rattle.st_messages.specs.declared.message.Header.{Header}
@@ -43,13 +43,13 @@ abbrev pub is_sent_as : Header → Option SentMessage → Bool
 is_sent_as h None = false
 is_sent_as h (Some m) = same_header m.message.header h
 
--- the line of a message or of a command tells of the one that this world has under its number
+-- the line of a message or of a command describes the one that this world has under its number
 abbrev pub is_told_right : World → Observation → Bool
 is_told_right w (seen.Sent k m) = is_sent_as m.header (message_of w k)
 is_told_right w (seen.Submitted k c number what) = is_own_command c number (issued_of w k)
 is_told_right w o = true
 
--- The lines of an event, from this world to that one: messages and commands have the next numbers, each line tells of the one that is
+-- The lines of an event, from this world to that one: messages and commands have the next numbers, each line describes the one that is
 -- there under its number, and the last line of the report would count then what it would have counted before, and these lines.
 pub record AreNumbered (w v : World) (os : List Observation) : Type 0 where
   pub messages : follow_from (length w.net.messages + 1) (filter_map message_number os) ≡ true

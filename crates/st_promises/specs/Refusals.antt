@@ -21,7 +21,7 @@ use Rattle.st_promises.specs.Given.{are_given}
 abbrev pub cuts_in : Step → Bool
 cuts_in y = list_any is_cut_line y.seen
 
--- what a removal of this inode is answered where it was done
+-- what a removal of this inode is answered if it was done
 abbrev pub is_removed_answer : NameAsk → AppAnswer → Bool
 is_removed_answer (names.Remove dir name ino) (answers.Named n) = n == ino
 is_removed_answer ask answer = false
@@ -32,7 +32,7 @@ is_done_answer (asks.Cut f p) answers.Cut = true
 is_done_answer (asks.Name s ask) answer = is_removed_answer ask answer
 is_done_answer ask answer = false
 
--- where the ask is answered, it is that its cut was done, or `uncertain`
+-- if the ask is answered, it is that its cut was done, or `uncertain`
 abbrev pub is_not_refused : Ask → ClientId → ℕ → Observation → Bool
 is_not_refused ask c op (seen.Answered d n answer) = not (same_client d c && (n == op)) || (is_uncertain answer || is_done_answer ask answer)
 is_not_refused ask c op o = true
@@ -61,7 +61,7 @@ abbrev pub are_own_cuts : List ClientId → List Step → Bool
 are_own_cuts cs all = are_given cuts_in (is_of_cut all) is_all cs [] all []
 
 -- Refusals change nothing: to each event that cut a file one ask can be given that asked for it, each ask to one event at most: it was asked
--- before and not settled, of a client that had an exclusive row on the file; and where it is answered, it is that the cut was done, or
+-- before and not settled, of a client that had an exclusive row on the file; and if it is answered, it is that the cut was done, or
 -- `uncertain`, and no refusal. (The line of a write or of a patch is followed directly by the only answer to its ask, which is `written`: asks
 -- are answered once, and answers are logged.)
 abbrev pub RefusalsChangeNothing : Promise

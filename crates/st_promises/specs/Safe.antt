@@ -1,4 +1,4 @@
--- Safe: all that is promised of a run, in one record, and that every run is so.
+-- Safe: all that is promised about a run, in one record, and that every run is safe.
 use Rattle.std.specs.Prelude.{◌≡◌, ℕ, ◌+◌, true, List, [], ⊤}
 use Rattle.std.specs.List.{list_all}
 use Rattle.st_base.specs.declared.config.Config.{Config}

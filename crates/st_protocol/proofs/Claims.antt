@@ -94,7 +94,7 @@ module _ (k : Config) where
   not_lost a t h (inl g) = let r = t.dated h.leased in let p = g.replies (msg a.c.life r.0 a.c.date r.1) r.4 r.2 refl in omega (arith, p, h.lasts)
   not_lost a t h (inr x) = omega (arith, x.late, h.lasts)
 
-  -- outside grace, a living client is of the session
+  -- outside grace, a living client belongs to the session
   pub inside : (a : Assoc) → Timing k a → a.s.up ≡ true → a.s.grace ≡ false → Alive k a.c → (a.c.epoch ≡ a.s.epoch) × (a.s.session ≡ a.c.life)
   inside a t u g h = (ep (same_or_less a.c.epoch a.s.epoch t.ahead), se (same_or_less a.s.session a.c.life t.lives))
     where

@@ -57,7 +57,7 @@ module _ (k : Config) where
   former (Starts a u2) t l u m y = λ e f. (t.sent m y).of_life
   former _ t l u m y = l.former u m y
 
-  -- a client that is leased in an older epoch is of the life that began the present one, or of one before it
+  -- a client that is leased in an older epoch belongs to the life that began the present one, or to one before it
   older : (a : Assoc) → Timing k a → Lives a → a.s.up ≡ true → a.c.leased ≡ true → a.c.epoch < a.s.epoch → a.c.life ≤ a.s.glife
   older a t l u e lt = let d = t.dated e in l.former u (msg a.c.life d.0 a.c.date d.1) d.4 (renews_of d.1 d.2) (let q = d.3 in omega arith)
 

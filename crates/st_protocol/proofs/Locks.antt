@@ -209,7 +209,7 @@ module _ (k : Config) where
   joined (Starts a u2) t l u e on du = absurd (omega (arith, t.ahead))
   joined _ t l u e on du = l.joined u e on du
 
-  -- what was demanded of is of the session
+  -- the client of which something was demanded belongs to the session
   pub joined_now : (a : Assoc) → Timing k a → Locks k a → a.s.up ≡ true → a.c.epoch ≡ a.s.epoch → a.c.leased ≡ true → Joined a.c a.net → a.c.life ≤ a.s.session
   joined_now a t l u e on (Settled du) = l.joined u e on du
   joined_now a t l u e on (Demanded stamp i g to w) = (t.sent _ w).known refl e u

@@ -30,7 +30,7 @@ module _ (k : Config) where
       go (inl e) = e
       go (inr e) = absurd (omega (arith, (l.new e).1 i))
 
-  -- outside grace, a client that is not of the session has a lease that is over
+  -- outside grace, a client that doesn't belong to the session has a lease that is over
   pub outsider : (a : Assoc) → Timing k a → a.s.up ≡ true → a.s.grace ≡ false → a.c.leased ≡ true → (a.s.session < a.c.life) ⊎ (a.c.epoch < a.s.epoch) → a.c.date + k.lease ≤ a.c.clock
   outsider a t u g e o =
       let r = t.dated e in

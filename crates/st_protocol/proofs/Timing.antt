@@ -52,7 +52,7 @@ renews_of (Granted i g mode) e = refl
 renews_of (Demand i g to) e = refl
 renews_of OfOtherEpoch e = e
 
--- a body that a client repeats renews nothing, and is of no session
+-- a body that a client repeats renews nothing, and belongs to no session
 pub of_client : (b : Body) → of_request b ≡ true → (of_session b ≡ false) × (renews b ≡ false)
 of_client Plain e = (refl, refl)
 of_client (Released i g to) e = (refl, refl)

@@ -412,7 +412,7 @@ TheftIsLate k a =
     a.s.timed ≡ true → a.s.start + k.wait ≤ a.s.clock →
     record { present : a.c.leased ≡ true → a.c.date + k.lease ≤ a.c.clock; past : (l : ℕ) → a.c.ended l ≤ a.c.clock }
 
--- where a client holds an exclusive lock, no other client has a row
+-- if a client holds an exclusive lock, no other client has a row
 abbrev pub Alone : Config → World → Type 0
 Alone k w = (c d i : ℕ) → c ≢ d → Alive k (w.at c).c → 2 ≤ ((w.at c).c.held i).mode → (w.at d).s.up ≡ true → ((w.at d).s.row i).mode ≡ 0
 

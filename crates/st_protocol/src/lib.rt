@@ -5,7 +5,7 @@
 ghost use Rattle.std.specs.Prelude.{ℕ};
 ghost use Rattle.st_protocol.specs.Assoc.{Alone, Config, ConfigOk, Exactly, Exclusive, NoConflict, OneLife, Reached, TheftIsLate, World};
 
-/// In every reached state: no two living clients hold conflicting locks; where one holds an
+/// In every reached state: no two living clients hold conflicting locks; if one holds an
 /// exclusive lock, no other has a row, the lock has its row's number, and what is written stays
 /// under it; one life reasserts in an epoch, and conflicts with no row; and a timer that is over
 /// finds the end of every lease of its client reached.

@@ -83,7 +83,7 @@ found c k (r ∷ rows) e = go (same_client r.client c) (r.ino == k) refl refl e 
         let q = i h in
         record { r = q.r; is = ap (λ (t : Bool). cond t (Some r) (find (is_row_of c k) rows)) (ap (λ (t : Bool). t && (r.ino == k)) f) ∙ q.is }
 
--- where no row is of the life or a higher one, all rows of the client are below it
+-- if no row belongs to the life or to a higher one, all rows of the client are below it
 all_below : (c : ClientId) (life : Life) (rows : List LockRow) → list_any (is_row_from c life) rows ≡ false →
     filter (is_row_below c life) rows ≡ filter (is_row_by c) rows
 all_below c life [] e = refl

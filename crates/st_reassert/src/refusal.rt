@@ -9,7 +9,7 @@ use thiserror::Error;
 /// Why a reassertion is not accepted.
 #[derive(Clone, Copy, Debug, PartialEq, Eq, Error)]
 pub enum ReassertRefusal {
-    /// When the grace began, or 0 where the epoch had none, and the present moment.
+    /// When the grace began, or 0 if the epoch had none, and the present moment.
     #[error("no grace")]
     GraceOver(Stamp, Stamp),
     /// The file, and the client whose lock on it conflicts.

@@ -11,7 +11,7 @@ use Rattle.st_runs.specs.Replay.{Replay, Last, Whole, Stopped, text, replay_line
 use Rattle.st_runs.specs.Safe.{RunsSafely}
 use Rattle.st_replay.specs.Pieces.{Passes, whole_lines}
 
--- What was written, next to the replay of all bytes: the whole report where it went through the end or stopped at a line, and otherwise a prefix of it.
+-- What was written, next to the replay of all bytes: the whole report if it went through the end or stopped at a line, and otherwise a prefix of it.
 abbrev pub Reports : Result (Summary × World) ReplayFault → Option (List ℕ) → Option (List ℕ) → Replay → Type 0
 Reports (Ok r) before now p = (p.last ≡ Whole r.1) × Appends before now (text p)
 Reports (Err (faults.Line n f)) before now p = (p.last ≡ Stopped n f) × Appends before now (text p)
@@ -33,7 +33,7 @@ abbrev pub OnRead : {T : Type 0} → Result T ReplayFault → Type 0 → Type 0
 OnRead (Err faults.Read) fact = fact
 OnRead r fact = Unit {0}
 
--- The counts of faults of the source and of the sink: one of them rose at `Read` and at `Write`; both stayed where the replay
+-- The counts of faults of the source and of the sink: one of them rose at `Read` and at `Write`; both stayed if the replay
 -- went through or stopped at a line.
 abbrev pub HasCauses : {T : Type 0} → Result T ReplayFault → ℕ → ℕ → ℕ → ℕ → Type 0
 HasCauses (Ok r) read_before read_now written_before written_now = (read_now ≡ read_before) × (written_now ≡ written_before)

@@ -21,7 +21,7 @@ from_world w s = replay_from (w.tally.events + 1) w s
 abbrev pub from_line : World → Progress → ℕ → List (List ℕ) → Replay
 from_line w p line ls = from_world w (schedule_of ls line p)
 
--- the same, also where the head was not read yet
+-- the same, also if the head was not read yet
 abbrev pub from_here : Option World → Progress → ℕ → List (List ℕ) → Replay
 from_here None p line ls = replay_lines ls
 from_here (Some w) p line ls = from_line w p line ls
@@ -49,7 +49,7 @@ abbrev pub AtStop : Stop → (ℕ → LineRefusal → Type 0) → Type 0
 AtStop (stops.Line line f) fact = fact line f
 AtStop stops.Memory fact = Unit {0}
 
--- the same, where a call was stopped
+-- the same, if a call was stopped
 abbrev pub OnStop : {T : Type 0} → Result T Stop → (ℕ → LineRefusal → Type 0) → Type 0
 OnStop (Ok x) fact = Unit {0}
 OnStop (Err s) fact = AtStop s fact

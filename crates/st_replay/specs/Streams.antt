@@ -31,7 +31,7 @@ pub record Streams (left_before left_now written_before written_now : Option (Li
   pub none : HasNone holds
   pub few : length holds ≤ 256
 
--- A text was written; it is a prefix of the report, and where a line stopped the replay, it is the report up to this line, except for the text that was not
+-- A text was written; it is a prefix of the report, and if a line stopped the replay, it is the report up to this line, except for the text that was not
 -- written yet.
 pub record Halts (left_before written_before written_now : Option (List ℕ)) (pending : List ℕ) (s : Stop) : Type 0 where
   pub written : List ℕ

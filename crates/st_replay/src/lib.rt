@@ -23,7 +23,7 @@ pub use st_rules::Summary;
 pub use st_runs::LineRefusal;
 pub use st_world::World;
 
-/// Every schedule runs safely: where its first line is read as a head, its replay is that of the
+/// Every schedule runs safely: if its first line is read as a head, its replay is that of the
 /// run of the events after that head, from the head's world, and each step of this run keeps every
 /// promise. Nothing is owed: the reader lets no other head and no other event through than those of
 /// which the promises speak.

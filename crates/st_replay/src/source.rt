@@ -24,14 +24,14 @@ use std::alloc::Global;
 /// reads at most 256 bytes of the schedule are held. It hands back the counts of the run, and the
 /// world that it led to.
 ///
-/// It returns `Line` where a line is refused, and then the report ends with that line's refusal;
-/// `Read` and `Write` where a read or a write failed, and `Memory` if memory ran out.
+/// It returns `Line` if a line is refused, and then the report ends with that line's refusal;
+/// `Read` and `Write` if a read or a write failed, and `Memory` if memory ran out.
 pub fn replay<I: Source, O: Sink>(
     alloc: Global,
     input: &mut I,
     out: &mut O,
 ) -> Result<(Summary, World), ReplayFault>
-    // The report over all the bytes that the source held: all of it where the replay went through
+    // The report over all the bytes that the source held: all of it if the replay went through
     // or stopped at a line, and otherwise a prefix of it.
     ensures report { IfSome (I.left input.old) (λ bytes. Reports result (O.written out.old) (O.written out.new) (replay_of bytes)) }
     ensures counts { IfOk result (λ r. r.0 ≡ rules.summary r.1) }
@@ -39,7 +39,7 @@ pub fn replay<I: Source, O: Sink>(
     // After `Read`: the head's line and the observations of the lines whose newlines were taken, of
     // which none is refused.
     ensures read { OnRead result (IsCutOff (I.left input.old) (I.left input.new) (O.written out.old) (O.written out.new)) }
-    // `Read` and `Write` come only where a count of faults rose; at `Ok` and at `Line` none did.
+    // `Read` and `Write` come only if a count of faults rose; at `Ok` and at `Line` none did.
     ensures causes { HasCauses result (I.faults input.old) (I.faults input.new) (O.faults out.old) (O.faults out.new) }
     // A schedule that goes through its end is refused at no line.
     ensures complete { IfSome (I.left input.old) (λ bytes. Completes result (replay_of bytes).last) }

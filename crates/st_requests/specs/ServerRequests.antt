@@ -67,11 +67,11 @@ sent_again r u q now =
       requests = record r { requests = client_state.asked_again q now r.requests };
     }
 
--- where it was last sent long ago
+-- if it was last sent long ago
 unfoldable pub again_if_due : ServerRequests → Under → Request → Stamp → Again
 again_if_due r u q now = if client_state.is_again_due r.retry now q then sent_again r u q now else not_again r
 
--- where something is outstanding
+-- if something is outstanding
 unfoldable pub again_of : ServerRequests → Option Under → Option Request → Stamp → Again
 again_of r (Some u) (Some q) now = again_if_due r u q now
 again_of r u q now = not_again r
@@ -89,7 +89,7 @@ pub record Replied : Type 0 where
   pub reply : Reply
   pub requests : ServerRequests
 
--- nothing is outstanding any more
+-- nothing is outstanding from then on
 abbrev pub ended : ServerRequests → ServerRequests
 ended r = record r { under = None; requests = client_state.request_ended r.requests }
 

@@ -103,7 +103,7 @@ impl Requests {
         Ok(message)
     }
 
-    /// Asks again: the message of the outstanding request, sent now, or `None` where none is
+    /// Asks again: the message of the outstanding request, sent now, or `None` if none is
     /// outstanding or it was last sent less than `retry` ticks ago. If the call runs out of memory,
     /// nothing changes.
     #[tactic(auto, unfolding(crate::specs::ServerRequests::again, crate::specs::ServerRequests::again_of, crate::specs::ServerRequests::again_if_due, crate::specs::ServerRequests::sent_again))]
@@ -122,7 +122,7 @@ impl Requests {
         Ok(Some(message))
     }
 
-    /// Ends the outstanding request where it has this number. It does not allocate.
+    /// Ends the outstanding request if it has this number. It does not allocate.
     #[tactic(auto, unfolding(crate::specs::ServerRequests::reply, crate::specs::ServerRequests::reply_to))]
     pub fn reply(&mut self, number: u64) -> Reply
         ensures { shown.leaves_reply result self.new ≡ shown.reply self.old number }

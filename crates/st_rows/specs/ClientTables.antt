@@ -1,4 +1,4 @@
--- Clients at their limits, and what they tell of themselves.
+-- Clients at their limits, and what they say about themselves.
 use Rattle.std.specs.Prelude.{ℕ, ◌+◌, true, false, List, [], ◌∷◌, map, Option, Some, None, ⊤}
 use Rattle.st_base.specs.Page.{filled}
 use Rattle.st_base.specs.declared.mode.Mode.TheVariants as modes

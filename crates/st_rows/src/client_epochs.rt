@@ -82,7 +82,7 @@ pub fn a_new_epoch_forgets_what_was_under_way()
         ∷ [] }
 {}
 
-/// A refusal of the reassertion condemns the lease: nothing is asked any more, what is pending is
+/// A refusal of the reassertion condemns the lease: nothing more is asked, what is pending is
 /// quiesced, and in flush pages are written.
 #[tactic(auto, unfolding(crate::specs::ClientScript::client_script_open))]
 pub fn a_refused_reassertion_condemns()

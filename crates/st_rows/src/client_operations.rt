@@ -180,8 +180,8 @@ pub fn names_are_answered()
         ∷ [] }
 {}
 
-/// No file: all reads, writes, patches, cuts and removes of it, and not its syncs; too many locks
-/// likewise.
+/// No file: all reads, writes, patches, cuts and removes of it, and not its syncs; the same for
+/// too many locks.
 #[tactic(auto, unfolding(crate::specs::ClientScript::client_script_open))]
 pub fn a_refused_file_answers_all_its_operations()
     ensures { said (

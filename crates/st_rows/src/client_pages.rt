@@ -199,7 +199,7 @@ pub fn a_block_of_another_birth_is_zeros()
         ∷ [] }
 {}
 
-/// A read that failed is told to the reads and patches of its page, and the next one reads again.
+/// A failed read is reported to the reads and patches of its page, and the next one reads again.
 #[tactic(auto, unfolding(crate::specs::ClientScript::client_script_open))]
 pub fn a_failed_read_answers_who_waits_for_it()
     ensures { said (

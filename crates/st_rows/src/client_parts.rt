@@ -36,7 +36,7 @@ pub fn a_lease_permits_by_its_age()
     ensures idles { leases.may_submit standings.Idle ≡ false }
 {}
 
-/// A lease is renewed by a later stamp alone, and not when it is condemned.
+/// A lease is renewed only by a later stamp, and not when it is condemned.
 #[tactic(auto, unfolding(crate::specs::ClientTables::client_tables_open))]
 pub fn a_lease_is_renewed_by_later_stamps()
     ensures later { leases.renewed (stamp 11) (leases.new_lease (stamp 10)) ≡ leases.new_lease (stamp 11) }
@@ -68,7 +68,7 @@ pub fn lost_pages_are_told_by_rising_page()
     ensures replaced { pages.told_rows (pages.with_lost (lost_of 2 4 6) unsorted_pages) 2 ≡ lost_row 1 0 ∷ lost_row 4 6 ∷ lost_row 7 2 ∷ [] }
 {}
 
-/// A lock is installed, demanded and reduced by grant numbers alone.
+/// A lock is installed, demanded and reduced only by grant numbers.
 #[tactic(auto, unfolding(crate::specs::ClientTables::client_tables_open))]
 pub fn a_lock_goes_by_grant_numbers()
     ensures same { locks.install_grant one_lock 2 (g 4294967297) modes.S ≡ one_lock }

@@ -40,7 +40,7 @@ pub fn entries_harden_together()
         ≡ other_client Pending ∷ other_page Pending ∷ the_write (Gone Crash) ∷ the_patch Hard ∷ the_write Pending ∷ [] }
 {}
 
-/// Dropping reaches pending entries alone: those that are picked, each with its page's cause.
+/// Dropping reaches only pending entries: those that are picked, each with its page's cause.
 #[tactic(auto, unfolding(crate::specs::Logs::log_rows_open))]
 pub fn pending_entries_are_dropped()
     ensures one { log.gone patched 1 (Failed 3) ≡ the_write (Gone (Failed 3)) ∷ the_patch Pending ∷ [] }

@@ -4,7 +4,7 @@ ghost use Rattle.st_rules.specs.Leases as leases;
 ghost use Rattle.st_rows.specs.Script.{settings, grainy_settings};
 ghost use Rattle.st_rows.specs.Words.{stamp};
 
-/// The wait before a theft, without a grain, with one, and where the division leaves a rest.
+/// The wait before a theft, without a grain, with one, and if the division leaves a remainder.
 #[tactic(auto, unfolding(st_rules::specs::Rules::rules_open))]
 pub fn a_server_waits_for_the_slowest_clock()
     ensures plain { leases.steal_wait settings ≡ 1010 }

@@ -71,7 +71,7 @@ pub fn releases_name_their_grant()
         ≡ record { locks = table 1 (lock 2 1 4294967297 modes.S (Some (demand modes.None 5 None)) ∷ []) []; found = true } }
 {}
 
-/// All locks and waits of a client are forgotten, or its waits alone, or all waits for a file.
+/// All locks and waits of a client are forgotten, or only its waits, or all waits for a file.
 #[tactic(auto, unfolding(crate::specs::Tables::tables_open))]
 pub fn locks_are_forgotten()
     ensures all { locks.forget (table 3 (lock 2 1 7 modes.S None ∷ lock 2 2 8 modes.S None ∷ []) (wait 3 2 modes.S ∷ wait 3 1 modes.X ∷ [])) (c 1)

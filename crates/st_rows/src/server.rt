@@ -99,7 +99,7 @@ pub fn a_repeated_release_changes_nothing()
         ∷ [] }
 {}
 
-/// A demand to share is sent; sent again when it is old, on a tick alone; and lowered where the
+/// A demand to share is sent; sent again when it is old, only on a tick; and lowered if the
 /// first waiter's mode is raised.
 #[tactic(auto, unfolding(crate::specs::Script::script_open))]
 pub fn a_demand_is_lowered()

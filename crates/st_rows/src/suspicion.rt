@@ -19,7 +19,7 @@ pub fn timers_run_for_the_wait()
         ≡ authority (suspect_since 1 3 ∷ []) }
 {}
 
-/// Grace is on below its start and the wait, and never where it did not begin.
+/// Grace is on below its start and the wait, and never if it did not begin.
 #[tactic(auto, unfolding(crate::specs::Tables::tables_open))]
 pub fn grace_lasts_for_the_wait()
     ensures on { grace.is_on (grace.begin_grace (stamp 5) settings) (stamp 1014) ≡ true }
@@ -27,7 +27,7 @@ pub fn grace_lasts_for_the_wait()
     ensures none { grace.is_on (grace.no_grace) (stamp 0) ≡ false }
 {}
 
-/// A client's own row is in the way of a reassertion if it is of a lower life, and its least file
+/// A client's own row is in the way of a reassertion if it has a lower life, and its least file
 /// is reported.
 #[tactic(auto, unfolding(crate::specs::Tables::tables_open))]
 pub fn own_older_rows_are_found()

@@ -490,7 +490,7 @@ written_without_a_lock = writes_again 2 1 2 4294967297
 unfoldable pub written_under_a_lesser_grant : Step
 written_under_a_lesser_grant = writes_again 1 3 2 4294967296
 
--- a file is cut while a client has it alone, and nobody is told that it was done
+-- a file is cut while only one client has it, and nobody is told that it was done
 abbrev pub cuts_untold : Event → Step
 cuts_untold e = seeing (cut 2 1 2 0 ∷ []) (recalling (with_grant (on 1 2) (g 4294967297)) (leaving cut_once (still (here e))))
 
@@ -733,7 +733,7 @@ past_removed = past_first removing ++ removed_then ∷ []
 unfoldable pub created_again : Step
 created_again = leaving (all_named with_file) (still removed_then.after)
 
--- both are told of one new file
+-- both are told about one new file
 unfoldable pub told_first : Step
 told_first = seeing (answered 1 2 (answers.Named 10) ∷ []) (still (created_first creating_too).after)
 

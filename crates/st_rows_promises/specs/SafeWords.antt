@@ -38,7 +38,7 @@ use Rattle.st_promises.specs.Refusals.{RefusalsChangeNothing}
 use Rattle.st_promises.specs.Safe.{promises_open}
 use Rattle.st_rows_world.specs.WorldWords.{world_words_open}
 
--- Every promise is kept at every step. The counts are said by numbers: to compare all messages whole at each step takes too much memory.
+-- Every promise is kept at every step. The counts are given as numbers: to compare all messages whole at each step takes too much memory.
 pub record AreKept (xs : List Step) : Type 0 where
   pub alone : Throughout DirtyPagesStandAlone [] xs
   pub reads : Throughout ReadsReturnLastWrites [] xs

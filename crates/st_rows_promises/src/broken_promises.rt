@@ -55,7 +55,7 @@ pub fn a_drop_without_a_report_is_refused()
     ensures kept { IsKeptBut (3 ∷ []) (past reading) dropped_without_a_report }
 {}
 
-/// A write that was hard and is so no more. No line tells that, so the report doesn't tell the log
+/// A write that was hard and no longer is. No line says so, so the report doesn't tell the log
 /// either, and the counts are not true.
 #[tactic(auto, unfolding(crate::specs::BrokenPromises::broken_open))]
 pub fn a_write_that_is_hard_no_more_is_refused()
@@ -119,14 +119,14 @@ pub fn a_conflict_that_is_sent_is_refused()
     ensures kept { IsKeptBut (9 ∷ []) (past reading) conflict_sent }
 {}
 
-/// A write that is told to be hard and stays pending. The counts are not true then.
+/// A write that is reported hard and stays pending. The counts are not true then.
 #[tactic(auto, unfolding(crate::specs::BrokenPromises::broken_open))]
 pub fn a_hard_entry_that_stays_pending_is_refused()
     ensures broken { ¬ TheReportTellsTheLog (past reading) hard_and_pending }
     ensures kept { IsKeptBut (10 ∷ 20 ∷ []) (past reading) hard_and_pending }
 {}
 
-/// A write that is told to be hard and was hard before, on disks that carry zeros. The counts are
+/// A write that is reported hard and was hard before, on disks that carry zeros. The counts are
 /// not true then.
 #[tactic(auto, unfolding(crate::specs::BrokenPromises::broken_open))]
 pub fn an_entry_told_hard_twice_is_refused()
@@ -183,7 +183,7 @@ pub fn a_write_without_a_lock_is_refused()
     ensures kept { IsKeptBut (13 ∷ []) (past reading) written_without_a_lock }
 {}
 
-/// A cut of a file on which the server has no row any more.
+/// A cut of a file on which the server no longer has a row.
 #[tactic(auto, unfolding(crate::specs::BrokenPromises::broken_open))]
 pub fn a_cut_without_a_lock_is_refused()
     ensures broken { ¬ ChangesAreLocked (past cutting) cut_without_a_lock }
@@ -295,7 +295,7 @@ pub fn a_loss_that_is_told_in_part_is_refused()
     ensures kept { IsKeptBut (17 ∷ []) past_lost loss_told_in_part }
 {}
 
-/// A sync that is told of a page that was not lost.
+/// A sync that is told about a page that was not lost.
 #[tactic(auto, unfolding(crate::specs::BrokenPromises::broken_open))]
 pub fn a_loss_that_never_was_is_refused()
     ensures broken { ¬ LossesAreTold (past syncing) told_and_not_lost }
@@ -344,7 +344,7 @@ pub fn a_theft_without_a_line_is_refused()
     ensures kept { IsKeptBut (20 ∷ []) (past reading) counted_and_not_told }
 {}
 
-/// A cut that nobody asked, of a file that a client has alone.
+/// A cut that nobody asked for, of a file that only one client has.
 #[tactic(auto, unfolding(crate::specs::BrokenPromises::broken_open))]
 pub fn a_cut_that_is_not_asked_is_refused()
     ensures broken { ¬ CutsAreAsked (past reading) cut_and_not_asked }
@@ -382,7 +382,7 @@ pub fn a_number_below_another_is_refused()
     ensures kept { IsKeptBut (23 ∷ []) (past reading) given_below }
 {}
 
-/// A cut that is done, and of which nothing is said.
+/// A cut that is done, and about which nothing is sent.
 #[tactic(auto, unfolding(crate::specs::BrokenPromises::broken_open))]
 pub fn a_cut_that_is_not_acknowledged_is_refused()
     ensures broken { ¬ CutsAreAcknowledged (past cutting) cut_and_not_acknowledged }

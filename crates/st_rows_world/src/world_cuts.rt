@@ -146,7 +146,7 @@ pub fn request_cut()
         ∷ []) (counts 2 1 0 0 0 0 0 0) (Some (refusals.LinkCut (client_node 1) (server_node 1))) }
 {}
 
-/// A direction that was cut twice is healed once; a cut speaks of its own direction alone.
+/// A direction that was cut twice is healed once; a cut concerns only its own direction.
 #[tactic(auto, unfolding(crate::specs::WorldWords::world_words_open))]
 pub fn cut_twice()
     ensures { told (run (

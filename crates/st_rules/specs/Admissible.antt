@@ -148,7 +148,7 @@ abbrev pub late_disk : World → Option IssuedCommand → Option WorldRefusal
 late_disk w None = None
 late_disk w (Some c) = late_at (clock_of w (nodes.Client c.client)) (lease_end_of w c.client c.server c.life)
 
--- a command that may have no effect any more
+-- a command that can no longer have an effect
 abbrev pub is_done : DiskCommand → Bool
 is_done d = d.effected || not (is_open d.report)
 
@@ -157,7 +157,7 @@ unfoldable pub refused_effect : World → ℕ → Option DiskCommand → Option 
 refused_effect w k None = Some (refusals.NoCommand k)
 refused_effect w k (Some d) = option_or (stands (is_done d) (refusals.DiskState k)) (late_disk w (issued_of w k))
 
--- Reports: there is no such command; it was reported, or is to succeed without its effect; the network is full.
+-- Reports: there is no such command; it was reported, or would succeed without its effect; the network is full.
 abbrev pub is_told : Bool → DiskCommand → Bool
 is_told ok d = not (is_open d.report) || (ok && not d.effected)
 

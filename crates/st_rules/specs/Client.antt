@@ -34,7 +34,7 @@ use Rattle.st_rules.specs.ClientState.{ClientSession, Association, ClientState, 
 use Rattle.st_rules.specs.ClientReplies.{receive, client_replies_open}
 use Rattle.st_rules.specs.ClientPasses.{passes, client_passes_open}
 
--- Loss: where a session's lease is over it is noted as lost; each dirty page joins the lost rows; the operations of the server
+-- Loss: if a session's lease is over it is noted as lost; each dirty page joins the lost rows; the operations of the server
 -- are answered, in order; all else of the server is emptied, and the next life begins.
 
 -- Telling: the lost pages of a file are reported, and forgotten.
@@ -59,7 +59,7 @@ unfoldable pub end_each : ClientSession → List Operation → Turn → Turn
 end_each s [] t = t
 end_each s (o ∷ os) t = end_each s os (end_operation t s o)
 
--- the server's operations are answered, and are pending no more
+-- the server's operations are answered, and are no longer pending
 unfoldable pub end_operations : Turn → ClientSession → Turn
 end_operations t s = end_each s (filter (is_of t.here.server) t.operations) (with_operations (filter (λ o. not (is_of t.here.server o)) t.operations) t)
 
@@ -180,7 +180,7 @@ with_failed c t = with_store (record t.here.store { pages = pages.fail t.here.st
 abbrev pub is_present : Turn → PageCommand → ℕ → Bool
 is_present t c version = is_some (pages.dirty_of t.here.store.pages c.ino c.page) && (pages.version_of t.here.store.pages c.ino c.page == version)
 
--- where the page was not changed since
+-- if the page was not changed since
 unfoldable pub mark_failed : Turn → PageCommand → ℕ → Turn
 mark_failed t c version = if is_present t c version then with_failed c t else t
 
@@ -197,7 +197,7 @@ finish_as t c block Hard = hardened t c
 finish_as t c block Redirty = t
 finish_as t c block Failed = failed_as t c c.kind
 
--- it is outstanding no more
+-- it is no longer outstanding
 abbrev pub with_commands : List PageCommand → Turn → Turn
 with_commands cs t = with_store (record t.here.store { commands = cs }) t
 
@@ -223,7 +223,7 @@ unfoldable pub finish_by : Turn → PageCommand → Option (Option (Tag × List 
 finish_by t c None = finish_command t c false None
 finish_by t c (Some block) = done_by t c block
 
--- where the command is outstanding
+-- if the command is outstanding
 unfoldable pub finish_at : Turn → Option PageCommand → Option (Option (Tag × List ℕ)) → Turn
 finish_at t None result = t
 finish_at t (Some c) result = finish_by t c result
@@ -295,7 +295,7 @@ pub record ClientNode : Type 0 where
 abbrev pub fresh_node : ClientId → Config → ℕ → ClientNode
 fresh_node id k servers = record { state = fresh_client id k servers; running = true }
 
--- Crash: it runs no more.
+-- Crash: it no longer runs.
 abbrev pub crash_node : ClientNode → ClientNode
 crash_node n = record { state = crash n.state; running = false }
 
@@ -316,7 +316,7 @@ node_turn n t = record { node = record n { state = t.state }; out = t.out }
 unfoldable pub node_step : ClientNode → Stamp → ClientInput → Result NodeTurn StepRefusal
 node_step n now input = if n.running then Ok (node_turn n (client_step n.state now input)) else Err Crashed
 
--- What a client tells of itself, for each server.
+-- What a client says about itself, for each server.
 
 -- its association with a server
 abbrev pub association_with : ClientState → ServerId → Option Association
@@ -331,7 +331,7 @@ abbrev pub lease_at : Option Association → Option lease.ClientLease
 lease_at None = None
 lease_at (Some a) = option_map lease_of_session a.session
 
--- the lease at a server, where one is held
+-- the lease at a server, if one is held
 abbrev pub lease_with : ClientState → ServerId → Option lease.ClientLease
 lease_with c s = lease_at (association_with c s)
 

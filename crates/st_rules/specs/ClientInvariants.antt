@@ -42,7 +42,7 @@ is_held_for c d = is_some (lock_of c d.ino)
 abbrev pub is_seen : LockCache → HeldLock → Bool
 is_seen c l = nat_le l.g.0 (seen_of c l.ino).0
 
--- A lock cache: a file has one lock, one greatest grant and one demand; a lock is demanded only where it is held; at most
+-- A lock cache: a file has one lock, one greatest grant and one demand; a lock is demanded only if it is held; at most
 -- 1,024 locks are held.
 pub record IsLockCache (c : LockCache) : Type 0 where
   pub rows_once : are_once same_lock c.rows ≡ true
@@ -132,7 +132,7 @@ abbrev pub HasLockCache : Option ClientSession → Type 0
 HasLockCache None = ⊤
 HasLockCache (Some s) = IsLockCache s.locks
 
--- What a client has of a server: the store and the locks are as they must be; exactly where the outstanding request asks for a cut or a name, one operation
+-- What a client has of a server: the store and the locks are as they must be; exactly if the outstanding request asks for a cut or a name, one operation
 -- waits for its reply.
 pub record IsAssociation (operations : List Operation) (next : ℕ) (a : Association) : Type 0 where
   pub store : IsStore next a.store

@@ -8,7 +8,7 @@ use Rattle.st_rules.specs.declared.client.StandingKind.{StandingKind}
 use Rattle.st_rules.specs.declared.client.StandingKind.TheVariants.{Idle, Serve, Hold, Drain, Lost}
 use Rattle.st_rules.specs.Leases.{phase, lease_end, leases_open}
 
--- A lease that is held: the client's own reading when it asked for it, and whether it must not be renewed any more.
+-- A lease that is held: the client's own reading when it asked for it, and whether it must no longer be renewed.
 pub record ClientLease : Type 0 where
   pub date : Stamp
   pub condemned : Bool
@@ -17,11 +17,11 @@ pub record ClientLease : Type 0 where
 abbrev pub new_lease : Stamp → ClientLease
 new_lease stamp = record { date = stamp; condemned = false }
 
--- Phase: where a lease is held.
+-- The phase of a lease that is held.
 abbrev pub phase_of : Config → ClientLease → Stamp → Phase
 phase_of k l now = phase k l.date l.condemned now
 
--- the phase, where a lease is held
+-- the phase, if a lease is held
 abbrev pub phase_at : Config → Option ClientLease → Stamp → Option Phase
 phase_at k None now = None
 phase_at k (Some l) now = Some (phase_of k l now)
@@ -30,7 +30,7 @@ phase_at k (Some l) now = Some (phase_of k l now)
 abbrev pub end_of : Config → ClientLease → Stamp
 end_of k l = lease_end k l.date
 
--- the end, where a lease is held
+-- the end, if a lease is held
 abbrev pub end_at : Config → Option ClientLease → Option Stamp
 end_at k l = option_map (end_of k) l
 
@@ -42,7 +42,7 @@ standing_by Quiesce = Hold
 standing_by Flush = Drain
 standing_by Expired = Lost
 
--- the standing, where there may be no lease
+-- the standing, if there may be no lease
 abbrev pub standing_at : Option Phase → StandingKind
 standing_at None = Idle
 standing_at (Some p) = standing_by p
@@ -95,7 +95,7 @@ is_renewing Quiesce = true
 is_renewing Flush = true
 is_renewing other = false
 
--- Renewing: the date moves to a later stamp, where the lease is not condemned.
+-- Renewing: the date moves to a later stamp, if the lease is not condemned.
 abbrev pub is_renewal : Stamp → ClientLease → Bool
 is_renewal stamp l = not l.condemned && nat_lt l.date.0 stamp.0
 
@@ -107,7 +107,7 @@ dated stamp l = record l { date = stamp }
 unfoldable pub renewed : Stamp → ClientLease → ClientLease
 renewed stamp l = if is_renewal stamp l then dated stamp l else l
 
--- Condemning: the lease is not renewed any more, and is at least in quiesce.
+-- Condemning: the lease is no longer renewed, and is at least in quiesce.
 unfoldable pub condemned : ClientLease → ClientLease
 condemned l = record l { condemned = true }
 

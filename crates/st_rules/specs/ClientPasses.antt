@@ -78,7 +78,7 @@ submit_write t d m =
 abbrev pub answer : Operation → AppAnswer → Turn → Turn
 answer o a t = answered t o.op a
 
--- Sync: hard where the file has no dirty page and no outstanding write.
+-- Sync: hard if the file has no dirty page and no outstanding write.
 unfoldable pub sync : Turn → Operation → FileId → Turn
 sync t o f = if pages.is_hard t.here.store f.ino then answer o answers.Hard t else keep o t
 
@@ -119,7 +119,7 @@ write t s o f p bytes = if may_write t s f p then change_page t o f p bytes (not
 unfoldable pub fetch_mapped : Turn → FileId → PageNo → MappedBlock → Turn
 fetch_mapped t f p m = if pages.is_being_read t.here.store.commands f.ino p then t else submit_read t f.ino p m
 
--- where it is mapped
+-- if it is mapped
 unfoldable pub fetch_at : Turn → FileId → PageNo → Option MappedBlock → Turn
 fetch_at t f p None = t
 fetch_at t f p (Some m) = fetch_mapped t f p m
@@ -141,8 +141,8 @@ patch_at t o f p at bytes (Some old) = patch_bytes t o f p at bytes old
 unfoldable pub patch : Turn → ClientSession → Operation → FileId → PageNo → ℕ → List ℕ → Turn
 patch t s o f p at bytes = if may_write t s f p then patch_at t o f p at bytes (pages.cached t.here.store.pages f.ino p) else keep o t
 
--- Reading, with a lock: from the dirty page, or from the clean one, which becomes the newest; zeros where the page is known as unmapped; and otherwise the page
--- is fetched where it is known as mapped.
+-- Reading, with a lock: from the dirty page, or from the clean one, which becomes the newest; zeros if the page is known as unmapped; and otherwise the page
+-- is fetched if it is known as mapped.
 unfoldable pub read_cached : Turn → Operation → FileId → PageNo → List ℕ → Turn
 read_cached t o f p bytes = answer o (answers.Read bytes) (with_store (record t.here.store { pages = pages.use_page t.here.store.pages f.ino p }) t)
 
@@ -301,7 +301,7 @@ write_out t d = write_out_at t d (pages.mapping_of t.here.store.extents d.ino d.
 unfoldable pub write_due : Turn → ClientSession → Stamp → Bool → DirtyPage → Turn
 write_due t s now tick d = if is_writable t s now tick d then write_out t d else t
 
--- where the page is dirty
+-- if the page is dirty
 unfoldable pub write_page : Turn → ClientSession → Stamp → Bool → Option DirtyPage → Turn
 write_page t s now tick None = t
 write_page t s now tick (Some d) = write_due t s now tick d
@@ -320,7 +320,7 @@ writes_by t now tick (Some s) = write_each s now tick (pages.dirty_places t.here
 unfoldable pub writes : Stamp → Bool → Turn → Turn
 writes now tick t = writes_by t now tick t.here.session
 
--- Greeting: without a session, where an operation of this server is pending; again on a tick, when the last greeting is old.
+-- Greeting: without a session, if an operation of this server is pending; again on a tick, when the last greeting is old.
 abbrev pub is_greeting_due : Config → Stamp → Bool → Option Stamp → Bool
 is_greeting_due k now tick None = true
 is_greeting_due k now tick (Some at) = tick && nat_le (at.0 + k.retry) now.0
@@ -337,7 +337,7 @@ with_greeting now t = record t { here = record t.here { greeting = Some now } }
 unfoldable pub hello : Turn → Stamp → Turn
 hello t now = send (with_greeting now t) 0 0 now.0 bodies.Hello
 
--- where it is due
+-- if it is due
 unfoldable pub greet : Turn → Stamp → Bool → Turn
 greet t now tick = if must_greet t now tick then hello t now else t
 
@@ -425,7 +425,7 @@ want_map t ino g p = if is_at_hand t ino p then None else wanted (bodies.Map ino
 unfoldable pub want_block : Turn → ℕ → GrantNo → PageNo → Option Wanted
 want_block t ino g p = if pages.is_mapped t.here.store.extents ino p then None else wanted (bodies.Allocate ino g p 1)
 
--- Cutting: where the file is idle.
+-- Cutting: if the file is idle.
 unfoldable pub want_cut : Turn → ℕ → Body → PageNo → Option Wanted
 want_cut t ino body p = if pages.is_idle t.here.store ino then wanted_cut body ino p else None
 
@@ -527,7 +527,7 @@ unfoldable pub ask_for_or : Turn → ClientSession → Stamp → Option Asking �
 ask_for_or t s now None = keep_alive t s now
 ask_for_or t s now (Some a) = ask_for t s now a
 
--- operations ask in valid and renewal alone
+-- operations ask only in valid and renewal
 unfoldable pub ask_next : Turn → ClientSession → Stamp → Turn
 ask_next t s now = if is_serving t.config s now then ask_for_or t s now (first_asking t s now t.operations) else keep_alive t s now
 
@@ -535,7 +535,7 @@ ask_next t s now = if is_serving t.config s now then ask_for_or t s now (first_a
 unfoldable pub ask_release : Turn → ClientSession → Stamp → Release → List Release → Turn
 ask_release t s now r rs = ask t (record s { releases = rs }) now (bodies.Released r.ino r.g r.to) None
 
--- a release, or what else there is
+-- a release, or whatever else is due
 unfoldable pub ask_by : Turn → ClientSession → Stamp → List Release → Turn
 ask_by t s now [] = ask_next t s now
 ask_by t s now (r ∷ rs) = ask_release t s now r rs

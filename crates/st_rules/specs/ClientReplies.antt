@@ -92,7 +92,7 @@ is_newer s epoch = nat_lt s.epoch.0 epoch.0 && not s.lease.condemned
 unfoldable pub newer_epoch : Turn → ClientSession → Epoch → Turn
 newer_epoch t s epoch = if is_newer s epoch then follow_epoch t s epoch else t
 
--- only a refusal as of another epoch tells of one
+-- only a refusal as of another epoch reports one
 abbrev pub refused_in : Turn → ClientSession → Epoch → Why → Turn
 refused_in t s epoch why.OtherEpoch = newer_epoch t s epoch
 refused_in t s epoch other = t
@@ -102,11 +102,11 @@ unfoldable pub of_other_epoch : Turn → ClientSession → Epoch → Body → Tu
 of_other_epoch t s epoch (bodies.Nack w a b) = refused_in t s epoch w
 of_other_epoch t s epoch body = t
 
--- Condemning: the lease is renewed no more.
+-- Condemning: the lease is no longer renewed.
 unfoldable pub condemn : Turn → ClientSession → Turn
 condemn t s = with_session (with_lease (lease.condemned s.lease) s) t
 
--- Granted: the wait is forgotten. A grant above the greatest seen is the greatest seen; it is installed where there is a place for it, and otherwise declined:
+-- Granted: the wait is forgotten. A grant above the greatest seen is the greatest seen; it is installed if there is a place for it, and otherwise declined:
 -- its release goes last.
 unfoldable pub accept_grant : ClientSession → ℕ → GrantNo → Mode → ClientSession
 accept_grant s ino g mode = with_cache (locks.installed s.locks ino g mode) s
@@ -143,7 +143,7 @@ wait_unless_held s ino mode now = if covers (locks.mode_of s.locks ino) mode the
 unfoldable pub queued : Turn → ClientSession → Stamp → ℕ → Mode → Turn
 queued t s now ino mode = with_session (wait_unless_held s ino mode now) t
 
--- Extents: where the lock's grant is still the request's, the told rows are known; a map that found none makes its page known
+-- Extents: if the lock's grant is still the request's, the told rows are known; a map that found none makes its page known
 -- as unmapped.
 abbrev pub with_extents_known : ℕ → List ExtentRow → Store → Store
 with_extents_known ino rows st = record st { extents = pages.with_known_rows ino rows st.extents }
@@ -181,7 +181,7 @@ learn t ino rows asked = with_store (learned ino rows asked t.here.store) t
 unfoldable pub extents : Turn → ClientSession → ℕ → List ExtentRow → Body → Turn
 extents t s ino rows asked = if is_current s.locks asked then learn t ino rows asked else t
 
--- Acknowledged: where the request is a cut, its operation is answered. Only that of a cut or a name is marked as sent.
+-- Acknowledged: if the request is a cut, its operation is answered. Only that of a cut or a name is marked as sent.
 unfoldable pub acknowledged : Turn → Turn
 acknowledged t = answer_each (is_asked t.here.server) answers.Cut t
 
@@ -196,7 +196,7 @@ name_answer (Refused code) = answers.Refused code
 unfoldable pub drop_lock : Turn → ClientSession → ℕ → HeldLock → Turn
 drop_lock t s ino l = with_session (with_release ino l.g modes.None (with_cache (locks.drop_lock s.locks ino) s)) t
 
--- where the lock is held
+-- if the lock is held
 unfoldable pub drop_held : Turn → ClientSession → ℕ → Option HeldLock → Turn
 drop_held t s ino None = t
 drop_held t s ino (Some l) = drop_lock t s ino l
@@ -215,7 +215,7 @@ named_as t s file reply = t
 unfoldable pub named : Turn → ClientSession → Option ℕ → NameReply → Turn
 named t s file reply = named_as (answer_each (is_asked t.here.server) (name_answer reply) t) s file reply
 
--- Reasserted: the locks need not be reasserted any more.
+-- Reasserted: the locks need no longer be reasserted.
 unfoldable pub reasserted : Turn → ClientSession → Turn
 reasserted t s = with_session (record s { due = false }) t
 
@@ -274,7 +274,7 @@ effect t s now bodies.Reasserted file asked = reasserted t s
 effect t s now (bodies.Nack w a b) file asked = refused t w a b file asked
 effect t s now reply file asked = t
 
--- Renewing: where the lease is not condemned and the reply's stamp is later, that is the date, with a note.
+-- Renewing: if the lease is not condemned and the reply's stamp is later, that is the date, with a note.
 abbrev pub with_renewed : Stamp → ClientSession → ClientSession
 with_renewed stamp s = with_lease (lease.renewed stamp s.lease) s
 
@@ -302,7 +302,7 @@ refuses_reassertion reply asked = is_refusal reply && reasserts asked
 unfoldable pub count_reply : Turn → ClientSession → Stamp → Stamp → Body → Body → Turn
 count_reply t s now stamp reply asked = if refuses_reassertion reply asked then condemn t s else reply_to t s now stamp reply asked
 
--- a reply counts where its number is the outstanding one and it fits the request
+-- a reply counts if its number is the outstanding one and it fits the request
 abbrev pub is_counting : ℕ → Body → Request → Bool
 is_counting number reply q = is_request_of number q && fits reply q.body
 
@@ -384,7 +384,7 @@ is_received t now h = (h.from == server_node t.here.server) && ((h.life == t.her
 unfoldable pub receive_at : Stamp → Header → Body → Turn → Turn
 receive_at now h body t = if is_received t now h then by_session t now h body t.here.session else t
 
--- it is to this client
+-- it is addressed to this client
 unfoldable pub receive_here : ClientTurn → Stamp → Header → Body → ClientTurn
 receive_here t now h body = at_each (receive_at now h body) t
 

@@ -145,7 +145,7 @@ at_each rule t = at_these rule t.state.associations (with_associations [] t)
 abbrev pub is_at : ServerId → Association → Bool
 is_at s a = same_server a.server s
 
--- At one server alone
+-- Only at one server
 unfoldable pub only_at : ServerId → (Turn → Turn) → Turn → Turn
 only_at s rule t = if is_at s t.here then rule t else t
 
@@ -301,7 +301,7 @@ at_stage stage o = record o { stage = stage }
 abbrev pub new_operation : ℕ → Ask → Operation
 new_operation op ask = record { op = op; ask = ask; stage = Unsent }
 
--- Answering: the pending operations that a test picks are answered, in order, and are pending no more.
+-- Answering: the pending operations that a test picks are answered, in order, and are no longer pending.
 abbrev pub answer_to : AppAnswer → Operation → Output
 answer_to answer o = outputs.Answer o.op answer
 

@@ -134,7 +134,7 @@ abbrev pub sample_of : Option DiskCommand → Option Block
 sample_of None = None
 sample_of (Some c) = c.sample
 
--- Sample: the block that a read found, where it had its effect
+-- Sample: the block that a read found, if it had its effect
 abbrev pub sample : Disks → ℕ → Option Block
 sample d n = sample_of (command d n)
 

@@ -336,7 +336,7 @@ unfoldable pub delivers : World → Option SentMessage → WorldTurn
 delivers w None = quiet w
 delivers w (Some m) = delivers_to w m.message (receiver_of m)
 
--- Loss of a message: it is delivered no more.
+-- Loss of a message: it is no longer delivered.
 abbrev pub with_lost : ℕ → SentMessage → World → World
 with_lost k m w = record w { net = record w.net { messages = with_numbered k (record m { lost = true }) w.net.messages } }
 
@@ -393,7 +393,7 @@ carried_by (Some c) = c.carries
 unfoldable pub effects : World → ℕ → WorldTurn
 effects w k = marks (with_disks (disks_after w.disks (disks.effect w.disks k)) w) (log_hard w.log (carried_by (issued_of w k)))
 
--- Report: it ends the command. The client takes it, where the instance that submitted the command still runs.
+-- Report: it ends the command. The client takes it, if the instance that submitted the command still runs.
 abbrev pub is_same_instance : IssuedCommand → WorldClient → Bool
 is_same_instance c site = site.node.running && (site.starts == c.starts)
 
@@ -428,7 +428,7 @@ tells w k ok (Some c) = tells_client w k ok c (site_of w c.client)
 unfoldable pub reports_of : World → ℕ → Bool → WorldTurn
 reports_of w k ok = tells (with_disks (disks_after w.disks (disks.done w.disks k ok)) w) k ok (issued_of w k)
 
--- Advance: all clocks advance, also those of nodes that do not run. Where a client's clock reaches the lease end of a life at
+-- Advance: all clocks advance, also those of nodes that do not run. If a client's clock reaches the lease end of a life at
 -- a server, every pending entry of that client, server and life is gone: by the crash that ended the life, or else by the
 -- page's last write command of that client and life.
 unfoldable pub advanced : List ℕ → List Stamp → List Stamp

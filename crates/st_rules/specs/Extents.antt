@@ -84,7 +84,7 @@ abbrev pub free : Extents → ℕ
 free x = length (free_blocks x)
 
 -- Allocate: each unmapped page of the range, in rising order, gets the first free block and the next birth; or none does,
--- where the free blocks are too few. A birth is never given twice.
+-- if the free blocks are too few. A birth is never given twice.
 abbrev pub new_extent : Extents → FileId → PageNo → BlockAt → Extent
 new_extent x f p b = record { file = f; page = p; at = b; birth = x.births + 1 }
 
@@ -126,7 +126,7 @@ is_at_or_behind f p e = same_file e.file f && nat_le p.0 e.page.0
 unfoldable pub release_from : Extents → FileId → PageNo → Extents
 release_from x f p = record x { rows = filter (λ e. not (is_at_or_behind f p e)) x.rows }
 
--- What a reply tells of a range of pages: the mapped ones, in rising order.
+-- What a reply says about a range of pages: the mapped ones, in rising order.
 abbrev pub extent_row : Extent → ExtentRow
 extent_row e = record { page = e.page; at = e.at; birth = e.birth }
 

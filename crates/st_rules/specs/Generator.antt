@@ -28,7 +28,7 @@ next x = (x * 6364136223846793005 + 1442695040888963407) % 2 ^ 64
 unfoldable pub below : ℕ → ℕ → ℕ
 below n x = x / 2 ^ 33 % n
 
--- the state after so many draws
+-- the state after this many draws
 unfoldable pub state_after : ℕ → ℕ → ℕ
 state_after zero x = x
 state_after (suc k) x = state_after k (next x)
@@ -59,13 +59,13 @@ file k x = record { server = server (1 + draw k 2 x); ino = 2 + draw (k + 1) 8 x
 abbrev pub page : ℕ → ℕ → PageNo
 page k x = page_no (draw k 4 x)
 
--- One of the last messages or commands, of so many that there are: a number from 1. Where there is none, nothing is drawn.
+-- One of the last messages or commands, out of this many: a number from 1. If there is none, nothing is drawn.
 unfoldable pub recent : ℕ → ℕ → ℕ → Option ℕ × ℕ
 recent count last x = if count == 0 then (None, x) else (Some (count - draw 1 (min count last) x), state_after 1 x)
 
 -- Candidates, each with the state after it. If there is none, nothing more is drawn.
 
--- an event, after so many draws
+-- an event, after this many draws
 abbrev pub after : ℕ → ℕ → Event → Option Event × ℕ
 after k x e = (Some e, state_after k x)
 
@@ -77,7 +77,7 @@ numbered_event event k = (option_map event k.0, k.1)
 unfoldable pub even_advance : ℕ → Option Event × ℕ
 even_advance x = after 1 x (events.Advance (replicate 5 (1 + draw 1 60 x)))
 
--- a clock's increment where they advance one by one
+-- a clock's increment if they advance one by one
 abbrev pub increment : ℕ → ℕ → ℕ
 increment k x = 100 + draw k 2 x
 
@@ -101,11 +101,11 @@ ask_read x = after 4 x (events.App (asker 1 x) (asks.Read (file 2 x) (page 4 x))
 unfoldable pub ask_sync : ℕ → Option Event × ℕ
 ask_sync x = after 3 x (events.App (asker 1 x) (asks.Sync (file 2 x)))
 
--- a delivery of one of the last 12 messages, of so many that were sent
+-- a delivery of one of the last 12 messages, of this many that were sent
 unfoldable pub deliver : ℕ → ℕ → Option Event × ℕ
 deliver sent x = numbered_event events.Deliver (recent sent 12 x)
 
--- an effect of one of the last 6 commands, of so many that were submitted
+-- an effect of one of the last 6 commands, of this many that were submitted
 unfoldable pub effect : ℕ → ℕ → Option Event × ℕ
 effect submitted x = numbered_event events.Effect (recent submitted 6 x)
 
@@ -166,7 +166,7 @@ node_event n = if n == 0 then crash else if nat_le n 9 then start else tick
 unfoldable pub crash_or_start : ℕ → Option Event × ℕ
 crash_or_start x = node_event (draw 1 20 x) (state_after 1 x)
 
--- the candidate of a kind below 16, where that many messages were sent and so many commands submitted
+-- the candidate of a kind below 16, if that many messages were sent and this many commands submitted
 unfoldable pub candidate_of : ℕ → ℕ → ℕ → ℕ → Option Event × ℕ
 candidate_of sent submitted kind =
     if kind == 0 then even_advance
@@ -192,11 +192,11 @@ candidate_in w x = candidate (length w.net.messages) (length w.commands) x
 
 -- The choice of an event.
 
--- where none of the tries gives an admissible candidate, c1's messages to s1 can be delivered again
+-- if none of the tries gives an admissible candidate, c1's messages to s1 can be delivered again
 abbrev pub fallback : Event
 fallback = events.Heal (nodes.Client (client 1)) (nodes.Server (server 1))
 
--- this event, where it is not refused; else what the later tries give from this state
+-- this event, if it is not refused; otherwise what the later tries give from this state
 unfoldable pub unless_refused : (ℕ → Event × ℕ) → Event → ℕ → Option WorldRefusal → Event × ℕ
 unless_refused later e x None = (e, x)
 unless_refused later e x (Some f) = later x
@@ -210,7 +210,7 @@ tried w later (Some e) x = unless_refused later e x (refusal w e)
 abbrev pub try_first : World → (ℕ → Event × ℕ) → Option Event × ℕ → Event × ℕ
 try_first w later c = tried w later c.0 c.1
 
--- the first admissible candidate of so many tries
+-- the first admissible candidate of this many tries
 unfoldable pub choice : ℕ → World → ℕ → Event × ℕ
 choice zero w x = (fallback, x)
 choice (suc tries) w x = try_first w (choice tries w) (candidate_in w x)

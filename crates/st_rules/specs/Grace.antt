@@ -39,7 +39,7 @@ abbrev pub is_on : Option Grace → Stamp → Bool
 is_on None now = false
 is_on (Some g) now = is_within g now
 
--- when the grace of this epoch began, or 0 where it had none
+-- when the grace of this epoch began, or 0 if it had none
 abbrev pub grace_start : Option Grace → Stamp
 grace_start None = record { 0 = 0 }
 grace_start (Some g) = g.start
@@ -70,7 +70,7 @@ accepted l t c life = record { locks = l; sessions = reasserted t c life }
 abbrev pub not_installed : InstallRefusal → AcceptRefusal
 not_installed (installs.Conflict ino holder) = Conflict ino holder
 
--- accepted where the rows are installed
+-- accepted if the rows are installed
 unfoldable pub accept_installed : Sessions → ClientId → Life → Result Locks InstallRefusal → Result Accepted AcceptRefusal
 accept_installed t c life (Ok l) = Ok (accepted l t c life)
 accept_installed t c life (Err r) = Err (not_installed r)

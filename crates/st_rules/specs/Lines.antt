@@ -1,4 +1,4 @@
--- Lines: the log at each observation of an event, and what observations tell of it. An observation is a line of the report.
+-- Lines: the log at each observation of an event, and what observations say about it. An observation is a line of the report.
 use Rattle.std.specs.Prelude.{◌≡◌, ℕ, ◌+◌, Bool, true, false, ◌&&◌, ◌==◌, List, [], ◌∷◌, length, Option, Some, None, ⊤}
 use Rattle.st_rules.specs.declared.log.Fate.{Fate}
 use Rattle.st_rules.specs.declared.log.Fate.TheVariants as fates

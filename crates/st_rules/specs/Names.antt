@@ -55,7 +55,7 @@ has_entries n dir = list_any (is_in dir) n.entries
 abbrev pub directory_mark : NameEntry → Bool
 directory_mark e = e.directory
 
--- whether the inode is a directory, where it is one of this server
+-- whether the inode is a directory, if it is one of this server
 abbrev pub kind_of : Names → ℕ → Option Bool
 kind_of n ino = if ino == ROOT then Some true else option_map directory_mark (entry_of_ino n ino)
 
@@ -106,7 +106,7 @@ abbrev pub ino_of : Option NameEntry → Result ℕ EntryRefusal
 ino_of None = Err NoEntry
 ino_of (Some e) = Ok e.ino
 
--- where the place is not refused
+-- if the place is not refused
 unfoldable pub lookup_at : Names → ℕ → List ℕ → Option EntryRefusal → Result ℕ EntryRefusal
 lookup_at n dir name (Some r) = Err r
 lookup_at n dir name None = ino_of (entry_at n dir name)
@@ -129,15 +129,15 @@ new_entry n dir name directory = record { dir = dir; name = name; ino = n.next; 
 unfoldable pub added : Names → ℕ → List ℕ → Bool → Changed
 added n dir name directory = record { names = record { entries = n.entries ++ new_entry n dir name directory ∷ []; next = n.next + 1 }; ino = n.next }
 
--- where there is room
+-- if there is room
 unfoldable pub add_new : Names → ℕ → List ℕ → Bool → Result Changed EntryRefusal
 add_new n dir name directory = if nat_lt (live_inodes n) 4096 then Ok (added n dir name directory) else Err TooMany
 
--- where the name is new
+-- if the name is new
 unfoldable pub add_beside : Names → ℕ → List ℕ → Bool → Result Changed EntryRefusal
 add_beside n dir name directory = if is_some (entry_at n dir name) then Err Exists else add_new n dir name directory
 
--- where the place is not refused
+-- if the place is not refused
 unfoldable pub add_at : Names → ℕ → List ℕ → Bool → Option EntryRefusal → Result Changed EntryRefusal
 add_at n dir name directory (Some r) = Err r
 add_at n dir name directory None = add_beside n dir name directory
@@ -162,16 +162,16 @@ without n dir name e = record { names = record n { entries = filter (λ d. not (
 abbrev pub is_full : Names → NameEntry → Bool
 is_full n e = e.directory && has_entries n e.ino
 
--- where a directory is empty
+-- if a directory is empty
 unfoldable pub remove_entry : Names → ℕ → List ℕ → NameEntry → Result Changed EntryRefusal
 remove_entry n dir name e = if is_full n e then Err NotEmpty else Ok (without n dir name e)
 
--- where the entry is there
+-- if the entry is there
 unfoldable pub remove_found : Names → ℕ → List ℕ → Option NameEntry → Result Changed EntryRefusal
 remove_found n dir name None = Err NoEntry
 remove_found n dir name (Some e) = remove_entry n dir name e
 
--- where the place is not refused
+-- if the place is not refused
 unfoldable pub remove_at : Names → ℕ → List ℕ → Option EntryRefusal → Result Changed EntryRefusal
 remove_at n dir name (Some r) = Err r
 remove_at n dir name None = remove_found n dir name (entry_at n dir name)
@@ -180,8 +180,8 @@ remove_at n dir name None = remove_found n dir name (entry_at n dir name)
 unfoldable pub remove : Names → ℕ → List ℕ → Result Changed EntryRefusal
 remove n dir name = remove_at n dir name (place_refusal n dir name)
 
--- Rename: the same refusals of both places; the wanted entry is missing; the new entry is there, also where it is the
--- wanted one; a directory would come under itself. Else the entry moves.
+-- Rename: the same refusals of both places; the wanted entry is missing; the new entry is there, also if it is the
+-- wanted one; a directory would come under itself. Otherwise the entry moves.
 abbrev pub climb : (ℕ → Bool) → Option NameEntry → Bool
 climb go_on None = false
 climb go_on (Some e) = go_on e.dir
@@ -211,20 +211,20 @@ renamed n dir name dir2 name2 e = record { names = record n { entries = map (mov
 abbrev pub comes_under_itself : Names → ℕ → NameEntry → Bool
 comes_under_itself n dir2 e = e.directory && is_under n e.ino dir2
 
--- where no directory comes under itself
+-- if no directory comes under itself
 unfoldable pub rename_free : Names → ℕ → List ℕ → ℕ → List ℕ → NameEntry → Result Changed EntryRefusal
 rename_free n dir name dir2 name2 e = if comes_under_itself n dir2 e then Err Cycle else Ok (renamed n dir name dir2 name2 e)
 
--- where the new name is free
+-- if the new name is free
 unfoldable pub rename_entry : Names → ℕ → List ℕ → ℕ → List ℕ → NameEntry → Result Changed EntryRefusal
 rename_entry n dir name dir2 name2 e = if is_some (entry_at n dir2 name2) then Err Exists else rename_free n dir name dir2 name2 e
 
--- where the entry is there
+-- if the entry is there
 unfoldable pub rename_found : Names → ℕ → List ℕ → ℕ → List ℕ → Option NameEntry → Result Changed EntryRefusal
 rename_found n dir name dir2 name2 None = Err NoEntry
 rename_found n dir name dir2 name2 (Some e) = rename_entry n dir name dir2 name2 e
 
--- where neither place is refused
+-- if neither place is refused
 unfoldable pub rename_at : Names → ℕ → List ℕ → ℕ → List ℕ → Option EntryRefusal → Result Changed EntryRefusal
 rename_at n dir name dir2 name2 (Some r) = Err r
 rename_at n dir name dir2 name2 None = rename_found n dir name dir2 name2 (entry_at n dir name)
@@ -244,7 +244,7 @@ name_below [] (b ∷ bs) = true
 name_below (a ∷ as_) [] = false
 name_below (a ∷ as_) (b ∷ bs) = byte_below a b (name_below as_ bs)
 
--- an entry, as it is told
+-- an entry, as it is reported
 abbrev pub name_row : NameEntry → NameRow
 name_row e = record { ino = e.ino; directory = e.directory; name = e.name }
 
@@ -266,7 +266,7 @@ by_name (r ∷ rs) = with_name_row r (by_name rs)
 abbrev pub is_listed : ℕ → List ℕ → NameEntry → Bool
 is_listed dir after e = is_in dir e && name_below after e.name
 
--- where the directory is not refused
+-- if the directory is not refused
 unfoldable pub list_at : Names → ℕ → List ℕ → Option EntryRefusal → Result (List NameRow) EntryRefusal
 list_at n dir after (Some r) = Err r
 list_at n dir after None = Ok (take 256 (by_name (map name_row (filter (is_listed dir after) n.entries))))

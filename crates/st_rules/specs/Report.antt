@@ -70,7 +70,7 @@ name bytes = 32 ∷ bytes
 abbrev pub one_run : ℕ → ℕ → List ℕ
 one_run count byte = decimal count ++ codes "x" ++ decimal byte
 
--- the runs, where this number of bytes of the first one was counted already
+-- the runs, if this number of bytes of the first one was counted already
 abbrev pub runs_from : ℕ → ℕ → List ℕ → List ℕ
 runs_from count byte [] = one_run count byte
 runs_from count byte (b ∷ bytes) =

@@ -95,7 +95,7 @@ event_of x = x.event
 abbrev pub seen_of : Step → List Observation
 seen_of x = x.seen
 
--- what the last of these steps left, where they began from there
+-- what the last of these steps left, if they began from there
 unfoldable pub left_by : Traced → List Step → Traced
 left_by t [] = t
 left_by t (x ∷ xs) = left_by x.after xs
@@ -112,7 +112,7 @@ StepsTellTheRun = (es : List Event) (t : Traced) → map seen_of (steps es t) �
 abbrev pub StepsEndWithTheRun : Type 0
 StepsEndWithTheRun = (es : List Event) (t : Traced) → (left_by t (steps es t)).world ≡ (run es t.world).world
 
--- A promise speaks of a step and of the steps before it.
+-- A promise is about a step and the steps before it.
 abbrev pub Promise : Type 1
 Promise = List Step → Step → Type 0
 
@@ -186,7 +186,7 @@ DirtyPagesStandAlone past x = list_all (all_alone x.after.world) (all_clients x.
 unfoldable pub ask_of_client : ClientId → ClientId → Ask → Option Ask
 ask_of_client c d ask = if same_client c d then Some ask else None
 
--- the ask of a client, where the event is one
+-- the ask of a client, if the event is one
 abbrev pub ask_in : ClientId → Event → Option Ask
 ask_in c (events.App d ask) = ask_of_client c d ask
 ask_in c e = None
@@ -366,7 +366,7 @@ abbrev pub is_told : World → ClientId → Option IssuedCommand → Bool
 is_told w c None = false
 is_told w c (Some k) = same_client k.client c && is_told_at k (site_of w c)
 
--- the client is who gets the message
+-- the client is the one that receives the message
 abbrev pub is_receiver : ClientId → Option SentMessage → Bool
 is_receiver c None = false
 is_receiver c (Some m) = same_node (receiver_of m) (nodes.Client c)
@@ -459,7 +459,7 @@ IsLast past x es o = ⊤
 abbrev pub ReadsReturnLastWrites : Promise
 ReadsReturnLastWrites past x = AtEachOf x (IsLast past x)
 
--- Drops have a cause: an entry that a crash dropped is of a life that a crash of its client ended; and one that a failed command
+-- Drops have a cause: an entry that a crash dropped belongs to a life that a crash of its client ended; and one that a failed command
 -- dropped has that command reported failed, which is the last write of its page and life.
 abbrev pub is_crash_of : ClientId → Event → Bool
 is_crash_of c (events.Crash (nodes.Client d)) = same_client c d
@@ -637,8 +637,8 @@ is_no_conflict o = true
 abbrev pub NoConflictIsSent : Promise
 NoConflictIsSent past x = list_all is_no_conflict x.seen ≡ true
 
--- The history is the world's: a client has a timer in the history exactly where a running server suspects it, with the client's
--- clock and the messages of the step in which that server's own timer started; a server has a grace there exactly where it runs in
+-- The history is the world's: a client has a timer in the history exactly if a running server suspects it, with the client's
+-- clock and the messages of the step in which that server's own timer started; a server has a grace there exactly if it runs in
 -- an epoch that began with one, with all clients' clocks at the step in which that grace began; each present lease, and each that a
 -- life had when it ended, is among the dates with its end; and each entry of the log has one grant, of its file.
 abbrev pub agree : Bool → Bool → Bool
@@ -769,7 +769,7 @@ TheHistoryIsTheWorlds past x = IsWorldsHistory (past ++ x ∷ []) x.after
 
 -- Old messages change nothing. At a client, a message of another life than its present one, or of another epoch than its
 -- session's, leaves a step as it was after the losses, so that only the passes follow. But a refusal of an epoch from a later
--- one, and a welcome where there is no session, are heard.
+-- one, and a welcome if there is no session, are heard.
 abbrev pub is_other_epoch : ClientSession → Header → Bool
 is_other_epoch s h = not (h.epoch == s.epoch.0)
 
@@ -842,7 +842,7 @@ pub record IsHead (k : Config) (clients servers disks blocks form : ℕ) : Type 
 abbrev pub is_increment : ℕ → Bool
 is_increment d = nat_le d 4294967295
 
--- an event of a world with so many nodes
+-- an event of a world with this many nodes
 abbrev pub is_event : ℕ → Event → Bool
 is_event count (events.App c ask) = is_ask ask
 is_event count (events.Advance steps) = (length steps == count) && list_all is_increment steps

@@ -254,7 +254,7 @@ demand_seen t h ino g = if is_served t h then observe_demand t h ino g else t
 unfoldable pub refuse_epoch : ServerTurn → Header → ServerTurn
 refuse_epoch t h = reply t h (bodies.Nack why.OtherEpoch h.epoch t.state.stable.epoch.0)
 
--- Reassertion: where the life is new to the sessions it is accepted, or refused by the first refusal. A refusal is not kept.
+-- Reassertion: if the life is new to the sessions it is accepted, or refused by the first refusal. A refusal is not kept.
 abbrev pub refused_reassertion : AcceptRefusal → Body
 refused_reassertion (refusals.GraceOver start now) = bodies.Nack why.GraceOver start.0 now.0
 refused_reassertion (refusals.Conflict ino holder) = bodies.Nack why.Conflict ino holder.0
@@ -269,7 +269,7 @@ reassert_by t h (Err r) = reply t h (refused_reassertion r)
 unfoldable pub reassert_new : ServerTurn → Stamp → Header → List (ℕ × GrantNo × Mode) → ServerTurn
 reassert_new t now h rows = reassert_by t h (grace.accept t.state.grace now (sender h) (life_in h) rows t.state.locks t.state.sessions)
 
--- and where it is not: the kept reply where the number is the last one, else nothing.
+-- and if it is not: the kept reply if the number is the last one, and otherwise nothing.
 unfoldable pub reassert_again : ServerTurn → Header → Taken Body → ServerTurn
 reassert_again t h (takes.Again body) = reply t h body
 reassert_again t h taken = t
@@ -286,7 +286,7 @@ reassert t now h rows = if sessions.knows t.state.sessions (sender h) (life_in h
 unfoldable pub keep_alive : ServerTurn → Replied
 keep_alive t = replied t bodies.Ack
 
--- Acquire: no file is refused; else as the lock table says.
+-- Acquire: no file is refused; otherwise as the lock table says.
 abbrev pub verdict_body : ℕ → Mode → Verdict → Body
 verdict_body ino mode (verdicts.Granted g held) = bodies.Granted ino g held
 verdict_body ino mode (verdicts.Queued clients) = bodies.Queued ino mode
@@ -333,15 +333,15 @@ holds t h ino g mode = is_held g mode (locks.row_of t.state.locks (sender h) ino
 unfoldable pub not_holder : ServerTurn → ℕ → GrantNo → Replied
 not_holder t ino g = replied t (bodies.Nack why.NotHolder ino g.0)
 
--- Map: no file, and no lock, are refused; else the page's extent, or none.
+-- Map: no file, and no lock, are refused; otherwise the page's extent, or none.
 abbrev pub extents_body : ServerTurn → ℕ → PageNo → ℕ → Body
 extents_body t ino page count = bodies.Extents ino (extents.extent_rows t.state.stable.extents (file t ino) page count)
 
--- the extent of one page is told
+-- the extent of one page is sent
 unfoldable pub map_page : ServerTurn → ℕ → PageNo → Replied
 map_page t ino page = replied t (extents_body t ino page 1)
 
--- where the client holds the file
+-- if the client holds the file
 unfoldable pub map_held : ServerTurn → Header → ℕ → GrantNo → PageNo → Replied
 map_held t h ino g page = if holds t h ino g modes.S then map_page t ino page else not_holder t ino g
 
@@ -349,11 +349,11 @@ map_held t h ino g page = if holds t h ino g modes.S then map_page t ino page el
 unfoldable pub map : ServerTurn → Header → ℕ → GrantNo → PageNo → Replied
 map t h ino g page = if is_file t ino then map_held t h ino g page else no_file t ino
 
--- Allocate: no file, no exclusive lock, and too few free blocks are refused; else the extents of all pages of the range.
+-- Allocate: no file, no exclusive lock, and too few free blocks are refused; otherwise the extents of all pages of the range.
 abbrev pub refused_allocation : AllocateRefusal → Body
 refused_allocation (wants.NoSpace free asked) = bodies.Nack why.NoSpace free asked
 
--- the extents of the range are told
+-- the extents of the range are sent
 unfoldable pub with_extents_told : ServerTurn → ℕ → PageNo → ℕ → Replied
 with_extents_told t ino page count = replied t (extents_body t ino page count)
 
@@ -366,7 +366,7 @@ allocate_by t ino page count (Err r) = replied t (refused_allocation r)
 unfoldable pub allocate_pages : ServerTurn → ℕ → PageNo → ℕ → Replied
 allocate_pages t ino page count = allocate_by t ino page count (extents.allocate t.state.stable.extents (file t ino) page count)
 
--- where the client holds the file exclusively
+-- if the client holds the file exclusively
 unfoldable pub allocate_held : ServerTurn → Header → ℕ → GrantNo → PageNo → ℕ → Replied
 allocate_held t h ino g page count = if holds t h ino g modes.X then allocate_pages t ino page count else not_holder t ino g
 
@@ -374,7 +374,7 @@ allocate_held t h ino g page count = if holds t h ino g modes.X then allocate_pa
 unfoldable pub allocate : ServerTurn → Header → ℕ → GrantNo → PageNo → ℕ → Replied
 allocate t h ino g page count = if is_file t ino then allocate_held t h ino g page count else no_file t ino
 
--- Cut: no file, and no exclusive lock, are refused; else the extents from that page on are released, with a note.
+-- Cut: no file, and no exclusive lock, are refused; otherwise the extents from that page on are released, with a note.
 unfoldable pub cut_pages : ServerTurn → ℕ → PageNo → ServerTurn
 cut_pages t ino from = note (with_extents (extents.release_from t.state.stable.extents (file t ino) from) t) (notes.CutDone (file t ino) from)
 
@@ -382,7 +382,7 @@ cut_pages t ino from = note (with_extents (extents.release_from t.state.stable.e
 unfoldable pub cut_from : ServerTurn → ℕ → PageNo → Replied
 cut_from t ino from = replied (cut_pages t ino from) bodies.Ack
 
--- where the client holds the file exclusively
+-- if the client holds the file exclusively
 unfoldable pub cut_held : ServerTurn → Header → ℕ → GrantNo → PageNo → Replied
 cut_held t h ino g from = if holds t h ino g modes.X then cut_from t ino from else not_holder t ino g
 
@@ -394,17 +394,17 @@ cut t h ino g from = if is_file t ino then cut_held t h ino g from else no_file 
 unfoldable pub name_refused : ServerTurn → EntryRefusal → Replied
 name_refused t r = replied t (bodies.Named (Refused (names.code_of r)))
 
--- the inode is told
+-- the inode is sent
 unfoldable pub name_found : ServerTurn → Result ℕ EntryRefusal → Replied
 name_found t (Ok ino) = replied t (bodies.Named (Ino ino))
 name_found t (Err r) = name_refused t r
 
--- the names change, and the inode is told
+-- the names change, and the inode is sent
 unfoldable pub name_changed : ServerTurn → Result names.Changed EntryRefusal → Replied
 name_changed t (Ok d) = replied (with_names d.names t) (bodies.Named (Ino d.ino))
 name_changed t (Err r) = name_refused t r
 
--- the entries are told
+-- the entries are sent
 unfoldable pub names_listed : ServerTurn → Result (List NameRow) EntryRefusal → Replied
 names_listed t (Ok rows) = replied t (bodies.Named (Listed rows))
 names_listed t (Err r) = name_refused t r
@@ -431,7 +431,7 @@ remove_file t h dir name g ino = if holds t h ino g modes.X then remove_by t (na
 unfoldable pub remove_ino : ServerTurn → Header → ℕ → List ℕ → GrantNo → ℕ → Replied
 remove_ino t h dir name g ino = if is_file t ino then remove_file t h dir name g ino else remove_dir t dir name g
 
--- where there is an entry
+-- if there is an entry
 unfoldable pub remove_found : ServerTurn → Header → ℕ → List ℕ → GrantNo → Result ℕ EntryRefusal → Replied
 remove_found t h dir name g (Ok ino) = remove_ino t h dir name g ino
 remove_found t h dir name g (Err r) = name_refused t r
@@ -464,7 +464,7 @@ rule t now h body = silent t
 unfoldable pub keep_and_reply : ServerTurn → Header → Body → ServerTurn
 keep_and_reply t h body = reply (with_sessions (sessions.store t.state.sessions (sender h) h.number body) t) h body
 
--- where there is a reply
+-- if there is a reply
 unfoldable pub keep : Header → ServerTurn → Option Body → ServerTurn
 keep h t None = t
 keep h t (Some body) = keep_and_reply t h body
@@ -524,7 +524,7 @@ unfoldable pub take_input : ServerTurn → Stamp → ServerInput → ServerTurn
 take_input t now Tick = t
 take_input t now (Control m) = receive t now m.header m.body
 
--- Suspecting, on a tick alone: each client that left a demand unanswered too long and isn't a suspect, in rising order.
+-- Suspecting, only on a tick: each client that left a demand unanswered too long and isn't a suspect, in rising order.
 unfoldable pub suspect_unless : ServerTurn → Stamp → ClientId → ServerTurn
 suspect_unless t now c = if authority.may_ack t.state.authority c then suspect_client t now c else t
 
@@ -537,12 +537,12 @@ suspect_each now (c ∷ cs) t = suspect_each now cs (suspect_unless t now c)
 unfoldable pub suspecting : ServerTurn → Stamp → ServerTurn
 suspecting t now = suspect_each now (locks.unanswered t.state.locks now t.state.config) t
 
--- on a tick alone
+-- only on a tick
 unfoldable pub suspecting_on : ServerTurn → Stamp → ServerInput → ServerTurn
 suspecting_on t now Tick = suspecting t now
 suspecting_on t now (Control m) = t
 
--- Granting, outside grace alone: the first waiters that nobody's row conflicts with.
+-- Granting, only outside grace: the first waiters that nobody's row conflicts with.
 unfoldable pub tell_granted : List (ClientId × Life × ℕ × GrantNo × Mode) → ServerTurn → ServerTurn
 tell_granted [] t = t
 tell_granted (x ∷ xs) t = tell_granted xs (tell t x.0 x.1 (bodies.Granted x.2 x.3 x.4))
@@ -636,7 +636,7 @@ pub record ServerNode : Type 0 where
 abbrev pub fresh_node : ServerId → Config → ℕ → ℕ → ℕ → ServerNode
 fresh_node id k servers disks blocks = record { state = fresh_server id k servers disks blocks; running = true }
 
--- Crash: it runs no more.
+-- Crash: it no longer runs.
 abbrev pub crash_node : ServerNode → ServerNode
 crash_node n = record { state = crash n.state; running = false }
 

@@ -81,11 +81,11 @@ are_rising (s ∷ ss) = is_below_all s ss && are_rising ss
 
 -- The parts together.
 
--- the client's living session is of the row's life
+-- the client's living session has the row's life
 abbrev pub is_row_served : Sessions → LockRow → Bool
 is_row_served t r = serves_at r.life (session_of t r.client)
 
--- the client's living session is of the wait's life
+-- the client's living session has the wait's life
 abbrev pub is_wait_served : Sessions → Waiter → Bool
 is_wait_served t w = serves_at w.life (session_of t w.client)
 
@@ -97,7 +97,7 @@ has_session t s = is_some (session_of t s.client)
 abbrev pub waits_not : Locks → Suspect → Bool
 waits_not l s = not (list_any (is_wait_by s.client) l.waiters)
 
--- A server: each part is as it must be; the epochs of its parts agree; each row and each wait is of its client's living session's life; each client whose timer
+-- A server: each part is as it must be; its parts' epochs agree; each row and each wait has the life of its client's living session; each client whose timer
 -- runs has a session and waits for nothing.
 pub record IsServer (n : ServerState) : Type 0 where
   pub locks : IsLockTable n.locks

@@ -180,7 +180,7 @@ keep_of c number reply s = if is_session_of c s then keep_reply number reply s e
 unfoldable pub store : Sessions → ClientId → ℕ → Body → Sessions
 store t c number reply = record t { rows = map (keep_of c number reply) t.rows }
 
--- Reasserted: the session is of this life, its last number is 1, and the reply to that is kept.
+-- Reasserted: the session has this life, its last number is 1, and the reply to that is kept.
 abbrev pub reasserted_session : ClientId → Life → Session
 reasserted_session c life = record { client = c; life = life; state = Live 1 (Some Reasserted) }
 

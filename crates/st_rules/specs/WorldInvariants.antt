@@ -37,12 +37,12 @@ maps_own w node = list_all (is_own_extent w node.state.id) node.state.stable.ext
 abbrev pub is_own_row : World → ServerId → ExtentRow → Bool
 is_own_row w s r = is_on_disk_of w s r.at
 
--- what a message of a server tells of pages lies on its disks
+-- the places of pages in a message of a server lie on its disks
 abbrev pub tells_own_rows : World → NodeId → Body → Bool
 tells_own_rows w (nodes.Server s) (bodies.Extents ino rows) = list_all (is_own_row w s) rows
 tells_own_rows w sender body = true
 
--- what a message tells of pages lies on disks of the server that sent it
+-- the places of pages in a message lie on disks of the server that sent it
 abbrev pub tells_own : World → SentMessage → Bool
 tells_own w m = tells_own_rows w (sender_of m) m.message.body
 
@@ -55,11 +55,11 @@ is_own_mapping w s (Some m) = is_on_disk_of w s m.at
 abbrev pub is_own_known : World → ServerId → KnownExtent → Bool
 is_own_known w s e = is_own_mapping w s e.mapping
 
--- what a client knows of a server's pages is of that server's disks
+-- what a client knows about a server's pages concerns that server's disks
 abbrev pub knows_own_at : World → Association → Bool
 knows_own_at w a = list_all (is_own_known w a.server) a.store.extents
 
--- what a client knows of pages is of their servers' disks
+-- what a client knows about pages concerns their servers' disks
 abbrev pub knows_own : World → WorldClient → Bool
 knows_own w site = list_all (knows_own_at w) site.node.state.associations
 

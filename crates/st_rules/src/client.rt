@@ -89,7 +89,7 @@ pub struct MappedBlock {
     pub birth: u64,
 }
 
-/// What a client knows of the mapping of a page: the mapping, or that the page has none.
+/// What a client knows about the mapping of a page: the mapping, or that the page has none.
 #[derive(Clone, Copy, Debug, PartialEq, Eq)]
 pub struct KnownExtent {
     pub ino: u32,

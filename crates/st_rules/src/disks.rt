@@ -37,7 +37,7 @@ pub enum CommandRefusal {
     Twice(u64),
     /// It had no effect, so it cannot be reported as a success.
     NotEffected(u64),
-    /// It was reported, so it can have no effect any more.
+    /// It was reported, so it can no longer have an effect.
     Reported(u64),
 }
 

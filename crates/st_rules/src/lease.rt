@@ -12,7 +12,7 @@ pub enum Phase {
     Expired,
 }
 
-/// The first pair of nodes, by position, where the clock of node `m` ran ahead of the clock of node
+/// The first pair of nodes, by position, in which node `m`'s clock ran ahead of the clock of node
 /// `n` by more than the bound. `excess` is `den` times the gain of `m`, minus `num` times the gain
 /// of `n`.
 #[derive(Clone, Copy, Debug, PartialEq, Eq)]
@@ -42,7 +42,7 @@ pub fn rated_advances_are_in_bound()
     ensures { RatedIsInBound }
 {}
 
-/// Without a grain, where all clocks run, advances that keep the clocks in bound over every
+/// Without a grain, if all clocks run, advances that keep the clocks in bound over every
 /// interval are each in bound.
 pub fn advances_in_bound_are_rated()
     ensures { InBoundIsRated }

@@ -1,4 +1,4 @@
-//! The protocol's definitions, and the plain rows and answers that they speak of.
+//! The protocol's definitions, and the plain rows and answers that they use.
 //! `docs/PROTOCOL.md` tells each rule in words, under the name above its definition in `specs/`.
 #![tactic(auto)]
 

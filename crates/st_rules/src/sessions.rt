@@ -23,11 +23,11 @@ pub struct Session {
 /// The result of a greeting.
 #[derive(Clone, Copy, Debug, PartialEq, Eq)]
 pub enum Hello {
-    /// The session is of this life: it existed before or is new.
+    /// The session has this life: it existed before or is new.
     Welcome,
     /// A new session replaced a live session of a lower life.
     Replaced,
-    /// The greeting is of a life that has ended.
+    /// The greeting belongs to a life that has ended.
     Old,
     /// Locks of a lower life still exist, so the client must wait until they are stolen.
     Wait,

@@ -79,7 +79,7 @@ text r = r.front ++ last_line r.last
 
 -- The replay of the events of a schedule, and of its end.
 
--- where every event was run, the schedule's own end
+-- if every event was run, the schedule's own end
 abbrev pub at_end : World → Ending → Last
 at_end w schedule.Whole = Whole w
 at_end w (schedule.Stopped line f) = Stopped line (why.Schedule f)

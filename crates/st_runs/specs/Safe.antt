@@ -1,4 +1,4 @@
--- Safe replays: which run the lines of a schedule tell of, and what is promised of it. docs/PROTOCOL.md, "What is promised".
+-- Safe replays: which run the lines of a schedule describe, and what is promised about it. docs/PROTOCOL.md, "What is promised".
 use Rattle.std.specs.Prelude.{◌≡◌, ℕ, true, List, ◌∷◌, Ok}
 use Rattle.std.specs.List.{list_all}
 use Rattle.st_base.specs.declared.config.Config.{Config}

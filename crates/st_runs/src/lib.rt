@@ -1,4 +1,4 @@
-//! The runs of schedules: which run the lines of a schedule tell of, its report, and what it means
+//! The runs of schedules: which run the lines of a schedule describe, its report, and what it means
 //! that it is safe. `docs/PROTOCOL.md`, "Schedules", "The report" and "What is promised".
 #![tactic(auto)]
 

@@ -78,7 +78,7 @@ ask_words (asks.Patch f p at bytes) =
 abbrev pub in_full : List ℕ → List (List ℕ)
 in_full steps = map decimal steps
 
--- one increment where all are equal
+-- one increment if all are equal
 abbrev pub are_equal : List ℕ → Bool
 are_equal steps = list_all (λ d. d == get_or steps 0 0) steps
 
@@ -157,7 +157,7 @@ FitsName s (name_asks.List dir after) = IsFile s dir × IsAfter after
 abbrev pub IsEven : List ℕ → Type 0
 IsEven bytes = (byte_of bytes ≤ 255) × (bytes ≡ filled (byte_of bytes))
 
--- a patch of one byte repeated, within a page, under the second form alone
+-- a patch of one byte repeated, within a page, only under the second form
 abbrev pub IsPatch : ℕ → ℕ → List ℕ → Type 0
 IsPatch form at bytes =
     (form ≡ 2) × (1 ≤ length bytes) × (at + length bytes ≤ 4096) × (byte_of bytes ≤ 255) × (bytes ≡ replicate (length bytes) (byte_of bytes))

@@ -148,7 +148,7 @@ name_verb_of w =
     else if bytes_eq w (codes "rename") then Some ask_verbs.Rename
     else if bytes_eq w (codes "list") then Some ask_verbs.List else None
 
--- a patch is asked under the second form alone
+-- a patch is asked only under the second form
 abbrev pub patch_or_name : ℕ → List ℕ → Option AskVerb
 patch_or_name form w = if (form == 2) && bytes_eq w (codes "patch") then Some ask_verbs.Patch else name_verb_of w
 
@@ -386,7 +386,7 @@ end_of ws = do
   none ← ends ws
   Ok None
 
--- the event that the words of a whole line spell, or none where they are the line `end`
+-- the event that the words of a whole line spell, or none if they are the line `end`
 unfoldable pub line_event : ℕ → ℕ → List (List ℕ) → Result (Option Event) Fault
 line_event form nodes [] = syntax_at []
 line_event form nodes (w ∷ ws) = if bytes_eq w (codes "end") then end_of ws else event_of form nodes w (w ∷ ws) ws

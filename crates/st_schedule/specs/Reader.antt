@@ -146,12 +146,12 @@ after_line (progress.Reading form counts done) (lines.Event e) = progress.Readin
 after_line progress.Ended (lines.Event e) = progress.Ended
 after_line p lines.End = progress.Ended
 
--- a line of at most 256 bytes that spells this in its place is read as this, where another event may follow
+-- a line of at most 256 bytes that spells this in its place is read as this, if another event may follow
 abbrev pub IsReadWhereSpelled : Progress → List ℕ → Line → Type 0
 IsReadWhereSpelled p line said =
     SpellsLine p line said → length line ≤ 256 → HasRoom p said → read_line p line ≡ Ok (said, after_line p said)
 
--- a call read what the line spells in its place, where another event may follow, unless memory ran out
+-- a call read what the line spells in its place, if another event may follow, unless memory ran out
 abbrev pub ReadsWhatIsSpelled : Progress → Progress → List ℕ → Result Line ScheduleRefusal → Type 0
 ReadsWhatIsSpelled old new line result =
     (said : Line) → SpellsLine old line said → length line ≤ 256 → HasRoom old said →

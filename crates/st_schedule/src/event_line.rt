@@ -123,7 +123,7 @@ fn event_at(
     }
 }
 
-/// The event that a line spells, or none where it is the line `end`.
+/// The event that a line spells, or none if it is the line `end`.
 #[tactic(auto, unfolding(crate::specs::Parser::line_event, crate::specs::Parser::end_of, crate::specs::Parser::event_of, crate::specs::Parser::verb_in))]
 pub(crate) fn line_event(
     alloc: Global,

@@ -1,4 +1,4 @@
-// The next word of a line as a number, a node, a file, a name or a choice; or its column, where it
+// The next word of a line as a number, a node, a file, a name or a choice; or its column, if it
 // is none.
 ghost use Rattle.std.specs.Prelude.{◌≡◌, ◌≤◌, IfOk};
 ghost use Rattle.st_schedule_words.specs.Words.{split, words_behind};

@@ -169,7 +169,7 @@ fn put_all(out: &mut Vec<u8>, steps: &[u64]) -> Result<(), AllocError>
     Ok(())
 }
 
-/// Appends the increments, or one where all are equal.
+/// Appends the increments, or one if all are equal.
 fn put_steps(out: &mut Vec<u8>, steps: &[u64]) -> Result<(), AllocError>
     ensures { OnOk result (out.new.items ≡ out.old.items ++ spaced (grammar.steps_words steps.now)) }
 {

@@ -40,7 +40,7 @@ abbrev pub room : List (List ℕ) → ℕ
 room [] = 0
 room (w ∷ ws) = length w + room ws + 1
 
--- the number of bytes from the first of these words to the end of the line; 0 where there is no word
+-- the number of bytes from the first of these words to the end of the line; 0 if there is no word
 abbrev pub left : List (List ℕ) → ℕ
 left ws = room ws - 1
 

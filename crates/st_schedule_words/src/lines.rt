@@ -18,7 +18,7 @@ fn split_line(bytes: &[u8]) -> (&[u8], &[u8])
 }
 
 /// The first line of some bytes, without its newline, which the last line may lack, and the bytes
-/// that follow it; `None` where there is no byte.
+/// that follow it; `None` if there is no byte.
 pub fn take_line(bytes: &[u8]) -> Option<(&[u8], &[u8])>
     ensures none { result ≡ None → bytes.now ≡ [] }
     ensures lines { IfSome result (λ x. lines_of bytes.now ≡ x.0.now ∷ lines_of x.1.now) }

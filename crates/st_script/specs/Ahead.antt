@@ -53,7 +53,7 @@ Finds bytes held left (Err stops.Malformed) = BeginsLong bytes
 Finds bytes held left (Err stops.Read) = Unit {0}
 Finds bytes held left (Err stops.Memory) = Unit {0}
 
--- the count of the source's faults rose where a read failed, and otherwise stayed
+-- the count of the source's faults rose if a read failed, and otherwise stayed
 abbrev pub StopCauses : {T : Type 0} → Result T Stop → ℕ → ℕ → Type 0
 StopCauses (Ok x) before now = now ≡ before
 StopCauses (Err stops.Malformed) before now = now ≡ before
@@ -82,7 +82,7 @@ Heads stands head r bytes ahead (Err stops.Malformed) = headed_lines head r (lin
 Heads stands head r bytes ahead (Err stops.Read) = Unit {0}
 Heads stands head r bytes ahead (Err stops.Memory) = Unit {0}
 
--- the text that was written and what comes of the bytes that are ahead are the outcome, where the bytes of the source are known
+-- the text that was written and what comes of the bytes that are ahead are the outcome, if the bytes of the source are known
 pub record GoesAhead {State Event : Type 0} (holds : State → Type 0) (r : Rules State Event) (done first : ℕ) (before now : Option (List ℕ)) (ahead : Option (List ℕ))
     (o : Outcome State) : Type 0 where
   pub rest : List ℕ

@@ -15,7 +15,7 @@ abbrev pub IsWhole : {State : Type 0} → (State → Type 0) → Ending State �
 IsWhole holds (Whole s) = holds s
 IsWhole holds (Stopped line) = ⊥
 
--- What was written, next to the outcome of all bytes: the whole text where the script went through its end, in a state of which this holds, or stopped at a
+-- What was written, next to the outcome of all bytes: the whole text if the script went through its end, in a state of which this holds, or stopped at a
 -- line; and otherwise a prefix of it.
 abbrev pub Reports : {State : Type 0} → (State → Type 0) → Result Unit ScriptFault → Option (List ℕ) → Option (List ℕ) → Outcome State → Type 0
 Reports holds (Ok u) before now o = IsWhole holds o.ending × Appends before now o.text
@@ -24,7 +24,7 @@ Reports holds (Err faults.Read) before now o = AppendsPrefix before now o.text
 Reports holds (Err faults.Write) before now o = AppendsPrefix before now o.text
 Reports holds (Err faults.Memory) before now o = AppendsPrefix before now o.text
 
--- The counts of faults of the source and of the sink: one of them rose at `Read` and at `Write`; both stayed where the script
+-- The counts of faults of the source and of the sink: one of them rose at `Read` and at `Write`; both stayed if the script
 -- went through or stopped at a line.
 abbrev pub HasCauses : {T : Type 0} → Result T ScriptFault → ℕ → ℕ → ℕ → ℕ → Type 0
 HasCauses (Ok r) read_before read_now written_before written_now = (read_now ≡ read_before) × (written_now ≡ written_before)
@@ -39,7 +39,7 @@ Begins {State} stands (Ok y) read = (s : State) × ((read ≡ Ok s) × stands s 
 Begins stands (Err errors.Memory) read = Unit {0}
 Begins stands (Err (errors.Fault f)) read = read ≡ Err f
 
--- A call wrote the line of a script that stops at this line, or a prefix of it where the write failed; if memory ran out it wrote nothing.
+-- A call wrote the line of a script that stops at this line, or a prefix of it if the write failed; if memory ran out it wrote nothing.
 abbrev pub Refuses : ScriptFault → ℕ → Option (List ℕ) → Option (List ℕ) → Type 0
 Refuses (faults.Line n) line before now = (n ≡ line) × Appends before now (stopped_text line)
 Refuses faults.Write line before now = AppendsPrefix before now (stopped_text line)

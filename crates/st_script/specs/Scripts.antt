@@ -20,7 +20,7 @@ pub record Rules (State Event : Type 0) : Type 0 where
 abbrev pub MOST_EVENTS : ℕ
 MOST_EVENTS = 10000
 
--- the event, where fewer than 10,000 came before it
+-- the event, if fewer than 10,000 came before it
 abbrev pub counted : {Event : Type 0} → ℕ → Result Event Fault → Option (Option Event)
 counted done (Err f) = None
 counted done (Ok e) = if nat_lt done MOST_EVENTS then Some (Some e) else None
@@ -29,7 +29,7 @@ counted done (Ok e) = if nat_lt done MOST_EVENTS then Some (Some e) else None
 abbrev pub short_line : {Event : Type 0} → ℕ → List ℕ → Result Event Fault → Option (Option Event)
 short_line done line e = if bytes_eq line (codes "end") then Some None else counted done e
 
--- what a line says, after that many events; nothing, where it is malformed
+-- what a line says, after that many events; nothing, if it is malformed
 unfoldable pub read_line : {State Event : Type 0} → Rules State Event → ℕ → List ℕ → Option (Option Event)
 read_line r done line = if is_long line then None else short_line done line (r.event (split line))
 
@@ -83,7 +83,7 @@ with_read r done line s rest ls None = stopped line
 with_read r done line s rest ls (Some None) = ended r done line s ls
 with_read r done line s rest ls (Some (Some e)) = behind (answer_lines (done + 1) (r.answers s e)) (rest (r.next s e))
 
--- what these lines come to, the first of which has this number, after that many events; where `end` is missing, the line after them is
+-- what these lines come to, the first of which has this number, after that many events; if `end` is missing, the line after them is
 unfoldable pub play_from : {State Event : Type 0} → Rules State Event → ℕ → ℕ → State → List (List ℕ) → Outcome State
 play_from r done line s [] = stopped line
 play_from r done line s (l ∷ ls) = with_read r done line s (λ t. play_from r (done + 1) (line + 1) t ls) ls (read_line r done l)

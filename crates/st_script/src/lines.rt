@@ -35,7 +35,7 @@ fn read_event<S: Script>(alloc: Global, done: u64, line: &[u8]) -> Result<Option
     }
 }
 
-/// Reads a line after that many events: an event, or none where it is the line `end`.
+/// Reads a line after that many events: an event, or none if it is the line `end`.
 #[tactic(auto, unfolding(crate::specs::Scripts::read_line))]
 fn read_line<S: Script>(alloc: Global, done: u64, line: &[u8]) -> Result<Option<S::Event>, Stop>
     ensures exact { IsRead result (scripts.read_line S.rules done line.now) }
@@ -50,8 +50,8 @@ fn read_line<S: Script>(alloc: Global, done: u64, line: &[u8]) -> Result<Option<
     }
 }
 
-/// Reads the next line of a source after that many events: an event, or none where it is the line
-/// `end`. Where the source has ended, the line is missing.
+/// Reads the next line of a source after that many events: an event, or none if it is the line
+/// `end`. If the source has ended, the line is missing.
 pub(crate) fn next_event<S: Script, I: Source>(
     alloc: Global,
     done: u64,
@@ -89,7 +89,7 @@ fn begin<S: Script>(alloc: Global, line: &[u8]) -> Result<S, Stop>
     }
 }
 
-/// Begins a script by the first line of a source. Where the source has none, it is missing.
+/// Begins a script by the first line of a source. If the source has none, it is missing.
 pub(crate) fn next_head<S: Script, I: Source>(
     alloc: Global,
     held: &mut Vec<u8>,

@@ -18,7 +18,7 @@ fn newline(bytes: &[u8]) -> Option<usize>
 }
 
 /// Takes a piece of a source after the bytes that are held, and returns how many bytes it has: 0
-/// where the source has ended.
+/// if the source has ended.
 fn take_piece<I: Source>(held: &mut Vec<u8>, input: &mut I) -> Result<usize, Stop>
     ensures fault { IfErr result IsFault }
     ensures piece { IfOk result (TakesPiece (I.left input.old) (I.left input.new) held.old.items held.new.items) }
@@ -43,7 +43,7 @@ fn last_line(held: &[u8]) -> Option<usize>
     }
 }
 
-/// How many bytes the next line has, which is held then: `None` where the source has ended. A line
+/// How many bytes the next line has, which is held then: `None` if the source has ended. A line
 /// without a newline is malformed as soon as it has more bytes than a line may have.
 pub(crate) fn next_line<I: Source>(held: &mut Vec<u8>, input: &mut I) -> Result<Option<usize>, Stop>
     ensures found { (bytes : List ℕ) → prepend_known held.old.items (I.left input.old) ≡ Some bytes → Finds bytes held.new.items (I.left input.new) result }
@@ -69,7 +69,7 @@ pub(crate) fn next_line<I: Source>(held: &mut Vec<u8>, input: &mut I) -> Result<
     }
 }
 
-/// The first bytes, so many.
+/// This many of the first bytes.
 pub(crate) fn first_bytes(bytes: &[u8], n: usize) -> &[u8]
     requires { n ≤ length bytes.now }
     ensures { result.now ≡ take n bytes.now }

@@ -16,9 +16,9 @@ use std::alloc::Global;
 /// each to `out` before it takes more. At most a piece and a line are held. A line that is too long
 /// is refused at its 257th byte, wherever its newline is.
 ///
-/// It returns `Line` where a line is malformed: none of the command's, longer than 256 bytes, event
-/// 10,001, or after the line `end`; the text ends with the line of this refusal then. Where `end`
-/// is missing, it is the line after the last one. It returns `Read` and `Write` where a read or a
+/// It returns `Line` if a line is malformed: none of the command's, longer than 256 bytes, event
+/// 10,001, or after the line `end`; the text ends with the line of this refusal then. If `end`
+/// is missing, it is the line after the last one. It returns `Read` and `Write` if a read or a
 /// write failed, and `Memory` if memory ran out. After an error other than `Line` nothing is
 /// promised about `script`.
 pub fn run<S: Script, I: Source, O: Sink>(
@@ -27,12 +27,12 @@ pub fn run<S: Script, I: Source, O: Sink>(
     input: &mut I,
     out: &mut O,
 ) -> Result<(), ScriptFault>
-    // The text over all the bytes that the source held: all of it where the script went through its
+    // The text over all the bytes that the source held: all of it if the script went through its
     // end or stopped at a line, and otherwise a prefix of it.
     ensures report { (s : S.State) → S.stands 0 s script.old → IfSome (I.left input.old) (λ bytes.
         Reports (λ t. (n : ℕ) × S.stands n t script.new) result (O.written out.old) (O.written out.new) (scripts.script_from S.rules s bytes)) }
     ensures through { OnOk result (IsAtEnd (I.left input.new)) }
-    // `Read` and `Write` come only where a count of faults rose; at `Ok` and at `Line` none did.
+    // `Read` and `Write` come only if a count of faults rose; at `Ok` and at `Line` none did.
     ensures causes { HasCauses result (I.faults input.old) (I.faults input.new) (O.faults out.old) (O.faults out.new) }
 {
     let mut held = Vec::new(alloc);
@@ -49,12 +49,12 @@ pub fn run_headed<S: Script, I: Source, O: Sink>(
     input: &mut I,
     out: &mut O,
 ) -> Result<(), ScriptFault>
-    // The text over all the bytes that the source held: all of it where the script went through its
+    // The text over all the bytes that the source held: all of it if the script went through its
     // end or stopped at a line, and otherwise a prefix of it.
     ensures report { IfSome (I.left input.old) (λ bytes.
         Reports (λ t. ⊤) result (O.written out.old) (O.written out.new) (scripts.script_of S.head S.rules bytes)) }
     ensures through { OnOk result (IsAtEnd (I.left input.new)) }
-    // `Read` and `Write` come only where a count of faults rose; at `Ok` and at `Line` none did.
+    // `Read` and `Write` come only if a count of faults rose; at `Ok` and at `Line` none did.
     ensures causes { HasCauses result (I.faults input.old) (I.faults input.new) (O.faults out.old) (O.faults out.new) }
 {
     let mut held = Vec::new(alloc);

@@ -141,7 +141,7 @@ event (w ∷ ws) = event_of w (w ∷ ws) ws
 
 -- First lines.
 
--- that many servers with so many containers, and no event yet
+-- that many servers with this many containers, and no event yet
 abbrev pub fresh : ℕ × ℕ → MoveNetwork
 fresh n = record { world = fresh_world n.0 n.1; events = 0 }
 

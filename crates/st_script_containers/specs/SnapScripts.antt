@@ -135,7 +135,7 @@ abbrev pub taken : Result (ℕ × List Change) SnapRefusal → List ℕ
 taken (Ok x) = image_text x.0
 taken (Err e) = refusal e
 
--- the bytes of a page; where nothing was written they are zeros
+-- the bytes of a page; if nothing was written they are zeros
 abbrev pub bytes_of : Option (List ℕ) → List ℕ
 bytes_of None = filled 0
 bytes_of (Some bytes) = bytes

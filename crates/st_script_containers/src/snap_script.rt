@@ -25,7 +25,7 @@ pub struct SnapScript {
     volume: Volume,
 }
 
-/// Appends a refusal. It fails where the refusal is lack of memory.
+/// Appends a refusal. It fails if the refusal is lack of memory.
 fn put_why(text: &mut Vec<u8>, refusal: SnapRefusal) -> Result<(), AllocError>
     ensures { OnOk result (IsAnswered refusal × (text.new.items ≡ text.old.items ++ scripts.refusal refusal)) }
 {
@@ -47,7 +47,7 @@ fn put_why(text: &mut Vec<u8>, refusal: SnapRefusal) -> Result<(), AllocError>
     }
 }
 
-/// Appends the line of an event that is refused. It fails where the refusal is lack of memory.
+/// Appends the line of an event that is refused. It fails if the refusal is lack of memory.
 fn put_refused(text: &mut Vec<u8>, number: u64, refusal: SnapRefusal) -> Result<(), AllocError>
     ensures { OnOk result (IsAnswered refusal × (text.new.items ≡ text.old.items ++ answer_lines number (scripts.refusal refusal ∷ []))) }
 {

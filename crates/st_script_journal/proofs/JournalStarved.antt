@@ -1,4 +1,4 @@
--- Where no stop is set and no call is to fail, a call of the store fails only where the store is starved.
+-- If no stop is set and no call must fail, a call of the store fails only if the store is starved.
 use Rattle.std.proofs.Common.{◌≡◌, ℕ, ◌+◌, true, List, [], ◌∷◌, ◌++◌, Option, Result, Ok, Err, sym, ap, ◌∙◌, subst, inl, inr}
 use Rattle.std.proofs.lemmas.Bool.{cond-false}
 use Rattle.st_link.specs.InMemory.{raised}

@@ -59,7 +59,7 @@ pub record IsOpen (j : Opened InMemory) (changes : List Change) (state : server.
   pub size : j.store.contents.size ≡ STORE_SIZE
   pub sound : IsSound j.store.plan
 
--- so many changes, up to the gate at this place, were read of the store's journal, and lead to this stable part
+-- this many changes, up to the gate at this place, were read of the store's journal, and lead to this stable part
 abbrev pub IsKnown : InMemory → server.Stable → Scanned → Type 0
 IsKnown s state known = IsReadTo (read_as s) fresh_journal.stable state known
 
@@ -104,13 +104,13 @@ Stands s (Some r) = Holds s r
 abbrev pub HasChanges : JournalState → InMemory → Type 0
 HasChanges s store = IsJournal (read_as store) s.changes
 
--- Why an append of a script fails, where no stop is set: memory ran out, for the append or for the store's record of it.
+-- Why an append of a script fails, if no stop is set: memory ran out, for the append or for the store's record of it.
 abbrev pub IsWantOfMemory : InMemory → JournalFault → Type 0
 IsWantOfMemory store Store = store.starved ≡ true
 IsWantOfMemory store Memory = Unit {0}
 IsWantOfMemory store f = ⊥
 
--- What was written, next to the outcome of all bytes, as `Reports` says; and where the script went through its end, the bytes of the
+-- What was written, next to the outcome of all bytes, as `Reports` says; and if the script went through its end, the bytes of the
 -- store that is given back are the journal of exactly the changes that were recorded.
 abbrev pub Leaves : Result InMemory ScriptFault → Option (List ℕ) → Option (List ℕ) → Outcome JournalState → Type 0
 Leaves (Ok store) before now o = Reports (λ s. HasChanges s store) (Ok tt) before now o

@@ -122,7 +122,7 @@ pub record JournalState : Type 0 where
 abbrev pub fresh_journal : JournalState
 fresh_journal = record { stable = fresh (record { server = record { 0 = 1 }; servers = 1; disks = 1; blocks = 64 }); changes = []; stop = None }
 
--- A stop keeps the change where the gate was written, and its byte opens the gate: the third call of an append writes the gate, and the
+-- A stop keeps the change if the gate was written, and its byte opens the gate: the third call of an append writes the gate, and the
 -- fourth syncs it.
 abbrev pub keeps : SetStop → Bool
 keeps p = is_kept p.call p.byte

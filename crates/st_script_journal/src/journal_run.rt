@@ -51,21 +51,21 @@ pub(crate) enum JournalAnswer {
     Stopped(bool),
 }
 
-/// Appends a change, where no stop is set.
+/// Appends a change, if no stop is set.
 fn append(journal: &mut Journal<MemoryStore>, change: &Change) -> Result<(), JournalFault>
     requires ranges { is_ranged change.now ≡ true }
     requires applies { (changes : List Change) × (state : server.Stable) × (next : server.Stable) × IsOpen journal.old changes state × (apply state change.now ≡ Ok next) }
     ensures opened { (changes : List Change) (state next : server.Stable) → IsOpen journal.old changes state → apply state change.now ≡ Ok next →
         OnOk result (IsOpen journal.new (changes ++ change.now ∷ []) next) }
-    // It is not broken; it is not full where it has fewer changes than a script has events; and the
-    // store fails only where it is starved.
+    // It is not broken; it is not full if it has fewer changes than a script has events; and the
+    // store fails only if it is starved.
     ensures fault { (changes : List Change) (state next : server.Stable) → IsOpen journal.old changes state → apply state change.now ≡ Ok next →
         length changes < 10000 → IfErr result (IsWantOfMemory journal.new.store) }
 {
     journal.append(change)
 }
 
-/// A store that stopped, started again. It fails where the store is starved.
+/// A store that stopped, started again. It fails if the store is starved.
 fn started_again(store: MemoryStore) -> Result<MemoryStore, AllocError>
     ensures { IfOk result (λ s. (store.starved ≡ false) × (s ≡ record store { plan = plans.restarted store.plan })) }
 {
@@ -125,7 +125,7 @@ fn reopen(
     }
 }
 
-/// Appends a change that was applied, where no stop is set.
+/// Appends a change that was applied, if no stop is set.
 fn record(
     journal: Journal<MemoryStore>,
     stable: Stable,
@@ -205,7 +205,7 @@ fn refuse(
     }
 }
 
-/// Applies a change and appends it, where no stop is set.
+/// Applies a change and appends it, if no stop is set.
 fn change_unstopped(
     journal: Journal<MemoryStore>,
     stable: Stable,
@@ -252,7 +252,7 @@ impl Running {
         }
     }
 
-    /// Applies a change, and appends it: while the store stops, where a stop is set.
+    /// Applies a change, and appends it: while the store stops, if a stop is set.
     pub(crate) fn change(
         self,
         alloc: Global,

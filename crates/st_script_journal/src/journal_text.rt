@@ -30,7 +30,7 @@ fn number_of(refusal: NameRefusal) -> u64
     }
 }
 
-/// Appends a refusal. It fails where the refusal is lack of memory.
+/// Appends a refusal. It fails if the refusal is lack of memory.
 fn put_why(text: &mut Vec<u8>, refusal: ChangeRefusal) -> Result<(), AllocError>
     ensures { OnOk result (IsAnswered refusal × (text.new.items ≡ text.old.items ++ scripts.refusal refusal)) }
 {
@@ -49,7 +49,7 @@ fn put_why(text: &mut Vec<u8>, refusal: ChangeRefusal) -> Result<(), AllocError>
     }
 }
 
-/// Appends the line of a change that is refused. It fails where the refusal is lack of memory.
+/// Appends the line of a change that is refused. It fails if the refusal is lack of memory.
 fn put_refused_change(
     text: &mut Vec<u8>,
     number: u64,
@@ -73,7 +73,7 @@ fn put_stop(text: &mut Vec<u8>, number: u64, kept: bool) -> Result<(), AllocErro
     }
 }
 
-/// Appends the line of a change. It fails where the answer is lack of memory.
+/// Appends the line of a change. It fails if the answer is lack of memory.
 pub(crate) fn put_change(
     text: &mut Vec<u8>,
     number: u64,

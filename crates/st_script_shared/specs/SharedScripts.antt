@@ -47,7 +47,7 @@ page_at ws = do
   page ← number_at 0 MOST_PAGE ws
   Ok (record { 0 = page.0 }, page.1)
 
--- `enter C`, and what else a client does that isn't a command
+-- `enter C`, and the other acts of a client that aren't commands
 unfoldable pub act_at : ClientAct → List (List ℕ) → Result SharedEvent Fault
 act_at act ws = do
   client ← client_at ws

@@ -91,7 +91,7 @@ module _ (ep : Epoch) (t : Sessions) (l : Locks) (h : list_all (is_good_row t) l
       let same : client k ≡ d = cc in
       subst (λ (x : ClientId). is_client_node x.0 ≡ true) same (subst (λ (n : ℕ). is_client_node n ≡ true) (sym m.2) (good_client m.0 g.0))
 
-  -- a conflict that is told
+  -- a conflict that is reported
   abbrev Conflicts : Option (ℕ × ClientId) → Type 0
   Conflicts None = Unit {0}
   Conflicts (Some x) = (is_ino x.0 ≡ true) × (is_client_node x.1.0 ≡ true)

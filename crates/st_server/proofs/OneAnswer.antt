@@ -107,7 +107,7 @@ module _ (h : Header) (o : List Output) where
   by_adds t (Ok x) a = reply_adds (server.with_sessions x.sessions (server.with_locks x.locks t)) bodies.Reasserted refl a
   by_adds t (Err r) a = reply_adds t (server.refused_reassertion r) (refusal_answer r) a
 
-  -- The rules of requests add notes alone.
+  -- The rules of requests add only notes.
   abbrev pub P : Replied → Type 0
   P a = Quiet a.turn.out
 

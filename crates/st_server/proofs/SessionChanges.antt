@@ -155,7 +155,7 @@ module _ (t : Sessions) (c : ClientId) (life : Life) (h : list_all is_good_sessi
   unfolding sessions.hello
   greets rows = at_greets rows (session_of t c) refl
 
--- Taking a request: the next one is of a life that lives, and a reply that is repeated can be told.
+-- Taking a request: the next one belongs to a life that lives, and a reply that is repeated can be told.
 abbrev pub Takes : Option Session → Life → Taken Body → Type 0
 Takes o life takes.Fresh = is_lived life o ≡ true
 Takes o life (takes.Again b) = is_reply b ≡ true

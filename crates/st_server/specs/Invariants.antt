@@ -47,15 +47,15 @@ is_told_demand (Some d) = is_mode 0 1 d.to
 abbrev pub is_told_lock : GrantNo → Mode → Option RowDemand → Bool
 is_told_lock g mode d = is_grant g && (is_mode 1 2 mode && is_told_demand d)
 
--- a row can be told, and is of a life that its client's session has
+-- a row can be told, and belongs to a life that its client's session has
 abbrev pub is_good_row : Sessions → LockRow → Bool
 is_good_row t r = is_row_lived t r && (is_told r.client r.life r.ino && is_told_lock r.g r.mode r.demand)
 
--- a wait can be told, and is of a life that its client's session has
+-- a wait can be told, and belongs to a life that its client's session has
 abbrev pub is_good_wait : Sessions → Waiter → Bool
 is_good_wait t w = is_lived w.life (session_of t w.client) && (is_told w.client w.life w.ino && is_mode 1 2 w.mode)
 
--- the rows and waits of a lock table; grants and waits are at most so many
+-- the rows and waits of a lock table; grants and waits are at most this many
 pub record AreHeld (n : ℕ) (of : Epoch) (t : Sessions) (l : Locks) : Type 0 where
   pub rows : list_all (is_good_row t) l.rows ≡ true
   pub waits : list_all (is_good_wait t) l.waiters ≡ true
@@ -122,7 +122,7 @@ pub record AreMapped (x : Extents) : Type 0 where
   pub disks : x.disks ≤ 8
   pub blocks : x.blocks ≤ 4096
 
--- The server: its grants and waits in this epoch are at most so many.
+-- The server: its grants and waits in this epoch are at most this many.
 pub record IsSoundTo (n : ℕ) (s : ServerState) : Type 0 where
   pub id : between 1 4 s.id.0 ≡ true
   pub epoch : between 1 (2 ^ 32 - 1) s.stable.epoch.0 ≡ true

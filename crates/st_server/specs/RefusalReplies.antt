@@ -37,7 +37,7 @@ no_file_body ino = Nack why.NoFile ino 0
 abbrev pub not_holder_body : ℕ → GrantNo → Body
 not_holder_body ino g = Nack why.NotHolder ino g.0
 
--- a page's row, by its block and birth, where it is mapped
+-- a page's row, by its block and birth, if it is mapped
 abbrev pub row_told : PageNo → Option (BlockAt × ℕ) → Option ExtentRow
 row_told p None = None
 row_told p (Some e) = Some (record { page = p; at = e.0; birth = e.1 })

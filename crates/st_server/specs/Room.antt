@@ -13,6 +13,6 @@ pub record HasRoom (s : ServerState) : Type 0 where
   pub inodes : s.stable.names.next < 2 ^ 32 - 1
   pub births : s.stable.extents.births < 2 ^ 62
 
--- the test of it; the next birth is told
+-- the test of it; the next birth is returned
 abbrev pub has_room : ServerState → Bool
 has_room s = nat_lt (taken_locks s.locks) (2 ^ 32 - 1) && (nat_lt s.stable.names.next (2 ^ 32 - 1) && nat_le (s.stable.extents.births + 1) (2 ^ 62))

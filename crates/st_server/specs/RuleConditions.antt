@@ -19,7 +19,7 @@ is_lived life (Some s) = is_live s && is_past life s
 abbrev pub is_row_lived : Sessions → LockRow → Bool
 is_row_lived t r = is_lived r.life (session_of t r.client)
 
--- each row is of a life that its client's session has, which lives, or of one before it
+-- each row belongs to a life that its client's session has, which lives, or to one before it
 abbrev pub AreServed : ServerState → Type 0
 AreServed s = list_all (is_row_lived s.sessions) s.locks.rows ≡ true
 

@@ -49,7 +49,7 @@ Keeps old new = crash new.state ≡ crash old.state
 abbrev pub Fails : ServerTurn → ServerTurn → ServerTurn → Type 0
 Fails old new rule = (crash new.state ≡ crash old.state) ⊎ (crash new.state ≡ crash rule.state)
 
--- the node that a step of the definition leaves, or the node before it where there is no step
+-- the node that a step of the definition leaves, or the node before it if there is no step
 abbrev pub node_after : ServerNode → Result NodeTurn StepRefusal → ServerNode
 node_after old (Ok t) = t.node
 node_after old (Err r) = old
@@ -61,11 +61,11 @@ Steps old new (Ok out) rule = rule ≡ Ok (record { node = new; out = out })
 Steps old new (Err Crashed) rule = (rule ≡ Err refusals.Crashed) × (new ≡ old)
 Steps old new (Err Memory) rule = (new ≡ crash_node old) ⊎ (new ≡ crash_node (node_after old rule))
 
--- one grant is told
+-- one grant is sent
 abbrev pub granted_one : ServerTurn → ClientId × Life × ℕ × GrantNo × Mode → ServerTurn
 granted_one t x = tell t x.0 x.1 (bodies.Granted x.2 x.3 x.4)
 
--- one demand is told
+-- one demand is sent
 abbrev pub demanded_one : ServerTurn → ClientId × Life × ℕ × GrantNo × Mode → ServerTurn
 demanded_one t x = tell t x.0 x.1 (bodies.Demand x.2 x.3 x.4)
 

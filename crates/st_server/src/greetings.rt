@@ -102,14 +102,14 @@ impl ServerTurn {
         }
     }
 
-    /// Whether the message is of this epoch and of its client's living session.
+    /// Whether the message belongs to this epoch and to its client's living session.
     fn is_served(&self, h: Header) -> bool
         ensures { result ≡ server.is_served self.now h }
     {
         h.epoch == self.stable.epoch.0 && self.sessions.serves(sender(h), Life(h.life))
     }
 
-    /// A demand on a row waits for no answer any more.
+    /// A demand on a row no longer waits for an answer.
     #[tactic(auto, unfolding(st_rules::specs::Server::demand_seen, st_rules::specs::Server::observe_demand, st_rules::specs::Server::crash))]
     pub(crate) fn demand_seen(&mut self, h: Header, ino: u32, g: GrantNo)
         ensures seen { self.new ≡ server.demand_seen self.old h ino g }

@@ -13,7 +13,7 @@ use st_locks::{LockRefusal, Verdict};
 use st_messages::{Body, Header, Why};
 use std::alloc::AllocError;
 
-/// What a client is told of its request for a lock.
+/// What a client is told about its request for a lock.
 fn verdict_body(ino: u32, mode: Mode, verdict: Verdict) -> Body
     ensures { result ≡ server.verdict_body ino mode verdict }
 {

@@ -156,7 +156,7 @@ impl ServerNode {
     /// Takes a step at this moment, and returns its outputs in order. Moments never fall.
     ///
     /// # Errors
-    /// `Crashed` where the node does not run; then nothing changes. `Memory` if memory runs out:
+    /// `Crashed` if the node does not run; then nothing changes. `Memory` if memory runs out:
     /// then the node is crashed, and its stable part is that from before the step or that which the
     /// step leaves.
     #[tactic(auto, unfolding(st_rules::specs::Server::node_step))]

@@ -83,7 +83,7 @@ impl ServerTurn {
         }
     }
 
-    /// The reply that was kept, where the number is the last one.
+    /// The reply that was kept, if the number is the last one.
     #[tactic(auto, unfolding(st_rules::specs::Server::reassert_again))]
     fn reassert_again(&mut self, h: Header, taken: Taken<Body>) -> Result<(), AllocError>
         ensures ok { OnOk result (self.new ≡ server.reassert_again self.old h taken) }

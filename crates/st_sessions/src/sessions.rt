@@ -69,7 +69,7 @@ impl Sessions {
 
     /// A client greets in this life; `rows` tells whether it has locks. It is welcome in the life
     /// of its living session, and wherever a new session begins: without a session, or in a life
-    /// above an ended one's. A life above a living session's waits where the client has locks, and
+    /// above an ended one's. A life above a living session's waits if the client has locks, and
     /// otherwise replaces that session. Every other life is old. `Old` and `Wait` change nothing.
     /// If the call runs out of memory, nothing changes either.
     #[tactic(auto, unfolding(st_rules::specs::Sessions::hello, st_rules::specs::Sessions::begin_session))]
@@ -85,7 +85,7 @@ impl Sessions {
         Ok(judgement.hello)
     }
 
-    /// What becomes of a request of this life, epoch and number. It is `Fresh` where it is the next
+    /// What becomes of a request of this life, epoch and number. It is `Fresh` if it is the next
     /// one of the client's living session; `Again` lends the reply that was kept for the last one.
     /// It does not allocate.
     #[tactic(auto, unfolding(st_rules::specs::Sessions::take))]

@@ -1,4 +1,4 @@
--- A command that was not reported is of a client that expired since, or of one that is in.
+-- A command that was not reported belongs to a client that expired since, or to one that is in.
 use Rattle.st_lemmas.proofs.Words
 use Words.{◌≡◌, ℕ, ◌+◌, Bool, true, false, not, ◌&&◌, ◌||◌, ◌==◌, List, [], ◌∷◌, ◌++◌, Some, None, refl, sym, ap, ◌∙◌, arith, if◌then◌else◌, zero, suc, find}
 use Words.{is_some, length, map, Option, option_map, slice_get, eqb-true, ClientId, DiskCommand}

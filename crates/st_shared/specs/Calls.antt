@@ -10,18 +10,18 @@ use Rattle.st_shared.specs.declared.refusal.SharedRefusal.{SharedRefusal}
 use Rattle.st_shared.specs.declared.refusal.SharedRefusal.TheVariants.{Memory}
 use Rattle.st_shared.specs.Shared.{Shared, Answer, Hard, Bytes, Failed, Silent, Refused, report_answer}
 
--- a call that takes no memory did what the rule says; where the rule refuses, nothing changed
+-- a call that takes no memory did what the rule says; if the rule refuses, nothing changed
 abbrev pub Does : Shared → Shared → Result (Unit {0}) SharedRefusal → Result Shared SharedRefusal → Type 0
 Does old new (Ok u) rule = rule ≡ Ok new
 Does old new (Err r) rule = (rule ≡ Err r) × (new ≡ old)
 
--- a call did what the rule says, or ran out of memory where the rule does not refuse; then, and where it refuses, nothing changed
+-- a call did what the rule says, or ran out of memory if the rule does not refuse; then, and if it refuses, nothing changed
 abbrev pub DoesOrLacks : Shared → Shared → Result (Unit {0}) SharedRefusal → Result Shared SharedRefusal → Type 0
 DoesOrLacks old new (Ok u) rule = rule ≡ Ok new
 DoesOrLacks old new (Err Memory) rule = IsOk rule × (new ≡ old)
 DoesOrLacks old new (Err r) rule = (rule ≡ Err r) × (new ≡ old)
 
--- a check passes where the rule does not refuse, and otherwise it has its refusal
+-- a check passes if the rule does not refuse, and otherwise it has its refusal
 abbrev pub Checks : Result (Unit {0}) SharedRefusal → Result Shared SharedRefusal → Type 0
 Checks (Ok u) rule = IsOk rule
 Checks (Err r) rule = rule ≡ Err r
@@ -31,7 +31,7 @@ abbrev pub RefusesAs : Option DiskRefusal → Result Disks CommandRefusal → Ty
 RefusesAs None rule = IsOk rule
 RefusesAs (Some r) rule = told rule ≡ Err r
 
--- a call that submits a command did so, or ran out of memory where the rule does not refuse; it returns the number of the command, which is the last one
+-- a call that submits a command did so, or ran out of memory if the rule does not refuse; it returns the number of the command, which is the last one
 abbrev pub Numbers : Shared → Shared → Result ℕ SharedRefusal → Result Shared SharedRefusal → Type 0
 Numbers old new (Ok n) rule = (rule ≡ Ok new) × (n ≡ length new.disk.commands)
 Numbers old new (Err Memory) rule = IsOk rule × (new ≡ old)

@@ -1,4 +1,4 @@
--- What was called and answered, and what is promised of it: which writes reads return, and what holds where clients come and go.
+-- What was called and answered, and what is promised about it: which writes reads return, and what holds where clients come and go.
 use Rattle.std.specs.Prelude.{◌≡◌, ℕ, Bool, true, false, not, ◌&&◌, ◌||◌, ◌==◌, if◌then◌else◌, List, [], ◌∷◌, length, Option, Some, None, Result, Ok, Err}
 use Rattle.st_base.specs.Page.{filled}
 use Rattle.st_base.specs.declared.ids.ClientId.{ClientId}
@@ -83,7 +83,7 @@ abbrev pub is_number : ℕ → Answer → Bool
 is_number n (Number k) = k == n
 is_number n answer = false
 
--- Commands: whose each is, on which page, and what it writes, where it writes.
+-- Commands: whose each is, on which page, and what it writes, if it writes.
 pub record Issued : Type 0 where
   pub client : ClientId
   pub page : PageNo
@@ -181,7 +181,7 @@ has_expired n (step ∷ past) = if is_done step.answer then is_expiry (issued pa
 
 -- What is promised.
 
--- a report that is told hard or bytes has an effect that comes before it: it is a write's, or the bytes are those of the last write to the read's page whose
+-- a report answered hard or with bytes has an effect before it: it is a write's, or the bytes are those of the last write to the read's page whose
 -- effect comes before the read's own, or zeros
 abbrev pub TellsRight : List Step → Call → Answer → Type 0
 TellsRight past (Report n ok) answer = told_by n (effects past) ≡ Some answer

@@ -97,7 +97,7 @@ abbrev pub is_silenced : Option Issuer → Bool
 is_silenced None = false
 is_silenced (Some i) = i.stopped
 
--- Running: what only a client that is in and runs may do is refused where it is not in, and then where it is stopped.
+-- Running: what only a client that is in and runs may do is refused if it is not in, and then if it is stopped.
 unfoldable pub check_running : Option Member → ClientId → Result (Unit {0}) SharedRefusal
 check_running None c = Err NotIn
 check_running (Some m) c = if m.running then Ok tt else Err (Stopped c)
@@ -107,7 +107,7 @@ unfoldable pub checked : Result (Unit {0}) SharedRefusal → Result Shared Share
 checked (Ok u) rule = rule
 checked (Err r) rule = Err r
 
--- Enter: refused where the client is in and stopped, and then where a client has the lock row. Who is in stays in.
+-- Enter: refused if the client is in and stopped, and then if a client has the lock row. A client that is in stays in.
 abbrev pub running : ClientId → Member
 running c = record { client = c; running = true }
 
@@ -125,7 +125,7 @@ enter_unlocked s c (Some holder) = Err (Held holder)
 unfoldable pub enter : Shared → ClientId → Result Shared SharedRefusal
 enter s c = if is_stopped (member_of s c) then Err (Stopped c) else enter_unlocked s c s.holder
 
--- Leave: refused where the client is not in, then where it is stopped, and then where a command of it was not reported.
+-- Leave: refused if the client is not in, then if it is stopped, and then if a command of it was not reported.
 abbrev pub without_member : ClientId → List Member → List Member
 without_member c ms = filter (λ m. not (is_member c m)) ms
 
@@ -142,7 +142,7 @@ leave_idle s c (Some n) = Err (Busy n)
 unfoldable pub leave : Shared → ClientId → Result Shared SharedRefusal
 leave s c = checked (check_running (member_of s c) c) (leave_idle s c (busy s c))
 
--- Lock: refused where a client is in, of which the least is named, and then where another client has the lock row.
+-- Lock: refused if a client is in, of which the least is named, and then if another client has the lock row.
 unfoldable pub locked : Shared → ClientId → Shared
 locked s c = record s { holder = Some c }
 
@@ -160,7 +160,7 @@ lock_alone s c (Some member) = Err (SharedBy member)
 unfoldable pub lock : Shared → ClientId → Result Shared SharedRefusal
 lock s c = lock_alone s c (least_member s.members)
 
--- Unlock: refused where the client has no lock row.
+-- Unlock: refused if the client has no lock row.
 unfoldable pub unlocked : Shared → Shared
 unlocked s = record s { holder = None }
 
@@ -168,7 +168,7 @@ unlocked s = record s { holder = None }
 unfoldable pub unlock : Shared → ClientId → Result Shared SharedRefusal
 unlock s c = if is_holder s.holder c then Ok (unlocked s) else Err NoLock
 
--- Crash: refused where the client is not in, and then where it is stopped. It stays in, and stops, also for its commands.
+-- Crash: refused if the client is not in, and then if it is stopped. It stays in, and stops, also for its commands.
 abbrev pub stop_member : ClientId → Member → Member
 stop_member c m = if is_member c m then record m { running = false } else m
 
@@ -184,7 +184,7 @@ crashed s c = record s { members = map (stop_member c) s.members; issuers = map 
 unfoldable pub crash : Shared → ClientId → Result Shared SharedRefusal
 crash s c = checked (check_running (member_of s c) c) (Ok (crashed s c))
 
--- Expire: refused where the client is not in, or runs. It is out, and its commands come too late from now on.
+-- Expire: refused if the client is not in, or runs. It is out, and its commands come too late from now on.
 abbrev pub expire_issuer : ClientId → Issuer → Issuer
 expire_issuer c i = if same_client i.client c then record i { expired = true } else i
 
@@ -196,8 +196,8 @@ expired s c = record s { members = without_member c s.members; issuers = map (ex
 unfoldable pub expire : Shared → ClientId → Result Shared SharedRefusal
 expire s c = if is_stopped (member_of s c) then Ok (expired s c) else Err (NotStopped c)
 
--- Submitting: a write and a read are refused where the client is not in, then where it is stopped, and then where there is no such
--- page. Else it is the last command.
+-- Submitting: a write and a read are refused if the client is not in, then if it is stopped, and then if there is no such
+-- page. Otherwise it is the last command.
 abbrev pub block_of : PageNo → BlockAt
 block_of page = record { disk = record { 0 = 1 }; block = page.0 }
 
@@ -238,7 +238,7 @@ write s c page bytes = submit s c page (commands.Write (block_of page) (tag_of p
 abbrev pub read : Shared → ClientId → PageNo → Result Shared SharedRefusal
 read s c page = submit s c page (commands.Read (block_of page))
 
--- Effect: refused where the disk refuses it, and then where the command's client expired since.
+-- Effect: refused if the disk refuses it, and then if the command's client expired since.
 unfoldable pub with_disk : Shared → Disks → Shared
 with_disk s d = record s { disk = d }
 
@@ -251,7 +251,7 @@ effect_timely s n (Ok d) = if is_expired (numbered s.issuers n) then Err (Late n
 unfoldable pub effect : Shared → ℕ → Result Shared SharedRefusal
 effect s n = effect_timely s n (rules.effect s.disk n)
 
--- Report: refused where the disk refuses it. It ends the command.
+-- Report: refused if the disk refuses it. It ends the command.
 unfoldable pub reported : Shared → Result Disks CommandRefusal → Result Shared SharedRefusal
 reported s (Err r) = Err (Disk (as_told r))
 reported s (Ok d) = Ok (with_disk s d)
@@ -275,7 +275,7 @@ abbrev pub found_answer : Option Block → Answer
 found_answer None = Hard
 found_answer (Some b) = Bytes b.bytes
 
--- of a command that failed nothing is told
+-- nothing is answered about a command that failed
 abbrev pub ended_answer : Bool → Option Block → Answer
 ended_answer ok found = if ok then found_answer found else Failed
 

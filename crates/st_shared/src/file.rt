@@ -62,7 +62,7 @@ impl SharedFile {
     /// A client enters, and runs. A client that is in and runs stays in.
     ///
     /// # Errors
-    /// In this order: `Stopped` where the client is in and stopped; `Held` where a client has the
+    /// In this order: `Stopped` if the client is in and stopped; `Held` if a client has the
     /// lock row. `Memory` comes after them. Then nothing changed.
     pub fn enter(&mut self, client: ClientId) -> Result<(), SharedRefusal>
         ensures exact { DoesOrLacks self.old self.new result (rules.enter self.old client) }
@@ -94,7 +94,7 @@ impl SharedFile {
     /// A client takes the exclusive lock of the file. A client that has it keeps it.
     ///
     /// # Errors
-    /// In this order: `SharedBy` with the least client that is in; `Held` where another client has
+    /// In this order: `SharedBy` with the least client that is in; `Held` if another client has
     /// the lock row. `Memory` comes after them. Then nothing changed.
     pub fn lock(&mut self, client: ClientId) -> Result<(), SharedRefusal>
         requires client { IsClient client }
@@ -111,7 +111,7 @@ impl SharedFile {
     /// A client gives its lock back. It does not allocate.
     ///
     /// # Errors
-    /// `NoLock` where the client has no lock row. Then nothing changed.
+    /// `NoLock` if the client has no lock row. Then nothing changed.
     pub fn unlock(&mut self, client: ClientId) -> Result<(), SharedRefusal>
         ensures exact { Does self.old self.new result (rules.unlock self.old client) }
         ensures led { IsLedRightly self.new }
@@ -143,7 +143,7 @@ impl SharedFile {
     /// may enter anew. It looks at every command. It does not allocate.
     ///
     /// # Errors
-    /// `NotStopped` where the client is not in, or runs. Then nothing changed.
+    /// `NotStopped` if the client is not in, or runs. Then nothing changed.
     pub fn expire(&mut self, client: ClientId) -> Result<(), SharedRefusal>
         ensures exact { Does self.old self.new result (rules.expire self.old client) }
         ensures led { IsLedRightly self.new }
@@ -202,7 +202,7 @@ impl SharedFile {
     /// The command of this number has its effect on the disk.
     ///
     /// # Errors
-    /// In this order: `Disk` with `NoCommand`, `Reported` or `Twice`; `Late` where the command's
+    /// In this order: `Disk` with `NoCommand`, `Reported` or `Twice`; `Late` if the command's
     /// client expired since. `Memory` comes after them. Then nothing changed.
     pub fn effect(&mut self, n: u64) -> Result<(), SharedRefusal>
         ensures exact { DoesOrLacks self.old self.new result (rules.effect self.old n) }
@@ -231,7 +231,7 @@ impl SharedFile {
         self.machine.answer(n, ok)
     }
 
-    /// The disk reports the command of this number, as done or as failed, which ends it. Where its
+    /// The disk reports the command of this number, as done or as failed, which ends it. If its
     /// client stopped since it submitted the command, the answer is `Silent`. It does not allocate.
     ///
     /// # Errors

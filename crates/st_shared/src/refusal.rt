@@ -7,7 +7,7 @@ use std::alloc::{AllocError, AllocFailed};
 use thiserror::Error;
 
 /// Why a call on a shared file is refused. Each call says in which order its reasons are asked.
-/// `Held` is of a client that has the lock row, and `SharedBy` of the least client that is in.
+/// `Held` names the client that has the lock row, and `SharedBy` the least client that is in.
 /// `Busy` and `Late` have a command's number. `Disk` is never `Disk(DiskRefusal::Memory)`.
 #[derive(Clone, Copy, Debug, PartialEq, Eq, Error)]
 pub enum SharedRefusal {

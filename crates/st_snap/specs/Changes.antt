@@ -22,7 +22,7 @@ images (Wrote file page bytes ∷ past) = images past
 images (Took ∷ past) = images past ++ (takes past + 1) ∷ []
 images (Forgot image ∷ past) = filter (λ other. not (image == other)) (images past)
 
--- A write: how many changes came before it, and its bytes. Two writes are the same exactly where these numbers are.
+-- A write: how many changes came before it, and its bytes. Two writes are the same exactly if these numbers are.
 pub record Write : Type 0 where
   pub number : ℕ
   pub bytes : List ℕ
@@ -61,7 +61,7 @@ abbrev pub is_write : ℕ → Option Write → Bool
 is_write number None = false
 is_write number (Some w) = number == w.number
 
--- A write is shown where the live page or a kept image's page is it.
+-- A write is shown if the live page or a kept image's page is it.
 abbrev pub is_shown : List Change → ℕ → ℕ → ℕ → Bool
 is_shown changes number f p = list_any (λ view. is_write number (page_of changes view f p)) (views changes)
 
@@ -85,6 +85,6 @@ abbrev pub is_shared : List Change → ℕ → ℕ → Option Write → Bool
 is_shared changes f p None = true
 is_shared changes f p (Some w) = list_any (λ image. is_write w.number (page_of changes image f p)) (images changes)
 
--- A write takes a block where the page was never written, or where a kept image's page is its last write.
+-- A write takes a block if the page was never written, or if a kept image's page is its last write.
 unfoldable pub takes_block : List Change → ℕ → ℕ → Bool
 takes_block changes f p = is_shared changes f p (last_write changes f p)

@@ -39,7 +39,7 @@ pub record IsSlot (last : ℕ) (e : Extent) : Type 0 where
   pub page : e.page.0 ≡ 0
   pub given : e.file.ino ≤ last
 
--- one server and one disk; what is mapped are slots, of which so many were given
+-- one server and one disk; what is mapped are slots, of which this many were given
 pub record AreSlots (x : Extents) (d : Disks) (last : ℕ) : Type 0 where
   pub server : x.server.0 ≡ 1
   pub servers : x.servers ≡ 1

@@ -77,7 +77,7 @@ pub record IsAfter (blocks : ℕ) (changes : List Change) (h : Volume) : Type 0 
   pub each : (k : VersionKey) → has_version h.versions k ≡ true → IsSeen h k
   pub rises : (f p s t : ℕ) → s < t → has_version h.versions (key_of f p s) ≡ true → has_version h.versions (key_of f p t) ≡ true → number f p s < number f p t
 
--- What a call answers and leaves: what the definition gives. Where it is refused nothing is changed; if memory runs out nothing is promised.
+-- What a call answers and leaves: what the definition gives. If it is refused nothing is changed; if memory runs out nothing is promised.
 abbrev pub Ends : {T : Type 0} → ℕ → Volume → Volume → Result T SnapRefusal → Result (T × List Change) SnapRefusal → Type 0
 Ends blocks old new (Ok x) rule = (changes : List Change) × ((rule ≡ Ok (x, changes)) × IsAfter blocks changes new)
 Ends blocks old new (Err refusals.Memory) rule = ⊤
@@ -103,7 +103,7 @@ option_is n (Some m) = m == n
 abbrev pub is_seen : Versions → List ℕ → ℕ → VersionKey → Bool
 is_seen v kept next k = option_is k.takes (latest (has_version v) k.file k.page (unwrap_or (first_after kept k.takes) next))
 
--- the live version of a page, where no image shares it; if there is none, none began after the last take
+-- the live version of a page, if no image shares it; if there is none, none began after the last take
 abbrev pub IsUnshared : Volume → ℕ → ℕ → Option VersionKey → Type 0
 IsUnshared h f p (Some k) = (t : ℕ) × ((k ≡ key_of f p t) × ((seen h 0 f p ≡ Some t) × (first_after h.kept t ≡ None)))
 IsUnshared h f p None = (t : ℕ) → seen h 0 f p ≡ Some t → is_some (first_after h.kept t) ≡ true

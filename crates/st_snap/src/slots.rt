@@ -124,7 +124,7 @@ impl Slots {
         self.extents.release_from(file_of(slot), PAGE);
     }
 
-    /// Maps the next slot to a block. An error changes nothing. Where every number was given, no
+    /// Maps the next slot to a block. An error changes nothing. If every number was given, no
     /// slot is left either.
     fn next(&mut self) -> Result<u32, AllocError>
         ensures fresh { IfOk result (λ slot. slot_at self.old.pages slot ≡ None) }

@@ -62,7 +62,7 @@ fn sweep(versions: &mut Versions, kept: &[u32], next: u32)
     }
 }
 
-/// A container's pages, and images of them. The theorem of each call speaks of any list of writes,
+/// A container's pages, and images of them. The theorem of each call is about any list of writes,
 /// takes and forgets that the volume stands for: an image's page is the last write before its take,
 /// and the live page the last write of all.
 ///
@@ -101,7 +101,7 @@ impl Volume {
         })
     }
 
-    /// The live version of a page, where no kept image shares it.
+    /// The live version of a page, if no kept image shares it.
     fn unshared(&self, file: u32, page: PageNo) -> Option<VersionKey>
         ensures { IsUnshared self.now file page.0 result }
     {
@@ -147,8 +147,8 @@ impl Volume {
         Ok(())
     }
 
-    /// Writes a page. It takes a block where the page was never written, or where a kept image
-    /// shows its bytes; then `NoSpace` with 0 and 1 where no block is free, and nothing changes.
+    /// Writes a page. It takes a block if the page was never written, or if a kept image
+    /// shows its bytes; then `NoSpace` with 0 and 1 if no block is free, and nothing changes.
     /// After `Memory` nothing is promised but that the volume can be dropped. The cost is that of a
     /// look-up, however many images are kept.
     pub fn write(&mut self, file: u32, page: PageNo, bytes: &PageBytes) -> Result<(), SnapRefusal>
@@ -189,8 +189,8 @@ impl Volume {
         )
     }
 
-    /// The bytes of a page in an image, or of the live page for image 0; `None` where nothing was
-    /// written, which stands for zeros. `NoImage` where the image was never taken or was forgotten.
+    /// The bytes of a page in an image, or of the live page for image 0; `None` if nothing was
+    /// written, which stands for zeros. `NoImage` if the image was never taken or was forgotten.
     /// It takes no memory, and costs a look-up among the images and one among the versions.
     pub fn read(
         &self,
@@ -207,9 +207,9 @@ impl Volume {
         }
     }
 
-    /// Takes an image of all live pages, and returns its number: 1, 2 and so on. `TooMany` where 64
+    /// Takes an image of all live pages, and returns its number: 1, 2 and so on. `TooMany` if 64
     /// images are kept. It copies no page and takes no block: the cost is constant. `Memory` comes
-    /// also where the last number, 4,294,967,294, was given. After `TooMany` nothing changes.
+    /// also if the last number, 4,294,967,294, was given. After `TooMany` nothing changes.
     pub fn take(&mut self) -> Result<u32, SnapRefusal>
         ensures { (blocks : ℕ) (changes : List Change) → IsAfter blocks changes self.old → Ends blocks self.old self.new result (images.take changes) }
     {
@@ -225,7 +225,7 @@ impl Volume {
         Ok(image)
     }
 
-    /// Forgets an image, and frees the blocks of the pages that it alone showed. `NoImage` where it
+    /// Forgets an image, and frees the blocks of the pages that only it showed. `NoImage` if it
     /// was never taken or was forgotten, and for image 0. It takes no memory. The cost is that of
     /// two look-ups for each version that is kept.
     pub fn forget(&mut self, image: u32) -> Result<(), SnapRefusal>

@@ -43,7 +43,7 @@ abbrev pub after_all : List StoreCall → Held → Held
 after_all [] h = h
 after_all (c ∷ calls) h = after_all calls (after c h)
 
--- so many zeros; nothing unfolds it, so that no goal has them all in it
+-- this many zeros; nothing unfolds it, so that no goal has them all in it
 unfoldable pub zeros : ℕ → List ℕ
 zeros size = replicate size 0
 

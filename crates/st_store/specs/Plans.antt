@@ -25,7 +25,7 @@ planned failing call = if list_any (λ n. n == call) failing then Fails else Wor
 abbrev pub at_stop : Stop → Outcome → Outcome
 at_stop s other = if s.left == 1 then Stops s.byte else other
 
--- where a stop is set, it may come
+-- if a stop is set, it may come
 abbrev pub by_stop : Option Stop → Outcome → Outcome
 by_stop None other = other
 by_stop (Some s) other = at_stop s other

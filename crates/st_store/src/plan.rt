@@ -38,7 +38,7 @@ fn is_listed(failing: &[u64], call: u64) -> bool
     failing.iter().any(|n| *n == call)
 }
 
-/// What becomes of a call, by the stop, where without a stop it is `other`.
+/// What becomes of a call, by the stop, if without a stop it is `other`.
 fn by_stop(stop: Option<Stop>, other: Outcome) -> Outcome
     ensures { result ≡ plans.by_stop stop other }
 {

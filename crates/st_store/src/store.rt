@@ -7,7 +7,7 @@ ghost use Rattle.st_store.specs.Store.{Elapses, Follows, IsWithin, Only, Torn, w
 use st_link::Failed;
 
 /// Bytes that outlive a crash. A range that was written since the last sync that succeeded may hold
-/// any bytes after a crash, also where the write failed; all other bytes stay. `docs/PROTOCOL.md`,
+/// any bytes after a crash, also if the write failed; all other bytes stay. `docs/PROTOCOL.md`,
 /// "A metadata journal", has the rules.
 pub trait Store {
     /// The bytes that the store reads as.
@@ -59,7 +59,7 @@ pub trait Store {
         ensures kept { keeps self.old self.new }
         ensures cause { HasCause (faults self.old) (faults self.new) result };
 
-    /// Where it succeeds, a crash leaves what the store reads as, until the next write.
+    /// If it succeeds, a crash leaves what the store reads as, until the next write.
     fn sync(&mut self) -> Result<(), Failed>
         ensures exact { syncs self.old result self.new }
         ensures durable { OnOk result (Only (seen self.old) (may_leave self.new)) }

@@ -49,7 +49,7 @@ module _ {V : Type 0} where
       by true = ap (λ l. f x ∷ l) e
       by false = e
 
-  -- a row in the place of another of which the same is told
+  -- a row in the place of another with the same keys
   pub told_over : (q p : V → Bool) (f : V → ℕ) (x : V) → ((y : V) → q y ≡ true → (p x ≡ p y) × (f x ≡ f y)) → (xs : List V) → is_some (find q xs) ≡ true →
       map f (filter p (put q x xs)) ≡ map f (filter p xs)
   unfolding put

@@ -147,7 +147,7 @@ impl<V: Drop> Ordered<V> {
         self.place(test).is_some()
     }
 
-    /// Keeps the value at a place where it passes the test, and otherwise takes it out. Returns the
+    /// Keeps the value at a place if it passes the test, and otherwise takes it out. Returns the
     /// place of the next value.
     fn keep<T: Test<V>>(&mut self, place: usize, test: &T) -> usize
         requires { place < length self.old }

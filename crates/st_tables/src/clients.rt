@@ -17,7 +17,7 @@ use st_base::ClientId;
 use std::alloc::{AllocError, Global};
 use std::marker::Model;
 
-/// One row more is counted under this number, where it is below 17.
+/// One row more is counted under this number, if it is below 17.
 fn count_up(counts: &mut [u64; 17], first: u32)
     requires { (first < 17) → slice_index_or counts.old first 0 + 1 < 2 ^ 64 }
     ensures { (c : ℕ) → c < 17 → slice_index_or counts.new c 0 ≡ slice_index_or counts.old c 0 + (if c == first then 1 else 0) }
@@ -27,7 +27,7 @@ fn count_up(counts: &mut [u64; 17], first: u32)
     }
 }
 
-/// One row less is counted under this number, where it is below 17.
+/// One row less is counted under this number, if it is below 17.
 fn count_down(counts: &mut [u64; 17], first: u32)
     requires { (first < 17) → 1 ≤ slice_index_or counts.old first 0 }
     ensures { (c : ℕ) → c < 17 → slice_index_or counts.old c 0 ≡ slice_index_or counts.new c 0 + (if c == first then 1 else 0) }
@@ -244,7 +244,7 @@ impl<V: Row> ClientTable<V> {
         }
     }
 
-    /// Takes out all rows of a client. It looks at these alone.
+    /// Takes out all rows of a client. It looks only at these.
     pub fn forget(&mut self, client: ClientId)
         ensures { self.new ≡ filter (λ v. not (is_first V.key_of client.0 v)) self.old }
     {
@@ -266,15 +266,15 @@ impl<V: Row> ClientTable<V> {
         numbers(&self.owned, client.0 as u32)
     }
 
-    /// The second numbers of the keys of a client's rows, each once, in rising order. It looks at
-    /// these rows alone.
+    /// The second numbers of the keys of a client's rows, each once, in rising order. It looks only
+    /// at these rows.
     pub fn seconds_of(&self, alloc: Global, client: ClientId) -> Result<Vec<u32>, AllocError>
         ensures { IfOk result (λ ks. ks.items ≡ keys.rising (map (second_of V.key_of) (filter (is_first V.key_of client.0) self.now))) }
     {
         rising(alloc, numbers(&self.owned, client.0 as u32))
     }
 
-    /// Whether a row of a client passes the test. It looks at the client's rows alone.
+    /// Whether a row of a client passes the test. It looks only at the client's rows.
     pub fn any_of<T: Test<V>>(&self, client: ClientId, test: &T) -> bool
         ensures { result ≡ list_any (λ v. is_first V.key_of client.0 v && T.passes test.now v) self.now }
     {
@@ -338,8 +338,8 @@ impl<V: Row> ClientTable<V> {
         }
     }
 
-    /// Whether a row whose key has this second number passes the test. It looks at the rows on this
-    /// number alone.
+    /// Whether a row whose key has this second number passes the test. It looks only at the rows
+    /// on this number.
     pub fn any_on<T: Test<V>>(&self, second: u32, test: &T) -> bool
         ensures { result ≡ list_any (is_among V.key_of second (T.passes test.now)) self.now }
     {

@@ -97,7 +97,7 @@ less_run ended (Some bytes) before now readings run h =
     map_readings readings (λ rs. Writes ended before now (run rs bytes)) (λ rs. Writes (Err faults.Memory) before now (run rs bytes))
     (λ rs. less_written ended before now (run rs bytes)) h
 
--- what may be told of an end
+-- what may be written about an end
 told_causes : (ended told : Result Unit NodeFault) (before now : ℕ) → MayTell ended told → HasCauses ended before now → HasCauses told before now
 told_causes ended told before now (inl same) h = subst (λ e. HasCauses e before now) (sym same) h
 told_causes ended told before now (inr less) h = subst (λ e. HasCauses e before now) (sym less.1) (stopped ended less.0 h)
@@ -241,7 +241,7 @@ names_told ended told status before now a b names_before names_now name h may t 
   once = λ k. once_by ended names_before names_now name h (low_told ended told may (low_end told status before now a b t k));
 }
 
--- nothing is told of an end at a frame's boundary
+-- nothing is written about an end at a frame's boundary
 pub nothing_told : (before : Option (List ℕ)) (a : ℕ) → IsTold (Ok tt) 0 before before a a
 unfolding end_text
 nothing_told before a = inl (refl, Appends-nil before, refl)

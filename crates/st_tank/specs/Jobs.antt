@@ -9,7 +9,7 @@ use Rattle.st_tank.specs.Status.{IsMade, IsReplayed}
 use Rattle.st_tank.specs.Uses.{StreamUse, LinkUse, ClockUse, IsCut, IsWritten, LeavesLink, LeavesStreams}
 use Rattle.st_tank.specs.Words.{USAGE, fault_text}
 
--- The words were wrong: the status is 2 where all of the usage was written and no call of the error sink failed, and 4 where one failed.
+-- The words were wrong: the status is 2 if all of the usage was written and no call of the error sink failed, and 4 if one failed.
 abbrev pub IsRefused : {Err : Type 0} → ℕ → StreamUse Err → Type 0
 IsRefused status err = ((status ≡ 2) × IsWritten err USAGE) ⊎ ((status ≡ 4) × IsCut err USAGE)
 

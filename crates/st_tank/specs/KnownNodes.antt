@@ -1,4 +1,4 @@
--- The nodes that there are: servers 1 to 4, and clients 1 to 16.
+-- The known nodes: servers 1 to 4, and clients 1 to 16.
 use Rattle.std.specs.Prelude.{◌≤◌}
 use Rattle.st_base.specs.declared.ids.NodeId.{NodeId}
 use Rattle.st_base.specs.declared.ids.NodeId.TheVariants as nodes

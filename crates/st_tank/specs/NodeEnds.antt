@@ -58,18 +58,18 @@ end_status (Err faults.Write) = 6
 end_status (Err faults.Memory) = 5
 end_status (Err stop) = 1
 
--- what may be told of an end: itself, or that memory ran out for the text of status 1
+-- what may be written about an end: itself, or that memory ran out for the text of status 1
 abbrev pub MayTell : Result Unit NodeFault → Result Unit NodeFault → Type 0
 MayTell ended told = (told ≡ ended) ⊎ ((end_status ended ≡ 1) × (told ≡ Err faults.Memory))
 
--- what was written, next to the run over all bytes of the link: all of it where the stream ended or the run stopped, else a front
+-- what was written, next to the run over all bytes of the link: all of it if the stream ended or the run stopped, and otherwise a prefix
 abbrev pub Writes : Result Unit NodeFault → Option (List ℕ) → Option (List ℕ) → Run → Type 0
 Writes (Err faults.Read) before now r = AppendsPrefix before now r.out
 Writes (Err faults.Write) before now r = AppendsPrefix before now r.out
 Writes (Err faults.Memory) before now r = AppendsPrefix before now r.out
 Writes ended before now r = (r.stop ≡ ended) × Appends before now r.out
 
--- status 1 is 4 where its text was not written
+-- status 1 is 4 if its text was not written
 abbrev pub unwritten : ℕ → ℕ
 unwritten status = if status == 1 then 4 else status
 
@@ -79,7 +79,7 @@ IsTold ended status before now faults_before faults_now =
     ((status ≡ end_status ended) × Appends before now (end_text ended) × (faults_now ≡ faults_before))
     ⊎ ((status ≡ unwritten (end_status ended)) × AppendsPrefix before now (end_text ended) × Rose faults_before faults_now × (1 ≤ end_status ended))
 
--- the link was attached once, at this name; at most once where the link failed or memory ran out
+-- the link was attached once, at this name; at most once if the link failed or memory ran out
 abbrev pub AttachesBy : Result Unit NodeFault → Option (List (List ℕ)) → Option (List (List ℕ)) → List ℕ → Type 0
 AttachesBy (Err faults.Read) before now name = MayAttach before now name
 AttachesBy (Err faults.Memory) before now name = MayAttach before now name
@@ -98,7 +98,7 @@ Completes id status left written_before written_now readings link_before link_no
     OfReadings readings (λ rs. (status ≡ 5) ⊎ ((status ≡ 0) × Appends written_before written_now (handle_all ms (started id) rs).out))
 
 -- A node was served: how that ended, what was written of its run, whether a call of the link failed, and the status and its text; the link
--- was attached at the name; and what follows of the status alone.
+-- was attached at the name; and what follows only from the status.
 pub record IsServed {Err Link Clock : Type 0} (id : NodeId) (name : List ℕ) (status : ℕ) (err : StreamUse Err) (link : LinkUse Link)
     (clock : ClockUse Clock) : Type 0 where
   pub ended : Result Unit NodeFault

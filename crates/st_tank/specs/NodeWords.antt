@@ -58,7 +58,7 @@ is_name (b ∷ bs) = not (b == 45) && nat_le (length (b ∷ bs)) 100
 abbrev pub is_service : List ℕ → List ℕ → Bool
 is_service first name = bytes_eq first (codes "node") && is_name name
 
--- the node that the words start, where they are these words
+-- the node that the words start, if they are these words
 abbrev pub node_of : List (List ℕ) → Option NodeId
 node_of (first ∷ (kind ∷ (id ∷ (name ∷ [])))) = if is_service first name then numbered kind id else None
 node_of words = None

@@ -12,7 +12,7 @@ use Rattle.st_tank.specs.declared.words.Command.{Command}
 use Rattle.st_tank.specs.declared.words.Command.TheVariants as commands
 use Rattle.st_tank.specs.Uses.{StreamUse, NoneFailed, OneFailed, Receives, ReceivesPrefix}
 
--- all the text of a script, and the status: 0 where the script went through its end, and 1 where a line was malformed or missing
+-- all the text of a script, and the status: 0 if the script went through its end, and 1 if a line was malformed or missing
 pub record Played : Type 0 where
   pub text : List ℕ
   pub status : ℕ

@@ -11,7 +11,7 @@ use Rattle.st_generate_run.specs.declared.fault.WorkFault.{WorkFault}
 use Rattle.st_generate_run.specs.declared.fault.WorkFault.TheVariants as works
 use Rattle.st_tank.specs.Uses.{StreamUse, NoneFailed, OneFailed, Receives, ReceivesPrefix}
 
--- 0 where the schedule was read and run through its end, and 1 where a line was refused
+-- 0 if the schedule was read and run through its end, and 1 if a line was refused
 abbrev pub status_of : Last → ℕ
 status_of (Whole w) = 0
 status_of (Stopped line f) = 1

@@ -5,7 +5,7 @@ use Rattle.st_base.specs.declared.ids.Stamp.{Stamp}
 use Rattle.st_link.specs.Causes.{Rose}
 use Rattle.st_link.specs.Prefixes.{AppendsPrefix}
 
--- a source or a sink: the bytes that it has left or has received, where it tells them, and how many of its calls failed
+-- a source or a sink: the bytes that it has left or has received, if it tells them, and how many of its calls failed
 pub record StreamUse (Stream : Type 0) : Type 0 where
   pub before : Stream
   pub now : Stream

@@ -10,7 +10,7 @@ use Rattle.st_tank.specs.declared.words.Job.TheVariants as jobs
 use Rattle.st_tank.specs.KnownNodes.{IsKnown}
 use Rattle.st_tank.specs.NodeWords.{name_in, node_of}
 
--- a schedule has at most 100,000 events, and a node is one of those that there are
+-- a schedule has at most 100,000 events, and a node is a known one
 abbrev pub IsInRange : Job → Type 0
 IsInRange jobs.Replay = Unit {0}
 IsInRange (jobs.Script command) = Unit {0}
@@ -53,7 +53,7 @@ abbrev pub scripted : Option Command → Option Job
 scripted None = None
 scripted (Some command) = Some (jobs.Script command)
 
--- what a word asks for alone
+-- what a word asks for by itself
 abbrev pub alone : List ℕ → Option Job
 alone word = if bytes_eq word (codes "replay") then Some jobs.Replay else scripted (command_in word)
 

@@ -85,8 +85,8 @@ fn start_and_serve<L: Link, C: Clock>(
 }
 
 /// Starts a node, attaches the link at the name, serves the node over it, and writes the text of
-/// how that ended. Returns the program's status: 0 where the stream ended at a frame's boundary, 1
-/// where the run stopped, 4 where that could not be told, 5 if memory ran out, and 6 where the link
+/// how that ended. Returns the program's status: 0 if the stream ended at a frame's boundary, 1
+/// if the run stopped, 4 if that could not be told, 5 if memory ran out, and 6 if the link
 /// failed.
 pub fn serve_node<E: Sink, L: Link, C: Clock>(
     alloc: Global,

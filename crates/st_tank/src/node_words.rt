@@ -106,7 +106,7 @@ fn is_service(first: &[u8], name: &[u8]) -> bool
     first == b"node".as_slice() && is_name(name)
 }
 
-/// The node that these words start, where they are `node server ID NAME` with an ID from 1 to 4, or
+/// The node that these words start, if they are `node server ID NAME` with an ID from 1 to 4, or
 /// `node client ID NAME` with an ID from 1 to 16, and a right NAME.
 pub fn node_of(words: &[String]) -> Option<NodeId>
     ensures exact { result ≡ words_of.node_of (map string_bytes words.now) }

@@ -99,7 +99,7 @@ fn play_script<I: Source, O: Sink>(
     }
 }
 
-/// Writes the usage to the error sink. Returns 2, or 4 where a call of the sink failed.
+/// Writes the usage to the error sink. Returns 2, or 4 if a call of the sink failed.
 #[tactic(auto, unfolding(crate::specs::Words::USAGE))]
 fn refuse<E: Sink>(err: &mut E) -> u8
     ensures { IsRefused result (stream_use E.written E.faults err.old err.new) }
@@ -120,7 +120,7 @@ fn tell<E: Sink>(err: &mut E, text: &[u8])
     }
 }
 
-/// Writes to the error sink what a status says of a failure, if it says that. Returns the status.
+/// Writes to the error sink the text of a status, if the status is a failure. Returns the status.
 #[tactic(auto, unfolding(crate::specs::Words::fault_text))]
 fn explained<E: Sink>(err: &mut E, status: u8) -> u8
     ensures same { result ≡ status }
@@ -138,13 +138,13 @@ fn explained<E: Sink>(err: &mut E, status: u8) -> u8
 /// The program. With the one word `replay` it reads a schedule from `input` and writes the
 /// schedule's report to `out`; with `generate N SEED` it writes the schedule of that length and
 /// seed, and with `work N SEED` the last line of its report. With `journal`, `move`, `snap` or
-/// `shared` it reads a script from `input` and writes its text to `out`. It returns 0 where the
-/// schedule or the script was read and run through its end, or the text was written; 1 where a line
+/// `shared` it reads a script from `input` and writes its text to `out`. It returns 0 if the
+/// schedule or the script was read and run through its end, or the text was written; 1 if a line
 /// was refused, 3 for a failed read, 4 for a failed write, and 5 if memory ran out. With the words
 /// `node server ID NAME` or `node client ID NAME` it attaches `link` at NAME and serves that node
-/// over it, on the readings of `clock`: 0 where the stream ended at a frame's boundary, 1 where the
-/// run stopped, 5 if memory ran out, and 6 where the link failed. All other words are wrong: 2.
-/// Where the text of 1 or 2 cannot be written to `err` it is 4. `docs/PROTOCOL.md`, "The program",
+/// over it, on the readings of `clock`: 0 if the stream ended at a frame's boundary, 1 if the
+/// run stopped, 5 if memory ran out, and 6 if the link failed. All other words are wrong: 2.
+/// If the text of 1 or 2 cannot be written to `err` it is 4. `docs/PROTOCOL.md`, "The program",
 /// has the texts that are written to `err`.
 pub fn run<I: Source, O: Sink, E: Sink, L: Link, C: Clock>(
     alloc: Global,

@@ -1,4 +1,4 @@
-// The program over memory, where calls of the source, the sink, the link and the error sink fail.
+// The program over memory, when calls of the source, the sink, the link or the error sink fail.
 use crate::frames::{GREETING, WELCOME};
 use crate::runs::{joined, still, words_of};
 use crate::texts::{HEAD, ONE_SIDED_CUT, ONE_SIDED_CUT_REPORT, USAGE, WRITTEN, WRITTEN_REPORT};
@@ -26,7 +26,7 @@ pub const NONE: Failing = Failing {
     err: 0,
 };
 
-/// What a run is given, and what it leaves where no call fails.
+/// What a run is given, and what it leaves if no call fails.
 #[derive(Clone, Copy)]
 pub struct Case<'a> {
     pub words: &'a [&'a str],
@@ -48,14 +48,14 @@ pub struct Left {
 }
 
 impl Left {
-    /// Whether the run wrote and sent all that it is to, and complained so.
+    /// Whether the run wrote and sent all that it should, and complained so.
     pub fn is_whole(&self, case: &Case<'_>, complaint: &str) -> bool {
         self.out.as_slice() == case.report.as_bytes()
             && self.link.as_slice() == case.sent
             && self.err.as_slice() == complaint.as_bytes()
     }
 
-    /// Whether the run wrote and sent a prefix of what it is to, and complained so.
+    /// Whether the run wrote and sent a prefix of what it should, and complained so.
     pub fn is_front(&self, case: &Case<'_>, complaint: &str) -> bool {
         case.report.as_bytes().starts_with(self.out.as_slice())
             && case.sent.starts_with(self.link.as_slice())
@@ -106,7 +106,7 @@ fn failing_at(object: Object, call: u64) -> Failing {
     }
 }
 
-/// The status and the complaint where a call of an object fails.
+/// The status and the complaint if a call of an object fails.
 fn ending(object: Object) -> (u8, &'static str) {
     match object {
         Object::Source => (3, "tank: read failed\n"),
@@ -168,7 +168,7 @@ fn each_fails(
     no_more_calls(rt, case, calls)
 }
 
-/// A case over the schedule of a head alone.
+/// A case over a schedule that is only a head.
 fn begun<'a>(
     words: &'a [&'a str],
     frames: &'a [u8],

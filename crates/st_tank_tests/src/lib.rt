@@ -1,4 +1,4 @@
-//! The top call over memory, where calls of its source, its sinks and its link fail, and the ends
+//! The top call over memory, when calls of its source, its sinks or its link fail, and the ends
 //! of links that the program does not use.
 #![tactic(auto)]
 

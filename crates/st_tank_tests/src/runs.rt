@@ -31,7 +31,7 @@ pub fn still(alloc: Global) -> Result<MemoryClock, AllocError> {
     Ok(MemoryClock::new(Vec::from_slice(alloc, &[Stamp(0)])?))
 }
 
-/// A schedule that comes one byte a call; the take of this number fails, and none where it is 0.
+/// A schedule that comes one byte a call; the take of this number fails, and none if it is 0.
 pub fn dripping(alloc: Global, schedule: &str, failing: u64) -> Result<OneByteSource, AllocError> {
     let bytes = Vec::from_slice(alloc, schedule.as_bytes())?;
     let failing = Vec::from_slice(alloc, &[failing])?;

@@ -1,4 +1,4 @@
-// A schedule that comes one byte a take, where each take fails in turn.
+// A schedule that comes one byte a take; each take fails in turn.
 use crate::runs::{dripping, joined, replays};
 use crate::texts::{HEAD, ONE_SIDED_CUT, ONE_SIDED_CUT_REPORT, WRITTEN, WRITTEN_REPORT};
 use std::alloc::{AllocError, Global};

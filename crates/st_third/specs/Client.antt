@@ -124,7 +124,7 @@ finish_as t c block Hard = plainly (hardened t.limits.clean c) t
 finish_as t c block Failed = failed_as t c c.kind
 finish_as t c block ended = t
 
--- it is outstanding no more
+-- it is no longer outstanding
 abbrev pub ended_by : ThirdTurn → PageCommand → Option (Tag × List ℕ) → pages.CommandEnd → ThirdTurn
 ended_by t c block e = finish_as (plainly (client.with_commands e.commands) t) c block e.ended
 
@@ -142,7 +142,7 @@ unfoldable pub finish_by : ThirdTurn → PageCommand → Option (Option (Tag × 
 finish_by t c None = finish_command t c false None
 finish_by t c (Some block) = done_by t c block
 
--- where the command is outstanding
+-- if the command is outstanding
 unfoldable pub finish_at : ThirdTurn → Option PageCommand → Option (Option (Tag × List ℕ)) → ThirdTurn
 finish_at t None result = t
 finish_at t (Some c) result = finish_by t c result

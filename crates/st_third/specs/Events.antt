@@ -159,7 +159,7 @@ unfoldable pub delivers : ThirdWorld → Option SentMessage → ThirdWorldTurn
 delivers w None = unseen w
 delivers w (Some m) = delivers_to w m.message (receiver_of w.world m)
 
--- Report: it ends the command. The client takes it, where the instance that submitted the command
+-- Report: it ends the command. The client takes it, if the instance that submitted the command
 -- still runs.
 unfoldable pub tells_site : ThirdWorld → ℕ → Bool → IssuedCommand → WorldClient → ThirdWorldTurn
 tells_site w k ok c site =

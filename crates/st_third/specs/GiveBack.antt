@@ -155,7 +155,7 @@ is_pending t o = list_any (is_operation_numbered o.op) t.plain.operations
 unfoldable pub give_or_go_on : (ThirdTurn → ThirdTurn) → ThirdTurn → ClientSession → Operation → ThirdTurn
 give_or_go_on go_on t s o = if is_all_stuck t s then go_on (give_back t s o) else give_back t s o
 
--- where the client is full
+-- if the client is full
 unfoldable pub give_if_full : (ThirdTurn → ThirdTurn) → ThirdTurn → ClientSession → Operation → ThirdTurn
 give_if_full go_on t s o = if is_full t s then give_or_go_on go_on t s o else t
 

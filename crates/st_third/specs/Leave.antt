@@ -108,7 +108,7 @@ emptied t = with_beside fresh_beside (plainly client.empty_here t)
 unfoldable pub end_life : ThirdTurn → ClientSession → ThirdTurn
 end_life t s = emptied (say t (says.Ended (here t) t.plain.here.life (lease.end_of t.plain.config s.lease)))
 
--- where it may
+-- if it may
 unfoldable pub end_if : ThirdTurn → ClientSession → ThirdTurn
 end_if t s = if may_end t s then end_life t s else t
 
@@ -131,7 +131,7 @@ must_greet t now tick =
 abbrev pub hello : Stamp → Turn → Turn
 hello now t = passes.hello t now
 
--- where it is due
+-- if it is due
 unfoldable pub greet : ThirdTurn → Stamp → Bool → ThirdTurn
 greet t now tick = if must_greet t now tick then plainly (hello now) t else t
 

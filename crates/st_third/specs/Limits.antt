@@ -110,15 +110,15 @@ is_client_node form node = is_within 1 (most_clients form) node
 
 -- Names: create, and make a directory. At the limit of live inodes there is no room.
 
--- where there is room
+-- if there is room
 unfoldable pub add_new : ℕ → Names → ℕ → List ℕ → Bool → Result Changed EntryRefusal
 add_new limit n dir name directory = if nat_lt (names.live_inodes n) limit then Ok (names.added n dir name directory) else Err TooMany
 
--- where the name is new
+-- if the name is new
 unfoldable pub add_beside : ℕ → Names → ℕ → List ℕ → Bool → Result Changed EntryRefusal
 add_beside limit n dir name directory = if is_some (names.entry_at n dir name) then Err Exists else add_new limit n dir name directory
 
--- where the place is not refused
+-- if the place is not refused
 unfoldable pub add_at : ℕ → Names → ℕ → List ℕ → Bool → Option EntryRefusal → Result Changed EntryRefusal
 add_at limit n dir name directory (Some r) = Err r
 add_at limit n dir name directory None = add_beside limit n dir name directory
@@ -171,7 +171,7 @@ harden_page limit ps d =
       dirty = pages.without_dirty d.ino d.page ps.dirty;
     }
 
--- where it is dirty
+-- if it is dirty
 unfoldable pub harden_at : ℕ → Pages → Option DirtyPage → Pages
 harden_at limit ps None = ps
 harden_at limit ps (Some d) = harden_page limit ps d

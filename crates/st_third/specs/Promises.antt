@@ -1,4 +1,4 @@
--- What is promised of the third form, besides what is promised of every form.
+-- What is promised about the third form, besides what is promised about every form.
 use Rattle.std.specs.Prelude.{ℕ, ◌+◌, ◌-◌, Bool, true, false, ◌&&◌, ◌||◌, not, ◌==◌, nat_lt, nat_le, if◌then◌else◌, List, [], ◌∷◌, ◌++◌, length, find, filter, map, Option, Some, None, is_some, ◌≡◌, ⊤}
 use Rattle.std.specs.List.{list_any, list_all}
 use Rattle.st_base.specs.declared.config.Config.{Config}
@@ -59,7 +59,7 @@ use Rattle.st_third.specs.State.{ClientBeside, is_active, is_operation_numbered}
 use Rattle.st_third.specs.Steps.{ThirdStep, plain_event, plain_step, steps, third_traced}
 use Rattle.st_third.specs.World.{ThirdWorld, beside_of, receiver_of, third_world}
 
--- A promise speaks of a step and of the steps before it.
+-- A promise is about a step and the steps before it.
 abbrev pub ThirdPromise : Type 1
 ThirdPromise = List ThirdStep → ThirdStep → Type 0
 
@@ -250,7 +250,7 @@ owed_from us (x ∷ xs) = owed_from (owed_after x us) xs
 abbrev pub GrantsAreUsed : ThirdPromise
 GrantsAreUsed past x = list_all (is_kept x.after.third.world) (owed_at x (owed_from [] past)) ≡ true
 
--- Who left has nothing: after a client was answered `left`, its server has neither row nor wait of
+-- A client that left has nothing: after it was answered `left`, its server has neither row nor wait of
 -- it, until the client sends the server anything but a greeting. And a greeting of its present life
 -- that the server gets outside grace is welcomed at once.
 
@@ -330,18 +330,18 @@ greets x l (Some m) =
     is_its_greeting x.before.third.world l m
     && not (is_in_grace (clock_of x.before.third.world (nodes.Server l.server)) (node_of x.before.third.world l.server))
 
--- where it greets, it is welcomed
+-- if it greets, it is welcomed
 abbrev pub is_welcomed : ThirdStep → Leaver → Bool
 is_welcomed x l = not (greets x l (delivered x)) || list_any (welcomes l) x.seen
 
--- Who left has nothing
+-- A client that left has nothing
 abbrev pub WhoLeftHasNothing : ThirdPromise
 WhoLeftHasNothing past x =
     list_all (has_nothing x.after.third.world) (left_along past x (left_from [] [] past) x.seen)
     && list_all (is_welcomed x) (left_from [] [] past)
     ≡ true
 
--- Who leaves loses nothing: when a life ends because its client leaves, every write and patch of
+-- A client that leaves loses nothing: when its life ends because it leaves, every write and patch of
 -- that life is hard. When a leave is answered `left`, all lost rows of the server were reported.
 abbrev pub is_hard_of : ClientId → ServerId → Life → LogEntry → Bool
 is_hard_of c s life e = not (log.is_of_life c s life e.of) || is_hard_fate e.fate
@@ -361,7 +361,7 @@ loses_nothing past x (seen.Ended c s life) = list_all (is_hard_of c s life) x.af
 loses_nothing past x (seen.Left c op) = is_told_all x.after.third.world (leaver past x c op)
 loses_nothing past x o = true
 
--- Who leaves loses nothing
+-- A client that leaves loses nothing
 abbrev pub WhoLeavesLosesNothing : ThirdPromise
 WhoLeavesLosesNothing past x = list_all (loses_nothing past x) x.seen ≡ true
 
@@ -389,7 +389,7 @@ is_heard x h ino c s =
     (((life_of x.before.third.world c s).0 == h.life) && ((life_of x.after.third.world c s).0 == h.life))
     && is_unheld_in h ino (session_of x.before.third.world c s)
 
--- where it does, it is answered
+-- if it does, it is answered
 abbrev pub is_demand_seen : ThirdStep → Header → Body → Bool
 is_demand_seen x h (bodies.Demand ino g to) = not (is_heard x h ino (client h.to) (server_from h)) || list_any (answers_demand h ino g) x.seen
 is_demand_seen x h body = true
@@ -587,7 +587,7 @@ is_told_truly past x o = true
 abbrev pub NamesAnswerTruly : ThirdPromise
 NamesAnswerTruly past x = list_all (is_told_truly past x) x.seen ≡ true
 
--- What is promised of a run of the third form, besides what is promised of every form.
+-- What is promised about a run of the third form, besides what is promised about every form.
 pub record IsThirdSafe (xs : List ThirdStep) : Type 0 where
   pub used : Throughout GrantsAreUsed [] xs
   pub left : Throughout WhoLeftHasNothing [] xs

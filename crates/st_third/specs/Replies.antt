@@ -1,5 +1,5 @@
 -- A client's rule for a message: take a fresh welcome only; answer a demand while a release waits;
--- and what the other rules say of replies.
+-- and what the other rules say about replies.
 use Rattle.std.specs.Prelude.{ℕ, ◌+◌, Bool, ◌&&◌, ◌==◌, nat_lt, if◌then◌else◌, Option, Some, None, is_some, ⊤}
 use Rattle.st_base.specs.declared.ids.Epoch.{Epoch}
 use Rattle.st_base.specs.declared.ids.GrantNo.{GrantNo}
@@ -108,7 +108,7 @@ counted t s now number stamp reply (Some q) = by_request t s now number stamp re
 unfoldable pub reply_of : ThirdTurn → ClientSession → Stamp → Header → Body → ThirdTurn
 reply_of t s now h reply = counted t s now h.number (record { 0 = h.stamp }) reply s.requests.asked
 
--- the lease is renewed no more
+-- the lease is no longer renewed
 abbrev pub condemned : ClientSession → Turn → Turn
 condemned s t = replies.condemn t s
 

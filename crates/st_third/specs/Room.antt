@@ -142,7 +142,7 @@ written_out d t = passes.write_out t d
 unfoldable pub write_due : List ℕ → ThirdTurn → ClientSession → Stamp → Bool → DirtyPage → ThirdTurn
 write_due room t s now tick d = if is_writable room t s now tick d then plainly (written_out d) t else t
 
--- where the page is dirty
+-- if the page is dirty
 unfoldable pub write_page : List ℕ → ThirdTurn → ClientSession → Stamp → Bool → Option DirtyPage → ThirdTurn
 write_page room t s now tick None = t
 write_page room t s now tick (Some d) = write_due room t s now tick d

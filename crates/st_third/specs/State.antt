@@ -1,5 +1,5 @@
 -- The state of a client of the third form: that of a client of the first two forms, and beside it
--- what the third form adds. A rule of the third form is a rule of the first two where it says
+-- what the third form adds. A rule of the third form is a rule of the first two if it says
 -- nothing else.
 use Rattle.std.specs.Prelude.{ℕ, Bool, ◌&&◌, not, ◌==◌, nat_lt, if◌then◌else◌, List, [], ◌∷◌, ◌++◌, filter, map, Option, None, ⊤}
 use Rattle.std.specs.List.{list_any}
@@ -120,7 +120,7 @@ with_none c = record { plain = record c.plain { associations = [] }; beside = re
 unfoldable pub at_each : Limits → (ThirdTurn → ThirdTurn) → ThirdClientTurn → ThirdClientTurn
 at_each m rule t = at_these m rule t.client.plain.associations t.client.beside.besides (record t { client = with_none t.client })
 
--- At one server alone
+-- Only at one server
 unfoldable pub only_at : ServerId → (ThirdTurn → ThirdTurn) → ThirdTurn → ThirdTurn
 only_at s rule t = if plain.is_at s t.plain.here then rule t else t
 
@@ -196,7 +196,7 @@ is_first_leave s os l = is_leave_of s l && not (list_any (is_before s l.op) os)
 abbrev pub is_leaving : ThirdTurn → Bool
 is_leaving t = list_any (is_first_leave (here t) t.plain.operations) t.leaves
 
--- a leave is pending no more
+-- a leave is no longer pending
 abbrev pub without_leave : Leave → ThirdTurn → ThirdTurn
 without_leave l t = record t { leaves = filter (λ x. not (is_leave_numbered l.op x)) t.leaves }
 
@@ -209,7 +209,7 @@ answer_leave answer l t = say (without_leave l t) (says.Plain (outputs.Answer l.
 abbrev pub answer_number : AppAnswer → ℕ → Output
 answer_number answer op = outputs.Answer op answer
 
--- these are pending no more
+-- these are no longer pending
 abbrev pub without_picked : (Operation → Bool) → ThirdTurn → ThirdTurn
 without_picked picked t =
     record t {

@@ -55,7 +55,7 @@ abbrev pub third_traced : ThirdWorld → ThirdTraced
 third_traced w = record { third = w; history = no_history }
 
 -- The history of the first two forms, except for one case: a lease that is dated in the step in
--- which its life ends is of that life and of its session's epoch.
+-- which its life ends belongs to that life and to its session's epoch.
 abbrev pub ends_here : ClientId → ServerId → ThirdObservation → Bool
 ends_here c s (seen.Ended d r life) = same_client d c && same_server r s
 ends_here c s o = false

@@ -39,7 +39,7 @@ unfoldable pub owe : ThirdTurn → ℕ → Mode → ThirdTurn
 owe t ino mode = with_beside (record t.beside { owed = with_owed ino (find (may_be_owed t ino mode) t.plain.operations) t.beside.owed }) t
 
 -- Granted: the wait is forgotten. A grant above the greatest seen is installed and owes a use,
--- where there is a place for it, and is given back otherwise.
+-- if there is a place for it, and is given back otherwise.
 unfoldable pub accept_grant : ThirdTurn → ClientSession → ℕ → GrantNo → Mode → ThirdTurn
 accept_grant t s ino g mode = owe (with_its_session (replies.accept_grant s ino g mode) t) ino mode
 

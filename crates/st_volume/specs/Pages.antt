@@ -58,7 +58,7 @@ abbrev pub touches : FileId × PageNo → Ask → Bool
 touches x (Cut f p) = same_file x.0 f && nat_le p.0 x.1.0
 touches x what = is_at x what
 
--- Bytes: byte `i` of a page is the patch's where `at ≤ i < at + length`, and otherwise the old one. A write gives all bytes, and a cut zeros.
+-- Bytes: byte `i` of a page is the patch's if `at ≤ i < at + length`, and otherwise the old one. A write gives all bytes, and a cut zeros.
 abbrev pub patched_byte : ℕ → ℕ → List ℕ → ℕ → ℕ
 patched_byte i at bytes old =
     if nat_le at i && nat_lt i (at + length bytes) then slice_index bytes (i - at) else old
@@ -95,7 +95,7 @@ is_by_on c f e = is_by c e && is_on f e.what
 abbrev pub is_by_at : ClientId → FileId × PageNo → Entry → Bool
 is_by_at c x e = is_by c e && is_at x e.what
 
--- What is open of a file is of one client: nobody else reads, changes or cuts the file meanwhile.
+-- What is open of a file belongs to one client: nobody else reads, changes or cuts the file meanwhile.
 abbrev pub is_clear : ClientId → FileId → Entry → Bool
 is_clear c f e = is_by c e || not (is_on f e.what && is_open e.fate)
 

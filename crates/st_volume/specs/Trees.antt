@@ -85,7 +85,7 @@ fault_of_dir t dir = if is_dir dir t then 0 else if is_file dir t then 3 else 1
 abbrev pub fault_of : Tree → ℕ → List ℕ → ℕ
 fault_of t dir name = if is_dir dir t && not (is_good name) then 7 else fault_of_dir t dir
 
--- the rest, where nothing is wrong
+-- the rest, if nothing is wrong
 abbrev pub unless : Tree → ℕ → Option Made → Option Made
 unless t zero rest = rest
 unless t (suc n) rest = refuses t (suc n)
@@ -105,8 +105,8 @@ creates t e None =
     if nat_lt (length t.entries + 1) 4096
     then makes (with_new t e) (answers.Named e.ino) None else refuses t 8
 
--- Remove: exactly that entry goes: a directory's only where 0 was named and it is empty, and a
--- file's only where its inode was named. Where another file has the name, a remove has no effect.
+-- Remove: exactly that entry goes: a directory's only if 0 was named and it is empty, and a
+-- file's only if its inode was named. If another file has the name, a remove has no effect.
 abbrev pub without : Tree → ℕ → List ℕ → Tree
 without t dir name = record t { entries = filter (λ e. not (is_named dir name e)) t.entries }
 
@@ -172,7 +172,7 @@ abbrev pub listed : Tree → ℕ → List ℕ → List NameRow
 listed t dir after =
     take 256 (in_order (map row (filter (λ e. (e.dir == dir) && is_below after e.name) t.entries)))
 
--- What an ask makes of a tree; nothing where it can have no effect.
+-- What an ask makes of a tree; nothing if it can have no effect.
 abbrev pub at_place : Tree → ℕ → List ℕ → (Option DirEntry → Option Made) → Option Made
 at_place t dir name rest = unless t (fault_of t dir name) (rest (entry_at t dir name))
 

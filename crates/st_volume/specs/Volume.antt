@@ -1,5 +1,5 @@
 -- The volume: what the applications of all clients see of the servers' trees and of the pages of
--- their files, as one sequential file system. It knows of no lock, lease, message or machine.
+-- their files, as one sequential file system. It has no locks, leases, messages or machines.
 use Rattle.std.specs.Prelude.{ℕ, zero, ◌+◌, Bool, true, false, ◌&&◌, ◌||◌, not, ◌==◌, nat_lt}
 use Rattle.std.specs.Prelude.{nat_le, if◌then◌else◌, List, [], ◌∷◌, ◌++◌, length, filter, find, map}
 use Rattle.std.specs.Prelude.{pred, set, slice_get, Option, Some, None, is_some, option_map}
@@ -105,7 +105,7 @@ is_before a b =
     && (not (is_some b.result) && is_sooner b.ask a.ask)
 
 -- The volume: the servers' trees, by number; the log; how many of its entries have had their line;
--- the open asks; the orphaned ones: no client waits for them any more, and they may still take
+-- the open asks; the orphaned ones: no client waits for them any longer, and they may still take
 -- effect, once; who was asked so far, and of which file; the servers that started again, each as
 -- often as it did; for how many pages each server has room, and for which pages room was wanted.
 pub record Volume : Type 0 where
@@ -213,7 +213,7 @@ arrived v c ask =
       claims = with_places (ask ∷ []) v.claims;
     }
 
--- 2. A write, a patch or a cut takes effect where its file exists, and no other client has open entries of it: its entry joins the log. A cut is hard at once;
+-- 2. A write, a patch or a cut takes effect if its file exists, and no other client has open entries of it: its entry joins the log. A cut is hard at once;
 --    it frees the room of its pages, except for those that open asks will write.
 abbrev pub entry : ClientId → Ask → Fate → Entry
 entry c what fate =
@@ -254,7 +254,7 @@ effect v c ask =
     (place_of ask)
 
 -- An ask takes effect once, in its order, and an open one keeps its result. What else is orphaned
--- of its client at its server takes effect no more.
+-- of its client at its server no longer takes effect.
 abbrev pub without_older : Pending → List Pending → List Pending
 without_older a orphans =
     filter (λ b. not (is_of_client a.client b && is_ask_at (server_of a.ask) b)) orphans
@@ -424,7 +424,7 @@ crashed v c =
           v.orphans ++ filter (λ a. is_cut_or_name a.ask && not (is_some a.result)) (open_of v c);
     }
 
--- A server starts again, in its next epoch: what is orphaned there takes effect no more.
+-- A server starts again, in its next epoch: what is orphaned there no longer takes effect.
 abbrev pub restarted : Volume → ServerId → Volume
 restarted v s =
     record v { starts = s ∷ v.starts; orphans = filter (λ a. not (is_ask_at s a)) v.orphans }
@@ -454,7 +454,7 @@ tells v i test =
     if (i == v.lines + 1) && is_any test (numbered v.log i)
     then Some (record v { lines = i }) else None
 
--- A step of the volume, where it may be taken. After an entry joined the log its line comes next.
+-- A step of the volume, if it may be taken. After an entry joined the log its line comes next.
 abbrev pub acts : Volume → VolumeStep → Option Volume
 acts v (steps.Asked c ask) =
     if nat_le (length (open_of v c)) 16 then Some (notice (arrived v c ask)) else None

@@ -30,6 +30,6 @@ advance_refused w steps = option_or (clocks_refused w steps) (flush_missed w ste
 abbrev pub effect_refused : World → ℕ → CommandState → Option WorldRefusal
 effect_refused w k d = option_or (stands (d.effected || not (is_open d.report)) (refusals.DiskState k)) (late_disk w (issued_of w k))
 
--- the command was reported, or is to succeed without its effect, or the network is full
+-- the command was reported, or would succeed without its effect, or the network is full
 abbrev pub report_refused : World → ℕ → Bool → CommandState → Option WorldRefusal
 report_refused w k ok d = option_or (stands (not (is_open d.report) || (ok && not d.effected)) (refusals.DiskState k)) (net_full w)

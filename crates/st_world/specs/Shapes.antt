@@ -35,7 +35,7 @@ abbrev pub IsAfter : World → World → Event → Type 0
 IsAfter v w (events.Advance steps) = SameShape v w × (w.clocks ≡ advanced steps v.clocks)
 IsAfter v w e = SameTime v w
 
--- The shape of a world of a head with these settings and counts: so many nodes, with a clock and a row of drift each; and no clock
+-- The shape of a world of a head with these settings and counts: this many nodes, with a clock and a row of drift each; and no clock
 -- has gone further than the events so far may have taken it.
 pub record IsShaped (k : Config) (clients servers : ℕ) (w : World) : Type 0 where
   pub config : w.config ≡ k

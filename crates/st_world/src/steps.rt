@@ -45,7 +45,7 @@ fn may_count(machine: &WorldTurn) -> bool
     machine.reads < 1 << 63 && machine.stolen < 1 << 63
 }
 
-/// Runs one event, where its counts have room.
+/// Runs one event, if its counts have room.
 fn run_counted(
     machine: &mut WorldTurn,
     event: &Event,
@@ -68,7 +68,7 @@ fn run_counted(
 }
 
 /// Runs one event that is not refused, and returns what is observed of it. The room of the spare
-/// list is used for what is observed next. Where a count of reads or thefts is at its end, it
+/// list is used for what is observed next. If a count of reads or thefts is at its end, it
 /// returns `Memory`.
 pub(crate) fn step_admitted(
     machine: &mut WorldTurn,

@@ -16,7 +16,7 @@ with_all_ended es l = record l { ended = l.ended ++ es }
 abbrev pub with_site_at : ℕ → WorldClient → World → World
 with_site_at i site w = record w { clients = set w.clients i site }
 
--- the scene after a crash, where these spares were found
+-- the scene after a crash, if these spares were found
 abbrev pub crash_marked : ClientId → List Spare → World → WorldTurn
 crash_marked c spared w = world_turn (with_log (without_crashed c spared w.log) w) (fates_from 1 w.log (without_crashed c spared w.log))
 

@@ -17,7 +17,7 @@ abbrev pub in_flush : Option Stamp → Option Phase → Option Stamp
 in_flush end (Some phases.Flush) = end
 in_flush end phase = None
 
--- the lease end of a client at a server, where it is in the flush phase there
+-- the lease end of a client at a server, if it is in the flush phase there
 abbrev pub flush_end : ClientState → ServerId → Stamp → Option Stamp
 flush_end c s clock = in_flush (lease_end_with c s) (phase_with c s clock)
 

@@ -22,7 +22,7 @@ pub record IsReady (w : World) : Type 0 where
 abbrev pub MayCount : World → Type 0
 MayCount w = (w.tally.reads < 2 ^ 63) × (w.tally.stolen < 2 ^ 63)
 
--- What an event that is not refused meets: who is asked runs, who is started does not, and an advance is in bound.
+-- What an event that is not refused meets: the node that is asked runs, the one that is started does not, and an advance is in bound.
 abbrev pub IsMet : World → Event → Type 0
 IsMet w (events.App c ask) = (is_ask ask ≡ true) × (is_running w (nodes.Client c) ≡ true)
 IsMet w (events.Advance steps) = IsAccepted w steps

@@ -14,12 +14,12 @@ use Rattle.st_rules.specs.Events.{WorldTurn, asked_once_more, client_says_all, c
 use Rattle.st_rules.specs.World.{World, WorldClient}
 use Rattle.st_world_events.specs.Ends.{HasEnds}
 
--- the command that a client issues, where there is such a client
+-- the command that a client issues, if there is such a client
 abbrev pub issued_at : World → ClientId → ℕ → BlockAt → Command → Option WorldClient → Option IssuedCommand
 issued_at w c number at what None = None
 issued_at w c number at what (Some site) = Some (issued w c site number at what)
 
--- a command is issued: it is the last one, and is told
+-- a command is issued: it is the last one, and is observed
 abbrev pub issues : WorldTurn → ClientId → ℕ → IssuedCommand → Command → WorldTurn
 issues sc c number x what = observe (with_command x what sc.world) sc (seen.Submitted (length sc.world.commands + 1) c number what)
 

@@ -50,7 +50,7 @@ fn raise_asks(clients: &mut Vec<WorldClient>, i: usize) -> u32
 }
 
 impl WorldTurn {
-    /// The client at this place, which runs, is asked. Where its count of asks is at its end, it
+    /// The client at this place, which runs, is asked. If its count of asks is at its end, it
     /// returns an error of memory.
     pub(crate) fn ask_at(&mut self, client: ClientId, i: usize, ask: Ask) -> Result<(), AllocError>
         requires begins { self.old.seen ≡ [] }

@@ -42,7 +42,7 @@ impl WorldClient {
         self.node.crash();
     }
 
-    /// The client starts again. Where the count of its starts, or another of its counters, is at
+    /// The client starts again. If the count of its starts, or another of its counters, is at
     /// its end, it returns an error of memory.
     fn start(&mut self) -> Result<(), AllocError>
         requires crashed { self.old.node.running ≡ false }
@@ -100,7 +100,7 @@ fn crash_node(servers: &mut Vec<ServerNode>, i: usize)
     node.crash();
 }
 
-/// The server at a place starts. Where it was in its last epoch, it returns an error of memory.
+/// The server at a place starts. If it was in its last epoch, it returns an error of memory.
 fn start_node(servers: &mut Vec<ServerNode>, i: usize, now: Stamp) -> Result<(), AllocError>
     requires there { i < length servers.old.items }
     requires time { now.0 ≤ 2 ^ 62 }

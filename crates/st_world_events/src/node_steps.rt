@@ -27,7 +27,7 @@ use std::alloc::AllocError;
 use std::mem;
 
 impl WorldClient {
-    /// The client takes an input at this moment. Where one of its counters is at its end, it
+    /// The client takes an input at this moment. If one of its counters is at its end, it
     /// returns an error of memory.
     fn step(&mut self, now: Stamp, input: &mut ClientInput) -> Result<Outputs, StepFault>
         requires time { now.0 ≤ 2 ^ 62 }
@@ -75,7 +75,7 @@ fn step_site(
     site.step(now, input)
 }
 
-/// The server at a place takes an input. Where one of its counters is at its end, it returns an
+/// The server at a place takes an input. If one of its counters is at its end, it returns an
 /// error of memory.
 fn step_node(
     servers: &mut Vec<ServerNode>,

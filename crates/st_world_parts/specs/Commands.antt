@@ -1,4 +1,4 @@
--- The commands of a world: what the disks know of them, and who issued them.
+-- The commands of a world: what the disks know about them, and who issued them.
 use Rattle.std.specs.Prelude.{◌≡◌, ◌≤◌, ◌-◌, ◌==◌, ℕ, Bool, not, filter, List, [], ◌∷◌, ◌++◌, length}
 use Rattle.std.specs.List.{list_any, zip}
 use Rattle.indexmap.specs.IndexMap.{IndexMap}
@@ -28,11 +28,11 @@ fresh d blocks = record { disks = fresh_disks d blocks; commands = [] }
 abbrev pub submit : IssuedCommand → Command → Commands → Commands
 submit c what s = record { disks = disks.submit s.disks what; commands = s.commands ++ c ∷ [] }
 
--- the command of this number has its effect, where it may
+-- the command of this number has its effect, if it may
 abbrev pub effect : ℕ → Commands → Commands
 effect k s = record s { disks = disks_after s.disks (disks.effect s.disks k) }
 
--- the command of this number is reported, where it may
+-- the command of this number is reported, if it may
 abbrev pub done : ℕ → Bool → Commands → Commands
 done k ok s = record s { disks = disks_after s.disks (disks.done s.disks k ok) }
 

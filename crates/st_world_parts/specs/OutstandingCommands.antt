@@ -12,7 +12,7 @@ abbrev pub open_from : ℕ → List DiskCommand → List ℕ
 open_from k [] = []
 open_from k (d ∷ ds) = if is_open d.report then k ∷ open_from (k + 1) ds else open_from (k + 1) ds
 
--- what a command spares at a crash of its client, where it carries something
+-- what a command spares at a crash of its client, if it carries something
 abbrev pub spare_of : IssuedCommand → Option Carried → List Spare
 spare_of c None = []
 spare_of c (Some x) = record { index = x.index; owner = owner_carried c x } ∷ []

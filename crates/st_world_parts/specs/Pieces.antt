@@ -14,7 +14,7 @@ use Rattle.st_rules.specs.World.{Net, numbered, with_numbered}
 use Rattle.st_world_parts.specs.declared.places.MessageEnds.{MessageEnds}
 use Rattle.st_world_parts.specs.declared.places.SentPlace.{SentPlace}
 
--- a message, where bytes spell none
+-- a message, if bytes spell none
 abbrev pub blank : Message
 blank = record { header = record { from = 0; to = 0; life = 0; epoch = 0; number = 0; stamp = 0 }; body = bodies.Tick }
 

@@ -44,7 +44,7 @@ impl Model for Commands {
     ghost invariant = { λ c. IsKept c.disks c.issued.items c.outstanding.items c.last };
 }
 
-/// Gives the command of this number its effect, where it may have one.
+/// Gives the command of this number its effect, if it may have one.
 fn give_effect(disks: &mut Disks, k: u64) -> Result<(), AllocError>
     ensures ok { OnOk result (disks.new ≡ events.disks_after disks.old (rules.effect disks.old k)) }
     ensures err { OnErr result (disks.new ≡ disks.old) }
@@ -57,7 +57,7 @@ fn give_effect(disks: &mut Disks, k: u64) -> Result<(), AllocError>
     }
 }
 
-/// Reports the command of this number, where it may be reported so, and takes it out of those that
+/// Reports the command of this number, if it may be reported so, and takes it out of those that
 /// were not reported.
 fn report(disks: &mut Disks, outstanding: &mut Vec<usize>, k: u64, ok: bool)
     requires { outstanding.old.items ≡ open_from 0 disks.old.commands }
@@ -140,7 +140,7 @@ impl Commands {
         }
     }
 
-    /// Gives the command of this number its effect, where it may have one.
+    /// Gives the command of this number its effect, if it may have one.
     pub fn effect(&mut self, k: u64) -> Result<(), AllocError>
         ensures ok { OnOk result (self.new ≡ issued.effect k self.old) }
         ensures err { OnErr result (self.new ≡ self.old) }
@@ -148,7 +148,7 @@ impl Commands {
         give_effect(&mut self.disks, k)
     }
 
-    /// Reports the command of this number, where it may be reported so. It does not allocate.
+    /// Reports the command of this number, if it may be reported so. It does not allocate.
     pub fn done(&mut self, k: u64, ok: bool)
         ensures { self.new ≡ issued.done k ok self.old }
     {

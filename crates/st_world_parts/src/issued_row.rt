@@ -7,7 +7,7 @@ use st_rules::{Carried, IssuedCommand};
 use std::marker::Model;
 
 /// Who issued a command, and which entry it carries: of this index, and of this page of a file of
-/// this owner. Where a command carries nothing, these four say nothing. Contracts see the
+/// this owner. If a command carries nothing, these four say nothing. Contracts see the
 /// definitions' command.
 #[derive(Drop)]
 pub struct IssuedRow {
@@ -39,7 +39,7 @@ impl Model for IssuedRow {
     } };
 }
 
-/// The entry that a command carries, where it carries one.
+/// The entry that a command carries, if it carries one.
 fn carried_in(carries: bool, owner: ServerId, ino: u32, page: PageNo, index: u64) -> Option<Carried>
     ensures { result ≡ carried_in carries owner ino page index }
 {

@@ -138,7 +138,7 @@ impl Network {
         Ok(())
     }
 
-    /// The message of this number is lost. Where there is no such message, nothing changes.
+    /// The message of this number is lost. If there is no such message, nothing changes.
     pub fn lose(&mut self, k: u64)
         ensures { self.new ≡ pieces.lost k self.old }
     {

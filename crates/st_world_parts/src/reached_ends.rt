@@ -58,7 +58,7 @@ pub fn is_reached(clocks: &[Stamp], steps: &[u64], life: &LeaseLife) -> bool
     reaches(clock_of(clocks, n), step_of(steps, n), life.end)
 }
 
-/// Adds a life where the test holds. If it runs out of memory, nothing changes.
+/// Adds a life if the test holds. If it runs out of memory, nothing changes.
 pub fn push_if(found: &mut Vec<LeaseLife>, life: LeaseLife, yes: bool) -> Result<(), AllocError>
     ensures ok { OnOk result (found.new.items ≡ found.old.items ++ (if yes then life ∷ [] else [])) }
     ensures err { OnErr result (found.new.items ≡ found.old.items) }

@@ -87,7 +87,7 @@ association_of c server now = record {
   dirty = codes.flag (has_dirty_with c.node.state (server_id server));
 }
 
--- it is told of a client that is there
+-- it is returned about a client that is there
 abbrev pub TellsOf : Option EmbeddedClient → ℕ → ℕ → TankAssociation → Type 0
 TellsOf None server now a = ⊥
 TellsOf (Some c) server now a = a ≡ association_of c server now

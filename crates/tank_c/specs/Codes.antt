@@ -112,12 +112,12 @@ abbrev pub of_phase_held : Option Phase → ℕ
 of_phase_held None = 0
 of_phase_held (Some p) = of_phase p
 
--- the end of a lease, or 0 where none is held
+-- the end of a lease, or 0 if none is held
 abbrev pub end_held : Option Stamp → ℕ
 end_held None = 0
 end_held (Some end) = end.0
 
--- 1 where it is true
+-- 1 if it is true
 abbrev pub flag : Bool → ℕ
 flag true = 1
 flag false = 0

@@ -53,7 +53,7 @@ NoServerStep (Some c) (Some d) now frame code o = RefusesFor c d now frame code 
 NoServerStep None None now frame code o = (code ≡ codes.ABSENT) × (o ≡ server_told 0 0)
 NoServerStep c d now frame code o = ⊥
 
--- the record that must be kept comes first where it was written, and its gate is reported
+-- the record that must be kept comes first if it was written, and its gate is reported
 pub record IsRecord (e : EmbeddedServer) (before after : List ℕ) (r : TankRecord) : Type 0 where
   pub gate : r.gate ≡ e.gate
   pub size : r.size ≡ length (record_by (to_keep e))
@@ -64,11 +64,11 @@ abbrev pub TellsRecord : Option EmbeddedServer → List ℕ → List ℕ → Tan
 TellsRecord None before after r = ⊥
 TellsRecord (Some e) before after r = IsRecord e before after r
 
--- nothing is told of a record
+-- nothing is returned about a record
 abbrev pub untold : TankRecord
 untold = record { gate = 0; size = 0 }
 
--- the buffer is too short for the record; its gate and size are told
+-- the buffer is too short for the record; its gate and size are returned
 pub record IsShort (e : EmbeddedServer) (before : List ℕ) (r : TankRecord) : Type 0 where
   pub gate : r.gate ≡ e.gate
   pub size : r.size ≡ length (record_by (to_keep e))
@@ -103,12 +103,12 @@ abbrev pub NoServerTake : Option EmbeddedServer → ℕ → Type 0
 NoServerTake None code = code ≡ codes.ABSENT
 NoServerTake (Some e) code = NotTakenFor e code
 
--- the record was kept, where there is a server
+-- the record was kept, if there is a server
 abbrev pub ServerKept : Option EmbeddedServer → Option EmbeddedServer → ℕ → Type 0
 ServerKept None new code = (new ≡ None) × (code ≡ codes.ABSENT)
 ServerKept (Some e) new code = (new ≡ Some (kept e)) × (code ≡ codes.DONE)
 
--- the epoch, or 0 where there is no server
+-- the epoch, or 0 if there is no server
 abbrev pub epoch_of : Option EmbeddedServer → ℕ
 epoch_of None = 0
 epoch_of (Some e) = e.server.node.state.stable.epoch.0

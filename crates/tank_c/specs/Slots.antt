@@ -9,7 +9,7 @@ use Rattle.st_embed.specs.Servers.{EmbeddedServer}
 use Rattle.st_embed.specs.contracts.client.EmbeddedClient as machine
 use Rattle.st_embed.specs.contracts.server.EmbeddedServer as server
 
--- nothing where there is no client, and otherwise the client at p and the right to free its block
+-- nothing if there is no client, and otherwise the client at p and the right to free its block
 abbrev pub client_owns : Ptr → Option EmbeddedClient → Fml
 client_owns p None = ftrue
 client_owns p (Some c) = box_owns chunk machine.the_row p c

@@ -22,7 +22,7 @@ pub struct TankSettings {
     pub grain: u64,
 }
 
-/// What a step tells: the place in its frame of what is refused, and 1 where a life at a server is
+/// What a step tells: the place in its frame of what is refused, and 1 if a life at a server is
 /// another one than before.
 #[repr(C)]
 #[derive(Clone, Copy)]
@@ -69,7 +69,7 @@ pub(crate) fn config_of(settings: &TankSettings) -> Config
     }
 }
 
-/// 1 where it is true.
+/// 1 if it is true.
 fn flag(yes: bool) -> u32
     ensures { result ≡ codes.flag yes }
 {

@@ -32,7 +32,7 @@ fn codec_code(refusal: CodecRefusal) -> u32
     }
 }
 
-/// The byte of the message, or the length, that it tells; 0 where it tells none.
+/// The byte of the message, or the length, that it tells; 0 if it tells none.
 fn codec_place(refusal: CodecRefusal) -> u64
     ensures { result ≡ codes.place_of_codec refusal }
 {

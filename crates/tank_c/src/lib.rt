@@ -325,7 +325,7 @@ pub extern "C" fn tank_server_take(
     code
 }
 
-/// Tells a server's epoch; 0 where the handle is not open.
+/// Tells a server's epoch; 0 if the handle is not open.
 #[unsafe(no_mangle)]
 pub extern "C" fn tank_server_epoch(server: &mut TankServer, alloc: Global) -> u64
     ensures epoch { result ≡ epoch_of server.old.slot.value }
@@ -356,7 +356,7 @@ pub extern "C" fn tank_server_close(server: &mut TankServer, alloc: Global)
     }
 }
 
-/// Tells of the frame with which bytes begin.
+/// Describes the frame with which bytes begin.
 #[unsafe(no_mangle)]
 pub extern "C" fn tank_frame_at(bytes: &[u8], frame: &mut TankFrame) -> u32
     ensures done { result ≡ DONE → frame_at bytes.now ≡ Ok frame.new }

@@ -95,7 +95,7 @@ few_reads_in_take op ask t = go (cl.take_ask op ask t) (takes op ask t)
     go _ (ending.WaitsForSync f q l) = few_reads_in_keeping 0 (state.new_operation op ask) t t (few_reads_in_nothing 0 t)
     go _ (ending.Waits n) = few_reads_in_keeping 0 (state.new_operation op ask) t t (few_reads_in_nothing 0 t)
 
--- Losses: an operation that ends is pending no more.
+-- Losses: an operation that ends is no longer pending.
 few_reads_in_ended : (s : ClientSession) (o : Operation) (t u : Turn) → Ended s o t u → R 1 t u
 few_reads_in_ended s o t _ (losing.IsElsewhere e) = few_reads_in_keeping 0 o t t (few_reads_in_nothing 0 t)
 few_reads_in_ended s o t _ (losing.IsUncertain e q) = few_reads_in_said 1 t o.op (answers.Uncertain s.epoch.0 0) refl

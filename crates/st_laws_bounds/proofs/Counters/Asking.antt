@@ -89,7 +89,7 @@ free_low rule k t = subst (λ n. GoesLow n t (at_each rule t)) (free t.state.ass
 goes_none : (n : ℕ) (t : ClientTurn) → GoesLow n t t
 goes_none n t = record { servers = refl; low = omega arith }
 
--- an ask costs one at its server alone
+-- an ask costs one at its server, and nothing at others
 asked_low : (s : ServerId) (rule : Turn → Turn) → ((t : Turn) → R 1 t (rule t)) → (t : ClientTurn) → GoesLow (cost (one_of s) t.state.associations) t (at_each (only_at s rule) t)
 unfolding only_at
 asked_low s rule k t = each_low (one_of s) (only_at s rule) (λ u. one u (is_at s u.here)) t

@@ -1,4 +1,4 @@
--- What is promised of how many messages and commands the run of a generated schedule has.
+-- What is promised about how many messages and commands the run of a generated schedule has.
 use Rattle.std.specs.Prelude.{ℕ, ◌≤◌}
 use Rattle.std.specs.List.{AllByRecursion}
 use Rattle.st_schedule.specs.Grammar.{Fits}

@@ -1,4 +1,4 @@
--- A cut is asked: the request that a server serves is the one that is outstanding at the client that has the file alone.
+-- A cut is asked: the request that a server serves is the one that is outstanding at the only client that has the file.
 use Rattle.st_lemmas.proofs.Words
 use Words.{◌≡◌, ◌≢◌, ◌⊎◌, ℕ, ◌≤◌, List, Option, Some, None, refl, sym, ap, ◌∙◌, subst, inl, inr, arith, FileId, PageNo, Body, Message, Request}
 use Words.nodes

@@ -1,4 +1,4 @@
--- Every event: servers go on, and each new message of a client is of its present life, or a later one.
+-- Every event: servers go on, and each new message of a client belongs to its present life, or a later one.
 use Rattle.st_lemmas.proofs.Words
 use Words.{◌≡◌, ◌≢◌, ℕ, ◌≤◌, ◌⊎◌, true, false, List, [], Some, Ok, refl, sym, ap, ◌∙◌, subst, inl, inr, arith, ClientId, ServerId, Stamp, Message, Event}
 use Words.{ClientInput, ServerInput}

@@ -68,7 +68,7 @@ row_lies x f p n r i = go (extents.extent_of x f z.0) refl z.1
             ap (λ m. record { 0 = m }) (sym (eqb-true y.page.0 z.0.0 (and_true (Rattle.st_rules.specs.Keys.same_file y.file f) (y.page.0 == z.0.0) (found_at (extents.is_extent_of f z.0) x.rows y e).0).1))
             ∙ ap (λ (s : ExtentRow). s.page) row
 
--- where no row is told of one page, it has no block
+-- if no row is reported for one page, it has no block
 no_row : (x : Extents) (f : FileId) (p : PageNo) → [] ≡ extents.extent_rows x f p 1 → extents.extent_of x f p ≡ None
 unfolding extents.extent_rows extents.numbers
 no_row x f p e = go (extents.extent_of x f p) refl

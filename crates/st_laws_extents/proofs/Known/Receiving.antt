@@ -26,7 +26,7 @@ use Rattle.st_laws_extents.proofs.Known.Locks.{filter_keeps, lock_found}
 none_some : {A B : Type 0} (x : B) → ◌≡◌ {A = Option B} None (Some x) → A
 none_some x e = cc
 
--- extents are told to who asked for them
+-- extents are reported to those who asked for them
 fits_maps : (ino : ℕ) (rows : List ExtentRow) (asked : Body) → state.fits (bodies.Extents ino rows) asked ≡ true → state.maps ino asked ≡ true
 fits_maps ino rows asked e = e
 
@@ -45,7 +45,7 @@ asked_lock c ino (bodies.Allocate i g p count) m e = at (locks.lock_of c i) refl
 asked_lock c ino asked m e = cc e
 
 module _ (R : Fact) where
-  -- what is known, and rows that are told
+  -- what is known, and rows that are reported
   rows_known : (server : ServerId) (o : Option ClientSession) (ino : ℕ) (rows : List ExtentRow) (xs : List KnownExtent) → Locked o ino →
       ((r : ExtentRow) → Has r rows → R server ino r.page (told_at r)) →
       ((e : KnownExtent) → Has e xs → KnownAs R server o e) → (e : KnownExtent) → Has e (pages.with_known_rows ino rows xs) → KnownAs R server o e

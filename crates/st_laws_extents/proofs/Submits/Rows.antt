@@ -43,7 +43,7 @@ module _ (k : Config) (c i : ℕ) (C : Client) (W : net.World) (ok : ConfigOk k)
   held : ((upd W.at c (stood C f.begun f.messages (W.at c)) c).c.held i).mode ≡ (C.held i).mode
   held = ap (λ (a : Assoc). (a.c.held i).mode) own
 
-  -- the session that the server serves is of that life
+  -- the session that the server serves belongs to that life
   pub same_life : (W.at c).s.up ≡ true → (W.at c).s.live ≡ true → (W.at c).s.session ≡ C.life
   same_life up live =
       let m = meets k (upd W.at c (stood C f.begun f.messages (W.at c)) c) (assoc.invariant k (replaced W c (stood C f.begun f.messages (W.at c))) ok f.reached c) (ap (λ (a : Assoc). a.s.up) own ∙ up) (ap (λ (a : Assoc). a.s.live) own ∙ live) alive in
@@ -105,7 +105,7 @@ uncut_by k count w h f p c served own n y at tag bytes l e row q crash = go (sam
         let g = ap stamp_number z.is in
         let o = s.end in omega (arith, t, b, g, o)
 
-    -- the message is of the life of the write
+    -- the message belongs to the life of the write
     mine : c.message.header.from ≡ y.client.0 → (clock_of w (nodes.Client y.client)).0 < z.end.0 → (z.end.0 ≤ (clock_of w (nodes.Client y.client)).0) ⊎ StoodLife k w y.server.0 c.node (h.all.servers y.server.0 c.node there) row (writer y tag) → y.life.0 ≡ c.message.header.life
     mine o b (inl late) = absurd (omega (arith, b, late))
     mine o b (inr s) =

@@ -44,7 +44,7 @@ RemoveNamed G cutting body = Unit {0}
 abbrev pub Fact : Type 1
 Fact = ServerId → ℕ → ℕ → Requests → Option ℕ → Bool → Type 0
 
--- a fact of an association, where it has a session
+-- a fact of an association, if it has a session
 abbrev pub Of : Fact → ServerId → ℕ → Option ClientSession → Type 0
 Of F server life None = Unit {0}
 Of F server life (Some s) = F server life s.epoch.0 s.requests s.cutting s.due
@@ -58,7 +58,7 @@ pub record AsksStand (B : ServerId → ℕ → ℕ → ℕ → Type 0) (G : Serv
   pub cut : (q : Request) → r.asked ≡ Some q → CutNamed cutting q.body
   pub remove : (q : Request) → r.asked ≡ Some q → RemoveNamed (G server) cutting q.body
 
--- what a message that is received says of the request that it ends: all up to it were served
+-- what a message that is received says about the request that it ends: all up to it were served
 abbrev pub Tells : (ServerId → ℕ → ℕ → ℕ → Type 0) → Header → Body → Fact
 Tells B h body server life epoch r cutting due =
     (q : Request) → r.asked ≡ Some q → h.from ≡ server_node server → h.life ≡ life → h.epoch ≡ epoch → Ends body →

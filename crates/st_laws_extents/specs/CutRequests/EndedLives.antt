@@ -1,4 +1,4 @@
--- What the messages of a life cannot ask of a file any more, and what an event leaves of nodes and messages.
+-- What the messages of a life can no longer ask of a file, and what an event leaves of nodes and messages.
 use Rattle.std.specs.Prelude.{◌≡◌, ℕ, ◌≤◌, ◌<◌, true, Some}
 use Rattle.std.proofs.Common.{◌≢◌, ◌⊎◌}
 use Rattle.st_base.specs.declared.ids.ClientId.{ClientId}
@@ -24,13 +24,13 @@ Elsewhere G ino (bodies.Cut i g from) = i ≢ ino
 Elsewhere G ino (bodies.Name (ops.Remove dir name g)) = (g.0 ≡ 0) ⊎ ((i : ℕ) × G i g × (i ≢ ino))
 Elsewhere G ino body = Unit {0}
 
--- a message that a server serves no more: of an earlier epoch, or under a number that its session has reached
+-- a message that a server no longer serves: of an earlier epoch, or under a number that its session has reached
 abbrev pub IsPast : ClientId → ServerNode → Message → Type 0
 IsPast c n m =
     (m.header.epoch < n.state.stable.epoch.0) ⊎
     ((m.header.epoch ≡ n.state.stable.epoch.0) × (n.running ≡ true → IsBehind (session_of n.state.sessions c) m.header.life m.header.number))
 
--- a message that cuts no page of this file: it has no number, is served no more, or asks something else
+-- a message that cuts no page of this file: it has no number, is no longer served, or asks something else
 pub data Harmless (G : ℕ → GrantNo → Type 0) (w : World) (c : ClientId) (s : ServerId) (ino : ℕ) (m : Message) : Type 0 where
   Unnumbered : m.header.number ≡ 0 → Harmless G w c s ino m
   Past : ((n : ServerNode) → node_of w s ≡ Some n → IsPast c n m) → Harmless G w c s ino m

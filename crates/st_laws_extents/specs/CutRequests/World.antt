@@ -11,7 +11,7 @@ use Rattle.st_lemmas.specs.Lists.{Has}
 use Rattle.st_laws_requests.specs.Replies.ServedRequests.{IsBehind}
 use Rattle.st_laws_extents.specs.CutRequests.Asks.{AsksBehind, AsksStand, Of}
 
--- a server of no earlier epoch; and in that epoch, where it runs, the client's session of that life reached the number
+-- a server of no earlier epoch; and in that epoch, if it runs, the client's session of that life reached the number
 pub record ServedTo (c : ClientId) (n : ServerNode) (life epoch number : ℕ) : Type 0 where
   pub up_to : epoch ≤ n.state.stable.epoch.0
   pub behind : n.running ≡ true → epoch ≡ n.state.stable.epoch.0 → IsBehind (session_of n.state.sessions c) life number

@@ -1,4 +1,4 @@
--- Reads return the last writes, and the pages hold, where clients know where pages lie, and what they submit goes to there.
+-- Reads return the last writes, and the pages hold, where clients know where pages lie, and what they submit goes there.
 use Rattle.std.specs.Prelude.{[], Option, Some, None}
 use Rattle.st_rules.specs.declared.client.ClientInput.{ClientInput}
 use Rattle.st_rules.specs.declared.client.ClientInput.TheVariants as inputs
@@ -10,7 +10,7 @@ use Rattle.st_laws_extents.specs.Submits.Obligations.{PagesLeft}
 use Rattle.st_laws_extents.specs.Submits.Rest.{MapsTold}
 use Rattle.st_laws_extents.specs.DiskReads.Reads.{KnownRight, ReadsLie}
 
--- of an input: a message tells of no block only where the server has none
+-- of an input: a message tells of no block only if the server has none
 abbrev pub InputMaps : Taking → ClientInput → Type 0
 InputMaps x (inputs.Control m) = MapsTold x m.header m.body
 InputMaps x input = Unit {0}

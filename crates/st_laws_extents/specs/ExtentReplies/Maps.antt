@@ -1,4 +1,4 @@
--- A map's reply that tells of no block is right at its server.
+-- A map's reply without a block is right at its server.
 use Rattle.std.specs.Prelude.{◌≡◌, ℕ, true, [], Option, Some, None}
 use Rattle.st_base.specs.declared.ids.GrantNo.{GrantNo}
 use Rattle.st_base.specs.declared.ids.PageNo.{PageNo}

@@ -1,4 +1,4 @@
--- What a server's step tells of extents: in the replies that it sends, and in those that it keeps.
+-- What a server's step says about extents: in the replies that it sends, and in those that it keeps.
 use Rattle.std.specs.Prelude.{◌≡◌, ℕ, ◌+◌, true, List, Option, Some}
 use Rattle.std.proofs.Common.{◌≢◌, ◌⊎◌}
 use Rattle.st_base.specs.declared.ids.ClientId.{ClientId}

@@ -13,6 +13,6 @@ use Rattle.st_laws_extents.specs.CutRequests.Law.{gifts}
 abbrev pub UncutLife : (k : Config) (count : ℕ) (w : World) → AllStand k count w → World → LeaseLife → LogOwner → Type 0
 UncutLife k count w all v row o = LifeHarmless (gifts k count w all o.client o.file.server) v o.client o.file.server o.life.0 o.file.ino
 
--- where a write of a life that a crash ended is not reported, no message of the life cuts its file
+-- if a write of a life that a crash ended is not reported, no message of the life cuts its file
 abbrev pub FrozenFilesUncut : (k : Config) (count : ℕ) (w : World) → AllStand k count w → Type 0
 FrozenFilesUncut k count w all = OpenCrashed (UncutLife k count w all w) w

@@ -1,4 +1,4 @@
--- Locks that go on: the greatest grant seen of a file only rises, and a grant that was seen becomes a file's lock no more.
+-- Locks that go on: the greatest grant seen of a file only rises, and a grant that was seen no longer becomes a file's lock.
 use Rattle.std.specs.Prelude.{◌≡◌, ℕ, ◌≤◌, true, Some}
 use Rattle.st_base.specs.declared.ids.GrantNo.{GrantNo}
 use Rattle.st_base.specs.declared.mode.Mode.{Mode}

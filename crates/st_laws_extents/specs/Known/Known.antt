@@ -1,4 +1,4 @@
--- What a client knows of where pages lie, and what a step of it says of that.
+-- What a client knows about where pages lie, and what its step says about that.
 use Rattle.std.specs.Prelude.{◌≡◌, ℕ, true, List, Option, Some, None}
 use Rattle.st_base.specs.declared.disk.BlockAt.{BlockAt}
 use Rattle.st_base.specs.declared.disk.Command.{Command}

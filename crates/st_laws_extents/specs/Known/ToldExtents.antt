@@ -1,4 +1,4 @@
--- What a server's step tells of extents: what it kept, or what it has.
+-- What a server's step says about extents: what it kept, or what it has.
 use Rattle.std.specs.Prelude.{◌≡◌, ℕ, List, Some}
 use Rattle.std.proofs.Common.{◌⊎◌}
 use Rattle.st_base.specs.declared.ids.ClientId.{ClientId}

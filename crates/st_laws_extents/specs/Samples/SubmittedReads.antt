@@ -20,7 +20,7 @@ pub record KnownTo (st : Store) (pc : PageCommand) (to : BlockAt) : Type 0 where
   pub is : pages.mapping_of st.extents pc.ino pc.page ≡ Some mapping
   pub at : mapping.at ≡ to
 
--- where a read of this number goes among these outputs, its page is known to lie
+-- if a read of this number goes among these outputs, its page is known to lie
 abbrev pub GoesTo : Store → PageCommand → List Output → Type 0
 GoesTo st pc os = (at to : BlockAt) → Has (outputs.Submit pc.number at (commands.Read to)) os → KnownTo st pc to
 

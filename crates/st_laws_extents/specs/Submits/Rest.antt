@@ -1,4 +1,4 @@
--- Reads return the last writes, and the pages hold, under what is owed of maps, reads, cuts and submitted writes alone.
+-- Reads return the last writes, and the pages hold, under only what is owed for maps, reads, cuts and submitted writes.
 use Rattle.std.specs.Prelude.{◌≡◌, ℕ, true, [], Option, Some, None}
 use Rattle.st_base.specs.declared.ids.GrantNo.{GrantNo}
 use Rattle.st_base.specs.declared.ids.PageNo.{PageNo}

@@ -1,4 +1,4 @@
--- What a write that is submitted carries: it goes to the block that it names, and its client's latest entry of the page is of its life, and
+-- What a write that is submitted carries: it goes to the block that it names, and its client's latest entry of the page belongs to its life, and
 -- the last that counts.
 use Rattle.std.specs.Prelude.{◌≡◌, ℕ, List, [], ◌∷◌, Option, Some, None}
 use Rattle.st_base.specs.declared.disk.BlockAt.{BlockAt}
@@ -53,7 +53,7 @@ LatestLast c es a =
     (ino : ℕ) (p : PageNo) (d : DirtyPage) → pages.dirty_of a.store.pages ino p ≡ Some d →
     LastIs 1 (latest es c (file_at a ino) p) (file_at a ino) p es
 
--- at all clients that run, where their leases last
+-- at all clients that run, if their leases last
 abbrev pub LastIn : World → List LogEntry → Type 0
 LastIn w es =
     (c : ℕ) (site : WorldClient) → Running w c site → (a : Association) → Has a site.node.state.associations →

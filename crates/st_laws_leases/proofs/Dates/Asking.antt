@@ -1,4 +1,4 @@
--- A client's step: what it asks has its clock's reading for a stamp, and is of the life that it has at its server; its leases are dated by messages that came.
+-- A client's step: what it asks is stamped with its clock's reading, and belongs to its life at its server; its leases are dated by messages that came.
 use Rattle.st_lemmas.proofs.Words
 use Words.{◌≡◌, ℕ, ◌⊎◌, Bool, true, false, List, [], ◌∷◌, ◌++◌, Option, refl, sym, ap, subst, inl, inr, if◌then◌else◌, map, ClientId, ServerId, Life, Stamp}
 use Words.{AppAnswer, Message, Body, Note, Output, Operation}

@@ -17,7 +17,7 @@ use Words.Tests.{any_with_last}
 use Words.Worlds.{recall_more}
 use Rattle.st_laws_leases.specs.History.Notes.{noted, noted_one, noted_by}
 
--- a life of a client at a server, by its names alone
+-- a life of a client at a server, by its names only
 abbrev pub row : ClientId → ServerId → Life → LeaseLife
 row c s l = record { client = c; server = s; life = l; end = None; crashed = false }
 

@@ -38,7 +38,7 @@ LifeDated ds e = Dated ds e.client e.server e.life e.end
 abbrev pub AllDated : List LeaseDate → World → Type 0
 AllDated ds w = (e : LeaseLife) → Has e (all_lives w) → LifeDated ds e
 
--- a present life is of a client
+-- a present life belongs to a client
 pub record Present (w : World) (e : LeaseLife) : Type 0 where
   pub client : ClientId
   pub site : WorldClient

@@ -28,7 +28,7 @@ use Rattle.st_laws_leases.proofs.History.Leasing.{Noted, leased, noted_quiet, un
 abbrev pub Tells : Type 1
 Tells = ServerId → Life → Epoch → Stamp → Type 0
 
--- no lease end is told
+-- no lease end is reported
 abbrev pub Nothing : Tells
 Nothing s l p end = ⊥
 

@@ -1,4 +1,4 @@
--- Thefts and conflicts are observed at steps of servers alone.
+-- Thefts and conflicts are observed only at steps of servers.
 use Rattle.st_lemmas.proofs.Words
 use Words.{◌≡◌, ℕ, ◌+◌, Bool, true, false, List, [], ◌∷◌, Option, Some, None, Ok, Err, refl, sym, subst, inl, inr, if◌then◌else◌, list_all, ClientId, NodeId}
 use Words.{ServerId, Ask, Message, ClientInput, Observation, IssuedCommand, SentMessage}

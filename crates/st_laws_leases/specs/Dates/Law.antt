@@ -16,7 +16,7 @@ LeasesAreDated =
     → list_all (is_event (clients + servers)) es ≡ true
     → Throughout LeasesAreDatedFromRequests [] (steps es (traced (fresh_world k clients servers disks blocks form)))
 
--- Where a client takes a step, no refusal because of a conflict is sent.
+-- If a client takes a step, no refusal because of a conflict is sent.
 abbrev pub ClientsSendNoConflict : Promise
 ClientsSendNoConflict past x = (c : ClientId) → takes_step x.before.world c x.event ≡ true → NoConflictIsSent past x
 

@@ -1,4 +1,4 @@
--- What the outputs of a client tell of its leases.
+-- What the outputs of a client say about its leases.
 use Rattle.std.specs.Prelude.{List, [], ◌∷◌, Option, Some, if◌then◌else◌}
 use Rattle.st_base.specs.declared.ids.ServerId.{ServerId}
 use Rattle.st_base.specs.declared.ids.Stamp.{Stamp}

@@ -39,15 +39,15 @@ pub record Replied (lease : ℕ) (ms : List SentMessage) (d : LeaseDate) : Type 
 abbrev pub DatesReplied : ℕ → List SentMessage → List LeaseDate → Type 0
 DatesReplied lease ms ds = (d : LeaseDate) → Has d ds → Replied lease ms d
 
--- each of these dates is of a client of the world
+-- each of these dates belongs to a client of the world
 abbrev pub DatesPlaced : World → List LeaseDate → Type 0
 DatesPlaced w ds = (d : LeaseDate) → Has d ds → (site : WorldClient) × (site_of w d.client ≡ Some site)
 
--- After a step each date of the history is of a client and of a reply.
+-- After a step each date of the history belongs to a client and to a reply.
 pub record DatesStand (w : World) (ds : List LeaseDate) : Type 0 where
   pub placed : DatesPlaced w ds
   pub replied : DatesReplied w.config.lease w.net.messages ds
 
--- After a step each date of the history is of a client and of a reply
+-- After a step each date of the history belongs to a client and to a reply
 abbrev pub DatesAreOfReplies : Promise
 DatesAreOfReplies past x = DatesStand x.after.world x.after.history.dates

@@ -28,7 +28,7 @@ ChangesStayBelow =
     (k : Config) (H : ℕ → ℕ) (w : World) (c i : ℕ) → ConfigOk k → Reached k w → ((d : ℕ) → Below k H (w.at d)) → Alive k (w.at c).c →
     2 ≤ ((w.at c).c.held i).mode → ((d : ℕ) → ((w.at c).c.held i).g ≤ (w.at d).s.top) → (d : ℕ) → Below k (upd H i ((w.at c).c.held i).g) (w.at d)
 
--- So does a cut under a client's exclusive row, where no other client has such a row on the file.
+-- So does a cut under a client's exclusive row, if no other client has such a row on the file.
 abbrev pub CutsStayBelow : Type 0
 CutsStayBelow =
     (k : Config) (H : ℕ → ℕ) (w : World) (c i : ℕ) → ConfigOk k → Reached k w → ((d : ℕ) → Below k H (w.at d)) → 2 ≤ ((w.at c).s.row i).mode →

@@ -93,7 +93,7 @@ unasked asked m op ask e n = go (m == op) refl
     go true q = absurd (no (sym e ∙ ap asked (eqb-true m op q) ∙ n))
     go false q = refl
 
--- what is sent is of this client
+-- what is sent belongs to this client
 sent_last : (c : ClientId) (out : List Output) (o : Output) (m : Message) → ((m : Message) → Has (outputs.Send m) out → m.header.from ≡ c.0) →
     (outputs.Send m ≡ o → m.header.from ≡ c.0) → Has (outputs.Send m) (out ++ o ∷ []) → m.header.from ≡ c.0
 sent_last c out o m f g h = go (has_append out (o ∷ []) (outputs.Send m) h)

@@ -33,7 +33,7 @@ use Rattle.st_laws_pages.proofs.Asks.Says.{Leaves, Owed, Seen, AllDull, client_l
 
 -- Places.
 
--- a message is of a client, or tells of the disks of the server that sent it
+-- a message belongs to a client, or tells of the disks of the server that sent it
 abbrev pub SentBy : ℕ → ℕ → Body → Type 0
 SentBy n from b = (from ≤ 16) ⊎ ((s : ServerId) × (from ≡ server_node s) × OwnBody n s b)
 

@@ -333,7 +333,7 @@ module _ (past : List Step) (x : Step) where
   lacks_none true d e q = not_false d.effected e
   lacks_none false d e q = cc
 
-  -- in the world in which the end of a command is told
+  -- in the world in which the end of a command is reported
   pub own_set : (w : World) (ok : Bool) (d : DiskCommand) (n : ℕ) → disks.command w.disks n ≡ Some d → disks.command (disks.with_command n (disks.reported ok d) w.disks) n ≡ Some (disks.reported ok d)
   own_set w ok d zero z = cc
   own_set w ok d (suc n) z = set_own w.disks.commands n (disks.reported ok d) d z

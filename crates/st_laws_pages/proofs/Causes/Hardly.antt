@@ -74,7 +74,7 @@ unhard_all asked c lives before (o ∷ os) sc u = record { one = unhard_one aske
 pub quiet_hards : (asked : ℕ → Option Ask) (c : ClientId) (lives : ServerId → Life) (before : ClientState) (os ps : List Output) (sc : WorldTurn) → Hards asked c lives before sc os → Since Unhard os ps → Hards asked c lives before sc ps
 quiet_hards asked c lives before os ps sc h u = subst (Hards asked c lives before sc) (sym u.out) (hards_both asked c lives before os u.more sc h (unhard_all asked c lives before u.more (After c before sc os) u.each))
 
--- What is gone is of no present life; what a client says makes nothing gone.
+-- What is gone belongs to no present life; what a client says makes nothing gone.
 abbrev pub Ungone : ClientId → (ServerId → Life) → LogOwner → Type 0
 Ungone c lives o = o.client.0 ≡ c.0 → (lives o.file.server).0 ≡ o.life.0 → ⊥
 

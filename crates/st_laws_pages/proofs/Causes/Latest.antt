@@ -1,4 +1,4 @@
--- The latest entry of a dirty page is of its association's life: through entries, through each change at one server, and as a command ends.
+-- The latest entry of a dirty page belongs to its association's life: through entries, through each change at one server, and as a command ends.
 use Rattle.st_lemmas.proofs.Words
 use Words.{◌≡◌, ℕ, ◌+◌, Bool, true, false, ◌&&◌, ◌==◌, List, [], ◌∷◌, ◌++◌, Option, Some, None, refl, sym, ap, ◌∙◌, subst, arith, if◌then◌else◌, length, map}
 use Words.{option_map, suc, find, eq-eqb, ne_eqb, BlockAt, Tag, ClientId, FileId, Life, PageNo, ServerId, Stamp, PageCommand, DiskCommand, LogEntry, LogOwner}

@@ -141,7 +141,7 @@ one_step past t e sc is0 places s = go (adm.refusal t.world e) refl is0
         no : ◌≡◌ {A = Result WorldTurn WorldRefusal} (Err x) (Ok sc) → ⊥
         no z = cc
 
--- what is promised of a step
+-- what is promised about a step
 record Kept (past : List Step) (x : Step) : Type 0 where
   causes : DropsHaveACause past x
   hard : HardIsHard past x

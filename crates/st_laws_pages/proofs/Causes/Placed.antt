@@ -344,7 +344,7 @@ step_placed n c s now input told f k = whole (since_then _ [] t.out v.out a.plac
     whole : Since (PlacedOne n) [] v.out → Placed n v.out
     whole z = subst (Placed n) (sym z.out) z.each
 
--- What is known and told of places in a world of that many servers.
+-- What is known and reported about places in a world of that many servers.
 pub record PlacesAt (size : ℕ) (w : World) : Type 0 where
   pub count : length w.servers ≡ size
   pub told : (m : SentMessage) → Has m w.net.messages → (s : ServerId) → m.message.header.from ≡ server_node s → OwnBody size s m.message.body

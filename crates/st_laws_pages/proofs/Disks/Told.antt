@@ -221,7 +221,7 @@ fated_is pre e es x = ap (λ o. lines.with_fate (suc (length pre)) x o (pre ++ e
 pending_is : (pre : List LogEntry) (e : LogEntry) (es : List LogEntry) → e.fate ≡ fates.Pending → lines.is_pending_at (pre ++ e ∷ es) (suc (length pre)) ≡ true
 pending_is pre e es q = ap lines.is_pending_entry (at_behind pre e es) ∙ ap log.is_pending q
 
--- the lines of fates that change, after entries that are told
+-- the lines of fates that change, after entries that have had their lines
 fates_told : (f : World) (pre es fs : List LogEntry) → AllFated es fs → Told f (pre ++ es) (ev.fates_from (suc (length pre)) es fs) (pre ++ fs)
 unfolding ev.fates_from lines.log_told lines.all_tell_log lines.log_behind
 fates_told f pre [] [] p = record { entries = refl; numbers = refl }

@@ -35,7 +35,7 @@ at_set ds n (suc j) c y e = go (same_or_not j n)
     go (inl q) = inl (ap suc q, replaced ds n c y (ap (λ z. slice_get (set ds n c) z) (sym q) ∙ e))
     go (inr q) = inr (λ z. q (let w : j ≡ n = omega (arith, z) in w), sym (set_other ds n j c q) ∙ e)
 
--- a command that has its effect or its report is no more among those that can have it
+-- a command that has its effect or its report is no longer among those that can have it
 pub living_set : (T : ℕ → IssuedCommand → Type 0) (cs : List IssuedCommand) (ds : List DiskCommand) (n : ℕ) (c : DiskCommand) → (c.report ≡ reports.Open → c.effected ≡ false → ⊥) →
     (j : ℕ) (y : IssuedCommand) (a : BlockAt) (t : Tag) (ct : List ℕ) → Living T cs (set ds n c) j y a t ct → Living T cs ds j y a t ct × (j ≢ suc n)
 living_set T cs ds n c dead j y a t ct l = go (at_set ds n j c l.command l.is)

@@ -91,7 +91,7 @@ caused_drop past w n picked cause (e ∷ es) p h =
     go true t h = fated e.fate refl t h
     go false t h = h
 
--- The cause of a crash looks at client, server and life alone.
+-- The cause of a crash looks only at client, server and life.
 same_ends : (a b : LogOwner) (x : Step) → a.client ≡ b.client → a.file.server ≡ b.file.server → a.life ≡ b.life → ends_life_of a x ≡ ends_life_of b x
 same_ends a b x c s l = ap (λ (k : ClientId). safety.is_crash_of k x.event && ((present_life x.before.world k a.file.server).0 == a.life.0)) c
     ∙ ap (λ (k : ServerId). safety.is_crash_of b.client x.event && ((present_life x.before.world b.client k).0 == a.life.0)) s

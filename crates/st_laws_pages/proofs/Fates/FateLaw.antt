@@ -1,4 +1,4 @@
--- What is pending is of a life before its lease end: through a step of a client, marks of the log, a crash and a start.
+-- What is pending belongs to a life before its lease end: through a step of a client, marks of the log, a crash and a start.
 use Rattle.st_lemmas.proofs.Words
 use Words.{◌≡◌, ◌≢◌, ℕ, ◌+◌, ◌⊎◌, Bool, true, false, ◌&&◌, List, [], ◌∷◌, ◌++◌, ◌==◌, Option, Some, None, Ok, refl, sym, ap, ◌∙◌, subst, inl, inr}
 use Words.{if◌then◌else◌, find, map, nat_le, zero, suc, option_map, eq-eqb, ne_eqb, ClientId, FileId, PageNo, ServerId, Life, Stamp, ClientInput}
@@ -90,7 +90,7 @@ client_fates w c old site input there same r h fh = subst (PendingAll (BeforeEnd
         (changed_before v c now_site now own r lives (ap (λ x. clock_in x c) (fl.clocks ∙ said.clocks)) f p (subst (λ k. IsChangedAt k now t.node.state.associations f p) config z))) t.out
         (step_notes c site.node.state now input (subst (λ (n : cl.ClientNode). (a : Association) → Has a n.state.associations → Rattle.st_laws_steps.specs.Client.Losses.Fit a) same (h.lives.sites c old there).fit))
 
--- Effects: what becomes hard is pending no more.
+-- Effects: what becomes hard is no longer pending.
 pub pending_harden : (P : LogOwner → Type 0) (n i : ℕ) (o : LogOwner) (es : List LogEntry) → PendingAll P es → PendingAll P (log.harden_from n i o es)
 unfolding log.harden_from log.hardened log.harder_entry
 pending_harden P n i o [] h = h
@@ -177,7 +177,7 @@ end_crashed w c site there h o kn end is = go (ended_of w o.client o.file.server
 pub crash_before : (w : World) (c : ClientId) (site : WorldClient) → site_of w c ≡ Some site → LivesHold w → (o : LogOwner) → IsKnown w.clients w.ended o.client o.file.server o.life → BeforeEnd w o → BeforeEnd (ev.with_site c (ev.stopped_site site) (ev.with_crashed_lives site w)) o
 crash_before w c site there h o kn b = record { end = b.end; is = end_crashed w c site there h o kn b.end b.is; before = b.before }
 
--- Start: a client that does not run has no session, so each end is of a life that ended, or of another client.
+-- Start: a client that does not run has no session, so each end belongs to a life that ended, or to another client.
 pub end_started : (w : World) (c : ClientId) (site : WorldClient) → site_of w c ≡ Some site → site.node.running ≡ false → LivesHold w →
     (o : LogOwner) (end : Stamp) → lease_end_of w o.client o.file.server o.life ≡ Some end →
     lease_end_of (ev.with_site c (ev.started_site site) w) o.client o.file.server o.life ≡ Some end

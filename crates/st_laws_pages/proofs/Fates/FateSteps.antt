@@ -1,4 +1,4 @@
--- What is pending is of a life before its lease end: a client's step, a crash and a start keep it.
+-- What is pending belongs to a life before its lease end: a client's step, a crash and a start keep it.
 use Rattle.st_lemmas.proofs.Words
 use Words.{◌≡◌, ◌≢◌, ◌<◌, ◌⊎◌, Bool, true, false, List, [], ◌∷◌, ◌++◌, Option, Some, None, refl, sym, ap, ◌∙◌, subst, inl, inr, arith, leb-true, find, map}
 use Words.{nat_le, option_map, ne_eqb, Config, ClientId, FileId, PageNo, ServerId, Life, Stamp, Note, Output, LogEntry, LogOwner, LeaseLife}
@@ -139,7 +139,7 @@ module _ (w v : World) (c : ClientId) (old site : WorldClient) (there : site_of 
             before = before_now o.client b.end b.before;
           }
 
--- a page that was changed is of a life before its end
+-- a page that was changed belongs to a life before its end
 pub changed_before : (v : World) (c : ClientId) (site : WorldClient) (now : Stamp) → site_of v c ≡ Some site → site.node.running ≡ true → LivesHold v → clock_in v.clocks c ≡ now → (f : FileId) (p : PageNo) → IsChangedAt v.config now site.node.state.associations f p →
     BeforeEnd v (log.owner c (ev.present_life v c f.server) f p)
 changed_before v c site now there r h t f p (a, i, z) =

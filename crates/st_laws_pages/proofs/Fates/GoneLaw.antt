@@ -1,4 +1,4 @@
--- What is gone is of a life that a crash ended, or whose lease is over: through a step of a client, marks of the log, a crash and a start.
+-- What is gone belongs to a life that a crash ended, or whose lease is over: through a step of a client, marks of the log, a crash and a start.
 use Rattle.st_lemmas.proofs.Words
 use Words.{◌≡◌, ◌≢◌, ℕ, ◌+◌, ◌≤◌, ◌⊎◌, Bool, true, false, ◌&&◌, not, List, [], ◌∷◌, ◌++◌, ◌==◌, Option, Some, None, Ok, refl, sym, ap, ◌∙◌, subst, inl, inr}
 use Words.{arith, if◌then◌else◌, leb-true, find, filter, map, nat_le, option_map, eqb-true, ne_eqb, le-leb, ClientId, FileId, PageNo, ServerId, Life, Stamp}

@@ -30,7 +30,7 @@ of_life o e c s l =
     ap (λ z. z && (same_server o.file.server e.server && (o.life.0 == e.life.0))) (eq-eqb o.client.0 e.client.0 (ap (λ (x : ClientId). x.0) (sym c)))
     ∙ ap (λ z. z && (o.life.0 == e.life.0)) (eq-eqb o.file.server.0 e.server.0 (ap (λ (x : ServerId). x.0) (sym s))) ∙ eq-eqb o.life.0 e.life.0 (sym l)
 
--- A pending entry of a client is of its present life, or of one that a crash ended.
+-- A pending entry of a client belongs to its present life, or to one that a crash ended.
 pub crash_owes : (w : World) (c : ClientId) → FatesHold w → CrashOwes w w.log c
 crash_owes w c h = go w.log h.pending (λ o i. h.lives.known.owners o i)
   where

@@ -70,7 +70,7 @@ more_still c before sc os ps h =
     let a = still_adds c before ps (After c before sc os) h in
     record { commands = ap (λ (s : WorldTurn). s.world.commands) (says_both c before os ps sc) ∙ a.commands; log = ap (λ (s : WorldTurn). s.world.log) (says_both c before os ps sc) ∙ a.log }
 
--- Commands that there are stay, each with its disk command.
+-- Existing commands stay, each with its disk command.
 pub after_numbered : (c : ClientId) (before : ClientState) (os : List Output) (sc : WorldTurn) (k : ℕ) (x : IssuedCommand) → numbered sc.world.commands k ≡ Some x → numbered (After c before sc os).world.commands k ≡ Some x
 unfolding client_says_all client_says client_notes ev.sends ev.submits ev.answers_with ev.accepts ev.patches ev.loses
 after_numbered c before [] sc k x i = i

@@ -49,7 +49,7 @@ is_a_write : (k : IoKind) → pages.is_write k ≡ true → (v : ℕ) × (k ≡ 
 is_a_write io.Read e = cc
 is_a_write (io.Write v) e = (v, refl)
 
--- A command is outstanding no more: where it was a write of a page with a failed command, the page's last write was reported failed.
+-- A command is no longer outstanding: where it was a write of a page with a failed command, the page's last write was reported failed.
 pub without_cared : (past : List Step) (cs : List IssuedCommand) (es : List LogEntry) (c : ClientId) (starts next : ℕ) (a : Association) (number : ℕ) →
     ((pc : PageCommand) → Has pc a.store.commands → pc.number ≡ number → (v : ℕ) → pc.kind ≡ io.Write v → (d : DirtyPage) (n : ℕ) → pages.dirty_of a.store.pages pc.ino pc.page ≡ Some d → d.failed ≡ Some n → list_any (reports_failure (last_write cs (owner_at_page c a pc.ino pc.page))) past ≡ true) →
     Cared past cs es c starts next a → Cared past cs es c starts next (record a { store = record a.store { commands = pages.without_command number a.store.commands } })
@@ -84,7 +84,7 @@ without_cared past cs es c starts next a number told h =
             (subst (λ j. list_any (reports_failure (last_write cs (owner_at_page c a j pc.page))) past ≡ true) o.0
             (told pc y (eqb-true pc.number number u) v.0 v.1 d n (subst (λ j. pages.dirty_of a.store.pages j pc.page ≡ Some d) (sym o.0) (subst (λ r. pages.dirty_of a.store.pages ino r ≡ Some d) (sym o.1) i)) q))
 
--- what is dirty after a page is dirty no more
+-- what is dirty after a page is no longer dirty
 without_is : (ino : ℕ) (p : PageNo) (xs : List DirtyPage) (i : ℕ) (q : PageNo) (b : Bool) → Place_is ino p i q ≡ b → find (pages.is_dirty_of i q) (pages.without_dirty ino p xs) ≡ (if b then None else find (pages.is_dirty_of i q) xs)
 without_is ino p xs i q true e =
     let o = one_place ino p i q e in
@@ -105,7 +105,7 @@ hardened_is ps ino p = hardened_at ps ino p (pages.dirty_of ps ino p) refl
 abbrev pub NonePending : LogOwner → List LogEntry → Type 0
 NonePending o es = PendingAll (λ x. log.same_owner x o ≡ true → ⊥) es
 
--- A page is dirty no more: nothing of it is pending.
+-- A page is no longer dirty: nothing of it is pending.
 pub cleaned_cared : (past : List Step) (cs : List IssuedCommand) (es : List LogEntry) (c : ClientId) (starts next : ℕ) (a : Association) (ino : ℕ) (p : PageNo) → NonePending (owner_at_page c a ino p) es → Cared past cs es c starts next a →
     Cared past cs es c starts next (record a { store = record a.store { pages = pages.harden a.store.pages ino p } })
 cleaned_cared past cs es c starts next a ino p none h =

@@ -185,7 +185,7 @@ client_stays w c old site t there same st h =
     f : Flushed u (ev.flushes c t.node.state (world.all_servers u) u)
     f = flush_parts c t.node.state (world.all_servers u) u
 
--- a present life with a lease end is of a client that runs, and has not ended
+-- a present life with a lease end belongs to a client that runs, and has not ended
 pub record Present (w : World) (e : LeaseLife) : Type 0 where
   pub site : WorldClient
   pub there : numbered w.clients e.client.0 ≡ Some site

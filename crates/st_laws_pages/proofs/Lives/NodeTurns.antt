@@ -18,7 +18,7 @@ use Rattle.st_laws_pages.proofs.Lives.Lives.{find_front, find_back}
 use Rattle.st_laws_steps.proofs.Lives.Associations.{own_found, found_has, numbers_same, PairFound, pair_found, PairLeft, pair_left, pair_none}
 use Rattle.st_laws_steps.proofs.Client.Stepping.{pairs_has}
 
--- a row that is found is of that client, server and life
+-- a row that is found belongs to that client, server and life
 pub row_is : (c : ClientId) (s : ServerId) (l : Life) (es : List LeaseLife) (e : LeaseLife) → find (is_life_of c s l) es ≡ Some e → Has e es × (e.client ≡ c) × (e.server ≡ s) × (e.life ≡ l)
 row_is c s l [] e i = cc
 row_is c s l (x ∷ es) e i = go (is_life_of c s l x) refl i (row_is c s l es e)

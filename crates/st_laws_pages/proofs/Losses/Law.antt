@@ -41,7 +41,7 @@ is_it l b e m =
     and_both (b.life.0 == l.0 + 1) _ (eq-eqb b.life.0 (l.0 + 1) (ap (λ (x : Life). x.0) (sym e)))
     (and_both (not (is_some b.session)) (is_empty_store b.store) (ap (λ z. not (is_some z)) m.session) (ap is_empty_store m.store))
 
--- a lease end that is reached is of a session whose lease is over
+-- a lease end that is reached belongs to a session whose lease is over
 record Reached (k : Config) (now : Stamp) (o : Option Association) : Type 0 where
   pub association : Association
   pub is : o ≡ Some association

@@ -135,7 +135,7 @@ placed_at size [] h n at to tag bytes i = absurd i
 placed_at size (o ∷ os) h n at to tag bytes (inl e) = subst (PlacedOne size) (sym e) h.one
 placed_at size (o ∷ os) h n at to tag bytes (inr i) = placed_at size os h.rest n at to tag bytes i
 
--- A command of an existing client, at one of its servers, is of its present life or of one before.
+-- A command of an existing client, at one of its servers, belongs to its present life or to one before.
 pub life_low : (w : World) (c : ClientId) (site : WorldClient) → site_of w c ≡ Some site → LivesHold w → (b : Association) → Has b site.node.state.associations → (k : ℕ) (x : IssuedCommand) → numbered w.commands k ≡ Some x → x.client ≡ c → x.server ≡ b.server →
     x.life.0 ≤ b.life.0
 life_low w c site there h b i k x is cx sx = go (h.known.commands x (numbered_has w.commands k x is))
@@ -202,7 +202,7 @@ module _ (w : World) (c : ClientId) (old site : WorldClient) (input : ClientInpu
   one_of : (a b : Association) → Has a turn.node.state.associations → Has b turn.node.state.associations → a.server ≡ b.server → b ≡ a
   one_of a b i j e = some_is (sym (own_found turn.node.state.associations once b j) ∙ ap (λ s. find (is_at s) turn.node.state.associations) (sym e) ∙ own_found turn.node.state.associations once a i)
 
-  -- a command that there was
+  -- a command that existed
   mine_old : (a : Association) → Has a turn.node.state.associations → (k : ℕ) (x : IssuedCommand) (d : DiskCommand) (at : BlockAt) (tag : Tag) (bytes : List ℕ) → IsAt sc k x d → d.what ≡ commands.Write at tag bytes → d.report ≡ reports.Open → x.client ≡ c → x.server ≡ a.server → x.life ≡ a.life →
       ListedSince after.starts a x tag
   mine_old a i k x d at tag bytes is wh op cx sx lx = go (pair_of (AfterStep (EndedBy input) site.node.state.config now) site.node.state.associations turn.node.state.associations k_.pairs a i)

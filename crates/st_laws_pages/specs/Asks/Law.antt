@@ -13,7 +13,7 @@ use Rattle.st_rules.specs.History.{traced}
 use Rattle.st_rules.specs.Safety.{Step, Promise, Throughout, IsHead, IsLoggedAfter, ask_of, steps, steps_expired, uses_server}
 use Rattle.st_rules.specs.WorldInvariants.{maps_own, tells_own, knows_own}
 
--- Under an expired lease nothing is used: where a client takes a step while its lease at a server is over, nothing is submitted to that
+-- Under an expired lease nothing is used: if a client takes a step while its lease at a server is over, nothing is submitted to that
 -- server's disks in the step, and no read or write of its files is answered.
 abbrev pub is_unused : List Step → Step → ClientId → ServerId → Bool
 is_unused past x c s = not (steps_expired x c s) || not (list_any (uses_server past x s) x.seen)

@@ -42,7 +42,7 @@ pub record CommandsStand (es : List LogEntry) (cs : List IssuedCommand) (ds : Li
   pub done : (k : ℕ) (x : IssuedCommand) (d : DiskCommand) (at : BlockAt) (tag : Tag) (bytes : List ℕ) → numbered cs k ≡ Some x →
       disks.command_at ds k ≡ Some d → d.what ≡ commands.Write at tag bytes → d.effected ≡ true → CarriedDone es x
 
--- the latest entry of a dirty page is of the association's life
+-- the latest entry of a dirty page belongs to the association's life
 abbrev pub LatestOwn : ClientId → List LogEntry → Association → Type 0
 LatestOwn c es a =
     (ino : ℕ) (p : PageNo) (d : DirtyPage) → pages.dirty_of a.store.pages ino p ≡ Some d →

@@ -27,11 +27,11 @@ abbrev pub HardOf : LogOwner → List LogEntry → Type 0
 HardOf o [] = Unit {0}
 HardOf o (e ∷ es) = record { one : same_owner e.of o ≡ true → is_hard_fate e.fate ≡ true; rest : HardOf o es }
 
--- A page that has no extent is zeros, where nothing of it is pending.
+-- A page that has no extent is zeros, if nothing of it is pending.
 abbrev pub UnmappedIsZeros : Type 0
 UnmappedIsZeros = (w : World) (f : FileId) (p : PageNo) → PagesHold w → mapped_in w f p ≡ None → SettledOn f p w.log → content w.log f p ≡ filled 0
 
--- A read of the block of a page's extent finds the page's content, where nothing of it is pending.
+-- A read of the block of a page's extent finds the page's content, if nothing of it is pending.
 abbrev pub BlockIsContent : Type 0
 BlockIsContent =
     (w : World) (f : FileId) (p : PageNo) (e : Extent) → PagesHold w → mapped_in w f p ≡ Some e → SettledOn f p w.log →

@@ -11,7 +11,7 @@ use Rattle.st_rules.specs.FlatLog as log
 use Rattle.st_rules.specs.FlatLog.{touches, matters, same_owner, changed, after, entry_at}
 use Rattle.st_rules.specs.Events.{is_hard_fate}
 
--- the fold over the hard entries alone: what the disk has
+-- the fold over only the hard entries: what the disk has
 abbrev pub hard_after : FileId → PageNo → LogEntry → List ℕ → List ℕ
 hard_after f p e page = if touches f p e && is_hard_fate e.fate then changed e.change page else page
 

@@ -81,7 +81,7 @@ abbrev pub AtDelivery : World → Option SentMessage → Type 0
 AtDelivery w None = Unit {0}
 AtDelivery w (Some m) = AtNode w m.message (world.receiver_of m)
 
--- a client is told of a command, where the instance runs that submitted it
+-- a client is told of a command, if the instance runs that submitted it
 abbrev pub AtEnd : World → ℕ → WorldClient → Bool → IssuedCommand → Type 0
 AtEnd w k site ok x = ev.is_same_instance x site ≡ true → TakesOwes w x.client (ev.end_told w k ok x) site
 
@@ -108,7 +108,7 @@ Owed w e = Unit {0}
 abbrev pub StepsKeepPages : Type 0
 StepsKeepPages = (w : World) (e : Event) (sc : WorldTurn) → ev.world_step w e ≡ Ok sc → Owed (ev.counted w) e → LivesHold w → PagesHold w → PagesHold sc.world
 
--- What holds of lives and fates: the life of each command and entry is known; what is pending is of a life before its lease end; and what is gone is of a life
+-- What holds of lives and fates: each command's and entry's life is known; what is pending is of a life before its lease end; and what is gone is of a life
 -- that a crash ended, or whose lease is over.
 pub record FatesHold (w : World) : Type 0 where
   pub lives : LivesHold w

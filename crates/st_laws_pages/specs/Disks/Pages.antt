@@ -33,7 +33,7 @@ same_place f p g q = same_file f g && same_page p q
 abbrev pub mapping_of : Extent → MappedBlock
 mapping_of e = record { at = e.at; birth = e.birth }
 
--- the bytes that stand for a page: those of its block where the tag is the extent's, and otherwise zeros; zeros where it is unmapped
+-- the bytes that stand for a page: those of its block if the tag is the extent's, and otherwise zeros; zeros if it is unmapped
 abbrev pub standing : FileId → PageNo → (BlockAt → Block) → Option Extent → List ℕ
 standing f p block None = filled 0
 standing f p block (Some e) = found_under f p (block e.at).tag (block e.at).bytes (mapping_of e)

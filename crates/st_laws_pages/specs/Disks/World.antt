@@ -172,7 +172,7 @@ pub data ExtentsMove (s : ServerId) (x : Extents) : Extents → List Output → 
   Maps : (os : List Output) (f : FileId) (ps : List PageNo) → f.server ≡ s → NoCuts os → ExtentsMove s x (extents.place_pages f ps x) os
   Cuts : (os : List Output) (f : FileId) (p : PageNo) → f.server ≡ s → OneCut f p os → ExtentsMove s x (extents.release_from x f p) os
 
--- A cut is done only where no command of its pages can have an effect (its client holds the file alone, and is idle).
+-- A cut is done only if no command of its pages can have an effect (its client is the only holder of the file, and is idle).
 abbrev pub CutQuiet : World → FileId → PageNo → Type 0
 CutQuiet w f p =
     (k : ℕ) (x : IssuedCommand) (at : BlockAt) (tag : Tag) (bytes : List ℕ) → Living (Timely w) w.commands w.disks.commands k x at tag bytes →

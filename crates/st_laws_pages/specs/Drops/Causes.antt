@@ -31,7 +31,7 @@ pub record CausesHold (past : List Step) (w : World) : Type 0 where
   pub caused : list_all (has_cause past w) w.log ≡ true
   pub crashes : CrashesKnown past w.ended
 
--- Owed at a crash of a client: a pending entry of it is of its present life, or a crash ended that life before.
+-- Owed at a crash of a client: a pending entry of it belongs to its present life, or a crash ended that life before.
 abbrev pub CrashOwes : World → List LogEntry → ClientId → Type 0
 CrashOwes w [] c = Unit {0}
 CrashOwes w (e ∷ es) c =
@@ -46,7 +46,7 @@ abbrev pub LivesOwe : World → ClientId → List LeaseLife → Type 0
 LivesOwe w c [] = Unit {0}
 LivesOwe w c (e ∷ es) = record { client : e.client ≡ c; life : (present_life w c e.server).0 ≡ e.life.0; rest : LivesOwe w c es }
 
--- Owed at an advance: where the end of a life is reached that no crash ended, the last write of each page of which it has a pending entry was reported failed.
+-- Owed at an advance: if the end of a life is reached that no crash ended, the last write of each page of which it has a pending entry was reported failed.
 -- (It is dirty, its client flushed it in time, and no write is outstanding.)
 abbrev pub AdvanceOwes : List Step → List IssuedCommand → LeaseLife → List LogEntry → Type 0
 AdvanceOwes past cs l [] = Unit {0}
@@ -67,7 +67,7 @@ AdvancesOwe past w (l ∷ ls) = record {
   rest : AdvancesOwe past w ls;
 }
 
--- Owed where commands are submitted: no entry of their owner failed before.
+-- Owed if commands are submitted: no entry of their owner failed before.
 abbrev pub FailedStay : List IssuedCommand → List IssuedCommand → List LogEntry → Type 0
 FailedStay cs ds [] = Unit {0}
 FailedStay cs ds (e ∷ es) = record {

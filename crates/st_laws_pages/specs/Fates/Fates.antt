@@ -1,4 +1,4 @@
--- What is pending is of a life before its lease end.
+-- What is pending belongs to a life before its lease end.
 use Rattle.std.specs.Prelude.{◌≡◌, ◌≤◌, ◌<◌, ◌⊎◌, true, false, List, [], ◌∷◌, ◌++◌, Some}
 use Rattle.st_base.specs.declared.ids.Stamp.{Stamp}
 use Rattle.st_base.specs.declared.ids.NodeId.TheVariants as nodes
@@ -20,7 +20,7 @@ pub record BeforeEnd (w : World) (o : LogOwner) : Type 0 where
   pub is : lease_end_of w o.client o.file.server o.life ≡ Some end
   pub before : (clock_of w (nodes.Client o.client)).0 < end.0
 
--- What is pending is of a life before its lease end.
+-- What is pending belongs to a life before its lease end.
 abbrev pub FatesAreKept : World → Type 0
 FatesAreKept w = PendingAll (BeforeEnd w) w.log
 
@@ -55,6 +55,6 @@ pub record IsLate (w : World) (o : LogOwner) : Type 0 where
   pub is : lease_end_of w o.client o.file.server o.life ≡ Some end
   pub late : end.0 ≤ (clock_of w (nodes.Client o.client)).0
 
--- What is gone is of a life that a crash ended, or whose lease is over.
+-- What is gone belongs to a life that a crash ended, or whose lease is over.
 abbrev pub GoneHold : World → Type 0
 GoneHold w = GoneAll (λ o. IsCrashed w o ⊎ IsLate w o) w.log

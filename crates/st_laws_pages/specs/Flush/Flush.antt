@@ -36,7 +36,7 @@ pub record IsIts (c : ClientId) (starts number : ℕ) (x : IssuedCommand) : Type
   pub instance_ : x.starts ≡ starts
   pub number_is : x.number ≡ number
 
--- What the world has of an outstanding write of a page: it is the last write of its owner, and it carries the latest entry where the
+-- What the world has of an outstanding write of a page: it is the last write of its owner, and it carries the latest entry if the
 -- page was not changed since.
 pub record Sent (cs : List IssuedCommand) (es : List LogEntry) (c : ClientId) (a : Association) (pc : PageCommand) (v k : ℕ) (x : IssuedCommand) : Type 0 where
   pub index : ℕ

@@ -74,7 +74,7 @@ pub record TableHolds (s : ServerId) (n : ServerNode) : Type 0 where
 abbrev pub WaitsHold : World → Type 0
 WaitsHold w = (s : ServerId) (n : ServerNode) → node_of w s ≡ Some n → TableHolds s n
 
--- A reassertion that may be accepted: it is to this server, of its epoch and in its grace, and its life is new to the sessions.
+-- A reassertion that may be accepted: it goes to this server, in its epoch and in its grace, and its life is new to the sessions.
 pub record MayAccept (t : ServerTurn) (now : Stamp) (h : Header) : Type 0 where
   pub here : server.is_for t.state h ≡ true
   pub epoch : (h.epoch == t.state.stable.epoch.0) ≡ true

@@ -1,4 +1,4 @@
--- What a client has left of a server where it takes a step while its lease there is over.
+-- What a client has left of a server if it takes a step while its lease there is over.
 use Rattle.std.specs.Prelude.{◌≡◌, ℕ, Bool, true, ◌||◌, not, List, []}
 use Rattle.std.specs.List.{list_all}
 use Rattle.st_base.specs.declared.config.Config.{Config}
@@ -10,7 +10,7 @@ use Rattle.st_rules.specs.Events.{present_life}
 use Rattle.st_rules.specs.History.{association_of, traced}
 use Rattle.st_rules.specs.Safety.{Step, Promise, Throughout, steps_expired, is_emptied, steps}
 
--- where a client takes a step while its lease at a server is over, its association there is emptied and in the next life
+-- if a client takes a step while its lease at a server is over, its association there is emptied and in the next life
 abbrev pub is_left_empty : Step → ClientId → ServerId → Bool
 is_left_empty x c s = not (steps_expired x c s) || is_emptied (present_life x.before.world c s) (association_of x.after.world c s)
 

@@ -1,4 +1,4 @@
--- A cut is free: the client that has the file alone asks for it, and no other client has a lock on the file.
+-- A cut is free: the only client that has the file asks for it, and no other client has a lock on the file.
 use Rattle.st_lemmas.proofs.Words
 use Words.{◌≡◌, ◌≢◌, ◌⊎◌, ℕ, ◌≤◌, zero, suc, Bool, true, false, List, [], ◌∷◌, ◌++◌, Option, Some, None, Ok, Err, refl, sym, ap, ◌∙◌, subst, inl, inr, arith}
 use Words.{if◌then◌else◌, FileId, NodeId, PageNo, ServerId, Event, Message, Note, Output, ServerInput, LockRow, Observation, SentMessage}

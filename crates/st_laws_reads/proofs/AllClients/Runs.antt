@@ -57,7 +57,7 @@ pub record Stood (k : Config) (count : ℕ) (past : List Step) (t : Traced) : Ty
   pub clear : AllCleared t.world
   pub waits : WaitsHold t.world
 
--- What is promised of a step.
+-- What is promised about a step.
 pub record Kept (past : List Step) (x : Step) : Type 0 where
   pub reads : ReadsReturnLastWrites past x
   pub carry : WritesCarryTheContent past x

@@ -1,4 +1,4 @@
--- What is pending of a page, at a client that has a lock on its file: its own entries alone, and nothing where the page is not dirty.
+-- What is pending of a page, at a client that has a lock on its file: only its own entries, and nothing if the page is not dirty.
 use Rattle.st_lemmas.proofs.Words
 use Words.{◌≡◌, ◌⊎◌, ℕ, ◌≤◌, Bool, true, false, ◌&&◌, ◌==◌, List, [], ◌∷◌, Option, None, refl, sym, ap, ◌∙◌, subst, inl, inr, arith, is_some, eqb-true, eq-eqb}
 use Words.{PageNo, Ask, Change, Fate, LogEntry}

@@ -70,7 +70,7 @@ module _ (picked : ℕ → LogOwner → Bool) (cause : FileId → PageNo → Cau
       go zero q = unheld_ok (held_in a.session ino).mode _ _ a.store ino p q r
       go (suc k) q = subst (λ bytes. PageOk (held_in a.session ino).mode bytes a.store ino p) (sym (content_drop (filled 0) (file_at a.server ino) p 1 es (elsewhere a ino k 1 es q h))) r
 
-  -- what is dropped is not of this life
+  -- what is dropped doesn't belong to this life
   abbrev Over : ClientId → ServerId → Life → ℕ → List LogEntry → Type 0
   Over c sv life n [] = Unit {0}
   Over c sv life n (e ∷ es) = record { one : picked n e.of ≡ true → is_pending e.fate ≡ true → is_of_life c sv life e.of ≡ false; rest : Over c sv life (n + 1) es }

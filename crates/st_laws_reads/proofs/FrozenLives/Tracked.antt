@@ -67,7 +67,7 @@ module _ (P : LeaseLife → LogOwner → Type 0) where
       go (Some y) z = f row (z ∙ sym (find_front p w.ended rows y z) ∙ there) crashed
       go None z = absurd (not_both row.crashed crashed (lost row (row_is o.client o.file.server o.life rows row (sym (find_back p w.ended rows z) ∙ there)).0))
 
-  -- a page that was changed is of a life that is not over
+  -- a page that was changed belongs to a life that is not over
   unended : (v : World) (c : ClientId) (site : WorldClient) (now : Stamp) → site_of v c ≡ Some site → site.node.running ≡ true → LivesHold v → (f : FileId) (p : PageNo) → IsChangedAt v.config now site.node.state.associations f p →
       OfCrashed P v (log.owner c (ev.present_life v c f.server) f p)
   unended v c site now there r h f p (a, i, z) row q crashed =

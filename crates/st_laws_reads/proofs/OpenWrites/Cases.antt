@@ -1,4 +1,4 @@
--- A write that may have its effect is of a present life whose lease lasts, and outstanding there; or of a life that a crash ended, which is frozen.
+-- A write that may have its effect belongs to a present life whose lease lasts, and is outstanding there, or to a life that a crash ended, which is frozen.
 use Rattle.st_lemmas.proofs.Words
 use Words.{◌≡◌, ◌≢◌, ℕ, ◌+◌, ◌<◌, ◌≤◌, ◌⊎◌, Bool, true, false, List, [], ◌∷◌, ◌++◌, Option, Some, None, refl, sym, ap, ◌∙◌, subst, inl, inr, arith, find}
 use Words.{option_map, BlockAt, Tag, ClientId, ServerId, Stamp, Ask, IssuedCommand, LeaseLife}
@@ -41,7 +41,7 @@ use Rattle.st_laws_reads.proofs.FrozenLives.Walks.{stand_alone}
 use Rattle.st_laws_reads.specs.OpenWrites.StandStill.{OpenWrite, OverOrStill, WritesHold, writer}
 use Rattle.st_laws_refine.proofs.Server.Late.{clock_in}
 
--- It is of a present life.
+-- It belongs to a present life.
 pub record PresentWrite (w : World) (x : IssuedCommand) (tag : Tag) : Type 0 where
   pub site : WorldClient
   pub running : Running w x.client.0 site
@@ -210,7 +210,7 @@ present_locked asks w x tag copies z =
     let s : StandsAt x.client w.log z.a = (while_at _ _ x.client w.log z.site.node.state.associations z.a c.copies z.here).lasting z.lasts in
     subst (λ i. 2 ≤ (held_in z.a.session i).mode) z.listed.listed.ino ((s.pages z.listed.listed.command.ino z.listed.listed.command.page).mode z.listed.listed.dirty z.listed.listed.dirty_is)
 
--- A write that may have its effect on a file on which a client has a lock is of that client's present life.
+-- A write that may have its effect on a file on which a client has a lock belongs to that client's present life.
 pub record OwnWrite (w : World) (d : ℕ) (other : WorldClient) (y : Association) (x : IssuedCommand) (tag : Tag) : Type 0 where
   pub of : OfLife d y x
   pub listed : ListedSince other.starts y x tag

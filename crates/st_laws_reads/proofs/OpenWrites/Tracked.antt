@@ -61,7 +61,7 @@ all_counts c before [] sc h = h
 all_counts c before (o ∷ os) sc h = all_counts c before os (ev.client_says sc c before o) (one_counts c before o sc h)
 
 module _ (P : LeaseLife → LogOwner → Type 0) where
-  -- a new command is of a life that is not over
+  -- a new command belongs to a life that is not over
   unended : (v : World) (c : ClientId) (site : WorldClient) → site_of v c ≡ Some site → site.node.running ≡ true → LivesHold v → (x : IssuedCommand) (tag : Tag) → x.client ≡ c → x.life ≡ world.life_with site.node.state x.server → OfCrashed P v (writer x tag)
   unended v c site there r h x tag cx lx row q crashed = at (find (is_at x.server) site.node.state.associations) refl
     where

@@ -29,7 +29,7 @@ pub record PendingHere (w : World) (c : ℕ) (a : Association) (e : LogEntry) : 
 abbrev pub UnheldBy : World → ℕ → WorldClient → LogEntry → Type 0
 UnheldBy w d site e = Unheld e.of.file site.node.state.config.lease (clock_of w (nodes.Client (client d))).0 site.node.state.associations
 
--- In a world where everything holds: the copies of a client that runs, and an entry of one of its present lives that is pending, leave no other client that
+-- In a world in which everything holds: the copies of a client that runs, and an entry of one of its present lives that is pending, leave no other client that
 -- runs a lock on the entry's file.
 abbrev pub PendingPagesStandAlone : Type 0
 PendingPagesStandAlone =

@@ -78,7 +78,7 @@ pub record HasAlone (w : World) (d : ℕ) (f : FileId) : Type 0 where
   pub is : row_of node.state.locks (client d) f.ino ≡ Some row
   pub exclusive : row.mode ≡ modes.X
 
--- a client that has the file alone, with a lock of it under a lease that is not over, asks for the cut, or for one from an earlier page on
+-- the only client that has the file, with a lock of it under a lease that is not over, asks for the cut, or for one from an earlier page on
 abbrev pub CutAsked : World → FileId → PageNo → Type 0
 CutAsked w f p =
     (d : ℕ) (site : WorldClient) (a : Association) → Running w d site → Has a site.node.state.associations → f.server ≡ a.server →

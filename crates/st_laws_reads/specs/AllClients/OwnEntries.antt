@@ -1,4 +1,4 @@
--- What is pending of a page, at a client that has a lock on its file: its own entries alone, and nothing where the page is not dirty.
+-- What is pending of a page, at a client that has a lock on its file: only its own entries, and nothing if the page is not dirty.
 use Rattle.std.specs.Prelude.{◌≡◌, ℕ, ◌≤◌, Option, None}
 use Rattle.st_base.specs.declared.ids.NodeId.TheVariants as nodes
 use Rattle.st_base.specs.declared.ids.PageNo.{PageNo}
@@ -28,7 +28,7 @@ LockedPagesAreSettled =
     Lasts site.node.state.config.lease (clock_of w (nodes.Client (client d))).0 a.session → 1 ≤ (held_in a.session ino).mode →
     dirty_of a.store.pages ino p ≡ None → SettledOn (file_at a.server ino) p w.log
 
--- And what is pending of a page is of that client's present life, dirty or not.
+-- And what is pending of a page belongs to that client's present life, dirty or not.
 abbrev pub LockedPagesAreOwn : Type 0
 LockedPagesAreOwn =
     (asks : ℕ → ℕ → Option Ask) (k : Config) (count : ℕ) (w : World) (d : ℕ) (site : WorldClient) (a : Association) (ino : ℕ) (p : PageNo) →

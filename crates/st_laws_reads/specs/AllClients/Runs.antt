@@ -15,7 +15,7 @@ InputOwed x inputs.Tick = Unit {0}
 InputOwed x (inputs.App op ask) = Unit {0}
 InputOwed x input = LeftOf x
 
--- what is owed where a client takes an input, and at each other event
+-- what is owed if a client takes an input, and at each other event
 abbrev pub TakenOwed : World → Event → Option Taking → Type 0
 TakenOwed w e None = OthersLeft w e
 TakenOwed w e (Some x) = InputOwed x x.input

@@ -28,12 +28,12 @@ pub record SiteHolds (asked_as : ℕ → Option Ask) (w : World) (c : ℕ) (site
 abbrev pub CopiesHold : (ℕ → ℕ → Option Ask) → World → Type 0
 CopiesHold asks w = (c : ℕ) (site : WorldClient) → site_of w (client c) ≡ Some site → SiteHolds (asks c) w c site
 
--- What is owed where a client takes an input.
+-- What is owed if a client takes an input.
 pub record TakingOwed (asks : ℕ → ℕ → Option Ask) (x : Taking) : Type 0 where
   pub numbered : Numbered (asks x.client.0) x.input
   pub owed : OwedOf x
 
--- An event at which a client takes an input keeps the copies of all clients, where everything holds before it and after it.
+-- An event at which a client takes an input keeps the copies of all clients, if everything holds before it and after it.
 abbrev pub TakingsKeepCopies : Type 0
 TakingsKeepCopies =
     (asks : ℕ → ℕ → Option Ask) (k : Config) (count : ℕ) (w : World) (e : Event) (sc : WorldTurn) (x : Taking) → AllStand k count w →

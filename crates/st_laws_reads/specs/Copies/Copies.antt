@@ -115,7 +115,7 @@ pub record Copies (asked_as : ℕ → Option Ask) (c : ClientId) (lives : Server
   pub asked : AskedSo asked_as t.operations
   pub fates : FatesOk c (lives t.here.server) t.here.server t.here.store (logged c lives t.out es)
 
--- Entries of files of this server alone.
+-- Entries of files of only this server.
 abbrev pub AllOf : ServerId → List LogEntry → Type 0
 AllOf sv [] = Unit {0}
 AllOf sv (e ∷ es) = record { one : e.of.file.server ≡ sv; rest : AllOf sv es }

@@ -54,7 +54,7 @@ abbrev pub Apart : List Association → Type 0
 Apart [] = Unit {0}
 Apart (a ∷ rest) = record { one : Differs a.server rest; rest : Apart rest }
 
--- no entry of this client at this server is of a later life
+-- no entry of this client at this server belongs to a later life
 abbrev pub Lived : ClientId → ServerId → Life → List LogEntry → Type 0
 Lived c sv life [] = Unit {0}
 Lived c sv life (e ∷ es) = record { one : is_of_client c e.of ≡ true → e.of.file.server ≡ sv → e.of.life.0 ≤ life.0; rest : Lived c sv life es }
@@ -171,7 +171,7 @@ abbrev pub AllLast : ℕ → ℕ → List Association → Type 0
 AllLast lease now [] = Unit {0}
 AllLast lease now (a ∷ xs) = record { one : Lasts lease now a.session; rest : AllLast lease now xs }
 
--- In the world: where a client runs, its leases last, and each page that it changed is held, the lines of its step keep the promise that
+-- In the world: if a client runs, its leases last, and each page that it changed is held, the lines of its step keep the promise that
 -- changes are locked.
 abbrev pub ChangesLieUnderLocks : Type 0
 ChangesLieUnderLocks =
@@ -197,7 +197,7 @@ pub record SeenRight (past : List safety.Step) (x : safety.Step) (es : List LogE
   pub syncs : AtEach (safety.IsHardAt past x) x.after.world es lines
   pub written : AllWritten past x None lines
 
--- In the world: where each output of a client is right by the log at it, so are the lines of its step.
+-- In the world: if each output of a client is right by the log at it, so are the lines of its step.
 abbrev pub StepsAnswerRight : Type 0
 StepsAnswerRight =
     (past : List safety.Step) (x : safety.Step) (c : ClientId) (before : ClientState) (os : List Output) (v : World) →

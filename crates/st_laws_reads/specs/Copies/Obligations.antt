@@ -30,7 +30,7 @@ use Rattle.st_laws_refine.specs.Client.Invariants.{HaveModes}
 use Rattle.st_laws_reads.specs.Copies.Copies.{HardOn, Nothing, file_at}
 
 -- For a message in a session. Each lock has a mode. A grant above the greatest seen lowers no lock. A map that found no block finds a page whose bytes are
--- zeros. Where a remove was asked, nothing of its file is cached.
+-- zeros. If a remove was asked, nothing of its file is cached.
 pub record ReplyOwed (es : List LogEntry) (a : Association) (s : ClientSession) (h : Header) (body : Body) : Type 0 where
   pub modes : HaveModes s.locks.rows
   pub up : (ino : ℕ) (g : GrantNo) (mode : Mode) → body ≡ bodies.Granted ino g mode → is_above_seen s.locks ino g ≡ true →
@@ -45,7 +45,7 @@ abbrev pub MessageOwed : List LogEntry → Association → Header → Body → T
 MessageOwed es a h body = (s : ClientSession) → a.session ≡ Some s → h.from ≡ server_node a.server → h.life ≡ a.life.0 → h.epoch ≡ s.epoch.0 →
     ReplyOwed es a s h body
 
--- For the end of a command. Where a write is done and its page was not changed since, the entries of the page in this life are hard. A read found the bytes of
+-- For the end of a command. If a write is done and its page was not changed since, the entries of the page in this life are hard. A read found the bytes of
 -- the page.
 pub record EndOwed (c : ClientId) (life : Life) (es : List LogEntry) (a : Association) (number : ℕ) (result : Option (Option (Tag × List ℕ))) : Type 0 where
   pub hard : (x : PageCommand) (version : ℕ) → command_of a.store.commands number ≡ Some x → x.kind ≡ io.Write version → result ≡ Some None →

@@ -61,7 +61,7 @@ abbrev pub receiving_of : World → Option SentMessage → Option Taking
 receiving_of w None = None
 receiving_of w (Some m) = receiving w m.message (receiver_of m)
 
--- a client is told the end of its command, where the instance that submitted it runs
+-- a client is told the end of its command, if the instance that submitted it runs
 abbrev pub told_at : World → ℕ → Bool → IssuedCommand → Option WorldClient → Option Taking
 told_at w k ok x None = None
 told_at w k ok x (Some site) = if ev.is_same_instance x site then taking w x.client (ev.end_told w k ok x) (Some site) else None
@@ -164,7 +164,7 @@ DropsKeepCopies =
     (cause : FileId → PageNo → Cause) → DropsUnheld c picked s.config.lease now.0 s.associations 1 es → ClientCopies asked_as c es now s →
     ClientCopies asked_as c (log.drop_picked es picked cause) now s
 
--- What holds of a client that does not run: its servers differ, and no entry of it is of a life beyond its association's.
+-- What holds of a client that does not run: its servers differ, and no entry of it belongs to a life beyond its association's.
 pub record ClientRests (c : ClientId) (es : List LogEntry) (s : ClientState) : Type 0 where
   pub apart : Apart s.associations
   pub lived : AllLived c es s.associations

@@ -35,7 +35,7 @@ pub record StoodLife (k : Config) (w : World) (s : ℕ) (node : ServerNode) (z :
   pub locked : LockedHalf half o.file.ino
   pub frozen : FrozenLife k o.client.0 half.life half (pairs s z.ended w node z.ghosts)
 
--- so it does where its server is there
+-- so it does if its server is there
 abbrev pub StandsStill : (k : Config) (count : ℕ) (w : World) → AllStand k count w → LeaseLife → LogOwner → Type 0
 StandsStill k count w all row o =
     (node : ServerNode) (at : node_of w (server o.file.server.0) ≡ Some node) →
@@ -52,7 +52,7 @@ FrozenBegin =
     (k : base.Config) (clients servers disks blocks form : ℕ) → IsHead k clients servers disks blocks form →
     FrozenHold (terms_of k) (clients + servers) (fresh_world k clients servers disks blocks form)
 
--- Every event leaves them standing still, where what is pending of present lives is dirty before it.
+-- Every event leaves them standing still, if what is pending of present lives is dirty before it.
 abbrev pub EventsKeepFrozen : Type 0
 EventsKeepFrozen =
     (past : List Step) (k : Config) (count : ℕ) (w : World) (e : Event) (sc : WorldTurn) → FrozenHold k count w → FlushHold past w →

@@ -17,7 +17,7 @@ use Rattle.st_laws_reads.specs.Copies.World.{Unheld}
 use Rattle.st_laws_reads.specs.AllClients.Law.{Running}
 use Rattle.st_laws_pages.specs.Writes.Writes.{OpenHold}
 
--- a command is of the life of an association
+-- a command belongs to the life of an association
 pub record OfLife (c : ℕ) (a : Association) (x : IssuedCommand) : Type 0 where
   pub client : x.client ≡ client c
   pub server : x.server ≡ a.server

@@ -301,7 +301,7 @@ module _ (k : Config) (sv : Beside) (now : ℕ) (hs : List Msg) where
       quiet (bodies.Name op) ino n f = by_file ino f
       quiet asked ino n f = cc
 
-  -- of the frame alone: it needs nothing of what holds
+  -- of only the frame: it needs nothing of what holds
   named_frame : (t : Turn) (s : ClientSession) (file : Option ℕ) (reply : NameReply) → FrameOf (with_session s t) (cr.named (with_session s t) s file reply)
   unfolding cr.named cr.named_as cr.removed cr.drop_held cr.drop_lock answer_each
   named_frame t s file reply = frame_then _ _ _ _ _ _ _ _ _ _ _ _ (each_goes k sv now hs (is_asked t.here.server) (cr.name_answer reply) (with_session s t)).frame (go reply)

@@ -175,7 +175,7 @@ lose_losses P n t f l = go t.here.session refl
     go None e = l
     go (Some s) e = over_it s e (cl.is_over t s n) refl
 
--- of the frame alone
+-- of only the frame
 pub lose_frame : (n : Stamp) (t : Turn) → Leaves t.id.0 (cl.lose n t).id.0 t.here.server (cl.lose n t).here.server t.config (cl.lose n t).config t.out (cl.lose n t).out
 unfolding cl.lose cl.lose_by cl.lose_over cl.lose_session cl.end_operations
 lose_frame n t = go t.here.session

@@ -28,7 +28,7 @@ use Rattle.st_laws_refine.proofs.Server.Goes.{said_append, said_more, Frame, obs
 use Rattle.st_laws_refine.proofs.Server.Goes.{replies_other}
 use Rattle.st_laws_refine.proofs.Server.Passes.{suspect_goes}
 
--- what becomes of the sessions is of the greeting client alone
+-- what becomes of the sessions concerns only the greeting client
 pub record Others (d : ℕ) (t u : Sessions) : Type 0 where
   pub epoch : u.epoch ≡ t.epoch
   pub session : session_of u (client d) ≡ session_of t (client d)

@@ -1,4 +1,4 @@
--- Each row, each wait and each timer is of a client that has a session: what a whole step keeps.
+-- Each row, each wait and each timer belongs to a client that has a session: what a whole step keeps.
 use Rattle.st_lemmas.proofs.Words
 use Words.{◌≡◌, ℕ, ◌⊎◌, Bool, true, false, ◌&&◌, List, [], ◌∷◌, ◌==◌, if◌then◌else◌, refl, sym, ap, ◌∙◌, subst, inl, inr, cond, find, filter, map, Option, Some}
 use Words.{None, is_some, option_map, eq-eqb, eqb-true, ClientId, GrantNo, Life, Stamp, Mode, Body, Suspect, ServerInput, LockRow, RowDemand, Waiter, Session}

@@ -261,7 +261,7 @@ after s t node i found runs id pos known wish came d =
       dated = dated_step s t node i runs id pos known wish came d;
     }
 
--- A tick and a delivery are remembered by what is observed alone.
+-- A tick and a delivery are remembered only by what is observed.
 tick_remembered : (w : World) (n : NodeId) (h : History) → remember w (events.Tick n) h ≡ h
 unfolding remember
 tick_remembered w n h = refl

@@ -172,7 +172,7 @@ module _ (n : ServerState) (now : Stamp) (i : ServerInput) (P : ServerTurn → T
   small tr.AtGrants t u e p = small_grants n now i P keeps t u e p
   small tr.AtDemands t u e p = small_demands n now i P keeps t u e p
 
--- a whole step, and after the thefts alone
+-- a whole step, and only after the thefts
 pub walk : (n : ServerState) (now : Stamp) (i : ServerInput) (P : ServerTurn → Type 0) → ((t u : ServerTurn) → Edit n now i t u → P t → P u) →
     WishInput i → P (turn n []) → P (server_step n now i)
 walk n now i P k w p = trace.walk n now i P (small n now i P k w) p

@@ -43,7 +43,7 @@ is_request (bodies.Name op) = true
 is_request (bodies.Reassert rows) = true
 is_request b = false
 
--- every message that was put out is from this client, and is shown where it is to this server
+-- every message that was put out is from this client, and is shown if it goes to this server
 abbrev pub Said : ℕ → ServerId → List Output → List Msg → Type 0
 Said id sv [] N = Unit {0}
 Said id sv (outputs.Send m ∷ os) N = record { from : m.header.from ≡ id; one : m.header.to ≡ server_node sv → Received m.header m.body N; rest : Said id sv os N }
@@ -100,7 +100,7 @@ abbrev pub Outstanding : ℕ → ℕ → Bool → Option Request → List Msg �
 Outstanding life epoch due None N = Unit {0}
 Outstanding life epoch due (Some q) N = Standing life epoch due q N
 
--- nothing is written where a cut is out
+-- nothing is written if a cut is out
 abbrev pub Quiet : Store → Option ℕ → Type 0
 Quiet st None = Unit {0}
 Quiet st (Some ino) = busy_in st ino ≡ false

@@ -28,14 +28,14 @@ pub record Dated (s : ℕ) (t : Traced) (node : ServerNode) : Type 0 where
   pub runs : (x : TimerStart) → Has x t.history.timers → x.server.0 ≡ s →
       (node.running ≡ true) × (is_some (suspect_of node.state.authority x.client) ≡ true)
 
--- After a step of the server its replies are dated again, and each row, wait and timer is of a client that has a session.
+-- After a step of the server its replies are dated again, and each row, wait and timer belongs to a client that has a session.
 pub record DatedAfter (s : ℕ) (t : Traced) : Type 0 where
   pub node : ServerNode
   pub found : node_of t.world (server s) ≡ Some node
   pub known : Known node.state
   pub dated : Dated s t node
 
--- So it is after a tick of the server or a delivery to it, where clients ask for locks in some mode.
+-- So it is after a tick of the server or a delivery to it, if clients ask for locks in some mode.
 abbrev pub RepliesStayDated : Type 0
 RepliesStayDated =
     (s : ℕ) (t : Traced) (node : ServerNode) (e : Event) (sc : WorldTurn) →

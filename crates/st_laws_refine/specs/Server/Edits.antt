@@ -76,7 +76,7 @@ pub record ReplyOk (s : ServerState) (m : Message) (b : Body) : Type 0 where
   pub free : may_date m.header.number b ≡ true → authority.may_ack s.authority (sender m.header) ≡ true
   pub request : is_request m.body ≡ true
 
--- What an acquired lock makes of the table: outside grace a grant where no row conflicts with it and nobody else waits, or a wait.
+-- What an acquired lock makes of the table: outside grace a grant if no row conflicts with it and nobody else waits, or a wait.
 pub data Acquired (graced : Bool) (l : Locks) (c : ClientId) (life : Life) (ino : ℕ) (mode : Mode) : Locks → Type 0 where
   AtOnce : graced ≡ false → 1 ≤ number_of mode → list_any (stands_against c ino mode) l.rows ≡ false →
       list_any (waits_besides c ino) l.waiters ≡ false →

@@ -61,7 +61,7 @@ pub record Few (bytes : ℕ) (n : ServerState) : Type 0 where
   pub paid : taken_locks n.locks ≤ bytes
   pub few : taken_locks n.locks ≤ 536870912
 
--- Each row, each wait and each timer at a server is of a client that has a session.
+-- Each row, each wait and each timer at a server belongs to a client that has a session.
 pub record Known (n : ServerState) : Type 0 where
   pub rows : (r : LockRow) → Has r n.locks.rows → is_some (session_of n.sessions r.client) ≡ true
   pub waits : (w : Waiter) → Has w n.locks.waiters → is_some (session_of n.sessions w.client) ≡ true

@@ -59,7 +59,7 @@ AdvancesKeepServers =
     ConfigOk k → 1 ≤ s → length steps ≡ length w.clocks → world_step w (events.Advance steps) ≡ Ok sc →
     Timed k s w G → Stands k s ended w node G → AfterAdvance k s ended sc.world node G
 
--- It holds again after a crash of the server, where the grants of the epoch are few.
+-- It holds again after a crash of the server, if the grants of the epoch are few.
 abbrev pub CrashesKeepServers : Type 0
 CrashesKeepServers =
     (k : Config) (s : ℕ) (ended : ℕ → ℕ → ℕ) (w : World) (sc : WorldTurn) (node : ServerNode) (G : ℕ → Ghost) →
@@ -82,7 +82,7 @@ StartsKeepServers =
     0 < k.wait → node.running ≡ false → world_step w (events.Start (nodes.Server (server s))) ≡ Ok sc → Stands k s ended w node G →
     Stands k s ended sc.world (start_node node (clock_of w (nodes.Server (server s)))) (started_ghosts s ended w G)
 
--- Where it holds, the server waited out its grace: outside grace every lease of an earlier epoch has ended.
+-- If it holds, the server waited out its grace: outside grace every lease of an earlier epoch has ended.
 abbrev pub ServersWait : Type 0
 ServersWait =
     (k : Config) (s : ℕ) (ended : ℕ → ℕ → ℕ) (t : Traced) (node : ServerNode) (G : ℕ → Ghost) →

@@ -27,7 +27,7 @@ abbrev pub life_now : Bool → Association → ℕ
 life_now true a = a.life.0
 life_now false a = a.life.0 + 1
 
--- the client's half, where it has an association
+-- the client's half, if it has an association
 abbrev pub client_view : Bool → (ℕ → ℕ) → Stamp → Option Association → net.Client
 client_view running ended now None = client_at now.0 1 None empty_store ended
 client_view running ended now (Some a) = client_at now.0 (life_now running a) a.session a.store ended
@@ -85,7 +85,7 @@ pub record DateShown (lease : ℕ) (d : LeaseDate) (N : List Msg) : Type 0 where
   pub is : In (msg d.life.0 d.epoch.0 stamp body) N
   pub ends : d.end.0 ≡ stamp + lease
 
--- each lease that was dated is of a client of the world
+-- each lease that was dated belongs to a client of the world
 abbrev pub DatesKnown : World → List LeaseDate → Type 0
 DatesKnown w ds = (d : LeaseDate) → Has d ds → (site : WorldClient) × (site_of w d.client ≡ Some site)
 

@@ -92,7 +92,7 @@ KeptState life epoch (Live last None) N = Unit {0}
 KeptState life epoch (Live last (Some reply)) N = KeptAt life epoch last reply N
 KeptState life epoch Ended N = Unit {0}
 
--- the kept reply, where there is a session
+-- the kept reply, if there is a session
 abbrev pub Kept : ℕ → Option Session → List Msg → Type 0
 Kept epoch None N = Unit {0}
 Kept epoch (Some s) N = KeptState s.life.0 epoch s.state N

@@ -28,7 +28,7 @@ held_at (Some l) = record { g = l.g.0; mode = number_of l.mode }
 abbrev pub busy_in : Store → ℕ → Bool
 busy_in st i = has_dirty st.pages i || has_write_on st.commands i
 
--- by the session, each field for itself: so what changes the pages alone leaves the other fields by computation
+-- by the session, each field separately: so what changes only the pages leaves the other fields by computation
 abbrev pub epoch_in : Option ClientSession → ℕ
 epoch_in None = 0
 epoch_in (Some s) = s.epoch.0

@@ -1,4 +1,4 @@
--- What a client asks of a server: a new request, or the outstanding one again. Numbers rise, and an operation that is sent waits for its own request alone.
+-- What a client asks of a server: a new request, or the outstanding one again. Numbers rise, and an operation that is sent waits only for its own request.
 use Rattle.st_lemmas.proofs.Words
 use Words.{◌≡◌, ℕ, ◌≤◌, ◌<◌, ◌⊎◌, Bool, true, false, ◌==◌, List, [], ◌∷◌, ◌++◌, Option, Some, None, refl, sym, ap, ◌∙◌, subst, inl, inr, arith, if◌then◌else◌}
 use Words.{eq-eqb, ClientId, GrantNo, PageNo, ServerId, Stamp, NameAsk, AppAnswer, Ask, Body, Message, Output, HeldLock, Operation, Release, Request}

@@ -290,7 +290,7 @@ module _ (M : List Message) (c : ClientId) (Known : ℕ → Ask → Type 0) (Bef
     base_after_refused t _ a b file asked _ (trace.NotHolder _ _ e) w = base_after_answers t _ _ (λ op. tt) w
     base_after_refused t y a b file asked _ (trace.AnswersNone _ _ _) w = w
 
-    -- an operation that is stuck waits no more
+    -- an operation that is stuck no longer waits
     pub record StuckOf (t : Turn) (o p : Operation) : Type 0 where
       pub op : p.op ≡ o.op
       pub ask : p.ask ≡ o.ask

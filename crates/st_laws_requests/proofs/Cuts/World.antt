@@ -822,7 +822,7 @@ module _ (past : List Step) (t : Traced) (d : CutsHold past t) where
       go None q = still past t e d (ev.quiet w) (λ c. refl) refl refl refl none_answered
       go (Some node) q = server_placed past t e d s node (server.start_node node (clock_of w (nodes.Server s))) _ (λ c. refl) q refl refl refl (λ past2 ms r. started_server past2 ms s node (clock_of w (nodes.Server s)) r) none_answered
 
-  -- an ask that is admitted is of a client that runs
+  -- an ask that is admitted belongs to a client that runs
   can_step : (k : NodeId) → adm.cannot_step t.world k ≡ None → world.is_running t.world k ≡ true
   unfolding adm.stands
   can_step k e = go (world.is_running t.world k) e

@@ -48,7 +48,7 @@ on_new t x k d life n h = go (sessions.is_session_of d x) refl
         pick true g = absurd (clash (eq-eqb x.client.0 d.0 (sym (eqb-true _ _ g) ∙ eqb-true _ _ e)) f)
         pick false g = refl
 
-    -- whatever the client had is of a lower life
+    -- whatever the client had belongs to a lower life
     lower : (o : Option Session) → sessions.session_of t d ≡ o → x.client ≡ d → IsBehind o life n → life < x.life.0
     lower None e s b = absurd b
     lower (Some y) e s b = let l = k y (subst (λ c. sessions.session_of t c ≡ Some y) (sym s) e) in by b l

@@ -101,7 +101,7 @@ is_report bodies.Ack = true
 is_report (bodies.Named reply) = true
 is_report body = false
 
--- what a request asks was done as its reply says, where it is a cut or a request for a name
+-- what a request asks was done as its reply says, if it is a cut or a request for a name
 abbrev pub Fulfilled : List Step → ClientId → ServerId → ℕ → ℕ → ℕ → Body → Body → Type 0
 Fulfilled past c s life epoch number (bodies.Cut ino g p) bodies.Ack = IsCutDone past c s life epoch number ino p
 Fulfilled past c s life epoch number (bodies.Name op) (bodies.Named reply) = IsNameDone past c s life epoch number op (name_answer reply)
@@ -131,7 +131,7 @@ abbrev pub SameBody : Option Request → Message → Type 0
 SameBody None m = Unit {0}
 SameBody (Some q) m = m.header.number ≡ q.number → m.body ≡ q.body
 
--- a message is of no later epoch than the session's, and in that epoch its number was given
+-- a message belongs to no later epoch than the session's, and in that epoch its number was given
 pub record Numbered (epoch : ℕ) (r : Requests) (m : Message) : Type 0 where
   pub up_to : m.header.epoch ≤ epoch
   pub below : m.header.epoch ≡ epoch → m.header.number < r.next
@@ -168,7 +168,7 @@ abbrev pub SentIn : (Message → Type 0) → ClientId → ServerId → ℕ → O
 SentIn S c s life None = Unit {0}
 SentIn S c s life (Some v) = IsSent S c s life v.0 v.1.asked
 
--- what was sent to a server is of no later life, its numbers are the session's, and each has one body; the outstanding request is among it
+-- what was sent to a server belongs to no later life, its numbers are the session's, and each has one body; the outstanding request is among it
 pub record Numbers (S : Message → Type 0) (c : ClientId) (s : ServerId) (life : ℕ) (v : Option (ℕ × Requests)) : Type 0 where
   pub lives : (m : Message) → S m → Between c s m → m.header.life ≤ life
   pub placed : (m : Message) → S m → Between c s m → Placed life v m
@@ -248,7 +248,7 @@ pub record ClientOk (past : List Step) (ms : List Message) (c : ClientId) (site 
 
 -- The servers.
 
--- a fact of the reply that is kept, where it is one of these, and of its number
+-- a fact of the reply that is kept, if it is one of these, and of its number
 abbrev pub KeptBy : (Body → Bool) → (ℕ → Body → Type 0) → SessionState → Type 0
 KeptBy Q A (states.Live last (Some body)) = Q body ≡ true → A last body
 KeptBy Q A state = Unit {0}

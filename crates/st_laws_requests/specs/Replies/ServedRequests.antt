@@ -40,7 +40,7 @@ abbrev pub Reached : ℕ → SessionState → Type 0
 Reached n (states.Live last reply) = n ≤ last
 Reached n states.Ended = Unit {0}
 
--- a client's session is of a higher life, or of this one and reached the number
+-- a client's session belongs to a higher life, or to this one and reached the number
 abbrev pub IsBehind : Option Session → ℕ → ℕ → Type 0
 IsBehind None life n = ⊥
 IsBehind (Some s) life n = (life < s.life.0) ⊎ ((life ≡ s.life.0) × Reached n s.state)
@@ -109,7 +109,7 @@ pub record Refusal (ms : List Message) (s : ServerId) (m : Message) : Type 0 whe
   pub asks : by.body ≡ bodies.Reassert rows
   pub beyond : (2 ≤ m.header.number) ⊎ (is_refusal m.body ≡ true)
 
--- What a server's message says: it is of no later epoch than the server's, and in the present one, where it ends a request, the session
+-- What a server's message says: it belongs to no later epoch than the server's, and in the present one, if it ends a request, the session
 -- of its life reached its number, or it refuses a reassertion.
 pub record Says (ms : List Message) (s : ServerId) (n : ServerNode) (m : Message) : Type 0 where
   pub up_to : m.header.epoch ≤ n.state.stable.epoch.0

@@ -1,4 +1,4 @@
--- Changes of some kinds alone, one after another: a walk that makes no other kind says so by its type.
+-- Only changes of some kinds, one after another: a walk that makes no other kind says so by its type.
 use Rattle.st_lemmas.proofs.Words
 use Words.{if◌then◌else◌, ◌≡◌, Stamp}
 use Words.ClientState.{Turn}

@@ -90,7 +90,7 @@ pair_none R f s (x ∷ al) (y ∷ bl) p e = go (same_server x.server s) refl e (
 
 -- The lives that are lost.
 
--- each is of an association whose lease has ended
+-- each belongs to an association whose lease has ended
 pub record LostOf (c : ClientId) (before : ClientState) (now : Stamp) (al : List Association) (e : LeaseLife) : Type 0 where
   pub a : Association
   pub has : Has a al

@@ -110,18 +110,18 @@ pub data Change (now : Stamp) : Turn → Turn → Type 0 where
   -- the place of a page is known
   Learns : (t : Turn) (e : KnownExtent) → Unasked t.here.session → (e.mapping ≡ None → pages.known_of t.here.store.extents e.ino e.page ≡ None) →
       Change now t (with_store (record t.here.store { extents = pages.with_known e t.here.store.extents }) t)
-  -- a file is forgotten from a page on, where it is idle
+  -- a file is forgotten from a page on, if it is idle
   Forgets : (t : Turn) (ino : ℕ) (p : PageNo) → pages.is_idle t.here.store ino ≡ true → Change now t (with_store (pages.forget_from t.here.store ino p) t)
   -- the clean pages are others
   Caches : (t : Turn) (clean : List CleanPage) → Change now t (with_store (record t.here.store { pages = record t.here.store.pages { clean = clean } }) t)
-  -- a page is changed: under a lease that serves, where the page is known as mapped
+  -- a page is changed: under a lease that serves, if the page is known as mapped
   Writes : (t : Turn) (s : ClientSession) (f : FileId) (p : PageNo) (bytes : List ℕ) (n : Note) → t.here.session ≡ Some s →
       is_serving t.config s now ≡ true → f.server ≡ t.here.server → pages.is_mapped t.here.store.extents f.ino p ≡ true →
       ChangesPage f p n → Change now t (passes.with_pages_changed (pages.written t.here.store.pages f.ino p bytes) f.ino p (note t n))
   -- a read is submitted, of a page that is not dirty
   Reads : (t : Turn) (ino : ℕ) (p : PageNo) (m : MappedBlock) → pages.mapping_of t.here.store.extents ino p ≡ Some m →
       pages.dirty_of t.here.store.pages ino p ≡ None → Change now t (passes.submit_read t ino p m)
-  -- a write of a dirty page is submitted, where none is outstanding
+  -- a write of a dirty page is submitted, if none is outstanding
   Submits : (t : Turn) (s : ClientSession) (ino : ℕ) (p : PageNo) (d : DirtyPage) (m : MappedBlock) → t.here.session ≡ Some s →
       pages.dirty_of t.here.store.pages ino p ≡ Some d → pages.mapping_of t.here.store.extents d.ino d.page ≡ Some m →
       pages.is_being_written t.here.store.commands d.ino d.page ≡ false → Change now t (passes.submit_write t d m)

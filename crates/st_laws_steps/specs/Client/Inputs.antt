@@ -28,5 +28,5 @@ pub data Taken (t : ClientTurn) (now : Stamp) : ClientInput → ClientTurn → T
       Taken t now (inputs.App op ask) (at_each (only_at (server_of ask) (cl.take_ask op ask)) t)
   -- a message is received
   Receives : (m : Message) → (m.header.to == t.state.id.0) ≡ true → Taken t now (inputs.Control m) (at_each (cr.receive_at now m.header m.body) t)
-  -- the end of a command is told
+  -- the end of a command is reported
   Finishes : (number : ℕ) (result : Option (Option (Tag × List ℕ))) → Taken t now (inputs.Done number result) (at_each (cl.finish number result) t)

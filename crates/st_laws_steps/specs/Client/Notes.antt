@@ -1,4 +1,4 @@
--- What the notes of a client's step say of its pages: a page that was changed is dirty, under a lease that is not over.
+-- What the notes of a client's step say about its pages: a page that was changed is dirty, under a lease that is not over.
 use Rattle.std.specs.Prelude.{◌≡◌, ℕ, ◌<◌, List, [], ◌∷◌, Some}
 use Rattle.st_base.specs.declared.config.Config.{Config}
 use Rattle.st_base.specs.declared.ids.FileId.{FileId}

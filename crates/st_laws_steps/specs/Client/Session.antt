@@ -39,8 +39,8 @@ pub record HasExclusive (s : ClientSession) (ino : ℕ) (g : GrantNo) : Type 0 w
 abbrev pub HasLockUnder : LockCache → ℕ → GrantNo → Type 0
 HasLockUnder c ino g = (l : HeldLock) × (locks.lock_of c ino ≡ Some l) × (l.g ≡ g)
 
--- What a session may ask of a server while a file is being cut: extents under the grant of a lock that it holds; to cut that file; and to remove it, where a
--- grant is named under which it holds the file alone.
+-- What a session may ask of a server while a file is being cut: extents under the grant of a lock that it holds; to cut that file; and to remove it, if a
+-- grant is named under which it is the only holder of the file.
 abbrev pub MayAsk : ClientSession → Option ℕ → Body → Type 0
 MayAsk s cutting bodies.KeepAlive = Unit {0}
 MayAsk s cutting (bodies.Reassert rows) = Unit {0}
@@ -53,7 +53,7 @@ MayAsk s cutting (bodies.Name (ops.Remove dir name g)) = 1 ≤ g.0 → (ino : �
 MayAsk s cutting (bodies.Name op) = Unit {0}
 MayAsk s cutting body = ⊥
 
--- A new request: none is outstanding, it is a reassertion where one is due, and it may be asked.
+-- A new request: none is outstanding, it is a reassertion if one is due, and it may be asked.
 pub record IsAsked (s : ClientSession) (cutting : Option ℕ) (body : Body) : Type 0 where
   pub free : s.requests.asked ≡ None
   pub due : reasserts body ≡ s.due
@@ -63,7 +63,7 @@ pub record IsAsked (s : ClientSession) (cutting : Option ℕ) (body : Body) : Ty
 abbrev pub NothingKnown : List KnownExtent → ℕ → Type 0
 NothingKnown xs ino = (e : KnownExtent) → Has e xs → e.ino ≡ ino → ⊥
 
--- How the locks of a session change where it asks nothing. A lock is given up only where nothing is known of its file.
+-- How the locks of a session change if it asks nothing. A lock is given up only if nothing is known of its file.
 pub data LocksStep (xs : List KnownExtent) : LockCache → LockCache → Type 0 where
   LocksStay : (c : LockCache) → LocksStep xs c c
   LocksReduced : (c : LockCache) (ino : ℕ) (g : GrantNo) (to : Mode) → (locks.reduce c ino).given ≡ Some (g, to) → (to ≡ modes.None → NothingKnown xs ino) → LocksStep xs c (locks.reduce c ino).locks
@@ -79,7 +79,7 @@ pub record AsksNothing (xs : List KnownExtent) (s r : ClientSession) : Type 0 wh
   pub date : r.lease.date ≡ s.lease.date
   pub locks : LocksStep xs s.locks r.locks
 
--- A store from which a file was forgotten from a page on, where the file was idle.
+-- A store from which a file was forgotten from a page on, if the file was idle.
 pub record IsForgotten (st : Store) (ino : ℕ) (p : PageNo) : Type 0 where
   pub store : Store
   pub idle : pages.is_idle store ino ≡ true
@@ -95,7 +95,7 @@ pub data SessionChange (st : Store) : ClientSession → ClientSession → Type 0
   Keeps : (s u : ClientSession) → AsksNothing st.extents s u → SessionChange st s u
   -- the lock of a file that was removed goes
   DropsLock : (s : ClientSession) (ino : ℕ) (l : HeldLock) → SessionChange st s (with_release ino l.g modes.None (with_cache (locks.drop_lock s.locks ino) s))
-  -- its locks need not be reasserted any more
+  -- its locks need no longer be reasserted
   IsReasserted : (s : ClientSession) → SessionChange st s (record s { due = false })
   -- the outstanding request ends
   EndsRequest : (s : ClientSession) (stamp : Stamp) → SessionChange st s (replies.ended_by stamp s)

@@ -84,12 +84,12 @@ clock_in ts c = unwrap_or (numbered ts c.0) (record { 0 = 0 })
 abbrev pub IsKnown : List WorldClient → List LeaseLife → ClientId → ServerId → Life → Type 0
 IsKnown cs es c s l = ((e : LeaseLife) × (find (is_life_of c s l) es ≡ Some e)) ⊎ ((ev.life_of_site s (numbered cs c.0)).0 ≡ l.0)
 
--- the lives that ended are below the present one, or it is among them where the client does not run
+-- the lives that ended are below the present one, or it is among them if the client does not run
 pub record IsBelow (running : Bool) (e : LeaseLife) (a : Association) : Type 0 where
   pub up_to : e.life.0 ≤ a.life.0
   pub below : running ≡ true → e.life.0 < a.life.0
 
--- where a client does not run it has no session, and its lives are among those that ended
+-- if a client does not run it has no session, and its lives are among those that ended
 pub record IsStopped (es : List LeaseLife) (c : ClientId) (a : Association) : Type 0 where
   pub session : a.session ≡ None
   pub row : LeaseLife
@@ -107,7 +107,7 @@ pub record NodeHolds (k : Config) (ts : List Stamp) (es : List LeaseLife) (c : C
   pub ticks : numbered ts c.0 ≡ Some clock
   pub below : (e : LeaseLife) → Has e es → e.client ≡ c → (a : Association) → find (is_at e.server) node.state.associations ≡ Some a → IsBelow node.running e a
 
--- What holds of a life that ended: it is of an existing client, it occurs once, and its lease is over or a crash ended it.
+-- What holds of a life that ended: it belongs to an existing client, it occurs once, and its lease is over or a crash ended it.
 pub record EndedHolds (ts : List Stamp) (cs : List WorldClient) (es : List LeaseLife) (e : LeaseLife) : Type 0 where
   pub site : WorldClient
   pub there : numbered cs e.client.0 ≡ Some site

@@ -11,7 +11,7 @@ use Rattle.st_trace.specs.Client.Passes.{Reduced, StaysHeld, IsReduced, WritesOu
 use Rattle.st_trace.proofs.Client.Operating.{operations}
 use Rattle.st_trace.proofs.Client.Requesting.{greets, requests}
 
--- What lasts through each member of a pass, lasts through the pass. The fact may tell of those that are yet to be looked at.
+-- What lasts through each member of a pass, lasts through the pass. The fact may concern members that the pass has not reached yet.
 pub each_lasts : {A : Type 0} (One : A → Turn → Turn → Type 0) (P : List A → Turn → Type 0) →
     ((x : A) (xs : List A) (t u : Turn) → One x t u → P (x ∷ xs) t → P xs u) →
     (xs : List A) (t u : Turn) → Each One xs t u → P xs t → P [] u

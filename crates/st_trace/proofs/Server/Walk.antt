@@ -98,7 +98,7 @@ module _ (n : ServerState) (now : Stamp) (i : ServerInput) (P : ServerTurn → T
       go true e = cc
       go false e = e
 
-  -- what was granted so far is told
+  -- what was granted so far is sent
   abbrev GrantsTold : ServerTurn → Granting → ServerTurn
   GrantsTold t p = tell_granted p.granted (with_locks p.locks t)
 

@@ -18,7 +18,7 @@ pub data Takes (op : ℕ) (ask : Ask) (t : Turn) : Turn → Type 0 where
   WaitsForSync : (f : FileId) → ask ≡ asks.Sync f → pages.has_lost t.here.lost f.ino ≡ false → Takes op ask t (keep (new_operation op ask) t)
   Waits : is_sync ask ≡ false → Takes op ask t (keep (new_operation op ask) t)
 
--- a command is outstanding no more
+-- a command is no longer outstanding
 abbrev pub without : PageCommand → Turn → Turn
 without c t = cl.with_commands (pages.without_command c.number t.here.store.commands) t
 

@@ -1,4 +1,4 @@
--- What a client does where the lease of its session is over: everything of the server is lost, and each pending operation is answered.
+-- What a client does if the lease of its session is over: everything of the server is lost, and each pending operation is answered.
 use Rattle.std.specs.Prelude.{◌≡◌, ℕ, true, false, [], Some, None}
 use Rattle.st_base.specs.declared.ids.FileId.{FileId}
 use Rattle.st_base.specs.declared.ids.Stamp.{Stamp}
@@ -29,7 +29,7 @@ pub data Ended (s : ClientSession) (o : Operation) (t : Turn) : Turn → Type 0 
 abbrev pub loss_noted : Turn → Turn
 loss_noted t = cl.with_lost_pages t.here.store (note t (notes.Lost t.here.server t.here.life))
 
--- A session is lost where its lease is over.
+-- A session is lost if its lease is over.
 pub data Loses (now : Stamp) (t : Turn) : Turn → Type 0 where
   HasNoSession : t.here.session ≡ None → Loses now t t
   Lasts : (s : ClientSession) → t.here.session ≡ Some s → cl.is_over t s now ≡ false → Loses now t t

@@ -72,7 +72,7 @@ pub data Condemns (h : Header) (s : ClientSession) : Body → Type 0 where
   RefusesLocks : (b : Body) (q : Request) → s.requests.asked ≡ Some q → replies.is_counting h.number b q ≡ true → replies.refuses_reassertion b q.body ≡ true →
       Condemns h s b
 
--- What becomes of a grant: it is installed, or declined where there is no place for it, or it is an old one.
+-- What becomes of a grant: it is installed, or declined if there is no place for it, or it is an old one.
 pub data Grants (s : ClientSession) (ino : ℕ) (g : GrantNo) (mode : Mode) : ClientSession → Type 0 where
   Installs : locks.is_above_seen s.locks ino g ≡ true → locks.has_place s.locks ino ≡ true → Grants s ino g mode
       (with_cache (locks.installed s.locks ino g mode) s)
@@ -123,7 +123,7 @@ pub data Effect (now : Stamp) (t : Turn) (s : ClientSession) (file : Option ℕ)
   IsReasserted : Effect now t s file asked bodies.Reasserted (with_session (record s { due = false }) t)
   IsRefused : (w : Why) (a b : ℕ) (u : Turn) → Refusal t file asked w a b u → Effect now t s file asked (bodies.Nack w a b) (left_stuck u)
 
--- A reply renews the lease where it is not condemned and the reply's stamp is later, with a note.
+-- A reply renews the lease if it is not condemned and the reply's stamp is later, with a note.
 pub data Renews (t : Turn) (s : ClientSession) (stamp : Stamp) : Turn → Type 0 where
   IsLater : lease.is_renewal stamp s.lease ≡ true →
       Renews t s stamp (note t (notes.Leased t.here.server (lease.end_of t.config (lease.renewed stamp s.lease))))

@@ -18,7 +18,7 @@ use Rattle.st_trace.specs.Client.Each.{Each}
 use Rattle.st_trace.specs.Client.Operations.{Operated}
 use Rattle.st_trace.specs.Client.Requests.{Greets, Requests}
 
--- What becomes of a demanded file: it stays, or its lock is reduced to what is demanded, where it is idle and not busy.
+-- What becomes of a demanded file: it stays, or its lock is reduced to what is demanded, if it is idle and not busy.
 pub data Reduced (ino : ℕ) (t : Turn) : Turn → Type 0 where
   StaysHeld : Reduced ino t t
   IsReduced : (s : ClientSession) (g : GrantNo) (to : Mode) → t.here.session ≡ Some s → passes.may_reduce t s ino ≡ true →
@@ -32,13 +32,13 @@ submits_write t d m =
     say (passes.with_command d.ino d.page (io.Write d.version) t)
     (outputs.Submit t.next_command m.at (commands.Write m.at (record { file = passes.file t d.ino; page = d.page; birth = m.birth }) d.bytes))
 
--- What becomes of a dirty page: it stays, or it is written out where that is due.
+-- What becomes of a dirty page: it stays, or it is written out if that is due.
 pub data WritesOut (now : Stamp) (tick : Bool) (place : ℕ × PageNo) (t : Turn) : Turn → Type 0 where
   StaysDirty : WritesOut now tick place t t
   IsWritten : (s : ClientSession) (d : DirtyPage) (m : MappedBlock) → t.here.session ≡ Some s → pages.dirty_of t.here.store.pages place.0 place.1 ≡ Some d →
       passes.is_writable t s now tick d ≡ true → pages.mapping_of t.here.store.extents d.ino d.page ≡ Some m → WritesOut now tick place t (submits_write t d m)
 
--- the dirty pages that are looked at: all of them, where there is a session
+-- the dirty pages that are looked at: all of them, if there is a session
 abbrev pub places_of : Option ClientSession → Pages → List (ℕ × PageNo)
 places_of None ps = []
 places_of (Some s) ps = pages.dirty_places ps

@@ -25,7 +25,7 @@ use Rattle.st_lemmas.specs.Lists.{Has}
 use Rattle.st_rules.specs.ClientState.{ClientSession, Turn, file_of, file_of_name, is_serving, is_sync, send, wait_of, with_operations, with_session}
 use Rattle.st_rules.specs.ClientState.{with_store}
 
--- A greeting is sent where there is no session and an operation of the server waits.
+-- A greeting is sent if there is no session and an operation of the server waits.
 pub data Greets (now : Stamp) (tick : Bool) (t : Turn) : Turn → Type 0 where
   IsSilent : Greets now tick t t
   SaysHello : t.here.session ≡ None → passes.must_greet t now tick ≡ true → Greets now tick t (send (passes.with_greeting now t) 0 0 now.0 bodies.Hello)
@@ -46,7 +46,7 @@ pub data Wants (t : Turn) (s : ClientSession) (now : Stamp) (ask : Ask) : Wanted
   ToPatch : (f : FileId) (p : PageNo) (at : ℕ) (bytes : List ℕ) (l : HeldLock) → ask ≡ asks.Patch f p at bytes → locks.lock_of s.locks f.ino ≡ Some l →
       covers l.mode modes.X ≡ true → pages.is_mapped t.here.store.extents f.ino p ≡ false →
       Wants t s now ask (record { body = bodies.Allocate f.ino l.g p 1; own = false; cut = None })
-  -- itself: a cut, and a remove of a file, where the file is idle; and what is asked of names alone
+  -- itself: a cut, and a remove of a file, if the file is idle; and what is asked only of names
   ToCut : (f : FileId) (p : PageNo) (l : HeldLock) → ask ≡ asks.Cut f p → locks.lock_of s.locks f.ino ≡ Some l → covers l.mode modes.X ≡ true →
       pages.is_idle t.here.store f.ino ≡ true → Wants t s now ask (record { body = bodies.Cut f.ino l.g p; own = true; cut = Some (f.ino, p) })
   ToRemove : (server : ServerId) (n : NameAsk) (ino : ℕ) (l : HeldLock) → ask ≡ asks.Name server n → file_of_name n ≡ Some ino →
@@ -56,7 +56,7 @@ pub data Wants (t : Turn) (s : ClientSession) (now : Stamp) (ask : Ask) : Wanted
   ToName : (server : ServerId) (n : NameAsk) → ask ≡ asks.Name server n → file_of_name n ≡ None →
       Wants t s now ask (record { body = bodies.Name (passes.name_op n locks.no_grant); own = true; cut = None })
 
--- The first of the operations that asks: none before it asks anything, and it alone may change.
+-- The first of the operations that asks: none before it asks anything, and only it may change.
 pub record AsksFirst (t : Turn) (s : ClientSession) (now : Stamp) (xs : List Operation) (o : Operation) (ys : List Operation) (w : Wanted)
     (os : List Operation) : Type 0 where
   pub there : os ≡ xs ++ o ∷ ys
