@@ -56,7 +56,8 @@ unfolding locks.installed
 installed_sound c ino g mode i e m p h =
     record {
       rows = all_put is_sound_lock (is_lock_on ino) (locks.held_lock ino g mode) c.rows (lock_is ino g mode i e m) h.rows;
-      few = put_fits (is_lock_on ino) (locks.held_lock ino g mode) c.rows 1024 h.few p;
+      few = put_fits (is_lock_on ino) (locks.held_lock ino g mode) c.rows c.limit h.few p;
+      limit = h.limit;
       demanded = all_filter is_sound_demand (λ d. not (is_demand_on ino d)) c.demanded h.demanded;
     }
 
@@ -99,7 +100,8 @@ demand_lock_sound c ino g to l i e m f h =
     let p = lock_parts l (held_sound c ino l h.rows f).1 in
     record {
       rows = all_put is_sound_lock (is_lock_on ino) (locks.held_lock ino g l.mode) c.rows (lock_is ino g l.mode i e p.2) h.rows;
-      few = put_fits (is_lock_on ino) (locks.held_lock ino g l.mode) c.rows 1024 h.few (ap (λ b. b || nat_lt (length c.rows) 1024) (found_is (locks.lock_of c ino) l f));
+      few = put_fits (is_lock_on ino) (locks.held_lock ino g l.mode) c.rows c.limit h.few (ap (λ b. b || nat_lt (length c.rows) c.limit) (found_is (locks.lock_of c ino) l f));
+      limit = h.limit;
       demanded =
           all_last is_sound_demand (locks.without_demand ino c.demanded) (locks.demanded_file ino (locks.lesser_demand to (locks.demand_of c ino)))
           (all_filter is_sound_demand (λ d. not (is_demand_on ino d)) c.demanded h.demanded) (demand_fits c ino to m h);
@@ -126,18 +128,18 @@ FitGiven ino None = ⊤
 FitGiven ino (Some given) = (is_ino ino ≡ true) × (is_grant given.0 ≡ true) × (is_mode 0 1 given.1 ≡ true)
 
 lowered_sound : (c : LockCache) (ino : ℕ) (l : HeldLock) (to : Mode) → locks.lock_of c ino ≡ Some l → AreSoundLocks c →
-    (list_all is_sound_lock (locks.lowered_rows c.rows ino l to) ≡ true) × (length (locks.lowered_rows c.rows ino l to) ≤ 1024)
+    (list_all is_sound_lock (locks.lowered_rows c.rows ino l to) ≡ true) × (length (locks.lowered_rows c.rows ino l to) ≤ c.limit)
 lowered_sound c ino l to f h = by to
   where
-    shared : (list_all is_sound_lock (locks.with_lock (locks.held_lock ino l.g modes.S) c.rows) ≡ true) × (length (locks.with_lock (locks.held_lock ino l.g modes.S) c.rows) ≤ 1024)
+    shared : (list_all is_sound_lock (locks.with_lock (locks.held_lock ino l.g modes.S) c.rows) ≡ true) × (length (locks.with_lock (locks.held_lock ino l.g modes.S) c.rows) ≤ c.limit)
     shared =
         let s = held_sound c ino l h.rows f in
         let p = lock_parts l s.1 in (
           all_put is_sound_lock (is_lock_on ino) (locks.held_lock ino l.g modes.S) c.rows (lock_is ino l.g modes.S (ap is_ino (sym s.0) ∙ p.0) p.1 refl) h.rows,
-          put_fits (is_lock_on ino) (locks.held_lock ino l.g modes.S) c.rows 1024 h.few (ap (λ b. b || nat_lt (length c.rows) 1024) (found_is (locks.lock_of c ino) l f)),
+          put_fits (is_lock_on ino) (locks.held_lock ino l.g modes.S) c.rows c.limit h.few (ap (λ b. b || nat_lt (length c.rows) c.limit) (found_is (locks.lock_of c ino) l f)),
         )
 
-    by : (m : Mode) → (list_all is_sound_lock (locks.lowered_rows c.rows ino l m) ≡ true) × (length (locks.lowered_rows c.rows ino l m) ≤ 1024)
+    by : (m : Mode) → (list_all is_sound_lock (locks.lowered_rows c.rows ino l m) ≡ true) × (length (locks.lowered_rows c.rows ino l m) ≤ c.limit)
     by modes.None =
         let n = filter_fits (λ r. not (is_lock_on ino r)) c.rows in
         let k = h.few in
@@ -155,7 +157,7 @@ reduce_lock_fit c d (Some l) e f h =
     let s = held_sound c d.ino l h.rows f in
     let p = lock_parts l s.1 in
     let r = lowered_sound c d.ino l d.to f h in (
-      record { rows = r.0; few = r.1; demanded = all_filter is_sound_demand (λ x. not (is_demand_on d.ino x)) c.demanded h.demanded },
+      record { rows = r.0; few = r.1; limit = h.limit; demanded = all_filter is_sound_demand (λ x. not (is_demand_on d.ino x)) c.demanded h.demanded },
       (ap is_ino (sym s.0) ∙ p.0, p.1, e),
     )
 
@@ -180,5 +182,6 @@ drop_sound c ino h =
     record {
       rows = all_filter is_sound_lock (λ r. not (is_lock_on ino r)) c.rows h.rows;
       few = omega (arith, n, k);
+      limit = h.limit;
       demanded = all_filter is_sound_demand (λ d. not (is_demand_on ino d)) c.demanded h.demanded;
     }

@@ -184,6 +184,7 @@ locks_sound c h =
     let b = rising_fits (map ino_of_lock c.rows) in
     let d = map_fits ino_of_lock c.rows in
     let f = h.few in
+    let m = h.limit in
     and_both (between 0 1024 (length (filter_map (lock_row_at c) keys))) (are_rows is_lock_row after_lock 1 (filter_map (lock_row_at c) keys))
-    (between_is 0 1024 (length (filter_map (lock_row_at c) keys)) (omega arith) (omega (arith, a, b, d, f)))
+    (between_is 0 1024 (length (filter_map (lock_row_at c) keys)) (omega arith) (omega (arith, a, b, d, f, m)))
     (rows_rise c h.rows keys 1 (rising_rises (map ino_of_lock c.rows)) (λ k i. key_above c.rows h.rows k (rising_has (map ino_of_lock c.rows) k i)))

@@ -44,7 +44,7 @@ module _ (most : ℕ) (low : 1 ≤ most) (high : most < 2 ^ 64) where
               server = h.here.server;
               first = h.here.first;
               life = h.here.life;
-              session = record { sound = record { epoch = e; next = omega arith; asked = refl; locks = record { rows = refl; few = omega arith; demanded = refl }; releases = refl }; room = low };
+              session = record { sound = record { epoch = e; next = omega arith; asked = refl; locks = record { rows = refl; few = omega arith; limit = omega arith; demanded = refl }; releases = refl }; room = low };
             };
         operations = h.operations;
         out = h.out;
@@ -67,7 +67,7 @@ module _ (most : ℕ) (low : 1 ≤ most) (high : most < 2 ^ 64) where
       told_fit most (is_asked t.here.server) (answers.Uncertain s.epoch.0 epoch.0) (with_session (in_epoch epoch s) t)
       (puts_fit most t (in_epoch epoch s)
       (record {
-        sound = record { epoch = e; next = omega arith; asked = refl; locks = record { rows = l.sound.locks.rows; few = l.sound.locks.few; demanded = refl }; releases = refl };
+        sound = record { epoch = e; next = omega arith; asked = refl; locks = record { rows = l.sound.locks.rows; few = l.sound.locks.few; limit = l.sound.locks.limit; demanded = refl }; releases = refl };
         room = low;
       }) h)
 

@@ -51,9 +51,15 @@ is_sound_release r = is_ino r.ino && (is_grant r.g && is_mode 0 1 r.to)
 abbrev pub is_sound_operation : Operation → Bool
 is_sound_operation o = is_ask o.ask
 
--- the locks of a session: at most as many as a reassertion may have
+-- the locks of a session: no more than the limit, which is at most what a reassertion may have
 abbrev pub AreSoundLocks : LockCache → Type 0
-AreSoundLocks c = record { rows : list_all is_sound_lock c.rows ≡ true; few : length c.rows ≤ 1024; demanded : list_all is_sound_demand c.demanded ≡ true }
+AreSoundLocks c =
+    record {
+      rows : list_all is_sound_lock c.rows ≡ true;
+      few : length c.rows ≤ c.limit;
+      limit : c.limit ≤ 1024;
+      demanded : list_all is_sound_demand c.demanded ≡ true;
+    }
 
 -- a session
 abbrev pub IsSoundSession : ClientSession → Type 0

@@ -89,7 +89,7 @@ module _ (n : Names) where
   at_adds dir name directory (Some r) = tt
   at_adds dir name directory None =
       cond_either Adds (is_some (names.entry_at n dir name)) (Err Exists) (names.add_new n dir name directory) (λ q. tt)
-      (λ q. cond_either Adds (nat_lt (names.live_inodes n) 4096) (Ok (names.added n dir name directory)) (Err TooMany) (λ r. refl) (λ r. tt))
+      (λ q. cond_either Adds (nat_lt (names.live_inodes n) n.limit) (Ok (names.added n dir name directory)) (Err TooMany) (λ r. refl) (λ r. tt))
 
   create_adds : (dir : ℕ) (name : List ℕ) → Adds (names.create n dir name)
   unfolding names.create names.add

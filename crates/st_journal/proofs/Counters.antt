@@ -72,7 +72,7 @@ unfolding names.add names.add_new names.added names.add_beside names.add_at
 add_adds t dir n d c e = at (names.place_refusal t dir n) refl e
   where
     new : (c : names.Changed) → names.add_new t dir n d ≡ Ok c → c.names.next ≤ t.next + 1
-    new c e = elim (cases_Bool (nat_lt (names.live_inodes t) 4096)) [
+    new c e = elim (cases_Bool (nat_lt (names.live_inodes t) t.limit)) [
       | Rattle.std.proofs.Common.inl room ↦ let is = ok_is EntryRefusal (names.added t dir n d) c (sym (cond-true _ _ _ room) ∙ e) in subst (λ (x : names.Changed). x.names.next ≤ t.next + 1) is (omega arith)
       | Rattle.std.proofs.Common.inr full ↦ absurd (err_not (sym (cond-false _ _ _ full) ∙ e))
     ]

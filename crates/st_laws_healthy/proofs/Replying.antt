@@ -41,7 +41,7 @@ module _ (now : Stamp) (h : Header) where
 
       go : (r : Result locks.Acquired AcquireRefusal) → GetsReply now h t (bd.Acquire ino mode) (sv.acquire_by t ino mode r)
       go (Ok a) = gives now h t (sv.with_locks a.locks t) (bd.Acquire ino mode) (sv.verdict_body ino mode a.verdict) refl refl refl refl (by a.verdict)
-      go (Err r) = gives now h t t (bd.Acquire ino mode) (bd.Nack why.TooManyLocks 1024 0) refl refl refl refl refl
+      go (Err r) = gives now h t t (bd.Acquire ino mode) (bd.Nack why.TooManyLocks t.state.locks.limit 0) refl refl refl refl refl
 
   gets_reply_map : (t : ServerTurn) (ino : ℕ) (g : GrantNo) (p : PageNo) → GetsReply now h t (bd.Map ino g p) (sv.map t h ino g p)
   unfolding sv.map sv.map_held sv.map_page sv.not_holder sv.no_file

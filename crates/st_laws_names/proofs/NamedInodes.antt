@@ -71,7 +71,7 @@ add_other n dir x b = go (names.place_refusal n dir x)
 
     beside : (c : Bool) → Other n (if c then Err names_refusal.Exists else names.add_new n dir x b)
     beside true = tt
-    beside false = room (nat_lt (names.live_inodes n) 4096)
+    beside false = room (nat_lt (names.live_inodes n) n.limit)
 
     go : (o : Option EntryRefusal) → Other n (names.add_at n dir x b o)
     go (Some r) = tt

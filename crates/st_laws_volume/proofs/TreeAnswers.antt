@@ -64,7 +64,7 @@ add_same n s directory dir name =
         (if b then makes (trees.with_new (tree_of n) new) (answers.Named n.next) None else refuses (tree_of n) 8)
         ≡ as_changed n None (if b then Ok (names.added n dir name directory) else Err refusals.TooMany)
     room true =
-        ap (λ es. makes (record { entries = es; next = n.next + 1 }) (answers.Named n.next) None)
+        ap (λ es. makes (record { entries = es; next = n.next + 1; limit = n.limit }) (answers.Named n.next) None)
         (sym (map_last entry_of n.entries (names.new_entry n dir name directory)))
     room false = refl
 
@@ -73,9 +73,9 @@ add_same n s directory dir name =
         ≡ as_changed n None (if is_some o then Err refusals.Exists else names.add_new n dir name directory)
     beside (Some e) = refl
     beside None =
-        ap (λ k. if nat_lt (k + 1) 4096 then makes (trees.with_new (tree_of n) new) (answers.Named n.next) None else refuses (tree_of n) 8)
+        ap (λ k. if nat_lt (k + 1) n.limit then makes (trees.with_new (tree_of n) new) (answers.Named n.next) None else refuses (tree_of n) 8)
         (length_map entry_of n.entries)
-        ∙ room (nat_lt (names.live_inodes n) 4096)
+        ∙ room (nat_lt (names.live_inodes n) n.limit)
 
 -- An entry moves.
 move_same : (n : Names) → IsSound n → (dir : ℕ) (name : List ℕ) (dir2 : ℕ) (name2 : List ℕ) (e : NameEntry) → names.entry_at n dir name ≡ Some e →
@@ -134,7 +134,7 @@ rename_same n s dir name dir2 name2 =
         ≡ as_changed n None (if b then Err refusals.Cycle else Ok (names.renamed n dir name dir2 name2 e))
     cycle e q true = refl
     cycle e q false =
-        ap (λ es. makes (record { entries = es; next = n.next }) (answers.Named e.ino) None) (move_same n s dir name dir2 name2 e q)
+        ap (λ es. makes (record { entries = es; next = n.next; limit = n.limit }) (answers.Named e.ino) None) (move_same n s dir name dir2 name2 e q)
 
     found : IsDirectory n.entries dir2 → (o : Option NameEntry) → names.entry_at n dir name ≡ o → (there : Option NameEntry) →
         names.entry_at n dir2 name2 ≡ there →
@@ -293,8 +293,11 @@ without_same : (n : Names) (dir : ℕ) (name : List ℕ) (e : NameEntry) (remove
     trees.takes_out (tree_of n) dir name ino removed ≡ as_changed n removed (Ok (names.without n dir name e))
 unfolding names.without
 without_same n dir name e removed ino q =
-    ap (λ es. makes (record { entries = es; next = n.next }) (answers.Named ino) removed) (filter_as (λ d. not (trees.is_named dir name d)) entry_of n.entries)
-    ∙ ap (λ k. makes (record { entries = map entry_of (filter (λ d. not (names.is_entry_at dir name d)) n.entries); next = n.next }) (answers.Named k) removed)
+    ap (λ es. makes (record { entries = es; next = n.next; limit = n.limit }) (answers.Named ino) removed)
+    (filter_as (λ d. not (trees.is_named dir name d)) entry_of n.entries)
+    ∙ ap
+    (λ k. makes (record { entries = map entry_of (filter (λ d. not (names.is_entry_at dir name d)) n.entries); next = n.next; limit = n.limit }) (answers.Named k)
+    removed)
     (sym q)
 
 remove_file : (n : Names) → IsSound n → (dir : ℕ) (name : List ℕ) (ino : ℕ) → names.lookup n dir name ≡ Ok ino → names.is_file n ino ≡ true →

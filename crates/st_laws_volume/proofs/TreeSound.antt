@@ -105,7 +105,7 @@ add_sound directory dir name n d s q = go (names.place_refusal n dir name) refl 
     beside : IsDirectory n.entries dir → (o : Option NameEntry) → names.entry_at n dir name ≡ o →
         ◌≡◌ {A = Result names.Changed EntryRefusal} (if is_some o then Err refusals.Exists else names.add_new n dir name directory) (Ok d) → IsSound d.names
     beside i (Some e) f q = cc
-    beside i None f q = room f i (nat_lt (names.live_inodes n) 4096) q
+    beside i None f q = room f i (nat_lt (names.live_inodes n) n.limit) q
 
     go : (o : Option EntryRefusal) → names.place_refusal n dir name ≡ o → names.add_at n dir name directory o ≡ Ok d → IsSound d.names
     go (Some r) p q = cc

@@ -16,7 +16,7 @@ abbrev pub entry_of : NameEntry → DirEntry
 entry_of e = record { dir = e.dir; name = e.name; ino = e.ino; directory = e.directory }
 
 abbrev pub tree_of : Names → Tree
-tree_of n = record { entries = map entry_of n.entries; next = n.next }
+tree_of n = record { entries = map entry_of n.entries; next = n.next; limit = n.limit }
 
 -- Sound names: each inode has one entry, each place has one; inode numbers are above the root's and
 -- below the next one; and each entry lies in the root or in a directory that has an entry.

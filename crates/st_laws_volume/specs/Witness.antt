@@ -298,7 +298,8 @@ are_entries (o ∷ os) (e ∷ es) = is_entry o e && are_entries os es
 
 abbrev pub is_tree : ServerNode → Tree → Bool
 is_tree n t =
-    are_entries n.state.stable.names.entries t.entries && (n.state.stable.names.next == t.next)
+    are_entries n.state.stable.names.entries t.entries
+    && ((n.state.stable.names.next == t.next) && (n.state.stable.names.limit == t.limit))
 
 unfoldable pub are_trees : List ServerNode → List Tree → Bool
 are_trees [] [] = true

@@ -17,9 +17,9 @@ pub record ServerLocks : Type 0 where
   pub server : ServerId
   pub locks : LockCache
 
--- the three tables
+-- the three tables, with the limit of the first two forms
 abbrev pub tables : List HeldLock → List SeenGrant → List DemandedFile → LockCache
-tables rows seen demanded = record { rows = rows; seen = seen; demanded = demanded }
+tables rows seen demanded = record { rows = rows; seen = seen; demanded = demanded; limit = 1024 }
 
 -- nothing is cached of a server
 abbrev pub no_locks_of : ServerId → ServerLocks

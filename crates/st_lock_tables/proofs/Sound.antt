@@ -316,7 +316,7 @@ module _ {A : Type 0} (key : A → Key) (same : A → A → Bool) (h : (x y : A)
   once_by_keys [] d = refl
   once_by_keys (x ∷ xs) d = and_from (not (list_any (same x) xs)) (are_once same xs) (no_false (list_any (same x) xs) (none_same x xs d.0)) (once_by_keys xs d.1)
 
-pub valid : (e : Epoch) (g : ℕ) (rows : List LockRow) (ws : List Waiter) → IsSound e g rows ws → IsDistinct same_key (map lock_key rows) → IsDistinct same_key (map wait_key ws) → IsLockTable (record { epoch = e; grants = g; rows = rows; waiters = ws })
+pub valid : (e : Epoch) (g : ℕ) (rows : List LockRow) (ws : List Waiter) → IsSound e g rows ws → IsDistinct same_key (map lock_key rows) → IsDistinct same_key (map wait_key ws) → IsLockTable (record { epoch = e; grants = g; rows = rows; waiters = ws; limit = 1024 })
 valid e g rows ws s d f = record {
   rows_once = once_by_keys lock_key same_row (λ x y i. eq_turn y.client.0 x.client.0 i && eq_turn y.ino x.ino i) rows d;
   waits_once = once_by_keys wait_key same_wait (λ x y i. eq_turn y.client.0 x.client.0 i && eq_turn y.ino x.ino i) ws f;

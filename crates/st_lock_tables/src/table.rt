@@ -41,7 +41,7 @@ impl Model for PlainTable {
 
     ghost use Rattle.st_lock_tables.specs.Calls.{IsSound};
 
-    ghost view = { λ t. record { epoch = t.epoch; grants = t.grants; rows = t.rows; waiters = t.waits } };
+    ghost view = { λ t. record { epoch = t.epoch; grants = t.grants; rows = t.rows; waiters = t.waits; limit = 1024 } };
 
     ghost invariant = { λ t. IsSound t.epoch t.grants t.rows t.waits };
 }
@@ -406,7 +406,7 @@ impl PlainTable {
     /// The client has rows or waits on fewer than 1,024 files. Its waits are looked at only if
     /// it has fewer rows, and waits that could make up the number.
     fn has_few(&self, client: ClientId) -> Result<bool, AllocError>
-        ensures { IfOk result (λ few. few ≡ nat_lt (length (locks.files_of self.now client)) 1024) }
+        ensures { IfOk result (λ few. few ≡ nat_lt (length (locks.files_of self.now client)) self.now.limit) }
     {
         // For their clauses `distinct`: a client has one row and one wait of a file.
         let _rows = self.rows.len();
@@ -501,6 +501,14 @@ impl PlainTable {
             None => self.acquire_new(client, life, ino, mode, grants),
             Some(row) => self.acquire_over(client, life, ino, mode, grants, row),
         }
+    }
+
+    /// On how many files a client may have a row or a wait.
+    pub fn limit(&self) -> u64
+        ensures { result ≡ self.now.limit }
+    {
+        let _epoch = self.epoch;
+        1024
     }
 
     /// Whether one more lock may be granted in this epoch.

@@ -136,6 +136,13 @@ impl LockTable {
         verdict
     }
 
+    /// On how many files a client may have a row or a wait.
+    pub fn limit(&self) -> u64
+        ensures { result ≡ self.now.limit }
+    {
+        self.parts.table.limit()
+    }
+
     /// Whether one more lock may be granted in this epoch.
     pub fn has_room(&self) -> bool
         ensures { result ≡ nat_lt (self.now.grants + 1) (2 ^ 32) }

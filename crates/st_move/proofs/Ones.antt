@@ -25,17 +25,18 @@ pub record IsOnes (containers : ℕ) (r : LockRow) : Type 0 where
   pub some : 1 ≤ r.ino
   pub known : r.ino ≤ containers
 
--- all rows are such, and nobody waits
+-- all rows are such, nobody waits, and the limit is that of the first two forms
 pub record AreOnes (containers n : ℕ) (l : Locks) : Type 0 where
   pub grants : l.grants ≤ n
   pub rows : (r : LockRow) → Has r l.rows → IsOnes containers r
   pub waiters : l.waiters ≡ []
+  pub limit : l.limit ≡ 1024
 
 pub ones_later : (containers n : ℕ) (l : Locks) → AreOnes containers n l → AreOnes containers (n + 1) l
-ones_later containers n l a = let g : l.grants ≤ n = a.grants in record { grants = omega arith; rows = a.rows; waiters = a.waiters }
+ones_later containers n l a = let g : l.grants ≤ n = a.grants in record { grants = omega arith; rows = a.rows; waiters = a.waiters; limit = a.limit }
 
 pub ones_fresh : (containers : ℕ) (epoch : Epoch) → AreOnes containers 0 (no_locks epoch)
-ones_fresh containers epoch = record { grants = omega arith; rows = λ r i. absurd i; waiters = refl }
+ones_fresh containers epoch = record { grants = omega arith; rows = λ r i. absurd i; waiters = refl; limit = refl }
 
 -- members of a list in which one was put
 put_has : {A : Type 0} (p : A → Bool) (x : A) (xs : List A) (v : A) → Has v (put p x xs) → (v ≡ x) ⊎ Has v xs
@@ -74,6 +75,7 @@ ones_locked containers n l c some known a = go (has_lock l c)
           grants = omega arith;
           rows = λ r i. rows r (put_has (is_row_of one c) row l.rows r i);
           waiters = ap (without_wait one c) a.waiters;
+          limit = a.limit;
         }
 
 -- a lock that is released
@@ -85,6 +87,7 @@ ones_unlocked containers n l c a =
       grants = omega arith;
       rows = λ r i. a.rows r (has_filter (λ q. not (is_row_of one c q)) l.rows r i).0;
       waiters = a.waiters;
+      limit = a.limit;
     }
 
 -- rising numbers from 1 to a bound are no more than the bound
@@ -129,7 +132,10 @@ none_against c (r ∷ rows) f = ap (λ b. b || list_any (stands_against one c mo
 -- one more lock is granted wherever it is asked for
 module _ (containers n : ℕ) (l : Locks) (few : containers < 1024) (a : AreOnes containers n l) where
   place : (c : ℕ) → has_place l one c ≡ true
-  place c = let f : length (files_of l one) ≤ containers = few_files containers n l a in or_right (is_some (wait_of l one c)) _ (lt-ltb (length (files_of l one)) 1024 (omega arith))
+  place c =
+      let f : length (files_of l one) ≤ containers = few_files containers n l a in
+      let most : l.limit ≡ 1024 = a.limit in
+      or_right (is_some (wait_of l one c)) _ (lt-ltb (length (files_of l one)) l.limit (omega arith))
 
   grants : (c : ℕ) → may_grant l one c modes.X true ≡ true
   grants c =

@@ -101,7 +101,7 @@ rising_filter p (e ∷ es) r =
     (cases_Bool (p e))
 
 -- An entry is added.
-pub added_in_order : (n : names.Names) (dir : ℕ) (name : List ℕ) (directory : Bool) → IsInOrder n → is_some (names.entry_at n dir name) ≡ false → length n.entries < 4095 → IsInOrder (names.added n dir name directory).names
+pub added_in_order : (n : names.Names) (dir : ℕ) (name : List ℕ) (directory : Bool) → IsInOrder n → is_some (names.entry_at n dir name) ≡ false → names.live_inodes n < n.limit → IsInOrder (names.added n dir name directory).names
 unfolding names.added
 added_in_order n dir name directory o new few =
     let e = names.new_entry n dir name directory in
@@ -114,7 +114,7 @@ added_in_order n dir name directory o new few =
     }
 
 -- An entry goes.
-pub gone_in_order : (n : names.Names) (dir : ℕ) (name : List ℕ) → IsInOrder n → IsInOrder (record { entries = filter (λ d. not (names.is_entry_at dir name d)) n.entries; next = n.next })
+pub gone_in_order : (n : names.Names) (dir : ℕ) (name : List ℕ) → IsInOrder n → IsInOrder (record { entries = filter (λ d. not (names.is_entry_at dir name d)) n.entries; next = n.next; limit = n.limit })
 gone_in_order n dir name o =
     let keep = λ (d : NameEntry). not (names.is_entry_at dir name d) in
     record {
@@ -200,7 +200,7 @@ module _ (dir : ℕ) (name : List ℕ) (dir2 : ℕ) (name2 : List ℕ) where
   rising_after [] r = r
   rising_after (e ∷ es) r = (above_after e es r.0, rising_after es r.1)
 
-  pub renamed_in_order : (n : names.Names) → IsInOrder n → is_some (names.entry_at n dir2 name2) ≡ false → IsInOrder (record { entries = map (names.move_entry dir name dir2 name2) n.entries; next = n.next })
+  pub renamed_in_order : (n : names.Names) → IsInOrder n → is_some (names.entry_at n dir2 name2) ≡ false → IsInOrder (record { entries = map (names.move_entry dir name dir2 name2) n.entries; next = n.next; limit = n.limit })
   renamed_in_order n o new = record {
     names = names_after n.entries o.names (sym (found_is_any is_new n.entries) ∙ new);
     inodes = inodes_after n.entries o.inodes;

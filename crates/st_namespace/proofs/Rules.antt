@@ -57,18 +57,19 @@ module _ (n : Names) (d : ℕ) (m : List ℕ) where
   remove_full i b p h t = rw (← p) (full_in (entry_at n d m) i b h t)
 
   gone_in : (o : Option NameEntry) (i : ℕ) (b : Bool) → Some (i, b) ≡ option_map ino_and_mark o → (b && has_entries n i) ≡ false →
-      remove_found n d m o ≡ Ok (record { names = record { entries = filter (λ e. not (is_entry_at d m e)) n.entries; next = n.next }; ino = i })
+      remove_found n d m o ≡
+      Ok (record { names = record { entries = filter (λ e. not (is_entry_at d m e)) n.entries; next = n.next; limit = n.limit }; ino = i })
   unfolding remove_found remove_entry without
   gone_in None i b h t = absurd (true≢false (ap is_some h))
   gone_in (Some e) i b h t = rw (same_ino e i b h, rw (same_ino e i b h, same_mark e i b h) at t) refl
 
   pub remove_gives : (i : ℕ) (b : Bool) → None ≡ place_refusal n d m → Some (i, b) ≡ option_map ino_and_mark (entry_at n d m) → (b && has_entries n i) ≡ false →
-      remove n d m ≡ Ok (record { names = record { entries = filter (λ e. not (is_entry_at d m e)) n.entries; next = n.next }; ino = i })
+      remove n d m ≡ Ok (record { names = record { entries = filter (λ e. not (is_entry_at d m e)) n.entries; next = n.next; limit = n.limit }; ino = i })
   unfolding remove remove_at
   remove_gives i b p h t = rw (← p) (gone_in (entry_at n d m) i b h t)
 
   abbrev gone : ℕ → Result Changed EntryRefusal
-  gone k = Ok (record { names = record { entries = filter (λ e. not (is_entry_at d m e)) n.entries; next = n.next }; ino = k })
+  gone k = Ok (record { names = record { entries = filter (λ e. not (is_entry_at d m e)) n.entries; next = n.next; limit = n.limit }; ino = k })
 
   gone_by : Result ℕ NameRefusal → Result Changed EntryRefusal
   gone_by (Ok k) = gone k
@@ -92,7 +93,7 @@ module _ (n : Names) (d : ℕ) (m : List ℕ) where
 
   -- an entry that may go
   pub remove_gone : (i : ℕ) → Ok i ≡ ino_told (remove n d m) →
-      remove n d m ≡ Ok (record { names = record { entries = filter (λ e. not (is_entry_at d m e)) n.entries; next = n.next }; ino = i })
+      remove n d m ≡ Ok (record { names = record { entries = filter (λ e. not (is_entry_at d m e)) n.entries; next = n.next; limit = n.limit }; ino = i })
   unfolding remove
   remove_gone i h = told_removed (place_refusal n d m) i h
 
@@ -101,18 +102,18 @@ module _ (n : Names) (d : ℕ) (m : List ℕ) where
     pub record IsAddable (t : Result Changed EntryRefusal) : Type 0 where
       pub added : t ≡ Ok (added n d m directory)
       pub free : is_some (entry_at n d m) ≡ false
-      pub room : length n.entries < 4095
+      pub room : live_inodes n < n.limit
 
-    addable_new : (b : Bool) (i : ℕ) → nat_lt (live_inodes n) 4096 ≡ b → is_some (entry_at n d m) ≡ false →
+    addable_new : (b : Bool) (i : ℕ) → nat_lt (live_inodes n) n.limit ≡ b → is_some (entry_at n d m) ≡ false →
         Ok i ≡ ino_told (cond b (Ok (added n d m directory)) (Err TooMany)) → IsAddable (cond b (Ok (added n d m directory)) (Err TooMany))
-    addable_new true i is free h = record { added = refl; free = free; room = let low = ltb-true (live_inodes n) 4096 is in omega (arith, low) }
+    addable_new true i is free h = record { added = refl; free = free; room = ltb-true (live_inodes n) n.limit is }
     addable_new false i is free h = absurd (not_err i told.TooMany h)
 
     addable_beside : (b : Bool) (i : ℕ) → is_some (entry_at n d m) ≡ b → Ok i ≡ ino_told (cond b (Err Exists) (add_new n d m directory)) →
         IsAddable (cond b (Err Exists) (add_new n d m directory))
     unfolding add_new
     addable_beside true i is h = absurd (not_err i told.Exists h)
-    addable_beside false i is h = addable_new (nat_lt (live_inodes n) 4096) i refl is h
+    addable_beside false i is h = addable_new (nat_lt (live_inodes n) n.limit) i refl is h
 
     addable_at : (o : Option EntryRefusal) (i : ℕ) → Ok i ≡ ino_told (add_at n d m directory o) → IsAddable (add_at n d m directory o)
     unfolding add_at add_beside
@@ -162,7 +163,7 @@ module _ (n : Names) (d : ℕ) (m : List ℕ) where
     rename_at_good g h = rw (← g, ← h) refl
 
     abbrev made : ℕ → Result Changed EntryRefusal
-    made k = Ok (record { names = record { entries = map (move_entry d m d2 m2) n.entries; next = n.next }; ino = k })
+    made k = Ok (record { names = record { entries = map (move_entry d m d2 m2) n.entries; next = n.next; limit = n.limit }; ino = k })
 
     made_in : Result ℕ NameRefusal → Result Changed EntryRefusal
     made_in (Ok k) = made k
@@ -191,6 +192,6 @@ module _ (n : Names) (d : ℕ) (m : List ℕ) where
     told_at None i h = told_in (entry_at n d m) i h
 
     pub rename_gives : (i : ℕ) → Ok i ≡ ino_told (rename n d m d2 m2) →
-        rename n d m d2 m2 ≡ Ok (record { names = record { entries = map (move_entry d m d2 m2) n.entries; next = n.next }; ino = i })
+        rename n d m d2 m2 ≡ Ok (record { names = record { entries = map (move_entry d m d2 m2) n.entries; next = n.next; limit = n.limit }; ino = i })
     unfolding rename
     rename_gives i h = told_at (option_or (place_refusal n d m) (place_refusal n d2 m2)) i h

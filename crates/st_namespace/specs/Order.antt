@@ -18,10 +18,10 @@ IsRising [] = ⊤
 IsRising (e ∷ es) = AllByRecursion (λ d. e.ino < d.ino) es × IsRising es
 
 -- No name occurs twice in a directory, no inode has two entries, entries are in the order of their inodes, the numbers of inodes are below the next one, and
--- there are fewer than 4,096 entries.
+-- there are fewer entries than inodes may live.
 pub record IsInOrder (n : Names) : Type 0 where
   pub names : IsDistinct of_one_name n.entries
   pub inodes : IsDistinct of_one_inode n.entries
   pub rising : IsRising n.entries
   pub used : All (λ e. e.ino < n.next) n.entries
-  pub few : length n.entries ≤ 4095
+  pub few : length n.entries < n.limit

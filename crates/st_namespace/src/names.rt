@@ -29,9 +29,9 @@ impl Model for Names {
 
     ghost Value = { names.Names };
 
-    ghost view = { λ n. record { entries = n.entries; next = n.next } };
+    ghost view = { λ n. record { entries = n.entries; next = n.next; limit = 4096 } };
 
-    ghost invariant = { λ n. IsInOrder (record { entries = n.entries; next = n.next }) };
+    ghost invariant = { λ n. IsInOrder (record { entries = n.entries; next = n.next; limit = 4096 }) };
 }
 
 /// A refusal of the rules, as the calls tell it.
@@ -186,7 +186,7 @@ impl Names {
     #[tactic(auto, unfolding(st_rules::specs::Names::added))]
     fn push(&mut self, dir: u32, name: Name, directory: bool) -> Result<u32, NameRefusal>
         requires next { self.old.next < 2 ^ 32 - 1 }
-        requires room { length self.old.entries < 4095 }
+        requires room { names.live_inodes self.old < self.old.limit }
         requires free { is_some (names.entry_at self.old dir name) ≡ false }
         ensures ok { IfOk result (λ ino. record { names = self.new; ino = ino } ≡ names.added self.old dir name directory) }
         ensures err { OnErr result (self.new ≡ self.old) }

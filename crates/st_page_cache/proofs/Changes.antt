@@ -89,24 +89,24 @@ module _ (clean : List CleanPage) (dirty : List DirtyPage) (next : ℕ) (s : IsS
         v d m = v_by d (page_at d m)
 
   -- a page that is not dirty becomes the newest clean one
-  pub sound_newest : (c : CleanPage) (new : List DirtyPage) → ((d : DirtyPage) → Has d new → Has d dirty × (is_dirty_of c.ino c.page d ≡ false)) → length new ≤ 64 → IsSound (pages_of (with_newest c clean) new next)
-  sound_newest c new f l = sound_from (with_newest c clean) new next a l (λ d m. version_each d (f d m).0)
+  pub sound_newest : (c : CleanPage) (new : List DirtyPage) → ((d : DirtyPage) → Has d new → Has d dirty × (is_dirty_of c.ino c.page d ≡ false)) → length new ≤ 64 → IsSound (pages_of (with_newest 256 c clean) new next)
+  sound_newest c new f l = sound_from (with_newest 256 c clean) new next a l (λ d m. version_each d (f d m).0)
     where
       a_by : (d : DirtyPage) → Has d new → (e : CleanPage) → (e ≡ c) ⊎ Has e (without_clean c.ino c.page clean) → is_clean_of d.ino d.page e ≡ false
       a_by d m e (inl q) = ap (is_clean_of d.ino d.page) q ∙ other_page c d ∙ (f d m).1
       a_by d m e (inr h) = apart_each d (f d m).0 e (has_filter (λ x. not (is_clean_of c.ino c.page x)) clean e h).0
 
-      a : (d : DirtyPage) → Has d new → NoneOf (with_newest c clean) d
+      a : (d : DirtyPage) → Has d new → NoneOf (with_newest 256 c clean) d
       a d m e h = a_by d m e (has_take 256 (c ∷ without_clean c.ino c.page clean) e h)
 
-  pub sound_filled : (c : CleanPage) → find (is_dirty_of c.ino c.page) dirty ≡ None → IsSound (pages_of (with_newest c clean) dirty next)
+  pub sound_filled : (c : CleanPage) → find (is_dirty_of c.ino c.page) dirty ≡ None → IsSound (pages_of (with_newest 256 c clean) dirty next)
   sound_filled c n = sound_newest c dirty (λ d m. (m, none_has (is_dirty_of c.ino c.page) dirty n d m)) s.few_dirty
 
   pub sound_touched : (p : CleanPage → Bool) (o : Option CleanPage) → find p clean ≡ o → IsSound (pages_of (touched o clean) dirty next)
   sound_touched p None h = s
   sound_touched p (Some c) h = sound_newest c dirty (λ d m. (m, sym (other_page c d) ∙ apart_each d m c (found_at p clean c h).1)) s.few_dirty
 
-  pub sound_hardened : (c : CleanPage) (ino : ℕ) (page : PageNo) → c.ino ≡ ino → c.page ≡ page → IsSound (pages_of (with_newest c clean) (without_dirty ino page dirty) next)
+  pub sound_hardened : (c : CleanPage) (ino : ℕ) (page : PageNo) → c.ino ≡ ino → c.page ≡ page → IsSound (pages_of (with_newest 256 c clean) (without_dirty ino page dirty) next)
   sound_hardened c ino page i q = sound_newest c (without_dirty ino page dirty) f (let l = filter_at_most (λ d. not (is_dirty_of ino page d)) dirty in let k = s.few_dirty in omega arith)
     where
       not_true : (b : Bool) → not b ≡ true → b ≡ false
@@ -147,11 +147,11 @@ module _ (clean : List CleanPage) (dirty : List DirtyPage) (next : ℕ) (s : IsS
             omega arith
 
 -- Hardening a page that is dirty.
-pub harden_found : (ps : Pages) (ino : ℕ) (page : PageNo) (d : DirtyPage) → dirty_of ps ino page ≡ Some d → harden ps ino page ≡ record ps { clean = with_newest (clean_page ino page d.bytes) ps.clean; dirty = without_dirty ino page ps.dirty }
+pub harden_found : (ps : Pages) (ino : ℕ) (page : PageNo) (d : DirtyPage) → dirty_of ps ino page ≡ Some d → harden ps ino page ≡ record ps { clean = with_newest ps.most_clean (clean_page ino page d.bytes) ps.clean; dirty = without_dirty ino page ps.dirty }
 unfolding harden harden_at harden_page
 harden_found ps ino page d h =
     let p = and_parts (d.ino == ino) (d.page.0 == page.0) (found_at (is_dirty_of ino page) ps.dirty d h).0 in
     let i : d.ino ≡ ino = eqb-true d.ino ino p.0 in
     let q : d.page.0 ≡ page.0 = eqb-true d.page.0 page.0 p.1 in
     ap (harden_at ps) h
-    ∙ (λ j. record ps { clean = with_newest (clean_page (i j) (record { 0 = q j }) d.bytes) ps.clean; dirty = without_dirty (i j) (record { 0 = q j }) ps.dirty })
+    ∙ (λ j. record ps { clean = with_newest ps.most_clean (clean_page (i j) (record { 0 = q j }) d.bytes) ps.clean; dirty = without_dirty (i j) (record { 0 = q j }) ps.dirty })

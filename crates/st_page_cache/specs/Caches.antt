@@ -36,7 +36,7 @@ pub record ArePages (ps : Pages) : Type 0 where
 
 -- the pages of these lists, if this is the next version
 abbrev pub pages_of : List CleanPage → List DirtyPage → ℕ → Pages
-pages_of clean dirty next = record { clean = clean; dirty = dirty; next_version = next }
+pages_of clean dirty next = record { clean = clean; dirty = dirty; next_version = next; most_clean = 256 }
 
 -- what a page cache keeps of its two lists: no page is in both, at most 64 are dirty, and each dirty page has a version that was
 -- given

@@ -28,7 +28,7 @@ known_key e = record { ino = e.ino; page = e.page.0 }
 -- a clean page that is found becomes the newest one
 abbrev pub touched : Option CleanPage → List CleanPage → List CleanPage
 touched None clean = clean
-touched (Some c) clean = with_newest c clean
+touched (Some c) clean = with_newest 256 c clean
 
 -- one key
 abbrev pub same_key : PageKey → PageKey → Bool

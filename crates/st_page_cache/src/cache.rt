@@ -158,7 +158,8 @@ impl PageCache {
     #[tactic(auto, unfolding(st_rules::specs::ClientPages::use_page, st_rules::specs::ClientPages::use_clean, st_rules::specs::ClientPages::use_at))]
     pub(crate) fn use_page(&mut self, permit: &UsePermit, ino: u32, page: PageNo)
         requires { permit.now.server ≡ self.old.server }
-        ensures { self.new ≡ with_pages (pages.use_page self.old.pages ino page) self.old }
+        ensures used { self.new ≡ with_pages (pages.use_page self.old.pages ino page) self.old }
+        ensures most { self.old.pages.most_clean ≡ 256 }
     {
         if self.dirty.get(ino, page).is_none() {
             self.clean.touch(ino, page);

@@ -62,7 +62,7 @@ impl CleanPages {
 
     /// The page becomes the newest one, and the last of more than 256 goes.
     pub fn put(&mut self, page: CleanPage) -> Result<(), AllocError>
-        ensures ok { OnOk result (self.new ≡ pages.with_newest page self.old) }
+        ensures ok { OnOk result (self.new ≡ pages.with_newest 256 page self.old) }
         ensures err { OnErr result (self.new ≡ self.old) }
     {
         let at = key(page.ino, page.page);

@@ -44,7 +44,13 @@ client_with cache st =
 
 -- the file 2 exclusively, under the first grant
 abbrev pub one_lock : LockCache
-one_lock = record { rows = record { ino = 2; g = g 4294967297; mode = modes.X } ∷ []; seen = record { ino = 2; g = g 4294967297 } ∷ []; demanded = [] }
+one_lock =
+    record {
+      rows = record { ino = 2; g = g 4294967297; mode = modes.X } ∷ [];
+      seen = record { ino = 2; g = g 4294967297 } ∷ [];
+      demanded = [];
+      limit = 1024;
+    }
 
 -- page p lies on block p of disk 1, and was the birth p + 1
 abbrev pub mapped : ℕ → KnownExtent
@@ -63,7 +69,7 @@ dirty_client n =
     one_lock
     (record {
       extents = map mapped (numbers 0 (n + 1));
-      pages = record { clean = []; dirty = map dirtied (numbers 0 n); next_version = n + 1 };
+      pages = record { clean = []; dirty = map dirtied (numbers 0 n); next_version = n + 1; most_clean = 256 };
       commands = [];
     })
 
@@ -80,7 +86,7 @@ seen ino = record { ino = ino; g = g ino }
 
 -- with this number of shared locks, from the file 1001 on, each under a grant of its file's number
 unfoldable pub locked_client : ℕ → ClientState
-locked_client n = client_with (record { rows = map shared (numbers 1001 n); seen = map seen (numbers 1001 n); demanded = [] }) empty_store
+locked_client n = client_with (record { rows = map shared (numbers 1001 n); seen = map seen (numbers 1001 n); demanded = []; limit = 1024 }) empty_store
 
 abbrev pub lost_of : ℕ → ℕ → ℕ → LostPage
 lost_of ino p command = record { ino = ino; page = page p; command = command }

@@ -9,7 +9,7 @@ abbrev pub entry_in : ℕ → List ℕ → ℕ → Bool → NameEntry
 entry_in dir name ino directory = record { dir = dir; name = name; ino = ino; directory = directory }
 
 abbrev pub named : List NameEntry → ℕ → Names
-named entries next = record { entries = entries; next = next }
+named entries next = record { entries = entries; next = next; limit = 4096 }
 
 -- the root has the fresh files and the directory 10; that has a directory and two files
 unfoldable pub deep : Names

@@ -38,7 +38,7 @@ demand to sent (Some since) = record { to = to; sent = stamp sent; since = Some 
 
 -- a table of the first epoch
 abbrev pub table : ℕ → List LockRow → List Waiter → Locks
-table grants rows waiters = record { epoch = epoch 1; grants = grants; rows = rows; waiters = waiters }
+table grants rows waiters = record { epoch = epoch 1; grants = grants; rows = rows; waiters = waiters; limit = 1024 }
 
 -- a client's shared locks on this number of files, from file 2
 abbrev pub shared : ℕ → LockRow

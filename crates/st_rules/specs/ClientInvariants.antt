@@ -42,15 +42,16 @@ is_held_for c d = is_some (lock_of c d.ino)
 abbrev pub is_seen : LockCache → HeldLock → Bool
 is_seen c l = nat_le l.g.0 (seen_of c l.ino).0
 
--- A lock cache: a file has one lock, one greatest grant and one demand; a lock is demanded only if it is held; at most
--- 1,024 locks are held.
+-- A lock cache: a file has one lock, one greatest grant and one demand; a lock is demanded only if it is held; no
+-- more locks are held than the limit, which is at most 1,024.
 pub record IsLockCache (c : LockCache) : Type 0 where
   pub rows_once : are_once same_lock c.rows ≡ true
   pub seen_once : are_once same_seen c.seen ≡ true
   pub demanded_once : are_once same_demand c.demanded ≡ true
   pub demanded_held : list_all (is_held_for c) c.demanded ≡ true
   pub rows_seen : list_all (is_seen c) c.rows ≡ true
-  pub few : nat_le (length c.rows) 1024 ≡ true
+  pub few : nat_le (length c.rows) c.limit ≡ true
+  pub limit : nat_le c.limit 1024 ≡ true
 
 -- The pages.
 
@@ -90,14 +91,15 @@ has_block st d = is_mapped st.extents d.ino d.page
 abbrev pub is_below : ℕ → PageCommand → Bool
 is_below next c = nat_lt c.number next
 
--- The pages and commands of a server: a page is dirty or clean, not both, and in each once; at most 256 are clean and at most
--- 64 dirty; a dirty page has a known block and a version that was given; a page has at most one outstanding command, and
--- each number is one that was given, once.
+-- The pages and commands of a server: a page is dirty or clean, not both, and in each once; no more are clean than may be,
+-- and at most 256 may be; at most 64 are dirty; a dirty page has a known block and a version that was given; a page has at
+-- most one outstanding command, and each number is one that was given, once.
 pub record IsStore (next : ℕ) (st : Store) : Type 0 where
   pub clean_once : are_once same_clean st.pages.clean ≡ true
   pub dirty_once : are_once same_dirty st.pages.dirty ≡ true
   pub apart : list_all (is_only_dirty st.pages) st.pages.dirty ≡ true
-  pub few_clean : nat_le (length st.pages.clean) 256 ≡ true
+  pub few_clean : nat_le (length st.pages.clean) st.pages.most_clean ≡ true
+  pub most_clean : nat_le st.pages.most_clean 256 ≡ true
   pub few_dirty : nat_le (length st.pages.dirty) 64 ≡ true
   pub versions : list_all (has_version st.pages) st.pages.dirty ≡ true
   pub mapped : list_all (has_block st) st.pages.dirty ≡ true

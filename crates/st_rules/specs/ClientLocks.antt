@@ -12,15 +12,16 @@ use Rattle.st_rules.specs.declared.client.Asked.{Asked}
 use Rattle.st_rules.specs.declared.client.Asked.TheVariants.{Reduce, NotHeld, Stale}
 use Rattle.st_rules.specs.Keys.{put, rising, keys_open}
 
--- The lock cache: the held locks, the greatest grant seen of each file, and the demanded files.
+-- The lock cache: the held locks, the greatest grant seen of each file, the demanded files, and the limit: how many files may have a lock.
 pub record LockCache : Type 0 where
   pub rows : List HeldLock
   pub seen : List SeenGrant
   pub demanded : List DemandedFile
+  pub limit : ℕ
 
--- nothing is held, seen or demanded
+-- nothing is held, seen or demanded; the limit is that of the first two forms
 abbrev pub no_cached_locks : LockCache
-no_cached_locks = record { rows = []; seen = []; demanded = [] }
+no_cached_locks = record { rows = []; seen = []; demanded = []; limit = 1024 }
 
 -- Look-ups.
 
@@ -146,15 +147,15 @@ held_lock ino g mode = record { ino = ino; g = g; mode = mode }
 
 -- the grant is the file's lock
 unfoldable pub installed : LockCache → ℕ → GrantNo → Mode → LockCache
-installed c ino g mode = record { rows = with_lock (held_lock ino g mode) c.rows; seen = with_seen ino g c.seen; demanded = without_demand ino c.demanded }
+installed c ino g mode = record c { rows = with_lock (held_lock ino g mode) c.rows; seen = with_seen ino g c.seen; demanded = without_demand ino c.demanded }
 
 -- Installing
 unfoldable pub install_grant : LockCache → ℕ → GrantNo → Mode → LockCache
 install_grant c ino g mode = if is_above_seen c ino g then installed c ino g mode else c
 
--- there is a place for the file's lock: it has one already, or fewer than 1,024 files do
+-- there is a place for the file's lock: it has one already, or fewer files than the limit do
 abbrev pub has_place : LockCache → ℕ → Bool
-has_place c ino = is_some (lock_of c ino) || nat_lt (count c) 1024
+has_place c ino = is_some (lock_of c ino) || nat_lt (count c) c.limit
 
 -- A demand: without a lock the grant was seen; a lock of a later grant makes it stale; otherwise the lock and the greatest seen have the demand's grant, and
 -- the file is demanded with the lesser of this and any earlier demand.
@@ -184,7 +185,7 @@ unfoldable pub demand_lock : LockCache → ℕ → GrantNo → Mode → HeldLock
 demand_lock c ino g to l =
     record {
       locks =
-          record {
+          record c {
             rows = with_lock (held_lock ino g l.mode) c.rows;
             seen = with_seen ino g c.seen;
             demanded = with_demand (demanded_file ino (lesser_demand to (demand_of c ino))) c.demanded;

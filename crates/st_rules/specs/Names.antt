@@ -7,11 +7,12 @@ use Rattle.st_rules.specs.declared.names.NameEntry.{NameEntry}
 use Rattle.st_rules.specs.declared.names.EntryRefusal.{EntryRefusal}
 use Rattle.st_rules.specs.declared.names.EntryRefusal.TheVariants.{NoEntry, Exists, NotDir, IsDir, NotEmpty, Cycle, BadName, TooMany}
 
--- The names of a server: the entries of all directories, and the next inode number. Each inode but the root has one
--- entry, so an inode lives as long as its entry.
+-- The names of a server: the entries of all directories, the next inode number, and the limit: how many inodes may live.
+-- Each inode but the root has one entry, so an inode lives as long as its entry.
 pub record Names : Type 0 where
   pub entries : List NameEntry
   pub next : ℕ
+  pub limit : ℕ
 
 -- the root directory
 abbrev pub ROOT : ℕ
@@ -21,9 +22,9 @@ ROOT = 1
 abbrev pub fresh_file : ℕ → NameEntry
 fresh_file ino = record { dir = ROOT; name = 102 ∷ (48 + ino) ∷ []; ino = ino; directory = false }
 
--- the names of a fresh server
+-- the names of a fresh server, with the limit of the first two forms
 unfoldable pub fresh_names : Names
-fresh_names = record { entries = map fresh_file (2 ∷ 3 ∷ 4 ∷ 5 ∷ 6 ∷ 7 ∷ 8 ∷ 9 ∷ []); next = 10 }
+fresh_names = record { entries = map fresh_file (2 ∷ 3 ∷ 4 ∷ 5 ∷ 6 ∷ 7 ∷ 8 ∷ 9 ∷ []); next = 10; limit = 4096 }
 
 -- Look-ups.
 
@@ -115,7 +116,7 @@ lookup_at n dir name None = ino_of (entry_at n dir name)
 unfoldable pub lookup : Names → ℕ → List ℕ → Result ℕ EntryRefusal
 lookup n dir name = lookup_at n dir name (place_refusal n dir name)
 
--- Create, and make a directory: the entry must be new, and at 4,096 live inodes there is no room. Inode numbers rise by 1 and are
+-- Create, and make a directory: the entry must be new, and at the limit of live inodes there is no room. Inode numbers rise by 1 and are
 -- never used again.
 pub record Changed : Type 0 where
   pub names : Names
@@ -127,11 +128,11 @@ new_entry n dir name directory = record { dir = dir; name = name; ino = n.next; 
 
 -- the names with one more entry
 unfoldable pub added : Names → ℕ → List ℕ → Bool → Changed
-added n dir name directory = record { names = record { entries = n.entries ++ new_entry n dir name directory ∷ []; next = n.next + 1 }; ino = n.next }
+added n dir name directory = record { names = record n { entries = n.entries ++ new_entry n dir name directory ∷ []; next = n.next + 1 }; ino = n.next }
 
 -- if there is room
 unfoldable pub add_new : Names → ℕ → List ℕ → Bool → Result Changed EntryRefusal
-add_new n dir name directory = if nat_lt (live_inodes n) 4096 then Ok (added n dir name directory) else Err TooMany
+add_new n dir name directory = if nat_lt (live_inodes n) n.limit then Ok (added n dir name directory) else Err TooMany
 
 -- if the name is new
 unfoldable pub add_beside : Names → ℕ → List ℕ → Bool → Result Changed EntryRefusal

@@ -294,7 +294,7 @@ verdict_body ino mode (verdicts.Queued clients) = bodies.Queued ino mode
 -- granted, queued, or too many locks
 unfoldable pub acquire_by : ServerTurn → ℕ → Mode → Result locks.Acquired AcquireRefusal → Replied
 acquire_by t ino mode (Ok a) = replied (with_locks a.locks t) (verdict_body ino mode a.verdict)
-acquire_by t ino mode (Err r) = replied t (bodies.Nack why.TooManyLocks 1024 0)
+acquire_by t ino mode (Err r) = replied t (bodies.Nack why.TooManyLocks t.state.locks.limit 0)
 
 -- new locks may be granted
 abbrev pub grants_now : ServerTurn → Stamp → Bool

@@ -156,6 +156,7 @@ installed_held n ep t l c life rows from positive e k h =
       waits = on.waits;
       few = h.few;
       epoch = h.epoch;
+      limit = h.limit;
     }
 
 pub reasserted_good : (t : Sessions) (c : ClientId) (life : Life) → list_all is_good_session t.rows ≡ true → list_all is_good_session (sessions.reasserted t c life).rows ≡ true

@@ -14,7 +14,7 @@ fresh_sound id k servers disks blocks h =
     record {
       id = and_from (nat_le 1 id.0) (nat_le id.0 4) (le-leb 1 id.0 h.some_server) (le-leb id.0 4 (omega (arith, h.known_server, h.few_servers)));
       epoch = refl;
-      held = record { rows = refl; waits = refl; few = omega arith; epoch = refl };
+      held = record { rows = refl; waits = refl; few = omega arith; epoch = refl; limit = refl };
       kept = refl;
       timed = refl;
       graced = refl;
@@ -27,7 +27,7 @@ restored_sound id k stable some known h =
     record {
       id = and_from (nat_le 1 id.0) (nat_le id.0 4) (le-leb 1 id.0 some) (le-leb id.0 4 known);
       epoch = and_from (nat_le 1 stable.epoch.0) (nat_le stable.epoch.0 (2 ^ 32 - 1)) (le-leb 1 stable.epoch.0 h.least) (le-leb stable.epoch.0 4294967295 (omega (arith, h.most)));
-      held = record { rows = refl; waits = refl; few = omega arith; epoch = refl };
+      held = record { rows = refl; waits = refl; few = omega arith; epoch = refl; limit = refl };
       kept = refl;
       timed = refl;
       graced = refl;
@@ -41,7 +41,7 @@ crash_sound n s k =
     record {
       id = k.id;
       epoch = k.epoch;
-      held = record { rows = refl; waits = refl; few = omega arith; epoch = refl };
+      held = record { rows = refl; waits = refl; few = omega arith; epoch = refl; limit = refl };
       kept = refl;
       timed = refl;
       graced = refl;
@@ -57,7 +57,7 @@ start_sound n s now below e k =
       epoch =
           and_from (nat_le 1 (s.stable.epoch.0 + 1)) (nat_le (s.stable.epoch.0 + 1) (2 ^ 32 - 1))
           (le-leb 1 (s.stable.epoch.0 + 1) (omega arith)) (le-leb (s.stable.epoch.0 + 1) 4294967295 (omega (arith, below)));
-      held = record { rows = refl; waits = refl; few = omega arith; epoch = refl };
+      held = record { rows = refl; waits = refl; few = omega arith; epoch = refl; limit = refl };
       kept = refl;
       timed = refl;
       graced = e;

@@ -63,7 +63,7 @@ greater_mode m k e f = cond_either (λ (x : Mode). is_mode 1 2 x ≡ true) (cove
 
 -- more may be taken
 pub held_more : (n m : ℕ) (ep : Epoch) (t : Sessions) (l : Locks) → n ≤ m → AreHeld n ep t l → AreHeld m ep t l
-held_more n m ep t l b h = record { rows = h.rows; waits = h.waits; few = omega (arith, b, h.few); epoch = h.epoch }
+held_more n m ep t l b h = record { rows = h.rows; waits = h.waits; few = omega (arith, b, h.few); epoch = h.epoch; limit = h.limit }
 
 module _ (ep : Epoch) (t : Sessions) where
   pub row_of_good : (r : LockRow) → is_good_row t r ≡ true → IsFrom t r.client r.life r.ino × (is_told_lock r.g r.mode r.demand ≡ true)
@@ -118,6 +118,7 @@ module _ (ep : Epoch) (t : Sessions) where
         waits = grant_waits l c life ino mode h.waits;
         few = let less : length (locks.without_wait c ino l.waiters) ≤ length l.waiters = length_filter _ l.waiters in omega (arith, less, h.few);
         epoch = h.epoch;
+        limit = h.limit;
       }
 
   raise_good : (c : ClientId) (ino : ℕ) (mode : Mode) → is_mode 1 2 mode ≡ true → (w : Waiter) → is_good_wait t w ≡ true → is_good_wait t (locks.raise c ino mode w) ≡ true
@@ -136,6 +137,7 @@ module _ (ep : Epoch) (t : Sessions) where
         waits = every_last (is_good_wait t) l.waiters (locks.new_wait c life ino mode) h.waits (good_wait (locks.new_wait c life ino mode) f m);
         few = let long : length (l.waiters ++ locks.new_wait c life ino mode ∷ []) ≡ length l.waiters + 1 = length-append l.waiters (locks.new_wait c life ino mode ∷ []) in omega (arith, long, h.few);
         epoch = h.epoch;
+        limit = h.limit;
       }
   queue_at_held n l c life ino mode (Some w) f m h =
       record {
@@ -143,6 +145,7 @@ module _ (ep : Epoch) (t : Sessions) where
         waits = every_map (is_good_wait t) (is_good_wait t) (locks.raise c ino mode) (raise_good c ino mode m) l.waiters h.waits;
         few = let long : length (map (locks.raise c ino mode) l.waiters) ≡ length l.waiters = length_map (locks.raise c ino mode) l.waiters in omega (arith, long, h.few);
         epoch = h.epoch;
+        limit = h.limit;
       }
 
   queue_held : (n : ℕ) (l : Locks) (c : ClientId) (life : Life) (ino : ℕ) (mode : Mode) → IsFrom t c life ino → is_mode 1 2 mode ≡ true →
@@ -206,7 +209,7 @@ module _ (ep : Epoch) (t : Sessions) where
       (λ q. e)
 
   pub rows_changed : (n : ℕ) (l : Locks) (rows : List LockRow) → list_all (is_good_row t) rows ≡ true → AreHeld n ep t l → AreHeld n ep t (record l { rows = rows })
-  rows_changed n l rows e h = record { rows = e; waits = h.waits; few = h.few; epoch = h.epoch }
+  rows_changed n l rows e h = record { rows = e; waits = h.waits; few = h.few; epoch = h.epoch; limit = h.limit }
 
   waits_dropped : (n : ℕ) (l : Locks) (q : Waiter → Bool) → AreHeld n ep t l → AreHeld n ep t (record l { waiters = filter q l.waiters })
   waits_dropped n l q h =
@@ -215,6 +218,7 @@ module _ (ep : Epoch) (t : Sessions) where
         waits = every_filter (is_good_wait t) q l.waiters h.waits;
         few = let less : length (filter q l.waiters) ≤ length l.waiters = length_filter q l.waiters in omega (arith, less, h.few);
         epoch = h.epoch;
+        limit = h.limit;
       }
 
   release_to_held : (n : ℕ) (l : Locks) (c : ClientId) (ino : ℕ) (to : Mode) → AreHeld n ep t l → AreHeld n ep t (locks.release_to l c ino to)

@@ -39,6 +39,7 @@ module _ (n : ℕ) (ep : Epoch) (t : Sessions) (below : ep.0 < 2 ^ 32) (small : 
           waits = grant_waits ep t p.locks w.client w.life w.ino w.mode g.held.waits;
           few = omega (arith, less, g.held.few);
           epoch = g.held.epoch;
+          limit = g.held.limit;
         };
         told =
             every_last (is_good_sent 1 2) p.granted _ g.told

@@ -102,7 +102,7 @@ module _ (n : Names) (h : AreNamed n) where
   add_at_changes dir name directory (Some r) b e = tt
   add_at_changes dir name directory None b e =
       cond_either ChangesBy (is_some (names.entry_at n dir name)) (Err Exists) (names.add_new n dir name directory) (λ q. tt)
-      (λ q. cond_either ChangesBy (nat_lt (names.live_inodes n) 4096) (Ok (names.added n dir name directory)) (Err TooMany)
+      (λ q. cond_either ChangesBy (nat_lt (names.live_inodes n) n.limit) (Ok (names.added n dir name directory)) (Err TooMany)
       (λ r. added_changes dir name directory b (name_short name (place_name dir name e))) (λ r. tt))
 
   pub create_changes : (dir : ℕ) (name : List ℕ) → n.next < 2 ^ 32 - 1 → ChangesBy (names.create n dir name)

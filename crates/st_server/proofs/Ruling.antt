@@ -91,7 +91,7 @@ module _ (n : ℕ) (t : ServerTurn) (h : Header) (s : IsServed n t h) where
       AcquiresBy t.state.stable.epoch t.state.sessions (n + 1) r → IsAnswer (n + 1) (server.acquire_by t ino mode r)
   unfolding server.acquire_by is_body
   acquired_answer ino mode (Ok a) e m k = record { turn = locks_turn n (n + 1) t a.locks k.held s.turn; reply = verdict_reply ino mode a.verdict e m k.verdict }
-  acquired_answer ino mode (Err r) e m k = replies (n + 1) t _ (nack_reply why.TooManyLocks 1024 0 refl refl) same
+  acquired_answer ino mode (Err r) e m k = replies (n + 1) t _ (nack_reply why.TooManyLocks t.state.locks.limit 0 s.turn.sound.held.limit refl) same
 
   acquire_answer : (now : Stamp) (ino : ℕ) (mode : Mode) → is_ino ino ≡ true → is_mode 1 2 mode ≡ true → IsAnswer (n + 1) (server.acquire t now h ino mode)
   unfolding server.acquire server.acquire_lock

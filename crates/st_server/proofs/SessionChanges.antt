@@ -33,6 +33,7 @@ held_on n ep t u l on h =
       waits = every_too (is_good_wait t) (is_good_wait u) (λ w e. let p = and_parts (is_lived w.life (session_of t w.client)) _ e in and_from (is_lived w.life (session_of u w.client)) _ (on w.life w.client p.0) p.1) l.waiters h.waits;
       few = h.few;
       epoch = h.epoch;
+      limit = h.limit;
     }
 
 -- Keeping a reply.
@@ -225,6 +226,7 @@ forgotten n ep t c l h =
           (λ w e q. let p = and_parts (is_lived w.life (session_of t w.client)) _ e in and_from (is_lived w.life (session_of (sessions.end t c) w.client)) _ (lived_apart t c w.client w.life q p.0) p.1) l.waiters h.waits;
       few = let less : length (filter (λ w. not (locks.is_wait_by c w)) l.waiters) ≤ length l.waiters = length_filter (λ w. not (locks.is_wait_by c w)) l.waiters in omega (arith, less, h.few);
       epoch = h.epoch;
+      limit = h.limit;
     }
 
 pub end_good : (t : Sessions) (c : ClientId) → list_all is_good_session t.rows ≡ true → list_all is_good_session (sessions.end t c).rows ≡ true

@@ -131,7 +131,7 @@ exact_sound n s k =
     record {
       id = k.id;
       epoch = k.epoch;
-      held = record { rows = k.held.rows; waits = k.held.waits; few = omega arith; epoch = k.held.epoch };
+      held = record { rows = k.held.rows; waits = k.held.waits; few = omega arith; epoch = k.held.epoch; limit = k.held.limit };
       kept = k.kept;
       timed = k.timed;
       graced = k.graced;

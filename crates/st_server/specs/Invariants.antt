@@ -61,6 +61,7 @@ pub record AreHeld (n : ℕ) (of : Epoch) (t : Sessions) (l : Locks) : Type 0 wh
   pub waits : list_all (is_good_wait t) l.waiters ≡ true
   pub few : taken_locks l ≤ n
   pub epoch : l.epoch ≡ of
+  pub limit : is_word64 l.limit ≡ true
 
 -- Sessions.
 

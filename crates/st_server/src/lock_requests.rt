@@ -40,6 +40,7 @@ impl ServerTurn {
         ensures kept { Keeps self.old self.new }
     {
         let grants = !self.in_grace(now);
+        let limit = self.locks.limit();
         match self
             .locks
             .acquire(sender(h), Life(h.life), ino, mode, grants)
@@ -47,7 +48,7 @@ impl ServerTurn {
             Ok(verdict) => Ok(verdict_body(ino, mode, verdict)),
             Err(LockRefusal::TooManyLocks) => Ok(Body::Nack {
                 why: Why::TooManyLocks,
-                a: 1024,
+                a: limit,
                 b: 0,
             }),
             Err(_) => Err(AllocError),

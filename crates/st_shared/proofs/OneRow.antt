@@ -1,7 +1,7 @@
 -- The lock table of the file: no row, or one exclusive row.
 use Rattle.st_lemmas.proofs.Words
 use Words.{◌≡◌, ℕ, ◌+◌, ◌<◌, ◌≤◌, Bool, true, false, not, ◌||◌, ◌==◌, List, [], ◌∷◌, Some, None, refl, sym, ap, ◌∙◌, subst, arith, if◌then◌else◌, filter}
-use Words.{Result, Ok, Err, list_any, and_parts, eq-eqb, leb-true, ClientId, Life, LockRow, Verdict, AcquireRefusal}
+use Words.{nat_lt, Result, Ok, Err, list_any, and_parts, eq-eqb, leb-true, ClientId, Life, LockRow, Verdict, AcquireRefusal}
 use Words.modes
 use Words.verdicts
 use Words.Keys.{client}
@@ -9,6 +9,7 @@ use Words.Locks.{Acquired, Locks, acquire, forget, is_row_by, is_wait_by, locks_
 use Rattle.std.specs.Prelude.{is_ok}
 use Rattle.std.specs.Bool.{OnTrue, OnFalse}
 use Rattle.st_locks.specs.Calls.{Answers, acquired}
+use Rattle.st_rules.specs.declared.locks.AcquireRefusal.TheVariants as refusals
 use Rattle.st_locks.specs.DemandStarts.{IsClient}
 use Rattle.st_lock_tables.specs.declared.refusal.LockRefusal.{LockRefusal}
 use Rattle.st_lock_tables.specs.declared.refusal.LockRefusal.TheVariants.{TooManyLocks, Conflict, Memory}
@@ -21,9 +22,11 @@ no_rows (r ∷ rows) e = cc
 
 -- Granting.
 abbrev one : Locks → ClientId → Life → Locks
-one l c life = record { epoch = l.epoch; grants = l.grants + 1; rows = new_row l c life 2 modes.X ∷ []; waiters = [] }
+one l c life = record { epoch = l.epoch; grants = l.grants + 1; rows = new_row l c life 2 modes.X ∷ []; waiters = []; limit = l.limit }
 
-first_grant : (l : Locks) (c : ClientId) (life : Life) → l.rows ≡ [] → l.waiters ≡ [] → acquire l c life 2 modes.X true ≡ Ok (acquired (one l c life) (verdicts.Granted (next_grant l) modes.X))
+first_grant : (l : Locks) (c : ClientId) (life : Life) → l.rows ≡ [] → l.waiters ≡ [] →
+    acquire l c life 2 modes.X true ≡
+    (if nat_lt 0 l.limit then Ok (acquired (one l c life) (verdicts.Granted (next_grant l) modes.X)) else Err refusals.TooManyLocks)
 unfolding locks_open
 first_grant l c life r w = λ i. acquire (record l { rows = r i; waiters = w i }) c life 2 modes.X true
 
@@ -33,7 +36,12 @@ table_of l (Err e) = l
 
 new_is : (old new : Locks) (c : ClientId) (life : Life) (v : Verdict) → IsFileTable old → holder_of old.rows ≡ None → acquire old c life 2 modes.X true ≡ Ok (acquired new v) → new ≡ one old c life
 unfolding table_of
-new_is old new c life v t free e = sym (ap (table_of old) (sym (first_grant old c life (no_rows old.rows free) t.waits) ∙ e))
+new_is old new c life v t free e = go (nat_lt 0 old.limit) (sym (first_grant old c life (no_rows old.rows free) t.waits) ∙ e)
+  where
+    go : (b : Bool) →
+        (if b then Ok (acquired (one old c life) (verdicts.Granted (next_grant old) modes.X)) else Err refusals.TooManyLocks) ≡ Ok (acquired new v) → new ≡ one old c life
+    go true q = sym (ap (table_of old) q)
+    go false q = cc
 
 one_table : (l : Locks) (c : ClientId) (life : Life) → IsClient c → IsFileTable (one l c life)
 one_table l c life h = record { waits = refl; rows = record { client = h; file = refl; exclusive = refl } }

@@ -1,4 +1,5 @@
--- The server of every form: that of `st_rules`, with the limits in place of numbers.
+-- The server of every form. In the first two forms it takes a message as in `st_rules`, whose limits
+-- are fields of its state; in the third form it takes the limits of the head.
 use Rattle.std.specs.Prelude.{ℕ, Bool, true, false, ◌&&◌, not, ◌==◌, if◌then◌else◌, [], is_some, Result, Ok, Err, ⊤}
 use Rattle.st_base.specs.declared.ids.Stamp.{Stamp}
 use Rattle.st_base.specs.declared.mode.Mode.{Mode}
@@ -78,9 +79,13 @@ receive_from m t now h body = if is_served t h body then server.serve h (rule m 
 abbrev pub is_for : ℕ → ServerState → Header → Bool
 is_for form s h = (h.to == server_node s.id) && limits.is_client_node form h.from
 
+-- Receiving in the third form
+abbrev pub third_receive : ℕ → Limits → ServerTurn → Stamp → Header → Body → ServerTurn
+third_receive form m t now h body = if is_for form t.state h then receive_from m t now h body else t
+
 -- Receiving
 unfoldable pub receive : ℕ → Limits → ServerTurn → Stamp → Header → Body → ServerTurn
-receive form m t now h body = if is_for form t.state h then receive_from m t now h body else t
+receive form m t now h body = if limits.is_third form then third_receive form m t now h body else server.receive t now h body
 
 -- the rule for the input
 unfoldable pub take_input : ℕ → Limits → ServerTurn → Stamp → ServerInput → ServerTurn

@@ -17,20 +17,23 @@ pub record DirEntry : Type 0 where
   pub ino : ℕ
   pub directory : Bool
 
--- A tree: its entries, and the next inode number. The root directory is inode 1, and has no entry.
+-- A tree: its entries, the next inode number, and how many inodes it may have. The root directory is
+-- inode 1, and has no entry.
 pub record Tree : Type 0 where
   pub entries : List DirEntry
   pub next : ℕ
+  pub limit : ℕ
 
 abbrev pub entry : Bool → ℕ → List ℕ → ℕ → DirEntry
 entry directory dir name ino = record { dir = dir; name = name; ino = ino; directory = directory }
 
--- at the start the root contains the files `f2` to `f9`, which are the inodes 2 to 9
+-- at the start the root contains the files `f2` to `f9`, which are the inodes 2 to 9, and there is
+-- room for 4,096 inodes
 abbrev pub fresh_file : ℕ → DirEntry
 fresh_file ino = entry false 1 (102 ∷ (48 + ino) ∷ []) ino
 
 abbrev pub fresh_tree : Tree
-fresh_tree = record { entries = map fresh_file (2 ∷ 3 ∷ 4 ∷ 5 ∷ 6 ∷ 7 ∷ 8 ∷ 9 ∷ []); next = 10 }
+fresh_tree = record { entries = map fresh_file (2 ∷ 3 ∷ 4 ∷ 5 ∷ 6 ∷ 7 ∷ 8 ∷ 9 ∷ []); next = 10; limit = 4096 }
 
 -- What is there.
 abbrev pub is_named : ℕ → List ℕ → DirEntry → Bool
@@ -97,12 +100,12 @@ looks_up t (Some e) = makes t (answers.Named e.ino) None
 
 -- Create and mkdir: one more entry at a free place, with the next inode number.
 abbrev pub with_new : Tree → DirEntry → Tree
-with_new t e = record { entries = t.entries ++ e ∷ []; next = t.next + 1 }
+with_new t e = record t { entries = t.entries ++ e ∷ []; next = t.next + 1 }
 
 abbrev pub creates : Tree → DirEntry → Option DirEntry → Option Made
 creates t e (Some other) = refuses t 2
 creates t e None =
-    if nat_lt (length t.entries + 1) 4096
+    if nat_lt (length t.entries + 1) t.limit
     then makes (with_new t e) (answers.Named e.ino) None else refuses t 8
 
 -- Remove: exactly that entry goes: a directory's only if 0 was named and it is empty, and a

@@ -141,7 +141,7 @@ grant_goes_on s ino g mode h = go (locks.is_above_seen s.locks ino g) refl
   where
     unplaced : (o : Option HeldLock) → lock_of s.locks ino ≡ o → locks.has_place s.locks ino ≡ false → lock_of s.locks ino ≡ None
     unplaced None e q = e
-    unplaced (Some l) e q = absurd (no (subst (λ o. (is_some o || nat_lt (locks.count s.locks) 1024) ≡ false) e q))
+    unplaced (Some l) e q = absurd (no (subst (λ o. (is_some o || nat_lt (locks.count s.locks) s.locks.limit) ≡ false) e q))
       where
         no : true ≡ false → ⊥
         no z = cc

@@ -55,7 +55,7 @@ unasked a f ino p c = absurd (none_not_some c.request (sym (f c.session c.is) �
 filled_clear : (x : Store) (ino : ℕ) (p : PageNo) (f : ℕ) (q : PageNo) (bytes : List ℕ) → (f ≡ ino → ⊥) → Clear x ino p → Clear (record x { pages = pages.fill x.pages f q bytes }) ino p
 unfolding pages.fill
 filled_clear x ino p f q bytes n h =
-    record { dirty = h.dirty; commands = h.commands; clean = λ y i. go y (has_take 256 (pages.clean_page f q bytes ∷ pages.without_clean f q x.pages.clean) y i); known = h.known }
+    record { dirty = h.dirty; commands = h.commands; clean = λ y i. go y (has_take x.pages.most_clean (pages.clean_page f q bytes ∷ pages.without_clean f q x.pages.clean) y i); known = h.known }
   where
     go : (y : CleanPage) → Has y (pages.clean_page f q bytes ∷ pages.without_clean f q x.pages.clean) → y.ino ≡ ino → p.0 ≤ y.page.0 → ⊥
     go y (inl e) k l = n (ap (λ (z : CleanPage). z.ino) (sym e) ∙ k)
@@ -80,7 +80,7 @@ hardened_clear x ino p f q h = at (pages.dirty_of x.pages f q) refl
         record {
           dirty = λ z i. h.dirty z (has_filter _ x.pages.dirty z i).0;
           commands = h.commands;
-          clean = λ y i. newest d (found_at (pages.is_dirty_of f q) x.pages.dirty d e).1 y (has_take 256 (pages.clean_page d.ino d.page d.bytes ∷ pages.without_clean d.ino d.page x.pages.clean) y i);
+          clean = λ y i. newest d (found_at (pages.is_dirty_of f q) x.pages.dirty d e).1 y (has_take x.pages.most_clean (pages.clean_page d.ino d.page d.bytes ∷ pages.without_clean d.ino d.page x.pages.clean) y i);
           known = h.known;
         }
 

@@ -259,7 +259,7 @@ module _ (ask_of : ℕ → Option Ask) (c : ClientId) (lives : ServerId → Life
       y = pages.clean_page ino p bytes
 
       x : Store
-      x = record t.here.store { pages = record t.here.store.pages { clean = pages.with_newest y t.here.store.pages.clean } }
+      x = record t.here.store { pages = record t.here.store.pages { clean = pages.with_newest t.here.store.pages.most_clean y t.here.store.pages.clean } }
 
       page : (j : ℕ) (q : PageNo) → PageOk (held_in t.here.session j).mode (content (logged c lives t.out es) (file_at t.here.server j) q) t.here.store j q →
           PageOk (held_in t.here.session j).mode (content (logged c lives t.out es) (file_at t.here.server j) q) x j q
@@ -267,9 +267,9 @@ module _ (ask_of : ℕ → Option Ask) (c : ClientId) (lives : ServerId → Life
           record {
             mode = r.mode;
             dirty = r.dirty;
-            clean = λ z e l. new z l (newest_is y t.here.store.pages.clean j q z e);
+            clean = λ z e l. new z l (newest_is t.here.store.pages.most_clean y t.here.store.pages.clean j q z e);
             unmapped = r.unmapped;
-            locked = λ z e. lock z (newest_is y t.here.store.pages.clean j q z e);
+            locked = λ z e. lock z (newest_is t.here.store.pages.most_clean y t.here.store.pages.clean j q z e);
             known = r.known;
             reading = r.reading;
           }

@@ -41,10 +41,10 @@ pub none_some : {A : Type 0} (o : Option A) (v : A) → o ≡ None → o ≡ Som
 none_some o v e f = cc
 
 -- the newest clean page, and those before it
-pub newest_is : (y : CleanPage) (clean : List CleanPage) (ino : ℕ) (q : PageNo) (z : CleanPage) →
-    find (is_clean_of ino q) (pages.with_newest y clean) ≡ Some z →
+pub newest_is : (most : ℕ) (y : CleanPage) (clean : List CleanPage) (ino : ℕ) (q : PageNo) (z : CleanPage) →
+    find (is_clean_of ino q) (pages.with_newest most y clean) ≡ Some z →
     ((Place_is y.ino y.page ino q ≡ true) × (z ≡ y)) ⊎ ((Place_is y.ino y.page ino q ≡ false) × (find (is_clean_of ino q) clean ≡ Some z))
-newest_is y clean ino q z e = go (Place_is y.ino y.page ino q) refl (find_take (is_clean_of ino q) 256 (y ∷ pages.without_clean y.ino y.page clean) z e)
+newest_is most y clean ino q z e = go (Place_is y.ino y.page ino q) refl (find_take (is_clean_of ino q) most (y ∷ pages.without_clean y.ino y.page clean) z e)
   where
     go : (b : Bool) → Place_is y.ino y.page ino q ≡ b → (if b then Some y else find (is_clean_of ino q) (pages.without_clean y.ino y.page clean)) ≡ Some z →
         ((Place_is y.ino y.page ino q ≡ true) × (z ≡ y)) ⊎ ((Place_is y.ino y.page ino q ≡ false) × (find (is_clean_of ino q) clean ≡ Some z))
@@ -342,14 +342,14 @@ module _ (ask_of : ℕ → Option Ask) (c : ClientId) (lives : ServerId → Life
 
   -- using a clean page
   newest_ok : (x : Store) (y : CleanPage) (held : ℕ) (now : List ℕ) (ino : ℕ) (p : PageNo) → clean_of x.pages y.ino y.page ≡ Some y → PageOk held now x ino p →
-      PageOk held now (record x { pages = record x.pages { clean = pages.with_newest y x.pages.clean } }) ino p
+      PageOk held now (record x { pages = record x.pages { clean = pages.with_newest x.pages.most_clean y x.pages.clean } }) ino p
   newest_ok x y held now ino p is r =
       record {
         mode = r.mode;
         dirty = r.dirty;
-        clean = λ z e l. go z l (newest_is y x.pages.clean ino p z e);
+        clean = λ z e l. go z l (newest_is x.pages.most_clean y x.pages.clean ino p z e);
         unmapped = r.unmapped;
-        locked = λ z e. lock z (newest_is y x.pages.clean ino p z e);
+        locked = λ z e. lock z (newest_is x.pages.most_clean y x.pages.clean ino p z e);
         known = r.known;
         reading = r.reading;
       }
@@ -379,7 +379,8 @@ module _ (ask_of : ℕ → Option Ask) (c : ClientId) (lives : ServerId → Life
           let w = one_place y.ino y.page ino p (found_passes (is_clean_of ino p) t.here.store.pages.clean y e) in
           let is : clean_of t.here.store.pages y.ino y.page ≡ Some y =
           subst (λ q. clean_of t.here.store.pages y.ino q ≡ Some y) (sym w.1) (subst (λ j. clean_of t.here.store.pages j p ≡ Some y) (sym w.0) e) in
-          copies_kept_by_store t (record t.here.store { pages = record t.here.store.pages { clean = pages.with_newest y t.here.store.pages.clean } })
+          copies_kept_by_store t
+          (record t.here.store { pages = record t.here.store.pages { clean = pages.with_newest t.here.store.pages.most_clean y t.here.store.pages.clean } })
           (λ now j q r. newest_ok t.here.store y _ now j q is r) (λ j q e. e)
 
       dirty : (d : Option DirtyPage) → Keeps ask_of c lives es t (with_store (record t.here.store { pages = pages.use_clean t.here.store.pages ino p d }) t)
@@ -568,9 +569,9 @@ hardened_ok x d held now j q is r =
     record {
       mode = λ e f. r.mode e (still e f);
       dirty = λ e f. r.dirty e (still e f);
-      clean = λ z e l. go z l (newest_is (pages.clean_page d.ino d.page d.bytes) x.pages.clean j q z e);
+      clean = λ z e l. go z l (newest_is x.pages.most_clean (pages.clean_page d.ino d.page d.bytes) x.pages.clean j q z e);
       unmapped = r.unmapped;
-      locked = λ z e. lock z (newest_is (pages.clean_page d.ino d.page d.bytes) x.pages.clean j q z e);
+      locked = λ z e. lock z (newest_is x.pages.most_clean (pages.clean_page d.ino d.page d.bytes) x.pages.clean j q z e);
       known = r.known;
       reading = r.reading;
     }

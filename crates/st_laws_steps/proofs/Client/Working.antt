@@ -46,8 +46,8 @@ open_uncut all server s t ino e h r f c =
     (not_true (is_busy all server s ino) (and_true (not (locks.is_demanded s.locks ino)) (not (is_busy all server s ino)) h).1)).0)
 
 -- what is among those of a list of clean pages with the newest one is that one, or was there
-newest_there : (c : CleanPage) (xs : List CleanPage) → Has c xs → (y : CleanPage) → Has y (pages.with_newest c xs) → Has y xs
-newest_there c xs h y i = go (has_take 256 (c ∷ pages.without_clean c.ino c.page xs) y i)
+newest_there : (most : ℕ) (c : CleanPage) (xs : List CleanPage) → Has c xs → (y : CleanPage) → Has y (pages.with_newest most c xs) → Has y xs
+newest_there most c xs h y i = go (has_take most (c ∷ pages.without_clean c.ino c.page xs) y i)
   where
     go : Has y (c ∷ pages.without_clean c.ino c.page xs) → Has y xs
     go (inl e) = subst (λ z. Has z xs) (sym e) h
@@ -129,8 +129,8 @@ module _ (syncs : List Operation) (now : Stamp) where
               C t (with_store (record t.here.store { pages = pages.use_at t.here.store.pages c }) t)
           at None e = Still t
           at (Some c) e =
-              one (Caches t (pages.with_newest c t.here.store.pages.clean)
-              (newest_there c t.here.store.pages.clean (found_at (pages.is_clean_of ino p) t.here.store.pages.clean c e).1))
+              one (Caches t (pages.with_newest t.here.store.pages.most_clean c t.here.store.pages.clean)
+              (newest_there t.here.store.pages.most_clean c t.here.store.pages.clean (found_at (pages.is_clean_of ino p) t.here.store.pages.clean c e).1))
 
   changes_by_read : (t : Turn) (s : ClientSession) (o : Operation) (f : FileId) (p : PageNo) → Uncut t f.ino → C t (cp.read t s o f p)
   unfolding cp.read cp.read_at cp.read_cached cp.read_uncached cp.read_known

@@ -30,7 +30,7 @@ unfolding names.add_at names.add_beside names.add_new names.added
 added_one_more n dir name d (Some r) = tt
 added_one_more n dir name d None =
     let low : n.next + 1 ≤ n.next + 1 = omega arith in
-    let room = if_either (OneMore n) (nat_lt (names.live_inodes n) 4096) (Ok (names.added n dir name d)) (Err TooMany) low tt in
+    let room = if_either (OneMore n) (nat_lt (names.live_inodes n) n.limit) (Ok (names.added n dir name d)) (Err TooMany) low tt in
     if_either (OneMore n) (is_some (names.entry_at n dir name)) (Err Exists) (names.add_new n dir name d) tt room
 
 removed_found_one_more : (n : Names) (dir : ℕ) (name : List ℕ) (o : Option NameEntry) → OneMore n (names.remove_found n dir name o)

@@ -153,7 +153,7 @@ pub data Told (t : ServerTurn) (h : Header) : Body → Body → Type 0 where
       Told t h (bodies.Acquire ino mode) (bodies.Granted ino r.g r.mode)
   HasTooMany : (ino : ℕ) (mode : Mode) → names.is_file t.state.stable.names ino ≡ true → row_of t.state.locks (sender h) ino ≡ None →
       locks.has_place t.state.locks (sender h) ino ≡ false →
-      Told t h (bodies.Acquire ino mode) (bodies.Nack why.TooManyLocks 1024 0)
+      Told t h (bodies.Acquire ino mode) (bodies.Nack why.TooManyLocks t.state.locks.limit 0)
   HasNoRow : (ino : ℕ) (g : GrantNo) (to : Mode) → ((r : LockRow) → row_of t.state.locks (sender h) ino ≡ Some r → is_under (life_in h) g r ≡ false) →
       Told t h (bodies.Released ino g to) bodies.Ack
   IsMapped : (ino : ℕ) (g : GrantNo) (p : PageNo) → names.is_file t.state.stable.names ino ≡ true → sv.holds t h ino g modes.S ≡ true →

@@ -18,7 +18,7 @@ returns-then-row-g c =
     let found : find (is_row_of c.args.client c.args.ino) c.self.inside.rows ≡ Some c.in-Some.row = rw (← c.self.view_is) at (sym c.in-Some.ensures.row) in
     let f : LockRow → LockRow = λ x. if x.g.0 == c.args.g.0 then answered_row x else x in
     rw (← c.self.view_is)
-    (ap (λ (rs : List LockRow). let m : Locks = record { epoch = c.self.inside.epoch; grants = c.self.inside.grants; rows = rs; waiters = c.self.inside.waits } in m)
+    (ap (λ (rs : List LockRow). let m : Locks = record { epoch = c.self.inside.epoch; grants = c.self.inside.grants; rows = rs; waiters = c.self.inside.waits; limit = 1024 } in m)
     (changed_moved c.self.inside.rows c.change.new.self f c.args.client c.seen.result.client c.args.ino c.seen.result.ino p q
     (c.change.ensures f c.in-Some.row (found_moved c.self.inside.rows c.args.client c.seen.result.client c.args.ino c.seen.result.ino c.in-Some.row p q found)
     (c.seen.ensures.seen ∙ sym (ap (λ b. if b then answered_row c.in-Some.row else c.in-Some.row) (eq-eqb c.in-Some.row.g.0 c.args.g.0 c.if-row-g.true))))
@@ -29,7 +29,7 @@ unfolding demand_seen
 returns-else-row-g c =
     let found : find (is_row_of c.args.client c.args.ino) c.self.inside.rows ≡ Some c.in-Some.row = rw (← c.self.view_is) at (sym c.in-Some.ensures.row) in
     rw (← c.self.view_is)
-    (ap (λ (rs : List LockRow). let m : Locks = record { epoch = c.self.inside.epoch; grants = c.self.inside.grants; rows = rs; waiters = c.self.inside.waits } in m)
+    (ap (λ (rs : List LockRow). let m : Locks = record { epoch = c.self.inside.epoch; grants = c.self.inside.grants; rows = rs; waiters = c.self.inside.waits; limit = 1024 } in m)
     (sym (not_seen c.args.client c.args.ino c.args.g c.self.inside.rows c.len-rows.ensures.distinct (ap (at_found (λ r. r.g.0 == c.args.g.0)) found ∙ ne_eqb c.in-Some.row.g.0 c.args.g.0 c.if-row-g.false))))
 
 pub returns-in_default : goal.returns-in_default
@@ -37,7 +37,7 @@ unfolding demand_seen
 returns-in_default c =
     let none : find (is_row_of c.args.client c.args.ino) c.self.inside.rows ≡ None = rw (← c.self.view_is) at (sym c.in_default.ensures.row) in
     rw (← c.self.view_is)
-    (ap (λ (rs : List LockRow). let m : Locks = record { epoch = c.self.inside.epoch; grants = c.self.inside.grants; rows = rs; waiters = c.self.inside.waits } in m)
+    (ap (λ (rs : List LockRow). let m : Locks = record { epoch = c.self.inside.epoch; grants = c.self.inside.grants; rows = rs; waiters = c.self.inside.waits; limit = 1024 } in m)
     (sym (not_seen c.args.client c.args.ino c.args.g c.self.inside.rows c.len-rows.ensures.distinct (ap (at_found (λ r. r.g.0 == c.args.g.0)) none))))
 
 pub invariant_of-self : goal.invariant_of-self

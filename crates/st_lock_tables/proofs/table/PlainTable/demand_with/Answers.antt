@@ -27,6 +27,7 @@ returns c =
             (found_moved c.self.inside.rows c.args.row.client c.demanded.result.client c.args.row.ino c.demanded.result.ino c.args.row c.demanded.ensures.same.0 c.demanded.ensures.same.1 (rw (← c.self.view_is) at c.requires.row))
             c.demanded.ensures.demanded) i;
         waiters = c.self.inside.waits;
+        limit = 1024;
       };
       due = c.in_ok-push.ensures.items i;
     })

@@ -10,7 +10,7 @@ use Rattle.st_lock_tables.proofs.table.PlainTable.push_installed.Goals as goal
 pub returns : goal.returns
 returns c =
     rw (← c.self.view_is)
-    (ap (λ (rs : List LockRow). let m : Locks = record { epoch = c.self.inside.epoch; grants = c.self.inside.grants; rows = rs; waiters = c.self.inside.waits } in m)
+    (ap (λ (rs : List LockRow). let m : Locks = record { epoch = c.self.inside.epoch; grants = c.self.inside.grants; rows = rs; waiters = c.self.inside.waits; limit = 1024 } in m)
     (c.in_ok-put.ensures.ok ∙ put_last (is_row_of c.args.client c.args.row.0) (installed c.args.client c.args.life c.args.row) c.self.inside.rows (rw (← c.self.view_is) at c.requires.new)))
 
 pub invariant_of-self-2 : goal.invariant_of-self-2

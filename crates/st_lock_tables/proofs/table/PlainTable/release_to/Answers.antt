@@ -14,7 +14,7 @@ returns-in-S c =
     let q = c.lowered.ensures.same.1 ∙ c.requires.same.1 in
     let found : find (is_row_of c.args.client c.args.ino) c.self.inside.rows ≡ Some c.args.row = rw (← c.self.view_is) at c.requires.found in
     rw (c.in-S.is, ← c.self.view_is)
-    (ap (λ (rs : List LockRow). let m : Locks = record { epoch = c.self.inside.epoch; grants = c.self.inside.grants; rows = rs; waiters = c.self.inside.waits } in m)
+    (ap (λ (rs : List LockRow). let m : Locks = record { epoch = c.self.inside.epoch; grants = c.self.inside.grants; rows = rs; waiters = c.self.inside.waits; limit = 1024 } in m)
     (changed_moved c.self.inside.rows c.change.new.self lowered c.args.client c.lowered.result.client c.args.ino c.lowered.result.ino p q
     (c.change.ensures lowered c.args.row (found_moved c.self.inside.rows c.args.client c.lowered.result.client c.args.ino c.lowered.result.ino c.args.row p q found) c.lowered.ensures.lowered)))
 
@@ -25,7 +25,7 @@ returns-in-X c =
     let q = c.lowered-in-X.ensures.same.1 ∙ c.requires.same.1 in
     let found : find (is_row_of c.args.client c.args.ino) c.self.inside.rows ≡ Some c.args.row = rw (← c.self.view_is) at c.requires.found in
     rw (c.in-X.is, ← c.self.view_is)
-    (ap (λ (rs : List LockRow). let m : Locks = record { epoch = c.self.inside.epoch; grants = c.self.inside.grants; rows = rs; waiters = c.self.inside.waits } in m)
+    (ap (λ (rs : List LockRow). let m : Locks = record { epoch = c.self.inside.epoch; grants = c.self.inside.grants; rows = rs; waiters = c.self.inside.waits; limit = 1024 } in m)
     (changed_moved c.self.inside.rows c.change-in-X.new.self lowered c.args.client c.lowered-in-X.result.client c.args.ino c.lowered-in-X.result.ino p q
     (c.change-in-X.ensures lowered c.args.row (found_moved c.self.inside.rows c.args.client c.lowered-in-X.result.client c.args.ino c.lowered-in-X.result.ino c.args.row p q found) c.lowered-in-X.ensures.lowered)))
 

@@ -4,7 +4,7 @@ use Rattle.st_namespace.proofs.names.Names.push.Goals as goal
 
 pub invariant_of-self-2 : goal.invariant_of-self-2
 unfolding added
-invariant_of-self-2 c = rw c.in-Ok.ensures.ok (added_in_order (record { entries = c.self.inside.entries; next = c.self.inside.next }) c.args.dir c.args.name c.args.directory c.self.invariant (rw (← c.self.view_is) at c.requires.free) (rw (← c.self.view_is) at c.requires.room))
+invariant_of-self-2 c = rw c.in-Ok.ensures.ok (added_in_order (record { entries = c.self.inside.entries; next = c.self.inside.next; limit = 4096 }) c.args.dir c.args.name c.args.directory c.self.invariant (rw (← c.self.view_is) at c.requires.free) (rw (← c.self.view_is) at c.requires.room))
 
 pub returns-clause-order : goal.returns-clause-order
 returns-clause-order c = invariant_of-self-2 c

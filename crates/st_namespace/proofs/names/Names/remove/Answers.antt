@@ -15,7 +15,8 @@ returns-clause-exact c = rw (c.remove.ensures, ← c.self.view_is)
 
 pub invariant_of-self : goal.invariant_of-self
 invariant_of-self c =
-    rw c.remove.ensures (gone_in_order (record { entries = c.self.inside.entries; next = c.self.inside.next }) c.args.dir c.args.name.now c.self.invariant)
+    rw c.remove.ensures
+    (gone_in_order (record { entries = c.self.inside.entries; next = c.self.inside.next; limit = 4096 }) c.args.dir c.args.name.now c.self.invariant)
 
 pub returns-clause-order : goal.returns-clause-order
 returns-clause-order c = invariant_of-self c

@@ -15,7 +15,8 @@ returns-clause-exact c = rw (c.rename.ensures, c.in-Ok.ensures, ← c.self.view_
 
 pub invariant_of-self : goal.invariant_of-self
 invariant_of-self c = rw (c.rename.ensures, c.in-Ok.ensures)
-    (renamed_in_order c.args.dir c.args.name.now c.args.dir2 c.args.name2.now (record { entries = c.self.inside.entries; next = c.self.inside.next })
+    (renamed_in_order c.args.dir c.args.name.now c.args.dir2 c.args.name2.now
+    (record { entries = c.self.inside.entries; next = c.self.inside.next; limit = 4096 })
     c.self.invariant (rw (← c.self.view_is) at c.in_ok-ino.ensures.free))
 
 pub returns-clause-order : goal.returns-clause-order

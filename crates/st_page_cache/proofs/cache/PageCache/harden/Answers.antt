@@ -12,6 +12,6 @@ invariant_of-self-in-Some c =
 pub returns-in_ok-put-in-Some-clause-ok : goal.returns-in_ok-put-in-Some-clause-ok
 returns-in_ok-put-in-Some-clause-ok c =
     let found = harden_found (pages_of c.self.inside.clean c.self.inside.dirty c.self.inside.next_version) c.args.ino c.args.page c.in-Some.old.now (sym c.in-Some.ensures) in
-    let done : pages_of (with_newest (clean_page c.args.ino c.args.page c.in_ok-bytes-in-Some.bytes) c.self.inside.clean) (without_dirty c.args.ino c.args.page c.self.inside.dirty) c.self.inside.next_version ≡ harden (pages_of c.self.inside.clean c.self.inside.dirty c.self.inside.next_version) c.args.ino c.args.page =
-    (λ j. pages_of (with_newest (clean_page c.args.ino c.args.page (c.in_ok-bytes-in-Some.ensures j)) c.self.inside.clean) (without_dirty c.args.ino c.args.page c.self.inside.dirty) c.self.inside.next_version) ∙ sym found in
+    let done : pages_of (with_newest 256 (clean_page c.args.ino c.args.page c.in_ok-bytes-in-Some.bytes) c.self.inside.clean) (without_dirty c.args.ino c.args.page c.self.inside.dirty) c.self.inside.next_version ≡ harden (pages_of c.self.inside.clean c.self.inside.dirty c.self.inside.next_version) c.args.ino c.args.page =
+    (λ j. pages_of (with_newest 256 (clean_page c.args.ino c.args.page (c.in_ok-bytes-in-Some.ensures j)) c.self.inside.clean) (without_dirty c.args.ino c.args.page c.self.inside.dirty) c.self.inside.next_version) ∙ sym found in
     rw (← c.self.view_is, c.remove.ensures, c.in_ok-put-in-Some.ensures.ok) (λ j. record { server = c.self.inside.server; pages = done j })
