@@ -1,5 +1,5 @@
 // The fields of the body of a message in the line of that message.
-ghost use Rattle.std.specs.Prelude.{◌≡◌, ◌++◌, OnOk, length};
+ghost use Rattle.std.specs.Prelude.{◌≡◌, ◌++◌, OnOk};
 ghost use Rattle.std.specs.List.{flat_map};
 ghost use Rattle.st_base.specs.Mode.{number_of};
 ghost use Rattle.st_rules.specs.Report as text;
@@ -84,19 +84,6 @@ fn put_page_of(out: &mut Vec<u8>, ino: u32, g: GrantNo, page: PageNo) -> Result<
     put_three(out, u64::from(ino), g.0, u64::from(page.0))
 }
 
-fn put_allocate(
-    out: &mut Vec<u8>,
-    ino: u32,
-    g: GrantNo,
-    page: PageNo,
-    count: u16,
-) -> Result<(), AllocError>
-    ensures { OnOk result (out.new.items ≡ out.old.items ++ (text.field ino ++ text.field g.0 ++ text.field page.0 ++ text.field count)) }
-{
-    put_page_of(out, ino, g, page)?;
-    put_field(out, u64::from(count))
-}
-
 fn put_each_lock_row(out: &mut Vec<u8>, rows: &[(u32, GrantNo, Mode)]) -> Result<(), AllocError>
     ensures { OnOk result (out.new.items ≡ out.old.items ++ flat_map text.lock_row rows.now) }
 {
@@ -106,39 +93,19 @@ fn put_each_lock_row(out: &mut Vec<u8>, rows: &[(u32, GrantNo, Mode)]) -> Result
     Ok(())
 }
 
-fn put_lock_rows(out: &mut Vec<u8>, rows: &[(u32, GrantNo, Mode)]) -> Result<(), AllocError>
-    ensures { OnOk result (out.new.items ≡ out.old.items ++ (text.field (length rows.now) ++ flat_map text.lock_row rows.now)) }
-{
-    put_field(out, rows.len() as u64)?;
-    put_each_lock_row(out, rows)
-}
-
-fn put_extent_row(out: &mut Vec<u8>, row: ExtentRow) -> Result<(), AllocError>
-    ensures { OnOk result (out.new.items ≡ out.old.items ++ text.extent_row row) }
-{
-    put_three(
-        out,
-        u64::from(row.page.0),
-        u64::from(row.at.disk.0),
-        u64::from(row.at.block),
-    )?;
-    put_field(out, row.birth)
-}
-
 fn put_each_extent_row(out: &mut Vec<u8>, rows: &[ExtentRow]) -> Result<(), AllocError>
     ensures { OnOk result (out.new.items ≡ out.old.items ++ flat_map text.extent_row rows.now) }
 {
     for r in rows {
-        put_extent_row(out, *r)?;
+        put_three(
+            out,
+            u64::from(r.page.0),
+            u64::from(r.at.disk.0),
+            u64::from(r.at.block),
+        )?;
+        put_field(out, r.birth)?;
     }
     Ok(())
-}
-
-fn put_extents(out: &mut Vec<u8>, ino: u32, rows: &[ExtentRow]) -> Result<(), AllocError>
-    ensures { OnOk result (out.new.items ≡ out.old.items ++ (text.field ino ++ text.field (length rows.now) ++ flat_map text.extent_row rows.now)) }
-{
-    put_two(out, u64::from(ino), rows.len() as u64)?;
-    put_each_extent_row(out, rows)
 }
 
 /// Appends the fields of a body, in the order of the wire.
@@ -155,16 +122,25 @@ pub(crate) fn put_fields(out: &mut Vec<u8>, body: &Body) -> Result<(), AllocErro
             g,
             page,
             count,
-        } => put_allocate(out, *ino, *g, *page, *count),
+        } => {
+            put_page_of(out, *ino, *g, *page)?;
+            put_field(out, u64::from(*count))
+        }
         Body::Cut { ino, g, from } => put_page_of(out, *ino, *g, *from),
         Body::Name(op) => put_name_op(out, op),
-        Body::Reassert(rows) => put_lock_rows(out, rows.as_slice()),
+        Body::Reassert(rows) => {
+            put_field(out, rows.len() as u64)?;
+            put_each_lock_row(out, rows.as_slice())
+        }
         Body::DemandSeen { ino, g } => put_two(out, u64::from(*ino), g.0),
         Body::Nack { why, a, b } => put_three(out, number_of_why(*why), *a, *b),
         Body::Granted { ino, g, mode } => put_lock(out, *ino, *g, *mode),
         Body::Queued { ino, mode } => put_two(out, u64::from(*ino), u64::from(mode.number())),
         Body::Demand { ino, g, to } => put_lock(out, *ino, *g, *to),
-        Body::Extents { ino, rows } => put_extents(out, *ino, rows.as_slice()),
+        Body::Extents { ino, rows } => {
+            put_two(out, u64::from(*ino), rows.len() as u64)?;
+            put_each_extent_row(out, rows.as_slice())
+        }
         Body::Named(reply) => put_name_reply(out, reply),
         _ => Ok(()),
     }

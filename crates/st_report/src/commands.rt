@@ -3,7 +3,7 @@ ghost use Rattle.st_rules.specs.Report as text;
 
 use crate::runs::put_page;
 use crate::words::{put_field, put_text};
-use st_base::{BlockAt, Command, Tag};
+use st_base::{BlockAt, Command};
 use std::alloc::AllocError;
 
 fn put_block(out: &mut Vec<u8>, at: BlockAt) -> Result<(), AllocError>
@@ -11,14 +11,6 @@ fn put_block(out: &mut Vec<u8>, at: BlockAt) -> Result<(), AllocError>
 {
     put_field(out, u64::from(at.disk.0))?;
     put_field(out, u64::from(at.block))
-}
-
-fn put_tag(out: &mut Vec<u8>, tag: Tag) -> Result<(), AllocError>
-    ensures { OnOk result (out.new.items ≡ out.old.items ++ text.tag tag) }
-{
-    put_field(out, u64::from(tag.file.ino))?;
-    put_field(out, u64::from(tag.page.0))?;
-    put_field(out, tag.birth)
 }
 
 #[tactic(auto, unfolding(st_rules::specs::Report::command))]
@@ -33,7 +25,9 @@ pub(crate) fn put_command(out: &mut Vec<u8>, what: &Command) -> Result<(), Alloc
         Command::Write { at, tag, bytes } => {
             put_block(out, *at)?;
             put_text(out, b" w")?;
-            put_tag(out, *tag)?;
+            put_field(out, u64::from(tag.file.ino))?;
+            put_field(out, u64::from(tag.page.0))?;
+            put_field(out, tag.birth)?;
             put_page(out, bytes)
         }
     }

@@ -2,39 +2,31 @@
 ghost use Rattle.std.specs.Prelude.{◌≡◌, ◌++◌, OnOk, codes};
 ghost use Rattle.st_rules.specs.Report as text;
 
-use crate::words::{put_field, put_text};
+use crate::words::{put_numbered, put_text};
 use st_rules::Summary;
 use std::alloc::AllocError;
-
-/// Appends a word and a number.
-fn put_count(out: &mut Vec<u8>, word: &[u8], n: u64) -> Result<(), AllocError>
-    ensures { OnOk result (out.new.items ≡ out.old.items ++ (word.now ++ text.field n)) }
-{
-    put_text(out, word)?;
-    put_field(out, n)
-}
 
 fn put_sent(out: &mut Vec<u8>, s: Summary) -> Result<(), AllocError>
     ensures { OnOk result (out.new.items ≡ out.old.items ++ text.sent_text s) }
 {
-    put_count(out, b"end events", s.events)?;
-    put_count(out, b" sent", s.sent)?;
-    put_count(out, b" commands", s.commands)
+    put_numbered(out, b"end events", s.events)?;
+    put_numbered(out, b" sent", s.sent)?;
+    put_numbered(out, b" commands", s.commands)
 }
 
 fn put_written(out: &mut Vec<u8>, s: Summary) -> Result<(), AllocError>
     ensures { OnOk result (out.new.items ≡ out.old.items ++ text.written_text s) }
 {
-    put_count(out, b" writes", s.writes)?;
-    put_count(out, b" reads", s.reads)?;
-    put_count(out, b" hard", s.hard)
+    put_numbered(out, b" writes", s.writes)?;
+    put_numbered(out, b" reads", s.reads)?;
+    put_numbered(out, b" hard", s.hard)
 }
 
 fn put_fates(out: &mut Vec<u8>, gone: u64, stolen: u64) -> Result<(), AllocError>
     ensures { OnOk result (out.new.items ≡ out.old.items ++ codes " gone" ++ text.field gone ++ codes " stolen" ++ text.field stolen ++ codes "\n") }
 {
-    put_count(out, b" gone", gone)?;
-    put_count(out, b" stolen", stolen)?;
+    put_numbered(out, b" gone", gone)?;
+    put_numbered(out, b" stolen", stolen)?;
     put_text(out, b"\n")
 }
 

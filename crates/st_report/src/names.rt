@@ -33,14 +33,6 @@ fn put_entry(out: &mut Vec<u8>, number: u64, dir: u32, name: &Name) -> Result<()
     put_name(out, name.as_slice())
 }
 
-fn put_list(out: &mut Vec<u8>, dir: u32, after: &Name) -> Result<(), AllocError>
-    ensures { OnOk result (out.new.items ≡ out.old.items ++ (text.field 6 ++ text.field dir ++ text.after after.now)) }
-{
-    put_field(out, 6)?;
-    put_field(out, u64::from(dir))?;
-    put_after(out, after.as_slice())
-}
-
 pub(crate) fn put_name_op(out: &mut Vec<u8>, op: &NameOp) -> Result<(), AllocError>
     ensures { OnOk result (out.new.items ≡ out.old.items ++ text.name_op op.now) }
 {
@@ -62,7 +54,11 @@ pub(crate) fn put_name_op(out: &mut Vec<u8>, op: &NameOp) -> Result<(), AllocErr
             put_field(out, u64::from(*dir2))?;
             put_name(out, name2.as_slice())
         }
-        NameOp::List { dir, after } => put_list(out, *dir, after),
+        NameOp::List { dir, after } => {
+            put_field(out, 6)?;
+            put_field(out, u64::from(*dir))?;
+            put_after(out, after.as_slice())
+        }
     }
 }
 
@@ -73,21 +69,15 @@ fn kind_of(directory: bool) -> u64
     if directory { 2 } else { 1 }
 }
 
-fn put_name_row(out: &mut Vec<u8>, row: &NameRow) -> Result<(), AllocError>
-    ensures { OnOk result (out.new.items ≡ out.old.items ++ text.name_row row.now) }
-{
-    put_field(out, u64::from(row.ino))?;
-    out.push(b':')?;
-    put_number(out, kind_of(row.directory))?;
-    out.push(b':')?;
-    put_text(out, row.name.as_slice())
-}
-
 fn put_each_name_row(out: &mut Vec<u8>, rows: &[NameRow]) -> Result<(), AllocError>
     ensures { OnOk result (out.new.items ≡ out.old.items ++ flat_map text.name_row rows.now) }
 {
     for r in rows {
-        put_name_row(out, r)?;
+        put_field(out, u64::from(r.ino))?;
+        out.push(b':')?;
+        put_number(out, kind_of(r.directory))?;
+        out.push(b':')?;
+        put_text(out, r.name.as_slice())?;
     }
     Ok(())
 }

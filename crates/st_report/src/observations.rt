@@ -7,19 +7,13 @@ use crate::answers::put_answer;
 use crate::commands::put_command;
 use crate::messages::put_message;
 use crate::runs::{put_page, put_runs};
-use crate::words::{put_client, put_field, put_file, put_number, put_server, put_text};
+use crate::words::{
+    put_client, put_field, put_file, put_number, put_numbered, put_server, put_text,
+};
 use st_base::{ClientId, Command, FileId, PageBytes, PageNo, ServerId};
 use st_messages::{AppAnswer, Message, PatchBytes};
 use st_rules::{Cause, Observation};
 use std::alloc::AllocError;
-
-/// Appends a word and a number.
-fn put_numbered(out: &mut Vec<u8>, word: &[u8], n: u64) -> Result<(), AllocError>
-    ensures { OnOk result (out.new.items ≡ out.old.items ++ (word.now ++ text.field n)) }
-{
-    put_text(out, word)?;
-    put_field(out, n)
-}
 
 #[tactic(auto, unfolding(st_rules::specs::Report::observation))]
 fn put_sent(out: &mut Vec<u8>, k: u64, message: &Message) -> Result<(), AllocError>
@@ -119,21 +113,15 @@ fn put_cut(out: &mut Vec<u8>, index: u64, file: FileId, from: PageNo) -> Result<
     put_field(out, u64::from(from.0))
 }
 
-fn put_cause(out: &mut Vec<u8>, cause: Cause) -> Result<(), AllocError>
-    ensures { OnOk result (out.new.items ≡ out.old.items ++ text.cause cause) }
-{
-    match cause {
-        Cause::Crash => put_text(out, b" crash"),
-        Cause::Failed(k) => put_numbered(out, b" failed", k),
-    }
-}
-
 #[tactic(auto, unfolding(st_rules::specs::Report::observation))]
 fn put_dropped(out: &mut Vec<u8>, index: u64, cause: Cause) -> Result<(), AllocError>
     ensures { OnOk result (out.new.items ≡ out.old.items ++ text.observation (seen.Dropped index cause)) }
 {
     put_numbered(out, b" drop", index)?;
-    put_cause(out, cause)
+    match cause {
+        Cause::Crash => put_text(out, b" crash"),
+        Cause::Failed(k) => put_numbered(out, b" failed", k),
+    }
 }
 
 /// Appends a word, a client, a server and a number.

@@ -1,18 +1,12 @@
 ghost use Rattle.std.specs.Prelude.{◌≡◌, ◌++◌, OnOk, codes};
 ghost use Rattle.st_rules.specs.Report as text;
 
-use crate::words::{put_client, put_field, put_node, put_server, put_text, put_wide_field};
+use crate::words::{
+    put_client, put_field, put_node, put_numbered, put_server, put_text, put_wide_field,
+};
 use st_base::{ClientId, NodeId, ServerId};
 use st_rules::WorldRefusal;
 use std::alloc::AllocError;
-
-/// Appends a word and a number.
-fn put_numbered(out: &mut Vec<u8>, word: &[u8], n: u64) -> Result<(), AllocError>
-    ensures { OnOk result (out.new.items ≡ out.old.items ++ (word.now ++ text.field n)) }
-{
-    put_text(out, word)?;
-    put_field(out, n)
-}
 
 /// Appends a word and a node.
 fn put_of_node(out: &mut Vec<u8>, word: &[u8], n: NodeId) -> Result<(), AllocError>
@@ -38,7 +32,8 @@ fn put_nodes(out: &mut Vec<u8>, word: &[u8], m: NodeId, n: NodeId) -> Result<(),
     put_node(out, n)
 }
 
-/// Appends a word, two nodes and a number.
+/// Appends a word, two nodes and a number. It is a function of its own for the prover, which does
+/// not join its parts inside the match.
 fn put_drift(
     out: &mut Vec<u8>,
     word: &[u8],
@@ -52,6 +47,7 @@ fn put_drift(
     put_wide_field(out, excess)
 }
 
+/// Appends the refusal of a missed flush. It is a function of its own for the same reason.
 fn put_missed(out: &mut Vec<u8>, c: ClientId, s: ServerId) -> Result<(), AllocError>
     ensures { OnOk result (out.new.items ≡ out.old.items ++ (codes " FlushMissed" ++ text.client c ++ text.server s)) }
 {

@@ -122,6 +122,14 @@ pub fn put_field(out: &mut Vec<u8>, n: u64) -> Result<(), AllocError>
     put_behind(out, b' ', n)
 }
 
+/// Appends a word and a number.
+pub(crate) fn put_numbered(out: &mut Vec<u8>, word: &[u8], n: u64) -> Result<(), AllocError>
+    ensures { OnOk result (out.new.items ≡ out.old.items ++ (word.now ++ text.field n)) }
+{
+    put_text(out, word)?;
+    put_field(out, n)
+}
+
 /// Appends a space and a number of up to 128 bits.
 pub(crate) fn put_wide_field(out: &mut Vec<u8>, n: u128) -> Result<(), AllocError>
     ensures { OnOk result (out.new.items ≡ out.old.items ++ text.field n) }
