@@ -2,7 +2,7 @@
 use Rattle.std.proofs.Common.{Bool, List, None, Option, Some, [], ap, arith, false, if◌then◌else◌, inl, inr, leb-true, length, not, refl, slice_get, subst, suc}
 use Rattle.std.proofs.Common.{sym, true, zero, ℕ, ◌++◌, ◌-◌, ◌∙◌, ◌∷◌, ◌≡◌, ◌≤◌, ◌⊎◌}
 use Rattle.std.specs.Option.{option_or}
-use Rattle.std.specs.Prelude.{nat_le}
+use Rattle.std.specs.Prelude.{nat_le, unwrap_or}
 use Rattle.st_base.specs.declared.ids.ClientId.{ClientId}
 use Rattle.st_base.specs.declared.ids.NodeId.{NodeId}
 use Rattle.st_base.specs.declared.ids.ServerId.{ServerId}
@@ -15,10 +15,10 @@ use Rattle.st_messages.specs.declared.event.Event.{Event}
 use Rattle.st_messages.specs.declared.output.Output.{Output}
 use Rattle.st_rules.specs.Admissible.{drift_refused, stands}
 use Rattle.st_rules.specs.ClientState.{ClientState}
-use Rattle.st_rules.specs.Events.{WorldTurn, client_says, client_says_all, counted, present_lives}
+use Rattle.st_rules.specs.Events.{WorldTurn, advanced, client_says, client_says_all, counted, present_lives}
 use Rattle.st_rules.specs.History.{History, recall, recall_all, remember}
 use Rattle.st_rules.specs.Keys.{client, server_node}
-use Rattle.st_rules.specs.World.{World, WorldClient, clock_of, is_running, lives_of, node_at, numbered, site_of}
+use Rattle.st_rules.specs.World.{World, WorldClient, clock_of, is_running, lives_of, node_at, numbered, site_of, stamp}
 use Rattle.st_rules.specs.declared.lease.Excess.{Excess}
 use Rattle.st_rules.specs.declared.lease.Phase.{Phase}
 use Rattle.st_rules.specs.declared.observation.Observation.{Observation}
@@ -148,3 +148,15 @@ remembered_grants w (events.Crash (nodes.Client c)) h = refl
 remembered_grants w (events.Start (nodes.Server s)) h = refl
 remembered_grants w (events.Start (nodes.Client c)) h = refl
 remembered_grants w e h = refl
+
+-- clocks go on
+listed_clocks_go_on : (ds : List ℕ) (ts : List Stamp) (n : ℕ) → (unwrap_or (slice_get ts n) (stamp 0)).0 ≤ (unwrap_or (slice_get (advanced ds ts) n) (stamp 0)).0
+unfolding advanced
+listed_clocks_go_on [] ts n = omega arith
+listed_clocks_go_on (d ∷ ds) [] n = omega arith
+listed_clocks_go_on (d ∷ ds) (t ∷ ts) zero = omega arith
+listed_clocks_go_on (d ∷ ds) (t ∷ ts) (suc n) = listed_clocks_go_on ds ts n
+
+pub clocks_go_on : (ds : List ℕ) (ts : List Stamp) (n : ℕ) → (unwrap_or (numbered ts n) (stamp 0)).0 ≤ (unwrap_or (numbered (advanced ds ts) n) (stamp 0)).0
+clocks_go_on ds ts zero = omega arith
+clocks_go_on ds ts (suc n) = listed_clocks_go_on ds ts n
