@@ -1,8 +1,8 @@
 -- Through the losses and the rule for the input: no lease of the client is over.
 use Rattle.st_lemmas.proofs.Words
-use Words.{◌≡◌, ℕ, ◌≤◌, Bool, true, false, List, [], ◌∷◌, ◌++◌, refl, sym, ap, ◌∙◌, arith, Option, Some, None, if◌then◌else◌, not, ◌&&◌, nat_le, list_all}
+use Words.{◌≡◌, ℕ, Bool, true, false, List, [], ◌∷◌, ◌++◌, refl, sym, ap, ◌∙◌, Option, Some, None, if◌then◌else◌, not, ◌&&◌, list_all}
 use Words.{Config, ServerId, Stamp, Tag, FileId, Ask, Body, Header, Ended, IoKind, PageCommand}
-use Words.Tables.{and_true}
+use Words.Tables.{and_both, and_true}
 use Words.asks
 use Words.ends.{Unknown, Filled, Hard, Redirty, Failed}
 use Words.io.{Read, Write}
@@ -18,30 +18,22 @@ use Rattle.st_client.proofs.ReceiveLasts.{Here, receive_lasts}
 use Rattle.st_client.proofs.InputsGrow.{finish_grows, lose_grows, take_ask_grows}
 use Rattle.st_client.specs.Machines.{Advances}
 
-both_true : (a b : Bool) → a ≡ true → b ≡ true → (a && b) ≡ true
-both_true true true p q = refl
-both_true true false p q = q
-both_true false b p q = p
-
 all_last_one : (p : Association → Bool) (xs : List Association) (a : Association) → list_all p xs ≡ true → p a ≡ true → list_all p (xs ++ a ∷ []) ≡ true
-all_last_one p [] a h e = both_true (p a) true e refl
+all_last_one p [] a h e = and_both (p a) true e refl
 all_last_one p (x ∷ xs) a h e =
     let s = and_true (p x) (list_all p xs) h in
-    both_true (p x) (list_all p (xs ++ a ∷ [])) s.0 (all_last_one p xs a s.1 e)
-
-pub leb-is : (a b : ℕ) → a ≤ b → nat_le a b ≡ true
-leb-is a b h = grind arith
+    and_both (p x) (list_all p (xs ++ a ∷ [])) s.0 (all_last_one p xs a s.1 e)
 
 -- the same holds of each
 pub all_same : (b : Bool) (xs : List Association) → b ≡ true → list_all (λ a. b) xs ≡ true
 all_same b [] h = refl
-all_same b (x ∷ xs) h = both_true b (list_all (λ a. b) xs) h (all_same b xs h)
+all_same b (x ∷ xs) h = and_both b (list_all (λ a. b) xs) h (all_same b xs h)
 
 pub all_both : (b : Bool) (p : Association → Bool) (xs : List Association) → b ≡ true → list_all p xs ≡ true → list_all (λ a. b && p a) xs ≡ true
 all_both b p [] e h = refl
 all_both b p (x ∷ xs) e h =
     let s = and_true (p x) (list_all p xs) h in
-    both_true (b && p x) (list_all (λ a. b && p a) xs) (both_true b (p x) e s.0) (all_both b p xs e s.1)
+    and_both (b && p x) (list_all (λ a. b && p a) xs) (and_both b (p x) e s.0) (all_both b p xs e s.1)
 
 module _ (now : Stamp) (before : Config → Association → Bool) (f : Turn → Turn) (keeps : (t : Turn) → before t.config t.here ≡ true → lasts_here t.config now (f t).here ≡ true) where
   these_last : (xs : List Association) (t : ClientTurn) → list_all (before t.state.config) xs ≡ true → all_last t.state now ≡ true → all_last (at_these f xs t).state now ≡ true

@@ -1,6 +1,6 @@
 -- What a crash leaves of a client: its servers and its lives.
 use Rattle.st_lemmas.proofs.Words
-use Words.{◌≡◌, ℕ, ◌+◌, ◌<◌, Bool, true, false, ◌&&◌, List, [], ◌∷◌, length, map, drop, get_or, refl, sym, ap, ◌∙◌, arith, ne_eqb, Option, Some, None, is_some}
+use Words.{◌≡◌, ℕ, ◌+◌, ◌<◌, Bool, true, false, ◌&&◌, List, [], ◌∷◌, length, map, drop, get_or, refl, sym, ap, ◌∙◌, arith, ne_eqb, Option, Some, None}
 use Words.{cond, find, list_all, list_any, Config, ClientId, Life, ServerId, Stamp}
 use Words.Tables.{cond_either, cond_false}
 use Words.Client.{association_of, crash, crashed_association, has_dirty_with, has_write_with, is_any, lease_at, lease_end_with, life_of_association, phase_with}
@@ -120,11 +120,6 @@ no_phase id config ss ls server now = ap (λ (l : Option ClientLease). phase_at 
 
 pub room_there : (id : ClientId) (config : Config) (ss : List ServerId) (ls : List Life) → length ls ≡ length ss → has_room (crashed_client id config ss ls) ≡ list_all is_low ls
 room_there id config ss ls e = low_there ss ls e
-
--- a node that does not run has no state
-pub none_runs : {A : Type 0} (o : Option A) → is_some o ≡ false → o ≡ None
-none_runs None e = refl
-none_runs (Some x) e = cc
 
 -- the place that a server is not at
 pub life_next : (ss : List ServerId) (ls : List Life) (i : ℕ) (s server : ServerId) (l : Life) → i < length ss → length ls ≡ length ss → ((get_or ss i s).0 ≡ server.0 → ⊥) →

@@ -17,10 +17,10 @@ use Words.ClientReplies as cr
 use Words.ClientState as cs
 use Words.ClientState.{Association, ClientSession, ClientState, ClientTurn, Turn, at_each, at_these, client_turn, enter, is_at, leave, only_at, server_of}
 use Words.ClientState.{with_associations}
+use Words.Truth.{if_either}
 use Rattle.st_client.proofs.ReceiveGrows.{receive_grows}
 use Rattle.st_client.proofs.InputsGrow.{finish_grows, lose_grows, take_ask_grows}
 use Rattle.st_client.proofs.PassesGrow.{passes_grow}
-use Rattle.st_client.proofs.SoundLists.{one_of}
 use Rattle.st_client.specs.Losses.{IsEmptied, IsEmptiedIn, is_ended}
 
 -- A rule at each association in turn: the first one of a server.
@@ -214,11 +214,12 @@ input_found : (v : ServerId) (a : Association) (t : ClientTurn) (now : Stamp) (i
 unfolding FoundLeft cl.take_input cl.app cl.app_known cl.done cr.receive cr.receive_here
 input_found v a t now Tick p = p
 input_found v a t now (App op ask) p =
-    one_of (FoundLeft v a) (cl.is_full t.state) (cl.answered_at_once t op answers.OpsFull) (cl.app_known t op ask) p
-    (one_of (FoundLeft v a) (cl.is_configured t.state (server_of ask)) (at_each (only_at (server_of ask) (cl.take_ask op ask)) t) (cl.answered_at_once t op answers.NoFile)
+    if_either (FoundLeft v a) (cl.is_full t.state) (cl.answered_at_once t op answers.OpsFull) (cl.app_known t op ask) p
+    (if_either (FoundLeft v a) (cl.is_configured t.state (server_of ask)) (at_each (only_at (server_of ask) (cl.take_ask op ask)) t)
+    (cl.answered_at_once t op answers.NoFile)
     (found_each v (only_at (server_of ask) (cl.take_ask op ask)) (take_server (server_of ask) op ask) t.state.config (Bare a) (Bare a) (λ u c b. take_bare a (server_of ask) op ask u b) t refl p) p)
 input_found v a t now (Control m) p =
-    one_of (FoundLeft v a) (m.header.to == t.state.id.0) (at_each (cr.receive_at now m.header m.body) t) t
+    if_either (FoundLeft v a) (m.header.to == t.state.id.0) (at_each (cr.receive_at now m.header m.body) t) t
     (found_each v (cr.receive_at now m.header m.body) (λ u. (receive_grows now m.header m.body u).2) t.state.config (Bare a) (Bare a) (λ u c b. receive_bare a now m.header m.body u b) t refl p) p
 input_found v a t now (Done number result) p =
     found_each v (cl.finish number result) (λ u. (finish_grows number result u).2) t.state.config (Bare a) (Bare a) (λ u c b. finish_bare a number result u b) t refl p

@@ -29,16 +29,12 @@ use Words.ClientReplies as cr
 use Words.ClientState as cs
 use Words.ClientState.{ClientSession, Turn, answer_to, say, server_of, with_session, with_store, with_operations}
 use Words.Keys.{same_server, server_node}
-use Rattle.st_client.proofs.SoundLists.{all_append, all_filter, all_last, all_made, all_map, all_put, one_of}
+use Words.Lookups.{or_left, or_right}
+use Words.Tests.{all_last}
+use Words.Truth.{if_either}
+use Rattle.st_client.proofs.SoundLists.{all_append, all_filter, all_made, all_map, all_put}
 use Rattle.st_client.specs.Losses.{is_elsewhere, is_other_operation, is_use}
 use Rattle.st_rules.specs.declared.client.Asked.TheVariants as demands
-
-or_left : (a b : Bool) → a ≡ true → (a || b) ≡ true
-or_left a b e = ap (λ z. z || b) e
-
-or_right : (a b : Bool) → b ≡ true → (a || b) ≡ true
-or_right true b e = refl
-or_right false b e = e
 
 module _ (v : ServerId) (known : BlockAt → Bool) (os : List Operation) where
   -- what is known of a page is at a block of another server
@@ -162,7 +158,7 @@ module _ (v : ServerId) (known : BlockAt → Bool) (os : List Operation) where
   used_after_newer : (t : Turn) (s : ClientSession) (epoch : Epoch) → U t → U (cr.newer_epoch t s epoch)
   unfolding cr.newer_epoch cr.follow_epoch
   used_after_newer t s epoch w =
-      one_of U (cr.is_newer s epoch) (cr.follow_epoch t s epoch) t
+      if_either U (cr.is_newer s epoch) (cr.follow_epoch t s epoch) t
       (stands_after_answers Used (with_session (cr.in_epoch epoch s) t) (cs.is_asked t.here.server) (answers.Uncertain s.epoch.0 epoch.0) refl w) w
 
   used_after_refused_in : (t : Turn) (s : ClientSession) (epoch : Epoch) (z : Why) → U t → U (cr.refused_in t s epoch z)
@@ -195,7 +191,7 @@ module _ (v : ServerId) (known : BlockAt → Bool) (os : List Operation) where
       U (cr.extents t s ino rows asked)
   unfolding cr.extents cr.learn
   used_after_extents t s ino rows asked f w =
-      one_of U (cr.is_current s.locks asked) (cr.learn t ino rows asked) t
+      if_either U (cr.is_current s.locks asked) (cr.learn t ino rows asked) t
       (stands_after_store Used t (cr.learned ino rows asked t.here.store) (placed_learned ino rows asked t.here.store f w.placed) w) w
 
   used_after_held : (t : Turn) (s : ClientSession) (ino : ℕ) (o : Option HeldLock) → U t → U (cr.drop_held t s ino o)
@@ -238,7 +234,8 @@ module _ (v : ServerId) (known : BlockAt → Bool) (os : List Operation) where
 
   used_after_holder : (t : Turn) (asked : Body) → U t → U (cr.refuse_holder t asked)
   unfolding cr.refuse_holder
-  used_after_holder t asked w = one_of U (cs.asks_cut_or_remove asked) _ t (stands_after_answers Used t (cs.is_asked t.here.server) answers.NotHolder refl w) w
+  used_after_holder t asked w = if_either U (cs.asks_cut_or_remove asked) _ t (stands_after_answers Used t (cs.is_asked t.here.server) answers.NotHolder refl w)
+      w
 
   used_after_as : (t : Turn) (a b : ℕ) (file : Option ℕ) (asked : Body) (z : Why) → U t → U (cr.refuse_as t z a b file asked)
   unfolding cr.refuse_as
@@ -254,7 +251,7 @@ module _ (v : ServerId) (known : BlockAt → Bool) (os : List Operation) where
       record {
         placed = w.placed;
         operations =
-            all_map is_fine (cr.stuck t) (λ o e. one_of (λ (x : Operation). is_fine x ≡ true) (cs.is_asked t.here.server o) (cs.at_stage Stuck o) o e e)
+            all_map is_fine (cr.stuck t) (λ o e. if_either (λ (x : Operation). is_fine x ≡ true) (cs.is_asked t.here.server o) (cs.at_stage Stuck o) o e e)
             t.operations w.operations;
         out = w.out;
         cond = w.cond;
@@ -280,7 +277,7 @@ module _ (v : ServerId) (known : BlockAt → Bool) (os : List Operation) where
   unfolding cr.end_request cr.note_renewal
   used_after_end t s stamp w =
       let l = lease.renewed stamp s.lease in
-      one_of U (lease.is_renewal stamp s.lease) (cr.note_lease l t) t (used_after_lease l t w) w
+      if_either U (lease.is_renewal stamp s.lease) (cr.note_lease l t) t (used_after_lease l t w) w
 
   used_after_reply_to : (t : Turn) (s : ClientSession) (now stamp : Stamp) (reply asked : Body) → FineBody reply → U t →
       U (cr.reply_to t s now stamp reply asked)
@@ -293,8 +290,8 @@ module _ (v : ServerId) (known : BlockAt → Bool) (os : List Operation) where
   unfolding cr.counted cr.by_request cr.count_reply cr.condemn
   used_after_counted t s now number stamp reply None f w = w
   used_after_counted t s now number stamp reply (Some q) f w =
-      one_of U (cr.is_counting number reply q) (cr.count_reply t s now stamp reply q.body) t
-      (one_of U (cr.refuses_reassertion reply q.body) (cr.condemn t s) (cr.reply_to t s now stamp reply q.body) w
+      if_either U (cr.is_counting number reply q) (cr.count_reply t s now stamp reply q.body) t
+      (if_either U (cr.refuses_reassertion reply q.body) (cr.condemn t s) (cr.reply_to t s now stamp reply q.body) w
       (used_after_reply_to t s now stamp reply q.body f w)) w
 
   used_after_reply : (t : Turn) (s : ClientSession) (now : Stamp) (h : Header) (reply : Body) → FineBody reply → U t → U (cr.reply_of t s now h reply)
@@ -314,7 +311,7 @@ module _ (v : ServerId) (known : BlockAt → Bool) (os : List Operation) where
   used_after_grant : (t : Turn) (s : ClientSession) (now : Stamp) (h : Header) (ino : ℕ) (g : GrantNo) (mode : Mode) → U t →
       U (cr.grant_or_reply t s now h ino g mode)
   unfolding cr.grant_or_reply cr.granted
-  used_after_grant t s now h ino g mode w = one_of U (h.number == 0) (cr.granted t s ino g mode) (cr.reply_of t s now h (bodies.Granted ino g mode)) w
+  used_after_grant t s now h ino g mode w = if_either U (h.number == 0) (cr.granted t s ino g mode) (cr.reply_of t s now h (bodies.Granted ino g mode)) w
       (used_after_reply t s now h (bodies.Granted ino g mode) tt w)
 
   used_after_demand_as : (t : Turn) (s : ClientSession) (ino : ℕ) (g : GrantNo) (a : Asked) → U t → U (cr.demand_as t s ino g a)
@@ -338,7 +335,7 @@ module _ (v : ServerId) (known : BlockAt → Bool) (os : List Operation) where
   used_after_session : (t : Turn) (s : ClientSession) (now : Stamp) (h : Header) (b : Body) → FineBody b → U t → U (cr.with_a_session t s now h b)
   unfolding cr.with_a_session
   used_after_session t s now h b f w =
-      one_of U (h.epoch == s.epoch.0) (cr.of_epoch t s now h b) (cr.of_other_epoch t s (record { 0 = h.epoch }) b) (used_after_epoch t s now h b f w)
+      if_either U (h.epoch == s.epoch.0) (cr.of_epoch t s now h b) (cr.of_other_epoch t s (record { 0 = h.epoch }) b) (used_after_epoch t s now h b f w)
       (used_after_of_other t s (record { 0 = h.epoch }) b w)
 
   module _ (now : Stamp) (h : Header) (b : Body) (tells : (s : ServerId) → (h.from == server_node s) ≡ true → same_server s v ≡ false → FineBody b) where
@@ -365,7 +362,7 @@ module _ (v : ServerId) (known : BlockAt → Bool) (os : List Operation) where
     stands_after_failed t c io.Read w = stands_after_answers C t (cl.waits_for_read t c) (answers.DiskFault c.number) refl w
     stands_after_failed t c (io.Write version) w =
         stands_after_answers C (cl.mark_failed t c version) (cl.waits_for_write t c) (answers.DiskFault c.number) refl
-        (one_of (Stands C) (cl.is_present t c version) (cl.with_failed c t) t w w)
+        (if_either (Stands C) (cl.is_present t c version) (cl.with_failed c t) t w w)
 
     stands_after_filled : (t : Turn) (c : PageCommand) (block : Option (Tag × List ℕ)) → Stands C t → Stands C (cl.filled_by t c block)
     unfolding cl.filled_by
@@ -389,7 +386,7 @@ module _ (v : ServerId) (known : BlockAt → Bool) (os : List Operation) where
     stands_after_finish_by : (t : Turn) (c : PageCommand) (result : Option (Option (Tag × List ℕ))) → Stands C t → Stands C (cl.finish_by t c result)
     unfolding cl.finish_by cl.done_by
     stands_after_finish_by t c None w = stands_after_command t c false None w
-    stands_after_finish_by t c (Some block) w = one_of (Stands C) (cl.is_result_of c.kind block) (cl.finish_command t c true block) t
+    stands_after_finish_by t c (Some block) w = if_either (Stands C) (cl.is_result_of c.kind block) (cl.finish_command t c true block) t
         (stands_after_command t c true block w) w
 
     stands_after_finish_at : (t : Turn) (c : Option PageCommand) (result : Option (Option (Tag × List ℕ))) → Stands C t → Stands C (cl.finish_at t c result)
@@ -412,14 +409,14 @@ module _ (v : ServerId) (known : BlockAt → Bool) (os : List Operation) where
 
     stands_after_take_by : (t : Turn) (op : ℕ) (ask other : Ask) → is_fine (cs.new_operation op ask) ≡ true → Stands C t → Stands C (cl.take_by t op ask other)
     unfolding cl.take_by cl.take_sync
-    stands_after_take_by t op ask (asks.Sync f) e w = one_of (Stands C) (pages.has_lost t.here.lost f.ino) (cl.tell_lost t op f.ino) (cl.enqueue t op ask)
+    stands_after_take_by t op ask (asks.Sync f) e w = if_either (Stands C) (pages.has_lost t.here.lost f.ino) (cl.tell_lost t op f.ino) (cl.enqueue t op ask)
         (stands_after_tell t op f.ino w) (stands_after_pend t op ask e w)
     stands_after_take_by t op ask other e w = stands_after_pend t op ask e w
 
     pub stands_after_take : (s : ServerId) (op : ℕ) (ask : Ask) → is_fine (cs.new_operation op ask) ≡ true → (t : Turn) → Stands C t →
         Stands C (cs.only_at s (cl.take_ask op ask) t)
     unfolding cs.only_at cl.take_ask
-    stands_after_take s op ask e t w = one_of (Stands C) (cs.is_at s t.here) (cl.take_by t op ask ask) t (stands_after_take_by t op ask ask e w) w
+    stands_after_take s op ask e t w = if_either (Stands C) (cs.is_at s t.here) (cl.take_by t op ask ask) t (stands_after_take_by t op ask ask e w) w
 
   -- Operations.
 
@@ -463,7 +460,8 @@ module _ (v : ServerId) (known : BlockAt → Bool) (os : List Operation) where
       list_any (is_other_operation v o.op) os ≡ true → U t → U (cp.write t s o f p bytes)
   unfolding cp.write cp.change_page
   used_after_write t s o f p bytes k e w =
-      one_of U (cp.may_write t s f p) _ (cs.keep o t) (used_after_change t o f p (notes.Accepted f p bytes) (pages.write t.here.store.pages f.ino p bytes) e w)
+      if_either U (cp.may_write t s f p) _ (cs.keep o t)
+      (used_after_change t o f p (notes.Accepted f p bytes) (pages.write t.here.store.pages f.ino p bytes) e w)
       (used_after_keeping t o k w)
 
   used_after_fetch_at : (t : Turn) (f : FileId) (p : PageNo) (m : Option MappedBlock) → pages.mapping_of t.here.store.extents f.ino p ≡ m → U t →
@@ -471,7 +469,7 @@ module _ (v : ServerId) (known : BlockAt → Bool) (os : List Operation) where
   unfolding cp.fetch_at cp.fetch_mapped cp.submit_read cp.submit_command
   used_after_fetch_at t f p None e w = w
   used_after_fetch_at t f p (Some m) e w =
-      one_of U (pages.is_being_read t.here.store.commands f.ino p) t _ w
+      if_either U (pages.is_being_read t.here.store.commands f.ino p) t _ w
       (stands_after_say Used t (outputs.Submit t.next_command m.at (commands.Read m.at))
       (and_both (known m.at) true (placed_at t.here.store.extents f.ino p m w.placed e) refl) w)
 
@@ -494,7 +492,7 @@ module _ (v : ServerId) (known : BlockAt → Bool) (os : List Operation) where
       U (cp.patch t s o f p at bytes)
   unfolding cp.patch
   used_after_patch t s o f p at bytes k e w =
-      one_of U (cp.may_write t s f p) _ (cs.keep o t) (used_after_patch_at t o f p at bytes (pages.cached t.here.store.pages f.ino p) k e w)
+      if_either U (cp.may_write t s f p) _ (cs.keep o t) (used_after_patch_at t o f p at bytes (pages.cached t.here.store.pages f.ino p) k e w)
       (used_after_keeping t o k w)
 
   used_after_known : (t : Turn) (o : Operation) (f : FileId) (p : PageNo) (x : KnownExtent) (m : Option MappedBlock) → is_fine o ≡ true →
@@ -519,7 +517,8 @@ module _ (v : ServerId) (known : BlockAt → Bool) (os : List Operation) where
   used_after_read : (t : Turn) (s : ClientSession) (o : Operation) (f : FileId) (p : PageNo) → is_fine o ≡ true →
       list_any (is_other_operation v o.op) os ≡ true → U t → U (cp.read t s o f p)
   unfolding cp.read
-  used_after_read t s o f p k e w = one_of U (cp.holds s modes.S f) _ (cs.keep o t) (used_after_read_at t o f p (pages.cached t.here.store.pages f.ino p) k e w)
+  used_after_read t s o f p k e w = if_either U (cp.holds s modes.S f) _ (cs.keep o t)
+      (used_after_read_at t o f p (pages.cached t.here.store.pages f.ino p) k e w)
       (used_after_keeping t o k w)
 
   used_after_serve_open : (t : Turn) (s : ClientSession) (o : Operation) (a : Ask) → is_fine o ≡ true → list_any (is_other_operation v o.op) os ≡ true → U t →
@@ -533,12 +532,13 @@ module _ (v : ServerId) (known : BlockAt → Bool) (os : List Operation) where
   used_after_serve : (all : List Operation) (t : Turn) (s : ClientSession) (o : Operation) → is_fine o ≡ true → list_any (is_other_operation v o.op) os ≡ true →
       U t → U (cp.serve all t s o)
   unfolding cp.serve
-  used_after_serve all t s o k e w = one_of U (cs.is_open_file all t.here.server s (cs.file_of o.ask)) _ (cs.keep o t) (used_after_serve_open t s o o.ask k e w)
+  used_after_serve all t s o k e w = if_either U (cs.is_open_file all t.here.server s (cs.file_of o.ask)) _ (cs.keep o t)
+      (used_after_serve_open t s o o.ask k e w)
       (used_after_keeping t o k w)
 
   used_after_quiesce : (t : Turn) (o : Operation) → is_fine o ≡ true → U t → U (cp.quiesce t o)
   unfolding cp.quiesce
-  used_after_quiesce t o k w = one_of U (cs.is_sent o) (cs.keep o t) _ (used_after_keeping t o k w)
+  used_after_quiesce t o k w = if_either U (cs.is_sent o) (cs.keep o t) _ (used_after_keeping t o k w)
       (stands_after_say Used t (outputs.Answer o.op answers.Quiesced) refl w)
 
   usable_after_operate_by : (all : List Operation) (t : Turn) (now : Stamp) (o : Operation) (x : Option ClientSession) → t.here.session ≡ x →
@@ -549,11 +549,11 @@ module _ (v : ServerId) (known : BlockAt → Bool) (os : List Operation) where
   usable_after_operate_by all t now o (Some s) q i k w =
       let u = used t s q w in
       usable (cp.operate_under all t s now o)
-      (one_of U (cs.is_serving t.config s now) _ _ (used_after_serve all t s o k (own_fine t.here.server o u.cond i k) u) (used_after_quiesce t o k u))
+      (if_either U (cs.is_serving t.config s now) _ _ (used_after_serve all t s o k (own_fine t.here.server o u.cond i k) u) (used_after_quiesce t o k u))
 
   usable_after_sync : (t : Turn) (o : Operation) (f : FileId) → is_fine o ≡ true → S t → S (cp.sync t o f)
   unfolding cp.sync
-  usable_after_sync t o f k w = one_of S (pages.is_hard t.here.store f.ino) _ (cs.keep o t)
+  usable_after_sync t o f k w = if_either S (pages.is_hard t.here.store f.ino) _ (cs.keep o t)
       (stands_after_say Usable t (outputs.Answer o.op answers.Hard) refl w) (usable_after_keeping t o k w)
 
   usable_after_operate_on : (all : List Operation) (t : Turn) (now : Stamp) (o : Operation) (a : Ask) → cs.is_of t.here.server o ≡ true → is_fine o ≡ true →
@@ -607,7 +607,7 @@ module _ (v : ServerId) (known : BlockAt → Bool) (os : List Operation) where
   usable_after_reduce t ino (Some s) e w =
       let r = locks.reduce s.locks ino in
       let u = used t s e w in
-      one_of S (cp.may_reduce t s ino) (cp.reduce_given t (cs.with_cache r.locks s) ino r.given) t
+      if_either S (cp.may_reduce t s ino) (cp.reduce_given t (cs.with_cache r.locks s) ino r.given) t
       (usable (cp.reduce_given t (cs.with_cache r.locks s) ino r.given) (used_after_given t (cs.with_cache r.locks s) ino r.given u)) w
 
   usable_after_reduce_each : (inos : List ℕ) (t : Turn) → S t → S (cp.reduce_each inos t)
@@ -635,7 +635,7 @@ module _ (v : ServerId) (known : BlockAt → Bool) (os : List Operation) where
   used_after_page_out t s now tick None w = w
   used_after_page_out t s now tick (Some d) w =
       let m = pages.mapping_of t.here.store.extents d.ino d.page in
-      one_of U (cp.is_writable t s now tick d) (cp.write_out_at t d m) t (used_after_out_at t d m refl w) w
+      if_either U (cp.is_writable t s now tick d) (cp.write_out_at t d m) t (used_after_out_at t d m refl w) w
 
   used_after_write_each : (s : ClientSession) (now : Stamp) (tick : Bool) (xs : List (ℕ × PageNo)) (t : Turn) → U t → U (cp.write_each s now tick xs t)
   unfolding cp.write_each
@@ -659,7 +659,7 @@ module _ (v : ServerId) (known : BlockAt → Bool) (os : List Operation) where
 
   usable_after_greeting_by : (t : Turn) (now : Stamp) (tick : Bool) (x : Option ClientSession) → S t → S (cp.greeting_by t now tick x)
   unfolding cp.greeting_by cp.greet cp.hello
-  usable_after_greeting_by t now tick None w = one_of S (cp.must_greet t now tick) _ t
+  usable_after_greeting_by t now tick None w = if_either S (cp.must_greet t now tick) _ t
       (stands_after_send Usable (cp.with_greeting now t) 0 0 now.0 bodies.Hello w) w
   usable_after_greeting_by t now tick (Some s) w = w
 
@@ -675,7 +675,7 @@ module _ (v : ServerId) (known : BlockAt → Bool) (os : List Operation) where
 
   used_after_alive : (t : Turn) (s : ClientSession) (now : Stamp) → U t → U (cp.keep_alive t s now)
   unfolding cp.keep_alive
-  used_after_alive t s now w = one_of U (lease.is_renewing (lease.phase_of t.config s.lease now)) _ t (used_after_ask t s now bodies.KeepAlive None w) w
+  used_after_alive t s now w = if_either U (lease.is_renewing (lease.phase_of t.config s.lease now)) _ t (used_after_ask t s now bodies.KeepAlive None w) w
 
   abbrev FineAsking : Option cp.Asking → Type 0
   FineAsking None = ⊤
@@ -713,7 +713,7 @@ module _ (v : ServerId) (known : BlockAt → Bool) (os : List Operation) where
   used_after_ask_next : (t : Turn) (s : ClientSession) (now : Stamp) → U t → U (cp.ask_next t s now)
   unfolding cp.ask_next
   used_after_ask_next t s now w =
-      one_of U (cs.is_serving t.config s now) _ _
+      if_either U (cs.is_serving t.config s now) _ _
       (used_after_ask_for t s now (cp.first_asking t s now t.operations) (first_fine t s now t.operations w.operations) w) (used_after_alive t s now w)
 
   used_after_ask_by : (t : Turn) (s : ClientSession) (now : Stamp) (rs : List Release) → U t → U (cp.ask_by t s now rs)
@@ -723,16 +723,16 @@ module _ (v : ServerId) (known : BlockAt → Bool) (os : List Operation) where
 
   used_after_at : (t : Turn) (s : ClientSession) (now : Stamp) (tick : Bool) (q : Option Request) → U t → U (cp.requests_at t s now tick q)
   unfolding cp.requests_at cp.ask_new cp.reassert cp.repeat cp.ask_again
-  used_after_at t s now tick None w = one_of U s.due _ _ (used_after_ask t s now (bodies.Reassert (locks.all_locks s.locks)) None w)
+  used_after_at t s now tick None w = if_either U s.due _ _ (used_after_ask t s now (bodies.Reassert (locks.all_locks s.locks)) None w)
       (used_after_ask_by t s now s.releases w)
-  used_after_at t s now tick (Some q) w = one_of U (cp.is_old t.config now tick q) _ t
+  used_after_at t s now tick (Some q) w = if_either U (cp.is_old t.config now tick q) _ t
       (stands_after_send Used (with_session (cp.again_session s now q) t) s.epoch.0 q.number now.0 q.body w) w
 
   usable_after_requests_by : (t : Turn) (now : Stamp) (tick : Bool) (x : Option ClientSession) → t.here.session ≡ x → S t → S (cp.requests_by t now tick x)
   unfolding cp.requests_by cp.requests_under
   usable_after_requests_by t now tick None e w = w
   usable_after_requests_by t now tick (Some s) e w =
-      one_of S s.lease.condemned t _ w (usable (cp.requests_at t s now tick s.requests.asked) (used_after_at t s now tick s.requests.asked (used t s e w)))
+      if_either S s.lease.condemned t _ w (usable (cp.requests_at t s now tick s.requests.asked) (used_after_at t s now tick s.requests.asked (used t s e w)))
 
   usable_after_requests : (now : Stamp) (tick : Bool) (t : Turn) → S t → S (cp.requests now tick t)
   unfolding cp.requests

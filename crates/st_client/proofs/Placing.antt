@@ -4,6 +4,7 @@ use Words.{◌≡◌, ℕ, zero, suc, ◌+◌, ◌<◌, ◌≤◌, Bool, true, L
 use Words.{remove, slice_get, list_all, Config, Output, Operation}
 use Words.Tables.{and_true}
 use Words.ClientState.{Association, ClientTurn, Turn, at_each, at_these, enter, with_associations}
+use Words.Lengths.{length_map}
 use Rattle.std.proofs.Common.{append-nil}
 use Rattle.std.specs.Option.{option_map_or}
 use Rattle.st_client_association.specs.Associations.{ClientAssociation, left_as}
@@ -15,10 +16,6 @@ use Rattle.st_client.specs.Machines.{at_place, here_of, is_ready_at, leave_at, w
 length_both : {A : Type 0} (xs ys : List A) → length (xs ++ ys) ≡ length xs + length ys
 length_both [] ys = omega arith
 length_both (x ∷ xs) ys = let h = length_both xs ys in omega (arith, h)
-
-length_map : {A B : Type 0} (f : A → B) (xs : List A) → length (map f xs) ≡ length xs
-length_map f [] = refl
-length_map f (x ∷ xs) = ap suc (length_map f xs)
 
 get_there : {A : Type 0} (done left : List A) (a : A) → slice_get (done ++ a ∷ left) (length done) ≡ Some a
 get_there [] left a = refl

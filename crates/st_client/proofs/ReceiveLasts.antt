@@ -2,7 +2,7 @@
 use Rattle.st_lemmas.proofs.Words
 use Words.{◌≡◌, ℕ, ◌+◌, Bool, true, false, refl, Option, Some, None, if◌then◌else◌, ◌<◌, ap, sym, ◌∙◌, subst, ltb-true, not, nat_lt, is_some, Config, Epoch}
 use Words.{GrantNo, PageNo, Stamp, Mode, AppAnswer, Body, Header, NameReply, Why, Asked, HeldLock, Operation, Request}
-use Words.Tables.{and_true}
+use Words.Tables.{and_true, not_true}
 use Words.ClientInvariants.{lasts_here, lasts_in}
 use Words.ClientLease.{must_discard, standing_of}
 use Words.ClientReplies.{accept_grant, decline, grant, grant_new, release_unheld, wait_unless_held, wait_told, acknowledged, begin_session, ended_by, in_epoch}
@@ -20,6 +20,7 @@ use Words.ClientLocks as locks
 use Rattle.st_client.proofs.ReceiveGrows.{end_grows}
 use Rattle.st_client_session.proofs.Lasting.{condemned_lasts, new_lasts, renewed_lasts}
 use Rattle.st_rules.specs.declared.client.Asked.TheVariants.{Reduce, NotHeld, Stale}
+use Rattle.std.proofs.lemmas.Bool.{not_from_false}
 
 -- the lease at the server is not over
 abbrev pub Here : Stamp → Turn → Type 0
@@ -28,13 +29,6 @@ Here now t = lasts_here t.config now t.here ≡ true
 -- the session's lease is not over
 abbrev pub Lives : Config → Stamp → ClientSession → Type 0
 Lives k now s = not (must_discard (standing_of k s.lease now)) ≡ true
-
-off : (b : Bool) → not b ≡ true → b ≡ false
-off true h = sym h
-off false h = refl
-
-turned : (b : Bool) → b ≡ false → not b ≡ true
-turned b h = ap not h
 
 -- one of two
 either : (now : Stamp) (b : Bool) (x y : Turn) → Here now x → Here now y → Here now (if b then x else y)
@@ -52,7 +46,7 @@ puts now t s u e l = ap (λ x. not (must_discard (standing_of t.config x now))) 
 
 begin_lasts : (t : Turn) (now : Stamp) (epoch : Epoch) (stamp : Stamp) → now.0 < stamp.0 + t.config.lease → Here now (begin_session t epoch stamp)
 unfolding begin_session note_lease
-begin_lasts t now epoch stamp h = turned _ (new_lasts t.config stamp now h)
+begin_lasts t now epoch stamp h = not_from_false _ (new_lasts t.config stamp now h)
 
 welcome_lasts : (t : Turn) (now : Stamp) (epoch : Epoch) (stamp : Stamp) → Here now t → Here now (welcome t now epoch stamp)
 unfolding welcome
@@ -243,7 +237,7 @@ effect_lasts t s now file asked (bodies.Submit command at what) h l = h
 effect_lasts t s now file asked (bodies.Done command result) h l = h
 
 renewed_lives : (k : Config) (s : ClientSession) (now stamp : Stamp) → Lives k now s → Lives k now (ended_by stamp s)
-renewed_lives k s now stamp l = turned _ (renewed_lasts k s.lease stamp now (off _ l))
+renewed_lives k s now stamp l = not_from_false _ (renewed_lasts k s.lease stamp now (not_true _ l))
 
 -- the session in which the request ended, as the settings of the turn have it
 ended_lives : (t : Turn) (s : ClientSession) (now stamp : Stamp) → Lives t.config now s → Lives (end_request t s stamp).config now (ended_by stamp s)
@@ -260,7 +254,7 @@ reply_to_lasts t s now stamp reply asked l =
 
 condemn_lasts : (t : Turn) (s : ClientSession) (now : Stamp) → Lives t.config now s → Here now (condemn t s)
 unfolding condemn
-condemn_lasts t s now l = turned _ (condemned_lasts t.config s.lease now (off _ l))
+condemn_lasts t s now l = not_from_false _ (condemned_lasts t.config s.lease now (not_true _ l))
 
 count_lasts : (t : Turn) (s : ClientSession) (now stamp : Stamp) (reply asked : Body) → Lives t.config now s → Here now (count_reply t s now stamp reply asked)
 unfolding count_reply

@@ -14,10 +14,11 @@ use Words.ClientReplies.{receive_at, receive, receive_here}
 use Words.ClientState.{Association, ClientSession, ClientState, ClientTurn, Turn, at_each, at_these, client_turn, enter, leave, only_at, server_of}
 use Words.ClientState.{with_associations}
 use Words.Extents.{numbers}
+use Words.Tests.{all_last}
+use Words.Truth.{if_either}
 use Rattle.st_client_association.specs.Associations.{has_room_at, may_ask}
 use Rattle.st_client.proofs.SoundReceives.{receive_fit}
 use Rattle.st_client.proofs.SoundInputs.{asked_fit, finish_fit, lose_fit}
-use Rattle.st_client.proofs.SoundLists.{all_last, one_of}
 use Rattle.st_client.proofs.SoundMessages.{Fit, FitAt, FitIn, between_is, fits_parts}
 use Rattle.st_client.proofs.SoundPasses.{greeting_fit, operations_fit, reductions_fit, writes_fit}
 use Rattle.st_client.proofs.SoundRequests.{requests_fit}
@@ -66,12 +67,13 @@ input_fit : (most : ℕ) → 1 ≤ most → most < 2 ^ 64 → (t : ClientTurn) (
 unfolding take_input app app_known done receive receive_here
 input_fit most low high t now Tick e h = h
 input_fit most low high t now (App op ask) e h =
-    one_of (FitClient most) (is_full t.state) (answered_at_once t op answers.OpsFull) (app_known t op ask) (once_fit most t op answers.OpsFull h)
-    (one_of (FitClient most) (is_configured t.state (server_of ask)) (at_each (only_at (server_of ask) (take_ask op ask)) t) (answered_at_once t op answers.NoFile)
+    if_either (FitClient most) (is_full t.state) (answered_at_once t op answers.OpsFull) (app_known t op ask) (once_fit most t op answers.OpsFull h)
+    (if_either (FitClient most) (is_configured t.state (server_of ask)) (at_each (only_at (server_of ask) (take_ask op ask)) t)
+    (answered_at_once t op answers.NoFile)
     (each_fit most most (only_at (server_of ask) (take_ask op ask)) (asked_fit most (server_of ask) op ask e) t h) (once_fit most t op answers.NoFile h))
 input_fit most low high t now (Control m) e h =
     let p = fits_parts m.header m.body e in
-    one_of (FitClient most) (m.header.to == t.state.id.0) (at_each (receive_at now m.header m.body) t) t
+    if_either (FitClient most) (m.header.to == t.state.id.0) (at_each (receive_at now m.header m.body) t) t
     (each_fit most most (receive_at now m.header m.body) (receive_fit most low high now m.header m.body p.0 p.1) t h) h
 input_fit most low high t now (Done number result) e h = each_fit most most (finish number result) (finish_fit most number result) t h
 

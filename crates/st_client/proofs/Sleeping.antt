@@ -16,15 +16,12 @@ use Words.ClientPasses.{requests_at, requests_by, requests_under, write_each, wr
 use Words.ClientReplies.{receive_at, is_received}
 use Words.ClientState.{ClientSession, Turn, is_at, is_of, is_serving, is_sync, keep, only_at, with_operations}
 use Words.Keys.{rising, server_node}
+use Words.Lookups.{or_false}
 use Rattle.std.proofs.Common.{append-nil}
 use Rattle.st_client_association.specs.Associations.{ClientAssociation}
 use Rattle.st_client_association.specs.Activity.{is_awake, is_awake_by, may_send, takes_all}
 use Rattle.st_operations.specs.PendingOperations.{may_act}
 use Rattle.st_client.specs.IdleRules.{IsIdle}
-
-or_parts : (a b : Bool) → (a || b) ≡ false → (a ≡ false) × (b ≡ false)
-or_parts true b e = cc
-or_parts false b e = (refl, e)
 
 -- Losses, messages and asks.
 
@@ -54,7 +51,7 @@ each_kept : (all : List Operation) (now : Stamp) (os : List Operation) (t : Turn
 unfolding operate_each operate
 each_kept all now [] t e = ap (λ xs. with_operations xs t) (sym (append-nil t.operations))
 each_kept all now (o ∷ os) t e =
-    let p = or_parts (is_of t.here.server o) (list_any (is_of t.here.server) os) e in
+    let p = or_false (is_of t.here.server o) (list_any (is_of t.here.server) os) e in
     let q : operate all t now o ≡ keep o t = cond_false (is_of t.here.server o) _ (keep o t) p.0 in
     ap (operate_each all now os) q ∙ each_kept all now os (keep o t) p.1 ∙ ap (λ xs. with_operations xs t) (append_assoc t.operations (o ∷ []) os)
 
@@ -94,7 +91,7 @@ no_asking : (t : Turn) (s : ClientSession) (now : Stamp) (os : List Operation) �
 unfolding first_asking asks_or asked_by
 no_asking t s now [] e = refl
 no_asking t s now (o ∷ os) e =
-    let p = or_parts (is_of t.here.server o) (list_any (is_of t.here.server) os) e in
+    let p = or_false (is_of t.here.server o) (list_any (is_of t.here.server) os) e in
     let q : asked_by t s now o ≡ None = cond_false (may_ask t s o) _ None (and_left (is_of t.here.server o) _ p.0) in
     ap (asks_or o os (first_asking t s now os)) q ∙ ap (λ a. passes.behind o a) (no_asking t s now os p.1)
 
@@ -121,8 +118,8 @@ at_idle : (t : Turn) (s : ClientSession) (now : Stamp) (tick : Bool) (q : Option
     cond (is_some q) tick (s.due || (is_any s.releases || is_renewing (phase_of t.config s.lease now))) ≡ false → requests_at t s now tick q ≡ t
 unfolding requests_at ask_new repeat
 at_idle t s now tick None e f =
-    let p = or_parts s.due (is_any s.releases || is_renewing (phase_of t.config s.lease now)) f in
-    let r = or_parts (is_any s.releases) (is_renewing (phase_of t.config s.lease now)) p.1 in
+    let p = or_false s.due (is_any s.releases || is_renewing (phase_of t.config s.lease now)) f in
+    let r = or_false (is_any s.releases) (is_renewing (phase_of t.config s.lease now)) p.1 in
     cond_false s.due _ (ask_by t s now s.releases) p.0 ∙ new_idle t s now s.releases e r.0 r.1
 at_idle t s now tick (Some q) e f = cond_false (is_old t.config now tick q) _ t (and_left tick _ f)
 
@@ -142,8 +139,8 @@ with_session_idle now tick t None h e f =
     ∙ ap (requests now tick) (greeting_idle now tick t t.here.session e)
     ∙ ap (requests_by t now tick) h
 with_session_idle now tick t (Some s) h e f =
-    let p = or_parts (is_any (demanded_files s.locks)) (is_any t.here.store.pages.dirty || may_send t.config now tick s) f in
-    let q = or_parts (is_any t.here.store.pages.dirty) (may_send t.config now tick s) p.1 in
+    let p = or_false (is_any (demanded_files s.locks)) (is_any t.here.store.pages.dirty || may_send t.config now tick s) f in
+    let q = or_false (is_any t.here.store.pages.dirty) (may_send t.config now tick s) p.1 in
     ap (λ u. requests now tick (greeting now tick (writes now tick (reductions u)))) (operations_idle now t e)
     ∙ ap (λ u. requests now tick (greeting now tick (writes now tick u))) (reductions_idle t (ap passes.files_demanded h ∙ none_there (demanded_files s.locks) p.0))
     ∙ ap (λ u. requests now tick (greeting now tick u)) (writes_idle now tick t t.here.session (no_places t.here.store.pages (none_there t.here.store.pages.dirty q.0)))
@@ -175,7 +172,7 @@ each_left : (all : List Operation) (now : Stamp) (os : List Operation) (t : Turn
 unfolding operate_each
 each_left all now [] t h e = ap (λ xs. with_operations xs t) (sym (append-nil t.operations))
 each_left all now (o ∷ os) t h e =
-    let p = or_parts (may_act t.here.server false o) (list_any (may_act t.here.server false) os) e in
+    let p = or_false (may_act t.here.server false o) (list_any (may_act t.here.server false) os) e in
     ap (operate_each all now os) (operation_kept all now o t h p.0) ∙ each_left all now os (keep o t) h p.1
     ∙ ap (λ xs. with_operations xs t) (append_assoc t.operations (o ∷ []) os)
 
@@ -207,7 +204,7 @@ passes_idle : (now : Stamp) (tick : Bool) (t : Turn) (all : Bool) → takes_all 
     is_awake t.config now tick t.here ≡ false → passes.passes now tick t ≡ t
 passes_idle now tick t true k e f = with_session_idle now tick t t.here.session refl e f
 passes_idle now tick t false k e f =
-    let p = or_parts (is_some t.here.session) (is_greeting_due t.config now tick t.here.greeting) k in
+    let p = or_false (is_some t.here.session) (is_greeting_due t.config now tick t.here.greeting) k in
     without_session_idle now tick t (no_session t.here.session p.0) p.1 e
 
 pub idle_passes : (now : Stamp) (tick : Bool) (operations : List Operation) (a : ClientAssociation) (server : ServerId) (all : Bool) → server ≡ a.here.server → all ≡ takes_all a.config now tick a.here →

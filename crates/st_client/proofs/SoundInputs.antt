@@ -14,7 +14,9 @@ use Words.Client.{filled_by, hardened, mark_failed, failed_as, finish_as, ended_
 use Words.Client.{end_unsent, end_operation, end_each, end_operations, lose_session, lose_over, lose_by, lose, enqueue, take_sync, take_by, take_ask}
 use Words.ClientPages as pages
 use Words.ClientState.{ClientSession, Turn, is_at, is_of, is_sent, new_operation, note, only_at, with_operations}
-use Rattle.st_client.proofs.SoundLists.{all_filter, all_last, one_of}
+use Words.Tests.{all_last}
+use Words.Truth.{if_either}
+use Rattle.st_client.proofs.SoundLists.{all_filter}
 use Rattle.st_client.proofs.SoundMessages.{Fit, FitIn, says_fit, told_fit}
 use Rattle.st_client.specs.Invariants.{is_sound_operation}
 
@@ -27,7 +29,7 @@ filled_fit most t c (Some block) h = h
 
 marked_fit : (most : ℕ) (t : Turn) (c : PageCommand) (version : ℕ) → Fit most t → Fit most (mark_failed t c version)
 unfolding mark_failed
-marked_fit most t c version h = one_of (Fit most) (rules.is_present t c version) (rules.with_failed c t) t h h
+marked_fit most t c version h = if_either (Fit most) (rules.is_present t c version) (rules.with_failed c t) t h h
 
 failed_fit : (most : ℕ) (t : Turn) (c : PageCommand) (kind : IoKind) → Fit most t → Fit most (failed_as t c kind)
 unfolding failed_as
@@ -51,7 +53,8 @@ command_fit most t c ok block h =
 finish_by_fit : (most : ℕ) (t : Turn) (c : PageCommand) (result : Option (Option (Tag × List ℕ))) → Fit most t → Fit most (finish_by t c result)
 unfolding finish_by done_by
 finish_by_fit most t c None h = command_fit most t c false None h
-finish_by_fit most t c (Some block) h = one_of (Fit most) (rules.is_result_of c.kind block) (finish_command t c true block) t (command_fit most t c true block h) h
+finish_by_fit most t c (Some block) h = if_either (Fit most) (rules.is_result_of c.kind block) (finish_command t c true block) t
+    (command_fit most t c true block h) h
 
 finish_at_fit : (most : ℕ) (t : Turn) (c : Option PageCommand) (result : Option (Option (Tag × List ℕ))) → Fit most t → Fit most (finish_at t c result)
 unfolding finish_at
@@ -74,18 +77,20 @@ pend_fit most t op ask a h = record { id = h.id; here = h.here; operations = all
 
 take_fit : (most : ℕ) (t : Turn) (op : ℕ) (ask other : Ask) → is_ask ask ≡ true → Fit most t → Fit most (take_by t op ask other)
 unfolding take_by take_sync
-take_fit most t op ask (asks.Sync f) a h = one_of (Fit most) (pages.has_lost t.here.lost f.ino) (tell_lost t op f.ino) (enqueue t op ask) (tell_fit most t op f.ino h) (pend_fit most t op ask a h)
+take_fit most t op ask (asks.Sync f) a h = if_either (Fit most) (pages.has_lost t.here.lost f.ino) (tell_lost t op f.ino) (enqueue t op ask)
+    (tell_fit most t op f.ino h) (pend_fit most t op ask a h)
 take_fit most t op ask other a h = pend_fit most t op ask a h
 
 pub asked_fit : (most : ℕ) (s : ServerId) (op : ℕ) (ask : Ask) → is_ask ask ≡ true → (t : Turn) → Fit most t → Fit most (only_at s (take_ask op ask) t)
 unfolding only_at take_ask
-asked_fit most s op ask a t h = one_of (Fit most) (is_at s t.here) (take_by t op ask ask) t (take_fit most t op ask ask a h) h
+asked_fit most s op ask a t h = if_either (Fit most) (is_at s t.here) (take_by t op ask ask) t (take_fit most t op ask ask a h) h
 
 -- Losses.
 
 end_sync_fit : (most : ℕ) (t : Turn) (o : Operation) (f : FileId) → Fit most t → Fit most (end_sync t o f)
 unfolding end_sync
-end_sync_fit most t o f h = one_of (Fit most) (pages.has_lost t.here.lost f.ino) (tell_lost t o.op f.ino) _ (tell_fit most t o.op f.ino h) (says_fit most t _ refl h)
+end_sync_fit most t o f h = if_either (Fit most) (pages.has_lost t.here.lost f.ino) (tell_lost t o.op f.ino) _ (tell_fit most t o.op f.ino h)
+    (says_fit most t _ refl h)
 
 end_unsent_fit : (most : ℕ) (t : Turn) (o : Operation) (ask : Ask) → Fit most t → Fit most (end_unsent t o ask)
 unfolding end_unsent
@@ -94,7 +99,7 @@ end_unsent_fit most t o ask h = says_fit most t _ refl h
 
 end_operation_fit : (most : ℕ) (t : Turn) (s : ClientSession) (o : Operation) → Fit most t → Fit most (end_operation t s o)
 unfolding end_operation
-end_operation_fit most t s o h = one_of (Fit most) (is_sent o) _ (end_unsent t o o.ask) (says_fit most t _ refl h) (end_unsent_fit most t o o.ask h)
+end_operation_fit most t s o h = if_either (Fit most) (is_sent o) _ (end_unsent t o o.ask) (says_fit most t _ refl h) (end_unsent_fit most t o o.ask h)
 
 end_each_fit : (most : ℕ) (s : ClientSession) (os : List Operation) (t : Turn) → Fit most t → Fit most (end_each s os t)
 unfolding end_each
@@ -132,7 +137,7 @@ lost_fit most t s h =
 lose_by_fit : (most : ℕ) (t : Turn) (now : Stamp) (s : Option ClientSession) → Fit most t → Fit (most + 1) (lose_by t now s)
 unfolding lose_by lose_over
 lose_by_fit most t now None h = more_fit most t h
-lose_by_fit most t now (Some s) h = one_of (Fit (most + 1)) (rules.is_over t s now) (lose_session t s) t (lost_fit most t s h) (more_fit most t h)
+lose_by_fit most t now (Some s) h = if_either (Fit (most + 1)) (rules.is_over t s now) (lose_session t s) t (lost_fit most t s h) (more_fit most t h)
 
 pub lose_fit : (most : ℕ) (now : Stamp) (t : Turn) → Fit most t → Fit (most + 1) (lose now t)
 unfolding lose

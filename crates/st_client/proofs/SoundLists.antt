@@ -1,16 +1,13 @@
 -- Lists of which each element passes a test: appended, filtered, changed, and after a row was put.
 use Rattle.st_lemmas.proofs.Words
-use Words.{◌≡◌, ℕ, ◌+◌, ◌≤◌, Bool, true, false, ◌||◌, List, [], ◌∷◌, ◌++◌, length, refl, if◌then◌else◌, arith, filter, find, map, nat_lt, is_some, Option, Some}
+use Words.{◌≡◌, ℕ, ◌+◌, ◌≤◌, Bool, true, false, ◌||◌, List, [], ◌∷◌, ◌++◌, length, refl, arith, filter, find, map, nat_lt, is_some, Option, Some}
 use Words.{None, cond, list_all, cons_option, ltb-true}
 use Words.Tables.{and_true, and_both}
-use Words.Keys.{put, past, placed, with_key, rising}
+use Words.Keys.{put, rising}
+use Words.Lengths.{with_key_length}
+use Words.Truth.{if_either}
 use Rattle.std.specs.List.{filter_map}
 use Rattle.st_lemmas.proofs.Puts.{length_put}
-
--- what holds of each of two holds of either
-pub one_of : {A : Type 0} (P : A → Type 0) (b : Bool) (x y : A) → P x → P y → P (if b then x else y)
-one_of P true x y p q = p
-one_of P false x y p q = q
 
 pub all_append : {A : Type 0} (p : A → Bool) (xs ys : List A) → list_all p xs ≡ true → list_all p ys ≡ true → list_all p (xs ++ ys) ≡ true
 all_append p [] ys h g = g
@@ -18,22 +15,19 @@ all_append p (x ∷ xs) ys h g =
     let s = and_true (p x) (list_all p xs) h in
     and_both (p x) (list_all p (xs ++ ys)) s.0 (all_append p xs ys s.1 g)
 
-pub all_last : {A : Type 0} (p : A → Bool) (xs : List A) (x : A) → list_all p xs ≡ true → p x ≡ true → list_all p (xs ++ x ∷ []) ≡ true
-all_last p xs x h e = all_append p xs (x ∷ []) h (and_both (p x) true e refl)
-
 pub all_filter : {A : Type 0} (p q : A → Bool) (xs : List A) → list_all p xs ≡ true → list_all p (filter q xs) ≡ true
 all_filter p q [] h = refl
 all_filter p q (x ∷ xs) h =
     let s = and_true (p x) (list_all p xs) h in
     let i = all_filter p q xs s.1 in
-    one_of (λ ys. list_all p ys ≡ true) (q x) (x ∷ filter q xs) (filter q xs) (and_both (p x) (list_all p (filter q xs)) s.0 i) i
+    if_either (λ ys. list_all p ys ≡ true) (q x) (x ∷ filter q xs) (filter q xs) (and_both (p x) (list_all p (filter q xs)) s.0 i) i
 
 pub all_put : {A : Type 0} (p q : A → Bool) (x : A) (xs : List A) → p x ≡ true → list_all p xs ≡ true → list_all p (put q x xs) ≡ true
 unfolding put
 all_put p q x [] e h = and_both (p x) true e refl
 all_put p q x (y ∷ ys) e h =
     let s = and_true (p y) (list_all p ys) h in
-    one_of (λ zs. list_all p zs ≡ true) (q y) (x ∷ ys) (y ∷ put q x ys) (and_both (p x) (list_all p ys) e s.1)
+    if_either (λ zs. list_all p zs ≡ true) (q y) (x ∷ ys) (y ∷ put q x ys) (and_both (p x) (list_all p ys) e s.1)
     (and_both (p y) (list_all p (put q x ys)) s.0 (all_put p q x ys e s.1))
 
 pub all_map : {A : Type 0} (p : A → Bool) (f : A → A) (same : (x : A) → p x ≡ true → p (f x) ≡ true) (xs : List A) → list_all p xs ≡ true → list_all p (map f xs) ≡ true
@@ -65,14 +59,6 @@ put_fits q x xs n l e = go (is_some (find q xs)) refl e
     go true f e = let z = put_over q x xs f in omega (arith, l)
     go false f e = let z = ltb-true (length xs) n e in let k = length_put q x xs in omega arith
 
-pub filter_fits : {A : Type 0} (q : A → Bool) (xs : List A) → length (filter q xs) ≤ length xs
-filter_fits q [] = omega arith
-filter_fits {A} q (x ∷ xs) = go (q x) (filter_fits q xs)
-  where
-    go : (b : Bool) → length (filter q xs) ≤ length xs → length (cond b (x ∷ filter q xs) (filter q xs)) ≤ length (x ∷ xs)
-    go true i = omega arith
-    go false i = omega arith
-
 pub filter_map_fits : {A B : Type 0} (f : A → Option B) (xs : List A) → length (filter_map f xs) ≤ length xs
 filter_map_fits f [] = omega arith
 filter_map_fits {A} {B} f (x ∷ xs) = go (f x) (filter_map_fits f xs)
@@ -81,16 +67,7 @@ filter_map_fits {A} {B} f (x ∷ xs) = go (f x) (filter_map_fits f xs)
     go None i = omega arith
     go (Some y) i = omega arith
 
--- keys, each once
-with_key_fits : (k : ℕ) (xs : List ℕ) → length (with_key k xs) ≤ 1 + length xs
-unfolding with_key placed past
-with_key_fits k [] = omega arith
-with_key_fits k (x ∷ xs) =
-    let i = with_key_fits k xs in
-    one_of (λ (ys : List ℕ). length ys ≤ 1 + length (x ∷ xs)) (nat_lt k x) (k ∷ (x ∷ xs)) _ (omega arith)
-    (one_of (λ (ys : List ℕ). length ys ≤ 1 + length (x ∷ xs)) _ (x ∷ xs) (x ∷ with_key k xs) (omega arith) (omega (arith, i)))
-
 pub rising_fits : (xs : List ℕ) → length (rising xs) ≤ length xs
 unfolding rising
 rising_fits [] = omega arith
-rising_fits (x ∷ xs) = let i = rising_fits xs in let k = with_key_fits x (rising xs) in omega arith
+rising_fits (x ∷ xs) = let i = rising_fits xs in let k = with_key_length x (rising xs) in omega arith

@@ -9,8 +9,10 @@ use Words.ClientLocks as locks
 use Words.ClientLocks.{LockCache, is_demand_on, is_lock_on}
 use Words.ClientReplies.{accept_grant, decline, grant, grant_new, release_unheld, has_release}
 use Words.ClientState.{ClientSession, with_cache, with_release}
+use Words.Tests.{all_last, filtered_no_longer}
+use Words.Truth.{if_either}
 use Rattle.st_base.specs.Mode.{covers}
-use Rattle.st_client.proofs.SoundLists.{all_filter, all_last, all_put, filter_fits, one_of, put_fits}
+use Rattle.st_client.proofs.SoundLists.{all_filter, all_put, put_fits}
 use Rattle.st_client.proofs.SoundMessages.{FitSession, held_sound}
 use Rattle.st_client.specs.Invariants.{AreSoundLocks, is_sound_demand, is_sound_lock, is_sound_release}
 
@@ -76,12 +78,13 @@ grant_new_fit most s ino g mode i e m h =
 pub grant_fit : (most : ℕ) (s : ClientSession) (ino : ℕ) (g : GrantNo) (mode : Mode) → is_ino ino ≡ true → is_grant g ≡ true → is_mode 1 2 mode ≡ true → FitSession most s →
     FitSession most (grant s ino g mode)
 unfolding grant
-grant_fit most s ino g mode i e m h = one_of (FitSession most) (locks.is_above_seen s.locks ino g) (grant_new s ino g mode) s (grant_new_fit most s ino g mode i e m h) h
+grant_fit most s ino g mode i e m h = if_either (FitSession most) (locks.is_above_seen s.locks ino g) (grant_new s ino g mode) s
+    (grant_new_fit most s ino g mode i e m h) h
 
 -- Demands.
 
 lesser_fits : (to : Mode) (d : DemandedFile) → is_mode 0 1 to ≡ true → is_sound_demand d ≡ true → is_mode 0 1 (locks.lesser to d.to) ≡ true
-lesser_fits to d m e = one_of (λ (n : Mode). is_mode 0 1 n ≡ true) (covers d.to to) to d.to m e
+lesser_fits to d m e = if_either (λ (n : Mode). is_mode 0 1 n ≡ true) (covers d.to to) to d.to m e
 
 demand_fits : (c : LockCache) (ino : ℕ) (to : Mode) → is_mode 0 1 to ≡ true → AreSoundLocks c → is_mode 0 1 (locks.lesser_demand to (locks.demand_of c ino)) ≡ true
 demand_fits c ino to m h = by (locks.demand_of c ino) refl
@@ -114,12 +117,13 @@ demand_sound c ino g to i e m h = by (locks.lock_of c ino) refl
     by : (o : Option HeldLock) → locks.lock_of c ino ≡ o → AreSoundLocks (locks.demand_at c ino g to o).locks
     by None f = h
     by (Some l) f =
-        one_of (λ (d : locks.Demanding). AreSoundLocks d.locks) _ (locks.demand_lock c ino g to l) (locks.demand_stale c) (demand_lock_sound c ino g to l i e m f h) h
+        if_either (λ (d : locks.Demanding). AreSoundLocks d.locks) _ (locks.demand_lock c ino g to l) (locks.demand_stale c)
+        (demand_lock_sound c ino g to l i e m f h) h
 
 pub unheld_fit : (most : ℕ) (s : ClientSession) (ino : ℕ) (g : GrantNo) → is_ino ino ≡ true → is_grant g ≡ true → FitSession most s → FitSession most (release_unheld s ino g)
 unfolding release_unheld
 unheld_fit most s ino g i e h =
-    one_of (FitSession most) (has_release s ino g) s (with_release ino g modes.None s) h (release_fit most s ino g modes.None i e refl h)
+    if_either (FitSession most) (has_release s ino g) s (with_release ino g modes.None s) h (release_fit most s ino g modes.None i e refl h)
 
 -- Reductions: what is given up, and the locks that are left.
 
@@ -141,7 +145,7 @@ lowered_sound c ino l to f h = by to
 
     by : (m : Mode) → (list_all is_sound_lock (locks.lowered_rows c.rows ino l m) ≡ true) × (length (locks.lowered_rows c.rows ino l m) ≤ c.limit)
     by modes.None =
-        let n = filter_fits (λ r. not (is_lock_on ino r)) c.rows in
+        let n = filtered_no_longer (λ r. not (is_lock_on ino r)) c.rows in
         let k = h.few in
         (all_filter is_sound_lock (λ r. not (is_lock_on ino r)) c.rows h.rows, omega (arith, n, k))
     by modes.S = shared
@@ -177,7 +181,7 @@ reduce_fit c ino h = by (locks.demand_of c ino) refl
 pub drop_sound : (c : LockCache) (ino : ℕ) → AreSoundLocks c → AreSoundLocks (locks.drop_lock c ino)
 unfolding locks.drop_lock
 drop_sound c ino h =
-    let n = filter_fits (λ r. not (is_lock_on ino r)) c.rows in
+    let n = filtered_no_longer (λ r. not (is_lock_on ino r)) c.rows in
     let k = h.few in
     record {
       rows = all_filter is_sound_lock (λ r. not (is_lock_on ino r)) c.rows h.rows;

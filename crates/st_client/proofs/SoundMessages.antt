@@ -11,10 +11,12 @@ use Words.Kinds.{allows, between, epoch_of, kind_of_body, life_of, request_of, s
 use Words.ClientLocks.{LockCache, all_locks, ino_of_lock, is_lock_on, lock_in_list, lock_of, lock_row_at}
 use Words.ClientState.{Association, ClientSession, Turn, answer_each, answer_to, header_of, say, send, with_session}
 use Words.Keys.{rising, server_node}
+use Words.Lengths.{length_map}
+use Words.Tests.{all_last}
 use Rattle.std.specs.List.{filter_map}
 use Rattle.st_client.specs.Inputs.{is_sent}
 use Rattle.st_client.specs.Invariants.{AreSoundLocks, IsSoundSession, is_asking, is_sound_lock, is_sound_operation}
-use Rattle.st_client.proofs.SoundLists.{all_append, all_filter, all_last, all_made, filter_map_fits, rising_fits}
+use Rattle.st_client.proofs.SoundLists.{all_append, all_filter, all_made, filter_map_fits, rising_fits}
 use Rattle.st_lemmas.proofs.Keys.{rising_has, rising_rises}
 use Rattle.st_messages.specs.declared.kind.Kind.TheVariants as kinds
 use Rattle.st_messages.specs.declared.kind.Need.TheVariants.{Positive}
@@ -172,17 +174,13 @@ key_above rows h k i =
     let e = m.2 in
     omega (arith, l, e)
 
-map_fits : {A B : Type 0} (f : A → B) (xs : List A) → length (map f xs) ≡ length xs
-map_fits f [] = refl
-map_fits f (x ∷ xs) = let i = map_fits f xs in omega (arith, i)
-
 pub locks_sound : (c : LockCache) → AreSoundLocks c → are_locks (all_locks c) ≡ true
 unfolding are_locks all_locks
 locks_sound c h =
     let keys = rising (map ino_of_lock c.rows) in
     let a = filter_map_fits (lock_row_at c) keys in
     let b = rising_fits (map ino_of_lock c.rows) in
-    let d = map_fits ino_of_lock c.rows in
+    let d = length_map ino_of_lock c.rows in
     let f = h.few in
     let m = h.limit in
     and_both (between 0 1024 (length (filter_map (lock_row_at c) keys))) (are_rows is_lock_row after_lock 1 (filter_map (lock_row_at c) keys))

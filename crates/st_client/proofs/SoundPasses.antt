@@ -22,7 +22,8 @@ use Words.ClientPasses.{patch_bytes, patch_at, patch, read_cached, read_known, r
 use Words.ClientPasses.{operate_on, operate, operate_each, operations, reduce_to, reduce_given, reduce_by, reduce_idle, reduce, reduce_each, reductions}
 use Words.ClientPasses.{write_out_at, write_out, write_due, write_page, write_each, writes_by, writes, hello, greet, greeting_by, greeting}
 use Words.ClientState.{ClientSession, Turn, file_of, is_of, is_open_file, is_sent, is_serving, keep, note, with_cache, with_operations}
-use Rattle.st_client.proofs.SoundLists.{all_last, one_of}
+use Words.Tests.{all_last}
+use Words.Truth.{if_either}
 use Rattle.st_client.proofs.SoundLocks.{FitGiven, cache_fit, reduce_fit, release_fit}
 use Rattle.st_client.proofs.SoundMessages.{Fit, FitIn, FitSession, hello_header, in_between, puts_fit, says_fit, sends_fit}
 use Rattle.st_client.specs.Inputs.{is_noted}
@@ -47,11 +48,11 @@ module _ (most : ℕ) where
 
   sync_fit : (t : Turn) (o : Operation) (f : FileId) → is_sound_operation o ≡ true → Fit most t → Fit most (sync t o f)
   unfolding sync
-  sync_fit t o f k h = one_of (Fit most) (pages.is_hard t.here.store f.ino) _ (keep o t) (says_fit most t _ refl h) (keep_fit t o k h)
+  sync_fit t o f k h = if_either (Fit most) (pages.is_hard t.here.store f.ino) _ (keep o t) (says_fit most t _ refl h) (keep_fit t o k h)
 
   quiesce_fit : (t : Turn) (o : Operation) → is_sound_operation o ≡ true → Fit most t → Fit most (quiesce t o)
   unfolding quiesce
-  quiesce_fit t o k h = one_of (Fit most) (is_sent o) (keep o t) _ (keep_fit t o k h) (says_fit most t _ refl h)
+  quiesce_fit t o k h = if_either (Fit most) (is_sent o) (keep o t) _ (keep_fit t o k h) (says_fit most t _ refl h)
 
   change_fit : (t : Turn) (o : Operation) (f : FileId) (p : PageNo) (n : Note) (r : Result Pages WriteRefusal) → is_noted n ≡ true → Fit most t → Fit most (change_by t o f p n r)
   unfolding change_by change
@@ -61,12 +62,13 @@ module _ (most : ℕ) where
   write_fit : (t : Turn) (s : ClientSession) (o : Operation) (f : FileId) (p : PageNo) (bytes : List ℕ) → is_sound_operation o ≡ true → Fit most t → Fit most (write t s o f p bytes)
   unfolding write change_page
   write_fit t s o f p bytes k h =
-      one_of (Fit most) (passes.may_write t s f p) _ (keep o t) (change_fit t o f p (notes.Accepted f p bytes) (pages.write t.here.store.pages f.ino p bytes) refl h) (keep_fit t o k h)
+      if_either (Fit most) (passes.may_write t s f p) _ (keep o t)
+      (change_fit t o f p (notes.Accepted f p bytes) (pages.write t.here.store.pages f.ino p bytes) refl h) (keep_fit t o k h)
 
   fetch_at_fit : (t : Turn) (f : FileId) (p : PageNo) (m : Option MappedBlock) → Fit most t → Fit most (fetch_at t f p m)
   unfolding fetch_at fetch_mapped submit_read submit_command
   fetch_at_fit t f p None h = h
-  fetch_at_fit t f p (Some m) h = one_of (Fit most) (pages.is_being_read t.here.store.commands f.ino p) t _ h
+  fetch_at_fit t f p (Some m) h = if_either (Fit most) (pages.is_being_read t.here.store.commands f.ino p) t _ h
       (says_fit most t (outputs.Submit t.next_command m.at (commands.Read m.at)) refl h)
 
   fetch_fit : (t : Turn) (o : Operation) (f : FileId) (p : PageNo) → is_sound_operation o ≡ true → Fit most t → Fit most (fetch t o f p)
@@ -83,7 +85,8 @@ module _ (most : ℕ) where
       Fit most t → Fit most (patch t s o f p at bytes)
   unfolding patch
   patch_fit t s o f p at bytes e k h =
-      one_of (Fit most) (passes.may_write t s f p) _ (keep o t) (patch_at_fit t o f p at bytes (pages.cached t.here.store.pages f.ino p) e k h) (keep_fit t o k h)
+      if_either (Fit most) (passes.may_write t s f p) _ (keep o t) (patch_at_fit t o f p at bytes (pages.cached t.here.store.pages f.ino p) e k h)
+      (keep_fit t o k h)
 
   read_known_fit : (t : Turn) (o : Operation) (f : FileId) (p : PageNo) (e : KnownExtent) (m : Option MappedBlock) → is_sound_operation o ≡ true → Fit most t → Fit most (read_known t o f p e m)
   unfolding read_known
@@ -102,7 +105,8 @@ module _ (most : ℕ) where
 
   read_fit : (t : Turn) (s : ClientSession) (o : Operation) (f : FileId) (p : PageNo) → is_sound_operation o ≡ true → Fit most t → Fit most (read t s o f p)
   unfolding read
-  read_fit t s o f p k h = one_of (Fit most) (passes.holds s modes.S f) _ (keep o t) (read_at_fit t o f p (pages.cached t.here.store.pages f.ino p) k h) (keep_fit t o k h)
+  read_fit t s o f p k h = if_either (Fit most) (passes.holds s modes.S f) _ (keep o t) (read_at_fit t o f p (pages.cached t.here.store.pages f.ino p) k h)
+      (keep_fit t o k h)
 
   serve_open_fit : (t : Turn) (s : ClientSession) (o : Operation) (a : Ask) → is_ask a ≡ true → is_sound_operation o ≡ true → Fit most t → Fit most (serve_open t s o a)
   unfolding serve_open
@@ -113,12 +117,13 @@ module _ (most : ℕ) where
 
   serve_fit : (all : List Operation) (t : Turn) (s : ClientSession) (o : Operation) → is_sound_operation o ≡ true → Fit most t → Fit most (serve all t s o)
   unfolding serve
-  serve_fit all t s o k h = one_of (Fit most) (is_open_file all t.here.server s (file_of o.ask)) _ (keep o t) (serve_open_fit t s o o.ask k k h) (keep_fit t o k h)
+  serve_fit all t s o k h = if_either (Fit most) (is_open_file all t.here.server s (file_of o.ask)) _ (keep o t) (serve_open_fit t s o o.ask k k h)
+      (keep_fit t o k h)
 
   operate_by_fit : (all : List Operation) (t : Turn) (now : Stamp) (o : Operation) (s : Option ClientSession) → is_sound_operation o ≡ true → Fit most t → Fit most (operate_by all t now o s)
   unfolding operate_by operate_under
   operate_by_fit all t now o None k h = keep_fit t o k h
-  operate_by_fit all t now o (Some s) k h = one_of (Fit most) (is_serving t.config s now) _ _ (serve_fit all t s o k h) (quiesce_fit t o k h)
+  operate_by_fit all t now o (Some s) k h = if_either (Fit most) (is_serving t.config s now) _ _ (serve_fit all t s o k h) (quiesce_fit t o k h)
 
   operate_on_fit : (all : List Operation) (t : Turn) (now : Stamp) (o : Operation) (a : Ask) → is_sound_operation o ≡ true → Fit most t → Fit most (operate_on all t now o a)
   unfolding operate_on
@@ -127,7 +132,7 @@ module _ (most : ℕ) where
 
   operate_fit : (all : List Operation) (t : Turn) (now : Stamp) (o : Operation) → is_sound_operation o ≡ true → Fit most t → Fit most (operate all t now o)
   unfolding operate
-  operate_fit all t now o k h = one_of (Fit most) (is_of t.here.server o) _ (keep o t) (operate_on_fit all t now o o.ask k h) (keep_fit t o k h)
+  operate_fit all t now o k h = if_either (Fit most) (is_of t.here.server o) _ (keep o t) (operate_on_fit all t now o o.ask k h) (keep_fit t o k h)
 
   operate_each_fit : (all : List Operation) (now : Stamp) (os : List Operation) (t : Turn) → list_all is_sound_operation os ≡ true → Fit most t → Fit most (operate_each all now os t)
   unfolding operate_each
@@ -157,7 +162,7 @@ module _ (most : ℕ) where
   reduce_one_fit t ino None l h = h
   reduce_one_fit t ino (Some s) l h =
       let r = reduce_fit s.locks ino l.sound.locks in
-      one_of (Fit most) (passes.may_reduce t s ino) _ t
+      if_either (Fit most) (passes.may_reduce t s ino) _ t
       (reduce_given_fit t (with_cache (locks.reduce s.locks ino).locks s) ino (locks.reduce s.locks ino).given r.1 (cache_fit most s (locks.reduce s.locks ino).locks r.0 l) h) h
 
   reduce_each_fit : (inos : List ℕ) (t : Turn) → Fit most t → Fit most (reduce_each inos t)
@@ -180,7 +185,8 @@ module _ (most : ℕ) where
   write_page_fit : (t : Turn) (s : ClientSession) (now : Stamp) (tick : Bool) (d : Option DirtyPage) → Fit most t → Fit most (write_page t s now tick d)
   unfolding write_page write_due write_out
   write_page_fit t s now tick None h = h
-  write_page_fit t s now tick (Some d) h = one_of (Fit most) (passes.is_writable t s now tick d) _ t (out_at_fit t d (pages.mapping_of t.here.store.extents d.ino d.page) h) h
+  write_page_fit t s now tick (Some d) h = if_either (Fit most) (passes.is_writable t s now tick d) _ t
+      (out_at_fit t d (pages.mapping_of t.here.store.extents d.ino d.page) h) h
 
   write_each_fit : (s : ClientSession) (now : Stamp) (tick : Bool) (xs : List (ℕ × PageNo)) (t : Turn) → Fit most t → Fit most (write_each s now tick xs t)
   unfolding write_each
@@ -205,7 +211,8 @@ module _ (most : ℕ) where
     unfolding greeting_by greet hello is_body
     greeting_by_fit t tick None h =
         let u = passes.with_greeting now t in
-        one_of (Fit most) (passes.must_greet t now tick) (hello t now) t (sends_fit most u 0 0 now.0 bodies.Hello (hello_header most high u now.0 time h) refl h) h
+        if_either (Fit most) (passes.must_greet t now tick) (hello t now) t
+        (sends_fit most u 0 0 now.0 bodies.Hello (hello_header most high u now.0 time h) refl h) h
     greeting_by_fit t tick (Some s) h = h
 
     pub greeting_fit : (tick : Bool) (t : Turn) → Fit most t → Fit most (greeting now tick t)

@@ -21,7 +21,8 @@ use Words.ClientReplies.{refuse_page, refused, refused_in, refuses_reassertion, 
 use Words.ClientReplies.{wait_unless_held, welcome, with_a_session, without_session}
 use Words.ClientState.{ClientSession, Turn, answer_each, asks_cut_or_remove, at_stage, file_asked, forget_wait, is_asked, with_cache, with_lease, with_release}
 use Words.ClientState.{with_session}
-use Rattle.st_client.proofs.SoundLists.{all_map, one_of}
+use Words.Truth.{if_either}
+use Rattle.st_client.proofs.SoundLists.{all_map}
 use Rattle.st_client.proofs.SoundLocks.{cache_fit, demand_sound, drop_sound, grant_fit, lock_parts, release_fit, unheld_fit}
 use Rattle.st_client.proofs.SoundMessages.{Fit, FitIn, FitSession, epoch_in, held_sound, puts_fit, says_fit, seen_header, sends_fit, told_fit}
 use Rattle.st_client.specs.Invariants.{is_sound_operation}
@@ -52,7 +53,7 @@ module _ (most : ℕ) (low : 1 ≤ most) (high : most < 2 ^ 64) where
 
   welcome_fit : (t : Turn) (now : Stamp) (epoch : Epoch) (stamp : Stamp) → allows Positive epoch.0 ≡ true → Fit most t → Fit most (welcome t now epoch stamp)
   unfolding welcome
-  welcome_fit t now epoch stamp e h = one_of (Fit most) (is_timely t now stamp) (begin_session t epoch stamp) t (begin_fit t epoch stamp e h) h
+  welcome_fit t now epoch stamp e h = if_either (Fit most) (is_timely t now stamp) (begin_session t epoch stamp) t (begin_fit t epoch stamp e h) h
 
   without_fit : (t : Turn) (now : Stamp) (m : Header) (body : Body) → is_header (kind_of_body body) m ≡ true → Fit most t → Fit most (without_session t now m body)
   unfolding without_session
@@ -73,7 +74,7 @@ module _ (most : ℕ) (low : 1 ≤ most) (high : most < 2 ^ 64) where
 
   newer_fit : (t : Turn) (s : ClientSession) (epoch : Epoch) → allows Positive epoch.0 ≡ true → FitSession most s → Fit most t → Fit most (newer_epoch t s epoch)
   unfolding newer_epoch
-  newer_fit t s epoch e l h = one_of (Fit most) (is_newer s epoch) (follow_epoch t s epoch) t (follow_fit t s epoch e l h) h
+  newer_fit t s epoch e l h = if_either (Fit most) (is_newer s epoch) (follow_epoch t s epoch) t (follow_fit t s epoch e l h) h
 
   refused_in_fit : (t : Turn) (s : ClientSession) (epoch : Epoch) (w : Why) → allows Positive epoch.0 ≡ true → FitSession most s → Fit most t → Fit most (refused_in t s epoch w)
   refused_in_fit t s epoch why.OtherEpoch e l h = newer_fit t s epoch e l h
@@ -101,11 +102,11 @@ module _ (most : ℕ) (low : 1 ≤ most) (high : most < 2 ^ 64) where
 
   queued_fit : (t : Turn) (s : ClientSession) (now : Stamp) (ino : ℕ) (mode : Mode) → FitSession most s → Fit most t → Fit most (queued t s now ino mode)
   unfolding queued wait_unless_held wait_told
-  queued_fit t s now ino mode l h = puts_fit most t (wait_unless_held s ino mode now) (one_of (FitSession most) _ s (wait_told s ino mode now) l l) h
+  queued_fit t s now ino mode l h = puts_fit most t (wait_unless_held s ino mode now) (if_either (FitSession most) _ s (wait_told s ino mode now) l l) h
 
   extents_fit : (t : Turn) (s : ClientSession) (ino : ℕ) (rows : _) (asked : Body) → Fit most t → Fit most (extents t s ino rows asked)
   unfolding extents learn
-  extents_fit t s ino rows asked h = one_of (Fit most) (is_current s.locks asked) (learn t ino rows asked) t h h
+  extents_fit t s ino rows asked h = if_either (Fit most) (is_current s.locks asked) (learn t ino rows asked) t h h
 
   held_fit : (t : Turn) (s : ClientSession) (ino : ℕ) (o : Option HeldLock) → locks.lock_of s.locks ino ≡ o → FitSession most s → Fit most t → Fit most (drop_held t s ino o)
   unfolding drop_held drop_lock
@@ -144,7 +145,7 @@ module _ (most : ℕ) (low : 1 ≤ most) (high : most < 2 ^ 64) where
 
   holder_fit : (t : Turn) (asked : Body) → Fit most t → Fit most (refuse_holder t asked)
   unfolding refuse_holder
-  holder_fit t asked h = one_of (Fit most) (asks_cut_or_remove asked) _ t (told_fit most _ answers.NotHolder t h) h
+  holder_fit t asked h = if_either (Fit most) (asks_cut_or_remove asked) _ t (told_fit most _ answers.NotHolder t h) h
 
   as_fit : (t : Turn) (a b : ℕ) (file : Option ℕ) (asked : Body) (w : Why) → Fit most t → Fit most (refuse_as t w a b file asked)
   unfolding refuse_as
@@ -160,7 +161,8 @@ module _ (most : ℕ) (low : 1 ≤ most) (high : most < 2 ^ 64) where
       record {
         id = h.id;
         here = h.here;
-        operations = all_map is_sound_operation (stuck t) (λ o e. one_of (λ (x : Operation). is_sound_operation x ≡ true) (is_asked t.here.server o) (at_stage Stuck o) o e e) t.operations h.operations;
+        operations = all_map is_sound_operation (stuck t)
+            (λ o e. if_either (λ (x : Operation). is_sound_operation x ≡ true) (is_asked t.here.server o) (at_stage Stuck o) o e e) t.operations h.operations;
         out = h.out;
       }
 
@@ -188,7 +190,7 @@ module _ (most : ℕ) (low : 1 ≤ most) (high : most < 2 ^ 64) where
   unfolding end_request note_renewal
   end_fit t s stamp l h =
       puts_fit most (note_renewal t s stamp) (ended_by stamp s) (ended_fit stamp s l)
-      (one_of (Fit most) (is_renewal stamp s.lease) (note_lease (renewed stamp s.lease) t) t (lease_fit (renewed stamp s.lease) t h) h)
+      (if_either (Fit most) (is_renewal stamp s.lease) (note_lease (renewed stamp s.lease) t) t (lease_fit (renewed stamp s.lease) t h) h)
 
   reply_to_fit : (t : Turn) (s : ClientSession) (now stamp : Stamp) (reply asked : Body) → is_body reply ≡ true → FitSession most s → Fit most t → Fit most (reply_to t s now stamp reply asked)
   unfolding reply_to
@@ -197,14 +199,15 @@ module _ (most : ℕ) (low : 1 ≤ most) (high : most < 2 ^ 64) where
   count_fit : (t : Turn) (s : ClientSession) (now stamp : Stamp) (reply asked : Body) → is_body reply ≡ true → FitSession most s → Fit most t → Fit most (count_reply t s now stamp reply asked)
   unfolding count_reply
   count_fit t s now stamp reply asked e l h =
-      one_of (Fit most) (refuses_reassertion reply asked) (condemn t s) (reply_to t s now stamp reply asked) (condemn_fit t s l h) (reply_to_fit t s now stamp reply asked e l h)
+      if_either (Fit most) (refuses_reassertion reply asked) (condemn t s) (reply_to t s now stamp reply asked) (condemn_fit t s l h)
+      (reply_to_fit t s now stamp reply asked e l h)
 
   counted_fit : (t : Turn) (s : ClientSession) (now : Stamp) (number : ℕ) (stamp : Stamp) (reply : Body) (o : Option Request) → is_body reply ≡ true → FitSession most s → Fit most t →
       Fit most (counted t s now number stamp reply o)
   unfolding counted by_request
   counted_fit t s now number stamp reply None e l h = h
   counted_fit t s now number stamp reply (Some q) e l h =
-      one_of (Fit most) (is_counting number reply q) (count_reply t s now stamp reply q.body) t (count_fit t s now stamp reply q.body e l h) h
+      if_either (Fit most) (is_counting number reply q) (count_reply t s now stamp reply q.body) t (count_fit t s now stamp reply q.body e l h) h
 
   reply_fit : (t : Turn) (s : ClientSession) (now : Stamp) (m : Header) (reply : Body) → is_body reply ≡ true → FitSession most s → Fit most t → Fit most (reply_of t s now m reply)
   unfolding reply_of
@@ -224,7 +227,7 @@ module _ (most : ℕ) (low : 1 ≤ most) (high : most < 2 ^ 64) where
       Fit most (grant_or_reply t s now m ino g mode)
   unfolding grant_or_reply is_body
   grant_or_fit t s now m ino g mode e l h =
-      one_of (Fit most) (m.number == 0) (granted t s ino g mode) (reply_of t s now m (bodies.Granted ino g mode)) (granted_fit t s ino g mode e l h)
+      if_either (Fit most) (m.number == 0) (granted t s ino g mode) (reply_of t s now m (bodies.Granted ino g mode)) (granted_fit t s ino g mode e l h)
       (reply_fit t s now m (bodies.Granted ino g mode) e l h)
 
   demand_as_fit : (t : Turn) (s : ClientSession) (ino : ℕ) (g : GrantNo) (a : Asked) → is_ino ino ≡ true → is_grant g ≡ true → FitSession most s → Fit most t → Fit most (demand_as t s ino g a)
@@ -256,7 +259,8 @@ module _ (most : ℕ) (low : 1 ≤ most) (high : most < 2 ^ 64) where
       Fit most (with_a_session t s now m body)
   unfolding with_a_session
   session_fit t s now m body k e l h =
-      one_of (Fit most) (m.epoch == s.epoch.0) (of_epoch t s now m body) (of_other_epoch t s (record { 0 = m.epoch }) body) (epoch_fit t s now m body e l h) (other_fit t s m body k l h)
+      if_either (Fit most) (m.epoch == s.epoch.0) (of_epoch t s now m body) (of_other_epoch t s (record { 0 = m.epoch }) body) (epoch_fit t s now m body e l h)
+      (other_fit t s m body k l h)
 
   by_fit : (t : Turn) (now : Stamp) (m : Header) (body : Body) (o : Option ClientSession) → is_header (kind_of_body body) m ≡ true → is_body body ≡ true → FitIn most o → Fit most t →
       Fit most (by_session t now m body o)
@@ -267,4 +271,4 @@ module _ (most : ℕ) (low : 1 ≤ most) (high : most < 2 ^ 64) where
   pub receive_fit : (now : Stamp) (m : Header) (body : Body) → is_header (kind_of_body body) m ≡ true → is_body body ≡ true → (t : Turn) → Fit most t → Fit most (receive_at now m body t)
   unfolding receive_at
   receive_fit now m body k e t h =
-      one_of (Fit most) (is_received t now m) (by_session t now m body t.here.session) t (by_fit t now m body t.here.session k e h.here.session h) h
+      if_either (Fit most) (is_received t now m) (by_session t now m body t.here.session) t (by_fit t now m body t.here.session k e h.here.session h) h

@@ -17,9 +17,9 @@ use Words.ClientPasses.{want_by, want_on, want_name, want_at, want, asked_by, as
 use Words.ClientPasses.{reassert, ask_new, requests_at, requests_under, requests_by, requests}
 use Words.ClientState.{ClientSession, Turn, asking, file_of, is_serving, meant, with_operations, with_session, with_store}
 use Words.Keys.{page_no}
+use Words.Truth.{if_either}
 use Rattle.st_base.specs.Mode.{covers}
 use Rattle.st_client.proofs.SoundInputs.{more_fit}
-use Rattle.st_client.proofs.SoundLists.{one_of}
 use Rattle.st_client.proofs.SoundLocks.{lock_parts}
 use Rattle.st_client.proofs.SoundMessages.{Fit, FitIn, FitSession, asking_header, between_is, held_sound, in_between, locks_sound, positive_is, puts_fit}
 use Rattle.st_client.proofs.SoundMessages.{sends_fit}
@@ -41,12 +41,12 @@ need_fits a = refl
 
 lock_fits : (t : Turn) (s : ClientSession) (now : Stamp) (ino : ℕ) (mode : Mode) → is_ino ino ≡ true → is_mode 1 2 mode ≡ true → FitWanted (want_lock t s now ino mode)
 unfolding want_lock is_body
-lock_fits t s now ino mode i m = one_of FitWanted _ (passes.wanted (bodies.Acquire ino mode)) None (refl, and_both (is_ino ino) (is_mode 1 2 mode) i m) tt
+lock_fits t s now ino mode i m = if_either FitWanted _ (passes.wanted (bodies.Acquire ino mode)) None (refl, and_both (is_ino ino) (is_mode 1 2 mode) i m) tt
 
 map_fits : (t : Turn) (ino : ℕ) (g : GrantNo) (p : PageNo) → is_ino ino ≡ true → is_grant g ≡ true → is_page 0 p.0 ≡ true → FitWanted (want_map t ino g p)
 unfolding want_map is_body
 map_fits t ino g p i e q =
-    one_of FitWanted (passes.is_at_hand t ino p) None (passes.wanted (bodies.Map ino g p)) tt
+    if_either FitWanted (passes.is_at_hand t ino p) None (passes.wanted (bodies.Map ino g p)) tt
     (refl, and_both (is_ino ino) (is_grant g && is_page 0 p.0) i (and_both (is_grant g) (is_page 0 p.0) e q))
 
 least_is : (n : ℕ) → 1 ≤ n → 1 ≤ min 64 n
@@ -61,7 +61,7 @@ count_fits p e =
 block_fits : (t : Turn) (ino : ℕ) (g : GrantNo) (p : PageNo) → is_ino ino ≡ true → is_grant g ≡ true → is_page 0 p.0 ≡ true → FitWanted (want_block t ino g p)
 unfolding want_block is_body
 block_fits t ino g p i e q =
-    one_of FitWanted (pages.is_mapped t.here.store.extents ino p) None (passes.wanted (bodies.Allocate ino g p 1)) tt (
+    if_either FitWanted (pages.is_mapped t.here.store.extents ino p) None (passes.wanted (bodies.Allocate ino g p 1)) tt (
       refl,
       and_both (is_ino ino) (is_grant g && (is_page 0 p.0 && is_count p.0 1)) i
           (and_both (is_grant g) (is_page 0 p.0 && is_count p.0 1) e (and_both (is_page 0 p.0) (is_count p.0 1) q (count_fits p.0 q))),
@@ -69,7 +69,7 @@ block_fits t ino g p i e q =
 
 cut_fits : (t : Turn) (ino : ℕ) (body : Body) (p : PageNo) → is_asking body ≡ true → is_body body ≡ true → FitWanted (want_cut t ino body p)
 unfolding want_cut
-cut_fits t ino body p a b = one_of FitWanted (pages.is_idle t.here.store ino) (passes.wanted_cut body ino p) None (a, b) tt
+cut_fits t ino body p a b = if_either FitWanted (pages.is_idle t.here.store ino) (passes.wanted_cut body ino p) None (a, b) tt
 
 name_fits : (a : NameAsk) (g : GrantNo) → is_name_ask a ≡ true → is_grant g ≡ true → is_name_op (name_op a g) ≡ true
 unfolding is_name_ask is_name_op
@@ -102,7 +102,8 @@ by_fits : (t : Turn) (s : ClientSession) (now : Stamp) (a : Ask) (ino : ℕ) (o 
     FitWanted (want_by t s now a ino o)
 unfolding want_by want_under
 by_fits t s now a ino None g e i = lock_fits t s now ino (need a) i (need_fits a)
-by_fits t s now a ino (Some l) g e i = one_of FitWanted (covers l.mode (need a)) _ _ (held_fits t a ino l.g e i (g l refl)) (lock_fits t s now ino (need a) i (need_fits a))
+by_fits t s now a ino (Some l) g e i = if_either FitWanted (covers l.mode (need a)) _ _ (held_fits t a ino l.g e i (g l refl))
+    (lock_fits t s now ino (need a) i (need_fits a))
 
 -- the file that is meant
 file_fits : (a : Ask) → is_ask a ≡ true → FitFile (file_of a)
@@ -135,7 +136,7 @@ want_fits most t s now a e l = at_fits most t s now a (file_of a) e (file_fits a
 
 asked_fits : (most : ℕ) (t : Turn) (s : ClientSession) (now : Stamp) (o : Operation) → is_sound_operation o ≡ true → FitSession most s → FitWanted (asked_by t s now o)
 unfolding asked_by
-asked_fits most t s now o e l = one_of FitWanted (passes.may_ask t s o) (want t s now o.ask) None (want_fits most t s now o.ask e l) tt
+asked_fits most t s now o e l = if_either FitWanted (passes.may_ask t s o) (want t s now o.ask) None (want_fits most t s now o.ask e l) tt
 
 -- The first operation that asks.
 
@@ -204,7 +205,8 @@ module _ (most : ℕ) (high : most + 1 < 2 ^ 64) (now : Stamp) (time : now.0 < 2
 
   keep_alive_fit : (t : Turn) (s : ClientSession) → FitSession most s → Fit most t → Fit (most + 1) (keep_alive t s now)
   unfolding keep_alive is_body
-  keep_alive_fit t s l h = one_of (Fit (most + 1)) (lease.is_renewing (lease.phase_of t.config s.lease now)) _ t (ask_fit t s bodies.KeepAlive None refl refl l h) (more_fit most t h)
+  keep_alive_fit t s l h = if_either (Fit (most + 1)) (lease.is_renewing (lease.phase_of t.config s.lease now)) _ t
+      (ask_fit t s bodies.KeepAlive None refl refl l h) (more_fit most t h)
 
   ask_for_fit : (t : Turn) (s : ClientSession) (a : Option Asking) → FitAsking a → FitSession most s → Fit most t → Fit (most + 1) (ask_for_or t s now a)
   unfolding ask_for_or ask_for
@@ -216,7 +218,7 @@ module _ (most : ℕ) (high : most + 1 < 2 ^ 64) (now : Stamp) (time : now.0 < 2
   ask_next_fit : (t : Turn) (s : ClientSession) → FitSession most s → Fit most t → Fit (most + 1) (ask_next t s now)
   unfolding ask_next
   ask_next_fit t s l h =
-      one_of (Fit (most + 1)) (is_serving t.config s now) _ _
+      if_either (Fit (most + 1)) (is_serving t.config s now) _ _
       (ask_for_fit t s (first_asking t s now t.operations) (first_fits most t s now t.operations h.operations l) l h) (keep_alive_fit t s l h)
 
   ask_by_fit : (t : Turn) (s : ClientSession) (rs : List Release) → list_all is_sound_release rs ≡ true → FitSession most s → Fit most t → Fit (most + 1) (ask_by t s now rs)
@@ -230,18 +232,18 @@ module _ (most : ℕ) (high : most + 1 < 2 ^ 64) (now : Stamp) (time : now.0 < 2
   ask_new_fit : (t : Turn) (s : ClientSession) → FitSession most s → Fit most t → Fit (most + 1) (ask_new t s now)
   unfolding ask_new reassert is_body
   ask_new_fit t s l h =
-      one_of (Fit (most + 1)) s.due _ _ (ask_fit t s (bodies.Reassert (locks.all_locks s.locks)) None refl (locks_sound s.locks l.sound.locks) l h)
+      if_either (Fit (most + 1)) s.due _ _ (ask_fit t s (bodies.Reassert (locks.all_locks s.locks)) None refl (locks_sound s.locks l.sound.locks) l h)
       (ask_by_fit t s s.releases l.sound.releases l h)
 
   at_fit : (t : Turn) (s : ClientSession) (tick : Bool) (q : Option Request) → is_sound_asked s.requests.next q ≡ true → FitSession most s → Fit most t → Fit (most + 1) (requests_at t s now tick q)
   unfolding requests_at repeat
   at_fit t s tick None e l h = ask_new_fit t s l h
-  at_fit t s tick (Some q) e l h = one_of (Fit (most + 1)) (passes.is_old t.config now tick q) _ t (again_fit t s q e l h) (more_fit most t h)
+  at_fit t s tick (Some q) e l h = if_either (Fit (most + 1)) (passes.is_old t.config now tick q) _ t (again_fit t s q e l h) (more_fit most t h)
 
   by_fit : (t : Turn) (tick : Bool) (o : Option ClientSession) → FitIn most o → Fit most t → Fit (most + 1) (requests_by t now tick o)
   unfolding requests_by requests_under
   by_fit t tick None l h = more_fit most t h
-  by_fit t tick (Some s) l h = one_of (Fit (most + 1)) s.lease.condemned t _ (more_fit most t h) (at_fit t s tick s.requests.asked l.sound.asked l h)
+  by_fit t tick (Some s) l h = if_either (Fit (most + 1)) s.lease.condemned t _ (more_fit most t h) (at_fit t s tick s.requests.asked l.sound.asked l h)
 
   pub requests_fit : (tick : Bool) (t : Turn) → Fit most t → Fit (most + 1) (requests now tick t)
   unfolding requests

@@ -1,7 +1,7 @@
 -- Nothing of a server whose lease is over goes out of a client's step.
 use Rattle.st_lemmas.proofs.Words
 use Words.{◌≡◌, ℕ, Bool, true, false, ◌||◌, ◌==◌, not, List, [], ◌∷◌, ◌++◌, Option, Some, None, refl, sym, ap, ◌∙◌, inl, inr, if◌then◌else◌, arith, filter}
-use Words.{is_some, ⊤, list_all, list_any, eq-eqb, eqb-false, eqb-true, ne_eqb, Config, BlockAt, FileId, ServerId, Stamp, AppAnswer, Ask, Body, Message, Output}
+use Words.{is_some, ⊤, list_all, list_any, eqb-false, eqb-true, ne_eqb, Config, BlockAt, FileId, ServerId, Stamp, AppAnswer, Ask, Body, Message, Output}
 use Words.{ClientInput, KnownExtent, MappedBlock, Operation}
 use Words.Lists.{Has}
 use Words.Tables.{all_pass, and_both, and_true, some_passes}
@@ -19,27 +19,18 @@ use Words.ClientReplies as cr
 use Words.ClientState as cs
 use Words.ClientState.{Association, ClientSession, ClientState, ClientTurn, Turn, at_each, at_these, client_turn, enter, is_at, leave, only_at, server_of}
 use Words.ClientState.{with_associations}
-use Words.Keys.{same_block, same_server, server_node}
+use Words.Keys.{same_server, server_node}
+use Words.Truth.{block_self, eqb_self, if_either}
+use Words.Lookups.{or_right}
+use Words.Members.{has_left, has_right}
+use Words.Tests.{all_last}
 use Rattle.st_client.proofs.ExpiredAssociations.{Begun, FineBody, Stands, Usable, begins_usable_after_receive, is_fine, is_placed, is_row_placed, lies, usable_after_passes, stands_after_finish}
 use Rattle.st_client.proofs.ExpiredAssociations.{stands_after_take}
-use Rattle.st_client.proofs.SoundLists.{all_filter, all_last, one_of}
+use Rattle.st_client.proofs.SoundLists.{all_filter}
 use Rattle.st_client.specs.Losses.{IsOver, coming, comes_at, is_block_elsewhere, is_elsewhere, is_ended, is_known_at, is_other_operation, is_over_at, is_row_at}
 use Rattle.st_client.specs.Losses.{knows_at, tells_at}
 
 -- Members.
-
-has_left : {A : Type 0} (xs ys : List A) (x : A) → Has x xs → Has x (xs ++ ys)
-has_left [] ys x h = absurd h
-has_left (z ∷ zs) ys x (inl e) = inl e
-has_left (z ∷ zs) ys x (inr h) = inr (has_left zs ys x h)
-
-has_right : {A : Type 0} (xs ys : List A) (x : A) → Has x ys → Has x (xs ++ ys)
-has_right [] ys x h = h
-has_right (z ∷ zs) ys x h = inr (has_right zs ys x h)
-
-or_true : (a b : Bool) → b ≡ true → (a || b) ≡ true
-or_true true b e = refl
-or_true false b e = e
 
 -- a test that passes, or another one
 or_else : (a b : Bool) → (a ≡ false → b ≡ true) → (a || b) ≡ true
@@ -103,7 +94,7 @@ module _ (v : ServerId) (known : BlockAt → Bool) (os : List Operation) where
   end_sync_fine : (t : Turn) (o : Operation) (f : FileId) → Fine t → Fine (cl.end_sync t o f)
   unfolding cl.end_sync cl.tell_lost
   end_sync_fine t o f w =
-      one_of Fine (pages.has_lost t.here.lost f.ino) (cl.tell_lost t o.op f.ino) _
+      if_either Fine (pages.has_lost t.here.lost f.ino) (cl.tell_lost t o.op f.ino) _
       (says_fine t (outputs.Answer o.op (answers.Lost (pages.told_rows t.here.lost f.ino))) refl w)
       (says_fine t (outputs.Answer o.op answers.Quiesced) refl w)
 
@@ -117,7 +108,7 @@ module _ (v : ServerId) (known : BlockAt → Bool) (os : List Operation) where
   ends_fine s [] t w = w
   ends_fine s (o ∷ xs) t w =
       ends_fine s xs (cl.end_operation t s o)
-      (one_of Fine (cs.is_sent o) _ (cl.end_unsent t o o.ask) (says_fine t (outputs.Answer o.op (answers.Uncertain s.epoch.0 0)) refl w)
+      (if_either Fine (cs.is_sent o) _ (cl.end_unsent t o o.ask) (says_fine t (outputs.Answer o.op (answers.Uncertain s.epoch.0 0)) refl w)
       (end_unsent_fine t o o.ask w))
 
   lost_fine : (t : Turn) (s : ClientSession) → Fine t → Fine (cl.lose_session t s)
@@ -187,15 +178,15 @@ module _ (v : ServerId) (known : BlockAt → Bool) (os : List Operation) where
   input_holds t now Tick e h = usable_all t h
   input_holds t now (App op ask) e h =
       usable_all (cl.app t op ask)
-      (one_of (Holds (At G)) (cl.is_full t.state) (cl.answered_at_once t op answers.OpsFull) (cl.app_known t op ask)
+      (if_either (Holds (At G)) (cl.is_full t.state) (cl.answered_at_once t op answers.OpsFull) (cl.app_known t op ask)
       (at_once (At G) t op answers.OpsFull refl h)
-      (one_of (Holds (At G)) (cl.is_configured t.state (server_of ask)) (at_each (only_at (server_of ask) (cl.take_ask op ask)) t)
+      (if_either (Holds (At G)) (cl.is_configured t.state (server_of ask)) (at_each (only_at (server_of ask) (cl.take_ask op ask)) t)
       (cl.answered_at_once t op answers.NoFile)
       (each_holds t.state.config (At G) (At G) (only_at (server_of ask) (cl.take_ask op ask))
       (λ u c a w. by_stands G G (only_at (server_of ask) (cl.take_ask op ask)) (stands_after_take v known os G (server_of ask) op ask e) u a w) t refl h)
       (at_once (At G) t op answers.NoFile refl h)))
   input_holds t now (Control m) e h =
-      one_of (Holds (At S)) (m.header.to == t.state.id.0) (at_each (cr.receive_at now m.header m.body) t) t
+      if_either (Holds (At S)) (m.header.to == t.state.id.0) (at_each (cr.receive_at now m.header m.body) t) t
       (each_holds t.state.config (At G) (At S) (cr.receive_at now m.header m.body)
       (λ u c a w. by_stands G S (cr.receive_at now m.header m.body) (begins_usable_after_receive v known os now m.header m.body e) u a w) t refl h)
       (usable_all t h)
@@ -216,12 +207,6 @@ module _ (v : ServerId) (known : BlockAt → Bool) (os : List Operation) where
       (input_holds t now input e a)
 
 -- The step begins: what is known elsewhere, and which operations are pending.
-
-same_self : (n : ℕ) → (n == n) ≡ true
-same_self n = eq-eqb n n refl
-
-block_self : (at : BlockAt) → same_block at at ≡ true
-block_self at = and_both (at.disk.0 == at.disk.0) (at.block == at.block) (same_self at.disk.0) (same_self at.block)
 
 module _ (v : ServerId) (c : ClientState) (input : ClientInput) where
   abbrev Known : BlockAt → Bool
@@ -244,7 +229,7 @@ module _ (v : ServerId) (c : ClientState) (input : ClientInput) where
   fine_pending : (o : Operation) → Has o pending → is_fine v Known pending o ≡ true
   fine_pending o i =
       or_else (cs.is_of v o) (list_any (is_other_operation v o.op) pending)
-      (λ q. some_passes (is_other_operation v o.op) pending o i (and_both (o.op == o.op) (not (cs.is_of v o)) (same_self o.op) (ap not q)))
+      (λ q. some_passes (is_other_operation v o.op) pending o i (and_both (o.op == o.op) (not (cs.is_of v o)) (eqb_self o.op) (ap not q)))
 
   fine_rows : (m : Message) → input ≡ Control m → (s : ServerId) → (m.header.from == server_node s) ≡ true → same_server s v ≡ false →
       FineBody v Known pending m.body
@@ -259,7 +244,7 @@ module _ (v : ServerId) (c : ClientState) (input : ClientInput) where
       by : (b : Body) → m.body ≡ b → FineBody v Known pending b
       by (bodies.Extents ino rows) e =
           all_pass (is_row_placed v Known pending) rows
-          (λ r j. or_true (list_any (knows_at v r.at) c.associations) (comes_at v r.at input)
+          (λ r j. or_right (list_any (knows_at v r.at) c.associations) (comes_at v r.at input)
           (ap (comes_at v r.at) i
           ∙ and_both (not (m.header.from == server_node v)) (tells_at r.at m.body) (ap not from)
           (ap (tells_at r.at) e ∙ some_passes (is_row_at r.at) rows r j (block_self r.at))))

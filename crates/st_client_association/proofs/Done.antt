@@ -1,9 +1,9 @@
 -- Commands that end: which they are, and what stays.
 use Rattle.st_lemmas.proofs.Words
-use Words.{◌≡◌, ℕ, Bool, true, not, List, Option, Some, None, refl, sym, ap, option_map, unwrap_or, list_all, eqb-true, PageNo, IoKind, PageCommand, DirtyPage}
+use Words.{◌≡◌, ℕ, Bool, true, not, List, Option, Some, None, refl, sym, ap, option_map, unwrap_or, list_all, eqb-true, PageNo, IoKind, PageCommand}
 use Words.Tables.{found_at}
 use Words.ClientInvariants.{is_below}
-use Words.ClientPages.{Pages, command_of, dirty_of, end_at, end_command, fail, fill, harden, harden_at, harden_page, is_numbered}
+use Words.ClientPages.{Pages, command_of, end_at, end_command, fill, is_numbered}
 use Rattle.st_flush.specs.Calls.{told}
 use Rattle.st_client_association.proofs.TurnInvariants.{below_fewer}
 
@@ -34,15 +34,3 @@ below_ended next cs n ok version h = by (command_of cs n)
 pub version_filled : (ps : Pages) (ino : ℕ) (p : PageNo) (bytes : List ℕ) → (fill ps ino p bytes).next_version ≡ ps.next_version
 unfolding fill
 version_filled ps ino p bytes = refl
-
-pub version_hardened : (ps : Pages) (ino : ℕ) (p : PageNo) → (harden ps ino p).next_version ≡ ps.next_version
-unfolding harden harden_at harden_page
-version_hardened ps ino p = by (dirty_of ps ino p)
-  where
-    by : (o : Option DirtyPage) → (harden_at ps o).next_version ≡ ps.next_version
-    by None = refl
-    by (Some d) = refl
-
-pub version_failed : (ps : Pages) (ino : ℕ) (p : PageNo) (command : ℕ) → (fail ps ino p command).next_version ≡ ps.next_version
-unfolding fail
-version_failed ps ino p command = refl

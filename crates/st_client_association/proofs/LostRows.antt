@@ -2,14 +2,12 @@
 use Rattle.st_lemmas.proofs.Words
 use Words.{◌≡◌, ℕ, zero, suc, ◌+◌, List, [], ◌∷◌, ◌++◌, take, refl, sym, ap, ◌∙◌, arith, Some, slice_get, LostPage, PageCommand, DirtyPage}
 use Words.ClientPages.{lost_page, with_lost, with_lost_pages}
+use Words.Lookups.{some_is}
 
 lost_last : (cs : List PageCommand) (ds : List DirtyPage) (d : DirtyPage) (lost : List LostPage) → with_lost_pages cs (ds ++ d ∷ []) lost ≡ with_lost (lost_page cs d) (with_lost_pages cs ds lost)
 unfolding with_lost_pages
 lost_last cs [] d lost = refl
 lost_last cs (x ∷ xs) d lost = lost_last cs xs d (with_lost (lost_page cs x) lost)
-
-some_is : {A : Type 0} {x y : A} → Some x ≡ Some y → x ≡ y
-some_is e = cc
 
 take_place : {A : Type 0} (xs : List A) (i : ℕ) (x : A) → slice_get xs i ≡ Some x → take (suc i) xs ≡ take i xs ++ x ∷ []
 take_place [] i x e = cc

@@ -1,31 +1,18 @@
 -- The invariant of a step at a server holds after its changes.
 use Rattle.st_lemmas.proofs.Words
-use Words.{◌≡◌, ℕ, ◌⊎◌, ◌+◌, ◌<◌, ◌≤◌, Bool, true, false, List, [], ◌∷◌, ◌++◌, refl, sym, ap, ◌∙◌, subst, inl, inr, arith, Option, Some, None, filter, Result}
-use Words.{Ok, Err, if◌then◌else◌, not, list_all, ltb-true, lt-ltb, Config, ClientId, ServerId, Life, PageNo, Output, CleanPage, IoKind, PageCommand}
-use Words.{WriteRefusal, DirtyPage}
+use Words.{◌≡◌, ℕ, ◌⊎◌, ◌+◌, ◌<◌, ◌≤◌, Bool, true, false, List, [], ◌∷◌, ◌++◌, sym, ap, ◌∙◌, subst, inl, inr, arith, Option, Some, filter, Result}
+use Words.{Ok, Err, if◌then◌else◌, not, list_all, ltb-true, lt-ltb, Config, ClientId, ServerId, Life, PageNo, Output, IoKind, PageCommand}
+use Words.{WriteRefusal}
 use Words.Lists.{Has}
 use Words.Numbers.{length_more}
 use Words.Tables.{all_pass, each_passes, has_append, has_filter}
 use Words.ClientInvariants.{is_below}
-use Words.ClientPages.{Pages, begin_command, clean_of, dirty_of, is_full_for, page_command, use_at, use_clean, use_page, write, written}
+use Words.ClientPages.{Pages, begin_command, is_full_for, page_command, write, written}
 use Words.writing
 use Rattle.st_client_session.specs.Sessions.{ServerSession}
 use Rattle.st_client_store.specs.Stores.{ServerStore}
 use Rattle.st_client_association.specs.Turns.{IsTurn, most_of}
 use Rattle.st_client_association.specs.declared.association.AssociationParts.{AssociationParts}
-
--- versions stay where a page is used
-pub versions_used : (ps : Pages) (ino : ℕ) (p : PageNo) → (use_page ps ino p).next_version ≡ ps.next_version
-unfolding use_page use_clean use_at
-versions_used ps ino p = by (dirty_of ps ino p)
-  where
-    at : (c : Option CleanPage) → (use_at ps c).next_version ≡ ps.next_version
-    at None = refl
-    at (Some c) = refl
-
-    by : (o : Option DirtyPage) → (use_clean ps ino p o).next_version ≡ ps.next_version
-    by None = at (clean_of ps ino p)
-    by (Some d) = refl
 
 -- numbers stay below a greater one
 pub below_more : (n m : ℕ) (cs : List PageCommand) → n ≤ m → list_all (is_below n) cs ≡ true → list_all (is_below m) cs ≡ true

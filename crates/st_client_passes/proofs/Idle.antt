@@ -1,5 +1,6 @@
 -- Where nothing waits a pass changes nothing.
 use Rattle.std.proofs.Common.{◌≡◌, ℕ, Bool, true, false, ◌&&◌, ◌||◌, not, if◌then◌else◌, List, [], ◌∷◌, ◌++◌, map, Option, Some, None, refl, sym, ap, ◌∙◌, append_assoc, append-nil, true≢false}
+use Rattle.std.proofs.lemmas.Bool.{or_parts}
 use Rattle.std.specs.Prelude.{nat_lt, ◌==◌}
 use Rattle.std.specs.List.{list_any}
 use Rattle.st_base.specs.declared.ids.PageNo.{PageNo}
@@ -23,10 +24,6 @@ use Rattle.st_rules.specs.Keys.{past, placed, rising, with_key}
 use Rattle.st_client_association.specs.Turns.{has_session}
 use Rattle.st_client_passes.specs.PassConditions.{wants_writes}
 use Rattle.st_client_passes.proofs.Sessions.{operate_without}
-
-or_no : (a b : Bool) → (a || b) ≡ false → (a ≡ false) × (b ≡ false)
-or_no true b h = absurd (true≢false h)
-or_no false b h = (refl, h)
 
 and_true : (a : Bool) → (a && true) ≡ a
 and_true true = refl
@@ -52,7 +49,7 @@ no_act all now t o h = by (is_of t.here.server o) h
     by : (b : Bool) → ((has_session t || is_sync o.ask) && b) ≡ false → (if b then operate_on all t now o o.ask else keep o t) ≡ keep o t
     by false h = refl
     by true h =
-        let q = or_no (has_session t) (is_sync o.ask) (sym (and_true (has_session t || is_sync o.ask)) ∙ h) in
+        let q = or_parts (has_session t) (is_sync o.ask) (sym (and_true (has_session t || is_sync o.ask)) ∙ h) in
         without_session all now t o o.ask q.0 q.1
 
 -- so do these
@@ -60,7 +57,7 @@ others_stay : (all : List Operation) (now : Stamp) (os : List Operation) (t : Tu
 unfolding operate_each
 others_stay all now [] t h = λ i. with_operations (sym (append-nil t.operations) i) t
 others_stay all now (o ∷ os) t h =
-    let q = or_no (may_act t.here.server (has_session t) o) (list_any (may_act t.here.server (has_session t)) os) h in
+    let q = or_parts (may_act t.here.server (has_session t) o) (list_any (may_act t.here.server (has_session t)) os) h in
     ap (operate_each all now os) (no_act all now t o q.0)
     ∙ others_stay all now os (keep o t) q.1
     ∙ (λ i. with_operations (append_assoc t.operations (o ∷ []) os i) t)
@@ -109,11 +106,11 @@ module _ (s : ServerId) (ino : ℕ) where
 
   no_syncs : (os : List Operation) → list_any (wants_writes s) os ≡ false → list_any (λ o. is_on s ino o && is_sync o.ask) os ≡ false
   no_syncs [] h = refl
-  no_syncs (o ∷ os) h = let q = or_no (wants_writes s o) (list_any (wants_writes s) os) h in λ i. sync_one o q.0 i || no_syncs os q.1 i
+  no_syncs (o ∷ os) h = let q = or_parts (wants_writes s o) (list_any (wants_writes s) os) h in λ i. sync_one o q.0 i || no_syncs os q.1 i
 
   no_cuts : (os : List Operation) → list_any (wants_writes s) os ≡ false → list_any (λ o. is_on s ino o && (is_cut_or_name o.ask && not (is_sent o))) os ≡ false
   no_cuts [] h = refl
-  no_cuts (o ∷ os) h = let q = or_no (wants_writes s o) (list_any (wants_writes s) os) h in λ i. cut_one o q.0 i || no_cuts os q.1 i
+  no_cuts (o ∷ os) h = let q = or_parts (wants_writes s o) (list_any (wants_writes s) os) h in λ i. cut_one o q.0 i || no_cuts os q.1 i
 
 and_none : (a : Bool) → (a && false) ≡ false
 and_none true = refl

@@ -1,6 +1,6 @@
 -- A command that ends: its page is not dirty where it read, and has no other command.
 use Rattle.st_lemmas.proofs.Words
-use Words.{◌≡◌, ℕ, Bool, true, false, ◌&&◌, ◌==◌, not, List, Option, Some, None, refl, sym, ap, ◌∙◌, arith, find, is_some, if◌then◌else◌, and_from, and_parts}
+use Words.{◌≡◌, ℕ, Bool, true, false, ◌&&◌, ◌==◌, not, List, Option, Some, None, refl, sym, ap, ◌∙◌, find, is_some, if◌then◌else◌, and_from, and_parts}
 use Words.{eq-eqb, eqb-true, IoKind, PageCommand, DirtyPage, ServerId}
 use Words.Tables.{each_passes, find_gone_in, found_at}
 use Words.Keys.{same_page}
@@ -11,15 +11,13 @@ use Words.io.{Read, Write}
 use Words.answers
 use Words.Client.{failed_as, is_present, mark_failed, with_failed}
 use Words.ClientState.{Turn, answer_each, is_on, is_sync, reads_page}
+use Words.Truth.{eqb_turned}
 use Rattle.st_flush.specs.Calls.{AreApart}
 use Rattle.st_lemmas.proofs.Once.{found_once}
 use Rattle.st_client_store.specs.Stores.{AreMatched, agree, is_matched}
 
-same_flip : (a b : ℕ) → (a == b) ≡ (b == a)
-same_flip a b = grind arith
-
 flip_page : (x y : PageCommand) → same_page_command x y ≡ same_page_command y x
-flip_page x y = λ i. same_flip y.ino x.ino i && same_flip y.page.0 x.page.0 i
+flip_page x y = λ i. eqb_turned y.ino x.ino i && eqb_turned y.page.0 x.page.0 i
 
 self_page : (x : PageCommand) → same_page_command x x ≡ true
 self_page x = and_from (x.ino == x.ino) (same_page x.page x.page) (eq-eqb x.ino x.ino refl) (eq-eqb x.page.0 x.page.0 refl)

@@ -1,14 +1,12 @@
 -- The outstanding request is ended by its own number.
 use Rattle.st_lemmas.proofs.Words
 use Words.{◌≡◌, ℕ, Bool, true, sym, ap, ◌∙◌, ◌==◌, Option, Some, None, option_map, if◌then◌else◌, eq-eqb, Body, Request}
+use Words.Lookups.{some_is}
 use Rattle.st_requests.specs.declared.requests.Reply.TheVariants.{Match, Other}
 use Rattle.st_requests.specs.ServerRequests.{ServerRequests, body_of, ended, leaves_reply, matched, not_matched, reply, reply_to, shown}
 
 told_is : {t b : Body} → Match t ≡ Match b → t ≡ b
 told_is e = cc
-
-some_is : {A : Type 0} {x y : A} → Some x ≡ Some y → x ≡ y
-some_is e = cc
 
 -- a reply to the outstanding request's number
 pub reply_own : (r : ServerRequests) (number : ℕ) (body : Body) → Some (number, body) ≡ option_map shown r.requests.asked → reply r number ≡ matched r body

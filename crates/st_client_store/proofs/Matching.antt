@@ -1,14 +1,15 @@
 -- Outstanding commands match the dirty pages after each change.
 use Rattle.st_lemmas.proofs.Words
 use Words.{◌≡◌, ℕ, ◌⊎◌, Bool, true, false, List, [], ◌∷◌, ◌++◌, refl, sym, ap, ◌∙◌, subst, inl, inr, not, find, filter, map, ◌&&◌, Option, Some, None, is_some}
-use Words.{option_map, Result, Ok, Err, if◌then◌else◌, PageNo, CleanPage, IoKind, PageCommand, WriteRefusal, DirtyPage}
+use Words.{option_map, Result, Ok, Err, if◌then◌else◌, PageNo, IoKind, PageCommand, WriteRefusal, DirtyPage}
 use Words.Lists.{Has}
 use Words.Tables.{and_true, not_true, all_pass, each_passes, has_filter, has_append, find_kept, find_map, found_at, none_has}
 use Words.Keys.{put}
-use Words.ClientPages.{Pages, begin_command, command_on, dirty_of, end_at, end_command, fail, fail_of, failed_by, forget_read, is_being_read, is_being_written}
+use Words.ClientPages.{Pages, begin_command, command_on, dirty_of, end_at, end_command, fail, fail_of, forget_read, is_being_read, is_being_written}
 use Words.ClientPages.{is_write_of, harden, harden_at, harden_page, is_command_of, is_dirty_of, is_full_for, is_numbered, is_read_of, is_write, new_dirty}
-use Words.ClientPages.{page_command, use_at, use_clean, use_page, without_dirty, write, written, clean_of}
+use Words.ClientPages.{page_command, without_dirty, write, written}
 use Words.writing
+use Words.Versions.{place_failed}
 use Rattle.st_lemmas.proofs.Contents.{Place_is, one_place, other_place}
 use Rattle.st_flush.proofs.Places.{no_command}
 use Rattle.st_lemmas.proofs.Once.{none_any}
@@ -109,14 +110,6 @@ matched_hardened ps ino p cs n m = by (dirty_of ps ino p) refl
         let k = one_place d.ino d.page ino p (found_at (is_dirty_of ino p) ps.dirty d e).0 in
         matched_without ps.dirty d.ino d.page cs ((λ i. command_on cs (k.0 i) (k.1 i)) ∙ n) m
 
-same_page_of : (ino : ℕ) (p : PageNo) (command j : ℕ) (q : PageNo) (d : DirtyPage) → is_dirty_of j q (fail_of ino p command d) ≡ is_dirty_of j q d
-unfolding failed_by
-same_page_of ino p command j q d = by (is_dirty_of ino p d)
-  where
-    by : (b : Bool) → is_dirty_of j q (if b then failed_by command d else d) ≡ is_dirty_of j q d
-    by true = refl
-    by false = refl
-
 some_mapped : {A : Type 0} (f : A → A) (o : Option A) → is_some (option_map f o) ≡ is_some o
 some_mapped f None = refl
 some_mapped f (Some x) = refl
@@ -128,22 +121,9 @@ matched_failed ps ino p command cs m =
     all_pass (is_matched (map (fail_of ino p command) ps.dirty)) cs
     (λ c h.
     ap (λ o. agree (is_write c.kind) (is_some o))
-    (find_map (is_dirty_of c.ino c.page) (fail_of ino p command) (λ d. same_page_of ino p command c.ino c.page d) ps.dirty)
+    (find_map (is_dirty_of c.ino c.page) (fail_of ino p command) (λ d. place_failed ino p command c.ino c.page d) ps.dirty)
     ∙ ap (agree (is_write c.kind)) (some_mapped (fail_of ino p command) (find (is_dirty_of c.ino c.page) ps.dirty))
     ∙ each_passes (is_matched ps.dirty) cs m c h)
-
--- a page is used
-pub dirty_used : (ps : Pages) (ino : ℕ) (p : PageNo) → (use_page ps ino p).dirty ≡ ps.dirty
-unfolding use_page use_clean use_at
-dirty_used ps ino p = by (dirty_of ps ino p) (clean_of ps ino p)
-  where
-    at : (c : Option CleanPage) → (use_at ps c).dirty ≡ ps.dirty
-    at None = refl
-    at (Some c) = refl
-
-    by : (o : Option DirtyPage) (c : Option CleanPage) → (use_clean ps ino p o).dirty ≡ ps.dirty
-    by None c = at (clean_of ps ino p)
-    by (Some d) c = refl
 
 nothing_dirty : is_some {T = DirtyPage} None ≡ true → true ≡ false
 nothing_dirty e = cc

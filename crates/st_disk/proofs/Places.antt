@@ -1,9 +1,11 @@
 -- Where the block of a place is, when one more block is written, or another one at the same place.
+use Rattle.st_lemmas.proofs.Tests.{found_passes}
+use Rattle.st_lemmas.proofs.Truth.{block_is}
 use Rattle.std.proofs.Common.{◌≡◌, ℕ, ◌+◌, ◌<◌, ◌≤◌, Bool, true, false, cond, if◌then◌else◌, List, [], ◌∷◌, ◌++◌, length, set, Option, Some, None, arith, refl, sym, ap, ◌∙◌}
-use Rattle.std.specs.Prelude.{◌&&◌, ◌==◌, find, not, nat_lt, get_or, slice_get, unwrap_or}
+use Rattle.std.specs.Prelude.{◌&&◌, find, not, nat_lt, get_or, slice_get, unwrap_or}
 use Rattle.std.specs.List.{position, position_or_len}
 use Rattle.std.proofs.Math.Dec.{eqb}
-use Rattle.std.proofs.lemmas.Bool.{and_parts, eqb-true, ltb-false}
+use Rattle.std.proofs.lemmas.Bool.{ltb-false}
 use Rattle.std.proofs.lemmas.List.Folds.{find_at, position_or_len_push, position_or_len-set}
 use Rattle.std.proofs.lemmas.Option.{slice_get_past}
 use Rattle.std.proofs.lemmas.List.Quantifiers.{position-Some}
@@ -14,14 +16,6 @@ use Rattle.st_rules.specs.declared.disks.Block.{Block}
 use Rattle.st_rules.specs.Disks.{Disks, block, fresh_block, is_block_at}
 use Rattle.st_rules.specs.Keys.{same_block}
 use Rattle.st_disk.specs.Indexes.{place_key, same_place}
-
--- equal places are one
-place_is : (a b : BlockAt) → same_block a b ≡ true → a ≡ b
-place_is a b h =
-    let p = and_parts (a.disk.0 == b.disk.0) (a.block == b.block) h in
-    let disk : a.disk.0 ≡ b.disk.0 = eqb-true _ _ p.0 in
-    let block : a.block ≡ b.block = eqb-true _ _ p.1 in
-    λ i. record { disk = record { 0 = disk i }; block = block i }
 
 -- the first place, one element more, by plain numbers
 by_numbers : (n m : ℕ) (b : Bool) → n ≤ m → cond (nat_lt (cond (eqb n m) (m + cond b 0 1) n) (m + 1)) (Some (cond (eqb n m) (m + cond b 0 1) n)) None ≡ cond (nat_lt n m) (Some n) (cond b (Some m) None)
@@ -45,14 +39,14 @@ pub index_more : (bs : List Block) (b : Block) (at : BlockAt) (old : Option ℕ)
     (if same_place (place_key b.at) (place_key at) then Some (length bs) else old) ≡ position (is_block_at at) (bs ++ b ∷ [])
 index_more bs b at old none e =
     by_case (same_place (place_key b.at) (place_key at)) (nat_lt (position_or_len (is_block_at at) bs) (length bs)) (position_or_len (is_block_at at) bs) (length bs) old
-    (λ h. sym (ap (λ a. position (is_block_at a) bs) (place_is b.at at h)) ∙ none) e
+    (λ h. sym (ap (λ a. position (is_block_at a) bs) (block_is b.at at h)) ∙ none) e
     ∙ sym (position_push (is_block_at at) bs b)
 
 -- another block at the same place
 pub index_kept : (bs : List Block) (b : Block) (index : ℕ) (at : BlockAt) → position (is_block_at b.at) bs ≡ Some index → position (is_block_at at) (set bs index b) ≡ position (is_block_at at) bs
 index_kept bs b index at e =
     let there = position-Some (is_block_at b.at) bs index b e in
-    let one : (get_or bs index b).at ≡ b.at = place_is (get_or bs index b).at b.at there.1 in
+    let one : (get_or bs index b).at ≡ b.at = block_is (get_or bs index b).at b.at there.1 in
     let first = position_or_len-set (is_block_at at) bs index b b (ap (λ a. same_block a at) (sym one)) in
     λ i. cond (nat_lt (first i) (length-set bs index b i)) (Some (first i)) None
 
@@ -73,19 +67,10 @@ find_none p xs e =
     let past = ltb-false (position_or_len p xs) (length xs) (none_is (nat_lt (position_or_len p xs) (length xs)) (position_or_len p xs) e) in
     sym (find_at p xs ∙ slice_get_past xs (position_or_len p xs) past)
 
--- what is found passes the test
-passes_and : {A : Type 0} (p : A → Bool) (x y : A) (rest : Option A) (b : Bool) → p y ≡ b → (rest ≡ Some x → p x ≡ true) → cond b (Some y) rest ≡ Some x → p x ≡ true
-passes_and p x y rest true t more e = let q : y ≡ x = cc in rw (← q) t
-passes_and p x y rest false t more e = more e
-
-found_passes : {A : Type 0} (p : A → Bool) (xs : List A) (x : A) → find p xs ≡ Some x → p x ≡ true
-found_passes p [] x e = absurd (cc)
-found_passes p (y ∷ ys) x e = passes_and p x y (find p ys) (p y) refl (found_passes p ys x) e
-
 -- the block at a place is of this place
 of_place : (at : BlockAt) (bs : List Block) (found : Option Block) → find (is_block_at at) bs ≡ found → (unwrap_or found (fresh_block at)).at ≡ at
 of_place at bs None e = refl
-of_place at bs (Some b) e = place_is b.at at (found_passes (is_block_at at) bs b e)
+of_place at bs (Some b) e = block_is b.at at (found_passes (is_block_at at) bs b e)
 
 pub block_is_there : (d : Disks) (at : BlockAt) → (block d at).at ≡ at
 block_is_there d at = of_place at d.written _ refl

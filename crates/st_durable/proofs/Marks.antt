@@ -11,6 +11,7 @@ use Words.Names as names
 use Words.Names.{Names, Changed}
 use Words.Server.{Stable}
 use Words.Tables.{cond_either, find_gone}
+use Words.Tests.{filtered_no_longer}
 use Rattle.std.specs.Option.{option_or}
 use Rattle.std.proofs.lemmas.Slice.Eq.{bytes_eq-Decides}
 use Rattle.st_journal.specs.Stable as journal
@@ -62,16 +63,12 @@ same_server f [] x = refl
 same_server f (p ∷ ps) x = same_server f ps (extents.place_on x f p (extents.free_blocks x)) ∙ placed_server x f p (extents.free_blocks x)
 
 -- Lists: a filter that takes nothing out.
-few_kept : {X : Type 0} (p : X → Bool) (xs : List X) → length (filter p xs) ≤ length xs
-few_kept p [] = omega arith
-few_kept {X} p (x ∷ xs) =
-    cond_either (λ (ys : List X). length ys ≤ length (x ∷ xs)) (p x) (x ∷ filter p xs) (filter p xs) (λ q. omega (arith, few_kept p xs)) (λ q. omega (arith, few_kept p xs))
 
 all_kept : {X : Type 0} (p : X → Bool) (xs : List X) → length (filter p xs) ≡ length xs → filter p xs ≡ xs
 all_kept p [] e = refl
 all_kept {X} p (x ∷ xs) e =
     cond_either (λ (ys : List X). length ys ≡ length (x ∷ xs) → ys ≡ x ∷ xs) (p x) (x ∷ filter p xs) (filter p xs)
-    (λ q l. ap (λ (ys : List X). x ∷ ys) (all_kept p xs (omega (arith, l)))) (λ q l. absurd (omega (arith, l, few_kept p xs))) e
+    (λ q l. ap (λ (ys : List X). x ∷ ys) (all_kept p xs (omega (arith, l)))) (λ q l. absurd (omega (arith, l, filtered_no_longer p xs))) e
 
 none_mapped : {X : Type 0} (p : X → Bool) (f : X → X) → ((x : X) → p (f x) ≡ false) → (xs : List X) → find p (map f xs) ≡ None
 none_mapped p f h [] = refl

@@ -12,6 +12,7 @@ use Words.serving.{Tick, Control}
 use Words.Server as server
 use Words.Server.{ServerNode, ServerState, Stable, crash}
 use Words.Tables.{cond_either}
+use Words.Truth.{not_both}
 use Rattle.st_journal.specs.Changes as ranges
 use Rattle.st_journal.specs.Changes.{fits}
 use Rattle.st_journal.specs.Stable as journal
@@ -155,10 +156,6 @@ pub tells_none : (old new : ServerNode) (r : Result (List Output) StepFault) (no
 tells_none old new r now i own e f =
     kept_stable old.state new.state (subst (λ (o : Option Change). Follows o old.state new.state) e (left_follows old now i new.state own (left old now i new r f)))
 
-clash : (b : Bool) → b ≡ true → b ≡ false → ⊥
-clash true e f = cc
-clash false e f = cc
-
 same_marks : (old new : Stable) (x : Change) → new ≡ old → (mark new x == mark old x) ≡ true
 same_marks old new x e = eq-eqb (mark new x) (mark old x) (ap (λ (t : Stable). mark t x) e)
 
@@ -167,12 +164,12 @@ by_mark : (old new : Stable) (x : Change) → (new ≡ old) ⊎ (journal.apply o
     Tells old new (if mark new x == mark old x then None else Some x)
 by_mark old new x (inl e) f r =
     cond_either (Tells old new) (mark new x == mark old x) None (Some x) (λ q. e)
-    (λ q. absurd (clash (mark new x == mark old x) (same_marks old new x e) q))
+    (λ q. absurd (not_both (mark new x == mark old x) (same_marks old new x e) q))
 by_mark old new x (inr a) f r =
     cond_either (Tells old new) (mark new x == mark old x) None (Some x) (λ q. (marks_tell old new x a).same (eqb-true (mark new x) (mark old x) q))
     (λ q. record {
       applied = a;
-      other = λ e. clash (mark new x == mark old x) (same_marks old new x e) q;
+      other = λ e. not_both (mark new x == mark old x) (same_marks old new x e) q;
       ranges = f;
       room = r;
     })

@@ -1,8 +1,8 @@
 -- Pages that are not mapped yet are mapped one after another.
-use Rattle.std.proofs.Common.{◌≡◌, ℕ, zero, suc, ◌+◌, ◌<◌, ◌≤◌, arith, Bool, true, false, List, [], ◌∷◌, ◌++◌, filter, length, drop, get_or, refl, ap, subst, ◌∙◌, ⊎_elim, true≢false}
-use Rattle.std.specs.Prelude.{find, map, not, is_some, ◌&&◌}
+use Rattle.std.proofs.Common.{◌≡◌, ℕ, zero, suc, ◌+◌, ◌<◌, ◌≤◌, arith, true, false, List, [], ◌∷◌, ◌++◌, filter, length, drop, get_or, refl, ap, subst, ◌∙◌, ⊎_elim, true≢false}
+use Rattle.std.specs.Prelude.{find, map, not, is_some}
 use Rattle.std.specs.List.{AllByRecursion}
-use Rattle.std.proofs.lemmas.Bool.{cases_Bool}
+use Rattle.std.proofs.lemmas.Bool.{and_right, cases_Bool, not-true}
 use Rattle.std.proofs.lemmas.List.{drop_more}
 use Rattle.std.proofs.lemmas.List.Elements.{All-weaker, filter_passes, recursion_from_All}
 use Rattle.std.proofs.lemmas.Map.Keys.{IsDistinct-head, IsDistinct-tail}
@@ -15,7 +15,7 @@ use Rattle.st_rules.specs.Extents.{free_blocks, is_extent_of, no_extents, number
 use Rattle.st_extents.specs.Layout.{AreFresh, Shape, none_at, unmapped_of, with_shape}
 use Rattle.st_extents.specs.Places.{IsMapped}
 use Rattle.st_extents.proofs.Blocks.{free_is}
-use Rattle.st_extents.proofs.Owned.{distinct_filter, every_filter, not_true, pages_differ}
+use Rattle.st_extents.proofs.Owned.{distinct_filter, every_filter, pages_differ}
 
 -- A page is mapped as the definition says.
 module _ (s : Shape) (rows after : List Extent) (births : ℕ) (f : FileId) (p : PageNo) where
@@ -28,9 +28,6 @@ module _ (s : Shape) (rows after : List Extent) (births : ℕ) (f : FileId) (p :
   mapped_is own e l h = placed_by (filter (none_at rows) own) l h ∙ ap (place_on (with_shape s rows births) f p) (free_is s rows births own e)
 
 -- Another page stays unmapped.
-other_page : (a b : Bool) → b ≡ false → (a && b) ≡ false
-other_page true b h = h
-other_page false b h = refl
 
 module _ (f : FileId) (p q : PageNo) where
   push_unmapped : (rows : List Extent) (e : Extent) → is_some (find (is_extent_of f q) rows) ≡ false → is_extent_of f q e ≡ false → is_some (find (is_extent_of f q) (rows ++ e ∷ [])) ≡ false
@@ -43,7 +40,7 @@ module _ (f : FileId) (p q : PageNo) where
 
   pub still_fresh : (rows after : List Extent) (e : Extent) → after ≡ rows ++ e ∷ [] → e.page ≡ p → is_some (find (is_extent_of f q) rows) ≡ false → same_page p q ≡ false → is_some (find (is_extent_of f q) after) ≡ false
   still_fresh rows after e h at none other =
-      rw h (push_unmapped rows e none (other_page (same_file e.file f) (same_page e.page q) (ap (λ (x : PageNo). same_page x q) at ∙ other)))
+      rw h (push_unmapped rows e none (and_right (same_file e.file f) (same_page e.page q) (ap (λ (x : PageNo). same_page x q) at ∙ other)))
 
 module _ (rows : List Extent) (f : FileId) where
   -- the first of the pages that are left
@@ -67,7 +64,9 @@ module _ (rows : List Extent) (f : FileId) where
       let test = λ (q : PageNo). not (is_some (find (is_extent_of f q) rows)) in
       let ps = pages_from p count in
       record {
-        unmapped = recursion_from_All (λ q. is_some (find (is_extent_of f q) rows) ≡ false) (filter test ps) (All-weaker (λ q. test q ≡ true) (λ q. is_some (find (is_extent_of f q) rows) ≡ false) (λ q h. not_true (is_some (find (is_extent_of f q) rows)) h) (filter test ps) (filter_passes test ps));
+        unmapped = recursion_from_All (λ q. is_some (find (is_extent_of f q) rows) ≡ false) (filter test ps)
+            (All-weaker (λ q. test q ≡ true) (λ q. is_some (find (is_extent_of f q) rows) ≡ false) (λ q h. not-true (is_some (find (is_extent_of f q) rows)) h)
+            (filter test ps) (filter_passes test ps));
         apart = distinct_filter same_page test ps (pages_differ p.0 count);
       }
 

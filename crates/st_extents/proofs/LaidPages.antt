@@ -3,7 +3,7 @@ use Rattle.std.proofs.Common.{◌≡◌, ℕ, zero, suc, ◌+◌, ◌<◌, ◌�
 use Rattle.std.specs.Prelude.{find, nat_le, not, is_some, Some, ◌&&◌, ◌||◌, ◌==◌, replicate, slice_get}
 use Rattle.std.specs.List.{IsDistinct, AllByRecursion, list_any}
 use Rattle.std.proofs.lemmas.Bool.{and_from, cases_Bool, cases_eq, cases_lt, cases_order, eq-eqb, eqb-true, and_parts}
-use Rattle.std.proofs.lemmas.List.{get_or-set_same, get_or-set_other, get_or-replicate, length-set, length-replicate}
+use Rattle.std.proofs.lemmas.List.{get_or-set_same, get_or-set_other, get_or-replicate, length-set, length-replicate, get_or_default}
 use Rattle.std.proofs.lemmas.List.Folds.{list_any-append, list_any_at}
 use Rattle.std.proofs.lemmas.Map.Keys.{IsDistinct-head, IsDistinct-tail, IsDistinct-push}
 use Rattle.st_base.specs.declared.ids.FileId.{FileId}
@@ -185,16 +185,11 @@ among_place (b ∷ own) at d h = ⊎_elim
     (suc r.0, (omega (arith, r.1.0), r.1.1)))
     (cases_Bool (same_block b at))
 
-any_default : {K : Type 0} (xs : List K) (i : ℕ) (d e : K) → i < length xs → get_or xs i d ≡ get_or xs i e
-any_default [] i d e l = let no : ⊥ = omega arith in absurd no
-any_default (x ∷ xs) zero d e l = refl
-any_default (x ∷ xs) (suc i) d e l = any_default xs i d e (omega arith)
-
 -- A search by halves.
 module _ (own : List BlockAt) (at : BlockAt) (o : AreInOrder own) where
   pub all_below : (i : ℕ) (e : BlockAt) → i < length own → rank (get_or own i e) < rank at → (j : ℕ) (d : BlockAt) → j < i + 1 → rank (get_or own j d) < rank at
   all_below i e l t j d k =
-      let a : rank (get_or own i d) ≡ rank (get_or own i e) = ap rank (any_default own i d e l) in
+      let a : rank (get_or own i d) ≡ rank (get_or own i e) = ap rank (get_or_default own i d e l) in
       ⊎_elim
       (λ (s : j ≡ i). let b : rank (get_or own j d) ≡ rank (get_or own i d) = ap rank (ap (λ n. get_or own n d) s) in omega (arith, a, b, t))
       (λ n. let r = rising own j i d o (omega (arith, k, n)) l in omega (arith, a, t, r))
@@ -202,7 +197,7 @@ module _ (own : List BlockAt) (at : BlockAt) (o : AreInOrder own) where
 
   pub none_below : (i : ℕ) (e : BlockAt) → i < length own → rank at ≤ rank (get_or own i e) → (j : ℕ) (d : BlockAt) → i ≤ j → j < length own → rank at ≤ rank (get_or own j d)
   none_below i e l t j d k h =
-      let a : rank (get_or own i d) ≡ rank (get_or own i e) = ap rank (any_default own i d e l) in
+      let a : rank (get_or own i d) ≡ rank (get_or own i e) = ap rank (get_or_default own i d e l) in
       ⊎_elim
       (λ (s : j ≡ i). let b : rank (get_or own j d) ≡ rank (get_or own i d) = ap rank (ap (λ n. get_or own n d) s) in omega (arith, a, b, t))
       (λ n. let r = rising own i j d o (omega (arith, k, n)) h in omega (arith, a, t, r))

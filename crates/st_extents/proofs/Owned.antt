@@ -4,7 +4,7 @@ use Rattle.std.specs.Prelude.{All, ◌&&◌, not, ◌==◌, find, filter, is_som
 use Rattle.std.specs.List.{IsDistinct, AllByRecursion, list_any}
 use Rattle.std.proofs.lemmas.List.{length-map}
 use Rattle.std.specs.Cmp.{IsEquivalence}
-use Rattle.std.proofs.lemmas.Bool.{cases_Bool, and_parts, and_right, ne_eqb}
+use Rattle.std.proofs.lemmas.Bool.{cases_Bool, and_parts, and_right, ne_eqb, not-true}
 use Rattle.std.proofs.lemmas.Map.Made.{All-is_member, length-le_from_is_member}
 use Rattle.std.proofs.lemmas.Map.Keys.{IsDistinct-head, IsDistinct-tail, IsDistinct-cons, IsDistinct-push}
 use Rattle.std.proofs.lemmas.List.Folds.{list_any-append, list_any_none}
@@ -74,10 +74,6 @@ at_block a b = same_block b a
 at_block_equiv : IsEquivalence at_block
 at_block_equiv = both_equiv _ _ (number_equiv (λ (b : BlockAt). b.disk.0)) (number_equiv (λ (b : BlockAt). b.block))
 
-pub not_true : (b : Bool) → not b ≡ true → b ≡ false
-not_true true h = sym h
-not_true false h = refl
-
 -- Nothing is mapped.
 pub none_owned : (s : Shape) (births : ℕ) → IsOwned (with_shape s [] births)
 unfolding IsDistinct
@@ -97,7 +93,7 @@ module _ (x : extents.Extents) (f : FileId) (p : PageNo) where
       let e = extents.new_extent x f p b in
       record {
         pages = IsDistinct-push pages_equiv x.rows e o.pages (sym (found_is_any (extents.is_extent_of f p) x.rows) ∙ none);
-        blocks = IsDistinct-push blocks_equiv x.rows e o.blocks (not_true (list_any (extents.lies_at b) x.rows) free);
+        blocks = IsDistinct-push blocks_equiv x.rows e o.blocks (not-true (list_any (extents.lies_at b) x.rows) free);
         births = IsDistinct-push births_equiv x.rows e o.births (list_any_none (of_one_birth e) x.rows (All-weaker (λ (d : Extent). d.birth ≤ x.births) (λ (d : Extent). of_one_birth e d ≡ false) (λ d l. grind arith) x.rows o.given));
         given = All-push (λ (d : Extent). d.birth ≤ x.births + 1) x.rows e (All-weaker (λ (d : Extent). d.birth ≤ x.births) (λ (d : Extent). d.birth ≤ x.births + 1) (λ d l. omega (arith, l)) x.rows o.given) (omega arith);
         own = All-push (λ (d : Extent). is_own_block x d.at ≡ true) x.rows e o.own own;
@@ -152,7 +148,9 @@ allocated_owned x f p count o =
     let test = λ (q : PageNo). not (extents.is_mapped x f q) in
     let ps = extents.pages_from p count in
     pages_owned f (filter test ps) x o
-    (recursion_from_All (λ q. extents.is_mapped x f q ≡ false) (filter test ps) (All-weaker (λ q. test q ≡ true) (λ q. extents.is_mapped x f q ≡ false) (λ q h. not_true (extents.is_mapped x f q) h) (filter test ps) (filter_passes test ps)))
+    (recursion_from_All (λ q. extents.is_mapped x f q ≡ false) (filter test ps)
+    (All-weaker (λ q. test q ≡ true) (λ q. extents.is_mapped x f q ≡ false) (λ q h. not-true (extents.is_mapped x f q) h) (filter test ps)
+    (filter_passes test ps)))
     (distinct_filter same_page test ps (pages_differ p.0 count))
 
 -- Pages are released.

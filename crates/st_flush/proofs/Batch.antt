@@ -11,6 +11,7 @@ use Words.ClientPages.{Pages, Store, begin_command, begin_writes, dirty_places, 
 use Words.ClientPasses as passes
 use Words.ClientPasses.{is_due, is_unfailed, submit_command, submit_write, write_out_at, write_out, write_due, write_page, write_each, writes_by, writes}
 use Words.ClientState.{ClientSession, Turn}
+use Words.Tables.{and_right}
 use Rattle.std.proofs.Common.{add-zero, append-nil}
 use Rattle.std.specs.Prelude.{flat_map}
 use Rattle.std.proofs.lemmas.List.Folds.{list_any-append}
@@ -171,10 +172,6 @@ above_all ps ino [] a = tt
 above_all ps ino (j ∷ js) a =
     above_more ino j (rising (map pages.page_of_dirty (filter (pages.is_dirty_on j) ps.dirty))) (flat_map (pages.dirty_on ps) js) a.0 (above_all ps ino js a.1)
 
-and_no : (a b : Bool) → b ≡ false → (a && b) ≡ false
-and_no true b e = e
-and_no false b e = refl
-
 -- one page, the pages after it, and those of later files
 apart_one : (ino k : ℕ) (ks : List ℕ) (ys : List (ℕ × PageNo)) → AllByRecursion (λ j. k < j) ks → AllByRecursion (λ y. ino < y.0) ys →
     AllByRecursion (λ y. same_place (ino, page_no k) y ≡ false) (pages_on ino ks ++ ys)
@@ -183,7 +180,7 @@ apart_one ino k [] ys a b = later ys b
     later : (zs : List (ℕ × PageNo)) → AllByRecursion (λ y. ino < y.0) zs → AllByRecursion (λ y. same_place (ino, page_no k) y ≡ false) zs
     later [] b = tt
     later (z ∷ zs) b = (ap (λ e. e && same_page (page_no k) z.1) (ne_eqb ino z.0 (λ (e : ino ≡ z.0). omega (arith, e, b.0))), later zs b.1)
-apart_one ino k (j ∷ js) ys a b = (and_no (ino == ino) (k == j) (ne_eqb k j (λ (e : k ≡ j). omega (arith, e, a.0))), apart_one ino k js ys a.1 b)
+apart_one ino k (j ∷ js) ys a b = (and_right (ino == ino) (k == j) (ne_eqb k j (λ (e : k ≡ j). omega (arith, e, a.0))), apart_one ino k js ys a.1 b)
 
 apart_file : (ino : ℕ) (ks : List ℕ) (ys : List (ℕ × PageNo)) → IsRising ks → AllByRecursion (λ y. ino < y.0) ys → Apart ys → Apart (pages_on ino ks ++ ys)
 unfolding Apart

@@ -10,12 +10,12 @@ use Words.io.{Write}
 use Words.ClientPages.{begin_command, begin_writes, command_of, command_on, is_command_of, is_numbered, page_command}
 use Words.Lists.{Has}
 use Words.Tables.{none_has}
+use Words.Truth.{eqb_turned, not_both}
+use Words.Lookups.{or_false}
 use Rattle.std.proofs.Common.{drop-cons}
 use Rattle.st_lemmas.proofs.Once.{once_append, once_both, once_filter, once_none}
 use Rattle.st_flush.specs.Calls.{AreApart, is_in_range, is_taken_in, same_page_write}
-
-eq_turn : (a b : ℕ) → (a == b) ≡ (b == a)
-eq_turn a b = grind arith
+use Rattle.std.proofs.lemmas.Bool.{lt-leb}
 
 any_last : {A : Type 0} (p : A → Bool) (x : A) (xs : List A) → p x ≡ false → list_any p (xs ++ x ∷ []) ≡ list_any p xs
 any_last p x [] e = ap (λ (b : Bool). b || false) e
@@ -31,7 +31,7 @@ once_last {A} same p x xs k e h = once_append same xs (x ∷ []) h (once_both sa
     other y z m (inr i) = elim i [ ]
 
 page_turn : (ino j : ℕ) (p q : PageNo) → ((ino == j) && same_page p q) ≡ ((j == ino) && same_page q p)
-page_turn ino j p q = λ i. eq_turn ino j i && eq_turn p.0 q.0 i
+page_turn ino j p q = λ i. eqb_turned ino j i && eqb_turned p.0 q.0 i
 
 -- no command is outstanding
 pub none_apart : AreApart []
@@ -42,7 +42,7 @@ none_apart = record { one_command = refl; numbers_once = refl }
 pub more_apart : (cs : List PageCommand) (c : PageCommand) → command_on cs c.ino c.page ≡ None → command_of cs c.number ≡ None → AreApart cs → AreApart (cs ++ c ∷ [])
 more_apart cs c a b is = record {
   one_command = once_last same_page_command (is_command_of c.ino c.page) c cs (λ y e. page_turn c.ino y.ino c.page y.page ∙ e) a is.one_command;
-  numbers_once = once_last same_command_number (is_numbered c.number) c cs (λ y e. eq_turn c.number y.number ∙ e) b is.numbers_once;
+  numbers_once = once_last same_command_number (is_numbered c.number) c cs (λ y e. eqb_turned c.number y.number ∙ e) b is.numbers_once;
 }
 
 -- some commands end
@@ -50,10 +50,6 @@ pub fewer_apart : (cs : List PageCommand) (p : PageCommand → Bool) → AreApar
 fewer_apart cs p is = record { one_command = once_filter same_page_command p cs is.one_command; numbers_once = once_filter same_command_number p cs is.numbers_once }
 
 -- Writes that may begin.
-
-or_false : (a b : Bool) → (a || b) ≡ false → (a ≡ false) × (b ≡ false)
-or_false true b e = cc
-or_false false b e = (refl, e)
 
 -- the parts of the condition
 pub record MayBegin (cs : List PageCommand) (ws : List (ℕ × PageNo × ℕ)) (first : ℕ) : Type 0 where
@@ -70,12 +66,8 @@ no_number first many (c ∷ cs) h =
     in_range : c.number ≡ first → is_in_range first (suc many) c ≡ true
     in_range e = and_from _ _ (le-leb first c.number (omega (arith, e))) (lt-ltb c.number (first + suc many) (omega (arith, e)))
 
-    clash : (b : Bool) → b ≡ true → b ≡ false → ⊥
-    clash true e f = cc
-    clash false e f = cc
-
     by : (b : Bool) → (c.number == first) ≡ b → is_in_range first (suc many) c ≡ false → command_of cs first ≡ None → cond b (Some c) (find (is_numbered first) cs) ≡ None
-    by true e o i = absurd (clash (is_in_range first (suc many) c) (in_range (eqb-true _ _ e)) o)
+    by true e o i = absurd (not_both (is_in_range first (suc many) c) (in_range (eqb-true _ _ e)) o)
     by false e o i = i
 
 -- the first number is that of none
@@ -101,29 +93,19 @@ outside_more first many (c ∷ cs) h =
     let q = or_false (is_in_range first (suc many) c) (list_any (is_in_range first (suc many)) cs) h in
     λ i. by (nat_le (first + 1) c.number) (nat_lt c.number (first + 1 + many)) refl refl q.0 i || outside_more first many cs q.1 i
   where
-    clash : (b : Bool) → b ≡ true → b ≡ false → ⊥
-    clash true e f = cc
-    clash false e f = cc
-
     by : (a b : Bool) → nat_le (first + 1) c.number ≡ a → nat_lt c.number (first + 1 + many) ≡ b → is_in_range first (suc many) c ≡ false → (a && b) ≡ false
     by true true e f o =
         let l : first + 1 ≤ c.number = leb-true _ _ e in
         let m : c.number < first + 1 + many = ltb-true _ _ f in
-        absurd (clash (is_in_range first (suc many) c) (and_from _ _ (le-leb first c.number (omega arith)) (lt-ltb c.number (first + suc many) (omega arith))) o)
+        absurd (not_both (is_in_range first (suc many) c)
+        (and_from _ _ (le-leb first c.number (omega arith)) (lt-ltb c.number (first + suc many) (omega arith))) o)
     by true false e f o = refl
     by false b e f o = refl
-
-below : (m k : ℕ) → k < m → nat_le m k ≡ false
-below m k l = go (nat_le m k) refl
-  where
-    go : (b : Bool) → nat_le m k ≡ b → b ≡ false
-    go true e = absurd (omega (arith, leb-true m k e))
-    go false e = refl
 
 outside_last : (first many n ino : ℕ) (p : PageNo) (kind : IoKind) (cs : List PageCommand) → n < first → list_any (is_in_range first many) cs ≡ false →
     list_any (is_in_range first many) (cs ++ page_command n ino p kind ∷ []) ≡ false
 outside_last first many n ino p kind cs l h =
-    any_last (is_in_range first many) (page_command n ino p kind) cs (ap (λ (b : Bool). b && nat_lt n (first + many)) (below first n l)) ∙ h
+    any_last (is_in_range first many) (page_command n ino p kind) cs (ap (λ (b : Bool). b && nat_lt n (first + many)) (lt-leb first n l)) ∙ h
 
 -- the writes after the first may begin after it
 pub rest_may : (cs : List PageCommand) (w : ℕ × PageNo × ℕ) (ws : List (ℕ × PageNo × ℕ)) (first : ℕ) → MayBegin cs (w ∷ ws) first →

@@ -72,6 +72,3 @@ module _ (st : Store) (unread : (d : DirtyPage) → Has d st.pages.dirty → pag
           list_any (is_taken_in st.commands) (map version_of (cons_option o (filter_map (drained_at st) xs))) ≡ false
       by None e i = i
       by (Some w) e i = λ k. taken_at x w e k || i k
-
-turned : (a b : ℕ) → (a == b) ≡ (b == a)
-turned a b = grind arith

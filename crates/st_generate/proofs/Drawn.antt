@@ -8,6 +8,7 @@ use Words.events
 use Words.Safety.{is_event, is_increment}
 use Words.Tables.{and_both}
 use Words.Generator as g
+use Words.Truth.{if_either}
 use Rattle.std.proofs.Common.{mod-lt}
 use Rattle.std.proofs.lemmas.List.{length-replicate}
 use Rattle.st_schedule_words.specs.Words.{MOST_NUMBER}
@@ -185,11 +186,6 @@ module _ (sent submitted x : ℕ) where
 
 -- Candidates.
 
--- one of two
-either : {A : Type 0} (P : A → Type 0) (b : Bool) (x y : A) → P x → P y → P (if b then x else y)
-either P true x y p q = p
-either P false x y p q = q
-
 module _ (sent submitted : ℕ) where
   -- the candidates of this function are good
   abbrev GoodFrom : (ℕ → Option Event × ℕ) → Type 0
@@ -198,29 +194,29 @@ module _ (sent submitted : ℕ) where
   network_good : GoodFrom (g.network sent)
   unfolding g.network
   network_good x =
-      either GoodFrom (g.draw 1 3 x == 0) (g.lose sent) _ (lose_good sent submitted)
-      (either GoodFrom (g.draw 1 3 x == 1) g.cut g.heal (cut_good _ _) (heal_good _ _)) (g.state_after 1 x)
+      if_either GoodFrom (g.draw 1 3 x == 0) (g.lose sent) _ (lose_good sent submitted)
+      (if_either GoodFrom (g.draw 1 3 x == 1) g.cut g.heal (cut_good _ _) (heal_good _ _)) (g.state_after 1 x)
 
   crash_or_start_good : GoodFrom g.crash_or_start
   unfolding g.crash_or_start
   crash_or_start_good x =
-      either GoodFrom (g.draw 1 20 x == 0) g.crash _ (crash_good _ _)
-      (either GoodFrom (nat_le (g.draw 1 20 x) 9) g.start g.tick (start_good _ _) (tick_good _ _)) (g.state_after 1 x)
+      if_either GoodFrom (g.draw 1 20 x == 0) g.crash _ (crash_good _ _)
+      (if_either GoodFrom (nat_le (g.draw 1 20 x) 9) g.start g.tick (start_good _ _) (tick_good _ _)) (g.state_after 1 x)
 
   candidate_good_of : (kind : ℕ) → GoodFrom (g.candidate_of sent submitted kind)
   unfolding g.candidate_of
   candidate_good_of kind =
-      either GoodFrom (kind == 0) g.even_advance _ (even_good _ _)
-      (either GoodFrom (kind == 1) g.uneven_advance _ (uneven_good _ _)
-      (either GoodFrom (nat_le kind 3) g.tick _ (tick_good _ _)
-      (either GoodFrom (kind == 4) g.ask_write _ (write_good _ _)
-      (either GoodFrom (kind == 5) g.ask_read _ (read_good _ _)
-      (either GoodFrom (kind == 6) g.ask_sync _ (sync_good _ _)
-      (either GoodFrom (nat_le kind 10) (g.deliver sent) _ (deliver_good sent submitted)
-      (either GoodFrom (kind == 11) (g.effect submitted) _ (effect_good sent submitted)
-      (either GoodFrom (kind == 12) (g.report_success submitted) _ (success_good sent submitted)
-      (either GoodFrom (kind == 13) (g.report submitted) _ (report_good sent submitted)
-      (either GoodFrom (kind == 14) (g.network sent) g.crash_or_start network_good crash_or_start_good))))))))))
+      if_either GoodFrom (kind == 0) g.even_advance _ (even_good _ _)
+      (if_either GoodFrom (kind == 1) g.uneven_advance _ (uneven_good _ _)
+      (if_either GoodFrom (nat_le kind 3) g.tick _ (tick_good _ _)
+      (if_either GoodFrom (kind == 4) g.ask_write _ (write_good _ _)
+      (if_either GoodFrom (kind == 5) g.ask_read _ (read_good _ _)
+      (if_either GoodFrom (kind == 6) g.ask_sync _ (sync_good _ _)
+      (if_either GoodFrom (nat_le kind 10) (g.deliver sent) _ (deliver_good sent submitted)
+      (if_either GoodFrom (kind == 11) (g.effect submitted) _ (effect_good sent submitted)
+      (if_either GoodFrom (kind == 12) (g.report_success submitted) _ (success_good sent submitted)
+      (if_either GoodFrom (kind == 13) (g.report submitted) _ (report_good sent submitted)
+      (if_either GoodFrom (kind == 14) (g.network sent) g.crash_or_start network_good crash_or_start_good))))))))))
 
   pub candidate_good : GoodFrom (g.candidate sent submitted)
   unfolding g.candidate

@@ -14,7 +14,7 @@ use Words.Server.{ServerNode}
 use Words.World.{World, WorldClient, fresh_world, message_of, node_of, receiver_of, site_of}
 use Words.Numbers.{set_length}
 use Words.Generator as g
-use Rattle.std.specs.Option.{option_or}
+use Words.Truth.{or_second}
 use Rattle.st_lemmas.proofs.Steps.{step_happens}
 use Rattle.st_generate.specs.Law.{SendsFew, SendsFewOn, Sent_is_bounded}
 use Rattle.st_generate.proofs.Sizes.{step_sized}
@@ -22,10 +22,6 @@ use Rattle.st_generate.proofs.Sizes.{step_sized}
 -- As many messages as before.
 abbrev Quiet : World → World → Type 0
 Quiet w v = length v.net.messages ≡ length w.net.messages
-
-or_second : (a b : Option WorldRefusal) → option_or a b ≡ None → b ≡ None
-or_second None b e = e
-or_second (Some x) b e = cc
 
 -- a full network is refused
 not_full : (w : World) → adm.net_full w ≡ None → 536870912 ≤ w.net.bytes → ⊥

@@ -12,8 +12,8 @@ use Words.Leases.{AllAccepted, AllFull, AllRated, drift_after, drift_judged, dri
 use Words.Run.{go_on, run}
 use Words.Safety.{is_event, is_increment}
 use Words.World.{World, fresh_world}
+use Words.Truth.{or_first}
 use Rattle.st_lemmas.proofs.Steps.{step_happens}
-use Rattle.std.specs.Option.{option_or}
 use Rattle.st_rules.proofs.Drift.{accepted_in_bound}
 use Rattle.st_rules.proofs.Rates.{rated_in_bound}
 use Rattle.st_laws_clocks.specs.Increments.{ClocksAreInBound, EveryRunIsInBound, drift_after_all, increments, increments_of}
@@ -71,11 +71,7 @@ module _ (w : World) (e : Event) (sc : WorldTurn) (h : world_step w e ≡ Ok sc)
 
   clocks_allowed : (steps : List ℕ) → e ≡ events.Advance steps → clocks_refused w steps ≡ None
   unfolding admissible.refusal
-  clocks_allowed steps same = first (clocks_refused w steps) _ (ap (admissible.refusal w) (sym same) ∙ allowed)
-    where
-      first : (a b : Option WorldRefusal) → option_or a b ≡ None → a ≡ None
-      first None b q = refl
-      first (Some r) b q = absurd cc
+  clocks_allowed steps same = or_first (clocks_refused w steps) _ (ap (admissible.refusal w) (sym same) ∙ allowed)
 
 -- under the first form each advance is in bound
 rate_allowed : (w : World) (steps : List ℕ) → (w.form == 1) ≡ true → clocks_refused w steps ≡ None → rate_ok steps w.config.num w.config.den ≡ true

@@ -13,6 +13,7 @@ use Words.Lists.{Has}
 use Words.Lookups.{some_is}
 use Words.Tables.{has_append, has_filter_in}
 use Words.Members.{has_left, has_right}
+use Words.Truth.{clash}
 
 -- nothing was sent
 abbrev pub Silent : List Output → Type 0
@@ -107,9 +108,6 @@ left now t = go t.here.session refl
               told = λ y g l o h i s. subst (λ (z : ClientSession). Has (outputs.Answer o.op (answers.Uncertain z.epoch.0 0)) (cl.lose_session t x).out) (some_is (sym e ∙ g)) (uncertain_all x (filter (cs.is_of t.here.server) t.operations) v2 o (has_filter_in (cs.is_of t.here.server) t.operations o h i) s);
             }
         over false f = record { grows = λ y h. h; quiet = λ q. q; keeps = λ o h i. h; told = λ y g l. clash (subst (λ (z : ClientSession). cl.is_over t z now ≡ true) (sym (some_is (sym e ∙ g))) l) f }
-          where
-            clash : {A : Type 0} {b : Bool} → b ≡ true → b ≡ false → A
-            clash x y = cc
 
 -- At these servers in turn.
 pub lose_grows : (now : Stamp) (al : List Association) (t : ClientTurn) (y : Output) → Has y t.out → Has y (at_these (cl.lose now) al t).out

@@ -1,6 +1,6 @@
 -- A step of the client keeps where the answers to demands are: a demand that it hears is answered at once, or its release waits; and releases move up.
 use Rattle.st_lemmas.proofs.Words
-use Words.{◌≡◌, ◌≢◌, ℕ, ◌+◌, ◌*◌, ◌≤◌, ◌<◌, ◌⊎◌, Bool, true, false, ◌==◌, List, [], ◌∷◌, ◌++◌, Option, Some, None, refl, sym, ap, ◌∙◌, subst, inl, inr, arith}
+use Words.{◌≡◌, ◌≢◌, ℕ, ◌+◌, ◌*◌, ◌≤◌, ◌<◌, ◌⊎◌, true, ◌==◌, List, [], ◌∷◌, ◌++◌, Option, Some, None, refl, sym, ap, ◌∙◌, subst, inl, inr, arith}
 use Words.{is_some, length, slice_get, suc, zero, eq-eqb, Config, ClientId, GrantNo, Life, ServerId, Stamp, Message, HeldLock, Release}
 use Words.{LockRow, ClientInput, Request, Session}
 use Words.events
@@ -24,6 +24,7 @@ use Words.World.{World, numbered}
 use Words.Lists.{Has}
 use Words.Lookups.{or_left, some_is}
 use Words.Tables.{and_both, same_or_not}
+use Words.Truth.{not_both}
 use Rattle.st_laws_refine.proofs.Server.OneRow.{row_found}
 use Rattle.st_laws_leases.specs.Dates.Dates.{messages}
 use Rattle.st_laws_steps.specs.Client.Losses.{Fit}
@@ -197,11 +198,7 @@ module _ (k : Config) (c : ClientId) (s : ServerId) (gap d : ℕ) (read : World 
             asked_or r q f body place refl (keeps_place u.releases (r ∷ v.releases) l place (release_of ino g) i0)
         by (Empties l f) =
             absurd (none_some (sym (ap (λ (xs : List Release). slice_get xs place) f) ∙ keeps_place u.releases v.releases l place (release_of ino g) i0))
-        by (Reasserts f) = absurd (clash u.due f m.settled)
-          where
-            clash : (b : Bool) → b ≡ true → b ≡ false → ⊥
-            clash true e f = cc
-            clash false e f = cc
+        by (Reasserts f) = absurd (not_both u.due f m.settled)
 
     -- of a row that waits for an answer
     module _ (r : LockRow) (at : Stamp) (h : Has r n.locks.rows) (own : r.client ≡ c) where

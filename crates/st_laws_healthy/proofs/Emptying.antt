@@ -1,21 +1,18 @@
 -- After a client's passes a release waits only while a request is outstanding: with none outstanding the first release is asked.
 use Rattle.st_lemmas.proofs.Words
-use Words.{◌≡◌, Bool, true, false, List, [], ◌∷◌, refl, sym, ◌∙◌, subst, Option, Some, None, Stamp, Body, Release, Request}
+use Words.{◌≡◌, Bool, false, List, [], ◌∷◌, refl, sym, ◌∙◌, subst, Option, Some, None, Stamp, Body, Release, Request}
 use Words.bodies
 use Words.ClientLease as lease
 use Words.ClientLocks as locks
 use Words.ClientPasses as cp
 use Words.ClientState.{ClientSession, Turn, asking, is_serving, send, with_operations, with_store}
 use Words.Tables.{cond_either}
+use Words.Truth.{not_both}
 
 -- where the lease isn't condemned, and nothing must be reasserted
 abbrev pub NoneWaits : Option ClientSession → Type 0
 NoneWaits None = Unit {0}
 NoneWaits (Some v) = v.lease.condemned ≡ false → v.due ≡ false → v.requests.asked ≡ None → v.releases ≡ []
-
-clash : (b : Bool) → b ≡ true → b ≡ false → ⊥
-clash true e f = cc
-clash false e f = cc
 
 module _ (now : Stamp) where
   abbrev Q : Turn → Type 0
@@ -67,7 +64,7 @@ module _ (now : Stamp) where
   unfolding cp.requests_under cp.requests_at
   by t s tick e =
       cond_either Q s.lease.condemned t (cp.requests_at t s now tick s.requests.asked)
-      (λ f. subst NoneWaits (sym e) (λ c d n. absurd (clash s.lease.condemned f c))) (λ f. go s.requests.asked refl)
+      (λ f. subst NoneWaits (sym e) (λ c d n. absurd (not_both s.lease.condemned f c))) (λ f. go s.requests.asked refl)
     where
       go : (o : Option Request) → s.requests.asked ≡ o → Q (cp.requests_at t s now tick o)
       go None q = new t s e

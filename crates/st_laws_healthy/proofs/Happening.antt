@@ -25,7 +25,7 @@ use Words.Lists.{Has}
 use Words.Lookups.{some_is}
 use Words.Numbers.{numbered_below, numbered_has, numbered_other, numbered_own, set_length}
 use Words.Tables.{has_map_in, same_or_not}
-use Words.Worlds.{stands_not}
+use Words.Worlds.{clocks_go_on, stands_not}
 use Rattle.st_rules.specs.declared.node.StepRefusal.TheVariants.{Crashed}
 use Rattle.st_lemmas.proofs.Steps.{step_happens}
 use Rattle.st_laws_refine.proofs.Server.Delivery.{all_parts}
@@ -37,7 +37,7 @@ use Rattle.st_laws_leases.proofs.Dates.SentMessages.{client_said, server_said}
 use Rattle.st_laws_leases.proofs.Dates.Serving.{AnswersTo, P, step_good}
 use Rattle.st_laws_leases.proofs.Sides.Fold.{second_none}
 use Rattle.st_laws_lasting.specs.Lasting.{client_clock}
-use Rattle.st_laws_lasting.proofs.Young.{after_clocks, later_at}
+use Rattle.st_laws_lasting.proofs.Young.{after_clocks}
 
 -- no message to this node is delivered
 abbrev pub Deaf : World → Event → ℕ → Type 0
@@ -626,7 +626,7 @@ module _ (past : List Step) (t : Traced) (d : Dated past t) (c : ClientId) (s : 
     where
       no : {n : ℕ} → events.Heal a b ≡ events.Deliver n → ⊥
       no q = cc
-  happens (events.Advance ds) is r = nothing (ev.happens w (events.Advance ds)) (λ n q. no (sym is ∙ q)) refl refl refl (later_at ds t.world.clocks c.0)
+  happens (events.Advance ds) is r = nothing (ev.happens w (events.Advance ds)) (λ n q. no (sym is ∙ q)) refl refl refl (clocks_go_on ds t.world.clocks c.0)
     where
       no : {n : ℕ} → events.Advance ds ≡ events.Deliver n → ⊥
       no q = cc

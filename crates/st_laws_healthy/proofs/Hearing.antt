@@ -1,12 +1,13 @@
 -- An association without a session hears a message: a welcome that is in time begins a session, and all else passes it by.
 use Rattle.st_lemmas.proofs.Words
-use Words.{◌≡◌, ◌≤◌, Bool, true, false, ◌==◌, Some, None, refl, sym, subst, ◌&&◌, nat_le, eq-eqb, eqb-true, leb-true, le-leb, Stamp, Header, Body, Why}
+use Words.{◌≡◌, ◌≤◌, true, false, ◌==◌, Some, None, refl, sym, subst, ◌&&◌, nat_le, eq-eqb, eqb-true, leb-true, le-leb, Stamp, Header, Body, Why}
 use Words.bodies
 use Words.why
 use Words.ClientReplies as cr
 use Words.ClientState.{Turn}
 use Words.Keys.{server_node}
 use Words.Tables.{and_both, and_true, cond_either}
+use Words.Truth.{not_both}
 use Rattle.st_laws_healthy.proofs.Receiving.{is_calm}
 use Rattle.st_laws_healthy.proofs.Replies.{counts_for}
 
@@ -31,11 +32,7 @@ is_received t now h r =
 pub passed_by : (t : Turn) (now : Stamp) (h : Header) (b : Body) → cr.is_received t now h ≡ false → cr.receive_at now h b t ≡ t
 unfolding cr.receive_at
 passed_by t now h b e = cond_either (λ (u : Turn). u ≡ t) (cr.is_received t now h) (cr.by_session t now h b t.here.session) t
-    (λ f. absurd (clash (cr.is_received t now h) f e)) (λ f. refl)
-  where
-    clash : (b : Bool) → b ≡ true → b ≡ false → ⊥
-    clash true e f = cc
-    clash false e f = cc
+    (λ f. absurd (not_both (cr.is_received t now h) f e)) (λ f. refl)
 
 -- What becomes of an association without a session.
 pub data Hears (t : Turn) (now : Stamp) (h : Header) (b : Body) (u : Turn) : Type 0 where
@@ -48,12 +45,8 @@ pub hears : (t : Turn) (now : Stamp) (h : Header) (b : Body) → t.here.session 
 unfolding cr.receive_at cr.by_session cr.without_session cr.welcome cr.begin_session cr.note_lease
 hears t now h b none =
     cond_either (Hears t now h b) (cr.is_received t now h) (cr.by_session t now h b t.here.session) t
-    (λ r. subst (λ o. Hears t now h b (cr.by_session t now h b o)) (sym none) (by b r)) (λ r. Unmet refl (λ f. absurd (clash (cr.is_received t now h) f r)))
+    (λ r. subst (λ o. Hears t now h b (cr.by_session t now h b o)) (sym none) (by b r)) (λ r. Unmet refl (λ f. absurd (not_both (cr.is_received t now h) f r)))
   where
-    clash : (b : Bool) → b ≡ true → b ≡ false → ⊥
-    clash true e f = cc
-    clash false e f = cc
-
     by : (b : Body) → cr.is_received t now h ≡ true → Hears t now h b (cr.without_session t now h b)
     by bodies.Welcome r =
         cond_either (Hears t now h bodies.Welcome) (cr.is_timely t now (record { 0 = h.stamp }))

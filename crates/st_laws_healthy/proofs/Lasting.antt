@@ -25,7 +25,7 @@ use Words.Numbers.{numbered_below}
 use Words.Tables.{has_map, has_map_in}
 use Words.Truth.{not_both}
 use Rattle.std.proofs.Math.Nat.{le-max_left}
-use Rattle.st_lemmas.proofs.Steps.{step_happens}
+use Rattle.st_lemmas.proofs.Steps.{step_happens, throughout_under}
 use Rattle.st_laws_refine.specs.Server.Pair.{terms_of}
 use Rattle.st_laws_refine.specs.Server.View.{Sound}
 use Rattle.st_laws_refine.proofs.Server.Delivery.{sound_of}
@@ -45,7 +45,7 @@ use Rattle.st_laws_waits.proofs.Standing as standing
 use Rattle.st_laws_waits.proofs.Standing.{Basic, basic2, change, step_grace, node_is}
 use Rattle.st_laws_lasting.specs.Lasting.{client_clock, client_last_tick}
 use Rattle.st_laws_lasting.proofs.Young as young_ones
-use Rattle.st_laws_lasting.proofs.Young.{Ok_in, WasYoung, stand2, throughout_under}
+use Rattle.st_laws_lasting.proofs.Young.{Ok_in, WasYoung, stand2}
 use Rattle.st_laws_healthy.specs.Healthy.{ComeInTime, InHealthyRuns, IsHealthy, LeasesLast, longest}
 use Rattle.st_laws_healthy.proofs.ClientStanding.{IsNew, TalksOn, client_talks}
 use Rattle.st_laws_healthy.proofs.Happening.{AllRun, BothRun, Brings, BringsServer, ClientSteps, Happened, IsBroken, NeitherSteps, ServerSteps, happened}
@@ -423,12 +423,6 @@ no_messages : (k : Config) (clients servers disks blocks form : ℕ) (m : Messag
 unfolding fresh_world
 no_messages k clients servers disks blocks form m h = absurd h
 
-pub fresh_node : (k : Config) (clients servers disks blocks form : ℕ) (s : ServerId) (node : ServerNode) →
-    node_of (fresh_world k clients servers disks blocks form) s ≡ Some node →
-    node ≡ node_at_start k servers disks blocks s.0
-unfolding fresh_world
-fresh_node k clients servers disks blocks form s node e = fresh_is (node_at_start k servers disks blocks) servers s.0 node e
-
 pub fresh_client : (k : Config) (clients servers disks blocks form : ℕ) (c : ClientId) (site : WorldClient) →
     site_of (fresh_world k clients servers disks blocks form) c ≡ Some site →
     site ≡ fresh_site k servers c.0
@@ -464,12 +458,12 @@ module _ (k : Config) (clients servers disks blocks form : ℕ) (c : ClientId) (
         runs = record {
           clients = λ site f. subst (λ (y : WorldClient). y.node.running ≡ true) (sym (fresh_client k clients servers disks blocks form c site f))
               (fresh_runs k servers c.0);
-          servers = λ node f. subst (λ (y : ServerNode). y.running ≡ true) (sym (fresh_node k clients servers disks blocks form s node f))
+          servers = λ node f. subst (λ (y : ServerNode). y.running ≡ true) (sym (node_is k clients servers disks blocks form s node f))
               (starts_running k servers disks blocks s.0);
         };
-        free = λ node f. subst (λ (y : ServerNode). may_ack y.state.authority c ≡ true) (sym (fresh_node k clients servers disks blocks form s node f))
+        free = λ node f. subst (λ (y : ServerNode). may_ack y.state.authority c ≡ true) (sym (node_is k clients servers disks blocks form s node f))
             (no_timer k servers disks blocks s.0 c);
-        off = λ node f. subst (λ (y : ServerNode). y.state.grace ≡ None) (sym (fresh_node k clients servers disks blocks form s node f))
+        off = λ node f. subst (λ (y : ServerNode). y.state.grace ≡ None) (sym (node_is k clients servers disks blocks form s node f))
             (no_grace k servers disks blocks s.0);
         ticks = λ site a z f j q. absurd (no_session z (sym (fresh site a f j).0 ∙ q));
         in_time = none_flies (client_clock c) c s d (messages w) (client_clock c w);
@@ -487,7 +481,7 @@ module _ (k : Config) (clients servers disks blocks form : ℕ) (c : ClientId) (
     record {
       last = 0;
       known = IsBefore (λ y v. absurd (none y (sym (subst (λ (n : ServerNode). sessions.session_of n.state.sessions c ≡ None)
-          (sym (fresh_node k clients servers disks blocks form s node q)) (no_sessions k servers disks blocks s.0 c)) ∙ v))) refl;
+          (sym (node_is k clients servers disks blocks form s node q)) (no_sessions k servers disks blocks s.0 c)) ∙ v))) refl;
       told = λ m v l. absurd (no_messages k clients servers disks blocks form m v);
       asked = λ m v l r. absurd (no_messages k clients servers disks blocks form m v);
       greets = λ r m v l. absurd (no_messages k clients servers disks blocks form m v);

@@ -29,6 +29,7 @@ use Words.Lookups.{some_is}
 use Words.Numbers.{numbered_has}
 use Words.Tables.{cond_either, has_map, has_map_in}
 use Words.Truth.{not_both}
+use Rattle.st_lemmas.proofs.Steps.{throughout_under}
 use Rattle.st_laws_refine.specs.Server.Edits.{WishInput}
 use Rattle.st_laws_refine.specs.Server.Pair.{terms_of}
 use Rattle.st_laws_steps.specs.Client.Losses.{is_ended}
@@ -41,9 +42,8 @@ use Rattle.st_laws_waits.specs.Waits.{received, received_in, server_clock}
 use Rattle.st_laws_waits.proofs.Causes as causes
 use Rattle.st_laws_waits.proofs.Events.{Done}
 use Rattle.st_laws_waits.proofs.Events.Done.{Ticks, Receives, Waits, Stops, Starts}
-use Rattle.st_laws_waits.proofs.Standing.{Facts, all2, change, facts, begins as starting}
+use Rattle.st_laws_waits.proofs.Standing.{Facts, all2, change, facts, node_is, begins as starting}
 use Rattle.st_laws_lasting.specs.Lasting.{client_clock}
-use Rattle.st_laws_lasting.proofs.Young.{throughout_under}
 use Rattle.st_laws_healthy.specs.Healthy.{HealthyClientsAreNotSuspected, InPromptRuns, IsHealthy, IsPrompt, longest}
 use Rattle.st_laws_healthy.proofs.Answering.{Answered, answers_in_time, has_served, neither_answers, rounds}
 use Rattle.st_laws_healthy.proofs.ClientAnswering.{IsUttered, client_answers}
@@ -512,7 +512,7 @@ module _ (k : Config) (clients servers disks blocks form : ℕ) (c : ClientId) (
 
   rows : (node : ServerNode) → node_of w s ≡ Some node → (r : LockRow) → Has r node.state.locks.rows → ⊥
   rows node f r h = no_rows k servers disks blocks s.0 r
-      (subst (λ (n : ServerNode). Has r n.state.locks.rows) (lasting.fresh_node k clients servers disks blocks form s node f) h)
+      (subst (λ (n : ServerNode). Has r n.state.locks.rows) (node_is k clients servers disks blocks form s node f) h)
 
   answered : AllAnswered k (clients + servers) c s gap d delay most fits patient [] w
   answered site node f q a j at_a = (y.0, (y.1, answer))
@@ -533,7 +533,7 @@ module _ (k : Config) (clients servers disks blocks form : ℕ) (c : ClientId) (
       no_session : (z : Session) → sessions.session_of node.state.sessions c ≡ Some z → ⊥
       no_session z e =
           no (sym (subst (λ (n : ServerNode). sessions.session_of n.state.sessions c ≡ None)
-          (sym (lasting.fresh_node k clients servers disks blocks form s node q)) (lasting.no_sessions k servers disks blocks s.0 c)) ∙ e)
+          (sym (node_is k clients servers disks blocks form s node q)) (lasting.no_sessions k servers disks blocks s.0 c)) ∙ e)
         where
           no : ◌≡◌ {A = Option Session} None (Some z) → ⊥
           no v = cc

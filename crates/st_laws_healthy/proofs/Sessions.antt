@@ -1,7 +1,7 @@
 -- A living session through the rule for a message: it stays; or its client's next request is served, and the reply that is kept counts for it; or its client
 -- comes in a later life.
 use Rattle.st_lemmas.proofs.Words
-use Words.{◌≡◌, ◌≢◌, ℕ, ◌+◌, ◌<◌, ◌⊎◌, Bool, true, false, refl, sym, ap, ◌∙◌, subst, inl, inr, Option, Some, option_map, eq-eqb, eqb-true, ClientId, Stamp}
+use Words.{◌≡◌, ◌≢◌, ℕ, ◌+◌, ◌<◌, ◌⊎◌, true, refl, sym, ap, ◌∙◌, subst, inl, inr, Option, Some, option_map, eq-eqb, eqb-true, ClientId, Stamp}
 use Words.{Header, Body, Session, SessionState}
 use Words.states.{Live}
 use Words.Keys.{client}
@@ -11,6 +11,7 @@ use Words.Sessions as sessions
 use Words.Sessions.{Sessions}
 use Words.Lookups.{some_is}
 use Words.Tables.{cond_either, find_map, same_or_not}
+use Words.Truth.{not_both}
 use Rattle.st_laws_refine.proofs.Server.Changes.{session_other}
 use Rattle.st_laws_refine.proofs.Server.Reasserting.{TakeOk, taken_ok}
 use Rattle.st_laws_healthy.proofs.Replies.{counts_for, is_served}
@@ -39,11 +40,7 @@ unfolding sessions.keep_reply
 kept_own c number x y last old e s =
     cond_either (λ (z : Session). z ≡ record y { state = Live number (Some x) }) (sessions.is_session_of c y) (sessions.keep_reply number x y) y
     (λ a. ap (λ (w : SessionState). record y { state = sessions.kept_state number x w }) s)
-    (λ a. absurd (clash (sessions.is_session_of c y) (eq-eqb y.client.0 c.0 e) a))
-  where
-    clash : (b : Bool) → b ≡ true → b ≡ false → ⊥
-    clash true e f = cc
-    clash false e f = cc
+    (λ a. absurd (not_both (sessions.is_session_of c y) (eq-eqb y.client.0 c.0 e) a))
 
 kept_other : (c : ClientId) (number : ℕ) (x : Body) (y : Session) → y.client.0 ≢ c.0 → sessions.keep_of c number x y ≡ y
 kept_other c number x y ne =

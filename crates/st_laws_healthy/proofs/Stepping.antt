@@ -1,6 +1,6 @@
 -- A whole step of a client: what becomes of each of its associations, from one part of the step to the next, and why each message is sent.
 use Rattle.st_lemmas.proofs.Words
-use Words.{◌≡◌, ℕ, ◌⊎◌, Bool, true, false, ◌==◌, List, [], ◌∷◌, refl, sym, ap, ◌∙◌, subst, inl, inr, eq-eqb, Config, ClientId, Stamp, AppAnswer, Message}
+use Words.{◌≡◌, ℕ, ◌⊎◌, true, ◌==◌, List, [], ◌∷◌, refl, sym, ap, ◌∙◌, subst, inl, inr, eq-eqb, Config, ClientId, Stamp, AppAnswer, Message}
 use Words.{Output, ClientInput}
 use Words.answers
 use Words.outputs
@@ -12,6 +12,7 @@ use Words.ClientState.{Association, ClientState, ClientTurn, Turn, at_each, at_t
 use Words.Lists.{Has}
 use Words.Tables.{cond_either, has_append}
 use Words.Members.{has_left, has_right}
+use Words.Truth.{not_both}
 use Rattle.st_laws_steps.specs.Client.Losses.{Fit}
 use Rattle.st_laws_steps.specs.Lives.Lives.{Pairwise}
 use Rattle.st_laws_steps.proofs.Client.Nexts.{changes_next}
@@ -129,11 +130,7 @@ module _ (s : ClientState) (now : Stamp) (i : ClientInput) (fit : (a : Associati
       (let z = changes_next now u (cr.receive_at now m.header m.body u) (changes_by_receive now m.header m.body u p.fresh) in
       IsHeard u m e (q ∙ config) refl refl
       (sym z.server) (sym z.life))) fits).pairs)
-      (λ f. absurd (clash (m.header.to == t.state.id.0) (eq-eqb m.header.to t.state.id.0 (told ∙ ap (λ (x : ClientId). x.0) (sym id))) f))
-    where
-      clash : (b : Bool) → b ≡ true → b ≡ false → ⊥
-      clash true e f = cc
-      clash false e f = cc
+      (λ f. absurd (not_both (m.header.to == t.state.id.0) (eq-eqb m.header.to t.state.id.0 (told ∙ ap (λ (x : ClientId). x.0) (sym id))) f))
   takes_pairs (inputs.Done number result) e told t id config fits = idle_pairs (cl.finish number result) (subst IsNoMessage (sym e) tt)
       (end_idle number result) t
 

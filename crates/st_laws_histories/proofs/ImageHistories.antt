@@ -2,7 +2,9 @@
 use Rattle.st_lemmas.proofs.Words
 use Words.{◌≡◌, ◌⊎◌, ◌≤◌, ◌<◌, ℕ, zero, suc, ◌+◌, Bool, true, false, cond, List, [], ◌∷◌, ◌++◌, Some, Result, Ok, Err, refl, sym, ap, ◌∙◌, subst, inl, inr}
 use Words.{eq-eqb, eqb-false, ne_eqb, true≢false}
-use Words.{arith, not, ◌&&◌, ◌||◌, ◌==◌, filter, length, nat_le, nat_lt, if◌then◌else◌, list_any, eqb-true, ltb-true, lt-ltb}
+use Words.{arith, not, ◌&&◌, ◌||◌, ◌==◌, filter, length, nat_le, if◌then◌else◌, list_any, eqb-true, lt-ltb}
+use Words.Lookups.{or_cases, or_right}
+use Rattle.std.proofs.lemmas.Bool.{le-ltb}
 use Rattle.std.specs.Option.{option_map}
 use Rattle.st_snap.specs.Changes.{Change, Forgot, Took, Wrote, before, images, is_view, last_write, page_of, same_page, takes}
 use Rattle.st_snap.specs.Images.{bytes_of, forget, is_full, read, take, write}
@@ -16,27 +18,19 @@ use Rattle.st_laws_histories.specs.ImageHistories.{after_call, after_calls, drop
 abbrev is_in : ℕ → List ℕ → Bool
 is_in n ns = list_any (λ m. n == m) ns
 
-or_split : (a b : Bool) → (a || b) ≡ true → (a ≡ true) ⊎ (b ≡ true)
-or_split true b h = inl refl
-or_split false b h = inr h
-
-later_or : (a b : Bool) → b ≡ true → (a || b) ≡ true
-later_or true b f = refl
-later_or false b f = f
-
 last_or : (n : ℕ) (ns : List ℕ) (m : ℕ) → is_in n (ns ++ m ∷ []) ≡ true → (is_in n ns ≡ true) ⊎ (n ≡ m)
-last_or n [] m h = elim (or_split (n == m) false h) [ inl e ↦ inr (eqb-true _ _ e) | inr e ↦ absurd (cc) ]
-last_or n (k ∷ ns) m h = elim (or_split (n == k) (is_in n (ns ++ m ∷ [])) h) [
+last_or n [] m h = elim (or_cases (n == m) false h) [ inl e ↦ inr (eqb-true _ _ e) | inr e ↦ absurd (cc) ]
+last_or n (k ∷ ns) m h = elim (or_cases (n == k) (is_in n (ns ++ m ∷ [])) h) [
   | inl e ↦ inl (ap (λ b. b || is_in n ns) e)
-  | inr e ↦ elim (last_or n ns m e) [ inl f ↦ inl (later_or (n == k) (is_in n ns) f) | inr f ↦ inr f ]
+  | inr e ↦ elim (last_or n ns m e) [ inl f ↦ inl (or_right (n == k) (is_in n ns) f) | inr f ↦ inr f ]
 ]
 
 any_one : (p : ℕ → Bool) (k : ℕ) (kept ns : List ℕ) (b : Bool) → (list_any p kept ≡ true → list_any p ns ≡ true) → list_any p (if b then k ∷ kept else kept) ≡ true → list_any p (k ∷ ns) ≡ true
-any_one p k kept ns true on f = elim (or_split (p k) (list_any p kept) f) [
+any_one p k kept ns true on f = elim (or_cases (p k) (list_any p kept) f) [
   | inl e ↦ ap (λ a. a || list_any p ns) e
-  | inr e ↦ later_or (p k) (list_any p ns) (on e)
+  | inr e ↦ or_right (p k) (list_any p ns) (on e)
 ]
-any_one p k kept ns false on f = later_or (p k) (list_any p ns) (on f)
+any_one p k kept ns false on f = or_right (p k) (list_any p ns) (on f)
 
 any_of_filter : (p q : ℕ → Bool) (ns : List ℕ) → list_any p (filter q ns) ≡ true → list_any p ns ≡ true
 any_of_filter p q [] h = h
@@ -52,16 +46,9 @@ taken_before (Took ∷ past) n h = elim (last_or n (images past) (takes past + 1
 ]
 taken_before (Forgot image ∷ past) n h = taken_before past n (any_of_filter (λ m. n == m) (λ other. not (image == other)) (images past) h)
 
-not_below : (a b : ℕ) → b ≤ a → nat_lt a b ≡ false
-not_below a b h = go (nat_lt a b) refl
-  where
-    go : (t : Bool) → nat_lt a b ≡ t → t ≡ false
-    go true e = absurd (let less : a < b = ltb-true a b e in omega (arith, less, h))
-    go false e = refl
-
 -- changes after a take leave what was before it
 before_later : (c : Change) (past : List Change) (n : ℕ) → n ≤ takes (c ∷ past) → before n (c ∷ past) ≡ before n past
-before_later c past n h = ap (λ b. cond b (c ∷ past) (before n past)) (not_below (takes (c ∷ past)) n h)
+before_later c past n h = ap (λ b. cond b (c ∷ past) (before n past)) (le-ltb (takes (c ∷ past)) n h)
 
 -- fewer takes: all is before
 before_all : (xs : List Change) (n : ℕ) → takes xs < n → before n xs ≡ xs
@@ -167,7 +154,9 @@ reads_so xs ys m f p view front =
 one_moment : (blocks : ℕ) (calls : List Call) (image : ℕ) → 1 ≤ image → is_view (after_calls blocks calls) image ≡ true → IsOneMoment blocks calls image
 one_moment blocks calls zero some view = absurd (omega (arith, some))
 one_moment blocks calls (suc m) some view =
-    let a = finds blocks calls (suc m) (elim (or_split (suc m == 0) (is_in (suc m) (images (after_calls blocks calls))) view) [ inl e ↦ absurd (let zero_is : suc m ≡ 0 = eqb-true _ _ e in omega (arith, zero_is)) | inr e ↦ e ]) in
+    let a = finds blocks calls (suc m)
+    (elim (or_cases (suc m == 0) (is_in (suc m) (images (after_calls blocks calls))) view)
+    [ inl e ↦ absurd (let zero_is : suc m ≡ 0 = eqb-true _ _ e in omega (arith, zero_is)) | inr e ↦ e ]) in
     record {
       later = a.later;
       earlier = a.earlier;
@@ -205,7 +194,7 @@ record Stands (n : ℕ) (dropped : Bool) (xs : List Change) : Type 0 where
 
 last_in : (n : ℕ) (ns : List ℕ) → is_in n (ns ++ n ∷ []) ≡ true
 last_in n [] = ap (λ b. b || false) (eq-eqb n n refl)
-last_in n (k ∷ ns) = later_or (n == k) (is_in n (ns ++ n ∷ [])) (last_in n ns)
+last_in n (k ∷ ns) = or_right (n == k) (is_in n (ns ++ n ∷ [])) (last_in n ns)
 
 last_other : (n : ℕ) (ns : List ℕ) (m : ℕ) → (n == m) ≡ false → is_in n (ns ++ m ∷ []) ≡ is_in n ns
 last_other n [] m other = ap (λ b. b || false) other

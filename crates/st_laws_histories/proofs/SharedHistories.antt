@@ -10,6 +10,7 @@ use Words.reports
 use Words.Disks as disks
 use Words.Disks.{Disks, command, done_at, done_once, done_unreported, effect_at, effect_of, effect_once, effect_reported, lacks_effect, new_command, sample}
 use Words.Disks.{with_command}
+use Words.Lengths.{length_map}
 use Rattle.st_rules.specs.declared.disks.CommandRefusal.TheVariants.{NotEffected, Twice}
 use Rattle.st_shared.specs.declared.issuers.Issuer.{Issuer}
 use Rattle.st_shared.specs.declared.members.Member.{Member}
@@ -24,7 +25,7 @@ use Rattle.st_shared.specs.Shared.{check_submit, checked, crashed, effect_timely
 use Rattle.st_shared.specs.Shared.{is_expired, is_holder, is_silenced, is_stopped, issuer, leave_idle, least_member, left, lock_alone, lock_free, locked}
 use Rattle.st_shared.specs.Shared.{member_of, report_answer, reported, stop_issuer, submit, submitted, tag_of, unlocked, with_disk}
 use Rattle.st_shared.proofs.Agreeing.{client_of_issued, client_of_issuer, step_of}
-use Rattle.st_shared.proofs.Numbered.{length_map, none_numbered, numbered_map, numbered_push, same_push}
+use Rattle.st_shared.proofs.Numbered.{none_numbered, numbered_map, numbered_push, same_push}
 use Rattle.st_laws_histories.specs.SharedHistories.{EveryAnswerHasItsCause, HasCause, HaveCauses, has_stopped, submissions}
 
 -- what is known of a state by its history

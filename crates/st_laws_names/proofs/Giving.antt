@@ -5,6 +5,7 @@ use Words.Safety.{Step}
 use Words.Lists.{Has}
 use Words.Tables.{and_both, and_true, has_append, some_passes}
 use Words.Members.{has_last, has_left}
+use Words.Truth.{clash}
 use Rattle.st_lemmas.proofs.Once.{none_any}
 use Rattle.st_promises.specs.CutAsks.{numbered_asks}
 use Rattle.st_promises.specs.Given.{are_given, given_by, given_for, is_given}
@@ -45,9 +46,6 @@ module _ (did : Step → Bool) (fits : List Step → Step → ClientId → ℕ �
   passed : (past : List Step) (y : Step) (given : List (ClientId × ℕ)) → did y ≡ false → Giving past given → Giving (past ++ y ∷ []) given
   passed past y given f g = record { each = λ d i. event_stays past y d.0 d.1 (g.each d i); every = λ z i q. by z q (has_append past (y ∷ []) z i) }
     where
-      clash : {A : Type 0} {b : Bool} → b ≡ true → b ≡ false → A
-      clash x y = cc
-
       by : (z : Step) → did z ≡ true → Has z past ⊎ Has z (y ∷ []) → (d : ClientId × ℕ) × Has d given × Owns z d.0 d.1
       by z q (inl i) = g.every z i q
       by z q (inr (inl e)) = clash (subst (λ (z : Step). did z ≡ true) e q) f

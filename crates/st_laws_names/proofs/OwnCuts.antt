@@ -14,7 +14,7 @@ use Words.Keys.{client, server_node}
 use Words.Safety.{Step}
 use Words.World.{World, node_of, numbered}
 use Words.Lists.{Has}
-use Words.Lookups.{some_is}
+use Words.Lookups.{or_right, some_is}
 use Words.Tables.{all_pass, and_both, and_true}
 use Rattle.st_laws_leases.specs.Dates.Dates.{messages}
 use Rattle.st_laws_requests.specs.Cuts.Cuts.{Keyed, asks_of}
@@ -180,13 +180,9 @@ module _ (past : List Step) (w : World) (d : Known past w) where
     answer_is : (z : Step) → Has z past → (a : AppAnswer) → Has (seen.Answered o.c o.op a) z.seen → (is_uncertain a || is_done_answer o.ask a) ≡ true
     answer_is z j a k = go (d.answered o.c o.op o.owns.waited z j a k)
       where
-        either : (b c : Bool) → c ≡ true → (b || c) ≡ true
-        either true c e = refl
-        either false c e = e
-
         go : (is_uncertain a ≡ true) ⊎ Received (TellsOrRefuses a) past w o.c o.op o.owns.waited → (is_uncertain a || is_done_answer o.ask a) ≡ true
         go (inl e) = ap (λ b. b || is_done_answer o.ask a) e
-        go (inr h) = either (is_uncertain a) _ (received a h)
+        go (inr h) = or_right (is_uncertain a) _ (received a h)
 
     not_refused : (z : Step) → Has z past → (x : Observation) → Has x z.seen → is_not_refused o.ask o.c o.op x ≡ true
     not_refused z j (seen.Answered e n a) k = go ((e.0 == o.c.0) && (n == o.op)) refl

@@ -17,7 +17,7 @@ use Words.Server.{ServerNode}
 use Words.World.{World, all_clients, message_of, node_of, numbered}
 use Words.ClientState as cs
 use Words.Lists.{Has}
-use Words.Lookups.{some_is}
+use Words.Lookups.{or_right, some_is}
 use Words.Numbers.{numbered_has}
 use Words.Tables.{and_both, has_append, has_map_in, some_passes}
 use Words.Members.{has_left, has_right}
@@ -351,10 +351,6 @@ module _ (past : List Step) (x : Step) (f : Facts past x) where
       Has (seen.Answered c op a) x.seen → (is_uncertain a || says_in s ask a y) ≡ true
   told y i s c op ask a e o asked h = go (has_append past (x ∷ []) o.at o.among)
     where
-      or_right : (u v : Bool) → v ≡ true → (u || v) ≡ true
-      or_right true v q = refl
-      or_right false v q = q
-
       here : list_any (answers_in c op) past2 ≡ true
       here = some_passes (answers_in c op) past2 x (has_right past (x ∷ []) x (inl refl)) (some_passes (is_answer_to c op) x.seen (seen.Answered c op a) h (and_both _ _ (eq-eqb c.0 c.0 refl) (eq-eqb op op refl)))
 

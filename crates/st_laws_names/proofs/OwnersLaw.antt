@@ -1,6 +1,6 @@
 -- Asks own changes, and names change once: after every event, and over whole runs.
 use Rattle.st_lemmas.proofs.Words
-use Words.{◌≡◌, ◌⊎◌, ℕ, ◌+◌, Bool, true, false, not, List, [], ◌∷◌, ◌++◌, Option, Some, None, Ok, refl, sym, ap, ◌∙◌, subst, inl, inr, arith, length, list_any}
+use Words.{◌≡◌, ◌⊎◌, ℕ, ◌+◌, true, false, not, List, [], ◌∷◌, ◌++◌, Option, Some, None, Ok, refl, sym, ap, ◌∙◌, subst, inl, inr, arith, length, list_any}
 use Words.{le-leb, ClientId, ServerId, NameAsk, AppAnswer, Ask, Event, Body, Message, Why}
 use Words.answers
 use Words.asks
@@ -20,6 +20,7 @@ use Words.Lists.{Has}
 use Words.Numbers.{numbered_below, numbered_has}
 use Words.Tables.{has_append, has_map_in}
 use Words.Members.{between_in_numbers}
+use Words.Truth.{clash}
 use Rattle.st_protocol.specs.Assoc.{Config}
 use Rattle.st_laws_refine.specs.Server.Pair.{terms_of}
 use Rattle.st_laws_leases.specs.Sides.Law.{InEveryRun}
@@ -178,9 +179,6 @@ module _ (k : Config) (count : ℕ) (past : List Step) (t : Traced) (e : Event) 
       go (Some old) None a b g = cc g
       go (Some old) (Some new) a b g = changed_by s old new a b (λ q. differ q)
         where
-          clash : {A : Type 0} {c : Bool} → c ≡ true → c ≡ false → A
-          clash u v = cc
-
           differ : new.state.stable.names ≡ old.state.stable.names → ⊥
           differ q = clash g (ap not (subst (λ v. same_names old.state.stable.names v ≡ true) (sym q) (names_same old.state.stable.names)))
 

@@ -2,7 +2,7 @@
 use Rattle.std.proofs.Common.{◌≡◌, ℕ, ◌+◌, ◌≤◌, ◌⊎◌, arith, Bool, true, false, not, ◌==◌, List, [], ◌∷◌, ◌++◌, map, Option, Some, None, Ok, Err, refl, sym, ap, ◌∙◌, subst, inl, inr, if◌then◌else◌}
 use Rattle.std.specs.Prelude.{filter, length}
 use Rattle.std.specs.List.{flat_map}
-use Rattle.std.proofs.lemmas.Bool.{eq-eqb, eqb-true}
+use Rattle.std.proofs.lemmas.Bool.{both_ways, eq-eqb, eqb-true}
 use Rattle.std.proofs.lemmas.List.{append-nil}
 use Rattle.st_base.specs.declared.ids.ClientId.{ClientId}
 use Rattle.st_base.specs.declared.ids.ServerId.{ServerId}
@@ -311,11 +311,7 @@ module _ (t : World) (e : Event) (rests : Rests t) where
       (c.0 == d.0) ≡ false → numbered cs d.0 ≡ site_of t d
   site_other c d old new cs at q n =
       ap (λ xs. numbered xs d.0) q
-      ∙ numbered_other t.clients c.0 d.0 new (numbered_below t.clients c.0 old at).0 (λ i. clash (c.0 == d.0) n (eq-eqb c.0 d.0 (sym i)))
-    where
-      clash : (b : Bool) → b ≡ false → b ≡ true → ⊥
-      clash true p r = cc
-      clash false p r = cc
+      ∙ numbered_other t.clients c.0 d.0 new (numbered_below t.clients c.0 old at).0 (λ i. both_ways (c.0 == d.0) n (eq-eqb c.0 d.0 (sym i)))
 
   client_is : (c d : ClientId) → (c.0 == d.0) ≡ true → c ≡ d
   client_is c d q = ap (λ n. record { 0 = n }) (eqb-true c.0 d.0 q)

@@ -1,7 +1,7 @@
 -- What the steps of the volume do to the open asks of a client.
 use Rattle.std.proofs.Common.{◌≡◌, ◌≢◌, ℕ, zero, suc, ◌+◌, ◌⊎◌, Bool, true, false, not, ◌&&◌, ◌==◌, List, [], ◌∷◌, ◌++◌, length, map, Option, Some, None, refl, sym, ap, ◌∙◌, if◌then◌else◌}
 use Rattle.std.specs.Prelude.{filter, find, option_map, option_and_then}
-use Rattle.std.proofs.lemmas.Bool.{eq-eqb, eqb-true, ne_eqb}
+use Rattle.std.proofs.lemmas.Bool.{both_ways, eq-eqb, eqb-true, ne_eqb}
 use Rattle.st_base.specs.declared.ids.ClientId.{ClientId}
 use Rattle.st_base.specs.declared.ids.ServerId.{ServerId}
 use Rattle.st_base.specs.declared.ids.FileId.{FileId}
@@ -99,17 +99,12 @@ keys_last c (x ∷ xs) a =
     turned false true = refl
     turned false false = refl
 
--- without one ask
-clash : (x : Bool) → x ≡ false → x ≡ true → ⊥
-clash true e f = cc
-clash false e f = cc
-
 -- of three numbers, the second and the third are one, or not
 first_too : (a b c : ℕ) → (b == c) ≡ true → (a == c) ≡ true → (a == b) ≡ true
 first_too a b c e f = eq-eqb a b (eqb-true a c f ∙ sym (eqb-true b c e))
 
 first_not : (a b c : ℕ) → (b == c) ≡ false → (a == c) ≡ true → (a == b) ≡ false
-first_not a b c e f = ne_eqb a b (λ q. clash (b == c) e (ap (λ n. n == c) (sym q) ∙ f))
+first_not a b c e f = ne_eqb a b (λ q. both_ways (b == c) e (ap (λ n. n == c) (sym q) ∙ f))
 
 abbrev closes : ClientId → ℕ → Pending → Bool
 closes d op b = not (is_ask d op b)

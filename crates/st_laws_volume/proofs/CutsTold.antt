@@ -19,6 +19,7 @@ use Words.Names.{Names}
 use Words.Server as sv
 use Words.Server.{ServerNode, ServerTurn}
 use Words.Tables.{and_true}
+use Words.Tests.{any_with_last}
 use Rattle.st_base.specs.declared.names.NameAsk.TheVariants as asked
 use Rattle.st_rules.specs.declared.input.ServerInput.TheVariants.{Control}
 use Rattle.st_promises.specs.Acknowledgements.{is_cut_line}
@@ -46,14 +47,6 @@ any_left test (x ∷ xs) ys h = go (test x) h (any_left test xs ys)
     go : (b : Bool) → (b || list_any test xs) ≡ true → (list_any test xs ≡ true → list_any test (xs ++ ys) ≡ true) → (b || list_any test (xs ++ ys)) ≡ true
     go true h k = refl
     go false h k = k h
-
-any_last : {A : Type 0} (test : A → Bool) (xs : List A) (y : A) → test y ≡ true → list_any test (xs ++ y ∷ []) ≡ true
-any_last test [] y h = ap (λ b. b || false) h
-any_last test (x ∷ xs) y h = go (test x) (any_last test xs y h)
-  where
-    go : (b : Bool) → list_any test (xs ++ y ∷ []) ≡ true → (b || list_any test (xs ++ y ∷ [])) ≡ true
-    go true k = refl
-    go false k = k
 
 -- What follows the rule leaves it noted.
 granted : (xs : List (ClientId × Life × ℕ × GrantNo × Mode)) (t : ServerTurn) → Cut t → Cut (sv.tell_granted xs t)
@@ -103,7 +96,7 @@ cut_done t now h ino g from q = file (sv.is_file t ino) q
   where
     held : (b : Bool) → is_done_as (bodies.Cut ino g from) (if b then sv.cut_from t ino from else sv.not_holder t ino g).reply ≡ true →
         Cut (if b then sv.cut_from t ino from else sv.not_holder t ino g).turn
-    held true q = any_last notes_cut t.out (outputs.Note (notes.CutDone (sv.file t ino) from)) refl
+    held true q = any_with_last notes_cut t.out (outputs.Note (notes.CutDone (sv.file t ino) from)) refl
     held false q = cc
 
     file : (b : Bool) → is_done_as (bodies.Cut ino g from) (if b then sv.cut_held t h ino g from else sv.no_file t ino).reply ≡ true →
@@ -143,7 +136,7 @@ module _ (t : ServerTurn) (s : IsSound t.state.stable.names) (h : Header) (i : �
 
   by : (ino : ℕ) (r : Result names.Changed EntryRefusal) → Cuts (as_changed n (Some ino) r) → Cut (sv.remove_by t r).turn
   unfolding sv.remove_by sv.cut_whole sv.cut_pages
-  by ino (Ok d) q = any_last notes_cut t.out (outputs.Note (notes.CutDone (sv.file t d.ino) (page_no 0))) refl
+  by ino (Ok d) q = any_with_last notes_cut t.out (outputs.Note (notes.CutDone (sv.file t d.ino) (page_no 0))) refl
   by ino (Err r) q = absurd (refused (names.code_of r) q)
 
   module _ (op : NameOp) (dir : ℕ) (name : List ℕ) (ino : ℕ) (g : GrantNo) (cuts : Cuts (trees.does (tree_of n) (asked.Remove dir name ino))) where
@@ -266,7 +259,7 @@ module _ (s : ServerId) where
 
   cut_seen : (o : Output) (sc : WorldTurn) → notes_cut o ≡ true → Seen (ev.server_says sc s o).seen
   unfolding ev.server_says ev.server_notes ev.cuts
-  cut_seen (outputs.Note (notes.CutDone f p)) sc q = any_last is_cut_line sc.seen _ refl
+  cut_seen (outputs.Note (notes.CutDone f p)) sc q = any_with_last is_cut_line sc.seen _ refl
   cut_seen o sc q = cc
 
   pub all_seen : (os : List Output) (sc : WorldTurn) → list_any notes_cut os ≡ true → Seen (ev.server_says_all s os sc).seen

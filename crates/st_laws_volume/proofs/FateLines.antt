@@ -1,5 +1,6 @@
 -- The volume takes the lines of fates, one entry after the other.
 use Rattle.std.proofs.Common.{◌≡◌, ℕ, suc, ◌+◌, Bool, true, false, ◌&&◌, ◌||◌, ◌==◌, List, [], ◌∷◌, ◌++◌, length, Option, Some, None, refl, sym, ap, ◌∙◌, subst, append_assoc, if◌then◌else◌}
+use Rattle.std.proofs.lemmas.List.{length_push}
 use Rattle.std.specs.Prelude.{is_some, option_and_then, option_map, pred, set, slice_get}
 use Rattle.std.proofs.lemmas.Bool.{eq-eqb}
 use Rattle.st_rules.specs.declared.log.Fate as world_fate
@@ -8,7 +9,6 @@ use Rattle.st_rules.specs.declared.log.LogEntry.{LogEntry}
 use Rattle.st_rules.specs.Events.{fate_seen, fates_from}
 use Rattle.st_rules.specs.World.{World}
 use Rattle.st_lemmas.proofs.Lookups.{if_true}
-use Rattle.st_lemmas.proofs.Numbers.{length_more}
 use Rattle.st_laws_volume.specs.Seen.{cause_of, of_line}
 use Rattle.st_laws_volume.specs.Witness.{before_line, if_told, of_lines}
 use Rattle.st_laws_volume.proofs.LogLines.{numbered_next, suc_is}
@@ -40,9 +40,6 @@ set_mid (z ∷ done) x y rest = ap (λ xs. z ∷ xs) (set_mid done x y rest)
 length_mid : {A : Type 0} (done : List A) (x y : A) (rest : List A) → length (done ++ x ∷ rest) ≡ length (done ++ y ∷ rest)
 length_mid [] x y rest = refl
 length_mid (z ∷ done) x y rest = ap suc (length_mid done x y rest)
-
-next_length : {A : Type 0} (done : List A) (x : A) → length (done ++ x ∷ []) ≡ length done + 1
-next_length done x = length_more done x ∙ sym (suc_is (length done))
 
 pred_next : (n : ℕ) → pred (n + 1) ≡ n
 pred_next n = ap pred (suc_is n)
@@ -88,7 +85,7 @@ fates_taken w (o ∷ os) (f ∷ fs) done (e ∷ rest) v q n m = go o.fate f.fate
   where
     next : (y : Entry) (u : Volume) → IsTaken (run (of_lines w (fates_from (length (done ++ y ∷ []) + 1) os fs)) u) →
         IsTaken (run (of_lines w (fates_from (length done + 1 + 1) os fs)) u)
-    next y u h = subst (λ k. IsTaken (run (of_lines w (fates_from (k + 1) os fs)) u)) (next_length done y) h
+    next y u h = subst (λ k. IsTaken (run (of_lines w (fates_from (k + 1) os fs)) u)) (length_push done y) h
 
     same : ((y : Entry) (u : Volume) → u.log ≡ (done ++ y ∷ []) ++ rest → u.lines ≡ length u.log →
         IsTaken (run (of_lines w (fates_from (length (done ++ y ∷ []) + 1) os fs)) u)) →

@@ -1,4 +1,5 @@
 -- Every entry of the world's log fits its page: it is as it was asked.
+use Rattle.st_lemmas.proofs.Lookups.{some_is}
 use Rattle.std.proofs.Common.{if◌then◌else◌, ◌≡◌, ℕ, zero, suc, ◌+◌, Bool, true, false, ◌&&◌, ◌==◌, List, [], ◌∷◌, ◌++◌, length, map, Option, Some, None, refl, sym, ap, ◌∙◌, subst, arith}
 use Rattle.std.specs.Prelude.{filter_map, nat_le, set, slice_get, ◌-◌}
 use Rattle.std.specs.List.{cons_option, list_all}
@@ -35,9 +36,6 @@ is_in_range n x = is_event n x.event
 all_get : {A : Type 0} (test : A → Bool) (xs : List A) (n : ℕ) (x : A) → list_all test xs ≡ true → slice_get xs n ≡ Some x → test x ≡ true
 all_get test [] n x p q = cc
 all_get test (y ∷ xs) zero x p q = ap test (sym (some_is q)) ∙ (and_true (test y) (list_all test xs) p).0
-  where
-    some_is : {A : Type 0} {u w : A} → Some u ≡ Some w → u ≡ w
-    some_is e = cc
 all_get test (y ∷ xs) (suc n) x p q = all_get test xs n x (and_true (test y) (list_all test xs) p).1 q
 
 all_set : {A : Type 0} (test : A → Bool) (xs : List A) (n : ℕ) (x : A) → list_all test xs ≡ true → test x ≡ true → list_all test (set xs n x) ≡ true

@@ -15,6 +15,7 @@ use Words.Server.{ServerState, ServerTurn, is_tick, keep_and_reply, life_in, rep
 use Words.Lists.{Has}
 use Words.Tables.{and_true, cond_either, find_kept_in, found_at, has_append, has_filter, has_map}
 use Words.Serving.{has_suspect, suspect_wait}
+use Words.Truth.{not_both}
 use Rattle.st_base.specs.Mode.{number_of}
 use Rattle.st_lemmas.proofs.Puts.{has_put}
 use Rattle.st_laws_refine.specs.Server.Edits.{Acquired, AtOnce, InTurn, Edit, TakesTimers, Steals, Suspects, Begins, DropsWaits, Keeps, Reasserts, Sees}
@@ -167,12 +168,9 @@ more_suspects a c now d = cond_either (λ (z : Authority). may_ack z d ≡ true 
         may_ack (record a { suspects = authority.with_suspect (authority.new_suspect c now) a.suspects }) d ≡ true → may_ack a d ≡ true
     by true q e h = subst (λ n. may_ack a (client n) ≡ true) (eqb-true c.0 d.0 q) e
     by false q e h =
-        ap (λ o. not (is_some o)) (sym (suspect_other (authority.new_suspect c now) d.0 (λ z. let y = eq-eqb c.0 d.0 z in clash (c.0 == d.0) y q) a.suspects)) ∙
+        ap (λ o. not (is_some o))
+        (sym (suspect_other (authority.new_suspect c now) d.0 (λ z. let y = eq-eqb c.0 d.0 z in not_both (c.0 == d.0) y q) a.suspects)) ∙
         h
-      where
-        clash : (b : Bool) → b ≡ true → b ≡ false → ⊥
-        clash true e f = cc
-        clash false e f = cc
 
 suspect_runs : (a : Authority) (c : ClientId) (now : Stamp) → 1 ≤ a.wait → TimersRun now.0 a → TimersRun now.0 (authority.suspect a c now)
 unfolding authority.suspect authority.start_timer

@@ -12,6 +12,7 @@ use Words.Tables.{and_right, and_true, cond_either, find_kept, found_at, has_map
 use Words.Members.{some_member_passes}
 use Words.Serving.{own_wait}
 use Words.Tests.{filtered_no_longer}
+use Words.Truth.{not_both}
 use Rattle.st_lemmas.proofs.Keys.{rising_has_in}
 use Rattle.st_lemmas.proofs.Puts.{has_put_other}
 use Rattle.st_laws_waits.specs.Bounds.{AllBlocked}
@@ -24,12 +25,8 @@ one_less : {A : Type 0} (q : A → Bool) (x : A) (xs : List A) → Has x xs → 
 one_less q x [] h e = elim h [ ]
 one_less {A} q x (y ∷ ys) h e = cond_either (λ zs. length zs < suc (length ys)) (q y) (y ∷ filter q ys) (filter q ys) (λ f. by f h (λ i. one_less q x ys i e)) (λ f. let r = filtered_no_longer q ys in omega (arith, r))
   where
-    clash : (b : Bool) → b ≡ true → b ≡ false → ⊥
-    clash true e f = cc
-    clash false e f = cc
-
     by : q y ≡ true → (x ≡ y) ⊎ Has x ys → (Has x ys → length (filter q ys) < length ys) → length (y ∷ filter q ys) < suc (length ys)
-    by f (inl g) r = absurd (clash (q y) f (sym (ap q g) ∙ e))
+    by f (inl g) r = absurd (not_both (q y) f (sym (ap q g) ∙ e))
     by f (inr i) r = let z = r i in omega (arith, z)
 
 granted_less : (l : Locks) (w : Waiter) → Has w l.waiters → length (grant l w.client w.life w.ino w.mode).waiters < length l.waiters

@@ -1,12 +1,9 @@
 -- What a law over whole runs needs of lists: a list with one more item is split at its last item or earlier, so a fact of all moments since an
 -- earlier one is carried from step to step.
 use Rattle.st_lemmas.proofs.Words
-use Words.{◌≡◌, ℕ, true, List, [], ◌∷◌, ◌++◌, Ok, Err, refl, sym, ap, subst, inl, inr, Result, list_all, ServerId, Event, WorldRefusal}
-use Words.Events.{WorldTurn, world_step}
-use Words.History.{Traced, traced_after}
-use Words.Safety.{Promise, Step, Throughout, is_event, step, steps, steps_on}
+use Words.{◌≡◌, ℕ, List, [], ◌∷◌, ◌++◌, refl, sym, ap, subst, inl, inr, ServerId}
+use Words.Safety.{Step}
 use Words.Lists.{Has}
-use Words.Tables.{and_true}
 use Words.Members.{has_last}
 use Rattle.st_laws_waits.specs.Waits.{last_tick, ticked}
 
@@ -53,18 +50,3 @@ pub last_more : (s : ServerId) (t : ℕ) (past : List Step) (x : Step) → last_
 unfolding last_tick
 last_more s t [] x = refl
 last_more s t (y ∷ ys) x = last_more s (ticked s t y) ys x
-
--- A promise under another one.
-pub throughout_under : (count : ℕ) (given promise : Promise) (Stands : List Step → Traced → Type 0) →
-    ((past : List Step) (t : Traced) (e : Event) (sc : WorldTurn) → is_event count e ≡ true → Stands past t → world_step t.world e ≡ Ok sc → given past (step t e sc) → promise past (step t e sc) × Stands (past ++ step t e sc ∷ []) (traced_after e t sc)) →
-    (es : List Event) → list_all (is_event count) es ≡ true → (past : List Step) (t : Traced) → Stands past t → Throughout given past (steps es t) →
-    Throughout promise past (steps es t)
-unfolding steps steps_on Throughout
-throughout_under count given promise Stands one [] all past t s g = tt
-throughout_under count given promise Stands one (e ∷ es) all past t s g = go (world_step t.world e) refl g (λ past t s g. throughout_under count given promise Stands one es (and_true _ _ all).1 past t s g)
-  where
-    go : (r : Result WorldTurn WorldRefusal) → world_step t.world e ≡ r → Throughout given past (steps_on (steps es) t e r) →
-        ((past : List Step) (t : Traced) → Stands past t → Throughout given past (steps es t) → Throughout promise past (steps es t)) →
-        Throughout promise past (steps_on (steps es) t e r)
-    go (Err r) f g h = tt
-    go (Ok sc) f g h = let q = one past t e sc (and_true _ _ all).0 s f g.0 in (q.0, h _ _ q.1 g.1)

@@ -6,7 +6,7 @@ use Rattle.std.specs.List.{All, list_any}
 use Rattle.std.specs.declared.cmp.Ordering.{Ordering}
 use Rattle.std.specs.declared.cmp.Ordering.TheVariants.{Less, Equal, Greater}
 use Rattle.std.specs.Ordering.{is_eq, is_gt, nat_cmp, ordering_then}
-use Rattle.std.proofs.lemmas.Bool.{and_parts, eqb-true, eq-eqb, ne_eqb, leb-false, lt-leb, ltb-true}
+use Rattle.std.proofs.lemmas.Bool.{and_parts, eqb-true, eq-eqb, ne_eqb, leb-false, lt-leb, ltb-true, or_right, or_left}
 use Rattle.st_base.specs.declared.ids.ClientId.{ClientId}
 use Rattle.st_base.specs.declared.ids.Stamp.{Stamp}
 use Rattle.st_rules.specs.declared.authority.Suspect.{Suspect}
@@ -106,14 +106,6 @@ starts_left wait now timers news old new h u e = λ k.
     ∙ ap (list_any (began k)) (sym e)
 
 -- Where the first is not over none is.
-
-or_left : (a b : Bool) → a ≡ true → a || b ≡ true
-or_left true b t = refl
-or_left false b t = absurd (true≢false (sym t))
-
-or_right : (a b : Bool) → b ≡ true → a || b ≡ true
-or_right true b t = refl
-or_right false b t = t
 
 module _ {A : Type 0} where
   some_by : (p : A → Bool) (x : A) (xs : List A) (b : Bool) → p x ≡ b → (list_any p xs ≡ true → (y : A) × (p y ≡ true) × ((w : A → Bool) → w y ≡ true → list_any w xs ≡ true)) → b || list_any p xs ≡ true

@@ -2,7 +2,7 @@
 use Rattle.std.proofs.Common.{◌≡◌, ℕ, ◌+◌, ◌≤◌, Bool, true, false, cond, List, [], ◌∷◌, ◌++◌, map, filter, length, refl, sym, ap, ◌∙◌, ⊎_elim, true≢false, arith, length-append}
 use Rattle.std.specs.Prelude.{find, not, is_some, nat_eq, Some, ◌==◌, ◌&&◌, ◌||◌}
 use Rattle.std.specs.List.{IsDistinct, AllByRecursion, list_any}
-use Rattle.std.proofs.lemmas.Bool.{cases_Bool, and_parts, eqb-true, eqb-false, eq-eqb, ne_eqb, or_parts, and_from}
+use Rattle.std.proofs.lemmas.Bool.{cases_Bool, and_parts, eqb-true, eqb-false, eq-eqb, ne_eqb, or_parts, and_from, or_right}
 use Rattle.std.proofs.lemmas.List.{length-map}
 use Rattle.std.proofs.lemmas.List.Folds.{list_any-append}
 use Rattle.st_base.specs.declared.ids.ClientId.{ClientId}
@@ -46,12 +46,10 @@ apart_append x (z ∷ zs) ys a b = (a.0, apart_append x zs ys a.1 b)
 distinct_append : (xs ys : List ℕ) → IsDistinct nat_eq xs → IsDistinct nat_eq ys → ((k : ℕ) → has k xs ≡ true → has k ys ≡ false) → IsDistinct nat_eq (xs ++ ys)
 unfolding IsDistinct
 distinct_append [] ys d e h = e
-distinct_append (x ∷ xs) ys d e h =
-    (apart_append x xs ys d.0 (apart_from x ys (h x (ap (λ b. b || has x xs) (eq-eqb x x refl)))), distinct_append xs ys d.1 e (λ k t. h k (more (x == k) (has k xs) t)))
-  where
-    more : (a b : Bool) → b ≡ true → a || b ≡ true
-    more true b t = refl
-    more false b t = t
+distinct_append (x ∷ xs) ys d e h = (
+  apart_append x xs ys d.0 (apart_from x ys (h x (ap (λ b. b || has x xs) (eq-eqb x x refl)))),
+  distinct_append xs ys d.1 e (λ k t. h k (or_right (x == k) (has k xs) t)),
+)
 
 found_by : {A : Type 0} (p : A → Bool) (x : A) (xs : List A) (b : Bool) → is_some (find p xs) ≡ list_any p xs → is_some (cond b (Some x) (find p xs)) ≡ b || list_any p xs
 found_by p x xs true h = refl

@@ -2,7 +2,7 @@
 use Rattle.std.proofs.Common.{◌≡◌, ℕ, suc, ◌+◌, ◌-◌, ◌<◌, ◌≤◌, Bool, true, false, cond, if◌then◌else◌, List, [], ◌∷◌, ◌++◌, map, filter, length, take, get_or, refl, sym, ap, ◌∙◌, ⊎_elim, true≢false, arith, lt-ltb, le-ltb}
 use Rattle.std.specs.Prelude.{find, filter_map, not, option_to_list, Option, Some, None, nat_lt, ◌==◌, ◌&&◌, ◌||◌}
 use Rattle.std.specs.List.{IsDistinct, list_all, list_any, cons_option}
-use Rattle.std.proofs.lemmas.Bool.{cases_lt, and_parts, eqb-true, or_parts}
+use Rattle.std.proofs.lemmas.Bool.{cases_lt, and_parts, eqb-true, or_parts, false_from_ne_true}
 use Rattle.std.proofs.lemmas.List.{take_more}
 use Rattle.std.proofs.lemmas.List.Elements.{filter_map-append}
 use Rattle.st_base.specs.declared.ids.ClientId.{ClientId}
@@ -13,10 +13,6 @@ use Rattle.st_rules.specs.declared.locks.Waiter.{Waiter}
 use Rattle.st_rules.specs.Locks.{is_row_of, is_wait_of, observe, answered_row}
 use Rattle.st_tables.specs.Tables.{lock_key, same_key}
 use Rattle.st_tables.proofs.Places.{at_found, any_at_key}
-
-not_so : (b : Bool) → (b ≡ true → ⊥) → b ≡ false
-not_so true h = absurd (h refl)
-not_so false h = refl
 
 module _ {A : Type 0} where
   some_counted : (b d : Bool) (x : A) (xs : List A) → nat_lt 0 (length xs) ≡ d → nat_lt 0 (length (cond b (x ∷ xs) xs)) ≡ b || d
@@ -48,7 +44,7 @@ module _ {A : Type 0} where
 
   module _ (p q : A → Bool) (h : (x : A) → q x ≡ true → p x ≡ true) where
     not_one : (x : A) → p x ≡ false → q x ≡ false
-    not_one x e = not_so (q x) (λ s. true≢false (sym (h x s) ∙ e))
+    not_one x e = false_from_ne_true (q x) (λ s. true≢false (sym (h x s) ∙ e))
 
     -- where none passes a weaker test, all stay
     pub all_stay : (xs : List A) → list_any p xs ≡ false → filter (λ x. not (q x)) xs ≡ xs

@@ -6,7 +6,7 @@ use Rattle.std.specs.List.{IsDistinct, AllByRecursion, list_any}
 use Rattle.std.specs.List.Sorted.{IsStrictlySortedBy}
 use Rattle.std.specs.declared.cmp.Ordering.TheVariants.{Less, Equal, Greater}
 use Rattle.std.specs.Ordering.{nat_cmp, ordering_then, is_eq}
-use Rattle.std.proofs.lemmas.Bool.{and_parts, or_left, eqb-true, eq-eqb, ltb-true, leb-false, lt-leb}
+use Rattle.std.proofs.lemmas.Bool.{and_parts, or_left, eqb-true, eq-eqb, ltb-true, leb-false, lt-leb, or_right}
 use Rattle.st_base.specs.declared.config.Config.{Config}
 use Rattle.st_base.specs.declared.ids.ClientId.{ClientId}
 use Rattle.st_base.specs.declared.ids.Stamp.{Stamp}
@@ -28,11 +28,7 @@ module _ {A : Type 0} where
   some_by : (p : A → Bool) (x : A) (xs : List A) (b : Bool) → p x ≡ b → (list_any p xs ≡ true → (y : A) × (p y ≡ true) × ((w : A → Bool) → w y ≡ true → list_any w xs ≡ true)) → b || list_any p xs ≡ true
       → (y : A) × (p y ≡ true) × ((w : A → Bool) → w y ≡ true → list_any w (x ∷ xs) ≡ true)
   some_by p x xs true q h e = (x, q, λ w t. or_left (w x) (list_any w xs) t)
-  some_by p x xs false q h e = let r = h e in (r.0, r.1, λ w t. or_behind (w x) (list_any w xs) (r.2 w t))
-    where
-      or_behind : (a b : Bool) → b ≡ true → a || b ≡ true
-      or_behind true b t = refl
-      or_behind false b t = t
+  some_by p x xs false q h e = let r = h e in (r.0, r.1, λ w t. or_right (w x) (list_any w xs) (r.2 w t))
 
   -- one that passes, and what passes at it
   pub some_one : (p : A → Bool) (xs : List A) → list_any p xs ≡ true → (y : A) × (p y ≡ true) × ((w : A → Bool) → w y ≡ true → list_any w xs ≡ true)

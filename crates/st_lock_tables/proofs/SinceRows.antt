@@ -3,21 +3,13 @@ use Rattle.std.proofs.Common.{◌≡◌, ℕ, Bool, true, false, cond, if◌then
 use Rattle.std.specs.Prelude.{find, not, Option, Some, None, IfSome, ◌==◌, ◌&&◌, ◌||◌}
 use Rattle.std.specs.BTreeSet.{BTreeSet, contains}
 use Rattle.std.specs.Option.{option_map}
-use Rattle.std.proofs.lemmas.Bool.{cases_Bool, and_parts, eqb-true, eq-eqb}
+use Rattle.std.proofs.lemmas.Bool.{cases_Bool, and_parts, eqb-true, eq-eqb, not-true, not-false}
 use Rattle.st_base.specs.declared.ids.ClientId.{ClientId}
 use Rattle.st_base.specs.declared.ids.Stamp.{Stamp}
 use Rattle.st_rules.specs.Keys.{same_client, put}
 use Rattle.st_rules.specs.Locks.{is_row_of, is_row_by, with_row, without_row}
 use Rattle.st_rules.specs.declared.locks.LockRow.{LockRow}
 use Rattle.st_lock_tables.specs.DemandStarts.{AreListed, KeepsSince, is_since, since_of, since_of_demand, wait_order}
-
-not_false : (b : Bool) → not b ≡ false → b ≡ true
-not_false true e = refl
-not_false false e = absurd (true≢false e)
-
-not_true : (b : Bool) → not b ≡ true → b ≡ false
-not_true true e = absurd (true≢false (sym e))
-not_true false e = refl
 
 module _ {A : Type 0} where
   same_by : (p q : A → Bool) (x y : A) (xs : List A) (b : Bool) → p y ≡ b → p x ≡ true → (find p xs ≡ find p xs) → find p (put p x xs) ≡ Some x → find p (if b then x ∷ xs else y ∷ put p x xs) ≡ Some x
@@ -44,7 +36,8 @@ module _ {A : Type 0} where
 
   pub find_filter_other : (p q : A → Bool) (xs : List A) → ((y : A) → q y ≡ true → p y ≡ false) → find p (filter (λ y. not (q y)) xs) ≡ find p xs
   find_filter_other p q [] h = refl
-  find_filter_other p q (y ∷ ys) h = gone_by p y (filter (λ z. not (q z)) ys) (not (q y)) (λ e. h y (not_false (q y) e)) ∙ ap (cond (p y) (Some y)) (find_filter_other p q ys h)
+  find_filter_other p q (y ∷ ys) h = gone_by p y (filter (λ z. not (q z)) ys) (not (q y)) (λ e. h y (not-false (q y) e)) ∙
+      ap (cond (p y) (Some y)) (find_filter_other p q ys h)
 
   none_by : (p : A → Bool) (y : A) (xs : List A) (b : Bool) → (b ≡ true → p y ≡ false) → find p xs ≡ None → find p (cond b (y ∷ xs) xs) ≡ None
   none_by p y xs true h e = ap (λ b. cond b (Some y) (find p xs)) (h refl) ∙ e
@@ -53,7 +46,8 @@ module _ {A : Type 0} where
   pub find_filter_none : (p q : A → Bool) (xs : List A) → ((y : A) → p y ≡ true → q y ≡ true) → find p (filter (λ y. not (q y)) xs) ≡ None
   find_filter_none p q [] h = refl
   find_filter_none p q (y ∷ ys) h =
-      none_by p y (filter (λ z. not (q z)) ys) (not (q y)) (λ e. ⊎_elim (λ t. absurd (true≢false (sym (h y t) ∙ not_true (q y) e))) (λ f. f) (cases_Bool (p y))) (find_filter_none p q ys h)
+      none_by p y (filter (λ z. not (q z)) ys) (not (q y)) (λ e. ⊎_elim (λ t. absurd (true≢false (sym (h y t) ∙ not-true (q y) e))) (λ f. f) (cases_Bool (p y)))
+      (find_filter_none p q ys h)
 
   changed_by : (p q : A → Bool) (x y : A) (xs ys : List A) (b : Bool) → (b ≡ true → p y ≡ false) → p x ≡ false → find p xs ≡ find p ys → find p ((if b then x else y) ∷ xs) ≡ cond (p y) (Some y) (find p ys)
   changed_by p q x y xs ys true h f e = ap (λ b. cond b (Some x) (find p xs)) f ∙ e ∙ ap (λ b. cond b (Some y) (find p ys)) (sym (h refl))

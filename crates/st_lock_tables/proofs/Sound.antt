@@ -2,7 +2,7 @@
 use Rattle.std.proofs.Common.{◌≡◌, ℕ, ◌+◌, ◌<◌, ◌^◌, ◌⊎◌, Bool, true, false, cond, if◌then◌else◌, List, [], ◌∷◌, map, filter, refl, sym, ap, ◌∙◌, ⊎_elim, inl, inr, true≢false, arith}
 use Rattle.std.specs.Prelude.{not, nat_le, ◌==◌, ◌&&◌, ◌||◌}
 use Rattle.std.specs.List.{IsDistinct, AllByRecursion, list_all, list_any}
-use Rattle.std.proofs.lemmas.Bool.{and_parts, and_from, leb-true, le-leb, ltb-true, eq-eqb}
+use Rattle.std.proofs.lemmas.Bool.{and_parts, and_from, leb-true, le-leb, ltb-true, eq-eqb, or_from, not_from_false, not-true}
 use Rattle.st_base.specs.declared.ids.Epoch.{Epoch}
 use Rattle.st_base.specs.declared.mode.Mode.{Mode}
 use Rattle.st_base.specs.declared.mode.Mode.TheVariants as modes
@@ -17,13 +17,6 @@ use Rattle.st_rules.specs.declared.locks.RowDemand.{RowDemand}
 use Rattle.st_rules.specs.declared.locks.Waiter.{Waiter}
 use Rattle.st_lock_tables.specs.Calls.{IsSound, is_given, is_lock, is_locked, is_wanted}
 
-no_true : (b : Bool) → not b ≡ true → b ≡ false
-no_true true e = absurd (true≢false (sym e))
-no_true false e = refl
-
-no_false : (b : Bool) → b ≡ false → not b ≡ true
-no_false b e = ap not e
-
 left_false : (a b : Bool) → a || b ≡ false → a ≡ false
 left_false true b e = absurd (true≢false e)
 left_false false b e = refl
@@ -31,9 +24,6 @@ left_false false b e = refl
 right_false : (a b : Bool) → a || b ≡ false → b ≡ false
 right_false true b e = absurd (true≢false e)
 right_false false b e = e
-
-both_false : (a b : Bool) → a ≡ false → b ≡ false → a || b ≡ false
-both_false a b p q = λ i. p i || q i
 
 module _ {A : Type 0} (P Q : A → Bool) (h : (x : A) → P x ≡ true → Q x ≡ true) where
   kept_by : (x : A) (b : Bool) (xs : List A) → P x ≡ true → list_all Q xs ≡ true → list_all Q (cond b (x ∷ xs) xs) ≡ true
@@ -71,11 +61,12 @@ module _ {A : Type 0} where
 
   all_not : (P : A → Bool) (xs : List A) → list_any P xs ≡ false → list_all (λ x. not (P x)) xs ≡ true
   all_not P [] e = refl
-  all_not P (x ∷ xs) e = and_from (not (P x)) (list_all (λ y. not (P y)) xs) (no_false (P x) (left_false (P x) (list_any P xs) e)) (all_not P xs (right_false (P x) (list_any P xs) e))
+  all_not P (x ∷ xs) e = and_from (not (P x)) (list_all (λ y. not (P y)) xs) (not_from_false (P x) (left_false (P x) (list_any P xs) e))
+      (all_not P xs (right_false (P x) (list_any P xs) e))
 
   any_not : (P : A → Bool) (xs : List A) → list_all (λ x. not (P x)) xs ≡ true → list_any P xs ≡ false
   any_not P [] e = refl
-  any_not P (x ∷ xs) e = let r = and_parts (not (P x)) (list_all (λ y. not (P y)) xs) e in both_false (P x) (list_any P xs) (no_true (P x) r.0) (any_not P xs r.1)
+  any_not P (x ∷ xs) e = let r = and_parts (not (P x)) (list_all (λ y. not (P y)) xs) e in or_from (P x) (list_any P xs) (not-true (P x) r.0) (any_not P xs r.1)
 
 -- One row against another.
 
@@ -169,7 +160,9 @@ module _ (rows : List LockRow) (h : list_all (is_compatible rows) rows ≡ true)
   compatible_filter : (p : LockRow → Bool) → list_all (is_compatible (filter p rows)) (filter p rows) ≡ true
   compatible_filter p =
       all_filter (is_compatible rows) (is_compatible (filter p rows))
-      (λ x c. no_false (list_any (against x) (filter p rows)) (any_not (against x) (filter p rows) (all_filter (λ q. not (against x q)) (λ q. not (against x q)) (λ q e. e) p rows (all_not (against x) rows (no_true (list_any (against x) rows) c)))))
+      (λ x c. not_from_false (list_any (against x) (filter p rows))
+      (any_not (against x) (filter p rows)
+      (all_filter (λ q. not (against x q)) (λ q. not (against x q)) (λ q e. e) p rows (all_not (against x) rows (not-true (list_any (against x) rows) c)))))
       p rows h
 
   compatible_put : (p : LockRow → Bool) (row : LockRow) → list_any (against row) rows ≡ false → list_all (is_compatible (put p row rows)) (put p row rows) ≡ true
@@ -177,26 +170,29 @@ module _ (rows : List LockRow) (h : list_all (is_compatible rows) rows ≡ true)
       all_put (λ x. is_compatible rows x && not (against row x)) (is_compatible (put p row rows))
       (λ x c.
       let r = and_parts (is_compatible rows x) (not (against row x)) c in
-      among x (against_turn x row ∙ no_true (against row x) r.1) (no_true (list_any (against x) rows) r.0))
+      among x (against_turn x row ∙ not-true (against row x) r.1) (not-true (list_any (against x) rows) r.0))
       p row rows
       (among row (against_own row row refl) free)
       (all_two (is_compatible rows) (λ x. not (against row x)) rows h (all_not (against row) rows free))
     where
       among : (x : LockRow) → against x row ≡ false → list_any (against x) rows ≡ false → is_compatible (put p row rows) x ≡ true
       among x own e =
-          no_false (list_any (against x) (put p row rows))
-          (any_not (against x) (put p row rows) (all_put (λ q. not (against x q)) (λ q. not (against x q)) (λ q e. e) p row rows (no_false (against x row) own) (all_not (against x) rows e)))
+          not_from_false (list_any (against x) (put p row rows))
+          (any_not (against x) (put p row rows)
+          (all_put (λ q. not (against x q)) (λ q. not (against x q)) (λ q e. e) p row rows (not_from_false (against x row) own)
+          (all_not (against x) rows e)))
 
   compatible_map : (f : LockRow → LockRow) → ((r : LockRow) → Weakens f r) → list_all is_locked rows ≡ true → list_all (is_compatible (map f rows)) (map f rows) ≡ true
   compatible_map f w locked =
       all_map (λ x. is_compatible rows x && is_locked x) (is_compatible (map f rows)) f
       (λ x c.
       let r = and_parts (is_compatible rows x) (is_locked x) c in
-      no_false (list_any (against (f x)) (map f rows))
+      not_from_false (list_any (against (f x)) (map f rows))
       (any_not (against (f x)) (map f rows)
       (all_map (λ q. not (against x q) && is_locked q) (λ q. not (against (f x) q)) f
-      (λ q e. let s = and_parts (not (against x q)) (is_locked q) e in no_false (against (f x) (f q)) (against_weaker f x q (w x) (w q) r.1 s.1 (no_true (against x q) s.0)))
-      rows (all_two (λ q. not (against x q)) is_locked rows (all_not (against x) rows (no_true (list_any (against x) rows) r.0)) locked))))
+      (λ q e. let s = and_parts (not (against x q)) (is_locked q) e in
+      not_from_false (against (f x) (f q)) (against_weaker f x q (w x) (w q) r.1 s.1 (not-true (against x q) s.0)))
+      rows (all_two (λ q. not (against x q)) is_locked rows (all_not (against x) rows (not-true (list_any (against x) rows) r.0)) locked))))
       rows (all_two (is_compatible rows) is_locked rows h locked)
 
 -- A sound table.
@@ -309,12 +305,13 @@ earlier_given e g row h = let l = ltb-true row.g.0 (first_after e) h in le-leb r
 module _ {A : Type 0} (key : A → Key) (same : A → A → Bool) (h : (x y : A) → same x y ≡ same_key (key x) (key y)) where
   none_same : (x : A) (xs : List A) → AllByRecursion (λ k. same_key (key x) k ≡ false) (map key xs) → list_any (same x) xs ≡ false
   none_same x [] a = refl
-  none_same x (y ∷ ys) a = both_false (same x y) (list_any (same x) ys) (h x y ∙ a.0) (none_same x ys a.1)
+  none_same x (y ∷ ys) a = or_from (same x y) (list_any (same x) ys) (h x y ∙ a.0) (none_same x ys a.1)
 
   once_by_keys : (xs : List A) → IsDistinct same_key (map key xs) → are_once same xs ≡ true
   unfolding IsDistinct are_once
   once_by_keys [] d = refl
-  once_by_keys (x ∷ xs) d = and_from (not (list_any (same x) xs)) (are_once same xs) (no_false (list_any (same x) xs) (none_same x xs d.0)) (once_by_keys xs d.1)
+  once_by_keys (x ∷ xs) d = and_from (not (list_any (same x) xs)) (are_once same xs) (not_from_false (list_any (same x) xs) (none_same x xs d.0))
+      (once_by_keys xs d.1)
 
 pub valid : (e : Epoch) (g : ℕ) (rows : List LockRow) (ws : List Waiter) → IsSound e g rows ws → IsDistinct same_key (map lock_key rows) → IsDistinct same_key (map wait_key ws) → IsLockTable (record { epoch = e; grants = g; rows = rows; waiters = ws; limit = 1024 })
 valid e g rows ws s d f = record {

@@ -1,9 +1,11 @@
 -- What a demanding pass leaves: of each row in the way of a first waiter a mode is demanded that is low enough.
-use Rattle.std.proofs.Common.{◌≡◌, ℕ, zero, suc, ◌+◌, add-one, drop, get_or, ◌⊎◌, Bool, true, false, cond, if◌then◌else◌, List, [], ◌∷◌, map, filter, ◌<◌, ◌≤◌, refl, sym, ap, subst, ◌∙◌, ⊎_elim, inl, inr, true≢false, arith, eq-eqb}
+use Rattle.std.proofs.Common.{◌≡◌, ℕ, ◌+◌, drop, get_or, ◌⊎◌, Bool, true, false, cond, if◌then◌else◌, List, [], ◌∷◌, map, filter, ◌<◌, ◌≤◌, refl, sym, ap, subst, ◌∙◌, ⊎_elim, inl, inr, true≢false, arith, eq-eqb}
+use Rattle.std.proofs.lemmas.Bool.{false_from_ne_true, not-true}
+use Rattle.std.proofs.lemmas.List.{drop_more}
 use Rattle.std.specs.Bool.{Decides, OnTrue}
 use Rattle.std.specs.Prelude.{find, is_some, not, IfSome, OnOk, Result, Ok, Err, Option, Some, None, option_map, nat_le, length, ◌==◌, ◌&&◌, ◌||◌}
 use Rattle.std.specs.List.{list_any}
-use Rattle.std.proofs.lemmas.Bool.{cases_Bool, and_parts, and_from, eqb-true, ltb-true, ltb-false, le-ltb, leb-true, leb-false, lt-leb}
+use Rattle.std.proofs.lemmas.Bool.{cases_Bool, and_parts, and_from, eqb-true, ltb-true, ltb-false, le-ltb, leb-true, leb-false, lt-leb, or_right}
 use Rattle.st_base.specs.declared.ids.ClientId.{ClientId}
 use Rattle.st_base.specs.declared.ids.GrantNo.{GrantNo}
 use Rattle.st_base.specs.declared.ids.Life.{Life}
@@ -26,10 +28,6 @@ use Rattle.st_locks.proofs.SettledFiles.{SameOn, any_mapped, each_same, found_pa
 eq_turn : (a b : ℕ) → (a == b) ≡ (b == a)
 eq_turn a b = grind arith
 
-not_true : (b : Bool) → not b ≡ true → b ≡ false
-not_true true e = absurd (true≢false (sym e))
-not_true false e = refl
-
 -- One demand.
 
 low_own : (to : Mode) → not (is_below to to) ≡ true
@@ -39,7 +37,7 @@ low_own to = ap not (le-ltb (number_of to) (number_of to) (omega arith))
 low_below : (to other mode : Mode) → is_below other mode ≡ true → not (is_below to mode) ≡ true → not (is_below to other) ≡ true
 low_below to other mode a b =
     let p = ltb-true (number_of other) (number_of mode) a in
-    let q = ltb-false (number_of to) (number_of mode) (not_true (is_below to mode) b) in
+    let q = ltb-false (number_of to) (number_of mode) (not-true (is_below to mode) b) in
     ap not (le-ltb (number_of to) (number_of other) (omega (arith, p, q)))
 
 module _ (k : Config) (now : Stamp) (tick : Bool) where
@@ -88,16 +86,12 @@ none_of : {A : Type 0} (o : Option A) → not (is_some o) ≡ true → o ≡ Non
 none_of None e = refl
 none_of (Some x) e = absurd (true≢false (sym e))
 
-false_of : (b : Bool) → (b ≡ true → ⊥) → b ≡ false
-false_of true h = absurd (h refl)
-false_of false h = refl
-
 -- where no moment is old, no demand that is kept by one is
 young : (k : Config) (now : Stamp) (ms : Moments) (ino : ℕ) (s : Stamp) → list_any (is_old k now) ms ≡ false → is_kept ms ino s ≡ true → nat_le (s.0 + k.retry) now.0 ≡ false
 young k now ms ino s q e =
     let x = some_one (is_by ino s) ms e in
     let l : x.0.0.0 ≤ s.0 = leb-true x.0.0.0 s.0 (and_parts (x.0.1 == ino) (nat_le x.0.0.0 s.0) x.1).1 in
-    let n : is_old k now x.0 ≡ false = false_of (is_old k now x.0) (λ t. true≢false (sym (x.2 (is_old k now) t) ∙ q)) in
+    let n : is_old k now x.0 ≡ false = false_from_ne_true (is_old k now x.0) (λ t. true≢false (sym (x.2 (is_old k now) t) ∙ q)) in
     let g : now.0 < x.0.0.0 + k.retry = leb-false (x.0.0.0 + k.retry) now.0 n in
     lt-leb (s.0 + k.retry) now.0 (omega (arith, l, g))
 
@@ -412,11 +406,7 @@ module _ (k : Config) (now : Stamp) (tick : Bool) (to : Mode) (ino : ℕ) (p : D
   idle_clients [] h = refl
   idle_clients (c ∷ cs) h =
       ap (demand_clients k now tick ino to cs) (idle_row c (h c (ap (λ b. b || is_among cs c) (eq-eqb c.0 c.0 refl))) (row_of p.locks c ino) refl)
-      ∙ idle_clients cs (λ d e. h d (last (same_client d c) (is_among cs d) e))
-    where
-      last : (a d : Bool) → d ≡ true → a || d ≡ true
-      last true d e = refl
-      last false d e = e
+      ∙ idle_clients cs (λ d e. h d (or_right (same_client d c) (is_among cs d) e))
 
 -- no demand on a row in the way of the file's first waiter is sent
 abbrev pub AreIdle : Config → Stamp → Bool → List ClientId → Locks → ℕ → Type 0
@@ -475,19 +465,12 @@ times_none cs ino l ms q j a =
 
 -- One file more of a pass, and one row more of a file.
 
-drop_next : {A : Type 0} (xs : List A) (i : ℕ) (d : A) → i < length xs → drop i xs ≡ get_or xs i d ∷ drop (i + 1) xs
-drop_next {A} xs i d l = rw (add-one i) (go xs i l)
-  where
-    go : (xs : List A) (i : ℕ) → i < length xs → drop i xs ≡ get_or xs i d ∷ drop (suc i) xs
-    go [] i l = absurd (omega (arith, l))
-    go (x ∷ xs) zero l = refl
-    go (x ∷ xs) (suc i) l = go xs i (omega (arith, l))
-
 module _ (k : Config) (now : Stamp) (tick : Bool) (cs : List ClientId) where
   pub files_step : (xs : List ℕ) (i d : ℕ) (p q z : Demanding) → i < length xs → q ≡ demand_for k now tick cs (find (is_wait_on (get_or xs i d)) p.locks.waiters) p
       → demand_files k now tick cs (drop i xs) p ≡ z → demand_files k now tick cs (drop (i + 1) xs) q ≡ z
   unfolding demand_files
-  files_step xs i d p q z l e h = ap (demand_files k now tick cs (drop (i + 1) xs)) e ∙ ap (λ ys. demand_files k now tick cs ys p) (sym (drop_next xs i d l)) ∙ h
+  files_step xs i d p q z l e h = ap (demand_files k now tick cs (drop (i + 1) xs)) e ∙ ap (λ ys. demand_files k now tick cs ys p) (sym (drop_more xs i d l)) ∙
+      h
 
   -- a wait whose rows in the way are demanded and timed
   times_done : (ino : ℕ) (p : Demanding) (was ms : Moments) (v : Waiter) (m : Locks) (due : List (ClientId × Life × ℕ × GrantNo × Mode)) → find (is_wait_on ino) p.locks.waiters ≡ Some v → demanding m due ≡ demand_for k now tick cs (Some v) p
@@ -514,7 +497,7 @@ module _ (k : Config) (now : Stamp) (tick : Bool) (cs : List ClientId) where
 
 pub times_step : (cs : List ClientId) (xs : List ℕ) (i d : ℕ) (l m : Locks) (was ms : Moments) (j : ℕ) → i < length xs → (is_one_of (drop i xs) j ≡ false → AreTimed was l cs j)
     → Times cs (λ z. get_or xs i d == z) l was m ms → is_one_of (drop (i + 1) xs) j ≡ false → AreTimed ms m cs j
-times_step cs xs i d l m was ms j n h t e = t j (λ u. h (ap (λ ys. is_one_of ys j) (drop_next xs i d n) ∙ (λ z. u z || e z)))
+times_step cs xs i d l m was ms j n h t e = t j (λ u. h (ap (λ ys. is_one_of ys j) (drop_more xs i d n) ∙ (λ z. u z || e z)))
 
 if_found : {A : Type 0} (P : A → Type 0) (o : Option A) (x : A) → o ≡ Some x → IfSome o P → P x
 if_found P None x e h = cc
@@ -528,7 +511,7 @@ rows_step l ino cs i d was ms n more h x c a b r e =
     let y = get_or cs i d in
     ⊎_elim
     (λ t. if_found (λ (z : LockRow). is_timed ms ino z.demand ≡ true) (row_of l y ino) r (ap (λ k. find (λ z. (z.client.0 == k) && (z.ino == ino)) l.rows) (sym (eqb-true c.0 y.0 t)) ∙ e) x)
-    (λ f. timed_more was ms ino r.demand more (h c a (ap (λ ys. is_among ys c) (drop_next cs i d n) ∙ (λ z. f z || b z)) r e))
+    (λ f. timed_more was ms ino r.demand more (h c a (ap (λ ys. is_among ys c) (drop_more cs i d n) ∙ (λ z. f z || b z)) r e))
     (cases_Bool (same_client c y))
 
 pub on_two : {X E : Type 0} {A B C : Type 0} (r : Result X E) → (A → B → C) → OnOk r A → OnOk r B → OnOk r C

@@ -2,7 +2,7 @@
 use Rattle.std.proofs.Common.{◌≡◌, ℕ, zero, suc, ◌≤◌, ◌⊎◌, Bool, true, false, cond, if◌then◌else◌, List, [], ◌∷◌, ◌++◌, map, filter, length, refl, sym, ap, subst, ◌∙◌, ⊎_elim, inl, inr, true≢false, arith}
 use Rattle.std.specs.Prelude.{Result, Ok, Err, find, not, Option, Some, None, ◌==◌, ◌&&◌, ◌||◌}
 use Rattle.std.specs.List.{list_any}
-use Rattle.std.proofs.lemmas.Bool.{cases_Bool, and_parts, eqb-true}
+use Rattle.std.proofs.lemmas.Bool.{cases_Bool, and_parts, eqb-true, not-false}
 use Rattle.st_base.specs.declared.ids.ClientId.{ClientId}
 use Rattle.st_base.specs.declared.ids.Life.{Life}
 use Rattle.st_base.specs.declared.mode.Mode.{Mode}
@@ -103,10 +103,6 @@ module _ {A : Type 0} where
 pub other_file : (k i j : ℕ) → (k == i) ≡ true → (i == j) ≡ false → (k == j) ≡ false
 other_file k i j e n = ap (λ z. z == j) (eqb-true k i e) ∙ n
 
-no_not : (b : Bool) → not b ≡ false → b ≡ true
-no_not true e = refl
-no_not false e = absurd (true≢false e)
-
 -- two tables have the same rows of a file, and the same waits for it
 pub record SameOn (j : ℕ) (l m : Locks) : Type 0 where
   pub rows : filter (is_row_on j) m.rows ≡ filter (is_row_on j) l.rows
@@ -143,7 +139,8 @@ pub same_grant : (l : Locks) (c : ClientId) (life : Life) (i : ℕ) (mode : Mode
 unfolding grant
 same_grant l c life i mode j n = record {
   rows = put_apart (is_row_on j) (is_row_of c i) (new_row l c life i mode) n (λ r e. other_file r.ino i j (and_parts (r.client.0 == c.0) (r.ino == i) e).1 n) l.rows;
-  waits = filter_apart (is_wait_on j) (λ w. not (is_wait_of c i w)) (λ w e. other_file w.ino i j (and_parts (w.client.0 == c.0) (w.ino == i) (no_not (is_wait_of c i w) e)).1 n) l.waiters;
+  waits = filter_apart (is_wait_on j) (λ w. not (is_wait_of c i w))
+      (λ w e. other_file w.ino i j (and_parts (w.client.0 == c.0) (w.ino == i) (not-false (is_wait_of c i w) e)).1 n) l.waiters;
 }
 
 found_next : (l : Locks) (i : ℕ) (w : Waiter) → next_waiter l i ≡ Some w → find (is_wait_on i) l.waiters ≡ Some w
@@ -297,7 +294,8 @@ module _ (l : Locks) (c : ClientId) (ino j : ℕ) (n : (ino == j) ≡ false) whe
 
   to_by : (to : Mode) → SameOn j l (release_to l c ino to)
   unfolding release_to
-  to_by modes.None = record { rows = filter_apart (is_row_on j) (λ r. not (is_row_of c ino r)) (λ r e. row_other r (no_not (is_row_of c ino r) e)) l.rows; waits = refl }
+  to_by modes.None =
+      record { rows = filter_apart (is_row_on j) (λ r. not (is_row_of c ino r)) (λ r e. row_other r (not-false (is_row_of c ino r) e)) l.rows; waits = refl }
   to_by modes.S = same_lowered
   to_by modes.X = same_lowered
 
@@ -324,7 +322,11 @@ module _ (l : Locks) (c : ClientId) (ino j : ℕ) (n : (ino == j) ≡ false) whe
 
 pub same_dropped : (l : Locks) (ino j : ℕ) → (ino == j) ≡ false → SameOn j l (drop_file_waits l ino)
 unfolding drop_file_waits
-same_dropped l ino j n = record { rows = refl; waits = filter_apart (is_wait_on j) (λ w. not (is_wait_on ino w)) (λ w e. other_file w.ino ino j (no_not (is_wait_on ino w) e) n) l.waiters }
+same_dropped l ino j n =
+    record {
+      rows = refl;
+      waits = filter_apart (is_wait_on j) (λ w. not (is_wait_on ino w)) (λ w e. other_file w.ino ino j (not-false (is_wait_on ino w) e) n) l.waiters;
+    }
 
 -- where the first waiter may not be granted, a pass over the file does nothing
 pub idle_grants : (i n : ℕ) (p : Granting) → next_waiter p.locks i ≡ None → grant_file i n p ≡ p

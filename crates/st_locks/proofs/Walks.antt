@@ -2,7 +2,7 @@
 use Rattle.std.proofs.Common.{◌≡◌, ℕ, ◌<◌, Bool, true, false, cond, List, [], ◌∷◌, map, filter, length, refl, sym, ap, subst, ◌∙◌, true≢false}
 use Rattle.std.specs.Prelude.{None, Option, Some, ◌==◌, ◌&&◌, ◌||◌}
 use Rattle.std.specs.List.{AllByRecursion}
-use Rattle.std.proofs.lemmas.Bool.{eqb-true}
+use Rattle.std.proofs.lemmas.Bool.{eqb-true, false_from_ne_true}
 use Rattle.st_base.specs.declared.ids.ClientId.{ClientId}
 use Rattle.st_base.specs.declared.ids.Stamp.{Stamp}
 use Rattle.st_base.specs.declared.config.Config.{Config}
@@ -34,11 +34,7 @@ common fs ws =
 -- Passes through fewer files.
 
 apart : (t : ℕ → Bool) (x j : ℕ) → t x ≡ true → t j ≡ false → (x == j) ≡ false
-apart t x j a b = by (x == j) (λ s. true≢false (sym a ∙ ap t (eqb-true x j s) ∙ b))
-  where
-    by : (b : Bool) → (b ≡ true → ⊥) → b ≡ false
-    by true h = absurd (h refl)
-    by false h = refl
+apart t x j a b = false_from_ne_true (x == j) (λ s. true≢false (sym a ∙ ap t (eqb-true x j s) ∙ b))
 
 grant_step : (t : ℕ → Bool) (x : ℕ) (xs : List ℕ) (p : Granting) (b : Bool) → ((q : Granting) → ((j : ℕ) → t j ≡ false → next_waiter q.locks j ≡ None) → grant_files xs q ≡ grant_files (filter t xs) q) → t x ≡ b
     → ((j : ℕ) → t j ≡ false → next_waiter p.locks j ≡ None) → grant_files xs (grant_file x (length p.locks.waiters) p) ≡ grant_files (cond b (x ∷ filter t xs) (filter t xs)) p

@@ -1,7 +1,7 @@
 -- What the calls on containers say, case by case.
 use Rattle.st_lemmas.proofs.Words
 use Words.{◌≡◌, ◌≢◌, ℕ, suc, ◌+◌, ◌⊎◌, Bool, true, false, List, [], ◌∷◌, ◌++◌, length, Option, Some, None, refl, sym, ap, ◌∙◌, subst, inl, inr, arith, eqb}
-use Words.{zero, pred, set, if◌then◌else◌, not, ◌==◌, nat_le, slice_get, option_map, Ok, Err, list_any, ServerId}
+use Words.{zero, pred, if◌then◌else◌, not, ◌==◌, nat_le, slice_get, option_map, Ok, Err, list_any, ServerId}
 use Words.modes
 use Words.Keys.{same_server}
 use Words.Locks.{Locks, grant, is_row_of, is_row_on, new_row}
@@ -9,6 +9,7 @@ use Words.World.{numbered, with_numbered}
 use Words.Lists.{Has}
 use Words.Lookups.{any_filter}
 use Words.Tables.{cond_true, cond_false, has_append}
+use Words.Members.{has_set}
 use Rattle.std.proofs.lemmas.Bool.Decides.{eqb_tells}
 use Rattle.st_lemmas.proofs.Puts.{any_put}
 use Rattle.st_move.specs.declared.record.ContainerRecord.{ContainerRecord}
@@ -25,6 +26,7 @@ use Rattle.st_move.specs.Updates.{added, bytes_of, most_bytes}
 use Rattle.st_move.specs.Law.{is_held, known}
 use Rattle.st_move.specs.World.{has_lock, locked, one, unlocked}
 use Rattle.st_move.proofs.MovedContainers.{leaves_if}
+use Rattle.std.proofs.lemmas.Bool.{false_from_ne_true}
 
 -- a container that may be changed is held
 abbrev pub IsHeldAt : List (Option ContainerRecord) → ℕ → ContainerRecord → Type 0
@@ -151,9 +153,6 @@ images_at place (o ∷ rs) y h = go (has_append (image_of (place + 1) o) (images
     go (inr i) f = images_later place o rs y.0 y.1 (f i)
 
 -- Lock rows.
-bool_false : (b : Bool) → (b ≡ true → ⊥) → b ≡ false
-bool_false true h = absurd (h refl)
-bool_false false h = refl
 
 pub locked_other : (l : Locks) (c d : ℕ) → d ≢ c → is_locked l d ≡ false → is_locked (locked l c) d ≡ false
 unfolding locked grant
@@ -168,7 +167,7 @@ locked_other l c d n h = go (has_lock l c)
 
     go : (b : Bool) → is_locked (if b then l else grant l one (record { 0 = 1 }) c modes.X) d ≡ false
     go true = h
-    go false = bool_false _ (λ e. by (any_put (is_row_on d) (is_row_of one c) (new_row l one (record { 0 = 1 }) c modes.X) l.rows e))
+    go false = false_from_ne_true _ (λ e. by (any_put (is_row_on d) (is_row_of one c) (new_row l one (record { 0 = 1 }) c modes.X) l.rows e))
       where
         by : (list_any (is_row_on d) l.rows ≡ true) ⊎ ((c == d) ≡ true) → ⊥
         by (inl i) = cc
@@ -176,19 +175,8 @@ locked_other l c d n h = go (has_lock l c)
 
 pub unlocked_any : (l : Locks) (c d : ℕ) → is_locked l d ≡ false → is_locked (unlocked l c) d ≡ false
 unfolding unlocked
-unlocked_any l c d h = bool_false _ (λ e. let i : list_any (is_row_on d) l.rows ≡ true = any_filter (is_row_on d) (λ r. not (is_row_of one c r)) l.rows e in cc)
-
--- members of a list after one was replaced
-set_has : {A : Type 0} (xs : List A) (n : ℕ) (y v : A) → Has v (set xs n y) → (v ≡ y) ⊎ Has v xs
-set_has [] n y v h = absurd h
-set_has (x ∷ xs) zero y v (inl e) = inl e
-set_has (x ∷ xs) zero y v (inr h) = inr (inr h)
-set_has (x ∷ xs) (suc n) y v (inl e) = inr (inl e)
-set_has (x ∷ xs) (suc n) y v (inr h) = go (set_has xs n y v h)
-  where
-    go : (v ≡ y) ⊎ Has v xs → (v ≡ y) ⊎ Has v (x ∷ xs)
-    go (inl e) = inl e
-    go (inr i) = inr (inr i)
+unlocked_any l c d h =
+    false_from_ne_true _ (λ e. let i : list_any (is_row_on d) l.rows ≡ true = any_filter (is_row_on d) (λ r. not (is_row_of one c r)) l.rows e in cc)
 
 pub numbered_set_has : {A : Type 0} (xs : List A) (n : ℕ) (y v : A) → Has v (with_numbered n y xs) → (v ≡ y) ⊎ Has v xs
-numbered_set_has xs n y v h = set_has xs (pred n) y v h
+numbered_set_has xs n y v h = has_set xs (pred n) y v h

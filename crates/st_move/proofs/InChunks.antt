@@ -4,17 +4,9 @@ use Words.{◌≡◌, ℕ, zero, suc, ◌+◌, ◌-◌, ◌*◌, ◌/◌, ◌%�
 use Words.{append_assoc, length-append, list_all, eqb-true}
 use Words.Lookups.{some_is}
 use Words.Tables.{and_true}
+use Words.Lengths.{get_longer, get_past}
 use Rattle.std.proofs.lemmas.Nat.{div-add-mod'}
 use Rattle.st_move.specs.Chunks.{in_chunks, is_chunk}
-
-get_front : {A : Type 0} (xs ys : List A) (i : ℕ) (v : A) → slice_get xs i ≡ Some v → slice_get (xs ++ ys) i ≡ Some v
-get_front [] ys i v e = cc
-get_front (x ∷ xs) ys zero v e = e
-get_front (x ∷ xs) ys (suc i) v e = get_front xs ys i v e
-
-get_past : {A : Type 0} (xs ys : List A) (i : ℕ) → slice_get (xs ++ ys) (length xs + i) ≡ slice_get ys i
-get_past [] ys i = ap (slice_get ys) (let z : 0 + i ≡ i = omega arith in z)
-get_past (x ∷ xs) ys i = ap (slice_get (x ∷ (xs ++ ys))) (let z : suc (length xs) + i ≡ suc (length xs + i) = omega arith in z) ∙ get_past xs ys i
 
 chunk_length : (c : List (List ℕ)) → is_chunk c ≡ true → length c ≡ 32
 chunk_length c e = eqb-true (length c) 32 e
@@ -49,7 +41,8 @@ in_chunk : (cs : List (List (List ℕ))) (us : List (List ℕ)) (q r : ℕ) (c :
 in_chunk [] us q r c u all at there = cc
 in_chunk (x ∷ cs) us zero r c u all at there =
     let place : zero * 32 + r ≡ r = omega arith in
-    ap (slice_get ((x ++ in_chunks cs) ++ us)) place ∙ ap (λ zs. slice_get zs r) (append_assoc x (in_chunks cs) us) ∙ get_front x (in_chunks cs ++ us) r u (subst (λ z. slice_get z r ≡ Some u) (sym (some_is at)) there)
+    ap (slice_get ((x ++ in_chunks cs) ++ us)) place ∙ ap (λ zs. slice_get zs r) (append_assoc x (in_chunks cs) us) ∙
+    get_longer x (in_chunks cs ++ us) r u (subst (λ z. slice_get z r ≡ Some u) (sym (some_is at)) there)
 in_chunk (x ∷ cs) us (suc q) r c u all at there =
     let g = and_true (is_chunk x) (list_all is_chunk cs) all in
     let n = chunk_length x g.0 in

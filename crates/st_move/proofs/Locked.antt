@@ -5,22 +5,12 @@ use Words.{le-ltb, filter_map, option_map, not, ◌==◌, nat_lt, list_any, cons
 use Words.Keys.{client, rising, same_client}
 use Words.Locks.{Locks, client_of_row, holder_at, holder_in_list, holders, is_row_of, is_row_on, row_of}
 use Words.Lists.{Has}
-use Words.Lookups.{or_cases, or_false}
+use Words.Lookups.{or_false}
 use Words.Tables.{and_both, cond_false, has_filter_in, has_map_in, none_has}
+use Words.Members.{some_member_passes}
 use Rattle.std.proofs.lemmas.Bool.Decides.{eqb_tells}
 use Rattle.st_lemmas.proofs.Keys.{rising_has_in}
 use Rattle.st_move.specs.Containers.{is_locked}
-
-any_has : {A : Type 0} (p : A → Bool) (xs : List A) → list_any p xs ≡ true → (x : A) × Has x xs × (p x ≡ true)
-any_has p [] e = cc
-any_has {A} p (x ∷ xs) e = go (or_cases (p x) (list_any p xs) e) (λ h. any_has p xs h)
-  where
-    later : (y : A) × Has y xs × (p y ≡ true) → (y : A) × Has y (x ∷ xs) × (p y ≡ true)
-    later h = (h.0, inr h.1, h.2)
-
-    go : (p x ≡ true) ⊎ (list_any p xs ≡ true) → (list_any p xs ≡ true → (y : A) × Has y xs × (p y ≡ true)) → (y : A) × Has y (x ∷ xs) × (p y ≡ true)
-    go (inl h) f = (x, inl refl, h)
-    go (inr h) f = later (f h)
 
 none_kept : {A : Type 0} (p : A → Bool) (xs : List A) → list_any p xs ≡ false → filter p xs ≡ []
 none_kept p [] e = refl
@@ -68,7 +58,7 @@ holders_tell l c = go (is_locked l c) refl
     go : (b : Bool) → is_locked l c ≡ b → nat_lt 0 (length (holders l c)) ≡ b
     go false e = ap (λ rows. nat_lt 0 (length (filter_map (holder_at l c) (rising (map client_of_row rows))))) (none_kept (is_row_on c) l.rows e)
     go true e =
-        let h : (r : LockRow) × Has r l.rows × (is_row_on c r ≡ true) = any_has (is_row_on c) l.rows e in
+        let h : (r : LockRow) × Has r l.rows × (is_row_on c r ≡ true) = some_member_passes (is_row_on c) l.rows e in
         let k : (y : ClientId × GrantNo × Mode) × (holder_at l c (client_of_row h.0) ≡ Some y) = row_there l c h.0 h.1 h.2 in
         lt-ltb 0 (length (holders l c))
         (kept_some (holder_at l c) (rising (map client_of_row (filter (is_row_on c) l.rows))) (client_of_row h.0) k.0

@@ -1,14 +1,15 @@
 -- What an event does at one server, and so to all.
 use Rattle.st_lemmas.proofs.Words
-use Words.{◌≡◌, ◌≢◌, ℕ, suc, ◌+◌, ◌≤◌, ◌<◌, ◌^◌, ◌⊎◌, Bool, true, false, List, [], ◌∷◌, ◌++◌, length, map, Option, Some, None, refl, sym, ap, ◌∙◌, subst, inl}
-use Words.{inr, arith, append_assoc, length-append, eqb, zero, set, slice_get, if◌then◌else◌, ◌==◌, is_some, IfOk, OnOk, Result, Ok, Err, GrantNo, ServerId}
+use Words.{◌≡◌, ◌≢◌, ℕ, suc, ◌+◌, ◌≤◌, ◌<◌, ◌^◌, Bool, true, false, List, [], ◌∷◌, ◌++◌, length, map, Option, Some, None, refl, sym, ap, ◌∙◌, subst}
+use Words.{arith, append_assoc, length-append, zero, set, slice_get, if◌then◌else◌, ◌==◌, is_some, IfOk, OnOk, Result, Ok, Err, GrantNo, ServerId}
 use Words.{Mode, LockRow, Verdict}
 use Words.modes
 use Words.Locks.{Acquired, Locks, Released, acquire, is_under, release, release_to, released, released_at, row_of}
 use Words.World.{numbered, with_numbered}
 use Words.Lookups.{if_true, if_false, some_is}
 use Words.Tables.{and_both}
-use Rattle.std.proofs.lemmas.Bool.Decides.{eqb_tells}
+use Words.Lengths.{map_last, set_same}
+use Words.Truth.{eqb_self}
 use Rattle.st_locks.specs.Calls as locks
 use Rattle.st_lock_tables.specs.declared.refusal.LockRefusal.{LockRefusal}
 use Rattle.st_lock_tables.specs.declared.refusal.LockRefusal.TheVariants as lock_refusals
@@ -34,11 +35,6 @@ use Rattle.st_move.specs.World.{lost_move, one, order_at, order_for, order_told,
 use Rattle.st_move.specs.World.{unlock_at, unlocked, with_site}
 use Rattle.st_move.proofs.Bounds.{moves_go_on}
 use Rattle.st_move.proofs.Runs.{no_update_is_lost}
-
-set_same : {A : Type 0} (xs : List A) (n : ℕ) (x : A) → slice_get xs n ≡ Some x → set xs n x ≡ xs
-set_same [] n x e = refl
-set_same (y ∷ xs) zero x e = ap (λ z. z ∷ xs) (sym (some_is e))
-set_same (y ∷ xs) (suc n) x e = ap (λ zs. y ∷ zs) (set_same xs n x e)
 
 numbered_same : {A : Type 0} (xs : List A) (n : ℕ) (x : A) → numbered xs n ≡ Some x → with_numbered n x xs ≡ xs
 numbered_same xs zero x e = cc
@@ -140,12 +136,6 @@ order_err old new c to e a h r w s i =
     ap (order_told w s old) k.0 ∙ refused_does old new e a w s k.1 r i
 
 -- Lock rows.
-same_number : (n : ℕ) → (n == n) ≡ true
-same_number n = go (eqb_tells n n)
-  where
-    go : ((eqb n n ≡ true) × (n ≡ n)) ⊎ ((eqb n n ≡ false) × (n ≢ n)) → (n == n) ≡ true
-    go (inl h) = h.0
-    go (inr h) = absurd (h.1 refl)
 
 row_told : (o : Option LockRow) (g : GrantNo) (m : Mode) → Some (g, m) ≡ locks.told o → (r : LockRow) × ((o ≡ Some r) × (g ≡ r.g))
 row_told None g m e = cc
@@ -156,7 +146,8 @@ pub release_some : (l new : Locks) (c : ℕ) (g : GrantNo) (m : Mode) (b : Bool)
 unfolding released released_at release release_to unlocked
 release_some l new c g m b can e f =
     let k : (r : LockRow) × ((row_of l one c ≡ Some r) × (g ≡ r.g)) = row_told (row_of l one c) g m e in
-    let u : is_under first g k.0 ≡ true = and_both (k.0.life.0 == 1) (k.0.g.0 == g.0) (ap (λ z. z.0 == 1) (can.releases c k.0 k.1.0)) (ap (λ z. k.0.g.0 == z.0) k.1.1 ∙ same_number k.0.g.0) in
+    let u : is_under first g k.0 ≡ true = and_both (k.0.life.0 == 1) (k.0.g.0 == g.0) (ap (λ z. z.0 == 1) (can.releases c k.0 k.1.0))
+    (ap (λ z. k.0.g.0 == z.0) k.1.1 ∙ eqb_self k.0.g.0) in
     let p : released l one first c g modes.None ≡ release l one c modes.None = ap (released_at l one first c g modes.None) k.1.0 ∙ if_true (is_under first g k.0) _ _ u in
     (ap is_some k.1.0, ap (λ (z : Released). z.locks) (sym f ∙ p))
 
@@ -337,18 +328,17 @@ unfolding order_at
 order_some w s p c to x e f = ap (order_at w s c to) (numbered_at w.sites s.0 p x e f)
 
 -- One more message is sent.
-map_more : {A B : Type 0} (f : A → B) (xs : List A) (x : A) → map f (xs ++ x ∷ []) ≡ map f xs ++ f x ∷ []
-map_more f [] x = refl
-map_more f (y ∷ xs) x = ap (λ ys. f y ∷ ys) (map_more f xs x)
 
 pub send_turn : (from : ServerId) (before sent new : List SentMove) (ys : List (ServerId × MoveMessage)) (p : ServerId × MoveMessage) (answers next : List MoveAnswer) → sent ≡ before ++ map (sent_move from) ys
     → answers ≡ sends_behind (length before) (map (sent_move from) ys) → new ≡ sent ++ sent_move from p ∷ [] → next ≡ answers ++ Sends (length sent + 1) (sent_move from p) ∷ []
     → (new ≡ before ++ map (sent_move from) (ys ++ p ∷ [])) × (next ≡ sends_behind (length before) (map (sent_move from) (ys ++ p ∷ [])))
 send_turn from before sent new ys p answers next e f g h = (
-  g ∙ ap (λ xs. xs ++ sent_move from p ∷ []) e ∙ append_assoc before (map (sent_move from) ys) (sent_move from p ∷ []) ∙ ap (λ xs. before ++ xs) (sym (map_more (sent_move from) ys p)),
+  g ∙ ap (λ xs. xs ++ sent_move from p ∷ []) e ∙ append_assoc before (map (sent_move from) ys) (sent_move from p ∷ []) ∙
+      ap (λ xs. before ++ xs) (sym (map_last (sent_move from) ys p)),
   h ∙ ap (λ xs. xs ++ Sends (length sent + 1) (sent_move from p) ∷ []) f
       ∙ ap (λ n. sends_behind (length before) (map (sent_move from) ys) ++ Sends (n + 1) (sent_move from p) ∷ []) (ap length e ∙ length-append before (map (sent_move from) ys))
-      ∙ sym (sends_more (length before) (map (sent_move from) ys) (sent_move from p)) ∙ ap (sends_behind (length before)) (sym (map_more (sent_move from) ys p)),
+      ∙ sym (sends_more (length before) (map (sent_move from) ys) (sent_move from p)) ∙
+      ap (sends_behind (length before)) (sym (map_last (sent_move from) ys p)),
 )
 
 pub on_ok : {A E : Type 0} (P Q : Type 0) (r : Result A E) → (P → Q) → OnOk r P → OnOk r Q

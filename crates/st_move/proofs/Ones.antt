@@ -4,7 +4,7 @@ use Words.{◌≡◌, ℕ, ◌+◌, ◌≤◌, ◌<◌, ◌^◌, ◌⊎◌, Bool
 use Words.{inr, arith, lt-ltb, if◌then◌else◌, ◌&&◌, ◌||◌, ◌==◌, not, is_some, Ok, list_any, Epoch, LockRow, Verdict}
 use Words.modes
 use Words.verdicts.{Granted}
-use Words.Keys.{put, rising, same_client}
+use Words.Keys.{rising, same_client}
 use Words.Locks.{Locks, acquire, acquire_at, acquire_granted, acquire_held, acquire_more, acquire_new, acquire_over, files_of, grant, has_place, ino_of_row}
 use Words.Locks.{ino_of_wait, is_row_by, is_row_of, is_wait_by, may_grant, new_row, next_grant, no_locks, row_of, stands_against, wait_of, waits_besides}
 use Words.Locks.{without_wait}
@@ -13,6 +13,7 @@ use Words.Lookups.{if_true, or_right}
 use Words.Tables.{found_at, has_filter, has_map}
 use Rattle.st_base.specs.Mode.{conflicts, covers}
 use Rattle.st_lemmas.proofs.Keys.{rising_has, rising_rises}
+use Rattle.st_lemmas.proofs.Puts.{has_put}
 use Rattle.st_locks.specs.Calls.{acquired}
 use Rattle.st_move.specs.Conditions.{CanLock}
 use Rattle.st_move.specs.World.{first, has_lock, locked, one, unlocked}
@@ -38,23 +39,6 @@ ones_later containers n l a = let g : l.grants ≤ n = a.grants in record { gran
 pub ones_fresh : (containers : ℕ) (epoch : Epoch) → AreOnes containers 0 (no_locks epoch)
 ones_fresh containers epoch = record { grants = omega arith; rows = λ r i. absurd i; waiters = refl; limit = refl }
 
--- members of a list in which one was put
-put_has : {A : Type 0} (p : A → Bool) (x : A) (xs : List A) (v : A) → Has v (put p x xs) → (v ≡ x) ⊎ Has v xs
-unfolding put
-put_has p x [] v (inl e) = inl e
-put_has p x [] v (inr h) = absurd h
-put_has {A} p x (y ∷ ys) v h = go (p y) h (put_has p x ys v)
-  where
-    go : (b : Bool) → Has v (if b then x ∷ ys else y ∷ put p x ys) → (Has v (put p x ys) → (v ≡ x) ⊎ Has v ys) → (v ≡ x) ⊎ Has v (y ∷ ys)
-    go true (inl e) f = inl e
-    go true (inr i) f = inr (inr i)
-    go false (inl e) f = inr (inl e)
-    go false (inr i) f = later (f i)
-      where
-        later : (v ≡ x) ⊎ Has v ys → (v ≡ x) ⊎ Has v (y ∷ ys)
-        later (inl e) = inl e
-        later (inr j) = inr (inr j)
-
 -- a lock that is granted
 pub ones_locked : (containers n : ℕ) (l : Locks) (c : ℕ) → 1 ≤ c → c ≤ containers → AreOnes containers n l → AreOnes containers (n + 1) (locked l c)
 unfolding locked grant
@@ -73,7 +57,7 @@ ones_locked containers n l c some known a = go (has_lock l c)
         let g : l.grants ≤ n = a.grants in
         record {
           grants = omega arith;
-          rows = λ r i. rows r (put_has (is_row_of one c) row l.rows r i);
+          rows = λ r i. rows r (has_put (is_row_of one c) row l.rows r i);
           waiters = ap (without_wait one c) a.waiters;
           limit = a.limit;
         }

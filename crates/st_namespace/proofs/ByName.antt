@@ -1,5 +1,6 @@
 -- Entries by directory and name: a place is found by halves.
 use Rattle.std.proofs.Common.{◌≡◌, ℕ, zero, suc, ◌+◌, ◌<◌, ◌≤◌, Bool, true, false, List, [], ◌∷◌, length, get_or, arith, refl, sym, ap, ◌∙◌, ⊎_elim, true≢false}
+use Rattle.std.proofs.lemmas.List.{get_or_default}
 use Rattle.std.specs.Prelude.{◌==◌, bytes_eq}
 use Rattle.std.specs.List.{AllByRecursion, list_any}
 use Rattle.std.proofs.lemmas.Slice.Eq.{bytes_eq-Decides}
@@ -10,11 +11,6 @@ use Rattle.st_rules.specs.Names.{is_entry_at, is_in, name_below}
 use Rattle.st_namespace.specs.StoredEntries.{AreByName, key_of, stands_before}
 use Rattle.st_namespace.proofs.Bytes.{nothing_below}
 use Rattle.st_namespace.proofs.Ordered.{below_anti, below_itself, below_same, below_trans, byte_cases, byte_not}
-
-pub any_default : {K : Type 0} (xs : List K) (i : ℕ) (d e : K) → i < length xs → get_or xs i d ≡ get_or xs i e
-any_default [] i d e l = let no : ⊥ = omega arith in absurd no
-any_default (x ∷ xs) zero d e l = refl
-any_default (x ∷ xs) (suc i) d e l = any_default xs i d e (omega arith)
 
 every_at : (P : NameEntry → Type 0) (es : List NameEntry) (i : ℕ) (d : NameEntry) → i < length es → AllByRecursion P es → P (get_or es i d)
 every_at P [] i d l a = let no : ⊥ = omega arith in absurd no
@@ -47,7 +43,7 @@ not_before dir name e h = ⊎_elim
 -- A search by halves.
 module _ (es : List NameEntry) (o : AreByName es) (dir : ℕ) (name : List ℕ) (m : ℕ) (a : NameEntry) (l : m < length es) (is : a ≡ get_or es m a) where
   same_at : (d : NameEntry) → get_or es m d ≡ a
-  same_at d = any_default es m d a l ∙ sym is
+  same_at d = get_or_default es m d a l ∙ sym is
 
   pub before_more : stands_before dir name a ≡ true → (j : ℕ) (d : NameEntry) → j < m + 1 → stands_before dir name (get_or es j d) ≡ true
   before_more h j d k = ⊎_elim
@@ -94,7 +90,7 @@ module _ (es : List NameEntry) (o : AreByName es) (dir : ℕ) (name : List ℕ) 
     -- the first that doesn't come before it has another name
     pub no_entry : is_entry_at dir name a ≡ false → list_any (is_entry_at dir name) es ≡ false
     no_entry f = none_any (is_entry_at dir name) es (λ j d k. ⊎_elim
-        (λ (e : j ≡ place). ap (is_entry_at dir name) (ap (λ n. get_or es n d) e ∙ any_default es place d a l ∙ sym is) ∙ f)
+        (λ (e : j ≡ place). ap (is_entry_at dir name) (ap (λ n. get_or es n d) e ∙ get_or_default es place d a l ∙ sym is) ∙ f)
         (λ c. ⊎_elim
         (λ s. not_before dir name (get_or es j d) (before j d s))
         (λ s. ⊎_elim
@@ -105,11 +101,15 @@ module _ (es : List NameEntry) (o : AreByName es) (dir : ℕ) (name : List ℕ) 
 
     -- what comes after the name, where the first that doesn't come before it has it
     pub behind_entry : is_entry_at dir name a ≡ true → (j : ℕ) (d : NameEntry) → place + 1 ≤ j → j < length es → name_below (dir ∷ name) (key_of (get_or es j d)) ≡ true
-    behind_entry t j d k s = ap (λ x. name_below x (key_of (get_or es j d))) (sym (key_is dir name (get_or es place d) (ap (is_entry_at dir name) (any_default es place d a l ∙ sym is) ∙ t))) ∙ behind_at es place j d o (omega (arith, k)) s
+    behind_entry t j d k s = ap (λ x. name_below x (key_of (get_or es j d)))
+        (sym (key_is dir name (get_or es place d) (ap (is_entry_at dir name) (get_or_default es place d a l ∙ sym is) ∙ t))) ∙
+        behind_at es place j d o (omega (arith, k)) s
 
     pub before_entry : is_entry_at dir name a ≡ true → (j : ℕ) (d : NameEntry) → j < place + 1 → name_below (dir ∷ name) (key_of (get_or es j d)) ≡ false
     before_entry t j d k = ⊎_elim
-        (λ (e : j ≡ place). ap (name_below (dir ∷ name)) (key_is dir name (get_or es j d) (ap (is_entry_at dir name) (ap (λ n. get_or es n d) e ∙ any_default es place d a l ∙ sym is) ∙ t)) ∙ below_itself (dir ∷ name))
+        (λ (e : j ≡ place). ap (name_below (dir ∷ name))
+        (key_is dir name (get_or es j d) (ap (is_entry_at dir name) (ap (λ n. get_or es n d) e ∙ get_or_default es place d a l ∙ sym is) ∙ t)) ∙
+        below_itself (dir ∷ name))
         (λ n. below_anti (key_of (get_or es j d)) (dir ∷ name) (before j d (omega (arith, k, n))))
         (cases_eq j place)
 
@@ -146,11 +146,11 @@ module _ (es : List NameEntry) (o : AreByName es) (dir : ℕ) (place : ℕ) (bef
   first_in behind a l is = ⊎_elim
       (λ t. t ∙ sym (list_any_at (is_in dir) es place a l (ap (is_in dir) (sym is) ∙ t)))
       (λ f. f ∙ sym (none_any (is_in dir) es (λ j d k. ⊎_elim
-      (λ (e : j ≡ place). ap (is_in dir) (ap (λ n. get_or es n d) e ∙ any_default es place d a l ∙ sym is) ∙ f)
+      (λ (e : j ≡ place). ap (is_in dir) (ap (λ n. get_or es n d) e ∙ get_or_default es place d a l ∙ sym is) ∙ f)
       (λ c. ⊎_elim
       (λ s. dir_below dir (get_or es j d) (before j d s))
       (λ s.
-      let first : get_or es place d ≡ a = any_default es place d a l ∙ sym is in
+      let first : get_or es place d ≡ a = get_or_default es place d a l ∙ sym is in
       let low = dir_from dir [] (get_or es place d) (behind place d (omega arith) l) in
       let up = dir_up (get_or es place d) (get_or es j d) (behind_at es place j d o s k) in
       let at : (get_or es place d).dir ≡ a.dir = ap (λ (x : NameEntry). x.dir) first in

@@ -1,14 +1,9 @@
 -- Two names are compared byte by byte.
-use Rattle.std.proofs.Common.{◌≡◌, ℕ, ◌+◌, ◌<◌, ◌≤◌, true, false, List, [], ◌∷◌, length, get_or, drop, arith, refl}
+use Rattle.std.proofs.Common.{◌≡◌, ℕ, ◌+◌, ◌<◌, ◌≤◌, true, false, List, [], ◌∷◌, length, get_or, drop, refl}
 use Rattle.std.specs.Prelude.{nat_lt}
 use Rattle.std.proofs.lemmas.Bool.{eq-eqb, ne_eqb}
-use Rattle.std.proofs.lemmas.List.{drop_all}
-use Rattle.std.proofs.lemmas.Grind.{common_steps}
+use Rattle.std.proofs.lemmas.List.{drop_all, drop_more}
 use Rattle.st_rules.specs.Names.{name_below, byte_below}
-
--- a list from a place on begins with the item there
-pub drop_more : {A : Type 0} (xs : List A) (i : ℕ) (d : A) → i < length xs → drop i xs ≡ get_or xs i d ∷ drop (i + 1) xs
-drop_more xs i d l = grind (arith, common_steps)
 
 pub below_same : (a b : List ℕ) (i d e : ℕ) → i < length a → i < length b → get_or a i d ≡ get_or b i e → name_below (drop i a) (drop i b) ≡ name_below (drop (i + 1) a) (drop (i + 1) b)
 unfolding name_below byte_below

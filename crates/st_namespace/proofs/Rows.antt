@@ -3,14 +3,14 @@ use Rattle.std.proofs.Common.{◌≡◌, ℕ, zero, suc, ◌+◌, ◌<◌, ◌�
 use Rattle.std.specs.Prelude.{◌&&◌, ◌||◌, find, Some}
 use Rattle.std.specs.List.{AllByRecursion, list_any}
 use Rattle.std.proofs.lemmas.Bool.{and_parts, and_right, cases_Bool, cases_eq, eq-eqb, eqb-true, ne_eqb}
-use Rattle.std.proofs.lemmas.List.{drop_all, drop_more}
+use Rattle.std.proofs.lemmas.List.{drop_all, drop_more, get_or_default}
 use Rattle.st_base.specs.declared.names.NameRow.{NameRow}
 use Rattle.st_rules.specs.declared.names.NameEntry.{NameEntry}
 use Rattle.st_rules.specs.Names.{by_name, is_in, is_listed, is_of_ino, name_below, name_row}
 use Rattle.st_namespace.specs.declared.entries.Inode.{Inode}
 use Rattle.st_namespace.specs.Order.{IsRising}
 use Rattle.st_namespace.specs.StoredEntries.{AreByName, Stores, key_of}
-use Rattle.st_namespace.proofs.ByName.{any_default, behind_at, dir_up}
+use Rattle.st_namespace.proofs.ByName.{behind_at, dir_up}
 use Rattle.st_namespace.proofs.Keeps.{index_of, one_place}
 use Rattle.st_namespace.proofs.Ordered.{AreApart, AreRising, any_sorted, byte_same, one_rising, sorted_rises}
 
@@ -192,7 +192,7 @@ module _ (dir : ℕ) (sorted : List NameEntry) (o : AreByName sorted) (base : Li
       other : (j : ℕ) (d : NameEntry) → j < length (drop i sorted) → is_in dir (get_or (drop i sorted) j d) ≡ false
       other j d m =
           let inside = length_left sorted i j m in
-          let first : get_or sorted i d ≡ e = any_default sorted i d e l ∙ sym is in
+          let first : get_or sorted i d ≡ e = get_or_default sorted i d e l ∙ sym is in
           let high : e.dir ≤ (get_or sorted (i + j) d).dir =
           ⊎_elim
           (λ (z : j ≡ 0). let w : get_or sorted (i + j) d ≡ e = ap (λ n. get_or sorted n d) (same i j z) ∙ first in let v : (get_or sorted (i + j) d).dir ≡ e.dir = ap (λ (x : NameEntry). x.dir) w in omega (arith, v))

@@ -1,14 +1,16 @@
 -- What a page cache keeps through each of its changes.
 use Rattle.st_lemmas.proofs.Words
-use Words.{◌≡◌, ℕ, suc, ◌+◌, ◌<◌, ◌≤◌, ◌⊎◌, Bool, true, false, List, [], ◌∷◌, map, length, take, zero, if◌then◌else◌, refl, sym, ap, ◌∙◌, subst, inl, inr}
+use Words.{◌≡◌, ℕ, ◌+◌, ◌<◌, ◌≤◌, ◌⊎◌, Bool, true, false, List, [], ◌∷◌, map, length, if◌then◌else◌, refl, sym, ap, ◌∙◌, subst, inl, inr}
 use Words.{arith, find, filter, not, Option, Some, None, ◌&&◌, ◌==◌, list_any, length-map, and_parts, eqb-true, ltb-true, lt-ltb, or_from, PageNo, CleanPage}
 use Words.{DirtyPage}
 use Words.Lists.{Has}
-use Words.Tables.{all_pass, each_passes, none_passes, has_filter, has_map, none_has, found_at}
+use Words.Tables.{all_pass, each_passes, none_passes, has_filter, has_map, none_has, found_at, not_true}
 use Words.Keys.{put}
 use Words.ClientInvariants.{is_only_dirty, has_version}
 use Words.ClientPages.{Pages, is_clean_of, is_dirty_of, without_clean, without_dirty, with_newest, new_dirty, fail_of, failed_by, clean_page, dirty_of, harden}
 use Words.ClientPages.{harden_at, harden_page}
+use Words.Truth.{eqb_turned}
+use Words.Members.{has_take}
 use Rattle.st_lemmas.proofs.Puts.{has_put}
 use Rattle.st_page_cache.specs.Caches.{IsSound, pages_of}
 use Rattle.st_page_cache.specs.KeyedPages.{touched}
@@ -20,10 +22,6 @@ NoneOf clean d = (c : CleanPage) → Has c clean → is_clean_of d.ino d.page c 
 
 none_by : (clean : List CleanPage) (d : DirtyPage) → not (list_any (is_clean_of d.ino d.page) clean) ≡ true → NoneOf clean d
 none_by clean d h c m = none_passes (is_clean_of d.ino d.page) clean (not_true (list_any (is_clean_of d.ino d.page) clean) h) c m
-  where
-    not_true : (b : Bool) → not b ≡ true → b ≡ false
-    not_true true e = cc
-    not_true false e = refl
 
 by_none : (clean : List CleanPage) (d : DirtyPage) → NoneOf clean d → not (list_any (is_clean_of d.ino d.page) clean) ≡ true
 by_none clean d n = ap not (none clean n)
@@ -32,17 +30,8 @@ by_none clean d n = ap not (none clean n)
     none [] n = refl
     none (x ∷ xs) n = or_from (is_clean_of d.ino d.page x) (list_any (is_clean_of d.ino d.page) xs) (n x (inl refl)) (none xs (λ c m. n c (inr m)))
 
-has_take : {A : Type 0} (n : ℕ) (xs : List A) (x : A) → Has x (take n xs) → Has x xs
-has_take zero xs x m = elim m [ ]
-has_take (suc n) [] x m = elim m [ ]
-has_take (suc n) (y ∷ ys) x (inl e) = inl e
-has_take (suc n) (y ∷ ys) x (inr m) = inr (has_take n ys x m)
-
-eq_symm : (a b : ℕ) → (a == b) ≡ (b == a)
-eq_symm a b = grind arith
-
 other_page : (c : CleanPage) (d : DirtyPage) → is_clean_of d.ino d.page c ≡ is_dirty_of c.ino c.page d
-other_page c d = λ i. eq_symm c.ino d.ino i && eq_symm c.page.0 d.page.0 i
+other_page c d = λ i. eqb_turned c.ino d.ino i && eqb_turned c.page.0 d.page.0 i
 
 sound_from : (clean : List CleanPage) (dirty : List DirtyPage) (next : ℕ) → ((d : DirtyPage) → Has d dirty → NoneOf clean d) → length dirty ≤ 64 → ((d : DirtyPage) → Has d dirty → d.version < next) → IsSound (pages_of clean dirty next)
 sound_from clean dirty next a l v =
@@ -67,10 +56,6 @@ module _ (clean : List CleanPage) (dirty : List DirtyPage) (next : ℕ) (s : IsS
       where
         page_at : (d : DirtyPage) → Has d new → (d ≡ new_dirty (pages_of clean dirty next) ino page bytes) ⊎ Has d dirty
         page_at d m = has_put (is_dirty_of ino page) (new_dirty (pages_of clean dirty next) ino page bytes) dirty d (subst (λ l. Has d l) e m)
-
-        not_true : (b : Bool) → not b ≡ true → b ≡ false
-        not_true true e = cc
-        not_true false e = refl
 
         a_by : (d : DirtyPage) → (d ≡ new_dirty (pages_of clean dirty next) ino page bytes) ⊎ Has d dirty → NoneOf (without_clean ino page clean) d
         a_by d (inl q) c m =
@@ -109,10 +94,6 @@ module _ (clean : List CleanPage) (dirty : List DirtyPage) (next : ℕ) (s : IsS
   pub sound_hardened : (c : CleanPage) (ino : ℕ) (page : PageNo) → c.ino ≡ ino → c.page ≡ page → IsSound (pages_of (with_newest 256 c clean) (without_dirty ino page dirty) next)
   sound_hardened c ino page i q = sound_newest c (without_dirty ino page dirty) f (let l = filter_at_most (λ d. not (is_dirty_of ino page d)) dirty in let k = s.few_dirty in omega arith)
     where
-      not_true : (b : Bool) → not b ≡ true → b ≡ false
-      not_true true e = cc
-      not_true false e = refl
-
       f : (d : DirtyPage) → Has d (without_dirty ino page dirty) → Has d dirty × (is_dirty_of c.ino c.page d ≡ false)
       f d m =
           let h = has_filter (λ d. not (is_dirty_of ino page d)) dirty d m in

@@ -6,6 +6,7 @@ use Words.Tables.{found_at}
 use Words.ClientInvariants.{same_clean}
 use Words.ClientPages.{is_clean_of, without_clean}
 use Words.ServerInvariants.{are_once}
+use Words.Truth.{eqb_turned}
 use Rattle.std.specs.List.{IsDistinct}
 use Rattle.std.specs.Option.{option_map, option_map_or}
 use Rattle.std.specs.Map.{keys_of, values_of, lookup, lookup_entry, remove_entry}
@@ -13,9 +14,6 @@ use Rattle.lru.specs.LruCache.{LruCache, lru_cache, promoted}
 use Rattle.st_page_cache.specs.declared.key.PageKey.{PageKey}
 use Rattle.st_page_cache.specs.KeyedPages.{IsKeyed, IsCache, clean_key, same_key, touched}
 use Rattle.st_page_cache.proofs.Keyed.{lookup_is_find, remove_is_filter, none_found, keyed_remove, keyed_cons, keyed_head, keyed_tail, once}
-
-eq_symm : (a b : ℕ) → (a == b) ≡ (b == a)
-eq_symm a b = grind arith
 
 same_is : (a b : PageKey) → same_key a b ≡ true → a ≡ b
 same_is a b h =
@@ -66,7 +64,7 @@ keyed_take (suc n) (e ∷ es) h = keyed_cons clean_key e (take n es) (keyed_head
 
 module _ (ino : ℕ) (page : PageNo) (k : PageKey) (is : k ≡ record { ino = ino; page = page.0 }) where
   agree : (x : CleanPage) → same_key k (clean_key x) ≡ is_clean_of ino page x
-  agree x = ap (λ z. same_key z (clean_key x)) is ∙ (λ i. eq_symm ino x.ino i && eq_symm page.0 x.page.0 i)
+  agree x = ap (λ z. same_key z (clean_key x)) is ∙ (λ i. eqb_turned ino x.ino i && eqb_turned page.0 x.page.0 i)
 
   pub page_found : (es : List (PageKey × CleanPage)) → IsKeyed clean_key es → lookup (same_key k) es ≡ find (is_clean_of ino page) (values_of es)
   page_found es h = lookup_is_find clean_key (same_key k) (is_clean_of ino page) agree es h
@@ -147,7 +145,7 @@ keyed_touched k es h = keyed_touched_by k es h (lookup_entry (same_key k) es) re
 
 -- Each page is there once.
 same_tied : (x y : CleanPage) → same_clean x y ≡ same_key (clean_key x) (clean_key y)
-same_tied x y = λ i. eq_symm y.ino x.ino i && eq_symm y.page.0 x.page.0 i
+same_tied x y = λ i. eqb_turned y.ino x.ino i && eqb_turned y.page.0 x.page.0 i
 
 pub pages_once : (es : List (PageKey × CleanPage)) → IsKeyed clean_key es → IsDistinct same_key (keys_of es) → are_once same_clean (values_of es) ≡ true
 pages_once es h d = once clean_key same_key same_clean same_tied (values_of es) (subst (IsDistinct same_key) h d)

@@ -1,12 +1,14 @@
 -- The dirty pages by their keys: look-up, change and removal.
 use Rattle.st_lemmas.proofs.Words
 use Words.{◌≡◌, ℕ, suc, ◌+◌, Bool, true, false, cond, List, [], ◌∷◌, map, length, refl, sym, ap, subst, ◌∙◌, ⊎_elim, arith, find, is_some, Option, Some, None}
-use Words.{◌&&◌, ◌==◌, AllByRecursion, cases_Bool, and_parts, eqb-true, length-map, PageNo, DirtyPage}
+use Words.{◌&&◌, ◌==◌, AllByRecursion, cases_Bool, and_parts, eqb-true, PageNo, DirtyPage}
 use Words.Tables.{found_at}
 use Words.ClientInvariants.{same_dirty}
 use Words.ClientPages.{is_dirty_of, without_dirty, fail_of, failed_by}
 use Words.Keys.{put}
 use Words.ServerInvariants.{are_once}
+use Words.Truth.{eqb_turned}
+use Rattle.std.proofs.lemmas.Map.Entries.{length-values_of}
 use Rattle.std.specs.List.{IsDistinct}
 use Rattle.std.specs.Map.{keys_of, values_of, lookup, remove_entry, set_value}
 use Rattle.indexmap.specs.IndexMap.{insert_entry}
@@ -15,9 +17,6 @@ use Rattle.st_page_cache.specs.KeyedPages.{IsKeyed, IsTable, dirty_key, same_key
 use Rattle.st_page_cache.specs.DirtyPlaces.{place_of, same_place}
 use Rattle.st_page_cache.proofs.Keyed.{lookup_is_find, remove_is_filter, none_found, keyed_remove, keyed_insert, keyed_set, insert_is_put, set_is_map}
 use Rattle.st_page_cache.proofs.Keyed.{absent_is_map, once, distinct_as}
-
-eq_symm : (a b : ℕ) → (a == b) ≡ (b == a)
-eq_symm a b = grind arith
 
 pub same_is : (a b : PageKey) → same_key a b ≡ true → a ≡ b
 same_is a b h =
@@ -50,7 +49,7 @@ module _ {K X : Type 0} (t : K → Bool) where
 
 -- a page is there once
 same_tied : (x y : DirtyPage) → same_dirty x y ≡ same_key (dirty_key x) (dirty_key y)
-same_tied x y = λ i. eq_symm y.ino x.ino i && eq_symm y.page.0 x.page.0 i
+same_tied x y = λ i. eqb_turned y.ino x.ino i && eqb_turned y.page.0 x.page.0 i
 
 pub rows_once : (es : List (PageKey × DirtyPage)) → IsTable es → are_once same_dirty (values_of es) ≡ true
 rows_once es t = once dirty_key same_key same_dirty same_tied (values_of es) (subst (IsDistinct same_key) t.keyed t.distinct)
@@ -58,12 +57,9 @@ rows_once es t = once dirty_key same_key same_dirty same_tied (values_of es) (su
 pub places_differ : (es : List (PageKey × DirtyPage)) → IsTable es → IsDistinct same_place (map place_of (values_of es))
 places_differ es t = distinct_as dirty_key same_key same_place place_of (λ x y. refl) (values_of es) (subst (IsDistinct same_key) t.keyed t.distinct)
 
-pub length_values : {K X : Type 0} (es : List (K × X)) → length (values_of es) ≡ length es
-length_values es = length-map es (λ e. e.1)
-
 module _ (ino : ℕ) (page : PageNo) (k : PageKey) (is : k ≡ record { ino = ino; page = page.0 }) where
   agree : (x : DirtyPage) → same_key k (dirty_key x) ≡ is_dirty_of ino page x
-  agree x = ap (λ z. same_key z (dirty_key x)) is ∙ (λ i. eq_symm ino x.ino i && eq_symm page.0 x.page.0 i)
+  agree x = ap (λ z. same_key z (dirty_key x)) is ∙ (λ i. eqb_turned ino x.ino i && eqb_turned page.0 x.page.0 i)
 
   module _ (es : List (PageKey × DirtyPage)) (t : IsTable es) where
     pub row_found : lookup (same_key k) es ≡ find (is_dirty_of ino page) (values_of es)
@@ -84,10 +80,10 @@ module _ (ino : ℕ) (page : PageNo) (k : PageKey) (is : k ≡ record { ino = in
     -- how many others there are
     pub others_there : (x : DirtyPage) → lookup (same_key k) es ≡ Some x → length (without_dirty ino page (values_of es)) + 1 ≡ length es
     others_there x h =
-        ap (λ l. length l + 1) (sym row_removed) ∙ ap (λ n. n + 1) (length_values (remove_entry (same_key k) es)) ∙ one_less (same_key k) es x h
+        ap (λ l. length l + 1) (sym row_removed) ∙ ap (λ n. n + 1) (length-values_of (remove_entry (same_key k) es)) ∙ one_less (same_key k) es x h
 
     pub others_all : lookup (same_key k) es ≡ None → length (without_dirty ino page (values_of es)) ≡ length es
-    others_all h = ap length (none_found dirty_key (same_key k) (is_dirty_of ino page) agree es t.keyed (keys_fail (same_key k) es h)) ∙ length_values es
+    others_all h = ap length (none_found dirty_key (same_key k) (is_dirty_of ino page) agree es t.keyed (keys_fail (same_key k) es h)) ∙ length-values_of es
 
     held_by : (o : Option DirtyPage) → lookup (same_key k) es ≡ o → is_some o ≡ true → length (without_dirty ino page (values_of es)) + 1 ≡ length es
     held_by None h t = cc
@@ -120,8 +116,8 @@ module _ (ino : ℕ) (page : PageNo) (k : PageKey) (is : k ≡ record { ino = in
         (cases_Bool (same_key k f.0))
 
     length_by : (x : DirtyPage) (o : Option DirtyPage) → lookup (same_key k) es ≡ o → length (values_of (insert_entry same_key es k x)) ≡ length (without_dirty ino page (values_of es)) + 1
-    length_by x None h = length_values (insert_entry same_key es k x) ∙ insert_last es x h ∙ ap (λ n. n + 1) (sym (others_all h))
-    length_by x (Some y) h = length_values (insert_entry same_key es k x) ∙ insert_there es x y h ∙ sym (others_there y h)
+    length_by x None h = length-values_of (insert_entry same_key es k x) ∙ insert_last es x h ∙ ap (λ n. n + 1) (sym (others_all h))
+    length_by x (Some y) h = length-values_of (insert_entry same_key es k x) ∙ insert_there es x y h ∙ sym (others_there y h)
 
     -- one more than the others
     pub put_length : (x : DirtyPage) → length (values_of (insert_entry same_key es k x)) ≡ length (without_dirty ino page (values_of es)) + 1

@@ -1,10 +1,11 @@
 -- What is known of pages by their keys: look-up, change and removal.
 use Rattle.st_lemmas.proofs.Words
-use Words.{◌≡◌, ℕ, ◌+◌, ◌<◌, Bool, true, List, [], ◌∷◌, length, drop, refl, sym, ap, subst, ◌∙◌, ⊎_elim, arith, get_or, filter, slice_get, Some, ◌&&◌, ◌==◌}
+use Words.{◌≡◌, ℕ, ◌+◌, ◌<◌, Bool, true, List, [], ◌∷◌, length, drop, refl, sym, ap, subst, ◌∙◌, ⊎_elim, get_or, filter, slice_get, Some, ◌&&◌}
 use Words.{cases_Bool, PageNo, ExtentRow, KnownExtent}
 use Words.ClientInvariants.{same_known}
 use Words.ClientPages.{is_known_of, known_of, known_row, with_known, with_known_rows}
 use Words.ServerInvariants.{are_once}
+use Words.Truth.{eqb_turned}
 use Rattle.std.specs.List.{IsDistinct}
 use Rattle.std.specs.Map.{keys_of, values_of, lookup}
 use Rattle.std.proofs.lemmas.Option.{slice_get-get_or}
@@ -15,18 +16,15 @@ use Rattle.st_page_cache.proofs.DirtyRows.{same_is}
 use Rattle.st_page_cache.proofs.Keyed.{lookup_is_find, keyed_cons, keyed_head, keyed_tail, keyed_insert, insert_is_put, once}
 use Rattle.st_page_cache.proofs.Steps.{drop_next}
 
-eq_symm : (a b : ℕ) → (a == b) ≡ (b == a)
-eq_symm a b = grind arith
-
 same_tied : (x y : KnownExtent) → same_known x y ≡ same_key (known_key x) (known_key y)
-same_tied x y = λ i. eq_symm y.ino x.ino i && eq_symm y.page.0 x.page.0 i
+same_tied x y = λ i. eqb_turned y.ino x.ino i && eqb_turned y.page.0 x.page.0 i
 
 pub known_once : (es : List (PageKey × KnownExtent)) → IsKnown es → are_once same_known (values_of es) ≡ true
 known_once es t = once known_key same_key same_known same_tied (values_of es) (subst (IsDistinct same_key) t.keyed t.distinct)
 
 module _ (ino : ℕ) (page : PageNo) (k : PageKey) (is : k ≡ record { ino = ino; page = page.0 }) where
   agree : (x : KnownExtent) → same_key k (known_key x) ≡ is_known_of ino page x
-  agree x = ap (λ z. same_key z (known_key x)) is ∙ (λ i. eq_symm ino x.ino i && eq_symm page.0 x.page.0 i)
+  agree x = ap (λ z. same_key z (known_key x)) is ∙ (λ i. eqb_turned ino x.ino i && eqb_turned page.0 x.page.0 i)
 
   pub known_found : (es : List (PageKey × KnownExtent)) → IsKnown es → lookup (same_key k) es ≡ known_of (values_of es) ino page
   known_found es t = lookup_is_find known_key (same_key k) (is_known_of ino page) agree es t.keyed

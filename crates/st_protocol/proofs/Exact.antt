@@ -4,8 +4,9 @@ use Rattle.st_protocol.specs.Assoc.{Config, Lock, Msg, Row, upd, Assoc, In, Aliv
 use Rattle.st_protocol.proofs.Lists.{upd_all, upd_both, upd_up, upd-same, swept}
 use Rattle.st_protocol.proofs.Timing.{Timing}
 use Rattle.st_protocol.proofs.Locks.{Lost, Covered, Locks}
-use Rattle.st_protocol.proofs.Steps.{bool_cases, outsider}
+use Rattle.st_protocol.proofs.Steps.{outsider}
 use Rattle.st_protocol.proofs.Claims.{AskedFor, in_back, not_lost, inside}
+use Rattle.std.proofs.lemmas.Bool.{cases_Bool}
 
 -- an exclusive lock with this number, held or on its way
 pub data ExclusiveAt (a : Assoc) (i x : ℕ) : Type 0 where
@@ -160,7 +161,7 @@ module _ (k : Config) where
   exact (Crashes a) t l q e s al i x ex = cc (al.leased)
   exact (Begins a stamp epoch j h w) t l q e s al i x (Holds o f) = absurd (omega arith)
   exact (Begins a stamp epoch j h w) t l q e s al i x (Comes st mode y two lt) = let z = q.msgs _ y refl refl in cc (z.leased)
-  exact (Adopts a stamp epoch j h w) t l q e s al i x ex = go (bool_cases a.s.grace)
+  exact (Adopts a stamp epoch j h w) t l q e s al i x ex = go (cases_Bool a.s.grace)
     where
       go : (a.s.grace ≡ true) ⊎ (a.s.grace ≡ false) → (a.s.row i).g ≤ x
       go (inl g) = let z = l.graced s.up g s.session in let y = s.epoch in absurd (omega arith)

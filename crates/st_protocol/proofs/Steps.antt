@@ -1,5 +1,6 @@
 -- Each move keeps the lock layer over restarts.
-use Rattle.std.proofs.Common.{◌≡◌, ℕ, ◌+◌, ◌<◌, ◌≤◌, ◌⊎◌, Bool, true, false, ◌∷◌, refl, sym, ◌∙◌, inl, inr, arith, leb-true, leb-false}
+use Rattle.std.proofs.Common.{◌≡◌, ℕ, ◌+◌, ◌<◌, ◌≤◌, ◌⊎◌, true, false, ◌∷◌, refl, sym, ◌∙◌, inl, inr, arith, leb-true, leb-false}
+use Rattle.std.proofs.lemmas.Bool.{cases_Bool}
 use Rattle.std.specs.Prelude.{nat_le}
 use Rattle.st_protocol.specs.Assoc.{Config, ConfigOk, Msg, no_lock, no_row, upd, Assoc, In, send, client, server, msg, Move, Hello, Plain, Released, Reassert, Welcome, Ack, Reasserted, Granted, Demand, OfOtherEpoch, Greets, Asks, Loses, Crashes, Begins, Installs, AskedOfNone, Asked, Declines, Repeats, Again, Sweeps, Reduces, Adopts, Reasserts, Welcomes, WelcomesAgain, Acks, Refuses, Accepts, Steals, Grants, GrantsAgain, Demands, Releases, Stops, Starts}
 use Rattle.st_protocol.proofs.Lists.{upd_all, upd_up, upd-same, in_cons, swept}
@@ -9,10 +10,6 @@ use Rattle.st_protocol.proofs.Locks.{Gone, Lost, Covered, Now, OfNow, Locks, now
 or_right : (C : Type 0) (G H : Type 0) → (G → H) → C ⊎ G → C ⊎ H
 or_right C G H f (inl c) = inl c
 or_right C G H f (inr x) = inr (f x)
-
-pub bool_cases : (b : Bool) → (b ≡ true) ⊎ (b ≡ false)
-bool_cases true = inl refl
-bool_cases false = inr refl
 
 pub same_or_less : (a b : ℕ) → a ≤ b → (a ≡ b) ⊎ (a < b)
 same_or_less a b h = grind arith
@@ -24,7 +21,7 @@ module _ (k : Config) where
       record { ended = omega (arith, t.lives); dead = refl; replies = λ m i r e. over k a.s.drift a.s.clock a.c.clock a.s.start a.s.base t.limit ok (t.timer on) h m.stamp (t.stamps on m i r) }
 
   pub held_leased : (a : Assoc) → Locks k a → (i : ℕ) → 1 ≤ (a.c.held i).mode → a.c.leased ≡ true
-  held_leased a l i o = go (bool_cases a.c.leased)
+  held_leased a l i o = go (cases_Bool a.c.leased)
     where
       go : (a.c.leased ≡ true) ⊎ (a.c.leased ≡ false) → a.c.leased ≡ true
       go (inl e) = e
@@ -51,7 +48,7 @@ module _ (k : Config) where
   held ok (Begins a stamp epoch j h w) t l u e s i o = absurd (omega (arith, (l.new h).1 i))
   held ok (Stops a u2) t l u e s i o = cc
   held ok (Starts a u2) t l u e s i o = absurd (omega (arith, t.ahead))
-  held ok (Adopts a stamp epoch j h w) t l u e s i o = go (bool_cases a.s.grace)
+  held ok (Adopts a stamp epoch j h w) t l u e s i o = go (cases_Bool a.s.grace)
     where
       go : (a.s.grace ≡ true) ⊎ (a.s.grace ≡ false) → Covered a.c.life (a.s.row i) (a.c.held i).g (a.c.held i).mode ⊎ Lost k (client (record a.c { epoch = epoch; due = true }) a)
       go (inl g) = let q = l.graced u g s in absurd (omega arith)
@@ -214,7 +211,8 @@ module _ (k : Config) where
       b = send (msg a.c.life a.c.epoch 0 (Released i (a.c.held i).g to)) (client (record a.c { held = upd a.c.held i (record { g = gn; mode = to }) }) a)
 
       rel : (d g2 t2 : ℕ) → a.c.epoch ≡ a.s.epoch → g2 ≤ a.c.seen d → ((a.c.held d).g ≤ g2 → (a.c.held d).mode ≤ t2) → (b.c.held d).g ≤ g2 → (b.c.held d).mode ≤ t2
-      rel d g2 t2 x s2 q = upd_all (λ d x. ((a.c.held d).g ≤ g2 → (a.c.held d).mode ≤ t2) → x.g ≤ g2 → x.mode ≤ t2) a.c.held i (record { g = gn; mode = to }) (λ o q. low_mode (bool_cases (nat_le 1 to)) o q) (λ d n o q. o q) d q
+      rel d g2 t2 x s2 q = upd_all (λ d x. ((a.c.held d).g ≤ g2 → (a.c.held d).mode ≤ t2) → x.g ≤ g2 → x.mode ≤ t2) a.c.held i (record { g = gn; mode = to })
+          (λ o q. low_mode (cases_Bool (nat_le 1 to)) o q) (λ d n o q. o q) d q
         where
           low_mode : (nat_le 1 to ≡ true) ⊎ (nat_le 1 to ≡ false) → ((a.c.held i).g ≤ g2 → (a.c.held i).mode ≤ t2) → gn ≤ g2 → to ≤ t2
           low_mode (inl e) o q = let y = gl (leb-true _ _ e) in let z = o (omega arith) in omega (arith, z)

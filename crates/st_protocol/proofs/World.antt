@@ -4,8 +4,8 @@ use Rattle.st_protocol.specs.Assoc.{Config, ConfigOk, Lock, Msg, Row, Server, As
 use Rattle.st_protocol.proofs.Timing.{late}
 use Rattle.st_protocol.proofs.Invariant.{Invariant, kept_one}
 use Rattle.st_protocol.proofs.Exact.{held_exact, lands_on_less}
-use Rattle.st_protocol.proofs.Steps.{bool_cases}
 use Rattle.st_protocol.proofs.Claims.{Before, shrinks, stopped, in_service}
+use Rattle.std.proofs.lemmas.Bool.{cases_Bool}
 
 abbrev ClaimsCompat : Config → World → Type 0
 ClaimsCompat k w = (c d i m n : ℕ) → c ≢ d → 1 ≤ m → 1 ≤ n → Claim k (w.at c) i m → Claim k (w.at d) i n → m + n ≤ 2
@@ -17,7 +17,7 @@ pub record All (k : Config) (w : World) : Type 0 where
   pub claims : Frozen (w.at 0).s → ClaimsCompat k w
 
 pub frozen_or_not : (s : Server) → Frozen s ⊎ InService s
-frozen_or_not s = go (bool_cases s.up) (bool_cases s.grace)
+frozen_or_not s = go (cases_Bool s.up) (cases_Bool s.grace)
   where
     go : (s.up ≡ true) ⊎ (s.up ≡ false) → (s.grace ≡ true) ⊎ (s.grace ≡ false) → Frozen s ⊎ InService s
     go (inr u) g = inl (inl u)

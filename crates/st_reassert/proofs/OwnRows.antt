@@ -2,7 +2,7 @@
 use Rattle.std.proofs.Common.{◌≡◌, ℕ, ◌⊎◌, Bool, true, false, ◌&&◌, ◌||◌, ◌==◌, not, cond, List, [], ◌∷◌, Option, Some, None, refl, sym, ap, ◌∙◌, inl, inr}
 use Rattle.std.specs.Prelude.{filter, filter_map, find, map, nat_le, nat_lt, slice_get, option_map}
 use Rattle.std.specs.List.{cons_option, list_any}
-use Rattle.std.proofs.lemmas.Bool.{eq-eqb, leb-false, lt-ltb, not-true}
+use Rattle.std.proofs.lemmas.Bool.{eq-eqb, leb-false, lt-ltb, not-true, or_right}
 use Rattle.st_base.specs.declared.ids.ClientId.{ClientId}
 use Rattle.st_base.specs.declared.ids.Life.{Life}
 use Rattle.st_base.specs.declared.ids.GrantNo.{GrantNo}
@@ -52,10 +52,6 @@ least_of x (y ∷ ys) = go (first_with_key x (rising (y ∷ ys))) (least_of y ys
     go : First x (rising (y ∷ ys)) (with_key x (rising (y ∷ ys))) → Least (y ∷ ys) → Least (x ∷ (y ∷ ys))
     go f l = record { m = f.m; rest = f.rest; is = f.is; member = member f.which }
       where
-        or_right : (a b : Bool) → b ≡ true → (a || b) ≡ true
-        or_right true b e = refl
-        or_right false b e = e
-
         member : (f.m ≡ x) ⊎ (slice_get (rising (y ∷ ys)) 0 ≡ Some f.m) → ((x == f.m) || list_any (λ z. z == f.m) (y ∷ ys)) ≡ true
         member (inl e) = ap (λ (b : Bool). b || list_any (λ z. z == f.m) (y ∷ ys)) (eq-eqb x f.m (sym e))
         member (inr e) =

@@ -1,9 +1,9 @@
 -- What may follow a line that is read is bounded.
-use Rattle.std.proofs.Common.{◌≡◌, ℕ, ◌+◌, ◌^◌, ◌<◌, ◌≤◌, inl, inr, Bool, true, cond, List, [], ◌∷◌, ◌++◌, length, map, refl, ap, subst, arith}
+use Rattle.std.proofs.Common.{◌≡◌, ℕ, ◌+◌, ◌^◌, ◌<◌, ◌≤◌, inl, inr, List, [], ◌∷◌, ◌++◌, length, map, refl, ap, subst, arith}
 use Rattle.std.specs.Prelude.{nat_lt, Option, Some, None, Result, Ok, Err, codes}
 use Rattle.std.specs.Fmt.{decimal}
 use Rattle.std.specs.Str.{bytes_eq}
-use Rattle.std.proofs.lemmas.Bool.{lt-ltb}
+use Rattle.std.proofs.lemmas.Bool.{cond-true, lt-ltb}
 use Rattle.std.proofs.lemmas.Bool.Decides.{nat_tests}
 use Rattle.std.proofs.lemmas.Fmt.{length-decimal-le}
 use Rattle.st_base.specs.Config.{check}
@@ -43,11 +43,8 @@ use Rattle.st_schedule.proofs.LinesAsSpelled.{line_is_spelled}
 use Rattle.st_runs.proofs.Short.{read_short}
 use Rattle.st_replay.specs.States.{needs}
 
-cond_true : {X : Type 0} (b : Bool) (x y : X) → b ≡ true → cond b x y ≡ x
-cond_true b x y e = ap (λ c. cond c x y) e
-
 pub long_refused : (p : Progress) (l : List ℕ) → 256 < length l → read_line p l ≡ Err LineTooLong
-long_refused p l h = cond_true (is_long l) (Err LineTooLong) (short_line p l) (lt-ltb 256 (length l) h)
+long_refused p l h = cond-true (is_long l) (Err LineTooLong) (short_line p l) (lt-ltb 256 (length l) h)
 
 event_takes : (form : ℕ) (counts : Counts) (done n : ℕ) (e : Event) (y : Line × Progress) → n ≤ 256 → counted form counts done e ≡ Ok y →
     n + 1 + needs y.1 ≤ needs (progress.Reading form counts done)

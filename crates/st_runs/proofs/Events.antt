@@ -1,6 +1,7 @@
 -- The events that a reader reads after a head are in their ranges.
-use Rattle.std.proofs.Common.{◌≡◌, ℕ, ◌+◌, ◌≤◌, Bool, true, List, [], ◌∷◌, ◌⊎◌, inl, inr, refl, sym, subst}
-use Rattle.std.specs.Prelude.{Option, Some, None, Result, Ok, Err, nat_lt, ◌&&◌}
+use Rattle.std.proofs.Common.{◌≡◌, ℕ, ◌+◌, ◌≤◌, true, List, [], ◌∷◌, ◌⊎◌, inl, inr, refl, sym, subst}
+use Rattle.std.proofs.lemmas.Bool.{and_from}
+use Rattle.std.specs.Prelude.{Option, Some, None, Result, Ok, Err, nat_lt}
 use Rattle.std.specs.List.{list_all}
 use Rattle.st_messages.specs.declared.event.Counts.{Counts}
 use Rattle.st_messages.specs.declared.event.Event.{Event}
@@ -40,9 +41,6 @@ next_later : (form : ℕ) (counts : Counts) (done : ℕ) (l : List ℕ) (y : Lin
 unfolding later_line
 next_later form counts done l y h = next_line form counts done l (line_event form (nodes_of counts) (split l)) y h
 
-both : (a b : Bool) → a ≡ true → b ≡ true → (a && b) ≡ true
-both a b e f = rw (e, f) refl
-
 -- after the end nothing is read
 ended : (nodes : ℕ) (ls : List (List ℕ)) (line : ℕ) → list_all (is_event nodes) (schedule_of ls line progress.Ended).events ≡ true
 ended nodes [] line = refl
@@ -71,7 +69,7 @@ fit_before form counts done l ls line y some rest h (inr (e, q)) =
     let k = subst (λ (z : Line × Progress). read_line (progress.Reading form counts done) l ≡ Ok z) q h in
     let one = in_range form counts done l e (progress.Reading form counts (done + 1)) some k in
     subst (λ (z : Line × Progress). list_all (is_event (nodes_of counts)) (before z.0 (schedule_of ls line z.1)).events ≡ true) (sym q)
-    (both _ _ one rest)
+    (and_from _ _ one rest)
 
 fit_told : (form : ℕ) (counts : Counts) (done : ℕ) (l : List ℕ) (ls : List (List ℕ)) (line : ℕ) (r : Told) → 1 ≤ nodes_of counts →
     Fit counts ls (line + 1) (progress.Reading form counts (done + 1)) → read_line (progress.Reading form counts done) l ≡ r →

@@ -1,9 +1,9 @@
 -- What a line spells is in the ranges that a world wants.
-use Rattle.std.proofs.Common.{◌≡◌, ℕ, ◌+◌, ◌≤◌, inl, inr, Bool, true, List, [], ◌∷◌, length, map, refl, ◌∙◌, ap, arith}
+use Rattle.std.proofs.Common.{◌≡◌, ℕ, ◌+◌, ◌≤◌, inl, inr, true, List, [], ◌∷◌, length, map, refl, ◌∙◌, ap, arith}
 use Rattle.std.specs.Prelude.{◌==◌, ◌&&◌, ◌||◌, nat_le, zero, suc, Ok}
 use Rattle.std.specs.List.{list_all, AllByRecursion}
 use Rattle.std.proofs.lemmas.Bool.Decides.{nat_tests}
-use Rattle.std.proofs.lemmas.Bool.{eq-eqb}
+use Rattle.std.proofs.lemmas.Bool.{and_from, eq-eqb}
 use Rattle.std.proofs.lemmas.List.{length-append, length-replicate}
 use Rattle.st_base.specs.Page.{filled}
 use Rattle.st_base.specs.Config.{check}
@@ -24,9 +24,6 @@ use Rattle.st_rules.specs.World.{fresh_world, client_clock, server_clock}
 use Rattle.st_schedule_words.specs.Words.{is_name}
 use Rattle.st_schedule.specs.Grammar.{Fits, FitsAsk, FitsName, FitsHead, IsFile, IsWithin, IsAfter, IsForm, IsStep, byte_of}
 
-both : (a b : Bool) → a ≡ true → b ≡ true → (a && b) ≡ true
-both a b e f = rw (e, f) refl
-
 within : (least most n : ℕ) → IsWithin least most n → between least most n ≡ true
 within least most n h =
     let low : least ≤ n = h.0 in
@@ -37,7 +34,7 @@ at_most : (most n : ℕ) → n ≤ most → nat_le n most ≡ true
 at_most most n h = grind (arith, nat_tests)
 
 file_within : (f : FileId) → IsFile f.server.0 f.ino → is_file 1 f ≡ true
-file_within f h = both _ _ (within 1 65535 f.server.0 h.0) (within 1 4294967295 f.ino h.1)
+file_within f h = and_from _ _ (within 1 65535 f.server.0 h.0) (within 1 4294967295 f.ino h.1)
 
 page_within : (p : ℕ) → p ≤ 1048575 → between 0 1048575 p ≡ true
 page_within p h = within 0 1048575 p (omega arith, h)
@@ -52,16 +49,16 @@ after_length n (inr h) = let k = name_length n h.0 in grind (arith, nat_tests)
 -- what is asked of names
 name_within : (s : ℕ) (a : NameAsk) → FitsName s a → (between 1 65535 s && is_name_ask a) ≡ true
 unfolding is_name_ask
-name_within s (name_asks.Lookup dir n) h = both _ _ (within 1 65535 s h.0.0) (both _ _ (within 1 4294967295 dir h.0.1) (name_length n h.1))
-name_within s (name_asks.Create dir n) h = both _ _ (within 1 65535 s h.0.0) (both _ _ (within 1 4294967295 dir h.0.1) (name_length n h.1))
-name_within s (name_asks.Mkdir dir n) h = both _ _ (within 1 65535 s h.0.0) (both _ _ (within 1 4294967295 dir h.0.1) (name_length n h.1))
+name_within s (name_asks.Lookup dir n) h = and_from _ _ (within 1 65535 s h.0.0) (and_from _ _ (within 1 4294967295 dir h.0.1) (name_length n h.1))
+name_within s (name_asks.Create dir n) h = and_from _ _ (within 1 65535 s h.0.0) (and_from _ _ (within 1 4294967295 dir h.0.1) (name_length n h.1))
+name_within s (name_asks.Mkdir dir n) h = and_from _ _ (within 1 65535 s h.0.0) (and_from _ _ (within 1 4294967295 dir h.0.1) (name_length n h.1))
 name_within s (name_asks.Remove dir n ino) h =
-    both _ _ (within 1 65535 s h.0.0)
-    (both _ _ (within 1 4294967295 dir h.0.1) (both _ _ (name_length n h.1) (let few : ino ≤ 4294967295 = h.2 in grind (arith, nat_tests))))
+    and_from _ _ (within 1 65535 s h.0.0)
+    (and_from _ _ (within 1 4294967295 dir h.0.1) (and_from _ _ (name_length n h.1) (let few : ino ≤ 4294967295 = h.2 in grind (arith, nat_tests))))
 name_within s (name_asks.Rename dir n dir2 n2) h =
-    both _ _ (within 1 65535 s h.0.0)
-    (both _ _ (both _ _ (within 1 4294967295 dir h.0.1) (name_length n h.1)) (both _ _ (within 1 4294967295 dir2 h.2) (name_length n2 h.3)))
-name_within s (name_asks.List dir n) h = both _ _ (within 1 65535 s h.0.0) (both _ _ (within 1 4294967295 dir h.0.1) (after_length n h.1))
+    and_from _ _ (within 1 65535 s h.0.0)
+    (and_from _ _ (and_from _ _ (within 1 4294967295 dir h.0.1) (name_length n h.1)) (and_from _ _ (within 1 4294967295 dir2 h.2) (name_length n2 h.3)))
+name_within s (name_asks.List dir n) h = and_from _ _ (within 1 65535 s h.0.0) (and_from _ _ (within 1 4294967295 dir h.0.1) (after_length n h.1))
 
 length_filled : (b : ℕ) → length (filled b) ≡ 4096
 unfolding filled
@@ -72,19 +69,19 @@ page_length bytes e = eq-eqb (length bytes) 4096 (ap length e ∙ length_filled 
 
 ask_within : (form : ℕ) (a : Ask) → FitsAsk form a → is_ask a ≡ true
 unfolding is_ask
-ask_within form (asks.Write f p bytes) h = both _ _ (file_within f h.0.0) (both _ _ (page_within p.0 h.0.1) (page_length bytes h.1.1))
-ask_within form (asks.Read f p) h = both _ _ (file_within f h.0) (page_within p.0 h.1)
+ask_within form (asks.Write f p bytes) h = and_from _ _ (file_within f h.0.0) (and_from _ _ (page_within p.0 h.0.1) (page_length bytes h.1.1))
+ask_within form (asks.Read f p) h = and_from _ _ (file_within f h.0) (page_within p.0 h.1)
 ask_within form (asks.Sync f) h = file_within f h
-ask_within form (asks.Cut f p) h = both _ _ (file_within f h.0) (page_within p.0 h.1)
+ask_within form (asks.Cut f p) h = and_from _ _ (file_within f h.0) (page_within p.0 h.1)
 ask_within form (asks.Name s a) h = name_within s.0 a h
 ask_within form (asks.Patch f p at bytes) h =
     let some : 1 ≤ length bytes = h.1.1 in
     let whole : at + length bytes ≤ 4096 = h.1.2 in
-    both _ _ (file_within f h.0.0) (both _ _ (page_within p.0 h.0.1) (grind (arith, nat_tests)))
+    and_from _ _ (file_within f h.0.0) (and_from _ _ (page_within p.0 h.0.1) (grind (arith, nat_tests)))
 
 steps_within : (form : ℕ) (ds : List ℕ) → AllByRecursion (IsStep form) ds → list_all is_increment ds ≡ true
 steps_within form [] h = refl
-steps_within form (d ∷ ds) h = both _ _ (at_most 4294967295 d h.0.1) (steps_within form ds h.1)
+steps_within form (d ∷ ds) h = and_from _ _ (at_most 4294967295 d h.0.1) (steps_within form ds h.1)
 
 -- an event that has a line is in its ranges
 pub event_within : (form nodes : ℕ) (e : Event) → Fits form nodes e → is_event nodes e ≡ true
@@ -94,7 +91,7 @@ event_within form nodes (events.Deliver k) h = refl
 event_within form nodes (events.Lose k) h = refl
 event_within form nodes (events.Cut n m) h = refl
 event_within form nodes (events.Heal n m) h = refl
-event_within form nodes (events.Advance ds) h = both _ _ (eq-eqb (length ds) nodes h.1) (steps_within form ds h.2)
+event_within form nodes (events.Advance ds) h = and_from _ _ (eq-eqb (length ds) nodes h.1) (steps_within form ds h.2)
 event_within form nodes (events.Effect k) h = refl
 event_within form nodes (events.Report k ok) h = refl
 event_within form nodes (events.Crash n) h = refl

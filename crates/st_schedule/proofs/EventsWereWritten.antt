@@ -1,5 +1,6 @@
 -- What is read of a line was spelled so.
 use Rattle.std.proofs.Common.{◌≡◌, ℕ, zero, suc, ◌+◌, ◌-◌, ◌^◌, ◌<◌, ◌≤◌, inl, inr, Bool, true, false, cond, List, [], ◌∷◌, ◌++◌, length, replicate, refl, sym, ◌∙◌, ap, subst, arith}
+use Rattle.std.proofs.lemmas.Bool.{and_parts}
 use Rattle.std.specs.Prelude.{◌==◌, ◌&&◌, Option, Some, None, Result, Ok, Err, codes}
 use Rattle.std.specs.Fmt.{decimal}
 use Rattle.std.specs.Str.{bytes_eq}
@@ -255,10 +256,6 @@ pub choose : {V : Type 0} (P : V → Type 0) (b : Bool) (v z : V) (rest : Option
 choose P true v z rest h this that = let e : v ≡ z = cc in subst P e (this refl)
 choose P false v z rest h this that = that h
 
-both : (a b : Bool) → (a && b) ≡ true → (a ≡ true) × (b ≡ true)
-both true b h = (refl, h)
-both false b h = absurd (cc)
-
 abbrev pub IsAskVerb : ℕ → List ℕ → AskVerb → Type 0
 IsAskVerb form w v = (w ≡ ask_verb_text v) × IsUnder form v
 
@@ -273,7 +270,7 @@ name_verb_is form w v h =
 
 patch_is_asked : (form : ℕ) (w : List ℕ) → ((form == 2) && bytes_eq w (codes "patch")) ≡ true → IsAskVerb form w ask_verbs.Patch
 patch_is_asked form w h =
-    let p : ((form == 2) ≡ true) × (bytes_eq w (codes "patch") ≡ true) = both _ _ h in
+    let p : ((form == 2) ≡ true) × (bytes_eq w (codes "patch") ≡ true) = and_parts _ _ h in
     let t = p.0 in
     (text_is w (codes "patch") p.1, grind (arith, nat_tests))
 

@@ -1,5 +1,6 @@
 -- The words of an event have no space in them and fit into a line, so a line of them has these words.
 use Rattle.std.proofs.Common.{◌≡◌, ℕ, ◌+◌, ◌*◌, ◌^◌, ◌<◌, ◌≤◌, inl, inr, Bool, true, false, cond, List, [], ◌∷◌, ◌++◌, length, get_or, refl, ap, arith}
+use Rattle.std.proofs.lemmas.Bool.{and_parts}
 use Rattle.std.specs.Prelude.{◌==◌, ◌&&◌, not, nat_lt, nat_le}
 use Rattle.std.specs.Fmt.{decimal}
 use Rattle.std.specs.List.{list_all, AllByRecursion}
@@ -36,14 +37,10 @@ pub record Take (most : ℕ) (ws : List (List ℕ)) : Type 0 where
 
 -- Lines of words.
 
-both : (a b : Bool) → (a && b) ≡ true → (a ≡ true) × (b ≡ true)
-both true b h = (refl, h)
-both false b h = absurd (cc)
-
 split_word : (w : List ℕ) (rest : List ℕ) (ws : List (List ℕ)) → is_unspaced w ≡ true → split rest ≡ [] ∷ ws → split (w ++ rest) ≡ w ∷ ws
 split_word [] rest ws h e = e
 split_word (b ∷ bs) rest ws h e =
-    let p : (not (b == 32) ≡ true) × (is_unspaced bs ≡ true) = both _ _ h in
+    let p : (not (b == 32) ≡ true) × (is_unspaced bs ≡ true) = and_parts _ _ h in
     let k = split_word bs rest ws p.1 e in
     let other : (b == 32) ≡ false = grind (arith, nat_tests) in
     rw (other, k) refl
@@ -76,7 +73,7 @@ wider m n ws h le = record { unspaced = h.unspaced; short = let a = h.short in o
 digits_unspaced : (ds : List ℕ) → list_all is_digit ds ≡ true → is_unspaced ds ≡ true
 digits_unspaced [] h = refl
 digits_unspaced (d ∷ ds) h =
-    let p : (is_digit d ≡ true) × (list_all is_digit ds ≡ true) = both _ _ h in
+    let p : (is_digit d ≡ true) × (list_all is_digit ds ≡ true) = and_parts _ _ h in
     let k = digits_unspaced ds p.1 in
     let other : (d == 32) ≡ false = grind (arith, nat_tests) in
     rw (other, k) refl
@@ -84,7 +81,7 @@ digits_unspaced (d ∷ ds) h =
 visible_unspaced : (w : List ℕ) → list_all is_visible w ≡ true → is_unspaced w ≡ true
 visible_unspaced [] h = refl
 visible_unspaced (b ∷ bs) h =
-    let p : (is_visible b ≡ true) × (list_all is_visible bs ≡ true) = both _ _ h in
+    let p : (is_visible b ≡ true) × (list_all is_visible bs ≡ true) = and_parts _ _ h in
     let k = visible_unspaced bs p.1 in
     let other : (b == 32) ≡ false = grind (arith, nat_tests) in
     rw (other, k) refl
@@ -97,8 +94,8 @@ long_number n h = number_fills 10 n (omega arith) (omega arith) (omega arith)
 
 name_fills : (w : List ℕ) → IsName w → Fills 100 w
 name_fills w h =
-    let p : (nat_lt 0 (length w) ≡ true) × ((nat_le (length w) 100 && list_all is_visible w) ≡ true) = both _ _ h in
-    let q : (nat_le (length w) 100 ≡ true) × (list_all is_visible w ≡ true) = both _ _ p.1 in
+    let p : (nat_lt 0 (length w) ≡ true) × ((nat_le (length w) 100 && list_all is_visible w) ≡ true) = and_parts _ _ h in
+    let q : (nat_le (length w) 100 ≡ true) × (list_all is_visible w ≡ true) = and_parts _ _ p.1 in
     record { unspaced = visible_unspaced w q.1; short = let s = q.0 in grind (arith, nat_tests) }
 
 node_number : (b n : ℕ) → (b == 32) ≡ false → IsWithin 1 MOST_NODE n → Fills 3 (b ∷ decimal n)

@@ -1,6 +1,7 @@
 -- What is read at a place was written there.
 use Rattle.std.proofs.Common.{◌≡◌, ℕ, ◌+◌, ◌^◌, ◌<◌, ◌≤◌, ◌⊎◌, inl, inr, Bool, true, false, cond, List, [], ◌∷◌, ◌++◌, length, take, drop, get_or, refl, sym, ◌∙◌, ap, subst, rules, arith, add-one, drop-cons}
-use Rattle.std.specs.Prelude.{◌==◌, ◌&&◌, nat_lt, nat_le, Option, Some, None, Result, Ok, Err, position, codes}
+use Rattle.std.proofs.lemmas.Bool.{and_parts}
+use Rattle.std.specs.Prelude.{◌==◌, nat_lt, nat_le, Option, Some, None, Result, Ok, Err, position, codes}
 use Rattle.std.specs.Fmt.{decimal}
 use Rattle.std.specs.Str.{bytes_eq}
 use Rattle.std.specs.List.{list_all}
@@ -59,10 +60,6 @@ pub chosen : {A : Type 0} (b : Bool) (x y z : A) → cond b x y ≡ z → ((b �
 chosen true x y z h = inl (refl, h)
 chosen false x y z h = inr (refl, h)
 
-both : (a b : Bool) → (a && b) ≡ true → (a ≡ true) × (b ≡ true)
-both true b h = (refl, h)
-both false b h = absurd (cc)
-
 -- Numbers.
 
 one_zero : (w : List ℕ) → has_leading_zero w ≡ false → 0 < length w → get_or w 0 0 ≡ 48 → length w ≡ 1
@@ -71,7 +68,7 @@ one_zero (b ∷ bs) h some e = grind (arith, nat_tests)
 
 word_is_decimal : (w : List ℕ) → is_number w ≡ true → has_leading_zero w ≡ false → value w < 2 ^ 64 → w ≡ decimal (value w)
 word_is_decimal w h nz small =
-    let p : (nat_lt 0 (length w) ≡ true) × (list_all is_digit w ≡ true) = both _ _ h in
+    let p : (nat_lt 0 (length w) ≡ true) × (list_all is_digit w ≡ true) = and_parts _ _ h in
     let some : 0 < length w = let t = p.0 in grind (arith, nat_tests) in
     sym (decimal-digits_value own w p.1 some (one_zero w nz some) small)
 

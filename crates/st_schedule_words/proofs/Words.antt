@@ -1,5 +1,6 @@
 -- Words, from the front of a line.
 use Rattle.std.proofs.Common.{◌≡◌, ℕ, ◌+◌, ◌-◌, ◌*◌, ◌<◌, ◌≤◌, Bool, true, false, cond, List, [], ◌∷◌, ◌++◌, length, take, drop, get_or, refl, sym, ◌∙◌, ap, arith, add-one, drop-cons, append-nil}
+use Rattle.std.proofs.lemmas.Bool.{cond-false, cond-true}
 use Rattle.std.specs.Prelude.{◌==◌, None}
 use Rattle.std.proofs.lemmas.Bool.Decides.{nat_tests}
 use Rattle.std.proofs.lemmas.List.{take_more, take_all, drop_all}
@@ -18,13 +19,6 @@ pub front-word : (bs w : List ℕ) (ws : List (List ℕ)) → front bs (w ∷ ws
 front-word [] w ws = refl
 front-word (b ∷ bs) w ws = rw (front-word bs w ws) refl
 
--- a choice whose test is known
-pub cond_false : {X : Type 0} (b : Bool) (x y : X) → b ≡ false → cond b x y ≡ y
-cond_false b x y e = ap (λ c. cond c x y) e
-
-pub cond_true : {X : Type 0} (b : Bool) (x y : X) → b ≡ true → cond b x y ≡ x
-cond_true b x y e = ap (λ c. cond c x y) e
-
 words_at : (bs : List ℕ) (at : ℕ) → at < length bs →
     split (drop at bs) ≡ cond (get_or bs at 0 == 32) ([] ∷ split (drop (at + 1) bs)) (onto (get_or bs at 0) (split (drop (at + 1) bs)))
 words_at bs at h = rw (drop-cons bs at 0 h, add-one) refl
@@ -36,12 +30,13 @@ behind_at bs at h = rw (drop-cons bs at 0 h, add-one) refl
 pub one_more : (bs : List ℕ) (at : ℕ) → at < length bs → (get_or bs at 0 == 32) ≡ false →
     front (take at bs) (split (drop at bs)) ≡ split bs → front (take (at + 1) bs) (split (drop (at + 1) bs)) ≡ split bs
 one_more bs at h other k =
-    rw (take_more bs at 0 h, front-push) (ap (front (take at bs)) (sym (words_at bs at h ∙ cond_false _ _ _ other)) ∙ k)
+    rw (take_more bs at 0 h, front-push) (ap (front (take at bs)) (sym (words_at bs at h ∙ cond-false _ _ _ other)) ∙ k)
 
 pub at_space : (bs : List ℕ) (at : ℕ) → at < length bs → (get_or bs at 0 == 32) ≡ true →
     front (take at bs) (split (drop at bs)) ≡ split bs → split bs ≡ take at bs ∷ words_behind (drop at bs)
 at_space bs at h space k =
-    sym k ∙ ap (front (take at bs)) (words_at bs at h ∙ cond_true _ _ _ space) ∙ front-word (take at bs) [] _ ∙ ap (λ w. w ∷ split (drop (at + 1) bs)) (append-nil _) ∙ ap (λ ws. take at bs ∷ ws) (sym (behind_at bs at h))
+    sym k ∙ ap (front (take at bs)) (words_at bs at h ∙ cond-true _ _ _ space) ∙ front-word (take at bs) [] _ ∙
+    ap (λ w. w ∷ split (drop (at + 1) bs)) (append-nil _) ∙ ap (λ ws. take at bs ∷ ws) (sym (behind_at bs at h))
 
 pub at_the_end : (bs : List ℕ) (at : ℕ) → length bs ≤ at →
     front (take at bs) (split (drop at bs)) ≡ split bs → split bs ≡ bs ∷ []

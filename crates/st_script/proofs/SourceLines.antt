@@ -1,18 +1,15 @@
 -- The first line of the bytes that are ahead, by the place of the first newline among those that are held.
-use Rattle.std.proofs.Common.{◌≡◌, ◌≢◌, ℕ, zero, suc, ◌+◌, ◌<◌, ◌≤◌, Bool, true, false, cond, List, [], ◌∷◌, ◌++◌, length, take, drop, get_or, refl, sym, ◌∙◌, ap, subst, arith, append-nil}
+use Rattle.std.proofs.Common.{◌≡◌, ◌≢◌, ℕ, zero, suc, ◌+◌, ◌<◌, ◌≤◌, true, false, List, [], ◌∷◌, ◌++◌, length, take, drop, get_or, refl, sym, ◌∙◌, ap, subst, arith, append-nil}
 use Rattle.std.specs.Prelude.{◌==◌, Option, Some, None, Result, Ok, Err, IfSome, IfNone}
 use Rattle.std.specs.Io.KnownBytes.{IsAtEnd, prepend_known}
 use Rattle.std.proofs.Math.Seq.{take-length}
-use Rattle.std.proofs.lemmas.Bool.{eqb-true, false_from_ne_true}
+use Rattle.std.proofs.lemmas.Bool.{cond-false, eqb-true, false_from_ne_true}
 use Rattle.std.proofs.lemmas.List.{append_assoc, length-append, drop_all}
 use Rattle.st_schedule_words.specs.Lines.{lines_of}
 use Rattle.st_schedule_words.specs.Words.{onto}
 use Rattle.st_script.specs.Ahead.{BeginsLong, Finds, HasNone, IsFault, IsLine, TakesPiece}
 use Rattle.st_script.specs.declared.fault.Stop.{Stop}
 use Rattle.st_script.specs.declared.fault.Stop.TheVariants as stops
-
-chosen_false : {X : Type 0} (t : Bool) (x y : X) → t ≡ false → cond t x y ≡ y
-chosen_false t x y e = ap (λ c. cond c x y) e
 
 not_newline : (b : ℕ) → b ≢ 10 → (b == 10) ≡ false
 not_newline b h = false_from_ne_true _ (λ e. h (eqb-true _ _ e))
@@ -25,7 +22,7 @@ line_up_to : (bs more : List ℕ) (n : ℕ) → n < length bs → get_or bs n 0 
 line_up_to [] more n few e h = absurd (omega (arith, few))
 line_up_to (b ∷ bs) more zero few e h = let same : b ≡ 10 = e in rw same refl
 line_up_to (b ∷ bs) more (suc n) few e h =
-    chosen_false (b == 10) ([] ∷ lines_of (bs ++ more)) (onto b (lines_of (bs ++ more))) (not_newline b (h 0 (omega arith)))
+    cond-false (b == 10) ([] ∷ lines_of (bs ++ more)) (onto b (lines_of (bs ++ more))) (not_newline b (h 0 (omega arith)))
     ∙ ap (onto b) (line_up_to bs more n (omega (arith, few)) e (behind_first b bs n h))
 
 -- a newline in place n ends the first line
@@ -34,9 +31,9 @@ line_at bs more n few e h = let next : suc n ≡ n + 1 = omega arith in line_up_
 
 -- bytes without a newline are one line
 last_line_of : (b : ℕ) (bs : List ℕ) → HasNone (b ∷ bs) (length (b ∷ bs)) → lines_of (b ∷ bs) ≡ (b ∷ bs) ∷ []
-last_line_of b [] h = chosen_false (b == 10) ([] ∷ []) (onto b []) (not_newline b (h 0 (omega arith)))
+last_line_of b [] h = cond-false (b == 10) ([] ∷ []) (onto b []) (not_newline b (h 0 (omega arith)))
 last_line_of b (c ∷ bs) h =
-    chosen_false (b == 10) ([] ∷ lines_of (c ∷ bs)) (onto b (lines_of (c ∷ bs))) (not_newline b (h 0 (omega arith)))
+    cond-false (b == 10) ([] ∷ lines_of (c ∷ bs)) (onto b (lines_of (c ∷ bs))) (not_newline b (h 0 (omega arith)))
     ∙ ap (onto b) (last_line_of c bs (behind_first b (c ∷ bs) (length (c ∷ bs)) h))
 
 -- and begin the first line of whatever follows them
@@ -54,13 +51,14 @@ begins b [] more h =
     let y = onto_any b (lines_of more) in record {
       end = y.end;
       others = y.others;
-      are = chosen_false (b == 10) ([] ∷ lines_of more) (onto b (lines_of more)) (not_newline b (h 0 (omega arith))) ∙ y.are;
+      are = cond-false (b == 10) ([] ∷ lines_of more) (onto b (lines_of more)) (not_newline b (h 0 (omega arith))) ∙ y.are;
     }
 begins b (c ∷ bs) more h =
     let y = begins c bs more (behind_first b (c ∷ bs) (length (c ∷ bs)) h) in record {
       end = y.end;
       others = y.others;
-      are = chosen_false (b == 10) ([] ∷ lines_of ((c ∷ bs) ++ more)) (onto b (lines_of ((c ∷ bs) ++ more))) (not_newline b (h 0 (omega arith))) ∙ ap (onto b) y.are;
+      are = cond-false (b == 10) ([] ∷ lines_of ((c ∷ bs) ++ more)) (onto b (lines_of ((c ∷ bs) ++ more))) (not_newline b (h 0 (omega arith))) ∙
+          ap (onto b) y.are;
     }
 
 begins_long : (bs more : List ℕ) → HasNone bs (length bs) → 256 < length bs → BeginsLong (bs ++ more)

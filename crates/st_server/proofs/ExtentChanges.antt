@@ -1,6 +1,6 @@
 -- What the changes of extents keep, and that the rows of a range can be told.
 use Rattle.st_lemmas.proofs.Words
-use Words.{◌≡◌, ℕ, zero, suc, ◌+◌, ◌*◌, ◌^◌, ◌<◌, ◌≤◌, Bool, true, not, List, [], ◌∷◌, ◌++◌, length, Option, Some, None, refl, sym, ap, subst, ◌∙◌, arith}
+use Words.{◌≡◌, ℕ, zero, suc, ◌+◌, ◌*◌, ◌^◌, ◌<◌, ◌≤◌, Bool, true, not, List, [], ◌∷◌, ◌++◌, length, Option, Some, None, refl, sym, subst, ◌∙◌, arith}
 use Words.{length-append, filter, filter_map, map, option_map, nat_lt, nat_le, Result, Ok, Err, cons_option, list_all, and_parts, and_from, eqb-true, le-leb}
 use Words.{leb-true, lt-ltb, ltb-true, FileId, PageNo, BlockAt, ExtentRow, Extent, AllocateRefusal}
 use Words.Kinds.{between, is_word64}
@@ -10,10 +10,11 @@ use Words.Extents as extents
 use Words.Extents.{Extents, numbers}
 use Words.Keys.{page_no, same_file, same_page}
 use Words.Tables.{cond_either, found_at}
+use Words.Lengths.{length_map, numbers_length}
+use Words.Tests.{filtered_no_longer}
 use Rattle.std.specs.Prelude.{flat_map}
 use Rattle.st_server.specs.Invariants.{AreMapped, is_good_extent}
 use Rattle.st_server.proofs.Every.{every_append, every_filter, every_found, every_last, every_map}
-use Rattle.st_server.proofs.Holding.{length_filter, length_map}
 
 -- The rows of a range.
 module _ (x : Extents) (h : AreMapped x) (f : FileId) where
@@ -143,11 +144,6 @@ abbrev pub Allocated : Result Extents AllocateRefusal → Type 0
 Allocated (Ok y) = AreMapped y
 Allocated (Err (NoSpace free asked)) = (is_word64 free ≡ true) × (is_word64 asked ≡ true)
 
-numbers_many : (first n : ℕ) → length (numbers first n) ≡ n
-unfolding numbers
-numbers_many first zero = refl
-numbers_many first (suc n) = ap suc (numbers_many (first + 1) n)
-
 flat_few : {A B : Type 0} (g : A → List B) → ((y : A) → length (g y) ≤ 4096) → (ys : List A) → length (flat_map g ys) ≤ length ys * 4096
 flat_few g k [] = omega arith
 flat_few g k (y ∷ ys) =
@@ -159,7 +155,7 @@ flat_few g k (y ∷ ys) =
 disk_few : (x : Extents) → AreMapped x → (place : ℕ) → length (extents.blocks_of x place) ≤ 4096
 disk_few x h place =
     let a : length (map (extents.block_at place) (numbers 0 x.blocks)) ≡ length (numbers 0 x.blocks) = length_map (extents.block_at place) (numbers 0 x.blocks) in
-    let b : length (numbers 0 x.blocks) ≡ x.blocks = numbers_many 0 x.blocks in
+    let b : length (numbers 0 x.blocks) ≡ x.blocks = numbers_length 0 x.blocks in
     omega (arith, a, b, h.blocks)
 
 own_few : (x : Extents) → AreMapped x → length (extents.own_blocks x) ≤ 32768
@@ -167,22 +163,24 @@ unfolding extents.own_blocks
 own_few x h =
     let places : List ℕ = filter (extents.is_own_disk x) (numbers 0 x.disks) in
     let a : length (flat_map (extents.blocks_of x) places) ≤ length places * 4096 = flat_few (extents.blocks_of x) (disk_few x h) places in
-    let b : length places ≤ length (numbers 0 x.disks) = length_filter (extents.is_own_disk x) (numbers 0 x.disks) in
-    let c : length (numbers 0 x.disks) ≡ x.disks = numbers_many 0 x.disks in
+    let b : length places ≤ length (numbers 0 x.disks) = filtered_no_longer (extents.is_own_disk x) (numbers 0 x.disks) in
+    let c : length (numbers 0 x.disks) ≡ x.disks = numbers_length 0 x.disks in
     omega (arith, a, b, c, h.disks)
 
 free_few : (x : Extents) → AreMapped x → length (extents.free_blocks x) ≤ 32768
 unfolding extents.free_blocks
 free_few x h =
-    let a : length (filter (extents.is_free x) (extents.own_blocks x)) ≤ length (extents.own_blocks x) = length_filter (extents.is_free x) (extents.own_blocks x) in
+    let a : length (filter (extents.is_free x) (extents.own_blocks x)) ≤ length (extents.own_blocks x) =
+    filtered_no_longer (extents.is_free x) (extents.own_blocks x) in
     let b : length (extents.own_blocks x) ≤ 32768 = own_few x h in
     omega (arith, a, b)
 
 unmapped_few : (x : Extents) (f : FileId) (p : PageNo) (count : ℕ) → length (extents.unmapped x f p count) ≤ count
 unmapped_few x f p count =
-    let a : length (extents.unmapped x f p count) ≤ length (extents.pages_from p count) = length_filter (λ q. not (extents.is_mapped x f q)) (extents.pages_from p count) in
+    let a : length (extents.unmapped x f p count) ≤ length (extents.pages_from p count) =
+    filtered_no_longer (λ q. not (extents.is_mapped x f q)) (extents.pages_from p count) in
     let b : length (map page_no (numbers p.0 count)) ≡ length (numbers p.0 count) = length_map page_no (numbers p.0 count) in
-    let c : length (numbers p.0 count) ≡ count = numbers_many p.0 count in
+    let c : length (numbers p.0 count) ≡ count = numbers_length p.0 count in
     omega (arith, a, b, c)
 
 pub allocated : (x : Extents) (f : FileId) (p : PageNo) (count : ℕ) → count ≤ 64 → AreMapped x → x.births < 2 ^ 62 → Allocated (extents.allocate x f p count)

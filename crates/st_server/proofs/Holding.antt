@@ -1,6 +1,6 @@
 -- What the changes of a lock table keep of its rows and waits.
 use Rattle.st_lemmas.proofs.Words
-use Words.{◌≡◌, ℕ, suc, ◌+◌, ◌*◌, ◌^◌, ◌<◌, ◌≤◌, Bool, true, false, ◌&&◌, ◌==◌, not, cond, List, [], ◌∷◌, ◌++◌, length, Option, Some, None, refl, sym, ap}
+use Words.{◌≡◌, ℕ, ◌+◌, ◌*◌, ◌^◌, ◌<◌, ◌≤◌, Bool, true, false, ◌&&◌, ◌==◌, not, cond, List, [], ◌∷◌, ◌++◌, length, Option, Some, None, refl, sym, ap}
 use Words.{subst, ◌∙◌, arith, length-append, filter, find, map, option_map, Result, Ok, Err, list_all, and_parts, and_from, lt-ltb, ClientId, Epoch, GrantNo}
 use Words.{Life, Mode, LockRow, RowDemand, Waiter, Verdict, AcquireRefusal}
 use Words.modes
@@ -10,21 +10,16 @@ use Words.Locks as locks
 use Words.Locks.{Locks, Acquired, Released}
 use Words.Sessions.{Sessions, session_of}
 use Words.Tables.{cond_either}
+use Words.Lengths.{length_map}
+use Words.Tests.{filtered_no_longer}
 use Rattle.st_base.specs.Mode.{covers, number_of}
 use Rattle.st_server.specs.RuleConditions.{is_lived}
 use Rattle.st_server.specs.Invariants.{AreHeld, is_good_row, is_good_wait, is_told, is_told_lock, is_told_demand}
 use Rattle.st_server.proofs.Every.{every_filter, every_last, every_put, every_found, every_map}
 
--- a filter leaves no more
-pub length_filter : {A : Type 0} (q : A → Bool) (xs : List A) → length (filter q xs) ≤ length xs
-length_filter q [] = omega arith
-length_filter {A} q (x ∷ xs) =
-    let before : length (filter q xs) ≤ length xs = length_filter q xs in
-    cond_either (λ (ys : List A). length ys ≤ length (x ∷ xs)) (q x) (x ∷ filter q xs) (filter q xs) (λ e. omega (arith, before)) (λ e. omega (arith, before))
-
 first_gone : {A : Type 0} (q : A → Bool) (y : A) (ys : List A) (b : Bool) → b ≡ false → length (cond b (y ∷ filter q ys) (filter q ys)) + 1 ≤ length (y ∷ ys)
 first_gone q y ys true g = cc
-first_gone q y ys false g = let keep : length (filter q ys) ≤ length ys = length_filter q ys in omega (arith, keep)
+first_gone q y ys false g = let keep : length (filter q ys) ≤ length ys = filtered_no_longer q ys in omega (arith, keep)
 
 later_gone : {A : Type 0} (q : A → Bool) (y : A) (ys : List A) (b : Bool) → length (filter q ys) + 1 ≤ length ys → length (cond b (y ∷ filter q ys) (filter q ys)) + 1 ≤ length (y ∷ ys)
 later_gone q y ys true h = omega (arith, h)
@@ -39,10 +34,6 @@ some_gone p q y x ys false e f k = later_gone q y ys (q y) (k e)
 pub length_gone : {A : Type 0} (p q : A → Bool) (xs : List A) (x : A) → find p xs ≡ Some x → q x ≡ false → length (filter q xs) + 1 ≤ length xs
 length_gone p q [] x e f = cc
 length_gone p q (y ∷ ys) x e f = some_gone p q y x ys (p y) e f (λ g. length_gone p q ys x g f)
-
-pub length_map : {A B : Type 0} (f : A → B) (xs : List A) → length (map f xs) ≡ length xs
-length_map f [] = refl
-length_map f (x ∷ xs) = ap suc (length_map f xs)
 
 -- a client in a life that its session has, and a file, that can be told
 pub record IsFrom (t : Sessions) (c : ClientId) (life : Life) (ino : ℕ) : Type 0 where
@@ -116,7 +107,7 @@ module _ (ep : Epoch) (t : Sessions) where
       record {
         rows = grant_rows l c life ino mode f m g h.rows;
         waits = grant_waits l c life ino mode h.waits;
-        few = let less : length (locks.without_wait c ino l.waiters) ≤ length l.waiters = length_filter _ l.waiters in omega (arith, less, h.few);
+        few = let less : length (locks.without_wait c ino l.waiters) ≤ length l.waiters = filtered_no_longer _ l.waiters in omega (arith, less, h.few);
         epoch = h.epoch;
         limit = h.limit;
       }
@@ -216,7 +207,7 @@ module _ (ep : Epoch) (t : Sessions) where
       record {
         rows = h.rows;
         waits = every_filter (is_good_wait t) q l.waiters h.waits;
-        few = let less : length (filter q l.waiters) ≤ length l.waiters = length_filter q l.waiters in omega (arith, less, h.few);
+        few = let less : length (filter q l.waiters) ≤ length l.waiters = filtered_no_longer q l.waiters in omega (arith, less, h.few);
         epoch = h.epoch;
         limit = h.limit;
       }

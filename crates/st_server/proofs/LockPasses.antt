@@ -1,21 +1,19 @@
 -- What the granting and the demanding pass keep of a lock table, and that what they tell can be told.
 use Rattle.st_lemmas.proofs.Words
-use Words.{◌≡◌, ℕ, zero, suc, ◌+◌, ◌^◌, ◌<◌, ◌≤◌, Bool, true, ◌&&◌, ◌==◌, not, List, [], ◌∷◌, length, Option, Some, None, refl, arith, find, nat_le, list_all}
-use Words.{list_any, and_from, eq-eqb, ClientId, Epoch, Stamp, Config, Mode, LockRow, RowDemand, Waiter}
+use Words.{◌≡◌, ℕ, zero, suc, ◌+◌, ◌^◌, ◌<◌, ◌≤◌, Bool, true, ◌&&◌, not, List, [], ◌∷◌, length, Option, Some, None, refl, arith, find, nat_le, list_all}
+use Words.{list_any, and_from, ClientId, Epoch, Stamp, Config, Mode, LockRow, RowDemand, Waiter}
 use Words.modes
 use Words.Ranges.{is_grant, is_mode}
 use Words.Locks as locks
 use Words.Locks.{Locks, Granting, Demanding}
 use Words.Sessions.{Sessions}
 use Words.Tables.{cond_either}
+use Words.Serving.{own_wait}
 use Rattle.std.proofs.lemmas.Bool.{not_from_true}
 use Rattle.st_server.specs.Invariants.{AreHeld, is_good_row, is_good_wait, is_told, is_told_demand}
 use Rattle.st_server.proofs.Every.{every_last, every_found, every_map}
 use Rattle.st_server.proofs.Holding.{length_gone, is_good_sent, row_of_good, good_row, told_lock, lock_parts, wait_of_good, next_grant_fits, grant_rows}
 use Rattle.st_server.proofs.Holding.{grant_waits, rows_changed}
-
-own_wait : (w : Waiter) → locks.is_wait_of w.client w.ino w ≡ true
-own_wait w = and_from (w.client.0 == w.client.0) (w.ino == w.ino) (eq-eqb w.client.0 w.client.0 refl) (eq-eqb w.ino w.ino refl)
 
 module _ (n : ℕ) (ep : Epoch) (t : Sessions) (below : ep.0 < 2 ^ 32) (small : n < 2 ^ 32) where
   -- Granting.

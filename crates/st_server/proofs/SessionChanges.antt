@@ -10,12 +10,12 @@ use Words.Locks as locks
 use Words.Locks.{Locks}
 use Words.Sessions as sessions
 use Words.Sessions.{Sessions, Greeted, session_of, is_session_of, is_live, is_past}
-use Words.Tables.{cond_either, find_map, find_other}
+use Words.Tables.{cond_either, find_map, find_other, not_true}
+use Words.Tests.{filtered_no_longer}
 use Rattle.st_lemmas.proofs.Puts.{find_put_by, find_put_other}
 use Rattle.st_server.specs.RuleConditions.{is_lived}
 use Rattle.st_server.specs.Invariants.{AreHeld, is_good_row, is_good_wait, is_reply, keeps_reply, has_reply, is_good_session}
 use Rattle.st_server.proofs.Every.{every_found, every_map, every_put, every_too}
-use Rattle.st_server.proofs.Holding.{length_filter}
 use Rattle.st_server.proofs.Served.{late}
 
 false_is : false ≡ true → ⊥
@@ -208,11 +208,7 @@ every_left {A} p q r h (x ∷ xs) e =
     cond_either (λ (ys : List A). list_all r ys ≡ true) (q x) (x ∷ filter q xs) (filter q xs) (λ f. and_from (r x) (list_all r (filter q xs)) (h x both.0 f) rest) (λ f. rest)
 
 lived_apart : (t : Sessions) (c d : ClientId) (life : Life) → not (d.0 == c.0) ≡ true → is_lived life (session_of t d) ≡ true → is_lived life (session_of (sessions.end t c) d) ≡ true
-lived_apart t c d life e l = ap (is_lived life) (end_other t c d (not_is (d.0 == c.0) e)) ∙ l
-  where
-    not_is : (b : Bool) → not b ≡ true → b ≡ false
-    not_is false e = refl
-    not_is true e = cc
+lived_apart t c d life e l = ap (is_lived life) (end_other t c d (not_true (d.0 == c.0) e)) ∙ l
 
 pub forgotten : (n : ℕ) (ep : Epoch) (t : Sessions) (c : ClientId) (l : Locks) → AreHeld n ep t l → AreHeld n ep (sessions.end t c) (locks.forget l c)
 unfolding locks.forget
@@ -224,7 +220,8 @@ forgotten n ep t c l h =
       waits =
           every_left (is_good_wait t) (λ w. not (locks.is_wait_by c w)) (is_good_wait (sessions.end t c))
           (λ w e q. let p = and_parts (is_lived w.life (session_of t w.client)) _ e in and_from (is_lived w.life (session_of (sessions.end t c) w.client)) _ (lived_apart t c w.client w.life q p.0) p.1) l.waiters h.waits;
-      few = let less : length (filter (λ w. not (locks.is_wait_by c w)) l.waiters) ≤ length l.waiters = length_filter (λ w. not (locks.is_wait_by c w)) l.waiters in omega (arith, less, h.few);
+      few = let less : length (filter (λ w. not (locks.is_wait_by c w)) l.waiters) ≤ length l.waiters =
+          filtered_no_longer (λ w. not (locks.is_wait_by c w)) l.waiters in omega (arith, less, h.few);
       epoch = h.epoch;
       limit = h.limit;
     }

@@ -4,6 +4,7 @@ use Words.{◌≡◌, ℕ, Bool, true, false, not, ◌&&◌, ◌||◌, List, [],
 use Words.{Ok, Err, ClientId}
 use Words.Keys.{same_client}
 use Words.World.{numbered}
+use Words.Lengths.{length_map}
 use Rattle.st_shared.specs.declared.issuers.Issuer.{Issuer}
 use Rattle.st_shared.specs.declared.members.Member.{Member}
 use Rattle.st_shared.specs.declared.refusal.SharedRefusal.{SharedRefusal}
@@ -15,7 +16,7 @@ use Rattle.st_shared.specs.Shared.{is_stopped, leave_idle, least_member, left, l
 use Rattle.st_shared.specs.Shared.{without_member}
 use Rattle.st_shared.proofs.Agreeing.{Agrees, Keeps, client_of_issued, client_of_issuer, refused}
 use Rattle.st_shared.proofs.InAndOut.{in_entered, in_left, in_stopped, is_client, nobody}
-use Rattle.st_shared.proofs.Numbered.{length_map, numbered_map}
+use Rattle.st_shared.proofs.Numbered.{numbered_map}
 use Rattle.st_shared.proofs.Owned.{owned_crashed, owned_entered, owned_expired, owned_left}
 
 -- a refusal to enter

@@ -80,7 +80,3 @@ each_with p xs n x y e h each m = ap p (numbered_with xs n m x y e) ∙ go (n ==
 pub numbered_map : {A B : Type 0} (f : A → B) (xs : List A) (n : ℕ) → numbered (map f xs) n ≡ option_map f (numbered xs n)
 numbered_map f xs zero = refl
 numbered_map f xs (suc n) = get_map f xs n
-
-pub length_map : {A B : Type 0} (f : A → B) (xs : List A) → length (map f xs) ≡ length xs
-length_map f [] = refl
-length_map f (x ∷ xs) = ap suc (length_map f xs)

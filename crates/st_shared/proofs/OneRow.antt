@@ -6,6 +6,7 @@ use Words.modes
 use Words.verdicts
 use Words.Keys.{client}
 use Words.Locks.{Acquired, Locks, acquire, forget, is_row_by, is_wait_by, locks_open, new_row, next_grant}
+use Words.Truth.{not_both}
 use Rattle.std.specs.Prelude.{is_ok}
 use Rattle.std.specs.Bool.{OnTrue, OnFalse}
 use Rattle.st_locks.specs.Calls.{Answers, acquired}
@@ -94,9 +95,5 @@ nobody_holds (r ∷ []) h none =
     let high : r.client.0 ≤ 16 = leb-true _ _ range.1 in
     let there : ((r.client.0 == r.client.0) || false) ≡ true = ap (λ b. b || false) (eq-eqb r.client.0 r.client.0 refl) in
     let gone : ((r.client.0 == r.client.0) || false) ≡ false = none r.client.0 low (omega arith) in
-    absurd (both ((r.client.0 == r.client.0) || false) there gone)
-  where
-    both : (b : Bool) → b ≡ true → b ≡ false → ⊥
-    both true e f = cc
-    both false e f = cc
+    absurd (not_both ((r.client.0 == r.client.0) || false) there gone)
 nobody_holds (r ∷ (q ∷ rows)) h none = absurd h

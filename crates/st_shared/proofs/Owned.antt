@@ -5,7 +5,7 @@ use Words.{is_some, length, map, Option, option_map, slice_get, eqb-true, Client
 use Words.Disks.{Disks}
 use Words.Keys.{same_client}
 use Words.World.{numbered, with_numbered}
-use Words.Lookups.{some_is}
+use Words.Lookups.{or_right, some_is}
 use Rattle.st_shared.specs.declared.issuers.Issuer.{Issuer}
 use Rattle.st_shared.specs.declared.members.Member.{Member}
 use Rattle.st_shared.specs.Shared.{Shared, busy, busy_above, expire_issuer, is_busy, is_member, is_open, is_report_open, issuer, running, stop_issuer}
@@ -17,10 +17,6 @@ use Rattle.st_shared.proofs.Numbered.{numbered_map, numbered_push, numbered_with
 abbrev pub is_owned : List Member → Option Issuer → Option DiskCommand → Bool
 is_owned ms None d = true
 is_owned ms (Some i) d = not (is_open d) || (i.expired || is_some (find (is_member i.client) ms))
-
-or_true : (a b : Bool) → b ≡ true → (a || b) ≡ true
-or_true true b e = refl
-or_true false b e = e
 
 or_in : (a b c d : Bool) → (c ≡ true → d ≡ true) → (not a || (b || c)) ≡ true → (not a || (b || d)) ≡ true
 or_in false b c d h e = refl
@@ -39,7 +35,8 @@ owned_more ms ns (Some i) d h e = or_in (is_open d) i.expired (is_some (find (is
 
 -- a client enters
 pub owned_entered : (ms : List Member) (c : ClientId) (o : Option Issuer) (d : Option DiskCommand) → is_owned ms o d ≡ true → is_owned (ms ++ running c ∷ []) o d ≡ true
-owned_entered ms c o d e = owned_more ms (ms ++ running c ∷ []) o d (λ b q. in_entered ms c b ∙ or_true (same_client c b) (is_some (find (is_member b) ms)) q) e
+owned_entered ms c o d e = owned_more ms (ms ++ running c ∷ []) o d (λ b q. in_entered ms c b ∙ or_right (same_client c b) (is_some (find (is_member b) ms)) q)
+    e
 
 -- a client crashes
 owned_silenced : (ms : List Member) (c : ClientId) (o : Option Issuer) (d : Option DiskCommand) → is_owned ms (option_map (stop_issuer c) o) d ≡ is_owned ms o d
@@ -67,7 +64,7 @@ owned_late ms c None d e = refl
 owned_late ms c (Some i) d e = go (same_client i.client c) refl
   where
     go : (b : Bool) → same_client i.client c ≡ b → is_owned (without_member c ms) (Some (if b then record i { expired = true } else i)) d ≡ true
-    go true q = or_true (not (is_open d)) true refl
+    go true q = or_right (not (is_open d)) true refl
     go false q = or_in (is_open d) i.expired (is_some (find (is_member i.client) ms)) (is_some (find (is_member i.client) (without_member c ms))) (stays_in ms c i.client q) e
 
 pub owned_expired : (ms : List Member) (issuers : List Issuer) (c : ClientId) (n : ℕ) (d : Option DiskCommand) → is_owned ms (numbered issuers n) d ≡ true →
@@ -118,7 +115,7 @@ owned_pushed ms issuers commands c d n same inside e =
     ∙ go (length (commands ++ d ∷ []) == n)
   where
     go : (b : Bool) → is_owned ms (if b then Some (issuer c) else numbered issuers n) (if b then Some d else numbered commands n) ≡ true
-    go true = or_true (not (is_report_open d.report)) (is_some (find (is_member c) ms)) inside
+    go true = or_right (not (is_report_open d.report)) (is_some (find (is_member c) ms)) inside
     go false = e
 
 -- a command changed, which is unreported only if it was so before

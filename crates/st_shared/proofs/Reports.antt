@@ -1,12 +1,13 @@
 -- A report keeps that a state agrees with its history, and tells what is right.
 use Rattle.st_lemmas.proofs.Words
-use Words.{◌≡◌, ℕ, Bool, true, false, not, List, ◌∷◌, Some, None, refl, sym, ap, ◌∙◌, if◌then◌else◌, pred, Option, option_map, Ok, Err, Block, Report}
+use Words.{◌≡◌, ℕ, Bool, true, false, List, ◌∷◌, Some, None, refl, sym, ap, ◌∙◌, if◌then◌else◌, pred, Option, option_map, Ok, Err, Block, Report}
 use Words.{DiskCommand}
 use Words.reports
 use Words.Disks as disks
 use Words.Disks.{command, done_at, done_once, done_unreported, lacks_effect, sample, sample_of, with_command}
 use Words.World.{numbered}
 use Words.Numbers.{numbered_own, set_length}
+use Words.Tables.{not_false}
 use Rattle.st_rules.specs.declared.disks.CommandRefusal.TheVariants.{NoCommand, Twice, NotEffected}
 use Rattle.st_disk.specs.Calls.{as_told}
 use Rattle.st_shared.specs.declared.refusal.SharedRefusal.{SharedRefusal}
@@ -97,12 +98,8 @@ done_keeps s past n ok d e l k =
     own : numbered s.disk.commands n ≡ Some d → numbered (with_disk s (with_command n (disks.reported ok d) s.disk)).disk.commands n ≡ Some (disks.reported ok d)
     own e = numbered_own s.disk.commands n (disks.reported ok d) d e
 
-    not_not : (b : Bool) → not b ≡ false → b ≡ true
-    not_not true q = refl
-    not_not false q = cc
-
     has : (ok : Bool) → lacks_effect ok d ≡ false → ok ≡ true → d.effected ≡ true
-    has true l q = not_not d.effected l
+    has true l q = not_false d.effected l
     has false l q = cc
 
 pub report_keeps : (s : Shared) (past : List Step) (n : ℕ) (ok : Bool) → Agrees s past → Keeps s past (Reports n ok) (rules.report s n ok)

@@ -2,6 +2,7 @@
 use Rattle.st_lemmas.proofs.Words
 use Words.{◌≡◌, ℕ, suc, ◌<◌, Bool, true, false, cond, List, [], ◌∷◌, length, map, Option, Some, None, arith, refl, sym, ap, subst, ◌∙◌, ⊎_elim, true≢false}
 use Words.{◌==◌, ◌||◌, is_some, if◌then◌else◌, AllByRecursion, list_any, cases_Bool, cases_order, eqb-true, eq-eqb, ne_eqb, or_cases, or_right}
+use Words.Truth.{some_there}
 use Rattle.std.specs.List.{IsDistinct}
 use Rattle.std.specs.Option.{option_map}
 use Rattle.std.specs.Map.{keys_of}
@@ -17,7 +18,6 @@ use Rattle.st_snap.specs.Volumes.{Volume, IsAfter, is_among, numbered, seen, wri
 use Rattle.st_snap.proofs.Keys.{same_self, same_true}
 use Rattle.st_snap.proofs.Lists.{all_more, any_member, member_all, passes}
 use Rattle.st_snap.proofs.Pages.{page_wrote, target, wrote_at}
-use Rattle.st_snap.proofs.Options.{some_is}
 use Rattle.st_snap.proofs.Writes.{seen_write}
 
 -- The shown writes.
@@ -88,7 +88,7 @@ in_shown all (c ∷ cs) n h = by (shows all (length cs) c) (in_shown all cs n) r
 -- The versions.
 
 pub slot_has : (v : Versions) → AreVersions v → (k : VersionKey) → is_some (slot_under v.slots k) ≡ true → has_version v k ≡ true
-slot_has v r k h = let s = some_is (slot_under v.slots k) h in ap (λ o. is_some (page_in v.pages o)) s.1 ∙ r.held k s.0 s.1
+slot_has v r k h = let s = some_there (slot_under v.slots k) h in ap (λ o. is_some (page_in v.pages o)) s.1 ∙ r.held k s.0 s.1
 
 pub has_slot : (v : Versions) (k : VersionKey) → has_version v k ≡ true → is_some (slot_under v.slots k) ≡ true
 has_slot v k h = by (slot_under v.slots k) h
@@ -116,7 +116,7 @@ module _ (blocks : ℕ) (cs : List Change) (h : Volume) (a : IsAfter blocks cs h
 
   wrote_key : (k : VersionKey) → has_version h.versions k ≡ true → wrote_at cs (number k) ≡ Some (k.file, k.page)
   wrote_key k t =
-      let b = some_is (version h.versions k) t in
+      let b = some_there (version h.versions k) t in
       let s = a.each k t in
       page_wrote cs s.view k.file k.page (numbered (number k) b.0) (seen_write blocks cs h a k s b.0 b.1)
 
@@ -167,7 +167,7 @@ module _ (blocks : ℕ) (cs : List Change) (h : Volume) (a : IsAfter blocks cs h
   -- a version's write is shown
   version_shown : (k : VersionKey) → Have k → list_any (λ x. number k == x) (shown_among cs cs) ≡ true
   version_shown k t =
-      let b = some_is (version h.versions k) t in
+      let b = some_there (version h.versions k) t in
       let s = a.each k t in
       let e = seen_write blocks cs h a k s b.0 b.1 in
       shown_in cs cs (number k) k.file k.page (wrote_key k t)

@@ -2,6 +2,7 @@
 use Rattle.st_lemmas.proofs.Words
 use Words.{◌≡◌, ℕ, ◌+◌, ◌<◌, ◌≤◌, true, false, List, ◌∷◌, length, Option, Some, None, Ok, Err, Result, arith, refl, sym, ap, subst, ◌∙◌, ◌==◌, ◌&&◌, ◌-◌}
 use Words.{is_some, if◌then◌else◌, nat_le, OnOk, list_any, eq-eqb, ne_eqb, le-leb, lt-leb, false_from_ne_true}
+use Words.Truth.{some_there}
 use Rattle.std.specs.Prelude.{IfErr}
 use Rattle.std.specs.Option.{option_map}
 use Rattle.st_snap.specs.declared.refusal.SnapRefusal.{SnapRefusal}
@@ -12,7 +13,6 @@ use Rattle.st_snap.specs.Versions.{AreVersions, has_version, key_of, page_at, ve
 use Rattle.st_snap.specs.Volumes.{Ends, HasNoRoom, Volume, IsAfter, IsHeld, Puts, first_after, is_among, numbered, seen, take_of, write_of}
 use Rattle.st_snap.proofs.Lists.{first_none, first_some, none_passes, passes}
 use Rattle.st_snap.proofs.Latest.{latest_is, latest_some}
-use Rattle.st_snap.proofs.Options.{some_is}
 use Rattle.st_snap.proofs.KeptViews.{among_image, take_image, taken_image}
 use Rattle.st_snap.proofs.Counting.{counted}
 use Rattle.st_snap.proofs.Writes.{begun, over}
@@ -24,7 +24,7 @@ module _ (blocks : ℕ) (cs : List Change) (h : Volume) (k : IsHeld h) (a : IsAf
   live_write : (t : ℕ) → seen h 0 f p ≡ Some t → (b : List ℕ) × (last_write cs f p ≡ Some (numbered (a.number f p t) b))
   live_write t e =
       let l = latest_some (has_version h.versions) f p h.next t e in
-      let b = some_is (version h.versions (key_of f p t)) l.there in
+      let b = some_there (version h.versions (key_of f p t)) l.there in
       (b.0, a.pages 0 f p refl ∙ ap (write_of a.number h.versions f p) e ∙ ap (option_map (numbered (a.number f p t))) b.1)
 
   -- no image shares the live version
@@ -40,7 +40,7 @@ module _ (blocks : ℕ) (cs : List Change) (h : Volume) (k : IsHeld h) (a : IsAf
       by (Some s) e2 v x =
           let r = latest_some (has_version h.versions) f p (take_of h.next i) s e2 in
           let less = a.rises f p s t (omega (arith, r.below, v, low)) r.there x in
-          let b = some_is (version h.versions (key_of f p s)) r.there in
+          let b = some_there (version h.versions (key_of f p s)) r.there in
           ap (λ o. is_write (a.number f p t) (option_map (numbered (a.number f p s)) o)) b.1 ∙ ne_eqb (a.number f p t) (a.number f p s) (λ z. omega (arith, z, less))
 
   pub over_rule : (t : ℕ) → seen h 0 f p ≡ Some t → first_after h.kept t ≡ None → takes_block cs f p ≡ false
@@ -59,13 +59,13 @@ module _ (blocks : ℕ) (cs : List Change) (h : Volume) (k : IsHeld h) (a : IsAf
       by None e = ap (is_shared cs f p) (a.pages 0 f p refl ∙ ap (write_of a.number h.versions f p) e)
       by (Some t) e =
           let w = live_write t e in
-          let i = some_is (first_after h.kept t) (shared t e) in
+          let i = some_there (first_after h.kept t) (shared t e) in
           let s = first_some h.kept t i.0 k.rising i.1 in
           let g = taken_image h k i.0 s.there in
           let v = take_image h.next i.0 g.some in
           let l = latest_some (has_version h.versions) f p h.next t e in
           let here : seen h i.0 f p ≡ Some t = latest_is (has_version h.versions) f p (take_of h.next i.0) t (record { below = omega (arith, v, s.above); there = l.there; none = λ u x y. l.none u x (omega (arith, y, v, g.below)) }) in
-          let b = some_is (version h.versions (key_of f p t)) l.there in
+          let b = some_there (version h.versions (key_of f p t)) l.there in
           let page : page_of cs i.0 f p ≡ Some (numbered (a.number f p t) b.0) = a.pages i.0 f p (among_image h.kept i.0 s.there) ∙ ap (write_of a.number h.versions f p) here ∙ ap (option_map (numbered (a.number f p t))) b.1 in
           ap (is_shared cs f p) w.1
           ∙ passes (λ image. is_write (a.number f p t) (page_of cs image f p)) i.0 (images cs) (ap (list_any (λ y. i.0 == y)) (sym a.kept) ∙ s.there) (ap (is_write (a.number f p t)) page ∙ eq-eqb (a.number f p t) (a.number f p t) refl)
@@ -144,7 +144,7 @@ module _ (h : Volume) (k : IsHeld h) (f p : ℕ) (shared : (t : ℕ) → seen h 
   none_begun = false_from_ne_true (has_version h.versions (key_of f p (h.next - 1))) (λ t.
       let e = one_take in
       let live : seen h 0 f p ≡ Some (h.next - 1) = latest_is (has_version h.versions) f p h.next (h.next - 1) (record { below = omega (arith, e); there = t; none = λ u l m. absurd (omega (arith, e, l, m)) }) in
-      let i = some_is (first_after h.kept (h.next - 1)) (shared (h.next - 1) live) in
+      let i = some_there (first_after h.kept (h.next - 1)) (shared (h.next - 1) live) in
       let s = first_some h.kept (h.next - 1) i.0 k.rising i.1 in
       let g = taken_image h k i.0 s.there in
       omega (arith, e, s.above, g.below))

@@ -2,17 +2,18 @@
 use Rattle.st_lemmas.proofs.Words
 use Words.{◌≡◌, ℕ, zero, suc, ◌+◌, ◌<◌, ◌≤◌, ◌%◌, ◌^◌, Bool, true, false, cond, List, [], ◌∷◌, ◌++◌, length, map, filter, Option, Some, None, Ok, Err, Result}
 use Words.{arith, refl, sym, ap, subst, ◌∙◌, ⊎_elim, true≢false, OnOk, OnErr, ◌==◌, ◌&&◌, ◌||◌, not, is_some, if◌then◌else◌, find, nat_le, unwrap_or}
-use Words.{AllByRecursion, list_any, cases_Bool, eqb-true, eq-eqb, le-leb, ne_eqb, or_cases, and_parts, and_from, false_from_ne_true, length-map, FileId}
+use Words.{AllByRecursion, list_any, cases_Bool, eqb-true, eq-eqb, le-leb, ne_eqb, or_cases, and_from, false_from_ne_true, length-map, FileId}
 use Words.{PageNo, BlockAt, Block, Extent, AllocateRefusal}
 use Words.wants as refusals
 use Words.Keys.{page_no, put, same_block, same_file, same_page}
 use Words.Extents as extents
 use Words.Extents.{Extents, is_at_or_behind, is_extent_of, lies_at, own_blocks}
 use Words.Disks.{Disks, block, fresh_block, is_block_at}
+use Words.Truth.{block_is, eqb_turned, some_there}
 use Rattle.std.specs.Prelude.{is_err, flat_map}
 use Rattle.std.specs.List.{IsDistinct}
 use Rattle.std.specs.Option.{option_map}
-use Rattle.std.proofs.lemmas.List.Elements.{recursion_from_All}
+use Rattle.std.proofs.lemmas.List.Elements.{filter_agree, recursion_from_All}
 use Rattle.std.proofs.lemmas.Map.Keys.{IsDistinct-head, IsDistinct-tail}
 use Rattle.std.proofs.lemmas.Option.{none-some, same_Some}
 use Rattle.st_disk.specs.Calls.{HasBlock}
@@ -21,20 +22,14 @@ use Rattle.st_lemmas.proofs.Puts.{find_put_by, find_put_other}
 use Rattle.st_extents.specs.declared.refusal.ExtentRefusal.{ExtentRefusal}
 use Rattle.st_extents.specs.Layout.{Allocates}
 use Rattle.st_snap.specs.Slots.{AreSlots, HasOneMore, IsSlot, slot_at, slot_file, slot_of, slots_of}
-use Rattle.st_snap.proofs.Options.{some_is}
 
 -- Blocks.
-
-pub same_is : (a b : BlockAt) → same_block a b ≡ true → a ≡ b
-same_is a b h =
-    let r = and_parts (a.disk.0 == b.disk.0) (a.block == b.block) h in
-    (λ i. record { disk = record { 0 = eqb-true a.disk.0 b.disk.0 r.0 i }; block = eqb-true a.block b.block r.1 i })
 
 pub is_same : (a b : BlockAt) → a ≡ b → same_block a b ≡ true
 is_same a b e = and_from (a.disk.0 == b.disk.0) (a.block == b.block) (eq-eqb a.disk.0 b.disk.0 (ap (λ (x : BlockAt). x.disk.0) e)) (eq-eqb a.block b.block (ap (λ (x : BlockAt). x.block) e))
 
 pub not_same : (a b : BlockAt) → (a ≡ b → ⊥) → same_block a b ≡ false
-not_same a b n = false_from_ne_true (same_block a b) (λ t. n (same_is a b t))
+not_same a b n = false_from_ne_true (same_block a b) (λ t. n (block_is a b t))
 
 -- The blocks of the one disk.
 
@@ -54,7 +49,7 @@ in_disk : (at : BlockAt) (first n : ℕ) → list_any (λ o. same_block o at) (d
 unfolding extents.numbers
 in_disk at first zero h = absurd (true≢false (sym h))
 in_disk at first (suc n) h = ⊎_elim
-    (λ t. let e = same_is (extents.block_at 0 first) at t in
+    (λ t. let e = block_is (extents.block_at 0 first) at t in
     let d : 1 ≡ at.disk.0 = ap (λ (x : BlockAt). x.disk.0) e in
     let b : first ≡ at.block = ap (λ (x : BlockAt). x.block) e in
     (sym d, omega (arith, b)))
@@ -77,10 +72,6 @@ disk_apart first (suc n) = (above first (first + 1) n (omega arith), disk_apart 
 
 -- How many blocks are free.
 
-filter_alike : {A : Type 0} (p q : A → Bool) → ((x : A) → p x ≡ q x) → (xs : List A) → filter p xs ≡ filter q xs
-filter_alike p q h [] = refl
-filter_alike p q h (x ∷ xs) = (λ i. if h x i then x ∷ filter_alike p q h xs i else filter_alike p q h xs i)
-
 filter_all : (p q : BlockAt → Bool) (xs : List BlockAt) → AllByRecursion (λ x. p x ≡ q x) xs → filter p xs ≡ filter q xs
 filter_all p q [] a = refl
 filter_all p q (x ∷ xs) a = let rest = filter_all p q xs a.1 in (λ i. if a.0 i then x ∷ rest i else rest i)
@@ -102,7 +93,7 @@ one_less at p t (b ∷ own) d h = by (same_block b at) refl (one_less at p t own
 
     by : (c : Bool) → same_block b at ≡ c → (list_any (λ o. same_block o at) own ≡ true → length (filter (λ b. not (same_block at b) && p b) own) + 1 ≡ length (filter p own)) → length (filter (λ b. not (same_block at b) && p b) (b ∷ own)) + 1 ≡ length (filter p (b ∷ own))
     by true c more =
-        let e = same_is b at c in
+        let e = block_is b at c in
         let here : same_block at b ≡ true = is_same at b (sym e) in
         let passes : p b ≡ true = ap p e ∙ t in
         let rest : filter (λ b. not (same_block at b) && p b) own ≡ filter p own =
@@ -125,7 +116,8 @@ count_free own d (e ∷ rows) r a =
     let here : not (list_any (lies_at e.at) rows) ≡ true = ap not (none rows (IsDistinct-head on_one_block e rows r)) in
     let less = one_less e.at (λ b. not (list_any (lies_at b) rows)) here own d a.0 in
     let same : filter (λ b. not (list_any (lies_at b) (e ∷ rows))) own ≡ filter (λ b. not (same_block e.at b) && not (list_any (lies_at b) rows)) own =
-    filter_alike (λ b. not (list_any (lies_at b) (e ∷ rows))) (λ b. not (same_block e.at b) && not (list_any (lies_at b) rows)) (λ b. both (same_block e.at b) (list_any (lies_at b) rows)) own in
+    filter_agree (λ b. not (list_any (lies_at b) (e ∷ rows))) (λ b. not (same_block e.at b) && not (list_any (lies_at b) rows))
+    (λ b. both (same_block e.at b) (list_any (lies_at b) rows)) own in
     let long = ap length same in
     omega (arith, ih, less, long)
   where
@@ -147,23 +139,17 @@ free_count x d last s =
 
 -- A slot's extent.
 
-flip : (a b : ℕ) → (a == b) ≡ (b == a)
-flip a b = ⊎_elim
-    (λ t. t ∙ sym (eq-eqb b a (sym (eqb-true a b t))))
-    (λ t. t ∙ sym (ne_eqb b a (λ e. true≢false (sym (eq-eqb a b (sym e)) ∙ t))))
-    (cases_Bool (a == b))
-
 and_true : (b : Bool) → (b && true) ≡ b
 and_true true = refl
 and_true false = refl
 
 pub test_is : (last slot : ℕ) (e : Extent) → IsSlot last e → is_extent_of (slot_file slot) (page_no 0) e ≡ (slot == e.file.ino)
 test_is last slot e s =
-    (λ i. ((s.server i == 1) && (e.file.ino == slot)) && (s.page i == 0)) ∙ and_true (e.file.ino == slot) ∙ flip e.file.ino slot
+    (λ i. ((s.server i == 1) && (e.file.ino == slot)) && (s.page i == 0)) ∙ and_true (e.file.ino == slot) ∙ eqb_turned e.file.ino slot
 
 behind_is : (last slot : ℕ) (e : Extent) → IsSlot last e → is_at_or_behind (slot_file slot) (page_no 0) e ≡ (slot == e.file.ino)
 behind_is last slot e s =
-    (λ i. ((s.server i == 1) && (e.file.ino == slot)) && nat_le 0 (s.page i)) ∙ and_true (e.file.ino == slot) ∙ flip e.file.ino slot
+    (λ i. ((s.server i == 1) && (e.file.ino == slot)) && nat_le 0 (s.page i)) ∙ and_true (e.file.ino == slot) ∙ eqb_turned e.file.ino slot
 
 abbrev pub bytes_at : Disks → Extent → List ℕ
 bytes_at d e = (block d e.at).bytes
@@ -206,7 +192,7 @@ module _ (x : Extents) (d : Disks) (last : ℕ) (s : AreSlots x d last) where
 
   -- a slot that is there has an extent
   pub extent_there : (slot : ℕ) → is_some (slot_at (slots_of d x.rows) slot) ≡ true → (e : Extent) × (extent_found x.rows slot ≡ Some e)
-  extent_there slot h = some_is (extent_found x.rows slot) (by (extent_found x.rows slot) (ap is_some (sym (slot_found d last x.rows s.slots slot)) ∙ h))
+  extent_there slot h = some_there (extent_found x.rows slot) (by (extent_found x.rows slot) (ap is_some (sym (slot_found d last x.rows s.slots slot)) ∙ h))
     where
       by : (o : Option Extent) → is_some (option_map (bytes_at d) o) ≡ true → is_some o ≡ true
       by None h = h
@@ -240,7 +226,9 @@ block_here old new b e =
 block_there : (old new : Disks) (b : Block) (at : BlockAt) → new.written ≡ put (is_block_at b.at) b old.written → (b.at ≡ at → ⊥) → block new at ≡ block old at
 block_there old new b at e n =
     ap (λ w. unwrap_or (find (is_block_at at) w) (fresh_block at)) e
-    ∙ ap (λ o. unwrap_or o (fresh_block at)) (find_put_other (is_block_at at) (is_block_at b.at) b old.written (not_same b.at at n) (λ y t. not_same y.at b.at (λ z. n (sym z ∙ same_is y.at at t))))
+    ∙ ap (λ o. unwrap_or o (fresh_block at))
+    (find_put_other (is_block_at at) (is_block_at b.at) b old.written (not_same b.at at n)
+    (λ y t. not_same y.at b.at (λ z. n (sym z ∙ block_is y.at at t))))
 
 pub put_slots : (rows : List Extent) (last slot : ℕ) (old new : Disks) (e : Extent) (b : Block) → AllByRecursion (IsSlot last) rows → IsDistinct on_one_block rows
     → extent_found rows slot ≡ Some e → b.at ≡ e.at → new.written ≡ put (is_block_at b.at) b old.written
@@ -449,7 +437,7 @@ added_and_gone slot bytes (e ∷ pages) n = by (added_and_gone slot bytes pages)
 
 -- a slot after the others
 pub found_last : (slot q : ℕ) (bytes : List ℕ) (pages : List (ℕ × List ℕ)) → slot_at pages slot ≡ None → slot_at (pages ++ (slot, bytes) ∷ []) q ≡ cond (slot == q) (Some bytes) (slot_at pages q)
-found_last slot q bytes [] n = ap (λ b. cond b (Some bytes) None) (flip q slot)
+found_last slot q bytes [] n = ap (λ b. cond b (Some bytes) None) (eqb_turned q slot)
 found_last slot q bytes (e ∷ pages) n = by (found_last slot q bytes pages) (slot == e.0) refl n
   where
     by : (slot_at pages slot ≡ None → slot_at (pages ++ (slot, bytes) ∷ []) q ≡ cond (slot == q) (Some bytes) (slot_at pages q)) → (b : Bool) → (slot == e.0) ≡ b → cond b (Some e.1) (slot_at pages slot) ≡ None → cond (q == e.0) (Some e.1) (slot_at (pages ++ (slot, bytes) ∷ []) q) ≡ cond (slot == q) (Some bytes) (cond (q == e.0) (Some e.1) (slot_at pages q))

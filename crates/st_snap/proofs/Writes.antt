@@ -2,12 +2,12 @@
 use Rattle.st_lemmas.proofs.Words
 use Words.{◌≡◌, ℕ, ◌+◌, ◌<◌, true, false, cond, List, ◌∷◌, length, Option, Some, None, arith, refl, sym, ap, subst, ◌∙◌, ⊎_elim, true≢false, ◌==◌, is_some}
 use Words.{if◌then◌else◌, list_any, cases_Bool, false_from_ne_true}
+use Words.Truth.{some_there}
 use Rattle.std.specs.Option.{option_map}
 use Rattle.st_snap.specs.declared.versions.VersionKey.{VersionKey}
 use Rattle.st_snap.specs.Changes.{Change, Wrote, last_write, page_of, same_page}
 use Rattle.st_snap.specs.Versions.{has_version, key_of, latest, same_key, version}
 use Rattle.st_snap.specs.Volumes.{Volume, IsAfter, IsHeld, IsSeen, Puts, first_after, is_among, numbered, seen, take_of, write_of}
-use Rattle.st_snap.proofs.Options.{some_is}
 use Rattle.st_snap.proofs.Keys.{same_false, same_from, same_true, same_self}
 use Rattle.st_snap.proofs.Lists.{first_none, first_some}
 use Rattle.st_snap.proofs.Latest.{IsLatest, latest_is, latest_same, latest_some}
@@ -22,7 +22,7 @@ module _ (blocks : ℕ) (cs : List Change) (h : Volume) (a : IsAfter blocks cs h
   -- a version's write is among the changes
   pub number_low : (q : VersionKey) → has_version h.versions q ≡ true → a.number q.file q.page q.takes < length cs
   number_low q t =
-      let b = some_is (version h.versions q) t in
+      let b = some_there (version h.versions q) t in
       let s = a.each q t in
       page_low cs s.view q.file q.page (numbered (a.number q.file q.page q.takes) b.0) (seen_write q s b.0 b.1)
 
@@ -195,7 +195,7 @@ module _ (blocks : ℕ) (cs : List Change) (h new : Volume) (k : IsHeld h) (a : 
     was_live : (q : VersionKey) → (f ≡ q.file) × (p ≡ q.page) → seen h 0 q.file q.page ≡ Some q.takes → IsSeen new q
     was_live q d e =
         let e2 : seen h 0 f p ≡ Some q.takes = subst (λ (r : ℕ × ℕ). seen h 0 r.0 r.1 ≡ Some q.takes) (λ i. (sym d.0 i, sym d.1 i)) e in
-        let i = some_is (first_after h.kept q.takes) (shared q.takes e2) in
+        let i = some_there (first_after h.kept q.takes) (shared q.takes e2) in
         let s = first_some h.kept q.takes i.0 k.rising i.1 in
         let g = taken_image h k i.0 s.there in
         let l = latest_some (has_version h.versions) q.file q.page h.next q.takes e in

@@ -1,27 +1,20 @@
 -- A block that is written in one call.
 use Rattle.st_lemmas.proofs.Words
-use Words.{◌≡◌, ℕ, suc, Bool, true, false, List, [], ◌∷◌, ◌++◌, length, Option, Some, None, Ok, Err, Result, refl, sym, ap, ◌∙◌, true≢false, OnErr, slice_get}
+use Words.{◌≡◌, ℕ, Bool, true, false, List, [], ◌∷◌, ◌++◌, length, Option, Some, None, Ok, Err, Result, sym, ap, ◌∙◌, true≢false, OnErr}
 use Words.{if◌then◌else◌, BlockAt, Tag, CommandRefusal, DiskCommand, Report}
 use Words.commands
 use Words.reports
 use Words.Keys.{put}
 use Words.Disks as disks
 use Words.Disks.{Disks, is_block_at}
+use Words.Numbers.{get_last, length_more}
 use Rattle.std.specs.Prelude.{is_err}
 use Rattle.st_rules.specs.declared.disks.CommandRefusal.TheVariants.{NotEffected}
 use Rattle.st_disk.specs.Calls.{Answers, ended, told}
 use Rattle.st_disk.specs.declared.refusal.DiskRefusal.{DiskRefusal}
 
-slice_last : {A : Type 0} (xs : List A) (x : A) → slice_get (xs ++ x ∷ []) (length xs) ≡ Some x
-slice_last [] x = refl
-slice_last (y ∷ xs) x = slice_last xs x
-
-push_long : {A : Type 0} (xs : List A) (x : A) → length (xs ++ x ∷ []) ≡ suc (length xs)
-push_long [] x = refl
-push_long (y ∷ xs) x = ap suc (push_long xs x)
-
 last_command : (cs : List DiskCommand) (c : DiskCommand) (n : ℕ) → n ≡ length (cs ++ c ∷ []) → disks.command_at (cs ++ c ∷ []) n ≡ Some c
-last_command cs c n e = ap (disks.command_at (cs ++ c ∷ [])) (e ∙ push_long cs c) ∙ slice_last cs c
+last_command cs c n e = ap (disks.command_at (cs ++ c ∷ [])) (e ∙ length_more cs c) ∙ get_last cs c
 
 from_told : Disks → Result Disks DiskRefusal → Disks
 from_told d (Ok x) = x

@@ -3,7 +3,7 @@ use Rattle.std.proofs.Common.{◌≡◌, ℕ, zero, suc, ◌+◌, ◌<◌, ◌�
 use Rattle.std.specs.Prelude.{find, filter, not, nat_eq, nat_lt, nat_le, is_some, Option, Some, None, ◌==◌, ◌≢◌, ◌&&◌, ◌||◌}
 use Rattle.std.specs.Option.{option_map}
 use Rattle.std.specs.List.{IsDistinct, AllByRecursion, list_any}
-use Rattle.std.proofs.lemmas.Bool.{cases_Bool, and_parts, eqb-true, eqb-false, eq-eqb, ne_eqb, ltb-true, ltb-false, leb-true, le-leb}
+use Rattle.std.proofs.lemmas.Bool.{cases_Bool, and_parts, eqb-true, eqb-false, eq-eqb, ne_eqb, ltb-true, ltb-false, leb-true, le-leb, cond-false, cond-true}
 use Rattle.st_rules.specs.Keys.{put}
 use Rattle.st_tables.specs.declared.keys.Key.{Key}
 use Rattle.st_tables.specs.Tables.{kept, listed, same_key, has_key, is_client, is_on, sooner, IsTable}
@@ -51,12 +51,6 @@ module _ {V : Type 0} (key : V → Key) (n : ℕ) (at : ℕ → Option V) (place
       let h : has_key key k r.0 ≡ true = ap (λ z. same_key z k) r.1.1 ∙ same_is k in
       listed_find (has_key key k) r.0 i n at (t.placed i r.0 r.1.0).0 r.1.0 h (only k i e) ∙ sym r.1.0
 
-by_test : {X : Type 0} (b : Bool) (x y : X) → b ≡ true → cond b x y ≡ x
-by_test b x y e = ap (λ z. cond z x y) e
-
-by_other : {X : Type 0} (b : Bool) (x y : X) → b ≡ false → cond b x y ≡ y
-by_other b x y e = ap (λ z. cond z x y) e
-
 module _ {V : Type 0} (key : V → Key) (n : ℕ) (at : ℕ → Option V) (place : Key → Option ℕ) (t : IsTable key n at place) where
   module _ (k : Key) (v : V) (at' : ℕ → Option V) (is : k ≡ key v) where
     -- A new row goes last.
@@ -67,13 +61,13 @@ module _ {V : Type 0} (key : V → Key) (n : ℕ) (at : ℕ → Option V) (place
           ⊎_elim
           (λ h.
           let s : n ≡ i = eqb-true n i h in
-          let e' : Some v ≡ Some w = sym (by_test (n == i) (Some v) (at i) h) ∙ sym (a i) ∙ e in
+          let e' : Some v ≡ Some w = sym (cond-true (n == i) (Some v) (at i) h) ∙ sym (a i) ∙ e in
           let z : v ≡ w = cc in
-          (omega arith, p (key w) ∙ by_test (same_key k (key w)) (Some n) (place (key w)) (ap (same_key k) (sym (is ∙ ap key z)) ∙ same_is k) ∙ ap Some s))
+          (omega arith, p (key w) ∙ cond-true (same_key k (key w)) (Some n) (place (key w)) (ap (same_key k) (sym (is ∙ ap key z)) ∙ same_is k) ∙ ap Some s))
           (λ h.
-          let e' : at i ≡ Some w = sym (by_other (n == i) (Some v) (at i) h) ∙ sym (a i) ∙ e in
+          let e' : at i ≡ Some w = sym (cond-false (n == i) (Some v) (at i) h) ∙ sym (a i) ∙ e in
           let b = t.placed i w e' in
-          (omega (arith, b.0), p (key w) ∙ by_other (same_key k (key w)) (Some n) (place (key w)) (apart (key w) i b.1) ∙ b.1))
+          (omega (arith, b.0), p (key w) ∙ cond-false (same_key k (key w)) (Some n) (place (key w)) (apart (key w) i b.1) ∙ b.1))
           (cases_Bool (n == i))
         where
           apart : (q : Key) (i : ℕ) → place q ≡ Some i → same_key k q ≡ false
@@ -83,14 +77,14 @@ module _ {V : Type 0} (key : V → Key) (n : ℕ) (at : ℕ → Option V) (place
       new_told q i e =
           ⊎_elim
           (λ h.
-          let e' : Some n ≡ Some i = sym (by_test (same_key k q) (Some n) (place q) h) ∙ sym (p q) ∙ e in
+          let e' : Some n ≡ Some i = sym (cond-true (same_key k q) (Some n) (place q) h) ∙ sym (p q) ∙ e in
           let s : n ≡ i = cc in
-          ap (option_map key) (a i ∙ by_test (n == i) (Some v) (at i) (eq-eqb n i s)) ∙ ap Some (sym is ∙ key_is k q h))
+          ap (option_map key) (a i ∙ cond-true (n == i) (Some v) (at i) (eq-eqb n i s)) ∙ ap Some (sym is ∙ key_is k q h))
           (λ h.
-          let e' : place q ≡ Some i = sym (by_other (same_key k q) (Some n) (place q) h) ∙ sym (p q) ∙ e in
+          let e' : place q ≡ Some i = sym (cond-false (same_key k q) (Some n) (place q) h) ∙ sym (p q) ∙ e in
           let r = row_there key (at i) q (t.told q i e') in
           let l = (t.placed i r.0 r.1.0).0 in
-          ap (option_map key) (a i ∙ by_other (n == i) (Some v) (at i) (ne_eqb n i (λ (z : n ≡ i). omega (arith, z, l)))) ∙ t.told q i e')
+          ap (option_map key) (a i ∙ cond-false (n == i) (Some v) (at i) (ne_eqb n i (λ (z : n ≡ i). omega (arith, z, l)))) ∙ t.told q i e')
           (cases_Bool (same_key k q))
 
       pub new_is : n + 1 < 2 ^ 64 → IsTable key (n + 1) at' place'
@@ -98,7 +92,8 @@ module _ {V : Type 0} (key : V → Key) (n : ℕ) (at : ℕ → Option V) (place
 
       pub new_listed : listed (n + 1) at' ≡ put (has_key key k) v (listed n at)
       new_listed =
-          listed_push n at at' v (λ i l. a i ∙ by_other (n == i) (Some v) (at i) (ne_eqb n i (λ (z : n ≡ i). omega (arith, z, l)))) (a n ∙ by_test (n == n) (Some v) (at n) (eq-eqb n n refl))
+          listed_push n at at' v (λ i l. a i ∙ cond-false (n == i) (Some v) (at i) (ne_eqb n i (λ (z : n ≡ i). omega (arith, z, l))))
+          (a n ∙ cond-true (n == n) (Some v) (at n) (eq-eqb n n refl))
           ∙ sym (put_last (has_key key k) v (listed n at) (none_found key n at place t k none))
 
     -- A row takes the place of the one with its key.
@@ -109,13 +104,13 @@ module _ {V : Type 0} (key : V → Key) (n : ℕ) (at : ℕ → Option V) (place
           ⊎_elim
           (λ h.
           let s : i ≡ j = eqb-true i j h in
-          let e' : Some v ≡ Some w = sym (by_test (i == j) (Some v) (at j) h) ∙ sym (a j) ∙ e in
+          let e' : Some v ≡ Some w = sym (cond-true (i == j) (Some v) (at j) h) ∙ sym (a j) ∙ e in
           let z : v ≡ w = cc in
           let r = row_there key (at i) k (t.told k i here) in
           let l = (t.placed i r.0 r.1.0).0 in
           (omega (arith, s, l), ap place (sym (is ∙ ap key z)) ∙ here ∙ ap Some s))
           (λ h.
-          let e' : at j ≡ Some w = sym (by_other (i == j) (Some v) (at j) h) ∙ sym (a j) ∙ e in
+          let e' : at j ≡ Some w = sym (cond-false (i == j) (Some v) (at j) h) ∙ sym (a j) ∙ e in
           t.placed j w e')
           (cases_Bool (i == j))
 
@@ -125,8 +120,8 @@ module _ {V : Type 0} (key : V → Key) (n : ℕ) (at : ℕ → Option V) (place
           (λ h.
           let s : i ≡ j = eqb-true i j h in
           let z : Some k ≡ Some q = sym (t.told k i here) ∙ ap (λ m. option_map key (at m)) s ∙ t.told q j e in
-          ap (option_map key) (a j ∙ by_test (i == j) (Some v) (at j) h) ∙ ap Some (sym is) ∙ z)
-          (λ h. ap (option_map key) (a j ∙ by_other (i == j) (Some v) (at j) h) ∙ t.told q j e)
+          ap (option_map key) (a j ∙ cond-true (i == j) (Some v) (at j) h) ∙ ap Some (sym is) ∙ z)
+          (λ h. ap (option_map key) (a j ∙ cond-false (i == j) (Some v) (at j) h) ∙ t.told q j e)
           (cases_Bool (i == j))
 
       pub over_is : IsTable key n at' place
@@ -137,7 +132,8 @@ module _ {V : Type 0} (key : V → Key) (n : ℕ) (at : ℕ → Option V) (place
           let r = row_there key (at i) k (t.told k i here) in
           let h : has_key key k r.0 ≡ true = ap (λ z. same_key z k) r.1.1 ∙ same_is k in
           sym (listed_put (has_key key k) v r.0 i n at at' (t.placed i r.0 r.1.0).0 r.1.0 h (only key n at place t k i here)
-          (a i ∙ by_test (i == i) (Some v) (at i) (eq-eqb i i refl)) (λ j z. a j ∙ by_other (i == j) (Some v) (at j) (ne_eqb i j (λ (y : i ≡ j). z (sym y)))))
+          (a i ∙ cond-true (i == i) (Some v) (at i) (eq-eqb i i refl))
+          (λ j z. a j ∙ cond-false (i == j) (Some v) (at j) (ne_eqb i j (λ (y : i ≡ j). z (sym y)))))
 
   -- A row goes.
 
@@ -145,11 +141,11 @@ module _ {V : Type 0} (key : V → Key) (n : ℕ) (at : ℕ → Option V) (place
     gone_placed : (j : ℕ) (w : V) → at' j ≡ Some w → (j < n) × (place' (key w) ≡ Some j)
     gone_placed j w e =
         ⊎_elim
-        (λ h. let e' : None ≡ Some w = sym (by_test (i == j) None (at j) h) ∙ sym (a j) ∙ e in cc)
+        (λ h. let e' : None ≡ Some w = sym (cond-true (i == j) None (at j) h) ∙ sym (a j) ∙ e in cc)
         (λ h.
-        let e' : at j ≡ Some w = sym (by_other (i == j) None (at j) h) ∙ sym (a j) ∙ e in
+        let e' : at j ≡ Some w = sym (cond-false (i == j) None (at j) h) ∙ sym (a j) ∙ e in
         let b = t.placed j w e' in
-        (b.0, p (key w) ∙ by_other (same_key k (key w)) None (place (key w)) (apart (key w) j b.1 (eqb-false i j h)) ∙ b.1))
+        (b.0, p (key w) ∙ cond-false (same_key k (key w)) None (place (key w)) (apart (key w) j b.1 (eqb-false i j h)) ∙ b.1))
         (cases_Bool (i == j))
       where
         apart : (q : Key) (j : ℕ) → place q ≡ Some j → i ≢ j → same_key k q ≡ false
@@ -158,17 +154,17 @@ module _ {V : Type 0} (key : V → Key) (n : ℕ) (at : ℕ → Option V) (place
     gone_told : (q : Key) (j : ℕ) → place' q ≡ Some j → option_map key (at' j) ≡ Some q
     gone_told q j e =
         ⊎_elim
-        (λ h. let z : None ≡ Some j = sym (by_test (same_key k q) None (place q) h) ∙ sym (p q) ∙ e in cc)
+        (λ h. let z : None ≡ Some j = sym (cond-true (same_key k q) None (place q) h) ∙ sym (p q) ∙ e in cc)
         (λ h.
-        let e' : place q ≡ Some j = sym (by_other (same_key k q) None (place q) h) ∙ sym (p q) ∙ e in
-        ap (option_map key) (a j ∙ by_other (i == j) None (at j) (ne_eqb i j (λ (z : i ≡ j). other z e'))) ∙ t.told q j e')
+        let e' : place q ≡ Some j = sym (cond-false (same_key k q) None (place q) h) ∙ sym (p q) ∙ e in
+        ap (option_map key) (a j ∙ cond-false (i == j) None (at j) (ne_eqb i j (λ (z : i ≡ j). other z e'))) ∙ t.told q j e')
         (cases_Bool (same_key k q))
       where
         other : i ≡ j → place q ≡ Some j → ⊥
         other z e' =
             let y : Some k ≡ Some q = sym (t.told k i here) ∙ ap (λ m. option_map key (at m)) z ∙ t.told q j e' in
             let x : k ≡ q = cc in
-            let w : None ≡ Some j = sym (by_test (same_key k q) None (place q) (ap (same_key k) (sym x) ∙ same_is k)) ∙ sym (p q) ∙ e in
+            let w : None ≡ Some j = sym (cond-true (same_key k q) None (place q) (ap (same_key k) (sym x) ∙ same_is k)) ∙ sym (p q) ∙ e in
             cc
 
     pub gone_is : IsTable key n at' place'
@@ -178,17 +174,18 @@ module _ {V : Type 0} (key : V → Key) (n : ℕ) (at : ℕ → Option V) (place
     not_found j = from (at j) refl
       where
         from : (o : Option V) → at j ≡ o → at' j ≡ kept (λ v. not (has_key key k v)) o
-        from None e = ⊎_elim (λ h. a j ∙ by_test (i == j) None (at j) h) (λ h. a j ∙ by_other (i == j) None (at j) h ∙ e) (cases_Bool (i == j))
+        from None e = ⊎_elim (λ h. a j ∙ cond-true (i == j) None (at j) h) (λ h. a j ∙ cond-false (i == j) None (at j) h ∙ e) (cases_Bool (i == j))
         from (Some w) e =
             ⊎_elim
             (λ h.
             let s : i ≡ j = eqb-true i j h in
             let z : Some (key w) ≡ Some k = ap (option_map key) (sym e) ∙ ap (λ m. option_map key (at m)) (sym s) ∙ t.told k i here in
             let y : key w ≡ k = cc in
-            a j ∙ by_test (i == j) None (at j) h ∙ sym (by_other (not (has_key key k w)) (Some w) None (ap (λ q. not (same_key q k)) y ∙ ap not (same_is k))))
+            a j ∙ cond-true (i == j) None (at j) h ∙ sym
+            (cond-false (not (has_key key k w)) (Some w) None (ap (λ q. not (same_key q k)) y ∙ ap not (same_is k))))
             (λ h.
             let f : has_key key k w ≡ false = ⊎_elim (λ x. let z : j ≡ i = only key n at place t k i here j w e x in absurd (eqb-false i j h (sym z))) (λ x. x) (cases_Bool (has_key key k w)) in
-            a j ∙ by_other (i == j) None (at j) h ∙ e ∙ sym (by_test (not (has_key key k w)) (Some w) None (ap not f)))
+            a j ∙ cond-false (i == j) None (at j) h ∙ e ∙ sym (cond-true (not (has_key key k w)) (Some w) None (ap not f)))
             (cases_Bool (i == j))
 
     pub gone_listed : listed n at' ≡ filter (λ v. not (has_key key k v)) (listed n at)
@@ -236,7 +233,8 @@ module _ {V : Type 0} (key : V → Key) (n : ℕ) (at : ℕ → Option V) (place
     changed_at j = from (at j) refl
       where
         from : (o : Option V) → at j ≡ o → at' j ≡ option_map (λ r. if has_key key (key row) r then f r else r) o
-        from None e = ⊎_elim (λ h. let z : None ≡ Some v = sym e ∙ ap at (sym (eqb-true i j h)) ∙ at_i in cc) (λ h. a j ∙ by_other (i == j) (Some row) (at j) h ∙ e) (cases_Bool (i == j))
+        from None e = ⊎_elim (λ h. let z : None ≡ Some v = sym e ∙ ap at (sym (eqb-true i j h)) ∙ at_i in cc)
+            (λ h. a j ∙ cond-false (i == j) (Some row) (at j) h ∙ e) (cases_Bool (i == j))
         from (Some w) e =
             ⊎_elim
             (λ h.
@@ -247,10 +245,10 @@ module _ {V : Type 0} (key : V → Key) (n : ℕ) (at : ℕ → Option V) (place
             let x : Some r.0 ≡ Some v = sym r.1.0 ∙ at_i in
             let u : r.0 ≡ v = cc in
             let k : has_key key (key row) w ≡ true = ap (has_key key (key row)) (y ∙ sym u) ∙ ap (λ q. same_key q (key row)) r.1.1 ∙ same_is (key row) in
-            a j ∙ by_test (i == j) (Some row) (at j) h ∙ ap Some (is ∙ ap f (sym y)) ∙ sym (ap Some (by_test (has_key key (key row) w) (f w) w k)))
+            a j ∙ cond-true (i == j) (Some row) (at j) h ∙ ap Some (is ∙ ap f (sym y)) ∙ sym (ap Some (cond-true (has_key key (key row) w) (f w) w k)))
             (λ h.
             let k : has_key key (key row) w ≡ false = ⊎_elim (λ x. let z : j ≡ i = only key n at place t (key row) i here j w e x in absurd (eqb-false i j h (sym z))) (λ x. x) (cases_Bool (has_key key (key row) w)) in
-            a j ∙ by_other (i == j) (Some row) (at j) h ∙ e ∙ sym (ap Some (by_other (has_key key (key row) w) (f w) w k)))
+            a j ∙ cond-false (i == j) (Some row) (at j) h ∙ e ∙ sym (ap Some (cond-false (has_key key (key row) w) (f w) w k)))
             (cases_Bool (i == j))
 
     pub changed_listed : listed n at' ≡ map (λ r. if has_key key (key row) r then f r else r) (listed n at)
@@ -263,7 +261,7 @@ module _ {V : Type 0} (key : V → Key) (n : ℕ) (at : ℕ → Option V) (place
     kept_placed i w e =
         let s = kept_some p (at i) w (sym (a i) ∙ e) in
         let q = t.placed i w s.0 in
-        (q.0, b (key w) ∙ ap (kept (λ j. is_some (at' j))) q.1 ∙ by_test (is_some (at' i)) (Some i) None (ap is_some e))
+        (q.0, b (key w) ∙ ap (kept (λ j. is_some (at' j))) q.1 ∙ cond-true (is_some (at' i)) (Some i) None (ap is_some e))
 
     kept_told : (k : Key) (i : ℕ) → place' k ≡ Some i → option_map key (at' i) ≡ Some k
     kept_told k i e =

@@ -1,15 +1,17 @@
 -- What an event that is not refused meets.
 use Rattle.st_lemmas.proofs.Words
 use Words.{◌≡◌, ℕ, ◌≤◌, ◌^◌, Bool, true, false, not, ◌==◌, List, [], ◌∷◌, length, arith, refl, sym, ap, ◌∙◌, if◌then◌else◌, Option, Some, None, list_all}
-use Words.{and_parts, eqb-true, leb-true, lt-ltb, NodeId, Event, Excess, WorldRefusal}
+use Words.{and_parts, eqb-true, leb-true, lt-ltb, NodeId, Event}
 use Words.nodes
 use Words.events
 use Words.refusals
-use Words.Admissible.{cannot_step, clocks_refused, drift_refused, excess_with, flush_missed, net_full, no_node, not_running, rate_refused, refusal, stands}
+use Words.Admissible.{cannot_step, clocks_refused, drift_refused, excess_with, flush_missed, net_full, no_node, not_running, rate_refused, refusal}
 use Words.Admissible.{still_running}
 use Words.Events.{counted}
 use Words.Safety.{is_event, is_increment}
 use Words.World.{World, all_clients, is_running}
+use Words.Worlds.{no_excess, stands_not}
+use Words.Tables.{not_false}
 use Rattle.std.specs.Option.{option_or}
 use Rattle.st_world_parts.specs.Clocks.{is_step}
 use Rattle.st_world_events.specs.Advances.{IsAccepted}
@@ -19,15 +21,6 @@ use Rattle.st_world.specs.AdvanceTests.{IsLaid, IsTimed}
 neither : {A : Type 0} (o rest : Option A) → option_or o rest ≡ None → (o ≡ None) × (rest ≡ None)
 neither None rest h = (refl, h)
 neither (Some x) rest h = absurd (cc)
-
-falls : (test : Bool) (r : WorldRefusal) → stands test r ≡ None → test ≡ false
-unfolding stands
-falls true r h = absurd (cc)
-falls false r h = refl
-
-negated : (b : Bool) → not b ≡ false → b ≡ true
-negated true h = refl
-negated false h = absurd (cc)
 
 pub small_steps : (steps : List ℕ) → list_all is_increment steps ≡ true → list_all is_step steps ≡ true
 small_steps [] h = refl
@@ -55,10 +48,6 @@ timed w steps l h =
 -- the same, of any event
 pub timed_any : (w : World) (e : Event) → IsLaid w → is_event (length w.clocks) e ≡ true → (steps : List ℕ) → e ≡ events.Advance steps → IsTimed w steps
 timed_any w e l h steps q = timed w steps l (sym (ap (is_event (length w.clocks)) q) ∙ h)
-
-no_excess : (w : World) (o : Option Excess) → drift_refused w o ≡ None → o ≡ None
-no_excess w None h = refl
-no_excess w (Some x) h = absurd (cc)
 
 by_form : (b : Bool) (w : World) (steps : List ℕ) → (if b then rate_refused w steps else drift_refused w (excess_with w steps)) ≡ None → b ≡ false → excess_with w steps ≡ None
 by_form true w steps h e = absurd (cc)
@@ -92,7 +81,7 @@ met w (events.App c ask) l i h =
     let n = nodes.Client c in
     let may = neither (no_node w n) (cannot_step w n) h in
     let runs = neither (not_running w n) (net_full w) may.1 in
-    (i, negated (is_running w n) (falls (not (is_running w n)) (refusals.NotRunning n) runs.0))
+    (i, not_false (is_running w n) (stands_not (not (is_running w n)) (refusals.NotRunning n) runs.0))
 met w (events.Deliver k) l i h = tt
 met w (events.Lose k) l i h = tt
 met w (events.Cut from to) l i h = tt
@@ -103,7 +92,7 @@ met w (events.Effect k) l i h = tt
 met w (events.Report k ok) l i h = tt
 met w (events.Crash n) l i h = tt
 met w (events.Start n) l i h =
-    same_running w n ∙ falls (is_running w n) (refusals.Running n) (neither (no_node w n) (still_running w n) h).1
+    same_running w n ∙ stands_not (is_running w n) (refusals.Running n) (neither (no_node w n) (still_running w n) h).1
 
 -- what is ready stays so, one event later in the count
 pub still_ready : (w : World) → IsReady w → IsReady (counted w)

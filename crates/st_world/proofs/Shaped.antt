@@ -11,6 +11,7 @@ use Words.Leases.{no_drift}
 use Words.Run.{go_on, run}
 use Words.Safety.{IsHead, is_event, is_increment}
 use Words.World.{World, client_clock, fresh_site, fresh_world, node_at_start, server_clock}
+use Words.Lengths.{length_map, numbers_length}
 use Rattle.std.specs.Prelude.{replicate}
 use Rattle.st_base.specs.Config.{check, check_demand, check_grain, check_length, check_rate, demands_fit, grain_fits, lease_is_short, phases_rise}
 use Rattle.st_base.specs.Config.{rate_is_sound}
@@ -97,14 +98,6 @@ shaped_on k clients servers (e ∷ es) w s i =
     shaped_go k clients servers es w e (world_step w e) refl s p.0 (λ v t. shaped_on k clients servers es v t p.1)
 
 -- The beginning.
-length_numbers : (a c : ℕ) → length (numbers a c) ≡ c
-unfolding numbers
-length_numbers a zero = refl
-length_numbers a (suc c) = ap suc (length_numbers (a + 1) c)
-
-length_each : {A B : Type 0} (f : A → B) (xs : List A) → length (map f xs) ≡ length xs
-length_each f [] = refl
-length_each f (x ∷ xs) = ap suc (length_each f xs)
 
 length_both : {A : Type 0} (xs ys : List A) → length (xs ++ ys) ≡ length xs + length ys
 length_both [] ys = omega arith
@@ -115,7 +108,7 @@ length_same zero x = refl
 length_same (suc n) x = ap suc (length_same n x)
 
 counted_off : {B : Type 0} (f : ℕ → B) (c : ℕ) → length (map f (numbers 1 c)) ≡ c
-counted_off f c = length_each f (numbers 1 c) ∙ length_numbers 1 c
+counted_off f c = length_map f (numbers 1 c) ∙ numbers_length 1 c
 
 all_both : {A : Type 0} (p : A → Bool) (xs ys : List A) → list_all p xs ≡ true → list_all p ys ≡ true → list_all p (xs ++ ys) ≡ true
 all_both p [] ys h k = k

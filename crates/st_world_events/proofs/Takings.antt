@@ -1,5 +1,6 @@
 -- Steps of the node at a place.
-use Rattle.std.proofs.Common.{◌≡◌, ℕ, zero, suc, ◌<◌, List, [], ◌∷◌, length, set, refl, sym, ap, subst, ◌∙◌, arith}
+use Rattle.st_lemmas.proofs.Lengths.{set_same}
+use Rattle.std.proofs.Common.{◌≡◌, ℕ, zero, suc, ◌<◌, List, [], ◌∷◌, length, set, refl, ap, subst, ◌∙◌, arith}
 use Rattle.std.specs.Prelude.{slice_get, Some, Result, Ok, Err}
 use Rattle.st_base.specs.declared.ids.Stamp.{Stamp}
 use Rattle.st_messages.specs.declared.output.Output.{Output}
@@ -14,12 +15,6 @@ use Rattle.st_rules.specs.Server.{ServerNode}
 use Rattle.st_rules.specs.World.{WorldClient}
 use Rattle.st_server.specs.Steps.{Steps}
 use Rattle.st_world_events.specs.NodeSteps.{SiteSteps, SitesStep, ServersStep}
-
--- what is at a place, written there again
-pub set_same : {A : Type 0} (xs : List A) (i : ℕ) (x : A) → slice_get xs i ≡ Some x → set xs i x ≡ xs
-set_same [] i x h = refl
-set_same (y ∷ ys) zero x h = let e : y ≡ x = cc in ap (λ z. z ∷ ys) (sym e)
-set_same (y ∷ ys) (suc i) x h = ap (λ l. y ∷ l) (set_same ys i x h)
 
 -- what was written at a place
 pub get_set : {A : Type 0} (xs : List A) (i : ℕ) (x : A) → i < length xs → slice_get (set xs i x) i ≡ Some x

@@ -18,6 +18,7 @@ use Words.Numbers.{numbered_below, numbered_has, numbered_other, numbered_own}
 use Words.Tables.{and_true, has_map, same_or_not}
 use Words.Lengths.{length_map, numbers_length}
 use Words.Tests.{filtered_no_longer}
+use Rattle.std.proofs.lemmas.Nat.{mul-le}
 use Rattle.std.specs.Prelude.{flat_map}
 use Rattle.st_laws_bounds.proofs.Counters.Events.{Cases, ClientSteps, ServerSteps}
 use Rattle.st_laws_bounds.proofs.Counters.Clients.{flush_rows, served_all}
@@ -95,9 +96,6 @@ flat_many f n h (x ∷ xs) =
     more_by_one : (m k : ℕ) → m * suc k ≡ m + m * k
     more_by_one m k = grind arith
 
-product : (m n k l : ℕ) → m ≤ k → n ≤ l → m * n ≤ k * l
-product m n k l a b = grind arith
-
 few_blocks : (id : ServerId) (servers disks blocks : ℕ) → disks ≤ 8 → blocks ≤ 4096 → length (extents.own_blocks (extents.no_extents id servers disks blocks)) ≤ 32768
 unfolding extents.own_blocks
 few_blocks id servers disks blocks d b = total (flat_many (extents.blocks_of x) blocks (λ p. one p) (filter (extents.is_own_disk x) (numbers 0 disks))) (filtered_no_longer (extents.is_own_disk x) (numbers 0 disks)) (numbers_length 0 disks)
@@ -110,7 +108,7 @@ few_blocks id servers disks blocks d b = total (flat_many (extents.blocks_of x) 
 
     total : {l m n : ℕ} → l ≤ blocks * m → m ≤ n → n ≡ disks → l ≤ 32768
     total {l} {m} {n} e f g =
-        let s = product blocks m 4096 8 b (let z : m ≤ 8 = omega (arith, f, g, d) in z) in omega (arith, e, s)
+        let s = mul-le blocks m 4096 8 b (let z : m ≤ 8 = omega (arith, f, g, d) in z) in omega (arith, e, s)
 
 -- the world of a head
 pub fresh_low : (k : Config) (clients servers d b form : ℕ) → IsHead k clients servers d b form → NodesLow 0 (fresh_world k clients servers d b form)

@@ -14,6 +14,7 @@ use Words.Sessions as sessions
 use Words.World.{World, WorldClient, node_of}
 use Words.Lists.{Has}
 use Words.Tables.{same_or_not}
+use Words.Truth.{below_or_not}
 use Rattle.st_base.specs.Mode.{number_of}
 use Rattle.st_protocol.specs.Assoc.{Config}
 use Rattle.st_protocol.proofs.World.{invariant}
@@ -102,16 +103,7 @@ module _ (k : Config) (count : ℕ) (past : List Step) (t : Traced) (cuts : Cuts
         by e (inr l) = last e l x.requests.asked refl
 
         go : (m.header.epoch ≡ x.epoch.0) ⊎ (m.header.epoch ≢ x.epoch.0) → Harmless (gifts k count t.world all c a.server) t.world c a.server ino m
-        go (inl e) = by e (less m.header.number (first_open x.requests))
-          where
-            less : (u v : ℕ) → (u < v) ⊎ (v ≤ u)
-            less u zero = inr (omega arith)
-            less zero (suc v) = inl (omega arith)
-            less (suc u) (suc v) = up (less u v)
-              where
-                up : (u < v) ⊎ (v ≤ u) → (suc u < suc v) ⊎ (suc v ≤ suc u)
-                up (inl l) = inl (omega (arith, l))
-                up (inr l) = inr (omega (arith, l))
+        go (inl e) = by e (below_or_not m.header.number (first_open x.requests))
         go (inr ne) = earlier ne
 
   pub harmless : LifeHarmless (gifts k count t.world all c a.server) t.world c a.server a.life.0 ino

@@ -26,7 +26,7 @@ use Words.World.{World, WorldClient, clock_of, issued_of, message_of, node_of, n
 use Words.Lists.{Has}
 use Words.Lookups.{some_is}
 use Words.Numbers.{numbered_below, numbered_other, numbered_own}
-use Words.Tables.{and_true, has_map, same_or_not}
+use Words.Tables.{and_right, and_true, has_map, same_or_not}
 use Words.Truth.{some_not_none}
 use Rattle.st_lemmas.proofs.Marks.{of_entry}
 use Rattle.st_laws_refine.specs.Views.Halves.{held_in}
@@ -61,13 +61,9 @@ fewer_matters f p e g o c k h = go (touches f p e) refl (log.counts e.fate) refl
     same : touches f p g ≡ touches f p e
     same = ap (λ (x : LogOwner). same_file x.file f && log.reaches g.change x.page p) o ∙ ap (λ x. same_file e.of.file f && log.reaches x e.of.page p) c
 
-    right : (a b : Bool) → b ≡ false → (a && b) ≡ false
-    right true b e = e
-    right false b e = refl
-
     go : (a : Bool) → touches f p e ≡ a → (b : Bool) → log.counts e.fate ≡ b → matters f p g ≡ false
     go false t b q = ap (λ x. x && log.counts g.fate) (same ∙ t)
-    go true t false q = right (touches f p g) (log.counts g.fate) (k q)
+    go true t false q = and_right (touches f p g) (log.counts g.fate) (k q)
     go true t true q = let z = ap (λ x. x && log.counts e.fate) (sym t) ∙ h in let y = sym q ∙ z in cc y
 
 fewer_last : (n i : ℕ) (f : FileId) (p : PageNo) (es fs : List LogEntry) → Fewer es fs → LastIs n i f p es → LastIs n i f p fs
@@ -223,9 +219,6 @@ module _ (asks : ℕ → ℕ → Option Ask) (w : World) (copies : CopiesHold as
   unfolding ev.delivers_to ev.at_client
   receiver_last m (nodes.Client c) e g h = go (site_of w c) e
     where
-      some_not_none : {A : Type 0} (x : A) → ◌≡◌ {A = Option A} (Some x) None → ⊥
-      some_not_none x e = cc
-
       go : (o : Option WorldClient) → taking w c (inputs.Control m) o ≡ None → LastIn (ev.at_client w c (inputs.Control m) o).world (ev.at_client w c (inputs.Control m) o).world.log
       go None e = h
       go (Some site) e = absurd (some_not_none _ e)

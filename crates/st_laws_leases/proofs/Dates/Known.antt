@@ -1,6 +1,6 @@
 -- Whoever has a row, a wait or a timer at a server has a session there: what the rules change of these.
 use Rattle.st_lemmas.proofs.Words
-use Words.{◌≡◌, ℕ, ◌⊎◌, Bool, true, false, not, List, [], ◌∷◌, refl, sym, ap, ◌∙◌, subst, inl, inr, cond, find, map, Option, Some, None, is_some}
+use Words.{◌≡◌, ℕ, ◌⊎◌, Bool, true, false, List, [], ◌∷◌, refl, sym, ap, ◌∙◌, subst, inl, inr, cond, find, map, Option, Some, None, is_some}
 use Words.{option_map, nat_lt, eqb-true, eq-eqb, ClientId, GrantNo, Life, Stamp, Mode, Body, Suspect, LockRow, RowDemand, Waiter, Session}
 use Words.modes
 use Words.Keys.{same_client}
@@ -11,9 +11,10 @@ use Words.Sessions.{Sessions}
 use Words.Authority as authority
 use Words.Authority.{Authority}
 use Words.Lists.{Has}
-use Words.Tables.{cond_either, found_at, find_map, has_map, has_filter, has_append, none_has, not_true}
+use Words.Tables.{cond_either, found_at, find_map, has_map, has_filter, has_append, none_has, not_true, not_false}
 use Rattle.st_lemmas.proofs.Puts.{has_put, has_put_self, has_put_other}
 use Rattle.st_laws_leases.specs.Dates.Dates.{Met, Runs, Clients, OneTimer}
+use Rattle.std.proofs.lemmas.Bool.{both_ways}
 
 -- a row that passes is found, and the other way round
 pub some_found : {A : Type 0} (p : A → Bool) (xs : List A) (x : A) → Has x xs → p x ≡ true → is_some (find p xs) ≡ true
@@ -124,10 +125,6 @@ suspected a c now = go (authority.may_ack a c) refl
     s : Suspect
     s = authority.new_suspect c now
 
-    not_ack : (b : Bool) → not b ≡ false → b ≡ true
-    not_ack true e = refl
-    not_ack false e = cc
-
     old_or : (x : Suspect) → (x ≡ s) ⊎ Has x a.suspects → Has x a.suspects ⊎ (x ≡ s)
     old_or x (inl e) = inr e
     old_or x (inr i) = inl i
@@ -142,22 +139,18 @@ suspected a c now = go (authority.may_ack a c) refl
           one = λ o x y h i q. alike o x y (new_suspects s x a.suspects h) (new_suspects s y a.suspects i) q;
         }
       where
-        clash : (b : Bool) → b ≡ false → b ≡ true → ⊥
-        clash true e f = cc
-        clash false e f = cc
-
         free : is_some (authority.suspect_of a c) ≡ false
         free = not_true _ e
 
         none : (x : Suspect) → Has x a.suspects → x.client ≡ c → ⊥
-        none x h q = clash _ free (some_found (authority.is_suspect c) a.suspects x h (eq-eqb x.client.0 c.0 (ap (λ (z : ClientId). z.0) q)))
+        none x h q = both_ways _ free (some_found (authority.is_suspect c) a.suspects x h (eq-eqb x.client.0 c.0 (ap (λ (z : ClientId). z.0) q)))
 
         alike : OneTimer a.suspects → (x y : Suspect) → (x ≡ s) ⊎ Has x a.suspects → (y ≡ s) ⊎ Has y a.suspects → x.client ≡ y.client → x ≡ y
         alike o x y (inl e) (inl f) q = e ∙ sym f
         alike o x y (inl e) (inr i) q = absurd (none y i (sym q ∙ ap (λ (z : Suspect). z.client) e))
         alike o x y (inr h) (inl f) q = absurd (none x h (q ∙ ap (λ (z : Suspect). z.client) f))
         alike o x y (inr h) (inr i) q = o x y h i q
-    go false e = record { own = not_ack _ e; runs = λ d h. h; only = λ x h. inl h; one = λ o. o }
+    go false e = record { own = not_false _ e; runs = λ d h. h; only = λ x h. inl h; one = λ o. o }
 
 -- The lock table.
 module _ (M : ClientId → Type 0) where

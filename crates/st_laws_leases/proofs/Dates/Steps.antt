@@ -30,6 +30,7 @@ use Words.Lookups.{some_is}
 use Words.Numbers.{numbered_own, numbered_other, numbered_below, numbered_has, set_length}
 use Words.Lengths.{length_map}
 use Words.Members.{has_left, has_right}
+use Words.Truth.{not_both}
 use Rattle.std.specs.Option.{option_or}
 use Rattle.st_rules.specs.declared.node.StepRefusal.TheVariants.{Crashed}
 use Rattle.st_laws_leases.specs.Dates.Dates.{message_in, messages, is_dating, is_from_client, is_stamped_by, Born, Answer, SessionDated, AssociationDated}
@@ -749,11 +750,7 @@ module _ (past : List Step) (t : Traced) (d : Dated past t) where
       e = events.Crash (nodes.Server s)
 
       kept : (x : TimerStart) → Has x (filter (λ y. not (history.is_timer_at s y)) t.history.timers) → Has x t.history.timers × (x.server.0 ≢ s.0)
-      kept x h = let z = has_filter _ t.history.timers x h in (z.0, λ q. clash (history.is_timer_at s x) (eq-eqb x.server.0 s.0 q) (not_true _ z.1))
-        where
-          clash : (b : Bool) → b ≡ true → b ≡ false → ⊥
-          clash true e f = cc
-          clash false e f = cc
+      kept x h = let z = has_filter _ t.history.timers x h in (z.0, λ q. not_both (history.is_timer_at s x) (eq-eqb x.server.0 s.0 q) (not_true _ z.1))
 
       keeps : (x : TimerStart) → Has x t.history.timers → x.server.0 ≢ s.0 → Has x (filter (λ y. not (history.is_timer_at s y)) t.history.timers)
       keeps x h n = has_filter_in (λ y. not (history.is_timer_at s y)) t.history.timers x h (at (history.is_timer_at s x) refl)
@@ -808,12 +805,8 @@ module _ (past : List Step) (t : Traced) (d : Dated past t) where
           off = sym (ap world.node_runs q) ∙ not_running t.world (nodes.Server s) f
 
           down : {x : TimerStart} → TimerQuiet t.world x → x.server.0 ≡ s.0 → ⊥
-          down {x} z y = clash node.running (ap (λ (n : ServerNode). n.running) (sym (some_is (sym z.is ∙ ap (numbered t.world.servers) y ∙ q))) ∙ z.running)
+          down {x} z y = not_both node.running (ap (λ (n : ServerNode). n.running) (sym (some_is (sym z.is ∙ ap (numbered t.world.servers) y ∙ q))) ∙ z.running)
               off
-            where
-              clash : (b : Bool) → b ≡ true → b ≡ false → ⊥
-              clash true e f = cc
-              clash false e f = cc
 
   pub happens : (e : Event) → adm.refusal t.world e ≡ None → Next t e (ev.happens w e)
   unfolding ev.happens ev.ticks ev.crashes ev.starts ev.advances ev.effects ev.marks remember

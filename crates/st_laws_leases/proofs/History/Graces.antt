@@ -36,18 +36,15 @@ use Rattle.st_laws_pages.proofs.Asks.Says.{server_leaves}
 use Rattle.st_laws_pages.proofs.Lives.Fresh.{fresh_is}
 use Rattle.st_laws_leases.specs.Dates.Dates.{messages}
 use Words.Members.{has_left, has_right}
+use Words.Truth.{not_both}
 use Rattle.st_laws_leases.proofs.Dates.Leaving.{client_leaves}
-
-clash : (b : Bool) → b ≡ true → b ≡ false → ⊥
-clash true e f = cc
-clash false e f = cc
 
 -- other numbers are other numbers the other way round
 other_way : (m n : ℕ) → (m == n) ≡ false → (n == m) ≡ false
 other_way m n f = go (n == m) refl
   where
     go : (b : Bool) → (n == m) ≡ b → b ≡ false
-    go true q = absurd (clash (m == n) (eq-eqb _ _ (sym (eqb-true _ _ q))) f)
+    go true q = absurd (not_both (m == n) (eq-eqb _ _ (sym (eqb-true _ _ q))) f)
     go false q = refl
 
 -- A step of a server leaves its grace.
@@ -204,7 +201,7 @@ module _ (w : World) (s : ServerId) where
   starts_client c (Some site) = refl
 
   apart : (r : ServerId) → (r.0 == s.0) ≡ false → r.0 ≢ s.0
-  apart r e q = clash (r.0 == s.0) (eq-eqb _ _ q) e
+  apart r e q = not_both (r.0 == s.0) (eq-eqb _ _ q) e
 
   crashes_server : (r : ServerId) (o : Option ServerNode) → node_of w r ≡ o → (r.0 == s.0) ≡ false → Same (ev.crashes_server (ev.counted w) r o)
   unfolding ev.crashes_server

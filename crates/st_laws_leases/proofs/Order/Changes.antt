@@ -8,11 +8,12 @@ use Rattle.st_protocol.proofs.Lists.{upd_tells, upd-same, upd-other}
 use Rattle.st_protocol.proofs.Timing.{renews_of}
 use Rattle.st_protocol.proofs.Claims.{inside}
 use Rattle.st_protocol.proofs.Lives.{first_in_grace}
-use Rattle.st_protocol.proofs.Steps.{bool_cases, same_or_less}
+use Rattle.st_protocol.proofs.Steps.{same_or_less}
 use Rattle.st_protocol.proofs.Exact.{ExclusiveAt, Holds, Comes, held_exact}
 use Rattle.st_protocol.proofs.Invariant.{Invariant}
 use Rattle.st_protocol.proofs.World.{invariant, exclusive, alone, no_conflict, same_all}
 use Rattle.st_laws_leases.specs.Order.Order.{Below}
+use Rattle.std.proofs.lemmas.Bool.{cases_Bool}
 
 module _ (k : Config) (ok : ConfigOk k) where
   -- the server is one and the same in every reached state
@@ -77,7 +78,7 @@ module _ (k : Config) (ok : ConfigOk k) where
     inv d = invariant k w ok r d
 
     up_row : (d j : ℕ) → 2 ≤ ((w.at d).s.row j).mode → (w.at d).s.up ≡ true
-    up_row d j x = go (bool_cases (w.at d).s.up)
+    up_row d j x = go (cases_Bool (w.at d).s.up)
       where
         go : ((w.at d).s.up ≡ true) ⊎ ((w.at d).s.up ≡ false) → (w.at d).s.up ≡ true
         go (inl u) = u
@@ -124,7 +125,7 @@ module _ (k : Config) (ok : ConfigOk k) where
         settled e (inr f) = let z = v.locks_.joined u e alive.leased f in omega (arith, z, ls)
 
         go : (a.c.epoch ≡ a.s.epoch) ⊎ (a.c.epoch < a.s.epoch) → ⊥
-        go (inl e) = settled e (bool_cases a.c.due)
+        go (inl e) = settled e (cases_Bool a.c.due)
         go (inr l) =
             let q = v.timing_.dated alive.leased in
             let el = q.3 in
@@ -168,7 +169,7 @@ module _ (k : Config) (ok : ConfigOk k) where
         next = reached w r d b (Accepts a life stamp locks y (record { up = u; free = ti }) g lt (λ j. zero_mode j (a.s.row j).mode refl)) refl refl (λ s f. absurd (no_service s))
 
     own_row : 2 ≤ ((w.at c).s.row i).mode → ((w.at c).c.held i).g ≤ ((w.at c).s.row i).g
-    own_row x = go (bool_cases a.s.grace)
+    own_row x = go (cases_Bool a.s.grace)
       where
         a : Assoc
         a = w.at c
@@ -286,7 +287,7 @@ module _ (k : Config) (ok : ConfigOk k) where
 
     -- the client's own association belongs to the session, where its lease lasts
     own_session : Alive k (w.at c).c → ((w.at c).c.epoch ≡ (w.at c).s.epoch) × ((w.at c).s.session ≡ (w.at c).c.life)
-    own_session al = go (bool_cases a.s.grace)
+    own_session al = go (cases_Bool a.s.grace)
       where
         a : Assoc
         a = w.at c

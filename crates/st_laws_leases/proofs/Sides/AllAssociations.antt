@@ -20,7 +20,7 @@ use Words.Lookups.{some_is}
 use Words.Numbers.{numbered_below, numbered_other, numbered_own, set_length}
 use Words.Tables.{and_true, found_at, same_or_not, not_false}
 use Words.Lengths.{numbered_there}
-use Words.Truth.{or_first}
+use Words.Truth.{none_not_some, or_first}
 use Words.Worlds.{stands_not}
 use Rattle.st_base.specs.declared.config.Config as base
 use Rattle.st_protocol.specs.Assoc.{Config, In, Msg}
@@ -135,15 +135,12 @@ module _ (k : Config) (count : ℕ) (w : World) (a : AllStand k count w) where
         ended = λ c s life e. go c s life e (ended_of w c s life) refl;
       }
     where
-      no : {A : Type 0} (x : A) → ◌≡◌ {A = Option A} None (Some x) → ⊥
-      no x e = cc
-
       go : (c : ClientId) (s : ServerId) (life : Life) → site_of w c ≡ None → (o : Option LeaseLife) → ended_of w c s life ≡ o → o ≡ None
       go c s life e None f = refl
       go c s life e (Some x) f =
           let z = found_at (is_life_of c s life) w.ended x f in
           let y = a.fates.lives.lives.ends x z.1 in
-          absurd (no y.site (sym e ∙ ap (numbered w.clients) (sym (eqb-true x.client.0 c.0 (and_true (x.client.0 == c.0) _ z.0).0)) ∙ y.there))
+          absurd (none_not_some y.site (sym e ∙ ap (numbered w.clients) (sym (eqb-true x.client.0 c.0 (and_true (x.client.0 == c.0) _ z.0).0)) ∙ y.there))
 
   pub positive : (s : ℕ) (node : ServerNode) → node_of w (server s) ≡ Some node → 1 ≤ s
   positive s node e = (numbered_below w.servers s node e).0

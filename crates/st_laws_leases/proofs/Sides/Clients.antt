@@ -19,6 +19,8 @@ use Words.Tables.{has_append}
 use Words.Numbers.{numbered_own, numbered_below, set_length}
 use Words.bodies as bd
 use Words.inputs
+use Words.Lookups.{some_is}
+use Words.Truth.{not_both}
 use Rattle.st_protocol.specs.Assoc as net
 use Rattle.st_protocol.specs.Assoc.{Config, ConfigOk, Msg, Moves, Stays, Works, upd, end_now}
 use Rattle.st_protocol.proofs.Lists.{upd_all, upd_both}
@@ -314,14 +316,13 @@ module _ (k : Config) (s : ℕ) (w : World) (node : ServerNode) (ended : ℕ →
       clients d z f = upd_all (λ d g. site_of After (client d) ≡ Some z → Standing k s d z After.ended g.net) G c y mine theirs d f
         where
           mine : site_of After (client c) ≡ Some z → Standing k s c z After.ended r.net
-          mine f = subst (λ z. Standing k s c z After.ended r.net) (some_is (sym here ∙ f)) (record { association = r.last; sim = r.sim; past = subst (λ b. AllPast c s (life_now b r.last) After.ended) (sym runs) past_last; stopped = λ e. absurd (not_stopped Last.node.running runs e) })
-            where
-              not_stopped : (b : Bool) → b ≡ true → b ≡ false → ⊥
-              not_stopped true e f = cc
-              not_stopped false e f = cc
-
-              some_is : {A : Type 0} {u v : A} → Some u ≡ Some v → u ≡ v
-              some_is e = cc
+          mine f = subst (λ z. Standing k s c z After.ended r.net) (some_is (sym here ∙ f))
+              (record {
+                association = r.last;
+                sim = r.sim;
+                past = subst (λ b. AllPast c s (life_now b r.last) After.ended) (sym runs) past_last;
+                stopped = λ e. absurd (not_both Last.node.running runs e);
+              })
 
           theirs : (d : ℕ) → d ≢ c → site_of After (client d) ≡ Some z → Standing k s d z After.ended (G d).net
           theirs d n f =

@@ -14,6 +14,7 @@ use Words.Events as ev
 use Words.Lists.{Has}
 use Words.Tables.{has_append, has_map}
 use Words.Numbers.{numbered_own, numbered_other, numbered_below, set_length}
+use Words.Lookups.{some_is}
 use Rattle.st_protocol.specs.Assoc as net
 use Rattle.st_protocol.specs.Assoc.{Config, Msg, Moves, Stays, Works, upd, end_now, Crashes}
 use Rattle.st_protocol.proofs.Lists.{upd_all}
@@ -90,9 +91,6 @@ module _ (k : Config) (s : ℕ) (w : World) (node : ServerNode) (ended : ℕ →
       clients : (d : ℕ) (z : WorldClient) → site_of v (client d) ≡ Some z → Standing k s d z v.ended (G d).net
       clients d z f = upd_all (λ d e. site_of v (client d) ≡ Some z → Standing k s d z v.ended (G d).net) ended c E mine theirs d f
         where
-          some_is : {A : Type 0} {x y : A} → Some x ≡ Some y → x ≡ y
-          some_is e = cc
-
           mine : site_of v (client c) ≡ Some z → Standing k s c z v.ended (G c).net
           mine f = subst (λ z. Standing k s c z v.ended (G c).net) (some_is (sym (ap (λ xs. numbered xs c) q.clients ∙ numbered_own w.clients c last site there) ∙ f)) q.standing
 

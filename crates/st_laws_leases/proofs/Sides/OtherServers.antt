@@ -8,6 +8,7 @@ use Words.Server.{is_client_node, ServerNode}
 use Words.World.{World, WorldClient, numbered, site_of, clock_of, stamp, server}
 use Words.Events.{with_lost, with_cut, without_cut}
 use Words.Lists.{Has}
+use Words.Lookups.{some_is}
 use Rattle.st_protocol.specs.Assoc.{Config, Reached}
 use Rattle.st_laws_refine.specs.Views.Halves.{Ghost, half_of}
 use Rattle.st_laws_refine.specs.Server.View.{StandsAt}
@@ -53,9 +54,6 @@ module _ (k : Config) (s : ℕ) where
   set_has : (xs : List SentMessage) (n : ℕ) (m x : SentMessage) → slice_get xs n ≡ Some m → Has x (set xs n (record m { lost = true })) → (y : SentMessage) × Has y xs × (y.message ≡ x.message)
   set_has [] n m x e h = elim h [ ]
   set_has (z ∷ zs) zero m x e (inl q) = (z, inl refl, ap (λ (y : SentMessage). y.message) (some_is e) ∙ sym (ap (λ (y : SentMessage). y.message) q))
-    where
-      some_is : {A : Type 0} {u v : A} → Some u ≡ Some v → u ≡ v
-      some_is e = cc
   set_has (z ∷ zs) zero m x e (inr h) = (x, inr h, refl)
   set_has (z ∷ zs) (suc n) m x e (inl q) = (z, inl refl, sym (ap (λ (y : SentMessage). y.message) q))
   set_has (z ∷ zs) (suc n) m x e (inr h) = let r = set_has zs n m x e h in (r.0, inr r.1, r.2)

@@ -16,6 +16,7 @@ use Words.Truth.{server_is}
 use Rattle.st_laws_pages.proofs.Asks.Places.{On}
 use Rattle.st_laws_pages.proofs.Asks.Client.{Lasts, Neutral, NotesChange, key}
 use Rattle.st_laws_pages.proofs.Asks.Step.{TakesAsk}
+use Rattle.std.proofs.lemmas.List.Folds.{list_any-append}
 
 abbrev pub Pending : Type 0
 Pending = List (ℕ × Ask)
@@ -67,13 +68,6 @@ pub record Holds (c : ClientId) (n : ℕ) (asked : ℕ → Option Ask) (old : �
   pub unused : (o : Output) → Has o out → (v : ServerId) → Gone v → Unused n asked v o
 
 -- Lists.
-pub any_more : {A : Type 0} (p : A → Bool) (xs ys : List A) → list_any p (xs ++ ys) ≡ (list_any p xs || list_any p ys)
-any_more p [] ys = refl
-any_more p (x ∷ xs) ys = ap (λ z. p x || z) (any_more p xs ys) ∙ sym (three (p x) (list_any p xs) (list_any p ys))
-  where
-    three : (a b c : Bool) → ((a || b) || c) ≡ (a || (b || c))
-    three true b c = refl
-    three false b c = refl
 
 none_last : (a b : Bool) → a ≡ false → b ≡ false → (a || (b || false)) ≡ false
 none_last true b e f = cc
@@ -81,7 +75,7 @@ none_last false true e f = cc
 none_last false false e f = refl
 
 pub any_last_none : {A : Type 0} (p : A → Bool) (xs : List A) (x : A) → list_any p xs ≡ false → p x ≡ false → list_any p (xs ++ x ∷ []) ≡ false
-any_last_none p xs x e f = any_more p xs (x ∷ []) ∙ none_last (list_any p xs) (p x) e f
+any_last_none p xs x e f = list_any-append p xs (x ∷ []) ∙ none_last (list_any p xs) (p x) e f
 
 unasked : (asked : ℕ → Option Ask) (m op : ℕ) (ask : Ask) → asked m ≡ Some ask → asked op ≡ None → (m == op) ≡ false
 unasked asked m op ask e n = go (m == op) refl

@@ -50,6 +50,7 @@ use Rattle.st_laws_pages.proofs.Asks.Asks.{Pending, Apart, Nothing, Holds, asks_
 use Rattle.st_laws_pages.proofs.Asks.Says.{Owed, AllDull, Leaves, dull_owed, server_dull, server_leaves}
 use Rattle.st_laws_pages.proofs.Asks.World.{SentBy, NodeOwn, SiteKnows, Places, ClientAsks, AllAsks, SitesStay, ClientStep, ClientLeft, asks_of, asks_more}
 use Rattle.st_laws_pages.proofs.Asks.World.{asks_same, client_step_left, node_case, quiet_asks, sent_told, site_case}
+use Rattle.std.proofs.lemmas.List.{length_push}
 
 -- What an event leaves.
 pub record Done (past : List Step) (n : ℕ) (x : Step) : Type 0 where
@@ -146,17 +147,13 @@ asked_step past x n w c ask old e there runs al =
         said = Nothing;
         unused = λ o i v g. absurd i;
       };
-      count = ap (λ z. length z) more ∙ longer (asks_of past c) ask ∙ ap (λ z. z + 1) h.count;
+      count = ap (λ z. length z) more ∙ length_push (asks_of past c) ask ∙ ap (λ z. z + 1) h.count;
       other = λ d q. ap (ask_in d) e ∙ ap (λ b. if b then Some ask else None) (not_same d q);
-      later = λ op l. al.later c op (let z = subst (λ z. length z < op) more l in let y = longer (asks_of past c) ask in omega (arith, z, y));
+      later = λ op l. al.later c op (let z = subst (λ z. length z < op) more l in let y = length_push (asks_of past c) ask in omega (arith, z, y));
     }
   where
     h : ClientAsks past c old
     h = al.clients c old there
-
-    longer : {A : Type 0} (xs : List A) (y : A) → length (xs ++ y ∷ []) ≡ length xs + 1
-    longer [] y = refl
-    longer (x ∷ xs) y = let z = longer xs y in omega (arith, z)
 
     self : same_client c c ≡ true
     self = eq-eqb c.0 c.0 refl

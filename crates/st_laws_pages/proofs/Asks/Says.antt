@@ -21,7 +21,8 @@ use Words.Worlds.{says_both}
 use Rattle.st_laws_pages.specs.Asks.Law.{IsWrittenLogged, AreWrittenLogged}
 use Rattle.st_laws_pages.proofs.Asks.Places.{On}
 use Rattle.st_laws_pages.proofs.Asks.Client.{Neutral, PlainNote, NotesChange}
-use Rattle.st_laws_pages.proofs.Asks.Asks.{Said, Nothing, Other, Submits, Answers, Changes, Unused, Unwritten, answers_op, any_more}
+use Rattle.st_laws_pages.proofs.Asks.Asks.{Said, Nothing, Other, Submits, Answers, Changes, Unused, Unwritten, answers_op}
+use Rattle.std.proofs.lemmas.List.Folds.{list_any-append}
 
 -- What outputs leave of a world.
 pub record Leaves (os : List Output) (v u : World) : Type 0 where
@@ -194,8 +195,9 @@ seen_dull : (past : List Step) (x : Step) (c : ClientId) (out : List Output) (y 
 seen_dull past x c out y os o d n h =
     record {
       owed = owed_dull past x os o d h.owed;
-      own = λ op. any_more (is_answer_to c op) os (o ∷ []) ∙ quiet_more (list_any (is_answer_to c op) os) _ (none c op o d) ∙ h.own op ∙ sym (any_more (answers_op op) out (y ∷ []) ∙ quiet_more (list_any (answers_op op) out) _ (n op));
-      others = λ e op q. any_more (is_answer_to e op) os (o ∷ []) ∙ quiet_more (list_any (is_answer_to e op) os) _ (none e op o d) ∙ h.others e op q;
+      own = λ op. list_any-append (is_answer_to c op) os (o ∷ []) ∙ quiet_more (list_any (is_answer_to c op) os) _ (none c op o d) ∙ h.own op ∙
+          sym (list_any-append (answers_op op) out (y ∷ []) ∙ quiet_more (list_any (answers_op op) out) _ (n op));
+      others = λ e op q. list_any-append (is_answer_to e op) os (o ∷ []) ∙ quiet_more (list_any (is_answer_to e op) os) _ (none e op o d) ∙ h.others e op q;
     }
   where
     none : (e : ClientId) (op : ℕ) (o : Observation) → Dull o → is_answer_to e op o ≡ false
@@ -204,7 +206,11 @@ seen_dull past x c out y os o d n h =
 
 seen_still : (past : List Step) (x : Step) (c : ClientId) (out : List Output) (y : Output) (os : List Observation) → ((op : ℕ) → answers_op op y ≡ false) → Seen past x c out os → Seen past x c (out ++ y ∷ []) os
 seen_still past x c out y os n h =
-    record { owed = h.owed; own = λ op. h.own op ∙ sym (any_more (answers_op op) out (y ∷ []) ∙ quiet_more (list_any (answers_op op) out) _ (n op)); others = h.others }
+    record {
+      owed = h.owed;
+      own = λ op. h.own op ∙ sym (list_any-append (answers_op op) out (y ∷ []) ∙ quiet_more (list_any (answers_op op) out) _ (n op));
+      others = h.others;
+    }
 
 module _ (past : List Step) (x : Step) (c : ClientId) (before : ClientState) where
   abbrev asked : ℕ → Option Ask
@@ -251,13 +257,14 @@ module _ (past : List Step) (x : Step) (c : ClientId) (before : ClientState) whe
 
   answer_own : (op n : ℕ) (a : AppAnswer) (os : List Observation) (out : List Output) → list_any (is_answer_to c op) os ≡ list_any (answers_op op) out → list_any (is_answer_to c op) (os ++ seen.Answered c n a ∷ []) ≡ list_any (answers_op op) (out ++ outputs.Answer n a ∷ [])
   answer_own op n a os out e =
-      any_more (is_answer_to c op) os (seen.Answered c n a ∷ [])
+      list_any-append (is_answer_to c op) os (seen.Answered c n a ∷ [])
       ∙ ap (λ z. z || ((same_client c c && (n == op)) || false)) e
       ∙ ap (λ z. list_any (answers_op op) out || ((z && (n == op)) || false)) same_self
-      ∙ sym (any_more (answers_op op) out (outputs.Answer n a ∷ []))
+      ∙ sym (list_any-append (answers_op op) out (outputs.Answer n a ∷ []))
 
   answer_others : (d : ClientId) (op n : ℕ) (a : AppAnswer) (os : List Observation) → (c.0 == d.0) ≡ false → list_any (is_answer_to d op) os ≡ false → list_any (is_answer_to d op) (os ++ seen.Answered c n a ∷ []) ≡ false
-  answer_others d op n a os q e = any_more (is_answer_to d op) os (seen.Answered c n a ∷ []) ∙ quiet_more (list_any (is_answer_to d op) os) _ (ap (λ z. z && (n == op)) q) ∙ e
+  answer_others d op n a os q e = list_any-append (is_answer_to d op) os (seen.Answered c n a ∷ []) ∙
+      quiet_more (list_any (is_answer_to d op) os) _ (ap (λ z. z && (n == op)) q) ∙ e
 
   answer_seen : (out : List Output) (op : ℕ) (ask : Ask) (a : AppAnswer) (sc : WorldTurn) → asked op ≡ Some ask → old op ≡ false → list_any (answers_op op) out ≡ false → Unwritten a → Z out sc → Z (out ++ outputs.Answer op a ∷ []) (client_says sc c before (outputs.Answer op a))
   unfolding client_says ev.answers_with all_followed
@@ -331,12 +338,13 @@ module _ (past : List Step) (x : Step) (c : ClientId) (before : ClientState) whe
               written = subst (AreWrittenLogged past x None) (sym (append_assoc sc.seen (t.line ∷ []) (last ∷ [])))
                   (written_more past x None sc.seen (t.line ∷ last ∷ []) h.owed.written (record { one = t.dull (last_line None sc.seen); rest = record { one = t.logged; rest = record {} } }));
             };
-            own = λ n. answer_own n op answers.Written (sc.seen ++ t.line ∷ []) (out ++ outputs.Note y ∷ []) (noted c n ∙ h.own n ∙ sym (any_more (answers_op n) out (outputs.Note y ∷ []) ∙ quiet_more (list_any (answers_op n) out) false refl));
+            own = λ n. answer_own n op answers.Written (sc.seen ++ t.line ∷ []) (out ++ outputs.Note y ∷ [])
+                (noted c n ∙ h.own n ∙ sym (list_any-append (answers_op n) out (outputs.Note y ∷ []) ∙ quiet_more (list_any (answers_op n) out) false refl));
             others = λ d n q. answer_others d n op answers.Written (sc.seen ++ t.line ∷ []) q (noted d n ∙ h.others d n q);
           })
         where
           noted : (d : ClientId) (n : ℕ) → list_any (is_answer_to d n) (sc.seen ++ t.line ∷ []) ≡ list_any (is_answer_to d n) sc.seen
-          noted d n = any_more (is_answer_to d n) sc.seen (t.line ∷ []) ∙ quiet_more (list_any (is_answer_to d n) sc.seen) _ (t.unanswered d n)
+          noted d n = list_any-append (is_answer_to d n) sc.seen (t.line ∷ []) ∙ quiet_more (list_any (is_answer_to d n) sc.seen) _ (t.unanswered d n)
 
   pub said_seen : (out : List Output) (v : World) → Said c asked old out → Z out (client_says_all c before out (ev.quiet v))
   unfolding client_says_all all_answered_once all_followed
@@ -356,7 +364,7 @@ module _ (past : List Step) (x : Step) (c : ClientId) (before : ClientState) whe
   unused_one n s o sc e u h = go o u
     where
       more : (z : Observation) → uses_server past x s z ≡ false → list_any (uses_server past x s) (sc.seen ++ z ∷ []) ≡ false
-      more z q = any_more (uses_server past x s) sc.seen (z ∷ []) ∙ quiet_more (list_any (uses_server past x s) sc.seen) _ q ∙ h
+      more z q = list_any-append (uses_server past x s) sc.seen (z ∷ []) ∙ quiet_more (list_any (uses_server past x s) sc.seen) _ q ∙ h
 
       note : (y : Note) → list_any (uses_server past x s) (client_notes sc c before y).seen ≡ false
       note (notes.Accepted f p bytes) = more _ refl

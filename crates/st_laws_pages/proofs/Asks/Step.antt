@@ -15,6 +15,7 @@ use Words.Keys.{same_server, server_node}
 use Words.Safety.{is_use}
 use Words.Lists.{Has}
 use Words.Tables.{has_append, has_map_in}
+use Words.Lookups.{or_left}
 use Rattle.st_laws_steps.specs.Lives.Lives.{Once, server_number}
 use Rattle.st_laws_pages.proofs.Asks.Places.{Knows, OwnBody}
 use Rattle.st_laws_pages.proofs.Asks.Client.{Lasts, Stands, Usable, Begun, Lasting, Each, begins_after_receive, stands_after_lose, stands_after_finish, usable_after_passes, each, these, begun}
@@ -95,11 +96,8 @@ module _ (n : ℕ) (Use : ServerId → Type 0) (c : ClientId) (k : Config) (P R 
   goes C g t e = record { id = e.id; config = e.config; done = g t.state.operations t.out e.done; own = e.own; cond = e.cond }
 
   weaker : (t : ClientTurn) → A (Begun Use) t → A (Usable Use) t
-  weaker t e = record { id = e.id; config = e.config; done = e.done; own = e.own; cond = λ a h z. e.cond a h (left (is_some a.session) (is_some a.greeting) z) }
-    where
-      left : (x y : Bool) → x ≡ true → (x || y) ≡ true
-      left true y q = refl
-      left false y q = cc
+  weaker t e =
+      record { id = e.id; config = e.config; done = e.done; own = e.own; cond = λ a h z. e.cond a h (or_left (is_some a.session) (is_some a.greeting) z) }
 
   -- An ask.
   module _ (op : ℕ) (ask : Ask) (g : TakesAsk P R op ask) where
@@ -131,11 +129,14 @@ module _ (n : ℕ) (Use : ServerId → Type 0) (c : ClientId) (k : Config) (P R 
       where
         go : (b : Bool) → b ≡ false → Stands n c k R (Usable Use) (if b then cl.take_ask op ask t else t)
         go true e = cc
-        go false e = record { id = w.id; config = w.config; done = w.done; own = w.own; cond = λ z. w.cond.1 (left (is_some t.here.session) (is_some t.here.greeting) z) }
-          where
-            left : (x y : Bool) → x ≡ true → (x || y) ≡ true
-            left true y q = refl
-            left false y q = cc
+        go false e =
+            record {
+              id = w.id;
+              config = w.config;
+              done = w.done;
+              own = w.own;
+              cond = λ z. w.cond.1 (or_left (is_some t.here.session) (is_some t.here.greeting) z);
+            }
 
     other : (a : Association) (al : List Association) → ((m : ℕ) → Has m (map server_number al) → server_number a ≡ m → ⊥) → same_server a.server s ≡ true → (b : Association) → Has b al → same_server b.server s ≡ false
     other a al o e b h = go (same_server b.server s) refl

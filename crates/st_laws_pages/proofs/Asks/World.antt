@@ -28,8 +28,9 @@ use Rattle.st_laws_pages.proofs.Asks.Places.{Knows, OwnBody}
 use Rattle.st_laws_pages.proofs.Asks.Client.{Lasting, Usable, Each, is_lost, key}
 use Rattle.st_laws_pages.proofs.Asks.Step.{Takes, ToldBy, stepped}
 use Rattle.st_laws_pages.proofs.Asks.Server.{ExtentsOwn, Kept}
-use Rattle.st_laws_pages.proofs.Asks.Asks.{Pending, Apart, Holds, Here, Asks, answers_op, any_more, asks_last, said_below, said_sends}
+use Rattle.st_laws_pages.proofs.Asks.Asks.{Pending, Apart, Holds, Here, Asks, answers_op, asks_last, said_below, said_sends}
 use Rattle.st_laws_pages.proofs.Asks.Says.{Leaves, Owed, Seen, AllDull, client_leaves, dull_unanswered, said_seen, unused_all}
+use Rattle.std.proofs.lemmas.List.Folds.{list_any-append}
 
 -- Places.
 
@@ -89,7 +90,7 @@ pub asks_same : (past : List Step) (x : Step) (c : ClientId) → ask_in c x.even
 asks_same past x c e = asks_more past x c ∙ ap (λ z. asks_of past c ++ cons_option z []) e ∙ append-nil (asks_of past c)
 
 answers_more : (past : List Step) (x : Step) (c : ClientId) (op : ℕ) → list_any (answers_in c op) past ≡ false → list_any (is_answer_to c op) x.seen ≡ false → list_any (answers_in c op) (past ++ x ∷ []) ≡ false
-answers_more past x c op a b = any_more (answers_in c op) past (x ∷ []) ∙ go _ _ a b
+answers_more past x c op a b = list_any-append (answers_in c op) past (x ∷ []) ∙ go _ _ a b
   where
     go : (y z : Bool) → y ≡ false → z ≡ false → (y || (z || false)) ≡ false
     go true z e f = cc

@@ -23,7 +23,7 @@ use Words.History.{Traced}
 use Words.Lines as lines
 use Words.Lines.{IsLogTold}
 use Words.Safety.{Step, step, TheReportTellsTheLog}
-use Words.Tables.{and_both}
+use Words.Tables.{and_both, and_true}
 use Rattle.st_lemmas.proofs.Steps.{step_happens}
 use Rattle.st_laws_steps.specs.Lives.Lives.{ended_rows}
 use Rattle.st_laws_pages.proofs.Lives.Turning.{Said, says_one, says_lives}
@@ -37,14 +37,11 @@ record Told (f : World) (old : List LogEntry) (os : List Observation) (now : Lis
 told_more : (f : World) (old : List LogEntry) (os : List Observation) (now : List LogEntry) (o : Observation) → lines.tells_log now o ≡ true → Told f old os now → Told f old (os ++ o ∷ []) (lines.log_behind f now o)
 unfolding lines.log_told lines.all_tell_log
 told_more f old [] now o t h = record { entries = ap (λ es. lines.log_behind f es o) h.entries; numbers = and_both (lines.tells_log old o) true (ap (λ es. lines.tells_log es o) h.entries ∙ t) refl }
-told_more f old (x ∷ os) now o t h = go (told_more f (lines.log_behind f old x) os now o t (record { entries = h.entries; numbers = (both (lines.tells_log old x) _ h.numbers).1 }))
+told_more f old (x ∷ os) now o t h =
+    go (told_more f (lines.log_behind f old x) os now o t (record { entries = h.entries; numbers = (and_true (lines.tells_log old x) _ h.numbers).1 }))
   where
-    both : (a b : Bool) → (a && b) ≡ true → (a ≡ true) × (b ≡ true)
-    both true b e = (refl, e)
-    both false b e = cc
-
     go : Told f (lines.log_behind f old x) (os ++ o ∷ []) (lines.log_behind f now o) → Told f old (x ∷ (os ++ o ∷ [])) (lines.log_behind f now o)
-    go r = record { entries = r.entries; numbers = and_both (lines.tells_log old x) _ (both (lines.tells_log old x) _ h.numbers).0 r.numbers }
+    go r = record { entries = r.entries; numbers = and_both (lines.tells_log old x) _ (and_true (lines.tells_log old x) _ h.numbers).0 r.numbers }
 
 -- What a scene has told.
 abbrev SceneTold : World → List LogEntry → WorldTurn → Type 0

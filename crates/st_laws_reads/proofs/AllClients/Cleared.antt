@@ -1,11 +1,12 @@
 -- What is cut or removed is clear at the client that asks: after each event, and in every run.
 use Rattle.st_lemmas.proofs.Words
-use Words.{◌≡◌, ℕ, Option, Some, None, Ok, sym, ◌∙◌, Config, ClientId, Event}
+use Words.{◌≡◌, ℕ, Some, None, Ok, sym, ◌∙◌, Config, ClientId, Event}
 use Words.ClientPages.{empty_store}
 use Words.ClientState.{Association}
 use Words.Events.{WorldTurn, world_step}
 use Words.World.{World, WorldClient, fresh_world, site_of}
 use Words.Lists.{Has}
+use Words.Truth.{none_not_some}
 use Rattle.st_laws_steps.specs.Client.Losses.{Fit}
 use Rattle.st_laws_pages.proofs.Lives.Associated as associated
 use Rattle.st_laws_reads.specs.AllClients.CutFiles.{AllCleared, Cleared, RunsClear}
@@ -13,10 +14,7 @@ use Rattle.st_laws_reads.proofs.AllClients.Clearing.{clearing_kept_by_finish, cl
 
 -- an association without a session asks nothing
 empty_clear : (a : Association) → a.session ≡ None → a.store ≡ empty_store → Cleared a
-empty_clear a e st ino p c = absurd (no c.session (sym e ∙ c.is))
-  where
-    no : {A : Type 0} (x : A) → ◌≡◌ {A = Option A} None (Some x) → ⊥
-    no x z = cc
+empty_clear a e st ino p c = absurd (none_not_some c.session (sym e ∙ c.is))
 
 -- of each client
 abbrev AllFit : World → Type 0

@@ -17,6 +17,7 @@ use Words.World.{World, WorldClient, clock_of, end_or_present, lease_end_of, pre
 use Words.Lists.{Has}
 use Words.Lookups.{some_is}
 use Words.Tables.{and_true, has_filter, same_or_not}
+use Words.Truth.{not_both}
 use Rattle.st_protocol.specs.Assoc.{Config}
 use Rattle.st_laws_refine.specs.Views.Halves.{held_in}
 use Rattle.st_laws_refine.specs.Client.Invariants.{Lasts}
@@ -35,6 +36,7 @@ use Rattle.st_laws_reads.specs.AllClients.Law.{Running, UnheldBy}
 use Rattle.st_laws_reads.specs.AllClients.World.{CopiesHold}
 use Rattle.st_laws_reads.proofs.AllClients.Alone as alone
 use Rattle.st_laws_reads.proofs.AllClients.Takings.{there_at}
+use Rattle.std.proofs.lemmas.Bool.{false_from_ne_true}
 
 -- Lists.
 unheld_at : (f : FileId) (l now : ℕ) (xs : List Association) (b : Association) → Unheld f l now xs → Has b xs → Lasts l now b.session → f.server ≡ b.server → (held_in b.session f.ino).mode ≡ 0
@@ -99,10 +101,6 @@ status w e = go (site_of w (client e.of.client.0)) refl
     search site [] g = inr (λ a i q. absurd i)
     search site (x ∷ xs) g = at (is_of_life (client e.of.client.0) x.server x.life e.of) refl (search site xs (λ a i. g a (inr i)))
       where
-        no : (b : Bool) → b ≡ true → b ≡ false → ⊥
-        no true p q = cc
-        no false p q = cc
-
         at : (b : Bool) → is_of_life (client e.of.client.0) x.server x.life e.of ≡ b →
             (((a : Association) × Has a site.node.state.associations × (is_of_life (client e.of.client.0) a.server a.life e.of ≡ true)) ⊎ ((a : Association) → Has a xs → is_of_life (client e.of.client.0) a.server a.life e.of ≡ true → ⊥)) →
             ((a : Association) × Has a site.node.state.associations × (is_of_life (client e.of.client.0) a.server a.life e.of ≡ true)) ⊎ ((a : Association) → Has a (x ∷ xs) → is_of_life (client e.of.client.0) a.server a.life e.of ≡ true → ⊥)
@@ -111,7 +109,8 @@ status w e = go (site_of w (client e.of.client.0)) refl
         at false q (inr r) = inr (λ a i p. either a i p)
           where
             either : (a : Association) → Has a (x ∷ xs) → is_of_life (client e.of.client.0) a.server a.life e.of ≡ true → ⊥
-            either a (inl i) p = no (is_of_life (client e.of.client.0) x.server x.life e.of) (ap (λ (y : Association). is_of_life (client e.of.client.0) y.server y.life e.of) (sym i) ∙ p) q
+            either a (inl i) p = not_both (is_of_life (client e.of.client.0) x.server x.life e.of)
+                (ap (λ (y : Association). is_of_life (client e.of.client.0) y.server y.life e.of) (sym i) ∙ p) q
             either a (inr i) p = r a i p
 
     elder : ((site : WorldClient) → Running w e.of.client.0 site → (a : Association) → Has a site.node.state.associations → is_of_life (client e.of.client.0) a.server a.life e.of ≡ true → ⊥) → OfFrozen w e
@@ -181,13 +180,9 @@ module _ (asks : ℕ → ℕ → Option Ask) (k : Config) (count : ℕ) (w : Wor
       others : (m : ℕ) (o : LogOwner) → ev.is_of_crashed w c m o ≡ true → (b : Association) → is_of_life (client d) b.server b.life o ≡ true → ⊥
       others m o q b e = n (sym (eqb-true o.client.0 c.0 (and_true (is_of_client c o) _ q).0) ∙ ap (λ (x : ClientId). x.0) (life_parts (client d) b.server b.life o e).0)
 
-      not_true : (b : Bool) → (b ≡ true → ⊥) → b ≡ false
-      not_true true f = absurd (f refl)
-      not_true false f = refl
-
       facts : (m : ℕ) (o : LogOwner) → ev.is_of_crashed w c m o ≡ true → Enqueues w.log o → OfNoPresentLife (client d) o state.config.lease now state.associations × Unheld o.file state.config.lease now state.associations
       facts m o q p = (
-        no_present (client d) o state.config.lease now state.associations (λ b i l. not_true _ (others m o q b)),
+        no_present (client d) o state.config.lease now state.associations (λ b i l. false_from_ne_true _ (others m o q b)),
         unheld_all o.file state.config.lease now state.associations (λ b i l s. unheld_for o p (inr tt) b i l s (others m o q b)),
       )
 

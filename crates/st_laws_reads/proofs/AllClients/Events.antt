@@ -20,6 +20,7 @@ use Words.World.{World, WorldClient, clock_of, issued_of, numbered, site_of, wit
 use Words.Lookups.{some_is}
 use Words.Numbers.{get_there, numbered_below, numbered_other, numbered_own, set_length}
 use Words.Tables.{and_true, same_or_not}
+use Words.Truth.{none_not_some}
 use Rattle.st_protocol.specs.Assoc.{Config}
 use Rattle.st_lemmas.proofs.Contents.{content_last}
 use Rattle.st_laws_refine.specs.Views.Halves.{held_in}
@@ -41,18 +42,15 @@ use Rattle.st_laws_reads.proofs.AllClients.Takings.{there_on}
 nothing_ok : (held : ℕ) (bytes : List ℕ) (x : _) (ino : ℕ) (p : PageNo) → Nothing x ino p → PageOk held bytes x ino p
 nothing_ok held bytes x ino p n =
     record {
-      mode = λ d q. absurd (none d (sym n.dirty ∙ q));
-      dirty = λ d q. absurd (none d (sym n.dirty ∙ q));
-      clean = λ y q h. absurd (none y (sym n.clean ∙ q));
-      unmapped = λ e q m h. absurd (none e (sym n.known ∙ q));
-      locked = λ y q. absurd (none y (sym n.clean ∙ q));
-      known = λ e q. absurd (none e (sym n.known ∙ q));
+      mode = λ d q. absurd (none_not_some d (sym n.dirty ∙ q));
+      dirty = λ d q. absurd (none_not_some d (sym n.dirty ∙ q));
+      clean = λ y q h. absurd (none_not_some y (sym n.clean ∙ q));
+      unmapped = λ e q m h. absurd (none_not_some e (sym n.known ∙ q));
+      locked = λ y q. absurd (none_not_some y (sym n.clean ∙ q));
+      known = λ e q. absurd (none_not_some e (sym n.known ∙ q));
       reading = λ q. absurd (no (sym n.reading ∙ q));
     }
   where
-    none : {A : Type 0} (y : A) → ◌≡◌ {A = Option A} None (Some y) → ⊥
-    none y z = cc
-
     no : ◌≡◌ {A = Bool} false true → ⊥
     no z = cc
 

@@ -19,6 +19,7 @@ use Words.ClientState as st
 use Words.ClientState.{ClientSession, Turn, is_of, is_open_file, file_of, server_of, keep}
 use Words.ClientPasses as cp
 use Words.Lookups.{if_false}
+use Words.Truth.{not_both}
 use Rattle.st_laws_refine.specs.Client.World.{logged, logged_note}
 use Rattle.st_laws_reads.specs.Copies.Copies.{FatesOk, AllOf, Joined, Away, AwayOf, Keeps}
 use Rattle.st_lemmas.proofs.Contents.{content_last}
@@ -31,12 +32,8 @@ content_apart l e f p h =
     content_last (filled 0) f p l e ∙ if_false (log.matters f p e) _ _ (ap (λ b. ((b && (e.of.file.ino == f.ino)) && log.reaches e.change e.of.page p) && log.counts e.fate) h)
 
 fates_apart : (c : ClientId) (life : Life) (x : ServerId) (y : Store) (l : List LogEntry) (e : LogEntry) → same_server e.of.file.server x ≡ false → FatesOk c life x y l → FatesOk c life x y (l ++ e ∷ [])
-fates_apart c life x y [] e h r = record { one = λ q. absurd (clash (is_of_life c x life e.of) q (never (log.is_of_client c e.of) h)); rest = record {} }
+fates_apart c life x y [] e h r = record { one = λ q. absurd (not_both (is_of_life c x life e.of) q (never (log.is_of_client c e.of) h)); rest = record {} }
   where
-    clash : (b : Bool) → b ≡ true → b ≡ false → ⊥
-    clash true e f = cc
-    clash false e f = cc
-
     never : (a : Bool) → same_server e.of.file.server x ≡ false → (a && (same_server e.of.file.server x && (e.of.life.0 == life.0))) ≡ false
     never true h = ap (λ b. b && (e.of.life.0 == life.0)) h
     never false h = refl

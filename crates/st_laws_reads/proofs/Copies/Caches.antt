@@ -16,7 +16,7 @@ use Words.ClientState.{ClientSession, Turn, with_session, with_store}
 use Words.ClientReplies as cr
 use Words.ClientPasses as cp
 use Words.Lookups.{some_is}
-use Words.Tables.{same_or_not, and_true, not_true}
+use Words.Tables.{same_or_not, and_true, not_true, and_both}
 use Words.Tests.{none_of_fewer}
 use Words.Truth.{nothing_there}
 use Rattle.st_base.specs.Mode.{number_of}
@@ -129,15 +129,12 @@ idle_nothing x ino q e =
     record {
       dirty = nothing_there _ (no_dirty x.pages ino q (not_true _ h.0));
       clean = find_cut (is_clean_of ino q) (pages.is_clean_behind ino (page_no 0))
-          (λ c g. both (c.ino == ino) (nat_le 0 c.page.0) (and_true (c.ino == ino) _ g).0 (from_zero c.page.0)) x.pages.clean;
+          (λ c g. and_both (c.ino == ino) (nat_le 0 c.page.0) (and_true (c.ino == ino) _ g).0 (from_zero c.page.0)) x.pages.clean;
       known = find_cut (is_known_of ino q) (pages.is_known_behind ino (page_no 0))
-          (λ c g. both (c.ino == ino) (nat_le 0 c.page.0) (and_true (c.ino == ino) _ g).0 (from_zero c.page.0)) x.extents;
+          (λ c g. and_both (c.ino == ino) (nat_le 0 c.page.0) (and_true (c.ino == ino) _ g).0 (from_zero c.page.0)) x.extents;
       reading = none_of_fewer (pages.is_read_of ino q) (pages.is_command_on ino) (λ c g. (and_true (c.ino == ino) _ (and_true (not (pages.is_write c.kind)) _ g).1).0)
           x.commands (not_true _ h.1);
     }
-  where
-    both : (a b : Bool) → a ≡ true → b ≡ true → (a && b) ≡ true
-    both a b e f = ap (λ v. v && b) e ∙ f
 
 module _ (ask_of : ℕ → Option Ask) (c : ClientId) (lives : ServerId → Life) (es : List LogEntry) where
   -- the session changes, and each page stays right under the new locks

@@ -26,8 +26,9 @@ use Words.Client as cl
 use Words.ends
 use Words.Safety.{IsLastRead, is_hard_of}
 use Words.Lookups.{if_true, if_false, some_is, any_filter, any_last}
-use Words.Tables.{and_true, not_true}
+use Words.Tables.{and_both, and_true, not_true}
 use Words.Tests.{found_passes}
+use Words.Truth.{not_both}
 use Rattle.st_laws_refine.proofs.Client.Work.{any_found, same_mode}
 use Rattle.st_laws_refine.specs.Views.Halves.{held_in}
 use Rattle.st_laws_refine.specs.Client.World.{logged, logged_note}
@@ -115,30 +116,19 @@ fates_last c life sv x (y ∷ l) e r q = record { one = r.one; rest = fates_last
 pub no_dirty : (ps : Pages) (ino : ℕ) (p : PageNo) → pages.has_dirty ps ino ≡ false → is_some (dirty_of ps ino p) ≡ false
 no_dirty ps ino p h = go (dirty_of ps ino p) refl
   where
-    clash : (b : Bool) → b ≡ true → b ≡ false → ⊥
-    clash true e f = cc
-    clash false e f = cc
-
     go : (o : Option DirtyPage) → dirty_of ps ino p ≡ o → is_some o ≡ false
     go None e = refl
     go (Some d) e =
         absurd
-        (clash (pages.has_dirty ps ino)
+        (not_both (pages.has_dirty ps ino)
         (any_found (is_dirty_of ino p) (pages.is_dirty_on ino) d ps.dirty e (and_true (d.ino == ino) _ (found_passes (is_dirty_of ino p) ps.dirty d e)).0) h)
 
 all_hard : (c : ClientId) (life : Life) (f : FileId) (x : Store) (l : List LogEntry) → pages.has_dirty x.pages f.ino ≡ false → FatesOk c life f.server x l →
     list_all (is_hard_of c life f) l ≡ true
 all_hard c life f x [] h r = refl
-all_hard c life f x (e ∷ l) h r = both (is_hard_of c life f e) _ (go (is_of_life c f.server life e.of) (same_file e.of.file f) refl refl)
+all_hard c life f x (e ∷ l) h r = and_both (is_hard_of c life f e) _ (go (is_of_life c f.server life e.of) (same_file e.of.file f) refl refl)
     (all_hard c life f x l h r.rest)
   where
-    both : (a b : Bool) → a ≡ true → b ≡ true → (a && b) ≡ true
-    both a b e g = ap (λ v. v && b) e ∙ g
-
-    clash : (b : Bool) → b ≡ true → b ≡ false → ⊥
-    clash true e f = cc
-    clash false e f = cc
-
     ino_is : same_file e.of.file f ≡ true → e.of.file.ino ≡ f.ino
     ino_is q = eqb-true _ _ (and_true (same_server e.of.file.server f.server) _ q).1
 
@@ -147,7 +137,7 @@ all_hard c life f x (e ∷ l) h r = both (is_hard_of c life f e) _ (go (is_of_li
     hard q (inl z) = z
     hard q (inr z) =
         absurd
-        (clash (is_some (dirty_of x.pages f.ino e.of.page)) (subst (λ i. is_some (dirty_of x.pages i e.of.page) ≡ true) (ino_is q) z)
+        (not_both (is_some (dirty_of x.pages f.ino e.of.page)) (subst (λ i. is_some (dirty_of x.pages i e.of.page) ≡ true) (ino_is q) z)
         (no_dirty x.pages f.ino e.of.page h))
 
     go : (a b : Bool) → is_of_life c f.server life e.of ≡ a → same_file e.of.file f ≡ b → (not (a && b) || is_hard_fate e.fate) ≡ true

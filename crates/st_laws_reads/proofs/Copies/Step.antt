@@ -16,6 +16,7 @@ use Words.ClientPasses as cp
 use Words.ClientReplies as cr
 use Words.ClientState as st
 use Words.ClientState.{Association, ClientState, ClientTurn, Turn, enter, leave, at_these, at_each, with_associations, client_turn}
+use Words.Truth.{not_both}
 use Rattle.st_laws_refine.specs.Client.World.{logged}
 use Rattle.st_laws_reads.specs.Copies.Copies.{Right, RightOne, FatesOk, HardOn, AskedSo, Joined, AllOf, Keeps, file_at}
 use Rattle.st_laws_reads.specs.Copies.Obligations.{MessageOwed, EndOwed, Numbered}
@@ -34,12 +35,8 @@ use Rattle.st_laws_reads.proofs.Copies.Everywhere.{apart_same, Within, Made, AtE
 -- what is owed holds in a log that goes on by entries of another server's files
 hard_apart : (c : ClientId) (life : Life) (x : ServerId) (ino : ℕ) (p : PageNo) (l : List LogEntry) (e : LogEntry) → same_server e.of.file.server x ≡ false →
     HardOn c life x ino p l → HardOn c life x ino p (l ++ e ∷ [])
-hard_apart c life x ino p [] e h r = record { one = λ q i j. absurd (clash (is_of_life c x life e.of) q (never (is_of_client c e.of) h)); rest = record {} }
+hard_apart c life x ino p [] e h r = record { one = λ q i j. absurd (not_both (is_of_life c x life e.of) q (never (is_of_client c e.of) h)); rest = record {} }
   where
-    clash : (b : Bool) → b ≡ true → b ≡ false → ⊥
-    clash true e f = cc
-    clash false e f = cc
-
     never : (a : Bool) → same_server e.of.file.server x ≡ false → (a && (same_server e.of.file.server x && (e.of.life.0 == life.0))) ≡ false
     never true h = ap (λ b. b && (e.of.life.0 == life.0)) h
     never false h = refl

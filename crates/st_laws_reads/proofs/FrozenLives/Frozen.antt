@@ -1,6 +1,6 @@
 -- A life that a crash ended is frozen through the moves of its association, up to its lease end.
 use Rattle.st_lemmas.proofs.Words
-use Words.{◌≡◌, ℕ, ◌+◌, ◌<◌, ◌≤◌, ◌⊎◌, Bool, true, false, List, ◌∷◌, refl, sym, ◌∙◌, subst, inl, inr, arith}
+use Words.{◌≡◌, ℕ, ◌+◌, ◌<◌, ◌≤◌, ◌⊎◌, Bool, true, List, ◌∷◌, refl, sym, ◌∙◌, subst, inl, inr, arith}
 use Rattle.st_protocol.specs.Assoc.{Config, ConfigOk, Msg, Client, Assoc, In, msg, Move, Moves, Stays, GoesOn, steady, Works, Hello, Reassert, Reasserted}
 use Rattle.st_protocol.specs.Assoc.{Welcome, OfOtherEpoch, Advance, Greets, Asks, Loses, Crashes, Begins, Renews, Installs, AskedOfNone, Asked, Declines}
 use Rattle.st_protocol.specs.Assoc.{Repeats, Again, Sweeps, Reduces, Adopts, Reasserts, Settles, Rests, Welcomes, WelcomesAgain, Acks, Refuses, Accepts}
@@ -8,6 +8,7 @@ use Rattle.st_protocol.specs.Assoc.{Suspects, Steals, GraceEnds, Grants, GrantsA
 use Rattle.st_protocol.proofs.Claims.{in_service}
 use Rattle.st_protocol.proofs.Invariant.{Invariant, kept_one}
 use Rattle.st_laws_reads.specs.FrozenLives.Frozen.{is_bare, stood, Split, Unserved}
+use Rattle.std.proofs.lemmas.Bool.{both_ways}
 
 -- a message that is sent
 with_old : (l : ℕ) (N M : List Msg) (n : Msg) → n.life ≤ l → Split l N M → Split l (n ∷ N) (n ∷ M)
@@ -21,10 +22,6 @@ with_old l N M n le o m (inr i) = go (o m i)
 with_new : (l : ℕ) (N M : List Msg) (n : Msg) → l < n.life → is_bare n.body ≡ true → Split l N M → Split l N (n ∷ M)
 with_new l N M n lt b o m (inl e) = inr (subst (λ (x : Msg). l < x.life) (sym e) lt, subst (λ (x : Msg). is_bare x.body ≡ true) (sym e) b)
 with_new l N M n lt b o m (inr i) = o m i
-
-not_both : (b : Bool) → b ≡ false → b ≡ true → ⊥
-not_both true e f = cc
-not_both false e f = cc
 
 -- a steady move takes no time
 pub still : {k : Config} {a b : Assoc} → (m : Move k a b) → steady m ≡ true → b.c.clock ≡ a.c.clock
@@ -52,7 +49,7 @@ module _ (k : Config) (C : Client) (i0 : ℕ) (leased : C.leased ≡ true) (some
       go (inr z) = let x = z.0 in absurd (omega arith)
 
   unleased : {a b : Assoc} {y : ℕ} {N : List Msg} {t : Bool} → Unserved C.life N a → a.c.leased ≡ true → Moved a b y N t
-  unleased {a} {b} {y} {N} {t} o h = absurd (not_both a.c.leased o.unleased h)
+  unleased {a} {b} {y} {N} {t} o h = absurd (both_ways a.c.leased o.unleased h)
 
   pub one : {a b : Assoc} → (y : ℕ) (N : List Msg) → (m : Move k a b) → a.c.clock < C.date + k.lease → Invariant k (stood C y N a) → Unserved C.life N a → Moved a b y N (steady m)
   one y N (Advance a dc ds dr h lim) t v o =

@@ -1,6 +1,6 @@
 -- A life that a crash ended is frozen along the machine's paths; it begins at the crash; and no lock is beside it.
 use Rattle.st_lemmas.proofs.Words
-use Words.{◌≡◌, ◌≢◌, ℕ, zero, suc, ◌+◌, ◌<◌, ◌≤◌, ◌⊎◌, Bool, true, false, List, refl, sym, ap, ◌∙◌, subst, inl, inr, arith}
+use Words.{◌≡◌, ◌≢◌, ℕ, zero, suc, ◌+◌, ◌<◌, ◌≤◌, ◌⊎◌, true, List, refl, sym, ap, ◌∙◌, subst, inl, inr, arith}
 use Rattle.st_protocol.specs.Assoc.{Alive, Config, ConfigOk, Msg, Row, upd, Client, Assoc, Move, Moves, Stays, GoesOn, steady, World, Shared, InService}
 use Rattle.st_protocol.specs.Assoc.{RowsCompat, Step, Work, Reached, Then, Works}
 use Rattle.st_protocol.proofs.Lists.{upd_all, upd_both, upd-same, upd-other}
@@ -10,6 +10,7 @@ use Rattle.st_laws_refine.specs.Server.Paths.{Path, Here, SteppedOn, WorkedOn}
 use Rattle.st_laws_reads.specs.FrozenLives.Frozen.{stood, Unserved, replaced, FrozenLife, IsOver, LockedHalf, PathsKeepLives, CrashesLeaveLives}
 use Rattle.st_laws_reads.specs.FrozenLives.Frozen.{LivesStandAlone}
 use Rattle.st_laws_reads.proofs.FrozenLives.Frozen.{one, all, no_less}
+use Rattle.std.proofs.lemmas.Bool.{both_ways}
 
 -- What the server has is the same, also where an association is replaced.
 module _ (W : World) (c : ℕ) (A : Assoc) (row : A.s.row ≡ (W.at c).s.row) (up : A.s.up ≡ (W.at c).s.up) (grace : A.s.grace ≡ (W.at c).s.grace) where
@@ -151,14 +152,11 @@ module _ (k : Config) (ok : ConfigOk k) (c i : ℕ) (C : Client) (locked : Locke
           let u = ap (λ (a : Assoc). (a.c.held i).mode) p in let v = ap (λ (a : Assoc). (a.c.held i).mode) q in let two = locked.exclusive in
           absurd (omega (arith, r, u, v, two, e))
 
-      clash : (b : Bool) → b ≡ false → b ≡ true → ⊥
-      clash true e f = cc
-      clash false e f = cc
-
       own_or_other : (c < d) ⊎ (d ≤ c) → (d < c) ⊎ (c ≤ d) → ((W.at d).c.held i).mode ≡ 0
       own_or_other (inl x) y = none (λ e. absurd (omega (arith, e, x))) _ refl
       own_or_other (inr x) (inl y) = none (λ e. absurd (omega (arith, e, y))) _ refl
-      own_or_other (inr x) (inr y) = let e : d ≡ c = omega (arith, x, y) in absurd (clash (W.at c).c.leased f.unserved.unleased (subst (λ d. (W.at d).c.leased ≡ true) e h.leased))
+      own_or_other (inr x) (inr y) = let e : d ≡ c = omega (arith, x, y) in
+          absurd (both_ways (W.at c).c.leased f.unserved.unleased (subst (λ d. (W.at d).c.leased ≡ true) e h.leased))
 
 pub paths_keep : PathsKeepLives
 unfolding Stands

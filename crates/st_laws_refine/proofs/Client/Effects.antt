@@ -17,6 +17,7 @@ use Words.Keys.{server_node}
 use Words.ClientReplies as cr
 use Words.Lookups.{if_true, if_false}
 use Words.Tables.{and_true}
+use Words.Truth.{not_both}
 use Rattle.st_base.specs.Mode.{number_of, covers}
 use Rattle.st_protocol.specs.Assoc.{Config, Lock, Msg, msg, In, Joined, Settled, Renews, Reduces, Adopts, Settles, Begins, Stays}
 use Rattle.st_protocol.specs.Assoc as net
@@ -372,14 +373,10 @@ module _ (k : Config) (sv : Beside) (now : ℕ) (hs : List Msg) where
   unfolding cr.reply_of cr.counted cr.by_request
   no_reply t s n h reply f = go s.requests.asked
     where
-      clash : (b : Bool) → b ≡ true → b ≡ false → ⊥
-      clash true e g = cc
-      clash false e g = cc
-
       go : (o : Option Request) → Goes k sv now hs (with_session s t) (cr.counted (with_session s t) s n h.number (record { 0 = h.stamp }) reply o)
       go None = goes_same k sv now hs (with_session s t)
       go (Some q) = if_goes k sv now hs (with_session s t) (cr.is_counting h.number reply q) _ (with_session s t)
-          (λ e. absurd (clash (fits reply q.body) (and_true (is_request_of h.number q) _ e).1 (f q.body))) (λ e. goes_same k sv now hs (with_session s t))
+          (λ e. absurd (not_both (fits reply q.body) (and_true (is_request_of h.number q) _ e).1 (f q.body))) (λ e. goes_same k sv now hs (with_session s t))
 
   nack_goes : (t : Turn) (s : ClientSession) (n : Stamp) (h : Header) (w : Why) (a b : ℕ) → Shows t.here.life.0 s.epoch.0 h.stamp (shown h.number (bodies.Nack w a b)) hs → Goes k sv now hs (with_session s t) (cr.nack (with_session s t) s n h w a b)
   nack_goes t s n h why.Suspect a b v = condemn_goes k sv now hs t s

@@ -1,6 +1,6 @@
 -- Reductions of demanded files.
 use Rattle.st_lemmas.proofs.Words
-use Words.{◌≡◌, ℕ, ◌≤◌, Bool, true, false, not, ◌||◌, List, [], ◌∷◌, Option, Some, None, refl, sym, ap, subst, inl, inr, arith, if◌then◌else◌, find}
+use Words.{◌≡◌, ℕ, ◌≤◌, Bool, true, false, not, List, [], ◌∷◌, Option, Some, None, refl, sym, ap, subst, inl, inr, arith, if◌then◌else◌, find}
 use Words.{Mode, HeldLock, DemandedFile}
 use Words.modes
 use Words.ClientLocks as locks
@@ -23,6 +23,7 @@ use Rattle.st_laws_refine.proofs.Views.Moves.{one_to}
 use Rattle.st_laws_refine.proofs.Client.Goes.{frame_same, waiting_both, ready_more, alive, goes_same, goes_then, if_goes, rests_goes}
 use Rattle.st_laws_refine.proofs.Client.Replies.{lock_set, told_filter, modes_put, mode_found, wait_gone}
 use Rattle.st_laws_refine.proofs.Client.Effects.{dropped_goes}
+use Rattle.std.proofs.lemmas.Bool.{or_from}
 
 pub told_found : (life epoch : ℕ) (p : DemandedFile → Bool) (ds : List DemandedFile) (d : DemandedFile) (N : List Msg) → AllTold life epoch ds N → find p ds ≡ Some d → Told life epoch d N
 told_found life epoch p [] d N s e = cc
@@ -35,11 +36,8 @@ told_found life epoch p (x ∷ ds) d N s e = go (p x) e (told_found life epoch p
 pub idle_free : (x : Store) (ino : ℕ) → pages.is_idle x ino ≡ true → busy_in x ino ≡ false
 idle_free x ino e =
     let p = and_true (not (pages.has_dirty x.pages ino)) (not (pages.is_outstanding x.commands ino)) e in
-    go (pages.has_dirty x.pages ino) (pages.has_write_on x.commands ino) (not_true _ p.0) (none_of_fewer (pages.is_write_on ino) (pages.is_command_on ino) (λ c h. (and_true (is_write c.kind) _ h).1) x.commands (not_true _ p.1))
-  where
-    go : (a b : Bool) → a ≡ false → b ≡ false → (a || b) ≡ false
-    go true b f g = cc
-    go false b f g = g
+    or_from (pages.has_dirty x.pages ino) (pages.has_write_on x.commands ino) (not_true _ p.0)
+    (none_of_fewer (pages.is_write_on ino) (pages.is_command_on ino) (λ c h. (and_true (is_write c.kind) _ h).1) x.commands (not_true _ p.1))
 
 module _ (k : Config) (sv : Beside) (now : ℕ) (hs : List Msg) where
   -- to shared

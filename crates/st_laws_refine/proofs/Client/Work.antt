@@ -1,7 +1,7 @@
 -- Operations, writes and the ends of disk commands: what is busy.
 use Rattle.st_lemmas.proofs.Words
 use Words.{◌≡◌, ℕ, ◌+◌, ◌≤◌, ◌⊎◌, Bool, true, false, not, ◌||◌, List, [], ◌∷◌, ◌++◌, ◌==◌, Option, Some, None, Ok, Err, refl, sym, ◌∙◌, subst, inl, inr}
-use Words.{if◌then◌else◌, leb-true, find, filter, list_any, eqb-true, eq-eqb, FileId, PageNo, Stamp, Tag, Ask, AppAnswer, Note, DirtyPage, HeldLock}
+use Words.{if◌then◌else◌, leb-true, find, filter, list_any, eqb-true, FileId, PageNo, Stamp, Tag, Ask, AppAnswer, Note, DirtyPage, HeldLock}
 use Words.{CleanPage, KnownExtent, MappedBlock, LostPage, IoKind, PageCommand, Ended, Operation, ServerId}
 use Words.modes
 use Words.Page.{filled}
@@ -22,6 +22,7 @@ use Words.Client as cl
 use Words.Lookups.{some_is, any_filter, any_last, or_false, or_cases, or_left, or_right}
 use Words.Tables.{and_true, not_true}
 use Words.Tests.{any_map}
+use Words.Truth.{eqb_self}
 use Rattle.st_base.specs.Mode.{number_of}
 use Rattle.st_lemmas.proofs.Puts.{any_put}
 use Rattle.st_protocol.specs.Assoc.{Config, Msg, Stays}
@@ -220,10 +221,8 @@ module _ (k : Config) (sv : Beside) (now : ℕ) (hs : List Msg) where
   page_goes : (t : Turn) (s : ClientSession) (n : Stamp) (tick : Bool) (ino : ℕ) (p : PageNo) (o : Option DirtyPage) → pages.dirty_of t.here.store.pages ino p ≡ o → Goes k sv now hs t (cp.write_page t s n tick o)
   unfolding cp.write_page
   page_goes t s n tick ino p None e = goes_same k sv now hs t
-  page_goes t s n tick ino p (Some d) e = due_goes t s n tick d (any_found (pages.is_dirty_of ino p) (pages.is_dirty_on d.ino) d t.here.store.pages.dirty e (self d.ino))
-    where
-      self : (i : ℕ) → (i == i) ≡ true
-      self i = eq-eqb i i refl
+  page_goes t s n tick ino p (Some d) e = due_goes t s n tick d
+      (any_found (pages.is_dirty_of ino p) (pages.is_dirty_on d.ino) d t.here.store.pages.dirty e (eqb_self d.ino))
 
   each_writes : (s : ClientSession) (n : Stamp) (tick : Bool) (xs : List (ℕ × PageNo)) (t : Turn) → Goes k sv now hs t (cp.write_each s n tick xs t)
   unfolding cp.write_each

@@ -15,7 +15,7 @@ use Words.Admissible.{refusal, clocks_refused}
 use Words.Events.{WorldTurn, counted, with_log, with_clocks, drift_with, advanced, advances, marks, log_ended_all, lives_reached, happens, world_step}
 use Words.Leases.{drift_after}
 use Words.Numbers.{numbered_below, get_there}
-use Words.Truth.{or_first}
+use Words.Truth.{not_both, or_first}
 use Rattle.st_base.specs.declared.config.Config as base
 use Rattle.st_rules.proofs.Drift.{IsSquare, pair_at, square_after}
 use Rattle.st_protocol.specs.Assoc as net
@@ -204,12 +204,8 @@ module _ (k : Config) (s : ℕ) (ended : ℕ → ℕ → ℕ) (w : World) (node 
               (GraceEnds (mid c) runs f
               (let so = sound_of c k.wait Now node.running node.state (G c) runs (b.stands.served c).stands in epochs.ends_at k.wait Now Later node.state.grace (G c).gstart so.gstart f g)));
           shared = λ c d. record { up = refl; grace = refl };
-          table = λ a z. absurd (clash (grace.is_on node.state.grace Now) f a.grace);
+          table = λ a z. absurd (not_both (grace.is_on node.state.grace Now) f a.grace);
         })
-      where
-        clash : (b : Bool) → b ≡ true → b ≡ false → ⊥
-        clash true e f = cc
-        clash false e f = cc
 
     never_on : (c : ℕ) (r : Bool) → r ≡ false → StandsAt c k.wait Now r node.state (G c) → (t : Stamp) → grace.is_on node.state.grace t ≡ false
     never_on c true e st t = cc
@@ -245,12 +241,8 @@ module _ (k : Config) (s : ℕ) (ended : ℕ → ℕ → ℕ) (w : World) (node 
               (GraceEnds (mid c) runs f
               (let so = sound_of c k.wait Now node.running node.state (G c) runs (b.stands.served c).stands in epochs.ends_at k.wait Now Later node.state.grace (G c).gstart so.gstart f g)));
           shared = λ c d. record { up = refl; grace = refl };
-          table = λ a z. absurd (clash (grace.is_on node.state.grace Now) f a.grace);
+          table = λ a z. absurd (not_both (grace.is_on node.state.grace Now) f a.grace);
         })
-      where
-        clash : (b : Bool) → b ≡ true → b ≡ false → ⊥
-        clash true e f = cc
-        clash false e f = cc
 
     pub later_leads : (H : net.World) → Leads k H s ended w node G → Leads k H s ended V node later_ghost
     later_leads H o = by (grace.is_on node.state.grace Now) (grace.is_on node.state.grace Later) node.running refl refl refl

@@ -18,6 +18,7 @@ use Words.Dating.{is_request, may_date, goes_back, answers_to, is_reply_to}
 use Words.Lists.{Has}
 use Words.Tables.{same_or_not, and_both, not_true, not_false, cond_either, find_kept_in, has_append, has_filter}
 use Words.Serving.{has_suspect, suspect_wait}
+use Words.Truth.{not_both}
 use Rattle.st_trace.specs.Server.Edits.{NoSends}
 use Rattle.st_laws_refine.specs.Server.Edits.{Edit, TakesTimers, Steals, Suspects, Begins, DropsWaits, Keeps, Reasserts, Sees, Acquires, Releases, DropsFile}
 use Rattle.st_laws_refine.specs.Server.Edits.{Grants, Demands, NamesChange, ExtentsChange, Cuts, Replies, Repeats, Refuses, TellsGrant, TellsDemand}
@@ -145,11 +146,7 @@ replied_to s i t q b id came to r free m e d = subst (AnswersRequest s i t.state
 
 -- what no reply dates
 no_date : (s : ℕ) (i : ServerInput) (a : Authority) (o : Output) → ((m : Message) → outputs.Send m ≡ o → may_date m.header.number m.body ≡ false) → (m : Message) → outputs.Send m ≡ o → may_date m.header.number m.body ≡ true → AnswersRequest s i a m
-no_date s i a o f m e d = absurd (clash _ d (f m e))
-  where
-    clash : (b : Bool) → b ≡ true → b ≡ false → ⊥
-    clash true e f = cc
-    clash false e f = cc
+no_date s i a o f m e d = absurd (not_both _ d (f m e))
 
 -- timers that are not over are all kept
 kept_timers : (a : Authority) (now : Stamp) (c : ClientId) → ((x : Suspect) → Has x a.suspects → is_over a.wait now x ≡ false) → suspect_of (authority.still_running a now) c ≡ suspect_of a c

@@ -9,6 +9,7 @@ use Words.Server.{ServerState, ServerNode, crash, crash_node, start, start_node,
 use Words.World.{World, node_of, clock_of, server}
 use Words.Events.{WorldTurn, quiet, counted, with_node, crashes, crashes_server, starts, starts_server, happens, world_step}
 use Words.Numbers.{numbered_own}
+use Words.Truth.{not_both}
 use Rattle.st_protocol.specs.Assoc as net
 use Rattle.st_protocol.specs.Assoc.{Config, ConfigOk, Then, Stops, Starts, Move}
 use Rattle.st_laws_refine.specs.Views.Halves.{Ghost, half_of}
@@ -130,7 +131,13 @@ module _ (k : Config) (s : ℕ) (ended : ℕ → ℕ → ℕ) (w : World) (node 
   pub start_stands : 0 < k.wait → node.running ≡ false → Stands k s ended w node G → Stands k s ended (with_node (server s) (start_node node Now) (counted w)) (start_node node Now) started_ghost
   start_stands pos down st =
       record {
-        reached = Then st.reached (record { each = λ c. inl (start_move c pos down (st.served c).terms (stopped_of c node.running refl down (st.served c).stands)); shared = λ c d. record { up = refl; grace = refl }; table = λ a b. absurd (was_down node.running a.up down) });
+        reached =
+            Then st.reached
+            (record {
+              each = λ c. inl (start_move c pos down (st.served c).terms (stopped_of c node.running refl down (st.served c).stands));
+              shared = λ c d. record { up = refl; grace = refl };
+              table = λ a b. absurd (not_both node.running a.up down);
+            });
         served = λ c. let d = st.served c in
             record {
               found = numbered_own w.servers s (start_node node Now) node d.found;
@@ -141,10 +148,6 @@ module _ (k : Config) (s : ℕ) (ended : ℕ → ℕ → ℕ) (w : World) (node 
             };
         compat = started_rows_fit node.state Now;
       }
-    where
-      was_down : (b : Bool) → b ≡ true → b ≡ false → ⊥
-      was_down true e f = cc
-      was_down false e f = cc
 
   -- and so the path goes on
   pub start_leads : ConfigOk k → 0 < k.wait → node.running ≡ false → Stands k s ended w node G → (H : net.World) → Leads k H s ended w node G → Leads k H s ended (with_node (server s) (start_node node Now) (counted w)) (start_node node Now) started_ghost
@@ -152,12 +155,8 @@ module _ (k : Config) (s : ℕ) (ended : ℕ → ℕ → ℕ) (w : World) (node 
       SteppedOn o (record {
         each = λ c. inl (start_move c pos down (st.served c).terms (stopped_of c node.running refl down (st.served c).stands));
         shared = λ c d. record { up = refl; grace = refl };
-        table = λ a b. absurd (was_down node.running a.up down);
+        table = λ a b. absurd (not_both node.running a.up down);
       })
-    where
-      was_down : (b : Bool) → b ≡ true → b ≡ false → ⊥
-      was_down true e f = cc
-      was_down false e f = cc
 
   pub started : (sc : WorldTurn) → 0 < k.wait → node.running ≡ false → world_step w (events.Start (nodes.Server (server s))) ≡ Ok sc → Stands k s ended w node G → Stands k s ended sc.world (start_node node Now) started_ghost
   started sc pos down e st =

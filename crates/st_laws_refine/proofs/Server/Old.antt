@@ -12,8 +12,9 @@ use Words.Server as sv
 use Words.Server.{ServerTurn, sender, life_in, reply, refuse_in_grace, hello, greet, greet_by, greet_as, demand_seen, observe_demand, refuse_epoch}
 use Words.Server.{reassert_again, reassert_new, reassert, request_by, request, of_epoch, by_body, refuse_suspect, by_suspicion, receive_from, receive}
 use Words.Server.{take_input}
-use Words.Tables.{cond_either, and_true, and_left, and_right}
+use Words.Tables.{cond_either, and_true, and_left, and_right, not_true}
 use Words.Lookups.{or_cases}
+use Words.Truth.{not_both}
 
 -- the state is as it was
 abbrev Still : ServerTurn → ServerTurn → Type 0
@@ -97,12 +98,8 @@ still_after_reassert : (t : ServerTurn) (now : Stamp) (h : Header) (rs : List (�
 unfolding reassert
 still_after_reassert t now h rs s e lt =
     cond_either (Still t) (sessions.knows t.state.sessions (sender h) (life_in h)) (reassert_again t h (sv.take t h)) (reassert_new t now h rs) (λ f. still_after_again t h (sv.take t h))
-    (λ f. absurd (clash _ known f))
+    (λ f. absurd (not_both _ known f))
   where
-    clash : (b : Bool) → b ≡ true → b ≡ false → ⊥
-    clash true e f = cc
-    clash false e f = cc
-
     known : sessions.knows t.state.sessions (sender h) (life_in h) ≡ true
     known = ap (λ o. sessions.knows_at o (life_in h)) e ∙ ap (λ b. b || (sessions.is_live s && (h.life == s.life.0))) (lt-ltb h.life s.life.0 lt)
 
@@ -130,11 +127,7 @@ unfolding demand_seen
 still_after_seen t h ino g e = subst (λ c. Still t (cond c (observe_demand t h ino g) t)) (sym e) refl
 
 old_kind : (t : ServerTurn) (m : Message) (b : Body) → m.body ≡ b → Old t m → (b ≡ bd.Hello → ⊥) → OfOld t m.header b
-old_kind t m b e (inl o) n = EpochIsOther (let z = and_true _ _ o in other (m.header.epoch == t.state.stable.epoch.0) z.1)
-  where
-    other : (b : Bool) → not b ≡ true → b ≡ false
-    other true e = cc
-    other false e = refl
+old_kind t m b e (inl o) n = EpochIsOther (let z = and_true _ _ o in not_true (m.header.epoch == t.state.stable.epoch.0) z.1)
 old_kind t m b e (inr o) n = let z = past_life (sessions.session_of t.state.sessions (sender m.header)) m.header o in LifeIsPast z.0 z.1 z.2
 
 old_greeting : (t : ServerTurn) (m : Message) → m.body ≡ bd.Hello → Old t m → (s : Session) × (sessions.session_of t.state.sessions (sender m.header) ≡ Some s) × (m.header.life < s.life.0)

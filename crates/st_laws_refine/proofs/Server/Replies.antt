@@ -21,6 +21,7 @@ use Words.Lists.{Has}
 use Words.Tables.{and_both, cond_true, cond_false, found_at, has_filter, not_true}
 use Words.Numbers.{numbered_more, numbered_below, numbered_own}
 use Words.Members.{has_left}
+use Words.Truth.{not_both}
 use Rattle.st_laws_refine.specs.Server.Edits.{WishInput}
 use Rattle.st_trace.specs.Server.Edits.{NoSends}
 use Rattle.st_laws_refine.specs.Server.Pair.{terms_of}
@@ -79,13 +80,10 @@ module _ (w : World) (s : ℕ) (ts : List TimerStart) (a : Authority) where
     timers = λ y h f. let g = has_filter (λ z. not (is_timer_of S c z)) (timers_by w S t.out ts) y (subst (Has y) (timers_more w S t.out (outputs.Note (notes.Stolen c x.life)) ts) h) in by y f (not_true _ g.1) (k.timers y g.0 f);
   }
     where
-      clash : (b : Bool) → b ≡ true → b ≡ false → ⊥
-      clash true e f = cc
-      clash false e f = cc
-
       by : (y : TimerStart) → y.server.0 ≡ s → is_timer_of S c y ≡ false → (is_some (suspect_of a y.client) ≡ true) ⊎ ((y.client ≡ c) ⊎ Has y.client cs) → (is_some (suspect_of a y.client) ≡ true) ⊎ Has y.client cs
       by y f n (inl e) = inl e
-      by y f n (inr (inl e)) = absurd (clash (is_timer_of S c y) (and_both (y.server.0 == s) (y.client.0 == c.0) (eq-eqb _ _ f) (eq-eqb _ _ (ap (λ (c : ClientId). c.0) e))) n)
+      by y f n (inr (inl e)) =
+          absurd (not_both (is_timer_of S c y) (and_both (y.server.0 == s) (y.client.0 == c.0) (eq-eqb _ _ f) (eq-eqb _ _ (ap (λ (c : ClientId). c.0) e))) n)
       by y f n (inr (inr h)) = inr h
 
   steal_met : (c : ClientId) (cs : List ClientId) (t : ServerTurn) (o : Option Session) → session_of t.state.sessions c ≡ o → Stealing (c ∷ cs) t → Stealing cs (steal_at t c o)

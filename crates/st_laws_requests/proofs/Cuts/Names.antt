@@ -14,6 +14,7 @@ use Words.Safety.{Step, ask_of, step}
 use Words.World.{fresh_world, node_of}
 use Words.Lists.{Has}
 use Words.Tables.{all_pass, and_both, some_passes}
+use Words.Truth.{false_not_true}
 use Rattle.std.proofs.lemmas.Slice.Eq.{bytes_eq-Decides}
 use Rattle.st_rules.specs.declared.names.EntryRefusal.TheVariants.{IsDir}
 use Rattle.st_lemmas.proofs.Steps.{throughout}
@@ -40,10 +41,7 @@ one_of n dir x ino g f (Ok there) = go (names.is_file n there) (ino == 0) refl (
         (if file || a then changed n (names.remove n dir x) ∷ [] else changed n (names.remove n dir x) ∷ refused n IsDir ∷ [])
     go true a p b q = inl refl
     go false true p true q = inl refl
-    go false true p false q = no (zero_is true false p q refl)
-      where
-        no : {A : Type 0} → false ≡ true → A
-        no e = cc e
+    go false true p false q = false_not_true (zero_is true false p q refl)
     go false false p true q = inl refl
     go false false p false q = inr (inl refl)
 

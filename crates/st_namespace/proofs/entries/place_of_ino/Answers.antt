@@ -1,8 +1,8 @@
 use Rattle.std.proofs.Common.{◌+◌, ◌-◌, ◌/◌, ◌<◌, false, get_or, arith, length}
 use Rattle.st_namespace.specs.declared.entries.Inode.{Inode}
-use Rattle.st_namespace.proofs.ByName.{any_default}
 use Rattle.st_namespace.proofs.Searches.{more_above, more_below}
 use Rattle.st_namespace.proofs.entries.place_of_ino.Goals as goal
+use Rattle.std.proofs.lemmas.List.{get_or_default}
 
 abbrev nothing : Inode
 nothing = record { ino = 0; dir = 0; directory = false }
@@ -14,7 +14,7 @@ halves-preserved-then-inodes-middle c =
     record {
       order = omega (arith, c.halves-test.true);
       within = c.halves.invariant.within;
-      below = more_below c.args.inodes.now c.args.ino c.requires _ one inside (any_default c.args.inodes.now _ nothing one inside) c.if-inodes-middle.true;
+      below = more_below c.args.inodes.now c.args.ino c.requires _ one inside (get_or_default c.args.inodes.now _ nothing one inside) c.if-inodes-middle.true;
       above = c.halves.invariant.above;
     }
 
@@ -26,5 +26,5 @@ halves-preserved c =
       order = omega arith;
       within = omega (arith, c.halves-test.true, c.halves.invariant.within);
       below = c.halves.invariant.below;
-      above = more_above c.args.inodes.now c.args.ino c.requires _ one inside (any_default c.args.inodes.now _ nothing one inside) c.if-inodes-middle.false;
+      above = more_above c.args.inodes.now c.args.ino c.requires _ one inside (get_or_default c.args.inodes.now _ nothing one inside) c.if-inodes-middle.false;
     }

@@ -1,8 +1,9 @@
 use Rattle.st_lemmas.proofs.Words
 use Words.{ap, sym, subst, ◌∙◌, vec_capacity, list_all}
 use Words.Client.{ClientNode, start}
+use Words.Truth.{nothing_there}
 use Rattle.st_client_association.specs.Associations.{has_room_at}
-use Rattle.st_client.proofs.Crashing.{low_there, none_runs}
+use Rattle.st_client.proofs.Crashing.{low_there}
 use Rattle.st_client.proofs.Running.{started_fits, starts_in}
 use Rattle.st_client.proofs.Sends.{start_sound}
 use Rattle.st_client.specs.Nodes.{crashed_client, is_low, state_of}
@@ -11,7 +12,7 @@ use Rattle.st_client.proofs.node.ClientNode.start.Goals as goal
 
 pub started-requires-clause-low : goal.started-requires-clause-low
 started-requires-clause-low c =
-    let n = none_runs c.self.inside.state (ap (λ (m : ClientNode). m.running) c.self.view_is ∙ c.requires.crashed) in
+    let n = nothing_there c.self.inside.state (ap (λ (m : ClientNode). m.running) c.self.view_is ∙ c.requires.crashed) in
     ap (list_all is_low) c.as_slice-2.ensures.value
     ∙ sym (low_there c.self.inside.servers.items c.self.inside.lives.items c.self.invariant.count)
     ∙ ap (λ o. list_all has_room_at (state_of c.self.inside.id c.self.inside.config c.self.inside.servers.items c.self.inside.lives.items o).associations) (sym n)
@@ -28,7 +29,7 @@ tell_lives-requires c =
 
 pub invariant_of-self : goal.invariant_of-self
 invariant_of-self c =
-    let n = none_runs c.self.inside.state (ap (λ (m : ClientNode). m.running) c.self.view_is ∙ c.requires.crashed) in
+    let n = nothing_there c.self.inside.state (ap (λ (m : ClientNode). m.running) c.self.view_is ∙ c.requires.crashed) in
     let e =
     c.in_ok-state.ensures
     ∙ ap (λ xs. start (crashed_client c.self.inside.id c.self.inside.config xs c.as_slice-2.result.now)) c.as_slice.ensures.value

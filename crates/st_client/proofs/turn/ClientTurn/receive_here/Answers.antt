@@ -4,11 +4,13 @@ use Words.ClientInvariants.{all_last, lasts_here}
 use Words.ClientState.{ClientTurn, at_each}
 use Words.ClientReplies.{receive_at}
 use Rattle.st_client.proofs.Advancing.{ok_by}
-use Rattle.st_client.proofs.AllLast.{all_both, received_last, leb-is}
+use Rattle.st_client.proofs.AllLast.{all_both, received_last}
 use Rattle.st_client.proofs.turn.ClientTurn.receive_here.Goals as goal
+use Rattle.std.proofs.lemmas.Bool.{le-leb}
 
 pub at_each-requires : goal.at_each-requires
-at_each-requires c = all_both (nat_le c.args.now.0 (2 ^ 62)) (lasts_here c.args.self.state.config c.args.now) c.args.self.state.associations (leb-is c.args.now.0 (2 ^ 62) c.requires.time) c.requires.last
+at_each-requires c = all_both (nat_le c.args.now.0 (2 ^ 62)) (lasts_here c.args.self.state.config c.args.now) c.args.self.state.associations
+    (le-leb c.args.now.0 (2 ^ 62) c.requires.time) c.requires.last
 
 pub returns-clause-last : goal.returns-clause-last
 returns-clause-last c =

@@ -1,7 +1,7 @@
 use Rattle.st_lemmas.proofs.Words
 use Words.{refl}
+use Words.Versions.{version_failed}
 use Rattle.st_client_association.proofs.TurnInvariants.{lent, store_changed}
-use Rattle.st_client_association.proofs.Done.{version_failed}
 use Rattle.st_client_association.proofs.turn.Turn.fail.Goals as goal
 
 pub invariant_of-self : goal.invariant_of-self

@@ -1,8 +1,9 @@
 use Rattle.st_lemmas.proofs.Words
 use Words.{subst, refl, Option}
+use Words.Versions.{version_used}
 use Rattle.st_client_session.specs.Sessions.{ServerSession}
 use Rattle.st_client_association.specs.Turns.{IsTurn}
-use Rattle.st_client_association.proofs.TurnInvariants.{lent, turn_changed, versions_used}
+use Rattle.st_client_association.proofs.TurnInvariants.{lent, turn_changed}
 use Rattle.st_client_association.proofs.turn.Turn.read_page.Goals as goal
 
 pub invariant_of-self : goal.invariant_of-self
@@ -12,4 +13,5 @@ invariant_of-self c =
     let k = lent x.here.value h x.next_command x.out.items c.deref_mut-here.ensures.value c.self.invariant in
     let i = subst (λ (s : Option ServerSession). IsTurn h.id h.config h.server h.life s h.store x.next_command x.out.items) c.in-Some.is k in
     rw (c.read.ensures.stays, c.read.ensures.used)
-    (turn_changed h.id h.config h.server h.life c.in-Some.session c.in-Some.session h.store _ x.next_command x.out.items i refl refl refl i.given (versions_used h.store.store.pages c.args.ino c.args.page))
+    (turn_changed h.id h.config h.server h.life c.in-Some.session c.in-Some.session h.store _ x.next_command x.out.items i refl refl refl i.given
+    (version_used h.store.store.pages c.args.ino c.args.page))

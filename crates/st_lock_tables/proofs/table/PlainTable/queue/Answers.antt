@@ -13,7 +13,7 @@ pub returns-in_ok-put-in-None-clause-ok : goal.returns-in_ok-put-in-None-clause-
 unfolding queue queue_at
 returns-in_ok-put-in-None-clause-ok c =
     let l : Locks =
-        record { epoch = c.self.inside.epoch; grants = c.self.inside.grants; rows = c.self.inside.rows; waiters = c.self.inside.waits; limit = 1024 } in
+    record { epoch = c.self.inside.epoch; grants = c.self.inside.grants; rows = c.self.inside.rows; waiters = c.self.inside.waits; limit = 1024 } in
     let none : wait_of l c.args.client c.args.ino ≡ None = sym (c.in-None.ensures ∙ c.get.ensures.found ∙ ap (λ k. find (has_key wait_key k) c.self.inside.waits) c.key.ensures) in
     rw (← c.self.view_is)
     (ap (λ (ws : List Waiter). let m : Locks = record { epoch = c.self.inside.epoch; grants = c.self.inside.grants; rows = c.self.inside.rows; waiters = ws; limit = 1024 } in m)
@@ -24,7 +24,7 @@ pub returns-in-Some-clause-ok : goal.returns-in-Some-clause-ok
 unfolding queue queue_at wait_for
 returns-in-Some-clause-ok c =
     let l : Locks =
-        record { epoch = c.self.inside.epoch; grants = c.self.inside.grants; rows = c.self.inside.rows; waiters = c.self.inside.waits; limit = 1024 } in
+    record { epoch = c.self.inside.epoch; grants = c.self.inside.grants; rows = c.self.inside.rows; waiters = c.self.inside.waits; limit = 1024 } in
     let some : wait_of l c.args.client c.args.ino ≡ Some c.in-Some.wait = sym (c.in-Some.ensures ∙ c.get.ensures.found ∙ ap (λ k. find (has_key wait_key k) c.self.inside.waits) c.key.ensures) in
     let keys = wait_keys c.args.client c.args.ino c.self.inside.waits c.in-Some.wait some in
     rw (← c.self.view_is)
@@ -40,7 +40,7 @@ invariant_of-self-in-None c =
 pub invariant_of-self-in-Some : goal.invariant_of-self-in-Some
 invariant_of-self-in-Some c =
     let l : Locks =
-        record { epoch = c.self.inside.epoch; grants = c.self.inside.grants; rows = c.self.inside.rows; waiters = c.self.inside.waits; limit = 1024 } in
+    record { epoch = c.self.inside.epoch; grants = c.self.inside.grants; rows = c.self.inside.rows; waiters = c.self.inside.waits; limit = 1024 } in
     let some : wait_of l c.args.client c.args.ino ≡ Some c.in-Some.wait = sym (c.in-Some.ensures ∙ c.get.ensures.found ∙ ap (λ k. find (has_key wait_key k) c.self.inside.waits) c.key.ensures) in
     let waited : is_lock c.in-Some.wait.mode ≡ true = found_is (is_wait_of c.args.client c.args.ino) is_wanted c.in-Some.wait c.self.inside.waits c.self.invariant.wanted some in
     let asked : is_lock c.greater.result ≡ true = ap is_lock c.greater.ensures ∙ greater_lock c.in-Some.wait.mode c.args.mode waited c.requires.lock in

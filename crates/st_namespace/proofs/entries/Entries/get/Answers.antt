@@ -1,9 +1,9 @@
 use Rattle.std.proofs.Common.{◌≡◌, ◌<◌, true, false, get_or, length, ap, subst, sym, ◌∙◌}
+use Rattle.std.proofs.lemmas.List.{get_or_default}
 use Rattle.std.specs.Prelude.{IfNone}
 use Rattle.std.specs.List.{list_any}
 use Rattle.st_rules.specs.Names.{is_entry_at}
 use Rattle.st_namespace.specs.StoredEntries.{entries_of}
-use Rattle.st_namespace.proofs.ByName.{any_default}
 use Rattle.st_namespace.proofs.Keeps.{found_name, no_name}
 use Rattle.st_namespace.proofs.entries.Entries.get.Goals as goal
 
@@ -18,4 +18,5 @@ returns-in-Some c =
     let there : is_entry_at c.args.dir c.args.name.now (get_or c.self.inside.sorted.items c.in-Some.place c.index.result.now) ≡ true = rw c.as_slice.ensures.value at (c.in-Some.ensures.there c.index.result.now) in
     rw (← c.self.view_is)
     (sym (found_name (entries_of c.self.inside.inodes.items c.self.inside.sorted.items) c.self.inside.inodes.items c.self.inside.sorted.items c.self.invariant c.args.dir c.args.name.now c.in-Some.place c.index.result.now inside
-    (λ d. any_default c.self.inside.sorted.items c.in-Some.place d c.index.result.now inside ∙ sym c.index.ensures) (ap (is_entry_at c.args.dir c.args.name.now) c.index.ensures ∙ there)))
+    (λ d. get_or_default c.self.inside.sorted.items c.in-Some.place d c.index.result.now inside ∙ sym c.index.ensures)
+    (ap (is_entry_at c.args.dir c.args.name.now) c.index.ensures ∙ there)))
