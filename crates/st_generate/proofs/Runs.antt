@@ -42,16 +42,16 @@ unfolding left
 left_sized w x o = step_sized w (g.chosen w x).0 _ (taken w x o)
 
 -- the events from a world and a state on, after the first one
-more : (n : ℕ) (w : World) (x : ℕ) → IsOurs w → g.generated (suc n) w x ≡ (g.chosen w x).0 ∷ g.generated n (left w x) (g.chosen w x).1
+generated_once_more : (n : ℕ) (w : World) (x : ℕ) → IsOurs w → g.generated (suc n) w x ≡ (g.chosen w x).0 ∷ g.generated n (left w x) (g.chosen w x).1
 unfolding g.generated g.world_left left
-more n w x o = ap (λ r. (g.chosen w x).0 ∷ g.generated n (g.world_left w r) (g.chosen w x).1) (taken w x o)
+generated_once_more n w x o = ap (λ r. (g.chosen w x).0 ∷ g.generated n (g.world_left w r) (g.chosen w x).1) (taken w x o)
 
 -- the run of these events, after the first one
 run_more : (n : ℕ) (w : World) (x : ℕ) → IsOurs w →
     run (g.generated (suc n) w x) w ≡ Rattle.st_rules.specs.Run.behind ((happens (counted w) (g.chosen w x).0).seen ∷ []) (run (g.generated n (left w x) (g.chosen w x).1) (left w x))
 unfolding run go_on left
 run_more n w x o =
-    ap (λ es. run es w) (more n w x o)
+    ap (λ es. run es w) (generated_once_more n w x o)
     ∙ ap (go_on (run (g.generated n (left w x) (g.chosen w x).1)) w) (taken w x o)
 
 -- The run reaches its end.
@@ -127,7 +127,7 @@ have_lines : (n : ℕ) (w : World) (x : ℕ) → IsOurs w →
     AllByRecursion (Fits 1 5) (g.generated n w x)
 have_lines zero w x o p q = no_lines w x
 have_lines (suc n) w x o p q =
-    subst (λ es. AllByRecursion (Fits 1 5) es) (sym (more n w x o)) (
+    subst (λ es. AllByRecursion (Fits 1 5) es) (sym (generated_once_more n w x o)) (
       (chosen_good w x).line (let z = (run_sized (suc n) w x o).messages in omega (arith, z, p)) (let z = (run_sized (suc n) w x o).commands in omega (arith, z, q)),
       have_lines n (left w x) (g.chosen w x).1 (ours_after w _ o (left_sized w x o))
           (subst (λ (r : Run). length r.world.net.messages ≤ MOST_NUMBER) (run_more n w x o) p)

@@ -42,8 +42,8 @@ unfit_write : (f : FileId) (p : PageNo) (bytes : List ℕ) → is_whole_page byt
 unfolding is_ask
 unfit_write f p bytes e = and_right (is_file 1 f) (is_page 0 p.0 && is_whole_page bytes) (and_right (is_page 0 p.0) (is_whole_page bytes) e)
 
-fewer : (at n : ℕ) → between 1 4096 n ≡ false → between 1 (4096 - at) n ≡ false
-fewer at n e = elim (cases_Bool (leb 1 n)) [
+outside_narrower_range : (at n : ℕ) → between 1 4096 n ≡ false → between 1 (4096 - at) n ≡ false
+outside_narrower_range at n e = elim (cases_Bool (leb 1 n)) [
   | inl h ↦ and_right (leb 1 n) (leb n (4096 - at)) (lt-leb n (4096 - at) (omega (arith, leb-false n 4096 (second h))))
   | inr h ↦ and_left (leb 1 n) (leb n (4096 - at)) h
 ]
@@ -56,7 +56,7 @@ unfolding is_ask
 unfit_patch f p at bytes e =
     and_right (is_file 1 f) (is_page 0 p.0 && (between 0 4095 at && has_length 1 (4096 - at) bytes))
     (and_right (is_page 0 p.0) (between 0 4095 at && has_length 1 (4096 - at) bytes)
-    (and_right (between 0 4095 at) (has_length 1 (4096 - at) bytes) (fewer at (length bytes) e)))
+    (and_right (between 0 4095 at) (has_length 1 (4096 - at) bytes) (outside_narrower_range at (length bytes) e)))
 
 -- an ask that isn't measured has the frame's fault
 write_fault : (a : TankAsk) (f : FileId) (p : PageNo) (bytes : List ℕ) (h : HostFault) (b : Bool) → is_whole_page bytes ≡ b

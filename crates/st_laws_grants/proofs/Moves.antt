@@ -20,8 +20,8 @@ module _ (P : ℕ → ℕ → Type 0) where
     pub net : AllTell P a.net
     pub held : Holds a.c.held
 
-  more : (n : Msg) (net : List Msg) → Tells P n.body → AllTell P net → AllTell P (n ∷ net)
-  more n net t h = λ m w. in_cons (λ m. Tells P m.body) n net t h m w
+  all_tell_one_more : (n : Msg) (net : List Msg) → Tells P n.body → AllTell P net → AllTell P (n ∷ net)
+  all_tell_one_more n net t h = λ m w. in_cons (λ m. Tells P m.body) n net t h m w
 
   HeldOne : ℕ → Lock → Type 0
   HeldOne i r = 1 ≤ r.mode → P i r.g
@@ -29,23 +29,28 @@ module _ (P : ℕ → ℕ → Type 0) where
   one : (k : Config) {a b : Assoc} → (m : Move k a b) → steady m ≡ true → Down a → Down b
   unfolding HeldOne
   one k (Advance a dc ds dr h l) e o = cc
-  one k (Greets a h) e o = record { down = o.down; net = more _ a.net tt o.net; held = o.held }
-  one k (Asks a h) e o = record { down = o.down; net = more _ a.net tt o.net; held = o.held }
+  one k (Greets a h) e o = record { down = o.down; net = all_tell_one_more _ a.net tt o.net; held = o.held }
+  one k (Asks a h) e o = record { down = o.down; net = all_tell_one_more _ a.net tt o.net; held = o.held }
   one k (Loses a h j) e o = record { down = o.down; net = o.net; held = λ i f. absurd (omega (arith, f)) }
   one k (Crashes a) e o = record { down = o.down; net = o.net; held = λ i f. absurd (omega (arith, f)) }
   one k (Begins a stamp epoch j h l) e o = record { down = o.down; net = o.net; held = λ i f. absurd (omega (arith, f)) }
   one k (Renews a stamp j al d) e o = record { down = o.down; net = o.net; held = o.held }
   one k (Installs a stamp i g mode j h s) e o = record { down = o.down; net = o.net; held = λ d f. upd_all HeldOne a.c.held i _ (λ f. o.net _ j) (λ d n f. o.held d f) d f }
-  one k (AskedOfNone a stamp i g to j h mo top se sg) e o = record { down = o.down; net = more _ a.net tt o.net; held = o.held }
+  one k (AskedOfNone a stamp i g to j h mo top se sg) e o = record { down = o.down; net = all_tell_one_more _ a.net tt o.net; held = o.held }
   one k (Asked a stamp i g to j h mo le) e o = record { down = o.down; net = o.net; held = λ d f. upd_all HeldOne a.c.held i _ (λ f. o.net _ j) (λ d n f. o.held d f) d f }
-  one k (Declines a stamp i g mode j h se z) e o = record { down = o.down; net = more _ a.net tt o.net; held = o.held }
-  one k (Repeats a was b j r h) e o = record { down = o.down; net = more _ a.net (o.net _ j) o.net; held = o.held }
+  one k (Declines a stamp i g mode j h se z) e o = record { down = o.down; net = all_tell_one_more _ a.net tt o.net; held = o.held }
+  one k (Repeats a was b j r h) e o = record { down = o.down; net = all_tell_one_more _ a.net (o.net _ j) o.net; held = o.held }
   one k (Works a busy al h) e o = record { down = o.down; net = o.net; held = o.held }
   one k (Rests a busy h) e o = record { down = o.down; net = o.net; held = o.held }
   one k (Reduces a i to h jo fe so mo gn ge gl) e o =
-      record { down = o.down; net = more _ a.net tt o.net; held = λ d f. upd_all HeldOne a.c.held i _ (λ f. subst (P i) (let y = gl f in omega (arith, y, ge)) (o.held i so)) (λ d n f. o.held d f) d f }
+      record {
+        down = o.down;
+        net = all_tell_one_more _ a.net tt o.net;
+        held =
+            λ d f. upd_all HeldOne a.c.held i _ (λ f. subst (P i) (let y = gl f in omega (arith, y, ge)) (o.held i so)) (λ d n f. o.held d f) d f;
+      }
   one k (Adopts a stamp epoch j h l) e o = record { down = o.down; net = o.net; held = o.held }
-  one k (Reasserts a h du) e o = record { down = o.down; net = more _ a.net o.held o.net; held = o.held }
+  one k (Reasserts a h du) e o = record { down = o.down; net = all_tell_one_more _ a.net o.held o.net; held = o.held }
   one k (Settles a stamp j h) e o = record { down = o.down; net = o.net; held = o.held }
   one k (Welcomes a life stamp j sv gr s r) e o = absurd (clash sv.up o.down)
   one k (WelcomesAgain a stamp j sv li gr) e o = absurd (clash sv.up o.down)

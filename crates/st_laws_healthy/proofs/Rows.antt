@@ -62,8 +62,8 @@ rises_then : (l v u : Locks) → Rises l v → Rises v u → Rises l u
 rises_then l v u a b = record { rows = λ r h. from_then l v u a r (b.rows r h); above = let x = a.above in let y = b.above in omega (arith, x, y) }
 
 -- some of the rows, with as many grants
-fewer : (l v : Locks) → ((r : LockRow) → Has r v.rows → Has r l.rows) → v.epoch ≡ l.epoch → v.grants ≡ l.grants → Rises l v
-fewer l v f e g =
+rows_with_fewer_rise : (l v : Locks) → ((r : LockRow) → Has r v.rows → Has r l.rows) → v.epoch ≡ l.epoch → v.grants ≡ l.grants → Rises l v
+rows_with_fewer_rise l v f e g =
     record {
       rows = λ r h. IsOld r (f r h) (same_self r);
       above = let x = ap first_after e in omega (arith, x, g);
@@ -105,7 +105,7 @@ demand_same c ino d r = cond_either (λ (x : LockRow). SameLock x r) (is_row_of 
 
 released : (l : Locks) (c : ClientId) (ino : ℕ) (to : Mode) → Rises l (release_to l c ino to)
 unfolding release_to
-released l c ino modes.None = fewer l _ (λ r h. (has_filter (λ r. not (is_row_of c ino r)) l.rows r h).0) refl refl
+released l c ino modes.None = rows_with_fewer_rise l _ (λ r h. (has_filter (λ r. not (is_row_of c ino r)) l.rows r h).0) refl refl
 released l c ino modes.S = changed (locks.lower c ino) l _ (lower_same c ino) refl refl refl
 released l c ino modes.X = changed (locks.lower c ino) l _ (lower_same c ino) refl refl refl
 
@@ -114,8 +114,8 @@ unfolding locks.queue locks.queue_at
 queued l c life ino mode = go (locks.wait_of l c ino)
   where
     go : (o : Option _) → Rises l (locks.queue_at l c life ino mode o)
-    go None = fewer l _ (λ r h. h) refl refl
-    go (Some w) = fewer l _ (λ r h. h) refl refl
+    go None = rows_with_fewer_rise l _ (λ r h. h) refl refl
+    go (Some w) = rows_with_fewer_rise l _ (λ r h. h) refl refl
 
 acquired : (b : Bool) (l : Locks) (c : ClientId) (life : Life) (ino : ℕ) (mode : Mode) (v : Locks) → Acquired b l c life ino mode v → Rises l v
 acquired b l c life ino mode _ (AtOnce x y z w) = granted l c life ino mode
@@ -133,10 +133,11 @@ module _ (n : ServerState) (now : Stamp) (i : ServerInput) (l : Locks) where
   edit : (t u : ServerTurn) → Edit n now i t u → Keeps2 t → Keeps2 u
   unfolding steal_from suspect_client keep_and_reply reply tell locks.forget locks.drop_waits locks.drop_file_waits locks.demand_seen
   edit t _ (TakesTimers _ e) z = by t _ refl (rises_self t.state.locks) z
-  edit t _ (Steals _ c s h e) z = by t _ refl (fewer t.state.locks _ (λ r h. (has_filter (λ r. not (locks.is_row_by c r)) t.state.locks.rows r h).0) refl refl) z
-  edit t _ (Suspects _ c q f y) z = by t _ refl (fewer t.state.locks _ (λ r h. h) refl refl) z
+  edit t _ (Steals _ c s h e) z =
+      by t _ refl (rows_with_fewer_rise t.state.locks _ (λ r h. (has_filter (λ r. not (locks.is_row_by c r)) t.state.locks.rows r h).0) refl refl) z
+  edit t _ (Suspects _ c q f y) z = by t _ refl (rows_with_fewer_rise t.state.locks _ (λ r h. h) refl refl) z
   edit t _ (Begins _ c life) z = by t _ refl (rises_self t.state.locks) z
-  edit t _ (DropsWaits _ m s is b e f) z = by t _ refl (fewer t.state.locks _ (λ r h. h) refl refl) z
+  edit t _ (DropsWaits _ m s is b e f) z = by t _ refl (rows_with_fewer_rise t.state.locks _ (λ r h. h) refl refl) z
   edit t _ (Keeps _ c number b e) z = by t _ refl (rises_self t.state.locks) z
   edit t _ (Reasserts _ m rows is all g f) z = absurd (no (sym (ap (λ o. Rattle.st_rules.specs.Grace.is_on o now) z.off) ∙ g.on))
     where
@@ -146,7 +147,7 @@ module _ (n : ServerState) (now : Stamp) (i : ServerInput) (l : Locks) where
   edit t _ (Acquires _ m ino mode v b y is fi body hs hl ok kb a) z =
       by t _ refl (acquired (Rattle.st_rules.specs.Grace.is_on t.state.grace now) t.state.locks (sender m.header) (life_in m.header) ino mode v a) z
   edit t _ (Releases _ m ino g to r is fi b e f) z = by t _ refl (released t.state.locks (sender m.header) ino to) z
-  edit t _ (DropsFile _ m dir nm g ino is b e) z = by t _ refl (fewer t.state.locks _ (λ r h. h) refl refl) z
+  edit t _ (DropsFile _ m dir nm g ino is b e) z = by t _ refl (rows_with_fewer_rise t.state.locks _ (λ r h. h) refl refl) z
   edit t _ (Grants _ w off h e f) z = by t _ refl (granted t.state.locks w.client w.life w.ino w.mode) z
   edit t _ (Demands _ r x to e d) z = by t _ refl (changed (locks.demand_of r.client r.ino x) t.state.locks _ (demand_same r.client r.ino x) refl refl refl) z
   edit t _ (NamesChange _ v) z = by t _ refl (rises_self t.state.locks) z
@@ -290,7 +291,7 @@ module _ (now : Stamp) (n : ServerState) (known : RowsHaveSessions n) (once : ar
     kept1 =
         kept_by_message n now m (Keeps2 n now (Control m) n.locks) (edit n now (Control m) n.locks) wish
         (record {
-          locks = fewer n.locks u0.state.locks (λ q h. (robbed0.rows q h).0) (thefts_tables n now).0 (thefts_tables n now).1;
+          locks = rows_with_fewer_rise n.locks u0.state.locks (λ q h. (robbed0.rows q h).0) (thefts_tables n now).0 (thefts_tables n now).1;
           off = z.grace ∙ off;
         })
 

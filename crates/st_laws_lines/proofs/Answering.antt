@@ -89,8 +89,8 @@ module _ (Failed : ℕ → Type 0) (Full : Type 0) (Told : Type 0) where
   abbrev F : Turn → Type 0
   F t = All_free Failed Full Told t.out
 
-  more : (os ps : List Output) → All_free Failed Full Told os → All_free Failed Full Told ps → All_free Failed Full Told (os ++ ps)
-  more os ps a b o h = go (has_append os ps o h)
+  all_free_append : (os ps : List Output) → All_free Failed Full Told os → All_free Failed Full Told ps → All_free Failed Full Told (os ++ ps)
+  all_free_append os ps a b o h = go (has_append os ps o h)
     where
       go : Has o os ⊎ Has o ps → Free Failed Full Told o
       go (inl i) = a o i
@@ -101,14 +101,14 @@ module _ (Failed : ℕ → Type 0) (Full : Type 0) (Told : Type 0) where
   single o f x (inr h) = absurd h
 
   last : (os : List Output) (o : Output) → Free Failed Full Told o → All_free Failed Full Told os → All_free Failed Full Told (os ++ o ∷ [])
-  last os o f w = more os (o ∷ []) w (single o f)
+  last os o f w = all_free_append os (o ∷ []) w (single o f)
 
   said : (t : Turn) (o : Output) → Free Failed Full Told o → F t → F (say t o)
   said t o f w = last t.out o f w
 
   each_answered : (t : Turn) (picked : Operation → Bool) (a : AppAnswer) → Fault_free Failed Full Told a → F t → F (cs.answer_each picked a t)
   unfolding cs.answer_each
-  each_answered t picked a f w = more t.out (map (answer_to a) (filter picked t.operations)) w
+  each_answered t picked a f w = all_free_append t.out (map (answer_to a) (filter picked t.operations)) w
       (λ o h. let x = has_map (answer_to a) (filter picked t.operations) o h in subst (Free Failed Full Told) (sym x.2) f)
 
   -- A message: no reply answers a fault, or that there are too many operations.
@@ -244,8 +244,8 @@ module _ (Failed : ℕ → Type 0) (Full : Type 0) (Told : Type 0) where
   unfolding cl.take_input cl.app cl.app_known cl.done cr.receive cr.receive_here
   input_taken t now inputs.Tick f w = w
   input_taken t now (inputs.App op ask) f w =
-      where_full (cl.is_full t.state) _ _ (λ e. more t.out _ w (single _ (f e)))
-      (any_either (cl.is_configured t.state (cs.server_of ask)) _ _ (each _ (taken op ask) t w) (more t.out _ w (single _ tt)))
+      where_full (cl.is_full t.state) _ _ (λ e. all_free_append t.out _ w (single _ (f e)))
+      (any_either (cl.is_configured t.state (cs.server_of ask)) _ _ (each _ (taken op ask) t w) (all_free_append t.out _ w (single _ tt)))
   input_taken t now (inputs.Control m) f w = any_either _ _ t (each _ (received now m.header m.body f) t w) w
   input_taken t now (inputs.Done number r) f w = each _ (finished number r f) t w
 

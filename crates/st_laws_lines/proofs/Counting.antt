@@ -97,17 +97,17 @@ one_grows line f xs x o e =
 abbrev pub Told : World → WorldTurn → Type 0
 Told w sc = Tells w sc.seen sc.world
 
-more : (w : World) (sc : WorldTurn) (v : World) (o : Observation) → Tells sc.world (o ∷ []) v → Told w sc → Told w (ev.observe v sc o)
-more w sc v o a h = tells_then w sc.world v sc.seen (o ∷ []) h a
+told_with_one_more : (w : World) (sc : WorldTurn) (v : World) (o : Observation) → Tells sc.world (o ∷ []) v → Told w sc → Told w (ev.observe v sc o)
+told_with_one_more w sc v o a h = tells_then w sc.world v sc.seen (o ∷ []) h a
 
 -- a line that counts nothing, of a world that is alike
 quiet_line : (w : World) (sc : WorldTurn) (v : World) (o : Observation) → Silent (o ∷ []) → Alike sc.world v → Told w sc → Told w (ev.observe v sc o)
-quiet_line w sc v o s a h = more w sc v o (silent_tells sc.world v (o ∷ []) s a) h
+quiet_line w sc v o s a h = told_with_one_more w sc v o (silent_tells sc.world v (o ∷ []) s a) h
 
 sent : (w : World) (sc : WorldTurn) (m : Message) → Told w sc → Told w (ev.sends sc m)
 unfolding ev.sends
 sent w sc m h =
-    more w sc (ev.with_message m sc.world) (seen.Sent (length sc.world.net.messages + 1) m)
+    told_with_one_more w sc (ev.with_message m sc.world) (seen.Sent (length sc.world.net.messages + 1) m)
     (record {
       messages = one_grows message_told message_in sc.world.net.messages (record { message = m; lost = false }) _ refl;
       commands = grows_none command_told _ _ refl;
@@ -123,7 +123,7 @@ unfolding ev.submits
 submitted w sc c None number at what h = h
 submitted w sc c (Some site) number at what h =
     let x = ev.issued sc.world c site number at what in
-    more w sc (ev.with_command x what sc.world) (seen.Submitted (length sc.world.commands + 1) c number what)
+    told_with_one_more w sc (ev.with_command x what sc.world) (seen.Submitted (length sc.world.commands + 1) c number what)
     (record {
       messages = grows_none message_told _ _ refl;
       commands = one_grows command_told command_in sc.world.commands x _ refl;
@@ -136,7 +136,7 @@ submitted w sc c (Some site) number at what h =
 
 answered : (w : World) (sc : WorldTurn) (c : ClientId) (op : ℕ) (a : AppAnswer) → Told w sc → Told w (ev.answers_with sc c op a)
 unfolding ev.answers_with
-answered w sc c op a h = more w sc (ev.with_read a sc.world) (seen.Answered c op a) (by a) h
+answered w sc c op a h = told_with_one_more w sc (ev.with_read a sc.world) (seen.Answered c op a) (by a) h
   where
     tells : (a : AppAnswer) → ev.reads_in a ≡ count_lines is_read_line (seen.Answered c op a ∷ []) → Tells sc.world (seen.Answered c op a ∷ []) (ev.with_read a sc.world)
     tells a e =
@@ -180,7 +180,7 @@ server_one w s (outputs.Note n) sc h = note n
     note : (n : Note) → Told w (ev.server_notes sc s n)
     note (notes.Suspected c t) = quiet_line w sc _ _ (record { messages = refl; commands = refl; whats = refl; reads = refl; stolen = refl }) (self sc.world) h
     note (notes.Stolen c l) =
-        more w sc (ev.with_theft sc.world) (seen.Stolen s c l)
+        told_with_one_more w sc (ev.with_theft sc.world) (seen.Stolen s c l)
         (record {
           messages = grows_none message_told _ _ refl;
           commands = grows_none command_told _ _ refl;

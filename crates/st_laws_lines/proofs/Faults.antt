@@ -48,8 +48,9 @@ module _ (Failed : ClientId → ℕ → Type 0) (Full : ClientId → Type 0) (To
   none_fine : AllFine Failed Full Told []
   none_fine o h = absurd h
 
-  more : (os : List Observation) (o : Observation) → Fine Failed Full Told o → AllFine Failed Full Told os → AllFine Failed Full Told (os ++ o ∷ [])
-  more os o f w x h = go (has_append os (o ∷ []) x h)
+  fine_with_one_more : (os : List Observation) (o : Observation) → Fine Failed Full Told o → AllFine Failed Full Told os →
+      AllFine Failed Full Told (os ++ o ∷ [])
+  fine_with_one_more os o f w x h = go (has_append os (o ∷ []) x h)
     where
       go : Has x os ⊎ Has x (o ∷ []) → Fine Failed Full Told x
       go (inl i) = w x i
@@ -58,8 +59,8 @@ module _ (Failed : ClientId → ℕ → Type 0) (Full : ClientId → Type 0) (To
 
   client_one : (c : ClientId) (before : ClientState) (o : Output) (sc : WorldTurn) → Free (Failed c) (Full c) (Told c) o → AllFine Failed Full Told sc.seen → AllFine Failed Full Told (ev.client_says sc c before o).seen
   unfolding ev.client_says ev.client_notes ev.sends ev.submits ev.answers_with ev.accepts ev.patches ev.loses
-  client_one c before (outputs.Send m) sc f h = more sc.seen _ tt h
-  client_one c before (outputs.Answer op a) sc f h = more sc.seen (seen.Answered c op a) (by a f) h
+  client_one c before (outputs.Send m) sc f h = fine_with_one_more sc.seen _ tt h
+  client_one c before (outputs.Answer op a) sc f h = fine_with_one_more sc.seen (seen.Answered c op a) (by a f) h
     where
       by : (a : AppAnswer) → Fault_free (Failed c) (Full c) (Told c) a → Fine Failed Full Told (seen.Answered c op a)
       by (answers.DiskFault number) f = f
@@ -73,14 +74,14 @@ module _ (Failed : ClientId → ℕ → Type 0) (Full : ClientId → Type 0) (To
     where
       go : (o : Option WorldClient) → AllFine Failed Full Told (ev.submits sc c o number at what).seen
       go None = h
-      go (Some site) = more sc.seen _ tt h
+      go (Some site) = fine_with_one_more sc.seen _ tt h
   client_one c before (outputs.Note n) sc f h = note n
     where
       note : (n : Note) → AllFine Failed Full Told (ev.client_notes sc c before n).seen
-      note (notes.Leased s e) = more sc.seen _ tt h
-      note (notes.Lost s l) = more sc.seen _ tt h
-      note (notes.Accepted g p bytes) = more sc.seen _ tt h
-      note (notes.Patched g p at bytes) = more sc.seen _ tt h
+      note (notes.Leased s e) = fine_with_one_more sc.seen _ tt h
+      note (notes.Lost s l) = fine_with_one_more sc.seen _ tt h
+      note (notes.Accepted g p bytes) = fine_with_one_more sc.seen _ tt h
+      note (notes.Patched g p at bytes) = fine_with_one_more sc.seen _ tt h
       note n = h
 
   client_all : (c : ClientId) (before : ClientState) (os : List Output) (sc : WorldTurn) → All_free (Failed c) (Full c) (Told c) os → AllFine Failed Full Told sc.seen → AllFine Failed Full Told (ev.client_says_all c before os sc).seen
@@ -90,13 +91,13 @@ module _ (Failed : ClientId → ℕ → Type 0) (Full : ClientId → Type 0) (To
 
   server_one : (s : ServerId) (o : Output) (sc : WorldTurn) → AllFine Failed Full Told sc.seen → AllFine Failed Full Told (ev.server_says sc s o).seen
   unfolding ev.server_says ev.server_notes ev.cuts ev.sends
-  server_one s (outputs.Send m) sc h = more sc.seen _ tt h
+  server_one s (outputs.Send m) sc h = fine_with_one_more sc.seen _ tt h
   server_one s (outputs.Note n) sc h = note n
     where
       note : (n : Note) → AllFine Failed Full Told (ev.server_notes sc s n).seen
-      note (notes.Suspected c t) = more sc.seen _ tt h
-      note (notes.Stolen c l) = more sc.seen _ tt h
-      note (notes.CutDone f p) = more sc.seen _ tt h
+      note (notes.Suspected c t) = fine_with_one_more sc.seen _ tt h
+      note (notes.Stolen c l) = fine_with_one_more sc.seen _ tt h
+      note (notes.CutDone f p) = fine_with_one_more sc.seen _ tt h
       note n = h
   server_one s o sc h = h
 

@@ -35,8 +35,8 @@ Free s = Unit {0}
 abbrev Few : ℕ → List Operation → List Output → Type 0
 Few most ops out = length ops ≤ most
 
-fewer : (most : ℕ) (xs ys : List Operation) (o : Operation) → length (xs ++ o ∷ ys) ≤ most → length (xs ++ ys) ≤ most
-fewer most xs ys o l = let e = mid xs in omega (arith, l, e)
+few_without_one : (most : ℕ) (xs ys : List Operation) (o : Operation) → length (xs ++ o ∷ ys) ≤ most → length (xs ++ ys) ≤ most
+few_without_one most xs ys o l = let e = mid xs in omega (arith, l, e)
   where
     mid : (xs : List Operation) → length (xs ++ o ∷ ys) ≡ suc (length (xs ++ ys))
     mid [] = refl
@@ -57,9 +57,9 @@ module _ (n : ℕ) (c : ClientId) where
       record {
         says = λ ops out o m h. h;
         submits = λ ops out s number at what u o h. h;
-        answered = λ xs ys out o a e h. fewer most xs ys o h;
-        reads = λ xs ys out o bytes u h. fewer most xs ys o h;
-        changes = λ xs ys out o x m u h. fewer most xs ys o h;
+        answered = λ xs ys out o a e h. few_without_one most xs ys o h;
+        reads = λ xs ys out o bytes u h. few_without_one most xs ys o h;
+        changes = λ xs ys out o x m u h. few_without_one most xs ys o h;
         stages = λ xs ys out e h. subst (λ l. l ≤ most) (same_many xs ys e) h;
       }
 

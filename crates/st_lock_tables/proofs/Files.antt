@@ -158,9 +158,10 @@ module _ (l : Locks) (c : ClientId) where
   fewer_by w a b true false h = omega arith
   fewer_by w a b false y h = h
 
-  fewer : (ws : List Waiter) → length (filter (waits_alone l.rows c) ws) ≤ length (filter (is_wait_by c) ws)
-  fewer [] = omega arith
-  fewer (w ∷ ws) = fewer_by w (filter (waits_alone l.rows c) ws) (filter (is_wait_by c) ws) (is_wait_by c w) (not (is_some (find (is_row_of c w.ino) l.rows))) (fewer ws)
+  fewer_wait_alone : (ws : List Waiter) → length (filter (waits_alone l.rows c) ws) ≤ length (filter (is_wait_by c) ws)
+  fewer_wait_alone [] = omega arith
+  fewer_wait_alone (w ∷ ws) = fewer_by w (filter (waits_alone l.rows c) ws) (filter (is_wait_by c) ws) (is_wait_by c w)
+      (not (is_some (find (is_row_of c w.ino) l.rows))) (fewer_wait_alone ws)
 
   pub fewer_alone : length (filter (waits_alone l.rows c) l.waiters) ≤ length (filter (is_wait_by c) l.waiters)
-  fewer_alone = fewer l.waiters
+  fewer_alone = fewer_wait_alone l.waiters

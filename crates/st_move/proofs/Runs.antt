@@ -308,8 +308,8 @@ module _ (containers : ℕ) (h : MoveHistory) (st : Stands containers h) where
       go (inr n) = absurd (true≢false (sym e ∙ (st.tokens c i).rows s n))
       go (inl j) = ap holds_by (ap (record_at h.world c) j ∙ (st.tokens c i).here) ∙ by i (st.tokens c i).kept.state refl (st.tokens c i).newest j
 
-  pub law : OneHolder containers h
-  law = record {
+  pub one_holder_in_every_run : OneHolder containers h
+  one_holder_in_every_run = record {
     one = one_holder;
     listed = listed_is;
     locked = locked_holds;
@@ -321,4 +321,5 @@ module _ (containers : ℕ) (h : MoveHistory) (st : Stands containers h) where
       kept c i = ((st.tokens c i).holder, subst (λ o. IsKeptBy o (h.accepted c)) (sym (st.tokens c i).here) (st.tokens c i).updates)
 
 pub no_update_is_lost : NoUpdateIsLost
-no_update_is_lost servers containers es some = law containers (run_moves (fresh_history servers containers) es) (run_stands containers es (fresh_history servers containers) (fresh_stands servers containers some))
+no_update_is_lost servers containers es some = one_holder_in_every_run containers (run_moves (fresh_history servers containers) es)
+    (run_stands containers es (fresh_history servers containers) (fresh_stands servers containers some))

@@ -30,11 +30,11 @@ distinct_filter E p (x ∷ xs) d =
     (λ f. rw f rest)
     (cases_Bool (p x))
 
-fewer : {K : Type 0} (p : K → Bool) (xs : List K) → length (filter p xs) ≤ length xs
-fewer p [] = omega arith
-fewer p (x ∷ xs) = ⊎_elim
-    (λ t. rw t (omega (arith, fewer p xs)))
-    (λ f. rw f (omega (arith, fewer p xs)))
+filtered_no_longer : {K : Type 0} (p : K → Bool) (xs : List K) → length (filter p xs) ≤ length xs
+filtered_no_longer p [] = omega arith
+filtered_no_longer p (x ∷ xs) = ⊎_elim
+    (λ t. rw t (omega (arith, filtered_no_longer p xs)))
+    (λ f. rw f (omega (arith, filtered_no_longer p xs)))
     (cases_Bool (p x))
 
 pub found_is_any : {K : Type 0} (p : K → Bool) (xs : List K) → is_some (find p xs) ≡ list_any p xs
@@ -122,7 +122,7 @@ gone_in_order n dir name o =
       inodes = distinct_filter of_one_inode keep n.entries o.inodes;
       rising = rising_filter keep n.entries o.rising;
       used = All-filter keep (λ (d : NameEntry). d.ino < n.next) n.entries o.used;
-      few = omega (arith, fewer keep n.entries, o.few);
+      few = omega (arith, filtered_no_longer keep n.entries, o.few);
     }
 
 -- An entry moves.

@@ -40,12 +40,12 @@ is_done front least count i ws total le so_far =
     let one : with_front front (steps_at least (count - i) ws) ≡ Ok (front, ws) = rw k (ap (λ (ds : List ℕ). Ok (ds, ws)) (append-nil front)) in
     sym so_far ∙ one
 
-more : (least nodes d : ℕ) (ws rest : List (List ℕ)) → 0 < length rest → steps_of least nodes d ws rest ≡ steps_at least nodes ws
+steps_go_on : (least nodes d : ℕ) (ws rest : List (List ℕ)) → 0 < length rest → steps_of least nodes d ws rest ≡ steps_at least nodes ws
 unfolding steps_of
-more least nodes d ws [] h = absurd (omega arith)
-more least nodes d ws (w ∷ rest) h = refl
+steps_go_on least nodes d ws [] h = absurd (omega arith)
+steps_go_on least nodes d ws (w ∷ rest) h = refl
 
 -- where bytes follow the first increment, there are more words
 pub more_words : (least nodes d : ℕ) (ws : List (List ℕ)) (rest : List ℕ) → 0 < length rest → steps_of least nodes d ws (words_behind rest) ≡ steps_at least nodes ws
 more_words least nodes d ws [] h = absurd (omega arith)
-more_words least nodes d ws (b ∷ bs) h = more least nodes d ws _ (split-some bs)
+more_words least nodes d ws (b ∷ bs) h = steps_go_on least nodes d ws _ (split-some bs)

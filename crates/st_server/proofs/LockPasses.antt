@@ -21,13 +21,15 @@ module _ (n : ℕ) (ep : Epoch) (t : Sessions) (below : ep.0 < 2 ^ 32) (small : 
     pub held : AreHeld n ep t p.locks
     pub told : list_all (is_good_sent 1 2) p.granted ≡ true
 
-  fewer : (l : Locks) (w : Waiter) (ino : ℕ) → find (locks.is_wait_on ino) l.waiters ≡ Some w → length (locks.without_wait w.client w.ino l.waiters) + 1 ≤ length l.waiters
-  fewer l w ino e = length_gone (locks.is_wait_on ino) (λ x. not (locks.is_wait_of w.client w.ino x)) l.waiters w e (not_from_true (locks.is_wait_of w.client w.ino w) (own_wait w))
+  shorter_without_wait : (l : Locks) (w : Waiter) (ino : ℕ) → find (locks.is_wait_on ino) l.waiters ≡ Some w →
+      length (locks.without_wait w.client w.ino l.waiters) + 1 ≤ length l.waiters
+  shorter_without_wait l w ino e = length_gone (locks.is_wait_on ino) (λ x. not (locks.is_wait_of w.client w.ino x)) l.waiters w e
+      (not_from_true (locks.is_wait_of w.client w.ino w) (own_wait w))
 
   waiter_granted : (p : Granting) (w : Waiter) (ino : ℕ) → find (locks.is_wait_on ino) p.locks.waiters ≡ Some w → Grants p → Grants (locks.grant_waiter p w)
   unfolding locks.grant_waiter locks.grant
   waiter_granted p w ino e g =
-      let less = fewer p.locks w ino e in
+      let less = shorter_without_wait p.locks w ino e in
       let good = wait_of_good ep t w (every_found (is_good_wait t) (locks.is_wait_on ino) p.locks.waiters w g.held.waits e) in
       let room : p.locks.grants + 1 < 2 ^ 32 = omega (arith, less, g.held.few, small) in
       let fits = next_grant_fits ep t p.locks g.held.epoch below room in

@@ -68,8 +68,8 @@ module _ (h : Header) (o : List Output) where
         named = every_last (is_answer_to h.from) a.added x a.named e;
       }
 
-  more : (os : List Output) → Quiet os → One os
-  more os a = record { added = a.added; is = a.is; few = omega (arith, a.few); named = a.named }
+  quiet_is_one : (os : List Output) → Quiet os → One os
+  quiet_is_one os a = record { added = a.added; is = a.is; few = omega (arith, a.few); named = a.named }
 
   -- one reply
   reply_adds : (t : ServerTurn) (b : Body) → is_answer b ≡ true → Quiet t.out → One (server.reply t h b).out
@@ -87,7 +87,7 @@ module _ (h : Header) (o : List Output) where
   unfolding server.greet_as
   greet_as_adds t now hellos.Welcome a = reply_adds t bodies.Welcome refl a
   greet_as_adds t now hellos.Replaced a = reply_adds (server.with_locks (locks.drop_waits t.state.locks (sender h)) t) bodies.Welcome refl a
-  greet_as_adds t now hellos.Old a = more t.out a
+  greet_as_adds t now hellos.Old a = quiet_is_one t.out a
   greet_as_adds t now hellos.Wait a = reply_adds (server.suspect_client t now (sender h)) (bodies.Nack why.Suspect now.0 0) refl (suspect_adds t now a)
 
   hello_adds : (t : ServerTurn) (now : Stamp) → Quiet t.out → One (server.hello t now h).out
@@ -207,7 +207,7 @@ module _ (h : Header) (o : List Output) where
 
   keep_adds : (t : ServerTurn) (r : Option Body) → keeps_reply r ≡ true → Quiet t.out → One (server.keep h t r).out
   unfolding server.keep server.keep_and_reply
-  keep_adds t None e a = more t.out a
+  keep_adds t None e a = quiet_is_one t.out a
   keep_adds t (Some b) e a =
       reply_adds (server.with_sessions (sessions.store t.state.sessions (sender h) h.number b) t) b (kept_answer b (and_parts (may_keep b) (is_body b) e).0) a
 
@@ -219,19 +219,19 @@ module _ (h : Header) (o : List Output) where
     again_adds : (x : Taken Body) → Takes (sessions.session_of t.state.sessions (sender h)) (life_in h) x → One (server.reassert_again t h x).out
     unfolding server.reassert_again
     again_adds (takes.Again b) k = reply_adds t b (kept_answer b (and_parts (may_keep b) (is_body b) k).0) a
-    again_adds takes.OtherEpoch k = more t.out a
-    again_adds takes.NoSession k = more t.out a
-    again_adds takes.Stale k = more t.out a
-    again_adds takes.Fresh k = more t.out a
-    again_adds takes.OutOfOrder k = more t.out a
+    again_adds takes.OtherEpoch k = quiet_is_one t.out a
+    again_adds takes.NoSession k = quiet_is_one t.out a
+    again_adds takes.Stale k = quiet_is_one t.out a
+    again_adds takes.Fresh k = quiet_is_one t.out a
+    again_adds takes.OutOfOrder k = quiet_is_one t.out a
 
     taken_adds : (b : Body) (x : Taken Body) → is_body b ≡ true → Takes (sessions.session_of t.state.sessions (sender h)) (life_in h) x → One (server.request_by t now h b x).out
     unfolding server.request_by server.serve server.refuse_epoch
     taken_adds b takes.OtherEpoch e k = reply_adds t (bodies.Nack why.OtherEpoch h.epoch t.state.stable.epoch.0) refl a
     taken_adds b takes.NoSession e k = reply_adds t (bodies.Nack why.NoSession 0 0) refl a
-    taken_adds b takes.Stale e k = more t.out a
+    taken_adds b takes.Stale e k = quiet_is_one t.out a
     taken_adds b (takes.Again kept) e k = reply_adds t kept (kept_answer kept (and_parts (may_keep kept) (is_body kept) k).0) a
-    taken_adds b takes.OutOfOrder e k = more t.out a
+    taken_adds b takes.OutOfOrder e k = quiet_is_one t.out a
     taken_adds b takes.Fresh e k =
         let r = rule_answer n t h (record { turn = p; room = room; few = few; asked = asked; lived = k }) now b e in
         keep_adds (server.rule t now h b).turn (server.rule t now h b).reply r.reply (rule_adds t a now b)
@@ -253,12 +253,12 @@ module _ (h : Header) (o : List Output) where
     body_adds : (b : Body) → is_body b ≡ true → One (server.by_body t now h b).out
     unfolding server.by_body
     body_adds bodies.Hello e = hello_adds t now a
-    body_adds (bodies.DemandSeen ino g) e = more (server.demand_seen t h ino g).out (seen_adds t ino g a)
+    body_adds (bodies.DemandSeen ino g) e = quiet_is_one (server.demand_seen t h ino g).out (seen_adds t ino g a)
     body_adds b e = epoch_adds b e
 
     suspect_refused_adds : (start : Stamp) (b : Body) → One (server.refuse_suspect t h start b).out
     unfolding server.refuse_suspect
-    suspect_refused_adds start (bodies.DemandSeen ino g) = more t.out a
+    suspect_refused_adds start (bodies.DemandSeen ino g) = quiet_is_one t.out a
     suspect_refused_adds start b = reply_adds t (bodies.Nack why.Suspect start.0 0) refl a
 
     suspicion_adds : (b : Body) (x : Option Stamp) → is_body b ≡ true → One (server.by_suspicion t now h b x).out

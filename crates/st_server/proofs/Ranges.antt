@@ -16,10 +16,10 @@ step : (x : Extents) (f : FileId) (n k : ℕ) → extent_rows x f (page_no n) (s
 unfolding extent_rows numbers
 step x f n k = cons_front (extent_row_at x f (page_no n)) (filter_map (extent_row_at x f) (map page_no (numbers (n + 1) k)))
 
-more : (x : Extents) (f : FileId) (n m k : ℕ) (old new all : List ExtentRow) → m ≡ n + 1 →
+extent_rows_go_on : (x : Extents) (f : FileId) (n m k : ℕ) (old new all : List ExtentRow) → m ≡ n + 1 →
     new ≡ old ++ option_to_list (extent_row_at x f (page_no n)) → old ++ extent_rows x f (page_no n) (suc k) ≡ all →
     new ++ extent_rows x f (page_no m) k ≡ all
-more x f n m k old new all e push before =
+extent_rows_go_on x f n m k old new all e push before =
     (λ i. push i ++ extent_rows x f (page_no (e i)) k)
     ∙ append_assoc old (option_to_list (extent_row_at x f (page_no n))) (extent_rows x f (page_no (n + 1)) k)
     ∙ ap (λ (r : List ExtentRow). old ++ r) (sym (step x f n k))
@@ -31,7 +31,7 @@ pub rows_more : (x : Extents) (f : FileId) (p place count : ℕ) (old new all : 
     new ++ extent_rows x f (page_no (p + (place + 1))) (count - (place + 1)) ≡ all
 rows_more x f p place count old new all below push before =
     let k : count - place ≡ suc (count - (place + 1)) = omega arith in
-    more x f (p + place) (p + (place + 1)) (count - (place + 1)) old new all (omega arith) push
+    extent_rows_go_on x f (p + place) (p + (place + 1)) (count - (place + 1)) old new all (omega arith) push
     (subst (λ (n : ℕ). old ++ extent_rows x f (page_no (p + place)) n ≡ all) k before)
 
 -- no page is left

@@ -149,10 +149,11 @@ one_more q e es t =
 none_more : (q : VersionKey × ℕ → Bool) (e : VersionKey × ℕ) (es : List (VersionKey × ℕ)) → q e ≡ false → length (filter q (e ∷ es)) ≡ length (filter q es)
 none_more q e es t = ap (λ b. length (if b then e ∷ filter q es else filter q es)) t
 
-fewer : (p q : VersionKey × ℕ → Bool) (es : List (VersionKey × ℕ)) → ((e : VersionKey × ℕ) → p e ≡ true → q e ≡ true) → length (filter p es) ≤ length (filter q es)
-fewer p q [] h = omega arith
-fewer p q (e ∷ es) h =
-    let n = fewer p q es h in
+stronger_test_passes_fewer : (p q : VersionKey × ℕ → Bool) (es : List (VersionKey × ℕ)) → ((e : VersionKey × ℕ) → p e ≡ true → q e ≡ true) →
+    length (filter p es) ≤ length (filter q es)
+stronger_test_passes_fewer p q [] h = omega arith
+stronger_test_passes_fewer p q (e ∷ es) h =
+    let n = stronger_test_passes_fewer p q es h in
     ⊎_elim
     (λ t. let a = one_more p e es t in let c = one_more q e es (h e t) in omega (arith, a, c, n))
     (λ t. let a = none_more p e es t in ⊎_elim (λ u. let c = one_more q e es u in omega (arith, a, c, n)) (λ u. let c = none_more q e es u in omega (arith, a, c, n)) (cases_Bool (q e)))
@@ -162,7 +163,8 @@ fewer_by : (p q : VersionKey × ℕ → Bool) (k : VersionKey) (es : List (Versi
     → is_some (slot_under es k) ≡ true → length (filter p es) < length (filter q es)
 fewer_by p q k [] h d s = absurd (true≢false (sym s))
 fewer_by p q k (e ∷ es) h d s = ⊎_elim
-    (λ t. let w = d e (same_true k e.0 t) in let a = none_more p e es w.0 in let c = one_more q e es w.1 in let n = fewer p q es h in omega (arith, a, c, n))
+    (λ t. let w = d e (same_true k e.0 t) in let a = none_more p e es w.0 in let c = one_more q e es w.1 in let n = stronger_test_passes_fewer p q es h in
+    omega (arith, a, c, n))
     (λ t.
     let n = fewer_by p q k es h d (sym (ap (λ b. is_some (cond b (Some e.1) (slot_under es k))) t) ∙ s) in
     ⊎_elim

@@ -30,8 +30,8 @@ use Rattle.st_world.proofs.Shapes.{happens_after}
 low_at : (m n : ℕ) (xs ys : List Stamp) → list_all (is_at_most m) ys ≡ true → m ≡ n → xs ≡ ys → list_all (is_at_most n) xs ≡ true
 low_at m n xs ys h p q = rw (sym p) (rw q h)
 
-more : (m n : ℕ) → m ≡ n + 1 → (4000 + n * 2 ^ 32) + 2 ^ 32 ≡ 4000 + m * 2 ^ 32
-more m n h = omega (arith, h)
+one_event_later : (m n : ℕ) → m ≡ n + 1 → (4000 + n * 2 ^ 32) + 2 ^ 32 ≡ 4000 + m * 2 ^ 32
+one_event_later m n h = omega (arith, h)
 
 by_advance : (k : Config) (clients servers : ℕ) (w v : World) (steps : List ℕ) → IsShaped k clients servers w → list_all is_increment steps ≡ true →
     SameShape (counted w) v → v.clocks ≡ advanced steps w.clocks → IsShaped k clients servers v
@@ -43,7 +43,7 @@ by_advance k clients servers w v steps s i a c =
       clocks = a.clocks ∙ s.clocks;
       drift = a.drift ∙ s.drift;
       low = low_at ((4000 + w.tally.events * 2 ^ 32) + 2 ^ 32) (4000 + v.tally.events * 2 ^ 32) v.clocks (advanced steps w.clocks)
-          (advanced_low (4000 + w.tally.events * 2 ^ 32) steps w.clocks s.low (small_steps steps i)) (more v.tally.events w.tally.events a.events) c;
+          (advanced_low (4000 + w.tally.events * 2 ^ 32) steps w.clocks s.low (small_steps steps i)) (one_event_later v.tally.events w.tally.events a.events) c;
     }
 
 by_other : (k : Config) (clients servers : ℕ) (w v : World) → IsShaped k clients servers w → SameTime (counted w) v → IsShaped k clients servers v
@@ -56,7 +56,7 @@ by_other k clients servers w v s a =
       clocks = ap length a.clocks ∙ s.clocks;
       drift = ap length a.drift ∙ s.drift;
       low = low_at ((4000 + w.tally.events * 2 ^ 32) + 2 ^ 32) (4000 + v.tally.events * 2 ^ 32) v.clocks w.clocks
-          (advanced_low (4000 + w.tally.events * 2 ^ 32) [] w.clocks s.low refl) (more v.tally.events w.tally.events a.events) a.clocks;
+          (advanced_low (4000 + w.tally.events * 2 ^ 32) [] w.clocks s.low refl) (one_event_later v.tally.events w.tally.events a.events) a.clocks;
     }
 
 by_event : (k : Config) (clients servers : ℕ) (w v : World) (e : Event) → IsShaped k clients servers w → is_event (clients + servers) e ≡ true → IsAfter (counted w) v e → IsShaped k clients servers v

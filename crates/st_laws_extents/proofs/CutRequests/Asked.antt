@@ -49,9 +49,6 @@ module _ (k : Config) (count : ℕ) (past : List Step) (t : Traced) (cuts : Cuts
         go (inl q) = q
         go (inr n) = let z = unheld k count t.world all f.server.0 c.node c.there c.running c.message.header.from d f.ino n c.by.row c.by.found two site run b h (sym e) lasts in absurd (omega (arith, z, held))
 
-    is : sessions.session_of c.node.state.sessions (client d) ≡ Some c.by.session
-    is = subst (λ n. sessions.session_of c.node.state.sessions (client n) ≡ Some c.by.session) who c.by.is
-
     found : row_of c.node.state.locks (client d) f.ino ≡ Some c.by.row
     found = subst (λ n. row_of c.node.state.locks (client n) f.ino ≡ Some c.by.row) who c.by.found
 

@@ -36,8 +36,8 @@ granted_is : (net : List Msg) (n : Msg) → TellsGiven net n.body → (i g life 
 granted_is net n t i g life epoch stamp mode e = subst (λ (m : Msg). TellsGiven net m.body) (sym e) t
 
 -- one more message, of numbers that were given
-more : (n : Msg) (net : List Msg) → TellsGiven net n.body → NetNamed net → NetNamed (n ∷ net)
-more n net t h =
+named_with_one_more : (n : Msg) (net : List Msg) → TellsGiven net n.body → NetNamed net → NetNamed (n ∷ net)
+named_with_one_more n net t h =
     record {
       one = λ i j g x y. h.one i j g (old i g x) (old j g y);
       positive = λ i g x. h.positive i g (old i g x);
@@ -87,23 +87,23 @@ module _ (k : Config) where
   low_of a l j n z = l.low _ z.is
 
   nets : {a b : Assoc} → Move k a b → Locks k a → Named a → NetNamed b.net
-  nets (Greets a h) l o = more _ a.net tt o.net
-  nets (Asks a h) l o = more _ a.net tt o.net
-  nets (AskedOfNone a stamp i g to j h mo top se sg) l o = more _ a.net tt o.net
-  nets (Reduces a i to h jo fe so mo gn ge gl) l o = more _ a.net tt o.net
-  nets (Declines a stamp i g mode j h se z) l o = more _ a.net tt o.net
-  nets (Repeats a was b j r h) l o = more _ a.net (o.net.told _ j) o.net
-  nets (Again a was stamp b j e i sv li) l o = more _ a.net (o.net.told _ j) o.net
-  nets (Reasserts a h du) l o = more _ a.net o.held o.net
-  nets (Welcomes a life stamp j sv gr s r) l o = more _ a.net tt o.net
-  nets (WelcomesAgain a stamp j sv li gr) l o = more _ a.net tt o.net
-  nets (Acks a stamp j sv li) l o = more _ a.net tt o.net
-  nets (Refuses a n j sv) l o = more _ a.net tt o.net
-  nets (Accepts a life stamp locks j sv gr s r) l o = more _ a.net tt o.net
+  nets (Greets a h) l o = named_with_one_more _ a.net tt o.net
+  nets (Asks a h) l o = named_with_one_more _ a.net tt o.net
+  nets (AskedOfNone a stamp i g to j h mo top se sg) l o = named_with_one_more _ a.net tt o.net
+  nets (Reduces a i to h jo fe so mo gn ge gl) l o = named_with_one_more _ a.net tt o.net
+  nets (Declines a stamp i g mode j h se z) l o = named_with_one_more _ a.net tt o.net
+  nets (Repeats a was b j r h) l o = named_with_one_more _ a.net (o.net.told _ j) o.net
+  nets (Again a was stamp b j e i sv li) l o = named_with_one_more _ a.net (o.net.told _ j) o.net
+  nets (Reasserts a h du) l o = named_with_one_more _ a.net o.held o.net
+  nets (Welcomes a life stamp j sv gr s r) l o = named_with_one_more _ a.net tt o.net
+  nets (WelcomesAgain a stamp j sv li gr) l o = named_with_one_more _ a.net tt o.net
+  nets (Acks a stamp j sv li) l o = named_with_one_more _ a.net tt o.net
+  nets (Refuses a n j sv) l o = named_with_one_more _ a.net tt o.net
+  nets (Accepts a life stamp locks j sv gr s r) l o = named_with_one_more _ a.net tt o.net
   nets (Grants a st i g mode as_ li sv gr to mo tw) l o = more_grant a.s.session a.s.epoch 0 i g mode a.s.top a.net to (low_of a l) o.net
-  nets (GrantsAgain a i sv mo) l o = more _ a.net (o.rows i mo) o.net
-  nets (Demands a i to sv mo) l o = more _ a.net (o.rows i mo) o.net
-  nets (Releases a stamp i g to j sv e ro mo) l o = more _ a.net tt o.net
+  nets (GrantsAgain a i sv mo) l o = named_with_one_more _ a.net (o.rows i mo) o.net
+  nets (Demands a i to sv mo) l o = named_with_one_more _ a.net (o.rows i mo) o.net
+  nets (Releases a stamp i g to j sv e ro mo) l o = named_with_one_more _ a.net tt o.net
   nets _ l o = o.net
 
   -- what was given is given after a move

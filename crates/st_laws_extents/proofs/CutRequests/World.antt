@@ -43,13 +43,15 @@ module _ (past : List Step) (t : Traced) (d : CutsHold past t) (r : RepliesHold 
   w : World
   w = ev.counted t.world
 
-  more : (C : ServerId → ℕ → ℕ → ℕ → Type 0) (c : ClientId) (site : WorldClient) → site_of t.world c ≡ Some site → ((server : ServerId) (life epoch n : ℕ) → IsServed t.world c server life epoch n → C server life epoch n) →
+  asks_behind_more : (C : ServerId → ℕ → ℕ → ℕ → Type 0) (c : ClientId) (site : WorldClient) → site_of t.world c ≡ Some site →
+      ((server : ServerId) (life epoch n : ℕ) → IsServed t.world c server life epoch n → C server life epoch n) →
       (a : Association) → Has a site.node.state.associations → AsksBehind C (G c) a.server a.life.0 a.session
-  more C c site at f a i = behind_more (IsServed t.world c) C (G c) f a.server a.life.0 a.session (stays_at (IsServed t.world c) (G c) a.server a.life.0 a.session (asks c site at a i))
+  asks_behind_more C c site at f a i = behind_more (IsServed t.world c) C (G c) f a.server a.life.0 a.session
+      (stays_at (IsServed t.world c) (G c) a.server a.life.0 a.session (asks c site at a i))
 
   -- Clients that are as they were.
   carried : (v : World) → v.clients ≡ t.world.clients → ((c : ClientId) (server : ServerId) (life epoch n : ℕ) → IsServed t.world c server life epoch n → IsServed v c server life epoch n) → AllAsked G v
-  carried v e f c site at a i = more (IsServed v c) c site (ap (λ xs. numbered xs c.0) (sym e) ∙ at) (f c) a i
+  carried v e f c site at a i = asks_behind_more (IsServed v c) c site (ap (λ xs. numbered xs c.0) (sym e) ∙ at) (f c) a i
 
   served_same : (v : World) → v.servers ≡ t.world.servers → (c : ClientId) (server : ServerId) (life epoch n : ℕ) → IsServed t.world c server life epoch n → IsServed v c server life epoch n
   served_same v e c server life epoch n h node q = h node (ap (λ xs. numbered xs server.0) (sym e) ∙ q)
@@ -168,7 +170,7 @@ module _ (past : List Step) (t : Traced) (d : CutsHold past t) (r : RepliesHold 
           it (inl z) =
               subst (λ z. AsksBehind (IsServed last z) (G z) y.server y.life.0 y.session) (ap (λ (n : ℕ). client n) (sym z.0))
               (behind_more (IsServed t.world c) (IsServed last c) (G c) (served_same last serving_same c) y.server y.life.0 y.session (own y (subst (λ (s : WorldClient). Has y s.node.state.associations) z.1 j)))
-          it (inr z) = more (IsServed last e) e x (ap (λ xs. numbered xs e.0) (sym ps) ∙ z.1) (served_same last serving_same e) y j
+          it (inr z) = asks_behind_more (IsServed last e) e x (ap (λ xs. numbered xs e.0) (sym ps) ∙ z.1) (served_same last serving_same e) y j
 
   -- A step of a server.
   server_step : (s : ServerId) (i : ServerInput) (node : ServerNode) → node_of t.world s ≡ Some node →
@@ -196,7 +198,7 @@ module _ (past : List Step) (t : Traced) (d : CutsHold past t) (r : RepliesHold 
     where
       go : ((e.0 ≡ c.0) × (x ≡ new)) ⊎ ((e.0 ≢ c.0) × (site_of t.world e ≡ Some x)) → AsksBehind (IsServed v e) (G e) a.server a.life.0 a.session
       go (inl z) = subst (AsksBehind (IsServed v e) (G e) a.server a.life.0) (sym (n a (subst (λ (s : WorldClient). Has a s.node.state.associations) z.1 i))) tt
-      go (inr z) = more (IsServed v e) e x z.1 (served_same v ss e) a i
+      go (inr z) = asks_behind_more (IsServed v e) e x z.1 (served_same v ss e) a i
 
   none_of : (f : Association → Association) → ((x : Association) → (f x).session ≡ None) → (xs : List Association) → (a : Association) → Has a (map f xs) → a.session ≡ None
   none_of f n xs a i = let z = has_map f xs a i in ap (λ (y : Association). y.session) z.2 ∙ n z.0

@@ -73,8 +73,9 @@ module _ (k : Config) (count : ℕ) (past : List Step) (t : Traced) (e : Event) 
   refusal : adm.refusal t.world e ≡ None
   refusal = (step_happens t.world e sc taken).0
 
-  more : (c : ClientId) (s : ServerId) (i : ℕ) (n : GrantNo) → gifts k count t.world h.all c s i n → gifts k count sc.world (followed k count past t e sc ranges h taken).after c s i n
-  more c s i n = gifts_stay k count t.world sc.world h.all (followed k count past t e sc ranges h taken) c s i n
+  gifts_go_on : (c : ClientId) (s : ServerId) (i : ℕ) (n : GrantNo) → gifts k count t.world h.all c s i n →
+      gifts k count sc.world (followed k count past t e sc ranges h taken).after c s i n
+  gifts_go_on c s i n = gifts_stay k count t.world sc.world h.all (followed k count past t e sc ranges h taken) c s i n
 
   -- Where no client crashes.
   on : ((c : ClientId) → e ≡ events.Crash (nodes.Client c) → ⊥) → FrozenFilesUncut k count sc.world (followed k count past t e sc ranges h taken).after
@@ -94,7 +95,9 @@ module _ (k : Config) (count : ℕ) (past : List Step) (t : Traced) (e : Event) 
           one : (n : ℕ) (x : IssuedCommand) (at : BlockAt) (tag : Tag) (bytes : List ℕ) → OpenWrite t.world n x at tag bytes → (row : LeaseLife) → ended_of t.world x.client x.server x.life ≡ Some row → row.crashed ≡ true →
               UncutLife k count sc.world (followed k count past t e sc ranges h taken).after sc.world row (writer x tag)
           one n x at tag bytes o row q crashed =
-              life_stays (gifts k count t.world h.all x.client x.server) (gifts k count sc.world (followed k count past t e sc ranges h taken).after x.client x.server) (more x.client x.server) t.world sc.world g x.client x.server x.life.0 tag.file.ino few
+              life_stays (gifts k count t.world h.all x.client x.server)
+              (gifts k count sc.world (followed k count past t e sc ranges h taken).after x.client x.server) (gifts_go_on x.client x.server) t.world
+              sc.world g x.client x.server x.life.0 tag.file.ino few
               (λ m from to life z. silent t.world h.all.fates.lives (writer x tag) row q m from to life z) (safe n x at tag bytes o row q crashed)
             where
               few : x.client.0 ≤ 16
@@ -138,7 +141,9 @@ module _ (k : Config) (count : ℕ) (past : List Step) (t : Traced) (e : Event) 
 
     crash : FrozenFilesUncut k count sc.world (followed k count past t e sc ranges h taken).after
     crash n x at tag bytes o row q crashed m i from to life =
-        harmless_stays (gifts k count t.world h.all x.client x.server) (gifts k count sc.world (followed k count past t e sc ranges h taken).after x.client x.server) (more x.client x.server) t.world sc.world g x.client x.server tag.file.ino m
+        harmless_stays (gifts k count t.world h.all x.client x.server)
+        (gifts k count sc.world (followed k count past t e sc ranges h taken).after x.client x.server) (gifts_go_on x.client x.server) t.world sc.world g
+        x.client x.server tag.file.ino m
         (before n x at tag bytes (same_open n x at tag bytes (subst (λ v. OpenWrite v n x at tag bytes) here o)) row (ap (λ v. ended_of v x.client x.server x.life) (sym here) ∙ q) crashed m (subst (Has m) (ap messages here ∙ same_messages) i) from to life)
 
   crash_runs : (c : ClientId) → adm.refusal t.world (events.Crash (nodes.Client c)) ≡ None → world.site_runs (site_of t.world c) ≡ true

@@ -86,9 +86,10 @@ module _ (R : Fact) where
   kept_by_choice t false u v f g = g
 
   -- more is said
-  pub more : (server : ServerId) (o : Option ClientSession) (xs : List KnownExtent) (out os : List Output) → OutputsAs R os → Fine server o xs out →
+  pub fine_with_more_output : (server : ServerId) (o : Option ClientSession) (xs : List KnownExtent) (out os : List Output) → OutputsAs R os →
+      Fine server o xs out →
       Fine server o xs (out ++ os)
-  more server o xs out os f h = record { known = h.known; said = λ y i. go y (has_append out os y i) }
+  fine_with_more_output server o xs out os f h = record { known = h.known; said = λ y i. go y (has_append out os y i) }
     where
       go : (y : Output) → Has y out ⊎ Has y os → OutputAs R y
       go y (inl i) = h.said y i
@@ -96,7 +97,7 @@ module _ (R : Fact) where
 
   pub say1 : (server : ServerId) (o : Option ClientSession) (xs : List KnownExtent) (out : List Output) (y : Output) → OutputAs R y → Fine server o xs out →
       Fine server o xs (out ++ y ∷ [])
-  say1 server o xs out y f = more server o xs out (y ∷ []) one
+  say1 server o xs out y f = fine_with_more_output server o xs out (y ∷ []) one
     where
       one : OutputsAs R (y ∷ [])
       one z (inl e) = subst (OutputAs R) (sym e) f
@@ -107,7 +108,7 @@ module _ (R : Fact) where
 
   pub kept_by_answers : (t : Turn) (picked : Operation → Bool) (a : AppAnswer) → K t (answer_each picked a t)
   unfolding answer_each
-  kept_by_answers t picked a = more t.here.server t.here.session t.here.store.extents t.out _
+  kept_by_answers t picked a = fine_with_more_output t.here.server t.here.session t.here.store.extents t.out _
       (answers_as (Rattle.std.specs.Prelude.filter picked t.operations) a)
 
   pub kept_by_note : (t : Turn) (n : Note) → K t (state.note t n)
@@ -123,14 +124,15 @@ module _ (R : Fact) where
   kept_by_session t s r e f = locked_on t.here.server t.here.session (Some r) t.here.store.extents t.out (λ x i l. f x.ino (subst (λ o. Locked o x.ino) e l))
 
   -- less is known
-  pub fewer : (server : ServerId) (o : Option ClientSession) (xs ys : List KnownExtent) (out : List Output) → ((e : KnownExtent) → Has e ys → Has e xs) →
+  pub fine_with_fewer_known : (server : ServerId) (o : Option ClientSession) (xs ys : List KnownExtent) (out : List Output) →
+      ((e : KnownExtent) → Has e ys → Has e xs) →
       Fine server o xs out → Fine server o ys out
-  fewer server o xs ys out f h = record { known = λ e i. h.known e (f e i); said = h.said }
+  fine_with_fewer_known server o xs ys out f h = record { known = λ e i. h.known e (f e i); said = h.said }
 
   pub forgets : (server : ServerId) (o : Option ClientSession) (x : Store) (ino : ℕ) (p : PageNo) (out : List Output) → Fine server o x.extents out →
       Fine server o (pages.forget_from x ino p).extents out
   unfolding pages.forget_from
-  forgets server o x ino p out = fewer server o x.extents _ out (λ e i. (has_filter _ x.extents e i).0)
+  forgets server o x ino p out = fine_with_fewer_known server o x.extents _ out (λ e i. (has_filter _ x.extents e i).0)
 
   -- where the page is known to lie
   lies : (t : Turn) (ino : ℕ) (p : PageNo) (m : MappedBlock) → pages.mapping_of t.here.store.extents ino p ≡ Some m → At t → R t.here.server ino p m
@@ -189,7 +191,7 @@ module _ (R : Fact) where
   change_idle : (now : Stamp) (t u : Turn) (c : Change now t u) → IsCalm false now t u c → Same t u
   change_idle now t _ (client.Says _ o p) q = (λ s xs h. say1 t.here.server s xs t.out o (plain_as o p) h, refl, refl)
   change_idle now t _ (client.Operates _ os) q = (λ s xs h. h, refl, refl)
-  change_idle now t _ (client.Answers _ os ops a) q = (λ s xs h. more t.here.server s xs t.out _ (answers_as ops a) h, refl, refl)
+  change_idle now t _ (client.Answers _ os ops a) q = (λ s xs h. fine_with_more_output t.here.server s xs t.out _ (answers_as ops a) h, refl, refl)
   change_idle now t _ (client.Greets _ g) q = (λ s xs h. h, refl, refl)
   change_idle now t _ (client.TellsLost _ lost) q = (λ s xs h. h, refl, refl)
   change_idle now t _ (client.Begins _ s a b c) q = false_not_true q

@@ -158,12 +158,13 @@ module _ (past : List Step) (k : Config) (count : ℕ) (t : Traced) (s : PagesSt
     alone_v : FrozenStandAlone sc.world
     alone_v = alone (past ++ st ∷ []) k count sc.world frozen_v behind.1.stand.both.flush
 
-    pub is : sc ≡ happens (counted w) e
-    is = (step_happens w e sc took).1
+    pub turn_happens : sc ≡ happens (counted w) e
+    turn_happens = (step_happens w e sc took).1
 
     pub free : taken (counted w) e ≡ None → OthersOwed (counted w) e
     free q =
-        others_owed k count (counted w) sc behind.1.all (clear_step w e sc took (λ c site q. (s.stood.all.fates.lives.lives.sites c site q).fit) s.stood.clear) left.cuts s.stood.waits e (waits_owed k count w s.stood.all e (step_happens w e sc took).0) is
+        others_owed k count (counted w) sc behind.1.all (clear_step w e sc took (λ c site q. (s.stood.all.fates.lives.lives.sites c site q).fit) s.stood.clear)
+        left.cuts s.stood.waits e (waits_owed k count w s.stood.all e (step_happens w e sc took).0) turn_happens
         (subst (TakenOwed (counted w) e) q owed)
 
     pub all_there : (xs : List Association) → AllThere w xs → AllThere (counted w) xs
@@ -176,7 +177,7 @@ module _ (past : List Step) (k : Config) (count : ℕ) (t : Traced) (s : PagesSt
     -- of a client that takes an input
     module _ (x : Taking) (q : taken (counted w) e ≡ Some x) where
       pub there : Takes (counted w) sc x
-      there = subst (λ (z : WorldTurn). Takes (counted w) z x) (sym is) (takes_event (counted w) e x q)
+      there = subst (λ (z : WorldTurn). Takes (counted w) z x) (sym turn_happens) (takes_event (counted w) e x q)
 
       pub due : TakingOwed (known (past ++ st ∷ [])) x
       due =
@@ -220,12 +221,12 @@ module _ (past : List Step) (k : Config) (count : ℕ) (t : Traced) (s : PagesSt
         go : (o : Option Taking) → taken (counted w) e ≡ o → LastIn sc.world sc.world.log
         go (Some x) q = last_taken x q
         go None q =
-            subst (λ (z : WorldTurn). LastIn z.world z.world.log) (sym is)
+            subst (λ (z : WorldTurn). LastIn z.world z.world.log) (sym turn_happens)
             (others_last (known past) (counted w) e (λ c site f. let y = s.stood.copies c site f in record { servers = all_there site.node.state.associations y.servers; runs = y.runs; rests = y.rests }) q (free q) (last_still w (counted w) refl refl refl s.last))
 
     uncut : (f : FileId) (p : PageNo) → (index : ℕ) × Has (seen.CutAt index f p) (happens (counted w) e).seen → NoFrozenWrites w f
     uncut f p i =
-        let j = subst (λ (z : WorldTurn). Has (seen.CutAt i.0 f p) z.seen) (sym is) i.1 in
+        let j = subst (λ (z : WorldTurn). Has (seen.CutAt i.0 f p) z.seen) (sym turn_happens) i.1 in
         let c = (cuts_known w e sc (λ v n at. (s.stood.waits v n at).id) took i.0 f p j).0 in
         uncut_by k count w s.writes f p c (λ n y at tag bytes l. (s.pages.pages.carry n y at tag bytes l).server) (left_too.cuts i.0 f p j c)
 

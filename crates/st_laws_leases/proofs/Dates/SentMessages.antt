@@ -82,8 +82,8 @@ unsent a b o n c s m g =
     none x (inl e) = n x e
     none x (inr i) = elim i [ ]
 
-more : (a : WorldTurn) (o : Observation) (x : Observation) → Has x a.seen → Has x (a.seen ++ o ∷ [])
-more a o x h = has_left a.seen (o ∷ []) x h
+seen_with_one_more : (a : WorldTurn) (o : Observation) (x : Observation) → Has x a.seen → Has x (a.seen ++ o ∷ [])
+seen_with_one_more a o x h = has_left a.seen (o ∷ []) x h
 
 sent : (a : WorldTurn) (m : Message) → Said a (ev.sends a m) (outputs.Send m ∷ [])
 unfolding ev.sends
@@ -119,9 +119,9 @@ server_one a s (outputs.Send m) = sent a m
 server_one a s (outputs.Note n) = go n
   where
     go : (n : Note) → Said a (ev.server_notes a s n) (outputs.Note n ∷ [])
-    go (notes.Suspected c start) = unsent a _ _ (λ m e. cc) refl refl refl (more a _)
-    go (notes.Stolen c life) = unsent a _ _ (λ m e. cc) refl refl refl (more a _)
-    go (notes.CutDone f p) = unsent a _ _ (λ m e. cc) refl refl refl (more a _)
+    go (notes.Suspected c start) = unsent a _ _ (λ m e. cc) refl refl refl (seen_with_one_more a _)
+    go (notes.Stolen c life) = unsent a _ _ (λ m e. cc) refl refl refl (seen_with_one_more a _)
+    go (notes.CutDone f p) = unsent a _ _ (λ m e. cc) refl refl refl (seen_with_one_more a _)
     go n = unsent a _ _ (λ m e. cc) refl refl refl (λ x h. h)
 server_one a s o = unsent a _ _ (λ m e. cc) refl refl refl (λ x h. h)
 
@@ -172,15 +172,15 @@ client_one a c before (outputs.Submit number at what) = go (site_of a.world c)
   where
     go : (o : Option WorldClient) → Said a (ev.submits a c o number at what) (outputs.Submit number at what ∷ [])
     go None = unsent a _ _ (λ m e. cc) refl refl refl (λ x h. h)
-    go (Some site) = unsent a _ _ (λ m e. cc) refl refl refl (more a _)
-client_one a c before (outputs.Answer op answer) = unsent a _ _ (λ m e. cc) refl refl refl (more a _)
+    go (Some site) = unsent a _ _ (λ m e. cc) refl refl refl (seen_with_one_more a _)
+client_one a c before (outputs.Answer op answer) = unsent a _ _ (λ m e. cc) refl refl refl (seen_with_one_more a _)
 client_one a c before (outputs.Note n) = go n
   where
     go : (n : Note) → Said a (ev.client_notes a c before n) (outputs.Note n ∷ [])
-    go (notes.Leased s end) = unsent a _ _ (λ m e. cc) refl refl refl (more a _)
-    go (notes.Lost s life) = unsent a _ _ (λ m e. cc) refl refl refl (more a _)
-    go (notes.Accepted f p bytes) = unsent a _ _ (λ m e. cc) refl refl refl (more a _)
-    go (notes.Patched f p at bytes) = unsent a _ _ (λ m e. cc) refl refl refl (more a _)
+    go (notes.Leased s end) = unsent a _ _ (λ m e. cc) refl refl refl (seen_with_one_more a _)
+    go (notes.Lost s life) = unsent a _ _ (λ m e. cc) refl refl refl (seen_with_one_more a _)
+    go (notes.Accepted f p bytes) = unsent a _ _ (λ m e. cc) refl refl refl (seen_with_one_more a _)
+    go (notes.Patched f p at bytes) = unsent a _ _ (λ m e. cc) refl refl refl (seen_with_one_more a _)
     go n = unsent a _ _ (λ m e. cc) refl refl refl (λ x h. h)
 
 pub client_said : (c : ClientId) (before : ClientState) (os : List Output) (a : WorldTurn) → Said a (client_says_all c before os a) os

@@ -129,9 +129,10 @@ more_cut es m v b n L f p gone same quiet h =
         go false t = sym (same g q t) ∙ u
 
 -- Fewer commands can take effect.
-pub fewer : (es : List LogEntry) (m : ExtentsOf) (b : BlockAt → Block) (n : ServerId → ℕ) (L M : LivingOf) → ((k : ℕ) (x : IssuedCommand) (at : BlockAt) (tag : Tag) (bytes : List ℕ) → M k x at tag bytes → L k x at tag bytes) →
+pub kept_with_fewer_living : (es : List LogEntry) (m : ExtentsOf) (b : BlockAt → Block) (n : ServerId → ℕ) (L M : LivingOf) →
+    ((k : ℕ) (x : IssuedCommand) (at : BlockAt) (tag : Tag) (bytes : List ℕ) → M k x at tag bytes → L k x at tag bytes) →
     PagesAreKept es m b n L → PagesAreKept es m b n M
-fewer es m b n L M w h =
+kept_with_fewer_living es m b n L M w h =
     record {
       stands = h.stands;
       carry = λ k x at tag bytes l. h.carry k x at tag bytes (w k x at tag bytes l);

@@ -21,7 +21,7 @@ use Rattle.st_laws_pages.specs.Disks.Pages.{ExtentsOf, LivingOf, CarriedRight, P
 use Rattle.st_laws_pages.specs.Disks.World.{Living, Timely, EffectDone, CommandsHold, HoldsBy, PagesHold, mapped_in, births_in, block_in, LateStays, EndsAgree}
 use Rattle.st_laws_pages.specs.Disks.World.{EndsAt}
 use Rattle.st_laws_pages.proofs.Disks.Folds.{done_drop, owner_parts}
-use Rattle.st_laws_pages.proofs.Disks.Law.{fewer, dropped, length_same}
+use Rattle.st_laws_pages.proofs.Disks.Law.{kept_with_fewer_living, dropped, length_same}
 use Rattle.st_lemmas.proofs.Marks.{owners_drop}
 
 -- A drop leaves what the commands did.
@@ -36,7 +36,8 @@ commands_more es fs cs ds m h = record { counts = h.counts; reads = h.reads; don
 pub later : (T U : ℕ → IssuedCommand → Type 0) (w : World) → ((k : ℕ) (x : IssuedCommand) → numbered w.commands k ≡ Some x → U k x → T k x) → HoldsBy T w → HoldsBy U w
 later T U w f h =
     record {
-      pages = fewer w.log (mapped_in w) (block_in w) (births_in w) (Living T w.commands w.disks.commands) (Living U w.commands w.disks.commands)
+      pages = kept_with_fewer_living w.log (mapped_in w) (block_in w) (births_in w) (Living T w.commands w.disks.commands)
+          (Living U w.commands w.disks.commands)
           (λ k x at tag bytes l. record { issued = l.issued; command = l.command; is = l.is; what = l.what; unreported = l.unreported; fresh = l.fresh; timely = f k x l.issued l.timely }) h.pages;
       commands = h.commands;
       extents = h.extents;

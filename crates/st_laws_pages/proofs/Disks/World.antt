@@ -19,7 +19,7 @@ use Rattle.st_laws_pages.specs.Disks.Folds.{of_entry, owner_at}
 use Rattle.st_laws_pages.specs.Disks.Pages.{CarriedRight}
 use Rattle.st_laws_pages.specs.Disks.World.{Living, Timely, EffectDone, CommandsHold, PagesHold, mapped_in, births_in, block_in}
 use Rattle.st_laws_pages.proofs.Disks.Folds.{done_harden, harden_done}
-use Rattle.st_laws_pages.proofs.Disks.Law.{hardened, fewer, length_same}
+use Rattle.st_laws_pages.proofs.Disks.Law.{hardened, kept_with_fewer_living, length_same}
 use Rattle.st_laws_pages.proofs.Disks.Effects.{EffectFinds, effect_is, wrote_own, wrote_other, ReportFinds, reported_world}
 use Rattle.st_lemmas.proofs.Marks.{owners_harden}
 
@@ -88,7 +88,8 @@ effect_keeps w n d f h = subst PagesHold (sym (effect_is w (suc n) d f)) (go d.w
     at_read x at i e none =
         let c : DiskCommand = disks.sampled (disks.block w.disks at) d in
         record {
-          pages = fewer w.log (mapped_in w) (block_in w) (births_in w) (Living (Timely w) w.commands w.disks.commands) _ (λ j y a t ct l. (living_set (Timely w) w.commands w.disks.commands n c (λ u v. cc) j y a t ct l).0) h.pages;
+          pages = kept_with_fewer_living w.log (mapped_in w) (block_in w) (births_in w) (Living (Timely w) w.commands w.disks.commands) _
+              (λ j y a t ct l. (living_set (Timely w) w.commands w.disks.commands n c (λ u v. cc) j y a t ct l).0) h.pages;
           commands = commands_set w.log w.log w.commands w.disks.commands n d c f.is refl (λ y t z. z) (λ y a t ct z u v. absurd (apart (sym e ∙ u))) h.commands;
           extents = record { settings = h.extents.settings; ids = h.extents.ids; lies = h.extents.lies };
         }
@@ -149,7 +150,8 @@ pub report_keeps : (w : World) (n : ℕ) (ok : Bool) (d : DiskCommand) → Repor
 report_keeps w n ok d f h =
     let c : DiskCommand = disks.reported ok d in
     record {
-      pages = fewer w.log (mapped_in w) (block_in w) (births_in w) (Living (Timely w) w.commands w.disks.commands) _ (λ j y a t ct l. (living_set (Timely w) w.commands w.disks.commands n c (λ u v. told ok u) j y a t ct l).0) h.pages;
+      pages = kept_with_fewer_living w.log (mapped_in w) (block_in w) (births_in w) (Living (Timely w) w.commands w.disks.commands) _
+          (λ j y a t ct l. (living_set (Timely w) w.commands w.disks.commands n c (λ u v. told ok u) j y a t ct l).0) h.pages;
       commands = commands_set w.log w.log w.commands w.disks.commands n d c f.is refl (λ y t z. z) (λ y a t ct z u v. h.commands.done (suc n) y d a t ct z f.is u v) h.commands;
       extents = record { settings = h.extents.settings; ids = h.extents.ids; lies = h.extents.lies };
     }

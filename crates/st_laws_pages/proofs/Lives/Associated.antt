@@ -181,5 +181,6 @@ module _ (F : Association → Type 0) (empty : (a : Association) → a.session �
   pub fresh_all : (k : Config) (clients servers d b form : ℕ) (c : ClientId) (site : WorldClient) → site_of (fresh_world k clients servers d b form) c ≡ Some site → (a : Association) → Has a site.node.state.associations → F a
   fresh_all k clients servers d b form c site e a i = (fresh_have k clients servers d b form c site e a i).1
 
-  pub law : (k : Config) (clients servers disks blocks form : ℕ) (es : List Event) → Throughout HaveAfter [] (steps es (traced (fresh_world k clients servers disks blocks form)))
-  law k clients servers d b form es = run es [] (traced (fresh_world k clients servers d b form)) (fresh_have k clients servers d b form)
+  pub have_after_in_every_run : (k : Config) (clients servers disks blocks form : ℕ) (es : List Event) →
+      Throughout HaveAfter [] (steps es (traced (fresh_world k clients servers disks blocks form)))
+  have_after_in_every_run k clients servers d b form es = run es [] (traced (fresh_world k clients servers d b form)) (fresh_have k clients servers d b form)

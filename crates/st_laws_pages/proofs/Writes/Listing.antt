@@ -210,9 +210,10 @@ changes_keep now t _ (Still _) = keeps_same NoneEnds t
 changes_keep now t _ (Then _ u v c rest) = keeps_then NoneEnds t u v (change_keeps now t u c) (changes_keep now u v rest)
 
 -- without a command
-fewer : (number : ℕ) (t u : Turn) → t.here.server ≡ u.here.server → pages.without_command number t.here.store.commands ≡ u.here.store.commands → u.out ≡ t.out →
+keeps_without_command : (number : ℕ) (t u : Turn) → t.here.server ≡ u.here.server → pages.without_command number t.here.store.commands ≡ u.here.store.commands →
+    u.out ≡ t.out →
     ((n : ℕ) (tag : Tag) → (n ≡ number → ⊥) → (h : IsListed t.here n tag) → DirtyStill u.here h.command) → Keeps (λ n. n ≡ number) t u
-fewer number t u s e o d =
+keeps_without_command number t u s e o d =
     record {
       stays = λ n tag f h. listed_with t.here u.here s n tag h
           (subst (Has h.command) e (has_filter_in (λ c. not (pages.is_numbered number c)) t.here.store.commands h.command h.here (ap not (ne_eqb h.command.number number (λ q. f (sym h.number_is ∙ q))))))
@@ -224,8 +225,13 @@ fewer number t u s e o d =
 ends_keep : (number : ℕ) (ok : Bool) (t u : Turn) → WritesOnce t.here → Ends number ok t u → Keeps (λ n. n ≡ number) t u
 unfolding cl.hardened pages.fail
 ends_keep number ok t _ once Unknown = keeps_same (λ n. n ≡ number) t
-ends_keep number ok t _ once (Passes pc e o) = fewer number t _ refl refl refl (λ n tag f h. (h.dirty, h.dirty_is))
-ends_keep number ok t _ once (Hardens pc v e o k w) = fewer number t (cl.hardened (without number t) pc) refl refl refl (λ n tag f h. (h.dirty, hardened_is t.here.store.pages pc.ino pc.page h.command.ino h.command.page false (apart n tag f h (Place_is pc.ino pc.page h.command.ino h.command.page) refl) ∙ h.dirty_is))
+ends_keep number ok t _ once (Passes pc e o) = keeps_without_command number t _ refl refl refl (λ n tag f h. (h.dirty, h.dirty_is))
+ends_keep number ok t _ once (Hardens pc v e o k w) = keeps_without_command number t (cl.hardened (without number t) pc) refl refl refl
+    (λ n tag f h. (
+      h.dirty,
+      hardened_is t.here.store.pages pc.ino pc.page h.command.ino h.command.page false
+          (apart n tag f h (Place_is pc.ino pc.page h.command.ino h.command.page) refl) ∙ h.dirty_is,
+    ))
   where
     apart : (n : ℕ) (tag : Tag) → (n ≡ number → ⊥) → (h : IsListed t.here n tag) → (b : Bool) → Place_is pc.ino pc.page h.command.ino h.command.page ≡ b → Place_is pc.ino pc.page h.command.ino h.command.page ≡ false
     apart n tag f h false q = q
@@ -234,7 +240,9 @@ ends_keep number ok t _ once (Hardens pc v e o k w) = fewer number t (cl.hardene
         let z = found_at (pages.is_numbered number) t.here.store.commands pc e in
         absurd (f (sym h.number_is ∙ sym (once pc h.command z.1 h.here v h.version k h.kind a.0 a.1) ∙ eqb-true pc.number number z.0))
 ends_keep number ok t _ once (Fails pc v e o k) =
-    fewer number t _ refl refl refl (λ n tag f h. found_map (pages.is_dirty_of h.command.ino h.command.page) (pages.fail_of pc.ino pc.page pc.number) (place_failed pc.ino pc.page pc.number h.command.ino h.command.page) t.here.store.pages.dirty h.dirty h.dirty_is)
+    keeps_without_command number t _ refl refl refl
+    (λ n tag f h. found_map (pages.is_dirty_of h.command.ino h.command.page) (pages.fail_of pc.ino pc.page pc.number)
+    (place_failed pc.ino pc.page pc.number h.command.ino h.command.page) t.here.store.pages.dirty h.dirty h.dirty_is)
 
 pub finished_keeps : (now : Stamp) (number : ℕ) (ok : Bool) (t u : Turn) → WritesOnce t.here → Finished now number ok t u → Keeps (λ n. n ≡ number) t u
 finished_keeps now number ok t u once f = keeps_then (λ n. n ≡ number) t f.mid u (ends_keep number ok t f.mid once f.ends) (changes_keep now f.mid u (rest_of f))

@@ -29,5 +29,5 @@ fresh_clear = associated.fresh_all Cleared empty_clear clearing_kept_by_take cle
     clearing_kept_by_passes
 
 pub runs_clear : RunsClear
-runs_clear = associated.law Cleared empty_clear clearing_kept_by_take clearing_kept_by_receive clearing_kept_by_finish clearing_kept_by_lose
+runs_clear = associated.have_after_in_every_run Cleared empty_clear clearing_kept_by_take clearing_kept_by_receive clearing_kept_by_finish clearing_kept_by_lose
     clearing_kept_by_passes

@@ -47,11 +47,12 @@ module _ (k : Config) (count : ℕ) (w : World) (all : AllStand k count w) (c : 
   q : Standing k a.server.0 c site w.ended (z.ghosts c).net
   q = z.both.clients c site run.there
 
-  is : a ≡ q.association
-  is = only_here a.server.0 site.node.state.associations q.association q.sim.place a here refl
+  association_is_asking : a ≡ q.association
+  association_is_asking = only_here a.server.0 site.node.state.associations q.association q.sim.place a here refl
 
   kept : Kept a.life.0 a.store (Some s) (z.ghosts c).net
-  kept = subst (λ o. Kept a.life.0 a.store o (z.ghosts c).net) session (subst (λ (x : Association). Kept x.life.0 x.store x.session (z.ghosts c).net) (sym is) q.sim.kept)
+  kept = subst (λ o. Kept a.life.0 a.store o (z.ghosts c).net) session
+      (subst (λ (x : Association). Kept x.life.0 x.store x.session (z.ghosts c).net) (sym association_is_asking) q.sim.kept)
 
   pub reply_modes : HaveModes s.locks.rows
   reply_modes = kept.modes
@@ -60,7 +61,8 @@ module _ (k : Config) (count : ℕ) (w : World) (all : AllStand k count w) (c : 
   view = client_in w c a.server.0 (z.ended c)
 
   same : view ≡ client_of (z.ended c) (clock_of w (nodes.Client (client c))).0 a
-  same = own_view w c a.server.0 (z.ended c) site q.association run.there run.runs q.sim.place ∙ ap (client_of (z.ended c) (clock_of w (nodes.Client (client c))).0) (sym is)
+  same = own_view w c a.server.0 (z.ended c) site q.association run.there run.runs q.sim.place ∙
+      ap (client_of (z.ended c) (clock_of w (nodes.Client (client c))).0) (sym association_is_asking)
 
   -- the session's part of it
   seen : view ≡ client_of (z.ended c) (clock_of w (nodes.Client (client c))).0 (record a { session = Some s })

@@ -71,8 +71,8 @@ module _ (k : Config) (count : ℕ) (past : List Step) (t : Traced) (e : Event) 
   abbrev st : Step
   st = step t e sc
 
-  more : CopiesHold (known (past ++ st ∷ [])) t.world
-  more = more_known past st t.world s.copies
+  copies_hold_later : CopiesHold (known (past ++ st ∷ [])) t.world
+  copies_hold_later = more_known past st t.world s.copies
 
   goes : (o : Option Taking) → taken (counted t.world) e ≡ o → TakenOwed (counted t.world) e o → LeavesAll k count past t e sc
   goes None q o =
@@ -82,7 +82,7 @@ module _ (k : Config) (count : ℕ) (past : List Step) (t : Traced) (e : Event) 
               reads = subst (λ os. AtEach (IsLast past st) sc.world t.world.log os) (ap (λ (z : WorldTurn). z.seen) (sym (step_happens t.world e sc is).1)) (dull_reads past st sc.world t.world.log _ (others_dull (counted t.world) e q));
               carry = subst (λ os. AtEach IsCarried sc.world t.world.log os) (ap (λ (z : WorldTurn). z.seen) (sym (step_happens t.world e sc is).1)) (silent_carried sc.world t.world.log _ (others_silent (counted t.world) e q));
             };
-        copies = others.others_keep_copies (known (past ++ st ∷ [])) k count t.world e sc s.all is q free more;
+        copies = others.others_keep_copies (known (past ++ st ∷ [])) k count t.world e sc s.all is q free copies_hold_later;
       }
     where
       free : OthersOwed (counted t.world) e
@@ -91,8 +91,12 @@ module _ (k : Config) (count : ℕ) (past : List Step) (t : Traced) (e : Event) 
           others_owed k count (counted t.world) sc after (clear_step t.world e sc is (λ c site q. (s.all.fates.lives.lives.sites c site q).fit) s.clear) cuts s.waits e (waits_owed k count t.world s.all e p.0) p.1 o
   goes (Some x) q o =
       record {
-        kept = record { reads = reads_taken k count past t e sc x s.all after is q there owed more; carry = carried_taken k count past t e sc x s.all after is q there owed more };
-        copies = takings.takings_keep_copies (known (past ++ st ∷ [])) k count t.world e sc x s.all after is q owed more;
+        kept = record {
+          reads = reads_taken k count past t e sc x s.all after is q there owed copies_hold_later;
+          carry =
+              carried_taken k count past t e sc x s.all after is q there owed copies_hold_later;
+        };
+        copies = takings.takings_keep_copies (known (past ++ st ∷ [])) k count t.world e sc x s.all after is q owed copies_hold_later;
       }
     where
       there : Takes (counted t.world) sc x

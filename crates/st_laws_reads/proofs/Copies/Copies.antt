@@ -391,8 +391,8 @@ module _ (ask_of : ℕ → Option Ask) (c : ClientId) (lives : ServerId → Life
   holds_some : (s : ClientSession) (f : FileId) → cp.holds s modes.S f ≡ true → 1 ≤ (held_in (Some s) f.ino).mode
   holds_some s f h = subst (λ m. 1 ≤ m) (same_mode (lock_of s.locks f.ino)) (leb-true _ _ h)
 
-  x_some : (s : ClientSession) (f : FileId) → cp.holds s modes.X f ≡ true → 1 ≤ (held_in (Some s) f.ino).mode
-  x_some s f h = let z = leb-true _ _ h in let w = same_mode (lock_of s.locks f.ino) in omega (arith, z, w)
+  exclusive_mode_is_some : (s : ClientSession) (f : FileId) → cp.holds s modes.X f ≡ true → 1 ≤ (held_in (Some s) f.ino).mode
+  exclusive_mode_is_some s f h = let z = leb-true _ _ h in let w = same_mode (lock_of s.locks f.ino) in omega (arith, z, w)
 
   at_server : (t : Turn) (f : FileId) → f.server ≡ t.here.server → file_at t.here.server f.ino ≡ f
   at_server t f e = ap (λ v. file_at v f.ino) (sym e)
@@ -477,7 +477,7 @@ module _ (ask_of : ℕ → Option Ask) (c : ClientId) (lives : ServerId → Life
     where
       go : cp.may_write (with_session s t) s f p ≡ true → (q : Option (List ℕ)) → pages.cached t.here.store.pages f.ino p ≡ q →
           Keeps ask_of c lives es (with_session s t) (cp.patch_at (with_session s t) o f p at bytes q)
-      go h None cq = copies_kept_by_fetch (with_session s t) o f p (x_some s f (and_true (cp.holds s modes.X f) _ h).0) e
+      go h None cq = copies_kept_by_fetch (with_session s t) o f p (exclusive_mode_is_some s f (and_true (cp.holds s modes.X f) _ h).0) e
       go h (Some old) cq = copies_kept_by_patch t s o f p at bytes old (e ∙ ap (λ a. Some a) is) sv h cq
   copies_kept_by_open t s o (asks.Read f p) is sv e = copies_kept_by_choice (with_session s t) (cp.holds s modes.S f) _ _
       (λ h. copies_kept_by_read_at t s o f p is sv e (holds_some s f h) (pages.cached t.here.store.pages f.ino p) refl)

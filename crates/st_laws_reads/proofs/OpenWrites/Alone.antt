@@ -225,11 +225,11 @@ module _ (w : World) (c : ℕ) (old site : WorldClient) (input : ClientInput) (t
       abbrev its_number : ℕ
       its_number = suc (length w1.commands)
 
-      x_there : numbered v.commands its_number ≡ Some x
-      x_there = ap (λ xs. numbered xs its_number) fl.commands ∙ new.issued
+      new_write_is_issued : numbered v.commands its_number ≡ Some x
+      new_write_is_issued = ap (λ xs. numbered xs its_number) fl.commands ∙ new.issued
 
-      x_listed : ListedSince mine.starts b x tag
-      x_listed = record { since = refl; listed = on_b }
+      new_write_is_listed : ListedSince mine.starts b x tag
+      new_write_is_listed = record { since = refl; listed = on_b }
 
       pub lasts : Lasts mine.node.state.config.lease (clock_of v (nodes.Client (client c))).0 b.session
       lasts =
@@ -247,8 +247,8 @@ module _ (w : World) (c : ℕ) (old site : WorldClient) (input : ClientInput) (t
         places : (g.file ≡ tag.file) × (g.page ≡ tag.page)
         places = same_place_is g.file tag.file g.page tag.page place
 
-        y_there : (numbered v.commands j ≡ Some y) × (disks.command_at v.disks.commands j ≡ Some l.command)
-        y_there =
+        other_write_is_issued : (numbered v.commands j ≡ Some y) × (disks.command_at v.disks.commands j ≡ Some l.command)
+        other_write_is_issued =
             let z = grown pre (write_said number at to tag bytes ∷ rest) parts in
             to_v pre (write_said number at to tag bytes ∷ rest) parts j y l.command (z.issued j y l.issued) (z.command j l.command l.is)
 
@@ -259,8 +259,9 @@ module _ (w : World) (c : ℕ) (old site : WorldClient) (input : ClientInput) (t
         own_one : OfLife c b y → ⊥
         own_one o =
             differs
-            (one_only b here j its_number y x g tag y_there.0 x_there o.client refl
-            (open_ (client c) mine own runs b here j y l.command a g ct y_there.0 y_there.1 l.what l.unreported o.client o.server o.life) x_listed places.0 places.1)
+            (one_only b here j its_number y x g tag other_write_is_issued.0 new_write_is_issued o.client refl
+            (open_ (client c) mine own runs b here j y l.command a g ct other_write_is_issued.0 other_write_is_issued.1 l.what l.unreported o.client o.server
+            o.life) new_write_is_listed places.0 places.1)
 
         at_b : y.server ≡ g.file.server → y.server ≡ b.server
         at_b e = e ∙ ap (λ (f : FileId). f.server) places.0 ∙ on_b.server
@@ -285,7 +286,17 @@ module _ (w : World) (c : ℕ) (old site : WorldClient) (input : ClientInput) (t
           by_timely z =
               own_one
               (living_own asks k count v h open_ copies c mine (record { there = own; runs = runs }) b here (there_at v mine.node.state.associations b ((copies c mine own).servers) here) lasts
-              j y a g ct (record { issued = y_there.0; command = l.command; is = y_there.1; what = l.what; unreported = l.unreported; fresh = l.fresh; timely = z }) sv
+              j y a g ct
+              (record {
+                issued = other_write_is_issued.0;
+                command = l.command;
+                is = other_write_is_issued.1;
+                what = l.what;
+                unreported = l.unreported;
+                fresh =
+                    l.fresh;
+                timely = z;
+              }) sv
               (subst (λ (f : FileId). 1 ≤ (held_in b.session f.ino).mode) (sym places.0) (omega (arith, mode)))).of
 
           present : y.client.0 ≡ c → ended_of w y.client y.server y.life ≡ None → ⊥

@@ -12,5 +12,6 @@ empty_last : (a : Association) → a.session ≡ None → a.store ≡ empty_stor
 empty_last a e st = subst AsksLast (sym e) tt
 
 pub requests_are_last : RequestsAreLast
-requests_are_last = associated.law (λ a. AsksLast a.session) empty_last requests_kept_by_take requests_kept_by_receive requests_kept_by_finish
+requests_are_last = associated.have_after_in_every_run (λ a. AsksLast a.session) empty_last requests_kept_by_take requests_kept_by_receive
+    requests_kept_by_finish
     requests_kept_by_lose requests_kept_by_passes
