@@ -5,6 +5,7 @@ ghost use Rattle.st_base.specs.Config as settings;
 ghost use Rattle.st_base.specs.Nodes.{HasNode};
 ghost use Rattle.st_client_session.specs.Sessions.{lasts, with_session};
 ghost use Rattle.st_lease_client.specs.Standings.{kind_of, moment_of, server_of};
+ghost use Rattle.st_lease_client.specs.ServerLease.{closed};
 ghost use Rattle.st_rules.specs.ClientLease as leases;
 ghost use Rattle.st_rules.specs.ClientPages as pages;
 ghost use Rattle.st_rules.specs.ClientReplies as replies;
@@ -38,9 +39,10 @@ fn close(lease: &mut Lease, standing: Standing)
     }
 }
 
-/// Spends what a lost lease gives.
+/// Spends what a lost lease gives: no lease is held then.
 fn discard(lease: &mut Lease, permit: LossPermit)
     requires { permit.server ≡ lease.old.server }
+    ensures { lease.new ≡ closed lease.old }
 {
     let (pages, locks, commands) = permit.split();
     let receipt = lease.close_lost(pages.done(), locks.done(), commands.done());
