@@ -9,7 +9,7 @@ ghost use Rattle.st_rules.specs.World as world;
 use crate::cuts;
 use crate::places::{MessageEnds, SentPlace, head_of, lose, place_behind, place_of};
 use st_base::NodeId;
-use st_codec::{decode, put_message};
+use st_codec::{CodecRefusal, decode, put_message};
 use st_messages::Message;
 use st_rules::CutLink;
 use std::alloc::{AllocError, Global};
@@ -55,7 +55,8 @@ fn read(alloc: Global, bytes: &[u8]) -> Result<Message, AllocError>
 {
     match decode(alloc, bytes) {
         Ok(message) => Ok(message),
-        Err(_) => Err(AllocError),
+        Err(CodecRefusal::Memory) => Err(AllocError),
+        Err(_) => unreachable!(),
     }
 }
 
