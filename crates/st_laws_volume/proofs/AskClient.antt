@@ -1,5 +1,5 @@
--- A step of a client: what it answers is no longer pending, and the other pending operations stay in their order.
-use Rattle.std.proofs.Common.{◌≡◌, ℕ, not, ◌==◌, List, [], ◌∷◌, ◌++◌, map, refl, sym, ap, ◌∙◌, subst, inl, inr, append_assoc}
+-- A step of a client: what it answers was pending and no longer is, and the other pending operations stay in their order.
+use Rattle.std.proofs.Common.{◌≡◌, ℕ, Bool, true, not, ◌||◌, ◌==◌, List, [], ◌∷◌, ◌++◌, map, refl, sym, ap, ◌∙◌, subst, inl, inr, append_assoc}
 use Rattle.std.proofs.lemmas.Bool.{eq-eqb, ne_eqb}
 use Rattle.std.proofs.lemmas.List.{append-nil}
 use Rattle.st_base.specs.declared.ids.ClientId.{ClientId}
@@ -17,14 +17,14 @@ use Rattle.st_rules.specs.Client as cl
 use Rattle.st_rules.specs.ClientState as cs
 use Rattle.st_rules.specs.ClientState.{Association, ClientState, client_turn}
 use Rattle.st_lemmas.specs.Lists.{Has}
-use Rattle.st_lemmas.proofs.Lookups.{if_false, if_true}
+use Rattle.st_lemmas.proofs.Lookups.{if_false, if_true, or_right}
 use Rattle.st_laws_steps.specs.Lives.Lives.{Once, server_number}
 use Rattle.st_laws_pages.proofs.Asks.Asks.{Apart, map_more}
 use Rattle.st_laws_pages.proofs.Asks.Client.{Each, Lasting, Lasts, Neutral, key}
 use Rattle.st_laws_pages.proofs.Asks.Places.{Knows}
 use Rattle.st_laws_pages.proofs.Asks.Step.{Takes, TakesAsk, stepped}
 use Rattle.st_laws_pages.proofs.Causes.Placed.{InputTells}
-use Rattle.st_laws_volume.proofs.AskSteps.{without_ask}
+use Rattle.st_laws_volume.proofs.AskSteps.{is_open_op, without_ask}
 
 -- What outputs answer is no longer open.
 abbrev pub closed_by : Output → List (ℕ × Ask) → List (ℕ × Ask)
@@ -38,6 +38,23 @@ closed_all (o ∷ os) ks = closed_all os (closed_by o ks)
 closed_last : (os : List Output) (o : Output) (ks : List (ℕ × Ask)) → closed_all (os ++ o ∷ []) ks ≡ closed_by o (closed_all os ks)
 closed_last [] o ks = refl
 closed_last (x ∷ os) o ks = closed_last os o (closed_by x ks)
+
+-- Each answer is one to an open ask.
+abbrev pub AnswersOne : Output → List (ℕ × Ask) → Type 0
+AnswersOne (outputs.Answer op a) ks = is_open_op op ks ≡ true
+AnswersOne o ks = Unit {0}
+
+abbrev pub AnswersOpen : List Output → List (ℕ × Ask) → Type 0
+AnswersOpen [] ks = Unit {0}
+AnswersOpen (o ∷ os) ks = AnswersOne o ks × AnswersOpen os (closed_by o ks)
+
+open_last : (os : List Output) (o : Output) (ks : List (ℕ × Ask)) → AnswersOpen os ks → AnswersOne o (closed_all os ks) → AnswersOpen (os ++ o ∷ []) ks
+open_last [] o ks h k = (k, tt)
+open_last (x ∷ os) o ks h k = (h.0, open_last os o (closed_by x ks) h.1 k)
+
+open_mid : (k : ℕ × Ask) (xs ys : List (ℕ × Ask)) → is_open_op k.0 (xs ++ k ∷ ys) ≡ true
+open_mid k [] ys = ap (λ b. b || is_open_op k.0 ys) (eq-eqb k.0 k.0 refl)
+open_mid k (x ∷ xs) ys = or_right (x.0 == k.0) (is_open_op k.0 (xs ++ k ∷ ys)) (open_mid k xs ys)
 
 -- Lists of asks without one of them.
 has_skip : (k p : ℕ × Ask) (xs ys : List (ℕ × Ask)) → Has p (xs ++ ys) → Has p (xs ++ k ∷ ys)
@@ -71,6 +88,7 @@ without_mid k (x ∷ xs) ys a =
 record Open (start ks : List (ℕ × Ask)) (out : List Output) : Type 0 where
   closed : closed_all out start ≡ ks
   apart : Apart ks
+  opened : AnswersOpen out start
 
 module _ (n : ℕ) (c : ClientId) (start : List (ℕ × Ask)) where
   abbrev Free : ServerId → Type 0
@@ -85,8 +103,14 @@ module _ (n : ℕ) (c : ClientId) (start : List (ℕ × Ask)) where
   joined : (tail : List (ℕ × Ask)) (xs ys : List Operation) → map key xs ++ (map key ys ++ tail) ≡ map key (xs ++ ys) ++ tail
   joined tail xs ys = sym (append_assoc (map key xs) (map key ys) tail) ∙ ap (λ z. z ++ tail) (sym (map_more xs ys))
 
-  kept : (ks : List (ℕ × Ask)) (out : List Output) (o : Output) → closed_by o ks ≡ ks → Open start ks out → Open start ks (out ++ o ∷ [])
-  kept ks out o e h = record { closed = closed_last out o start ∙ (ap (closed_by o) h.closed ∙ e); apart = h.apart }
+  kept : (ks : List (ℕ × Ask)) (out : List Output) (o : Output) → closed_by o ks ≡ ks → ((js : List (ℕ × Ask)) → AnswersOne o js) → Open start ks out →
+      Open start ks (out ++ o ∷ [])
+  kept ks out o e n h =
+      record {
+        closed = closed_last out o start ∙ (ap (closed_by o) h.closed ∙ e);
+        apart = h.apart;
+        opened = open_last out o start h.opened (n (closed_all out start));
+      }
 
   gone : (tail : List (ℕ × Ask)) (xs ys : List Operation) (out : List Output) (o : Operation) (a : AppAnswer) → Asks tail (xs ++ o ∷ ys) out →
       Asks tail (xs ++ ys) (out ++ outputs.Answer o.op a ∷ [])
@@ -96,6 +120,9 @@ module _ (n : ℕ) (c : ClientId) (start : List (ℕ × Ask)) where
         closed =
             closed_last out (outputs.Answer o.op a) start ∙ (ap (without_ask o.op) g.closed ∙ without_mid (key o) (map key xs) (map key ys ++ tail) g.apart);
         apart = apart_less (key o) (map key xs) (map key ys ++ tail) g.apart;
+        opened =
+            open_last out (outputs.Answer o.op a) start g.opened
+            (ap (is_open_op o.op) g.closed ∙ open_mid (key o) (map key xs) (map key ys ++ tail));
       } in
       subst (λ z. Open start z (out ++ outputs.Answer o.op a ∷ [])) (joined tail xs ys) r
 
@@ -105,16 +132,22 @@ module _ (n : ℕ) (c : ClientId) (start : List (ℕ × Ask)) where
   neutral (outputs.Submit number at what) ks h = absurd h
   neutral (outputs.Answer op a) ks h = absurd h
 
+  answers_none : (o : Output) → Neutral c o → (ks : List (ℕ × Ask)) → AnswersOne o ks
+  answers_none (outputs.Send m) h ks = tt
+  answers_none (outputs.Note x) h ks = tt
+  answers_none (outputs.Submit number at what) h ks = absurd h
+  answers_none (outputs.Answer op a) h ks = absurd h
+
   lasts : (tail : List (ℕ × Ask)) → Lasts n Free c (Asks tail)
   lasts tail =
       record {
-        says = λ ops out o m h. kept (map key ops ++ tail) out o (neutral o (map key ops ++ tail) m) h;
-        submits = λ ops out s number at what u o h. kept (map key ops ++ tail) out (outputs.Submit number at what) refl h;
+        says = λ ops out o m h. kept (map key ops ++ tail) out o (neutral o (map key ops ++ tail) m) (answers_none o m) h;
+        submits = λ ops out s number at what u o h. kept (map key ops ++ tail) out (outputs.Submit number at what) refl (λ ks. tt) h;
         answered = λ xs ys out o a e h. gone tail xs ys out o a h;
         reads = λ xs ys out o bytes u h. gone tail xs ys out o (answers.Read bytes) h;
         changes =
             λ xs ys out o x m u h. gone tail xs ys (out ++ outputs.Note x ∷ []) o answers.Written
-            (kept (map key (xs ++ o ∷ ys) ++ tail) out (outputs.Note x) refl h);
+            (kept (map key (xs ++ o ∷ ys) ++ tail) out (outputs.Note x) refl (λ ks. tt) h);
         stages = λ xs ys out e h. subst (λ z. Open start (z ++ tail) out) e h;
       }
 
@@ -129,6 +162,7 @@ module _ (n : ℕ) (c : ClientId) (start : List (ℕ × Ask)) where
             record {
               closed = closed_last out (outputs.Answer op a) start ∙ (ap (without_ask op) h.closed ∙ without_mid (op, ask) (map key ops) [] h.apart);
               apart = apart_less (op, ask) (map key ops) [] h.apart;
+              opened = open_last out (outputs.Answer op a) start h.opened (ap (is_open_op op) h.closed ∙ open_mid (op, ask) (map key ops) []);
             };
       }
 
@@ -137,11 +171,16 @@ abbrev pub coming : ClientInput → List (ℕ × Ask)
 coming (inputs.App op ask) = (op, ask) ∷ []
 coming input = []
 
+-- what a step of a client leaves of its asks
+pub record StepCloses (s : ClientState) (now : Stamp) (input : ClientInput) : Type 0 where
+  pub closed : closed_all (cl.client_step s now input).out (map key s.operations ++ coming input) ≡ map key (cl.client_step s now input).state.operations
+  pub opened : AnswersOpen (cl.client_step s now input).out (map key s.operations ++ coming input)
+
 pub step_closes : (n : ℕ) (c : ClientId) (s : ClientState) (now : Stamp) (input : ClientInput) → s.id ≡ c → Once (map server_number s.associations) →
     ((a : Association) → Has a s.associations → Knows n a.server a.store.extents) → InputTells n input →
-    Apart (map key s.operations ++ coming input) →
-    closed_all (cl.client_step s now input).out (map key s.operations ++ coming input) ≡ map key (cl.client_step s now input).state.operations
-step_closes n c s now input id once knows told apart = ended.closed ∙ append-nil (map key (cl.client_step s now input).state.operations)
+    Apart (map key s.operations ++ coming input) → StepCloses s now input
+step_closes n c s now input id once knows told apart =
+    record { closed = ended.closed ∙ append-nil (map key (cl.client_step s now input).state.operations); opened = ended.opened }
   where
     start : List (ℕ × Ask)
     start = map key s.operations ++ coming input
@@ -155,7 +194,7 @@ step_closes n c s now input id once knows told apart = ended.closed ∙ append-n
     begun :
         Each n (Free n c start) c s.config (Asks n c start (coming input)) (lasts n c start (coming input)) (Lasting s.config now (Free n c start))
         (client_turn s [])
-    begun = record { id = id; config = refl; done = record { closed = refl; apart = apart }; own = knows; cond = λ a i l. tt }
+    begun = record { id = id; config = refl; done = record { closed = refl; apart = apart; opened = tt }; own = knows; cond = λ a i l. tt }
 
     ended : Open start (map key (cl.client_step s now input).state.operations ++ []) (cl.client_step s now input).out
     ended =

@@ -47,7 +47,7 @@ use Rattle.st_lemmas.proofs.Lookups.{if_false, if_true, some_is}
 use Rattle.st_lemmas.proofs.Numbers.{numbered_below, numbered_has, numbered_other, numbered_own}
 use Rattle.st_lemmas.proofs.Steps.{step_happens}
 use Rattle.st_lemmas.proofs.Tables.{has_append, has_filter, not_false}
-use Rattle.st_lemmas.proofs.Truth.{or_first, or_second}
+use Rattle.st_lemmas.proofs.Truth.{clash, or_first, or_second}
 use Rattle.st_lemmas.proofs.Worlds.{stands_not}
 use Rattle.st_laws_steps.specs.Lives.Lives.{NodeHolds}
 use Rattle.st_laws_pages.proofs.Asks.Asks.{Apart}
@@ -58,8 +58,8 @@ use Rattle.st_laws_pages.proofs.Causes.Placed.{InputTells, PlacesAt}
 use Rattle.st_laws_pages.proofs.Lives.Lasting.{flush_parts}
 use Rattle.st_laws_volume.specs.Asks.{AsksOf, at_site}
 use Rattle.st_laws_volume.specs.Seen.{failure, failure_of, failure_told, of_event, of_line}
-use Rattle.st_laws_volume.proofs.AskClient.{closed_all, coming, step_closes}
-use Rattle.st_laws_volume.proofs.AskSteps.{asked_once, asks_as, without_ask, told_all, told_both, told_by}
+use Rattle.st_laws_volume.proofs.AskClient.{AnswersOne, AnswersOpen, StepCloses, closed_all, coming, step_closes}
+use Rattle.st_laws_volume.proofs.AskSteps.{asked_once, asks_as, is_open_op, without_ask, told_all, told_both, told_by}
 use Rattle.st_volume.specs.declared.step.VolumeStep.{VolumeStep}
 use Rattle.st_volume.specs.declared.step.VolumeStep.TheVariants as steps
 
@@ -189,6 +189,106 @@ fates_tell w d n (e ∷ es) (f ∷ fs) a = go e.fate f.fate (fates_tell w d (n +
     go fates.Hard y h = h a
     go (fates.Gone cause) y h = h a
 
+-- Each answer to a client is one to an open ask of it.
+abbrev pub OpenFor : ClientId → Observation → AsksOf → Type 0
+OpenFor c (seen.Answered d op answer) a = (d.0 == c.0) ≡ true → is_open_op op a.pending ≡ true
+OpenFor c o a = Unit {0}
+
+abbrev pub AllOpenFor : World → ClientId → List Observation → AsksOf → Type 0
+AllOpenFor w c [] a = Unit {0}
+AllOpenFor w c (o ∷ os) a = OpenFor c o a × AllOpenFor w c os (told_all c (of_line w o) a)
+
+open_last : (w : World) (c : ClientId) (os : List Observation) (o : Observation) (a : AsksOf) → AllOpenFor w c os a → OpenFor c o (lined w c os a) →
+    AllOpenFor w c (os ++ o ∷ []) a
+open_last w c [] o a h k = (k, tt)
+open_last w c (x ∷ os) o a h k =
+    (h.0, open_last w c os o (told_all c (of_line w x) a) h.1 (subst (λ z. OpenFor c o z) (told_both c (of_line w x) (flat_map (of_line w) os) a) k))
+
+line_open : (c : ClientId) (o : Observation) (a : AsksOf) → Line o → OpenFor c o a
+line_open c (seen.Answered d op answer) a l = absurd l
+line_open c o a l = tt
+
+one_open : (w : World) (c : ClientId) (os : List Observation) (o : Observation) (a : AsksOf) → Line o → AllOpenFor w c os a → AllOpenFor w c (os ++ o ∷ []) a
+one_open w c os o a l h = open_last w c os o a h (line_open c o (lined w c os a) l)
+
+note_open : (w : World) (c d : ClientId) (before : ClientState) (n : Note) (sc : WorldTurn) (a : AsksOf) → AllOpenFor w d sc.seen a →
+    AllOpenFor w d (ev.client_notes sc c before n).seen a
+unfolding ev.client_notes ev.accepts ev.patches ev.loses
+note_open w c d before (notes.Leased s end) sc a h = one_open w d sc.seen _ a tt h
+note_open w c d before (notes.Lost s life) sc a h = one_open w d sc.seen _ a tt h
+note_open w c d before (notes.Accepted f p bytes) sc a h = one_open w d sc.seen _ a tt h
+note_open w c d before (notes.Patched f p at bytes) sc a h = one_open w d sc.seen _ a tt h
+note_open w c d before n sc a h = h
+
+submit_open : (w : World) (c d : ClientId) (o : Option WorldClient) (number : ℕ) (at : BlockAt) (what : Command) (sc : WorldTurn) (a : AsksOf) →
+    AllOpenFor w d sc.seen a → AllOpenFor w d (ev.submits sc c o number at what).seen a
+unfolding ev.submits
+submit_open w c d None number at what sc a h = h
+submit_open w c d (Some site) number at what sc a h = one_open w d sc.seen _ a tt h
+
+own_open_one : (w : World) (c : ClientId) (before : ClientState) (o : Output) (sc : WorldTurn) (a : AsksOf) → AnswersOne o (lined w c sc.seen a).pending →
+    AllOpenFor w c sc.seen a → AllOpenFor w c (ev.client_says sc c before o).seen a
+unfolding ev.client_says ev.sends ev.answers_with
+own_open_one w c before (outputs.Send m) sc a k h = one_open w c sc.seen _ a tt h
+own_open_one w c before (outputs.Submit number at what) sc a k h = submit_open w c c (site_of sc.world c) number at what sc a h
+own_open_one w c before (outputs.Answer op answer) sc a k h = open_last w c sc.seen _ a h (λ q. k)
+own_open_one w c before (outputs.Note n) sc a k h = note_open w c c before n sc a h
+
+own_open : (w : World) (c : ClientId) (before : ClientState) (os : List Output) (sc : WorldTurn) (a : AsksOf) →
+    AnswersOpen os (lined w c sc.seen a).pending → AllOpenFor w c sc.seen a → AllOpenFor w c (ev.client_says_all c before os sc).seen a
+unfolding ev.client_says_all
+own_open w c before [] sc a k h = h
+own_open w c before (o ∷ os) sc a k h =
+    own_open w c before os (ev.client_says sc c before o) a
+    (subst (AnswersOpen os) (sym (ap (λ (z : AsksOf). z.pending) (own_one w c before o sc a))) k.1)
+    (own_open_one w c before o sc a k.0 h)
+
+other_open_one : (w : World) (c d : ClientId) (before : ClientState) (o : Output) (sc : WorldTurn) (a : AsksOf) → (c.0 == d.0) ≡ false →
+    AllOpenFor w d sc.seen a → AllOpenFor w d (ev.client_says sc c before o).seen a
+unfolding ev.client_says ev.sends ev.answers_with
+other_open_one w c d before (outputs.Send m) sc a q h = one_open w d sc.seen _ a tt h
+other_open_one w c d before (outputs.Submit number at what) sc a q h = submit_open w c d (site_of sc.world c) number at what sc a h
+other_open_one w c d before (outputs.Answer op answer) sc a q h = open_last w d sc.seen _ a h (λ e. clash e q)
+other_open_one w c d before (outputs.Note n) sc a q h = note_open w c d before n sc a h
+
+other_open : (w : World) (c d : ClientId) (before : ClientState) (os : List Output) (sc : WorldTurn) (a : AsksOf) → (c.0 == d.0) ≡ false →
+    AllOpenFor w d sc.seen a → AllOpenFor w d (ev.client_says_all c before os sc).seen a
+unfolding ev.client_says_all
+other_open w c d before [] sc a q h = h
+other_open w c d before (o ∷ os) sc a q h = other_open w c d before os (ev.client_says sc c before o) a q (other_open_one w c d before o sc a q h)
+
+server_open_one : (w : World) (s : ServerId) (d : ClientId) (o : Output) (sc : WorldTurn) (a : AsksOf) → AllOpenFor w d sc.seen a →
+    AllOpenFor w d (ev.server_says sc s o).seen a
+unfolding ev.server_says ev.sends ev.server_notes ev.cuts
+server_open_one w s d (outputs.Send m) sc a h = one_open w d sc.seen _ a tt h
+server_open_one w s d (outputs.Note n) sc a h = note n
+  where
+    note : (n : Note) → AllOpenFor w d (ev.server_notes sc s n).seen a
+    note (notes.Suspected c t) = one_open w d sc.seen _ a tt h
+    note (notes.Stolen c life) = one_open w d sc.seen _ a tt h
+    note (notes.CutDone f p) = one_open w d sc.seen _ a tt h
+    note n = h
+server_open_one w s d o sc a h = h
+
+server_open : (w : World) (s : ServerId) (d : ClientId) (os : List Output) (sc : WorldTurn) (a : AsksOf) → AllOpenFor w d sc.seen a →
+    AllOpenFor w d (ev.server_says_all s os sc).seen a
+unfolding ev.server_says_all
+server_open w s d [] sc a h = h
+server_open w s d (o ∷ os) sc a h = server_open w s d os (ev.server_says sc s o) a (server_open_one w s d o sc a h)
+
+fates_open : (w : World) (d : ClientId) (n : ℕ) (es fs : List LogEntry) (a : AsksOf) → AllOpenFor w d (ev.fates_from n es fs) a
+unfolding ev.fates_from of_line
+fates_open w d n [] fs a = tt
+fates_open w d n (e ∷ es) [] a = tt
+fates_open w d n (e ∷ es) (f ∷ fs) a = go e.fate f.fate (fates_open w d (n + 1) es fs a)
+  where
+    go : (x y : Fate) → AllOpenFor w d (ev.fates_from (n + 1) es fs) a → AllOpenFor w d (ev.fate_seen n x y ++ ev.fates_from (n + 1) es fs) a
+    go fates.Pending fates.Hard h = (tt, h)
+    go fates.Pending (fates.Gone cause) h = (tt, h)
+    go fates.Pending fates.Pending h = h
+    go fates.Hard y h = h
+    go (fates.Gone cause) y h = h
+
 -- The numbers of a client's open asks are apart, and none is above their count.
 pub record IsCounted (a : AsksOf) : Type 0 where
   pub below : (k : ℕ × Ask) → Has k a.pending → k.0 ≤ a.count
@@ -289,17 +389,20 @@ Rests w = (c : ClientId) (site : WorldClient) → site_of w c ≡ Some site → 
 pub record AsksLeft (w : World) (e : Event) (sc : WorldTurn) : Type 0 where
   pub told : (c : ClientId) → lined w c sc.seen (told_all c (of_event w e) (at_site (site_of w c))) ≡ at_site (site_of sc.world c)
   pub rests : Rests sc.world
+  pub opened : (c : ClientId) → AllOpenFor w c sc.seen (told_all c (of_event w e) (at_site (site_of w c)))
 
 module _ (t : World) (e : Event) (rests : Rests t) where
   abbrev R : WorldTurn → Type 0
   R sc = AsksLeft t e sc
 
   -- nothing happens to clients
-  quiet : (sc : WorldTurn) → Dull t e → sc.world.clients ≡ t.clients → ((c : ClientId) (a : AsksOf) → lined t c sc.seen a ≡ a) → R sc
-  quiet sc d cs l =
+  quiet : (sc : WorldTurn) → Dull t e → sc.world.clients ≡ t.clients → ((c : ClientId) (a : AsksOf) → lined t c sc.seen a ≡ a) →
+      ((c : ClientId) (a : AsksOf) → AllOpenFor t c sc.seen a) → R sc
+  quiet sc d cs l o =
       record {
         told = λ c. l c _ ∙ (d c (at_site (site_of t c)) ∙ ap (λ xs. at_site (numbered xs c.0)) (sym cs));
         rests = λ c site at r. rests c site (ap (λ xs. numbered xs c.0) (sym cs) ∙ at) r;
+        opened = λ c. o c (told_all c (of_event t e) (at_site (site_of t c)));
       }
 
   -- a client is another one
@@ -320,9 +423,22 @@ module _ (t : World) (e : Event) (rests : Rests t) where
   changed : (c : ClientId) (old new : WorldClient) (sc : WorldTurn) → site_of t c ≡ Some old → sc.world.clients ≡ with_numbered c.0 new t.clients →
       (lined t c sc.seen (told_all c (of_event t e) (at_site (Some old))) ≡ at_site (Some new)) →
       ((d : ClientId) → (c.0 == d.0) ≡ false → (a : AsksOf) → lined t d sc.seen (told_all d (of_event t e) a) ≡ a) →
+      AllOpenFor t c sc.seen (told_all c (of_event t e) (at_site (Some old))) →
+      ((d : ClientId) → (c.0 == d.0) ≡ false → (a : AsksOf) → AllOpenFor t d sc.seen a) →
       (new.node.running ≡ false → new.node.state.operations ≡ []) → R sc
-  changed c old new sc at cs own other stops = record { told = λ d. told d (c.0 == d.0) refl; rests = λ d site i r. rested d site i r (c.0 == d.0) refl }
+  changed c old new sc at cs own other mine others stops =
+      record {
+        told = λ d. told d (c.0 == d.0) refl;
+        rests = λ d site i r. rested d site i r (c.0 == d.0) refl;
+        opened = λ d. opened d (c.0 == d.0) refl;
+      }
     where
+      opened : (d : ClientId) (b : Bool) → (c.0 == d.0) ≡ b → AllOpenFor t d sc.seen (told_all d (of_event t e) (at_site (site_of t d)))
+      opened d true q =
+          subst (λ (z : ClientId). AllOpenFor t z sc.seen (told_all z (of_event t e) (at_site (site_of t z)))) (client_is c d q)
+          (subst (λ o. AllOpenFor t c sc.seen (told_all c (of_event t e) (at_site o))) (sym at) mine)
+      opened d false q = others d q (told_all d (of_event t e) (at_site (site_of t d)))
+
       told : (d : ClientId) (b : Bool) → (c.0 == d.0) ≡ b → lined t d sc.seen (told_all d (of_event t e) (at_site (site_of t d))) ≡ at_site (site_of sc.world d)
       told d true q =
           subst (λ (z : ClientId). lined t z sc.seen (told_all z (of_event t e) (at_site (site_of t z))) ≡ at_site (site_of sc.world z)) (client_is c d q)
@@ -353,8 +469,12 @@ module _ (t : World) (e : Event) (rests : Rests t) where
   unfolding ev.client_takes ev.client_took cl.node_step
   takes n v c i old site cs at same id holds knows tells own apart other runs =
       subst (λ b. R (ev.client_took v c site (if b then Ok (cl.node_turn site.node u) else Err Crashed))) (sym runs)
-      (changed c old new _ at clients (ap (lined t c said.seen) own ∙ (own_all t c site.node.state u.out (ev.quiet v0) _ ∙ ap (asks_as site.asks) closed))
+      (changed c old new _ at clients
+      (ap (lined t c said.seen) own ∙ (own_all t c site.node.state u.out (ev.quiet v0) _ ∙ ap (asks_as site.asks) closes.closed))
       (λ d q a. ap (lined t d said.seen) (other d q a) ∙ other_all t c d site.node.state u.out (ev.quiet v0) a q)
+      (subst (AllOpenFor t c said.seen) (sym own)
+      (own_open t c site.node.state u.out (ev.quiet v0) (asks_as site.asks (map key site.node.state.operations ++ coming i)) closes.opened tt))
+      (λ d q a. other_open t c d site.node.state u.out (ev.quiet v0) a q tt)
       (λ r. clash (sym runs ∙ r)))
     where
       clash : {A : Type 0} → ◌≡◌ {A = Bool} true false → A
@@ -372,8 +492,8 @@ module _ (t : World) (e : Event) (rests : Rests t) where
       said : WorldTurn
       said = ev.client_says_all c site.node.state u.out (ev.quiet v0)
 
-      closed : closed_all u.out (map key site.node.state.operations ++ coming i) ≡ map key u.state.operations
-      closed = step_closes n c site.node.state (clock_of v (nodes.Client c)) i id holds.once knows tells apart
+      closes : StepCloses site.node.state (clock_of v (nodes.Client c)) i
+      closes = step_closes n c site.node.state (clock_of v (nodes.Client c)) i id holds.once knows tells apart
 
       clients : (ev.flushes c u.state (world.all_servers said.world) said.world).clients ≡ with_numbered c.0 new t.clients
       clients =
@@ -392,7 +512,7 @@ module _ (t : World) (e : Event) (rests : Rests t) where
     fine c site at = subst (λ o. IsCounted (at_site o)) at (counted c)
 
     nothing : (sc : WorldTurn) → Dull t e → sc.world.clients ≡ t.clients → sc.seen ≡ [] → R sc
-    nothing sc d cs os = quiet sc d cs (λ c a. ap (λ xs. lined t c xs a) os)
+    nothing sc d cs os = quiet sc d cs (λ c a. ap (λ xs. lined t c xs a) os) (λ c a. subst (λ xs. AllOpenFor t c xs a) (sym os) tt)
 
     -- a client takes an input that isn't an ask
     plain : (v : World) → v.clients ≡ t.clients → (c : ClientId) (i : ClientInput) → coming i ≡ [] → InputTells (length t.servers) i → Dull t e →
@@ -440,6 +560,7 @@ module _ (t : World) (e : Event) (rests : Rests t) where
 
         go : (b : Bool) → R (ev.server_took w s (if b then Ok (server.node_turn node u) else Err Crashed))
         go true = quiet (ev.server_says_all s u.out (ev.quiet v)) d (server_leaves s u.out (ev.quiet v)).clients (λ c a. server_all t s c u.out (ev.quiet v) a)
+            (λ c a. server_open t s c u.out (ev.quiet v) a tt)
         go false = nothing (ev.quiet w) d refl refl
 
     delivered : Dull t e → (o : Option SentMessage) → ((m : SentMessage) → o ≡ Some m → Has m t.net.messages) → R (ev.delivers w o)
@@ -498,6 +619,8 @@ module _ (t : World) (e : Event) (rests : Rests t) where
             (fates_tell t c 1 t.log (ev.log_crashed w c) _
             ∙ (ap (λ its. told_all c its (at_site (Some site))) is ∙ if_true (c.0 == c.0) (asks_as site.asks []) (at_site (Some site)) (eq-eqb c.0 c.0 refl)))
             (λ d q a. fates_tell t d 1 t.log (ev.log_crashed w c) _ ∙ (ap (λ its. told_all d its a) is ∙ if_false (c.0 == d.0) (asks_as a.count []) a q))
+            (fates_open t c 1 t.log (ev.log_crashed w c) (told_all c (of_event t e) (at_site (Some site))))
+            (λ d q a. fates_open t d 1 t.log (ev.log_crashed w c) a)
             (λ z. refl)
 
     starts : (c : ClientId) → Dull t e → site_runs (site_of t c) ≡ false → R (ev.quiet (ev.starts_client w c (site_of t c)))
@@ -510,6 +633,8 @@ module _ (t : World) (e : Event) (rests : Rests t) where
             changed c site (ev.started_site site) (ev.quiet (ev.with_site c (ev.started_site site) w)) at refl
             (d c (at_site (Some site)) ∙ ap (λ os. asks_as site.asks (map key os)) (rests c site at r))
             (λ k q a. d k a)
+            tt
+            (λ k q a. tt)
             (λ z. refl)
 
     crashes_server : (s : ServerId) → Dull t e → (o : Option ServerNode) → R (ev.quiet (ev.crashes_server w s o))
@@ -546,8 +671,8 @@ module _ (t : World) (e : Event) (rests : Rests t) where
         by (events.Lose k) i q = loses k (dull i (λ d a. refl)) (world.message_of t k)
         by (events.Cut from to) i q = nothing _ (dull i (λ d a. refl)) refl refl
         by (events.Heal from to) i q = nothing _ (dull i (λ d a. refl)) refl refl
-        by (events.Advance increments) i q = quiet _ (dull i (λ d a. refl)) refl (λ c a. fates_tell t c 1 t.log _ a)
-        by (events.Effect k) i q = quiet _ (dull i (λ d a. refl)) refl (λ c a. fates_tell t c 1 t.log _ a)
+        by (events.Advance increments) i q = quiet _ (dull i (λ d a. refl)) refl (λ c a. fates_tell t c 1 t.log _ a) (λ c a. fates_open t c 1 t.log _ a)
+        by (events.Effect k) i q = quiet _ (dull i (λ d a. refl)) refl (λ c a. fates_tell t c 1 t.log _ a) (λ c a. fates_open t c 1 t.log _ a)
         by (events.Report k ok) i q = reported k ok (dull i (report_dull t k ok))
         by (events.Crash (nodes.Client c)) i q =
             crashes c (ap (of_event t) i)

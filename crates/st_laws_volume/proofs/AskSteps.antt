@@ -1,6 +1,7 @@
 -- What the steps of the volume do to the open asks of a client.
 use Rattle.std.proofs.Common.{◌≡◌, ◌≢◌, ℕ, zero, suc, ◌+◌, ◌⊎◌, Bool, true, false, not, ◌&&◌, ◌==◌, List, [], ◌∷◌, ◌++◌, length, map, Option, Some, None, refl, sym, ap, ◌∙◌, if◌then◌else◌}
 use Rattle.std.specs.Prelude.{filter, find, option_map, option_and_then}
+use Rattle.std.specs.List.{list_any}
 use Rattle.std.proofs.lemmas.Bool.{both_ways, eq-eqb, eqb-true, ne_eqb}
 use Rattle.st_base.specs.declared.ids.ClientId.{ClientId}
 use Rattle.st_base.specs.declared.ids.ServerId.{ServerId}
@@ -40,6 +41,10 @@ asked_once ask a = record { count = a.count + 1; pending = a.pending ++ (a.count
 
 abbrev pub without_ask : ℕ → List (ℕ × Ask) → List (ℕ × Ask)
 without_ask op ks = filter (λ k. not (k.0 == op)) ks
+
+-- one of them has a number
+abbrev pub is_open_op : ℕ → List (ℕ × Ask) → Bool
+is_open_op op ks = list_any (λ (k : ℕ × Ask). k.0 == op) ks
 
 abbrev pub told_by : ClientId → VolumeStep → AsksOf → AsksOf
 told_by c (steps.Asked d ask) a = if d.0 == c.0 then asked_once ask a else a

@@ -55,7 +55,7 @@ message_dull : (c : ClientId) (bs : List Behind) (v : Volume) (w : World) (m : O
 message_dull c bs v w None a = refl
 message_dull c bs v w (Some m) a = node_dull c bs v w m.message (receiver_of m) a
 
-delivery_dull : (c : ClientId) (bs : List Behind) (v : Volume) (w : World) (e : Event) (a : AsksOf) → told_all c (of_delivery bs v w e) a ≡ a
+pub delivery_dull : (c : ClientId) (bs : List Behind) (v : Volume) (w : World) (e : Event) (a : AsksOf) → told_all c (of_delivery bs v w e) a ≡ a
 delivery_dull c bs v w (events.Tick n) a = refl
 delivery_dull c bs v w (events.App d ask) a = refl
 delivery_dull c bs v w (events.Deliver k) a = message_dull c bs v w (message_of w k) a
@@ -68,7 +68,7 @@ delivery_dull c bs v w (events.Report k ok) a = refl
 delivery_dull c bs v w (events.Crash n) a = refl
 delivery_dull c bs v w (events.Start n) a = refl
 
-before_dull : (c : ClientId) (o : Observation) (os : List Observation) (a : AsksOf) → told_all c (before_line o os) a ≡ a
+pub before_dull : (c : ClientId) (o : Observation) (os : List Observation) (a : AsksOf) → told_all c (before_line o os) a ≡ a
 unfolding before_line
 before_dull c (seen.Sent k m) os a = refl
 before_dull c (seen.Submitted k d number what) os a = refl
@@ -103,7 +103,7 @@ steps_tell t v x c a =
     ∙ lines_tell w c x.seen (told_all c (of_event w x.event) a)))
 
 -- An event keeps it.
-of_each : (its : List VolumeStep) (v : Volume) (o : Option Volume) → ((c : ClientId) → OnSome (λ u. in_volume u c ≡ told_all c its (in_volume v c)) o) →
+pub of_each : (its : List VolumeStep) (v : Volume) (o : Option Volume) → ((c : ClientId) → OnSome (λ u. in_volume u c ≡ told_all c its (in_volume v c)) o) →
     OnSome (λ u. (c : ClientId) → in_volume u c ≡ told_all c its (in_volume v c)) o
 of_each its v None h = tt
 of_each its v (Some u) h = h

@@ -190,7 +190,7 @@ told_ask (seen.Wrote i c f p bytes) = Some (asks.Write f p bytes)
 told_ask (seen.Patched i c f p at bytes) = Some (asks.Patch f p at bytes)
 told_ask o = None
 
-wrote_is : (d : ClientId) (asked : Option Ask) (i : ℕ) (c : ClientId) (f : FileId) (p : PageNo) (bytes : List ℕ) →
+pub wrote_is : (d : ClientId) (asked : Option Ask) (i : ℕ) (c : ClientId) (f : FileId) (p : PageNo) (bytes : List ℕ) →
     IsLoggedWrite d asked (seen.Wrote i c f p bytes) →
     asked ≡ Some (asks.Write f p bytes)
 wrote_is d (Some (asks.Write g q old)) i c f p bytes l = sym (ap told_ask l)
@@ -201,7 +201,7 @@ wrote_is d (Some (asks.Cut g q)) i c f p bytes l = absurd l
 wrote_is d (Some (asks.Name s ask)) i c f p bytes l = absurd l
 wrote_is d None i c f p bytes l = absurd l
 
-patched_is : (d : ClientId) (asked : Option Ask) (i : ℕ) (c : ClientId) (f : FileId) (p : PageNo) (at : ℕ) (bytes : List ℕ) →
+pub patched_is : (d : ClientId) (asked : Option Ask) (i : ℕ) (c : ClientId) (f : FileId) (p : PageNo) (at : ℕ) (bytes : List ℕ) →
     IsLoggedWrite d asked (seen.Patched i c f p at bytes) → asked ≡ Some (asks.Patch f p at bytes)
 patched_is d (Some (asks.Patch g q from old)) i c f p at bytes l = sym (ap told_ask l)
 patched_is d (Some (asks.Write g q old)) i c f p at bytes l = absurd l
@@ -211,11 +211,27 @@ patched_is d (Some (asks.Cut g q)) i c f p at bytes l = absurd l
 patched_is d (Some (asks.Name s ask)) i c f p at bytes l = absurd l
 patched_is d None i c f p at bytes l = absurd l
 
+-- The steps of a line are no asks.
+pub block_other : (w : World) (o : Observation) (os : List Observation) → list_all is_other (before_line o os ++ of_line w o) ≡ true
+unfolding before_line of_line
+block_other w (seen.Wrote i c g p bytes) os = refl
+block_other w (seen.Patched i c g p at bytes) os = refl
+block_other w (seen.CutAt i g p) os = refl
+block_other w (seen.Hardened i) os = refl
+block_other w (seen.Dropped i cause) os = refl
+block_other w (seen.Answered c op answer) os = refl
+block_other w (seen.Sent k m) os = refl
+block_other w (seen.Submitted k c number what) os = refl
+block_other w (seen.Leased c s end) os = refl
+block_other w (seen.Lost c s life) os = refl
+block_other w (seen.Suspected s c start) os = refl
+block_other w (seen.Stolen s c life) os = refl
+
 module _ (past : List Step) (x : Step) where
   abbrev as_ : Asked
   as_ = asks_of (past ++ x ∷ [])
 
-  followed_asked : (o : Observation) (c : ClientId) (what : Ask) → ((d : ClientId) (asked : Option Ask) → IsLoggedWrite d asked o → asked ≡ Some what) →
+  pub followed_asked : (o : Observation) (c : ClientId) (what : Ask) → ((d : ClientId) (asked : Option Ask) → IsLoggedWrite d asked o → asked ≡ Some what) →
       (os : List Observation) →
       begins_written c os ≡ true → AreLogged past x (Some o) os → world.numbered (as_ c) (next_op os) ≡ Some what
   unfolding AreLogged
@@ -230,21 +246,6 @@ module _ (past : List Step) (x : Step) where
 
   -- One line, with the step before it.
   module _ (w f : World) where
-    block_other : (o : Observation) (os : List Observation) → list_all is_other (before_line o os ++ of_line w o) ≡ true
-    unfolding before_line of_line
-    block_other (seen.Wrote i c g p bytes) os = refl
-    block_other (seen.Patched i c g p at bytes) os = refl
-    block_other (seen.CutAt i g p) os = refl
-    block_other (seen.Hardened i) os = refl
-    block_other (seen.Dropped i cause) os = refl
-    block_other (seen.Answered c op answer) os = refl
-    block_other (seen.Sent k m) os = refl
-    block_other (seen.Submitted k c number what) os = refl
-    block_other (seen.Leased c s end) os = refl
-    block_other (seen.Lost c s life) os = refl
-    block_other (seen.Suspected s c start) os = refl
-    block_other (seen.Stolen s c life) os = refl
-
     block_taken : (es : List LogEntry) (o : Observation) (os : List Observation) (u : Volume) → lines.tells_log es o ≡ true → AreLogged past x (Some o) os →
         is_followed o os ≡ true →
         IsTold es u → AreOf as_ u → AreTaken is_change_line (before_line o os ++ of_line w o) u
@@ -291,7 +292,7 @@ module _ (past : List Step) (x : Step) where
         (λ z j. lines_taken (lines.log_behind f es o) (Some o) os z t.1 l.1 g.1 j) (run block u)
         (on_both (IsTold (lines.log_behind f es o)) (AreOf as_) (run block u)
         (run_then (IsTold (lines.log_behind f es o)) (before_line o os) (of_line w o) u (line_told w f es o os u k.0))
-        (run_right as_ block u (block_other o os) k.1))))
+        (run_right as_ block u (block_other w o os) k.1))))
 
   -- All steps of the event.
   event_lines : (it : Witness) (v : Volume) → TheReportTellsTheLog past x → all_followed x.seen ≡ true → AnswersAreLogged past x →

@@ -1,3 +1,4 @@
+pub mod AnswerSteps
 pub mod AskClient
 pub mod AskEvents
 pub mod AskSteps
@@ -42,3 +43,4 @@ pub mod TreeSteps
 pub mod TreeTurns
 pub mod TreeWorld
 pub mod Trees
+pub mod WrittenAnswers

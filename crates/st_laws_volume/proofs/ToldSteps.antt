@@ -126,7 +126,7 @@ last_line v i test (inl k) e q =
     no : true ≡ false → ⊥
     no q = cc
 
-step_told : (v : Volume) (it : VolumeStep) → is_kept it ≡ true → Near v → OnSome Told (step v it)
+pub step_told : (v : Volume) (it : VolumeStep) → is_kept it ≡ true → Near v → OnSome Told (step v it)
 step_told v (kinds.Joined i c what) q h =
     on_true Told ((i == v.lines + 1) && is_any (λ e. same_change e.what what && not (is_any (λ d. not (is_by d e)) c)) (numbered v.log i))
     (Some (record v { lines = i }))
@@ -193,7 +193,7 @@ takes_near v a m =
     (on_map (λ u. Near (notice u)) (done a) (effect v a.client a.ask)
     (on_more (GrowsTo v) (λ r. Near (notice (done a r))) (λ r k. grown v a r m k) (effect v a.client a.ask) (effect_grows v a.client a.ask)))
 
-effect_near : (v : Volume) (c : ClientId) (op : ℕ) → OnSome Near (step v (kinds.TakesEffect c op))
+pub effect_near : (v : Volume) (c : ClientId) (op : ℕ) → OnSome Near (step v (kinds.TakesEffect c op))
 effect_near v c op =
     on_true Near (v.lines == length v.log) (acts v (kinds.TakesEffect c op))
     (λ m. on_map Near notice (option_and_then (takes v) (find (is_ask c op) (v.pending ++ v.orphans)))

@@ -1,5 +1,6 @@
 -- The law that every run is a run of the volume, in parts: one for each kind of step.
 use Rattle.std.specs.Prelude.{◌≡◌, Bool, true, false, List, [], ◌∷◌, Some, length, is_some, ⊤}
+use Rattle.st_messages.specs.declared.answer.AppAnswer.TheVariants as answers
 use Rattle.st_messages.specs.declared.event.Event.{Event}
 use Rattle.st_rules.specs.History.{traced}
 use Rattle.st_rules.specs.Safety.{Promise, Throughout, steps}
@@ -48,6 +49,11 @@ is_change_line it = false
 abbrev pub is_answer : VolumeStep → Bool
 is_answer (kinds.Answered c op answer) = true
 is_answer it = false
+
+-- the answer that a write or a patch took effect
+abbrev pub is_written : VolumeStep → Bool
+is_written (kinds.Answered c op answers.Written) = true
+is_written it = false
 
 -- what becomes of an entry
 abbrev pub is_fate : VolumeStep → Bool

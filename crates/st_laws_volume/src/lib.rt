@@ -8,7 +8,7 @@ ghost use Rattle.st_laws_volume.specs.Asks.{AsksAgree};
 ghost use Rattle.st_laws_volume.specs.Epochs.{EpochsAgree};
 ghost use Rattle.st_laws_volume.specs.FateMarks.{CrashesAreMarked};
 ghost use Rattle.st_laws_volume.specs.Fates.{StillEventsAreTaken};
-ghost use Rattle.st_laws_volume.specs.StepKinds.{EntriesAreTold, KindsAreEnough, StepsAreTaken, is_ask, is_change_line, is_failed_write, is_free, is_line};
+ghost use Rattle.st_laws_volume.specs.StepKinds.{EntriesAreTold, KindsAreEnough, StepsAreTaken, is_ask, is_change_line, is_failed_write, is_free, is_line, is_written};
 ghost use Rattle.st_laws_volume.specs.Laws.{RunsInParts, StepsShowTheEvent, TheStartAgrees};
 ghost use Rattle.st_laws_volume.specs.Logs.{InEveryRun, LogsAgree};
 ghost use Rattle.st_laws_volume.specs.Reads.{PagesAgree};
@@ -123,6 +123,12 @@ pub fn entries_are_told()
 /// all steps before it: the write carried an entry of the log.
 pub fn failed_writes_are_taken()
     ensures { InEveryRun (StepsAreTaken is_failed_write) }
+{}
+
+/// In every run the volume takes each answer `written`, where it has taken all steps before it: the
+/// ask that it answers is open, and has just taken effect.
+pub fn written_answers_are_taken()
+    ensures { InEveryRun (StepsAreTaken is_written) }
 {}
 
 /// In every run, after every event up to which the volume has taken the steps: the epoch of each
