@@ -48,7 +48,3 @@ IsRefusal (refusals.GraceOver start now) body = body ≡ Nack why.GraceOver star
 IsRefusal (refusals.Conflict ino holder) body = body ≡ Nack why.Conflict ino holder.0
 IsRefusal (refusals.NotHolder ino g) body = body ≡ Nack why.NotHolder ino g.0
 IsRefusal refusals.Memory body = ⊥
-
--- there is no session of the client, or of its life
-abbrev pub no_session : Body
-no_session = Nack why.NoSession 0 0

@@ -33,14 +33,6 @@ names_of t = t.state.stable.names
 abbrev pub stolen : ServerTurn → ClientId → Life → ServerTurn
 stolen t c life = with_sessions (sessions.end t.state.sessions c) (with_locks (locks.forget t.state.locks c) (note t (notes.Stolen c life)))
 
--- a client is welcome whose session replaced a living one
-abbrev pub welcomed_anew : ServerTurn → Header → ServerTurn
-welcomed_anew t h = reply (with_locks (locks.drop_waits t.state.locks (sender h)) t) h bodies.Welcome
-
--- a client must wait until its locks of a lower life are stolen
-abbrev pub waiting : ServerTurn → Stamp → Header → ServerTurn
-waiting t now h = reply (suspect_client t now (sender h)) h (bodies.Nack why.Suspect now.0 0)
-
 -- A crash now leaves what it would have left before.
 abbrev pub Keeps : ServerTurn → ServerTurn → Type 0
 Keeps old new = crash new.state ≡ crash old.state

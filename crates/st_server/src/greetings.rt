@@ -1,7 +1,7 @@
 // Greetings, and demands that were seen.
 ghost use Rattle.std.specs.Prelude.{◌≡◌, OnOk};
 ghost use Rattle.st_rules.specs.Server as server;
-ghost use Rattle.st_server.specs.Steps.{Keeps, waiting, welcomed_anew};
+ghost use Rattle.st_server.specs.Steps.{Keeps};
 
 use crate::turn::ServerTurn;
 use st_base::{ClientId, GrantNo, Life, Stamp};
@@ -23,41 +23,30 @@ impl ServerTurn {
         self.grace.is_on(now)
     }
 
-    /// A new session replaced a living one: its waits are dropped.
-    #[tactic(auto, unfolding(st_rules::specs::Server::crash))]
-    fn welcome_anew(&mut self, h: Header) -> Result<(), AllocError>
-        ensures ok { OnOk result (self.new ≡ welcomed_anew self.old h) }
-        ensures kept { Keeps self.old self.new }
-    {
-        self.locks.drop_waits(sender(h));
-        self.reply(h, Body::Welcome)
-    }
-
-    fn refuse_greeting(&mut self, now: Stamp, h: Header) -> Result<(), AllocError>
-        ensures ok { OnOk result (self.new ≡ waiting self.old now h) }
-        ensures kept { Keeps self.old self.new }
-    {
-        self.suspect_client(now, sender(h))?;
-        self.reply(
-            h,
-            Body::Nack {
-                why: Why::Suspect,
-                a: now.0,
-                b: 0,
-            },
-        )
-    }
-
-    #[tactic(auto, unfolding(st_rules::specs::Server::greet_as))]
+    /// Replies to a greeting. If a new session replaced a living one, its waits are dropped.
+    #[tactic(auto, unfolding(st_rules::specs::Server::greet_as, st_rules::specs::Server::crash))]
     fn greet_as(&mut self, now: Stamp, h: Header, hello: Hello) -> Result<(), AllocError>
         ensures ok { OnOk result (self.new ≡ server.greet_as self.old now h hello) }
         ensures kept { Keeps self.old self.new }
     {
         match hello {
             Hello::Welcome => self.reply(h, Body::Welcome),
-            Hello::Replaced => self.welcome_anew(h),
+            Hello::Replaced => {
+                self.locks.drop_waits(sender(h));
+                self.reply(h, Body::Welcome)
+            }
             Hello::Old => Ok(()),
-            Hello::Wait => self.refuse_greeting(now, h),
+            Hello::Wait => {
+                self.suspect_client(now, sender(h))?;
+                self.reply(
+                    h,
+                    Body::Nack {
+                        why: Why::Suspect,
+                        a: now.0,
+                        b: 0,
+                    },
+                )
+            }
         }
     }
 
@@ -73,30 +62,22 @@ impl ServerTurn {
         self.greet_as(now, h, hello)
     }
 
-    #[tactic(auto, unfolding(st_rules::specs::Server::refuse_in_grace))]
-    fn refuse_in_grace(&mut self, h: Header) -> Result<(), AllocError>
-        ensures ok { OnOk result (self.new ≡ server.refuse_in_grace self.old h) }
-        ensures kept { Keeps self.old self.new }
-    {
-        let start = self.grace.start();
-        self.reply(
-            h,
-            Body::Nack {
-                why: Why::Grace,
-                a: start.0,
-                b: 0,
-            },
-        )
-    }
-
     /// A client greets.
-    #[tactic(auto, unfolding(st_rules::specs::Server::hello))]
+    #[tactic(auto, unfolding(st_rules::specs::Server::hello, st_rules::specs::Server::refuse_in_grace))]
     pub(crate) fn hello(&mut self, now: Stamp, h: Header) -> Result<(), AllocError>
         ensures ok { OnOk result (self.new ≡ server.hello self.old now h) }
         ensures kept { Keeps self.old self.new }
     {
         if self.in_grace(now) {
-            self.refuse_in_grace(h)
+            let start = self.grace.start();
+            self.reply(
+                h,
+                Body::Nack {
+                    why: Why::Grace,
+                    a: start.0,
+                    b: 0,
+                },
+            )
         } else {
             self.greet(now, h)
         }

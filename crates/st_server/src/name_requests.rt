@@ -100,24 +100,16 @@ impl ServerTurn {
     }
 
     /// Removes a directory, which must be empty.
-    #[tactic(auto, unfolding(st_rules::specs::Server::name_changed, st_rules::specs::Server::name_refused, st_rules::specs::Server::crash))]
-    fn remove_empty(&mut self, dir: u32, name: &Name) -> Result<Body, AllocError>
-        ensures ok { IfOk result (λ body. answered self.new (Some body) ≡ server.name_changed self.old (names.remove (names_of self.old) dir name.now)) }
-        ensures kept { OnErr result (Keeps self.old self.new) }
-    {
-        match self.stable.names.remove(dir, name.as_slice()) {
-            Ok(ino) => Ok(Body::Named(NameReply::Ino(ino))),
-            Err(refusal) => refused(refusal),
-        }
-    }
-
-    #[tactic(auto, unfolding(st_rules::specs::Server::remove_dir, st_rules::specs::Server::name_refused))]
+    #[tactic(auto, unfolding(st_rules::specs::Server::remove_dir, st_rules::specs::Server::name_changed, st_rules::specs::Server::name_refused, st_rules::specs::Server::crash))]
     fn remove_dir(&mut self, dir: u32, name: &Name, g: GrantNo) -> Result<Body, AllocError>
         ensures ok { IfOk result (λ body. answered self.new (Some body) ≡ server.remove_dir self.old dir name.now g) }
         ensures kept { OnErr result (Keeps self.old self.new) }
     {
         if g.0 == 0 {
-            self.remove_empty(dir, name)
+            match self.stable.names.remove(dir, name.as_slice()) {
+                Ok(ino) => Ok(Body::Named(NameReply::Ino(ino))),
+                Err(refusal) => refused(refusal),
+            }
         } else {
             Ok(Body::Named(NameReply::Refused(4)))
         }
@@ -165,33 +157,20 @@ impl ServerTurn {
         }
     }
 
-    #[tactic(auto, unfolding(st_rules::specs::Server::remove_ino))]
-    fn remove_ino(
-        &mut self,
-        h: Header,
-        dir: u32,
-        name: &Name,
-        g: GrantNo,
-        ino: u32,
-    ) -> Result<Body, AllocError>
-        ensures ok { IfOk result (λ body. answered self.new (Some body) ≡ server.remove_ino self.old h dir name.now g ino) }
-        ensures kept { OnErr result (Keeps self.old self.new) }
-    {
-        if self.is_file(ino) {
-            self.remove_file(h, dir, name, g, ino)
-        } else {
-            self.remove_dir(dir, name, g)
-        }
-    }
-
     /// A client removes an entry.
-    #[tactic(auto, unfolding(st_rules::specs::Server::remove, st_rules::specs::Server::remove_found, st_rules::specs::Server::name_refused))]
+    #[tactic(auto, unfolding(st_rules::specs::Server::remove, st_rules::specs::Server::remove_found, st_rules::specs::Server::remove_ino, st_rules::specs::Server::name_refused))]
     fn remove(&mut self, h: Header, dir: u32, name: &Name, g: GrantNo) -> Result<Body, AllocError>
         ensures ok { IfOk result (λ body. answered self.new (Some body) ≡ server.remove self.old h dir name.now g) }
         ensures kept { OnErr result (Keeps self.old self.new) }
     {
         match self.stable.names.lookup(dir, name.as_slice()) {
-            Ok(ino) => self.remove_ino(h, dir, name, g, ino),
+            Ok(ino) => {
+                if self.is_file(ino) {
+                    self.remove_file(h, dir, name, g, ino)
+                } else {
+                    self.remove_dir(dir, name, g)
+                }
+            }
             Err(refusal) => refused(refusal),
         }
     }

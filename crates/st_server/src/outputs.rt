@@ -30,39 +30,20 @@ impl ServerTurn {
         self.say(Output::Send(Message { header, body }))
     }
 
-    fn reply_header(&self, h: Header) -> Header
-        ensures { result ≡ server.reply_header self.now.state h }
-    {
-        Header {
-            from: self.id.node(),
-            to: h.from,
-            life: h.life,
-            epoch: self.stable.epoch.0,
-            number: h.number,
-            stamp: h.stamp,
-        }
-    }
-
-    fn own_header(&self, client: ClientId, life: Life) -> Header
-        ensures { result ≡ server.own_header self.now.state client life }
-    {
-        Header {
-            from: self.id.node(),
-            to: client.0,
-            life: life.0,
-            epoch: self.stable.epoch.0,
-            number: 0,
-            stamp: 0,
-        }
-    }
-
     /// Replies to the request with this header.
     #[tactic(auto, unfolding(st_rules::specs::Server::reply))]
     pub(crate) fn reply(&mut self, h: Header, body: Body) -> Result<(), AllocError>
         ensures ok { OnOk result (self.new ≡ server.reply self.old h body) }
         ensures same { self.new.state ≡ self.old.state }
     {
-        let header = self.reply_header(h);
+        let header = Header {
+            from: self.id.node(),
+            to: h.from,
+            life: h.life,
+            epoch: self.stable.epoch.0,
+            number: h.number,
+            stamp: h.stamp,
+        };
         self.send(header, body)
     }
 
@@ -77,7 +58,14 @@ impl ServerTurn {
         ensures ok { OnOk result (self.new ≡ server.tell self.old client life body) }
         ensures same { self.new.state ≡ self.old.state }
     {
-        let header = self.own_header(client, life);
+        let header = Header {
+            from: self.id.node(),
+            to: client.0,
+            life: life.0,
+            epoch: self.stable.epoch.0,
+            number: 0,
+            stamp: 0,
+        };
         self.send(header, body)
     }
 }

@@ -83,20 +83,8 @@ impl ServerTurn {
         Ok(Body::Extents { ino, rows })
     }
 
-    #[tactic(auto, unfolding(st_rules::specs::Server::map_held, st_rules::specs::Server::map_page, st_rules::specs::Server::not_holder))]
-    fn map_held(&self, h: Header, ino: u32, g: GrantNo, page: PageNo) -> Result<Body, AllocError>
-        requires { page.0 + 1 ≤ 1048576 }
-        ensures { IfOk result (λ body. answered self.now (Some body) ≡ server.map_held self.now h ino g page) }
-    {
-        if self.holds(h, ino, g, Mode::S) {
-            self.extents_body(ino, page, 1)
-        } else {
-            Ok(not_holder(ino, g))
-        }
-    }
-
     /// A client asks where a page lies.
-    #[tactic(auto, unfolding(st_rules::specs::Server::map, st_rules::specs::Server::no_file))]
+    #[tactic(auto, unfolding(st_rules::specs::Server::map, st_rules::specs::Server::map_held, st_rules::specs::Server::map_page, st_rules::specs::Server::no_file, st_rules::specs::Server::not_holder))]
     pub(crate) fn map(
         &self,
         h: Header,
@@ -107,10 +95,12 @@ impl ServerTurn {
         requires { page.0 + 1 ≤ 1048576 }
         ensures { IfOk result (λ body. answered self.now (Some body) ≡ server.map self.now h ino g page) }
     {
-        if self.is_file(ino) {
-            self.map_held(h, ino, g, page)
-        } else {
+        if !self.is_file(ino) {
             Ok(no_file(ino))
+        } else if self.holds(h, ino, g, Mode::S) {
+            self.extents_body(ino, page, 1)
+        } else {
+            Ok(not_holder(ino, g))
         }
     }
 
@@ -188,27 +178,8 @@ impl ServerTurn {
         Ok(())
     }
 
-    #[tactic(auto, unfolding(st_rules::specs::Server::cut_held, st_rules::specs::Server::cut_from, st_rules::specs::Server::not_holder))]
-    fn cut_held(
-        &mut self,
-        h: Header,
-        ino: u32,
-        g: GrantNo,
-        from: PageNo,
-    ) -> Result<Body, AllocError>
-        ensures ok { IfOk result (λ body. answered self.new (Some body) ≡ server.cut_held self.old h ino g from) }
-        ensures kept { OnErr result (Keeps self.old self.new) }
-    {
-        if self.holds(h, ino, g, Mode::X) {
-            self.cut_pages(ino, from)?;
-            Ok(Body::Ack)
-        } else {
-            Ok(not_holder(ino, g))
-        }
-    }
-
     /// A client cuts a file.
-    #[tactic(auto, unfolding(st_rules::specs::Server::cut, st_rules::specs::Server::no_file))]
+    #[tactic(auto, unfolding(st_rules::specs::Server::cut, st_rules::specs::Server::cut_held, st_rules::specs::Server::cut_from, st_rules::specs::Server::no_file, st_rules::specs::Server::not_holder))]
     pub(crate) fn cut(
         &mut self,
         h: Header,
@@ -219,10 +190,13 @@ impl ServerTurn {
         ensures ok { IfOk result (λ body. answered self.new (Some body) ≡ server.cut self.old h ino g from) }
         ensures kept { OnErr result (Keeps self.old self.new) }
     {
-        if self.is_file(ino) {
-            self.cut_held(h, ino, g, from)
-        } else {
+        if !self.is_file(ino) {
             Ok(no_file(ino))
+        } else if self.holds(h, ino, g, Mode::X) {
+            self.cut_pages(ino, from)?;
+            Ok(Body::Ack)
+        } else {
+            Ok(not_holder(ino, g))
         }
     }
 }

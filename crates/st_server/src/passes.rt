@@ -45,17 +45,9 @@ impl ServerTurn {
         Ok(())
     }
 
-    /// Each client that left a demand unanswered too long becomes suspect, in rising order.
-    #[tactic(auto, unfolding(st_rules::specs::Server::suspecting))]
-    fn suspecting(&mut self, now: Stamp) -> Result<(), AllocError>
-        ensures ok { OnOk result (self.new ≡ server.suspecting self.old now) }
-        ensures kept { Keeps self.old self.new }
-    {
-        let clients = self.locks.unanswered(now, &self.config)?;
-        self.suspect_each(now, clients.as_slice())
-    }
-
-    #[tactic(auto, unfolding(st_rules::specs::Server::suspecting_on))]
+    /// When time passes, each client that left a demand unanswered too long becomes suspect, in
+    /// rising order.
+    #[tactic(auto, unfolding(st_rules::specs::Server::suspecting_on, st_rules::specs::Server::suspecting))]
     pub(crate) fn suspecting_on(
         &mut self,
         now: Stamp,
@@ -65,7 +57,10 @@ impl ServerTurn {
         ensures kept { Keeps self.old self.new }
     {
         match input {
-            ServerInput::Tick => self.suspecting(now),
+            ServerInput::Tick => {
+                let clients = self.locks.unanswered(now, &self.config)?;
+                self.suspect_each(now, clients.as_slice())
+            }
             ServerInput::Control(_) => Ok(()),
         }
     }
@@ -89,18 +84,8 @@ impl ServerTurn {
         Ok(())
     }
 
-    /// All grants that may be made.
-    #[tactic(auto, unfolding(st_rules::specs::Server::grant_waiting, st_rules::specs::Server::grant_by, st_rules::specs::Server::crash))]
-    fn grant_waiting(&mut self) -> Result<(), AllocError>
-        requires { taken_locks self.old.state.locks < 2 ^ 32 }
-        ensures ok { OnOk result (self.new ≡ server.grant_waiting self.old) }
-        ensures kept { Keeps self.old self.new }
-    {
-        let granted = self.locks.next_grants()?;
-        self.tell_granted(granted.as_slice())
-    }
-
-    #[tactic(auto, unfolding(st_rules::specs::Server::granting))]
+    /// All grants that may be made; none in grace.
+    #[tactic(auto, unfolding(st_rules::specs::Server::granting, st_rules::specs::Server::grant_waiting, st_rules::specs::Server::grant_by, st_rules::specs::Server::crash))]
     pub(crate) fn granting(&mut self, now: Stamp) -> Result<(), AllocError>
         requires { taken_locks self.old.state.locks < 2 ^ 32 }
         ensures ok { OnOk result (self.new ≡ server.granting self.old now) }
@@ -109,7 +94,8 @@ impl ServerTurn {
         if self.in_grace(now) {
             Ok(())
         } else {
-            self.grant_waiting()
+            let granted = self.locks.next_grants()?;
+            self.tell_granted(granted.as_slice())
         }
     }
 

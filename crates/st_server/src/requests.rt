@@ -6,11 +6,10 @@ ghost use Rattle.st_rules.specs.Server as server;
 ghost use Rattle.st_server.specs.RuleConditions.{AreServed, has_body};
 ghost use Rattle.st_server.specs.Room.{HasRoom};
 ghost use Rattle.st_server.specs.Steps.{Fails, Keeps, answered};
-ghost use Rattle.st_server.specs.RefusalReplies.{no_session};
 
 use crate::greetings::sender;
 use crate::turn::ServerTurn;
-use st_base::{GrantNo, Stamp};
+use st_base::Stamp;
 use st_messages::{Body, Header, Why};
 use st_rules::ServerInput;
 use st_sessions::Taken;
@@ -43,24 +42,19 @@ impl ServerTurn {
         }
     }
 
-    /// The number is the session's last one now, its reply is kept, and sent.
-    #[tactic(auto, unfolding(st_rules::specs::Server::keep_and_reply, st_rules::specs::Server::crash))]
-    fn keep_and_reply(&mut self, h: Header, body: Body) -> Result<(), AllocError>
-        ensures ok { OnOk result (self.new ≡ server.keep_and_reply self.old h body) }
-        ensures kept { Keeps self.old self.new }
-    {
-        self.sessions.store(sender(h), h.number, &body)?;
-        self.reply(h, body)
-    }
-
-    #[tactic(auto, unfolding(st_rules::specs::Server::keep))]
+    /// If there is a reply, the number is the session's last one now, and the reply is kept and
+    /// sent.
+    #[tactic(auto, unfolding(st_rules::specs::Server::keep, st_rules::specs::Server::keep_and_reply, st_rules::specs::Server::crash))]
     fn keep(&mut self, h: Header, reply: Option<Body>) -> Result<(), AllocError>
         ensures ok { OnOk result (self.new ≡ server.keep h self.old reply) }
         ensures kept { Keeps self.old self.new }
     {
         match reply {
             None => Ok(()),
-            Some(body) => self.keep_and_reply(h, body),
+            Some(body) => {
+                self.sessions.store(sender(h), h.number, &body)?;
+                self.reply(h, body)
+            }
         }
     }
 
@@ -93,46 +87,8 @@ impl ServerTurn {
         )
     }
 
-    fn refuse_session(&mut self, h: Header) -> Result<(), AllocError>
-        ensures ok { OnOk result (self.new ≡ server.reply self.old h no_session) }
-        ensures kept { Keeps self.old self.new }
-    {
-        self.reply(
-            h,
-            Body::Nack {
-                why: Why::NoSession,
-                a: 0,
-                b: 0,
-            },
-        )
-    }
-
-    /// A request by what becomes of it among the sessions.
+    /// A request by its number: what becomes of it among the sessions.
     #[tactic(auto, unfolding(st_rules::specs::Server::request_by))]
-    fn request_by(
-        &mut self,
-        now: Stamp,
-        h: Header,
-        body: &Body,
-        taken: Taken<Body>,
-    ) -> Result<(), AllocError>
-        requires client { IsClient (server.sender h) }
-        requires fits { is_body body.now ≡ true }
-        requires room { HasRoom self.old.state }
-        ensures ok { OnOk result (self.new ≡ server.request_by self.old now h body.now taken) }
-        ensures err { OnErr result (Fails self.old self.new (server.request_by self.old now h body.now taken)) }
-    {
-        match taken {
-            Taken::OtherEpoch => self.refuse_epoch(h),
-            Taken::NoSession => self.refuse_session(h),
-            Taken::Stale => Ok(()),
-            Taken::Again(kept) => self.reply(h, kept),
-            Taken::OutOfOrder => Ok(()),
-            Taken::Fresh => self.serve(now, h, body),
-        }
-    }
-
-    /// A request by its number.
     fn request_numbered(&mut self, now: Stamp, h: Header, body: &Body) -> Result<(), AllocError>
         requires client { IsClient (server.sender h) }
         requires fits { is_body body.now ≡ true }
@@ -140,28 +96,25 @@ impl ServerTurn {
         ensures ok { OnOk result (self.new ≡ server.request_by self.old now h body.now (server.take self.old h)) }
         ensures err { OnErr result (Fails self.old self.new (server.request_by self.old now h body.now (server.take self.old h))) }
     {
-        let taken = self.take(h)?;
-        self.request_by(now, h, body, taken)
-    }
-
-    /// A request of the present epoch.
-    #[tactic(auto, unfolding(st_rules::specs::Server::request, st_messages::specs::Ranges::is_body))]
-    fn request(&mut self, now: Stamp, h: Header, body: &Body) -> Result<(), AllocError>
-        requires client { IsClient (server.sender h) }
-        requires fits { is_body body.now ≡ true }
-        requires room { HasRoom self.old.state }
-        requires served { AreServed self.old.state }
-        ensures ok { OnOk result (self.new ≡ server.request self.old now h body.now) }
-        ensures err { OnErr result (Fails self.old self.new (server.request self.old now h body.now)) }
-    {
-        match body {
-            Body::Reassert(rows) => self.reassert(now, h, rows),
-            _ => self.request_numbered(now, h, body),
+        match self.take(h)? {
+            Taken::OtherEpoch => self.refuse_epoch(h),
+            Taken::NoSession => self.reply(
+                h,
+                Body::Nack {
+                    why: Why::NoSession,
+                    a: 0,
+                    b: 0,
+                },
+            ),
+            Taken::Stale => Ok(()),
+            Taken::Again(kept) => self.reply(h, kept),
+            Taken::OutOfOrder => Ok(()),
+            Taken::Fresh => self.serve(now, h, body),
         }
     }
 
     /// A request of the present epoch, or of another one.
-    #[tactic(auto, unfolding(st_rules::specs::Server::of_epoch))]
+    #[tactic(auto, unfolding(st_rules::specs::Server::of_epoch, st_rules::specs::Server::request, st_messages::specs::Ranges::is_body))]
     fn of_epoch(&mut self, now: Stamp, h: Header, body: &Body) -> Result<(), AllocError>
         requires client { IsClient (server.sender h) }
         requires fits { is_body body.now ≡ true }
@@ -170,19 +123,13 @@ impl ServerTurn {
         ensures ok { OnOk result (self.new ≡ server.of_epoch self.old now h body.now) }
         ensures err { OnErr result (Fails self.old self.new (server.of_epoch self.old now h body.now)) }
     {
-        if h.epoch == self.stable.epoch.0 {
-            self.request(now, h, body)
-        } else {
-            self.refuse_epoch(h)
+        if h.epoch != self.stable.epoch.0 {
+            return self.refuse_epoch(h);
         }
-    }
-
-    fn observe_demand(&mut self, h: Header, ino: u32, g: GrantNo) -> Result<(), AllocError>
-        ensures ok { OnOk result (self.new ≡ server.demand_seen self.old h ino g) }
-        ensures kept { Keeps self.old self.new }
-    {
-        self.demand_seen(h, ino, g);
-        Ok(())
+        match body {
+            Body::Reassert(rows) => self.reassert(now, h, rows),
+            _ => self.request_numbered(now, h, body),
+        }
     }
 
     /// A message of a client that isn't a suspect, by its body.
@@ -197,24 +144,11 @@ impl ServerTurn {
     {
         match body {
             Body::Hello => self.hello(now, h),
-            Body::DemandSeen { ino, g } => self.observe_demand(h, *ino, *g),
+            Body::DemandSeen { ino, g } => {
+                self.demand_seen(h, *ino, *g);
+                Ok(())
+            }
             _ => self.of_epoch(now, h, body),
-        }
-    }
-
-    /// A message of a client.
-    #[tactic(auto, unfolding(st_rules::specs::Server::receive_from, st_rules::specs::Server::by_suspicion))]
-    fn receive_from(&mut self, now: Stamp, h: Header, body: &Body) -> Result<(), AllocError>
-        requires client { IsClient (server.sender h) }
-        requires fits { is_body body.now ≡ true }
-        requires room { HasRoom self.old.state }
-        requires served { AreServed self.old.state }
-        ensures ok { OnOk result (self.new ≡ server.receive_from self.old now h body.now) }
-        ensures err { OnErr result (Fails self.old self.new (server.receive_from self.old now h body.now)) }
-    {
-        match self.authority.started(sender(h)) {
-            None => self.by_body(now, h, body),
-            Some(start) => self.refuse_suspect(h, start, body),
         }
     }
 
@@ -225,8 +159,8 @@ impl ServerTurn {
         h.to == self.id.node() && (1 <= h.from && h.from <= 16)
     }
 
-    /// A message comes.
-    #[tactic(auto, unfolding(st_rules::specs::Server::receive))]
+    /// A message comes. It is one of a suspect, or goes by its body.
+    #[tactic(auto, unfolding(st_rules::specs::Server::receive, st_rules::specs::Server::receive_from, st_rules::specs::Server::by_suspicion))]
     fn receive(&mut self, now: Stamp, h: Header, body: &Body) -> Result<(), AllocError>
         requires fits { is_body body.now ≡ true }
         requires room { HasRoom self.old.state }
@@ -235,7 +169,10 @@ impl ServerTurn {
         ensures err { OnErr result (Fails self.old self.new (server.receive self.old now h body.now)) }
     {
         if self.is_for(h) {
-            self.receive_from(now, h, body)
+            match self.authority.started(sender(h)) {
+                None => self.by_body(now, h, body),
+                Some(start) => self.refuse_suspect(h, start, body),
+            }
         } else {
             Ok(())
         }
