@@ -7,45 +7,12 @@ ghost use Rattle.st_rules.specs.ClientState as client;
 use st_base::PageNo;
 use st_messages::{Body, NameOp};
 
-/// Whether it is a keep-alive, a release or a cut.
-fn is_acknowledged(body: &Body) -> bool
-    ensures { result ≡ client.is_acknowledged body.now }
-{
-    match body {
-        Body::KeepAlive => true,
-        Body::Released { .. } => true,
-        Body::Cut { .. } => true,
-        _ => false,
-    }
-}
-
 /// Whether a lock of the file is requested.
 fn acquires(ino: u32, body: &Body) -> bool
     ensures { result ≡ client.acquires ino body.now }
 {
     match body {
         Body::Acquire { ino: i, .. } => *i == ino,
-        _ => false,
-    }
-}
-
-/// Whether extents of the file are requested.
-fn maps(ino: u32, body: &Body) -> bool
-    ensures { result ≡ client.maps ino body.now }
-{
-    match body {
-        Body::Map { ino: i, .. } => *i == ino,
-        Body::Allocate { ino: i, .. } => *i == ino,
-        _ => false,
-    }
-}
-
-/// Whether a name is requested.
-fn asks_name(body: &Body) -> bool
-    ensures { result ≡ client.asks_name body.now }
-{
-    match body {
-        Body::Name(_) => true,
         _ => false,
     }
 }
@@ -70,23 +37,16 @@ pub fn is_refusal(body: &Body) -> bool
     }
 }
 
-/// Whether a file or a directory must be removed.
-fn removes(op: &NameOp) -> bool
-    ensures { result ≡ client.removes op.now }
-{
-    match op {
-        NameOp::Remove { .. } => true,
-        _ => false,
-    }
-}
-
 /// Whether it is a cut or a request to remove.
 pub fn asks_cut_or_remove(body: &Body) -> bool
     ensures { result ≡ client.asks_cut_or_remove body.now }
 {
     match body {
         Body::Cut { .. } => true,
-        Body::Name(op) => removes(op),
+        Body::Name(op) => match op {
+            NameOp::Remove { .. } => true,
+            _ => false,
+        },
         _ => false,
     }
 }
@@ -97,11 +57,23 @@ pub fn fits(reply: &Body, asked: &Body) -> bool
 {
     match reply {
         Body::Nack { .. } => true,
-        Body::Ack => is_acknowledged(asked),
+        Body::Ack => match asked {
+            Body::KeepAlive => true,
+            Body::Released { .. } => true,
+            Body::Cut { .. } => true,
+            _ => false,
+        },
         Body::Granted { ino, .. } => acquires(*ino, asked),
         Body::Queued { ino, .. } => acquires(*ino, asked),
-        Body::Extents { ino, .. } => maps(*ino, asked),
-        Body::Named(_) => asks_name(asked),
+        Body::Extents { ino, .. } => match asked {
+            Body::Map { ino: i, .. } => *i == *ino,
+            Body::Allocate { ino: i, .. } => *i == *ino,
+            _ => false,
+        },
+        Body::Named(_) => match asked {
+            Body::Name(_) => true,
+            _ => false,
+        },
         Body::Reasserted => reasserts(asked),
         _ => false,
     }

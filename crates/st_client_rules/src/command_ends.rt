@@ -1,6 +1,5 @@
 // The ends of disk commands.
 ghost use Rattle.std.specs.Prelude.{◌≡◌, true, None, Some, IfOk, OnOk};
-ghost use Rattle.st_client_association.specs.Turns.{with_pages};
 ghost use Rattle.st_flush.specs.Calls.{AreApart};
 ghost use Rattle.st_rules.specs.Client as rules;
 ghost use Rattle.st_rules.specs.ClientPages as pages;
@@ -22,26 +21,9 @@ fn is_tag_of(file: FileId, page: PageNo, tag: Tag, mapping: MappedBlock) -> bool
         && (tag.page.0 == page.0 && tag.birth == mapping.birth)
 }
 
-#[tactic(auto, unfolding(st_rules::specs::ClientPages::found_under))]
-fn found_under(
-    file: FileId,
-    page: PageNo,
-    tag: Tag,
-    bytes: &PageBytes,
-    mapping: MappedBlock,
-) -> Result<PageBytes, AllocError>
-    ensures { IfOk result (λ b. b ≡ pages.found_under file page tag bytes.now mapping) }
-{
-    if is_tag_of(file, page, tag, mapping) {
-        bytes.copy()
-    } else {
-        Ok(PageBytes::filled(0))
-    }
-}
-
 /// What a read found: the block's bytes if its tag is that of the known mapping, and otherwise
 /// zeros. The bytes are shared.
-#[tactic(auto, unfolding(st_rules::specs::ClientPages::found, st_rules::specs::ClientPages::found_at))]
+#[tactic(auto, unfolding(st_rules::specs::ClientPages::found, st_rules::specs::ClientPages::found_at, st_rules::specs::ClientPages::found_under))]
 fn found(
     t: &Turn,
     file: FileId,
@@ -53,20 +35,17 @@ fn found(
 {
     match t.mapping(file.ino, page) {
         None => Ok(PageBytes::filled(0)),
-        Some(mapping) => found_under(file, page, tag, bytes, mapping),
+        Some(mapping) => {
+            if is_tag_of(file, page, tag, mapping) {
+                bytes.copy()
+            } else {
+                Ok(PageBytes::filled(0))
+            }
+        }
     }
 }
 
 /// The page that was read becomes the newest clean one.
-fn fill(t: &mut Turn, c: PageCommand, tag: Tag, bytes: &PageBytes) -> Result<(), AllocError>
-    requires { is_clean t.old c ≡ true }
-    ensures { OnOk result (t.new ≡ with_pages (pages.fill t.old.here.store.pages c.ino c.page (pages.found t.old.here.store.extents (rules.file_of_command t.old c) c.page tag bytes.now)) t.old) }
-{
-    let file = t.file(c.ino);
-    let bytes = found(t, file, c.page, tag, bytes)?;
-    t.fill(c.ino, c.page, &bytes)
-}
-
 #[tactic(auto, unfolding(st_rules::specs::Client::filled_by))]
 fn filled_by(
     t: &mut Turn,
@@ -78,17 +57,12 @@ fn filled_by(
 {
     match block {
         None => Ok(()),
-        Some((tag, bytes)) => fill(t, c, *tag, bytes),
+        Some((tag, bytes)) => {
+            let file = t.file(c.ino);
+            let bytes = found(t, file, c.page, *tag, bytes)?;
+            t.fill(c.ino, c.page, &bytes)
+        }
     }
-}
-
-/// The page that was written becomes the newest clean one.
-#[tactic(auto, unfolding(st_rules::specs::Client::hardened))]
-fn hardened(t: &mut Turn, c: PageCommand) -> Result<(), AllocError>
-    requires { is_free t.old c ≡ true }
-    ensures { OnOk result (t.new ≡ rules.hardened t.old c) }
-{
-    t.harden(c.ino, c.page)
 }
 
 /// Whether the write is of the page as it is.
@@ -132,18 +106,8 @@ fn write_failed(t: &mut Turn, c: PageCommand, version: u64) -> Result<(), AllocE
     t.answer_each(&test, &AppAnswer::DiskFault(c.number))
 }
 
-/// A command failed.
-fn failed_as(t: &mut Turn, c: PageCommand) -> Result<(), AllocError>
-    ensures { OnOk result (t.new ≡ rules.failed_as t.old c c.kind) }
-{
-    match c.kind {
-        IoKind::Read => read_failed(t, c),
-        IoKind::Write(version) => write_failed(t, c, version),
-    }
-}
-
 /// By how the command ended.
-#[tactic(auto, unfolding(st_rules::specs::Client::finish_as))]
+#[tactic(auto, unfolding(st_rules::specs::Client::finish_as, st_rules::specs::Client::hardened))]
 fn finish_as(
     t: &mut Turn,
     c: PageCommand,
@@ -157,9 +121,13 @@ fn finish_as(
     match ended {
         Ended::Unknown => Ok(()),
         Ended::Filled => filled_by(t, c, block),
-        Ended::Hard => hardened(t, c),
+        // The page that was written becomes the newest clean one.
+        Ended::Hard => t.harden(c.ino, c.page),
         Ended::Redirty => Ok(()),
-        Ended::Failed => failed_as(t, c),
+        Ended::Failed => match c.kind {
+            IoKind::Read => read_failed(t, c),
+            IoKind::Write(version) => write_failed(t, c, version),
+        },
     }
 }
 
@@ -192,19 +160,7 @@ fn is_result_of(kind: IoKind, block: &Option<(Tag, PageBytes)>) -> bool
     }
 }
 
-#[tactic(auto, unfolding(st_rules::specs::Client::done_by))]
-fn done_by(t: &mut Turn, c: PageCommand, block: &Option<(Tag, PageBytes)>) -> Result<(), AllocError>
-    requires outstanding { pages.command_of t.old.here.store.commands c.number ≡ Some c }
-    ensures { OnOk result (t.new ≡ rules.done_by t.old c block.now) }
-{
-    if is_result_of(c.kind, block) {
-        finish_command(t, c, true, block)
-    } else {
-        Ok(())
-    }
-}
-
-#[tactic(auto, unfolding(st_rules::specs::Client::finish_by))]
+#[tactic(auto, unfolding(st_rules::specs::Client::finish_by, st_rules::specs::Client::done_by))]
 fn finish_by(
     t: &mut Turn,
     c: PageCommand,
@@ -215,7 +171,13 @@ fn finish_by(
 {
     match ended {
         None => finish_command(t, c, false, &None),
-        Some(block) => done_by(t, c, block),
+        Some(block) => {
+            if is_result_of(c.kind, block) {
+                finish_command(t, c, true, block)
+            } else {
+                Ok(())
+            }
+        }
     }
 }
 

@@ -2,10 +2,9 @@
 ghost use Rattle.std.specs.Prelude.{◌≡◌, true, IfOk, OnOk};
 ghost use Rattle.st_client_association.specs.Turns.{has_session, session_of};
 ghost use Rattle.st_rules.specs.ClientReplies as replies;
-ghost use Rattle.st_rules.specs.ClientState.{with_store};
 
 use crate::refusals::refused;
-use st_base::{ExtentRow, GrantNo, Mode, PageNo, Stamp};
+use st_base::{ExtentRow, GrantNo, Mode, Stamp};
 use st_client_association::Turn;
 use st_messages::{AppAnswer, Body, NameReply};
 use st_operations::RequestingOperation;
@@ -22,31 +21,19 @@ pub fn granted(turn: &mut Turn, ino: u32, g: GrantNo, mode: Mode) -> Result<(), 
     turn.grant(ino, g, mode)
 }
 
-#[tactic(auto, unfolding(st_rules::specs::ClientReplies::queued))]
-fn queued(turn: &mut Turn, now: Stamp, ino: u32, mode: Mode) -> Result<(), AllocError>
-    requires { has_session turn.old ≡ true }
-    ensures { OnOk result (turn.new ≡ replies.queued turn.old (session_of turn.old) now ino mode) }
-{
-    turn.queued(ino, mode, now)
-}
-
 /// A map that found no rows makes its page known as unmapped.
-fn learn_map(turn: &mut Turn, ino: u32, page: PageNo, rows: &[ExtentRow]) -> Result<(), AllocError>
-    ensures { OnOk result (turn.new ≡ with_store (replies.learn_map ino page rows.now turn.old.here.store) turn.old) }
-{
-    if rows.is_empty() {
-        turn.know_unmapped(ino, page)
-    } else {
-        turn.know_rows(ino, rows)
-    }
-}
-
 #[tactic(auto, unfolding(st_rules::specs::ClientReplies::learn))]
 fn learn(turn: &mut Turn, ino: u32, rows: &[ExtentRow], asked: &Body) -> Result<(), AllocError>
     ensures { OnOk result (turn.new ≡ replies.learn turn.old ino rows.now asked.now) }
 {
     match asked {
-        Body::Map { page, .. } => learn_map(turn, ino, *page, rows),
+        Body::Map { page, .. } => {
+            if rows.is_empty() {
+                turn.know_unmapped(ino, *page)
+            } else {
+                turn.know_rows(ino, rows)
+            }
+        }
         _ => turn.know_rows(ino, rows),
     }
 }
@@ -84,15 +71,6 @@ fn extents(turn: &mut Turn, ino: u32, rows: &[ExtentRow], asked: &Body) -> Resul
     }
 }
 
-/// The operation of a cut is answered.
-#[tactic(auto, unfolding(st_rules::specs::ClientReplies::acknowledged))]
-fn acknowledged(turn: &mut Turn) -> Result<(), AllocError>
-    ensures { OnOk result (turn.new ≡ replies.acknowledged turn.old) }
-{
-    let server = turn.server();
-    turn.answer_each(&RequestingOperation { server }, &AppAnswer::Cut)
-}
-
 fn name_answer(reply: &NameReply) -> Result<AppAnswer, AllocError>
     ensures { IfOk result (λ a. a ≡ replies.name_answer reply.now) }
 {
@@ -112,32 +90,22 @@ fn drop_lock(turn: &mut Turn, ino: u32, lock: HeldLock) -> Result<(), AllocError
     turn.queue_release(ino, lock.g, Mode::None)
 }
 
-#[tactic(auto, unfolding(st_rules::specs::ClientReplies::drop_held))]
-fn drop_held(turn: &mut Turn, ino: u32, lock: Option<HeldLock>) -> Result<(), AllocError>
-    requires { has_session turn.old ≡ true }
-    ensures { OnOk result (turn.new ≡ replies.drop_held turn.old (session_of turn.old) ino lock) }
-{
-    match lock {
-        None => Ok(()),
-        Some(lock) => drop_lock(turn, ino, lock),
-    }
-}
-
 /// The file that was removed, if one was: its lock is dropped.
-#[tactic(auto, unfolding(st_rules::specs::ClientReplies::removed))]
+#[tactic(auto, unfolding(st_rules::specs::ClientReplies::removed, st_rules::specs::ClientReplies::drop_held))]
 fn removed(turn: &mut Turn, file: Option<u32>) -> Result<(), AllocError>
     requires { has_session turn.old ≡ true }
     ensures { OnOk result (turn.new ≡ replies.removed turn.old (session_of turn.old) file) }
 {
     match file {
         None => Ok(()),
-        Some(ino) => {
-            let lock = turn.lock(ino);
-            drop_held(turn, ino, lock)
-        }
+        Some(ino) => match turn.lock(ino) {
+            None => Ok(()),
+            Some(lock) => drop_lock(turn, ino, lock),
+        },
     }
 }
 
+// The prover needs this step by itself: `named` answers operations before it.
 #[tactic(auto, unfolding(st_rules::specs::ClientReplies::named_as))]
 fn named_as(turn: &mut Turn, file: Option<u32>, reply: &NameReply) -> Result<(), AllocError>
     requires { has_session turn.old ≡ true }
@@ -160,16 +128,8 @@ fn named(turn: &mut Turn, file: Option<u32>, reply: &NameReply) -> Result<(), Al
     named_as(turn, file, reply)
 }
 
-#[tactic(auto, unfolding(st_rules::specs::ClientReplies::reasserted))]
-fn reasserted(turn: &mut Turn)
-    requires { has_session turn.old ≡ true }
-    ensures { turn.new ≡ replies.reasserted turn.old (session_of turn.old) }
-{
-    turn.reasserted();
-}
-
 /// The effect of a reply, with the body of the request that it ends and its file.
-#[tactic(auto, unfolding(st_rules::specs::ClientReplies::effect))]
+#[tactic(auto, unfolding(st_rules::specs::ClientReplies::effect, st_rules::specs::ClientReplies::queued, st_rules::specs::ClientReplies::acknowledged, st_rules::specs::ClientReplies::reasserted))]
 pub fn effect(
     turn: &mut Turn,
     now: Stamp,
@@ -182,12 +142,16 @@ pub fn effect(
 {
     match reply {
         Body::Granted { ino, g, mode } => granted(turn, *ino, *g, *mode),
-        Body::Queued { ino, mode } => queued(turn, now, *ino, *mode),
+        Body::Queued { ino, mode } => turn.queued(*ino, *mode, now),
         Body::Extents { ino, rows } => extents(turn, *ino, rows.as_slice(), asked),
-        Body::Ack => acknowledged(turn),
+        // The operation of a cut is answered.
+        Body::Ack => {
+            let server = turn.server();
+            turn.answer_each(&RequestingOperation { server }, &AppAnswer::Cut)
+        }
         Body::Named(reply) => named(turn, file, reply),
         Body::Reasserted => {
-            reasserted(turn);
+            turn.reasserted();
             Ok(())
         }
         Body::Nack { why, a, b } => refused(turn, *why, *a, *b, file, asked),

@@ -39,21 +39,8 @@ fn is_timely(turn: &Turn, now: Stamp, stamp: Stamp) -> bool
     turn.greeting().is_some() && now.0 - stamp.0 < turn.config().lease
 }
 
-#[tactic(auto, unfolding(st_rules::specs::ClientReplies::welcome))]
-fn welcome(turn: &mut Turn, now: Stamp, epoch: Epoch, stamp: Stamp) -> Result<(), AllocError>
-    requires past { stamp.0 ≤ now.0 }
-    requires reading { now.0 ≤ 2 ^ 62 }
-    ensures { OnOk result (turn.new ≡ replies.welcome turn.old now epoch stamp) }
-{
-    if is_timely(turn, now, stamp) {
-        begin_session(turn, now, epoch, stamp)
-    } else {
-        Ok(())
-    }
-}
-
 /// Without a session every message but a welcome is ignored.
-#[tactic(auto, unfolding(st_rules::specs::ClientReplies::without_session))]
+#[tactic(auto, unfolding(st_rules::specs::ClientReplies::without_session, st_rules::specs::ClientReplies::welcome))]
 pub fn without_session(
     turn: &mut Turn,
     now: Stamp,
@@ -65,7 +52,13 @@ pub fn without_session(
     ensures { OnOk result (turn.new ≡ replies.without_session turn.old now h body.now) }
 {
     match body {
-        Body::Welcome => welcome(turn, now, Epoch(h.epoch), Stamp(h.stamp)),
+        Body::Welcome => {
+            if is_timely(turn, now, Stamp(h.stamp)) {
+                begin_session(turn, now, Epoch(h.epoch), Stamp(h.stamp))
+            } else {
+                Ok(())
+            }
+        }
         _ => Ok(()),
     }
 }
@@ -93,37 +86,23 @@ fn is_newer(turn: &Turn, epoch: Epoch) -> bool
     session.epoch().0 < epoch.0 && !session.is_condemned()
 }
 
-#[tactic(auto, unfolding(st_rules::specs::ClientReplies::newer_epoch))]
-fn newer_epoch(turn: &mut Turn, epoch: Epoch) -> Result<(), AllocError>
-    requires { has_session turn.old ≡ true }
-    ensures { OnOk result (turn.new ≡ replies.newer_epoch turn.old (session_of turn.old) epoch) }
-{
-    if is_newer(turn, epoch) {
-        follow_epoch(turn, epoch)
-    } else {
-        Ok(())
-    }
-}
-
-#[tactic(auto, unfolding(st_rules::specs::ClientReplies::newer_epoch))]
-fn refused_in(turn: &mut Turn, epoch: Epoch, why: Why) -> Result<(), AllocError>
-    requires { has_session turn.old ≡ true }
-    ensures { OnOk result (turn.new ≡ replies.refused_in turn.old (session_of turn.old) epoch why) }
-{
-    match why {
-        Why::OtherEpoch => newer_epoch(turn, epoch),
-        _ => Ok(()),
-    }
-}
-
-/// A message of another epoch: only a refusal as of another epoch reports a newer one.
-#[tactic(auto, unfolding(st_rules::specs::ClientReplies::of_other_epoch))]
+/// A message of another epoch: only a refusal as of another epoch tells of a newer one.
+#[tactic(auto, unfolding(st_rules::specs::ClientReplies::of_other_epoch, st_rules::specs::ClientReplies::newer_epoch))]
 pub fn of_other_epoch(turn: &mut Turn, epoch: Epoch, body: &Body) -> Result<(), AllocError>
     requires { has_session turn.old ≡ true }
     ensures { OnOk result (turn.new ≡ replies.of_other_epoch turn.old (session_of turn.old) epoch body.now) }
 {
     match body {
-        Body::Nack { why, .. } => refused_in(turn, epoch, *why),
+        Body::Nack { why, .. } => match *why {
+            Why::OtherEpoch => {
+                if is_newer(turn, epoch) {
+                    follow_epoch(turn, epoch)
+                } else {
+                    Ok(())
+                }
+            }
+            _ => Ok(()),
+        },
         _ => Ok(()),
     }
 }

@@ -4,45 +4,32 @@ ghost use Rattle.st_client_association.specs.Turns.{has_session, session_of};
 ghost use Rattle.st_client_rules.specs.Inputs.{session_in};
 ghost use Rattle.st_rules.specs.Client as client;
 
-use st_base::{Epoch, FileId, Stamp};
+use st_base::{Epoch, Stamp};
 use st_client_association::Turn;
 use st_messages::{AppAnswer, Ask};
 use st_operations::{OfServer, is_sent};
 use st_rules::Operation;
 use std::alloc::AllocError;
 
-/// A sync whose file has lost pages is answered with them, and another one is quiesced.
-#[tactic(auto, unfolding(st_rules::specs::Client::end_sync))]
-fn end_sync(turn: &mut Turn, o: &Operation, file: FileId) -> Result<(), AllocError>
-    ensures { OnOk result (turn.new ≡ client.end_sync turn.old o.now file) }
-{
-    if turn.has_lost(file.ino) {
-        turn.tell_lost(o.op, file.ino)
-    } else {
-        turn.answer(o.op, AppAnswer::Quiesced)
-    }
-}
-
-/// An operation that was not sent.
-#[tactic(auto, unfolding(st_rules::specs::Client::end_unsent))]
-fn end_unsent(turn: &mut Turn, o: &Operation) -> Result<(), AllocError>
-    ensures { OnOk result (turn.new ≡ client.end_unsent turn.old o.now o.now.ask) }
-{
-    match &o.ask {
-        Ask::Sync(file) => end_sync(turn, o, *file),
-        _ => turn.answer(o.op, AppAnswer::Quiesced),
-    }
-}
-
-/// An operation whose request was sent is uncertain.
-#[tactic(auto, unfolding(st_rules::specs::Client::end_operation))]
+/// An operation whose request was sent is uncertain. A sync whose file has lost pages is answered
+/// with them, and all others are quiesced.
+#[tactic(auto, unfolding(st_rules::specs::Client::end_operation, st_rules::specs::Client::end_unsent, st_rules::specs::Client::end_sync))]
 fn end_operation(turn: &mut Turn, epoch: Epoch, o: &Operation) -> Result<(), AllocError>
     ensures { OnOk result (turn.new ≡ client.end_operation turn.old (session_in epoch) o.now) }
 {
     if is_sent(o) {
         turn.answer(o.op, AppAnswer::Uncertain(epoch.0, 0))
     } else {
-        end_unsent(turn, o)
+        match &o.ask {
+            Ask::Sync(file) => {
+                if turn.has_lost(file.ino) {
+                    turn.tell_lost(o.op, file.ino)
+                } else {
+                    turn.answer(o.op, AppAnswer::Quiesced)
+                }
+            }
+            _ => turn.answer(o.op, AppAnswer::Quiesced),
+        }
     }
 }
 
@@ -71,27 +58,16 @@ fn lose_session(turn: &mut Turn, now: Stamp) -> Result<(), AllocError>
     end_operations(turn, epoch)
 }
 
-/// A lease that may be over.
-#[tactic(auto, unfolding(st_rules::specs::Client::lose_over))]
-fn lose_over(turn: &mut Turn, now: Stamp) -> Result<(), AllocError>
-    requires { has_session turn.old ≡ true }
-    ensures { OnOk result (turn.new ≡ client.lose_over turn.old (session_of turn.old) now) }
-{
-    if turn.session().is_over(now) {
-        lose_session(turn, now)
-    } else {
-        Ok(())
-    }
-}
-
 /// The loss at a server: if a session's lease is over, everything that rested on it is
 /// discarded.
-#[tactic(auto, unfolding(st_rules::specs::Client::lose, st_rules::specs::Client::lose_by))]
+#[tactic(auto, unfolding(st_rules::specs::Client::lose, st_rules::specs::Client::lose_by, st_rules::specs::Client::lose_over))]
 pub fn lose(turn: &mut Turn, now: Stamp) -> Result<(), AllocError>
     ensures { OnOk result (turn.new ≡ client.lose now turn.old) }
 {
-    if turn.has_session() {
-        lose_over(turn, now)
+    if !turn.has_session() {
+        Ok(())
+    } else if turn.session().is_over(now) {
+        lose_session(turn, now)
     } else {
         Ok(())
     }

@@ -5,7 +5,6 @@ ghost use Rattle.st_client_rules.specs.Replies.{demanded};
 ghost use Rattle.st_messages.specs.declared.message.Body.TheVariants as bodies;
 ghost use Rattle.st_rules.specs.ClientInvariants.{lasts_here};
 ghost use Rattle.st_rules.specs.ClientReplies as replies;
-ghost use Rattle.st_rules.specs.ClientState.{send};
 
 use crate::effects::granted;
 use crate::epochs::{of_other_epoch, without_session};
@@ -17,20 +16,12 @@ use st_rules::Asked;
 use std::alloc::AllocError;
 
 #[tactic(auto, unfolding(st_rules::specs::ClientReplies::condemn))]
-fn condemn(turn: &mut Turn, now: Stamp)
-    requires session { has_session turn.old ≡ true }
-    requires lasting { lasts_here turn.old.config now turn.old.here ≡ true }
-    ensures { turn.new ≡ replies.condemn turn.old (session_of turn.old) }
-{
-    turn.condemn(now);
-}
-
 fn condemned(turn: &mut Turn, now: Stamp) -> Result<(), AllocError>
     requires session { has_session turn.old ≡ true }
     requires lasting { lasts_here turn.old.config now turn.old.here ≡ true }
     ensures { OnOk result (turn.new ≡ replies.condemn turn.old (session_of turn.old)) }
 {
-    condemn(turn, now);
+    turn.condemn(now);
     Ok(())
 }
 
@@ -63,47 +54,16 @@ fn nack(
     }
 }
 
-/// A grant that answers no request has number 0, and does nothing but grant.
-#[tactic(auto, unfolding(st_rules::specs::ClientReplies::grant_or_reply))]
-fn grant_or_reply(
-    turn: &mut Turn,
-    now: Stamp,
-    h: Header,
-    ino: u32,
-    g: GrantNo,
-    mode: Mode,
-    body: &Body,
-) -> Result<(), AllocError>
-    requires session { has_session turn.old ≡ true }
-    requires lasting { lasts_here turn.old.config now turn.old.here ≡ true }
-    requires past { h.stamp ≤ now.0 }
-    requires reading { now.0 ≤ 2 ^ 62 }
-    requires body { body.now ≡ bodies.Granted ino g mode }
-    ensures { OnOk result (turn.new ≡ replies.grant_or_reply turn.old (session_of turn.old) now h ino g mode) }
-{
-    if h.number == 0 {
-        granted(turn, ino, g, mode)
-    } else {
-        reply_of(turn, now, h, body)
-    }
-}
-
-/// The demand is seen.
-fn observe_demand(turn: &mut Turn, ino: u32, g: GrantNo) -> Result<(), AllocError>
-    requires { has_session turn.old ≡ true }
-    ensures { OnOk result (turn.new ≡ send turn.old (session_of turn.old).epoch.0 0 0 (bodies.DemandSeen ino g)) }
-{
-    let epoch = turn.session().epoch();
-    turn.send(epoch.0, 0, 0, Body::DemandSeen { ino, g })
-}
-
 /// What becomes of a demand, once the locks are as after it.
 fn demand_as(turn: &mut Turn, ino: u32, g: GrantNo, asked: Asked) -> Result<(), AllocError>
     requires { has_session turn.old ≡ true }
     ensures { OnOk result (turn.new ≡ demanded turn.old ino g asked) }
 {
     match asked {
-        Asked::Reduce => observe_demand(turn, ino, g),
+        Asked::Reduce => {
+            let epoch = turn.session().epoch();
+            turn.send(epoch.0, 0, 0, Body::DemandSeen { ino, g })
+        }
         Asked::NotHeld => turn.release_unheld(ino, g),
         Asked::Stale => Ok(()),
     }
@@ -119,8 +79,9 @@ fn demand(turn: &mut Turn, ino: u32, g: GrantNo, to: Mode) -> Result<(), AllocEr
     demand_as(turn, ino, g, asked)
 }
 
-/// A message of the session's epoch, by what it says.
-#[tactic(auto, unfolding(st_rules::specs::ClientReplies::of_epoch))]
+/// A message of the session's epoch, by what it says. A grant that answers no request has number 0,
+/// and does nothing but grant.
+#[tactic(auto, unfolding(st_rules::specs::ClientReplies::of_epoch, st_rules::specs::ClientReplies::grant_or_reply))]
 fn of_epoch(turn: &mut Turn, now: Stamp, h: Header, body: &Body) -> Result<(), AllocError>
     requires session { has_session turn.old ≡ true }
     requires lasting { lasts_here turn.old.config now turn.old.here ≡ true }
@@ -130,38 +91,15 @@ fn of_epoch(turn: &mut Turn, now: Stamp, h: Header, body: &Body) -> Result<(), A
 {
     match body {
         Body::Nack { why, a, b } => nack(turn, now, h, *why, *a, *b, body),
-        Body::Granted { ino, g, mode } => grant_or_reply(turn, now, h, *ino, *g, *mode, body),
+        Body::Granted { ino, g, mode } => {
+            if h.number == 0 {
+                granted(turn, *ino, *g, *mode)
+            } else {
+                reply_of(turn, now, h, body)
+            }
+        }
         Body::Demand { ino, g, to } => demand(turn, *ino, *g, *to),
         _ => reply_of(turn, now, h, body),
-    }
-}
-
-#[tactic(auto, unfolding(st_rules::specs::ClientReplies::with_a_session))]
-fn with_a_session(turn: &mut Turn, now: Stamp, h: Header, body: &Body) -> Result<(), AllocError>
-    requires session { has_session turn.old ≡ true }
-    requires lasting { lasts_here turn.old.config now turn.old.here ≡ true }
-    requires past { h.stamp ≤ now.0 }
-    requires reading { now.0 ≤ 2 ^ 62 }
-    ensures { OnOk result (turn.new ≡ replies.with_a_session turn.old (session_of turn.old) now h body.now) }
-{
-    if h.epoch == turn.session().epoch().0 {
-        of_epoch(turn, now, h, body)
-    } else {
-        of_other_epoch(turn, Epoch(h.epoch), body)
-    }
-}
-
-#[tactic(auto, unfolding(st_rules::specs::ClientReplies::by_session))]
-fn by_session(turn: &mut Turn, now: Stamp, h: Header, body: &Body) -> Result<(), AllocError>
-    requires lasting { lasts_here turn.old.config now turn.old.here ≡ true }
-    requires past { h.stamp ≤ now.0 }
-    requires reading { now.0 ≤ 2 ^ 62 }
-    ensures { OnOk result (turn.new ≡ replies.by_session turn.old now h body.now turn.old.here.session) }
-{
-    if turn.has_session() {
-        with_a_session(turn, now, h, body)
-    } else {
-        without_session(turn, now, h, body)
     }
 }
 
@@ -174,15 +112,19 @@ fn is_received(turn: &Turn, now: Stamp, h: Header) -> bool
 
 /// A message, at a server: whether it is from there, and what it does. The lease is not over at
 /// this moment, which is at most 2^62.
-#[tactic(auto, unfolding(st_rules::specs::ClientReplies::receive_at))]
+#[tactic(auto, unfolding(st_rules::specs::ClientReplies::receive_at, st_rules::specs::ClientReplies::by_session, st_rules::specs::ClientReplies::with_a_session))]
 pub fn receive_at(turn: &mut Turn, now: Stamp, h: Header, body: &Body) -> Result<(), AllocError>
     requires lasting { lasts_here turn.old.config now turn.old.here ≡ true }
     requires reading { now.0 ≤ 2 ^ 62 }
     ensures { OnOk result (turn.new ≡ replies.receive_at now h body.now turn.old) }
 {
-    if is_received(turn, now, h) {
-        by_session(turn, now, h, body)
-    } else {
+    if !is_received(turn, now, h) {
         Ok(())
+    } else if !turn.has_session() {
+        without_session(turn, now, h, body)
+    } else if h.epoch == turn.session().epoch().0 {
+        of_epoch(turn, now, h, body)
+    } else {
+        of_other_epoch(turn, Epoch(h.epoch), body)
     }
 }

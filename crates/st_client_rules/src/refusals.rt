@@ -3,7 +3,6 @@ ghost use Rattle.std.specs.Prelude.{◌≡◌, OnOk};
 ghost use Rattle.st_rules.specs.ClientReplies as replies;
 
 use crate::bodies::{asks_cut_or_remove, page_asked};
-use st_base::PageNo;
 use st_client_association::Turn;
 use st_messages::{AppAnswer, Body, Why};
 use st_operations::{ChangesPage, RequestingOperation, WorksOn};
@@ -20,35 +19,8 @@ fn refuse_file(turn: &mut Turn, answer: &AppAnswer, file: Option<u32>) -> Result
     }
 }
 
-#[tactic(auto, unfolding(st_rules::specs::ClientReplies::refuse_page))]
-fn refuse_page(
-    turn: &mut Turn,
-    answer: &AppAnswer,
-    file: Option<u32>,
-    page: Option<PageNo>,
-) -> Result<(), AllocError>
-    ensures { OnOk result (turn.new ≡ replies.refuse_page turn.old answer.now file page) }
-{
-    let server = turn.server();
-    match (file, page) {
-        (Some(ino), Some(page)) => turn.answer_each(&ChangesPage { server, ino, page }, answer),
-        _ => Ok(()),
-    }
-}
-
-#[tactic(auto, unfolding(st_rules::specs::ClientReplies::refuse_holder))]
-fn refuse_holder(turn: &mut Turn, asked: &Body) -> Result<(), AllocError>
-    ensures { OnOk result (turn.new ≡ replies.refuse_holder turn.old asked.now) }
-{
-    let server = turn.server();
-    if asks_cut_or_remove(asked) {
-        turn.answer_each(&RequestingOperation { server }, &AppAnswer::NotHolder)
-    } else {
-        Ok(())
-    }
-}
-
-#[tactic(auto, unfolding(st_rules::specs::ClientReplies::refuse_as))]
+/// What is pending is answered, by why the request was refused.
+#[tactic(auto, unfolding(st_rules::specs::ClientReplies::refuse_as, st_rules::specs::ClientReplies::refuse_page, st_rules::specs::ClientReplies::refuse_holder))]
 fn refuse_as(
     turn: &mut Turn,
     why: Why,
@@ -59,11 +31,24 @@ fn refuse_as(
 ) -> Result<(), AllocError>
     ensures { OnOk result (turn.new ≡ replies.refuse_as turn.old why a b file asked.now) }
 {
+    let server = turn.server();
     match why {
         Why::NoFile => refuse_file(turn, &AppAnswer::NoFile, file),
         Why::TooManyLocks => refuse_file(turn, &AppAnswer::TooManyLocks, file),
-        Why::NoSpace => refuse_page(turn, &AppAnswer::NoSpace(a, b), file, page_asked(asked)),
-        Why::NotHolder => refuse_holder(turn, asked),
+        Why::NoSpace => match (file, page_asked(asked)) {
+            (Some(ino), Some(page)) => turn.answer_each(
+                &ChangesPage { server, ino, page },
+                &AppAnswer::NoSpace(a, b),
+            ),
+            _ => Ok(()),
+        },
+        Why::NotHolder => {
+            if asks_cut_or_remove(asked) {
+                turn.answer_each(&RequestingOperation { server }, &AppAnswer::NotHolder)
+            } else {
+                Ok(())
+            }
+        }
         _ => Ok(()),
     }
 }
