@@ -33,20 +33,13 @@ fn must_greet(t: &Turn, now: Stamp, tick: bool) -> bool
     t.operations().any(&here) && is_greeting_due(t, now, tick)
 }
 
-#[tactic(auto, unfolding(st_rules::specs::ClientPasses::hello))]
-fn hello(t: &mut Turn, now: Stamp) -> Result<(), AllocError>
-    ensures { OnOk result (t.new ≡ passes.hello t.old now) }
-{
-    t.set_greeting(now);
-    t.send(0, 0, now.0, Body::Hello)
-}
-
-#[tactic(auto, unfolding(st_rules::specs::ClientPasses::greet))]
+#[tactic(auto, unfolding(st_rules::specs::ClientPasses::greet, st_rules::specs::ClientPasses::hello))]
 fn greet(t: &mut Turn, now: Stamp, tick: bool) -> Result<(), AllocError>
     ensures { OnOk result (t.new ≡ passes.greet t.old now tick) }
 {
     if must_greet(t, now, tick) {
-        hello(t, now)
+        t.set_greeting(now);
+        t.send(0, 0, now.0, Body::Hello)
     } else {
         Ok(())
     }

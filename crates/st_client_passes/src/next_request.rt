@@ -4,7 +4,6 @@ ghost use Rattle.std.specs.Option.{option_map};
 ghost use Rattle.st_client_association.specs.Turns.{has_session, session_of};
 ghost use Rattle.st_rules.specs.ClientLocks as locks;
 ghost use Rattle.st_rules.specs.ClientPasses as passes;
-ghost use Rattle.st_rules.specs.ClientState as client_state;
 ghost use Rattle.st_client_passes.specs.Requests.{asked_at, asking_at};
 
 use crate::greetings::has_passed;
@@ -14,7 +13,7 @@ use st_base::{GrantNo, Mode, NameAsk, PageNo, Stamp};
 use st_client_association::Turn;
 use st_messages::{Ask, Body, NameOp};
 use st_operations::{file_of, is_of, is_sent};
-use st_rules::{HeldLock, LockWait, Operation};
+use st_rules::{LockWait, Operation};
 use std::alloc::AllocError;
 
 /// The mode that an operation needs: a read shared, and all else exclusive.
@@ -55,17 +54,6 @@ fn is_at_hand(t: &Turn, ino: u32, page: PageNo) -> bool
     ensures { result ≡ passes.is_at_hand t.now ino page }
 {
     t.is_cached(ino, page) || t.known(ino, page).is_some()
-}
-
-#[tactic(auto, unfolding(st_rules::specs::ClientPasses::want_map))]
-fn want_map(t: &Turn, ino: u32, g: GrantNo, page: PageNo) -> Option<Wanted>
-    ensures { result ≡ passes.want_map t.now ino g page }
-{
-    if is_at_hand(t, ino, page) {
-        None
-    } else {
-        on_behalf(Body::Map { ino, g, page })
-    }
 }
 
 #[tactic(auto, unfolding(st_rules::specs::ClientPasses::want_block))]
@@ -136,12 +124,22 @@ fn name_op(ask: &NameAsk, g: GrantNo) -> Result<NameOp, AllocError>
 }
 
 /// What an ask with the lock that it needs asks.
-#[tactic(auto, unfolding(st_rules::specs::ClientPasses::want_held))]
+#[tactic(auto, unfolding(st_rules::specs::ClientPasses::want_held, st_rules::specs::ClientPasses::want_map))]
 fn want_held(t: &Turn, ask: &Ask, ino: u32, g: GrantNo) -> Result<Option<Wanted>, AllocError>
     ensures { IfOk result (λ w. w ≡ passes.want_held t.now ask.now ino g) }
 {
     match ask {
-        Ask::Read(_, page) => Ok(want_map(t, ino, g, *page)),
+        Ask::Read(_, page) => {
+            if is_at_hand(t, ino, *page) {
+                Ok(None)
+            } else {
+                Ok(on_behalf(Body::Map {
+                    ino,
+                    g,
+                    page: *page,
+                }))
+            }
+        }
         Ask::Write(_, page, _) => Ok(want_block(t, ino, g, *page)),
         Ask::Patch(_, page, _, _) => Ok(want_block(t, ino, g, *page)),
         Ask::Cut(_, page) => Ok(want_cut(
@@ -159,32 +157,20 @@ fn want_held(t: &Turn, ask: &Ask, ino: u32, g: GrantNo) -> Result<Option<Wanted>
     }
 }
 
-#[tactic(auto, unfolding(st_rules::specs::ClientPasses::want_under))]
-fn want_under(
-    t: &Turn,
-    now: Stamp,
-    ask: &Ask,
-    ino: u32,
-    lock: HeldLock,
-) -> Result<Option<Wanted>, AllocError>
-    requires { has_session t.now ≡ true }
-    ensures { IfOk result (λ w. w ≡ passes.want_under t.now (session_of t.now) now ask.now ino lock) }
-{
-    if lock.mode.covers(need(ask)) {
-        want_held(t, ask, ino, lock.g)
-    } else {
-        Ok(want_lock(t, now, ino, need(ask)))
-    }
-}
-
-#[tactic(auto, unfolding(st_rules::specs::ClientPasses::want_on, st_rules::specs::ClientPasses::want_by))]
+#[tactic(auto, unfolding(st_rules::specs::ClientPasses::want_on, st_rules::specs::ClientPasses::want_by, st_rules::specs::ClientPasses::want_under))]
 fn want_on(t: &Turn, now: Stamp, ask: &Ask, ino: u32) -> Result<Option<Wanted>, AllocError>
     requires { has_session t.now ≡ true }
     ensures { IfOk result (λ w. w ≡ passes.want_on t.now (session_of t.now) now ask.now ino) }
 {
     match t.lock(ino) {
         None => Ok(want_lock(t, now, ino, need(ask))),
-        Some(lock) => want_under(t, now, ask, ino, lock),
+        Some(lock) => {
+            if lock.mode.covers(need(ask)) {
+                want_held(t, ask, ino, lock.g)
+            } else {
+                Ok(want_lock(t, now, ino, need(ask)))
+            }
+        }
     }
 }
 
@@ -199,25 +185,17 @@ fn want_name(ask: &Ask) -> Result<Option<Wanted>, AllocError>
     }
 }
 
-#[tactic(auto, unfolding(st_rules::specs::ClientPasses::want_at))]
-fn want_at(t: &Turn, now: Stamp, ask: &Ask) -> Result<Option<Wanted>, AllocError>
-    requires { has_session t.now ≡ true }
-    ensures { IfOk result (λ w. w ≡ passes.want_at t.now (session_of t.now) now ask.now (client_state.file_of ask.now)) }
-{
-    match file_of(ask) {
-        None => want_name(ask),
-        Some(ino) => want_on(t, now, ask, ino),
-    }
-}
-
-#[tactic(auto, unfolding(st_rules::specs::ClientPasses::want))]
+#[tactic(auto, unfolding(st_rules::specs::ClientPasses::want, st_rules::specs::ClientPasses::want_at))]
 fn want(t: &Turn, now: Stamp, ask: &Ask) -> Result<Option<Wanted>, AllocError>
     requires { has_session t.now ≡ true }
     ensures { IfOk result (λ w. w ≡ passes.want t.now (session_of t.now) now ask.now) }
 {
     match ask {
         Ask::Sync(_) => Ok(None),
-        _ => want_at(t, now, ask),
+        _ => match file_of(ask) {
+            None => want_name(ask),
+            Some(ino) => want_on(t, now, ask, ino),
+        },
     }
 }
 

@@ -8,38 +8,12 @@ ghost use Rattle.st_client_passes.specs.PassConditions.{is_serving_at, put_back}
 
 use crate::page_changes::{answer, patch, write};
 use crate::page_reads::read;
-use st_base::{FileId, Stamp};
+use st_base::Stamp;
 use st_client_association::Turn;
 use st_messages::{AppAnswer, Ask};
 use st_operations::{Operations, file_of, is_of, is_sent};
 use st_rules::Operation;
 use std::alloc::AllocError;
-
-/// A sync is hard if its file has no dirty page and no outstanding write.
-#[tactic(auto, unfolding(st_rules::specs::ClientPasses::sync))]
-fn sync(t: &mut Turn, o: &Operation, file: FileId) -> Result<bool, AllocError>
-    ensures left { OnOk result (t.new.operations ≡ t.old.operations) }
-    ensures stays { IfOk result (λ stays. put_back o.now stays t.new ≡ passes.sync t.old o.now file) }
-{
-    if t.is_hard(file.ino) {
-        answer(t, o, AppAnswer::Hard)
-    } else {
-        Ok(true)
-    }
-}
-
-/// In quiesce or later an operation that was not sent is answered so.
-#[tactic(auto, unfolding(st_rules::specs::ClientPasses::quiesce))]
-fn quiesce(t: &mut Turn, o: &Operation) -> Result<bool, AllocError>
-    ensures left { OnOk result (t.new.operations ≡ t.old.operations) }
-    ensures stays { IfOk result (λ stays. put_back o.now stays t.new ≡ passes.quiesce t.old o.now) }
-{
-    if is_sent(o) {
-        Ok(true)
-    } else {
-        answer(t, o, AppAnswer::Quiesced)
-    }
-}
 
 /// An operation on a file that is neither demanded nor busy.
 #[tactic(auto, using(crate::proofs::Asks::patch_range), unfolding(st_rules::specs::ClientPasses::serve_open))]
@@ -58,40 +32,19 @@ fn serve_open(t: &mut Turn, now: Stamp, o: &Operation) -> Result<bool, AllocErro
     }
 }
 
-/// Whether the file is neither demanded nor busy by these operations.
-fn is_open(all: &Operations, t: &Turn, ino: u32) -> bool
-    requires { has_session t.now ≡ true }
-    ensures { result ≡ client_state.is_open all.now t.now.here.server (session_of t.now) ino }
-{
-    !t.is_demanded(ino) && !t.is_busy(all, ino)
-}
-
+/// Whether the file, if there is one, is neither demanded nor busy by these operations.
 pub fn is_open_file(all: &Operations, t: &Turn, file: Option<u32>) -> bool
     requires { has_session t.now ≡ true }
     ensures { result ≡ client_state.is_open_file all.now t.now.here.server (session_of t.now) file }
 {
     match file {
         None => true,
-        Some(ino) => is_open(all, t, ino),
+        Some(ino) => !t.is_demanded(ino) && !t.is_busy(all, ino),
     }
 }
 
-#[tactic(auto, unfolding(st_rules::specs::ClientPasses::serve))]
-fn serve(all: &Operations, t: &mut Turn, now: Stamp, o: &Operation) -> Result<bool, AllocError>
-    requires session { has_session t.old ≡ true }
-    requires serving { is_serving_at t.old now ≡ true }
-    requires fit { is_fit o.now ≡ true }
-    ensures left { OnOk result (t.new.operations ≡ t.old.operations) }
-    ensures stays { IfOk result (λ stays. put_back o.now stays t.new ≡ passes.serve all.now t.old (session_of t.old) o.now) }
-{
-    if is_open_file(all, t, file_of(&o.ask)) {
-        serve_open(t, now, o)
-    } else {
-        Ok(true)
-    }
-}
-
-#[tactic(auto, unfolding(st_rules::specs::ClientPasses::operate_under))]
+/// In quiesce or later an operation that was not sent is answered so.
+#[tactic(auto, unfolding(st_rules::specs::ClientPasses::operate_under, st_rules::specs::ClientPasses::serve, st_rules::specs::ClientPasses::quiesce))]
 fn operate_under(
     all: &Operations,
     t: &mut Turn,
@@ -104,9 +57,15 @@ fn operate_under(
     ensures stays { IfOk result (λ stays. put_back o.now stays t.new ≡ passes.operate_under all.now t.old (session_of t.old) now o.now) }
 {
     if t.is_serving(now) {
-        serve(all, t, now, o)
+        if is_open_file(all, t, file_of(&o.ask)) {
+            serve_open(t, now, o)
+        } else {
+            Ok(true)
+        }
+    } else if is_sent(o) {
+        Ok(true)
     } else {
-        quiesce(t, o)
+        answer(t, o, AppAnswer::Quiesced)
     }
 }
 
@@ -122,29 +81,26 @@ fn operate_by(all: &Operations, t: &mut Turn, now: Stamp, o: &Operation) -> Resu
     }
 }
 
-#[tactic(auto, unfolding(st_rules::specs::ClientPasses::operate_on))]
-fn operate_on(all: &Operations, t: &mut Turn, now: Stamp, o: &Operation) -> Result<bool, AllocError>
-    requires fit { is_fit o.now ≡ true }
-    ensures left { OnOk result (t.new.operations ≡ t.old.operations) }
-    ensures stays { IfOk result (λ stays. put_back o.now stays t.new ≡ passes.operate_on all.now t.old now o.now o.now.ask) }
-{
-    match &o.ask {
-        Ask::Sync(file) => sync(t, o, *file),
-        _ => operate_by(all, t, now, o),
-    }
-}
-
-/// Whether the operation stays pending, after what is done for it.
-#[tactic(auto, unfolding(st_rules::specs::ClientPasses::operate))]
+/// Whether the operation stays pending, after what is done for it. A sync is hard if its file has
+/// no dirty page and no outstanding write.
+#[tactic(auto, unfolding(st_rules::specs::ClientPasses::operate, st_rules::specs::ClientPasses::operate_on, st_rules::specs::ClientPasses::sync))]
 fn stays(all: &Operations, t: &mut Turn, now: Stamp, o: &Operation) -> Result<bool, AllocError>
     requires fit { is_fit o.now ≡ true }
     ensures left { OnOk result (t.new.operations ≡ t.old.operations) }
     ensures stays { IfOk result (λ stays. put_back o.now stays t.new ≡ passes.operate all.now t.old now o.now) }
 {
-    if is_of(t.server(), o) {
-        operate_on(all, t, now, o)
-    } else {
-        Ok(true)
+    if !is_of(t.server(), o) {
+        return Ok(true);
+    }
+    match &o.ask {
+        Ask::Sync(file) => {
+            if t.is_hard(file.ino) {
+                answer(t, o, AppAnswer::Hard)
+            } else {
+                Ok(true)
+            }
+        }
+        _ => operate_by(all, t, now, o),
     }
 }
 

@@ -141,29 +141,7 @@ fn patch_bytes(
 }
 
 /// The page's bytes are cached, or are fetched.
-#[tactic(auto, unfolding(st_rules::specs::ClientPasses::patch_at))]
-fn patch_at(
-    t: &mut Turn,
-    now: Stamp,
-    o: &Operation,
-    file: FileId,
-    page: PageNo,
-    at: u16,
-    bytes: &PatchBytes,
-) -> Result<bool, AllocError>
-    requires session { has_session t.old ≡ true }
-    requires serving { is_serving_at t.old now ≡ true }
-    requires range { at + length bytes.now ≤ 4096 }
-    ensures left { OnOk result (t.new.operations ≡ t.old.operations) }
-    ensures stays { IfOk result (λ stays. put_back o.now stays t.new ≡ passes.patch_at t.old o.now file page at bytes.now (pages.cached t.old.here.store.pages file.ino page)) }
-{
-    match t.base(now, file.ino, page)? {
-        None => fetch(t, now, o, file, page),
-        Some(old) => patch_bytes(t, now, o, file, page, at, bytes, &old),
-    }
-}
-
-#[tactic(auto, unfolding(st_rules::specs::ClientPasses::patch))]
+#[tactic(auto, unfolding(st_rules::specs::ClientPasses::patch, st_rules::specs::ClientPasses::patch_at))]
 pub fn patch(
     t: &mut Turn,
     now: Stamp,
@@ -180,7 +158,10 @@ pub fn patch(
     ensures stays { IfOk result (λ stays. put_back o.now stays t.new ≡ passes.patch t.old (session_of t.old) o.now file page at bytes.now) }
 {
     if may_write(t, file, page) {
-        patch_at(t, now, o, file, page, at, bytes)
+        match t.base(now, file.ino, page)? {
+            None => fetch(t, now, o, file, page),
+            Some(old) => patch_bytes(t, now, o, file, page, at, bytes, &old),
+        }
     } else {
         Ok(true)
     }

@@ -121,25 +121,16 @@ fn ask_by(t: &mut Turn, now: Stamp) -> Result<(), AllocError>
     }
 }
 
-/// All locks are reasserted.
-#[tactic(auto, unfolding(st_rules::specs::ClientPasses::reassert))]
-fn reassert(t: &mut Turn, now: Stamp) -> Result<(), AllocError>
-    requires session { has_session t.old ≡ true }
-    requires free { is_free t.old ≡ true }
-    ensures { OnOk result (t.new ≡ passes.reassert t.old (session_of t.old) now) }
-{
-    let rows = t.all_locks()?;
-    t.ask(now, Body::Reassert(rows), None)
-}
-
-#[tactic(auto, unfolding(st_rules::specs::ClientPasses::ask_new))]
+/// All locks are reasserted, if that is due.
+#[tactic(auto, unfolding(st_rules::specs::ClientPasses::ask_new, st_rules::specs::ClientPasses::reassert))]
 fn ask_new(t: &mut Turn, now: Stamp) -> Result<(), AllocError>
     requires session { has_session t.old ≡ true }
     requires free { is_free t.old ≡ true }
     ensures { OnOk result (t.new ≡ passes.ask_new t.old (session_of t.old) now) }
 {
     if t.is_due() {
-        reassert(t, now)
+        let rows = t.all_locks()?;
+        t.ask(now, Body::Reassert(rows), None)
     } else {
         ask_by(t, now)
     }

@@ -56,13 +56,6 @@ fn is_wanted(t: &Turn, ino: u32) -> bool
     t.is_demanded(ino) || (t.operations().any(&sync) || is_cut_wanted(t, ino))
 }
 
-fn is_due_by_need(t: &Turn, tick: bool, page: &DirtyRow<'_>) -> bool
-    requires { has_session t.now ≡ true }
-    ensures { result ≡ passes.is_due_by_need t.now (session_of t.now) tick page.now }
-{
-    is_wanted(t, page.ino()) && (!page.has_failed() || tick)
-}
-
 /// Whether all dirty pages are submitted: the lease is in flush.
 fn drains(t: &Turn, now: Stamp) -> bool
     requires { has_session t.now ≡ true }
@@ -82,7 +75,7 @@ fn is_due(t: &Turn, now: Stamp, tick: bool, page: &DirtyRow<'_>) -> bool
     if drains(t, now) {
         !page.has_failed()
     } else {
-        is_due_by_need(t, tick, page)
+        is_wanted(t, page.ino()) && (!page.has_failed() || tick)
     }
 }
 
