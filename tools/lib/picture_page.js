@@ -13,7 +13,12 @@ function tell(place) {
     (told.report[e] || []).map(t => '\n        ' + t).join('')).join('\n');
 }
 document.addEventListener('mouseover', it => { const place = it.target.closest('[data-e]'); if (place && !fixed) tell(place); });
-main.addEventListener('click', it => { const place = it.target.closest('[data-e]'); fixed = !!place && !fixed; if (place) tell(place); });
+main.addEventListener('click', it => {
+  const place = it.target.closest('[data-e]');
+  if (place && place.classList.contains('more')) { toggle(+place.dataset.g); return; }
+  fixed = !!place && !fixed;
+  if (place) tell(place);
+});
 
 // The rows, with their places as drawn, and the texts of all other elements, with the heights that
 // each reaches from and to.
@@ -114,6 +119,19 @@ function pieces(cuts, end) {
 }
 const joined = cuts => cuts.sort((a, b) => a[0] - b[0]);
 
+// Groups of similar notes at one event: one line stands for them. It opens and closes its group,
+// which has no height while it is closed. `opened` has the numbers of the groups that are open.
+const opened = new Set();
+function toggle(group) {
+  if (!opened.delete(group)) opened.add(group);
+  layout();
+}
+function openAll() {
+  if (opened.size) opened.clear();
+  else told.groups.forEach((it, n) => opened.add(n));
+  layout();
+}
+
 function wanted() {
   return seek.value.trim().split(/\s+/).filter(Boolean).map(w => /^\d+:\d+$/.test(w) ? 'f' + w : /^\d+$/.test(w) ? 'm' + w : w);
 }
@@ -134,7 +152,8 @@ function layout() {
   const hidden = new Set();
   rows.forEach((row, at) => { if (filters && !shownRows.has(row.e) && at > 0 && at < rows.length - 1) hidden.add(at); });
   stretches.forEach(([from, to]) => { for (let at = from + 1; at < to; at++) hidden.add(at); });
-  const my = pieces(joined([...hidden].map(at => [rows[at].top, rows[at].top + rows[at].high])), height);
+  const closed = told.groups.filter((it, n) => !opened.has(n)).map(([, from, to]) => [from, to]);
+  const my = pieces(joined([...[...hidden].map(at => [rows[at].top, rows[at].top + rows[at].high]), ...closed]), height);
   const mx = pieces(joined(told.columns.filter(([k]) => k[0] == 'f' ? !shownFiles.has(k) : filters && !inView.has(k)).map(([, from, to]) => [from, to])), width);
   folded = [];
   for (const it of titles) place(it, mx, null, false);
@@ -210,6 +229,7 @@ function keepNotes() {
 
 function place(one, mx, my, off) {
   const it = one.it, y = v => my ? my(v) : v, set = (name, v) => it.setAttribute(name, v), lane = it.classList.contains('lane');
+  if (it.classList.contains('more')) it.textContent = (opened.has(+it.dataset.g) ? '\u25be' : '\u25b8') + it.textContent.slice(1);
   let gone = off || !it.classList.contains('row') && (one.tag == 'text' || one.tag == 'circle' || lane || one.tag == 'rect') && mx.hides(one.x);
   if (my && (one.tag == 'text' || one.tag == 'circle') && my.hides(one.y)) gone = true;
   if (one.tag == 'rect') {
@@ -281,11 +301,12 @@ document.addEventListener('keydown', it => {
   const key = it.key.toLowerCase();
   if (kinds[key]) next(key, it.shiftKey);
   else if (key == 'f') { fold.checked = !fold.checked; layout(); }
+  else if (key == 'o') openAll();
   else if (key == '/') { seek.focus(); it.preventDefault(); }
 });
 
 // The state at first: what the tool's arguments say, and what the address says after #
-// (only=1:2+c1&fold=1&file=1:2&at=714&key=t).
+// (only=1:2+c1&fold=1&file=1:2&at=714&open=1&key=t).
 const state = {...told.first, ...Object.fromEntries(new URLSearchParams(location.hash.slice(1)))}, all = told.columns.filter(c => c[0][0] == 'f').map(c => c[0]);
 for (const k of ['all', ...all]) file.append(new Option(k == 'all' ? 'all files' : k.slice(1), k));
 const locks = {};
@@ -298,13 +319,15 @@ file.addEventListener('change', layout);
 fold.addEventListener('change', layout);
 seek.addEventListener('input', layout);
 everything = state.all == '1';
-layout();
+if (state.open == '1') openAll();
+else layout();
 if (state.at) go(+state.at);
 if (state.key) for (const key of state.key) next(key.toLowerCase(), key != key.toLowerCase());
 
 
-// For tools/checks/browser: labels of one event that overlap, notes that are cut off, and when the
-// page could be seen.
+// For tools/checks/browser: clicks on the first line that opens, labels of one event that overlap,
+// notes that are cut off, and when the page could be seen.
+for (let n = 0; n < (+state.click || 0); n++) run.querySelector('text.more').dispatchEvent(new MouseEvent('click', {bubbles: true}));
 if (state.check) {
   const boxes = [...run.querySelectorAll('text.label,text.small,text.note')].filter(it => it.dataset.e).map(it => ({event: it.dataset.e.split(' ')[0], text: it.textContent, box: it.getBBox()}));
   const apart = (a, b) => a.x + a.width <= b.x + 1 || b.x + b.width <= a.x + 1 || a.y + a.height <= b.y + 3 || b.y + b.height <= a.y + 3;
