@@ -15,12 +15,15 @@ struct written {
     uint16_t server;
 };
 
-static struct queue waiting[SERVERS_MOST + 1]; /* by server; 0 has those of others */
-static struct queue stalled;                   /* wait for a sync of all files */
-static struct {
+/* An ask that was given to the client. */
+struct pending {
     struct request *request; /* null if it was forgotten */
     struct tank_ask ask;     /* its `op` is 0 in a place that is free */
-} pending[PENDING_MOST];     /* given to the client */
+};
+
+static GQueue waiting[SERVERS_MOST + 1]; /* by server; 0 has those of others */
+static GQueue stalled;                   /* wait for a sync of all files */
+static struct pending pending[PENDING_MOST];
 static int pending_at[SERVERS_MOST + 1], all_pending;
 static struct written *written;
 static size_t written_count;
@@ -31,12 +34,12 @@ static int place_of(uint16_t server) { return server <= config.servers ? server 
 
 void asks_put(struct request *it) {
     if (is_ending) it->answered(it, NULL);
-    else queue_put(&waiting[place_of(it->ask.server)], it);
+    else g_queue_push_tail(&waiting[place_of(it->ask.server)], it);
 }
 
 void asks_forget(struct request *it) {
-    queue_remove(&waiting[place_of(it->ask.server)], it);
-    queue_remove(&stalled, it);
+    g_queue_remove(&waiting[place_of(it->ask.server)], it);
+    g_queue_remove(&stalled, it);
     for (int i = 0; i < PENDING_MOST; i++)
         if (pending[i].request == it) pending[i].request = NULL;
 }
@@ -50,15 +53,15 @@ static void synced(struct request *it, const struct reply *reply) {
     if (is_ending && answer != TANK_ANSWER_HARD)
         say(LEVEL_WARNING, "file %d:%u: not everything that was written is on the disks",
             it->ask.server, it->ask.ino);
-    free(it);
+    g_free(it);
     if (--syncs) return;
-    for (struct request *other; (other = queue_take(&stalled));) asks_put(other);
+    for (struct request *other; (other = g_queue_pop_head(&stalled));) asks_put(other);
 }
 
 static void sync_all(void) {
     pages = 0;
     for (size_t i = 0; i < written_count; i++) {
-        struct request *it = taken(sizeof *it);
+        struct request *it = g_new0(struct request, 1);
         it->ask = (struct tank_ask){
             .ask = TANK_ASK_SYNC, .server = written[i].server, .ino = written[i].ino};
         it->answered = synced;
@@ -74,32 +77,25 @@ void asks_end(void) {
 
 bool asks_are_synced(void) { return !syncs; }
 
-static struct written *find_written(uint16_t server, uint32_t ino) {
-    for (size_t i = 0; i < written_count; i++)
-        if (written[i].ino == ino && written[i].server == server) return &written[i];
-    return NULL;
+/* What was written of this file before this ask needs no other sync. */
+static void forget_written(uint16_t server, uint32_t ino, uint64_t op) {
+    for (size_t i = written_count; i-- > 0;)
+        if (written[i].ino == ino && written[i].server == server && written[i].op < op)
+            written[i] = written[--written_count];
 }
 
 static void note_write(const struct request *it, const struct tank_ask *ask) {
-    struct written *found = find_written(ask->server, ask->ino);
-    if (!found) {
-        written = enlarged(written, (written_count + 1) * sizeof *written);
-        found = &written[written_count++];
-    }
-    *found = (struct written){ask->op, ask->ino, ask->server};
+    forget_written(ask->server, ask->ino, UINT64_MAX);
+    written = g_renew(struct written, written, written_count + 1);
+    written[written_count++] = (struct written){ask->op, ask->ino, ask->server};
     if (it && it->is_patient && ++pages >= WRITTEN_MOST && !syncs) sync_all();
 }
 
-/* What was written before this ask needs no other sync. */
-static void note_synced(const struct tank_ask *ask, uint32_t ino) {
-    struct written *it = find_written(ask->server, ino);
-    if (it && it->op < ask->op) *it = written[--written_count];
-}
-
 static void note(const struct request *it, const struct tank_ask *ask, uint32_t answer) {
+    bool is_removed = answer == TANK_ANSWER_NAMED && ask->ask == TANK_ASK_REMOVE;
     if (answer == TANK_ANSWER_WRITTEN) note_write(it, ask);
-    if (answer == TANK_ANSWER_HARD || answer == TANK_ANSWER_LOST) note_synced(ask, ask->ino);
-    if (answer == TANK_ANSWER_NAMED && ask->ask == TANK_ASK_REMOVE) note_synced(ask, ask->other);
+    if (is_removed || answer == TANK_ANSWER_HARD || answer == TANK_ANSWER_LOST)
+        forget_written(ask->server, is_removed ? ask->other : ask->ino, ask->op);
     if (answer >= TANK_ANSWER_QUIESCED) count(COUNT_REFUSED);
 }
 
@@ -130,10 +126,9 @@ static void give_one(struct request *it, int place) {
         it->answered(it, NULL);
         return;
     }
-    int i = 0;
-    while (pending[i].ask.op) i++;
-    pending[i].request = it;
-    pending[i].ask = it->ask;
+    struct pending *room = pending;
+    while (room->ask.op) room++;
+    *room = (struct pending){it, it->ask};
     pending_at[place]++;
     all_pending++;
     count(COUNT_ASKS);
@@ -145,53 +140,52 @@ static void give_one(struct request *it, int place) {
 void asks_give(void) {
     const int share = PENDING_MOST / (int)config.servers;
     for (int place = 0; place <= (int)config.servers; place++)
-        while (waiting[place].first && all_pending < PENDING_MOST && pending_at[place] < share)
-            give_one(queue_take(&waiting[place]), place);
+        while (waiting[place].head && all_pending < PENDING_MOST && pending_at[place] < share)
+            give_one(g_queue_pop_head(&waiting[place]), place);
 }
 
-static struct request *take_pending(int place, struct tank_ask *ask) {
-    *ask = pending[place].ask;
-    pending[place].ask.op = 0;
-    pending_at[place_of(ask->server)]--;
+static void free_pending(struct pending *it) {
+    pending_at[place_of(it->ask.server)]--;
     all_pending--;
-    return pending[place].request;
+    it->ask.op = 0;
 }
 
 void asks_answer(const uint8_t *frame, size_t size) {
     static uint8_t page[TANK_PAGE];
     struct reply reply = {.page = page, .frame = frame, .size = size};
-    struct tank_ask ask;
-    int i = 0;
+    struct pending *place = pending;
     must(tank_decode_answer(frame, size, &reply.answer, page, sizeof page));
-    while (i < PENDING_MOST && pending[i].ask.op != reply.answer.op) i++;
-    if (i == PENDING_MOST) return;
-    struct request *it = take_pending(i, &ask);
-    note(it, &ask, reply.answer.answer);
+    while (place < pending + PENDING_MOST && place->ask.op != reply.answer.op) place++;
+    if (place == pending + PENDING_MOST) return;
+    struct request *it = place->request;
+    note(it, &place->ask, reply.answer.answer);
+    free_pending(place);
     bool is_stalled = it && it->is_patient && reply.answer.answer == TANK_ANSWER_DIRTY_FULL;
     if (is_stalled && !syncs) sync_all();
-    if (is_stalled && syncs) queue_put(&stalled, it);
+    if (is_stalled && syncs) g_queue_push_tail(&stalled, it);
     else if (it) it->answered(it, &reply);
 }
 
 bool asks_wait_for(uint16_t server, uint32_t ino) {
     for (int i = 0; i < PENDING_MOST; i++) {
         const struct tank_ask *it = &pending[i].ask;
-        if (it->op && it->server == server &&
-            (it->ask == TANK_ASK_REMOVE ? it->other : it->ino) == ino)
-            return true;
+        uint32_t of = it->ask == TANK_ASK_REMOVE ? it->other : it->ino;
+        if (it->op && it->server == server && of == ino) return true;
     }
     return false;
 }
 
 void asks_drop(void) {
-    struct tank_ask ask;
-    struct queue all = stalled;
-    stalled = (struct queue){0};
-    for (int i = 0; i < PENDING_MOST; i++)
-        if (pending[i].ask.op && take_pending(i, &ask)) queue_put(&all, pending[i].request);
+    GQueue all = stalled;
+    stalled = (GQueue)G_QUEUE_INIT;
+    for (struct pending *it = pending; it < pending + PENDING_MOST; it++) {
+        if (!it->ask.op) continue;
+        free_pending(it);
+        if (it->request) g_queue_push_tail(&all, it->request);
+    }
     for (int place = 0; place <= SERVERS_MOST; place++)
-        for (void *it; (it = queue_take(&waiting[place]));) queue_put(&all, it);
+        while (waiting[place].head) g_queue_push_tail(&all, g_queue_pop_head(&waiting[place]));
     for (size_t i = 0; i < written_count; i++) folder_lost(written[i].server, written[i].ino);
     written_count = 0;
-    for (struct request *it; (it = queue_take(&all));) it->answered(it, NULL);
+    for (struct request *it; (it = g_queue_pop_head(&all));) it->answered(it, NULL);
 }

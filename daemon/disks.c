@@ -5,12 +5,10 @@
 #include <endian.h>
 #include <errno.h>
 #include <fcntl.h>
-#include <pthread.h>
+#include <stdatomic.h>
 #include <string.h>
-#include <sys/epoll.h>
 #include <sys/eventfd.h>
 #include <sys/stat.h>
-#include <unistd.h>
 #include <zlib.h>
 
 enum {
@@ -28,7 +26,6 @@ struct __attribute__((packed)) block { /* each number has its highest byte first
 };
 
 struct command {
-    struct item item;
     struct tank_command command;
     uint64_t life;   /* of the lease under which it was submitted */
     uint64_t until;  /* when that lease ended, as its turn came */
@@ -42,30 +39,23 @@ struct command {
     };
 };
 
-static struct worker {
-    pthread_cond_t wake;
-    struct queue waiting;
-} * workers;
-
-/* Used under this lock; only the loop's thread changes `leases`. */
-static pthread_mutex_t lock = PTHREAD_MUTEX_INITIALIZER;
-static pthread_cond_t idle = PTHREAD_COND_INITIALIZER;
-static struct queue ended;
-static uint64_t under_way; /* commands that a thread has taken and not ended */
-static struct { uint64_t life, end; } leases[SERVERS_MOST + 1];
-static uint64_t slow, failing;
+static GAsyncQueue **waiting; /* for each thread, the commands on its blocks, in their order */
+static GAsyncQueue *ended;
+static int end_file;                     /* tells the loop that commands have ended */
+static _Atomic uint64_t under_way;       /* commands that were submitted and haven't ended */
+static _Atomic int64_t slow, failing;    /* for trials */
+static struct { _Atomic uint64_t life, end; } leases[SERVERS_MOST + 1];
 
 static int files[DISKS_MOST + 1];
-static struct queue spare;                   /* memory of commands that were reported */
-static struct source source;                 /* reports that commands have ended */
+static GQueue spare = G_QUEUE_INIT;          /* memory of commands that were reported */
 static uint64_t submitted[SERVERS_MOST + 1]; /* writes that haven't ended */
+
+/* The threads. A block that was read is whole, or was never written. The sum tells a write of which
+ * only a part reached the disk, in a crash of the machine. */
 
 static uint32_t sum_of(const struct block *it) {
     return htobe32((uint32_t)crc32(0, (const uint8_t *)it, offsetof(struct block, sum)));
 }
-
-/* The threads. A block that was read is whole, or was never written. The sum tells a write of which
- * only a part reached the disk, in a crash of the machine. */
 
 static bool transfer(struct command *it) {
     static const uint8_t never[offsetof(struct block, bytes)];
@@ -83,13 +73,14 @@ static bool transfer(struct command *it) {
     return block->sum == sum_of(block) || (!block->sum && !memcmp(block, never, sizeof never));
 }
 
-/* Does a command, if its lease lasts, and if it doesn't have to fail for a trial. */
+/* Does a command, if its lease lasts, and if it doesn't have to fail for a trial. The lease's end
+ * is read first, and disks_lease writes it last: so if the life then is still that of the command,
+ * the end isn't of a later life. */
 static void begin(struct command *it) {
-    pthread_mutex_lock(&lock);
-    bool fails = failing > 0;
-    failing -= fails;
-    it->until = leases[it->server].life == it->life ? leases[it->server].end : 0;
-    pthread_mutex_unlock(&lock);
+    bool fails = failing > 0 && atomic_fetch_sub(&failing, 1) > 0;
+    if (slow) g_usleep((uint64_t)slow * 1000);
+    uint64_t end = leases[it->server].end;
+    it->until = leases[it->server].life == it->life ? end : 0;
     bool lasts = clock_at(clock_moment()) + config.disk_time < it->until;
     if (!lasts) count(COUNT_DISK_OVER);
     if (!lasts || fails || !transfer(it)) return;
@@ -97,18 +88,33 @@ static void begin(struct command *it) {
     it->effect = clock_moment();
 }
 
-/* Syncs each disk to which the commands wrote; if that fails, their writes failed. */
-static void sync_writes(struct command **batch, int size) {
-    for (uint16_t disk = 1; disk <= config.disks; disk++) {
-        bool is_synced = false, fails = false;
-        for (int i = 0; i < size; i++) {
-            if (batch[i]->end != TANK_END_WRITTEN || batch[i]->disk != disk) continue;
-            if (!is_synced) fails = fdatasync(files[disk]);
-            is_synced = true;
-            if (fails) batch[i]->end = TANK_END_FAILED;
-        }
+/* Syncs a disk, if commands of the batch wrote to it; if that fails, their writes failed. */
+static void sync_writes(struct command **batch, int size, uint16_t disk) {
+    bool is_synced = false, fails = false;
+    for (int i = 0; i < size; i++) {
+        if (batch[i]->end != TANK_END_WRITTEN || batch[i]->disk != disk) continue;
+        if (!is_synced) fails = fdatasync(files[disk]);
+        is_synced = true;
+        if (fails) batch[i]->end = TANK_END_FAILED;
     }
 }
+
+static void *work(void *queue) {
+    struct command *batch[BATCH];
+    for (;;) {
+        int size = 1;
+        batch[0] = g_async_queue_pop(queue);
+        while (size < BATCH && (batch[size] = g_async_queue_try_pop(queue))) size++;
+        for (int i = 0; i < size; i++) begin(batch[i]);
+        for (uint16_t disk = 1; disk <= config.disks; disk++) sync_writes(batch, size, disk);
+        for (int i = 0; i < size; i++) g_async_queue_push(ended, batch[i]);
+        under_way -= (uint64_t)size;
+        eventfd_write(end_file, 1);
+    }
+    return NULL;
+}
+
+/* The loop */
 
 /* A write that took effect after its lease breaks a premise of the protocol: the disk was slower
  * than `disk-time` says. */
@@ -120,47 +126,6 @@ static void check_time(const struct command *it) {
     say(LEVEL_WARNING, "a write to disk %d took effect after its lease", it->disk);
 }
 
-static void *work(void *place) {
-    const uint64_t one = 1;
-    struct worker *it = place;
-    struct command *batch[BATCH];
-    for (;;) {
-        int size = 0;
-        pthread_mutex_lock(&lock);
-        while (!it->waiting.first) pthread_cond_wait(&it->wake, &lock);
-        while (size < BATCH && (batch[size] = queue_take(&it->waiting))) size++;
-        under_way += (uint64_t)size;
-        useconds_t wait = (useconds_t)slow * 1000;
-        pthread_mutex_unlock(&lock);
-        for (int i = 0; i < size; i++) {
-            if (wait) usleep(wait);
-            begin(batch[i]);
-        }
-        sync_writes(batch, size);
-        pthread_mutex_lock(&lock);
-        bool is_told = ended.first;
-        for (int i = 0; i < size; i++) {
-            check_time(batch[i]);
-            queue_put(&ended, batch[i]);
-        }
-        under_way -= (uint64_t)size;
-        if (!under_way) pthread_cond_signal(&idle);
-        pthread_mutex_unlock(&lock);
-        if (!is_told && write(source.file, &one, sizeof one) < 0)
-            fail("eventfd: %s", strerror(errno));
-    }
-    return NULL;
-}
-
-/* The loop's side */
-
-static struct command *take_ended(void) {
-    pthread_mutex_lock(&lock);
-    struct command *it = queue_take(&ended);
-    pthread_mutex_unlock(&lock);
-    return it;
-}
-
 static void report(struct command *it) {
     const struct block *block = &it->block;
     struct tank_done done = {
@@ -170,13 +135,15 @@ static void report(struct command *it) {
                                      be32toh(block->page), be16toh(block->server)};
     count(it->writes ? COUNT_DISK_WRITES : COUNT_DISK_READS);
     if (it->end == TANK_END_FAILED) count(COUNT_DISK_FAILED);
+    check_time(it);
     node_command_ended(&done, block->bytes, it->effect);
     if (it->writes && submitted[it->server]) submitted[it->server]--;
 }
 
-static void hear_ends(struct source *unused, uint32_t events) {
-    (void)unused, (void)events;
-    for (struct command *it; (it = take_ended()); queue_put(&spare, it)) report(it);
+/* What is reported may make the client fence itself, which drops the rest. */
+static void hear_ends(UNUSED_OF_EVENT) {
+    for (struct command *it; (it = g_async_queue_try_pop(ended)); g_queue_push_head(&spare, it))
+        report(it);
 }
 
 void disks_begin(void) {
@@ -188,18 +155,18 @@ void disks_begin(void) {
             (S_ISBLK(found.st_mode) && fcntl(file, F_SETFL, O_DIRECT)))
             fail("disk %d: %s: %s", disk, config.disk[disk], strerror(errno));
     }
-    source_add(&source, eventfd(0, EFD_NONBLOCK | EFD_CLOEXEC), hear_ends);
-    source_change(&source, EPOLLIN | EPOLLET); /* each write is heard, and needs no read */
-    workers = taken(config.workers * sizeof *workers);
-    for (struct worker *it = workers; it < workers + config.workers; it++) {
-        pthread_t thread;
-        if (pthread_cond_init(&it->wake, NULL) || pthread_create(&thread, NULL, work, it))
-            fail("no thread for the disks");
+    end_file = eventfd(0, EFD_NONBLOCK | EFD_CLOEXEC); /* each write is heard, and needs no read */
+    event_add(event_new(base, end_file, EV_READ | EV_PERSIST | EV_ET, hear_ends, NULL), NULL);
+    ended = g_async_queue_new();
+    waiting = g_new(GAsyncQueue *, config.workers);
+    for (uint64_t i = 0; i < config.workers; i++) {
+        waiting[i] = g_async_queue_new();
+        g_thread_unref(g_thread_new("disks", work, waiting[i]));
     }
 }
 
 void disks_submit(const uint8_t *frame, size_t size) {
-    struct command *it = queue_take(&spare);
+    struct command *it = g_queue_pop_head(&spare);
     if (!it) it = aligned_alloc(TANK_PAGE, sizeof *it);
     if (!it) fail("out of memory");
     memset(it, 0, offsetof(struct command, block));
@@ -217,36 +184,28 @@ void disks_submit(const uint8_t *frame, size_t size) {
     it->life = leases[it->server].life;
     submitted[it->server] += it->writes;
     /* commands on one block are done one after another, in this order */
-    struct worker *worker = &workers[(it->disk + it->command.block / RUN) % config.workers];
-    pthread_mutex_lock(&lock);
-    queue_put(&worker->waiting, it);
-    pthread_mutex_unlock(&lock);
-    pthread_cond_signal(&worker->wake);
+    under_way++;
+    g_async_queue_push(waiting[(it->disk + it->command.block / RUN) % config.workers], it);
 }
 
 void disks_lease(uint16_t server, uint64_t life, uint64_t end) {
-    if (leases[server].life == life && leases[server].end == end) return;
-    pthread_mutex_lock(&lock);
     leases[server].life = life;
     leases[server].end = end;
-    pthread_mutex_unlock(&lock);
 }
 
 bool disks_write(uint16_t server) { return submitted[server]; }
 
 void disks_drop(void) {
-    pthread_mutex_lock(&lock);
-    for (struct worker *it = workers; it < workers + config.workers; it++)
-        for (void *command; (command = queue_take(&it->waiting));) queue_put(&spare, command);
-    while (under_way) pthread_cond_wait(&idle, &lock);
-    pthread_mutex_unlock(&lock);
-    for (struct command *it; (it = take_ended()); queue_put(&spare, it))
+    struct command *it;
+    for (uint64_t i = 0; i < config.workers; i++)
+        for (; (it = g_async_queue_try_pop(waiting[i])); under_way--) g_queue_push_head(&spare, it);
+    while (under_way) g_usleep(100); /* this is rare */
+    for (; (it = g_async_queue_try_pop(ended)); g_queue_push_head(&spare, it))
         if (it->effect) report(it);
     memset(submitted, 0, sizeof submitted);
 }
 
 void disks_try(bool slows, uint64_t number) {
-    pthread_mutex_lock(&lock);
-    *(slows ? &slow : &failing) = number;
-    pthread_mutex_unlock(&lock);
+    if (slows) slow = (int64_t)number;
+    else failing = (int64_t)number;
 }

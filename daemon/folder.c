@@ -16,14 +16,10 @@
 #include <errno.h>
 #include <fcntl.h>
 #include <fuse_lowlevel.h>
-#include <pthread.h>
-#include <stdio.h>
 #include <string.h>
-#include <sys/epoll.h>
 #include <sys/mount.h>
 #include <time.h>
 #include <ucontext.h>
-#include <unistd.h>
 
 enum {
     CALLS = 16,
@@ -36,6 +32,7 @@ enum {
     BLOCK = 128 * 1024, /* bytes that programs should read and write at once */
     SECOND = 1000000000,
 };
+#define UNUSED_FILE G_GNUC_UNUSED struct fuse_file_info *opened
 #define SIZE_MOST ((UINT64_C(1048576) - FIRST) * TANK_PAGE) /* of a file, in bytes */
 
 /* Calls. Each has a stack of its own. It leaves it while it waits, and goes on when it is ready;
@@ -44,32 +41,49 @@ enum {
 static struct call {
     ucontext_t context;
     struct fuse_buf buffer; /* what the kernel asks */
-    struct timer timer;
-    bool is_used, is_ready;
+    struct event *timer;
+    bool is_used, is_ready, is_late;
 } calls[CALLS], *running;
 
 static ucontext_t loop_context;
 static struct fuse_session *session;
-static struct source kernel; /* its file is -1 when nothing is mounted */
-static char *mounted_at;     /* null when the daemon ends */
+static char *folder;
+static struct event *kernel; /* it asks; null when nothing is mounted */
+static bool is_ending;
 
 static void leave(void) { swapcontext(&running->context, &loop_context); }
 
-/* Waits until *what is 0, or until this moment; whether it is 0. */
-static bool wait_for(const size_t *what, uint64_t until) {
-    timer_set(&running->timer, until);
-    while (*what && clock_moment() < until) leave();
-    timer_clear(&running->timer);
+static void time_is_over(G_GNUC_UNUSED int file, G_GNUC_UNUSED short what, void *call) {
+    struct call *it = call;
+    it->is_late = it->is_ready = true;
+}
+
+/* Waits until *what is 0, for so many milliseconds at most; whether it is 0. */
+static bool wait_for(const size_t *what, uint64_t milliseconds) {
+    running->is_late = false;
+    timer_set(running->timer, milliseconds);
+    while (*what && !running->is_late) leave();
+    event_del(running->timer);
     return !*what;
 }
 
-static void time_is_over(struct timer *it) { OWNER(struct call, timer, it)->is_ready = true; }
+static void hear_kernel(UNUSED_OF_EVENT) {
+    struct call *it = calls;
+    while (it < calls + CALLS && it->is_used) it++;
+    int got = it < calls + CALLS ? fuse_session_receive_buf(session, &it->buffer) : -EAGAIN;
+    if (got > 0) it->is_used = it->is_ready = true;
+    else if (got != -EAGAIN && got != -EINTR) {
+        if (!is_ending) say(LEVEL_WARNING, "the folder was unmounted");
+        event_free(kernel);
+        kernel = NULL;
+    } else if (it == calls + CALLS) event_del(kernel);
+}
 
 static void serve(void) {
     for (;; leave()) {
         fuse_session_process_buf(session, &running->buffer);
         running->is_used = false;
-        if (kernel.file >= 0) source_change(&kernel, EPOLLIN);
+        if (kernel) event_add(kernel, NULL);
     }
 }
 
@@ -82,21 +96,6 @@ bool folder_goes_on(void) {
         swapcontext(&loop_context, &running->context);
     }
     return found;
-}
-
-static void hear_kernel(struct source *source, uint32_t events) {
-    struct call *it = calls;
-    while (it < calls + CALLS && it->is_used) it++;
-    if (it == calls + CALLS) {
-        source_change(source, 0);
-        return;
-    }
-    int got = events ? fuse_session_receive_buf(session, &it->buffer) : 0;
-    it->is_used = it->is_ready = got > 0;
-    if (got > 0 || got == -EAGAIN || got == -EINTR) return;
-    if (mounted_at) say(LEVEL_WARNING, "the folder was unmounted");
-    source_remove(source);
-    source->file = -1;
 }
 
 /* Asks */
@@ -137,30 +136,30 @@ static int fault_of(const struct tank_answer *it) {
 }
 
 static struct ask ask_for(uint32_t ask, uint32_t ino, uint32_t page) {
-    uint16_t server = (uint16_t)config.mount_server;
-    struct tank_ask it = {.ask = ask, .server = server, .ino = ino, .page = page};
+    const struct tank_ask it = {
+        .ask = ask, .server = (uint16_t)config.mount_server, .ino = ino, .page = page};
     return (struct ask){.request = {.ask = it, .is_patient = true, .answered = answered}};
 }
 
 /* Makes asks, and waits for their answers, for two leases at most. While the lease is in quiesce,
  * they are made again, for a lease at most. */
 static int make(struct ask *asks, size_t count) {
-    const uint64_t lease = config.settings.lease * MILLISECOND, begun = clock_moment();
-    for (const size_t never = 1;; wait_for(&never, clock_moment() + AGAIN * MILLISECOND)) {
+    const uint64_t end = clock_moment() + config.settings.lease * MILLISECOND;
+    for (const size_t never = 1;; wait_for(&never, AGAIN)) {
         size_t waiting = count;
+        int fault = 0;
         for (struct ask *it = asks; it < asks + count; it++) {
             it->call = running;
             it->waiting = &waiting;
             asks_put(&it->request);
         }
-        bool is_whole = wait_for(&waiting, clock_moment() + 2 * lease);
-        int fault = is_whole ? 0 : -EIO;
+        bool is_whole = wait_for(&waiting, 2 * config.settings.lease);
         for (struct ask *it = asks; it < asks + count; it++) {
             if (!is_whole) asks_forget(&it->request);
             else if (!fault) fault = fault_of(&it->answer);
         }
-        if (fault != -EAGAIN) return fault;
-        if (clock_moment() - begun > lease) return -EIO;
+        if (is_whole && fault != -EAGAIN) return fault;
+        if (!is_whole || clock_moment() > end) return -EIO;
     }
 }
 
@@ -178,10 +177,10 @@ static struct file *file_of(uint32_t ino) {
     struct file **first = &files[ino % FILES], **place = first, *it;
     while ((it = *place) && it->ino != ino) {
         if (it->opens || it->is_lost || it->is_locked) place = &it->next;
-        else *place = it->next, free(it);
+        else *place = it->next, g_free(it);
     }
     if (it) return it;
-    it = taken(sizeof *it);
+    it = g_new0(struct file, 1);
     it->ino = ino;
     it->next = *first;
     return *first = it;
@@ -267,22 +266,20 @@ union header {
 };
 
 static int read_pages(uint32_t ino, uint32_t first, size_t count, uint8_t *bytes) {
-    struct ask *asks = taken(count * sizeof *asks + 1);
+    g_autofree struct ask *asks = g_new(struct ask, count);
     for (size_t i = 0; i < count; i++) {
         asks[i] = ask_for(TANK_ASK_READ, ino, first + (uint32_t)i);
         asks[i].page = bytes + i * TANK_PAGE;
     }
-    int fault = make(asks, count);
-    free(asks);
-    return fault;
+    return make(asks, count);
 }
 
 /* Writes bytes from a place of a page on. */
 static int write_pages(uint32_t ino, uint32_t page, size_t at, const void *from, size_t size) {
     size_t count = (at + size + TANK_PAGE - 1) / TANK_PAGE;
-    struct ask *asks = taken(count * sizeof *asks + 1);
+    g_autofree struct ask *asks = g_new(struct ask, count);
+    g_autofree uint8_t *whole = config.is_traced ? g_malloc(count * TANK_PAGE) : NULL;
     const uint8_t *bytes = from;
-    uint8_t *whole = config.is_traced ? taken(count * TANK_PAGE + 1) : NULL;
     int fault = whole ? read_pages(ino, page, count, whole) : 0;
     if (whole) {
         memcpy(whole + at, from, size);
@@ -291,17 +288,14 @@ static int write_pages(uint32_t ino, uint32_t page, size_t at, const void *from,
         at = 0;
     }
     for (size_t i = 0, part; i < count; i++, at = 0, bytes += part, size -= part) {
-        part = size < TANK_PAGE - at ? size : TANK_PAGE - at;
+        part = MIN(size, TANK_PAGE - at);
         uint32_t ask = part == TANK_PAGE ? TANK_ASK_WRITE : TANK_ASK_PATCH;
         asks[i] = ask_for(ask, ino, page + (uint32_t)i);
         asks[i].request.ask.at = (uint16_t)at;
         asks[i].request.bytes = bytes;
         asks[i].request.length = part;
     }
-    if (!fault) fault = make(asks, count);
-    free(whole);
-    free(asks);
-    return fault;
+    return fault ? fault : make(asks, count);
 }
 
 static uint64_t time_of(const struct timespec *it) {
@@ -344,8 +338,8 @@ static int change_row(uint32_t ino, uint64_t size, bool is_exact, uint64_t time,
     uint32_t mode;
     int fault = read_row(ino, &it, &mode);
     bool is_other = is_exact && size != it.size;
-    uint64_t longest = is_other || size > it.size ? size : it.size;
-    const struct row own = {htobe64(it.size_order + is_other), htobe64(longest),
+    const struct row own = {htobe64(it.size_order + is_other),
+                            htobe64(is_other ? size : MAX(size, it.size)),
                             htobe64(it.time_order + is_set), htobe64(time)};
     size_t at = offsetof(union header, rows) + (config.number - 1u) * sizeof own;
     return fault ? fault : write_pages(ino, 0, at, &own, sizeof own);
@@ -380,49 +374,50 @@ static int cut(uint32_t ino, uint64_t size) {
     return fault || !rest ? fault : write_pages(ino, last, rest, zeros, TANK_PAGE - rest);
 }
 
+static int set_size(uint32_t ino, uint64_t size) {
+    struct row it;
+    uint32_t mode;
+    int fault = size > SIZE_MOST ? -EFBIG : read_row(ino, &it, &mode);
+    if (!fault && size < it.size) fault = cut(ino, size);
+    return fault ? fault : change_row(ino, size, true, time_now(), false);
+}
+
 /* Sets those of mode, size and time that FUSE_SET_ATTR_* name. A directory has no page that could
  * keep them. */
-static int set(uint32_t ino, int which, uint32_t mode, uint64_t size, uint64_t time) {
+static int set(uint32_t ino, int which, const struct stat *to) {
     bool is_directory;
-    struct row it;
-    const uint32_t number = htobe32((mode & RIGHTS) | 1u << 31); /* so that no mode is 0 */
+    const uint32_t mode = htobe32((to->st_mode & RIGHTS) | 1u << 31); /* so that no mode is 0 */
+    uint64_t time = which & FUSE_SET_ATTR_MTIME_NOW ? time_now() : time_of(&to->st_mtim);
     int fault = find_kind(ino, &is_directory);
     if (fault || is_directory) return fault;
-    if (which & FUSE_SET_ATTR_SIZE && size > SIZE_MOST) return -EFBIG;
     lock(ino);
-    if (which & FUSE_SET_ATTR_MODE) fault = write_pages(ino, 0, 0, &number, sizeof number);
-    if (!fault && which & FUSE_SET_ATTR_SIZE) {
-        fault = read_row(ino, &it, &mode);
-        if (!fault && size < it.size) fault = cut(ino, size);
-        if (!fault) fault = change_row(ino, size, true, time_now(), false);
-    }
+    if (which & FUSE_SET_ATTR_MODE) fault = write_pages(ino, 0, 0, &mode, sizeof mode);
+    if (!fault && which & FUSE_SET_ATTR_SIZE) fault = set_size(ino, (uint64_t)to->st_size);
     if (!fault && which & FUSE_SET_ATTR_MTIME) fault = change_row(ino, 0, false, time, true);
     return unlock(ino, fault);
 }
 
 /* Files that are open, and those that are removed or replaced */
 
-static int make_entry(uint32_t directory, const char *name, uint32_t ask, uint32_t mode,
+static int make_entry(uint32_t directory, const char *name, uint32_t ask, mode_t mode,
                       uint32_t *ino) {
+    const struct stat to = {.st_mode = mode};
+    int which = FUSE_SET_ATTR_MTIME | FUSE_SET_ATTR_MTIME_NOW;
     int fault = ask_name(ask, directory, name, 0, "", ino);
     if (fault) return fault;
     file_of(*ino)->kind = ask == TANK_ASK_MKDIR ? DIRECTORY : REGULAR;
-    int which = (mode & RIGHTS) == DEFAULT_MODE ? 0 : FUSE_SET_ATTR_MODE;
-    return set(*ino, which | FUSE_SET_ATTR_MTIME, mode, 0, time_now());
+    if ((mode & RIGHTS) != DEFAULT_MODE) which |= FUSE_SET_ATTR_MODE;
+    return set(*ino, which, &to);
 }
 
-static const char *hidden_name(uint32_t ino) {
-    static char names[CALLS][NAME_MOST];
-    char *name = names[running - calls];
-    snprintf(name, NAME_MOST, ".tank-%u", ino);
-    return name;
-}
+static char *hidden_name(uint32_t ino) { return g_strdup_printf(".tank-%u", ino); }
 
 /* Removes a file that has its hidden name; if it is open here, when it is closed. */
 static int remove_hidden(uint32_t directory, uint32_t ino) {
+    g_autofree char *hidden = hidden_name(ino);
     struct file *it = file_of(ino);
     it->hidden_in = it->opens ? directory : 0;
-    return it->opens ? 0 : remove_entry(directory, hidden_name(ino), ino);
+    return it->opens ? 0 : remove_entry(directory, hidden, ino);
 }
 
 static void close_file(uint32_t ino) {
@@ -439,7 +434,8 @@ static int remove_name(uint32_t directory, const char *name, bool is_directory) 
     if (is_one != is_directory) return is_directory ? -ENOTDIR : -EISDIR;
     if (is_directory) return remove_entry(directory, name, 0);
     if (!file_of(ino)->opens) return remove_entry(directory, name, ino);
-    fault = rename_entry(directory, name, directory, hidden_name(ino));
+    g_autofree char *hidden = hidden_name(ino);
+    fault = rename_entry(directory, name, directory, hidden);
     return fault ? fault : remove_hidden(directory, ino);
 }
 
@@ -455,12 +451,13 @@ static int replace(uint32_t old_directory, const char *old, uint32_t directory, 
     if (!fault) fault = find_kind(target, &is_target);
     if (fault || ino == target) return fault;
     if (is_directory != is_target) return is_target ? -EISDIR : -ENOTDIR;
+    g_autofree char *hidden = hidden_name(target);
     if (is_target) fault = remove_entry(directory, name, 0);
-    else fault = rename_entry(directory, name, directory, hidden_name(target));
+    else fault = rename_entry(directory, name, directory, hidden);
     if (fault) return fault;
     fault = rename_entry(old_directory, old, directory, name);
     if (is_target) return fault;
-    if (fault) rename_entry(directory, hidden_name(target), directory, name);
+    if (fault) rename_entry(directory, hidden, directory, name);
     else remove_hidden(directory, target);
     return fault;
 }
@@ -478,22 +475,20 @@ static void reply_entry(fuse_req_t request, int fault, const uint32_t *ino) {
 
 static void op_lookup(fuse_req_t request, fuse_ino_t directory, const char *name) {
     uint32_t ino = 0;
-    reply_entry(request, look_for((uint32_t)directory, name, &ino), &ino);
+    reply_entry(request, look_for(directory, name, &ino), &ino);
 }
 
 static void op_mkdir(fuse_req_t request, fuse_ino_t directory, const char *name, mode_t mode) {
     uint32_t ino = 0;
-    reply_entry(request, make_entry((uint32_t)directory, name, TANK_ASK_MKDIR, mode, &ino), &ino);
+    reply_entry(request, make_entry(directory, name, TANK_ASK_MKDIR, mode, &ino), &ino);
 }
 
 static void op_mknod(fuse_req_t request, fuse_ino_t directory, const char *name, mode_t mode,
                      dev_t device) {
     uint32_t ino = 0;
-    bool is_file = S_ISREG(mode) && !device;
-    reply_entry(request,
-                is_file ? make_entry((uint32_t)directory, name, TANK_ASK_CREATE, mode, &ino)
-                        : -EPERM,
-                &ino);
+    int fault = S_ISREG(mode) && !device ? 0 : -EPERM;
+    if (!fault) fault = make_entry(directory, name, TANK_ASK_CREATE, mode, &ino);
+    reply_entry(request, fault, &ino);
 }
 
 /* Opens a file, and says so to the kernel, with its entry if it was looked for. */
@@ -505,14 +500,20 @@ static void open_file(fuse_req_t request, uint32_t ino, const struct fuse_entry_
         close_file(ino);
 }
 
+/* As open(2) does with O_TRUNC. */
+static int empty(uint32_t ino, const struct fuse_file_info *opened) {
+    const struct stat none = {0};
+    return opened->flags & O_TRUNC ? set(ino, FUSE_SET_ATTR_SIZE, &none) : 0;
+}
+
 static void op_create(fuse_req_t request, fuse_ino_t directory, const char *name, mode_t mode,
                       struct fuse_file_info *opened) {
     uint32_t ino = 0;
     struct fuse_entry_param entry = {0};
-    int fault = make_entry((uint32_t)directory, name, TANK_ASK_CREATE, mode, &ino);
+    int fault = make_entry(directory, name, TANK_ASK_CREATE, mode, &ino);
     bool is_old = fault == -EEXIST && !(opened->flags & O_EXCL);
-    if (is_old) fault = look_for((uint32_t)directory, name, &ino);
-    if (!fault && opened->flags & O_TRUNC) fault = set(ino, FUSE_SET_ATTR_SIZE, 0, 0, 0);
+    if (is_old) fault = look_for(directory, name, &ino);
+    if (!fault) fault = empty(ino, opened);
     if (!fault) fault = stat_of(ino, &entry.attr);
     entry.ino = ino;
     if (fault) reply(request, fault);
@@ -520,129 +521,114 @@ static void op_create(fuse_req_t request, fuse_ino_t directory, const char *name
 }
 
 static void op_open(fuse_req_t request, fuse_ino_t ino, struct fuse_file_info *opened) {
-    bool is_cut = opened->flags & O_TRUNC;
-    int fault = is_cut ? set((uint32_t)ino, FUSE_SET_ATTR_SIZE, 0, 0, 0) : 0;
+    int fault = empty(ino, opened);
     if (fault) reply(request, fault);
-    else open_file(request, (uint32_t)ino, NULL, opened);
+    else open_file(request, ino, NULL, opened);
 }
 
-static void op_release(fuse_req_t request, fuse_ino_t ino, struct fuse_file_info *opened) {
-    (void)opened;
-    close_file((uint32_t)ino);
+static void op_release(fuse_req_t request, fuse_ino_t ino, UNUSED_FILE) {
+    close_file(ino);
     reply(request, 0);
 }
 
 static void op_unlink(fuse_req_t request, fuse_ino_t directory, const char *name) {
-    reply(request, remove_name((uint32_t)directory, name, false));
+    reply(request, remove_name(directory, name, false));
 }
 
 static void op_rmdir(fuse_req_t request, fuse_ino_t directory, const char *name) {
-    reply(request, remove_name((uint32_t)directory, name, true));
+    reply(request, remove_name(directory, name, true));
 }
 
 static void op_rename(fuse_req_t request, fuse_ino_t from, const char *old, fuse_ino_t to,
                       const char *name, unsigned flags) {
     bool is_other = flags & ~(unsigned)RENAME_NOREPLACE;
-    int fault = is_other ? -EINVAL : rename_entry((uint32_t)from, old, (uint32_t)to, name);
-    if (fault == -EEXIST && !flags) fault = replace((uint32_t)from, old, (uint32_t)to, name);
+    int fault = is_other ? -EINVAL : rename_entry(from, old, to, name);
+    if (fault == -EEXIST && !flags) fault = replace(from, old, to, name);
     reply(request, fault);
 }
 
-static void free_listing(const struct fuse_file_info *opened) {
-    struct bytes *it = (struct bytes *)(uintptr_t)opened->fh;
-    free(it->at);
-    free(it);
+static void add_entry(fuse_req_t request, GString *list, const char *name, uint32_t ino,
+                      bool is_directory) {
+    const struct stat it = {.st_ino = ino, .st_mode = is_directory ? S_IFDIR : S_IFREG};
+    size_t at = list->len, size = fuse_add_direntry(request, NULL, 0, name, NULL, 0);
+    g_string_set_size(list, at + size);
+    fuse_add_direntry(request, list->str + at, size, name, &it, (off_t)list->len);
 }
 
-static void add_entry(fuse_req_t request, struct bytes *list, const struct tank_entry *entry) {
-    char name[NAME_MOST + 1];
-    const struct stat it = {.st_ino = entry->ino, .st_mode = entry->directory ? S_IFDIR : S_IFREG};
-    snprintf(name, sizeof name, "%.*s", (int)entry->length, (const char *)entry->name);
-    size_t size = fuse_add_direntry(request, NULL, 0, name, NULL, 0);
-    char *room = (char *)bytes_room(list, size);
-    list->last += size;
-    fuse_add_direntry(request, room, size, name, &it, (off_t)list->last);
+static int list_entries(fuse_req_t request, GString *list, uint32_t directory) {
+    g_autofree struct tank_entry *entries = g_new(struct tank_entry, ENTRIES_MOST);
+    struct ask it = ask_for(TANK_ASK_LIST, directory, 0);
+    char name[NAME_MOST + 1]; /* those after this one come next */
+    it.request.bytes = name;
+    it.entries = entries;
+    for (int fault;;) {
+        if ((fault = make(&it, 1))) return fault;
+        for (const struct tank_entry *entry = entries; entry < entries + it.entry_count; entry++) {
+            g_strlcpy(name, (const char *)entry->name, entry->length + 1);
+            it.request.length = entry->length;
+            file_of(entry->ino)->kind = entry->directory ? DIRECTORY : REGULAR;
+            add_entry(request, list, name, entry->ino, entry->directory);
+        }
+        if (it.entry_count < ENTRIES_MOST) return 0;
+    }
 }
 
 /* The entries are read when a directory is opened. */
 static void op_opendir(fuse_req_t request, fuse_ino_t ino, struct fuse_file_info *opened) {
-    struct bytes *list = taken(sizeof *list);
-    struct tank_entry *entries = taken((ENTRIES_MOST + 1) * sizeof *entries), *last = entries;
-    struct ask it;
-    int fault;
-    add_entry(request, list, &(struct tank_entry){1, (uint32_t)ino, 1, "."});
-    add_entry(request, list, &(struct tank_entry){2, (uint32_t)ino, 1, ".."});
-    do {
-        *entries = *last; /* those after this one; at first, it has no name */
-        it = ask_for(TANK_ASK_LIST, (uint32_t)ino, 0);
-        it.request.bytes = entries->name;
-        it.request.length = entries->length;
-        it.entries = entries + 1;
-        fault = make(&it, 1);
-        for (last = entries; last < entries + it.entry_count;) {
-            last++;
-            file_of(last->ino)->kind = last->directory ? DIRECTORY : REGULAR;
-            add_entry(request, list, last);
-        }
-    } while (!fault && it.entry_count == ENTRIES_MOST);
-    free(entries);
-    opened->fh = (uint64_t)(uintptr_t)list;
+    GString *list = g_string_new(NULL);
+    add_entry(request, list, ".", ino, true);
+    add_entry(request, list, "..", ino, true);
+    int fault = list_entries(request, list, ino);
+    opened->fh = (uintptr_t)list;
     if (fault) reply(request, fault);
-    if (fault || fuse_reply_open(request, opened)) free_listing(opened);
+    if (fault || fuse_reply_open(request, opened)) g_string_free(list, true);
 }
 
-static void op_readdir(fuse_req_t request, fuse_ino_t ino, size_t size, off_t offset,
+/* The kernel takes whole entries. */
+static void op_readdir(fuse_req_t request, G_GNUC_UNUSED fuse_ino_t ino, size_t size, off_t offset,
                        struct fuse_file_info *opened) {
-    const struct bytes *it = (const struct bytes *)(uintptr_t)opened->fh;
-    size_t left = it->last - (size_t)offset; /* the kernel takes whole entries */
-    (void)ino;
-    fuse_reply_buf(request, (const char *)it->at + offset, left < size ? left : size);
+    const GString *list = (const GString *)(uintptr_t)opened->fh;
+    fuse_reply_buf(request, list->str + offset, MIN(size, list->len - (size_t)offset));
 }
 
-static void op_releasedir(fuse_req_t request, fuse_ino_t ino, struct fuse_file_info *opened) {
-    (void)ino;
-    free_listing(opened);
+static void op_releasedir(fuse_req_t request, G_GNUC_UNUSED fuse_ino_t ino,
+                          struct fuse_file_info *opened) {
+    g_string_free((GString *)(uintptr_t)opened->fh, true);
     reply(request, 0);
 }
 
-static void op_getattr(fuse_req_t request, fuse_ino_t ino, struct fuse_file_info *opened) {
+static void op_getattr(fuse_req_t request, fuse_ino_t ino, UNUSED_FILE) {
     struct stat it;
-    int fault = stat_of((uint32_t)ino, &it);
-    (void)opened;
+    int fault = stat_of(ino, &it);
     if (fault) reply(request, fault);
     else fuse_reply_attr(request, &it, 0);
 }
 
 static void op_setattr(fuse_req_t request, fuse_ino_t ino, struct stat *to, int which,
                        struct fuse_file_info *opened) {
-    uint64_t time = which & FUSE_SET_ATTR_MTIME_NOW ? time_now() : time_of(&to->st_mtim);
-    uint64_t size = (uint64_t)to->st_size;
     bool is_other = (which & FUSE_SET_ATTR_UID && to->st_uid != getuid()) ||
                     (which & FUSE_SET_ATTR_GID && to->st_gid != getgid());
-    int fault = is_other ? -EPERM : set((uint32_t)ino, which, to->st_mode, size, time);
+    int fault = is_other ? -EPERM : set(ino, which, to);
     if (fault) reply(request, fault);
     else op_getattr(request, ino, opened);
 }
 
-static void op_read(fuse_req_t request, fuse_ino_t node, size_t size, off_t offset,
-                    struct fuse_file_info *opened) {
-    uint32_t ino = (uint32_t)node, mode;
+static void op_read(fuse_req_t request, fuse_ino_t ino, size_t size, off_t offset, UNUSED_FILE) {
+    uint32_t mode;
     struct row row;
     int fault = read_row(ino, &row, &mode);
     size_t left = (uint64_t)offset < row.size ? row.size - (uint64_t)offset : 0;
-    size_t at = offset % TANK_PAGE, end = at + (size < left ? size : left);
+    size_t at = offset % TANK_PAGE, end = at + MIN(size, left);
     size_t pages = end > at ? (end + TANK_PAGE - 1) / TANK_PAGE : 0;
-    uint8_t *bytes = enlarged(NULL, pages * TANK_PAGE + 1);
-    (void)opened;
+    g_autofree uint8_t *bytes = g_malloc(pages * TANK_PAGE + 1);
     if (!fault) fault = read_pages(ino, FIRST + (uint32_t)(offset / TANK_PAGE), pages, bytes);
     if (fault) reply(request, fault);
     else fuse_reply_buf(request, (const char *)bytes + at, end - at);
-    free(bytes);
 }
 
-static void op_write(fuse_req_t request, fuse_ino_t node, const char *bytes, size_t size,
-                     off_t from, struct fuse_file_info *opened) {
-    uint32_t ino = (uint32_t)node, mode;
+static void op_write(fuse_req_t request, fuse_ino_t ino, const char *bytes, size_t size, off_t from,
+                     struct fuse_file_info *opened) {
+    uint32_t mode;
     struct row row = {.size = (uint64_t)from};
     bool is_at_end = opened->flags & O_APPEND; /* the end that the kernel knows may be old */
     lock(ino);
@@ -655,23 +641,19 @@ static void op_write(fuse_req_t request, fuse_ino_t node, const char *bytes, siz
     else fuse_reply_write(request, size);
 }
 
-static void op_flush(fuse_req_t request, fuse_ino_t ino, struct fuse_file_info *opened) {
-    (void)opened;
-    reply(request, loss_of((uint32_t)ino));
+static void op_flush(fuse_req_t request, fuse_ino_t ino, UNUSED_FILE) {
+    reply(request, loss_of(ino));
 }
 
-static void op_fsync(fuse_req_t request, fuse_ino_t ino, int is_data,
-                     struct fuse_file_info *opened) {
-    struct ask it = ask_for(TANK_ASK_SYNC, (uint32_t)ino, 0);
-    (void)is_data, (void)opened;
-    int fault = make(&it, 1), earlier = loss_of((uint32_t)ino);
+static void op_fsync(fuse_req_t request, fuse_ino_t ino, G_GNUC_UNUSED int which, UNUSED_FILE) {
+    struct ask it = ask_for(TANK_ASK_SYNC, ino, 0);
+    int fault = make(&it, 1), earlier = loss_of(ino);
     reply(request, fault ? fault : earlier);
 }
 
 /* How many blocks are free isn't known to a client: all are reported as free. */
-static void op_statfs(fuse_req_t request, fuse_ino_t ino) {
+static void op_statfs(fuse_req_t request, G_GNUC_UNUSED fuse_ino_t ino) {
     struct statvfs it = {.f_bsize = TANK_PAGE, .f_frsize = TANK_PAGE, .f_namemax = NAME_MOST};
-    (void)ino;
     for (uint16_t disk = 1; disk <= config.disks; disk++)
         if (server_of_disk(disk) == config.mount_server) it.f_blocks += config.blocks;
     it.f_bfree = it.f_bavail = it.f_blocks;
@@ -693,30 +675,30 @@ void folder_begin(const char *path) {
     file_of(FUSE_ROOT_ID)->kind = DIRECTORY;
     for (struct call *it = calls; it < calls + CALLS; it++) {
         getcontext(&it->context);
-        it->context.uc_stack.ss_sp = taken(STACK);
+        it->context.uc_stack.ss_sp = g_malloc0(STACK);
         it->context.uc_stack.ss_size = STACK;
-        it->timer.due = time_is_over;
+        it->timer = evtimer_new(base, time_is_over, it);
         makecontext(&it->context, serve, 0);
     }
     session = fuse_session_new(&arguments, &operations, sizeof operations, NULL);
     fuse_opt_free_args(&arguments);
+    folder = g_strdup(path);
     if (!session || fuse_session_mount(session, path)) fail("%s: it can't be mounted", path);
-    mounted_at = printed("%s", path);
-    source_add(&kernel, fuse_session_fd(session), hear_kernel);
-    if (fcntl(kernel.file, F_SETFL, O_NONBLOCK)) fail("%s: %s", path, strerror(errno));
+    evutil_make_socket_nonblocking(fuse_session_fd(session));
+    kernel = event_new(base, fuse_session_fd(session), EV_READ | EV_PERSIST, hear_kernel, NULL);
+    event_add(kernel, NULL);
 }
 
 /* In a thread of its own: what the kernel still asks is served by the loop's. */
 static void *unmount(void *path) {
     char program[] = "fusermount3", unmounts[] = "-u", lazily[] = "-z";
-    char *const words[] = {program, unmounts, lazily, path, NULL};
-    if (umount2(path, MNT_DETACH)) process_run(words); /* without the right to unmount */
+    char *words[] = {program, unmounts, lazily, path, NULL};
+    if (umount2(path, MNT_DETACH)) /* without the right to unmount */
+        g_spawn_sync(NULL, words, NULL, G_SPAWN_SEARCH_PATH, NULL, NULL, NULL, NULL, NULL, NULL);
     return NULL;
 }
 
 void folder_end(void) {
-    pthread_t thread;
-    if (!session || kernel.file < 0) return;
-    if (pthread_create(&thread, NULL, unmount, mounted_at)) fail("no thread to unmount");
-    mounted_at = NULL;
+    is_ending = true;
+    if (kernel) g_thread_unref(g_thread_new("unmount", unmount, folder));
 }

@@ -2,7 +2,6 @@
  * clients; frames go both ways. A connection begins with eight bytes that name the client's node:
  * "tank", the version 1 in two bytes, and the node in two bytes, the highest first. */
 #include "tankd.h"
-#include <stdio.h>
 #include <string.h>
 
 enum {
@@ -15,7 +14,7 @@ enum {
 
 static struct stream *links[PLACES]; /* by the number of the peer: of a client, or of a server */
 static bool lost[PLACES];
-static struct timer again;
+static struct event *again;
 
 static uint16_t place_of(uint16_t node) {
     return node > TANK_SERVER_NODE(0) ? node - TANK_SERVER_NODE(0) : node;
@@ -23,7 +22,7 @@ static uint16_t place_of(uint16_t node) {
 
 const char *word_of_node(uint16_t node) {
     static char word[8];
-    snprintf(word, sizeof word, "%c%d", node > TANK_SERVER_NODE(0) ? 's' : 'c', place_of(node));
+    g_snprintf(word, sizeof word, "%c%d", node > TANK_SERVER_NODE(0) ? 's' : 'c', place_of(node));
     return word;
 }
 
@@ -35,15 +34,9 @@ uint16_t node_of_word(const char *word) {
     return 0;
 }
 
-static void gone(struct stream *it) {
-    if (links[place_of(it->peer)] == it) links[place_of(it->peer)] = NULL;
-    if (!config.is_server) timer_set(&again, clock_moment() + AGAIN * MILLISECOND);
-}
-
 /* The peer of a server's connection names itself; whether it is a client. A newer connection
  * replaces an older one. */
-static bool greet(struct stream *it) {
-    const uint8_t *at = bytes_front(&it->in);
+static bool greet(struct stream *it, const uint8_t *at) {
     uint16_t node = (uint16_t)(at[6] << 8 | at[7]);
     bool is_client = !memcmp(at, "tank\0\1", 6) && node >= 1 && node <= config.clients;
     if (!is_client || !stream_is(it, word_of_node(node))) {
@@ -51,7 +44,6 @@ static bool greet(struct stream *it) {
                                     : "it doesn't begin as a client's");
         return false;
     }
-    bytes_drop(&it->in, GREETING);
     if (links[node]) stream_drop(links[node]);
     it->listener = NULL;
     it->peer = node;
@@ -60,49 +52,52 @@ static bool greet(struct stream *it) {
     return true;
 }
 
-/* Takes the whole frames that came. Those whose `from` isn't the peer are dropped. */
-static bool take(struct stream *it) {
+/* Takes the whole frames that came. Those whose `from` isn't the peer are dropped, so each frame
+ * that the node hears is one that this peer sent. */
+static bool take(struct stream *it, struct evbuffer *in) {
     struct tank_frame frame;
     uint32_t result;
-    if (!it->peer && bytes_count(&it->in) < GREETING) return true;
-    if (!it->peer && !greet(it)) return false;
-    for (;; bytes_drop(&it->in, frame.size)) {
-        result = tank_frame_at(bytes_front(&it->in), bytes_count(&it->in), &frame);
-        if (result != TANK_DONE) break;
+    const uint8_t *bytes = evbuffer_pullup(in, -1);
+    size_t at = it->peer ? 0 : GREETING, length = evbuffer_get_length(in);
+    if (length < at) return true;
+    if (!it->peer && !greet(it, bytes)) return false;
+    while ((result = tank_frame_at(bytes + at, length - at, &frame)) == TANK_DONE) {
         count(COUNT_FRAMES_IN);
-        if (frame.from == it->peer) node_hear(bytes_front(&it->in), frame.size);
+        if (frame.from == it->peer) node_hear(bytes + at, frame.size);
         else count(COUNT_FRAMES_FALSE);
+        at += frame.size;
     }
+    evbuffer_drain(in, at);
     if (result != TANK_CUT) count(COUNT_FRAMES_BAD); /* what follows has no meaning */
     return result == TANK_CUT;
 }
 
+static void gone(struct stream *it) {
+    if (links[place_of(it->peer)] == it) links[place_of(it->peer)] = NULL;
+    if (!config.is_server) timer_set(again, AGAIN);
+}
+
 /* A client connects to each server to which it isn't connected. */
-static void connect_links(struct timer *timer) {
+static void connect_links(UNUSED_OF_EVENT) {
     const uint8_t greeting[GREETING] = {'t', 'a', 'n', 'k', 0, 1, 0, (uint8_t)config.node};
-    for (int number = 1; number <= (int)config.servers; number++) {
+    for (uint16_t number = 1; number <= config.servers; number++) {
         if (links[number]) continue;
         struct stream *it = stream_connect(&config.server[number], TANK_SERVER_NODE(number));
         links[number] = it;
         if (it) {
             it->take = take;
             it->gone = gone;
-            bytes_add(&it->out, greeting, sizeof greeting);
-        } else timer_set(timer, clock_moment() + AGAIN * MILLISECOND);
+            bufferevent_write(it->pipe, greeting, sizeof greeting);
+        } else timer_set(again, AGAIN);
     }
 }
 
 void links_begin(void) {
     static struct listener listener = {
         .is_of_nodes = true, .most = STRANGERS_MOST, .take = take, .gone = gone};
-    again.due = connect_links;
+    again = evtimer_new(base, connect_links, NULL);
     if (config.is_server) stream_listen(&listener, &config.server[config.number]);
-    else connect_links(&again);
-}
-
-void links_end(void) {
-    for (int place = 1; place < PLACES; place++)
-        if (links[place]) stream_drop(links[place]);
+    else connect_links(0, 0, NULL);
 }
 
 int links_up(void) {
@@ -113,10 +108,10 @@ int links_up(void) {
 
 void link_send(uint16_t peer, const uint8_t *frame, size_t size) {
     struct stream *it = place_of(peer) < PLACES ? links[place_of(peer)] : NULL;
-    bool goes =
-        it && it->peer == peer && !lost[place_of(peer)] && bytes_count(&it->out) <= WAITING_MOST;
+    bool goes = it && it->peer == peer && !lost[place_of(peer)] &&
+                evbuffer_get_length(stream_out(it)) <= WAITING_MOST;
     count(goes ? COUNT_FRAMES_OUT : COUNT_FRAMES_LOST);
-    if (goes) bytes_add(&it->out, frame, size);
+    if (goes) evbuffer_add(stream_out(it), frame, size);
 }
 
 void link_lose(uint16_t peer, bool is_lost) { lost[place_of(peer)] = is_lost; }

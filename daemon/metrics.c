@@ -1,8 +1,6 @@
 /* metrics.c: counts, and the sockets on which they are read. */
 #include "tankd.h"
-#include <inttypes.h>
 #include <stdatomic.h>
-#include <string.h>
 
 enum { REQUEST_MOST = 4096, READERS_MOST = 16 };
 
@@ -10,27 +8,28 @@ static _Atomic uint64_t counts[COUNTS_END];
 
 void count(enum count it) { atomic_fetch_add_explicit(&counts[it], 1, memory_order_relaxed); }
 
-void metric_head(struct bytes *text, const char *name, const char *kind, const char *what) {
-    bytes_print(text, "# HELP tank_%s %s\n# TYPE tank_%s %s\n", name, what, name, kind);
+void metric_head(struct evbuffer *text, const char *name, const char *kind, const char *what) {
+    evbuffer_add_printf(text, "# HELP tank_%s %s\n# TYPE tank_%s %s\n", name, what, name, kind);
 }
 
-void metric(struct bytes *text, const char *name, const char *kind, const char *what,
+void metric(struct evbuffer *text, const char *name, const char *kind, const char *what,
             uint64_t value) {
     metric_head(text, name, kind, what);
-    bytes_print(text, "tank_%s{node=\"%s\"} %" PRIu64 "\n", name, config.name, value);
+    evbuffer_add_printf(text, "tank_%s{node=\"%s\"} %lu\n", name, config.name, value);
 }
 
 /* A request of HTTP, for anything, and its response. */
-static bool take(struct stream *it) {
+static bool take(struct stream *it, struct evbuffer *in) {
+    struct evbuffer *out = stream_out(it);
     if (it->is_last) return true;
-    if (!memmem(bytes_front(&it->in), bytes_count(&it->in), "\r\n\r\n", 4))
-        return bytes_count(&it->in) <= REQUEST_MOST;
-    bytes_print(&it->out, "HTTP/1.0 200 OK\r\nContent-Type: text/plain; version=0.0.4\r\n"
-                          "Connection: close\r\n\r\n");
-#define PRINTED(number, name, what) metric(&it->out, name, "counter", what, counts[COUNT_##number]);
+    if (evbuffer_search(in, "\r\n\r\n", 4, NULL).pos < 0)
+        return evbuffer_get_length(in) <= REQUEST_MOST;
+    evbuffer_add_printf(out, "HTTP/1.0 200 OK\r\nContent-Type: text/plain; version=0.0.4\r\n"
+                             "Connection: close\r\n\r\n");
+#define PRINTED(number, name, what) metric(out, name, "counter", what, counts[COUNT_##number]);
     COUNTS(PRINTED)
-    metric(&it->out, "links", "gauge", "Nodes that are connected.", (uint64_t)links_up());
-    node_print(&it->out);
+    metric(out, "links", "gauge", "Nodes that are connected.", (uint64_t)links_up());
+    node_print(out);
     return it->is_last = true;
 }
 

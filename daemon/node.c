@@ -20,11 +20,10 @@
  * in node_end, and whether a demand is early in is_early. */
 #include "tankd.h"
 #include <endian.h>
-#include <inttypes.h>
 #include <string.h>
 
 enum {
-    TICK = 100 * MILLISECOND,
+    TICK = 100,    /* milliseconds */
     BODY = 4 + 38, /* where the body of a message begins in its frame ("Wire") */
     SUSPECT = 1,   /* the first byte of a refusal's body */
     FLUSH = 4,     /* a phase of a lease */
@@ -43,7 +42,6 @@ static struct grant { /* of a lock, by a server */
 } grants[GRANTS];
 
 struct held { /* a demand that is held back */
-    struct item item;
     uint64_t due;
     size_t size;
     uint16_t from;
@@ -52,9 +50,9 @@ struct held { /* a demand that is held back */
 
 static struct tank_client client = TANK_CLIENT_CLOSED;
 static struct tank_server server = TANK_SERVER_CLOSED;
-static struct bytes given; /* the frames of the last step */
-static struct queue held;
-static struct timer held_timer, tick_timer;
+static GByteArray *given; /* the frames of the last step */
+static GQueue held = G_QUEUE_INIT;
+static struct event *held_timer;
 static uint64_t gate;   /* a server's, of its journal */
 static uint64_t end_by; /* the moment at which the daemon ends, at the latest; 0 before SIGTERM */
 
@@ -96,20 +94,20 @@ static void begin_server(void) {
                                      .servers = (uint16_t)config.servers,
                                      .disks = (uint16_t)config.disks,
                                      .blocks = (uint32_t)config.blocks};
-    size_t size;
     uint64_t at = 0, moment = clock_moment(), now = clock_for_step(moment);
-    uint8_t *journal = journal_read(&size);
+    g_autofree uint8_t *journal = journal_read();
     bool is_again = journal[0] == 1;
     trace_start(is_again, moment, now);
-    uint32_t result = tank_server_open(&server, &config.settings, &shape, now, journal, size, &at);
+    uint32_t result =
+        tank_server_open(&server, &config.settings, &shape, now, journal, journal_room, &at);
     if (result != TANK_DONE)
-        fail("the journal, at byte %" PRIu64 ": %s: %s", at, tank_name(result), tank_text(result));
-    free(journal);
+        fail("the journal, at byte %lu: %s: %s", at, tank_name(result), tank_text(result));
     keep_record();
-    trace_started(is_again);
+    if (is_again) trace("\n");
+    trace_flush();
     if (config.is_traced) mark_keep(gate);
-    say(LEVEL_NOTICE, "epoch %" PRIu64 " begins; the journal has %" PRIu64 " of %zu bytes",
-        tank_server_epoch(&server), gate, size);
+    say(LEVEL_NOTICE, "epoch %lu begins; the journal has %lu of %lu bytes",
+        tank_server_epoch(&server), gate, journal_room);
 }
 
 /* Opens the client, in the lives after those that were kept. */
@@ -121,7 +119,8 @@ static void begin_client(void) {
     memset(leases, 0, sizeof leases);
     note_leases(now);
     keep_lives(moment);
-    trace_started(is_again);
+    if (is_again) trace("\n");
+    trace_flush();
 }
 
 /* A client whose flush was missed */
@@ -142,7 +141,7 @@ static bool is_flush_missed(uint64_t now) {
 static void close_client(void) {
     tank_client_close(&client);
     disks_drop();
-    for (void *it; (it = queue_take(&held));) free(it);
+    g_queue_clear_full(&held, g_free);
 }
 
 /* The client counts as crashed after its last step: what it had is dropped, its applications see
@@ -173,15 +172,16 @@ static void note_refusal(uint16_t peer, uint16_t kind, uint8_t cause) {
 
 static void give_all(void) {
     struct tank_frame frame;
-    for (; bytes_count(&given); bytes_drop(&given, frame.size)) {
-        const uint8_t *bytes = bytes_front(&given);
-        must(tank_frame_at(bytes, bytes_count(&given), &frame));
+    for (size_t at = 0; at < given->len; at += frame.size) {
+        const uint8_t *bytes = given->data + at;
+        must(tank_frame_at(bytes, given->len - at, &frame));
         if (frame.kind == TANK_KIND_APPDONE) asks_answer(bytes, frame.size);
         else if (frame.kind == TANK_KIND_SUBMIT) disks_submit(bytes, frame.size);
         else link_send(frame.to, bytes, frame.size);
         if (config.is_server && frame.to <= CLIENTS_MOST)
             note_refusal(frame.to, frame.kind, bytes[BODY]);
     }
+    g_byte_array_set_size(given, 0);
 }
 
 /* Steps */
@@ -196,10 +196,13 @@ static uint32_t step(uint64_t moment, uint64_t now, const uint8_t *frame, size_t
     if (of_server.record) keep_record();
     if (!config.is_server) note_leases(now);
     if (of_client.new_lives) keep_lives(moment);
-    for (size_t count = 1; count; given.last += count) {
-        uint8_t *room = bytes_room(&given, TANK_FRAME_MOST);
+    for (size_t count = 1; count;) {
+        unsigned used = given->len;
+        g_byte_array_set_size(given, used + TANK_FRAME_MOST);
+        uint8_t *room = given->data + used;
         must(config.is_server ? tank_server_take(&server, room, TANK_FRAME_MOST, &count)
                               : tank_client_take(&client, room, TANK_FRAME_MOST, &count));
+        g_byte_array_set_size(given, used + (unsigned)count);
     }
     return TANK_DONE;
 }
@@ -223,9 +226,14 @@ void node_take(const uint8_t *frame, size_t size) {
         fence();
         return;
     }
-    trace_step(moment, now, frame, size);
+    trace("step %lu %lu", clock_told(moment), now);
+    trace_frames(frame, size);
+    trace_flush();
     uint32_t result = step(moment, now, frame, size);
-    trace_stepped(&given, result == TANK_DONE);
+    trace(result == TANK_DONE ? " >" : " -");
+    trace_frames(given->data, given->len);
+    trace("\n");
+    trace_flush();
     if (config.is_traced && gate != old_gate) mark_keep(gate);
     if (result != TANK_DONE) {
         note_untaken(result);
@@ -235,11 +243,9 @@ void node_take(const uint8_t *frame, size_t size) {
     give_all();
 }
 
-static void tick(struct timer *timer) {
+static void tick(UNUSED_OF_EVENT) {
     uint8_t frame[64];
     size_t size;
-    uint64_t now = clock_moment(), next = timer->at + TICK;
-    timer_set(timer, next > now ? next : now + TICK);
     must(tank_encode_tick(config.node, frame, sizeof frame, &size));
     node_take(frame, size);
 }
@@ -248,7 +254,8 @@ static void tick(struct timer *timer) {
 void node_command_ended(const struct tank_done *done, const uint8_t *page, uint64_t effect) {
     static uint8_t frame[TANK_FRAME_MOST];
     size_t size;
-    if (effect) trace_effect(effect, done->number);
+    if (effect) trace("effect %lu %lu\n", clock_told(effect), done->number);
+    trace_flush();
     if (!client.full) return; /* it is closed */
     must(tank_encode_done(done, page, TANK_PAGE, frame, sizeof frame, &size));
     node_take(frame, size);
@@ -273,23 +280,22 @@ static bool is_early(const uint8_t *frame, uint16_t from, uint64_t now) {
     return false;
 }
 
+static void held_is_due(UNUSED_OF_EVENT) {} /* node_between takes it */
+
 /* Takes the demands that are no longer early. */
 static void take_held(void) {
-    struct queue still = {0};
     uint64_t now = clock_moment();
-    for (struct held *it; (it = queue_take(&held));) {
+    for (unsigned left = held.length; left && held.head; left--) {
+        struct held *it = g_queue_pop_head(&held);
         if (now < it->due && is_early(it->frame, it->from, now)) {
-            queue_put(&still, it);
+            timer_set(held_timer, (it->due - now) / MILLISECOND + 1);
+            g_queue_push_tail(&held, it);
             continue;
         }
         node_take(it->frame, it->size);
-        free(it);
+        g_free(it);
     }
-    held = still;
-    if (held.first) timer_set(&held_timer, ((struct held *)held.first)->due);
 }
-
-static void held_is_due(struct timer *timer) { (void)timer; /* node_between takes it */ }
 
 static bool is_input(uint16_t kind) {
     return config.is_server ? kind >= TANK_KIND_HELLO && kind <= TANK_KIND_DEMANDSEEN
@@ -312,12 +318,12 @@ void node_hear(const uint8_t *frame, size_t size) {
         node_take(frame, size);
         return;
     }
-    struct held *it = taken(sizeof *it + size);
+    struct held *it = g_malloc(sizeof *it + size);
     it->due = now + config.hold * MILLISECOND;
     it->from = front.from;
     it->size = size;
     memcpy(it->frame, frame, size);
-    queue_put(&held, it);
+    g_queue_push_tail(&held, it);
     count(COUNT_HELD);
 }
 
@@ -334,12 +340,12 @@ void node_between(void) {
 /* The beginning and the end */
 
 void node_begin(void) {
-    held_timer.due = held_is_due;
-    tick_timer.due = tick;
+    given = g_byte_array_new();
+    held_timer = evtimer_new(base, held_is_due, NULL);
     if (!config.is_server) disks_begin();
     if (config.is_server) begin_server();
     else begin_client();
-    timer_set(&tick_timer, clock_moment());
+    event_add(event_new(base, -1, EV_PERSIST, tick, NULL), &(struct timeval){0, TICK * 1000});
 }
 
 void node_end(void) {
@@ -351,10 +357,10 @@ void node_end(void) {
 void node_close(void) {
     if (config.is_server) tank_server_close(&server);
     else close_client();
-    trace_end(clock_moment());
+    trace_end();
 }
 
-void node_print(struct bytes *text) {
+void node_print(struct evbuffer *text) {
     if (config.is_server) {
         metric(text, "epoch", "gauge", "The server's epoch.", tank_server_epoch(&server));
         metric(text, "journal_bytes", "gauge", "Bytes of the journal that are used.", gate);
@@ -364,6 +370,6 @@ void node_print(struct bytes *text) {
     metric_head(text, "lease_phase", "gauge",
                 "The lease: 1 valid, 2 renewal, 3 quiesce, 4 flush, 5 expired, 0 none.");
     for (uint16_t number = 1; number <= config.servers; number++)
-        bytes_print(text, "tank_lease_phase{node=\"%s\",server=\"s%d\"} %" PRIu32 "\n", config.name,
-                    number, leases[number].at.phase);
+        evbuffer_add_printf(text, "tank_lease_phase{node=\"%s\",server=\"s%d\"} %u\n", config.name,
+                            number, leases[number].at.phase);
 }

@@ -1,17 +1,21 @@
-/* tankd.h: what the daemon's files offer each other. One thread, the loop's, runs everything but
- * the commands of the disks. */
+/* tankd.h: what the daemon's files offer each other. One thread, that of libevent's loop, runs
+ * everything but the commands of the disks. */
 #ifndef TANKD_H
 #define TANKD_H
 #include "../include/tank.h"
+#include <event2/buffer.h>
+#include <event2/bufferevent.h>
+#include <event2/event.h>
+#include <glib.h>
 #include <openssl/ssl.h>
 #include <stdlib.h>
 #include <sys/socket.h>
+#include <unistd.h>
 
 enum { CLIENTS_MOST = 16, SERVERS_MOST = 4, DISKS_MOST = 8, MILLISECOND = 1000000 };
 
 /* config.c: the configuration, a file with a setting a line; tankd.conf is a sample that explains
  * them all. config_read ends the process with the line and the fault if there is one. */
-
 struct address {
     struct sockaddr_storage place;
     socklen_t size; /* 0 if there is none */
@@ -20,7 +24,8 @@ struct address {
 
 extern struct config {
     const char *name; /* of the node, such as s1 */
-    bool is_server, is_insecure, is_traced;
+    bool is_server, is_traced;
+    gboolean is_insecure;
     uint16_t node, number;         /* in the protocol, and among clients or servers */
     struct tank_settings settings; /* in milliseconds */
     uint64_t clients, servers, disks, blocks;
@@ -40,70 +45,27 @@ extern struct config {
 void config_read(const char *path);
 
 /* Disk d belongs to server 1 + (d - 1) mod servers. */
-static inline uint16_t server_of_disk(uint16_t disk) {
-    return (uint16_t)(1 + (disk - 1) % config.servers);
-}
+static inline uint16_t server_of_disk(uint16_t disk) { return 1 + (disk - 1) % config.servers; }
 
-/* tools.c: lines of the log, on standard error; memory, or the end of the daemon, which to the
- * protocol is a crash; queues; and the loop, which waits for files and moments */
+/* main.c: the loop; lines of the log, on standard error; the end of the daemon after a fault, which
+ * to the protocol is a crash; and the command `hook` of the configuration, run for a client */
+extern struct event_base *base;
+#define UNUSED_OF_EVENT G_GNUC_UNUSED int file, G_GNUC_UNUSED short what, G_GNUC_UNUSED void *data
+void timer_set(struct event *, uint64_t milliseconds);
+void loop_end(void);
 
 enum level { LEVEL_ERROR, LEVEL_WARNING, LEVEL_NOTICE, LEVEL_DEBUG, LEVELS };
 extern const char *const level_words[LEVELS]; /* as in the configuration */
-__attribute__((format(printf, 2, 3))) void say(enum level, const char *format, ...);
+void say(enum level, const char *format, ...) G_GNUC_PRINTF(2, 3);
 #define fail(...) (say(LEVEL_ERROR, __VA_ARGS__), exit(1))
 void must(uint32_t result); /* ends the process if a call of the library wasn't done */
-
-void *enlarged(void *old, size_t size);
-void *taken(size_t size); /* zeros */
-__attribute__((format(printf, 1, 2))) char *printed(const char *format, ...);
-
-struct bytes { /* a queue of bytes: at[first .. last) */
-    uint8_t *at;
-    size_t first, last, room;
-};
-static inline size_t bytes_count(const struct bytes *it) { return it->last - it->first; }
-static inline uint8_t *bytes_front(const struct bytes *it) { return it->at + it->first; }
-static inline void bytes_drop(struct bytes *it, size_t count) { it->first += count; }
-uint8_t *bytes_room(struct bytes *,
-                    size_t count); /* after the last one; `last` says what is used */
-void bytes_add(struct bytes *, const void *from, size_t count);
-__attribute__((format(printf, 2, 3))) void bytes_print(struct bytes *, const char *format, ...);
-
-struct item { /* with which the structs of a queue begin */
-    struct item *next;
-};
-struct queue {
-    struct item *first, **last;
-};
-void queue_put(struct queue *, void *item);
-void *queue_take(struct queue *); /* null if it is empty */
-void queue_remove(struct queue *, const void *item);
+void hook_run(const char *event, uint16_t client);
 
 /* The struct of this type whose member is at this place. */
-#define OWNER(type, member, place) ((type *)(void *)((char *)(place)-offsetof(type, member)))
-
-struct source { /* `ready` is called when the file has EPOLLIN, EPOLLOUT or an end */
-    int file;
-    void (*ready)(struct source *, uint32_t events);
-};
-void source_add(struct source *, int file, void (*ready)(struct source *, uint32_t));
-void source_change(struct source *, uint32_t events);
-void source_remove(struct source *); /* before its file is closed */
-
-struct timer { /* `due` is called once, at this moment or soon after it */
-    void (*due)(struct timer *);
-    uint64_t at;
-    struct timer *next;
-};
-void timer_set(struct timer *, uint64_t moment);
-void timer_clear(struct timer *);
-
-void loop_run(void (*between)(void)); /* `between` is called after each round of calls */
-void loop_end(void);
+#define OWNER(type, member, place) ((type *)(void *)((char *)(place) - offsetof(type, member)))
 
 /* keep.c: what outlives a crash of the node, in files of the folder `state`, which one process at a
  * time uses */
-
 void keep_create(void); /* makes the node's file, which must not exist */
 void keep_begin(void);
 
@@ -121,7 +83,7 @@ extern struct lives {                        /* of a client; all are 0 before it
 } lives;
 void lives_keep(void);
 
-uint8_t *journal_read(size_t *size); /* of a server; the caller frees the bytes */
+uint8_t *journal_read(void);                                         /* the caller frees it */
 void journal_write(uint64_t place, const void *bytes, size_t count); /* until the disk has them */
 extern uint64_t journal_room;
 
@@ -133,44 +95,40 @@ void mark_keep(uint64_t gate);
 /* trace.c: a trace of what the node took and gave, for tools/record (docs/RUNS.md, "Traces"). The
  * line of a step is begun before the step, and ended before anything that the step gave leaves the
  * daemon. Without a trace, each of these does nothing. */
-
 void trace_begin(const char *path);
+void trace(const char *format, ...) G_GNUC_PRINTF(1, 2);
+void trace_frames(const uint8_t *bytes, size_t size);
+void trace_flush(void); /* gives what was traced to the system, so that it outlives the process */
 void trace_start(bool is_again, uint64_t moment, uint64_t reading);
-void trace_started(bool is_again);
-void trace_step(uint64_t moment, uint64_t reading, const uint8_t *frame, size_t size);
-void trace_stepped(const struct bytes *frames, bool is_taken);
-void trace_effect(uint64_t moment, uint64_t number); /* of the disk command of this number */
-void trace_end(uint64_t moment);                     /* the node ends in order */
+void trace_end(void); /* the node ends in order */
 
 /* streams.c: stream sockets at the addresses of the configuration, over TCP with TLS */
-
 struct stream {
-    struct source source; /* its file is -1 after the end */
-    struct stream *next;
-    const struct listener *listener; /* that accepted it, until it is named */
+    struct bufferevent *pipe; /* null after the end */
     SSL *tls;
-    bool is_up, is_last; /* the handshake is done; it ends when `out` is written */
-    uint32_t events;
-    struct bytes in, out;
-    uint16_t peer; /* its node, or 0 */
+    const struct listener *listener; /* that accepted it, until it is named */
+    bool is_up, is_last;             /* the handshake is done; it ends when all is sent */
+    uint16_t peer;                   /* its node, or 0 */
     unsigned held; /* pointers to it that asks have: it is freed when there are none */
-    bool (*take)(struct stream *); /* takes what came; whether the stream goes on */
-    void (*gone)(struct stream *); /* it has ended; or null */
+    bool (*take)(struct stream *, struct evbuffer *in); /* what came; whether the stream goes on */
+    void (*gone)(struct stream *);                      /* it has ended; or null */
 };
 
 struct listener {
-    struct source source;
     bool is_of_nodes, is_secure; /* over TCP, nodes need certificates */
     int most;                    /* streams that have no name; a new one replaces the oldest */
-    bool (*take)(struct stream *);
+    bool (*take)(struct stream *, struct evbuffer *in);
     void (*gone)(struct stream *);
 };
 
 struct address address_of_path(const char *path);
 void stream_listen(struct listener *, const struct address *);
 void stream_listen_own(struct listener *, const char *kind); /* at NODE.KIND in the folder `run` */
+int socket_connect(const struct address *);                  /* -1 if that failed */
 struct stream *stream_connect(const struct address *, uint16_t peer); /* null if that failed */
-int socket_connect(const struct address *);                           /* -1 if that failed */
+static inline struct evbuffer *stream_out(struct stream *it) {
+    return bufferevent_get_output(it->pipe);
+}
 bool stream_is(const struct stream *, const char *node); /* the peer's certificate has this name */
 void stream_refuse(struct stream *, const char *why);
 void stream_drop(struct stream *);
@@ -178,9 +136,7 @@ void streams_flush(void);
 bool tls_load(void); /* reads the certificates, for the connections that are made from then on */
 
 /* links.c: the connections to other nodes */
-
 void links_begin(void);
-void links_end(void);
 int links_up(void);
 void link_send(uint16_t peer, const uint8_t *frame, size_t size); /* or the frame is lost */
 void link_lose(uint16_t peer, bool is_lost); /* for trials: frames to it are lost from now on */
@@ -188,7 +144,6 @@ const char *word_of_node(uint16_t node);     /* such as s1, until the next call 
 uint16_t node_of_word(const char *word);     /* 0 if it is none */
 
 /* disks.c: the shared disks of a client, and the threads that do its commands */
-
 void disks_begin(void);
 void disks_submit(const uint8_t *frame, size_t size);
 
@@ -203,7 +158,6 @@ void disks_drop(void);
 void disks_try(bool slows, uint64_t number); /* for trials: milliseconds each; or so many fail */
 
 /* asks.c: the asks of applications and of the folder, on their way to the client and back */
-
 enum { NAME_MOST = 64, ENTRIES_MOST = 256 }; /* bytes of a name, and entries of an answer */
 
 struct reply {
@@ -213,7 +167,6 @@ struct reply {
 };
 
 struct request {
-    struct item item;
     struct tank_ask ask;       /* without its number and the client's */
     const void *bytes, *other; /* of the page, the patch or the name; and of a new name */
     size_t length, other_length;
@@ -232,19 +185,16 @@ void asks_end(void);        /* asks for the sync of what was written, and takes 
 bool asks_are_synced(void); /* after that */
 
 /* apps.c: the socket for applications, and the program that uses it */
-
 void apps_begin(void);
 int apps_ask(const char *path);
 
 /* folder.c: the files of a server as a folder */
-
 void folder_begin(const char *path);
 void folder_end(void);
 bool folder_goes_on(void); /* what can go on does; whether there was anything */
 void folder_lost(uint16_t server, uint32_t ino); /* something that was written to this file */
 
 /* node.c: the node itself, a client or a server of libtank */
-
 void node_begin(void);
 void node_end(void); /* in order: a client syncs what its applications wrote; then the loop ends */
 void node_close(void);
@@ -255,10 +205,9 @@ void node_between(void); /* takes what waits: demands that were held back, and a
 /* A disk command has ended, with the page that it read; `effect` is the moment at which it took
  * effect, or 0 if it took none. */
 void node_command_ended(const struct tank_done *, const uint8_t *page, uint64_t effect);
-void node_print(struct bytes *text); /* its metrics */
+void node_print(struct evbuffer *text); /* its metrics */
 
 /* metrics.c: counts, and the socket on which they are read in the text format of Prometheus */
-
 #define COUNTS(X) /* each count, its name after `tank_`, and what it counts */                     \
     X(STEPS, "steps_total", "Steps that the node has taken.")                                      \
     X(FRAMES_IN, "frames_received_total", "Frames that came from other nodes.")                    \
@@ -283,12 +232,8 @@ void node_print(struct bytes *text); /* its metrics */
 enum count { COUNTS(COUNT_NUMBER) COUNTS_END };
 void count(enum count); /* any thread may count */
 void metrics_begin(void);
-void metric_head(struct bytes *, const char *name, const char *kind, const char *what);
-void metric(struct bytes *, const char *name, const char *kind, const char *what, uint64_t value);
-
-/* main.c: runs a program with these words, the first of which is its name; or the command `hook` of
- * the configuration, for a client. Nobody waits for them. */
-void process_run(char *const words[]);
-void hook_run(const char *event, uint16_t client);
+void metric_head(struct evbuffer *, const char *name, const char *kind, const char *what);
+void metric(struct evbuffer *, const char *name, const char *kind, const char *what,
+            uint64_t value);
 
 #endif
