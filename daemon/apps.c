@@ -29,7 +29,8 @@ struct app_ask {
     char other[WORD_MOST];    /* a new name */
 };
 
-/* The verbs, and what the words after them are. */
+/* The verbs, and what the words after them are: f a file, n a name, N a new one, - the name after
+ * which a list begins, B a page in base 64, or a number. */
 static const struct {
     const char *verb, *words;
     uint32_t ask;
@@ -78,43 +79,34 @@ static const char *read_page(char *word, struct app_ask *into) {
     return into->request.length == TANK_PAGE ? NULL : "Syntax";
 }
 
+/* A number: f a page, a where a patch begins, l its length, w and b the byte of a whole page or of
+ * a patch, d a new directory, o a file that is removed, or 0. */
+static const char *read_value(char kind, const char *word, struct app_ask *into) {
+    static const char kinds[] = "palwbdo";
+    struct tank_ask *ask = &into->request.ask;
+    const uint32_t least[] = {0, 0, 1, 0, 0, 1, 0}, byte = UINT8_MAX,
+                   most[] = {PAGE_LAST, TANK_PAGE - 1, TANK_PAGE - ask->at, byte,
+                             byte,      UINT32_MAX,    UINT32_MAX};
+    uint64_t number;
+    ptrdiff_t place = strchr(kinds, kind) - kinds;
+    const char *fault = read_number(word, least[place], most[place], &number);
+    if (kind == 'p') ask->page = (uint32_t)number;
+    if (kind == 'a') ask->at = (uint16_t)number;
+    if (kind == 'l') into->request.length = fault ? 0 : number;
+    if (kind == 'w') into->request.length = TANK_PAGE;
+    if (kind == 'w' || kind == 'b') memset(into->bytes, (int)number, into->request.length);
+    if (kind == 'd' || kind == 'o') ask->other = (uint32_t)number;
+    return fault;
+}
+
 static const char *read_word(char kind, char *word, struct app_ask *into) {
-    struct request *request = &into->request;
-    struct tank_ask *ask = &request->ask;
-    const char *fault;
-    uint64_t number = 0;
-    switch (kind) {
-    case 'f': return read_file(word, ask);
-    case 'B': return read_page(word, into);
-    case 'N': /* a new name */ return read_name(word, into->other, &request->other_length);
-    case '-': /* the name after which a list begins, or - */
-    case 'n': /* a name */
-        fault = read_name(word, into->bytes, &request->length);
-        if (kind == '-' && !strcmp(word, "-")) request->length = 0;
-        return fault;
-    case 'p': /* a page */
-        fault = read_number(word, 0, PAGE_LAST, &number);
-        ask->page = (uint32_t)number;
-        return fault;
-    case 'a': /* where a patch begins */
-        fault = read_number(word, 0, TANK_PAGE - 1, &number);
-        ask->at = (uint16_t)number;
-        return fault;
-    case 'l': /* the length of a patch */
-        fault = read_number(word, 1, TANK_PAGE - ask->at, &number);
-        request->length = number;
-        return fault;
-    case 'w':                        /* the byte of a whole page, or of a patch */
-        request->length = TANK_PAGE; /* fall through */
-    case 'b':
-        fault = read_number(word, 0, UINT8_MAX, &number);
-        if (!fault) memset(into->bytes, (int)number, request->length);
-        return fault;
-    default: /* d a new directory, o a file that is removed, or 0 */
-        fault = read_number(word, kind == 'd', UINT32_MAX, &number);
-        ask->other = (uint32_t)number;
-        return fault;
-    }
+    struct request *it = &into->request;
+    bool is_first = kind == '-' && !strcmp(word, "-"); /* a list begins with the first name */
+    if (kind == 'f') return read_file(word, &it->ask);
+    if (kind == 'B') return read_page(word, into);
+    if (kind == 'N') return read_name(word, into->other, &it->other_length);
+    if (kind == 'n' || (kind == '-' && !is_first)) return read_name(word, into->bytes, &it->length);
+    return is_first ? NULL : read_value(kind, word, into);
 }
 
 /* Fills an ask, but not its client. *column is that of the fault. */
@@ -142,7 +134,7 @@ static const char *read_ask(char *line, struct app_ask *into, int *column) {
 static void print_runs(struct evbuffer *text, const uint8_t *bytes, size_t size) {
     for (size_t at = 0, run; at < size; at += run) {
         for (run = 1; at + run < size && bytes[at + run] == bytes[at];) run++;
-        evbuffer_add_printf(text, "%s%zux%d", at ? "," : "", run, bytes[at]);
+        evbuffer_add_printf(text, "%s%zux%d", at ? "," : "read ", run, bytes[at]);
     }
 }
 
@@ -152,8 +144,8 @@ static void print_entries(struct evbuffer *text, const struct reply *reply) {
     tank_decode_entries(reply->frame, reply->size, entries, ENTRIES_MOST, &count);
     evbuffer_add_printf(text, "listed %zu", count);
     for (const struct tank_entry *it = entries; it < entries + count; it++)
-        evbuffer_add_printf(text, " %u:%d:%.*s", it->ino, it->directory ? 2 : 1,
-                               (int)it->length, (const char *)it->name);
+        evbuffer_add_printf(text, " %u:%d:%.*s", it->ino, it->directory ? 2 : 1, (int)it->length,
+                            (const char *)it->name);
 }
 
 static void print_lost(struct evbuffer *text, const struct reply *reply) {
@@ -166,33 +158,29 @@ static void print_lost(struct evbuffer *text, const struct reply *reply) {
 }
 
 static void print_answer(struct evbuffer *text, const struct reply *reply, bool is_get) {
-    /* the words of the other answers, and how many numbers follow */
-    static const struct {
-        const char *word;
-        int numbers;
-    } words[TANK_ANSWERS_END] = {
-        [TANK_ANSWER_WRITTEN] = {"written", 0},      [TANK_ANSWER_HARD] = {"hard", 0},
-        [TANK_ANSWER_CUT] = {"cut", 0},              [TANK_ANSWER_NAMED] = {"named", 1},
-        [TANK_ANSWER_REFUSED] = {"refused", 1},      [TANK_ANSWER_QUIESCED] = {"quiesced", 0},
-        [TANK_ANSWER_NO_FILE] = {"nofile", 0},       [TANK_ANSWER_NO_SPACE] = {"nospace", 2},
-        [TANK_ANSWER_DISK_FAULT] = {"diskfault", 1}, [TANK_ANSWER_OPS_FULL] = {"opsfull", 0},
-        [TANK_ANSWER_UNCERTAIN] = {"uncertain", 2},  [TANK_ANSWER_DIRTY_FULL] = {"dirtyfull", 0},
-        [TANK_ANSWER_NOT_HOLDER] = {"notholder", 0},
-        [TANK_ANSWER_TOO_MANY_LOCKS] = {"toomanylocks", 0}};
+    static const char *const formats[TANK_ANSWERS_END] = {
+        [TANK_ANSWER_WRITTEN] = "written",
+        [TANK_ANSWER_HARD] = "hard",
+        [TANK_ANSWER_CUT] = "cut",
+        [TANK_ANSWER_NAMED] = "named %lu",
+        [TANK_ANSWER_REFUSED] = "refused %lu",
+        [TANK_ANSWER_QUIESCED] = "quiesced",
+        [TANK_ANSWER_NO_FILE] = "nofile",
+        [TANK_ANSWER_NO_SPACE] = "nospace %lu %lu",
+        [TANK_ANSWER_DISK_FAULT] = "diskfault %lu",
+        [TANK_ANSWER_OPS_FULL] = "opsfull",
+        [TANK_ANSWER_UNCERTAIN] = "uncertain %lu %lu",
+        [TANK_ANSWER_DIRTY_FULL] = "dirtyfull",
+        [TANK_ANSWER_NOT_HOLDER] = "notholder",
+        [TANK_ANSWER_TOO_MANY_LOCKS] = "toomanylocks"};
     const struct tank_answer *it = &reply->answer;
     if (it->answer == TANK_ANSWER_LISTED) print_entries(text, reply);
     else if (it->answer == TANK_ANSWER_LOST) print_lost(text, reply);
     else if (it->answer == TANK_ANSWER_READ && is_get) {
         g_autofree char *page = g_base64_encode(reply->page, TANK_PAGE);
         evbuffer_add_printf(text, "got %s", page);
-    } else if (it->answer == TANK_ANSWER_READ) {
-        evbuffer_add_printf(text, "read ");
-        print_runs(text, reply->page, TANK_PAGE);
-    } else {
-        evbuffer_add_printf(text, "%s", words[it->answer].word);
-        if (words[it->answer].numbers > 0) evbuffer_add_printf(text, " %lu", it->first);
-        if (words[it->answer].numbers > 1) evbuffer_add_printf(text, " %lu", it->second);
-    }
+    } else if (it->answer == TANK_ANSWER_READ) print_runs(text, reply->page, TANK_PAGE);
+    else evbuffer_add_printf(text, formats[it->answer], it->first, it->second);
 }
 
 static void answered(struct request *request, const struct reply *reply) {
@@ -221,24 +209,23 @@ static bool try_trial(const char *text) {
 }
 
 static void ask(struct stream *app, const char *tag, char *text) {
-    struct app_ask *it = g_new(struct app_ask, 1);
+    g_autofree struct app_ask *it = g_new(struct app_ask, 1);
     int column = 1;
     memset(it, 0, offsetof(struct app_ask, bytes));
-    bool is_trial = try_trial(text);
-    const char *fault = config.is_server ? "Syntax" : NULL; /* only a client can be asked */
-    if (!is_trial && !fault) fault = read_ask(text, it, &column);
-    struct evbuffer *out = stream_out(app);
-    if (is_trial) evbuffer_add_printf(out, "%s done\n", tag);
-    else if (fault) evbuffer_add_printf(out, "%s notunderstood %s %d\n", tag, fault, column);
-    if (is_trial || fault) {
-        g_free(it);
+    if (try_trial(text)) {
+        evbuffer_add_printf(stream_out(app), "%s done\n", tag);
+        return;
+    }
+    const char *fault = config.is_server ? "Syntax" : read_ask(text, it, &column);
+    if (fault) { /* only a client can be asked */
+        evbuffer_add_printf(stream_out(app), "%s notunderstood %s %d\n", tag, fault, column);
         return;
     }
     strcpy(it->tag, tag);
     it->request.answered = answered;
     it->app = app;
     app->held++;
-    asks_put(&it->request);
+    asks_put(&g_steal_pointer(&it)->request);
 }
 
 /* Takes the whole lines that came; whether the connection goes on. */

@@ -44,8 +44,7 @@ static struct address address_at(int place) {
     struct addrinfo *found, hints = {.ai_socktype = SOCK_STREAM, .ai_flags = AI_NUMERICHOST};
     number_at(place + 2, 1, UINT16_MAX);
     if (getaddrinfo(host, port, &hints, &found)) refuse("\"%s\" isn't an address in numbers", host);
-    struct address it = {.size = found->ai_addrlen,
-                         .words = g_strdup_printf("%s %s", host, port)};
+    struct address it = {.size = found->ai_addrlen, .words = g_strdup_printf("%s %s", host, port)};
     memcpy(&it.place, found->ai_addr, it.size);
     freeaddrinfo(found);
     return it;
@@ -94,10 +93,13 @@ static struct setting {
     void (*read)(void);
     int line; /* the line that had it */
 } settings[] = {
-#define NUMBER(name, how, field, least, most) {name, how, &config.field, 1, least, most, NULL, 0}
+#define NUMBER(name, how, field, least, most)                                                      \
+    { name, how, &config.field, 1, least, most, NULL, 0 }
 #define TIME(name) NUMBER(#name, NEEDED, settings.name, 0, UINT64_C(1) << 40)
-#define TEXT(name, how) {#name, how, &config.name, 0, 0, 0, NULL, 0}
-#define OTHER(name, how) {#name, how, NULL, 0, 0, 0, read_##name, 0}
+#define TEXT(name, how)                                                                            \
+    { #name, how, &config.name, 0, 0, 0, NULL, 0 }
+#define OTHER(name, how)                                                                           \
+    { #name, how, NULL, 0, 0, 0, read_##name, 0 }
     TIME(lease),
     TIME(renew),
     TIME(quiesce),
@@ -106,17 +108,17 @@ static struct setting {
     TIME(retry),
     TIME(grain),
     {"rate", NEEDED, &config.settings.num, 2, 1, 1 << 20, NULL, 0}, /* and `den` */
-    NUMBER("blocks", NEEDED, blocks, 1, 4096),
     OTHER(server, REPEATED),
     OTHER(disk, REPEATED),
+    OTHER(metrics, OPTIONAL),
+    OTHER(log, OPTIONAL),
     TEXT(state, NEEDED),
     TEXT(run, NEEDED),
     TEXT(certificate, OPTIONAL),
     TEXT(key, OPTIONAL),
     TEXT(authority, OPTIONAL),
     TEXT(hook, OPTIONAL),
-    OTHER(metrics, OPTIONAL),
-    OTHER(log, OPTIONAL),
+    NUMBER("blocks", NEEDED, blocks, 1, 4096),
     NUMBER("clients", OPTIONAL, clients, 1, CLIENTS_MOST),
     NUMBER("journal", OPTIONAL, journal_bytes, 4096, UINT32_MAX),
     NUMBER("workers", OPTIONAL, workers, 1, 64),
@@ -126,8 +128,7 @@ static struct setting {
     NUMBER("trials", OPTIONAL, trials, 0, 1),
     NUMBER("trial-ahead", TRIAL, ahead, 0, 1 << 20),
     NUMBER("trial-elsewhere", TRIAL, elsewhere, 0, 1),
-    NUMBER("trial-torn", TRIAL, torn, 0, 1),
-};
+    NUMBER("trial-torn", TRIAL, torn, 0, 1)};
 
 static struct setting *setting_of(const char *name) {
     for (struct setting *it = settings; it < settings + G_N_ELEMENTS(settings); it++)

@@ -41,9 +41,9 @@ struct command {
 
 static GAsyncQueue **waiting; /* for each thread, the commands on its blocks, in their order */
 static GAsyncQueue *ended;
-static int end_file;                     /* tells the loop that commands have ended */
-static _Atomic uint64_t under_way;       /* commands that were submitted and haven't ended */
-static _Atomic int64_t slow, failing;    /* for trials */
+static int end_file;                  /* tells the loop that commands have ended */
+static _Atomic uint64_t under_way;    /* commands that were submitted and haven't ended */
+static _Atomic int64_t slow, failing; /* for trials */
 static struct { _Atomic uint64_t life, end; } leases[SERVERS_MOST + 1];
 
 static int files[DISKS_MOST + 1];

@@ -17,7 +17,6 @@
 #include <fcntl.h>
 #include <fuse_lowlevel.h>
 #include <string.h>
-#include <sys/mount.h>
 #include <time.h>
 #include <ucontext.h>
 
@@ -47,9 +46,7 @@ static struct call {
 
 static ucontext_t loop_context;
 static struct fuse_session *session;
-static char *folder;
 static struct event *kernel; /* it asks; null when nothing is mounted */
-static bool is_ending;
 
 static void leave(void) { swapcontext(&running->context, &loop_context); }
 
@@ -73,7 +70,7 @@ static void hear_kernel(UNUSED_OF_EVENT) {
     int got = it < calls + CALLS ? fuse_session_receive_buf(session, &it->buffer) : -EAGAIN;
     if (got > 0) it->is_used = it->is_ready = true;
     else if (got != -EAGAIN && got != -EINTR) {
-        if (!is_ending) say(LEVEL_WARNING, "the folder was unmounted");
+        say(LEVEL_WARNING, "the folder was unmounted");
         event_free(kernel);
         kernel = NULL;
     } else if (it == calls + CALLS) event_del(kernel);
@@ -239,30 +236,32 @@ static int remove_entry(uint32_t directory, const char *name, uint32_t ino) {
     return ask_name(TANK_ASK_REMOVE, directory, name, ino, "", NULL);
 }
 
-/* A directory can be listed, and has no pages. */
-static int find_kind(uint32_t ino, bool *is_directory) {
+/* Whether it is a directory (1 or 0), or a fault. A directory can be listed, and has no pages. */
+static int is_directory(uint32_t ino) {
     struct ask list = ask_for(TANK_ASK_LIST, ino, 0);
-    if (file_of(ino)->kind == UNKNOWN) {
-        int fault = make(&list, 1);
-        if (fault && fault != -ENOTDIR) return fault;
-        file_of(ino)->kind = fault ? REGULAR : DIRECTORY;
-    }
-    *is_directory = file_of(ino)->kind == DIRECTORY;
-    return 0;
+    int fault = file_of(ino)->kind == UNKNOWN ? make(&list, 1) : -ENOSYS;
+    if (!fault || fault == -ENOTDIR) file_of(ino)->kind = fault ? REGULAR : DIRECTORY;
+    else if (fault != -ENOSYS) return fault;
+    return file_of(ino)->kind == DIRECTORY;
 }
 
 /* Pages and the header */
 
-struct row { /* in a header, each number has its highest byte first */
+struct row {
     uint64_t size_order, size, time_order, time;
 };
 
-union header {
+union header { /* each number has its highest byte first */
     uint8_t page[TANK_PAGE];
     struct {
         uint32_t mode, rest[15];
         struct row rows[CLIENTS_MOST];
     };
+};
+
+struct known { /* what a header says */
+    uint32_t mode;
+    struct row row; /* made of those of all clients */
 };
 
 static int read_pages(uint32_t ino, uint32_t first, size_t count, uint8_t *bytes) {
@@ -317,16 +316,15 @@ static void take_greater(uint64_t *order, uint64_t *number, uint64_t of, uint64_
     *number = other;
 }
 
-/* Reads the file's row, which is made of those of all clients, and the mode. */
-static int read_row(uint32_t ino, struct row *it, uint32_t *mode) {
+static int read_header(uint32_t ino, struct known *it) {
     union header header;
     int fault = read_pages(ino, 0, 1, header.page);
-    *it = (struct row){0};
+    *it = (struct known){0};
     if (fault) return fault;
-    *mode = be32toh(header.mode);
+    it->mode = be32toh(header.mode);
     for (const struct row *from = header.rows; from < header.rows + CLIENTS_MOST; from++) {
-        take_greater(&it->size_order, &it->size, from->size_order, from->size);
-        take_greater(&it->time_order, &it->time, from->time_order, from->time);
+        take_greater(&it->row.size_order, &it->row.size, from->size_order, from->size);
+        take_greater(&it->row.time_order, &it->row.time, from->time_order, from->time);
     }
     return 0;
 }
@@ -334,33 +332,27 @@ static int read_row(uint32_t ino, struct row *it, uint32_t *mode) {
 /* Changes this client's row: the file is at least, or exactly, as long; and its time is this one.
  */
 static int change_row(uint32_t ino, uint64_t size, bool is_exact, uint64_t time, bool is_set) {
-    struct row it;
-    uint32_t mode;
-    int fault = read_row(ino, &it, &mode);
-    bool is_other = is_exact && size != it.size;
-    const struct row own = {htobe64(it.size_order + is_other),
-                            htobe64(is_other ? size : MAX(size, it.size)),
-                            htobe64(it.time_order + is_set), htobe64(time)};
+    struct known it;
+    int fault = read_header(ino, &it);
+    bool is_other = is_exact && size != it.row.size;
+    const struct row own = {htobe64(it.row.size_order + is_other),
+                            htobe64(is_other ? size : MAX(size, it.row.size)),
+                            htobe64(it.row.time_order + is_set), htobe64(time)};
     size_t at = offsetof(union header, rows) + (config.number - 1u) * sizeof own;
     return fault ? fault : write_pages(ino, 0, at, &own, sizeof own);
 }
 
 static int stat_of(uint32_t ino, struct stat *it) {
-    struct row row = {0};
-    uint32_t mode = 0;
-    bool is_directory = false;
-    int fault = find_kind(ino, &is_directory);
-    if (!fault && !is_directory) fault = read_row(ino, &row, &mode);
-    mode = is_directory ? S_IFDIR | 0755 : S_IFREG | (mode ? mode & RIGHTS : DEFAULT_MODE);
-    *it = (struct stat){.st_ino = ino,
-                        .st_mode = mode,
-                        .st_nlink = is_directory ? 2 : 1,
-                        .st_uid = getuid(),
-                        .st_gid = getgid(),
-                        .st_size = (off_t)row.size,
-                        .st_blksize = BLOCK,
-                        .st_blocks = (blkcnt_t)((row.size + 511) / 512),
-                        .st_mtim = {(time_t)(row.time / SECOND), (long)(row.time % SECOND)}};
+    struct known known = {0};
+    int kind = is_directory(ino), fault = kind ? MIN(kind, 0) : read_header(ino, &known);
+    mode_t mode = known.mode ? known.mode & RIGHTS : DEFAULT_MODE;
+    *it = (struct stat){.st_ino = ino, .st_nlink = 1, .st_uid = getuid(), .st_gid = getgid()};
+    it->st_mode = kind ? S_IFDIR | 0755 : S_IFREG | mode;
+    it->st_size = (off_t)known.row.size;
+    it->st_blksize = BLOCK;
+    it->st_blocks = (blkcnt_t)((known.row.size + 511) / 512);
+    it->st_mtim.tv_sec = (time_t)(known.row.time / SECOND);
+    it->st_mtim.tv_nsec = (long)(known.row.time % SECOND);
     it->st_ctim = it->st_mtim;
     return fault;
 }
@@ -375,21 +367,19 @@ static int cut(uint32_t ino, uint64_t size) {
 }
 
 static int set_size(uint32_t ino, uint64_t size) {
-    struct row it;
-    uint32_t mode;
-    int fault = size > SIZE_MOST ? -EFBIG : read_row(ino, &it, &mode);
-    if (!fault && size < it.size) fault = cut(ino, size);
+    struct known it;
+    int fault = size > SIZE_MOST ? -EFBIG : read_header(ino, &it);
+    if (!fault && size < it.row.size) fault = cut(ino, size);
     return fault ? fault : change_row(ino, size, true, time_now(), false);
 }
 
 /* Sets those of mode, size and time that FUSE_SET_ATTR_* name. A directory has no page that could
  * keep them. */
 static int set(uint32_t ino, int which, const struct stat *to) {
-    bool is_directory;
     const uint32_t mode = htobe32((to->st_mode & RIGHTS) | 1u << 31); /* so that no mode is 0 */
     uint64_t time = which & FUSE_SET_ATTR_MTIME_NOW ? time_now() : time_of(&to->st_mtim);
-    int fault = find_kind(ino, &is_directory);
-    if (fault || is_directory) return fault;
+    int kind = is_directory(ino), fault = 0;
+    if (kind) return MIN(kind, 0);
     lock(ino);
     if (which & FUSE_SET_ATTR_MODE) fault = write_pages(ino, 0, 0, &mode, sizeof mode);
     if (!fault && which & FUSE_SET_ATTR_SIZE) fault = set_size(ino, (uint64_t)to->st_size);
@@ -425,15 +415,12 @@ static void close_file(uint32_t ino) {
     if (!--it->opens && it->hidden_in) remove_hidden(it->hidden_in, ino);
 }
 
-static int remove_name(uint32_t directory, const char *name, bool is_directory) {
+static int remove_name(uint32_t directory, const char *name, bool removes_directory) {
     uint32_t ino;
-    bool is_one;
-    int fault = look_for(directory, name, &ino);
-    if (!fault) fault = find_kind(ino, &is_one);
-    if (fault) return fault;
-    if (is_one != is_directory) return is_directory ? -ENOTDIR : -EISDIR;
-    if (is_directory) return remove_entry(directory, name, 0);
-    if (!file_of(ino)->opens) return remove_entry(directory, name, ino);
+    int fault = look_for(directory, name, &ino), kind = fault ? fault : is_directory(ino);
+    if (kind < 0) return kind;
+    if (kind != removes_directory) return kind ? -EISDIR : -ENOTDIR;
+    if (kind || !file_of(ino)->opens) return remove_entry(directory, name, kind ? 0 : ino);
     g_autofree char *hidden = hidden_name(ino);
     fault = rename_entry(directory, name, directory, hidden);
     return fault ? fault : remove_hidden(directory, ino);
@@ -444,19 +431,18 @@ static int remove_name(uint32_t directory, const char *name, bool is_directory) 
  * the new ones are. */
 static int replace(uint32_t old_directory, const char *old, uint32_t directory, const char *name) {
     uint32_t ino = 0, target = 0;
-    bool is_directory, is_target;
     int fault = look_for(old_directory, old, &ino);
     if (!fault) fault = look_for(directory, name, &target);
-    if (!fault) fault = find_kind(ino, &is_directory);
-    if (!fault) fault = find_kind(target, &is_target);
     if (fault || ino == target) return fault;
-    if (is_directory != is_target) return is_target ? -EISDIR : -ENOTDIR;
+    int kind = is_directory(ino), of_target = is_directory(target);
+    if (kind < 0 || of_target < 0) return MIN(kind, of_target);
+    if (kind != of_target) return of_target ? -EISDIR : -ENOTDIR;
     g_autofree char *hidden = hidden_name(target);
-    if (is_target) fault = remove_entry(directory, name, 0);
+    if (of_target) fault = remove_entry(directory, name, 0);
     else fault = rename_entry(directory, name, directory, hidden);
-    if (fault) return fault;
-    fault = rename_entry(old_directory, old, directory, name);
-    if (is_target) return fault;
+    if (!fault) fault = rename_entry(old_directory, old, directory, name);
+    else return fault;
+    if (of_target) return fault;
     if (fault) rename_entry(directory, hidden, directory, name);
     else remove_hidden(directory, target);
     return fault;
@@ -614,10 +600,9 @@ static void op_setattr(fuse_req_t request, fuse_ino_t ino, struct stat *to, int 
 }
 
 static void op_read(fuse_req_t request, fuse_ino_t ino, size_t size, off_t offset, UNUSED_FILE) {
-    uint32_t mode;
-    struct row row;
-    int fault = read_row(ino, &row, &mode);
-    size_t left = (uint64_t)offset < row.size ? row.size - (uint64_t)offset : 0;
+    struct known it;
+    int fault = read_header(ino, &it);
+    size_t left = it.row.size - MIN((uint64_t)offset, it.row.size);
     size_t at = offset % TANK_PAGE, end = at + MIN(size, left);
     size_t pages = end > at ? (end + TANK_PAGE - 1) / TANK_PAGE : 0;
     g_autofree uint8_t *bytes = g_malloc(pages * TANK_PAGE + 1);
@@ -628,15 +613,15 @@ static void op_read(fuse_req_t request, fuse_ino_t ino, size_t size, off_t offse
 
 static void op_write(fuse_req_t request, fuse_ino_t ino, const char *bytes, size_t size, off_t from,
                      struct fuse_file_info *opened) {
-    uint32_t mode;
-    struct row row = {.size = (uint64_t)from};
+    struct known it;
     bool is_at_end = opened->flags & O_APPEND; /* the end that the kernel knows may be old */
     lock(ino);
-    int fault = is_at_end ? read_row(ino, &row, &mode) : 0;
-    uint32_t page = FIRST + (uint32_t)(row.size / TANK_PAGE);
-    if (!fault && row.size + size > SIZE_MOST) fault = -EFBIG;
-    if (!fault && size) fault = write_pages(ino, page, row.size % TANK_PAGE, bytes, size);
-    if (!fault && size) fault = change_row(ino, row.size + size, false, time_now(), false);
+    int fault = is_at_end ? read_header(ino, &it) : 0;
+    uint64_t at = is_at_end ? it.row.size : (uint64_t)from;
+    uint32_t page = FIRST + (uint32_t)(at / TANK_PAGE);
+    if (!fault && at + size > SIZE_MOST) fault = -EFBIG;
+    if (!fault && size) fault = write_pages(ino, page, at % TANK_PAGE, bytes, size);
+    if (!fault && size) fault = change_row(ino, at + size, false, time_now(), false);
     if (unlock(ino, fault)) reply(request, fault);
     else fuse_reply_write(request, size);
 }
@@ -668,10 +653,9 @@ static const struct fuse_lowlevel_ops operations = {
     OP(write),  OP(flush),  OP(fsync),   OP(releasedir), OP(statfs)};
 
 void folder_begin(const char *path) {
-    char program[] = "tankd", option[] = "-o",
-         options[] = "default_permissions,fsname=tank,subtype=tankd";
-    char *words[] = {program, option, options, NULL};
-    struct fuse_args arguments = FUSE_ARGS_INIT(3, words);
+    struct fuse_args words = FUSE_ARGS_INIT(0, NULL);
+    fuse_opt_add_arg(&words, "tankd");
+    fuse_opt_add_arg(&words, "-odefault_permissions,fsname=tank,subtype=tankd");
     file_of(FUSE_ROOT_ID)->kind = DIRECTORY;
     for (struct call *it = calls; it < calls + CALLS; it++) {
         getcontext(&it->context);
@@ -680,25 +664,18 @@ void folder_begin(const char *path) {
         it->timer = evtimer_new(base, time_is_over, it);
         makecontext(&it->context, serve, 0);
     }
-    session = fuse_session_new(&arguments, &operations, sizeof operations, NULL);
-    fuse_opt_free_args(&arguments);
-    folder = g_strdup(path);
+    session = fuse_session_new(&words, &operations, sizeof operations, NULL);
+    fuse_opt_free_args(&words);
     if (!session || fuse_session_mount(session, path)) fail("%s: it can't be mounted", path);
     evutil_make_socket_nonblocking(fuse_session_fd(session));
     kernel = event_new(base, fuse_session_fd(session), EV_READ | EV_PERSIST, hear_kernel, NULL);
     event_add(kernel, NULL);
 }
 
-/* In a thread of its own: what the kernel still asks is served by the loop's. */
-static void *unmount(void *path) {
-    char program[] = "fusermount3", unmounts[] = "-u", lazily[] = "-z";
-    char *words[] = {program, unmounts, lazily, path, NULL};
-    if (umount2(path, MNT_DETACH)) /* without the right to unmount */
-        g_spawn_sync(NULL, words, NULL, G_SPAWN_SEARCH_PATH, NULL, NULL, NULL, NULL, NULL, NULL);
-    return NULL;
-}
-
+/* Calls that wait end with an error: what they ask isn't answered any more. */
 void folder_end(void) {
-    is_ending = true;
-    if (kernel) g_thread_unref(g_thread_new("unmount", unmount, folder));
+    if (!kernel) return;
+    event_free(kernel);
+    kernel = NULL;
+    fuse_session_unmount(session);
 }

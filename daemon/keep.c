@@ -14,7 +14,7 @@ struct lives lives;
 uint64_t journal_room;
 
 static char *boot;       /* names the machine's present run */
-static uint64_t added;    /* what is added to the machine's clock, in milliseconds */
+static uint64_t added;   /* what is added to the machine's clock, in milliseconds */
 static uint64_t ceiling; /* the clock reads less than this until the file says more */
 static int journal, mark;
 

@@ -5,10 +5,11 @@
 #include <string.h>
 #include <systemd/sd-daemon.h>
 
-static const char summary[] =
-    "Runs a server or a client of the protocol. The file says where the servers, the disks and the\n"
-    "node's own files are. `tankd ask` carries lines to a client's socket NODE.app, and prints the\n"
-    "answers.";
+static const char summary[] = "Runs a server or a client of the protocol. The file says where the "
+                              "servers, the disks and the\n"
+                              "node's own files are. `tankd ask` carries lines to a client's "
+                              "socket NODE.app, and prints the\n"
+                              "answers.";
 
 static struct {
     char *config, *mount, *trace, **others;

@@ -175,9 +175,8 @@ void stream_listen(struct listener *it, const struct address *address) {
     const struct sockaddr *place = (const struct sockaddr *)&address->place;
     if (place->sa_family == AF_UNIX) unlink(((const struct sockaddr_un *)place)->sun_path);
     mode_t mask = umask(0007); /* a socket is for its owner and group */
-    if (!evconnlistener_new_bind(base, accept_stream, it,
-                                 LEV_OPT_CLOSE_ON_EXEC | LEV_OPT_REUSEABLE, WAITING, place,
-                                 (int)address->size))
+    if (!evconnlistener_new_bind(base, accept_stream, it, LEV_OPT_CLOSE_ON_EXEC | LEV_OPT_REUSEABLE,
+                                 WAITING, place, (int)address->size))
         fail("%s: %s", address->words, strerror(errno));
     umask(mask);
     it->is_secure = it->is_of_nodes && is_secure(address);

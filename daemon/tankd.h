@@ -62,7 +62,7 @@ void must(uint32_t result); /* ends the process if a call of the library wasn't 
 void hook_run(const char *event, uint16_t client);
 
 /* The struct of this type whose member is at this place. */
-#define OWNER(type, member, place) ((type *)(void *)((char *)(place) - offsetof(type, member)))
+#define OWNER(type, member, place) ((type *)(void *)((char *)(place)-offsetof(type, member)))
 
 /* keep.c: what outlives a crash of the node, in files of the folder `state`, which one process at a
  * time uses */
