@@ -74,8 +74,8 @@ static bool transfer(struct command *it) {
 }
 
 /* Does a command, if its lease lasts, and if it doesn't have to fail for a trial. The lease's end
- * is read first, and disks_lease writes it last: so if the life then is still that of the command,
- * the end isn't of a later life. */
+ * is read first, and disks_lease writes it last: so if the life is then still the command's, the
+ * end belongs to this life, too. */
 static void begin(struct command *it) {
     bool fails = failing > 0 && atomic_fetch_sub(&failing, 1) > 0;
     if (slow) g_usleep((uint64_t)slow * 1000);

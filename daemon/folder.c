@@ -17,7 +17,6 @@
 #include <fcntl.h>
 #include <fuse_lowlevel.h>
 #include <string.h>
-#include <time.h>
 #include <ucontext.h>
 
 enum {
@@ -301,11 +300,7 @@ static uint64_t time_of(const struct timespec *it) {
     return (uint64_t)it->tv_sec * SECOND + (uint64_t)it->tv_nsec;
 }
 
-static uint64_t time_now(void) {
-    struct timespec now;
-    clock_gettime(CLOCK_REALTIME, &now);
-    return time_of(&now);
-}
+static uint64_t time_now(void) { return (uint64_t)g_get_real_time() * 1000; }
 
 /* A number counts with its order, first. */
 static void take_greater(uint64_t *order, uint64_t *number, uint64_t of, uint64_t other) {
@@ -672,7 +667,7 @@ void folder_begin(const char *path) {
     event_add(kernel, NULL);
 }
 
-/* Calls that wait end with an error: what they ask isn't answered any more. */
+/* Calls that wait end with an error. */
 void folder_end(void) {
     if (!kernel) return;
     event_free(kernel);

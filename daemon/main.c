@@ -150,7 +150,8 @@ static void run(void) {
 int main(int count, char **word) {
     read_words(count, word);
     if (words.is_version)
-        return printf("tankd, with libtank %u.%u\n", tank_version() / 100, tank_version() % 100) < 0;
+        return printf("tankd, with libtank %u.%u\n", tank_version() / 100, tank_version() % 100) <
+               0;
     if (!strcmp(words.others[0], "ask")) return apps_ask(words.others[1]);
     config_read(words.config);
     check_words();
