@@ -1,6 +1,6 @@
 -- In every run each write that was submitted carries an entry of the log: a change of that page by its client, in the life in which it submitted the command.
 use Rattle.st_lemmas.proofs.Words
-use Words.{◌≡◌, ℕ, zero, suc, ◌+◌, ◌⊎◌, Bool, true, false, List, [], ◌∷◌, ◌++◌, Option, Some, None, Ok, Err, refl, sym, ap, ◌∙◌, subst, inl, inr, arith}
+use Words.{◌≡◌, ◌≤◌, ℕ, zero, suc, ◌+◌, ◌⊎◌, Bool, true, false, List, [], ◌∷◌, ◌++◌, Option, Some, None, Ok, Err, refl, sym, ap, ◌∙◌, subst, inl, inr, arith}
 use Words.{Result, if◌then◌else◌, find, length, map, nat_le, option_map, set, slice_get, Command, ClientId, Life, NodeId, ServerId, Stamp}
 use Words.{Ask, Event, Note, Output, ClientInput, DiskCommand, ServerInput, Fate, LogEntry, LogOwner, Observation, StepRefusal, Carried, IssuedCommand, LeaseLife}
 use Words.{SentMessage}
@@ -20,12 +20,12 @@ use Words.ClientLease as lease
 use Words.ClientState.{Association, ClientSession, ClientState, is_at}
 use Words.Disks as disks
 use Words.Events as ev
-use Words.Events.{WorldTurn, is_change, world_step}
+use Words.Events.{WorldTurn, is_change, last_write, world_step}
 use Words.FlatLog as log
 use Words.Lines as lines
 use Words.Lists.{Has}
 use Words.Lookups.{some_is}
-use Words.Numbers.{get_below, get_there, length_more, numbered_own}
+use Words.Numbers.{get_below, get_there, length_more, numbered_more, numbered_own}
 use Words.Server as server
 use Words.Server.{ServerNode}
 use Words.Tables.{found_at}
@@ -41,17 +41,70 @@ use Rattle.st_laws_pages.specs.Disks.World.{PagesHold, Timely}
 use Rattle.st_laws_pages.proofs.Causes.Commands.{at_more}
 use Rattle.st_laws_pages.proofs.Causes.FlushSteps.{flushes_disks}
 use Rattle.st_laws_pages.proofs.Disks.Law.{owner_more, owner_same}
+use Rattle.st_laws_pages.proofs.Fates.Owing.{last_more}
 use Rattle.st_laws_pages.proofs.Flush.Flushing.{step_flushed}
 use Rattle.st_laws_pages.proofs.Lives.Lasting.{Flushed, flush_parts}
 use Rattle.st_laws_pages.proofs.Lives.LifeSteps.{steps_so}
 use Rattle.st_laws_pages.proofs.Lives.NodeTurns.{row_is}
 
--- what a command carries is an entry of its own client, life and page
+none_more : (n : ℕ) → n ≡ n + 0
+none_more n = omega arith
+
+-- what a command carries is an entry of its own client, life and page, and of a file of the server to whose disks it went
+abbrev pub IsOwn : List LogEntry → IssuedCommand → Carried → Type 0
+IsOwn es x y = (owner_at es y.index ≡ Some (world.owner_carried x y)) × (y.file.server ≡ x.server)
+
 abbrev pub CarriesOwn : List LogEntry → IssuedCommand → Type 0
-CarriesOwn es x = (y : Carried) → x.carries ≡ Some y → owner_at es y.index ≡ Some (world.owner_carried x y)
+CarriesOwn es x = (y : Carried) → x.carries ≡ Some y → IsOwn es x y
 
 abbrev pub AllCarryOwn : List LogEntry → List IssuedCommand → Type 0
 AllCarryOwn es cs = (k : ℕ) (x : IssuedCommand) → numbered cs k ≡ Some x → CarriesOwn es x
+
+-- Commands that are there stay; those that are added are an owner's last writes.
+pub record Longer (cs ds : List IssuedCommand) : Type 0 where
+  pub long : length cs ≤ length ds
+  pub same : (k : ℕ) (x : IssuedCommand) → k ≤ length cs → numbered ds k ≡ Some x → numbered cs k ≡ Some x
+  pub last : (o : LogOwner) → last_write ds o ≤ length cs → last_write ds o ≡ last_write cs o
+
+longer_self : (cs : List IssuedCommand) → Longer cs cs
+longer_self cs = record { long = omega arith; same = λ k x l i. i; last = λ o l. refl }
+
+longer_same : (cs ds : List IssuedCommand) → ds ≡ cs → Longer cs ds
+longer_same cs ds q = subst (Longer cs) (sym q) (longer_self cs)
+
+longer_then : (cs ds es : List IssuedCommand) → Longer cs ds → Longer ds es → Longer cs es
+longer_then cs ds es a b =
+    record {
+      long = let p = a.long in let q = b.long in omega (arith, p, q);
+      same = λ k x l i. a.same k x l (b.same k x (let p = a.long in omega (arith, p, l)) i);
+      last = λ o l. let q : last_write es o ≡ last_write ds o = b.last o (let p = a.long in omega (arith, p, l)) in
+          q ∙ a.last o (subst (λ n. n ≤ length cs) q l);
+    }
+
+last_own : (o : LogOwner) (n before : ℕ) (cs : List IssuedCommand) (x : IssuedCommand) → ev.carries_for o x x.carries ≡ true →
+    ev.last_write_from n before o (cs ++ x ∷ []) ≡ n + length cs
+unfolding ev.last_write_from ev.last_write_at
+last_own o n before [] x e = ap (λ b. if b then n else before) e ∙ none_more n
+last_own o n before (c ∷ cs) x e =
+    last_own o (n + 1) (ev.last_write_at o n before c) cs x e ∙ (let z : (n + 1) + length cs ≡ n + suc (length cs) = omega arith in z)
+
+longer_one : (cs : List IssuedCommand) (x : IssuedCommand) → Longer cs (cs ++ x ∷ [])
+unfolding last_write
+longer_one cs x =
+    record {
+      long = let q = length_more cs x in omega (arith, q);
+      same = λ k y l i. at k y l (numbered_more cs x k y i);
+      last = λ o l. go o (ev.carries_for o x x.carries) refl l;
+    }
+  where
+    at : (k : ℕ) (y : IssuedCommand) → k ≤ length cs → (numbered cs k ≡ Some y) ⊎ ((k ≡ suc (length cs)) × (y ≡ x)) → numbered cs k ≡ Some y
+    at k y l (inl i) = i
+    at k y l (inr i) = absurd (let q = i.0 in omega (arith, l, q))
+
+    go : (o : LogOwner) (b : Bool) → ev.carries_for o x x.carries ≡ b → ev.last_write_from 1 0 o (cs ++ x ∷ []) ≤ length cs →
+        ev.last_write_from 1 0 o (cs ++ x ∷ []) ≡ ev.last_write_from 1 0 o cs
+    go o true e l = absurd (let q = last_own o 1 0 cs x e in omega (arith, l, q))
+    go o false e l = last_more o 1 0 cs x e
 
 -- Cuts are nobody's.
 abbrev pub CutsNobody : List LogEntry → Type 0
@@ -143,10 +196,8 @@ record Says (c : ClientId) (site : WorldClient) (v u : World) : Type 0 where
   disks_too : length u.disks.commands ≡ length v.disks.commands + more
   clocks : u.clocks ≡ v.clocks
   clients : u.clients ≡ v.clients
+  longer : Longer v.commands u.commands
   from : length v.commands ≡ length v.disks.commands → (k : ℕ) (x : IssuedCommand) (d : DiskCommand) → IsAt u k x d → IsAt v k x d ⊎ IsFresh c site x d
-
-none_more : (n : ℕ) → n ≡ n + 0
-none_more n = omega arith
 
 one_more : (n m : ℕ) → n ≡ suc m → n ≡ m + 1
 one_more n m e = omega (arith, e)
@@ -161,6 +212,7 @@ says_nothing c site v u cs ds ts ss =
       disks_too = ap (λ (xs : List DiskCommand). length xs) ds ∙ none_more (length v.disks.commands);
       clocks = ts;
       clients = ss;
+      longer = longer_same v.commands u.commands cs;
       from = λ n k x d i. inl (ap (λ xs. numbered xs k) (sym cs) ∙ i.0, ap (λ xs. disks.command_at xs k) (sym ds) ∙ i.1);
     }
 
@@ -180,6 +232,7 @@ says_one c before site (outputs.Submit number at what) sc own = go (site_of sc.w
           disks_too = one_more _ _ (length_more sc.world.disks.commands (disks.new_command what));
           clocks = refl;
           clients = refl;
+          longer = longer_one sc.world.commands y;
           from = λ n k x d i. new k x d (at_more sc.world.commands sc.world.disks.commands y x (disks.new_command what) d k n i.0 i.1);
         }
       where
@@ -221,6 +274,7 @@ says_then c site v u z a b =
       disks_too = add_more (length u.disks.commands) (length z.disks.commands) (length v.disks.commands) a.more b.more a.disks_too b.disks_too;
       clocks = b.clocks ∙ a.clocks;
       clients = b.clients ∙ a.clients;
+      longer = longer_then v.commands u.commands z.commands a.longer b.longer;
       from = λ n k x d i. go n k x d
           (b.from (same_more (length u.commands) (length u.disks.commands) (length v.commands) (length v.disks.commands) a.more a.commands a.disks_too n) k x d
           i);
@@ -345,12 +399,15 @@ module _ (w : World) (c : ClientId) (old site : WorldClient) (input : ClientInpu
       no : ◌≡◌ {A = Option Carried} None (Some y) → ⊥
       no z = cc
 
-      by : (what : Command) → d.what ≡ what → owner_at v.log y.index ≡ Some (world.owner_carried x y)
+      by : (what : Command) → d.what ≡ what → IsOwn v.log x y
       by (commands.Read at) e = absurd (no (sym (p.commands.reads k x d at i.0 i.1 e) ∙ q))
       by (commands.Write at tag bytes) e =
           let r = p.pages.carry k x at tag bytes
           (record { issued = i.0; command = d; is = i.1; what = e; unreported = f.report; fresh = f.effect; timely = timely }) in
-          subst (λ (t : Carried). owner_at v.log t.index ≡ Some (world.owner_carried x t)) (some_is (sym r.carries ∙ q)) r.of
+          subst (IsOwn v.log x) (some_is (sym r.carries ∙ q)) (r.of, sym r.server)
+
+  longer_own : Longer w.commands v.commands
+  longer_own = longer_then w.commands u.commands v.commands said.longer (longer_same u.commands v.commands fl.commands)
 
   new_owned : LivesHold v → PagesHold v → (k : ℕ) (x : IssuedCommand) → numbered v.commands k ≡ Some x → (numbered w.commands k ≡ Some x) ⊎ CarriesOwn v.log x
   new_owned lv p k x i = go (disk_there v.commands v.disks.commands p.commands.counts k x i)
@@ -379,11 +436,13 @@ module _ (t : World) (l : LivesHold t) where
   w = ev.counted t
 
   abbrev R : WorldTurn → Type 0
-  R sc = LivesHold sc.world → PagesHold sc.world → (k : ℕ) (x : IssuedCommand) → numbered sc.world.commands k ≡ Some x →
-      (numbered t.commands k ≡ Some x) ⊎ CarriesOwn sc.world.log x
+  R sc =
+      Longer t.commands sc.world.commands
+      × (LivesHold sc.world → PagesHold sc.world → (k : ℕ) (x : IssuedCommand) → numbered sc.world.commands k ≡ Some x →
+      (numbered t.commands k ≡ Some x) ⊎ CarriesOwn sc.world.log x)
 
   nothing : (sc : WorldTurn) → sc.world.commands ≡ t.commands → R sc
-  nothing sc q lv p k x i = inl (ap (λ xs. numbered xs k) (sym q) ∙ i)
+  nothing sc q = (longer_same t.commands sc.world.commands q, λ lv p k x i. inl (ap (λ xs. numbered xs k) (sym q) ∙ i))
 
   takes : (y : World) → y.commands ≡ t.commands → LivesHold y → (c : ClientId) (i : ClientInput) (old site : WorldClient) → site_of y c ≡ Some old →
       old.node ≡ site.node →
@@ -400,7 +459,10 @@ module _ (t : World) (l : LivesHold t) where
       old_or es k x (inr f) = inr f
 
       go : (b : Bool) → site.node.running ≡ b → R (ev.client_took y c site (if b then Ok u else Err Crashed))
-      go true r = λ lv p k x j. old_or _ k x (new_owned y c old site i there same starts r ly lv p k x j)
+      go true r = (
+        subst (λ cs. Longer cs (v y c old site i there same starts r ly).commands) q (longer_own y c old site i there same starts r ly),
+        λ lv p k x j. old_or _ k x (new_owned y c old site i there same starts r ly lv p k x j),
+      )
       go false r = nothing (ev.quiet y) q
 
   counted_lives : LivesHold w
@@ -515,7 +577,7 @@ module _ (t : World) (l : LivesHold t) where
   happens (events.Start (nodes.Client c)) = starts c (site_of t c)
   happens (events.Start (nodes.Server s)) = starts_server s (node_of t s)
 
-  event_owned : (e : Event) (sc : WorldTurn) → world_step t e ≡ Ok sc → R sc
+  pub event_owned : (e : Event) (sc : WorldTurn) → world_step t e ≡ Ok sc → R sc
   unfolding w
   event_owned e sc f = subst R (sym (step_happens t e sc f).1) (happens e)
 
@@ -529,7 +591,7 @@ pub entries_kept : (t : World) (e : Event) (sc : WorldTurn) → world_step t e �
     EntriesCarried t → EntriesCarried sc.world
 entries_kept t e sc f told l lv p h =
     record {
-      owned = λ k x i. go k x (event_owned t l e sc f lv p k x i);
+      owned = λ k x i. go k x ((event_owned t l e sc f).1 lv p k x i);
       cuts = k.cuts h.cuts;
     }
   where
@@ -537,5 +599,5 @@ entries_kept t e sc f told l lv p h =
     k = subst (Kept t.log) told.entries (kept_lines sc.world t.log sc.seen)
 
     go : (n : ℕ) (x : IssuedCommand) → (numbered t.commands n ≡ Some x) ⊎ CarriesOwn sc.world.log x → CarriesOwn sc.world.log x
-    go n x (inl i) = λ y q. k.owners y.index (world.owner_carried x y) (h.owned n x i y q)
+    go n x (inl i) = λ y q. (k.owners y.index (world.owner_carried x y) (h.owned n x i y q).0, (h.owned n x i y q).1)
     go n x (inr o) = o

@@ -66,7 +66,8 @@ change_place f p (changes.Patch at bytes) q = refl
 change_place f p changes.Cut q = cc
 
 -- an entry of a client is a write or a patch
-changed : (os : List LogEntry) (n : ℕ) (o : LogEntry) → CutsNobody os → slice_get os n ≡ Some o → 1 ≤ o.of.client.0 → (b : Bool) → is_change o ≡ b → b ≡ true
+pub changed : (os : List LogEntry) (n : ℕ) (o : LogEntry) → CutsNobody os → slice_get os n ≡ Some o → 1 ≤ o.of.client.0 → (b : Bool) → is_change o ≡ b →
+    b ≡ true
 changed os n o h q l true e = refl
 changed os n o h q l false e = absurd (let z = cut_at os n o h q e in omega (arith, l, z))
 
@@ -98,7 +99,7 @@ failed_now : (w : World) (v : Volume) → IsLogOf w.log v → EntriesCarried w �
 failed_now w v a h k x y i q l =
     ap is_some (if_true (v.lines == length v.log) (volume.acts v (kinds.WriteFailed x.client x.number y.index)) None (eq-eqb v.lines (length v.log) a.lines))
     ∙ is_mapped (volume.failed v x.client x.number y.index) (place_at v y.index)
-    (carried_place w v a h.cuts y.index (world.owner_carried x y) (h.owned k x i y q) l)
+    (carried_place w v a h.cuts y.index (world.owner_carried x y) (h.owned k x i y q).0 l)
 
 -- The steps of an event.
 module _ (w : World) (v : Volume) (a : IsLogOf w.log v) (h : EntriesCarried w) (rest : List VolumeStep) (r : list_all is_inside rest ≡ true) where
@@ -167,7 +168,7 @@ failure_on past t e sc it f g h = (
   },
 )
 
-fresh_carried : (k : Config) (clients servers disks blocks form : ℕ) → EntriesCarried (fresh_world k clients servers disks blocks form)
+pub fresh_carried : (k : Config) (clients servers disks blocks form : ℕ) → EntriesCarried (fresh_world k clients servers disks blocks form)
 unfolding fresh_world
 fresh_carried k clients servers disks blocks form = record { owned = λ j x i. absurd (none j x i); cuts = tt }
   where

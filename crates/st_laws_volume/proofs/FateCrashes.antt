@@ -71,11 +71,13 @@ use Rattle.st_volume.specs.Volume.{Volume, run}
 abbrev Crashes : Event → LogOwner → Type 0
 Crashes e o = (c : ClientId) × (e ≡ events.Crash (nodes.Client c)) × (o.client ≡ c)
 
-abbrev Adds : World → Event → World → Type 0
-Adds w e v = (o : LogOwner) → is_crashed_life v.ended o ≡ true → (is_crashed_life w.ended o ≡ true) ⊎ Crashes e o
+abbrev pub Adds : World → Event → World → Type 0
+Adds w e v =
+    ((o : LogOwner) → is_crashed_life v.ended o ≡ true → (is_crashed_life w.ended o ≡ true) ⊎ Crashes e o)
+    × ((o : LogOwner) → is_crashed_life w.ended o ≡ true → is_crashed_life v.ended o ≡ true)
 
 same_ended : (w v : World) (e : Event) → v.ended ≡ w.ended → Adds w e v
-same_ended w v e q o h = inl (ap (λ es. is_crashed_life es o) (sym q) ∙ h)
+same_ended w v e q = (λ o h. inl (ap (λ es. is_crashed_life es o) (sym q) ∙ h), λ o h. ap (λ es. is_crashed_life es o) q ∙ h)
 
 one_more : (o : LogOwner) (es : List LeaseLife) (l : LeaseLife) → l.crashed ≡ false → is_crashed_life (es ++ l ∷ []) o ≡ is_crashed_life es o
 one_more o [] l q = ap (λ b. (b && is_of_life_over l 0 o) || false) q
@@ -146,6 +148,15 @@ lives_own c [] (l ∷ ls) o h q = go (is_crash_of o (ev.crashed_life l)) refl q 
     go true f q r = inr (ap (λ n. record { 0 = n }) (eqb-true o.client.0 l.client.0 (and_true (o.client.0 == l.client.0) _ f).0) ∙ h l (inl refl))
     go false f q r = r q
 
+crashed_front : (es ls : List LeaseLife) (o : LogOwner) → is_crashed_life es o ≡ true → is_crashed_life (es ++ ls) o ≡ true
+crashed_front [] ls o q = cc q
+crashed_front (x ∷ es) ls o q = go (is_crash_of o x) q (crashed_front es ls o)
+  where
+    go : (b : Bool) → (b || is_crashed_life es o) ≡ true → (is_crashed_life es o ≡ true → is_crashed_life (es ++ ls) o ≡ true) →
+        (b || is_crashed_life (es ++ ls) o) ≡ true
+    go true q r = refl
+    go false q r = r q
+
 lives_client : (k : Config) (c : ClientId) (as_ : List Association) (l : LeaseLife) → Has l (map (world.life_of_association k c) as_) → l.client ≡ c
 lives_client k c [] l h = absurd h
 lives_client k c (a ∷ as_) l (inl e) = ap (λ (x : LeaseLife). x.client) e
@@ -169,10 +180,10 @@ module _ (t : World) (e : Event) (ids : (c : ClientId) (site : WorldClient) → 
       go (Err x) = nothing (ev.quiet v) q
       go (Ok u) =
           let sc : WorldTurn = ev.client_says_all c site.node.state u.out (ev.quiet (ev.with_site c (ev.at_node u.node site) v)) in
-          λ o h. inl
-          (ap (λ es. is_crashed_life es o) (sym q)
-          ∙ (sym (all_ended c site.node.state u.out (ev.quiet (ev.with_site c (ev.at_node u.node site) v)) o)
-          ∙ (ap (λ es. is_crashed_life es o) (sym (flush_parts c u.node.state (world.all_servers sc.world) sc.world).ended) ∙ h)))
+          let same : (o : LogOwner) → is_crashed_life (ev.flushes c u.node.state (world.all_servers sc.world) sc.world).ended o ≡ is_crashed_life t.ended o =
+          λ o. ap (λ es. is_crashed_life es o) (flush_parts c u.node.state (world.all_servers sc.world) sc.world).ended
+          ∙ (all_ended c site.node.state u.out (ev.quiet (ev.with_site c (ev.at_node u.node site) v)) o ∙ ap (λ es. is_crashed_life es o) q) in
+          (λ o h. inl (sym (same o) ∙ h), λ o h. same o ∙ h)
 
   by_client : (v : World) (c : ClientId) (i : ClientInput) → v.ended ≡ t.ended → (o : Option WorldClient) → R (ev.at_client v c i o)
   unfolding ev.at_client
@@ -225,9 +236,12 @@ module _ (t : World) (e : Event) (ids : (c : ClientId) (site : WorldClient) → 
   unfolding ev.crashes_client ev.marks w
   crashes c q None at = nothing (ev.quiet w) refl
   crashes c q (Some site) at =
-      λ o h. go o
-      (lives_own c t.ended (lives_of site.node.state) o
-      (λ l i. lives_client site.node.state.config site.node.state.id site.node.state.associations l i ∙ ids c site at) h)
+      (
+        λ o h. go o
+            (lives_own c t.ended (lives_of site.node.state) o
+            (λ l i. lives_client site.node.state.config site.node.state.id site.node.state.associations l i ∙ ids c site at) h),
+        λ o h. crashed_front t.ended (map ev.crashed_life (lives_of site.node.state)) o h,
+      )
     where
       go : (o : LogOwner) → (is_crashed_life t.ended o ≡ true) ⊎ (o.client ≡ c) → (is_crashed_life t.ended o ≡ true) ⊎ Crashes e o
       go o (inl h) = inl h
@@ -270,23 +284,23 @@ module _ (t : World) (e : Event) (ids : (c : ClientId) (site : WorldClient) → 
   happens (events.Start (nodes.Client c)) i = starts c (site_of t c)
   happens (events.Start (nodes.Server s)) i = starts_server s (node_of t s)
 
-  event_adds : (sc : WorldTurn) → world_step t e ≡ Ok sc → R sc
+  pub event_adds : (sc : WorldTurn) → world_step t e ≡ Ok sc → R sc
   unfolding w
   event_adds sc h = let z = step_happens t e sc h in subst R (sym z.1) (happens e refl)
 
 -- Entries that join the log are of present lives, which no crash ended.
-abbrev IsFresh : World → LogEntry → Type 0
+abbrev pub IsFresh : World → LogEntry → Type 0
 IsFresh v o = is_change o ≡ true → (changes_alone v o.of.client o.of.file o.of.page ≡ true) × (o.of.life ≡ present_life v o.of.client o.of.file.server)
 
-abbrev AllFresh : World → List LogEntry → Type 0
+abbrev pub AllFresh : World → List LogEntry → Type 0
 AllFresh v [] = Unit {0}
 AllFresh v (o ∷ os) = IsFresh v o × AllFresh v os
 
 -- the same entry, perhaps with another fate
-abbrev SameEntry : LogEntry → LogEntry → Type 0
+abbrev pub SameEntry : LogEntry → LogEntry → Type 0
 SameEntry o p = (p.of ≡ o.of) × (p.change ≡ o.change)
 
-abbrev Grown : World → List LogEntry → List LogEntry → Type 0
+abbrev pub Grown : World → List LogEntry → List LogEntry → Type 0
 Grown v [] ps = AllFresh v ps
 Grown v (o ∷ os) [] = ⊥
 Grown v (o ∷ os) (p ∷ ps) = SameEntry o p × Grown v os ps
@@ -352,7 +366,7 @@ line_grown v os ps (seen.Lost c s life) l h = h
 line_grown v os ps (seen.Suspected s c start) l h = h
 line_grown v os ps (seen.Stolen s c life) l h = h
 
-lines_grown : (v : World) (os ps : List LogEntry) (xs : List Observation) → list_all (is_change_locked v) xs ≡ true → Grown v os ps →
+pub lines_grown : (v : World) (os ps : List LogEntry) (xs : List Observation) → list_all (is_change_locked v) xs ≡ true → Grown v os ps →
     Grown v os (lines.log_told v ps xs)
 unfolding lines.log_told
 lines_grown v os ps [] l h = h
@@ -360,7 +374,7 @@ lines_grown v os ps (x ∷ xs) l h =
     let b = and_true (is_change_locked v x) (list_all (is_change_locked v) xs) l in
     lines_grown v os (lines.log_behind v ps x) xs b.1 (line_grown v os ps x b.0 h)
 
-grown_self : (v : World) (os : List LogEntry) → Grown v os os
+pub grown_self : (v : World) (os : List LogEntry) → Grown v os os
 grown_self v [] = tt
 grown_self v (o ∷ os) = ((refl, refl), grown_self v os)
 
@@ -418,7 +432,7 @@ fresh_marked v (p ∷ ps) (f ∷ fs) lives h = (λ k c. let z = h.0 k in absurd 
 
 -- Marks after an event.
 marked_on : (w v : World) (e : Event) (os ps : List LogEntry) (es fs : List Entry) → LivesHold v → Adds w e v →
-    ((c : ClientId) → e ≡ events.Crash (nodes.Client c) → AllCrashed c es fs) → Grown v os ps → AllKeep es fs → AreSame os es → AreMarked w.ended os es →
+    ((c : ClientId) → e ≡ events.Crash (nodes.Client c) → AllCrashed c es fs) → Grown v os ps → AllKeep ⊥ es fs → AreSame os es → AreMarked w.ended os es →
     AreMarked v.ended ps fs
 marked_on w v e [] ps es fs lives adds marks g k s h = fresh_marked v ps fs lives g
 marked_on w v e (o ∷ os) [] es fs lives adds marks g k s h = absurd g
@@ -428,7 +442,7 @@ marked_on w v e (o ∷ os) (p ∷ ps) (y ∷ es) (f ∷ fs) lives adds marks g k
     (one, marked_on w v e os ps es fs lives adds (λ c q. (marks c q).1) g.1 k.1 s.1 h.1)
   where
     one : is_change p ≡ true → is_crashed_life v.ended p.of ≡ true → f.crashed ≡ true
-    one ch cr = go (adds o.of (ap (is_crashed_life v.ended) (sym g.0.0) ∙ cr))
+    one ch cr = go (adds.0 o.of (ap (is_crashed_life v.ended) (sym g.0.0) ∙ cr))
       where
         was : is_change o ≡ true
         was = ap (λ x. ev.changes_page x) (sym g.0.1) ∙ ch
@@ -466,13 +480,13 @@ after_marks t x (Some v) told locked lives adds a h =
     let lined = lines_grown x.after.world w.log w.log x.seen locked (grown_self x.after.world w.log) in
     let grown : Grown x.after.world w.log x.after.world.log = subst (Grown x.after.world w.log) told.entries lined in
     on_then (MarksOf x.after.world) if_told (run (steps_of t v x) v)
-    (on_more (λ u. AllKeep v.log u.log × ((c : ClientId) → x.event ≡ events.Crash (nodes.Client c) → AllCrashed c v.log u.log))
+    (on_more (λ u. AllKeep ⊥ v.log u.log × ((c : ClientId) → x.event ≡ events.Crash (nodes.Client c) → AllCrashed c v.log u.log))
     (λ u. OnSome (MarksOf x.after.world) (if_told u))
     (λ u k. on_if (MarksOf x.after.world) (u.lines == length u.log) (Some u)
     (marked_on w x.after.world x.event w.log x.after.world.log v.log u.log lives adds k.1 grown k.0 a.entries h))
     (run (steps_of t v x) v)
-    (on_both (λ u. AllKeep v.log u.log) (λ u. (c : ClientId) → x.event ≡ events.Crash (nodes.Client c) → AllCrashed c v.log u.log) (run (steps_of t v x) v)
-    (run_keeps (steps_of t v x) v) (for_each x.event v.log (run (steps_of t v x) v) (crash_marked t v x))))
+    (on_both (λ u. AllKeep ⊥ v.log u.log) (λ u. (c : ClientId) → x.event ≡ events.Crash (nodes.Client c) → AllCrashed c v.log u.log) (run (steps_of t v x) v)
+    (run_keeps ⊥ (steps_of t v x) v (λ z. absurd z)) (for_each x.event v.log (run (steps_of t v x) v) (crash_marked t v x))))
 
 -- What is carried.
 record MarksHold (past : List Step) (t : Traced) (it : Witness) : Type 0 where

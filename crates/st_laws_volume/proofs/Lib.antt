@@ -16,6 +16,10 @@ pub mod EntriesTold
 pub mod EpochSteps
 pub mod Epochs
 pub mod FailedWrites
+pub mod FailureEntries
+pub mod FailureLives
+pub mod FailureMarks
+pub mod FailureWrites
 pub mod FateCrashes
 pub mod FateKeeps
 pub mod FateLines

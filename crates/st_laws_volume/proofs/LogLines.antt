@@ -59,7 +59,7 @@ numbered_next xs n i e = ap (numbered xs) (e ∙ suc_is n) ∙ numbered_suc xs n
 pub run_then : (P : Volume → Type 0) (xs ys : List VolumeStep) (v : Volume) → OnSome (λ u. OnSome P (run ys u)) (run xs v) → OnSome P (run (xs ++ ys) v)
 run_then P xs ys v h = subst (OnSome P) (sym (in_parts xs ys v)) (on_then P (run ys) (run xs v) h)
 
-one_step : (P : Volume → Type 0) (it : VolumeStep) (v : Volume) → OnSome P (step v it) → OnSome P (run (it ∷ []) v)
+pub one_step : (P : Volume → Type 0) (it : VolumeStep) (v : Volume) → OnSome P (step v it) → OnSome P (run (it ∷ []) v)
 unfolding run
 one_step P it v h = on_then P (run []) (step v it) h
 

@@ -1,15 +1,22 @@
--- Crashes since: an entry whose client's life a crash ended remembers, in the volume, that its client
--- crashed since it joined the log.
-use Rattle.std.specs.Prelude.{◌≡◌, Bool, true, ◌&&◌, List, [], ◌∷◌, ⊤}
+-- What entries of the volume remember: that their client crashed, and which failed write carried them.
+use Rattle.std.specs.Prelude.{◌≡◌, ◌≤◌, ℕ, ◌+◌, Bool, true, false, ◌&&◌, List, [], ◌∷◌, ◌++◌, slice_get, Some, ⊤}
 use Rattle.std.specs.List.{list_any}
+use Rattle.st_rules.specs.declared.log.Fate.TheVariants as fates
 use Rattle.st_rules.specs.declared.log.LogEntry.{LogEntry}
 use Rattle.st_rules.specs.declared.log.LogOwner.{LogOwner}
+use Rattle.st_rules.specs.declared.world.Carried.{Carried}
+use Rattle.st_rules.specs.declared.world.IssuedCommand.{IssuedCommand}
 use Rattle.st_rules.specs.declared.world.LeaseLife.{LeaseLife}
-use Rattle.st_rules.specs.Events.{is_change, is_of_life_over}
-use Rattle.st_rules.specs.Safety.{Promise}
+use Rattle.st_rules.specs.Events.{is_change, is_of_life_over, last_write}
+use Rattle.st_rules.specs.Safety.{Promise, Step, reports_failure}
+use Rattle.st_rules.specs.World.{World, numbered}
 use Rattle.st_laws_volume.specs.Options.{OnSome}
 use Rattle.st_laws_volume.specs.Witness.{led_by, led_to}
 use Rattle.st_volume.specs.Pages.{Entry}
+use Rattle.st_volume.specs.Volume.{Volume}
+
+-- Crashes since: an entry whose client's life a crash ended remembers that its client crashed since
+-- it joined the log.
 
 -- a crash ended the life of an owner
 abbrev pub is_crash_of : LogOwner → LeaseLife → Bool
@@ -30,3 +37,28 @@ AreMarked ended (o ∷ os) (e ∷ es) =
 abbrev pub CrashesAreMarked : Promise
 CrashesAreMarked past x =
     OnSome (λ v. AreMarked x.after.world.ended x.after.world.log v.log) (led_by (led_to past x) x).volume
+
+-- Failed writes: a pending entry of a life that no crash ended remembers the last write of its page by that life, if this write carried the entry, or carried it
+-- along, and was reported failed. Writes go by their clients' own numbers.
+abbrev pub IsRemembered : List Step → World → ℕ → LogEntry → Entry → Type 0
+IsRemembered past w index o e =
+    (x : IssuedCommand) (y : Carried)
+    → o.fate ≡ fates.Pending
+    → is_crashed_life w.ended o.of ≡ false
+    → numbered w.commands (last_write w.commands o.of) ≡ Some x
+    → x.carries ≡ Some y
+    → index ≤ y.index
+    → list_any (reports_failure (last_write w.commands o.of)) past ≡ true
+    → e.failed ≡ x.number
+
+-- each entry, by its place in both logs
+abbrev pub AreRemembered : List Step → World → Volume → Type 0
+AreRemembered past w v =
+    (n : ℕ) (o : LogEntry) (e : Entry)
+    → slice_get w.log n ≡ Some o
+    → slice_get v.log n ≡ Some e
+    → IsRemembered past w (n + 1) o e
+
+-- Failed writes are remembered: after every event, if the volume has taken the steps of all events so far.
+abbrev pub FailedWritesAreRemembered : Promise
+FailedWritesAreRemembered past x = OnSome (AreRemembered (past ++ x ∷ []) x.after.world) (led_by (led_to past x) x).volume

@@ -6,7 +6,7 @@
 ghost use Rattle.st_laws_volume.specs.AskedAsks.{AsksAreAsAsked};
 ghost use Rattle.st_laws_volume.specs.Asks.{AsksAgree};
 ghost use Rattle.st_laws_volume.specs.Epochs.{EpochsAgree};
-ghost use Rattle.st_laws_volume.specs.FateMarks.{CrashesAreMarked};
+ghost use Rattle.st_laws_volume.specs.FateMarks.{CrashesAreMarked, FailedWritesAreRemembered};
 ghost use Rattle.st_laws_volume.specs.Fates.{StillEventsAreTaken};
 ghost use Rattle.st_laws_volume.specs.StepKinds.{EntriesAreTold, KindsAreEnough, StepsAreTaken, is_ask, is_change_line, is_failed_write, is_free, is_line, is_written};
 ghost use Rattle.st_laws_volume.specs.Laws.{RunsInParts, StepsShowTheEvent, TheStartAgrees};
@@ -65,6 +65,13 @@ pub fn asks_are_as_asked()
 /// of a life that a crash ended remembers that its client crashed since.
 pub fn crashes_are_marked()
     ensures { InEveryRun CrashesAreMarked }
+{}
+
+/// In every run, after every event up to which the volume has taken the steps: each pending entry of
+/// a life that no crash ended remembers the last write of its page by that life, if this write
+/// carried it, or carried it along, and was reported failed.
+pub fn failed_writes_are_remembered()
+    ensures { InEveryRun FailedWritesAreRemembered }
 {}
 
 /// What an ask makes of a tree is what the names of a server do, if they are sound.
