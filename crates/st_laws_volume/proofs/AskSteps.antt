@@ -194,11 +194,11 @@ noticed : (c : ClientId) (v : Volume) → Same c v (notice v)
 noticed c v = by_parts c v (notice v) refl (keys_mapped c (noticing v) (λ a. record { client = refl; op = refl; ask = refl }) v.pending)
 
 -- Effects.
-record Kept (v u : Volume) : Type 0 where
-  pending : u.pending ≡ v.pending
-  asked : u.asked ≡ v.asked
+pub record Kept (v u : Volume) : Type 0 where
+  pub pending : u.pending ≡ v.pending
+  pub asked : u.asked ≡ v.asked
 
-abbrev Leaves : Volume → Volume × AppAnswer → Type 0
+abbrev pub Leaves : Volume → Volume × AppAnswer → Type 0
 Leaves v r = Kept v r.0
 
 joins : (v : Volume) (f : FileId) (e : Entry) → OnSome (Kept v) (with_entry v f e)
@@ -223,7 +223,7 @@ made_keeps v c s (t, (answer, removed)) =
     (on_more (Kept v) (λ w. Kept v (with_tree s t w)) (λ w k. record { pending = k.pending; asked = k.asked }) (cuts_removed v c s removed)
     (removal_keeps v c s removed)))
 
-effect_keeps : (v : Volume) (c : ClientId) (ask : Ask) → OnSome (Leaves v) (effect v c ask)
+pub effect_keeps : (v : Volume) (c : ClientId) (ask : Ask) → OnSome (Leaves v) (effect v c ask)
 effect_keeps v c (asks.Write f p bytes) = result_keeps v answers.Written _ (joins v f (entry c (asks.Write f p bytes) fates.Open))
 effect_keeps v c (asks.Patch f p at bytes) = result_keeps v answers.Written _ (joins v f (entry c (asks.Patch f p at bytes) fates.Open))
 effect_keeps v c (asks.Read f p) = tt
@@ -250,7 +250,7 @@ takes_keeps c v a =
     (on_more (Leaves v) (λ r. Same c v (notice (done a r))) (λ r k. done_keeps c v a r k) (effect v a.client a.ask) (effect_keeps v a.client a.ask)))
 
 -- Answers.
-after_keeps : (v : Volume) (a : Pending) (answer : AppAnswer) → Kept v (after_answer v a answer)
+pub after_keeps : (v : Volume) (a : Pending) (answer : AppAnswer) → Kept v (after_answer v a answer)
 after_keeps v a answers.Hard = record { pending = refl; asked = refl }
 after_keeps v a (answers.Lost rows) = record { pending = refl; asked = refl }
 after_keeps v a (answers.Read bytes) = record { pending = refl; asked = refl }

@@ -25,6 +25,7 @@ pub mod FateKeeps
 pub mod FateLines
 pub mod Fates
 pub mod FewAsks
+pub mod KeptResults
 pub mod LogEntries
 pub mod LogLines
 pub mod LogSteps

@@ -12,6 +12,7 @@ ghost use Rattle.st_laws_volume.specs.StepKinds.{EntriesAreTold, KindsAreEnough,
 ghost use Rattle.st_laws_volume.specs.Laws.{RunsInParts, StepsShowTheEvent, TheStartAgrees};
 ghost use Rattle.st_laws_volume.specs.Logs.{InEveryRun, LogsAgree};
 ghost use Rattle.st_laws_volume.specs.Reads.{PagesAgree};
+ghost use Rattle.st_laws_volume.specs.Results.{ResultsAreOfCutsAndNames};
 ghost use Rattle.st_laws_volume.specs.TreeNames.{NamesStaySound, SoundNamesDoTheSame};
 ghost use Rattle.st_laws_volume.specs.Trees.{TreesAgree};
 
@@ -130,6 +131,12 @@ pub fn entries_are_told()
 /// all steps before it: the write carried an entry of the log.
 pub fn failed_writes_are_taken()
     ensures { InEveryRun (StepsAreTaken is_failed_write) }
+{}
+
+/// In every run, after every event up to which the volume has taken the steps: an open ask that has
+/// its result is a cut or an ask for a name.
+pub fn results_are_of_cuts_and_names()
+    ensures { InEveryRun ResultsAreOfCutsAndNames }
 {}
 
 /// In every run the volume takes each answer `written`, where it has taken all steps before it: the
