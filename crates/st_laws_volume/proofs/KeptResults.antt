@@ -232,7 +232,7 @@ answer_right v c op answer h =
 requested : (s : ServerId) (b : Body) (a : Ask) → is_request_for s b a ≡ true → is_cut_or_name a ≡ true
 requested s (bodies.Cut ino g from) (asks.Cut f p) q = refl
 requested s (bodies.Name op) (asks.Name r ask) q = refl
-requested s b a q = cc q
+requested s b a q = cc
 
 module _ (as_ : Asked) (bs : List Behind) (v : Volume) (r : AreOf as_ v) (h : AllRight None v) where
   same_words : (a b : Pending) → Has a (v.pending ++ v.orphans) → Has b v.pending → is_ask a.client a.op b ≡ true → b.ask ≡ a.ask

@@ -30,6 +30,7 @@ pub mod LogEntries
 pub mod LogLines
 pub mod LogSteps
 pub mod Logs
+pub mod OpenAnswers
 pub mod Options
 pub mod Parts
 pub mod ReadContents

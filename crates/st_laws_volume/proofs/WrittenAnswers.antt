@@ -17,7 +17,7 @@ use Rattle.st_rules.specs.declared.observation.Observation.TheVariants as seen
 use Rattle.st_rules.specs.History.{Traced, traced}
 use Rattle.st_rules.specs.Safety.{AnswersAreLogged, AreLogged, AsksAreAnsweredOnce, IsLogged, IsLoggedAfter, IsLoggedWrite, Promise, Step, all_answered_once, all_followed, begins_written, is_followed, step, steps}
 use Rattle.st_rules.specs.World as world
-use Rattle.st_rules.specs.World.{World, fresh_world}
+use Rattle.st_rules.specs.World.{World, fresh_world, site_of}
 use Rattle.st_lemmas.proofs.Lookups.{if_true, some_is}
 use Rattle.st_lemmas.proofs.Tables.{and_both, and_true, find_map, found_at}
 use Rattle.st_lemmas.proofs.Truth.{client_is, eqb_self}
@@ -26,9 +26,8 @@ use Rattle.st_laws_pages.specs.Asks.Law.{PlacesHold}
 use Rattle.st_laws_pages.specs.Disks.Obligations.{FatesHold}
 use Rattle.st_laws_pages.proofs.Asks.Law.{places_law}
 use Rattle.st_laws_pages.proofs.Asks.World.{asks_more, asks_of}
-use Rattle.st_laws_pages.proofs.Causes.Placed.{places_at}
 use Rattle.st_laws_pages.proofs.Disks.Whole.{fates_law}
-use Rattle.st_laws_volume.specs.Asks.{AsksOf, HasAsksOf, in_volume}
+use Rattle.st_laws_volume.specs.Asks.{AsksOf, HasAsksOf, at_site, in_volume}
 use Rattle.st_laws_volume.specs.StepKinds.{AreTaken, StepsAreTaken, is_answer, is_written}
 use Rattle.st_laws_volume.specs.Logs.{InEveryRun}
 use Rattle.st_laws_volume.specs.Options.{OnSome}
@@ -36,12 +35,13 @@ use Rattle.st_laws_volume.specs.Seen.{cause_of, of_event, of_line}
 use Rattle.st_laws_volume.specs.Witness.{Witness, before_line, next_op, of_delivery, of_lines, steps_of}
 use Rattle.st_laws_volume.proofs.AnswerSteps.{OnlyAnswers, delivery_silent, event_silent, none_answered, open_there}
 use Rattle.st_laws_volume.proofs.AskedAsks.{AreOf, Asked, IsOf, Nothing, RightHold, all_has, asked_after, event_right, moved, right_begins, right_kept, run_right}
-use Rattle.st_laws_volume.proofs.AskEvents.{AllOpenFor, AsksLeft, OpenFor, event_leaves}
-use Rattle.st_laws_volume.proofs.Asks.{AsksHold, asks_begin, asks_kept, before_dull, delivery_dull, of_each}
-use Rattle.st_laws_volume.proofs.AskSteps.{is_open_op, run_tells, told_all, told_both}
+use Rattle.st_laws_volume.proofs.AskEvents.{AllOpenFor, OpenFor}
+use Rattle.st_laws_volume.proofs.Asks.{AsksHold, asks_begin, asks_kept}
+use Rattle.st_laws_volume.proofs.AskSteps.{is_open_op, told_all}
 use Rattle.st_laws_volume.proofs.AsksTaken.{all_other}
 use Rattle.st_laws_volume.proofs.Carried.{IsGiven, given_in}
 use Rattle.st_laws_volume.proofs.ChangeLines.{block_other, followed_asked, on_both, patched_is, taken_both, wrote_is}
+use Rattle.st_laws_volume.proofs.OpenAnswers.{Open, block, block_open, first_open, open_left, served_open}
 use Rattle.st_laws_volume.proofs.Options.{on_all, on_else, on_if, on_map, on_more, on_then}
 use Rattle.st_laws_volume.proofs.ReadPages.{throughout_both}
 use Rattle.st_laws_volume.proofs.ReadRanges.{Written, written_is}
@@ -233,27 +233,12 @@ module _ (past : List Step) (x : Step) (w : World) where
   abbrev as_ : Asked
   as_ = asks_of (past ++ x ∷ [])
 
-  abbrev Open : List Observation → Volume → Type 0
-  Open os u = (c : ClientId) → AllOpenFor w c os (in_volume u c)
-
   abbrev State : Option Observation → List Observation → Volume → Type 0
-  State line os u = AreOf as_ u × (Open os u × Ready line os u)
-
-  abbrev block : Observation → List Observation → List VolumeStep
-  block o os = before_line o os ++ of_line w o
+  State line os u = AreOf as_ u × (Open w os u × Ready line os u)
 
   -- what a line leaves
-  block_open : (o : Observation) (os : List Observation) (u : Volume) → Open (o ∷ os) u → OnSome (Open os) (volume.run (block o os) u)
-  block_open o os u h =
-      on_more (λ z. (c : ClientId) → in_volume z c ≡ told_all c (block o os) (in_volume u c)) (Open os)
-      (λ z k c. subst (AllOpenFor w c os)
-      (sym (k c ∙ (told_both c (before_line o os) (of_line w o) (in_volume u c) ∙ ap (told_all c (of_line w o)) (before_dull c o os (in_volume u c)))))
-      (h c).1)
-      (volume.run (block o os) u)
-      (of_each (block o os) u (volume.run (block o os) u) (λ c. run_tells c (block o os) u))
-
   block_ready : (o : Observation) (os : List Observation) (u : Volume) → AreLogged past x (Some o) os → is_followed o os ≡ true → AreOf as_ u →
-      Open (o ∷ os) u → OnSome (Ready (Some o) os) (volume.run (block o os) u)
+      Open w (o ∷ os) u → OnSome (Ready (Some o) os) (volume.run (block w o os) u)
   unfolding before_line of_line
   block_ready (seen.Wrote i c f p bytes) os u l b r h =
       two_done c (next_op os) u i (Some c) (asks.Write f p bytes)
@@ -284,7 +269,7 @@ module _ (past : List Step) (x : Step) (w : World) where
   answer_block line c op answer os u l r q = cc q
 
   block_taken : (line : Option Observation) (o : Observation) (os : List Observation) (u : Volume) → IsLogged past x line o → Ready line (o ∷ os) u →
-      AreTaken is_written (block o os) u
+      AreTaken is_written (block w o os) u
   unfolding before_line of_line AreTaken
   block_taken line (seen.Answered c op answer) os u l r =
       one_taken (kinds.Answered c op answer) u (answer_block line c op answer os u l r)
@@ -309,10 +294,10 @@ module _ (past : List Step) (x : Step) (w : World) where
   lines_taken line (o ∷ os) u l b k =
       let g = and_true (is_followed o os) (all_followed os) b in
       subst (λ its. AreTaken is_written its u) (append_assoc (before_line o os) (of_line w o) (of_lines w os))
-      (taken_both is_written (block o os) (of_lines w os) u (block_taken line o os u l.0 k.1.1)
-      (on_more (State (Some o) os) (AreTaken is_written (of_lines w os)) (λ z j. lines_taken (Some o) os z l.1 g.1 j) (volume.run (block o os) u)
-      (on_both (AreOf as_) (λ z. Open os z × Ready (Some o) os z) (volume.run (block o os) u) (run_right as_ (block o os) u (block_other w o os) k.0)
-      (on_both (Open os) (Ready (Some o) os) (volume.run (block o os) u) (block_open o os u k.1.0) (block_ready o os u l.1 g.0 k.0 k.1.0)))))
+      (taken_both is_written (block w o os) (of_lines w os) u (block_taken line o os u l.0 k.1.1)
+      (on_more (State (Some o) os) (AreTaken is_written (of_lines w os)) (λ z j. lines_taken (Some o) os z l.1 g.1 j) (volume.run (block w o os) u)
+      (on_both (AreOf as_) (λ z. Open w os z × Ready (Some o) os z) (volume.run (block w o os) u) (run_right as_ (block w o os) u (block_other w o os) k.0)
+      (on_both (Open w os) (Ready (Some o) os) (volume.run (block w o os) u) (block_open w o os u k.1.0) (block_ready o os u l.1 g.0 k.0 k.1.0)))))
 
 -- All steps of an event.
 event_written : (past : List Step) (x : Step) (it : Witness) (v : Volume) → all_followed x.seen ≡ true → AnswersAreLogged past x → AreOf (asks_of past) v →
@@ -325,22 +310,19 @@ event_written past x it v b l r h =
     let served : List VolumeStep = of_delivery it.behind v w x.event in
     let all : List VolumeStep = of_lines w x.seen in
     taken_both is_written first (served ++ all) v (none_answered is_written only_written first v (event_silent w x.event))
-    (on_more (λ y. AreOf bs y × Open past x w x.seen y) (AreTaken is_written (served ++ all))
+    (on_more (λ y. AreOf bs y × Open w x.seen y) (AreTaken is_written (served ++ all))
     (λ y k. taken_both is_written served all y (none_answered is_written only_written served y (delivery_silent it.behind v w x.event))
     (on_more (State past x w None x.seen) (AreTaken is_written all) (λ z j. lines_taken past x w None x.seen z l b j) (volume.run served y)
-    (on_both (AreOf bs) (λ z. Open past x w x.seen z × Unit {0}) (volume.run served y)
+    (on_both (AreOf bs) (λ z. Open w x.seen z × Unit {0}) (volume.run served y)
     (run_right bs served y (all_other served (delivery_inside it.behind v w x.event)) k.0)
-    (on_more (λ z. (c : ClientId) → in_volume z c ≡ told_all c served (in_volume y c)) (λ z. Open past x w x.seen z × Unit {0})
-    (λ z j. (λ c. subst (AllOpenFor w c x.seen) (sym (j c ∙ delivery_dull c it.behind v w x.event (in_volume y c))) (k.1 c), tt)) (volume.run served y)
-    (of_each served y (volume.run served y) (λ c. run_tells c served y))))))
+    (on_more (Open w x.seen) (λ z. Open w x.seen z × Unit {0}) (λ z j. (j, tt)) (volume.run served y)
+    (served_open w x.event x.seen it.behind v y k.1)))))
     (volume.run first v)
-    (on_both (AreOf bs) (Open past x w x.seen) (volume.run first v)
+    (on_both (AreOf bs) (Open w x.seen) (volume.run first v)
     (on_more (AreOf (asked_after (asks_of past) x.event)) (AreOf bs) (λ y k. moved (asked_after (asks_of past) x.event) bs (λ c. asks_more past x c) y k)
     (volume.run first v)
     (event_right (asks_of past) w x.event v r))
-    (on_more (λ y. (c : ClientId) → in_volume y c ≡ told_all c first (in_volume v c)) (Open past x w x.seen)
-    (λ y j c. subst (AllOpenFor w c x.seen) (sym (j c)) (h c)) (volume.run first v)
-    (of_each first v (volume.run first v) (λ c. run_tells c first v)))))
+    (first_open w x.event x.seen v h)))
 
 -- In every run.
 WrittenToo : List Step → Step → Witness → Type 0
@@ -357,11 +339,11 @@ written_on : IsGiven Known WrittenHold WrittenToo
 unfolding WrittenToo
 written_on past t e sc it f g h =
     let x : Step = step t e sc in
-    let left : AsksLeft t.world e sc =
-    event_leaves t.world e h.asks.rests h.asks.fates.lives.lives.sites (places_at t.world h.asks.places) h.asks.counted sc f in (
+    let left : (c : ClientId) → AllOpenFor t.world c sc.seen (told_all c (of_event t.world e) (at_site (site_of t.world c))) =
+    open_left past t e sc it f h.asks in (
       on_more (λ v. HasAsksOf t.world v × AreOf (asks_of past) v) (λ v. AreTaken is_written (steps_of it v x) v)
           (λ v k. event_written past x it v (and_true (all_answered_once past x [] x.seen) (all_followed x.seen) g.0).1 g.1.0 k.1
-          (λ c. subst (λ a. AllOpenFor t.world c sc.seen (told_all c (of_event t.world e) a)) (sym (k.0 c)) (left.opened c)))
+          (λ c. subst (λ a. AllOpenFor t.world c sc.seen (told_all c (of_event t.world e) a)) (sym (k.0 c)) (left c)))
           it.volume
           (on_both (HasAsksOf t.world) (AreOf (asks_of past)) it.volume h.asks.agree h.right),
       record { asks = asks_kept past t e sc it f g.1.1 h.asks; right = right_kept past t e sc it f tt h.right },

@@ -1,5 +1,5 @@
 -- The law that every run is a run of the volume, in parts: one for each kind of step.
-use Rattle.std.specs.Prelude.{◌≡◌, Bool, true, false, List, [], ◌∷◌, Some, length, is_some, ⊤}
+use Rattle.std.specs.Prelude.{◌≡◌, Bool, true, false, List, [], ◌∷◌, Some, length, find, is_some, ⊤}
 use Rattle.st_messages.specs.declared.answer.AppAnswer.TheVariants as answers
 use Rattle.st_messages.specs.declared.event.Event.{Event}
 use Rattle.st_rules.specs.History.{traced}
@@ -9,6 +9,7 @@ use Rattle.st_laws_volume.specs.Options.{OnSome}
 use Rattle.st_laws_volume.specs.Witness.{Accepted, led_to, steps_of}
 use Rattle.st_volume.specs.declared.step.VolumeStep.{VolumeStep}
 use Rattle.st_volume.specs.declared.step.VolumeStep.TheVariants as kinds
+use Rattle.st_volume.specs.Volume as volume
 use Rattle.st_volume.specs.Volume.{Volume, run, step}
 
 -- the volume takes those steps that pass a test, if it has taken all before them
@@ -27,6 +28,21 @@ abbrev pub EntriesAreTold : Promise
 EntriesAreTold past x =
     OnSome (λ v. OnSome (λ u. u.lines ≡ length u.log) (run (steps_of (led_to past x) v x) v))
     (led_to past x).volume
+
+-- an answer is one to an open ask
+abbrev pub IsOpenAt : VolumeStep → Volume → Type 0
+IsOpenAt (kinds.Answered c op answer) v = is_some (find (volume.is_ask c op) v.pending) ≡ true
+IsOpenAt it v = ⊤
+
+-- each of these steps, where the volume has taken those before it
+unfoldable pub AnswersAreOpen : List VolumeStep → Volume → Type 0
+AnswersAreOpen [] v = ⊤
+AnswersAreOpen (it ∷ rest) v = IsOpenAt it v × OnSome (AnswersAreOpen rest) (step v it)
+
+-- Answers are to open asks: at each event, if the volume has taken the steps of all events before it.
+abbrev pub AnswersAreToOpenAsks : Promise
+AnswersAreToOpenAsks past x =
+    OnSome (λ v. AnswersAreOpen (steps_of (led_to past x) v x) v) (led_to past x).volume
 
 -- Kinds of steps.
 abbrev pub is_ask : VolumeStep → Bool

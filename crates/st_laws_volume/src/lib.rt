@@ -8,7 +8,7 @@ ghost use Rattle.st_laws_volume.specs.Asks.{AsksAgree};
 ghost use Rattle.st_laws_volume.specs.Epochs.{EpochsAgree};
 ghost use Rattle.st_laws_volume.specs.FateMarks.{CrashesAreMarked, FailedWritesAreRemembered};
 ghost use Rattle.st_laws_volume.specs.Fates.{StillEventsAreTaken};
-ghost use Rattle.st_laws_volume.specs.StepKinds.{EntriesAreTold, KindsAreEnough, StepsAreTaken, is_ask, is_change_line, is_failed_write, is_free, is_line, is_written};
+ghost use Rattle.st_laws_volume.specs.StepKinds.{AnswersAreToOpenAsks, EntriesAreTold, KindsAreEnough, StepsAreTaken, is_ask, is_change_line, is_failed_write, is_free, is_line, is_written};
 ghost use Rattle.st_laws_volume.specs.Laws.{RunsInParts, StepsShowTheEvent, TheStartAgrees};
 ghost use Rattle.st_laws_volume.specs.Logs.{InEveryRun, LogsAgree};
 ghost use Rattle.st_laws_volume.specs.Reads.{PagesAgree};
@@ -137,6 +137,12 @@ pub fn failed_writes_are_taken()
 /// its result is a cut or an ask for a name.
 pub fn results_are_of_cuts_and_names()
     ensures { InEveryRun ResultsAreOfCutsAndNames }
+{}
+
+/// In every run each answer is one to an ask that is open in the volume, where the volume has taken
+/// all steps before it.
+pub fn answers_are_to_open_asks()
+    ensures { InEveryRun AnswersAreToOpenAsks }
 {}
 
 /// In every run the volume takes each answer `written`, where it has taken all steps before it: the
