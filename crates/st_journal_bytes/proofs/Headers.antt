@@ -2,13 +2,13 @@
 use Rattle.std.proofs.Common.{◌≡◌, ◌≢◌, ℕ, ◌^◌, ◌<◌, List, ◌++◌, length, Some, None, refl, sym, ap, ◌∙◌, subst, append_assoc, arith}
 use Rattle.st_base.specs.declared.config.Config.{Config}
 use Rattle.st_journal_file.specs.Layout.{part, word32}
-use Rattle.st_journal_bytes.specs.Headers.{MAGIC, VERSION, HasVersion, IsHeaded, ages, body, bounds, header, identity, settings}
+use Rattle.st_journal_bytes.specs.Headers.{MAGIC, VERSION, HasVersion, HeaderFits, IsHeaded, ages, body, bounds, header, identity, settings}
 use Rattle.st_journal_bytes.specs.Plain.{plain}
 use Rattle.st_journal_bytes.specs.Reading.{after_front, word32_at}
 use Rattle.st_journal_bytes.specs.Words.{word16, word64}
 use Rattle.st_journal_bytes.specs.declared.header.Header.{Header}
 use Rattle.st_journal_bytes.proofs.Numbers.{IsBytes, IsBytes-drop}
-use Rattle.st_journal_bytes.proofs.Parts.{front_reads, front_rest, front_takes, pair_once, word32_reads, word32_takes}
+use Rattle.st_journal_bytes.proofs.Parts.{front_reads, front_rest, front_takes, pair_once, word32_reads, word32_small, word32_takes}
 use Rattle.st_journal_bytes.proofs.Scans.{length-part, part_once}
 
 -- over plain bytes
@@ -52,6 +52,7 @@ no_number bytes r h e n i =
 
 pub has_version : (bytes r q : List ℕ) (v : ℕ) → IsBytes bytes → after_front MAGIC bytes ≡ Some r → word32_at r ≡ Some (v, q) → HasVersion bytes v
 has_version bytes r q v fits e n = record {
+  small = word32_small r (v, q) (behind_fits bytes r fits e) n;
   rest = q;
   parts = front_takes MAGIC bytes r e ∙ ap (λ (l : List ℕ). MAGIC ++ l) (word32_takes r (v, q) (behind_fits bytes r fits e) n).0;
 }
@@ -73,9 +74,10 @@ no_body bytes r q b rest v h e n p short other i =
     let same = part_once b (body h) rest i.rest short (omega (arith, length-body h)) (sym p ∙ behind_number bytes r q v h e n i) in
     other (ap length same.0 ∙ length-body h)
 
-pub is_headed : (bytes r q b rest : List ℕ) (v : ℕ) (h : Header) → IsBytes bytes → after_front MAGIC bytes ≡ Some r → word32_at r ≡ Some (v, q) → v ≡ VERSION → q ≡ part plain b ++ rest → b ≡ body h → IsHeaded bytes h
-is_headed bytes r q b rest v h fits e n version p same =
+pub is_headed : (bytes r q b rest : List ℕ) (v : ℕ) (h : Header) → HeaderFits h → IsBytes bytes → after_front MAGIC bytes ≡ Some r → word32_at r ≡ Some (v, q) → v ≡ VERSION → q ≡ part plain b ++ rest → b ≡ body h → IsHeaded bytes h
+is_headed bytes r q b rest v h numbers fits e n version p same =
     record {
+      fits = numbers;
       rest = rest;
       parts =
           front_takes MAGIC bytes r e ∙ (ap (λ (l : List ℕ). MAGIC ++ l) ((word32_takes r (v, q) (behind_fits bytes r fits e) n).0 ∙ (ap (λ (m : ℕ). word32 m ++ q) version ∙ ap (λ (l : List ℕ). word32 VERSION ++ l) (p ∙ ap (λ (l : List ℕ). part plain l ++ rest) same)))

@@ -3,7 +3,7 @@ use Rattle.std.proofs.Common.{◌≡◌, ℕ, ◌+◌, ◌*◌, ◌^◌, ◌<◌
 use Rattle.std.proofs.lemmas.List.{drop_at, get_or-append_right, length-append, length-drop, length-take, take-append-drop, take_at}
 use Rattle.st_journal_file.specs.Layout.{OPEN, File, area_of, switch_of}
 use Rattle.st_journal_bytes.specs.Files.{IsFile, IsMadeFile}
-use Rattle.st_journal_bytes.specs.Headers.{IsHeaded, header}
+use Rattle.st_journal_bytes.specs.Headers.{HeaderFits, IsHeaded, header}
 use Rattle.st_journal_bytes.specs.declared.file.Current.{Current}
 use Rattle.st_journal_bytes.specs.declared.header.Header.{Header}
 use Rattle.st_journal_bytes.specs.declared.header.Identity.{Identity}
@@ -53,6 +53,7 @@ made_file bytes h wanted c i e id made switch long small = record {
   found = subst (λ (g : Header). IsFile bytes g.area p.file) (sym e) p.found;
   made = p.made_so ∙ (sym (ap (λ (l : List ℕ). get_or l 110 0) i.parts ∙ get_or-append_right (header h) i.rest 110 110 0 (length-header h) (omega arith)) ∙ made);
   header = p.header_so ∙ ap header (sym e);
+  fits = subst (λ (g : Header). HeaderFits g) (sym e) i.fits;
   identity = ap (λ (g : Header). g.identity) e ∙ id;
   switch = p.switch_so ∙ (sym (ap (λ (l : List ℕ). get_or l 111 0) i.parts ∙ get_or-append_right (header h) i.rest 110 111 0 (length-header h) (omega arith)) ∙ switch);
 }

@@ -2,8 +2,8 @@
 use Rattle.std.proofs.Common.{◌≡◌, ℕ, ◌+◌, ◌^◌, ◌<◌, ◌≤◌, List, ◌++◌, length, get_or, take, drop, refl, sym, ap, ◌∙◌, arith, inl, inr}
 use Rattle.std.specs.Int.{w16, w32, w64, from_be_bytes}
 use Rattle.std.proofs.lemmas.Bool.{cases_lt}
-use Rattle.std.proofs.lemmas.List.{take-append-drop, length-take, get_or-drop, get_or-take, get_or_past}
-use Rattle.std.proofs.lemmas.Nat.{be_bytes_2, be_bytes_4, be_bytes_8, from_be_bytes-to_be_bytes_4}
+use Rattle.std.proofs.lemmas.List.{drop_at, take_at, take-append-drop, length-take, get_or-drop, get_or-take, get_or_past}
+use Rattle.std.proofs.lemmas.Nat.{be_bytes_2, be_bytes_4, be_bytes_8, from_be_bytes-to_be_bytes_2, from_be_bytes-to_be_bytes_4, from_be_bytes-to_be_bytes_8}
 use Rattle.st_journal_bytes.specs.Words.{word16, word64}
 use Rattle.st_journal_file.specs.Layout.{word32}
 
@@ -23,6 +23,14 @@ IsBytes-take n bytes h i =
 pub length-word32 : (n : ℕ) → length (word32 n) ≡ 4
 unfolding word32
 length-word32 n = refl
+
+pub length-word64 : (n : ℕ) → length (word64 n) ≡ 8
+unfolding word64
+length-word64 n = refl
+
+pub word64_again : (n : ℕ) → n < 2 ^ 64 → from_be_bytes w64 (word64 n) ≡ n
+unfolding word64
+word64_again n lt = from_be_bytes-to_be_bytes_8 n lt
 
 pub word32_again : (n : ℕ) → n < 2 ^ 32 → from_be_bytes w32 (word32 n) ≡ n
 unfolding word32
@@ -50,3 +58,28 @@ split_32 bytes long fits =
 
 pub number_small : (bytes : List ℕ) → IsBytes bytes → from_be_bytes w32 bytes < 2 ^ 32
 number_small bytes fits = omega (arith, fits 0, fits 1, fits 2, fits 3)
+
+-- a front and the bytes after it, where the front's length is known
+front_once : (a b r q : List ℕ) (n : ℕ) → length a ≡ n → length b ≡ n → a ++ r ≡ b ++ q → (a ≡ b) × (r ≡ q)
+front_once a b r q n m l e =
+    (sym (take_at a r n m) ∙ (ap (λ (xs : List ℕ). take n xs) e ∙ take_at b q n l), sym (drop_at a r n m) ∙ (ap (λ (xs : List ℕ). drop n xs) e ∙ drop_at b q n l))
+
+-- bytes are those of one number, by width
+
+pub once_16 : (m n : ℕ) (r q : List ℕ) → m < 2 ^ 16 → n < 2 ^ 16 → word16 m ++ r ≡ word16 n ++ q → (m ≡ n) × (r ≡ q)
+unfolding word16
+once_16 m n r q small less e =
+    let one = front_once (word16 m) (word16 n) r q 2 refl refl e in
+    (sym (from_be_bytes-to_be_bytes_2 m small) ∙ (ap (λ (xs : List ℕ). from_be_bytes w16 xs) one.0 ∙ from_be_bytes-to_be_bytes_2 n less), one.1)
+
+pub once_32 : (m n : ℕ) (r q : List ℕ) → m < 2 ^ 32 → n < 2 ^ 32 → word32 m ++ r ≡ word32 n ++ q → (m ≡ n) × (r ≡ q)
+unfolding word32
+once_32 m n r q small less e =
+    let one = front_once (word32 m) (word32 n) r q 4 refl refl e in
+    (sym (from_be_bytes-to_be_bytes_4 m small) ∙ (ap (λ (xs : List ℕ). from_be_bytes w32 xs) one.0 ∙ from_be_bytes-to_be_bytes_4 n less), one.1)
+
+pub once_64 : (m n : ℕ) (r q : List ℕ) → m < 2 ^ 64 → n < 2 ^ 64 → word64 m ++ r ≡ word64 n ++ q → (m ≡ n) × (r ≡ q)
+unfolding word64
+once_64 m n r q small less e =
+    let one = front_once (word64 m) (word64 n) r q 8 refl refl e in
+    (sym (from_be_bytes-to_be_bytes_8 m small) ∙ (ap (λ (xs : List ℕ). from_be_bytes w64 xs) one.0 ∙ from_be_bytes-to_be_bytes_8 n less), one.1)

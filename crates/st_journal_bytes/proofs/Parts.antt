@@ -37,6 +37,12 @@ word32_takes bytes x fits e =
     subst (λ (y : ℕ × List ℕ). (bytes ≡ word32 y.0 ++ y.1) × IsBytes y.1) g.1
     (split_32 bytes long fits, IsBytes-drop 4 bytes fits)
 
+pub word32_small : (bytes : List ℕ) (x : ℕ × List ℕ) → IsBytes bytes → word32_at bytes ≡ Some x → x.0 < 2 ^ 32
+unfolding word32_at
+word32_small bytes x fits e =
+    let g = guard_not (ltb (length bytes) 4) (from_be_bytes w32 (take 4 bytes), drop 4 bytes) x e in
+    subst (λ (y : ℕ × List ℕ). y.0 < 2 ^ 32) g.1 (number_small (take 4 bytes) (IsBytes-take 4 bytes fits))
+
 pub word32_reads : (n : ℕ) (rest : List ℕ) → n < 2 ^ 32 → word32_at (word32 n ++ rest) ≡ Some (n, rest)
 unfolding word32_at
 word32_reads n rest lt =

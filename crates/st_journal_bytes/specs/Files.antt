@@ -2,7 +2,7 @@
 use Rattle.std.specs.Prelude.{◌≡◌, ◌≢◌, ◌<◌, ◌≤◌, ◌*◌, ◌+◌, ◌^◌, ◌⊎◌, ℕ, List, [], ◌∷◌, ◌++◌, length, get_or}
 use Rattle.st_journal_file.specs.Histories.{IsEither}
 use Rattle.st_journal_file.specs.Layout.{CLOSED, OPEN, File, switch_of}
-use Rattle.st_journal_bytes.specs.Headers.{IsHeaded, IsNoHeader, IsOther, header}
+use Rattle.st_journal_bytes.specs.Headers.{HeaderFits, IsHeaded, IsNoHeader, IsOther, header}
 use Rattle.st_journal_bytes.specs.declared.file.Current.{Current}
 use Rattle.st_journal_bytes.specs.declared.file.FileFault.{FileFault}
 use Rattle.st_journal_bytes.specs.declared.file.FileFault.TheVariants.{BadHeader, Damaged, Short}
@@ -40,6 +40,7 @@ pub record IsMadeFile (bytes : List ℕ) (wanted : Identity) (c : Current) : Typ
   pub found : IsFile bytes c.header.area file
   pub made : file.made ≡ OPEN
   pub header : file.header ≡ header c.header
+  pub fits : HeaderFits c.header
   pub identity : c.header.identity ≡ wanted
   pub switch : file.switch ≡ switch_of c.second
 

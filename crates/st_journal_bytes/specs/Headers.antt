@@ -1,5 +1,5 @@
 -- The header of a journal's file: the server whose journal it is, the shape of its world, its settings, and how many bytes an area has.
-use Rattle.std.specs.Prelude.{◌≡◌, ◌≢◌, ℕ, List, [], ◌∷◌, ◌++◌}
+use Rattle.std.specs.Prelude.{◌≡◌, ◌≢◌, ◌<◌, ◌^◌, ℕ, List, [], ◌∷◌, ◌++◌}
 use Rattle.st_base.specs.declared.config.Config.{Config}
 use Rattle.st_journal_file.specs.Layout.{part, word32}
 use Rattle.st_journal_bytes.specs.Plain.{plain}
@@ -38,13 +38,39 @@ body h = word32 h.area ++ identity h.identity
 unfoldable pub header : Header → List ℕ
 header h = MAGIC ++ (word32 VERSION ++ part plain (body h))
 
+-- Each number of a header has its width: so no two headers have the same bytes.
+
+pub record SettingsFit (c : Config) : Type 0 where
+  pub lease : c.lease < 2 ^ 64
+  pub renew : c.renew < 2 ^ 64
+  pub quiesce : c.quiesce < 2 ^ 64
+  pub flush : c.flush < 2 ^ 64
+  pub demand : c.demand < 2 ^ 64
+  pub retry : c.retry < 2 ^ 64
+  pub num : c.num < 2 ^ 64
+  pub den : c.den < 2 ^ 64
+  pub grain : c.grain < 2 ^ 64
+
+pub record IdentityFits (i : Identity) : Type 0 where
+  pub server : i.server.0 < 2 ^ 16
+  pub servers : i.servers < 2 ^ 16
+  pub disks : i.disks < 2 ^ 16
+  pub blocks : i.blocks < 2 ^ 32
+  pub settings : SettingsFit i.settings
+
+pub record HeaderFits (h : Header) : Type 0 where
+  pub area : h.area < 2 ^ 32
+  pub identity : IdentityFits h.identity
+
 -- the bytes begin with this header
 pub record IsHeaded (bytes : List ℕ) (h : Header) : Type 0 where
+  pub fits : HeaderFits h
   pub rest : List ℕ
   pub parts : bytes ≡ header h ++ rest
 
 -- they begin with the text and this version
 pub record HasVersion (bytes : List ℕ) (version : ℕ) : Type 0 where
+  pub small : version < 2 ^ 32
   pub rest : List ℕ
   pub parts : bytes ≡ MAGIC ++ (word32 version ++ rest)
 

@@ -4,3 +4,4 @@ pub mod Reading
 pub mod Headers
 pub mod Areas
 pub mod Files
+pub mod Moments

@@ -1,7 +1,8 @@
 // A journal's file: its header, two marks, and two areas.
-ghost use Rattle.std.specs.Prelude.{◌≡◌, ◌≤◌, ◌<◌, ◌^◌, true, false, IfErr, IfOk, IfSome, IfNone, length};
+ghost use Rattle.std.specs.Prelude.{◌≡◌, ◌≤◌, ◌<◌, ◌^◌, true, false, None, Ok, Some, IfErr, IfOk, IfSome, IfNone, length};
 ghost use Rattle.st_journal_bytes.specs.Files.{IsMadeFile, IsRefused, IsUnmade, MayBegin};
 ghost use Rattle.st_journal_bytes.specs.Headers.{IsHeaded};
+ghost use Rattle.st_journal_bytes.specs.declared.file.Current.{Current};
 ghost use Rattle.st_journal_bytes.specs.declared.header.Identity.{Identity};
 ghost use Rattle.st_journal_file.specs.Histories.{IsEither};
 ghost use Rattle.st_journal_file.specs.Layout as layout;
@@ -89,13 +90,13 @@ fn read_wanted(bytes: &[u8], wanted: &Identity) -> Result<Header, FileFault>
     }
 }
 
-/// Reads the header and the marks of the file of the journal that is wanted; `None` if the file was
-/// not made yet: nothing was ever kept in it.
+/// The header and the marks, by one check after another.
 #[tactic(auto, using(crate::proofs::Marks::made_file))]
-pub fn read_file(bytes: &[u8], wanted: &Identity) -> Result<Option<Current>, FileFault>
+fn checked_file(bytes: &[u8], wanted: &Identity) -> Result<Option<Current>, FileFault>
     ensures made { IfOk result (λ o. IfSome o (IsMadeFile bytes.now wanted.now)) }
     ensures unmade { IfOk result (λ o. IfNone o (IsUnmade bytes.now)) }
     ensures err { IfErr result (IsRefused bytes.now wanted.now) }
+    ensures blank { IsUnmade bytes.now → result ≡ Ok None }
 {
     if bytes.len() < 112 {
         return Err(FileFault::Short);
@@ -115,6 +116,18 @@ pub fn read_file(bytes: &[u8], wanted: &Identity) -> Result<Option<Current>, Fil
         Some(second) => Ok(Some(Current { second, header })),
         None => Err(FileFault::Damaged { at: SWITCH_PLACE }),
     }
+}
+
+/// Reads the header and the marks of the file of the journal that is wanted; `None` if the file was
+/// not made yet: nothing was ever kept in it.
+pub fn read_file(bytes: &[u8], wanted: &Identity) -> Result<Option<Current>, FileFault>
+    ensures made { IfOk result (λ o. IfSome o (IsMadeFile bytes.now wanted.now)) }
+    ensures unmade { IfOk result (λ o. IfNone o (IsUnmade bytes.now)) }
+    ensures err { IfErr result (IsRefused bytes.now wanted.now) }
+    ensures opened { (c : Current) → IsMadeFile bytes.now wanted.now c → result ≡ Ok (Some c) }
+    ensures blank { IsUnmade bytes.now → result ≡ Ok None }
+{
+    checked_file(bytes, wanted)
 }
 
 /// The bytes of the area that counts.

@@ -1,7 +1,7 @@
 // The header of a journal's file.
 ghost use Rattle.std.specs.Prelude.{◌≡◌, ◌≢◌, ◌≤◌, ◌+◌, ◌++◌, IfErr, IfOk, OnOk, length};
 ghost use Rattle.st_journal_bytes.specs.Headers as headers;
-ghost use Rattle.st_journal_bytes.specs.Headers.{IsHeaded, IsNoHeader, IsOther};
+ghost use Rattle.st_journal_bytes.specs.Headers.{HeaderFits, IdentityFits, IsHeaded, IsNoHeader, IsOther, SettingsFit};
 
 use crate::part::{put_part, read_part};
 use crate::words::{
@@ -124,7 +124,8 @@ pub fn header_of(alloc: Global, header: &Header) -> Result<Vec<u8>, AllocError>
 #[tactic(auto, unfolding(crate::specs::Headers::settings))]
 fn settings_of(bytes: &[u8]) -> Config
     requires { length bytes.now ≡ 72 }
-    ensures { bytes.now ≡ headers.settings result }
+    ensures bytes { bytes.now ≡ headers.settings result }
+    ensures fits { SettingsFit result }
 {
     let (lease, rest) = split_word64(bytes);
     let (renew, rest) = split_word64(rest);
@@ -150,7 +151,8 @@ fn settings_of(bytes: &[u8]) -> Config
 #[tactic(auto, unfolding(crate::specs::Headers::identity))]
 fn identity_of(bytes: &[u8]) -> Identity
     requires { length bytes.now ≡ 82 }
-    ensures { bytes.now ≡ headers.identity result }
+    ensures bytes { bytes.now ≡ headers.identity result }
+    ensures fits { IdentityFits result }
 {
     let (server, rest) = split_word16(bytes);
     let (servers, rest) = split_word16(rest);
@@ -169,7 +171,8 @@ fn identity_of(bytes: &[u8]) -> Identity
 #[tactic(auto, unfolding(crate::specs::Headers::body))]
 fn of_body(bytes: &[u8]) -> Header
     requires { length bytes.now ≡ 86 }
-    ensures { bytes.now ≡ headers.body result }
+    ensures bytes { bytes.now ≡ headers.body result }
+    ensures fits { HeaderFits result }
 {
     let (area, rest) = split_word32(bytes);
     Header {

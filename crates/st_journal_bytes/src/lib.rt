@@ -8,6 +8,7 @@ mod file;
 mod group;
 mod header;
 mod law;
+mod moment;
 mod part;
 mod words;
 
@@ -17,5 +18,6 @@ pub use file::{
 };
 pub use group::{area_of, file_of, group_of, opened_of};
 pub use header::{Header, HeaderFault, Identity, check_identity, header_of, read_header};
-pub use law::an_area_is_read_in_one_way;
+pub use law::{a_journal_has_the_moment_of_its_last_change, an_area_is_read_in_one_way};
+pub use moment::{MomentFault, check_moment, dated_of, last_moment, read_dated};
 pub use part::{put_part, read_part};

@@ -8,10 +8,10 @@ use Rattle.st_journal_file.specs.Layout.{CLOSED, OPEN, Format, File, IsArea, Sta
 use Rattle.st_journal_file.proofs.Groups.{all_opened-append, leads_on, opened_parts}
 use Rattle.st_journal_file.proofs.Held.{HoldsIn, IsOpening, IsWritten, reached}
 use Rattle.st_journal_bytes.specs.Areas.{IsRead}
-use Rattle.st_journal_bytes.specs.Plain.{plain}
+use Rattle.st_journal_bytes.specs.Plain.{HasSum, plain}
 use Rattle.st_journal_bytes.specs.declared.area.AreaEnd.{AreaEnd}
 use Rattle.st_journal_bytes.proofs.Scans.{gate_once}
-use Rattle.st_kept_journal.specs.Driven.{GoesTo, HasSum, IsAt, IsDriven, IsGateOf, IsGroupOf, IsPutInArea, IsPutInSwitch, IsSnapshot, IsSnapshotOf, KeepsGroupTo, MovesSwitchTo, OpensGateTo, SwitchesTo, WritesGroupTo, WritesSnapshotTo}
+use Rattle.st_kept_journal.specs.Driven.{GoesTo, IsAt, IsDriven, IsGateOf, IsGroupOf, IsPutInArea, IsPutInSwitch, IsSnapshot, IsSnapshotOf, KeepsGroupTo, MovesSwitchTo, OpensGateTo, SwitchesTo, WritesGroupTo, WritesSnapshotTo}
 use Rattle.st_kept_journal.specs.Keeping.{Keeping, MovesSwitch, OpensGate, WritesGroup, WritesSnapshot, added, group_begun, group_kept, place_of, switch_begun, switched}
 use Rattle.st_kept_journal.specs.declared.task.Task.{Task}
 use Rattle.st_kept_journal.specs.declared.task.Task.TheVariants as tasks

@@ -1,6 +1,5 @@
 -- A keeper beside the file that its program writes: each of its calls, with the write and the sync that it asks for, is a move of the file's histories.
 use Rattle.std.specs.Prelude.{◌≡◌, ◌+◌, ℕ, Bool, not, List, [], ◌∷◌, ◌++◌, length, Some}
-use Rattle.st_crc32c.specs.Crc.{crc32c}
 use Rattle.st_journal_file.specs.Histories.{Gate, IsFirst, Keeper, Moves, Phase, Blank, Forming, Formed, Marking, Idle, Writing, Written, Opening, Prepared, Switching, closed_at, group_of, opened_at, with_area}
 use Rattle.st_journal_file.specs.Layout.{CLOSED, Format, File, after_changes, all_opened, area_of, front, part, switch_of}
 use Rattle.st_journal_bytes.specs.Files.{HEADER_LENGTH, SWITCH_PLACE}
@@ -8,10 +7,6 @@ use Rattle.st_kept_journal.specs.Keeping.{Keeping, place_of}
 use Rattle.st_kept_journal.specs.declared.task.Task.{Task}
 use Rattle.st_kept_journal.specs.declared.task.Task.TheVariants as tasks
 use Rattle.st_kept_journal.specs.declared.task.Write.{Write}
-
--- the sum is CRC-32C
-abbrev pub HasSum : {S C : Type 0} → Format S C → Type 0
-HasSum f = (bytes : List ℕ) → f.sum bytes ≡ crc32c bytes
 
 -- A write in an area: some of its bytes become others, and all else stays.
 pub record IsPutInArea (w : Write) (size : ℕ) (second : Bool) (old new : File) : Type 0 where

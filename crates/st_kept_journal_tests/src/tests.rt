@@ -3,7 +3,7 @@ ghost use Rattle.std.specs.Prelude.{◌≡◌, length};
 use st_base::{Config, ServerId};
 use st_journal_bytes::{
     AREAS_PLACE, AreaEnd, Current, FileFault, Header, HeaderFault, Identity, MADE_PLACE,
-    current_area, file_of, read_area, read_file,
+    MomentFault, check_moment, current_area, dated_of, file_of, last_moment, read_area, read_file,
 };
 use st_kept_journal::{JournalKeeper, KeepFault, Task, Write};
 use std::alloc::{AllocError, Global};
@@ -244,5 +244,62 @@ fn a_full_area_takes_no_record(rt: HostRuntime) -> Result<(), Fail> {
     assert!(rt; keeper.is_half_full());
     assert!(rt; keeper.add(b"").is_ok());
     assert_eq!(rt; keeper.add(b""), Err(KeepFault::Full));
+    Ok(())
+}
+
+/// A file whose snapshot was made at moment 5, and its record at this moment.
+fn dated_file(alloc: Global, moment: u64) -> Result<Vec<u8>, AllocError> {
+    let header = Header {
+        area: AREA,
+        identity: identity(),
+    };
+    let mut file = vec![in alloc; 0u8; 112 + 2 * AREA as usize]?;
+    let snapshot = dated_of(alloc, 5, b"the state")?;
+    if snapshot.len() > 100 {
+        return Err(AllocError);
+    }
+    let front = file_of(alloc, &header, snapshot.as_slice())?;
+    let mut keeper = JournalKeeper::new(alloc, 800, false, 29);
+    let change = dated_of(alloc, moment, b"a change")?;
+    if !put(&mut file, 0, front.as_slice()) || !put(&mut file, MADE_PLACE, &[255]) {
+        return Err(AllocError);
+    }
+    if keeper.add(change.as_slice()).is_err() {
+        return Err(AllocError);
+    }
+    if keeper.task() != Task::Rest || keeper.waiting() == 0 {
+        return Err(AllocError);
+    }
+    let write = keeper.group();
+    if do_write(&mut file, write) && do_write(&mut file, keeper.gate()) {
+        Ok(file)
+    } else {
+        Err(AllocError)
+    }
+}
+
+/// The moment of the last change in a file.
+fn moment_in(file: &[u8]) -> Option<u64> {
+    let Ok(Some(current)) = read_file(file, &identity()) else {
+        return None;
+    };
+    match last_moment(current_area(file, &current)) {
+        Ok(last) => last,
+        Err(_) => None,
+    }
+}
+
+#[test]
+fn a_journal_has_the_moment_of_its_last_change(rt: HostRuntime) -> Result<(), Fail> {
+    let alloc = rt.alloc();
+    assert_eq!(rt; moment_in(&dated_file(alloc, 7)?), Some(7));
+    assert_eq!(rt; moment_in(&dated_file(alloc, 5)?), Some(5));
+    assert_eq!(rt; moment_in(&dated_file(alloc, 4)?), None);
+    assert_eq!(rt; check_moment(Some(7), 7), Ok(()));
+    assert_eq!(rt;
+        check_moment(Some(7), 6),
+        Err(MomentFault::Earlier { last: 7 })
+    );
+    assert_eq!(rt; check_moment(None, 6), Err(MomentFault::Undated));
     Ok(())
 }

@@ -39,5 +39,5 @@ returns-clause-found c =
     let a : after_front MAGIC c.args.bytes.now ≡ Some c.in-Some.rest.now = search rules in
     let b : word32_at c.in-Some.rest.now ≡ Some (c.in-Some-read_word32.version, c.in-Some-read_word32.rest.now) = search rules in
     let p : c.in-Some-read_word32.rest.now ≡ part plain c.in-Some-read_part.body.now ++ c.in-Some-read_part.field-0-1.now = search rules in
-    is_headed c.args.bytes.now c.in-Some.rest.now c.in-Some-read_word32.rest.now c.in-Some-read_part.body.now c.in-Some-read_part.field-0-1.now c.in-Some-read_word32.version c.of_body.result
-    (λ i. omega (arith, c.type_inv.bytes i)) a b (omega (arith, c.if-version-ne-VERSION.false)) p c.of_body.ensures
+    is_headed c.args.bytes.now c.in-Some.rest.now c.in-Some-read_word32.rest.now c.in-Some-read_part.body.now c.in-Some-read_part.field-0-1.now c.in-Some-read_word32.version c.of_body.result c.of_body.ensures.fits
+    (λ i. omega (arith, c.type_inv.bytes i)) a b (omega (arith, c.if-version-ne-VERSION.false)) p c.of_body.ensures.bytes
