@@ -25,7 +25,8 @@ length-body h = refl
 
 pub header_is : (h : Header) (r : List ℕ) → header h ++ r ≡ MAGIC ++ (word32 VERSION ++ (part plain (body h) ++ r))
 unfolding header
-header_is h r = append_assoc MAGIC (word32 VERSION ++ part plain (body h)) r ∙ ap (λ (l : List ℕ). MAGIC ++ l) (append_assoc (word32 VERSION) (part plain (body h)) r)
+header_is h r = append_assoc MAGIC (word32 VERSION ++ part plain (body h)) r ∙
+    ap (λ (l : List ℕ). MAGIC ++ l) (append_assoc (word32 VERSION) (part plain (body h)) r)
 
 pub length-header : (h : Header) → length (header h) ≡ 110
 unfolding header word32
@@ -58,7 +59,8 @@ has_version bytes r q v fits e n = record {
 }
 
 -- after the right version comes the header's part
-behind_number : (bytes r q : List ℕ) (v : ℕ) (h : Header) → after_front MAGIC bytes ≡ Some r → word32_at r ≡ Some (v, q) → (i : IsHeaded bytes h) → q ≡ part plain (body h) ++ i.rest
+behind_number : (bytes r q : List ℕ) (v : ℕ) (h : Header) → after_front MAGIC bytes ≡ Some r → word32_at r ≡ Some (v, q) → (i : IsHeaded bytes h) →
+    q ≡ part plain (body h) ++ i.rest
 behind_number bytes r q v h e n i =
     let is : word32_at r ≡ Some (VERSION, part plain (body h) ++ i.rest) =
     ap word32_at (behind_version bytes r i.rest h e i.parts) ∙ word32_reads VERSION (part plain (body h) ++ i.rest) (omega arith) in
@@ -68,18 +70,23 @@ pub no_part : (bytes r q : List ℕ) (v : ℕ) (h : Header) → after_front MAGI
     → ((b rest : List ℕ) → length b < 2 ^ 32 → q ≡ part plain b ++ rest → ⊥) → IsHeaded bytes h → ⊥
 no_part bytes r q v h e n none i = none (body h) i.rest (omega (arith, length-body h)) (behind_number bytes r q v h e n i)
 
-pub no_body : (bytes r q b rest : List ℕ) (v : ℕ) (h : Header) → after_front MAGIC bytes ≡ Some r → word32_at r ≡ Some (v, q) → q ≡ part plain b ++ rest → length b < 2 ^ 32 → length b ≢ 86
+pub no_body : (bytes r q b rest : List ℕ) (v : ℕ) (h : Header) → after_front MAGIC bytes ≡ Some r → word32_at r ≡ Some (v, q) → q ≡ part plain b ++ rest →
+    length b < 2 ^ 32 → length b ≢ 86
     → IsHeaded bytes h → ⊥
 no_body bytes r q b rest v h e n p short other i =
     let same = part_once b (body h) rest i.rest short (omega (arith, length-body h)) (sym p ∙ behind_number bytes r q v h e n i) in
     other (ap length same.0 ∙ length-body h)
 
-pub is_headed : (bytes r q b rest : List ℕ) (v : ℕ) (h : Header) → HeaderFits h → IsBytes bytes → after_front MAGIC bytes ≡ Some r → word32_at r ≡ Some (v, q) → v ≡ VERSION → q ≡ part plain b ++ rest → b ≡ body h → IsHeaded bytes h
+pub is_headed : (bytes r q b rest : List ℕ) (v : ℕ) (h : Header) → HeaderFits h → IsBytes bytes → after_front MAGIC bytes ≡ Some r → word32_at r ≡ Some (v, q) →
+    v ≡ VERSION → q ≡ part plain b ++ rest → b ≡ body h → IsHeaded bytes h
 is_headed bytes r q b rest v h numbers fits e n version p same =
     record {
       fits = numbers;
       rest = rest;
       parts =
-          front_takes MAGIC bytes r e ∙ (ap (λ (l : List ℕ). MAGIC ++ l) ((word32_takes r (v, q) (behind_fits bytes r fits e) n).0 ∙ (ap (λ (m : ℕ). word32 m ++ q) version ∙ ap (λ (l : List ℕ). word32 VERSION ++ l) (p ∙ ap (λ (l : List ℕ). part plain l ++ rest) same)))
+          front_takes MAGIC bytes r e ∙
+          (ap (λ (l : List ℕ). MAGIC ++ l)
+          ((word32_takes r (v, q) (behind_fits bytes r fits e) n).0 ∙
+          (ap (λ (m : ℕ). word32 m ++ q) version ∙ ap (λ (l : List ℕ). word32 VERSION ++ l) (p ∙ ap (λ (l : List ℕ). part plain l ++ rest) same)))
           ∙ sym (header_is h rest));
     }

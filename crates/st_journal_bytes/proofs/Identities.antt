@@ -48,6 +48,7 @@ body_once h g s t e =
 
 pub header_once : (h g : Header) (r q : List ℕ) → HeaderFits h → HeaderFits g → header h ++ r ≡ header g ++ q → h ≡ g
 header_once h g r q s t e =
-    let whole : MAGIC ++ (word32 VERSION ++ (part plain (body h) ++ r)) ≡ MAGIC ++ (word32 VERSION ++ (part plain (body g) ++ q)) = sym (header_is h r) ∙ (e ∙ header_is g q) in
+    let whole : MAGIC ++ (word32 VERSION ++ (part plain (body h) ++ r)) ≡ MAGIC ++ (word32 VERSION ++ (part plain (body g) ++ q)) =
+    sym (header_is h r) ∙ (e ∙ header_is g q) in
     let after = append_cancel_left (word32 VERSION) (part plain (body h) ++ r) (part plain (body g) ++ q) (append_cancel_left MAGIC _ _ whole) in
     body_once h g s t (part_once (body h) (body g) r q (omega (arith, length-body h)) (omega (arith, length-body g)) after).0

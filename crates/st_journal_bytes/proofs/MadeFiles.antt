@@ -60,7 +60,8 @@ headed_once bytes h g i j = header_once h g i.rest j.rest i.fits j.fits (sym i.p
 has_header : (bytes : List ℕ) (h : Header) (f : HeaderFault) → IsHeaded bytes h → IsNoHeader bytes f → ⊥
 has_header bytes h faults.NotJournal i n = n (word32 VERSION ++ (part plain (body h) ++ i.rest)) (i.parts ∙ header_is h i.rest)
 has_header bytes h (faults.Version v) i n =
-    let both : MAGIC ++ (word32 v ++ n.0.rest) ≡ MAGIC ++ (word32 VERSION ++ (part plain (body h) ++ i.rest)) = sym n.0.parts ∙ (i.parts ∙ header_is h i.rest) in
+    let both : MAGIC ++ (word32 v ++ n.0.rest) ≡ MAGIC ++ (word32 VERSION ++ (part plain (body h) ++ i.rest)) =
+    sym n.0.parts ∙ (i.parts ∙ header_is h i.rest) in
     n.1 (once_32 v VERSION n.0.rest (part plain (body h) ++ i.rest) n.0.small (omega arith) (append_cancel_left MAGIC _ _ both)).0
 has_header bytes h faults.Damaged i n = n h i
 has_header bytes h (faults.OtherServer s) i n = n
@@ -109,7 +110,8 @@ one_file bytes wanted c d m n =
     let same : c.header ≡ d.header = headed_once bytes c.header d.header (made_headed bytes wanted c m) (made_headed bytes wanted d n) in
     rw (second, same) refl
 
-pub made_is_opened : (bytes : List ℕ) (wanted : Identity) (r : Result (Option Current) FileFault) (c : Current) → IfOk r (λ o. IfSome o (IsMadeFile bytes wanted)) → IfOk r (λ o. IfNone o (IsUnmade bytes))
+pub made_is_opened : (bytes : List ℕ) (wanted : Identity) (r : Result (Option Current) FileFault) (c : Current) →
+    IfOk r (λ o. IfSome o (IsMadeFile bytes wanted)) → IfOk r (λ o. IfNone o (IsUnmade bytes))
     → IfErr r (IsRefused bytes wanted) → IsMadeFile bytes wanted c → r ≡ Ok (Some c)
 made_is_opened bytes wanted (Err f) c made unmade err m = absurd (not_refused bytes wanted c f m err)
 made_is_opened bytes wanted (Ok None) c made unmade err m = let n : 0 ≡ 255 = sym unmade.mark ∙ made_mark bytes wanted c m in absurd (omega (arith, n))

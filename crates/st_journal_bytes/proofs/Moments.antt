@@ -27,7 +27,8 @@ pub record AreDatedTo (bytes rest : List ℕ) (place : ℕ) (first last : Option
   pub gate : place ≡ length (all_opened plain records)
   pub moment : last ≡ after_records first records
 
-pub dated_more : (bytes rest x more : List ℕ) (gate n : ℕ) (first last next : Option ℕ) → AreDatedTo bytes rest gate first last → rest ≡ opened plain x ++ more → n + length more ≡ gate + length rest
+pub dated_more : (bytes rest x more : List ℕ) (gate n : ℕ) (first last next : Option ℕ) → AreDatedTo bytes rest gate first last →
+    rest ≡ opened plain x ++ more → n + length more ≡ gate + length rest
     → next ≡ after_record last x → AreDatedTo bytes more n first next
 dated_more bytes rest x more gate n first last next i e size step =
     let spelled : all_opened plain (i.records ++ x ∷ []) ≡ all_opened plain i.records ++ opened plain x =
@@ -35,23 +36,29 @@ dated_more bytes rest x more gate n first last next i e size step =
     record {
       records = i.records ++ x ∷ [];
       parts =
-          i.parts ∙ (ap (λ (l : List ℕ). all_opened plain i.records ++ l) e ∙ (sym (append_assoc (all_opened plain i.records) (opened plain x) more) ∙ ap (λ (l : List ℕ). l ++ more) (sym spelled)));
-      gate = omega (arith, i.gate, size, opened_size x more rest e, ap length spelled, length-append (all_opened plain i.records) (opened plain x), length-part x);
+          i.parts ∙
+          (ap (λ (l : List ℕ). all_opened plain i.records ++ l) e ∙
+          (sym (append_assoc (all_opened plain i.records) (opened plain x) more) ∙ ap (λ (l : List ℕ). l ++ more) (sym spelled)));
+      gate = omega
+          (arith, i.gate, size, opened_size x more rest e, ap length spelled, length-append (all_opened plain i.records) (opened plain x), length-part x);
       moment = step ∙ (ap (λ o. after_record o x) i.moment ∙ sym (after_records-last first i.records x));
     }
 
-pub area_dated : (bytes snapshot rest : List ℕ) (first last : Option ℕ) → bytes ≡ part plain snapshot ++ rest → first ≡ moment_of snapshot → HaveMoment rest first last → HasMoment bytes last
+pub area_dated : (bytes snapshot rest : List ℕ) (first last : Option ℕ) → bytes ≡ part plain snapshot ++ rest → first ≡ moment_of snapshot →
+    HaveMoment rest first last → HasMoment bytes last
 area_dated bytes snapshot rest first last p e h = record {
   snapshot = snapshot;
   records = h.records;
   area = record {
     rest = h.rest;
-    parts = p ∙ (ap (λ (l : List ℕ). part plain snapshot ++ l) h.parts ∙ sym (append_assoc (part plain snapshot) (all_opened plain h.records) (CLOSED ∷ h.rest)));
+    parts = p ∙
+        (ap (λ (l : List ℕ). part plain snapshot ++ l) h.parts ∙ sym (append_assoc (part plain snapshot) (all_opened plain h.records) (CLOSED ∷ h.rest)));
   };
   moment = h.moment ∙ ap (λ o. after_records o h.records) e;
 }
 
-pub moment_exact : (bytes : List ℕ) (r : Result (Option ℕ) Damaged) (s : List ℕ) (xs : List (List ℕ)) → length bytes < 2 ^ 32 → IfOk r (HasMoment bytes) → OnErr r ((t : List ℕ) (ys : List (List ℕ)) → IsArea plain bytes t ys → ⊥)
+pub moment_exact : (bytes : List ℕ) (r : Result (Option ℕ) Damaged) (s : List ℕ) (xs : List (List ℕ)) → length bytes < 2 ^ 32 → IfOk r (HasMoment bytes) →
+    OnErr r ((t : List ℕ) (ys : List (List ℕ)) → IsArea plain bytes t ys → ⊥)
     → IsArea plain bytes s xs → r ≡ Ok (after_records (moment_of s) xs)
 moment_exact bytes (Ok last) s xs few h none a =
     let one = area_once bytes h.snapshot s h.records xs few h.area a in
@@ -68,14 +75,17 @@ module _ {S C : Type 0} (f : Format S C) where
   all_dated : HasSum f → (xs : List (Dated C)) → all_opened (dated f) xs ≡ all_opened plain (map (dated f).spelled xs)
   all_dated sum [] = refl
   all_dated sum (x ∷ xs) =
-      ap (λ (l : List ℕ). (OPEN ∷ l) ++ all_opened (dated f) xs) (part_dated sum ((dated f).spelled x)) ∙ ap (λ (l : List ℕ). opened plain ((dated f).spelled x) ++ l) (all_dated sum xs)
+      ap (λ (l : List ℕ). (OPEN ∷ l) ++ all_opened (dated f) xs) (part_dated sum ((dated f).spelled x)) ∙
+      ap (λ (l : List ℕ). opened plain ((dated f).spelled x) ++ l) (all_dated sum xs)
 
-  pub plain_area : (bytes : List ℕ) (s : Dated S) (xs : List (Dated C)) → HasSum f → IsArea (dated f) bytes s xs → IsArea plain bytes ((dated f).snapshot s) (map (dated f).spelled xs)
+  pub plain_area : (bytes : List ℕ) (s : Dated S) (xs : List (Dated C)) → HasSum f → IsArea (dated f) bytes s xs →
+      IsArea plain bytes ((dated f).snapshot s) (map (dated f).spelled xs)
   plain_area bytes s xs sum a = record {
     rest = a.rest;
     parts =
         a.parts ∙ ap (λ (l : List ℕ). l ++ CLOSED ∷ a.rest)
-        (ap (λ (l : List ℕ). l ++ all_opened (dated f) xs) (part_dated sum ((dated f).snapshot s)) ∙ ap (λ (l : List ℕ). part plain ((dated f).snapshot s) ++ l) (all_dated sum xs));
+        (ap (λ (l : List ℕ). l ++ all_opened (dated f) xs) (part_dated sum ((dated f).snapshot s)) ∙
+        ap (λ (l : List ℕ). part plain ((dated f).snapshot s) ++ l) (all_dated sum xs));
   }
 
   moment_again : (m : ℕ) (bytes : List ℕ) → m < 2 ^ 64 → moment_of (dated_bytes m bytes) ≡ Some m
@@ -92,7 +102,8 @@ module _ {S C : Type 0} (f : Format S C) where
   mapped x (Some s) t e = let same : after_dated x s ≡ t = cc in ap (λ (d : Dated S). d.moment) (sym same)
   mapped x None t e = absurd cc
 
-  not_earlier : (x : Dated C) (b : Bool) (o : Option S) (t : Dated S) → cond b None (option_map (after_dated x) o) ≡ Some t → (b ≡ false) × (t.moment ≡ x.moment)
+  not_earlier : (x : Dated C) (b : Bool) (o : Option S) (t : Dated S) → cond b None (option_map (after_dated x) o) ≡ Some t →
+      (b ≡ false) × (t.moment ≡ x.moment)
   not_earlier x true o t e = absurd cc
   not_earlier x false o t e = (refl, mapped x o t e)
 
@@ -103,15 +114,19 @@ module _ {S C : Type 0} (f : Format S C) where
 
   -- one more change, by what is known of the others
   then_moment : (s u : Dated S) (x : Dated C) (xs : List (Dated C)) (r : Option (Dated S)) → apply_dated f s x ≡ r
-      → ((o : Option (Dated S)) → after_changes (dated f) o xs ≡ Some u → after_records (option_map (λ (d : Dated S). d.moment) o) (map (dated f).spelled xs) ≡ Some u.moment)
+      → ((o : Option (Dated S)) → after_changes (dated f) o xs ≡ Some u →
+      after_records (option_map (λ (d : Dated S). d.moment) o) (map (dated f).spelled xs) ≡ Some u.moment)
       → after_changes (dated f) r xs ≡ Some u → after_records (after_record (Some s.moment) ((dated f).spelled x)) (map (dated f).spelled xs) ≡ Some u.moment
   then_moment s u x xs None g others e = absurd (none_stays xs u e)
   then_moment s u x xs (Some t) g others e = ap (λ (p : Option ℕ). after_records p (map (dated f).spelled xs)) (after_one s t x g) ∙ others (Some t) e
 
-  moments : (o : Option (Dated S)) (u : Dated S) (xs : List (Dated C)) → after_changes (dated f) o xs ≡ Some u → after_records (option_map (λ (d : Dated S). d.moment) o) (map (dated f).spelled xs) ≡ Some u.moment
+  moments : (o : Option (Dated S)) (u : Dated S) (xs : List (Dated C)) → after_changes (dated f) o xs ≡ Some u →
+      after_records (option_map (λ (d : Dated S). d.moment) o) (map (dated f).spelled xs) ≡ Some u.moment
   moments o u [] e = ap (λ (p : Option (Dated S)). option_map (λ (d : Dated S). d.moment) p) e
   moments None u (x ∷ xs) e = moments None u xs e
   moments (Some s) u (x ∷ xs) e = then_moment s u x xs (apply_dated f s x) refl (λ o g. moments o u xs g) e
 
-  pub last_of : (s u : Dated S) (xs : List (Dated C)) → after_changes (dated f) (Some s) xs ≡ Some u → after_records (moment_of ((dated f).snapshot s)) (map (dated f).spelled xs) ≡ Some u.moment
-  last_of s u xs e = ap (λ (p : Option ℕ). after_records p (map (dated f).spelled xs)) (moment_again s.moment (f.snapshot s.made) s.fits) ∙ moments (Some s) u xs e
+  pub last_of : (s u : Dated S) (xs : List (Dated C)) → after_changes (dated f) (Some s) xs ≡ Some u →
+      after_records (moment_of ((dated f).snapshot s)) (map (dated f).spelled xs) ≡ Some u.moment
+  last_of s u xs e = ap (λ (p : Option ℕ). after_records p (map (dated f).spelled xs)) (moment_again s.moment (f.snapshot s.made) s.fits) ∙
+      moments (Some s) u xs e

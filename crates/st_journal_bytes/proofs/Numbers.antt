@@ -54,15 +54,19 @@ number_64 bytes n len fits e = be_bytes_8 bytes n len fits e
 pub split_32 : (bytes : List ℕ) → 4 ≤ length bytes → IsBytes bytes → bytes ≡ word32 (from_be_bytes w32 (take 4 bytes)) ++ drop 4 bytes
 split_32 bytes long fits =
     sym (take-append-drop 4 bytes)
-    ∙ ap (λ (l : List ℕ). l ++ drop 4 bytes) (sym (number_32 (take 4 bytes) (from_be_bytes w32 (take 4 bytes)) (omega (arith, length-take 4 bytes)) (IsBytes-take 4 bytes fits) refl))
+    ∙ ap (λ (l : List ℕ). l ++ drop 4 bytes)
+    (sym (number_32 (take 4 bytes) (from_be_bytes w32 (take 4 bytes)) (omega (arith, length-take 4 bytes)) (IsBytes-take 4 bytes fits) refl))
 
 pub number_small : (bytes : List ℕ) → IsBytes bytes → from_be_bytes w32 bytes < 2 ^ 32
 number_small bytes fits = omega (arith, fits 0, fits 1, fits 2, fits 3)
 
 -- a front and the bytes after it, where the front's length is known
 front_once : (a b r q : List ℕ) (n : ℕ) → length a ≡ n → length b ≡ n → a ++ r ≡ b ++ q → (a ≡ b) × (r ≡ q)
-front_once a b r q n m l e =
-    (sym (take_at a r n m) ∙ (ap (λ (xs : List ℕ). take n xs) e ∙ take_at b q n l), sym (drop_at a r n m) ∙ (ap (λ (xs : List ℕ). drop n xs) e ∙ drop_at b q n l))
+front_once a b r q n m l e = (
+  sym (take_at a r n m) ∙ (ap (λ (xs : List ℕ). take n xs) e ∙ take_at b q n l),
+  sym (drop_at a r n m) ∙
+      (ap (λ (xs : List ℕ). drop n xs) e ∙ drop_at b q n l),
+)
 
 -- bytes are those of one number, by width
 

@@ -72,7 +72,8 @@ front_rest front bytes rest e = (guard_some (bytes_eq (take (length front) bytes
 
 pub front_reads : (front rest : List ℕ) → after_front front (front ++ rest) ≡ Some rest
 front_reads front rest =
-    let same : bytes_eq (take (length front) (front ++ rest)) front ≡ true = (bytes_eq-Decides (take (length front) (front ++ rest)) front).1 (take_at front rest (length front) refl) in
+    let same : bytes_eq (take (length front) (front ++ rest)) front ≡ true =
+    (bytes_eq-Decides (take (length front) (front ++ rest)) front).1 (take_at front rest (length front) refl) in
     rw (same, drop_at front rest (length front) refl) refl
 
 sum_takes : (summed bytes rest : List ℕ) → after_sum summed bytes ≡ Some rest → bytes ≡ word32 (crc32c summed) ++ rest
@@ -90,9 +91,13 @@ part_is a r = simp append_assoc
 pub part_takes : (bytes : List ℕ) (x : List ℕ × List ℕ) → IsBytes bytes → part_at bytes ≡ Some x → bytes ≡ part plain x.0 ++ x.1
 unfolding part_at
 part_takes bytes x fits e =
-    let count = bind_some (word32_at bytes) (λ count. after_sum (word32 count.0) count.1 >>= λ checked. text_at count.0 checked >>= λ body. after_sum body.0 body.1 >>= λ rest. Some (body.0, rest)) x e in
+    let count =
+    bind_some (word32_at bytes)
+    (λ count. after_sum (word32 count.0) count.1 >>= λ checked. text_at count.0 checked >>= λ body. after_sum body.0 body.1 >>= λ rest. Some (body.0, rest))
+    x e in
     let n : ℕ = count.0.0 in
-    let checked = bind_some (after_sum (word32 n) count.0.1) (λ checked. text_at n checked >>= λ body. after_sum body.0 body.1 >>= λ rest. Some (body.0, rest)) x count.2 in
+    let checked = bind_some (after_sum (word32 n) count.0.1) (λ checked. text_at n checked >>= λ body. after_sum body.0 body.1 >>= λ rest. Some (body.0, rest))
+    x count.2 in
     let body = bind_some (text_at n checked.0) (λ body. after_sum body.0 body.1 >>= λ rest. Some (body.0, rest)) x checked.2 in
     let rest = bind_some (after_sum body.0.0 body.0.1) (λ rest. Some (body.0.0, rest)) x body.2 in
     let first : bytes ≡ word32 n ++ count.0.1 = (word32_takes bytes count.0 fits count.1).0 in
@@ -101,9 +106,11 @@ part_takes bytes x fits e =
     let fourth : body.0.1 ≡ word32 (crc32c body.0.0) ++ rest.0 = sum_takes body.0.0 body.0.1 rest.0 rest.1 in
     let long : length body.0.0 ≡ n = third.1 in
     let whole : bytes ≡ word32 n ++ (word32 (crc32c (word32 n)) ++ (body.0.0 ++ (word32 (crc32c body.0.0) ++ rest.0))) =
-    first ∙ ap (λ (l : List ℕ). word32 n ++ l) (second ∙ ap (λ (l : List ℕ). word32 (crc32c (word32 n)) ++ l) (third.0 ∙ ap (λ (l : List ℕ). body.0.0 ++ l) fourth)) in
+    first ∙ ap (λ (l : List ℕ). word32 n ++ l)
+    (second ∙ ap (λ (l : List ℕ). word32 (crc32c (word32 n)) ++ l) (third.0 ∙ ap (λ (l : List ℕ). body.0.0 ++ l) fourth)) in
     let made : bytes ≡ part plain body.0.0 ++ rest.0 =
-    whole ∙ (ap (λ (m : ℕ). word32 m ++ (word32 (crc32c (word32 m)) ++ (body.0.0 ++ (word32 (crc32c body.0.0) ++ rest.0)))) (sym long) ∙ sym (part_is body.0.0 rest.0)) in
+    whole ∙ (ap (λ (m : ℕ). word32 m ++ (word32 (crc32c (word32 m)) ++ (body.0.0 ++ (word32 (crc32c body.0.0) ++ rest.0)))) (sym long) ∙
+    sym (part_is body.0.0 rest.0)) in
     let got : (body.0.0, rest.0) ≡ x = cc in
     subst (λ (y : List ℕ × List ℕ). bytes ≡ part plain y.0 ++ y.1) got made
 
@@ -117,9 +124,13 @@ count_small bytes x fits e =
 pub part_short : (bytes : List ℕ) (x : List ℕ × List ℕ) → IsBytes bytes → part_at bytes ≡ Some x → length x.0 < 2 ^ 32
 unfolding part_at
 part_short bytes x fits e =
-    let count = bind_some (word32_at bytes) (λ count. after_sum (word32 count.0) count.1 >>= λ checked. text_at count.0 checked >>= λ body. after_sum body.0 body.1 >>= λ rest. Some (body.0, rest)) x e in
+    let count =
+    bind_some (word32_at bytes)
+    (λ count. after_sum (word32 count.0) count.1 >>= λ checked. text_at count.0 checked >>= λ body. after_sum body.0 body.1 >>= λ rest. Some (body.0, rest))
+    x e in
     let n : ℕ = count.0.0 in
-    let checked = bind_some (after_sum (word32 n) count.0.1) (λ checked. text_at n checked >>= λ body. after_sum body.0 body.1 >>= λ rest. Some (body.0, rest)) x count.2 in
+    let checked = bind_some (after_sum (word32 n) count.0.1) (λ checked. text_at n checked >>= λ body. after_sum body.0 body.1 >>= λ rest. Some (body.0, rest))
+    x count.2 in
     let body = bind_some (text_at n checked.0) (λ body. after_sum body.0 body.1 >>= λ rest. Some (body.0, rest)) x checked.2 in
     let rest = bind_some (after_sum body.0.0 body.0.1) (λ rest. Some (body.0.0, rest)) x body.2 in
     let small : n < 2 ^ 32 = count_small bytes count.0 fits count.1 in
@@ -131,19 +142,28 @@ pub part_reads : (body rest : List ℕ) → length body < 2 ^ 32 → part_at (pa
 unfolding part_at
 part_reads body rest short =
     let r : List ℕ = body ++ (word32 (crc32c body) ++ rest) in
-    rw (part_is body rest, word32_reads (length body) (word32 (crc32c (word32 (length body))) ++ r) short, sum_reads (word32 (length body)) r, text_reads body (word32 (crc32c body) ++ rest), sum_reads body rest) refl
+    rw (
+      part_is body rest,
+      word32_reads (length body) (word32 (crc32c (word32 (length body))) ++ r) short,
+      sum_reads (word32 (length body)) r,
+      text_reads body (word32 (crc32c body) ++ rest),
+      sum_reads body rest,
+    ) refl
 
 -- What a call returns, seen as lists.
 
-pub seen_found : {B : Type 0} (view : B → List ℕ) (o : Option (B × B)) (bytes : List ℕ) → IsBytes bytes → option_map (λ x. (view x.0, view x.1)) o ≡ part_at bytes → IfSome o (λ x. bytes ≡ part plain (view x.0) ++ view x.1)
+pub seen_found : {B : Type 0} (view : B → List ℕ) (o : Option (B × B)) (bytes : List ℕ) → IsBytes bytes →
+    option_map (λ x. (view x.0, view x.1)) o ≡ part_at bytes → IfSome o (λ x. bytes ≡ part plain (view x.0) ++ view x.1)
 seen_found view None bytes fits e = tt
 seen_found view (Some x) bytes fits e = part_takes bytes (view x.0, view x.1) fits (sym e)
 
-pub seen_short : {B : Type 0} (view : B → List ℕ) (o : Option (B × B)) (bytes : List ℕ) → IsBytes bytes → option_map (λ x. (view x.0, view x.1)) o ≡ part_at bytes → IfSome o (λ x. length (view x.0) < 2 ^ 32)
+pub seen_short : {B : Type 0} (view : B → List ℕ) (o : Option (B × B)) (bytes : List ℕ) → IsBytes bytes →
+    option_map (λ x. (view x.0, view x.1)) o ≡ part_at bytes → IfSome o (λ x. length (view x.0) < 2 ^ 32)
 seen_short view None bytes fits e = tt
 seen_short view (Some x) bytes fits e = part_short bytes (view x.0, view x.1) fits (sym e)
 
-pub seen_none : {B : Type 0} (view : B → List ℕ) (o : Option (B × B)) (bytes : List ℕ) → option_map (λ x. (view x.0, view x.1)) o ≡ part_at bytes → IfNone o ((body rest : List ℕ) → length body < 2 ^ 32 → bytes ≡ part plain body ++ rest → ⊥)
+pub seen_none : {B : Type 0} (view : B → List ℕ) (o : Option (B × B)) (bytes : List ℕ) → option_map (λ x. (view x.0, view x.1)) o ≡ part_at bytes →
+    IfNone o ((body rest : List ℕ) → length body < 2 ^ 32 → bytes ≡ part plain body ++ rest → ⊥)
 seen_none view (Some x) bytes e = tt
 seen_none view None bytes e = λ body rest short is.
     let read : part_at bytes ≡ Some (body, rest) = ap part_at is ∙ part_reads body rest short in

@@ -26,7 +26,14 @@ apply_dated f t x = if nat_lt x.moment t.moment then None else option_map (after
 
 -- How a file spells states and changes with their moments.
 abbrev pub dated : {S C : Type 0} → Format S C → Format (Dated S) (Dated C)
-dated f = record { snapshot = λ t. dated_bytes t.moment (f.snapshot t.made); spelled = λ x. dated_bytes x.moment (f.spelled x.made); apply = λ t x. apply_dated f t x; sum = f.sum }
+dated f =
+    record {
+      snapshot = λ t. dated_bytes t.moment (f.snapshot t.made);
+      spelled = λ x. dated_bytes x.moment (f.spelled x.made);
+      apply = λ t x. apply_dated f t x;
+      sum =
+          f.sum;
+    }
 
 -- the moment with which bytes begin, where they are long enough
 abbrev pub moment_of : List ℕ → Option ℕ

@@ -82,18 +82,20 @@ pub record WritesGroupTo {S C : Type 0} (f : Format S C) (start : S) (header : L
   pub file_so : file ≡ with_area old.current (closed_at f g) old.seen
   pub goes : GoesTo f start header j old (record old { phase = Writing g; seen = with_area old.current (closed_at f g) old.seen })
 
-pub record OpensGateTo {S C : Type 0} (f : Format S C) (start : S) (header : List ℕ) (j : Keeping) (old : Keeper S C) (g : Gate S C) (file : File) : Type 0 where
-  pub file_so : file ≡ with_area old.current (opened_at f g) old.seen
-  pub goes : GoesTo f start header j old (record old { phase = Opening g; seen = with_area old.current (opened_at f g) old.seen })
+pub record OpensGateTo {S C : Type 0} (f : Format S C) (start : S) (header : List ℕ) (j : Keeping) (old : Keeper S C) (g : Gate S C) (file : File) : Type 0
+  where
+    pub file_so : file ≡ with_area old.current (opened_at f g) old.seen
+    pub goes : GoesTo f start header j old (record old { phase = Opening g; seen = with_area old.current (opened_at f g) old.seen })
 
 pub record WritesSnapshotTo {S C : Type 0} (f : Format S C) (start : S) (header : List ℕ) (j : Keeping) (old : Keeper S C) (file : File) : Type 0 where
   pub area : List ℕ
   pub file_so : file ≡ with_area (not old.current) area old.seen
   pub goes : GoesTo f start header j old (record old { seen = with_area (not old.current) area old.seen })
 
-pub record MovesSwitchTo {S C : Type 0} (f : Format S C) (start : S) (header : List ℕ) (j : Keeping) (old : Keeper S C) (group : List C) (file : File) : Type 0 where
-  pub file_so : file ≡ record old.seen { switch = switch_of (not old.current) }
-  pub goes : GoesTo f start header j old (record old { phase = Switching group; seen = record old.seen { switch = switch_of (not old.current) } })
+pub record MovesSwitchTo {S C : Type 0} (f : Format S C) (start : S) (header : List ℕ) (j : Keeping) (old : Keeper S C) (group : List C) (file : File) : Type 0
+  where
+    pub file_so : file ≡ record old.seen { switch = switch_of (not old.current) }
+    pub goes : GoesTo f start header j old (record old { phase = Switching group; seen = record old.seen { switch = switch_of (not old.current) } })
 
 -- The synced gate keeps the group, and the synced switch what the snapshot has: the rest waits.
 pub record KeepsGroupTo {S C : Type 0} (f : Format S C) (start : S) (header : List ℕ) (j : Keeping) (old : Keeper S C) (g : Gate S C) : Type 0 where
@@ -104,4 +106,5 @@ pub record KeepsGroupTo {S C : Type 0} (f : Format S C) (start : S) (header : Li
 pub record SwitchesTo {S C : Type 0} (f : Format S C) (start : S) (header : List ℕ) (j : Keeping) (old : Keeper S C) (group : List C) : Type 0 where
   pub later : List C
   pub waiting : old.waiting ≡ group ++ later
-  pub goes : GoesTo f start header j old (record { phase = Idle; current = not old.current; synced = old.seen; seen = old.seen; kept = old.kept ++ group; waiting = later })
+  pub goes : GoesTo f start header j old
+      (record { phase = Idle; current = not old.current; synced = old.seen; seen = old.seen; kept = old.kept ++ group; waiting = later })

@@ -1,0 +1,2 @@
+pub mod HeldHistories
+pub mod Ready
