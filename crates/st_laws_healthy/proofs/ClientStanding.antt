@@ -1,8 +1,8 @@
 -- A step of the client keeps what is known of its association with the server.
 use Rattle.st_lemmas.proofs.Words
 use Words.{◌≡◌, ◌≢◌, ℕ, ◌+◌, ◌*◌, ◌≤◌, ◌<◌, ◌⊎◌, Bool, true, false, ◌==◌, List, [], ◌∷◌, ◌++◌, Option, Some, None, refl, sym, ap, ◌∙◌, subst, inl, inr, arith}
-use Words.{◌&&◌, is_some, max, nat_lt, list_any, eq-eqb, eqb-true, lt-ltb, Config, ClientId, Epoch, Life, ServerId, Stamp, Body, Message}
-use Words.{Output, ClientInput, Request, lt-leb}
+use Words.{is_some, max, nat_lt, eq-eqb, ltb-false, ltb-true, Config, ClientId, Epoch, Life, ServerId, Stamp, Body, Message}
+use Words.{Output, ClientInput, Request, Session}
 use Words.events
 use Words.bodies as bd
 use Words.outputs
@@ -21,15 +21,16 @@ use Words.World.{World, numbered}
 use Words.Lists.{Has}
 use Words.Lookups.{or_left, some_is}
 use Words.Numbers.{numbered_has}
-use Words.Tables.{and_both, and_true, none_passes, same_or_not}
-use Words.Members.{some_member_passes}
+use Words.Tables.{and_both, and_true, same_or_not}
+use Words.Members.{has_left, has_right}
+use Words.Sessions.{session_of}
 use Words.Truth.{not_both}
 use Rattle.std.proofs.Math.Nat.{le-max_left, le-max_right}
 use Rattle.st_laws_lasting.specs.Lasting.{client_clock}
 use Rattle.st_laws_leases.specs.Dates.Dates.{messages}
 use Rattle.st_laws_requests.specs.Cuts.Cuts.{Counts, Given, Numbers, Placed, SameBody, view}
 use Rattle.st_laws_steps.specs.Client.Losses.{Fit, is_ended}
-use Rattle.st_laws_healthy.specs.Healthy.{is_between, longest}
+use Rattle.st_laws_healthy.specs.Healthy.{is_between}
 use Rattle.st_laws_healthy.proofs.Counting.{IsEnded, counted_ends}
 use Rattle.st_laws_healthy.proofs.Happening.{Brings, Deaf, Delivers}
 use Rattle.st_laws_healthy.proofs.Hearing.{Hears, IsReceived, Met, Unmet, counting_calm, hears, is_received, passed_by, received_from}
@@ -37,12 +38,12 @@ use Rattle.st_laws_healthy.proofs.Passing.{After, Again, Alike, Anew, IsPassed, 
 use Rattle.st_laws_healthy.proofs.Queues.{Longer}
 use Rattle.st_laws_healthy.proofs.Receiving.{Ended, Follows, Kept, Received, follows_self, is_calm, received_is, tells_epoch}
 use Rattle.st_laws_healthy.proofs.Replies.{counts_for, is_served}
-use Rattle.st_laws_healthy.proofs.Served.{From, Greets, IsAWelcome, IsAsked, IsCounted, IsEarlier, IsGood, IsKnown, IsOwn, IsReplied, IsServed, IsTold}
-use Rattle.st_laws_healthy.proofs.Served.{Requests, Sees, TellsEpoch, To, known_more, served_more, told_more}
+use Rattle.st_laws_healthy.proofs.Served.{From, Greets, IsAWelcome, IsAsked, IsBefore, IsCounted, IsEarlier, IsGood, IsKnown, IsLiving, IsOwn}
+use Rattle.st_laws_healthy.proofs.Served.{IsReplied, IsServed, IsTold, Requests, Sees, TellsEpoch, To, known_more, served_more, told_more}
 use Rattle.st_laws_healthy.proofs.Stepping.{IsHeard, IsLeft, IsNoMessage, TakesIn, Told, Walks, sends, walks}
 use Rattle.st_laws_healthy.proofs.Taking.{IsSeen, SawDemand}
-use Rattle.st_laws_healthy.proofs.Talking.{Greeted, HasGreeted, HasSession, IsAsking, IsAsking2, IsCounting, IsGreeting, IsOutstanding, IsSilent, IsWelcoming}
-use Rattle.st_laws_healthy.proofs.Talking.{Phase, Requested, Talks, delivered_among, delivered_is, fly, not_delivered}
+use Rattle.st_laws_healthy.proofs.Talking.{Greeted, GreetsAt, Hailed, HasSession, IsAsking, IsAsking2, IsCounting, IsGreeting, IsOnTrip, IsOutstanding}
+use Rattle.st_laws_healthy.proofs.Talking.{IsTooOld, Phase, Requested, Talks, WelcomesAt, delivered_among, delivered_is, fly, not_delivered}
 use Rattle.st_laws_healthy.proofs.Telling.{is_unasked}
 use Rattle.st_laws_healthy.proofs.Trips.{Back, Begun, InTime, Out, Trip, flies_on, takes_off, trip_began, trip_ends}
 
@@ -71,14 +72,6 @@ served_request (bd.Allocate ino g p n) e = refl
 served_request (bd.Cut ino g p) e = refl
 served_request (bd.Name op) e = refl
 served_request b e = cc
-
-abbrev is_hello : Body → Bool
-is_hello bd.Hello = true
-is_hello b = false
-
-hello_is : (b : Body) → is_hello b ≡ true → b ≡ bd.Hello
-hello_is bd.Hello e = refl
-hello_is b e = cc
 
 -- A message that the step sent.
 pub record IsNew (c : ClientId) (x : Step) (ns : List Message) (now : ℕ) (out : List Output) (m : Message) : Type 0 where
@@ -115,7 +108,7 @@ module _ (k : Config) (c : ClientId) (s : ServerId) (gap d : ℕ) (read : World 
     pub known : Talks k c s gap d read delay since past2 ns n now.0 b
     pub last_is : known.last ≡ (talks was among at_was).1.last
 
-module _ (k : Config) (c : ClientId) (s : ServerId) (gap d : ℕ) (read : World → ℕ) (delay : ℕ) (fits : longest k gap d ≤ k.lease) (few : c.0 ≤ 16) where
+module _ (k : Config) (c : ClientId) (s : ServerId) (gap d : ℕ) (read : World → ℕ) (delay : ℕ) (few : c.0 ≤ 16) where
   abbrev cap : ℕ
   cap = max (k.renew + gap) (2 * d + 1)
 
@@ -162,34 +155,12 @@ module _ (k : Config) (c : ClientId) (s : ServerId) (gap d : ℕ) (read : World 
         go (inl e) = inl (ap (λ z. inputs.Control z) (is_it e))
         go (inr ne) = inr (λ e. ne (number_is (sym b.0.event ∙ e)))
 
-    -- No lease is lost.
-    module _ (since : ℕ) (a b : Association) (walk : Walks st now i fit a b) (t : Talks k c s gap d read delay since past ms n now.0 a)
-        (young : (z : ClientSession) → a.session ≡ Some z → z.lease.condemned ≡ false → z.requests.asked ≡ None → now.0 < z.lease.date.0 + k.renew + gap) where
-      -- the age of a lease
-      age : (z : ClientSession) → a.session ≡ Some z → HasSession k c s gap d read delay since past ms n.sessions a.life.0 epoch t.last z → now.0 < z.lease.date.0 + k.lease
-      age z e p = go z.requests.asked refl p.requests
-        where
-          go : (o : Option Request) → z.requests.asked ≡ o → Requested k c s gap d read delay since past ms a.life.0 epoch t.last z.lease.date.0 z.requests.next o →
-              now.0 < z.lease.date.0 + k.lease
-          go None q r = let y = young z e p.sound q in let l = le-max_left (k.renew + gap) (2 * d + 1) in omega (arith, y, l, fits)
-          go (Some q) f r =
-              let y = r.first.young in
-              let l = trip_ends (client_clock c) c s d past ms now.0 (IsAsking k c s gap d a.life.0 epoch q.number q.body)
-              (IsCounting k c s gap d a.life.0 epoch q.number q.body) r.first.from in_time r.first.trip in
-              omega (arith, y, l, fits)
+    -- A lease that lasts isn't lost.
+    lasts_at : (a b : Association) (walk : Walks st now i fit a b) → is_ended st.config now a.session ≡ false → walk.first ≡ a
+    lasts_at a b walk ongoing = sym (walk.loses.lasts ongoing)
 
-      -- so nothing is lost
-      not_ended : is_ended st.config now a.session ≡ false
-      not_ended = subst (λ kb. is_ended kb now a.session ≡ false) (sym config) (go a.session refl t.phase)
-        where
-          go : (o : Option ClientSession) → a.session ≡ o → Phase k c s gap d read delay since past ms n.sessions a.life.0 epoch t.last o → is_ended k now o ≡ false
-          go None e p = refl
-          go (Some z) e p = lt-leb (z.lease.date.0 + k.lease) now.0 (age z e p)
-
-      lasts_at : walk.first ≡ a
-      lasts_at = sym (walk.loses.lasts not_ended)
-
-    module _ (since : ℕ) (a b : Association) (walk : Walks st now i fit a b) (at : a.server ≡ s) (t : Talks k c s gap d read delay since past ms n now.0 a)
+    module _ (since : ℕ) (a b : Association) (walk : Walks st now i fit a b) (ongoing : is_ended st.config now a.session ≡ false) (at : a.server ≡ s)
+        (t : Talks k c s gap d read delay since past ms n now.0 a)
         (young : (z : ClientSession) → a.session ≡ Some z → z.lease.condemned ≡ false → z.requests.asked ≡ None → now.0 < z.lease.date.0 + k.renew + gap)
         (numbers : Numbers (λ m. Has m ms) c s a.life.0 (view a.session)) (numbers2 : Numbers (λ m. Has m ns) c s a.life.0 (view b.session)) where
       abbrev life : ℕ
@@ -206,7 +177,7 @@ module _ (k : Config) (c : ClientId) (s : ServerId) (gap d : ℕ) (read : World 
       Ready z = z.requests.asked ≡ None → now.0 < z.lease.date.0 + cap
 
       lasts : walk.first ≡ a
-      lasts = lasts_at since a b walk t young
+      lasts = lasts_at a b walk ongoing
 
       -- a session with the same requests and lease
       carries : (P : List Step) (M : List Message) (z u : ClientSession) → HasSession k c s gap d read delay since P M n.sessions life epoch t.last z → u.epoch ≡ z.epoch →
@@ -791,23 +762,27 @@ module _ (k : Config) (c : ClientId) (s : ServerId) (gap d : ℕ) (read : World 
             by (IsEarlier l) = absurd (omega (arith, l, present))
             by (IsReplied l y g) = good y g
 
-        -- after the input: no session yet, while the greeting or its welcome is on its way, or one that begins
+        -- after the input: no session yet, while what became of greetings is known, or one that begins
         data Second (o : Option ClientSession) : Type 0 where
           IsNone : o ≡ None → (is_some a.greeting ≡ true → is_some walk.second.greeting ≡ true) →
-              ((from : ℕ) → ((m : Message) → Has m ms → IsGreeting k c s gap d life m → from ≤ m.header.stamp) →
-              Trip (client_clock c) c s d past ms (IsGreeting k c s gap d life) (IsWelcoming k c s gap d life) from →
-              Trip (client_clock c) c s d past2 ns (IsGreeting k c s gap d life) (IsWelcoming k c s gap d life) from) → Second o
+              ((stamp : ℕ) → Hailed k c s gap d past ms life stamp → Hailed k c s gap d past2 ns life stamp) → Second o
           IsBegun : (u : ClientSession) → o ≡ Some u → S2 u → Ready u → u.requests.next ≡ 1 → Second o
 
-        -- the trip goes on, where no welcome was delivered
-        trip_kept : (from : ℕ) → ((f : ℕ) (y : Message) → numbered ms f ≡ Some y → IsWelcoming k c s gap d life y → x.event ≢ events.Deliver f) →
-            Trip (client_clock c) c s d past ms (IsGreeting k c s gap d life) (IsWelcoming k c s gap d life) from →
-            Trip (client_clock c) c s d past2 ns (IsGreeting k c s gap d life) (IsWelcoming k c s gap d life) from
-        trip_kept from ne (Out f) = Out (fly k c s gap d past x w ns more keeps (client_clock c) d (IsGreeting k c s gap d life) (IsGreeting k c s gap d life) from (server_node s)
-            f (λ y. y) f.like.way.to deaf_server)
-        trip_kept from ne (Back y l r f) =
-            Back y l r (flies_on (client_clock c) c s d past x ms ns keeps (IsWelcoming k c s gap d life) (IsWelcoming k c s gap d life) y f (λ y. y)
-            (ne f.number f.message f.there f.like))
+        -- a greeting's trip goes on, where its welcome wasn't delivered, or came too late
+        hailed_on : (stamp : ℕ) → ((f : ℕ) (y : Message) → numbered ms f ≡ Some y → WelcomesAt k c s gap d life stamp y →
+            (x.event ≢ events.Deliver f) ⊎ (stamp + k.lease ≤ client_clock c x.after.world)) →
+            Hailed k c s gap d past ms life stamp → Hailed k c s gap d past2 ns life stamp
+        hailed_on stamp heard (IsTooOld y h l) = IsTooOld y (has_left past (x ∷ []) y h) l
+        hailed_on stamp heard (IsOnTrip (Out f)) =
+            IsOnTrip (Out (fly k c s gap d past x w ns more keeps (client_clock c) d (GreetsAt k c s gap d life stamp) (GreetsAt k c s gap d life stamp)
+            stamp (server_node s) f (λ y. y) f.like.is.way.to deaf_server))
+        hailed_on stamp heard (IsOnTrip (Back y l r f)) = go (heard f.number f.message f.there f.like)
+          where
+            go : (x.event ≢ events.Deliver f.number) ⊎ (stamp + k.lease ≤ client_clock c x.after.world) → Hailed k c s gap d past2 ns life stamp
+            go (inl ne) =
+                IsOnTrip (Back y l r (flies_on (client_clock c) c s d past x ms ns keeps (WelcomesAt k c s gap d life stamp)
+                (WelcomesAt k c s gap d life stamp) y f (λ y. y) ne))
+            go (inr old) = IsTooOld x (has_right past (x ∷ []) x (inl refl)) old
 
         heard_none : (m : Message) → i ≡ inputs.Control m → (tn : Turn) → tn.config ≡ k → tn.here ≡ a →
             walk.second ≡ (cr.receive_at now m.header m.body tn).here → Second walk.second.session
@@ -820,7 +795,7 @@ module _ (k : Config) (c : ClientId) (s : ServerId) (gap d : ℕ) (read : World 
             by (Unmet same untimely) =
                 IsNone (ap (λ (y : Association). y.session) (there ∙ same ∙ here) ∙ without)
                 (λ e. ap (λ (y : Association). is_some y.greeting) (there ∙ same ∙ here) ∙ e)
-                (λ from first trip. trip_kept from (λ f y h v. unheard from first trip f y h v (brought i brings f y h v.way.to)) trip)
+                (λ stamp. hailed_on stamp (λ f y h v. unheard stamp f y h v (brought i brings f y h v.is.way.to)))
               where
                 same_message : (y : Message) → i ≡ inputs.Control y → m ≡ y
                 same_message y e = same2 (sym is ∙ e)
@@ -828,44 +803,38 @@ module _ (k : Config) (c : ClientId) (s : ServerId) (gap d : ℕ) (read : World 
                     same2 : inputs.Control m ≡ inputs.Control y → m ≡ y
                     same2 q = cc
 
-                unheard : (from : ℕ) → ((m : Message) → Has m ms → IsGreeting k c s gap d life m → from ≤ m.header.stamp) →
-                    Trip (client_clock c) c s d past ms (IsGreeting k c s gap d life) (IsWelcoming k c s gap d life) from → (f : ℕ) (y : Message) → numbered ms f ≡ Some y →
-                    IsWelcoming k c s gap d life y →
-                    (i ≡ inputs.Control y) ⊎ (x.event ≢ events.Deliver f) → x.event ≢ events.Deliver f
-                unheard from first trip f y h v (inr ne) = ne
-                unheard from first trip f y h v (inl e) = absurd (not_both (cr.is_timely tn now (record { 0 = m.header.stamp })) timely
-                    (untimely (is_received tn now m.header got) welcome))
+                unheard : (stamp f : ℕ) (y : Message) → numbered ms f ≡ Some y → WelcomesAt k c s gap d life stamp y →
+                    (i ≡ inputs.Control y) ⊎ (x.event ≢ events.Deliver f) → (x.event ≢ events.Deliver f) ⊎ (stamp + k.lease ≤ client_clock c x.after.world)
+                unheard stamp f y h v (inr ne) = inl ne
+                unheard stamp f y h v (inl e) = inr (late (nat_lt now.0 (m.header.stamp + tn.config.lease)) refl)
                   where
                     it : m ≡ y
                     it = same_message y e
 
-                    welcome : m.body ≡ bd.Welcome
-                    welcome = ap (λ (u : Message). u.body) it ∙ v.body
-
                     z : Answers y
-                    z = answers y (t.told y (numbered_has ms f y h) v.way) v.of_life v.body
+                    z = answers y (t.told y (numbered_has ms f y h) v.is.way) v.is.of_life v.is.body
 
                     got : IsReceived tn now m.header
                     got =
                         record {
-                          from = ap (λ (u : Message). u.header.from) it ∙ v.way.from ∙ ap (λ (u : ServerId). server_node u) (sym at) ∙ ap
+                          from = ap (λ (u : Message). u.header.from) it ∙ v.is.way.from ∙ ap (λ (u : ServerId). server_node u) (sym at) ∙ ap
                               (λ (u : Association). server_node u.server) (sym here);
-                          life = ap (λ (u : Message). u.header.life) it ∙ v.of_life ∙ ap (λ (u : Association). u.life.0) (sym here);
+                          life = ap (λ (u : Message). u.header.life) it ∙ v.is.of_life ∙ ap (λ (u : Association). u.life.0) (sym here);
                           stamp = let l = z.not_later in let j = ap (λ (u : Message). u.header.stamp) it in omega (arith, l, j);
                         }
 
-                    timely : cr.is_timely tn now (record { 0 = m.header.stamp }) ≡ true
-                    timely =
-                        and_both (is_some tn.here.greeting) (nat_lt now.0 (m.header.stamp + tn.config.lease))
-                        (ap (λ (u : Association). is_some u.greeting) here ∙ t.greets without z.greeting z.among z.is)
-                        (lt-ltb now.0 (m.header.stamp + tn.config.lease)
-                        (let over = trip_ends (client_clock c) c s d past ms now.0 (IsGreeting k c s gap d life) (IsWelcoming k c s gap d life) from in_time trip in
-                        let l = first z.greeting z.among z.is in
-                        let j = z.stamp in
-                        let g = ap (λ (u : Message). u.header.stamp) it in
-                        let q = le-max_right (k.renew + gap) (2 * d + 1) in
+                    late : (b : Bool) → nat_lt now.0 (m.header.stamp + tn.config.lease) ≡ b → stamp + k.lease ≤ client_clock c x.after.world
+                    late true q =
+                        absurd (not_both (cr.is_timely tn now (record { 0 = m.header.stamp }))
+                        (and_both (is_some tn.here.greeting) (nat_lt now.0 (m.header.stamp + tn.config.lease))
+                        (ap (λ (u : Association). is_some u.greeting) here ∙ t.greets without z.greeting z.among z.is) q)
+                        (untimely (is_received tn now m.header got) (ap (λ (u : Message). u.body) it ∙ v.is.body)))
+                    late false q =
+                        let l = ltb-false now.0 (m.header.stamp + tn.config.lease) q in
+                        let j = ap (λ (u : Message). u.header.stamp) it in
+                        let g = v.at in
                         let o = ap (λ (kb : Config). kb.lease) kb in
-                        omega (arith, over, l, j, g, q, o, fits)))
+                        omega (arith, l, j, g, o, clock)
             by (Met r e timely server l session) =
                 IsBegun u (ap (λ (y : Association). y.session) there ∙ session)
                 (record {
@@ -875,7 +844,7 @@ module _ (k : Config) (c : ClientId) (s : ServerId) (gap d : ℕ) (read : World 
                   served = served_more c s ms ns more n.sessions life epoch t.last z.served;
                   below = let q = before.1 in omega (arith, q);
                   requests = omega arith;
-                }) (λ f. young_from before.0) refl
+                }) (λ f. young_from (before.0 z.greeting z.among z.is)) refl
               where
                 u : ClientSession
                 u = cr.new_session (record { 0 = m.header.epoch }) (record { 0 = m.header.stamp })
@@ -886,85 +855,48 @@ module _ (k : Config) (c : ClientId) (s : ServerId) (gap d : ℕ) (read : World 
                 z : Answers m
                 z = answers m (told m is tn here got) (present m is tn here got) e
 
-                young_from : Greeted k c s gap d past ms life → now.0 < m.header.stamp + cap
-                young_from (IsSilent f) = absurd (f z.greeting z.among z.is)
-                young_from (HasGreeted from first trip) =
-                    let over = trip_ends (client_clock c) c s d past ms now.0 (IsGreeting k c s gap d life) (IsWelcoming k c s gap d life) from in_time trip in
-                    let l = first z.greeting z.among z.is in
+                young_from : Hailed k c s gap d past ms life z.greeting.header.stamp → now.0 < m.header.stamp + cap
+                young_from (IsOnTrip trip) =
+                    let over = trip_ends (client_clock c) c s d past ms now.0 (GreetsAt k c s gap d life z.greeting.header.stamp)
+                    (WelcomesAt k c s gap d life z.greeting.header.stamp) z.greeting.header.stamp in_time trip in
                     let j = z.stamp in
                     let q = le-max_right (k.renew + gap) (2 * d + 1) in
-                    omega (arith, over, l, j, q)
+                    omega (arith, over, j, q)
+                young_from (IsTooOld y h old) =
+                    let b = begun y h in
+                    let q = ltb-true now.0 (m.header.stamp + tn.config.lease)
+                    (and_true (is_some tn.here.greeting) (nat_lt now.0 (m.header.stamp + tn.config.lease)) timely).1 in
+                    let j = z.stamp in
+                    let o = ap (λ (kb : Config). kb.lease) kb in
+                    absurd (omega (arith, old, b, q, j, o))
 
         second : TakesIn st.config now i walk.first walk.second → Second walk.second.session
         second (IsLeft quiet server l g alike) =
             IsNone (subst (λ o. Alike o walk.second.session) (ap (λ (y : Association). y.session) lasts ∙ without) alike)
             (λ e. ap is_some (g ∙ ap (λ (y : Association). y.greeting) lasts) ∙ e)
-            (λ from first trip. trip_kept from (λ f y h v. by f y (brought i brings f y h v.way.to)) trip)
+            (λ stamp. hailed_on stamp (λ f y h v. inl (by f y (brought i brings f y h v.is.way.to))))
           where
             by : (f : ℕ) (y : Message) → (i ≡ inputs.Control y) ⊎ (x.event ≢ events.Deliver f) → x.event ≢ events.Deliver f
             by f y (inl is) = absurd (subst IsNoMessage is quiet)
             by f y (inr ne) = ne
         second (IsHeard tn m is kb here there sv lf) = heard_none m is tn (kb ∙ config) (here ∙ lasts) there
 
-        -- a greeting among the messages, or none
-        abbrev is_greeting : Message → Bool
-        is_greeting m = (m.header.from == c.0) && ((m.header.to == server_node s) && ((m.header.life == life) && is_hello m.body))
-
-        greets_by : (m : Message) → is_greeting m ≡ true → IsGreeting k c s gap d life m
-        greets_by m e =
-            let p = and_true (m.header.from == c.0) ((m.header.to == server_node s) && ((m.header.life == life) && is_hello m.body)) e in
-            let q = and_true (m.header.to == server_node s) ((m.header.life == life) && is_hello m.body) p.1 in
-            let r = and_true (m.header.life == life) (is_hello m.body) q.1 in
-            record {
-              way = record { from = eqb-true m.header.from c.0 p.0; to = eqb-true m.header.to (server_node s) q.0 };
-              of_life = eqb-true m.header.life life r.0;
-              body = hello_is m.body r.1;
-            }
-
-        none_greets : (m : Message) → is_greeting m ≡ false → IsGreeting k c s gap d life m → ⊥
-        none_greets m e g =
-            not_both (is_greeting m)
-            (and_both (m.header.from == c.0) _ (eq-eqb m.header.from c.0 g.way.from)
-            (and_both (m.header.to == server_node s) _ (eq-eqb m.header.to (server_node s) g.way.to)
-            (and_both (m.header.life == life) _ (eq-eqb m.header.life life g.of_life) (ap is_hello g.body)))) e
-
         -- a new greeting has the present stamp
         greets_now : (m : Message) → IsNew c x ns now.0 (cl.client_step st now i).out m → IsGreeting k c s gap d life m → m.header.stamp ≡ now.0
         greets_now m z g = z.stamp (ap dating.is_request g.body)
 
-        greeted2 : Greeted k c s gap d past ms life →
-            ((from : ℕ) → ((m : Message) → Has m ms → IsGreeting k c s gap d life m → from ≤ m.header.stamp) →
-            Trip (client_clock c) c s d past ms (IsGreeting k c s gap d life) (IsWelcoming k c s gap d life) from →
-            Trip (client_clock c) c s d past2 ns (IsGreeting k c s gap d life) (IsWelcoming k c s gap d life) from) → Greeted k c s gap d past2 ns life
-        greeted2 (HasGreeted from first trip) on =
-            HasGreeted from (λ m h g. by m g (new m h)) (on from first trip)
+        greeted2 : Greeted k c s gap d past ms life → ((stamp : ℕ) → Hailed k c s gap d past ms life stamp → Hailed k c s gap d past2 ns life stamp) →
+            Greeted k c s gap d past2 ns life
+        greeted2 f on m h g = by (new m h)
           where
-            by : (m : Message) → IsGreeting k c s gap d life m → Has m ms ⊎ IsNew c x ns now.0 (cl.client_step st now i).out m → from ≤ m.header.stamp
-            by m g (inl h) = first m h g
-            by m g (inr z) =
-                let e = greets_now m z g in
-                let l = trip_began (client_clock c) c s d past ms now.0 (IsGreeting k c s gap d life) (IsWelcoming k c s gap d life) from begun trip in
-                omega (arith, e, l)
-        greeted2 (IsSilent f) on = go (list_any is_greeting ns) refl
-          where
-            is_new : (m : Message) → Has m ns → IsGreeting k c s gap d life m → IsNew c x ns now.0 (cl.client_step st now i).out m
-            is_new m h g = by (new m h)
-              where
-                by : Has m ms ⊎ IsNew c x ns now.0 (cl.client_step st now i).out m → IsNew c x ns now.0 (cl.client_step st now i).out m
-                by (inl j) = absurd (f m j g)
-                by (inr z) = z
-
-            go : (b : Bool) → list_any is_greeting ns ≡ b → Greeted k c s gap d past2 ns life
-            go false e = IsSilent (λ m h g. none_greets m (none_passes is_greeting ns e m h) g)
-            go true e =
-                let y = some_member_passes is_greeting ns e in
-                let g = greets_by y.0 y.2 in
-                let z = is_new y.0 y.1 g in
-                HasGreeted now.0 (λ m h v. let q = greets_now m (is_new m h v) v in omega (arith, q))
-                (subst (Trip (client_clock c) c s d past2 ns (IsGreeting k c s gap d life) (IsWelcoming k c s gap d life)) clock
-                (Out (takes_off (client_clock c) c s d past x ns (IsGreeting k c s gap d life) z.number y.0 z.sent z.there
-                (or_left _ _ (and_both (y.0.header.from == c.0) (y.0.header.to == server_node s) (eq-eqb y.0.header.from c.0 g.way.from)
-                (eq-eqb y.0.header.to (server_node s) g.way.to))) g)))
+            by : Has m ms ⊎ IsNew c x ns now.0 (cl.client_step st now i).out m → Hailed k c s gap d past2 ns life m.header.stamp
+            by (inl j) = on m.header.stamp (f m j g)
+            by (inr z) =
+                IsOnTrip (subst (Trip (client_clock c) c s d past2 ns (GreetsAt k c s gap d life m.header.stamp)
+                (WelcomesAt k c s gap d life m.header.stamp)) (clock ∙ sym (greets_now m z g))
+                (Out (takes_off (client_clock c) c s d past x ns (GreetsAt k c s gap d life m.header.stamp) z.number m z.sent z.there
+                (or_left _ _ (and_both (m.header.from == c.0) (m.header.to == server_node s) (eq-eqb m.header.from c.0 g.way.from)
+                (eq-eqb m.header.to (server_node s) g.way.to))) (record { is = g; at = refl }))))
 
         without_session : (since2 : ℕ) × Phase k c s gap d read delay since2 past2 ns n.sessions life epoch t.last b.session
         without_session = go (second walk.takes)
@@ -994,118 +926,125 @@ module _ (k : Config) (c : ClientId) (s : ServerId) (gap d : ℕ) (read : World 
                     no2 : {y : ClientSession} → ◌≡◌ {A = Option ClientSession} None (Some y) → ⊥
                     no2 r = cc
 
+    -- Where an association with the server comes from: one whose lease lasts, as it was before the step; or one whose lease is over, emptied.
+    pub record Source (b : Association) : Type 0 where
+      pub from : Association
+      pub walk : Walks st now i fit from b
+      pub ongoing : is_ended st.config now from.session ≡ false
+      pub at : from.server ≡ s
+      pub since : ℕ
+      pub talk : Talks k c s gap d read delay since past ms n now.0 from
+      pub young : (z : ClientSession) → from.session ≡ Some z → z.lease.condemned ≡ false → z.requests.asked ≡ None → now.0 < z.lease.date.0 + k.renew + gap
+      pub numbers : Numbers (λ m. Has m ms) c s from.life.0 (view from.session)
+
+    taken : (f v : Association) → TakesIn st.config now i f v → (v.server ≡ f.server) × (v.life ≡ f.life)
+    taken f v (IsLeft quiet sv l g alike) = (sv, l)
+    taken f v (IsHeard tn m is kb here there sv lf) = (sv, lf)
+
+    before_at : (a b : Association) → Walks st now i fit a b → b.server ≡ s → a.server ≡ s
+    before_at a b walk at_b = sym (walk.works.server ∙ (taken walk.first walk.second walk.takes).0 ∙ sym walk.loses.server) ∙ at_b
+
     -- All associations with the server.
-    module _ (told : Told st now i fit i) (talks : (a : Association) → Has a st.associations → a.server ≡ s → (since : ℕ) × Talks k c s gap d read delay since past ms n now.0 a)
-        (young : (a : Association) → Has a st.associations → (z : ClientSession) → a.session ≡ Some z → z.lease.condemned ≡ false → z.requests.asked ≡ None →
-        now.0 < z.lease.date.0 + k.renew + gap)
-        (numbers : (a : Association) → Has a st.associations → Numbers (λ m. Has m ms) c a.server a.life.0 (view a.session))
+    module _ (sources : (b : Association) → Has b (cl.client_step st now i).state.associations → b.server ≡ s → Source b)
         (numbers2 : (b : Association) → Has b (cl.client_step st now i).state.associations → Numbers (λ m. Has m ns) c b.server b.life.0 (view b.session))
         (once : (a b : Association) → Has a (cl.client_step st now i).state.associations → Has b (cl.client_step st now i).state.associations →
         a.server.0 ≡ b.server.0 → a ≡ b) where
       -- what is known of one
-      record Phased (b : Association) : Type 0 where
-        was : Association
-        among : Has was st.associations
-        at_was : was.server ≡ s
-        walk : Walks st now i fit was b
-        lasts : is_ended st.config now was.session ≡ false
-        life : b.life ≡ was.life
-        middle : (z : ClientSession) → was.session ≡ Some z → Middle z (talks was among at_was).1.last walk.second.session
+      record Phased (b : Association) (o : Source b) : Type 0 where
+        life : b.life ≡ o.from.life
+        middle : (z : ClientSession) → o.from.session ≡ Some z → Middle z o.talk.last o.walk.second.session
         since : ℕ
-        same : (z v : ClientSession) → was.session ≡ Some z → b.session ≡ Some v → v.requests.next ≡ z.requests.next → since ≡ (talks was among at_was).0
-        last : ℕ
-        last_is : last ≡ (talks was among at_was).1.last
-        known : IsKnown c s ns n.sessions b.life.0 epoch last
-        told_of : (m : Message) → Has m ns → From c s m → IsTold c s ns n.sessions b.life.0 epoch last m
+        same : (z v : ClientSession) → o.from.session ≡ Some z → b.session ≡ Some v → v.requests.next ≡ z.requests.next → since ≡ o.since
+        known : IsKnown c s ns n.sessions b.life.0 epoch o.talk.last
+        told_of : (m : Message) → Has m ns → From c s m → IsTold c s ns n.sessions b.life.0 epoch o.talk.last m
         asked : (m : Message) → Has m ms → To c s m → m.header.life ≡ b.life.0 → IsAsked c s now.0 m
         greets : b.session ≡ None → (m : Message) → Has m ms → IsGreeting k c s gap d b.life.0 m → is_some b.greeting ≡ true
-        phase : Phase k c s gap d read delay since past2 ns n.sessions b.life.0 epoch last b.session
+        phase : Phase k c s gap d read delay since past2 ns n.sessions b.life.0 epoch o.talk.last b.session
 
-      phased : (b : Association) → Has b (cl.client_step st now i).state.associations → b.server ≡ s → Phased b
-      phased b h at_b = go (walks st now i fit told b h)
+      phased : (b : Association) (h : Has b (cl.client_step st now i).state.associations) (at_b : b.server ≡ s) → Phased b (sources b h at_b)
+      phased b h at_b =
+          record {
+            life = life_same;
+            middle = middle since a b walk ongoing at_a t young_a numbers_a numbers_b;
+            since = (phase a.session refl).0;
+            same = (phase a.session refl).2;
+            known = subst (λ (l : Life). IsKnown c s ns n.sessions l.0 epoch t.last) (sym life_same)
+                (known_more c s ms ns more n.sessions a.life.0 epoch t.last t.known);
+            told_of = λ m h f. subst (λ (l : Life). IsTold c s ns n.sessions l.0 epoch t.last m) (sym life_same)
+                (told_more c s ms ns more n.sessions n.sessions a.life.0 epoch t.last t.last (omega arith)
+                (λ y. served_more c s ms ns more n.sessions a.life.0 epoch t.last y) m (t.told m (old_from m h f) f));
+            asked = λ m h f l. t.asked m h f (l ∙ ap (λ (y : Life). y.0) life_same);
+            greets = λ e m h g. greets e m h (subst (λ (l : Life). IsGreeting k c s gap d l.0 m) life_same g);
+            phase = subst (λ (l : Life). Phase k c s gap d read delay (phase a.session refl).0 past2 ns n.sessions l.0 epoch t.last b.session) (sym life_same)
+                (phase a.session refl).1;
+          }
         where
-          go : (a : Association) × Has a st.associations × Walks st now i fit a b → Phased b
-          go (a, j, walk) =
-              record {
-                was = a;
-                among = j;
-                at_was = at_a;
-                walk = walk;
-                lasts = not_ended since a b walk t (young a j);
-                life = life_same;
-                middle = middle since a b walk at_a t (young a j) numbers_a numbers_b;
-                since = (phase a.session refl).0;
-                same = (phase a.session refl).2;
-                last = t.last;
-                last_is = refl;
-                known = subst (λ (l : Life). IsKnown c s ns n.sessions l.0 epoch t.last) (sym life_same)
-                    (known_more c s ms ns more n.sessions a.life.0 epoch t.last t.known);
-                told_of = λ m h f. subst (λ (l : Life). IsTold c s ns n.sessions l.0 epoch t.last m) (sym life_same)
-                    (told_more c s ms ns more n.sessions n.sessions a.life.0 epoch t.last t.last (omega arith)
-                    (λ y. served_more c s ms ns more n.sessions a.life.0 epoch t.last y) m (t.told m (old_from m h f) f));
-                asked = λ m h f l. t.asked m h f (l ∙ ap (λ (y : Life). y.0) life_same);
-                greets = λ e m h g. greets e m h (subst (λ (l : Life). IsGreeting k c s gap d l.0 m) life_same g);
-                phase = subst (λ (l : Life). Phase k c s gap d read delay (phase a.session refl).0 past2 ns n.sessions l.0 epoch t.last b.session) (sym life_same)
-                    (phase a.session refl).1;
-              }
+          o : Source b
+          o = sources b h at_b
+
+          a : Association
+          a = o.from
+
+          walk : Walks st now i fit a b
+          walk = o.walk
+
+          ongoing : is_ended st.config now a.session ≡ false
+          ongoing = o.ongoing
+
+          at_a : a.server ≡ s
+          at_a = o.at
+
+          since : ℕ
+          since = o.since
+
+          t : Talks k c s gap d read delay since past ms n now.0 a
+          t = o.talk
+
+          young_a : (z : ClientSession) → a.session ≡ Some z → z.lease.condemned ≡ false → z.requests.asked ≡ None →
+              now.0 < z.lease.date.0 + k.renew + gap
+          young_a = o.young
+
+          numbers_a : Numbers (λ m. Has m ms) c s a.life.0 (view a.session)
+          numbers_a = o.numbers
+
+          -- nothing is lost, so the life stays
+          kept : walk.first ≡ a
+          kept = lasts_at a b walk ongoing
+
+          life_same : b.life ≡ a.life
+          life_same = walk.works.life ∙ (taken walk.first walk.second walk.takes).1 ∙ ap (λ (y : Association). y.life) kept
+
+          numbers_b : Numbers (λ m. Has m ns) c s a.life.0 (view b.session)
+          numbers_b = subst (λ y. Numbers (λ m. Has m ns) c y a.life.0 (view b.session)) at_b
+              (subst (λ (l : Life). Numbers (λ m. Has m ns) c b.server l.0 (view b.session)) life_same (numbers2 b h))
+
+          phase : (v : Option ClientSession) → a.session ≡ v → (since2 : ℕ) ×
+              Phase k c s gap d read delay since2 past2 ns n.sessions a.life.0 epoch t.last b.session ×
+              ((z v : ClientSession) → a.session ≡ Some z → b.session ≡ Some v → v.requests.next ≡ z.requests.next → since2 ≡ since)
+          phase None e =
+              let y = without_session since a b walk ongoing at_a t young_a numbers_a numbers_b e in (y.0, y.1, λ z v f. absurd (no (sym e ∙ f)))
             where
-              server_first : walk.first.server ≡ a.server
-              server_first = sym walk.loses.server
+              no : {z : ClientSession} → ◌≡◌ {A = Option ClientSession} None (Some z) → ⊥
+              no r = cc
+          phase (Some z) e =
+              let y = with_session since a b walk ongoing at_a t young_a numbers_a numbers_b z e in (
+                y.since2,
+                y.phase,
+                λ w v f g h. y.same v g (h ∙ ap (λ (x : ClientSession). x.requests.next) (some_is (sym f ∙ e))),
+              )
 
-              taken : TakesIn st.config now i walk.first walk.second → (walk.second.server ≡ walk.first.server) × (walk.second.life ≡ walk.first.life)
-              taken (IsLeft quiet sv l g alike) = (sv, l)
-              taken (IsHeard tn m is kb here there sv lf) = (sv, lf)
-
-              at_a : a.server ≡ s
-              at_a = sym (walk.works.server ∙ (taken walk.takes).0 ∙ server_first) ∙ at_b
-
-              since : ℕ
-              since = (talks a j at_a).0
-
-              t : Talks k c s gap d read delay since past ms n now.0 a
-              t = (talks a j at_a).1
-
-              numbers_a : Numbers (λ m. Has m ms) c s a.life.0 (view a.session)
-              numbers_a = subst (λ y. Numbers (λ m. Has m ms) c y a.life.0 (view a.session)) at_a (numbers a j)
-
-              -- nothing is lost, so the life stays
-              kept : walk.first ≡ a
-              kept = lasts_at since a b walk t (young a j)
-
-              life_same : b.life ≡ a.life
-              life_same = walk.works.life ∙ (taken walk.takes).1 ∙ ap (λ (y : Association). y.life) kept
-
-              numbers_b : Numbers (λ m. Has m ns) c s a.life.0 (view b.session)
-              numbers_b = subst (λ y. Numbers (λ m. Has m ns) c y a.life.0 (view b.session)) at_b
-                  (subst (λ (l : Life). Numbers (λ m. Has m ns) c b.server l.0 (view b.session)) life_same (numbers2 b h))
-
-              phase : (o : Option ClientSession) → a.session ≡ o → (since2 : ℕ) ×
-                  Phase k c s gap d read delay since2 past2 ns n.sessions a.life.0 epoch t.last b.session ×
-                  ((z v : ClientSession) → a.session ≡ Some z → b.session ≡ Some v → v.requests.next ≡ z.requests.next → since2 ≡ since)
-              phase None e =
-                  let y = without_session since a b walk at_a t (young a j) numbers_a numbers_b e in (y.0, y.1, λ z v f. absurd (no (sym e ∙ f)))
+          greets : b.session ≡ None → (m : Message) → Has m ms → IsGreeting k c s gap d a.life.0 m → is_some b.greeting ≡ true
+          greets e m h g = by a.session refl
+            where
+              none_of : {y : ClientSession} → b.session ≡ None → b.session ≡ Some y → ⊥
+              none_of p q = no (sym p ∙ q)
                 where
-                  no : {z : ClientSession} → ◌≡◌ {A = Option ClientSession} None (Some z) → ⊥
+                  no : {y : ClientSession} → ◌≡◌ {A = Option ClientSession} None (Some y) → ⊥
                   no r = cc
-              phase (Some z) e =
-                  let y = with_session since a b walk at_a t (young a j) numbers_a numbers_b z e in (
-                    y.since2,
-                    y.phase,
-                    λ w v f g h. y.same v g (h ∙ ap (λ (x : ClientSession). x.requests.next) (some_is (sym f ∙ e))),
-                  )
 
-              greets : b.session ≡ None → (m : Message) → Has m ms → IsGreeting k c s gap d a.life.0 m → is_some b.greeting ≡ true
-              greets e m h g = by a.session refl
-                where
-                  none_of : {y : ClientSession} → b.session ≡ None → b.session ≡ Some y → ⊥
-                  none_of p q = no (sym p ∙ q)
-                    where
-                      no : {y : ClientSession} → ◌≡◌ {A = Option ClientSession} None (Some y) → ⊥
-                      no r = cc
-
-                  by : (o : Option ClientSession) → a.session ≡ o → is_some b.greeting ≡ true
-                  by None f = greets_on since a b walk at_a t (young a j) numbers_a numbers_b f e (t.greets f m h g)
-                  by (Some z) f = absurd (none_of e (stays_session since a b walk at_a t (young a j) numbers_a numbers_b z f).1)
+              by : (v : Option ClientSession) → a.session ≡ v → is_some b.greeting ≡ true
+              by None f = greets_on since a b walk ongoing at_a t young_a numbers_a numbers_b f e (t.greets f m h g)
+              by (Some z) f = absurd (none_of e (stays_session since a b walk ongoing at_a t young_a numbers_a numbers_b z f).1)
 
       -- why the step sent a message to the server
       asked_new : (b : Association) → Has b (cl.client_step st now i).state.associations → b.server ≡ s → (m : Message) →
@@ -1118,14 +1057,17 @@ module _ (k : Config) (c : ClientId) (s : ServerId) (gap d : ℕ) (read : World 
               at_r : r.server ≡ s
               at_r = ap (λ i. record { 0 = i }) (let u = q.to in let v = y.to in let g : r.server.0 ≡ s.0 = omega (arith, u, v) in g)
 
-              ph : Phased r
+              was : Source r
+              was = sources r j at_r
+
+              ph : Phased r was
               ph = phased r j at_r
 
               cause : SentBy r m → IsAsked c s now.0 m
               cause (ByGreeting e none g) = Greets e (let u = z.stamp (ap dating.is_request e) in omega (arith, u))
               cause (ByRequest u o e f number body) =
-                  let p = subst (Phase k c s gap d read delay ph.since past2 ns n.sessions r.life.0 epoch ph.last) e ph.phase in
-                  let a = subst (Requested k c s gap d read delay ph.since past2 ns r.life.0 epoch ph.last u.lease.date.0 u.requests.next) f p.requests in
+                  let p = subst (Phase k c s gap d read delay ph.since past2 ns n.sessions r.life.0 epoch was.talk.last) e ph.phase in
+                  let a = subst (Requested k c s gap d read delay ph.since past2 ns r.life.0 epoch was.talk.last u.lease.date.0 u.requests.next) f p.requests in
                   let served : is_served m.body ≡ true = ap is_served body ∙ a.served in
                   let pos = (subst (Given u.requests.next) f (subst (λ o. Counts (view o)) e (numbers2 r j).counts).1).0 in
                   Requests (omega (arith, number, pos)) served (let v = z.stamp (served_request m.body served) in omega (arith, v))
@@ -1134,32 +1076,34 @@ module _ (k : Config) (c : ClientId) (s : ServerId) (gap d : ℕ) (read : World 
           go (inl f) = Sees f
           go (inr (r, j, q)) = by r j q
 
-      -- what is known after the step
-      pub client_talks : (b : Association) → Has b (cl.client_step st now i).state.associations → b.server ≡ s →
-          TalksOn k c s gap d read delay past past2 ms ns n now st i fit talks b
-      client_talks b h at_b =
+      -- What is known after the step.
+      pub record GoesOn (b : Association) (o : Source b) : Type 0 where
+        pub life : b.life ≡ o.from.life
+        pub middle : (z : ClientSession) → o.from.session ≡ Some z → Middle z o.talk.last o.walk.second.session
+        pub since : ℕ
+        pub same : (z v : ClientSession) → o.from.session ≡ Some z → b.session ≡ Some v → v.requests.next ≡ z.requests.next → since ≡ o.since
+        pub known : Talks k c s gap d read delay since past2 ns n now.0 b
+        pub last_is : known.last ≡ o.talk.last
+
+      pub goes_on : (b : Association) (h : Has b (cl.client_step st now i).state.associations) (at_b : b.server ≡ s) → GoesOn b (sources b h at_b)
+      goes_on b h at_b =
           record {
-            was = p.was;
-            among = p.among;
-            at_was = p.at_was;
-            walk = p.walk;
-            lasts = p.lasts;
             life = p.life;
             middle = p.middle;
             since = p.since;
             same = p.same;
             known = record {
-              last = p.last;
+              last = (sources b h at_b).talk.last;
               known = p.known;
               told = p.told_of;
               asked = λ m j f l. asked m f l (new m j);
               greets = λ e m j g. greets e m g (new m j);
               phase = p.phase;
             };
-            last_is = p.last_is;
+            last_is = refl;
           }
         where
-          p : Phased b
+          p : Phased b (sources b h at_b)
           p = phased b h at_b
 
           asked : (m : Message) → To c s m → m.header.life ≡ b.life.0 → Has m ms ⊎ IsNew c x ns now.0 (cl.client_step st now i).out m → IsAsked c s now.0 m
@@ -1185,11 +1129,158 @@ module _ (k : Config) (c : ClientId) (s : ServerId) (gap d : ℕ) (read : World 
               cause r j q (ByRequest u o f e2 number body) =
                   let at_r : r.server ≡ s = ap (λ i. record { 0 = i }) (let u1 = q.to in let w = g.way.to in let y : r.server.0 ≡ s.0 = omega (arith, u1, w)
                   in y) in
+                  let was = sources r j at_r in
                   let ph = phased r j at_r in
-                  let p2 = subst (Phase k c s gap d read delay ph.since past2 ns n.sessions r.life.0 epoch ph.last) f ph.phase in
-                  let a = subst (Requested k c s gap d read delay ph.since past2 ns r.life.0 epoch ph.last u.lease.date.0 u.requests.next) e2 p2.requests in
+                  let p2 = subst (Phase k c s gap d read delay ph.since past2 ns n.sessions r.life.0 epoch was.talk.last) f ph.phase in
+                  let a = subst (Requested k c s gap d read delay ph.since past2 ns r.life.0 epoch was.talk.last u.lease.date.0 u.requests.next) e2 p2.requests in
                   absurd (not_both (is_served o.body) a.served (ap is_served (sym body ∙ g.body)))
 
               go : IsSeen m.body ⊎ ((r : Association) × Has r (cl.client_step st now i).state.associations × IsSentBy r m) → is_some b.greeting ≡ true
               go (inl f) = absurd (hello_seen m.body g.body f)
               go (inr (r, j, q)) = cause r j q q.cause
+
+    -- what was there before
+    module _ (told : Told st now i fit i) (talks : (a : Association) → Has a st.associations → a.server ≡ s → (since : ℕ) × Talks k c s gap d read delay since past ms n now.0 a)
+        (young : (a : Association) → Has a st.associations → (z : ClientSession) → a.session ≡ Some z → z.lease.condemned ≡ false → z.requests.asked ≡ None →
+        now.0 < z.lease.date.0 + k.renew + gap)
+        (numbers : (a : Association) → Has a st.associations → Numbers (λ m. Has m ms) c a.server a.life.0 (view a.session))
+        (numbers2 : (b : Association) → Has b (cl.client_step st now i).state.associations → Numbers (λ m. Has m ns) c b.server b.life.0 (view b.session))
+        (once : (a b : Association) → Has a (cl.client_step st now i).state.associations → Has b (cl.client_step st now i).state.associations →
+        a.server.0 ≡ b.server.0 → a ≡ b) where
+      -- an association whose lease lasts is its own source
+      abbrev own_source : (b a : Association) → Has a st.associations → (walk : Walks st now i fit a b) → (at : a.server ≡ s) →
+          is_ended st.config now a.session ≡ false → Source b
+      own_source b a j walk at ongoing = record {
+        from = a;
+        walk = walk;
+        ongoing = ongoing;
+        at = at;
+        since = (talks a j at).0;
+        talk = (talks a j at).1;
+        young = young a j;
+        numbers = subst (λ y. Numbers (λ m. Has m ms) c y a.life.0 (view a.session)) at (numbers a j);
+      }
+
+      -- where the leases with the server last
+      module _ (ongoing : (a : Association) → Has a st.associations → a.server ≡ s → is_ended st.config now a.session ≡ false) where
+        abbrev open_source : (b : Association) → Has b (cl.client_step st now i).state.associations → b.server ≡ s → Source b
+        open_source b h at_b =
+            let w = walks st now i fit told b h in
+            own_source b w.0 w.1 w.2 (before_at w.0 b w.2 at_b) (ongoing w.0 w.1 (before_at w.0 b w.2 at_b))
+
+        pub client_talks : (b : Association) → Has b (cl.client_step st now i).state.associations → b.server ≡ s →
+            TalksOn k c s gap d read delay past past2 ms ns n now st i fit talks b
+        client_talks b h at_b =
+            let w = walks st now i fit told b h in
+            let g = goes_on open_source numbers2 once b h at_b in
+            record {
+              was = w.0;
+              among = w.1;
+              at_was = before_at w.0 b w.2 at_b;
+              walk = w.2;
+              lasts = ongoing w.0 w.1 (before_at w.0 b w.2 at_b);
+              life = g.life;
+              middle = g.middle;
+              since = g.since;
+              same = g.same;
+              known = g.known;
+              last_is = g.last_is;
+            }
+
+      -- An association whose lease is over: nothing was said in its next life.
+      module _ (b a : Association) (j : Has a st.associations) (walk : Walks st now i fit a b) (at : a.server ≡ s)
+          (over : is_ended st.config now a.session ≡ true) where
+        abbrev its_talks : Talks k c s gap d read delay (talks a j at).0 past ms n now.0 a
+        its_talks = (talks a j at).1
+
+        numbers_a : Numbers (λ m. Has m ms) c s a.life.0 (view a.session)
+        numbers_a = subst (λ y. Numbers (λ m. Has m ms) c y a.life.0 (view a.session)) at (numbers a j)
+
+        abbrev emptied : Association
+        emptied = walk.first
+
+        next_up : emptied.life.0 ≡ a.life.0 + 1
+        next_up = sym (ap (λ (l : Life). l.0) (walk.loses.lost over))
+
+        emptied_none : emptied.session ≡ None
+        emptied_none = (walk.gone over).0
+
+        -- no message is of that life
+        unsaid : (m : Message) → Has m ms → To c s m → m.header.life ≡ emptied.life.0 → ⊥
+        unsaid m h y l = let z = numbers_a.lives m h (y.from, y.to) in omega (arith, z, l, next_up)
+
+        born_before : IsKnown c s ms n.sessions a.life.0 epoch its_talks.last → (y : Session) → session_of n.sessions c ≡ Some y → y.life.0 < emptied.life.0
+        born_before (IsBefore g q) y e = let l = g y e in omega (arith, l, next_up)
+        born_before (IsLiving z) y e = let l = z.of_life in let q = ap (λ (v : Session). v.life.0) (some_is (sym e ∙ z.is)) in omega (arith, l, q, next_up)
+
+        told_earlier : (m : Message) → IsTold c s ms n.sessions a.life.0 epoch its_talks.last m → IsTold c s ms n.sessions emptied.life.0 epoch 0 m
+        told_earlier m (IsOwn u) = IsOwn u
+        told_earlier m (IsEarlier l) = IsEarlier (omega (arith, l, next_up))
+        told_earlier m (IsReplied l e g) = IsEarlier (omega (arith, l, next_up))
+
+        emptied_talks : Talks k c s gap d read delay 0 past ms n now.0 emptied
+        emptied_talks = record {
+          last = 0;
+          known = IsBefore (born_before its_talks.known) refl;
+          told = λ m h y. told_earlier m (its_talks.told m h y);
+          asked = λ m h y l. absurd (unsaid m h y l);
+          greets = λ e m h g. absurd (unsaid m h g.way g.of_life);
+          phase = subst (Phase k c s gap d read delay 0 past ms n.sessions emptied.life.0 epoch 0) (sym emptied_none) ((λ m h g. absurd (unsaid m h g.way g.of_life)), refl);
+        }
+
+        emptied_numbers : Numbers (λ m. Has m ms) c s emptied.life.0 (view emptied.session)
+        emptied_numbers = subst (λ o. Numbers (λ m. Has m ms) c s emptied.life.0 (view o)) (sym emptied_none)
+            (record {
+              lives = λ m h y. let z = numbers_a.lives m h y in omega (arith, z, next_up);
+              placed = λ m h y l. absurd (unsaid m h (record { from = y.0; to = y.1 }) l);
+              one = numbers_a.one;
+              sent = tt;
+              counts = tt;
+            })
+
+        no_session : {P : Type 0} (z : ClientSession) → ◌≡◌ {A = Option ClientSession} None (Some z) → P
+        no_session z e = cc
+
+        emptied_source : Source b
+        emptied_source = record {
+          from = emptied;
+          walk = record {
+            first = emptied;
+            second = walk.second;
+            loses = record {
+              server = refl;
+              fit = λ y. y;
+              lasts = λ e. refl;
+              lost = λ e. absurd (not_both (is_ended st.config now emptied.session) e walk.loses.going);
+              emptied = λ e. absurd (not_both (is_ended st.config now emptied.session) e walk.loses.going);
+              going = walk.loses.going;
+            };
+            gone = λ e. absurd (not_both (is_ended st.config now emptied.session) e walk.loses.going);
+            takes = walk.takes;
+            works = walk.works;
+          };
+          ongoing = walk.loses.going;
+          at = sym walk.loses.server ∙ at;
+          since = 0;
+          talk = emptied_talks;
+          young = λ z e. no_session z (sym emptied_none ∙ e);
+          numbers = emptied_numbers;
+        }
+
+      any_source : (b : Association) → Has b (cl.client_step st now i).state.associations → b.server ≡ s → Source b
+      any_source b h at_b = go (walks st now i fit told b h)
+        where
+          go : (a : Association) × Has a st.associations × Walks st now i fit a b → Source b
+          go (a, j, walk) = by (is_ended st.config now a.session) refl
+            where
+              at : a.server ≡ s
+              at = before_at a b walk at_b
+
+              by : (e : Bool) → is_ended st.config now a.session ≡ e → Source b
+              by false e = own_source b a j walk at e
+              by true e = emptied_source b a j walk at e
+
+      -- what is known after the step, whether a lease was over or not
+      pub any_talks : (b : Association) → Has b (cl.client_step st now i).state.associations → b.server ≡ s →
+          (since : ℕ) × Talks k c s gap d read delay since past2 ns n now.0 b
+      any_talks b h at_b = let g = goes_on any_source numbers2 once b h at_b in (g.since, g.known)

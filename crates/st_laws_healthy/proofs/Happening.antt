@@ -1,7 +1,7 @@
 -- What an event does to one client and one server: one of the two steps, or neither does, or one of them does not run before it or after it.
 use Rattle.st_lemmas.proofs.Words
 use Words.{◌≡◌, ◌≢◌, ℕ, ◌+◌, ◌≤◌, ◌⊎◌, Bool, true, false, List, Option, Some, None, Ok, Err, refl, sym, ap, ◌∙◌, subst, inl, inr, arith, if◌then◌else◌, ◌-◌}
-use Words.{length, map, pred, nat_le, le-leb, leb-true, ClientId, ServerId, Stamp, NodeId, Ask, Message, Event, Output, ClientInput, ServerInput, IssuedCommand, SentMessage}
+use Words.{length, map, pred, nat_le, le-leb, leb-true, ClientId, ServerId, Stamp, NodeId, Ask, Message, Event, Output, ClientInput, ServerInput, Session, IssuedCommand, SentMessage}
 use Words.nodes
 use Words.events
 use Words.outputs
@@ -18,6 +18,7 @@ use Words.Events.{WorldTurn, world_step}
 use Words.History.{Traced}
 use Words.Server as server
 use Words.Server.{ServerNode}
+use Words.Sessions.{session_of}
 use Words.Safety.{Step}
 use Words.World as world
 use Words.World.{World, WorldClient, clock_of, node_of, numbered, site_of, with_numbered}
@@ -123,6 +124,12 @@ module _ (past : List Step) (t : Traced) (d : Dated past t) (c : ClientId) (s : 
   abbrev pub NewFrom : WorldTurn → List Output → Type 0
   NewFrom sc os = (m : Message) → Has m (messages sc.world) → Has m (messages t.world) ⊎ Has (outputs.Send m) os
 
+  -- the server has no session of the client that it didn't have before
+  abbrev pub Fewer : World → Type 0
+  Fewer v =
+      (node : ServerNode) → node_of v s ≡ Some node → (y : Session) → session_of node.state.sessions c ≡ Some y →
+      (old : ServerNode) × (node_of t.world s ≡ Some old) × (session_of old.state.sessions c ≡ Some y)
+
   -- What the event does.
   pub data Happened (sc : WorldTurn) : Type 0 where
     ClientSteps : (site old : WorldClient) (i : ClientInput) (now : Stamp) → now.0 ≡ client_clock c t.world → site.node ≡ old.node →
@@ -144,10 +151,13 @@ module _ (past : List Step) (t : Traced) (d : Dated past t) (c : ClientId) (s : 
     NeitherSteps : site_of sc.world c ≡ site_of t.world c → node_of sc.world s ≡ node_of t.world s → client_clock c t.world ≤ client_clock c sc.world →
         Deaf t.world e c.0 → Deaf t.world e (server_node s) →
         ((m : Message) → Has m (messages sc.world) → Has m (messages t.world) ⊎ ((m.header.from ≢ c.0) × (m.header.from ≢ server_node s))) → Happened sc
-    IsBroken : (AllRun c s t.world → BothRun c s sc.world → ⊥) → Happened sc
+    IsBroken : (AllRun c s t.world → BothRun c s sc.world → ⊥) → messages sc.world ≡ messages t.world → Fewer sc.world → Happened sc
 
   abbrev w : World
   w = ev.counted t.world
+
+  as_before : (v : World) → node_of v s ≡ node_of t.world s → Fewer v
+  as_before v e node f y q = (node, sym e ∙ f, q)
 
   -- an event that leaves both, and the messages
   alike : (sc : WorldTurn) → sc.world.clients ≡ t.world.clients → sc.world.servers ≡ t.world.servers → messages sc.world ≡ messages t.world →
@@ -249,7 +259,7 @@ module _ (past : List Step) (t : Traced) (d : Dated past t) (c : ClientId) (s : 
 
       stopped : site.node.running ≡ false → (x.0 ≡ c.0) ⊎ (x.0 ≢ c.0) → Happened (ev.quiet v)
       stopped r (inl q) = IsBroken (λ p z. clash site.node.running (ap (λ (n : cl.ClientNode). n.running) same ∙ p.clients old
-          (ap (numbered t.world.clients) (sym q) ∙ at)) r)
+          (ap (numbered t.world.clients) (sym q) ∙ at)) r) (ap (λ (n : world.Net). map message_in n.messages) net) (as_before v (ap (λ z. numbered z s.0) ss))
         where
           clash : (b : Bool) → b ≡ true → b ≡ false → ⊥
           clash true e f = cc
@@ -334,7 +344,7 @@ module _ (past : List Step) (t : Traced) (d : Dated past t) (c : ClientId) (s : 
           ServerSteps old i at brings deaf (ap (λ z. numbered z s.0) (leaves s i old at).servers ∙ numbered_own t.world.servers s.0 next old at)
           (sites2 s i old at) (clocks2 s i old at) (ap length (leaves s i old at).clients)
           (new2 s i old at) (from_server s i old at r) (λ m h. (server_said s (took s i old at).out (left s i old at)).told m h)
-      go false r = IsBroken (λ p z. clash old.running (p.servers old at) r)
+      go false r = IsBroken (λ p z. clash old.running (p.servers old at) r) refl (as_before w refl)
         where
           clash : (b : Bool) → b ≡ true → b ≡ false → ⊥
           clash true e f = cc
@@ -360,7 +370,7 @@ module _ (past : List Step) (t : Traced) (d : Dated past t) (c : ClientId) (s : 
   at_client x i k brings deaf deaf_server = go (site_of w x) refl
     where
       none : site_of t.world x ≡ None → (x.0 ≡ c.0) ⊎ (x.0 ≢ c.0) → Happened (ev.quiet w)
-      none r (inl q) = IsBroken (λ p z. no z.site (sym r ∙ ap (numbered t.world.clients) q ∙ z.there))
+      none r (inl q) = IsBroken (λ p z. no z.site (sym r ∙ ap (numbered t.world.clients) q ∙ z.there)) refl (as_before w refl)
         where
           no : (y : WorldClient) → ◌≡◌ {A = Option WorldClient} None (Some y) → ⊥
           no y f = cc
@@ -376,7 +386,7 @@ module _ (past : List Step) (t : Traced) (d : Dated past t) (c : ClientId) (s : 
   at_server x i brings deaf deaf_server = go (node_of w x) refl
     where
       none : node_of t.world x ≡ None → (x.0 ≡ s.0) ⊎ (x.0 ≢ s.0) → Happened (ev.quiet w)
-      none r (inl q) = IsBroken (λ p z. no z.node (sym r ∙ ap (numbered t.world.servers) q ∙ z.is))
+      none r (inl q) = IsBroken (λ p z. no z.node (sym r ∙ ap (numbered t.world.servers) q ∙ z.is)) refl (as_before w refl)
         where
           no : (y : ServerNode) → ◌≡◌ {A = Option ServerNode} None (Some y) → ⊥
           no y f = cc
@@ -399,9 +409,9 @@ module _ (past : List Step) (t : Traced) (d : Dated past t) (c : ClientId) (s : 
   -- a node that stops or starts, and which is one of these, is broken
   placed : (sc : WorldTurn) → ((n : ℕ) → e ≡ events.Deliver n → ⊥) → (AllRun c s t.world → BothRun c s sc.world → ⊥) ⊎
       ((site_of sc.world c ≡ site_of t.world c) × (node_of sc.world s ≡ node_of t.world s)) →
-      messages sc.world ≡ messages t.world → client_clock c t.world ≤ client_clock c sc.world → Happened sc
-  placed sc f (inl broken) ms l = IsBroken broken
-  placed sc f (inr (same, nodes)) ms l = NeitherSteps same nodes l (silent f c.0) (silent f (server_node s)) (λ m h. inl (subst (Has m) ms h))
+      messages sc.world ≡ messages t.world → client_clock c t.world ≤ client_clock c sc.world → Fewer sc.world → Happened sc
+  placed sc f (inl broken) ms l fewer = IsBroken broken ms fewer
+  placed sc f (inr (same, nodes)) ms l fewer = NeitherSteps same nodes l (silent f c.0) (silent f (server_node s)) (λ m h. inl (subst (Has m) ms h))
 
   client_placed : (v : World) (x : ClientId) (old new : WorldClient) → site_of t.world x ≡ Some old → v.clients ≡ with_numbered x.0 new t.world.clients →
       v.servers ≡ t.world.servers →
@@ -441,6 +451,36 @@ module _ (past : List Step) (t : Traced) (d : Dated past t) (c : ClientId) (s : 
                 (numbered_below t.world.servers x.0 old at).0 (λ q. ne (sym q)),
           )
 
+  -- a server that stops or starts has no session
+  server_fewer : (v : World) (x : ServerId) (old new : ServerNode) → node_of t.world x ≡ Some old → v.servers ≡ with_numbered x.0 new t.world.servers →
+      session_of new.state.sessions c ≡ None → Fewer v
+  server_fewer v x old new at ss none node f y q = go (same_or_not x.0 s.0)
+    where
+      no : ◌≡◌ {A = Option Session} None (Some y) → ⊥
+      no e = cc
+
+      found : numbered (with_numbered x.0 new t.world.servers) s.0 ≡ Some node
+      found = ap (λ zs. numbered zs s.0) (sym ss) ∙ f
+
+      go : (x.0 ≡ s.0) ⊎ (x.0 ≢ s.0) → (old : ServerNode) × (node_of t.world s ≡ Some old) × (session_of old.state.sessions c ≡ Some y)
+      go (inl e) =
+          let same : new ≡ node = some_is (sym (numbered_own t.world.servers x.0 new old at) ∙ ap
+          (λ n. numbered (with_numbered x.0 new t.world.servers) n) e ∙ found) in
+          absurd (no (sym none ∙ ap (λ (z : ServerNode). session_of z.state.sessions c) same ∙ q))
+      go (inr ne) = (
+        node,
+        sym (numbered_other t.world.servers x.0 s.0 new (numbered_below t.world.servers x.0 old at).0 (λ e. ne (sym e))) ∙ found,
+        q,
+      )
+
+  crash_empty : (node : ServerNode) → session_of (server.crash_node node).state.sessions c ≡ None
+  unfolding server.crash
+  crash_empty node = refl
+
+  start_empty : (node : ServerNode) (now : Stamp) → session_of (server.start_node node now).state.sessions c ≡ None
+  unfolding server.start server.begin_epoch
+  start_empty node now = refl
+
   no_running : false ≡ true → ⊥
   no_running f = cc
 
@@ -453,7 +493,7 @@ module _ (past : List Step) (t : Traced) (d : Dated past t) (c : ClientId) (s : 
       go None r = nothing (ev.quiet w) f refl refl refl (omega arith)
       go (Some site) r =
           placed (ev.crashes_client w x (Some site)) f (client_placed (ev.crashes_client w x (Some site)).world x site (ev.stopped_site site) r refl refl
-          (λ a b. no_running b)) refl (omega arith)
+          (λ a b. no_running b)) refl (omega arith) (as_before (ev.crashes_client w x (Some site)).world refl)
 
   starts_client : (x : ClientId) → ((n : ℕ) → e ≡ events.Deliver n → ⊥) → world.is_running t.world (nodes.Client x) ≡ false →
       Happened (ev.quiet (ev.starts_client w x (site_of w x)))
@@ -465,7 +505,7 @@ module _ (past : List Step) (t : Traced) (d : Dated past t) (c : ClientId) (s : 
       go (Some site) r =
           placed (ev.quiet (ev.starts_client w x (Some site))) f
           (client_placed (ev.starts_client w x (Some site)) x site (ev.started_site site) r refl refl
-          (λ a b. no_running (sym off ∙ ap world.site_runs r ∙ a))) refl (omega arith)
+          (λ a b. no_running (sym off ∙ ap world.site_runs r ∙ a))) refl (omega arith) (as_before (ev.starts_client w x (Some site)) refl)
 
   crashes_server : (x : ServerId) → ((n : ℕ) → e ≡ events.Deliver n → ⊥) → Happened (ev.quiet (ev.crashes_server w x (node_of w x)))
   unfolding ev.crashes_server
@@ -476,6 +516,7 @@ module _ (past : List Step) (t : Traced) (d : Dated past t) (c : ClientId) (s : 
       go (Some node) r =
           placed (ev.quiet (ev.crashes_server w x (Some node))) f (server_placed (ev.crashes_server w x (Some node)) x node (server.crash_node node) r refl
           refl (λ a b. no_running b)) refl (omega arith)
+          (server_fewer (ev.crashes_server w x (Some node)) x node (server.crash_node node) r refl (crash_empty node))
 
   starts_server : (x : ServerId) → ((n : ℕ) → e ≡ events.Deliver n → ⊥) → world.is_running t.world (nodes.Server x) ≡ false →
       Happened (ev.quiet (ev.starts_server w x (node_of w x)))
@@ -488,6 +529,8 @@ module _ (past : List Step) (t : Traced) (d : Dated past t) (c : ClientId) (s : 
           placed (ev.quiet (ev.starts_server w x (Some node))) f
           (server_placed (ev.starts_server w x (Some node)) x node (server.start_node node (clock_of w (nodes.Server x))) r refl refl
           (λ a b. no_running (sym off ∙ ap world.node_runs r ∙ a))) refl (omega arith)
+          (server_fewer (ev.starts_server w x (Some node)) x node (server.start_node node (clock_of w (nodes.Server x))) r refl
+          (start_empty node (clock_of w (nodes.Server x))))
 
   -- a message is delivered
   delivers : (n : ℕ) → e ≡ events.Deliver n → Happened (ev.delivers w (world.message_of w n))
@@ -525,7 +568,7 @@ module _ (past : List Step) (t : Traced) (d : Dated past t) (c : ClientId) (s : 
           deaf_server ne = elsewhere x (server_node s) (nodes.Server y) q r (server_not y ne)
 
           none : node_of t.world y ≡ None → (y.0 ≡ s.0) ⊎ (y.0 ≢ s.0) → Happened (ev.quiet w)
-          none f (inl g) = IsBroken (λ p z. no z.node (sym f ∙ ap (numbered t.world.servers) g ∙ z.is))
+          none f (inl g) = IsBroken (λ p z. no z.node (sym f ∙ ap (numbered t.world.servers) g ∙ z.is)) refl (as_before w refl)
             where
               no : (u : ServerNode) → ◌≡◌ {A = Option ServerNode} None (Some u) → ⊥
               no u h = cc

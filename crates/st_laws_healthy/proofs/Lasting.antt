@@ -2,7 +2,7 @@
 -- bound.
 use Rattle.st_lemmas.proofs.Words
 use Words.{◌≡◌, ℕ, ◌+◌, ◌*◌, ◌≤◌, ◌<◌, ◌⊎◌, Bool, true, false, List, [], ◌∷◌, ◌++◌, Option, Some, None, Ok, refl, sym, ap, ◌∙◌, subst, inl, inr, arith, is_some}
-use Words.{length, map, unwrap_or, eqb-true, lt-ltb, Config, ClientId, ServerId, Stamp, Event, Message, ClientInput, Request, ServerInput, Session}
+use Words.{append_assoc, length, map, nat_lt, unwrap_or, eqb-true, lt-leb, lt-ltb, ltb-false, ltb-true, Config, ClientId, ServerId, Stamp, Event, Message, ClientInput, Request, ServerInput, Session}
 use Words.nodes
 use Words.outputs
 use Words.seen
@@ -12,6 +12,7 @@ use Words.Client as cl
 use Words.ClientState.{Association, ClientSession, ClientState}
 use Words.Events.{WorldTurn, world_step}
 use Words.Extents.{numbers}
+use Words.Grace.{Grace, is_on}
 use Words.History.{Traced, traced, traced_after}
 use Words.Keys.{server_node}
 use Words.Safety.{IsHead, Step, is_event, step}
@@ -25,12 +26,12 @@ use Words.Numbers.{numbered_below}
 use Words.Tables.{has_map, has_map_in}
 use Words.Truth.{not_both}
 use Rattle.std.proofs.Math.Nat.{le-max_left}
-use Rattle.st_lemmas.proofs.Steps.{step_happens, throughout_under}
+use Rattle.st_lemmas.proofs.Steps.{step_happens}
 use Rattle.st_laws_refine.specs.Server.Pair.{terms_of}
 use Rattle.st_laws_refine.specs.Server.View.{Sound}
 use Rattle.st_laws_refine.proofs.Server.Delivery.{sound_of}
 use Rattle.st_laws_pages.proofs.Lives.Fresh.{fresh_is}
-use Rattle.st_laws_steps.specs.Client.Losses.{Fit}
+use Rattle.st_laws_steps.specs.Client.Losses.{Fit, is_ended}
 use Rattle.st_laws_steps.specs.Lives.Lives.{Once, server_number}
 use Rattle.st_laws_leases.specs.Dates.Dates.{Dated, is_from_client, messages}
 use Rattle.st_laws_leases.specs.Sides.World.{ServerStands}
@@ -46,15 +47,24 @@ use Rattle.st_laws_waits.proofs.Standing.{Basic, basic2, change, step_grace, nod
 use Rattle.st_laws_lasting.specs.Lasting.{client_clock, client_last_tick}
 use Rattle.st_laws_lasting.proofs.Young as young_ones
 use Rattle.st_laws_lasting.proofs.Young.{Ok_in, WasYoung, stand2}
-use Rattle.st_laws_healthy.specs.Healthy.{ComeInTime, InHealthyRuns, IsHealthy, LeasesLast, longest}
-use Rattle.st_laws_healthy.proofs.ClientStanding.{IsNew, TalksOn, client_talks}
+use Rattle.st_laws_healthy.specs.Healthy.{ComeInTime, IsHealthy, LeasesLast, longest}
+use Rattle.st_laws_healthy.proofs.ClientStanding.{IsNew, TalksOn, any_talks, client_talks}
 use Rattle.st_laws_healthy.proofs.Happening.{AllRun, BothRun, Brings, BringsServer, ClientSteps, Happened, IsBroken, NeitherSteps, ServerSteps, happened}
 use Rattle.st_laws_healthy.proofs.Numbers.{keeps_number, tells_number}
 use Rattle.st_laws_healthy.proofs.Served.{IsBefore}
 use Rattle.st_laws_healthy.proofs.ServerStanding.{IsSaid, TalksNext, serves_on}
 use Rattle.st_laws_healthy.proofs.Stepping.{Told}
-use Rattle.st_laws_healthy.proofs.Talking.{HasSession, IsAsking, IsCounting, IsSilent, Phase, Requested, Talks, talks_on}
+use Rattle.st_laws_healthy.proofs.Talking.{HasSession, IsAsking, IsCounting, Phase, Requested, Talks, talks_on}
 use Rattle.st_laws_healthy.proofs.Trips.{Begun, InTime, in_time, more_began, none_began, none_flies, trip_ends}
+
+-- a grace that is over stays over
+still_off : (v : Option Grace) (a b : Stamp) → a.0 ≤ b.0 → is_on v a ≡ false → is_on v b ≡ false
+still_off None a b l e = refl
+still_off (Some y) a b l e = go (nat_lt b.0 (y.start.0 + y.wait)) refl
+  where
+    go : (v : Bool) → nat_lt b.0 (y.start.0 + y.wait) ≡ v → v ≡ false
+    go false q = refl
+    go true q = let z = ltb-true b.0 (y.start.0 + y.wait) q in let w = ltb-false a.0 (y.start.0 + y.wait) e in absurd (omega (arith, z, w, l))
 
 -- associations with one server are one
 once_same : (al : List Association) → Once (map server_number al) → (a b : Association) → Has a al → Has b al → a.server.0 ≡ b.server.0 → a ≡ b
@@ -65,16 +75,16 @@ once_same (x ∷ xs) o a b (inr j) (inl q) e = absurd (o.first (server_number a)
 once_same (x ∷ xs) o a b (inr i) (inr j) e = once_same xs o.rest a b i j e
 
 module _ (k : Config) (count : ℕ) (c : ClientId) (s : ServerId) (gap d : ℕ) (read : World → ℕ) (delay : ℕ)
-    (same_read : (v w : World) → v.clocks ≡ w.clocks → length v.clients ≡ length w.clients → read v ≡ read w) (fits : longest k gap d ≤ k.lease) where
-  -- what holds after every event, except for what is known about the client's associations
+    (same_read : (v w : World) → v.clocks ≡ w.clocks → length v.clients ≡ length w.clients → read v ≡ read w) (earlier : List Step) where
+  -- what holds after every event, except for what is known about the client's associations; the client has been healthy since some earlier steps
   pub record Base (past : List Step) (t : Traced) : Type 0 where
-    pub cuts : CutsHold past t
-    pub dated : Dated past t
-    pub basic : Basic k count s past t
+    pub cuts : CutsHold (earlier ++ past) t
+    pub dated : Dated (earlier ++ past) t
+    pub basic : Basic k count s (earlier ++ past) t
     pub young : Ok_in k c (client_last_tick c 0 past) t.world
     pub runs : AllRun c s t.world
     pub free : (node : ServerNode) → node_of t.world s ≡ Some node → may_ack node.state.authority c ≡ true
-    pub off : (node : ServerNode) → node_of t.world s ≡ Some node → node.state.grace ≡ None
+    pub off : (node : ServerNode) → node_of t.world s ≡ Some node → is_on node.state.grace (clock_of t.world (nodes.Server s)) ≡ false
     pub ticks : (site : WorldClient) (a : Association) (z : ClientSession) → site_of t.world c ≡ Some site → Has a site.node.state.associations →
         a.session ≡ Some z →
         client_clock c t.world ≤ client_last_tick c 0 past + gap
@@ -89,6 +99,50 @@ module _ (k : Config) (count : ℕ) (c : ClientId) (s : ServerId) (gap d : ℕ) 
       (site : WorldClient) (node : ServerNode) → site_of w c ≡ Some site → node_of w s ≡ Some node → (a : Association) → Has a site.node.state.associations →
       a.server ≡ s → (since : ℕ) × Talks k c s gap d read delay since past (messages w) node.state (client_clock c w) a
 
+  -- a lease without an outstanding request is young
+  is_young : (last now : ℕ) → now ≤ last + gap → (z : ClientSession) → WasYoung k last (Some z) → z.lease.condemned ≡ false → z.requests.asked ≡ None →
+      now < z.lease.date.0 + k.renew + gap
+  is_young last now l z (inl (inl b)) n q = absurd (not_both z.lease.condemned b n)
+  is_young last now l z (inl (inr b)) n q = absurd (no (sym (ap is_some q) ∙ b))
+    where
+      no : ◌≡◌ {A = Bool} false true → ⊥
+      no w = cc
+  is_young last now l z (inr y) n q = omega (arith, y, l)
+
+  -- The age of a lease.
+  module _ (past : List Step) (t : Traced) (o : Base past t) (talks : AllTalk past t.world) (node : ServerNode) (is : node_of t.world s ≡ Some node)
+      (site : WorldClient) (a : Association) (z : ClientSession) (f : site_of t.world c ≡ Some site) (j : Has a site.node.state.associations)
+      (at_a : a.server ≡ s) (q : a.session ≡ Some z) where
+    abbrev present : ℕ
+    present = client_clock c t.world
+
+    abbrev since : ℕ
+    since = (talks site node f is a j at_a).0
+
+    known : Talks k c s gap d read delay since past (messages t.world) node.state present a
+    known = (talks site node f is a j at_a).1
+
+    p : HasSession k c s gap d read delay since past (messages t.world) node.state.sessions a.life.0 node.state.stable.epoch.0 known.last z
+    p = subst (Phase k c s gap d read delay since past (messages t.world) node.state.sessions a.life.0 node.state.stable.epoch.0 known.last) q known.phase
+
+    pub aged : (present < z.lease.date.0 + longest k gap d) × (z.lease.condemned ≡ false)
+    aged = (by z.requests.asked refl p.requests, p.sound)
+      where
+        by : (r : Option Request) → z.requests.asked ≡ r →
+            Requested k c s gap d read delay since past (messages t.world) a.life.0 node.state.stable.epoch.0 known.last z.lease.date.0 z.requests.next r →
+            present < z.lease.date.0 + longest k gap d
+        by None e r =
+            let y = is_young (client_last_tick c 0 past) present (o.ticks site a z f j q) z
+            (subst (WasYoung k (client_last_tick c 0 past)) q ((o.young.stands site f).young (o.runs.clients site f) a j)) p.sound e in
+            let l = le-max_left (k.renew + gap) (2 * d + 1) in
+            omega (arith, y, l)
+        by (Some v) e r =
+            let y = r.first.young in
+            let l = trip_ends (client_clock c) c s d past (messages t.world) present
+            (IsAsking k c s gap d a.life.0 node.state.stable.epoch.0 v.number v.body)
+            (IsCounting k c s gap d a.life.0 node.state.stable.epoch.0 v.number v.body) r.first.from o.in_time r.first.trip in
+            omega (arith, y, l)
+
   module _ (past : List Step) (t : Traced) (e : Event) (sc : WorldTurn) (o : Base past t) (ok : is_event count e ≡ true) (h : world_step t.world e ≡ Ok sc)
       (g : IsHealthy c s gap d past (step t e sc)) where
     abbrev x : Step
@@ -100,11 +154,18 @@ module _ (k : Config) (count : ℕ) (c : ClientId) (s : ServerId) (gap d : ℕ) 
     abbrev M2 : List Message
     M2 = messages sc.world
 
-    pub cuts2 : CutsHold past2 (traced_after e t sc)
-    cuts2 = (cuts_law.one past t e sc o.cuts h).1
+    -- the earlier steps too
+    abbrev whole : List Step
+    whole = earlier ++ past
 
-    pub dated2 : Dated past2 (traced_after e t sc)
-    dated2 = (dating_law.one past t e sc o.dated h).1
+    same_whole : whole ++ x ∷ [] ≡ earlier ++ past2
+    same_whole = append_assoc earlier past (x ∷ [])
+
+    pub cuts2 : CutsHold (earlier ++ past2) (traced_after e t sc)
+    cuts2 = subst (λ p. CutsHold p (traced_after e t sc)) same_whole (cuts_law.one whole t e sc o.cuts h).1
+
+    pub dated2 : Dated (earlier ++ past2) (traced_after e t sc)
+    dated2 = subst (λ p. Dated p (traced_after e t sc)) same_whole (dating_law.one whole t e sc o.dated h).1
 
     pub place : (1 ≤ c.0) × (c.0 ≤ 16)
     place = let z = numbered_below sc.world.clients c.0 g.site g.there in let y = z.1 in let w = dated2.few in (z.0, omega (arith, y, w))
@@ -112,12 +173,12 @@ module _ (k : Config) (count : ℕ) (c : ClientId) (s : ServerId) (gap d : ℕ) 
     pub both : BothRun c s sc.world
     both = record { site = g.site; there = g.there; runs = g.runs; node = g.node; is = g.is; up = g.up }
 
-    pub it : Happened past t o.dated c s place.1 e sc
-    it = happened past t o.dated c s place.1 e sc h
+    pub it : Happened whole t o.dated c s place.1 e sc
+    it = happened whole t o.dated c s place.1 e sc h
 
     -- what became of the messages
     next : dating_steps.Next t e sc
-    next = let z = step_happens t.world e sc h in subst (λ (y : WorldTurn). dating_steps.Next t e y) (sym z.1) (dating_steps.happens past t o.dated e z.0)
+    next = let z = step_happens t.world e sc h in subst (λ (y : WorldTurn). dating_steps.Next t e y) (sym z.1) (dating_steps.happens whole t o.dated e z.0)
 
     pub stays_sent : (m : Message) → Has m (messages t.world) → Has m M2
     stays_sent m i = next.old m i
@@ -136,51 +197,57 @@ module _ (k : Config) (count : ℕ) (c : ClientId) (s : ServerId) (gap d : ℕ) 
         so = sound_of 1 (terms_of k).wait (clock_of t.world (nodes.Server s)) node.running node.state (z.ghosts 1) (o.runs.servers node at)
             (z.both.stands.served 1).stands
 
-    -- what a step of the server leaves: its epoch, and no grace
+    -- what a step of the server leaves: its epoch and its grace, by a later clock
     pub record Left (node : ServerNode) : Type 0 where
-      pub grace : node.state.grace ≡ None
+      pub old : ServerNode
+      pub was : node_of t.world s ≡ Some old
+      pub grace : node.state.grace ≡ old.state.grace
+      pub clock : (clock_of t.world (nodes.Server s)).0 ≤ (clock_of sc.world (nodes.Server s)).0
       pub epoch : (old : ServerNode) → node_of t.world s ≡ Some old → node.state.stable.epoch ≡ old.state.stable.epoch
 
     pub left : (node : ServerNode) → node_of sc.world s ≡ Some node → Left node
-    left node f = go (change k count s past t e sc o.basic ok h)
+    left node f = go (change k count s whole t e sc o.basic ok h)
       where
         up : node.running ≡ true
         up = ap (λ (n : ServerNode). n.running) (some_is (sym f ∙ g.is)) ∙ g.up
 
         took : (old : ServerNode) (i : ServerInput) → node_of t.world s ≡ Some old → Rattle.st_laws_refine.specs.Server.Edits.WishInput i →
-            node_of sc.world s ≡ Some (stepped old (clock_of t.world (nodes.Server s)) i) → Left node
-        took old i at wish q =
+            node_of sc.world s ≡ Some (stepped old (clock_of t.world (nodes.Server s)) i) →
+            clock_of sc.world (nodes.Server s) ≡ clock_of t.world (nodes.Server s) → Left node
+        took old i at wish q clock =
             subst Left (some_is (sym q ∙ f))
             (record {
-              grace = (step_grace old.state (clock_of t.world (nodes.Server s)) i wish).grace ∙ o.off old at;
+              old = old;
+              was = at;
+              grace = (step_grace old.state (clock_of t.world (nodes.Server s)) i wish).grace;
+              clock = let z = ap (λ (y : Stamp). y.0) clock in omega (arith, z);
               epoch = λ y z. (step_same old.state (clock_of t.world (nodes.Server s)) i wish).epoch ∙ ap (λ (n : ServerNode). n.state.stable.epoch)
                   (some_is (sym at ∙ z));
             })
 
         go : Done s.0 t.world sc.world e → Left node
-        go (Ticks old at runs is q clock) = took old Rattle.st_rules.specs.declared.input.ServerInput.TheVariants.Tick at tt q
+        go (Ticks old at runs is q clock) = took old Rattle.st_rules.specs.declared.input.ServerInput.TheVariants.Tick at tt q clock
         go (Receives old n m at runs is em to wish q clock) = took old (Rattle.st_rules.specs.declared.input.ServerInput.TheVariants.Control m.message) at
-            wish q
+            wish q clock
         go (Waits same le q deaf) = record {
-          grace = o.off node (sym same ∙ f);
-          epoch = λ y z. ap (λ (n : ServerNode). n.state.stable.epoch)
-              (some_is (sym f ∙ same ∙ z));
+          old = node;
+          was = sym same ∙ f;
+          grace = refl;
+          clock = le;
+          epoch = λ y z. ap (λ (n : ServerNode). n.state.stable.epoch) (some_is (sym f ∙ same ∙ z));
         }
         go (Stops old at q) = absurd (not_both node.running up (sym (ap (λ (n : ServerNode). n.running) (some_is (sym q ∙ f)))))
         go (Starts old at off is q clock) = absurd (not_both old.running (o.runs.servers old at) off)
 
+    -- so the server stays out of grace
+    off2 : (node : ServerNode) → node_of sc.world s ≡ Some node → is_on node.state.grace (clock_of sc.world (nodes.Server s)) ≡ false
+    off2 node f =
+        let l = left node f in
+        subst (λ (v : Option Grace). is_on v (clock_of sc.world (nodes.Server s)) ≡ false) (sym l.grace)
+        (still_off l.old.state.grace (clock_of t.world (nodes.Server s)) (clock_of sc.world (nodes.Server s)) l.clock (o.off l.old l.was))
+
     young2 : Ok_in k c (client_last_tick c 0 past2) sc.world
     young2 = stand2 k c gap past t e sc o.young h
-
-    -- a lease without an outstanding request is young
-    is_young : (last now : ℕ) → now ≤ last + gap → (z : ClientSession) → WasYoung k last (Some z) → z.lease.condemned ≡ false → z.requests.asked ≡ None →
-        now < z.lease.date.0 + k.renew + gap
-    is_young last now l z (inl (inl b)) n q = absurd (not_both z.lease.condemned b n)
-    is_young last now l z (inl (inr b)) n q = absurd (no (sym (ap is_some q) ∙ b))
-      where
-        no : ◌≡◌ {A = Bool} false true → ⊥
-        no w = cc
-    is_young last now l z (inr y) n q = omega (arith, y, l)
 
     abbrev before : ℕ
     before = client_clock c t.world
@@ -256,25 +323,57 @@ module _ (k : Config) (count : ℕ) (c : ClientId) (s : ServerId) (gap d : ℕ) 
           by (inl y) = inl y
           by (inr q) = say q (next.new m j)
 
-      pub client_talks2 : (node : ServerNode)
-          (talks : (a : Association) → Has a st.associations → a.server ≡ s →
-          (since : ℕ) × Talks k c s gap d read delay since past (messages t.world) node.state now.0 a)
-          (b : Association) → Has b (cl.client_step st now i).state.associations → b.server ≡ s →
-          TalksOn k c s gap d read delay past past2 (messages t.world) M2 node.state now st i fit talks b
-      client_talks2 node talks b j at_b =
-          client_talks k c s gap d read delay fits place.1 past x t.world M2 stays_sent keeps now (clock ∙ sym is_now)
-          (subst (InTime (client_clock c) c s d past (messages t.world)) (sym is_now) o.in_time)
-          (subst (Begun (client_clock c) c s d past) (sym is_now) o.begun) (read sc.world) refl st i new_one fit config brings deaf_server node.state told
-          talks
-          (λ a l z q n r. is_young (client_last_tick c 0 past) now.0
+      young_now : (a : Association) → Has a st.associations → (z : ClientSession) → a.session ≡ Some z → z.lease.condemned ≡ false →
+          z.requests.asked ≡ None → now.0 < z.lease.date.0 + k.renew + gap
+      young_now a l z q n r =
+          is_young (client_last_tick c 0 past) now.0
           (let y = of_old (λ n. (a : Association) → Has a n.state.associations → a.session ≡ Some z → before ≤ client_last_tick c 0 past + gap)
           (λ a l q. o.ticks old a z at l q) a l q in omega (arith, y, is_now)) z
           (subst (WasYoung k (client_last_tick c 0 past)) q (of_old (λ n. (a : Association) → Has a n.state.associations →
-          WasYoung k (client_last_tick c 0 past) a.session) ((o.young.stands old at).young running) a l)) n r)
-          (of_old (λ n. (a : Association) → Has a n.state.associations → Numbers (λ m. Has m (messages t.world)) c a.server a.life.0 (view a.session))
-          (λ a l. ((o.cuts.clients c old at).all running a l).numbers))
-          (λ a l. ((cuts2.clients c _ there).all (ap (λ (n : cl.ClientNode). n.running) same ∙ running) a l).numbers)
-          (λ a y l r q. once_same (cl.client_step st now i).state.associations (cuts2.fates.lives.lives.sites c _ there).once a y l r q) b j at_b
+          WasYoung k (client_last_tick c 0 past) a.session) ((o.young.stands old at).young running) a l)) n r
+
+      numbers_now : (a : Association) → Has a st.associations → Numbers (λ m. Has m (messages t.world)) c a.server a.life.0 (view a.session)
+      numbers_now = of_old (λ n. (a : Association) → Has a n.state.associations → Numbers (λ m. Has m (messages t.world)) c a.server a.life.0 (view a.session))
+          (λ a l. ((o.cuts.clients c old at).all running a l).numbers)
+
+      numbers_then : (b : Association) → Has b (cl.client_step st now i).state.associations → Numbers (λ m. Has m M2) c b.server b.life.0 (view b.session)
+      numbers_then a l = ((cuts2.clients c _ there).all (ap (λ (n : cl.ClientNode). n.running) same ∙ running) a l).numbers
+
+      one_each : (a b : Association) → Has a (cl.client_step st now i).state.associations → Has b (cl.client_step st now i).state.associations →
+          a.server.0 ≡ b.server.0 → a ≡ b
+      one_each a y l r q = once_same (cl.client_step st now i).state.associations (cuts2.fates.lives.lives.sites c _ there).once a y l r q
+
+      module _ (node : ServerNode) (talks : (a : Association) → Has a st.associations → a.server ≡ s →
+          (since : ℕ) × Talks k c s gap d read delay since past (messages t.world) node.state now.0 a) (b : Association)
+          (j : Has b (cl.client_step st now i).state.associations) (at_b : b.server ≡ s) where
+        -- where the leases with the server last
+        pub client_talks2 : ((a : Association) → Has a st.associations → a.server ≡ s → is_ended st.config now a.session ≡ false) →
+            TalksOn k c s gap d read delay past past2 (messages t.world) M2 node.state now st i fit talks b
+        client_talks2 ongoing =
+            client_talks k c s gap d read delay place.1 past x t.world M2 stays_sent keeps now (clock ∙ sym is_now)
+            (subst (InTime (client_clock c) c s d past (messages t.world)) (sym is_now) o.in_time)
+            (subst (Begun (client_clock c) c s d past) (sym is_now) o.begun) (read sc.world) refl st i new_one fit config brings deaf_server node.state told
+            talks young_now numbers_now numbers_then one_each ongoing b j at_b
+
+        -- whether they last or not
+        any_talks2 : (since : ℕ) × Talks k c s gap d read delay since past2 M2 node.state now.0 b
+        any_talks2 =
+            any_talks k c s gap d read delay place.1 past x t.world M2 stays_sent keeps now (clock ∙ sym is_now)
+            (subst (InTime (client_clock c) c s d past (messages t.world)) (sym is_now) o.in_time)
+            (subst (Begun (client_clock c) c s d past) (sym is_now) o.begun) (read sc.world) refl st i new_one fit config brings deaf_server node.state told
+            talks young_now numbers_now numbers_then one_each b j at_b
+
+      -- where the bound is at most the age at which leases are over, none is over
+      pub open_leases : longest k gap d ≤ k.lease → AllTalk past t.world → (node : ServerNode) → node_of t.world s ≡ Some node →
+          (a : Association) → Has a st.associations → a.server ≡ s → is_ended st.config now a.session ≡ false
+      open_leases fits talks node is a j at_a = subst (λ kb. is_ended kb now a.session ≡ false) (sym config) (by a.session refl)
+        where
+          by : (v : Option ClientSession) → a.session ≡ v → is_ended k now v ≡ false
+          by None q = refl
+          by (Some z) q =
+              lt-leb (z.lease.date.0 + k.lease) now.0
+              (let y = (aged past t o talks node is old a z at (subst (λ (n : cl.ClientNode). Has a n.state.associations) same j) at_a q).0 in
+              omega (arith, y, fits, is_now))
 
     -- A step of the server.
     module _ (old : ServerNode) (i : ServerInput) (at : node_of t.world s ≡ Some old) (brings : BringsServer t.world e (server_node s) i)
@@ -322,17 +421,16 @@ module _ (k : Config) (count : ℕ) (c : ClientId) (s : ServerId) (gap d : ℕ) 
           ((o.cuts.clients c site f).all (o.runs.clients site f) a j).numbers))
 
     -- what is known after the event
-    pub talks2 : AllTalk past t.world → Happened past t o.dated c s place.1 e sc → AllTalk past2 sc.world
+    pub talks2 : AllTalk past t.world → Happened whole t o.dated c s place.1 e sc → AllTalk past2 sc.world
     talks2 talks (ClientSteps site0 old i now is_now same at brings deaf_server there nodes_same clocks many new from said) site node f q a j at_a =
-        let z = client_talks2 site0 old i now is_now same at brings deaf_server there nodes_same clocks many new from said node
+        let z = any_talks2 site0 old i now is_now same at brings deaf_server there nodes_same clocks many new from said node
         (λ b l at_b. subst (λ n. (since : ℕ) × Talks k c s gap d read delay since past (messages t.world) node.state n b) (sym is_now)
         (of_old site0 old i now is_now same at brings deaf_server there nodes_same clocks many new from said
         (λ n. (a : Association) → Has a n.state.associations → a.server ≡ s →
         (since : ℕ) × Talks k c s gap d read delay since past (messages t.world) node.state before a)
         (talks old node at (sym nodes_same ∙ q)) b l at_b)) a (subst (λ (y : WorldClient). Has a y.node.state.associations) (some_is (sym f ∙ there)) j) at_a in (
-          z.since,
-          subst (λ n. Talks k c s gap d read delay z.since past2 M2 node.state n a)
-              (is_now ∙ sym (ap (λ ts. (unwrap_or (numbered ts c.0) (stamp 0)).0) clocks)) z.known,
+          z.0,
+          subst (λ n. Talks k c s gap d read delay z.0 past2 M2 node.state n a) (is_now ∙ sym (ap (λ ts. (unwrap_or (numbered ts c.0) (stamp 0)).0) clocks)) z.1,
         )
     talks2 talks (ServerSteps old i at brings deaf there sites clocks many new from told) site node f q a j at_a =
         let y = talks site old (sym sites ∙ f) at a j at_a in (
@@ -343,15 +441,15 @@ module _ (k : Config) (count : ℕ) (c : ClientId) (s : ServerId) (gap d : ℕ) 
     talks2 talks (NeitherSteps same nodes_same later2 deaf deaf_server new) site node f q a j at_a =
         let y = talks site node (sym same ∙ f) (sym nodes_same ∙ q) a j at_a in
         (y.0, (talks_on k c s gap d past x t.world M2 stays_sent keeps read delay y.0 node.state before after later2 deaf_server deaf new a y.1).0)
-    talks2 talks (IsBroken b) site node f q a j at_a = absurd (b o.runs both)
+    talks2 talks (IsBroken b same fewer) site node f q a j at_a = absurd (b o.runs both)
 
-    pub goes_on : Happened past t o.dated c s place.1 e sc → before ≤ after
+    pub goes_on : Happened whole t o.dated c s place.1 e sc → before ≤ after
     goes_on (ClientSteps site old i now is_now same at brings deaf_server there nodes_same clocks many new from said) =
         let z : after ≡ before = ap (λ ts. (unwrap_or (numbered ts c.0) (stamp 0)).0) clocks in omega (arith, z)
     goes_on (ServerSteps old i at brings deaf there sites clocks many new from told) =
         let z : after ≡ before = ap (λ ts. (unwrap_or (numbered ts c.0) (stamp 0)).0) clocks in omega (arith, z)
     goes_on (NeitherSteps same nodes_same later2 deaf deaf_server new) = later2
-    goes_on (IsBroken b) = absurd (b o.runs both)
+    goes_on (IsBroken b same fewer) = absurd (b o.runs both)
 
     runs2 : AllRun c s sc.world
     runs2 = record {
@@ -364,11 +462,11 @@ module _ (k : Config) (count : ℕ) (c : ClientId) (s : ServerId) (gap d : ℕ) 
         record {
           cuts = cuts2;
           dated = dated2;
-          basic = basic2 k count s past t e sc o.basic ok h;
+          basic = subst (λ p. Basic k count s p (traced_after e t sc)) same_whole (basic2 k count s whole t e sc o.basic ok h);
           young = young2;
           runs = runs2;
           free = λ node f. subst (λ (y : ServerNode). may_ack y.state.authority c ≡ true) (some_is (sym g.is ∙ f)) g.free;
-          off = λ node f. (left node f).grace;
+          off = off2;
           ticks = λ site a z f j q. g.ticks;
           in_time = in_time (client_clock c) c s d past x M2 g.come;
           begun = more_began (client_clock c) c s d past x before o.begun (goes_on it);
@@ -377,38 +475,15 @@ module _ (k : Config) (count : ℕ) (c : ClientId) (s : ServerId) (gap d : ℕ) 
         }
 
     -- so the lease lasts
-    pub lasts : AllTalk past2 sc.world → LeasesLast k c s gap d past x
-    lasts talks site a z f j at_a q = (by z.requests.asked refl p.requests, p.sound)
-      where
-        since : ℕ
-        since = (talks site g.node f g.is a j at_a).0
-
-        t2 : Talks k c s gap d read delay since past2 M2 g.node.state after a
-        t2 = (talks site g.node f g.is a j at_a).1
-
-        p : HasSession k c s gap d read delay since past2 M2 g.node.state.sessions a.life.0 g.node.state.stable.epoch.0 t2.last z
-        p = subst (Phase k c s gap d read delay since past2 M2 g.node.state.sessions a.life.0 g.node.state.stable.epoch.0 t2.last) q t2.phase
-
-        by : (r : Rattle.std.specs.Prelude.Option Request) → z.requests.asked ≡ r →
-            Requested k c s gap d read delay since past2 M2 a.life.0 g.node.state.stable.epoch.0 t2.last z.lease.date.0 z.requests.next r →
-            after < z.lease.date.0 + longest k gap d
-        by None e r =
-            let y = is_young (client_last_tick c 0 past2) after g.ticks z
-            (subst (WasYoung k (client_last_tick c 0 past2)) q ((young2.stands site f).young (runs2.clients site f) a j)) p.sound e in
-            let l = le-max_left (k.renew + gap) (2 * d + 1) in
-            omega (arith, y, l)
-        by (Some v) e r =
-            let y = r.first.young in
-            let l = trip_ends (client_clock c) c s d past2 M2 after (IsAsking k c s gap d a.life.0 g.node.state.stable.epoch.0 v.number v.body)
-            (IsCounting k c s gap d a.life.0 g.node.state.stable.epoch.0 v.number v.body) r.first.from (in_time (client_clock c) c s d past x M2 g.come) r.first.trip in
-            omega (arith, y, l)
+    pub lasts : Base past2 (traced_after e t sc) → AllTalk past2 sc.world → LeasesLast k c s gap d (earlier ++ past) x
+    lasts o2 talks site a z f j at_a q = aged past2 (traced_after e t sc) o2 talks g.node g.is site a z f j at_a q
 
 -- The start of a run.
 no_timer : (k : Config) (servers disks blocks n : ℕ) (c : ClientId) → may_ack (node_at_start k servers disks blocks n).state.authority c ≡ true
 unfolding server.fresh_server
 no_timer k servers disks blocks n c = refl
 
-no_grace : (k : Config) (servers disks blocks n : ℕ) → (node_at_start k servers disks blocks n).state.grace ≡ None
+pub no_grace : (k : Config) (servers disks blocks n : ℕ) → (node_at_start k servers disks blocks n).state.grace ≡ None
 unfolding server.fresh_server
 no_grace k servers disks blocks n = refl
 
@@ -439,7 +514,7 @@ fresh_runs : (k : Config) (servers n : ℕ) → (fresh_site k servers n).node.ru
 fresh_runs k servers n = refl
 
 module _ (k : Config) (clients servers disks blocks form : ℕ) (c : ClientId) (s : ServerId) (gap d : ℕ) (read : World → ℕ) (delay : ℕ)
-    (same_read : (v w : World) → v.clocks ≡ w.clocks → length v.clients ≡ length w.clients → read v ≡ read w) (fits : longest k gap d ≤ k.lease)
+    (same_read : (v w : World) → v.clocks ≡ w.clocks → length v.clients ≡ length w.clients → read v ≡ read w)
     (head : IsHead k clients servers disks blocks form) where
   abbrev w : World
   w = fresh_world k clients servers disks blocks form
@@ -448,7 +523,7 @@ module _ (k : Config) (clients servers disks blocks form : ℕ) (c : ClientId) (
   fresh site a f j = fresh_association k servers c.0 a (subst (λ (y : WorldClient). Has a y.node.state.associations)
       (fresh_client k clients servers disks blocks form c site f) j)
 
-  pub starts : Base k (clients + servers) c s gap d read delay same_read fits [] (traced w)
+  pub starts : Base k (clients + servers) c s gap d read delay same_read [] [] (traced w)
   starts =
       record {
         cuts = cuts_law.fresh_holds k clients servers disks blocks form head;
@@ -463,8 +538,9 @@ module _ (k : Config) (clients servers disks blocks form : ℕ) (c : ClientId) (
         };
         free = λ node f. subst (λ (y : ServerNode). may_ack y.state.authority c ≡ true) (sym (node_is k clients servers disks blocks form s node f))
             (no_timer k servers disks blocks s.0 c);
-        off = λ node f. subst (λ (y : ServerNode). y.state.grace ≡ None) (sym (node_is k clients servers disks blocks form s node f))
-            (no_grace k servers disks blocks s.0);
+        off = λ node f. subst (λ (y : ServerNode). is_on y.state.grace (clock_of w (nodes.Server s)) ≡ false)
+            (sym (node_is k clients servers disks blocks form s node f))
+            (ap (λ (v : Option Grace). is_on v (clock_of w (nodes.Server s))) (no_grace k servers disks blocks s.0));
         ticks = λ site a z f j q. absurd (no_session z (sym (fresh site a f j).0 ∙ q));
         in_time = none_flies (client_clock c) c s d (messages w) (client_clock c w);
         begun = none_began (client_clock c) c s d (client_clock c w);
@@ -475,7 +551,7 @@ module _ (k : Config) (clients servers disks blocks form : ℕ) (c : ClientId) (
       no_session : (z : ClientSession) → ◌≡◌ {A = Option ClientSession} None (Some z) → ⊥
       no_session z e = cc
 
-  pub starts_talks : AllTalk k (clients + servers) c s gap d read delay same_read fits [] w
+  pub starts_talks : AllTalk k (clients + servers) c s gap d read delay same_read [] [] w
   starts_talks site node f q a j at_a = (
     0,
     record {
@@ -486,7 +562,7 @@ module _ (k : Config) (clients servers disks blocks form : ℕ) (c : ClientId) (
       asked = λ m v l r. absurd (no_messages k clients servers disks blocks form m v);
       greets = λ r m v l. absurd (no_messages k clients servers disks blocks form m v);
       phase = subst (Phase k c s gap d read delay 0 [] (messages w) node.state.sessions a.life.0 node.state.stable.epoch.0 0) (sym (fresh site a f j).0)
-          (IsSilent (λ m v l. no_messages k clients servers disks blocks form m v), refl);
+          (λ m v l. absurd (no_messages k clients servers disks blocks form m v), refl);
     },
   )
     where
@@ -494,26 +570,5 @@ module _ (k : Config) (clients servers disks blocks form : ℕ) (c : ClientId) (
       none y e = cc
 
 -- a client's clock is read at its place
-own_read : (c : ClientId) (v w : World) → v.clocks ≡ w.clocks → length v.clients ≡ length w.clients → client_clock c v ≡ client_clock c w
+pub own_read : (c : ClientId) (v w : World) → v.clocks ≡ w.clocks → length v.clients ≡ length w.clients → client_clock c v ≡ client_clock c w
 own_read c v w e f = ap (λ ts. (unwrap_or (numbered ts c.0) (stamp 0)).0) e
-
--- In every run in which a client is healthy.
-pub leases_law : InHealthyRuns LeasesLast
-leases_law k clients servers disks blocks form es c s gap d head all fits =
-    throughout_under (clients + servers) (IsHealthy c s gap d) (LeasesLast k c s gap d) Stand
-    (λ past t e sc ok o h g.
-    let does = it k (clients + servers) c s gap d (client_clock c) d (own_read c) fits past t e sc o.0 ok h g in
-    let z = talks2 k (clients + servers) c s gap d (client_clock c) d (own_read c) fits past t e sc o.0 ok h g o.1 does in
-    let later = goes_on k (clients + servers) c s gap d (client_clock c) d (own_read c) fits past t e sc o.0 ok h g does in (
-      lasts k (clients + servers) c s gap d (client_clock c) d (own_read c) fits past t e sc o.0 ok h g z,
-      (base2 k (clients + servers) c s gap d (client_clock c) d (own_read c) fits past t e sc o.0 ok h g g.come later, z),
-    )) es all []
-    (traced (fresh_world k clients servers disks blocks form)) (
-      starts k clients servers disks blocks form c s gap d (client_clock c) d (own_read c) fits head,
-      starts_talks k clients servers disks blocks form c s gap d (client_clock c) d (own_read c) fits head,
-    )
-  where
-    Stand : List Step → Traced → Type 0
-    Stand past t =
-        Base k (clients + servers) c s gap d (client_clock c) d (own_read c) fits past t ×
-        AllTalk k (clients + servers) c s gap d (client_clock c) d (own_read c) fits past t.world

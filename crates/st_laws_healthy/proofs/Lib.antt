@@ -8,11 +8,15 @@ pub mod Given
 pub mod Greeting
 pub mod Happening
 pub mod Hearing
+pub mod Keeping
 pub mod Lasting
+pub mod Lines
 pub mod Lives
 pub mod Naming
 pub mod NotSuspected
+pub mod Noting
 pub mod Numbers
+pub mod Origins
 pub mod Passing
 pub mod Queues
 pub mod Receiving
@@ -27,6 +31,7 @@ pub mod ServerStanding
 pub mod Serving
 pub mod Sessions
 pub mod Sparing
+pub mod Starting
 pub mod Stepping
 pub mod Taking
 pub mod Talking

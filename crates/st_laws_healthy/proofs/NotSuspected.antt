@@ -51,7 +51,7 @@ use Rattle.st_laws_healthy.proofs.ClientStanding.{TalksOn}
 use Rattle.st_laws_healthy.proofs.Given as given
 use Rattle.st_laws_healthy.proofs.Happening.{BothRun, ClientSteps, Happened, IsBroken, NeitherSteps, ServerSteps, happened}
 use Rattle.st_laws_healthy.proofs.Lasting as lasting
-use Rattle.st_laws_healthy.proofs.Lasting.{AllTalk, Base, base2, client_talks2, server_talks2}
+use Rattle.st_laws_healthy.proofs.Lasting.{Base, base2, client_talks2, server_talks2}
 use Rattle.st_laws_healthy.proofs.Numbers.{keeps_number, tells_number}
 use Rattle.st_laws_healthy.proofs.Served.{To}
 use Rattle.st_laws_healthy.proofs.ServerAnswering.{server_answers}
@@ -91,7 +91,7 @@ module _ (k : Config) (count : ℕ) (c : ClientId) (s : ServerId) (gap d delay m
   read = server_clock s
 
   abbrev KnownIn : List Step → Traced → Type 0
-  KnownIn past t = Base k count c s gap d read delay (server_read s) fits past t
+  KnownIn past t = Base k count c s gap d read delay (server_read s) [] past t
 
   -- what is known of the client's associations with the server, and where the answers to its demands are
   abbrev pub AllAnswered : List Step → World → Type 0
@@ -105,6 +105,7 @@ module _ (k : Config) (count : ℕ) (c : ClientId) (s : ServerId) (gap d delay m
     pub base : KnownIn past t
     pub causes : causes.Stand k count s past t
     pub answered : AllAnswered past t.world
+    pub calm : (node : ServerNode) → node_of t.world s ≡ Some node → node.state.grace ≡ None
 
   -- in a world: the client and the server
   module _ (w : World) (all : AllStand (terms_of k) count w) (node : ServerNode) (at : node_of w s ≡ Some node) (up : node.running ≡ true)
@@ -197,7 +198,7 @@ module _ (k : Config) (count : ℕ) (c : ClientId) (s : ServerId) (gap d delay m
         by (ClientSteps site old i now is_now same at brings deaf_server there nodes_same clocks many new from said) = o.base.free node (sym nodes_same ∙ f)
         by (ServerSteps old i at brings deaf there sites clocks many new from told) = not_suspected old node at f (sym sites ∙ g.there)
         by (NeitherSteps same nodes_same later deaf deaf_server new) = o.base.free node (sym nodes_same ∙ f)
-        by (IsBroken b) = absurd (b o.base.runs both)
+        by (IsBroken b same fewer) = absurd (b o.base.runs both)
 
     healthy : IsHealthy c s gap d past x
     healthy =
@@ -225,13 +226,13 @@ module _ (k : Config) (count : ℕ) (c : ClientId) (s : ServerId) (gap d delay m
         by (Starts old at off is q clock) = let z = ap (λ (y : Stamp). y.0) clock in omega (arith, z)
 
     after : KnownIn past2 (traced_after e t sc)
-    after = base2 k count c s gap d read delay (server_read s) fits past t e sc o.base ok h healthy g.come_by_server later2
+    after = base2 k count c s gap d read delay (server_read s) [] past t e sc o.base ok h healthy g.come_by_server later2
 
-    it2 : Happened past t o.base.dated c s (lasting.place k count c s gap d read delay (server_read s) fits past t e sc o.base ok h healthy).1 e sc
-    it2 = lasting.it k count c s gap d read delay (server_read s) fits past t e sc o.base ok h healthy
+    it2 : Happened past t o.base.dated c s (lasting.place k count c s gap d read delay (server_read s) [] past t e sc o.base ok h healthy).1 e sc
+    it2 = lasting.it k count c s gap d read delay (server_read s) [] past t e sc o.base ok h healthy
 
     stays_sent : (m : Message) → Has m (messages t.world) → Has m (messages sc.world)
-    stays_sent = lasting.stays_sent k count c s gap d read delay (server_read s) fits past t e sc o.base ok h healthy
+    stays_sent = lasting.stays_sent k count c s gap d read delay (server_read s) [] past t e sc o.base ok h healthy
 
     keeps : (i : ℕ) (m : Message) → numbered (messages t.world) i ≡ Some m → numbered (messages sc.world) i ≡ Some m
     keeps i m q = keeps_number t.world e sc h i m q
@@ -269,12 +270,14 @@ module _ (k : Config) (count : ℕ) (c : ClientId) (s : ServerId) (gap d delay m
       talks a l f = ((knows a l f).0, (knows a l f).1.0)
 
       abbrev fit : (a : Association) → Has a site.node.state.associations → Rattle.st_laws_steps.specs.Client.Losses.Fit a
-      fit = lasting.fit k count c s gap d read delay (server_read s) fits past t e sc o.base ok h healthy site old i now is_now same at brings deaf_server there
+      fit = lasting.fit k count c s gap d read delay (server_read s) [] past t e sc o.base ok h healthy site old i now is_now same at brings deaf_server there
           nodes_same clocks many new from said
 
       on : TalksOn k c s gap d read delay past past2 (messages t.world) (messages sc.world) node.state now site.node.state i fit talks b
-      on = client_talks2 k count c s gap d read delay (server_read s) fits past t e sc o.base ok h healthy site old i now is_now same at brings deaf_server there
+      on = client_talks2 k count c s gap d read delay (server_read s) [] past t e sc o.base ok h healthy site old i now is_now same at brings deaf_server there
           nodes_same clocks many new from said node talks b j at_b
+          (lasting.open_leases k count c s gap d read delay (server_read s) [] past t e sc o.base ok h healthy site old i now is_now same at brings deaf_server there
+          nodes_same clocks many new from said fits (λ v n f y a l at_a. let z = o.answered v n f y a l at_a in (z.0, z.1.0)) node was)
 
       up : node.running ≡ true
       up = o.base.runs.servers node was
@@ -301,7 +304,7 @@ module _ (k : Config) (count : ℕ) (c : ClientId) (s : ServerId) (gap d delay m
               (talks on.was on.among on.at_was).0 (talks on.was on.among on.at_was).1 z f
 
           config : site.node.state.config ≡ k
-          config = lasting.config k count c s gap d read delay (server_read s) fits past t e sc o.base ok h healthy site old i now is_now same at brings
+          config = lasting.config k count c s gap d read delay (server_read s) [] past t e sc o.base ok h healthy site old i now is_now same at brings
               deaf_server there nodes_same clocks many new from said
 
           lasts : (clock_of t.world (nodes.Client c)).0 < z.lease.date.0 + k.lease
@@ -370,7 +373,7 @@ module _ (k : Config) (count : ℕ) (c : ClientId) (s : ServerId) (gap d delay m
       (
         next.known,
         server_answers k c s gap d read delay most few_clients some past x t.world (messages sc.world) stays_sent keeps old.state when i wish
-            (server_read s sc.world t.world clocks many) (o.base.free old at) still sepoch (o.base.off old at) (o.base.cuts.servers s old at).id
+            (server_read s sc.world t.world clocks many) (o.base.free old at) still sepoch (o.calm old at) (o.base.cuts.servers s old at).id
             (left.epoch old at) brings deaf says q1.known q1.once q1.row_lives q2.known q2.once q2.row_lives born_in a y.0 (client_clock c t.world) y.1.0 numbers
             asked_given (client_clock c sc.world) next y.1.1,
       ),
@@ -381,11 +384,11 @@ module _ (k : Config) (count : ℕ) (c : ClientId) (s : ServerId) (gap d delay m
         y = o.answered site old f at a j at_a
 
         some : 1 ≤ c.0
-        some = (lasting.place k count c s gap d read delay (server_read s) fits past t e sc o.base ok h healthy).0
+        some = (lasting.place k count c s gap d read delay (server_read s) [] past t e sc o.base ok h healthy).0
 
         next : Rattle.st_laws_healthy.proofs.ServerStanding.TalksNext k c s gap d read delay y.0 past2 (messages sc.world) i (server_step old.state when i).state
             (client_clock c sc.world) a y.1.0.last
-        next = server_talks2 k count c s gap d read delay (server_read s) fits past t e sc o.base ok h healthy old i at brings deaf there clocks many new from told
+        next = server_talks2 k count c s gap d read delay (server_read s) [] past t e sc o.base ok h healthy old i at brings deaf there clocks many new from told
             site f a j at_a y.0 y.1.0
 
         up : old.running ≡ true
@@ -397,19 +400,19 @@ module _ (k : Config) (count : ℕ) (c : ClientId) (s : ServerId) (gap d delay m
         z : ServerStands (terms_of k) t.world s.0 old
         z = all1.servers s.0 old at
 
-        left : lasting.Left k count c s gap d read delay (server_read s) fits past t e sc o.base ok h healthy
+        left : lasting.Left k count c s gap d read delay (server_read s) [] past t e sc o.base ok h healthy
             (record old { state = (server_step old.state when i).state })
-        left = lasting.left k count c s gap d read delay (server_read s) fits past t e sc o.base ok h healthy _ there
+        left = lasting.left k count c s gap d read delay (server_read s) [] past t e sc o.base ok h healthy _ there
 
         sepoch : old.state.sessions.epoch ≡ old.state.stable.epoch
-        sepoch = lasting.sepoch k count c s gap d read delay (server_read s) fits past t e sc o.base ok h healthy old at
+        sepoch = lasting.sepoch k count c s gap d read delay (server_read s) [] past t e sc o.base ok h healthy old at
 
         still : may_ack (server_step old.state when i).state.authority c ≡ true
         still = free2 (record old { state = (server_step old.state when i).state }) there
 
         says : (m : Message) → Has (outputs.Send m) (server_step old.state when i).out →
             Rattle.st_laws_healthy.proofs.ServerStanding.IsSaid s x (messages sc.world) (server_step old.state when i).out m
-        says = lasting.says k count c s gap d read delay (server_read s) fits past t e sc o.base ok h healthy old i at brings deaf there clocks many new from told
+        says = lasting.says k count c s gap d read delay (server_read s) [] past t e sc o.base ok h healthy old i at brings deaf there clocks many new from told
 
         q1 : Facts k count s old.state
         q1 = facts_of old at
@@ -471,7 +474,7 @@ module _ (k : Config) (count : ℕ) (c : ClientId) (s : ServerId) (gap d delay m
 
     -- what is known after the event
     answered2 : Happened past t o.base.dated c s
-        (lasting.place k count c s gap d read delay (server_read s) fits past t e sc o.base ok h healthy).1 e sc → AllAnswered past2 sc.world
+        (lasting.place k count c s gap d read delay (server_read s) [] past t e sc o.base ok h healthy).1 e sc → AllAnswered past2 sc.world
     answered2 (ClientSteps site0 old i now is_now same at brings deaf_server there nodes_same clocks many new from said) site node f q a j at_a =
         client_knows site0 old i now is_now same at brings deaf_server there nodes_same clocks many new from said node q a
         (subst (λ (y : WorldClient). Has a y.node.state.associations) (some_is (sym f ∙ there)) j) at_a
@@ -490,10 +493,15 @@ module _ (k : Config) (count : ℕ) (c : ClientId) (s : ServerId) (gap d delay m
                 a.session y.0 (subst (λ l. Answered c s read delay most past (messages t.world) node.state a.life.0 l a.session y.0) (sym z.1) y.1.1),
           ),
         )
-    answered2 (IsBroken b) site node f q a j at_a = absurd (b o.base.runs both)
+    answered2 (IsBroken b same fewer) site node f q a j at_a = absurd (b o.base.runs both)
 
     pub stands : Stand past2 (traced_after e t sc)
-    stands = record { base = after; causes = causes.stand2 k count s past t e sc o.causes ok h; answered = answered2 it2 }
+    stands = record {
+      base = after;
+      causes = causes.stand2 k count s past t e sc o.causes ok h;
+      answered = answered2 it2;
+      calm = λ node f. let l = lasting.left k count c s gap d read delay (server_read s) [] past t e sc o.base ok h healthy node f in l.grace ∙ o.calm l.old l.was;
+    }
 
 -- The start of a run.
 no_rows : (k : Config) (servers disks blocks n : ℕ) (r : LockRow) → Has r (node_at_start k servers disks blocks n).state.locks.rows → ⊥
@@ -518,7 +526,7 @@ module _ (k : Config) (clients servers disks blocks form : ℕ) (c : ClientId) (
   answered site node f q a j at_a = (y.0, (y.1, answer))
     where
       y : (since : ℕ) × Talks k c s gap d (server_clock s) delay since [] (messages w) node.state (client_clock c w) a
-      y = lasting.starts_talks k clients servers disks blocks form c s gap d (server_clock s) delay (server_read s) fits head site node f q a j at_a
+      y = lasting.starts_talks k clients servers disks blocks form c s gap d (server_clock s) delay (server_read s) head site node f q a j at_a
 
       fresh : (a.session ≡ None) × (a.life.0 ≡ 1)
       fresh = first_life k servers c.0 a (subst (λ (v : WorldClient). Has a v.node.state.associations)
@@ -551,12 +559,14 @@ module _ (k : Config) (clients servers disks blocks form : ℕ) (c : ClientId) (
   pub begins : Stand k (clients + servers) c s gap d delay most fits patient [] (traced w)
   begins =
       record {
-        base = lasting.starts k clients servers disks blocks form c s gap d (server_clock s) delay (server_read s) fits head;
+        base = lasting.starts k clients servers disks blocks form c s gap d (server_clock s) delay (server_read s) head;
         causes = record {
           basic = starting k clients servers disks blocks form s head;
           asks = λ node f runs r since j. absurd (rows node f r j);
         };
         answered = answered;
+        calm = λ node f. subst (λ (y : ServerNode). y.state.grace ≡ None) (sym (node_is k clients servers disks blocks form s node f))
+            (lasting.no_grace k servers disks blocks s.0);
       }
 
 -- In every run in which a client is prompt.

@@ -313,7 +313,7 @@ module _ (c : ClientId) (s : ServerId) where
             by _ (SawDemand ino g) = seen_quiet now h u ino g free_sender
 
         -- A greeting.
-        module _ (e : m.body ≡ bd.Hello) (off : n.grace ≡ None) (still : may_ack (server_step n now (Control m)).state.authority c ≡ true) where
+        module _ (e : m.body ≡ bd.Hello) (off : Rattle.st_rules.specs.Grace.is_on n.grace now ≡ false) (still : may_ack (server_step n now (Control m)).state.authority c ≡ true) where
           no_later : (y : Session) → sessions.session_of u.state.sessions (sv.sender h) ≡ Some y →
               (y.life.0 < h.life) ⊎ ((y.life.0 ≡ h.life) × (sessions.is_live y ≡ true))
           no_later y q = go known
@@ -338,7 +338,7 @@ module _ (c : ClientId) (s : ServerId) where
           welcome : IsWelcome now h u v
           welcome =
               subst (λ b. IsWelcome now h u (sv.receive u now h b)) (sym e)
-              (welcomed now h u is_for free_sender (ap (λ g. Rattle.st_rules.specs.Grace.is_on g now) (z.grace ∙ off)) no_later free_behind)
+              (welcomed now h u is_for free_sender (ap (λ g. Rattle.st_rules.specs.Grace.is_on g now) z.grace ∙ off) no_later free_behind)
 
           lives : IsServed ns w life epoch last
           lives = go known welcome.begins
@@ -395,13 +395,14 @@ module _ (c : ClientId) (s : ServerId) where
 
           -- and it is answered
           pub hello_answered : (r : Message) × Has (outputs.Send r) (server_step n now (Control m)).out × From r × (r.header.life ≡ life) ×
-              (r.body ≡ bd.Welcome)
+              (r.body ≡ bd.Welcome) × (r.header.stamp ≡ h.stamp)
           hello_answered = (
             record { header = sv.reply_header u.state h; body = bd.Welcome },
             step_grows n now m (reply_in now h u bd.Welcome) (subst (Has (reply_in now h u bd.Welcome)) (sym welcome.out)
                 (has_right u.out (reply_in now h u bd.Welcome ∷ []) (reply_in now h u bd.Welcome) (inl refl))),
             record { from = ap (λ i. server_node i) (z.id ∙ id); to = mine },
             present,
+            refl,
             refl,
           )
 

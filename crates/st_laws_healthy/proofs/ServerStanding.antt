@@ -15,6 +15,7 @@ use Words.Server.{ServerState, server_step}
 use Words.World.{World, numbered}
 use Words.Lists.{Has}
 use Words.Lookups.{or_right}
+use Words.Members.{has_left}
 use Words.Tables.{and_both, same_or_not}
 use Rattle.st_laws_lasting.specs.Lasting.{client_clock}
 use Rattle.st_laws_leases.specs.Dates.Dates.{messages}
@@ -24,7 +25,7 @@ use Rattle.st_laws_healthy.proofs.Replies.{counts_for, is_served}
 use Rattle.st_laws_healthy.proofs.Requests.{IsRequest}
 use Rattle.st_laws_healthy.proofs.Served.{Comes, From, Goes, Greets, IsAsked, IsKnown, IsServed, IsTold, Requests, Sees, To, hello_answered, hello_goes}
 use Rattle.st_laws_healthy.proofs.Served.{other_goes, request_answered, request_goes, seen_goes, tick_goes, told_more}
-use Rattle.st_laws_healthy.proofs.Talking.{Greeted, HasGreeted, HasSession, IsAsking, IsAsking2, IsCounting, IsGreeting, IsSilent, IsWelcoming, Phase}
+use Rattle.st_laws_healthy.proofs.Talking.{Greeted, GreetsAt, Hailed, HasSession, IsAsking, IsAsking2, IsCounting, IsOnTrip, IsTooOld, Phase, WelcomesAt}
 use Rattle.st_laws_healthy.proofs.Talking.{Requested, Talks, delivered_among, delivered_is, fly, not_delivered}
 use Rattle.st_laws_healthy.proofs.Trips.{Back, Begun, Flying, InTime, Out, Trip, flies_on, goes_out, takes_off, trip_began}
 
@@ -49,7 +50,7 @@ module _ (k : Config) (c : ClientId) (s : ServerId) (gap d : ℕ) (read : World 
       (in_time : InTime (client_clock c) c s d past (messages w) now) (begun : Begun (client_clock c) c s d past now)
       (now2 : ℕ) (clock2 : read x.after.world ≡ now2) (in_time2 : InTime read c s delay past (messages w) now2) (begun2 : Begun read c s delay past now2)
       (n : ServerState) (at : Stamp) (i : ServerInput) (free : may_ack n.authority c ≡ true) (still : may_ack (server_step n at i).state.authority c ≡ true)
-      (sepoch : n.sessions.epoch ≡ n.stable.epoch) (off : n.grace ≡ None) (id : n.id ≡ s) (epoch_same : (server_step n at i).state.stable.epoch ≡
+      (sepoch : n.sessions.epoch ≡ n.stable.epoch) (off : Rattle.st_rules.specs.Grace.is_on n.grace at ≡ false) (id : n.id ≡ s) (epoch_same : (server_step n at i).state.stable.epoch ≡
       n.stable.epoch)
       (brings : BringsServer w x.event (server_node s) i) (deaf : Deaf w x.event c.0)
       (new : (m : Message) → Has m ns → Has m (messages w) ⊎ IsSaid s x ns (server_step n at i).out m)
@@ -189,22 +190,26 @@ module _ (k : Config) (c : ClientId) (s : ServerId) (gap d : ℕ) (read : World 
                 (back f g shown shows B z.0 z.1 (way z.0 z.2) z.2)
 
       -- a greeting is answered with a welcome
-      welcomes : (m : Message) → Has m ms → IsGreeting k c s gap d life m → i ≡ serving.Control m →
-          (r : Message) × Has (outputs.Send r) (server_step n at i).out × IsWelcoming k c s gap d life r
-      welcomes m h g is = subst (λ j. (r : Message) × Has (outputs.Send r) (server_step n at j).out × IsWelcoming k c s gap d life r) (sym is)
-          (z.0, z.1, record { way = z.2; of_life = z.3; body = z.4 })
+      welcomes : (stamp : ℕ) (m : Message) → Has m ms → GreetsAt k c s gap d life stamp m → i ≡ serving.Control m →
+          (r : Message) × Has (outputs.Send r) (server_step n at i).out × WelcomesAt k c s gap d life stamp r
+      welcomes stamp m h g is = subst (λ j. (r : Message) × Has (outputs.Send r) (server_step n at j).out × WelcomesAt k c s gap d life stamp r) (sym is)
+          (z.0, z.1, record { is = record { way = z.2; of_life = z.3; body = z.4 }; at = z.5 ∙ g.at })
         where
           still_m : may_ack (server_step n at (serving.Control m)).state.authority c ≡ true
           still_m = subst (λ j. may_ack (server_step n at j).state.authority c ≡ true) is still
 
-          z : (r : Message) × Has (outputs.Send r) (server_step n at (serving.Control m)).out × From c s r × (r.header.life ≡ life) × (r.body ≡ bd.Welcome)
-          z = hello_answered c s ms ns more n at life t.last free sepoch t.known m h g.way.to few some id g.way.from g.of_life g.body off still_m
+          z : (r : Message) × Has (outputs.Send r) (server_step n at (serving.Control m)).out × From c s r × (r.header.life ≡ life) ×
+              (r.body ≡ bd.Welcome) × (r.header.stamp ≡ m.header.stamp)
+          z = hello_answered c s ms ns more n at life t.last free sepoch t.known m h g.is.way.to few some id g.is.way.from g.is.of_life g.is.body off still_m
+
+      hailed : (stamp : ℕ) → Hailed k c s gap d past ms life stamp → Hailed k c s gap d past2 ns life stamp
+      hailed stamp (IsOnTrip trip) =
+          IsOnTrip (goes_on (client_clock c) d now clock in_time begun (GreetsAt k c s gap d life stamp) (WelcomesAt k c s gap d life stamp) stamp
+          (λ m y. y.is.way) (λ m y. y.is.way) (welcomes stamp) trip)
+      hailed stamp (IsTooOld y h l) = IsTooOld y (has_left past (x ∷ []) y h) l
 
       greeted : Greeted k c s gap d past ms life → Greeted k c s gap d past2 ns life
-      greeted (IsSilent f) = IsSilent (λ m h g. f m (old_to m h g.way) g)
-      greeted (HasGreeted from first trip) =
-          HasGreeted from (λ m h g. first m (old_to m h g.way) g)
-          (goes_on (client_clock c) d now clock in_time begun (IsGreeting k c s gap d life) (IsWelcoming k c s gap d life) from (λ m y. y.way) (λ m y. y.way) welcomes trip)
+      greeted f m h g = hailed m.header.stamp (f m (old_to m h g.way) g)
 
       -- With a session.
       module _ (z : ClientSession) (there : a.session ≡ Some z) (p : HasSession k c s gap d read delay since past ms n.sessions life epoch t.last z) where

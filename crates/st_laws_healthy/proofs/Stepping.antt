@@ -1,11 +1,12 @@
 -- A whole step of a client: what becomes of each of its associations, from one part of the step to the next, and why each message is sent.
 use Rattle.st_lemmas.proofs.Words
-use Words.{◌≡◌, ℕ, ◌⊎◌, true, ◌==◌, List, [], ◌∷◌, refl, sym, ap, ◌∙◌, subst, inl, inr, eq-eqb, Config, ClientId, Stamp, AppAnswer, Message}
+use Words.{◌≡◌, ℕ, ◌⊎◌, true, ◌==◌, List, [], ◌∷◌, None, refl, sym, ap, ◌∙◌, subst, inl, inr, eq-eqb, Config, ClientId, Stamp, AppAnswer, Message}
 use Words.{Output, ClientInput}
 use Words.answers
 use Words.outputs
 use Words.inputs
 use Words.Client as cl
+use Words.ClientLease.{must_discard, standing_of}
 use Words.ClientPasses as cp
 use Words.ClientReplies as cr
 use Words.ClientState.{Association, ClientState, ClientTurn, Turn, at_each, at_these, client_turn, enter, leave, only_at, server_of, with_associations}
@@ -13,8 +14,11 @@ use Words.Lists.{Has}
 use Words.Tables.{cond_either, has_append}
 use Words.Members.{has_left, has_right}
 use Words.Truth.{not_both}
-use Rattle.st_laws_steps.specs.Client.Losses.{Fit}
+use Rattle.st_trace.specs.Client.Losses.{HasNoSession, IsLost, Lasts, Loses}
+use Rattle.st_trace.proofs.Client.Losing.{loses}
+use Rattle.st_laws_steps.specs.Client.Losses.{Fit, is_ended}
 use Rattle.st_laws_steps.specs.Lives.Lives.{Pairwise}
+use Rattle.st_laws_steps.proofs.Client.Losing.{over_is}
 use Rattle.st_laws_steps.proofs.Client.Nexts.{changes_next}
 use Rattle.st_laws_steps.proofs.Client.Replying.{changes_by_receive}
 use Rattle.st_laws_steps.proofs.Client.Stepping.{Left, LossesLeft, LostOrNot, each, losses_left, pairs_has, pairs_same, pairs_then}
@@ -74,6 +78,34 @@ pub record WorksAt (now : Stamp) (a b : Association) : Type 0 where
   pub greeting : Rattle.std.specs.Prelude.is_some a.greeting ≡ true → Rattle.std.specs.Prelude.is_some b.greeting ≡ true
   pub none_waits : NoneWaits b.session
 
+-- a lease that is over leaves no session, and no greeting
+abbrev pub Gone : Config → Stamp → Association → Association → Type 0
+Gone k now a b = is_ended k now a.session ≡ true → (b.session ≡ None) × (b.greeting ≡ None)
+
+lose_gone : (k : Config) (now : Stamp) (t : Turn) → t.config ≡ k → Gone k now t.here (cl.lose now t).here
+lose_gone k now t config = go (cl.lose now t) (loses now t)
+  where
+    go : (u : Turn) → Loses now t u → Gone k now t.here u.here
+    go _ (HasNoSession e) = λ q. absurd (not_both (is_ended k now t.here.session) q (ap (is_ended k now) e))
+    go _ (Lasts x e o) = λ q. absurd (not_both (is_ended k now t.here.session) q
+        (ap (is_ended k now) e ∙ sym (over_is k x.lease now) ∙ ap (λ kb. must_discard (standing_of kb x.lease now)) (sym config) ∙ o))
+    go _ (IsLost x u e o p) = λ q. (refl, refl)
+
+-- two facts of each row
+pairs_both : (R S : Association → Association → Type 0) (al bs : List Association) → Pairwise R al bs → Pairwise S al bs → Pairwise (λ a b. R a b × S a b) al bs
+pairs_both R S [] [] p q = tt
+pairs_both R S [] (y ∷ bs) p q = p
+pairs_both R S (x ∷ al) [] p q = p
+pairs_both R S (x ∷ al) (y ∷ bs) p q = record { one = (p.one, q.one); rest = pairs_both R S al bs p.rest q.rest }
+
+-- each row has its partner in the other list
+pairs_find : (R : Association → Association → Type 0) (al bs : List Association) → Pairwise R al bs → (a : Association) → Has a al →
+    (b : Association) × Has b bs × R a b
+pairs_find R [] bs p a h = absurd h
+pairs_find R (x ∷ al) [] p a h = absurd p
+pairs_find R (x ∷ al) (y ∷ bs) p a (inl e) = (y, inl refl, subst (λ z. R z y) (sym e) p.one)
+pairs_find R (x ∷ al) (y ∷ bs) p a (inr h) = let z = pairs_find R al bs p.rest a h in (z.0, inr z.1, z.2)
+
 left_of : (R : Association → Association → Type 0) (t u : Turn) → R t.here u.here → Left R (λ a. []) (λ os. []) t u
 left_of R t u r = record { one = r; said = refl }
 
@@ -87,11 +119,18 @@ module _ (s : ClientState) (now : Stamp) (i : ClientInput) (fit : (a : Associati
   lost : LossesLeft s.id s now (client_turn s []) t1
   lost = losses_left s.id s now (client_turn s []) refl fit
 
+  gone_pairs : Pairwise (Gone s.config now) s.associations t1.state.associations
+  unfolding cl.losses
+  gone_pairs =
+      (each (λ a. Unit {0}) (Gone s.config now) (λ a. []) (λ os. []) (cl.lose now) (client_turn s [])
+      (λ u q p. left_of (Gone s.config now) u (cl.lose now u) (lose_gone s.config now u q)) (λ a h. tt)).pairs
+
   -- what becomes of an association, from one part of the step to the next
   pub record Walks (a b : Association) : Type 0 where
     pub first : Association
     pub second : Association
     pub loses : LostOrNot s.config now a first
+    pub gone : Gone s.config now a first
     pub takes : TakesIn s.config now i first second
     pub works : WorksAt now second b
 
@@ -147,6 +186,11 @@ module _ (s : ClientState) (now : Stamp) (i : ClientInput) (fit : (a : Associati
         none_waits = passes_empty now (cl.is_tick i) u;
       })) (λ a h. tt)).pairs
 
+  -- where an association after the input is after the passes
+  pub works_on : (a : Association) → Has a t2.state.associations → (b : Association) × Has b (cl.client_step s now i).state.associations × WorksAt now a b
+  unfolding cl.client_step
+  works_on a h = pairs_find (WorksAt now) t2.state.associations (cl.work t2 now i).state.associations works_pairs a h
+
   pub walks : Told i → (b : Association) → Has b (cl.client_step s now i).state.associations → (a : Association) × Has a s.associations × Walks a b
   unfolding cl.client_step
   walks told b h =
@@ -156,16 +200,22 @@ module _ (s : ClientState) (now : Stamp) (i : ClientInput) (fit : (a : Associati
       fits : (a : Association) → Has a t1.state.associations → Fit a
       fits = pairs_has (LostOrNot s.config now) Fit Fit (λ a b r. r.fit) s.associations t1.state.associations lost.pairs fit
 
-      two : Pairwise (λ a b. (f : Association) × LostOrNot s.config now a f × TakesIn s.config now i f b) s.associations t2.state.associations
+      LG : Association → Association → Type 0
+      LG a f = LostOrNot s.config now a f × Gone s.config now a f
+
+      Two : Association → Association → Type 0
+      Two a b = (f : Association) × LG a f × TakesIn s.config now i f b
+
+      two : Pairwise Two s.associations t2.state.associations
       two =
-          pairs_then (LostOrNot s.config now) (TakesIn s.config now i) (λ a b. (f : Association) × LostOrNot s.config now a f × TakesIn s.config now i f b)
-          (λ a f b p q. (f, p, q)) s.associations
-          t1.state.associations t2.state.associations lost.pairs (takes_pairs i refl told t1 (sym lost.id) (sym lost.config) fits)
+          pairs_then LG (TakesIn s.config now i) Two (λ a f b p q. (f, p, q)) s.associations t1.state.associations t2.state.associations
+          (pairs_both (LostOrNot s.config now) (Gone s.config now) s.associations t1.state.associations lost.pairs gone_pairs)
+          (takes_pairs i refl told t1 (sym lost.id) (sym lost.config) fits)
 
       all : Pairwise Walks s.associations (cl.work t2 now i).state.associations
       all =
-          pairs_then (λ a b. (f : Association) × LostOrNot s.config now a f × TakesIn s.config now i f b) (WorksAt now) Walks
-          (λ a f b p q. record { first = p.0; second = f; loses = p.1; takes = p.2; works = q }) s.associations t2.state.associations
+          pairs_then Two (WorksAt now) Walks
+          (λ a f b p q. record { first = p.0; second = f; loses = p.1.0; gone = p.1.1; takes = p.2; works = q }) s.associations t2.state.associations
           (cl.work t2 now i).state.associations two works_pairs
 
   -- What is sent: that a demand was seen, or what an association accounts for.

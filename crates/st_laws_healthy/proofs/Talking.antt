@@ -13,6 +13,7 @@ use Words.Sessions.{Sessions}
 use Words.World.{World, message_of, numbered}
 use Words.Lists.{Has}
 use Words.Lookups.{some_is}
+use Words.Members.{has_left}
 use Words.Numbers.{get_map, numbered_has}
 use Rattle.st_laws_lasting.specs.Lasting.{client_clock}
 use Rattle.st_laws_leases.specs.Dates.Dates.{messages}
@@ -48,11 +49,23 @@ module _ (k : Config) (c : ClientId) (s : ServerId) (gap d : ℕ) where
     pub under : m.header.number ≡ number
     pub counts : counts_for body m.body ≡ true
 
-  -- Without a session: nothing was said, or the first greeting was sent at this reading, and it or a welcome is on its way.
-  pub data Greeted (past : List Step) (ms : List Message) (life : ℕ) : Type 0 where
-    IsSilent : ((m : Message) → Has m ms → IsGreeting life m → ⊥) → Greeted past ms life
-    HasGreeted : (from : ℕ) → ((m : Message) → Has m ms → IsGreeting life m → from ≤ m.header.stamp) →
-        Trip (client_clock c) c s d past ms (IsGreeting life) (IsWelcoming life) from → Greeted past ms life
+  -- the same with this stamp
+  pub record GreetsAt (life stamp : ℕ) (m : Message) : Type 0 where
+    pub is : IsGreeting life m
+    pub at : m.header.stamp ≡ stamp
+
+  pub record WelcomesAt (life stamp : ℕ) (m : Message) : Type 0 where
+    pub is : IsWelcoming life m
+    pub at : m.header.stamp ≡ stamp
+
+  -- What became of a greeting of this stamp while there is no session: it or its welcome is on its way, or after one of these steps it was too old.
+  pub data Hailed (past : List Step) (ms : List Message) (life stamp : ℕ) : Type 0 where
+    IsOnTrip : Trip (client_clock c) c s d past ms (GreetsAt life stamp) (WelcomesAt life stamp) stamp → Hailed past ms life stamp
+    IsTooOld : (y : Step) → Has y past → stamp + k.lease ≤ client_clock c y.after.world → Hailed past ms life stamp
+
+  -- Without a session: what became of each greeting.
+  abbrev pub Greeted : List Step → List Message → ℕ → Type 0
+  Greeted past ms life = (m : Message) → Has m ms → IsGreeting life m → Hailed past ms life m.header.stamp
 
   -- With another clock, and what messages take by it; and the reading of it at which the outstanding request was sent first.
   module _ (read : World → ℕ) (delay since : ℕ) where
@@ -174,11 +187,13 @@ module _ (k : Config) (c : ClientId) (s : ServerId) (gap d : ℕ) where
             };
           }
 
+      hailed : (life stamp : ℕ) → Hailed past ms life stamp → Hailed (past ++ x ∷ []) ns life stamp
+      hailed life stamp (IsOnTrip t) =
+          IsOnTrip (travels (client_clock c) d (GreetsAt life stamp) (WelcomesAt life stamp) stamp (λ m y. y.is.way) (λ m y. y.is.way) deaf_server deaf t)
+      hailed life stamp (IsTooOld y h l) = IsTooOld y (has_left past (x ∷ []) y h) l
+
       greeted : (life : ℕ) → Greeted past ms life → Greeted (past ++ x ∷ []) ns life
-      greeted life (IsSilent f) = IsSilent (λ m h g. f m (old_to m h g.way) g)
-      greeted life (HasGreeted from f t) =
-          HasGreeted from (λ m h g. f m (old_to m h g.way) g)
-          (travels (client_clock c) d (IsGreeting life) (IsWelcoming life) from (λ m y. y.way) (λ m y. y.way) deaf_server deaf t)
+      greeted life f m h g = hailed life m.header.stamp (f m (old_to m h g.way) g)
 
       phase : (v : Sessions) (life epoch last : ℕ) (o : Option ClientSession) → Phase read delay since past ms v life epoch last o →
           Phase read delay since (past ++ x ∷ []) ns v life epoch last o

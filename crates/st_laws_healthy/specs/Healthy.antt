@@ -1,22 +1,27 @@
 -- Healthy clients: a client that ticks in time at a server that runs and does not suspect it, if each message between the two comes in time. Its lease
--- at that server lasts, and if few of its releases wait, the server does not come to suspect it.
+-- at that server lasts and serves, and if few of its releases wait, the server does not come to suspect it.
 use Rattle.std.specs.Prelude.{◌≡◌, ◌≢◌, ◌≤◌, ◌<◌, ◌+◌, ◌*◌, ◌&&◌, ◌||◌, ◌==◌, ℕ, Bool, true, false, length, max, List, [], ◌∷◌, ◌++◌, Some}
 use Rattle.std.specs.List.{list_all}
 use Rattle.st_base.specs.declared.config.Config.{Config}
 use Rattle.st_base.specs.declared.ids.ClientId.{ClientId}
+use Rattle.st_base.specs.declared.ids.Life.{Life}
+use Rattle.st_base.specs.declared.ids.NodeId.TheVariants as nodes
 use Rattle.st_base.specs.declared.ids.ServerId.{ServerId}
+use Rattle.st_messages.specs.declared.answer.AppAnswer.TheVariants as answers
+use Rattle.st_messages.specs.declared.ask.Ask.{Ask}
 use Rattle.st_messages.specs.declared.event.Event.{Event}
 use Rattle.st_messages.specs.declared.event.Event.TheVariants as events
 use Rattle.st_messages.specs.declared.message.Header.{Header}
 use Rattle.st_messages.specs.declared.message.Message.{Message}
 use Rattle.st_rules.specs.declared.observation.Observation.TheVariants as seen
 use Rattle.st_rules.specs.Authority.{may_ack}
-use Rattle.st_rules.specs.ClientState.{Association, ClientSession}
+use Rattle.st_rules.specs.ClientState.{Association, ClientSession, server_of}
+use Rattle.st_rules.specs.Grace.{is_on}
 use Rattle.st_rules.specs.History.{traced}
 use Rattle.st_rules.specs.Keys.{server_node}
-use Rattle.st_rules.specs.Safety.{IsHead, Promise, Step, Throughout, is_event, steps}
+use Rattle.st_rules.specs.Safety.{IsHead, Promise, Step, Throughout, ask_of, is_event, left_by, steps}
 use Rattle.st_rules.specs.Server.{ServerNode}
-use Rattle.st_rules.specs.World.{World, WorldClient, fresh_world, node_of, site_of}
+use Rattle.st_rules.specs.World.{World, WorldClient, clock_of, fresh_world, node_of, site_of}
 use Rattle.st_lemmas.specs.Lists.{Has}
 use Rattle.st_laws_lasting.specs.Lasting.{client_clock, client_last_tick}
 use Rattle.st_laws_waits.specs.Waits.{server_clock}
@@ -55,13 +60,39 @@ LeasesLast k c s gap d past x =
     a.session ≡ Some z →
     (client_clock c x.after.world < z.lease.date.0 + longest k gap d) × (z.lease.condemned ≡ false)
 
--- What holds in every run in which a client is healthy at a server after each step, if a lease that is younger than that is not over.
+-- No loss of the server is noted, if a lease that is younger than that is not over.
+abbrev pub NoneIsLost : Config → ClientId → ServerId → ℕ → ℕ → Promise
+NoneIsLost k c s gap d past x = longest k gap d ≤ k.lease → (life : Life) → Has (seen.Lost c s life) x.seen → ⊥
+
+-- No ask of the server is answered `quiesced`, if a lease that is younger than that serves.
+abbrev pub NoneIsQuiesced : Config → ClientId → ServerId → ℕ → ℕ → Promise
+NoneIsQuiesced k c s gap d past x =
+    longest k gap d ≤ k.quiesce → (op : ℕ) (ask : Ask) → ask_of past x c op ≡ Some ask → Has (seen.Answered c op answers.Quiesced) x.seen → server_of ask ≢ s
+
+-- What holds in every run in which a client is healthy at a server after each step.
 abbrev pub InHealthyRuns : (Config → ClientId → ServerId → ℕ → ℕ → Promise) → Type 0
 InHealthyRuns promise =
     (k : Config) (clients servers disks blocks form : ℕ) (es : List Event) (c : ClientId) (s : ServerId) (gap d : ℕ) →
-    IsHead k clients servers disks blocks form → list_all (is_event (clients + servers)) es ≡ true → longest k gap d ≤ k.lease →
+    IsHead k clients servers disks blocks form → list_all (is_event (clients + servers)) es ≡ true →
     Throughout (IsHealthy c s gap d) [] (steps es (traced (fresh_world k clients servers disks blocks form))) →
     Throughout (promise k c s gap d) [] (steps es (traced (fresh_world k clients servers disks blocks form)))
+
+-- The server is out of grace: none is on.
+abbrev pub IsOutOfGrace : ServerId → World → Type 0
+IsOutOfGrace s w = (node : ServerNode) → node_of w s ≡ Some node → is_on node.state.grace (clock_of w (nodes.Server s)) ≡ false
+
+-- What holds in every run from a start of a client on, where the server is out of grace then, and the client is healthy at it after each step from the start
+-- on. Messages that were sent before the start may come at any time, or never.
+abbrev pub InRunsFromStarts : (Config → ClientId → ServerId → ℕ → ℕ → Promise) → Type 0
+InRunsFromStarts promise =
+    (k : Config) (clients servers disks blocks form : ℕ) (earlier es : List Event) (c : ClientId) (s : ServerId) (gap d : ℕ) →
+    IsHead k clients servers disks blocks form → list_all (is_event (clients + servers)) earlier ≡ true → list_all (is_event (clients + servers)) es ≡ true →
+    IsOutOfGrace s (left_by (traced (fresh_world k clients servers disks blocks form))
+    (steps earlier (traced (fresh_world k clients servers disks blocks form)))).world →
+    Throughout (IsHealthy c s gap d) [] (steps (events.Start (nodes.Client c) ∷ es)
+    (left_by (traced (fresh_world k clients servers disks blocks form)) (steps earlier (traced (fresh_world k clients servers disks blocks form))))) →
+    Throughout (promise k c s gap d) (steps earlier (traced (fresh_world k clients servers disks blocks form))) (steps (events.Start (nodes.Client c) ∷ es)
+    (left_by (traced (fresh_world k clients servers disks blocks form)) (steps earlier (traced (fresh_world k clients servers disks blocks form)))))
 
 -- At most this many releases of the client wait to be sent to the server.
 abbrev pub FewWait : ClientId → ServerId → ℕ → World → Type 0

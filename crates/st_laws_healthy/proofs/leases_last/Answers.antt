@@ -1,4 +1,4 @@
-use Rattle.st_laws_healthy.proofs.Lasting.{leases_law}
+use Rattle.st_laws_healthy.proofs.Keeping.{leases_law}
 use Rattle.st_laws_healthy.proofs.leases_last.Goals as goal
 
 pub returns : goal.returns
