@@ -211,7 +211,7 @@ patched_is d (Some (asks.Cut g q)) i c f p at bytes l = absurd l
 patched_is d (Some (asks.Name s ask)) i c f p at bytes l = absurd l
 patched_is d None i c f p at bytes l = absurd l
 
--- The steps of a line are no asks.
+-- The steps of a line aren't asks.
 pub block_other : (w : World) (o : Observation) (os : List Observation) → list_all is_other (before_line o os ++ of_line w o) ≡ true
 unfolding before_line of_line
 block_other w (seen.Wrote i c g p bytes) os = refl

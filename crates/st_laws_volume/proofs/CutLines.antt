@@ -1,7 +1,7 @@
 -- In every run the volume takes the line of each entry: a cut has just taken effect as the request for it was served.
 use Rattle.st_lemmas.proofs.Words
-use Words.{◌≡◌, ℕ, ◌+◌, ◌⊎◌, Bool, true, false, not, ◌&&◌, ◌||◌, ◌==◌, List, [], ◌∷◌, ◌++◌, Option, Some, None, Ok, refl, sym, ap, ◌∙◌, subst, inl, inr, if◌then◌else◌}
-use Words.{eq-eqb, eqb-true, is_some, length, list_all, list_any, FileId, GrantNo, PageNo, ServerId, Stamp, Ask, Body, Event, Message, NameAsk, NameOp, Note}
+use Words.{◌≡◌, ℕ, ◌+◌, Bool, true, false, not, ◌&&◌, ◌||◌, ◌==◌, List, [], ◌∷◌, ◌++◌, Option, Some, None, Ok, refl, sym, ap, ◌∙◌, subst, inl, inr, if◌then◌else◌}
+use Words.{eq-eqb, eqb-true, is_some, length, list_all, list_any, FileId, GrantNo, PageNo, ServerId, Stamp, Ask, Event, Message, NameAsk, NameOp, Note}
 use Words.{Output, LogEntry, Observation}
 use Words.answers
 use Words.asks
@@ -11,6 +11,7 @@ use Words.nodes
 use Words.notes
 use Words.ops
 use Words.outputs
+use Words.replies
 use Words.seen
 use Words.Events as ev
 use Words.Events.{WorldTurn, world_step}
@@ -36,7 +37,7 @@ use Rattle.st_laws_pages.specs.Disks.World.{Cuts, ExtentsMove, Maps, NoCut, NoCu
 use Rattle.st_laws_pages.specs.Disks.Runs.{PagesAfter}
 use Rattle.st_laws_pages.proofs.Disks.Walk.{step_moves}
 use Rattle.st_laws_pages.proofs.Disks.Whole.{fresh_holds}
-use Rattle.st_laws_extents.specs.CutRequests.Cut.{AsksCut, CutBy}
+use Rattle.st_laws_extents.specs.CutRequests.Cut.{CutBy}
 use Rattle.st_laws_extents.proofs.CutRequests.Cutting.{step_cuts}
 use Rattle.st_laws_extents.proofs.CutRequests.Seen.{ServedStep, cuts_served}
 use Rattle.st_laws_volume.specs.StepKinds.{AreTaken, StepsAreTaken, is_change_line, is_line}
@@ -49,14 +50,14 @@ use Rattle.st_laws_volume.specs.Witness.{Behind, Witness, before_line, does, doe
 use Rattle.st_laws_volume.proofs.Carried.{IsGiven, given_in}
 use Rattle.st_laws_volume.proofs.ChangeLines.{Known as ChangeKnown, LinesHold, lines_begin, lines_on, lines_open, on_both, taken_both}
 use Rattle.st_laws_volume.proofs.CutEffects.{Joins, LogOf, MakesCut, answers_removed, does_named, request_log}
-use Rattle.st_laws_volume.proofs.CutNotes.{Noted, Removal, by_message, cut_plain, name_plain, no_theft, received, rule_cuts, rule_removes}
+use Rattle.st_laws_volume.proofs.CutNotes.{Noted, Notes, ByCut, ByRemoval, Removal, Serving, serving}
 use Rattle.st_laws_volume.proofs.LogEntries.{same_length}
 use Rattle.st_laws_volume.proofs.LogLines.{delivery_quiet, event_quiet, numbered_next}
 use Rattle.st_laws_volume.proofs.LogSteps.{is_quiet}
 use Rattle.st_laws_volume.proofs.Options.{on_all, on_more}
 use Rattle.st_laws_volume.proofs.ReadPages.{throughout_both}
 use Rattle.st_laws_volume.proofs.TreeAnswers.{does_the_same}
-use Rattle.st_laws_volume.proofs.TreeServers.{CutOf, text_is}
+use Rattle.st_laws_volume.proofs.TreeServers.{text_is}
 use Rattle.st_laws_volume.proofs.TreeTurns.{thefts_stable}
 use Rattle.st_laws_volume.proofs.TreeWorld.{AllSound, tree_there}
 use Rattle.st_laws_volume.proofs.Trees.{TreesHold, trees_begin, trees_kept}
@@ -68,12 +69,6 @@ use Rattle.st_volume.specs.Trees as trees
 use Rattle.st_volume.specs.Trees.{Made}
 use Rattle.st_volume.specs.Volume as volume
 use Rattle.st_volume.specs.Volume.{Volume, run, same_change}
-
--- A request by which a server may cut: for a cut, or for a name.
-cutting : (b : Body) (i : ℕ) (p : PageNo) (g : GrantNo) → AsksCut b i p g → ((op : NameOp) × (b ≡ bodies.Name op)) ⊎ CutOf b
-cutting (bodies.Cut ino g from) i p h a = inr (record { ino = ino; g = g; from = from; is = refl })
-cutting (bodies.Name op) i p h a = inl (op, refl)
-cutting b i p h a = absurd a
 
 file_same : (f g : FileId) → f.server.0 ≡ g.server.0 → f.ino ≡ g.ino → f ≡ g
 file_same f g s i = ap (λ (n : ℕ). record { server = record { 0 = n }; ino = f.ino }) s ∙ ap (λ (n : ℕ). record { server = g.server; ino = n }) i
@@ -117,11 +112,8 @@ module _ (w : World) (sound : AllSound w) (bs : List Behind) (v : Volume) (agree
     its_server : f.server.0 ≡ s.0
     its_server = ap (λ (x : ServerId). x.0) (by.server ∙ id)
 
-    none : Noted T.out f p → ⊥
-    none = no_theft node.state Now f p
-
-    rule_notes : Noted (sv.receive T Now m.header m.body).out f p
-    rule_notes = by_message node.state Now m f p noted
+    service : Serving Now f p T m
+    service = serving node.state Now m f p noted
 
     abbrev emitted : Bool → List VolumeStep
     emitted b = if b then takes_op bs v s m ∷ [] else []
@@ -129,6 +121,10 @@ module _ (w : World) (sound : AllSound w) (bs : List Behind) (v : Volume) (agree
     done_so : does T Now m ≡ true → ((a : Ask) (u : Volume) → is_request_for s m.body a ≡ true → LogOf v a u → J u) →
         OnSome J (run (emitted (node.running && does T Now m)) v)
     done_so d h = subst (λ b. OnSome J (run (emitted b) v)) (sym (and_both node.running (does T Now m) runs d)) (request_log bs v J s m h)
+
+    does_it : is_done_as m.body (Some service.answer) ≡ true → does T Now m ≡ true
+    does_it z =
+        and_both (serves T m.header) (is_done_as m.body (sv.rule T Now m.header m.body).reply) service.taken (ap (is_done_as m.body) service.ruled ∙ z)
 
     -- it is a request for a cut
     module _ (ino : ℕ) (g : GrantNo) (from : PageNo) (is : m.body ≡ bodies.Cut ino g from) where
@@ -145,19 +141,10 @@ module _ (w : World) (sound : AllSound w) (bs : List Behind) (v : Volume) (agree
       cut_is e z (asks.Sync h) u k l = cc
       cut_is e z (asks.Name r ask) u k l = cc
 
-      by_cut : OnSome J (run (emitted (node.running && does T Now m)) v)
-      by_cut = go
-          (received T Now m.header (bodies.Cut ino g from) (cut_plain ino g from) f p (subst (λ b. Noted (sv.receive T Now m.header b).out f p) is rule_notes))
-        where
-          go : Noted T.out f p ⊎ ((serves T m.header ≡ true) × Noted (sv.rule T Now m.header (bodies.Cut ino g from)).turn.out f p) →
-              OnSome J (run (emitted (node.running && does T Now m)) v)
-          go (inl i) = absurd (none i)
-          go (inr (z, i)) =
-              let d = rule_cuts T Now m.header ino g from f p none i in
-              done_so
-              (and_both (serves T m.header) (is_done_as m.body (sv.rule T Now m.header m.body).reply) z
-              (subst (λ b. is_done_as b (sv.rule T Now m.header b).reply ≡ true) (sym is) d.done))
-              (λ a u k l. cut_is (ap (λ (x : FileId). x.ino) d.file) d.page a u (subst (λ b. is_request_for s b a ≡ true) is k) l)
+      by_cut : service.answer ≡ bodies.Ack → f ≡ sv.file T ino → p ≡ from → OnSome J (run (emitted (node.running && does T Now m)) v)
+      by_cut done file page =
+          done_so (does_it (subst (λ b. is_done_as b (Some service.answer) ≡ true) (sym is) (ap (λ b. is_done_as (bodies.Cut ino g from) (Some b)) done)))
+          (λ a u k l. cut_is (ap (λ (x : FileId). x.ino) file) page a u (subst (λ b. is_request_for s b a ≡ true) is k) l)
 
     -- it is a request to remove a file
     module _ (op : NameOp) (is : m.body ≡ bodies.Name op) where
@@ -168,7 +155,7 @@ module _ (w : World) (sound : AllSound w) (bs : List Behind) (v : Volume) (agree
       its_sound = sound node (numbered_has w.servers s.0 node at)
 
       -- the file that is cut is the one that the ask names
-      module _ (r : Removal T m.header op f p) (ask : NameAsk) (ino : ℕ) (u : Volume) (x : ServerId) (here : x.0 ≡ s.0)
+      module _ (r : Removal T op f p) (ask : NameAsk) (ino : ℕ) (u : Volume) (x : ServerId) (here : x.0 ≡ s.0)
           (its : ask ≡ asked.Remove r.dir r.name ino) (k : MakesCut v x ask u) where
         found : names.lookup n r.dir r.name ≡ Ok r.there
         found = subst (λ y. names.lookup y r.dir r.name ≡ Ok r.there) same_names r.found
@@ -208,7 +195,7 @@ module _ (w : World) (sound : AllSound w) (bs : List Behind) (v : Volume) (agree
             no : {y : Made} → Some y ≡ None → ⊥
             no q = cc
 
-      name_is : Removal T m.header op f p → (a : Ask) (u : Volume) → is_request_for s (bodies.Name op) a ≡ true → LogOf v a u → J u
+      name_is : Removal T op f p → (a : Ask) (u : Volume) → is_request_for s (bodies.Name op) a ≡ true → LogOf v a u → J u
       name_is r (asks.Name x ask) u q k =
           let b = and_true (x.0 == s.0) (is_name_for ask op) q in
           let z = removes_so ask r.dir r.name r.g (ap (is_name_for ask) (sym r.is) ∙ b.1) in
@@ -219,26 +206,17 @@ module _ (w : World) (sound : AllSound w) (bs : List Behind) (v : Volume) (agree
       name_is r (asks.Sync h) u k l = cc
       name_is r (asks.Cut h q) u k l = cc
 
-      by_name : OnSome J (run (emitted (node.running && does T Now m)) v)
-      unfolding sv.rule
-      by_name = go (received T Now m.header (bodies.Name op) (name_plain op) f p (subst (λ b. Noted (sv.receive T Now m.header b).out f p) is rule_notes))
-        where
-          go : Noted T.out f p ⊎ ((serves T m.header ≡ true) × Noted (sv.name T m.header op).turn.out f p) →
-              OnSome J (run (emitted (node.running && does T Now m)) v)
-          go (inl i) = absurd (none i)
-          go (inr (z, i)) =
-              let r = rule_removes T m.header f p none op i in
-              done_so
-              (and_both (serves T m.header) (is_done_as m.body (sv.rule T Now m.header m.body).reply) z
-              (subst (λ b. is_done_as b (sv.rule T Now m.header b).reply ≡ true) (sym is) (ap (is_done_as (bodies.Name op)) r.reply)))
-              (λ a u k l. name_is r a u (subst (λ b. is_request_for s b a ≡ true) is k) l)
+      by_name : (r : Removal T op f p) → service.answer ≡ bodies.Named (replies.Ino r.changed.ino) → OnSome J (run (emitted (node.running && does T Now m)) v)
+      by_name r done =
+          done_so (does_it (subst (λ b. is_done_as b (Some service.answer) ≡ true) (sym is) (ap (λ b. is_done_as (bodies.Name op) (Some b)) done)))
+          (λ a u k l. name_is r a u (subst (λ b. is_request_for s b a ≡ true) is k) l)
 
     joins : OnSome J (run (emitted (node.running && does T Now m)) v)
-    joins = go (cutting m.body f.ino p by.row.g by.asks)
+    joins = go service.noted
       where
-        go : ((op : NameOp) × (m.body ≡ bodies.Name op)) ⊎ CutOf m.body → OnSome J (run (emitted (node.running && does T Now m)) v)
-        go (inl (op, is)) = by_name op is
-        go (inr c) = by_cut c.ino c.g c.from c.is
+        go : Notes T f p m.body service.answer → OnSome J (run (emitted (node.running && does T Now m)) v)
+        go (ByCut ino g from is done file page) = by_cut ino g from is done file page
+        go (ByRemoval op r is done) = by_name op is r done
 
 -- Lines of a server: one cut, and lines that aren't steps of the volume.
 abbrev IsPlainLine : Observation → Type 0

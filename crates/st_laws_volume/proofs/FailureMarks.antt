@@ -64,7 +64,7 @@ use Rattle.st_volume.specs.Pages.{Entry, is_any, is_at, is_by_at, is_open, place
 use Rattle.st_volume.specs.Volume as volume
 use Rattle.st_volume.specs.Volume.{Volume, run}
 
--- Steps that are no failed writes.
+-- Steps that aren't failed writes.
 inside_unfailed : (it : VolumeStep) → is_inside it ≡ true → is_unfailed it ≡ true
 inside_unfailed (kinds.TakesEffect c op) q = refl
 inside_unfailed (kinds.Joined i c what) q = refl

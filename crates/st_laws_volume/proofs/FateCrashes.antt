@@ -235,13 +235,12 @@ module _ (t : World) (e : Event) (ids : (c : ClientId) (site : WorldClient) → 
   crashes : (c : ClientId) → e ≡ events.Crash (nodes.Client c) → (o : Option WorldClient) → site_of t c ≡ o → R (ev.crashes_client w c o)
   unfolding ev.crashes_client ev.marks w
   crashes c q None at = nothing (ev.quiet w) refl
-  crashes c q (Some site) at =
-      (
-        λ o h. go o
-            (lives_own c t.ended (lives_of site.node.state) o
-            (λ l i. lives_client site.node.state.config site.node.state.id site.node.state.associations l i ∙ ids c site at) h),
-        λ o h. crashed_front t.ended (map ev.crashed_life (lives_of site.node.state)) o h,
-      )
+  crashes c q (Some site) at = (
+    λ o h. go o
+        (lives_own c t.ended (lives_of site.node.state) o
+        (λ l i. lives_client site.node.state.config site.node.state.id site.node.state.associations l i ∙ ids c site at) h),
+    λ o h. crashed_front t.ended (map ev.crashed_life (lives_of site.node.state)) o h,
+  )
     where
       go : (o : LogOwner) → (is_crashed_life t.ended o ≡ true) ⊎ (o.client ≡ c) → (is_crashed_life t.ended o ≡ true) ⊎ Crashes e o
       go o (inl h) = inl h

@@ -37,7 +37,7 @@ use Rattle.st_volume.specs.declared.step.VolumeStep.TheVariants as kinds
 use Rattle.st_volume.specs.Volume as volume
 use Rattle.st_volume.specs.Volume.{Volume, run}
 
--- Steps in two parts, and steps that are no answers.
+-- Steps in two parts, and steps that aren't answers.
 opened_both : (xs ys : List VolumeStep) (v : Volume) → AnswersAreOpen xs v → OnSome (AnswersAreOpen ys) (run xs v) → AnswersAreOpen (xs ++ ys) v
 unfolding AnswersAreOpen run
 opened_both [] ys v a b = b

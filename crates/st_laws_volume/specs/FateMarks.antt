@@ -38,8 +38,8 @@ abbrev pub CrashesAreMarked : Promise
 CrashesAreMarked past x =
     OnSome (λ v. AreMarked x.after.world.ended x.after.world.log v.log) (led_by (led_to past x) x).volume
 
--- Failed writes: a pending entry of a life that no crash ended remembers the last write of its page by that life, if this write carried the entry, or carried it
--- along, and was reported failed. Writes go by their clients' own numbers.
+-- Failed writes: a pending entry of a life that no crash ended remembers the last write of its page by that life, if this write carried the entry,
+-- or carried it along, and was reported failed. Writes go by their clients' own numbers.
 abbrev pub IsRemembered : List Step → World → ℕ → LogEntry → Entry → Type 0
 IsRemembered past w index o e =
     (x : IssuedCommand) (y : Carried)

@@ -68,8 +68,8 @@ pub fn crashes_are_marked()
     ensures { InEveryRun CrashesAreMarked }
 {}
 
-/// In every run, after every event up to which the volume has taken the steps: each pending entry of
-/// a life that no crash ended remembers the last write of its page by that life, if this write
+/// In every run, after every event up to which the volume has taken the steps: each pending entry
+/// of a life that no crash ended remembers the last write of its page by that life, if this write
 /// carried it, or carried it along, and was reported failed.
 pub fn failed_writes_are_remembered()
     ensures { InEveryRun FailedWritesAreRemembered }
