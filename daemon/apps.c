@@ -244,8 +244,8 @@ static bool take(struct stream *it, struct evbuffer *in) {
 }
 
 void apps_begin(void) {
-    static struct listener listener = {.take = take, .most = INT32_MAX};
-    stream_listen_own(&listener, "app");
+    static const struct kind kind = {.take = take, .most = INT32_MAX};
+    stream_listen_own(&kind, "app");
 }
 
 int apps_ask(const char *path) {

@@ -45,7 +45,6 @@ static bool greet(struct stream *it, const uint8_t *at) {
         return false;
     }
     if (links[node]) stream_drop(links[node]);
-    it->listener = NULL;
     it->peer = node;
     links[node] = it;
     say(LEVEL_NOTICE, "%s is connected", word_of_node(node));
@@ -77,26 +76,23 @@ static void gone(struct stream *it) {
     if (!config.is_server) timer_set(again, AGAIN);
 }
 
+static const struct kind kind = {
+    .is_of_nodes = true, .most = STRANGERS_MOST, .take = take, .gone = gone};
+
 /* A client connects to each server to which it isn't connected. */
 static void connect_links(UNUSED_OF_EVENT) {
     const uint8_t greeting[GREETING] = {'t', 'a', 'n', 'k', 0, 1, 0, (uint8_t)config.node};
     for (uint16_t number = 1; number <= config.servers; number++) {
         if (links[number]) continue;
-        struct stream *it = stream_connect(&config.server[number], TANK_SERVER_NODE(number));
-        links[number] = it;
-        if (it) {
-            it->take = take;
-            it->gone = gone;
-            bufferevent_write(it->pipe, greeting, sizeof greeting);
-        } else timer_set(again, AGAIN);
+        links[number] = stream_connect(&kind, &config.server[number], TANK_SERVER_NODE(number));
+        if (links[number]) evbuffer_add(stream_out(links[number]), greeting, sizeof greeting);
+        else timer_set(again, AGAIN);
     }
 }
 
 void links_begin(void) {
-    static struct listener listener = {
-        .is_of_nodes = true, .most = STRANGERS_MOST, .take = take, .gone = gone};
     again = evtimer_new(base, connect_links, NULL);
-    if (config.is_server) stream_listen(&listener, &config.server[config.number]);
+    if (config.is_server) stream_listen(&kind, &config.server[config.number]);
     else connect_links(0, 0, NULL);
 }
 

@@ -106,6 +106,7 @@ void hook_run(const char *event, uint16_t client) {
 
 static void hear_signal(int number, G_GNUC_UNUSED short what, G_GNUC_UNUSED void *data) {
     static bool is_ending;
+    if (number == SIGPIPE) return; /* the write failed, too */
     if (number == SIGHUP) {
         if (config.certificate && tls_load()) say(LEVEL_NOTICE, "the certificates were read again");
         return;
@@ -126,11 +127,10 @@ void loop_end(void) { is_over = true; }
 
 /* After each round of the loop, whatever the node gave in it goes out together. */
 static void run(void) {
-    static const int signals[] = {SIGTERM, SIGINT, SIGHUP};
+    static const int signals[] = {SIGTERM, SIGINT, SIGHUP, SIGPIPE};
     base = event_base_new();
     for (size_t i = 0; i < G_N_ELEMENTS(signals); i++)
         evsignal_add(evsignal_new(base, signals[i], hear_signal, NULL), NULL);
-    signal(SIGPIPE, SIG_IGN);
     keep_begin();
     if (words.trace) trace_begin(words.trace);
     node_begin();

@@ -34,8 +34,7 @@ static bool take(struct stream *it, struct evbuffer *in) {
 }
 
 void metrics_begin(void) {
-    static struct listener own = {.take = take, .most = READERS_MOST}, other;
-    other = own;
-    stream_listen_own(&own, "metrics");
-    if (config.metrics.size) stream_listen(&other, &config.metrics);
+    static const struct kind kind = {.take = take, .most = READERS_MOST};
+    stream_listen_own(&kind, "metrics");
+    if (config.metrics.size) stream_listen(&kind, &config.metrics);
 }

@@ -12,7 +12,7 @@
  *   Disk commands in time, and disks of blocks: disks.c.
  *   An ask's number is used once: asks.c, new_op.
  *   Frames arrive as they were sent, and `from` is that of the peer: links.c, node_hear.
- *   Frames from and to node 0 stay here: node_hear, give.
+ *   Frames from and to node 0 stay here: node_hear, give_all.
  *   Demands after grants: node_hear, is_early.
  *
  * The library doesn't have groups of changes, snapshots, events, `due` and `leave` yet. When it

@@ -53,7 +53,7 @@ void stream_drop(struct stream *it) {
     if (!it->pipe) return;
     bufferevent_free(it->pipe);
     it->pipe = NULL;
-    if (it->gone) it->gone(it);
+    if (it->kind->gone) it->kind->gone(it);
 }
 
 void stream_refuse(struct stream *it, const char *why) {
@@ -65,7 +65,7 @@ void stream_refuse(struct stream *it, const char *why) {
 
 static void hear(struct bufferevent *pipe, void *stream) {
     struct stream *it = stream;
-    if (!it->take(it, bufferevent_get_input(pipe))) stream_drop(it);
+    if (!it->kind->take(it, bufferevent_get_input(pipe))) stream_drop(it);
 }
 
 static void was_sent(struct bufferevent *pipe, void *stream) {
@@ -111,24 +111,21 @@ void streams_flush(void) {
 
 /* Opening one */
 
-static bool is_secure(const struct address *it) {
-    return it->place.ss_family != AF_UNIX && !config.is_insecure;
-}
-
 /* A client expects the server of this name; a server's peer names itself later. */
-static struct stream *open_stream(int file, bool is_tls, const char *expected) {
-    const int one = 1;
+static struct stream *open_stream(const struct kind *kind, int file, bool is_unix,
+                                  const char *expected) {
+    const int one = 1, state = expected ? BUFFEREVENT_SSL_CONNECTING : BUFFEREVENT_SSL_ACCEPTING;
+    bool is_tls = kind->is_of_nodes && !is_unix && !config.is_insecure;
     struct stream *it = g_new0(struct stream, 1);
+    it->kind = kind;
     it->is_up = !is_tls;
     it->tls = is_tls ? SSL_new(context) : NULL;
     if (is_tls) SSL_set_hostflags(it->tls, HOST_FLAGS);
     if (expected && is_tls && SSL_set1_host(it->tls, expected) != 1) fail("out of memory");
-    setsockopt(file, IPPROTO_TCP, TCP_NODELAY, &one, sizeof one); /* if it is over TCP */
-    it->pipe = !is_tls ? bufferevent_socket_new(base, file, BEV_OPT_CLOSE_ON_FREE)
-                       : bufferevent_openssl_socket_new(base, file, it->tls,
-                                                        expected ? BUFFEREVENT_SSL_CONNECTING
-                                                                 : BUFFEREVENT_SSL_ACCEPTING,
-                                                        BEV_OPT_CLOSE_ON_FREE);
+    if (!is_unix) setsockopt(file, IPPROTO_TCP, TCP_NODELAY, &one, sizeof one);
+    it->pipe =
+        is_tls ? bufferevent_openssl_socket_new(base, file, it->tls, state, BEV_OPT_CLOSE_ON_FREE)
+               : bufferevent_socket_new(base, file, BEV_OPT_CLOSE_ON_FREE);
     bufferevent_setcb(it->pipe, hear, was_sent, happened, it);
     bufferevent_enable(it->pipe, EV_READ);
     if (!is_tls) bufferevent_disable(it->pipe, EV_WRITE);
@@ -144,42 +141,40 @@ int socket_connect(const struct address *address) {
     return -1;
 }
 
-struct stream *stream_connect(const struct address *address, uint16_t peer) {
+/* Null if that failed. */
+struct stream *stream_connect(const struct kind *kind, const struct address *address,
+                              uint16_t peer) {
     int file = socket_connect(address);
     if (file < 0) return NULL;
-    struct stream *it = open_stream(file, is_secure(address), word_of_node(peer));
+    bool is_unix = address->place.ss_family == AF_UNIX;
+    struct stream *it = open_stream(kind, file, is_unix, word_of_node(peer));
     it->peer = peer;
     return it;
 }
 
-/* If the listener has as many streams without a name as it may have, the oldest one is dropped. */
-static void accept_stream(G_GNUC_UNUSED struct evconnlistener *it, int file,
-                          G_GNUC_UNUSED struct sockaddr *place, G_GNUC_UNUSED int size,
-                          void *data) {
-    const struct listener *from = data;
+/* If there are as many streams whose peer isn't known as there may be, the oldest is dropped. */
+static void accept_stream(G_GNUC_UNUSED struct evconnlistener *from, int file,
+                          struct sockaddr *place, G_GNUC_UNUSED int size, void *kind) {
     struct stream *oldest = NULL;
     int found = 0;
     for (const GList *at = streams.head; at; at = at->next) {
-        struct stream *other = at->data;
-        if (other->pipe && other->listener == from) oldest = other, found++;
+        struct stream *it = at->data;
+        if (it->pipe && it->kind == kind && !it->peer) oldest = it, found++;
     }
-    if (found >= from->most) stream_drop(oldest);
-    struct stream *made = open_stream(file, from->is_secure, NULL);
-    made->listener = from;
-    made->take = from->take;
-    made->gone = from->gone;
+    if (found >= ((const struct kind *)kind)->most) stream_drop(oldest);
+    open_stream(kind, file, place->sa_family == AF_UNIX, NULL);
 }
 
 /* Listens in place of an earlier socket at this address. */
-void stream_listen(struct listener *it, const struct address *address) {
+void stream_listen(const struct kind *kind, const struct address *address) {
     const struct sockaddr *place = (const struct sockaddr *)&address->place;
+    const unsigned options = LEV_OPT_CLOSE_ON_EXEC | LEV_OPT_REUSEABLE;
     if (place->sa_family == AF_UNIX) unlink(((const struct sockaddr_un *)place)->sun_path);
     mode_t mask = umask(0007); /* a socket is for its owner and group */
-    if (!evconnlistener_new_bind(base, accept_stream, it, LEV_OPT_CLOSE_ON_EXEC | LEV_OPT_REUSEABLE,
-                                 WAITING, place, (int)address->size))
+    if (!evconnlistener_new_bind(base, accept_stream, (void *)kind, options, WAITING, place,
+                                 (int)address->size))
         fail("%s: %s", address->words, strerror(errno));
     umask(mask);
-    it->is_secure = it->is_of_nodes && is_secure(address);
 }
 
 struct address address_of_path(const char *path) {
@@ -191,8 +186,8 @@ struct address address_of_path(const char *path) {
     return it;
 }
 
-void stream_listen_own(struct listener *it, const char *kind) {
-    g_autofree char *path = g_strdup_printf("%s/%s.%s", config.run, config.name, kind);
+void stream_listen_own(const struct kind *kind, const char *name) {
+    g_autofree char *path = g_strdup_printf("%s/%s.%s", config.run, config.name, name);
     struct address own = address_of_path(path);
-    stream_listen(it, &own);
+    stream_listen(kind, &own);
 }

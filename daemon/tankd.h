@@ -106,26 +106,25 @@ void trace_end(void); /* the node ends in order */
 struct stream {
     struct bufferevent *pipe; /* null after the end */
     SSL *tls;
-    const struct listener *listener; /* that accepted it, until it is named */
-    bool is_up, is_last;             /* the handshake is done; it ends when all is sent */
-    uint16_t peer;                   /* its node, or 0 */
-    unsigned held; /* pointers to it that asks have: it is freed when there are none */
+    const struct kind *kind;
+    bool is_up, is_last; /* the handshake is done; it ends when all is sent */
+    uint16_t peer;       /* its node, or 0 */
+    unsigned held;       /* pointers to it that asks have: it is freed when there are none */
+};
+
+struct kind {         /* of streams */
+    bool is_of_nodes; /* over TCP, they need certificates */
+    int most;         /* streams whose peer isn't known; a new one replaces the oldest */
     bool (*take)(struct stream *, struct evbuffer *in); /* what came; whether the stream goes on */
     void (*gone)(struct stream *);                      /* it has ended; or null */
 };
 
-struct listener {
-    bool is_of_nodes, is_secure; /* over TCP, nodes need certificates */
-    int most;                    /* streams that have no name; a new one replaces the oldest */
-    bool (*take)(struct stream *, struct evbuffer *in);
-    void (*gone)(struct stream *);
-};
-
 struct address address_of_path(const char *path);
-void stream_listen(struct listener *, const struct address *);
-void stream_listen_own(struct listener *, const char *kind); /* at NODE.KIND in the folder `run` */
-int socket_connect(const struct address *);                  /* -1 if that failed */
-struct stream *stream_connect(const struct address *, uint16_t peer); /* null if that failed */
+void stream_listen(const struct kind *, const struct address *);
+void stream_listen_own(const struct kind *,
+                       const char *name);   /* at NODE.NAME in the folder `run` */
+int socket_connect(const struct address *); /* -1 if that failed */
+struct stream *stream_connect(const struct kind *, const struct address *, uint16_t peer);
 static inline struct evbuffer *stream_out(struct stream *it) {
     return bufferevent_get_output(it->pipe);
 }
