@@ -24,7 +24,6 @@ struct pending {
 static GQueue waiting[SERVERS_MOST + 1]; /* by server; 0 has those of others */
 static GQueue stalled;                   /* wait for a sync of all files */
 static struct pending pending[PENDING_MOST];
-static int pending_at[SERVERS_MOST + 1], all_pending;
 static struct written *written;
 static size_t written_count;
 static unsigned syncs, pages; /* syncs of all files that are under way; pages since they began */
@@ -114,7 +113,7 @@ static uint64_t new_op(void) {
     return next++;
 }
 
-static void give_one(struct request *it, int place) {
+static void give_one(struct request *it) {
     static uint8_t frame[TANK_FRAME_MOST];
     size_t size;
     it->ask.op = new_op();
@@ -129,10 +128,16 @@ static void give_one(struct request *it, int place) {
     struct pending *room = pending;
     while (room->ask.op) room++;
     *room = (struct pending){it, it->ask};
-    pending_at[place]++;
-    all_pending++;
     count(COUNT_ASKS);
     node_take(frame, size);
+}
+
+/* How many asks are under way, at a server or at all of them (-1). */
+static int pending_at(int place) {
+    int found = 0;
+    for (const struct pending *it = pending; it < pending + PENDING_MOST; it++)
+        found += it->ask.op && (place < 0 || place_of(it->ask.server) == place);
+    return found;
 }
 
 /* No server takes all the room that the client has, so that one that doesn't answer doesn't keep
@@ -140,14 +145,8 @@ static void give_one(struct request *it, int place) {
 void asks_give(void) {
     const int share = PENDING_MOST / (int)config.servers;
     for (int place = 0; place <= (int)config.servers; place++)
-        while (waiting[place].head && all_pending < PENDING_MOST && pending_at[place] < share)
-            give_one(g_queue_pop_head(&waiting[place]), place);
-}
-
-static void free_pending(struct pending *it) {
-    pending_at[place_of(it->ask.server)]--;
-    all_pending--;
-    it->ask.op = 0;
+        while (waiting[place].head && pending_at(-1) < PENDING_MOST && pending_at(place) < share)
+            give_one(g_queue_pop_head(&waiting[place]));
 }
 
 void asks_answer(const uint8_t *frame, size_t size) {
@@ -159,7 +158,7 @@ void asks_answer(const uint8_t *frame, size_t size) {
     if (place == pending + PENDING_MOST) return;
     struct request *it = place->request;
     note(it, &place->ask, reply.answer.answer);
-    free_pending(place);
+    place->ask.op = 0;
     bool is_stalled = it && it->is_patient && reply.answer.answer == TANK_ANSWER_DIRTY_FULL;
     if (is_stalled && !syncs) sync_all();
     if (is_stalled && syncs) g_queue_push_tail(&stalled, it);
@@ -179,9 +178,8 @@ void asks_drop(void) {
     GQueue all = stalled;
     stalled = (GQueue)G_QUEUE_INIT;
     for (struct pending *it = pending; it < pending + PENDING_MOST; it++) {
-        if (!it->ask.op) continue;
-        free_pending(it);
-        if (it->request) g_queue_push_tail(&all, it->request);
+        if (it->ask.op && it->request) g_queue_push_tail(&all, it->request);
+        it->ask.op = 0;
     }
     for (int place = 0; place <= SERVERS_MOST; place++)
         while (waiting[place].head) g_queue_push_tail(&all, g_queue_pop_head(&waiting[place]));

@@ -89,9 +89,8 @@ static void happened(struct bufferevent *pipe, short what, void *stream) {
 static void give(struct stream *it) {
     struct evbuffer *out = bufferevent_get_output(it->pipe);
     short enabled = bufferevent_get_enabled(it->pipe);
-    bool is_full = evbuffer_get_length(out) > OUT_MOST;
-    if (is_full == !!(enabled & EV_READ))
-        (is_full ? bufferevent_disable : bufferevent_enable)(it->pipe, EV_READ);
+    if (evbuffer_get_length(out) > OUT_MOST) bufferevent_disable(it->pipe, EV_READ);
+    else if (!(enabled & EV_READ)) bufferevent_enable(it->pipe, EV_READ);
     if (!evbuffer_get_length(out) || enabled & EV_WRITE) return;
     evbuffer_unfreeze(out, true);
     evbuffer_write(out, bufferevent_getfd(it->pipe));
