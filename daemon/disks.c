@@ -39,9 +39,14 @@ struct command {
     };
 };
 
-static GAsyncQueue **waiting; /* for each thread, the commands on its blocks, in their order */
-static GAsyncQueue *ended;
-static int end_file;                  /* tells the loop that commands have ended */
+static struct worker { /* a thread, and the commands on its blocks, in their order */
+    GCond wake;
+    GQueue waiting;
+} * workers;
+
+static GMutex lock;                   /* of the queues that threads use */
+static GQueue ended = G_QUEUE_INIT;   /* commands that must be reported */
+static int end_file;                  /* tells the loop that there are some */
 static _Atomic uint64_t under_way;    /* commands that were submitted and haven't ended */
 static _Atomic int64_t slow, failing; /* for trials */
 static struct { _Atomic uint64_t life, end; } leases[SERVERS_MOST + 1];
@@ -99,17 +104,27 @@ static void sync_writes(struct command **batch, int size, uint16_t disk) {
     }
 }
 
-static void *work(void *queue) {
+static int take_batch(struct worker *it, struct command **batch) {
+    int size = 0;
+    g_mutex_lock(&lock);
+    while (!it->waiting.head) g_cond_wait(&it->wake, &lock);
+    while (size < BATCH && (batch[size] = g_queue_pop_head(&it->waiting))) size++;
+    g_mutex_unlock(&lock);
+    return size;
+}
+
+static void *work(void *worker) {
     struct command *batch[BATCH];
     for (;;) {
-        int size = 1;
-        batch[0] = g_async_queue_pop(queue);
-        while (size < BATCH && (batch[size] = g_async_queue_try_pop(queue))) size++;
+        int size = take_batch(worker, batch);
         for (int i = 0; i < size; i++) begin(batch[i]);
         for (uint16_t disk = 1; disk <= config.disks; disk++) sync_writes(batch, size, disk);
-        for (int i = 0; i < size; i++) g_async_queue_push(ended, batch[i]);
+        g_mutex_lock(&lock);
+        bool is_told = ended.head;
+        for (int i = 0; i < size; i++) g_queue_push_tail(&ended, batch[i]);
         under_way -= (uint64_t)size;
-        eventfd_write(end_file, 1);
+        g_mutex_unlock(&lock);
+        if (!is_told) eventfd_write(end_file, 1);
     }
     return NULL;
 }
@@ -140,10 +155,17 @@ static void report(struct command *it) {
     if (it->writes && submitted[it->server]) submitted[it->server]--;
 }
 
+static struct command *take(GQueue *queue, bool is_ended) {
+    g_mutex_lock(&lock);
+    struct command *it = g_queue_pop_head(queue);
+    under_way -= it && !is_ended;
+    g_mutex_unlock(&lock);
+    return it;
+}
+
 /* What is reported may make the client fence itself, which drops the rest. */
 static void hear_ends(UNUSED_OF_EVENT) {
-    for (struct command *it; (it = g_async_queue_try_pop(ended)); g_queue_push_head(&spare, it))
-        report(it);
+    for (struct command *it; (it = take(&ended, true)); g_queue_push_head(&spare, it)) report(it);
 }
 
 void disks_begin(void) {
@@ -157,12 +179,9 @@ void disks_begin(void) {
     }
     end_file = eventfd(0, EFD_NONBLOCK | EFD_CLOEXEC); /* each write is heard, and needs no read */
     event_add(event_new(base, end_file, EV_READ | EV_PERSIST | EV_ET, hear_ends, NULL), NULL);
-    ended = g_async_queue_new();
-    waiting = g_new(GAsyncQueue *, config.workers);
-    for (uint64_t i = 0; i < config.workers; i++) {
-        waiting[i] = g_async_queue_new();
-        g_thread_unref(g_thread_new("disks", work, waiting[i]));
-    }
+    workers = g_new0(struct worker, config.workers);
+    for (uint64_t i = 0; i < config.workers; i++)
+        g_thread_unref(g_thread_new("disks", work, &workers[i]));
 }
 
 void disks_submit(const uint8_t *frame, size_t size) {
@@ -184,8 +203,12 @@ void disks_submit(const uint8_t *frame, size_t size) {
     it->life = leases[it->server].life;
     submitted[it->server] += it->writes;
     /* commands on one block are done one after another, in this order */
+    struct worker *worker = &workers[(it->disk + it->command.block / RUN) % config.workers];
+    g_mutex_lock(&lock);
+    g_queue_push_tail(&worker->waiting, it);
     under_way++;
-    g_async_queue_push(waiting[(it->disk + it->command.block / RUN) % config.workers], it);
+    g_mutex_unlock(&lock);
+    g_cond_signal(&worker->wake);
 }
 
 void disks_lease(uint16_t server, uint64_t life, uint64_t end) {
@@ -198,9 +221,9 @@ bool disks_write(uint16_t server) { return submitted[server]; }
 void disks_drop(void) {
     struct command *it;
     for (uint64_t i = 0; i < config.workers; i++)
-        for (; (it = g_async_queue_try_pop(waiting[i])); under_way--) g_queue_push_head(&spare, it);
+        while ((it = take(&workers[i].waiting, false))) g_queue_push_head(&spare, it);
     while (under_way) g_usleep(100); /* this is rare */
-    for (; (it = g_async_queue_try_pop(ended)); g_queue_push_head(&spare, it))
+    for (; (it = take(&ended, true)); g_queue_push_head(&spare, it))
         if (it->effect) report(it);
     memset(submitted, 0, sizeof submitted);
 }
