@@ -18,11 +18,11 @@
  *     }
  *     tank_client_close(&client);
  *
- * Frames. A frame is a length in four bytes, the highest first, and the bytes of one message
- * ("Wire"). A call takes one whole frame. What is taken out is a sequence of whole frames, in
- * pieces as large as the caller's buffer. tank_frame_at says where the first one ends, and to which
- * node it goes. A client's node number is 1 to 16, a server's is 32768 plus its number, and node 0
- * is the client's own surroundings. These receive its answers and its disk commands, which
+ * Frames. A frame is a length in four bytes, the most significant first, and the bytes of one
+ * message ("Wire"). A call takes one whole frame. What is taken out is a sequence of whole frames,
+ * in pieces as large as the caller's buffer. tank_frame_at says where the first one ends, and to
+ * which node it goes. A client's node number is 1 to 16, a server's is 32768 plus its number, and
+ * node 0 is the client's own surroundings. These receive its answers and its disk commands, which
  * tank_decode_answer and tank_decode_command show as structs. A tick, an application's ask and the
  * end of a disk command reach a node as frames, which tank_encode_tick, tank_encode_ask and
  * tank_encode_done make of structs. A frame that isn't for the node, or isn't an input for it, is
@@ -68,7 +68,7 @@ extern "C" {
 #endif
 
 /* The version of this header: a hundred times the major number, and the minor number. A minor
- * version adds calls, structs and numbers. A major version changes what there is, and is part of
+ * version adds calls, structs and numbers. A major version changes existing ones, and is part of
  * the shared library's name, libtank.so.1. A program that was compiled with this header runs with
  * each library of the same major version whose minor version is not below this one's. */
 #define TANK_VERSION 100

@@ -103,7 +103,7 @@ PLANTS = (
     Plant("a look-up finds an inode that never was", "NamesAnswerTruly", (
         ("Server", "name_found t (Ok ino) = replied t (bodies.Named (Ino ino))", "name_found t (Ok ino) = replied t (bodies.Named (Ino (ino + 1000)))"),), "names"),
     Plant("names are listed as they were at the start", "NamesAnswerTruly", (("Server", "(names.list t.state.stable.names dir after)", "(names.list names.fresh_names dir after)"),), "names"),
-    Plant("a look-up is of the names at the start", "NamesAnswerTruly", (
+    Plant("a look-up uses the names at the start", "NamesAnswerTruly", (
         ("Server", "name_found t (names.lookup t.state.stable.names dir n)", "name_found t (names.lookup names.fresh_names dir n)"),), "names"),
     Plant("a client takes the reply of an older request", "NamesAnswerTruly NamesChangeOnce AnswersAreLogged FaultsHaveACause LeasesAreDatedFromRequests", (
         ("ClientReplies", "is_counting number reply q = is_request_of number q && fits reply q.body", "is_counting number reply q = fits reply q.body"),), "names"),
@@ -187,9 +187,9 @@ PLANTS = (
         ("ClientPages", "is_hard st ino = not (has_dirty st.pages ino) && not (has_write_on st.commands ino)", "is_hard st ino = not (has_write_on st.commands ino)"),)),
     Plant("a changed page is hard by its older write", "HardIsHard ReadsReturnLastWrites DropsHaveACause", (
         ("ClientPages", "write_ended version now = if version == now then Hard else Redirty", "write_ended version now = Hard"),)),
-    Plant("the birth of a block is not looked at", "ReadsReturnLastWrites", (
+    Plant("the birth of a block is ignored", "ReadsReturnLastWrites", (
         ("ClientPages", "same_file tag.file f && (same_page tag.page p && (tag.birth == m.birth))", "same_file tag.file f && same_page tag.page p"),)),
-    Plant("a page is read as zeros while its place is not known", "ReadsReturnLastWrites", (
+    Plant("a page is read as zeros while it isn't known where it lies", "ReadsReturnLastWrites", (
         ("ClientPasses", "read_uncached t o f p None = keep o t", "read_uncached t o f p None = answer o (answers.Read (filled 0)) t"),)),
     Plant("a patch is over zeros", "ReadsReturnLastWrites DisksHoldWhatIsHard", (
         ("ClientPasses", "patch_at t o f p at bytes None = fetch t o f p", "patch_at t o f p at bytes None = patch_bytes t o f p at bytes (filled 0)"),)),

@@ -128,7 +128,7 @@ SEEN_BY_USERS = {
     "what is answered `quiesced` stays pending",
     "a look-up finds an inode that never was",
     "names are listed as they were at the start",
-    "a look-up is of the names at the start",
+    "a look-up uses the names at the start",
     "a client takes the reply of an older request",
     "an ask whose request is given up is answered as refused",
     "an ask that was sent before a lost lease is answered as refused",
@@ -149,7 +149,7 @@ SEEN_BY_USERS = {
     "a lock is released with dirty pages",
     "a sync is `hard` while pages are dirty",
     "a changed page is hard by its older write",
-    "the birth of a block is not looked at",
-    "a page is read as zeros while its place is not known",
+    "the birth of a block is ignored",
+    "a page is read as zeros while it isn't known where it lies",
 }
 PLANTS = PASSING + ANSWERS + EFFECTS + tuple(plant._replace(promises=A) for plant in OTHERS if plant.name in SEEN_BY_USERS)
