@@ -154,7 +154,7 @@ bool disks_write(uint16_t server); /* a write was submitted that hasn't ended */
 /* Drops the commands that wait, and returns when none is being done. node_command_ended is called
  * for those that took effect, and no more for others. */
 void disks_drop(void);
-void disks_try(bool slows, uint64_t number); /* for trials: milliseconds each; or so many fail */
+void disks_try(bool slows, uint64_t number); /* for trials: milliseconds each; or this many fail */
 
 /* asks.c: the asks of applications and of the folder, on their way to the client and back */
 enum { NAME_MOST = 64, ENTRIES_MOST = 256 }; /* bytes of a name, and entries of an answer */

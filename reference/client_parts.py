@@ -168,7 +168,7 @@ class Store:
         self.dirty[ino, page] = Dirty(data, self.versions)
 
     def oldest(self, count):
-        """The first so many dirty pages by version that are being written or were not tried in
+        """This many of the first dirty pages by version that are being written or were not tried in
         vain. Rule "Making room".
         """
         written = self.written()

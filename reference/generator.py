@@ -47,7 +47,7 @@ class Generator:
         return server, 2 + self.draws.below(8)
 
     def recent(self, count, span):
-        """One of the last of so many, or None if there are none and no further draw. Chapter
+        """One of the last of this many, or None if there are none and no further draw. Chapter
         "Generated schedules".
         """
         return count - self.draws.below(min(count, span)) if count else None

@@ -293,7 +293,7 @@ class Translator:
         raise NotUnderstood(f"{module.path}: {found} has no value")
 
     def call(self, head, count, arguments):
-        """A function of so many arguments that is given these: a value where there are enough, and
+        """A function of this many arguments that gets these: a value where there are enough, and
         otherwise a function of the rest.
         """
         if len(arguments) < count:

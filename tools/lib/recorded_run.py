@@ -33,7 +33,7 @@ PREMISES = {
     "MessageUnknown": "a node took a message that no node sent",
     "DiskOrder": "a disk gave what it held before, or never held: its effects are not in the order of its reports",
     "ClockBack": "a clock went back",
-    "NotRunning": "a node began anew without what outlives a crash",
+    "NotRunning": "a node began fresh, without what outlives a crash",
 }
 
 

@@ -16,7 +16,7 @@ import run_state
 
 ROOT = pathlib.Path(__file__).resolve().parents[2]
 MOST_CLIENTS = 15  # with more there is no room for a bell beside them
-MOST_WAITING = 32  # events that are given without a `sync`: what is observed of so many has room in the pipe
+MOST_WAITING = 32  # events that are given without a `sync`: what is observed of this many has room in the pipe
 ROOM = 1 << 20
 F_SETPIPE_SZ = 1031  # of Linux
 
