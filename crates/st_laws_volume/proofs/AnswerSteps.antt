@@ -1,11 +1,10 @@
 -- Which steps of an event are answers: only lines are; and what is answered is open in the volume.
-use Rattle.std.proofs.Common.{◌≡◌, ℕ, Bool, true, false, not, ◌&&◌, ◌||◌, ◌==◌, List, [], ◌∷◌, ◌++◌, map, Option, Some, None, refl, sym, ap, ◌∙◌, if◌then◌else◌}
+use Rattle.std.proofs.Common.{◌≡◌, ℕ, Bool, true, false, not, ◌||◌, ◌==◌, List, [], ◌∷◌, map, Option, Some, None, refl, sym, ap, ◌∙◌, if◌then◌else◌}
 use Rattle.std.specs.Prelude.{filter, find, is_some}
 use Rattle.std.specs.List.{list_all}
 use Rattle.st_base.specs.declared.ids.ClientId.{ClientId}
 use Rattle.st_base.specs.declared.ids.NodeId.{NodeId}
 use Rattle.st_base.specs.declared.ids.NodeId.TheVariants as nodes
-use Rattle.st_messages.specs.declared.ask.Ask.{Ask}
 use Rattle.st_messages.specs.declared.event.Event.{Event}
 use Rattle.st_messages.specs.declared.event.Event.TheVariants as events
 use Rattle.st_messages.specs.declared.message.Message.{Message}
@@ -14,7 +13,6 @@ use Rattle.st_rules.specs.declared.world.IssuedCommand.{IssuedCommand}
 use Rattle.st_rules.specs.declared.world.SentMessage.{SentMessage}
 use Rattle.st_rules.specs.Events.{is_same_instance}
 use Rattle.st_rules.specs.World.{World, WorldClient, issued_of, message_of, node_of, receiver_of, site_of}
-use Rattle.st_lemmas.proofs.Lookups.{if_false, if_true}
 use Rattle.st_lemmas.proofs.Tables.{and_both, and_left, and_right, and_true, find_first, find_next, not_true}
 use Rattle.st_lemmas.proofs.Truth.{clash}
 use Rattle.st_laws_volume.specs.Asks.{ask_key, in_volume}
@@ -24,7 +22,6 @@ use Rattle.st_laws_volume.specs.Witness.{Behind, does_at, of_delivery, of_messag
 use Rattle.st_laws_volume.proofs.AskSteps.{is_open_op}
 use Rattle.st_laws_volume.proofs.Options.{on_all}
 use Rattle.st_volume.specs.declared.step.VolumeStep.{VolumeStep}
-use Rattle.st_volume.specs.declared.step.VolumeStep.TheVariants as kinds
 use Rattle.st_volume.specs.Volume as volume
 use Rattle.st_volume.specs.Volume.{Pending, Volume, is_ask, is_of_client}
 

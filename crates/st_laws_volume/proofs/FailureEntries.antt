@@ -1,14 +1,13 @@
 -- What a failed write does to the entries of the volume, and what lines leave of those of the world.
 use Rattle.st_lemmas.proofs.Words
-use Words.{◌≡◌, ◌≤◌, ◌<◌, ◌⊎◌, ℕ, zero, suc, ◌+◌, ◌&&◌, ◌||◌, ◌==◌, Bool, true, false, List, [], ◌∷◌, ◌++◌, Option, Some, None, refl, sym, ap, ◌∙◌, subst, inl, inr, arith}
-use Words.{if◌then◌else◌, length, set, slice_get, ClientId, FileId, PageNo, Fate, LogEntry, Observation}
+use Words.{◌≡◌, ◌≤◌, ◌⊎◌, ℕ, zero, suc, ◌+◌, ◌&&◌, ◌||◌, ◌==◌, Bool, true, false, List, [], ◌∷◌, ◌++◌, Option, Some, None, refl, sym, ap, ◌∙◌, subst, inl, inr, arith}
+use Words.{if◌then◌else◌, set, slice_get, ClientId, FileId, PageNo, Fate, LogEntry, Observation}
 use Words.seen
-use Words.changes
 use Words.fates
 use Words.FlatLog as log
 use Words.Lines as lines
 use Words.Lookups.{if_false, or_right, some_is}
-use Words.Numbers.{get_below, get_old, set_other, set_own}
+use Words.Numbers.{get_old, set_other, set_own}
 use Words.Tables.{and_both, and_left, same_or_not}
 use Words.World.{World}
 use Rattle.st_laws_volume.proofs.FateKeeps.{AllKeep, Keeps}

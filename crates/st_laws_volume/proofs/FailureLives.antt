@@ -1,7 +1,7 @@
 -- The lives of entries and of the writes that carry them: those of a client at one server never fall along the log.
 use Rattle.st_lemmas.proofs.Words
-use Words.{◌≡◌, ◌≤◌, ◌<◌, ◌⊎◌, ℕ, zero, suc, ◌+◌, ◌&&◌, ◌==◌, Bool, true, false, List, [], ◌∷◌, ◌++◌, Option, Some, None, refl, sym, ap, ◌∙◌, subst, inl, inr, arith}
-use Words.{find, length, map, slice_get, eq-eqb, eqb-true, ClientId, ServerId, Life, Stamp, LogEntry, LogOwner, LeaseLife}
+use Words.{◌≡◌, ◌≤◌, ◌⊎◌, ℕ, zero, suc, ◌&&◌, ◌==◌, Bool, true, false, List, [], ◌∷◌, Option, Some, None, refl, sym, ap, ◌∙◌, subst, inl, inr, arith}
+use Words.{find, length, map, slice_get, eq-eqb, eqb-true, ClientId, ServerId, Life, LogEntry, LogOwner, LeaseLife}
 use Words.fates
 use Words.nodes
 use Words.Client as cl
@@ -14,7 +14,6 @@ use Words.Lists.{Has}
 use Words.Lookups.{some_is}
 use Words.Numbers.{get_below, get_has}
 use Words.Safety as safety
-use Words.Safety.{changes_alone}
 use Words.Tables.{and_both, and_true, found_at, has_map_in, some_passes}
 use Words.Truth.{clash, none_not_some}
 use Words.World as world

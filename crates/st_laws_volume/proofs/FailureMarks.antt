@@ -1,7 +1,7 @@
 -- In every run each pending entry remembers the failed write that carried it, if that was the last one of its page by its life.
 use Rattle.st_lemmas.proofs.Words
-use Words.{◌≡◌, ◌≤◌, ◌<◌, ◌⊎◌, ℕ, zero, suc, ◌+◌, not, ◌&&◌, ◌==◌, Bool, true, false, List, [], ◌∷◌, ◌++◌, Option, Some, None, Ok, refl, sym, ap, ◌∙◌, subst, inl, inr, arith}
-use Words.{if◌then◌else◌, length, list_all, list_any, map, option_and_then, option_map, slice_get, eq-eqb, eqb-true, ClientId, FileId, PageNo, Event, DiskCommand, LogEntry, LogOwner, Carried, IssuedCommand}
+use Words.{◌≡◌, ◌≤◌, ◌<◌, ◌⊎◌, ℕ, zero, suc, ◌+◌, ◌&&◌, ◌==◌, Bool, true, false, List, [], ◌∷◌, ◌++◌, Option, Some, None, Ok, refl, sym, ap, ◌∙◌, subst, inl, inr, arith}
+use Words.{if◌then◌else◌, length, list_all, list_any, option_and_then, option_map, slice_get, eq-eqb, eqb-true, ClientId, FileId, PageNo, Event, DiskCommand, LogEntry, LogOwner, Carried, IssuedCommand}
 use Words.changes
 use Words.events
 use Words.fates
@@ -12,11 +12,10 @@ use Words.Events as ev
 use Words.Events.{WorldTurn, is_change, is_same_instance, last_write, world_step}
 use Words.FlatLog as log
 use Words.Lines.{IsLogTold}
-use Words.Lists.{Has}
 use Words.Lookups.{any_last, some_is}
-use Words.Numbers.{get_below, get_has, get_there, numbered_below}
-use Words.Safety.{ChangesAreLocked, IsHead, Promise, Step, TheReportTellsTheLog, is_failure_of, reports_failure, step, steps}
-use Words.Tables.{and_both, and_true, not_true}
+use Words.Numbers.{get_below, get_has, get_there}
+use Words.Safety.{ChangesAreLocked, Promise, Step, TheReportTellsTheLog, is_failure_of, reports_failure, step, steps}
+use Words.Tables.{and_both, and_true}
 use Words.Truth.{below_or_not, client_is, clash, file_is, none_not_some}
 use Words.World as world
 use Words.World.{World, WorldClient, fresh_world, issued_of, numbered, site_of}
@@ -29,10 +28,9 @@ use Rattle.st_lemmas.proofs.Steps.{step_happens}
 use Rattle.st_promises.specs.Safe.{EveryRunIsSafe, IsSafeRun}
 use Rattle.st_laws_pages.specs.Asks.Law.{PlacesHold}
 use Rattle.st_laws_pages.specs.Disks.Folds.{owner_at}
-use Rattle.st_laws_pages.specs.Disks.Obligations.{FatesHold}
 use Rattle.st_laws_pages.specs.Disks.Runs.{PagesAfter}
 use Rattle.st_laws_pages.specs.Disks.World.{PagesHold}
-use Rattle.st_laws_pages.specs.Writes.Writes.{OpenAfter, OpenHold}
+use Rattle.st_laws_pages.specs.Writes.Writes.{OpenHold}
 use Rattle.st_laws_pages.proofs.Asks.Law.{places_law}
 use Rattle.st_laws_pages.proofs.Causes.Law.{Stand, fresh_places, fresh_stand, one_step}
 use Rattle.st_laws_pages.proofs.Disks.Effects.{report_finds}
@@ -41,7 +39,6 @@ use Rattle.st_laws_volume.specs.FateMarks.{AreRemembered, FailedWritesAreRemembe
 use Rattle.st_laws_volume.specs.Logs.{InEveryRun, IsLogOf, IsSame, ask_of, fate_of}
 use Rattle.st_laws_volume.specs.Options.{OnSome}
 use Rattle.st_laws_volume.specs.Seen.{failure, failure_of, failure_told, of_event}
-use Rattle.st_laws_volume.specs.StepKinds.{is_failed_write}
 use Rattle.st_laws_volume.specs.Witness.{Witness, begun, if_told, led_by, of_delivery, of_lines, steps_of, volume_after}
 use Rattle.st_laws_volume.proofs.Carried.{IsKept, Led, carried}
 use Rattle.st_laws_volume.proofs.CarriedEntries.{EntriesCarried, Longer, entries_kept, event_owned}
@@ -60,7 +57,7 @@ use Rattle.st_laws_volume.proofs.StepKinds.{both_inside, delivery_inside, is_ins
 use Rattle.st_volume.specs.declared.step.VolumeStep.{VolumeStep}
 use Rattle.st_volume.specs.declared.step.VolumeStep.TheVariants as kinds
 use Rattle.st_volume.specs.Pages as vpages
-use Rattle.st_volume.specs.Pages.{Entry, is_any, is_at, is_by_at, is_open, place_of, same_place}
+use Rattle.st_volume.specs.Pages.{Entry, is_at, is_by_at, is_open, place_of, same_place}
 use Rattle.st_volume.specs.Volume as volume
 use Rattle.st_volume.specs.Volume.{Volume, run}
 
@@ -397,7 +394,7 @@ module _ (past : List Step) (t : Traced) (e : Event) (sc : WorldTurn) (happened 
         -- the place of what it carried
         place_here : (i : ℕ) → owner_at w.log i ≡ Some (world.owner_carried x2 y2) →
             OnSome (λ z. z ≡ (y2.file, y2.page)) (option_and_then (λ (f : Entry). place_of f.what) (volume.numbered v.log i))
-        place_here zero h = cc h
+        place_here zero h = cc
         place_here (suc m) h =
             subst (λ z. OnSome (λ z. z ≡ (y2.file, y2.page)) (option_and_then (λ (f : Entry). place_of f.what) z)) (sym (numbered_suc v.log m))
             (go (slice_get w.log m) (slice_get v.log m) (same_at w.log v.log m a.entries) h)

@@ -1,7 +1,7 @@
 -- A write that is not reported and that carried a pending entry is the last write of its page by the entry's life, and of the instance that runs.
 use Rattle.st_lemmas.proofs.Words
-use Words.{◌≡◌, ◌≤◌, ◌<◌, ◌⊎◌, ℕ, zero, suc, ◌+◌, ◌&&◌, ◌==◌, Bool, true, false, List, [], ◌∷◌, ◌++◌, Option, Some, None, refl, sym, ap, ◌∙◌, subst, inl, inr, arith}
-use Words.{if◌then◌else◌, find, length, map, option_map, slice_get, eq-eqb, eqb-true, Command, ClientId, FileId, Life, PageNo, ServerId, DiskCommand, LogEntry, LogOwner, Carried, IssuedCommand}
+use Words.{◌≡◌, ◌≤◌, ◌<◌, ◌⊎◌, ℕ, zero, suc, ◌+◌, ◌&&◌, ◌==◌, Bool, true, false, List, [], ◌∷◌, Option, Some, None, refl, sym, ap, ◌∙◌, subst, inl, inr, arith}
+use Words.{if◌then◌else◌, find, option_map, slice_get, eq-eqb, eqb-true, Command, ClientId, FileId, Life, DiskCommand, LogEntry, LogOwner, Carried, IssuedCommand}
 use Words.commands
 use Words.fates
 use Words.reports

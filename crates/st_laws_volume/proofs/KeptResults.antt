@@ -1,6 +1,6 @@
 -- In every run only cuts and asks for names keep a result: a write or a patch that takes effect is answered at once.
 use Rattle.std.proofs.Common.{◌≡◌, ◌⊎◌, ℕ, Bool, true, false, not, ◌&&◌, ◌||◌, ◌==◌, List, [], ◌∷◌, ◌++◌, length, map, Option, Some, None, refl, sym, ap, ◌∙◌, subst, inl, inr, arith, if◌then◌else◌}
-use Rattle.std.specs.Prelude.{filter, find, is_some, option_and_then, option_map}
+use Rattle.std.specs.Prelude.{filter, find, option_and_then}
 use Rattle.std.specs.List.{list_all}
 use Rattle.std.proofs.lemmas.Bool.{eqb-true}
 use Rattle.st_base.specs.declared.config.Config.{Config}
@@ -21,7 +21,7 @@ use Rattle.st_rules.specs.declared.observation.Observation.{Observation}
 use Rattle.st_rules.specs.declared.observation.Observation.TheVariants as seen
 use Rattle.st_rules.specs.declared.world.SentMessage.{SentMessage}
 use Rattle.st_rules.specs.History.{Traced, traced}
-use Rattle.st_rules.specs.Safety.{AsksAreAnsweredOnce, Promise, Step, all_answered_once, all_followed, begins_written, is_followed, step, steps}
+use Rattle.st_rules.specs.Safety.{AsksAreAnsweredOnce, Step, all_answered_once, all_followed, begins_written, is_followed, step, steps}
 use Rattle.st_rules.specs.Server.{sender}
 use Rattle.st_rules.specs.World as world
 use Rattle.st_rules.specs.World.{World, fresh_world, message_of, node_of, receiver_of}
@@ -52,7 +52,7 @@ use Rattle.st_volume.specs.declared.step.Fate.{Fate}
 use Rattle.st_volume.specs.declared.step.Fate.TheVariants as fates
 use Rattle.st_volume.specs.Pages.{Entry, failed_up_to, is_any, is_cause}
 use Rattle.st_volume.specs.Volume as volume
-use Rattle.st_volume.specs.Volume.{Pending, Volume, acts, after_answer, answered, answers_so, arrived, closed, crashed, done, effect, ends, failed, failing, fails, is_ask, is_cut_or_name, is_of_client, is_read_of, is_sync_of, new_ask, notice, noticing, numbered, resulting, run, takes, with_changed, with_fate}
+use Rattle.st_volume.specs.Volume.{Pending, Volume, acts, after_answer, answered, answers_so, arrived, closed, done, effect, ends, failed, failing, fails, is_ask, is_cut_or_name, is_of_client, is_read_of, is_sync_of, new_ask, notice, noticing, numbered, resulting, run, takes, with_changed, with_fate}
 
 -- All open asks are right, but for one that has just taken effect.
 abbrev Closing : Type 0

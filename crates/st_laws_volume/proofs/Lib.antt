@@ -33,6 +33,7 @@ pub mod Logs
 pub mod OpenAnswers
 pub mod Options
 pub mod Parts
+pub mod ReadAnswers
 pub mod ReadContents
 pub mod ReadPages
 pub mod ReadPatches

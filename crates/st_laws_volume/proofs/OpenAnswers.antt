@@ -1,8 +1,7 @@
 -- In every run each answer is one to an open ask of the volume.
-use Rattle.std.proofs.Common.{◌≡◌, Bool, true, false, not, ◌&&◌, ◌==◌, List, [], ◌∷◌, ◌++◌, Option, Some, None, Ok, refl, sym, ap, ◌∙◌, subst, append_assoc}
-use Rattle.std.specs.Prelude.{find, is_some, option_and_then}
+use Rattle.std.proofs.Common.{◌≡◌, true, List, [], ◌∷◌, ◌++◌, Option, Some, None, Ok, refl, sym, ap, ◌∙◌, subst, append_assoc}
+use Rattle.std.specs.Prelude.{option_and_then}
 use Rattle.std.specs.List.{list_all}
-use Rattle.st_base.specs.declared.config.Config.{Config}
 use Rattle.st_base.specs.declared.ids.ClientId.{ClientId}
 use Rattle.st_messages.specs.declared.ask.Ask.TheVariants as asks
 use Rattle.st_messages.specs.declared.event.Event.{Event}
@@ -10,7 +9,7 @@ use Rattle.st_rules.specs.declared.observation.Observation.{Observation}
 use Rattle.st_rules.specs.declared.observation.Observation.TheVariants as seen
 use Rattle.st_rules.specs.Events.{WorldTurn, world_step}
 use Rattle.st_rules.specs.History.{Traced, traced}
-use Rattle.st_rules.specs.Safety.{Promise, Step, step, steps}
+use Rattle.st_rules.specs.Safety.{Step, step, steps}
 use Rattle.st_rules.specs.World.{World, fresh_world, site_of}
 use Rattle.st_lemmas.proofs.Tables.{and_true}
 use Rattle.st_lemmas.proofs.Truth.{eqb_self}
@@ -20,7 +19,7 @@ use Rattle.st_laws_pages.proofs.Asks.Law.{places_law}
 use Rattle.st_laws_pages.proofs.Causes.Placed.{places_at}
 use Rattle.st_laws_pages.proofs.Disks.Whole.{fates_law}
 use Rattle.st_laws_volume.specs.Asks.{HasAsksOf, at_site, in_volume}
-use Rattle.st_laws_volume.specs.StepKinds.{AnswersAreOpen, AnswersAreToOpenAsks, IsOpenAt}
+use Rattle.st_laws_volume.specs.StepKinds.{AnswersAreToOpenAsks, AtEachStep, IsOpenAt}
 use Rattle.st_laws_volume.specs.Logs.{InEveryRun}
 use Rattle.st_laws_volume.specs.Options.{OnSome}
 use Rattle.st_laws_volume.specs.Seen.{cause_of, of_event, of_line}
@@ -38,26 +37,37 @@ use Rattle.st_volume.specs.Volume as volume
 use Rattle.st_volume.specs.Volume.{Volume, run}
 
 -- Steps in two parts, and steps that aren't answers.
-opened_both : (xs ys : List VolumeStep) (v : Volume) → AnswersAreOpen xs v → OnSome (AnswersAreOpen ys) (run xs v) → AnswersAreOpen (xs ++ ys) v
-unfolding AnswersAreOpen run
-opened_both [] ys v a b = b
-opened_both (x ∷ xs) ys v a b = (a.0, go (volume.step v x) a.1 b (λ u. opened_both xs ys u))
+pub at_both : (fact : VolumeStep → Volume → Type 0) (xs ys : List VolumeStep) (v : Volume) → AtEachStep fact xs v → OnSome (AtEachStep fact ys) (run xs v) →
+    AtEachStep fact (xs ++ ys) v
+unfolding AtEachStep run
+at_both fact [] ys v a b = b
+at_both fact (x ∷ xs) ys v a b = (a.0, go (volume.step v x) a.1 b (λ u. at_both fact xs ys u))
   where
-    go : (o : Option Volume) → OnSome (AnswersAreOpen xs) o → OnSome (AnswersAreOpen ys) (option_and_then (run xs) o) →
-        ((u : Volume) → AnswersAreOpen xs u → OnSome (AnswersAreOpen ys) (run xs u) → AnswersAreOpen (xs ++ ys) u) → OnSome (AnswersAreOpen (xs ++ ys)) o
+    go : (o : Option Volume) → OnSome (AtEachStep fact xs) o → OnSome (AtEachStep fact ys) (option_and_then (run xs) o) →
+        ((u : Volume) → AtEachStep fact xs u → OnSome (AtEachStep fact ys) (run xs u) → AtEachStep fact (xs ++ ys) u) →
+        OnSome (AtEachStep fact (xs ++ ys)) o
     go None p q h = tt
     go (Some u) p q h = h u p q
 
-silent_at : (it : VolumeStep) (v : Volume) → is_silent it ≡ true → IsOpenAt it v
-silent_at (kinds.Answered c op answer) v q = cc
-silent_at it v q = tt
+-- a fact of answers alone
+abbrev pub OfAnswers : (VolumeStep → Volume → Type 0) → Type 0
+OfAnswers fact = (it : VolumeStep) (v : Volume) → is_silent it ≡ true → fact it v
 
-silent_open : (its : List VolumeStep) (v : Volume) → list_all is_silent its ≡ true → AnswersAreOpen its v
-unfolding AnswersAreOpen
-silent_open [] v q = tt
-silent_open (it ∷ its) v q =
+pub at_silent : (fact : VolumeStep → Volume → Type 0) → OfAnswers fact → (its : List VolumeStep) (v : Volume) → list_all is_silent its ≡ true →
+    AtEachStep fact its v
+unfolding AtEachStep
+at_silent fact of [] v q = tt
+at_silent fact of (it ∷ its) v q =
     let b = and_true (is_silent it) (list_all is_silent its) q in
-    (silent_at it v b.0, on_all (AnswersAreOpen its) (λ u. silent_open its u b.1) (volume.step v it))
+    (of it v b.0, on_all (AtEachStep fact its) (λ u. at_silent fact of its u b.1) (volume.step v it))
+
+pub at_one : (fact : VolumeStep → Volume → Type 0) (it : VolumeStep) (v : Volume) → fact it v → AtEachStep fact (it ∷ []) v
+unfolding AtEachStep
+at_one fact it v h = (h, on_all (AtEachStep fact []) (λ u. tt) (volume.step v it))
+
+open_silent : OfAnswers IsOpenAt
+open_silent (kinds.Answered c op answer) v q = cc
+open_silent it v q = tt
 
 -- Each answer of these lines is one to an open ask.
 module _ (w : World) where
@@ -90,17 +100,17 @@ module _ (w : World) where
       (λ z j c. subst (AllOpenFor w c os) (sym (j c ∙ delivery_dull c bs v w e (in_volume y c))) (h c)) (run (of_delivery bs v w e) y)
       (of_each (of_delivery bs v w e) y (run (of_delivery bs v w e) y) (λ c. run_tells c (of_delivery bs v w e) y))
 
-  block_opened : (o : Observation) (os : List Observation) (u : Volume) → Open (o ∷ os) u → AnswersAreOpen (block o os) u
-  unfolding before_line of_line AnswersAreOpen
+  block_opened : (o : Observation) (os : List Observation) (u : Volume) → Open (o ∷ os) u → AtEachStep IsOpenAt (block o os) u
+  unfolding before_line of_line AtEachStep
   block_opened (seen.Answered c op answer) os u h =
-      (open_there c op u ((h c).0 (eqb_self c.0)), on_all (AnswersAreOpen []) (λ z. tt) (volume.step u (kinds.Answered c op answer)))
+      at_one IsOpenAt (kinds.Answered c op answer) u (open_there c op u ((h c).0 (eqb_self c.0)))
   block_opened (seen.Wrote i c f p bytes) os u h =
-      silent_open (kinds.TakesEffect c (next_op os) ∷ kinds.Joined i (Some c) (asks.Write f p bytes) ∷ []) u refl
+      at_silent IsOpenAt open_silent (kinds.TakesEffect c (next_op os) ∷ kinds.Joined i (Some c) (asks.Write f p bytes) ∷ []) u refl
   block_opened (seen.Patched i c f p at bytes) os u h =
-      silent_open (kinds.TakesEffect c (next_op os) ∷ kinds.Joined i (Some c) (asks.Patch f p at bytes) ∷ []) u refl
-  block_opened (seen.CutAt i f p) os u h = silent_open (kinds.Joined i None (asks.Cut f p) ∷ []) u refl
-  block_opened (seen.Hardened i) os u h = silent_open (kinds.Hardened i ∷ []) u refl
-  block_opened (seen.Dropped i cause) os u h = silent_open (kinds.Dropped i (cause_of w cause) ∷ []) u refl
+      at_silent IsOpenAt open_silent (kinds.TakesEffect c (next_op os) ∷ kinds.Joined i (Some c) (asks.Patch f p at bytes) ∷ []) u refl
+  block_opened (seen.CutAt i f p) os u h = at_silent IsOpenAt open_silent (kinds.Joined i None (asks.Cut f p) ∷ []) u refl
+  block_opened (seen.Hardened i) os u h = at_silent IsOpenAt open_silent (kinds.Hardened i ∷ []) u refl
+  block_opened (seen.Dropped i cause) os u h = at_silent IsOpenAt open_silent (kinds.Dropped i (cause_of w cause) ∷ []) u refl
   block_opened (seen.Sent k m) os u h = tt
   block_opened (seen.Submitted k c number what) os u h = tt
   block_opened (seen.Leased c s end) os u h = tt
@@ -108,26 +118,27 @@ module _ (w : World) where
   block_opened (seen.Suspected s c start) os u h = tt
   block_opened (seen.Stolen s c life) os u h = tt
 
-  lines_opened : (os : List Observation) (u : Volume) → Open os u → AnswersAreOpen (of_lines w os) u
-  unfolding of_lines AnswersAreOpen
+  lines_opened : (os : List Observation) (u : Volume) → Open os u → AtEachStep IsOpenAt (of_lines w os) u
+  unfolding of_lines AtEachStep
   lines_opened [] u h = tt
   lines_opened (o ∷ os) u h =
-      subst (λ its. AnswersAreOpen its u) (append_assoc (before_line o os) (of_line w o) (of_lines w os))
-      (opened_both (block o os) (of_lines w os) u (block_opened o os u h)
-      (on_more (Open os) (AnswersAreOpen (of_lines w os)) (λ z j. lines_opened os z j) (run (block o os) u) (block_open o os u h)))
+      subst (λ its. AtEachStep IsOpenAt its u) (append_assoc (before_line o os) (of_line w o) (of_lines w os))
+      (at_both IsOpenAt (block o os) (of_lines w os) u (block_opened o os u h)
+      (on_more (Open os) (AtEachStep IsOpenAt (of_lines w os)) (λ z j. lines_opened os z j) (run (block o os) u) (block_open o os u h)))
 
 -- All steps of an event.
 steps_opened : (it : Witness) (x : Step) (v : Volume) →
-    ((c : ClientId) → AllOpenFor x.before.world c x.seen (told_all c (of_event x.before.world x.event) (in_volume v c))) → AnswersAreOpen (steps_of it v x) v
+    ((c : ClientId) → AllOpenFor x.before.world c x.seen (told_all c (of_event x.before.world x.event) (in_volume v c))) →
+    AtEachStep IsOpenAt (steps_of it v x) v
 steps_opened it x v h =
     let w : World = x.before.world in
     let first : List VolumeStep = of_event w x.event in
     let served : List VolumeStep = of_delivery it.behind v w x.event in
     let all : List VolumeStep = of_lines w x.seen in
-    opened_both first (served ++ all) v (silent_open first v (event_silent w x.event))
-    (on_more (Open w x.seen) (AnswersAreOpen (served ++ all))
-    (λ y k. opened_both served all y (silent_open served y (delivery_silent it.behind v w x.event))
-    (on_more (Open w x.seen) (AnswersAreOpen all) (λ z j. lines_opened w x.seen z j) (run served y) (served_open w x.event x.seen it.behind v y k)))
+    at_both IsOpenAt first (served ++ all) v (at_silent IsOpenAt open_silent first v (event_silent w x.event))
+    (on_more (Open w x.seen) (AtEachStep IsOpenAt (served ++ all))
+    (λ y k. at_both IsOpenAt served all y (at_silent IsOpenAt open_silent served y (delivery_silent it.behind v w x.event))
+    (on_more (Open w x.seen) (AtEachStep IsOpenAt all) (λ z j. lines_opened w x.seen z j) (run served y) (served_open w x.event x.seen it.behind v y k)))
     (run first v) (first_open w x.event x.seen v h))
 
 -- In every run.
@@ -136,12 +147,12 @@ pub open_left : (past : List Step) (t : Traced) (e : Event) (sc : WorldTurn) (it
 open_left past t e sc it f h = (event_leaves t.world e h.rests h.fates.lives.lives.sites (places_at t.world h.places) h.counted sc f).opened
 
 OpenToo : List Step → Step → Witness → Type 0
-OpenToo past x it = OnSome (λ v. AnswersAreOpen (steps_of it v x) v) it.volume
+OpenToo past x it = OnSome (λ v. AtEachStep IsOpenAt (steps_of it v x) v) it.volume
 
 open_on : IsGiven Given AsksHold OpenToo
 unfolding OpenToo
 open_on past t e sc it f g h = (
-  on_more (HasAsksOf t.world) (λ v. AnswersAreOpen (steps_of it v (step t e sc)) v)
+  on_more (HasAsksOf t.world) (λ v. AtEachStep IsOpenAt (steps_of it v (step t e sc)) v)
       (λ v k. steps_opened it (step t e sc) v
       (λ c. subst (λ a. AllOpenFor t.world c sc.seen (told_all c (of_event t.world e) a)) (sym (k c)) (open_left past t e sc it f h c)))
       it.volume h.agree,

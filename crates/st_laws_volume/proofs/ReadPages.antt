@@ -48,15 +48,15 @@ all_in_range n (e ∷ es) past t r =
     go (Ok sc) p h = (p, h (past ++ step t e sc ∷ []) (traced_after e t sc))
 
 -- What is carried: all events were in their ranges, each entry fits its page, and the logs agree.
-abbrev Given : ℕ → Promise
+abbrev pub Given : ℕ → Promise
 Given n past x = TheReportTellsTheLog past x × (InRange n past x × (AsksAreAnsweredOnce past x × AnswersAreLogged past x))
 
-record PagesHold (n : ℕ) (past : List Step) (t : Traced) (it : Witness) : Type 0 where
-  ranged : list_all (is_in_range n) past ≡ true
-  fit : list_all fits_page t.world.log ≡ true
-  agree : LogHolds past t it
+pub record PagesHold (n : ℕ) (past : List Step) (t : Traced) (it : Witness) : Type 0 where
+  pub ranged : list_all (is_in_range n) past ≡ true
+  pub fit : list_all fits_page t.world.log ≡ true
+  pub agree : LogHolds past t it
 
-pages_kept : (n : ℕ) → IsKept (Given n) (PagesHold n)
+pub pages_kept : (n : ℕ) → IsKept (Given n) (PagesHold n)
 pages_kept n past t e sc it f g h =
     let x : Step = step t e sc in
     let ranged : list_all (is_in_range n) (past ++ x ∷ []) ≡ true = all_last (is_in_range n) past x h.ranged g.1.0 in

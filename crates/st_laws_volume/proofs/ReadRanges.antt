@@ -197,7 +197,7 @@ module _ (n : ℕ) (past : List Step) (x : Step) (ranged : list_all (is_in_range
       let w = written_is c a b in
       logged_fits w.0 (ask_of past x w.0 w.1) o (ask_fits w.0 w.1) (subst (IsLogged past x (Some o)) w.2 l.0)
 
-  line_fits : (o : Observation) (os : List Observation) → is_followed o os ≡ true → AreLogged past x (Some o) os → LineFits o
+  pub line_fits : (o : Observation) (os : List Observation) → is_followed o os ≡ true → AreLogged past x (Some o) os → LineFits o
   line_fits (seen.Sent k m) os b l = tt
   line_fits (seen.Submitted k d number what) os b l = tt
   line_fits (seen.Answered d op answer) os b l = tt
@@ -211,7 +211,7 @@ module _ (n : ℕ) (past : List Step) (x : Step) (ranged : list_all (is_in_range
   line_fits (seen.Suspected s d start) os b l = tt
   line_fits (seen.Stolen s d life) os b l = tt
 
-  behind_fits : (f : World) (es : List LogEntry) (o : Observation) → LineFits o → Fit es → Fit (lines.log_behind f es o)
+  pub behind_fits : (f : World) (es : List LogEntry) (o : Observation) → LineFits o → Fit es → Fit (lines.log_behind f es o)
   unfolding lines.log_behind log.accept log.patch log.cut
   behind_fits f es (seen.Sent k m) l h = h
   behind_fits f es (seen.Submitted k d number what) l h = h

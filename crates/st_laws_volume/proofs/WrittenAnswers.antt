@@ -1,17 +1,13 @@
 -- In every run the volume takes each answer `written`: the ask that it answers is open, and has just taken effect as a write or a patch.
-use Rattle.std.proofs.Common.{◌≡◌, ℕ, Bool, true, false, not, ◌&&◌, ◌||◌, ◌==◌, List, [], ◌∷◌, ◌++◌, length, map, Option, Some, None, refl, sym, ap, ◌∙◌, subst, inl, append_assoc, if◌then◌else◌}
+use Rattle.std.proofs.Common.{◌≡◌, ℕ, Bool, true, false, ◌==◌, List, [], ◌∷◌, ◌++◌, length, map, Option, Some, None, refl, sym, ap, ◌∙◌, subst, append_assoc, if◌then◌else◌}
 use Rattle.std.specs.Prelude.{find, is_some, option_and_then, option_map}
-use Rattle.std.specs.List.{list_all, list_any}
 use Rattle.std.proofs.lemmas.Bool.{eq-eqb, eqb-true}
-use Rattle.st_base.specs.declared.config.Config.{Config}
 use Rattle.st_base.specs.declared.ids.ClientId.{ClientId}
 use Rattle.st_base.specs.declared.ids.FileId.{FileId}
-use Rattle.st_base.specs.declared.ids.PageNo.{PageNo}
 use Rattle.st_messages.specs.declared.answer.AppAnswer.{AppAnswer}
 use Rattle.st_messages.specs.declared.answer.AppAnswer.TheVariants as answers
 use Rattle.st_messages.specs.declared.ask.Ask.{Ask}
 use Rattle.st_messages.specs.declared.ask.Ask.TheVariants as asks
-use Rattle.st_messages.specs.declared.event.Event.{Event}
 use Rattle.st_rules.specs.declared.observation.Observation.{Observation}
 use Rattle.st_rules.specs.declared.observation.Observation.TheVariants as seen
 use Rattle.st_rules.specs.History.{Traced, traced}
@@ -28,13 +24,13 @@ use Rattle.st_laws_pages.proofs.Asks.Law.{places_law}
 use Rattle.st_laws_pages.proofs.Asks.World.{asks_more, asks_of}
 use Rattle.st_laws_pages.proofs.Disks.Whole.{fates_law}
 use Rattle.st_laws_volume.specs.Asks.{AsksOf, HasAsksOf, at_site, in_volume}
-use Rattle.st_laws_volume.specs.StepKinds.{AreTaken, StepsAreTaken, is_answer, is_written}
+use Rattle.st_laws_volume.specs.StepKinds.{AreTaken, StepsAreTaken, is_written}
 use Rattle.st_laws_volume.specs.Logs.{InEveryRun}
 use Rattle.st_laws_volume.specs.Options.{OnSome}
 use Rattle.st_laws_volume.specs.Seen.{cause_of, of_event, of_line}
 use Rattle.st_laws_volume.specs.Witness.{Witness, before_line, next_op, of_delivery, of_lines, steps_of}
 use Rattle.st_laws_volume.proofs.AnswerSteps.{OnlyAnswers, delivery_silent, event_silent, none_answered, open_there}
-use Rattle.st_laws_volume.proofs.AskedAsks.{AreOf, Asked, IsOf, Nothing, RightHold, all_has, asked_after, event_right, moved, right_begins, right_kept, run_right}
+use Rattle.st_laws_volume.proofs.AskedAsks.{AreOf, Asked, IsOf, RightHold, all_has, asked_after, event_right, moved, right_begins, right_kept, run_right}
 use Rattle.st_laws_volume.proofs.AskEvents.{AllOpenFor, OpenFor}
 use Rattle.st_laws_volume.proofs.Asks.{AsksHold, asks_begin, asks_kept}
 use Rattle.st_laws_volume.proofs.AskSteps.{is_open_op, told_all}

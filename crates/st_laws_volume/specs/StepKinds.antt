@@ -29,20 +29,23 @@ EntriesAreTold past x =
     OnSome (λ v. OnSome (λ u. u.lines ≡ length u.log) (run (steps_of (led_to past x) v x) v))
     (led_to past x).volume
 
--- an answer is one to an open ask
+-- a fact of each of these steps and the volume before it, where the volume has taken those before it
+unfoldable pub AtEachStep : (VolumeStep → Volume → Type 0) → List VolumeStep → Volume → Type 0
+AtEachStep fact [] v = ⊤
+AtEachStep fact (it ∷ rest) v = fact it v × OnSome (AtEachStep fact rest) (step v it)
+
+-- at each event, if the volume has taken the steps of all events before it
+abbrev pub AtEachStepOf : (VolumeStep → Volume → Type 0) → Promise
+AtEachStepOf fact past x =
+    OnSome (λ v. AtEachStep fact (steps_of (led_to past x) v x) v) (led_to past x).volume
+
+-- Answers are to open asks.
 abbrev pub IsOpenAt : VolumeStep → Volume → Type 0
 IsOpenAt (kinds.Answered c op answer) v = is_some (find (volume.is_ask c op) v.pending) ≡ true
 IsOpenAt it v = ⊤
 
--- each of these steps, where the volume has taken those before it
-unfoldable pub AnswersAreOpen : List VolumeStep → Volume → Type 0
-AnswersAreOpen [] v = ⊤
-AnswersAreOpen (it ∷ rest) v = IsOpenAt it v × OnSome (AnswersAreOpen rest) (step v it)
-
--- Answers are to open asks: at each event, if the volume has taken the steps of all events before it.
 abbrev pub AnswersAreToOpenAsks : Promise
-AnswersAreToOpenAsks past x =
-    OnSome (λ v. AnswersAreOpen (steps_of (led_to past x) v x) v) (led_to past x).volume
+AnswersAreToOpenAsks = AtEachStepOf IsOpenAt
 
 -- Kinds of steps.
 abbrev pub is_ask : VolumeStep → Bool

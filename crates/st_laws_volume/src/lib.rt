@@ -11,7 +11,7 @@ ghost use Rattle.st_laws_volume.specs.Fates.{StillEventsAreTaken};
 ghost use Rattle.st_laws_volume.specs.StepKinds.{AnswersAreToOpenAsks, EntriesAreTold, KindsAreEnough, StepsAreTaken, is_ask, is_change_line, is_failed_write, is_free, is_line, is_written};
 ghost use Rattle.st_laws_volume.specs.Laws.{RunsInParts, StepsShowTheEvent, TheStartAgrees};
 ghost use Rattle.st_laws_volume.specs.Logs.{InEveryRun, LogsAgree};
-ghost use Rattle.st_laws_volume.specs.Reads.{PagesAgree};
+ghost use Rattle.st_laws_volume.specs.Reads.{PagesAgree, ReadsGiveThePages};
 ghost use Rattle.st_laws_volume.specs.Results.{ResultsAreOfCutsAndNames};
 ghost use Rattle.st_laws_volume.specs.TreeNames.{NamesStaySound, SoundNamesDoTheSame};
 ghost use Rattle.st_laws_volume.specs.Trees.{TreesAgree};
@@ -143,6 +143,12 @@ pub fn results_are_of_cuts_and_names()
 /// all steps before it.
 pub fn answers_are_to_open_asks()
     ensures { InEveryRun AnswersAreToOpenAsks }
+{}
+
+/// In every run each read is answered with the bytes that its page contains in the volume at that
+/// answer, where the volume has taken all steps before it.
+pub fn reads_give_the_pages()
+    ensures { InEveryRun ReadsGiveThePages }
 {}
 
 /// In every run the volume takes each answer `written`, where it has taken all steps before it: the
