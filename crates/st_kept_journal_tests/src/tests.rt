@@ -1,6 +1,7 @@
 ghost use Rattle.std.specs.Prelude.{◌≡◌, length};
 
 use st_base::{Config, ServerId};
+use st_held_steps::HeldSteps;
 use st_journal_bytes::{
     AREAS_PLACE, AreaEnd, Current, FileFault, Header, HeaderFault, Identity, MADE_PLACE,
     MomentFault, check_moment, current_area, dated_of, file_of, last_moment, read_area, read_file,
@@ -301,5 +302,32 @@ fn a_journal_has_the_moment_of_its_last_change(rt: HostRuntime) -> Result<(), Fa
         Err(MomentFault::Earlier { last: 7 })
     );
     assert_eq!(rt; check_moment(None, 6), Err(MomentFault::Undated));
+    Ok(())
+}
+
+/// Takes a step that gives this, if one may be taken.
+fn push_step(held: &mut HeldSteps<u64>, what: u64, changed: bool) -> Result<(), AllocError> {
+    if !held.may_step() {
+        return Err(AllocError);
+    }
+    if held.push(what, changed).is_err() {
+        return Err(AllocError);
+    }
+    Ok(())
+}
+
+#[test]
+fn a_step_is_given_once_its_change_is_kept(rt: HostRuntime) -> Result<(), Fail> {
+    let mut held = HeldSteps::new(rt.alloc(), 2);
+    push_step(&mut held, 1, true)?;
+    push_step(&mut held, 2, false)?;
+    push_step(&mut held, 3, true)?;
+    assert_eq!(rt; held.may_step(), false);
+    assert_eq!(rt; held.pop(), None);
+    held.keep(1);
+    assert_eq!(rt; held.pop(), Some(1));
+    assert_eq!(rt; held.pop(), Some(2));
+    assert_eq!(rt; held.pop(), None);
+    assert_eq!(rt; held.waiting(), 1);
     Ok(())
 }
