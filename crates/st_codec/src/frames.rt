@@ -9,7 +9,7 @@ use st_messages::Message;
 use std::alloc::{AllocError, Global};
 use std::marker::Model;
 
-/// The first bytes of a stream of frames.
+/// What a stream of frames begins with.
 #[derive(Clone, Copy, Debug, PartialEq, Eq)]
 pub enum Front {
     /// Less than a whole frame.
@@ -20,8 +20,10 @@ pub enum Front {
     Whole(usize),
 }
 
+/// Returns what the bytes begin with: less than a whole frame, a length above 65,536, or a whole
+/// frame. Only the length is read.
 #[tactic(auto, unfolding(crate::specs::Frames::front))]
-fn front_of(rest: &[u8]) -> Front
+pub fn front_of(rest: &[u8]) -> Front
     ensures front { result ≡ frames.front rest.now }
     ensures whole { (n : ℕ) → result ≡ Front.Whole n → 4 + n ≤ length rest.now }
 {

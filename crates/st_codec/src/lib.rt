@@ -13,7 +13,7 @@ mod refusal;
 
 pub use decoder::decode;
 pub use encoder::{encode, put_message};
-pub use frames::FrameReader;
+pub use frames::{FrameReader, Front, front_of};
 pub use law::{bytes_that_follow, fits_a_frame, frames_in_any_pieces, one_spelling, spelled_size};
 pub use refusal::CodecRefusal;
 pub use st_messages::{

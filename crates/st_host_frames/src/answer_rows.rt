@@ -123,8 +123,8 @@ fn shown_lost_pages(alloc: Global, answer: &AppAnswer) -> Result<Vec<TankLostPag
     }
 }
 
-/// Writes the entries that the answer of a frame lists into a buffer, where they come first, and
-/// returns how many there are. `Frame` comes before `OtherKind`, and both before `Room`.
+/// Writes to the front of a buffer the entries that the answer of a frame lists, and returns how
+/// many there are. `Frame` comes before `OtherKind`, and both before `Room`.
 #[tactic(auto, using(crate::proofs::Faults::fails_then, crate::proofs::Faults::then_fails, crate::proofs::Faults::then_is, crate::proofs::Faults::is_put, crate::proofs::Faults::not_due, crate::proofs::Faults::not_put))]
 pub fn decode_entries(
     alloc: Global,
@@ -140,8 +140,8 @@ pub fn decode_entries(
     write_first(entries.as_slice(), out)
 }
 
-/// Writes the lost pages that the answer of a frame tells into a buffer, where they come first, and
-/// returns how many there are. `Frame` comes before `OtherKind`, and both before `Room`.
+/// Writes to the front of a buffer the lost pages that the answer of a frame tells, and returns how
+/// many there are. `Frame` comes before `OtherKind`, and both before `Room`.
 #[tactic(auto, using(crate::proofs::Faults::fails_then, crate::proofs::Faults::then_fails, crate::proofs::Faults::then_is, crate::proofs::Faults::is_put, crate::proofs::Faults::not_due, crate::proofs::Faults::not_put))]
 pub fn decode_lost_pages(
     alloc: Global,

@@ -29,9 +29,9 @@ fn ask_frame(alloc: Global, ask: &TankAsk, bytes: &[u8], other: &[u8]) -> Result
     frame_of(alloc, &message)
 }
 
-/// Writes the frame of an ask into a buffer, where it comes first, and returns how many bytes it
-/// has. `bytes` are those of the page, of the patch or of the name (of a list: the name after which
-/// it begins), and `other` those of a renaming's new name. `Unknown` comes before `Range`, and both
+/// Writes the frame of an ask to the front of a buffer, and returns how many bytes it has.
+/// `bytes` are those of the page, of the patch or of the name (of a list: the name after which it
+/// begins), and `other` those of a renaming's new name. `Unknown` comes before `Range`, and both
 /// before `Room`.
 #[tactic(auto, using(crate::proofs::Faults::is_put, crate::proofs::Faults::not_due, crate::proofs::Faults::not_put))]
 pub fn encode_ask(

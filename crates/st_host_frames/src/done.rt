@@ -65,9 +65,9 @@ fn done_frame(alloc: Global, done: &TankDone, page: &[u8]) -> Result<Vec<u8>, Ho
     frame_of(alloc, &message)
 }
 
-/// Writes the frame of the end of a disk command into a buffer, where it comes first, and returns
-/// how many bytes it has. `page` is the page that was read; otherwise it may be empty. `Unknown`
-/// comes before `Range`, and both before `Room`.
+/// Writes the frame of the end of a disk command to the front of a buffer, and returns how many
+/// bytes it has. `page` is the page that was read; otherwise it may be empty. `Unknown` comes
+/// before `Range`, and both before `Room`.
 #[tactic(auto, using(crate::proofs::Faults::is_put, crate::proofs::Faults::not_due, crate::proofs::Faults::not_put))]
 pub fn encode_done(
     alloc: Global,
@@ -83,8 +83,8 @@ pub fn encode_done(
     write_first(frame.as_slice(), out)
 }
 
-/// Writes the frame of a tick for this node into a buffer, where it comes first, and returns how
-/// many bytes it has. `Range` comes before `Room`.
+/// Writes the frame of a tick for this node to the front of a buffer, and returns how many bytes it
+/// has. `Range` comes before `Room`.
 #[tactic(auto, using(crate::proofs::Faults::is_put, crate::proofs::Faults::not_due, crate::proofs::Faults::not_put))]
 pub fn encode_tick(alloc: Global, node: u16, out: &mut [u8]) -> Result<usize, HostFault>
     ensures ok { IfOk result (Puts (tick_frame node) out.old out.new) }

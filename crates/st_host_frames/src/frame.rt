@@ -6,28 +6,20 @@ ghost use Rattle.st_host_frames.specs.Frame.{received, received_whole, spelled, 
 ghost use Rattle.st_messages.specs.Ranges.{fits};
 
 use crate::fault::FrameFault;
-use st_codec::{CodecRefusal, decode};
+use st_codec::{CodecRefusal, Front, decode, front_of};
 use st_messages::Message;
 use std::alloc::{AllocError, Global};
 
 /// The number of bytes after the length of the frame that the bytes begin with.
-#[tactic(auto, unfolding(st_codec::specs::Frames::front))]
 pub(crate) fn whole_len(bytes: &[u8]) -> Result<usize, FrameFault>
     ensures exact { result ≡ whole_by (front bytes.now) }
     ensures within { IfOk result (λ n. 4 + n ≤ length bytes.now) }
 {
-    if bytes.len() < 4 {
-        return Err(FrameFault::Cut);
+    match front_of(bytes) {
+        Front::Partial => Err(FrameFault::Cut),
+        Front::TooLong(length) => Err(FrameFault::Refused(CodecRefusal::FrameTooLong(length))),
+        Front::Whole(len) => Ok(len),
     }
-    let (head, body) = bytes.split_at(4);
-    let number = u32::from_be_bytes([head[0], head[1], head[2], head[3]]);
-    if 65_536 < number {
-        return Err(FrameFault::Refused(CodecRefusal::FrameTooLong(number)));
-    }
-    if body.len() < number as usize {
-        return Err(FrameFault::Cut);
-    }
-    Ok(number as usize)
 }
 
 /// Reads the message of a frame.

@@ -50,7 +50,7 @@ pub(crate) fn frame_of(alloc: Global, message: &Message) -> Result<Vec<u8>, Host
     Ok(fitting_frame(alloc, message)?)
 }
 
-/// Writes items into a buffer, where they come first, and returns how many there are.
+/// Writes items to the front of a buffer, and returns how many there are.
 pub(crate) fn write_first<T: Copy>(items: &[T], out: &mut [T]) -> Result<usize, HostFault>
     ensures ok { IfOk result (Wrote items.now out.old out.new) }
     ensures err { IfErr result (NotPut (Ok items.now) (length out.old)) }
