@@ -32,7 +32,7 @@ fn put_disk_refusal(text: &mut Vec<u8>, refusal: DiskRefusal) -> Result<(), Allo
     }
 }
 
-/// Appends a refusal; nothing for lack of memory.
+/// Appends a refusal; if it is lack of memory, appends nothing.
 fn put_refusal(text: &mut Vec<u8>, refusal: SharedRefusal) -> Result<(), AllocError>
     ensures { OnOk result (text.new.items ≡ text.old.items ++ scripts.refusal refusal) }
 {

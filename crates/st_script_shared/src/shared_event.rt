@@ -141,12 +141,25 @@ fn report_at(rest: &[u8]) -> Result<SharedEvent, ReadError>
     Ok(SharedEvent::Report(command, ok))
 }
 
-/// Reads the event of a line whose first word is a command's.
-#[tactic(auto, unfolding(crate::specs::SharedScripts::command_of))]
-fn command_of(word: &[u8], line: &[u8], rest: &[u8]) -> Result<SharedEvent, ReadError>
-    ensures { Gives (λ x. x) result (scripts.command_of word.now (split line.now) (words_behind rest.now)) }
+/// Reads the event of a line.
+#[tactic(auto, unfolding(crate::specs::SharedScripts::event, crate::specs::SharedScripts::event_of, crate::specs::SharedScripts::stop_of, crate::specs::SharedScripts::command_of))]
+pub(crate) fn shared_event(line: &[u8]) -> Result<SharedEvent, ReadError>
+    ensures { Gives (λ x. x) result (scripts.event (split line.now)) }
 {
-    if is(word, b"write") {
+    let (word, rest) = split_word(line);
+    if is(word, b"enter") {
+        act_at(ClientAct::Enter, rest)
+    } else if is(word, b"leave") {
+        act_at(ClientAct::Leave, rest)
+    } else if is(word, b"lock") {
+        act_at(ClientAct::Lock, rest)
+    } else if is(word, b"unlock") {
+        act_at(ClientAct::Unlock, rest)
+    } else if is(word, b"crash") {
+        act_at(ClientAct::Crash, rest)
+    } else if is(word, b"expire") {
+        act_at(ClientAct::Expire, rest)
+    } else if is(word, b"write") {
         write_at(rest)
     } else if is(word, b"read") {
         read_at(rest)
@@ -157,44 +170,4 @@ fn command_of(word: &[u8], line: &[u8], rest: &[u8]) -> Result<SharedEvent, Read
     } else {
         Err(unknown_word(line))
     }
-}
-
-#[tactic(auto, unfolding(crate::specs::SharedScripts::stop_of))]
-fn stop_of(word: &[u8], line: &[u8], rest: &[u8]) -> Result<SharedEvent, ReadError>
-    ensures { Gives (λ x. x) result (scripts.stop_of word.now (split line.now) (words_behind rest.now)) }
-{
-    if is(word, b"crash") {
-        act_at(ClientAct::Crash, rest)
-    } else if is(word, b"expire") {
-        act_at(ClientAct::Expire, rest)
-    } else {
-        command_of(word, line, rest)
-    }
-}
-
-/// Reads the event of a line with this first word.
-#[tactic(auto, unfolding(crate::specs::SharedScripts::event_of))]
-fn event_of(word: &[u8], line: &[u8], rest: &[u8]) -> Result<SharedEvent, ReadError>
-    ensures { Gives (λ x. x) result (scripts.event_of word.now (split line.now) (words_behind rest.now)) }
-{
-    if is(word, b"enter") {
-        act_at(ClientAct::Enter, rest)
-    } else if is(word, b"leave") {
-        act_at(ClientAct::Leave, rest)
-    } else if is(word, b"lock") {
-        act_at(ClientAct::Lock, rest)
-    } else if is(word, b"unlock") {
-        act_at(ClientAct::Unlock, rest)
-    } else {
-        stop_of(word, line, rest)
-    }
-}
-
-/// Reads the event of a line.
-#[tactic(auto, unfolding(crate::specs::SharedScripts::event))]
-pub(crate) fn shared_event(line: &[u8]) -> Result<SharedEvent, ReadError>
-    ensures { Gives (λ x. x) result (scripts.event (split line.now)) }
-{
-    let (word, rest) = split_word(line);
-    event_of(word, line, rest)
 }

@@ -343,7 +343,7 @@ impl Script for SharedScript {
 }
 
 /// The calls and answers of every script are right: what a report gets, the lock and who is in, and
-/// effects, as `st_shared::every_history_is_right` says. This holds where a script stops, too.
+/// effects, as `st_shared::every_history_is_right` says. This holds for a script that stops, too.
 pub fn every_script_is_right()
     ensures { EveryScriptIsRight }
 {
