@@ -64,7 +64,7 @@ every_found : {K : Type 0} (P : K → Type 0) (r : K → Bool) (e : K) (xs : Lis
 every_found P r e [] a h = cc
 every_found P r e (x ∷ xs) a h = found_by P r x e xs (r x) (every_found P r e xs a.1) a.0 h
 
--- where none passes, the others are all
+-- if none passes, the others are all
 pub others_all : {K : Type 0} (q : K → Bool) (xs : List K) → list_any q xs ≡ false → filter (λ x. not (q x)) xs ≡ xs
 others_all q [] h = refl
 others_all q (x ∷ xs) h = ⊎_elim
@@ -122,7 +122,7 @@ joined false b l m k h none = h
 joined true true l m k h none = sym (none refl).2
 joined true false l m k h none = ap not (none refl).1
 
--- where one passes at most, it stays exactly where it is not taken out
+-- if one passes at most, it stays exactly when it is not taken out
 any_kept : {K : Type 0} (E : K → K → Bool) (q r : K → Bool) → ((x y : K) → q x ≡ true → E x y ≡ false → q y ≡ false) → (xs : List K) → IsDistinct E xs → (list_any q xs && not (list_any (λ x. q x && r x) xs)) ≡ list_any q (filter (λ x. not (r x)) xs)
 any_kept E q r apart [] d = refl
 any_kept E q r apart (x ∷ xs) d =
@@ -151,7 +151,7 @@ block_is a b h =
     let p = and_parts (a.disk.0 == b.disk.0) (a.block == b.block) h in
     (λ i. record { disk = record { 0 = eqb-true a.disk.0 b.disk.0 p.0 i }; block = eqb-true a.block b.block p.1 i })
 
-same_itself : (b : BlockAt) → same_block b b ≡ true
+pub same_itself : (b : BlockAt) → same_block b b ≡ true
 same_itself b = rw (eq-eqb b.disk.0 b.disk.0 refl, eq-eqb b.block b.block refl) refl
 
 pub rising : (own : List BlockAt) (i j : ℕ) (d : BlockAt) → AreInOrder own → i < j → j < length own → rank (get_or own i d) < rank (get_or own j d)
@@ -220,14 +220,14 @@ module _ (own : List BlockAt) (at : BlockAt) (o : AreInOrder own) where
       (omega (arith, same, p.1.0), ap (λ n. get_or own n d) (sym same) ∙ p.1.1)
 
 module _ (own : List BlockAt) (taken : List Bool) (rows : List Extent) (laid : IsLaid own taken rows) where
-  -- a block is free exactly where its place is not taken
+  -- a block is free exactly when its place is not taken
   free_at : (i : ℕ) (b : BlockAt) (d : Bool) → i < length own → none_at rows (get_or own i b) ≡ not (get_or taken i d)
   free_at i b d l = ap not (sym (laid.told i d b l))
 
   pub free_counted : length (filter not taken) ≡ length (filter (none_at rows) own)
   free_counted = let b : BlockAt = record { disk = record { 0 = 0 }; block = 0 } in same_count (none_at rows) own taken b laid.as_long (λ i l. free_at i b true l)
 
-  -- where a block is free, a place is not taken
+  -- if a block is free, a place is not taken
   pub some_open : (i : ℕ) → ((j : ℕ) → j < i → get_or taken j false ≡ true) → 1 ≤ length (filter (none_at rows) own) → i < length own
   some_open i before room = ⊎_elim (λ l. l)
       (λ l.

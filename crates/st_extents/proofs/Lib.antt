@@ -5,7 +5,10 @@ pub mod RunOrder
 pub mod RunsFound
 pub mod RunsChanged
 pub mod RunsTold
+pub mod RunsInOrder
 pub mod LaidPages
+pub mod RestoredPages
+pub mod RestoredRuns
 pub mod TakenPlaces
 pub mod BlockOrder
 pub mod TakenBack

@@ -37,7 +37,7 @@ distinct_filter E p (x ∷ xs) d =
     (λ f. rw f rest)
     (cases_Bool (p x))
 
--- something is found exactly where an element passes
+-- something is found exactly when an element passes
 pub found_is_any : {K : Type 0} (p : K → Bool) (xs : List K) → is_some (find p xs) ≡ list_any p xs
 found_is_any p [] = refl
 found_is_any p (x ∷ xs) = ⊎_elim (λ t. rw t refl) (λ f. rw f (found_is_any p xs)) (cases_Bool (p x))
@@ -64,7 +64,7 @@ pages_equiv = both_equiv _ _ (both_equiv _ _ (number_equiv (λ (e : Extent). e.f
 pub blocks_equiv : IsEquivalence on_one_block
 blocks_equiv = both_equiv _ _ (number_equiv (λ (e : Extent). e.at.disk.0)) (number_equiv (λ (e : Extent). e.at.block))
 
-births_equiv : IsEquivalence of_one_birth
+pub births_equiv : IsEquivalence of_one_birth
 births_equiv = number_equiv (λ (e : Extent). e.birth)
 
 -- blocks, the other way round

@@ -1,4 +1,4 @@
--- What a table of runs holds and tells after the run at one key is another one, or is gone.
+-- What a table of runs holds and tells after the run at one key has changed or is gone.
 use Rattle.std.proofs.Common.{◌≡◌, ℕ, suc, ◌+◌, ◌-◌, ◌<◌, ◌≤◌, true, false, cond, List, [], ◌∷◌, ◌++◌, length, filter, arith, refl, sym, ap, ◌∙◌, ⊎_elim, inl, inr, true≢false}
 use Rattle.std.specs.Prelude.{find, is_some, not, Option, Some, None, ◌⊎◌, ◌==◌}
 use Rattle.std.specs.Option.{option_to_list}
@@ -59,7 +59,7 @@ module _ (es fs : List (RunKey × Run)) (k : RunKey) (o : Option Run) (change : 
         was : (q : RunKey) (r : Run) → run_at fs q ≡ Some r → (same_start k q ≡ false) × (run_at es q ≡ Some r)
         was q r h = ⊎_elim (λ a. let z : None ≡ Some r = sym none ∙ a.1 in cc) (λ a. a) (from q r h)
 
-    -- the run at k is another one
+    -- the run at k has changed
     pub kept_with : (w : Run) → o ≡ Some w → Fits m (run_at es) k w → AreKept m (run_at fs)
     kept_with w now F = record {
       some = λ j q h. ⊎_elim (λ a. let l : w.length ≡ q.length = ap (λ (y : Run). y.length) (is q a.1) in omega (arith, l, F.some)) (λ a. T.some j q a.1) (from j q h);

@@ -192,7 +192,7 @@ module _ (es : List (RunKey × Run)) (sorted : IsStrictlySortedBy run_order (key
     before_free f p last j q g =
         ⊎_elim (λ t. let m = page_in f p (j, q) t in absurd (last j m.0 m.1.0 (ap is_some g))) (λ t. t) (cases_Bool (has_page f p (j, q)))
 
-    -- no page of the file is mapped from a page on, where no run goes so far
+    -- no page of the file is mapped from a page on, if no run goes so far
     pub none_behind : (f : FileId) (p : PageNo) → ((j : RunKey) (q : Run) → run_at es j ≡ Some q → file_of j ≡ f → j.1.0 + q.length ≤ p.0) → list_any (is_at_or_behind f p) (rows_of n es) ≡ false
     none_behind f p short = ⊎_elim
         (λ t.

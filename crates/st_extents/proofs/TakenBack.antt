@@ -65,7 +65,7 @@ front_is (x ∷ y ∷ xs) e = ap (λ l. x ∷ l) (front_is (y ∷ xs) e)
 pub same_front : (xs ys : List Extent) (a b : Extent) → xs ++ a ∷ [] ≡ ys ++ b ∷ [] → xs ≡ ys
 same_front xs ys a b h = sym (front_is xs a) ∙ ap front h ∙ front_is ys b
 
--- the last is found, where the items differ
+-- the last is found, if the items differ
 pub last_found : (E : Extent → Extent → Bool) (r : Extent → Bool) → ((x y : Extent) → r x ≡ true → E x y ≡ false → r y ≡ false) → (xs : List Extent) (e : Extent) → IsDistinct E (xs ++ e ∷ []) → r e ≡ true → find r (xs ++ e ∷ []) ≡ Some e
 last_found E r apart [] e d t = rw t refl
 last_found E r apart (x ∷ xs) e d t =

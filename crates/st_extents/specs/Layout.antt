@@ -60,7 +60,7 @@ PlacesAll old new f ps =
     (s : Shape) → old.own ≡ own_blocks (no_extents s.server s.servers s.disks s.blocks)
     → with_shape s new.rows new.births ≡ place_pages f ps (with_shape s old.rows old.births)
 
--- What a call that maps pages answers and leaves: what the rule gives; and where the rule refuses, or the call runs out of
+-- What a call that maps pages answers and leaves: what the rule gives; and if the rule refuses, or the call runs out of
 -- memory, nothing is changed.
 abbrev pub Allocates : Extents → Extents → Result Unit ExtentRefusal → Result Extents AllocateRefusal → Type 0
 Allocates old new (Ok done) rule = rule ≡ Ok new

@@ -1,6 +1,6 @@
 -- Mapped pages as runs: pages of one file one after another, on blocks of one disk one after another, under births one after
 -- another.
-use Rattle.std.specs.Prelude.{ℕ, ◌≡◌, ◌≤◌, ◌<◌, ◌+◌, ◌-◌, ◌==◌, ◌&&◌, nat_le, nat_lt, Bool, true, false, if◌then◌else◌, List, [], ◌∷◌, ◌++◌, length, find, is_some, Option, Some, None}
+use Rattle.std.specs.Prelude.{ℕ, ◌≡◌, ◌≤◌, ◌<◌, ◌^◌, ◌+◌, ◌-◌, ◌==◌, ◌&&◌, nat_le, nat_lt, Bool, true, false, if◌then◌else◌, List, [], ◌∷◌, ◌++◌, length, map, find, is_some, Option, Some, None}
 use Rattle.std.specs.Option.{IsSome, IsSomeAnd, option_map}
 use Rattle.std.specs.Map.{keys_of, lookup}
 use Rattle.std.specs.List.Sorted.{IsStrictlySortedBy}
@@ -11,7 +11,7 @@ use Rattle.st_base.specs.declared.ids.PageNo.{PageNo}
 use Rattle.st_base.specs.declared.disk.BlockAt.{BlockAt}
 use Rattle.st_rules.specs.declared.extents.Extent.{Extent}
 use Rattle.st_rules.specs.Keys.{page_no, same_file}
-use Rattle.st_rules.specs.Extents.{is_extent_of}
+use Rattle.st_rules.specs.Extents.{is_extent_of, numbers}
 use Rattle.st_tables.specs.Tables.{listed}
 use Rattle.st_extents.specs.declared.run_map.Run.{Run}
 
@@ -50,6 +50,20 @@ block_on at i = record { disk = at.disk; block = at.block + i }
 -- the extent of the page this many places after the run's first one
 abbrev pub extent_in : ℕ → RunKey × Run → Extent
 extent_in i e = mapped_to (file_of e.0) (page_no (e.0.1.0 + i)) (block_on e.1.at i) (e.1.birth + i)
+
+-- the extents of a run's pages
+abbrev pub pages_of : RunKey × Run → List Extent
+pages_of e = map (λ i. extent_in i e) (numbers 0 e.1.length)
+
+-- what follows a run's last page has numbers of their widths
+pub record HasWords (e : RunKey × Run) : Type 0 where
+  pub page : e.0.1.0 + e.1.length < 2 ^ 32
+  pub block : e.1.at.block + e.1.length ≤ 2 ^ 32
+  pub birth : e.1.birth + e.1.length < 2 ^ 64
+
+-- the birth of a run's first page
+abbrev pub birth_of : RunKey × Run → ℕ
+birth_of e = e.1.birth
 
 -- the page is in the run
 abbrev pub has_page : FileId → PageNo → RunKey × Run → Bool

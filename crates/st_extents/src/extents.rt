@@ -1,16 +1,19 @@
-ghost use Rattle.std.specs.Prelude.{◌≡◌, ◌≤◌, ◌+◌, ◌<◌, ◌^◌, IfOk, OnOk, OnErr, length, filter};
+ghost use Rattle.std.specs.Prelude.{◌≡◌, ◌≤◌, ◌+◌, ◌<◌, ◌^◌, IfOk, IfErr, OnOk, OnErr, length, filter};
 ghost use Rattle.std.specs.List.{AllByRecursion};
 ghost use Rattle.st_rules.specs.Extents as extents;
-ghost use Rattle.st_extents.specs.Layout.{Allocates, AreFresh, IsWithinLimits, PlacesAll, none_at};
+ghost use Rattle.st_extents.specs.Layout.{Allocates, AreFresh, IsWithinLimits, PlacesAll, none_at, with_shape};
 ghost use Rattle.st_extents.specs.Ownership.{IsOwned};
 ghost use Rattle.st_extents.specs.Places.{AreLastMapped, TakesBack};
+ghost use Rattle.st_extents.specs.Restored.{CanBe, IsRefused};
 ghost use Rattle.st_extents.specs.Runs.{AreRunsOf, run_at};
 
 use crate::layout::own_blocks;
 use crate::mapping::Mapping;
 use crate::refusal::ExtentRefusal;
+use crate::restored::{RestoreRefusal, lay_all};
 use crate::run_map::{Run, RunKey};
 use st_base::{BlockAt, FileId, PageNo, ServerId};
+use st_rules::Extent;
 use std::alloc::{AllocError, Global};
 use std::collections::BTreeMap;
 use std::marker::Model;
@@ -96,6 +99,39 @@ impl Extents {
         })
     }
 
+    /// The extents of a server with these mapped pages in the order of their births, after `births`
+    /// births. Whatever no server's extents can be is refused. The counts of the world are as at
+    /// `new`.
+    pub fn restore(
+        alloc: Global,
+        server: ServerId,
+        servers: u16,
+        disks: u16,
+        blocks: u32,
+        rows: &[Extent],
+        births: u64,
+    ) -> Result<Extents, RestoreRefusal>
+        requires { IsWithinLimits server.0 servers disks blocks }
+        ensures ok { IfOk result (λ x. x ≡ with_shape (record { server = server; servers = servers; disks = disks; blocks = blocks }) rows.now births) }
+        ensures owned { IfOk result IsOwned }
+        ensures err { IfErr result (λ r. IsRefused r (with_shape (record { server = server; servers = servers; disks = disks; blocks = blocks }) rows.now births)) }
+    {
+        let own = own_blocks(alloc, server, servers, disks, blocks)?;
+        let mut mapping = Mapping::new(alloc, own)?;
+        lay_all(&mut mapping, rows)?;
+        if births < mapping.births() || births >= 9223372036854775808 {
+            return Err(RestoreRefusal::WrongBirth);
+        }
+        mapping.pass(births);
+        Ok(Extents {
+            server,
+            servers,
+            disks,
+            blocks,
+            mapping,
+        })
+    }
+
     /// The server's number.
     pub fn server(&self) -> ServerId
         ensures { result ≡ self.now.server }
@@ -161,6 +197,14 @@ impl Extents {
         ensures { result ≡ self.now.births + 1 }
     {
         self.mapping.births() + 1
+    }
+
+    /// The mapped pages, in the order of their births.
+    pub fn rows(&self, alloc: Global) -> Result<Vec<Extent>, AllocError>
+        ensures rows { IfOk result (λ v. v.items ≡ self.now.rows) }
+        ensures right { OnOk result (CanBe self.now) }
+    {
+        self.mapping.rows(alloc)
     }
 
     /// The mapped pages as runs, by where they begin: pages of one file one after another, on

@@ -1,5 +1,5 @@
 // Runs of free places, by falling start.
-ghost use Rattle.std.specs.Prelude.{◌≡◌, ◌≤◌, ◌<◌, ◌+◌, ◌*◌, ◌^◌, ◌∷◌, ◌==◌, [], ℕ, true, false, set, take, drop, length, if◌then◌else◌, IfOk};
+ghost use Rattle.std.specs.Prelude.{◌≡◌, ◌≤◌, ◌<◌, ◌+◌, ◌*◌, ◌^◌, ◌∷◌, ◌==◌, [], ℕ, true, false, set, take, drop, get_or, length, if◌then◌else◌, IfOk};
 ghost use Rattle.std.specs.VecDeque.{deque_capacity, deque_len};
 ghost use Rattle.st_extents.specs.declared.free_runs.FreeRun.{FreeRun};
 ghost use Rattle.st_extents.specs.FreeRuns as free;
@@ -126,6 +126,111 @@ pub fn take_first(runs: &mut VecDeque<FreeRun>, place: u32)
                 end,
             },
         );
+    }
+}
+
+/// Takes a place out of a run that has places on both sides of it.
+fn split(runs: &mut VecDeque<FreeRun>, index: usize, place: u32, whole: FreeRun)
+    requires within { index < length runs.old.items }
+    requires there { (d : FreeRun) → get_or runs.old.items index d ≡ whole }
+    requires below { whole.start < place }
+    requires above { place + 1 < whole.end }
+    requires space { deque_len runs.old < deque_capacity runs.old }
+    ensures taken { free.IsTakenFrom place runs.old.items runs.new.items }
+    ensures room { deque_capacity runs.old ≤ deque_capacity runs.new }
+{
+    let done: Result<_, _> = runs.insert(
+        index,
+        FreeRun {
+            start: place + 1,
+            end: whole.end,
+        },
+    );
+    done.unwrap();
+    write(
+        runs,
+        index + 1,
+        FreeRun {
+            start: whole.start,
+            end: place,
+        },
+    );
+}
+
+/// Takes the only place of the run there.
+fn take_whole(runs: &mut VecDeque<FreeRun>, index: usize, place: u32)
+    requires within { index < length runs.old.items }
+    requires start { (d : FreeRun) → (get_or runs.old.items index d).start ≡ place }
+    requires end { (d : FreeRun) → (get_or runs.old.items index d).end ≡ place + 1 }
+    ensures taken { free.IsTakenFrom place runs.old.items runs.new.items }
+    ensures room { deque_capacity runs.old ≤ deque_capacity runs.new }
+{
+    // The run is empty now.
+    let Some(_gone) = runs.remove(index) else {
+        unreachable!()
+    };
+}
+
+/// Takes the first place of the run there.
+fn take_low(runs: &mut VecDeque<FreeRun>, index: usize, place: u32, whole: FreeRun)
+    requires within { index < length runs.old.items }
+    requires there { (d : FreeRun) → get_or runs.old.items index d ≡ whole }
+    requires start { whole.start ≡ place }
+    requires above { place < whole.end }
+    ensures taken { free.IsTakenFrom place runs.old.items runs.new.items }
+    ensures room { deque_capacity runs.old ≤ deque_capacity runs.new }
+{
+    if whole.end == place + 1 {
+        take_whole(runs, index, place);
+    } else {
+        write(
+            runs,
+            index,
+            FreeRun {
+                start: place + 1,
+                end: whole.end,
+            },
+        );
+    }
+}
+
+/// Takes a place of the run there that is not its first one.
+fn take_high(runs: &mut VecDeque<FreeRun>, index: usize, place: u32, whole: FreeRun)
+    requires within { index < length runs.old.items }
+    requires there { (d : FreeRun) → get_or runs.old.items index d ≡ whole }
+    requires below { whole.start < place }
+    requires above { place < whole.end }
+    requires space { deque_len runs.old < deque_capacity runs.old }
+    ensures taken { free.IsTakenFrom place runs.old.items runs.new.items }
+    ensures room { deque_capacity runs.old ≤ deque_capacity runs.new }
+{
+    if whole.end == place + 1 {
+        write(
+            runs,
+            index,
+            FreeRun {
+                start: whole.start,
+                end: place,
+            },
+        );
+    } else {
+        split(runs, index, place, whole);
+    }
+}
+
+/// Takes a place out of the run there, which has it.
+pub fn take(runs: &mut VecDeque<FreeRun>, index: usize, place: u32)
+    requires within { index < length runs.old.items }
+    requires there { (d : FreeRun) → free.holds place (get_or runs.old.items index d) ≡ true }
+    requires space { deque_len runs.old < deque_capacity runs.old }
+    ensures taken { free.IsTakenFrom place runs.old.items runs.new.items }
+    ensures room { deque_capacity runs.old ≤ deque_capacity runs.new }
+{
+    let whole = runs[index];
+    if whole.start == place {
+        take_low(runs, index, place, whole);
+    } else {
+        take_high(runs, index, place, whole);
     }
 }
 

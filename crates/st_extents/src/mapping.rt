@@ -1,12 +1,15 @@
-ghost use Rattle.std.specs.Prelude.{◌≡◌, ◌≤◌, ◌<◌, ◌+◌, ◌-◌, ◌*◌, ◌^◌, ◌∷◌, ◌++◌, [], not, find, filter, is_some, length, get_or, vec_len, false, true, IfOk, OnOk, OnErr, ℕ, List};
+ghost use Rattle.std.specs.Prelude.{◌≡◌, ◌≤◌, ◌<◌, ◌+◌, ◌-◌, ◌*◌, ◌^◌, ◌∷◌, ◌++◌, [], not, find, filter, is_some, length, get_or, vec_len, false, true, All, IfOk, IfErr, IfSome, IfNone, OnOk, OnErr, ℕ, List};
 ghost use Rattle.std.specs.List.{list_any};
 ghost use Rattle.st_base.specs.declared.disk.BlockAt.{BlockAt};
 ghost use Rattle.st_rules.specs.declared.extents.Extent.{Extent};
 ghost use Rattle.st_rules.specs.Extents as extents;
+ghost use Rattle.st_rules.specs.Keys.{same_block};
 ghost use Rattle.st_extents.specs.Layout.{none_at, unmapped_of};
 ghost use Rattle.st_extents.specs.Places.{AreInOrder, HasOneMore, IsLaid, IsLastMapped, IsMapped, is_among, rank};
+ghost use Rattle.st_extents.specs.Restored.{AreBorn, FollowsOn, IsAgainst};
 ghost use Rattle.st_extents.specs.Runs.{AreRunsOf, run_at};
 
+use crate::restored::RestoreRefusal;
 use crate::run_map::RunMap;
 use crate::runs::Runs;
 use crate::taken_blocks::TakenBlocks;
@@ -22,12 +25,20 @@ fn rank(at: BlockAt) -> u64
     u64::from(at.disk.0) * 4294967296 + u64::from(at.block)
 }
 
-/// The place of a block among these blocks, which are in order. It is one of them.
-fn place_of(own: &[BlockAt], at: BlockAt) -> usize
-    requires order { AreInOrder own.now }
-    requires among { is_among own.now at ≡ true }
-    ensures within { result < length own.now }
-    ensures at { (d : BlockAt) → get_or own.now result d ≡ at }
+/// Whether two blocks are the same.
+fn same_block(a: BlockAt, b: BlockAt) -> bool
+    ensures { result ≡ same_block a b }
+{
+    a.disk.0 == b.disk.0 && a.block == b.block
+}
+
+/// The first place among these blocks, which are in order, from which on no block comes before this
+/// one.
+fn first_from(own: &[BlockAt], at: BlockAt) -> usize
+    requires { AreInOrder own.now }
+    ensures within { result ≤ length own.now }
+    ensures below { (j : ℕ) (d : BlockAt) → j < result → rank (get_or own.now j d) < rank at }
+    ensures above { (j : ℕ) (d : BlockAt) → result ≤ j → j < length own.now → rank at ≤ rank (get_or own.now j d) }
 {
     let mut low = 0;
     let mut high = own.len();
@@ -40,6 +51,34 @@ fn place_of(own: &[BlockAt], at: BlockAt) -> usize
         }
     }
     low
+}
+
+/// The place of a block among these blocks, which are in order. It is one of them.
+fn place_of(own: &[BlockAt], at: BlockAt) -> usize
+    requires order { AreInOrder own.now }
+    requires among { is_among own.now at ≡ true }
+    ensures within { result < length own.now }
+    ensures at { (d : BlockAt) → get_or own.now result d ≡ at }
+{
+    first_from(own, at)
+}
+
+/// The place of a block among these blocks, which are in order, if it is one of them.
+fn own_place(own: &[BlockAt], at: BlockAt) -> Option<usize>
+    requires { AreInOrder own.now }
+    ensures within { IfSome result (λ i. i < length own.now) }
+    ensures there { IfSome result (λ i. (d : BlockAt) → get_or own.now i d ≡ at) }
+    ensures none { IfNone result (is_among own.now at ≡ false) }
+{
+    let place = first_from(own, at);
+    if place >= own.len() {
+        return None;
+    }
+    if same_block(own[place], at) {
+        Some(place)
+    } else {
+        None
+    }
 }
 
 /// Unmaps the pages of a file from `page` on, the last one first, and gives back the places of
@@ -175,6 +214,56 @@ impl Mapping {
         let at = self.own[place];
         self.runs.push(file, page, at)?;
         self.taken.take(place);
+        Ok(())
+    }
+
+    /// The mapped pages, in the order of their births.
+    pub fn rows(&self, alloc: Global) -> Result<Vec<Extent>, AllocError>
+        ensures rows { IfOk result (λ v. v.items ≡ self.now.rows) }
+        ensures rise { OnOk result (AreBorn 0 self.now.rows self.now.births) }
+        ensures few { OnOk result (self.now.births < 2 ^ 63) }
+        ensures low { OnOk result (All (λ e. e.page.0 < 1048576) self.now.rows) }
+    {
+        self.runs.rows(alloc)
+    }
+
+    /// Counts births up to this number as given.
+    pub fn pass(&mut self, births: u64)
+        requires more { self.old.births ≤ births }
+        requires few { births < 2 ^ 63 }
+        ensures own { self.new.own ≡ self.old.own }
+        ensures rows { self.new.rows ≡ self.old.rows }
+        ensures births { self.new.births ≡ births }
+    {
+        self.runs.pass(births);
+    }
+
+    /// Maps a page to a block under a birth, if a server can have mapped it so after the others.
+    pub fn lay(&mut self, extent: Extent) -> Result<(), RestoreRefusal>
+        ensures own { self.new.own ≡ self.old.own }
+        ensures rows { OnOk result (self.new.rows ≡ self.old.rows ++ extent ∷ []) }
+        ensures births { OnOk result (self.new.births ≡ extent.birth) }
+        ensures fits { OnOk result (FollowsOn self.old extent) }
+        ensures err { IfErr result (λ r. IsAgainst r self.old extent) }
+    {
+        if extent.birth <= self.births() || extent.birth >= 9223372036854775808 {
+            return Err(RestoreRefusal::WrongBirth);
+        }
+        if extent.page.0 >= 1048576 {
+            return Err(RestoreRefusal::WrongPage);
+        }
+        if self.get(extent.file, extent.page).is_some() {
+            return Err(RestoreRefusal::PageTwice);
+        }
+        let Some(place) = own_place(self.own.as_slice(), extent.at) else {
+            return Err(RestoreRefusal::NotOwn);
+        };
+        if self.taken.is_taken(place) {
+            return Err(RestoreRefusal::BlockTwice);
+        }
+        self.runs.pass(extent.birth - 1);
+        self.runs.push(extent.file, extent.page, extent.at)?;
+        self.taken.take_at(place);
         Ok(())
     }
 

@@ -1,8 +1,10 @@
-ghost use Rattle.std.specs.Prelude.{◌≡◌, ◌<◌, ◌+◌, ◌-◌, ◌^◌, ◌++◌, ◌∷◌, [], not, find, filter, is_some, length, false, true, OnOk, OnErr, IfSome, IfNone, Some};
+ghost use Rattle.std.specs.Prelude.{◌≡◌, ◌≤◌, ◌<◌, ◌+◌, ◌-◌, ◌^◌, ◌++◌, ◌∷◌, [], not, find, filter, is_some, length, false, true, All, IfOk, OnOk, OnErr, IfSome, IfNone, Some};
 ghost use Rattle.std.specs.Option.{IsSomeAnd};
-ghost use Rattle.std.specs.List.{list_any};
+ghost use Rattle.std.specs.List.{flat_map, list_any};
+ghost use Rattle.std.specs.List.Sorted.{IsNonDecreasingBy, IsPermutation};
 ghost use Rattle.st_rules.specs.Extents as extents;
 ghost use Rattle.st_rules.specs.declared.extents.Extent.{Extent};
+ghost use Rattle.st_extents.specs.Restored.{AreBorn};
 ghost use Rattle.st_extents.specs.Runs as runs;
 
 use crate::run_map::{Run, RunKey, RunMap, last_up_to, put, shorten};
@@ -69,6 +71,44 @@ fn grown(before: Option<(RunKey, Run)>, new_key: RunKey, new: Run) -> (RunKey, R
     }
 }
 
+/// The runs in the order of their births.
+fn by_birth(alloc: Global, map: &RunMap) -> Result<Vec<(RunKey, Run)>, AllocError>
+    ensures same { IfOk result (λ v. IsPermutation map.now.entries v.items) }
+    ensures rising { IfOk result (λ v. IsNonDecreasingBy runs.birth_of v.items) }
+{
+    let mut order = Vec::new(alloc);
+    for (key, run) in map.iter() {
+        order.push((*key, *run))?;
+    }
+    order.sort_unstable_by_key(|e| e.1.birth);
+    Ok(order)
+}
+
+/// Appends the extents of a run.
+fn push_pages(rows: &mut Vec<Extent>, key: RunKey, whole: Run) -> Result<(), AllocError>
+    requires page { key.1.0 + whole.length < 2 ^ 32 }
+    requires block { whole.at.block + whole.length ≤ 2 ^ 32 }
+    requires birth { whole.birth + whole.length < 2 ^ 64 }
+    ensures { OnOk result (rows.new.items ≡ rows.old.items ++ runs.pages_of (key, whole)) }
+{
+    for place in 0..whole.length {
+        rows.push(extent_in(key, whole, place))?;
+    }
+    Ok(())
+}
+
+/// The extents of runs, one run after another.
+fn rows_of(alloc: Global, order: &[(RunKey, Run)]) -> Result<Vec<Extent>, AllocError>
+    requires { All runs.HasWords order.now }
+    ensures { IfOk result (λ v. v.items ≡ flat_map runs.pages_of order.now) }
+{
+    let mut rows = Vec::new(alloc);
+    for place in 0..order.len() {
+        push_pages(&mut rows, order[place].0, order[place].1)?;
+    }
+    Ok(rows)
+}
+
 /// The mapped pages as runs, and how many births were given. Contracts see the list of the pages in
 /// the order of their births, too.
 #[derive(Drop)]
@@ -130,11 +170,33 @@ impl Runs {
         self.births
     }
 
+    /// Counts births up to this number as given.
+    pub fn pass(&mut self, births: u64)
+        requires more { self.old.births ≤ births }
+        requires few { births < 2 ^ 63 }
+        ensures rows { self.new.rows ≡ self.old.rows }
+        ensures births { self.new.births ≡ births }
+    {
+        self.births = births;
+    }
+
     /// The runs, by where they begin.
     pub fn runs(&self) -> &RunMap
         ensures { runs.AreRunsOf self.now.rows (runs.run_at result.now.entries) }
     {
         &self.map
+    }
+
+    /// The mapped pages, in the order of their births.
+    pub fn rows(&self, alloc: Global) -> Result<Vec<Extent>, AllocError>
+        ensures rows { IfOk result (λ v. v.items ≡ self.now.rows) }
+        ensures rise { OnOk result (AreBorn 0 self.now.rows self.now.births) }
+        ensures few { OnOk result (self.now.births < 2 ^ 63) }
+        ensures low { OnOk result (All (λ e. e.page.0 < 1048576) self.now.rows) }
+    {
+        let order = by_birth(alloc, &self.map)?;
+        let rows = rows_of(alloc, order.as_slice())?;
+        Ok(rows)
     }
 
     /// Maps a page that is not mapped, under the next birth. An error changes nothing.

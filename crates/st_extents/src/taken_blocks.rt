@@ -1,6 +1,8 @@
 ghost use Rattle.std.specs.Prelude.{◌≡◌, ◌≤◌, ◌<◌, ◌^◌, ℕ, Bool, true, false, not, replicate, set, get_or, filter, length, IfOk};
 
-use crate::free_runs::{FreeRun, all_free, ends_above, first_free, give, position, take_first};
+use crate::free_runs::{
+    FreeRun, all_free, ends_above, first_free, give, position, take, take_first,
+};
 use std::alloc::{AllocError, Global};
 use std::collections::VecDeque;
 use std::marker::Model;
@@ -67,6 +69,26 @@ impl TakenBlocks {
         ensures { self.new ≡ set self.old place true }
     {
         take_first(&mut self.runs, place as u32);
+        self.free -= 1;
+    }
+
+    /// Whether a place is taken.
+    pub fn is_taken(&self, place: usize) -> bool
+        requires { place < length self.now }
+        ensures { (d : Bool) → result ≡ get_or self.now place d }
+    {
+        let index = position(&self.runs, place as u32);
+        !ends_above(&self.runs, index, place as u32)
+    }
+
+    /// Takes a place that is not taken, whichever it is.
+    pub fn take_at(&mut self, place: usize)
+        requires within { place < length self.old }
+        requires open { get_or self.old place true ≡ false }
+        ensures { self.new ≡ set self.old place true }
+    {
+        let index = position(&self.runs, place as u32);
+        take(&mut self.runs, index, place as u32);
         self.free -= 1;
     }
 

@@ -76,7 +76,7 @@ module _ (es : List NameEntry) (o : AreByName es) (dir : ℕ) (name : List ℕ) 
   pub all_before : length es ≤ place → list_any (is_entry_at dir name) es ≡ false
   all_before l = none_any (is_entry_at dir name) es (λ j d k. not_before dir name (get_or es j d) (before j d (omega (arith, k, l))))
 
-  -- where no entry has the name, the others come after it
+  -- if no entry has the name, the others come after it
   pub behind_fresh : list_any (is_entry_at dir name) es ≡ false → (j : ℕ) (d : NameEntry) → place ≤ j → j < length es → name_below (dir ∷ name) (key_of (get_or es j d)) ≡ true
   behind_fresh f j d k s = ⊎_elim
       (λ t. t)
@@ -99,7 +99,7 @@ module _ (es : List NameEntry) (o : AreByName es) (dir : ℕ) (name : List ℕ) 
         (cases_Bool (is_entry_at dir name (get_or es j d)))) c)
         (cases_order j place))
 
-    -- what comes after the name, where the first that doesn't come before it has it
+    -- what comes after the name, if the first that doesn't come before it has it
     pub behind_entry : is_entry_at dir name a ≡ true → (j : ℕ) (d : NameEntry) → place + 1 ≤ j → j < length es → name_below (dir ∷ name) (key_of (get_or es j d)) ≡ true
     behind_entry t j d k s = ap (λ x. name_below x (key_of (get_or es j d)))
         (sym (key_is dir name (get_or es place d) (ap (is_entry_at dir name) (get_or_default es place d a l ∙ sym is) ∙ t))) ∙
@@ -113,7 +113,7 @@ module _ (es : List NameEntry) (o : AreByName es) (dir : ℕ) (name : List ℕ) 
         (λ n. below_anti (key_of (get_or es j d)) (dir ∷ name) (before j d (omega (arith, k, n))))
         (cases_eq j place)
 
-    -- the same, where it has another name
+    -- the same, if it has another name
     pub behind_other : is_entry_at dir name a ≡ false → (j : ℕ) (d : NameEntry) → place ≤ j → j < length es → name_below (dir ∷ name) (key_of (get_or es j d)) ≡ true
     behind_other f = behind_fresh (no_entry f)
 

@@ -431,12 +431,12 @@ nothing_by : (q : NameEntry → Bool) (x : NameEntry) (xs rest : List NameEntry)
 nothing_by q x xs rest true t h e = absurd (true≢false (sym (ap (λ z. z || list_any q xs) t) ∙ h))
 nothing_by q x xs rest false t h e = ap (λ l. x ∷ l) e
 
--- where none passes, none goes
+-- if none passes, none goes
 pub none_goes : (q : NameEntry → Bool) (xs : List NameEntry) → list_any q xs ≡ false → filter (λ x. not (q x)) xs ≡ xs
 none_goes q [] h = refl
 none_goes q (x ∷ xs) h = nothing_by q x xs (filter (λ x. not (q x)) xs) (q x) refl h (none_goes q xs (or_parts (q x) (list_any q xs) h).1)
 
--- where none has the name, none moves
+-- if none has the name, none moves
 pub none_moves : (dir : ℕ) (name : List ℕ) (dir2 : ℕ) (name2 : List ℕ) (xs : List NameEntry) → list_any (names.is_entry_at dir name) xs ≡ false → map (names.move_entry dir name dir2 name2) xs ≡ xs
 none_moves dir name dir2 name2 [] h = refl
 none_moves dir name dir2 name2 (x ∷ xs) h =

@@ -5,6 +5,7 @@ pub mod FreshFiles
 pub mod Keeps
 pub mod NameOrder
 pub mod Ordered
+pub mod RestoredEntries
 pub mod Rows
 pub mod Rules
 pub mod Searches

@@ -152,7 +152,7 @@ unfolding by_name
 any_sorted p [] = refl
 any_sorted p (r ∷ rows) = any_placed p r (by_name rows) ∙ ap (λ b. p r || b) (any_sorted p rows)
 
--- Two rising lists of the same rows are one.
+-- Two rising lists of the same rows are the same.
 
 abbrev named : List ℕ → NameRow → Bool
 named name r = bytes_eq r.name name

@@ -52,7 +52,7 @@ rows_rise dir after (e ∷ es) o =
         (cases_Bool (is_listed dir after d))
 
 module _ (es : List NameEntry) (inodes : List Inode) (sorted : List NameEntry) (s : Stores es inodes sorted) (dir : ℕ) (after : List ℕ) where
-  -- two entries of one key are one
+  -- two entries of one key are the same
   one_entry : (e d : NameEntry) → find (is_of_ino e.ino) sorted ≡ Some e → find (is_of_ino d.ino) sorted ≡ Some d → key_of e ≡ key_of d → e ≡ d
   one_entry e d h g k =
       let p = index_of (is_of_ino e.ino) e sorted h in

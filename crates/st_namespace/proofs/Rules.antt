@@ -157,7 +157,7 @@ module _ (n : Names) (d : ℕ) (m : List ℕ) where
     unfolding rename rename_at
     rename_second_place r g h = rw (← g, ← h) refl
 
-    -- where neither place is refused
+    -- if neither place is refused
     pub rename_at_good : None ≡ place_refusal n d m → None ≡ place_refusal n d2 m2 → rename n d m d2 m2 ≡ rename_found n d m d2 m2 (entry_at n d m)
     unfolding rename rename_at
     rename_at_good g h = rw (← g, ← h) refl

@@ -1,4 +1,4 @@
--- An inode found by its number, where the numbers rise.
+-- An inode found by its number, if the numbers rise.
 use Rattle.std.proofs.Common.{◌≡◌, ℕ, zero, suc, ◌+◌, ◌<◌, ◌≤◌, Bool, true, false, List, [], ◌∷◌, length, get_or, set, arith, refl, sym, ap, ◌∙◌, ◌⊎◌, inl, inr, ⊎_elim}
 use Rattle.std.specs.Prelude.{filter, find, if◌then◌else◌, map, not, Some, None}
 use Rattle.std.specs.List.{AllByRecursion, remove}

@@ -25,3 +25,8 @@ pub record IsInOrder (n : Names) : Type 0 where
   pub rising : IsRising n.entries
   pub used : All (λ e. e.ino < n.next) n.entries
   pub few : length n.entries < n.limit
+
+-- what the calls keep: the order, and a limit of four bytes
+pub record IsKept (n : Names) : Type 0 where
+  pub order : IsInOrder n
+  pub small : n.limit < 4294967296

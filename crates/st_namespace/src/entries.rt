@@ -1,9 +1,9 @@
 ghost use Rattle.std.specs.Prelude.{◌≡◌, ◌≤◌, ◌<◌, ◌++◌, ◌∷◌, [], ℕ, OnOk, OnErr, IfOk, IfSome, IfNone, find, filter, get_or, is_some, length, map, not, take, true, false, if◌then◌else◌, option_map, All};
 ghost use Rattle.std.specs.List.{list_any};
-ghost use Rattle.std.specs.Option.{option_copied};
+ghost use Rattle.std.specs.Option.{option_copied, option_to_list};
 ghost use Rattle.st_rules.specs.Names as names;
 ghost use Rattle.st_rules.specs.declared.names.NameEntry.{NameEntry};
-ghost use Rattle.st_namespace.specs.StoredEntries.{AreByName, AreRising, dir_in, dir_of, has_number, mark_in, moved_to, stands_before, stands_behind};
+ghost use Rattle.st_namespace.specs.StoredEntries.{AreByName, AreRising, dir_in, dir_of, entries_of, has_number, mark_in, moved_to, stands_before, stands_behind};
 ghost use Rattle.st_namespace.specs.declared.entries.Inode.{Inode};
 
 use crate::listing::rows_from;
@@ -193,6 +193,39 @@ fn place_behind(sorted: &[NameEntry], dir: u32, name: &[u8]) -> usize
     }
 }
 
+/// The entry of an inode, if there is one, of entries in any order.
+fn entry_of(sorted: &[NameEntry], ino: u32) -> Option<&NameEntry>
+    ensures { option_copied result ≡ find (names.is_of_ino ino) sorted.now }
+{
+    sorted.iter().find(|entry| entry.ino == ino)
+}
+
+/// Appends a copy of an entry, if there is one.
+fn push_copy(rows: &mut Vec<NameEntry>, entry: Option<&NameEntry>) -> Result<(), AllocError>
+    ensures { OnOk result (rows.new.items ≡ rows.old.items ++ option_to_list (option_copied entry.entry)) }
+{
+    match entry {
+        Some(entry) => Ok(rows.push(entry.copy()?)?),
+        None => Ok(()),
+    }
+}
+
+/// The entries of these inodes, in their order.
+fn rows_of(
+    alloc: Global,
+    inodes: &[Inode],
+    sorted: &[NameEntry],
+) -> Result<Vec<NameEntry>, AllocError>
+    ensures { IfOk result (λ v. v.items ≡ entries_of inodes.now sorted.now) }
+{
+    let mut rows = Vec::new(alloc);
+    for place in 0..inodes.len() {
+        let entry = entry_of(sorted, inodes[place].ino);
+        push_copy(&mut rows, entry)?;
+    }
+    Ok(rows)
+}
+
 /// The entries of one server, found by their inodes, and by their names in their directories.
 /// Contracts see the list of the entries by rising inode.
 #[derive(Drop)]
@@ -234,6 +267,13 @@ impl Entries {
     /// The allocator that the entries are kept in.
     pub fn alloc(&self) -> Global {
         *self.sorted.allocator()
+    }
+
+    /// All entries, in the order of their inodes. The time is quadratic in their number.
+    pub fn rows(&self) -> Result<Vec<NameEntry>, AllocError>
+        ensures { IfOk result (λ v. v.items ≡ self.now) }
+    {
+        rows_of(self.alloc(), self.inodes.as_slice(), self.sorted.as_slice())
     }
 
     /// Whether an inode is a directory, if there is an entry of it.

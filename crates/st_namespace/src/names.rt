@@ -4,10 +4,12 @@ ghost use Rattle.st_base.specs.declared.names.NameRefusal.TheVariants as refusal
 ghost use Rattle.st_rules.specs.Names as names;
 ghost use Rattle.st_namespace.specs.Answers.{Changes, ChangesInPlace, IsTold, answer, as_told, ino_and_mark, ino_told};
 ghost use Rattle.st_namespace.specs.Order.{IsInOrder};
+ghost use Rattle.st_namespace.specs.Restored.{IsRefused, names_of};
 ghost use Rattle.st_namespace.specs.StoredEntries.{dir_of};
 
 use crate::entries::Entries;
 use crate::name_bytes::is_good;
+use crate::restored::{RestoreRefusal, restored};
 use st_base::{Name, NameRefusal, NameRow};
 use st_rules::{EntryRefusal, NameEntry};
 use std::alloc::{AllocError, Global};
@@ -15,23 +17,24 @@ use std::marker::Model;
 
 const ROOT: u32 = 1;
 
-/// The names of one server. Contracts see them as the list of their entries and the next inode
-/// number.
+/// The names of one server. Contracts see them as the list of their entries, the next inode number,
+/// and how many inodes may live.
 #[derive(Drop)]
 pub struct Names {
     entries: Entries,
     next: u32,
+    limit: u32,
 }
 
 impl Model for Names {
     ghost use Rattle.st_rules.specs.Names as names;
-    ghost use Rattle.st_namespace.specs.Order.{IsInOrder};
+    ghost use Rattle.st_namespace.specs.Order.{IsKept};
 
     ghost Value = { names.Names };
 
-    ghost view = { λ n. record { entries = n.entries; next = n.next; limit = 4096 } };
+    ghost view = { λ n. record { entries = n.entries; next = n.next; limit = n.limit } };
 
-    ghost invariant = { λ n. IsInOrder (record { entries = n.entries; next = n.next; limit = 4096 }) };
+    ghost invariant = { λ n. IsKept (record { entries = n.entries; next = n.next; limit = n.limit }) };
 }
 
 /// A refusal of the rules, as the calls tell it.
@@ -83,7 +86,35 @@ impl Names {
         ensures order { IfOk result IsInOrder }
     {
         let entries = fresh_files(alloc)?;
-        Ok(Names { entries, next: 10 })
+        Ok(Names {
+            entries,
+            next: 10,
+            limit: 4096,
+        })
+    }
+
+    /// The names of a server with these entries in the order of their inodes, `next` as its next
+    /// inode number, and room for `limit` inodes, the root among them. It refuses whatever no
+    /// server's names can be.
+    pub fn restore(
+        alloc: Global,
+        rows: &[NameEntry],
+        next: u32,
+        limit: u32,
+    ) -> Result<Names, RestoreRefusal>
+        ensures ok { IfOk result (λ n. n ≡ names_of rows.now next limit) }
+        ensures order { IfOk result IsInOrder }
+        ensures err { IfErr result (λ r. IsRefused r (names_of rows.now next limit)) }
+    {
+        if rows.len() >= limit as usize {
+            return Err(RestoreRefusal::TooMany);
+        }
+        let entries = restored(alloc, rows, next)?;
+        Ok(Names {
+            entries,
+            next,
+            limit,
+        })
     }
 
     /// The directory of the entry of an inode, if there is one.
@@ -219,7 +250,7 @@ impl Names {
         if self.has_entry(dir, name) {
             return Err(NameRefusal::Exists);
         }
-        if self.entries.len() >= 4095 {
+        if self.limit <= self.entries() + 1 {
             return Err(NameRefusal::TooMany);
         }
         Ok(self.next)
@@ -394,5 +425,20 @@ impl Names {
         ensures { result ≡ self.now.next }
     {
         self.next
+    }
+
+    /// All entries, in the order of their inodes.
+    pub fn rows(&self) -> Result<Vec<NameEntry>, AllocError>
+        ensures rows { IfOk result (λ v. v.items ≡ self.now.entries) }
+        ensures order { OnOk result (IsInOrder self.now) }
+    {
+        self.entries.rows()
+    }
+
+    /// How many inodes may live, the root among them.
+    pub fn limit(&self) -> u32
+        ensures { result ≡ self.now.limit }
+    {
+        self.limit
     }
 }

@@ -9,4 +9,6 @@ mod draws;
 #[cfg(test)]
 mod extents;
 #[cfg(test)]
+mod restored;
+#[cfg(test)]
 mod sessions;

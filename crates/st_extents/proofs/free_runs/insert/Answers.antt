@@ -5,7 +5,7 @@ use Rattle.st_extents.specs.FreeRuns.{IsGivenTo}
 use Rattle.st_extents.proofs.FreeRuns.{given_alone}
 use Rattle.st_extents.proofs.free_runs.insert.Goals as goal
 
--- where an error is ruled out
+-- if an error is ruled out
 ok_by : {T E : Type 0} (r : Result T E) (P Q : Type 0) → OnOk r P → OnErr r Q → (Q → ⊥) → P
 ok_by (Ok x) P Q a b n = a
 ok_by (Err e) P Q a b n = absurd (n b)

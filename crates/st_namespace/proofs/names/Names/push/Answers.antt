@@ -4,7 +4,10 @@ use Rattle.st_namespace.proofs.names.Names.push.Goals as goal
 
 pub invariant_of-self-2 : goal.invariant_of-self-2
 unfolding added
-invariant_of-self-2 c = rw c.in-Ok.ensures.ok (added_in_order (record { entries = c.self.inside.entries; next = c.self.inside.next; limit = 4096 }) c.args.dir c.args.name c.args.directory c.self.invariant (rw (← c.self.view_is) at c.requires.free) (rw (← c.self.view_is) at c.requires.room))
+invariant_of-self-2 c = record {
+  order = rw c.in-Ok.ensures.ok (added_in_order (record { entries = c.self.inside.entries; next = c.self.inside.next; limit = c.self.inside.limit }) c.args.dir c.args.name c.args.directory c.self.invariant.order (rw (← c.self.view_is) at c.requires.free) (rw (← c.self.view_is) at c.requires.room));
+  small = c.self.invariant.small;
+}
 
 pub returns-clause-order : goal.returns-clause-order
-returns-clause-order c = invariant_of-self-2 c
+returns-clause-order c = (invariant_of-self-2 c).order

@@ -14,9 +14,12 @@ returns-clause-exact c = rw (c.remove.ensures, ← c.self.view_is)
     (rw (← c.self.view_is) at (remove_gone c.args.self.now c.args.dir c.args.name.now c.in_ok-ino.ino c.in_ok-ino.ensures))
 
 pub invariant_of-self : goal.invariant_of-self
-invariant_of-self c =
-    rw c.remove.ensures
-    (gone_in_order (record { entries = c.self.inside.entries; next = c.self.inside.next; limit = 4096 }) c.args.dir c.args.name.now c.self.invariant)
+invariant_of-self c = record {
+  order =
+      rw c.remove.ensures
+      (gone_in_order (record { entries = c.self.inside.entries; next = c.self.inside.next; limit = c.self.inside.limit }) c.args.dir c.args.name.now c.self.invariant.order);
+  small = c.self.invariant.small;
+}
 
 pub returns-clause-order : goal.returns-clause-order
-returns-clause-order c = invariant_of-self c
+returns-clause-order c = (invariant_of-self c).order

@@ -14,10 +14,13 @@ returns-clause-exact c = rw (c.rename.ensures, c.in-Ok.ensures, ← c.self.view_
     (rw (← c.self.view_is) at (rename_gives c.args.self.now c.args.dir c.args.name.now c.args.dir2 c.args.name2.now c.in_ok-ino.ino c.in_ok-ino.ensures.told))
 
 pub invariant_of-self : goal.invariant_of-self
-invariant_of-self c = rw (c.rename.ensures, c.in-Ok.ensures)
-    (renamed_in_order c.args.dir c.args.name.now c.args.dir2 c.args.name2.now
-    (record { entries = c.self.inside.entries; next = c.self.inside.next; limit = 4096 })
-    c.self.invariant (rw (← c.self.view_is) at c.in_ok-ino.ensures.free))
+invariant_of-self c = record {
+  order = rw (c.rename.ensures, c.in-Ok.ensures)
+      (renamed_in_order c.args.dir c.args.name.now c.args.dir2 c.args.name2.now
+      (record { entries = c.self.inside.entries; next = c.self.inside.next; limit = c.self.inside.limit })
+      c.self.invariant.order (rw (← c.self.view_is) at c.in_ok-ino.ensures.free));
+  small = c.self.invariant.small;
+}
 
 pub returns-clause-order : goal.returns-clause-order
-returns-clause-order c = invariant_of-self c
+returns-clause-order c = (invariant_of-self c).order

@@ -1,7 +1,7 @@
 use Rattle.std.proofs.Common.{◌≤◌, ◌<◌, ◌-◌, ℕ, get_or, length}
 use Rattle.st_base.specs.declared.disk.BlockAt.{BlockAt}
 use Rattle.st_extents.specs.Places.{rank}
-use Rattle.st_extents.proofs.mapping.place_of.Given as goal
+use Rattle.st_extents.proofs.mapping.first_from.Given as goal
 
 abbrev pub invariant-halves : goal.invariant-halves
 invariant-halves l = record {
